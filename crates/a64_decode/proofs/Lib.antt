@@ -1,0 +1,9 @@
+pub mod Classes
+pub mod DataWords
+pub mod BranchWords
+pub mod MemoryWords
+pub mod SystemWords
+pub mod TagWords
+pub mod Words
+pub mod Allowed
+pub mod Decoding

@@ -1,0 +1,25 @@
+//! The instruction of a word.
+
+ghost use Rattle.std.specs.Prelude.{◌≡◌, ◌↔◌, IfSome};
+ghost use Rattle.a64_asm.specs.Encoding.{IsAllowed, IsWordOf, word_of};
+ghost use Rattle.a64_asm.specs.declared.instruction.Instr.{Instr};
+ghost use Rattle.a64_decode.specs.Decoded.{decoded};
+
+use crate::dispatch::read;
+use a64_asm::Instr;
+
+/// The instruction whose word is `word` (Arm ARM DDI 0487, C4.1), `None` exactly where the profile has none.
+#[inline]
+pub fn decode(word: u32) -> Option<Instr>
+    ensures means { (i : Instr) → ((result ≡ Some i) ↔ IsWordOf word i) }
+    // The same as a function of the word, for those who have to name the instruction.
+    ensures value { result ≡ decoded word }
+    ensures fits { IfSome result IsAllowed }
+{
+    read(word)
+}
+
+/// No two instructions have the same word.
+pub fn words_differ()
+    ensures { (i j : Instr) → IsAllowed i → IsAllowed j → word_of i ≡ word_of j → i ≡ j }
+{}

@@ -1,0 +1,351 @@
+//! The row of a word: bits 28 to 24 tell its class, and other fixed bits the row.
+
+ghost use Rattle.std.specs.Prelude.{◌≡◌, IfSome};
+ghost use Rattle.a64_bits.specs.Fields.{field_of};
+ghost use Rattle.a64_asm.specs.Encoding.{word_of};
+ghost use Rattle.a64_decode.specs.Reading.{Reads, row_of, post_indexed_pair_of, other_pair_of, logical_register_of, add_register_of, address_of, add_immediate_of, logical_immediate_of, bitfield_or_extract_of, branch_or_system_of, immediate_branch_of, system_of, load_store_register_of, signed_offset_of, load_store_offset_of, tag_memory_of, register_operands_of, sources_of, one_source_of, two_sources_of, multiply_of};
+
+use crate::{branch_rows, data_rows, memory_rows, system_rows, tag_rows};
+use a64_asm::Instr;
+use a64_bits::field;
+
+/// The instruction of `word`, whose row and fields are found by its fixed bits.
+#[tactic(auto, unfolding(crate::specs::Reading::row_of))]
+pub fn read(word: u32) -> Option<Instr>
+    ensures row { Reads result (row_of word) }
+    ensures found { IfSome result (λ i. word_of i ≡ word) }
+{
+    match field(word, 24, 5) {
+        8 => post_indexed_pair(word),
+        9 => other_pair(word),
+        10 => logical_register(word),
+        11 => add_register(word),
+        16 => address(word),
+        17 => add_immediate(word),
+        18 => logical_immediate(word),
+        19 => bitfield_or_extract(word),
+        20..=23 => branch_or_system(word),
+        24 => load_store_register(word),
+        25 => load_store_offset(word),
+        26 => register_operands(word),
+        27 => multiply(word),
+        _ => None,
+    }
+}
+
+/// Pairs, post-indexed.
+#[tactic(auto, unfolding(crate::specs::Reading::post_indexed_pair_of))]
+fn post_indexed_pair(word: u32) -> Option<Instr>
+    requires { field_of 24 5 word ≡ 8 }
+    ensures row { Reads result (post_indexed_pair_of word) }
+    ensures found { IfSome result (λ i. word_of i ≡ word) }
+{
+    if field(word, 29, 1) == 1 && field(word, 23, 1) == 1 {
+        memory_rows::pair_post(word)
+    } else {
+        None
+    }
+}
+
+/// Pairs with an offset, and pre-indexed.
+#[tactic(auto, unfolding(crate::specs::Reading::other_pair_of))]
+fn other_pair(word: u32) -> Option<Instr>
+    requires { field_of 24 5 word ≡ 9 }
+    ensures row { Reads result (other_pair_of word) }
+    ensures found { IfSome result (λ i. word_of i ≡ word) }
+{
+    if field(word, 29, 1) == 1 && field(word, 23, 1) == 0 {
+        memory_rows::pair_off(word)
+    } else if field(word, 29, 1) == 1 {
+        memory_rows::pair_pre(word)
+    } else {
+        None
+    }
+}
+
+/// Logic of shifted registers.
+#[tactic(auto, unfolding(crate::specs::Reading::logical_register_of))]
+fn logical_register(word: u32) -> Option<Instr>
+    requires { field_of 24 5 word ≡ 10 }
+    ensures row { Reads result (logical_register_of word) }
+    ensures found { IfSome result (λ i. word_of i ≡ word) }
+{
+    data_rows::log_shift(word)
+}
+
+/// Sums of shifted and extended registers.
+#[tactic(auto, unfolding(crate::specs::Reading::add_register_of))]
+fn add_register(word: u32) -> Option<Instr>
+    requires { field_of 24 5 word ≡ 11 }
+    ensures row { Reads result (add_register_of word) }
+    ensures found { IfSome result (λ i. word_of i ≡ word) }
+{
+    if field(word, 21, 1) == 0 {
+        data_rows::add_sub_shift(word)
+    } else if field(word, 22, 2) == 0 {
+        data_rows::add_sub_ext(word)
+    } else {
+        None
+    }
+}
+
+/// Addresses relative to the instruction.
+#[tactic(auto, unfolding(crate::specs::Reading::address_of))]
+fn address(word: u32) -> Option<Instr>
+    requires { field_of 24 5 word ≡ 16 }
+    ensures row { Reads result (address_of word) }
+    ensures found { IfSome result (λ i. word_of i ≡ word) }
+{
+    data_rows::adr(word)
+}
+
+/// Sums with an immediate, of tags too.
+#[tactic(auto, unfolding(crate::specs::Reading::add_immediate_of))]
+fn add_immediate(word: u32) -> Option<Instr>
+    requires { field_of 24 5 word ≡ 17 }
+    ensures row { Reads result (add_immediate_of word) }
+    ensures found { IfSome result (λ i. word_of i ≡ word) }
+{
+    if field(word, 23, 1) == 0 {
+        data_rows::add_sub_imm(word)
+    } else if field(word, 31, 1) == 1
+        && field(word, 29, 1) == 0
+        && field(word, 22, 1) == 0
+        && field(word, 14, 2) == 0
+    {
+        tag_rows::add_g(word)
+    } else {
+        None
+    }
+}
+
+/// Logic with an immediate, and moves of one.
+#[tactic(auto, unfolding(crate::specs::Reading::logical_immediate_of))]
+fn logical_immediate(word: u32) -> Option<Instr>
+    requires { field_of 24 5 word ≡ 18 }
+    ensures row { Reads result (logical_immediate_of word) }
+    ensures found { IfSome result (λ i. word_of i ≡ word) }
+{
+    if field(word, 23, 1) == 0 {
+        data_rows::log_imm(word)
+    } else {
+        data_rows::move_wide(word)
+    }
+}
+
+/// Moves of bit fields.
+#[tactic(auto, unfolding(crate::specs::Reading::bitfield_or_extract_of))]
+fn bitfield_or_extract(word: u32) -> Option<Instr>
+    requires { field_of 24 5 word ≡ 19 }
+    ensures row { Reads result (bitfield_or_extract_of word) }
+    ensures found { IfSome result (λ i. word_of i ≡ word) }
+{
+    if field(word, 23, 1) == 0 {
+        data_rows::bitfield(word)
+    } else if field(word, 29, 2) == 0 && field(word, 21, 1) == 0 {
+        data_rows::extr(word)
+    } else {
+        None
+    }
+}
+
+/// Branches, exceptions and hints.
+#[tactic(auto, unfolding(crate::specs::Reading::branch_or_system_of))]
+fn branch_or_system(word: u32) -> Option<Instr>
+    requires { field_of 26 3 word ≡ 5 }
+    ensures row { Reads result (branch_or_system_of word) }
+    ensures found { IfSome result (λ i. word_of i ≡ word) }
+{
+    if field(word, 30, 1) == 0 {
+        immediate_branch(word)
+    } else if field(word, 29, 1) == 1 {
+        None
+    } else if field(word, 31, 1) == 1 {
+        system(word)
+    } else if field(word, 24, 2) == 0 && field(word, 4, 1) == 0 {
+        branch_rows::branch_cond(word)
+    } else {
+        None
+    }
+}
+
+/// Branches that are always taken, and those on a register or a bit.
+#[tactic(auto, unfolding(crate::specs::Reading::immediate_branch_of))]
+fn immediate_branch(word: u32) -> Option<Instr>
+    requires class { field_of 26 3 word ≡ 5 }
+    requires bit_30 { field_of 30 1 word ≡ 0 }
+    ensures row { Reads result (immediate_branch_of word) }
+    ensures found { IfSome result (λ i. word_of i ≡ word) }
+{
+    if field(word, 29, 1) == 0 {
+        branch_rows::branch(word)
+    } else if field(word, 25, 1) == 0 {
+        branch_rows::cmp_branch(word)
+    } else {
+        branch_rows::test_branch(word)
+    }
+}
+
+/// Exceptions, hints and branches to a register.
+#[tactic(auto, unfolding(crate::specs::Reading::system_of))]
+fn system(word: u32) -> Option<Instr>
+    requires { field_of 26 6 word ≡ 0x35 }
+    ensures row { Reads result (system_of word) }
+    ensures found { IfSome result (λ i. word_of i ≡ word) }
+{
+    match field(word, 24, 2) {
+        0 if word == 0xD400_0001 => Some(Instr::Svc),
+        0 if field(word, 21, 3) == 1 && field(word, 0, 5) == 0 => system_rows::brk(word),
+        1 if field(word, 12, 12) == 0x032 && field(word, 0, 5) == 31 => system_rows::hint(word),
+        2 if field(word, 23, 1) == 0 && field(word, 10, 11) == 0x7C0 && field(word, 0, 5) == 0 =>
+            branch_rows::branch_reg(word),
+        _ => None,
+    }
+}
+
+/// Literals, and loads and stores of a register but for an unsigned offset.
+#[tactic(auto, unfolding(crate::specs::Reading::load_store_register_of))]
+fn load_store_register(word: u32) -> Option<Instr>
+    requires { field_of 24 5 word ≡ 24 }
+    ensures row { Reads result (load_store_register_of word) }
+    ensures found { IfSome result (λ i. word_of i ≡ word) }
+{
+    if field(word, 29, 1) == 0 {
+        memory_rows::ld_lit(word)
+    } else if field(word, 21, 1) == 0 {
+        signed_offset(word)
+    } else if field(word, 10, 2) == 2 {
+        memory_rows::ld_st_reg(word)
+    } else {
+        None
+    }
+}
+
+/// Loads and stores of a register at a signed offset.
+#[tactic(auto, unfolding(crate::specs::Reading::signed_offset_of))]
+fn signed_offset(word: u32) -> Option<Instr>
+    requires class { field_of 24 5 word ≡ 24 }
+    requires bit_29 { field_of 29 1 word ≡ 1 }
+    requires bit_21 { field_of 21 1 word ≡ 0 }
+    ensures row { Reads result (signed_offset_of word) }
+    ensures found { IfSome result (λ i. word_of i ≡ word) }
+{
+    match field(word, 10, 2) {
+        0 => memory_rows::ld_st_unscaled(word),
+        1 => memory_rows::ld_st_post(word),
+        3 => memory_rows::ld_st_pre(word),
+        _ => None,
+    }
+}
+
+/// Loads and stores at an unsigned offset, and of tags.
+#[tactic(auto, unfolding(crate::specs::Reading::load_store_offset_of))]
+fn load_store_offset(word: u32) -> Option<Instr>
+    requires { field_of 24 5 word ≡ 25 }
+    ensures row { Reads result (load_store_offset_of word) }
+    ensures found { IfSome result (λ i. word_of i ≡ word) }
+{
+    if field(word, 29, 1) == 1 {
+        memory_rows::ld_st_imm(word)
+    } else if field(word, 30, 2) == 3 && field(word, 21, 1) == 1 {
+        tag_memory(word)
+    } else {
+        None
+    }
+}
+
+/// Loads and stores of tags.
+#[tactic(auto, unfolding(crate::specs::Reading::tag_memory_of))]
+fn tag_memory(word: u32) -> Option<Instr>
+    requires class { field_of 24 8 word ≡ 0xD9 }
+    requires bit_21 { field_of 21 1 word ≡ 1 }
+    ensures row { Reads result (tag_memory_of word) }
+    ensures found { IfSome result (λ i. word_of i ≡ word) }
+{
+    if field(word, 10, 2) == 0 && field(word, 22, 2) == 1 {
+        tag_rows::ldg(word)
+    } else {
+        tag_rows::st_g(word)
+    }
+}
+
+/// Operations on registers.
+#[tactic(auto, unfolding(crate::specs::Reading::register_operands_of))]
+fn register_operands(word: u32) -> Option<Instr>
+    requires { field_of 24 5 word ≡ 26 }
+    ensures row { Reads result (register_operands_of word) }
+    ensures found { IfSome result (λ i. word_of i ≡ word) }
+{
+    match field(word, 21, 3) {
+        0 if field(word, 10, 6) == 0 => data_rows::adc_sbc(word),
+        2 if field(word, 29, 1) == 1 && field(word, 10, 1) == 0 && field(word, 4, 1) == 0 =>
+            data_rows::cond_cmp(word),
+        4 if field(word, 29, 1) == 0 && field(word, 11, 1) == 0 => data_rows::cond_sel(word),
+        6 => sources(word),
+        _ => None,
+    }
+}
+
+/// Operations on one and two registers, of tags too.
+#[tactic(auto, unfolding(crate::specs::Reading::sources_of))]
+fn sources(word: u32) -> Option<Instr>
+    requires { field_of 21 8 word ≡ 0xD6 }
+    ensures row { Reads result (sources_of word) }
+    ensures found { IfSome result (λ i. word_of i ≡ word) }
+{
+    if field(word, 30, 1) == 1 {
+        one_source(word)
+    } else if field(word, 10, 6) == 0 && field(word, 31, 1) == 1 {
+        tag_rows::sub_p(word)
+    } else if field(word, 29, 1) == 0 {
+        two_sources(word)
+    } else {
+        None
+    }
+}
+
+/// Operations on one register.
+#[tactic(auto, unfolding(crate::specs::Reading::one_source_of))]
+fn one_source(word: u32) -> Option<Instr>
+    requires class { field_of 21 8 word ≡ 0xD6 }
+    requires bit_30 { field_of 30 1 word ≡ 1 }
+    ensures row { Reads result (one_source_of word) }
+    ensures found { IfSome result (λ i. word_of i ≡ word) }
+{
+    if field(word, 29, 1) == 0 && field(word, 16, 5) == 0 {
+        data_rows::one_source(word)
+    } else {
+        None
+    }
+}
+
+/// Operations on two registers.
+#[tactic(auto, unfolding(crate::specs::Reading::two_sources_of))]
+fn two_sources(word: u32) -> Option<Instr>
+    requires class { field_of 21 8 word ≡ 0xD6 }
+    requires bits_29 { field_of 29 2 word ≡ 0 }
+    ensures row { Reads result (two_sources_of word) }
+    ensures found { IfSome result (λ i. word_of i ≡ word) }
+{
+    match field(word, 10, 6) {
+        4 if field(word, 31, 1) == 1 => tag_rows::irg(word),
+        5 if field(word, 31, 1) == 1 => tag_rows::gmi(word),
+        _ => data_rows::two_source(word),
+    }
+}
+
+/// Products.
+#[tactic(auto, unfolding(crate::specs::Reading::multiply_of))]
+fn multiply(word: u32) -> Option<Instr>
+    requires { field_of 24 5 word ≡ 27 }
+    ensures row { Reads result (multiply_of word) }
+    ensures found { IfSome result (λ i. word_of i ≡ word) }
+{
+    match field(word, 21, 2) {
+        0 if field(word, 29, 2) == 0 && field(word, 23, 1) == 0 => data_rows::mul_add(word),
+        1 if field(word, 29, 3) == 4 => data_rows::mul_add_long(word),
+        2 if field(word, 29, 3) == 4 && field(word, 15, 1) == 0 && field(word, 10, 5) == 31 =>
+            data_rows::mul_high(word),
+        _ => None,
+    }
+}

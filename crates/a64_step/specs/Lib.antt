@@ -1,0 +1,12 @@
+pub mod Registers
+pub mod Results
+pub mod Conditions
+pub mod Arithmetic
+pub mod Logic
+pub mod Branches
+pub mod Places
+pub mod Numbers
+pub mod Loads
+pub mod Pairs
+pub mod Tags
+pub mod Steps

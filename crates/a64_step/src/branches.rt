@@ -1,0 +1,93 @@
+//! Branches. Each leaves the program counter at the instruction that comes next.
+
+ghost use Rattle.std.specs.Prelude.{◌≡◌, ◌<◌, ◌+◌, ◌*◌, ◌/◌, ◌%◌, ◌^◌, ◌==◌};
+ghost use Rattle.a64_step.specs.Branches.{linked, jumped_if, branch_of, branch_cond_of, cmp_branch_of, test_branch_of, branch_reg_of};
+
+use crate::arithmetic::low_bits;
+use crate::conditions::condition_holds;
+use crate::numbers::moved_by;
+use crate::registers::Regs;
+
+#[inline(always)]
+#[tactic(auto, unfolding(crate::specs::Branches::linked))]
+fn link(regs: &mut Regs)
+    ensures { regs.new ≡ linked regs.old }
+{
+    regs.set(30, regs.pc.wrapping_add(4));
+}
+
+#[inline(always)]
+#[tactic(auto, unfolding(crate::specs::Branches::jumped_if))]
+fn jump_if(regs: &mut Regs, taken: bool, offset: i64)
+    ensures { regs.new ≡ jumped_if regs.old taken offset }
+{
+    if taken {
+        regs.jump(moved_by(regs.pc, 4, offset));
+    } else {
+        regs.advance();
+    }
+}
+
+/// B, BL.
+#[inline(always)]
+#[tactic(auto, unfolding(crate::specs::Branches::branch_of))]
+pub fn branch(regs: &mut Regs, op: u8, imm26: i32)
+    ensures { regs.new ≡ branch_of regs.old op imm26 }
+{
+    let target = moved_by(regs.pc, 4, i64::from(imm26));
+    if op == 1 {
+        link(regs);
+    }
+    regs.jump(target);
+}
+
+/// B.cond.
+#[inline(always)]
+#[tactic(auto, unfolding(crate::specs::Branches::branch_cond_of))]
+pub fn branch_cond(regs: &mut Regs, imm19: i32, code: u8)
+    requires { code < 16 }
+    ensures { regs.new ≡ branch_cond_of regs.old imm19 code }
+{
+    let taken = condition_holds(regs.flags, code);
+    jump_if(regs, taken, i64::from(imm19));
+}
+
+/// CBZ, CBNZ.
+#[inline(always)]
+#[tactic(auto, unfolding(crate::specs::Branches::cmp_branch_of))]
+pub fn cmp_branch(regs: &mut Regs, sf: u8, op: u8, imm19: i32, rt: u8)
+    requires { rt < 32 }
+    ensures { regs.new ≡ cmp_branch_of regs.old sf op imm19 rt }
+{
+    let zero = low_bits(sf, regs.get(rt)) == 0;
+    let taken = if op == 0 { zero } else { !zero };
+    jump_if(regs, taken, i64::from(imm19));
+}
+
+/// TBZ, TBNZ.
+#[inline(always)]
+#[tactic(auto, unfolding(crate::specs::Branches::test_branch_of))]
+pub fn test_branch(regs: &mut Regs, b5: u8, op: u8, b40: u8, imm14: i16, rt: u8)
+    requires b5 { b5 < 2 }
+    requires b40 { b40 < 32 }
+    requires rt { rt < 32 }
+    ensures { regs.new ≡ test_branch_of regs.old b5 op b40 imm14 rt }
+{
+    let position = 32 * u32::from(b5) + u32::from(b40);
+    let bit = (regs.get(rt) >> position) % 2;
+    jump_if(regs, bit == u64::from(op), i64::from(imm14));
+}
+
+/// BR, BLR, RET.
+#[inline(always)]
+#[tactic(auto, unfolding(crate::specs::Branches::branch_reg_of))]
+pub fn branch_reg(regs: &mut Regs, opc: u8, rn: u8)
+    requires { rn < 32 }
+    ensures { regs.new ≡ branch_reg_of regs.old opc rn }
+{
+    let target = regs.get(rn);
+    if opc == 1 {
+        link(regs);
+    }
+    regs.jump(target);
+}

@@ -1,0 +1,89 @@
+//! The registers that instructions name.
+
+ghost use Rattle.std.specs.Prelude.{◌≡◌, ℕ, ◌<◌, ◌≤◌, ◌+◌, ◌%◌, ◌^◌};
+
+use a64_bits::Flags;
+use mte_tags::Rgsr;
+
+/// The registers of a core (Arm ARM DDI 0487, B1.2): x0 to x30, SP, PC, PSTATE.N, Z, C, V and RGSR_EL1.
+#[derive(Clone, Copy, Debug, PartialEq, Eq)]
+pub struct Regs {
+    /// x0 to x30.
+    pub x: [u64; 31],
+    /// The stack pointer.
+    pub sp: u64,
+    /// The address of the instruction that is executed next; its low 56 bits count.
+    pub pc: u64,
+    /// PSTATE.N, Z, C and V.
+    pub flags: Flags,
+    /// The state of the random tags.
+    pub rgsr: Rgsr,
+}
+
+impl Regs {
+    ghost use Rattle.a64_step.specs.Registers.{register, register_or_sp, with_register, with_register_or_sp, advanced, jumped};
+
+    /// A register, or 0 for number 31.
+    #[inline(always)]
+    #[tactic(auto, unfolding(crate::specs::Registers::register))]
+    pub(crate) fn get(&self, n: u8) -> u64
+        requires { n < 32 }
+        ensures { result ≡ register self.now n }
+    {
+        if n == 31 { 0 } else { self.x[n as usize] }
+    }
+
+    /// A register, or the stack pointer for number 31.
+    #[inline(always)]
+    #[tactic(auto, unfolding(crate::specs::Registers::register_or_sp))]
+    pub(crate) fn get_or_sp(&self, n: u8) -> u64
+        requires { n < 32 }
+        ensures { result ≡ register_or_sp self.now n }
+    {
+        if n == 31 { self.sp } else { self.x[n as usize] }
+    }
+
+    /// Writes a register; number 31 ignores it.
+    #[inline(always)]
+    #[tactic(auto, unfolding(crate::specs::Registers::with_register))]
+    pub(crate) fn set(&mut self, n: u8, value: u64)
+        requires { n < 32 }
+        ensures { self.new ≡ with_register self.old n value }
+    {
+        if n != 31 {
+            self.x[n as usize] = value;
+        }
+    }
+
+    /// Writes a register, or the stack pointer for number 31.
+    #[inline(always)]
+    #[tactic(auto, unfolding(crate::specs::Registers::with_register_or_sp))]
+    pub(crate) fn set_or_sp(&mut self, n: u8, value: u64)
+        requires { n < 32 }
+        ensures { self.new ≡ with_register_or_sp self.old n value }
+    {
+        if n == 31 {
+            self.sp = value;
+        } else {
+            self.x[n as usize] = value;
+        }
+    }
+
+    /// Moves the program counter to the next instruction.
+    #[inline(always)]
+    #[tactic(auto, unfolding(crate::specs::Registers::advanced))]
+    pub(crate) fn advance(&mut self)
+        ensures { self.new ≡ advanced self.old }
+    {
+        self.pc = self.pc.wrapping_add(4) % (1 << 56);
+    }
+
+    /// Moves the program counter to an address.
+    #[inline(always)]
+    #[tactic(auto, unfolding(crate::specs::Registers::jumped))]
+    pub(crate) fn jump(&mut self, target: u64)
+        ensures { self.new ≡ jumped self.old target }
+    {
+        self.pc = target % (1 << 56);
+    }
+}

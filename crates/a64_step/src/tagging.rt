@@ -1,0 +1,203 @@
+//! Instructions on tags.
+
+ghost use Rattle.std.specs.Prelude.{◌≡◌, ◌≢◌, ◌<◌, ◌+◌, ◌-◌, ◌*◌, ◌/◌, ◌%◌, ◌^◌};
+ghost use Rattle.std.specs.Int.RustNames.{bit_or};
+ghost use Rattle.a64_step.specs.Tags.{with_address_tag, add_g_of, sub_p_of, irg_of, gmi_of, ldg_of, st_g_at, st_g_of, tag_place, granule_count, is_zeroing};
+
+use crate::arithmetic::{add_into, add_or_subtract};
+use crate::numbers::moved_by;
+use crate::outcome::Outcome;
+use crate::places::{Place, fault_of_stack, write_back};
+use crate::registers::Regs;
+use a64_bits::sign_extend;
+use mte_tags::{Tagged, choose_non_excluded, tag_of, with_tag};
+
+/// GCR_EL1.Exclude: tag 0 is neither drawn nor chosen.
+const EXCLUDED: u16 = 1;
+
+/// An address with another tag.
+#[inline(always)]
+#[tactic(auto, unfolding(crate::specs::Tags::with_address_tag))]
+fn tagged(address: u64, tag: u8) -> u64
+    requires { tag < 16 }
+    ensures { result ≡ with_address_tag address tag }
+{
+    with_tag(address, tag)
+}
+
+/// ADDG, SUBG.
+#[inline(never)]
+#[tactic(auto, unfolding(crate::specs::Tags::add_g_of))]
+pub fn add_g(regs: &mut Regs, op: u8, uimm6: u8, uimm4: u8, rn: u8, rd: u8)
+    requires uimm6 { uimm6 < 64 }
+    requires uimm4 { uimm4 < 16 }
+    requires rn { rn < 32 }
+    requires rd { rd < 32 }
+    ensures { regs.new ≡ add_g_of regs.old op uimm6 uimm4 rn rd }
+{
+    let base = regs.get_or_sp(rn);
+    let sum = add_or_subtract(1, op, base, 16 * u64::from(uimm6));
+    let tag = choose_non_excluded(tag_of(base), uimm4, EXCLUDED);
+    regs.set_or_sp(rd, tagged(sum.result, tag));
+}
+
+/// SUBP, SUBPS.
+#[inline(never)]
+#[tactic(auto, unfolding(crate::specs::Tags::sub_p_of))]
+pub fn sub_p(regs: &mut Regs, s: u8, rm: u8, rn: u8, rd: u8)
+    requires rm { rm < 32 }
+    requires rn { rn < 32 }
+    requires rd { rd < 32 }
+    ensures { regs.new ≡ sub_p_of regs.old s rm rn rd }
+{
+    let x = sign_extend(regs.get_or_sp(rn), 56);
+    let y = sign_extend(regs.get_or_sp(rm), 56);
+    add_into(regs, 1, 1, s, rd, x, y);
+}
+
+/// IRG.
+#[inline(never)]
+#[tactic(auto, unfolding(crate::specs::Tags::irg_of))]
+pub fn irg(regs: &mut Regs, rm: u8, rn: u8, rd: u8)
+    requires rm { rm < 32 }
+    requires rn { rn < 32 }
+    requires rd { rd < 32 }
+    ensures { regs.new ≡ irg_of regs.old rm rn rd }
+{
+    let base = regs.get_or_sp(rn);
+    let exclude = (regs.get(rm) % (1 << 16)) as u16 | EXCLUDED;
+    regs.rgsr.tag %= 16;
+    let tag = regs.rgsr.draw(exclude);
+    regs.set_or_sp(rd, tagged(base, tag));
+}
+
+/// GMI.
+#[inline(never)]
+#[tactic(auto, unfolding(crate::specs::Tags::gmi_of))]
+pub fn gmi(regs: &mut Regs, rm: u8, rn: u8, rd: u8)
+    requires rm { rm < 32 }
+    requires rn { rn < 32 }
+    requires rd { rd < 32 }
+    ensures { regs.new ≡ gmi_of regs.old rm rn rd }
+{
+    let bit = 1u64 << tag_of(regs.get_or_sp(rn));
+    regs.set(rd, regs.get(rm) | bit);
+}
+
+/// LDG.
+#[inline(never)]
+#[tactic(auto, unfolding(crate::specs::Tags::ldg_of))]
+pub fn ldg<M: Tagged>(
+    regs: &mut Regs,
+    memory: &mut M,
+    imm9: i16,
+    rn: u8,
+    rt: u8,
+    outcome: &mut Outcome,
+)
+    requires rn { rn < 32 }
+    requires rt { rt < 32 }
+    requires outcome { outcome.old ≡ Outcome.Next }
+    ensures outcome { outcome.new ≡ (ldg_of regs.old (M.memory memory.old) imm9 rn rt).outcome }
+    ensures regs { regs.new ≡ (ldg_of regs.old (M.memory memory.old) imm9 rn rt).regs }
+    ensures memory { M.memory memory.new ≡ (ldg_of regs.old (M.memory memory.old) imm9 rn rt).memory }
+    ensures kept { M.kept memory.old memory.new }
+{
+    if let Some(fault) = fault_of_stack(regs, rn, false) {
+        *outcome = Outcome::Fault(fault);
+        return;
+    }
+    let address = moved_by(regs.get_or_sp(rn), 16, i64::from(imm9));
+    match memory.load_tag(address) {
+        Err(fault) => *outcome = Outcome::Fault(fault),
+        Ok(tag) => {
+            regs.set(rt, tagged(regs.get(rt), tag));
+            regs.advance();
+        }
+    }
+}
+
+/// STG, STZG, ST2G, STZ2G.
+#[inline(never)]
+#[tactic(auto, unfolding(crate::specs::Tags::st_g_of))]
+pub fn st_g<M: Tagged>(
+    regs: &mut Regs,
+    memory: &mut M,
+    opc: u8,
+    imm9: i16,
+    mode: u8,
+    rn: u8,
+    rt: u8,
+    outcome: &mut Outcome,
+)
+    requires rn { rn < 32 }
+    requires rt { rt < 32 }
+    requires outcome { outcome.old ≡ Outcome.Next }
+    ensures outcome { outcome.new ≡ (st_g_of regs.old (M.memory memory.old) opc imm9 mode rn rt).outcome }
+    ensures regs { regs.new ≡ (st_g_of regs.old (M.memory memory.old) opc imm9 mode rn rt).regs }
+    ensures memory { M.memory memory.new ≡ (st_g_of regs.old (M.memory memory.old) opc imm9 mode rn rt).memory }
+    ensures kept { M.kept memory.old memory.new }
+{
+    let place = place_of_tags(regs, imm9, mode, rn);
+    store_at(regs, memory, opc, rn, rt, place, outcome)
+}
+
+#[tactic(auto, unfolding(crate::specs::Tags::tag_place))]
+fn place_of_tags(regs: &Regs, imm9: i16, mode: u8, rn: u8) -> Place
+    requires { rn < 32 }
+    ensures { result ≡ tag_place regs.now imm9 mode rn }
+{
+    match mode {
+        1 => Place::post(regs, 16, i64::from(imm9), rn),
+        2 => Place::offset(regs, 16, i64::from(imm9), rn),
+        _ => Place::pre(regs, 16, i64::from(imm9), rn),
+    }
+}
+
+#[tactic(auto, unfolding(crate::specs::Tags::st_g_at))]
+fn store_at<M: Tagged>(
+    regs: &mut Regs,
+    memory: &mut M,
+    opc: u8,
+    rn: u8,
+    rt: u8,
+    place: Place,
+    outcome: &mut Outcome,
+)
+    requires rn { rn < 32 }
+    requires rt { rt < 32 }
+    requires outcome { outcome.old ≡ Outcome.Next }
+    ensures outcome { outcome.new ≡ (st_g_at regs.old (M.memory memory.old) opc rn rt place).outcome }
+    ensures regs { regs.new ≡ (st_g_at regs.old (M.memory memory.old) opc rn rt place).regs }
+    ensures memory { M.memory memory.new ≡ (st_g_at regs.old (M.memory memory.old) opc rn rt place).memory }
+    ensures kept { M.kept memory.old memory.new }
+{
+    if let Some(fault) = fault_of_stack(regs, rn, true) {
+        *outcome = Outcome::Fault(fault);
+        return;
+    }
+    let tag = tag_of(regs.get_or_sp(rt));
+    if let Err(fault) = memory.store_tags(
+        place.address,
+        count_of_granules(opc),
+        tag,
+        makes_zero(opc),
+    ) {
+        *outcome = Outcome::Fault(fault);
+        return;
+    }
+    write_back(regs, rn, place.new_base);
+    regs.advance();
+}
+
+fn count_of_granules(opc: u8) -> u64
+    ensures { result ≡ granule_count opc }
+{
+    if opc == 2 || opc == 3 { 2 } else { 1 }
+}
+
+fn makes_zero(opc: u8) -> bool
+    ensures { result ≡ is_zeroing opc }
+{
+    opc == 1 || opc == 3
+}

@@ -1,0 +1,2 @@
+pub mod ImageLemmas
+pub mod LoadingLemmas

@@ -1,0 +1,3 @@
+pub mod Headers
+pub mod Images
+pub mod Loading

@@ -1,0 +1,163 @@
+//! The file header and the program headers.
+
+ghost use Rattle.std.specs.Prelude.{◌≡◌, ◌+◌, ◌≤◌, length, IfOk, IfErr, map, filter, true};
+ghost use Rattle.mte_elf.specs.Images.{has_table};
+ghost use Rattle.mte_elf.specs.Headers.{number_at, header_at, headers_of, is_loaded, segment_of};
+
+use crate::error::ElfError;
+use crate::image::Segment;
+use byteorder::{ByteOrder, LittleEndian};
+use std::alloc::Global;
+
+/// What the loader reads of a program header (Elf64_Phdr).
+#[derive(Clone, Copy, Debug, PartialEq, Eq)]
+pub struct ProgramHeader {
+    /// `p_type`.
+    pub kind: u32,
+    /// `p_flags`: execute 1, write 2, read 4.
+    pub flags: u32,
+    /// `p_offset`: where its bytes begin in the file.
+    pub offset: u64,
+    /// `p_vaddr`: its first address.
+    pub vaddr: u64,
+    /// `p_filesz`: how many of its bytes stand in the file.
+    pub filesz: u64,
+    /// `p_memsz`: how many bytes it has in memory.
+    pub memsz: u64,
+}
+
+/// PT_LOAD.
+const LOAD: u32 = 1;
+
+/// The bytes of a program header.
+pub const HEADER_BYTES: usize = 56;
+
+#[tactic(auto, unfolding(crate::specs::Headers::number_at))]
+fn half_at(file: &[u8], at: usize) -> u16
+    requires { at + 2 ≤ length file.now }
+    ensures { result ≡ number_at file.now 2 at }
+{
+    LittleEndian::read_u16(&file[at..])
+}
+
+#[tactic(auto, unfolding(crate::specs::Headers::number_at))]
+fn word_at(file: &[u8], at: usize) -> u32
+    requires { at + 4 ≤ length file.now }
+    ensures { result ≡ number_at file.now 4 at }
+{
+    LittleEndian::read_u32(&file[at..])
+}
+
+#[tactic(auto, unfolding(crate::specs::Headers::number_at))]
+fn double_word_at(file: &[u8], at: usize) -> u64
+    requires { at + 8 ≤ length file.now }
+    ensures { result ≡ number_at file.now 8 at }
+{
+    LittleEndian::read_u64(&file[at..])
+}
+
+/// `e_type`.
+pub fn file_type(file: &[u8]) -> u16
+    requires { 64 ≤ length file.now }
+    ensures { result ≡ number_at file.now 2 16 }
+{
+    half_at(file, 16)
+}
+
+/// `e_machine`.
+pub fn machine(file: &[u8]) -> u16
+    requires { 64 ≤ length file.now }
+    ensures { result ≡ number_at file.now 2 18 }
+{
+    half_at(file, 18)
+}
+
+/// `e_entry`.
+pub fn entry(file: &[u8]) -> u64
+    requires { 64 ≤ length file.now }
+    ensures { result ≡ number_at file.now 8 24 }
+{
+    double_word_at(file, 24)
+}
+
+/// `e_phoff`.
+pub fn table_offset(file: &[u8]) -> u64
+    requires { 64 ≤ length file.now }
+    ensures { result ≡ number_at file.now 8 32 }
+{
+    double_word_at(file, 32)
+}
+
+/// `e_phentsize`.
+pub fn header_size(file: &[u8]) -> u16
+    requires { 64 ≤ length file.now }
+    ensures { result ≡ number_at file.now 2 54 }
+{
+    half_at(file, 54)
+}
+
+/// `e_phnum`.
+pub fn header_count(file: &[u8]) -> u16
+    requires { 64 ≤ length file.now }
+    ensures { result ≡ number_at file.now 2 56 }
+{
+    half_at(file, 56)
+}
+
+/// The program header that begins at a place of the file.
+#[tactic(auto, unfolding(crate::specs::Headers::header_at))]
+fn program_header(file: &[u8], at: usize) -> ProgramHeader
+    requires { at + 56 ≤ length file.now }
+    ensures { result ≡ header_at file.now at }
+{
+    ProgramHeader {
+        kind: word_at(file, at),
+        flags: word_at(file, at + 4),
+        offset: double_word_at(file, at + 8),
+        vaddr: double_word_at(file, at + 16),
+        filesz: double_word_at(file, at + 32),
+        memsz: double_word_at(file, at + 40),
+    }
+}
+
+/// The table of program headers. The error is `OutOfMemory`.
+pub fn program_headers(alloc: Global, file: &[u8]) -> Result<Vec<ProgramHeader>, ElfError>
+    requires file_header { 64 ≤ length file.now }
+    requires table { has_table file.now ≡ true }
+    ensures headers { IfOk result (λ headers. headers.items ≡ headers_of file.now) }
+    ensures memory { IfErr result (λ e. e ≡ ElfError.OutOfMemory) }
+{
+    let at = table_offset(file) as usize;
+    let count = header_count(file) as usize;
+    let mut headers = Vec::with_capacity(alloc, count)?;
+    for i in 0..count {
+        headers.push(program_header(file, at + HEADER_BYTES * i))?;
+    }
+    Ok(headers)
+}
+
+/// Whether a program header is a loadable segment with bytes in memory.
+fn is_loadable(header: &ProgramHeader) -> bool
+    ensures { result ≡ is_loaded header.now }
+{
+    header.kind == LOAD && header.memsz > 0
+}
+
+/// The loadable segments with bytes in memory, in the order of the headers. The error is `OutOfMemory`.
+pub fn segments(alloc: Global, headers: &[ProgramHeader]) -> Result<Vec<Segment>, ElfError>
+    ensures segments { IfOk result (λ segments. segments.items ≡ map segment_of (filter is_loaded headers.now)) }
+    ensures memory { IfErr result (λ e. e ≡ ElfError.OutOfMemory) }
+{
+    let segments = headers
+        .iter()
+        .filter(|header| is_loadable(header))
+        .map(|header| Segment {
+            vaddr: header.vaddr,
+            memsz: header.memsz,
+            offset: header.offset,
+            filesz: header.filesz,
+            flags: header.flags,
+        })
+        .collect(alloc)?;
+    Ok(segments)
+}

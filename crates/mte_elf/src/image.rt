@@ -1,0 +1,29 @@
+//! What the loader does for an image.
+
+/// A loadable segment: `memsz` bytes from `vaddr` on, of which the first `filesz` stand in the file from
+/// `offset` on and the others are 0. Its flags are execute 1, write 2 and read 4.
+#[derive(Clone, Copy, Debug, PartialEq, Eq)]
+pub struct Segment {
+    /// The first address.
+    pub vaddr: u64,
+    /// How many bytes it has in memory, at least 1.
+    pub memsz: u64,
+    /// Where its bytes begin in the file.
+    pub offset: u64,
+    /// How many of its bytes stand in the file, at most `memsz`.
+    pub filesz: u64,
+    /// Execute 1, write 2, read 4; other bits count for nothing.
+    pub flags: u32,
+}
+
+/// What the loader does for an image: the pages and bytes of its segments, and where its program begins.
+#[derive(Debug, Drop)]
+pub struct Plan {
+    /// The first instruction's address.
+    pub entry: u64,
+    /// How many pages of 4096 bytes the segments touch.
+    pub pages: u64,
+    /// The loadable segments with bytes in memory, in the order of the program headers. No two touch
+    /// one page.
+    pub segments: Vec<Segment>,
+}

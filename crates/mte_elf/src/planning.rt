@@ -1,0 +1,196 @@
+//! The loader's plan for an image.
+
+ghost use Rattle.std.specs.Prelude.{◌≡◌, ◌⊎◌, ℕ, ◌+◌, ◌-◌, ◌*◌, ◌/◌, ◌^◌, ◌≤◌, ◌<◌, length, IfOk, IfErr, Some, None, sum_by, true};
+ghost use Rattle.std.specs.List.{list_any, list_all};
+ghost use Rattle.mte_elf.specs.Headers.{entry_of, segments_of, is_interpreter};
+ghost use Rattle.mte_elf.specs.Images.{refusal_of, pages_of, has_table, is_in_range, any_share_page, share_page, is_entry, page_count, first_page, last_page};
+
+use crate::error::ElfError;
+use crate::headers::{
+    ProgramHeader, entry, file_type, header_count, header_size, machine, program_headers, segments,
+    table_offset,
+};
+use crate::image::{Plan, Segment};
+use std::alloc::Global;
+
+/// The bytes of a page.
+const PAGE: u128 = 4096;
+
+/// Where the addresses of images begin.
+const FIRST: u64 = 0x1000;
+
+/// Where they end.
+const END: u64 = 0x1000_0000;
+
+/// The bytes of a file header (Elf64_Ehdr).
+const FILE_HEADER: usize = 64;
+
+/// The identification of a little-endian ELF64 file of version 1.
+const IDENTIFICATION: [u8; 7] = [0x7F, b'E', b'L', b'F', 2, 1, 1];
+
+/// EM_AARCH64.
+const AARCH64: u16 = 183;
+
+/// ET_EXEC.
+const EXECUTABLE: u16 = 2;
+
+/// PT_INTERP.
+const INTERPRETER: u32 = 3;
+
+/// Reads an image as a whole, before anything of it is mapped.
+///
+/// The refusal is the first of [`ElfError`]'s tests that the file fails. Only `OutOfMemory`, where an
+/// allocation was refused, can come in place of another answer.
+#[tactic(auto, unfolding(crate::specs::Images::refusal_of))]
+pub fn plan(alloc: Global, file: &[u8]) -> Result<Plan, ElfError>
+    ensures image { IfOk result (λ p. refusal_of file.now ≡ None) }
+    ensures entry { IfOk result (λ p. p.entry ≡ entry_of file.now) }
+    ensures pages { IfOk result (λ p. p.pages ≡ pages_of file.now) }
+    ensures segments { IfOk result (λ p. p.segments.items ≡ segments_of file.now) }
+    ensures refused { IfErr result (λ e. (e ≡ ElfError.OutOfMemory) ⊎ (refusal_of file.now ≡ Some e)) }
+{
+    if file.len() < FILE_HEADER {
+        return Err(ElfError::Short);
+    }
+    if !file.starts_with(&IDENTIFICATION) {
+        return Err(ElfError::NotElf64);
+    }
+    if machine(file) != AARCH64 {
+        return Err(ElfError::NotAarch64);
+    }
+    if file_type(file) != EXECUTABLE {
+        return Err(ElfError::NotExec);
+    }
+    if !holds_table(file) {
+        return Err(ElfError::BadHeaders);
+    }
+    let headers = program_headers(alloc, file)?;
+    if has_interpreter(headers.as_slice()) {
+        return Err(ElfError::Interpreter);
+    }
+    let segments = segments(alloc, headers.as_slice())?;
+    if !all_lie_in_range(segments.as_slice(), file.len() as u64) {
+        return Err(ElfError::SegmentRange);
+    }
+    if shares_page(segments.as_slice()) {
+        return Err(ElfError::Overlap);
+    }
+    let entry = entry(file);
+    if !any_holds_entry(segments.as_slice(), entry) {
+        return Err(ElfError::NoEntry);
+    }
+    let pages = count_pages(segments.as_slice());
+    Ok(Plan {
+        entry,
+        pages,
+        segments,
+    })
+}
+
+/// Whether the file has a table of 1 to 64 program headers of 56 bytes.
+fn holds_table(file: &[u8]) -> bool
+    requires { 64 ≤ length file.now }
+    ensures { result ≡ has_table file.now }
+{
+    let count = u64::from(header_count(file));
+    let size = file.len() as u64;
+    let table = 56 * count;
+    header_size(file) == 56
+        && count > 0
+        && count <= 64
+        && table <= size
+        && table_offset(file) <= size - table
+}
+
+/// Whether some program header is PT_INTERP.
+fn has_interpreter(headers: &[ProgramHeader]) -> bool
+    ensures { result ≡ list_any is_interpreter headers.now }
+{
+    headers.iter().any(|header| header.kind == INTERPRETER)
+}
+
+/// Whether each segment lies in range.
+fn all_lie_in_range(segments: &[Segment], size: u64) -> bool
+    ensures { result ≡ list_all (is_in_range size) segments.now }
+{
+    segments.iter().all(|segment| lies_in_range(segment, size))
+}
+
+/// Whether an entry is an address of some executable segment.
+fn any_holds_entry(segments: &[Segment], entry: u64) -> bool
+    ensures { result ≡ list_any (is_entry entry) segments.now }
+{
+    segments.iter().any(|segment| holds_entry(segment, entry))
+}
+
+/// Whether a segment's file part lies in it and in a file of `size` bytes, and its addresses in the range for images.
+fn lies_in_range(segment: &Segment, size: u64) -> bool
+    ensures { result ≡ is_in_range size segment.now }
+{
+    let in_file = segment.filesz == 0
+        || (segment.filesz <= size && segment.offset <= size - segment.filesz);
+    segment.filesz <= segment.memsz
+        && in_file
+        && segment.vaddr >= FIRST
+        && segment.memsz <= END
+        && segment.vaddr <= END - segment.memsz
+}
+
+/// The last page that a segment touches.
+pub fn last_page_touched(segment: &Segment) -> u64
+    ensures page { result ≡ last_page segment.now }
+    ensures below { result < 2 ^ 54 }
+{
+    let end = u128::from(segment.vaddr) + u128::from(segment.memsz);
+    (end.saturating_sub(1) / PAGE) as u64
+}
+
+/// Whether two segments touch one page.
+fn touches(one: &Segment, other: &Segment) -> bool
+    ensures { result ≡ share_page one.now other.now }
+{
+    let one_first = one.vaddr / 4096;
+    let other_first = other.vaddr / 4096;
+    one_first <= last_page_touched(other) && other_first <= last_page_touched(one)
+}
+
+/// Whether a segment touches a page of one of the others.
+fn touches_any(segment: &Segment, others: &[Segment]) -> bool
+    ensures { result ≡ list_any (share_page segment.now) others.now }
+{
+    others.iter().any(|other| touches(segment, other))
+}
+
+/// Whether some two segments touch one page.
+fn shares_page(segments: &[Segment]) -> bool
+    ensures { result ≡ any_share_page segments.now }
+{
+    for (i, segment) in segments.iter().enumerate() {
+        if touches_any(segment, &segments[i + 1..]) {
+            return true;
+        }
+    }
+    false
+}
+
+/// Whether an entry is an address of an executable segment.
+fn holds_entry(segment: &Segment, entry: u64) -> bool
+    ensures { result ≡ is_entry entry segment.now }
+{
+    segment.flags % 2 == 1 && segment.vaddr <= entry && entry - segment.vaddr < segment.memsz
+}
+
+/// How many pages a segment touches.
+pub fn pages_touched(segment: &Segment) -> u64
+    ensures { result ≡ page_count segment.now }
+{
+    (last_page_touched(segment) + 1).saturating_sub(segment.vaddr / 4096)
+}
+
+/// How many pages the segments touch.
+fn count_pages(segments: &[Segment]) -> u64
+    requires { sum_by page_count segments.now < 2 ^ 64 }
+    ensures { result ≡ sum_by page_count segments.now }
+{
+    segments.iter().map(pages_touched).sum()
+}

@@ -1,0 +1,5 @@
+pub mod StreamLemmas
+pub mod ReportLemmas
+pub mod MachineLemmas
+pub mod ScriptLemmas
+pub mod SessionLemmas

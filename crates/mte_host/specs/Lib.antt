@@ -1,0 +1,10 @@
+pub mod Streams
+pub mod Outputs
+pub mod Report
+pub mod Machines
+pub mod Hosts
+pub mod Sessions
+pub mod Scripts
+pub mod ScriptFaults
+pub mod ScriptWords
+pub mod Endings

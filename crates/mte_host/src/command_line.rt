@@ -1,0 +1,110 @@
+//! The command line.
+
+ghost use Rattle.std.specs.Prelude.{◌≡◌, ◌≤◌};
+
+use clap::error::ErrorKind;
+use clap::{Arg, ArgAction, ArgMatches, Command, Error, value_parser};
+use std::alloc::{AllocError, Global};
+use std::env;
+
+/// What the program is run on.
+#[derive(Debug, Drop)]
+pub struct CommandLine {
+    /// The frames of the arena, 1 to 65536.
+    pub frames: u32,
+    /// The script's file name.
+    pub script: String,
+    /// The files' names, the first being number 1.
+    pub files: Vec<String>,
+    ghost some: { 1 ≤ frames },
+    ghost few: { frames ≤ 65536 },
+}
+
+/// What a command line asks for.
+#[derive(Debug, Drop)]
+pub enum Asked {
+    /// A session.
+    Run(CommandLine),
+    /// Help or a fault, which was printed; the exit status.
+    Answered(u8),
+    /// An allocation was refused.
+    OutOfMemory,
+}
+
+/// Reads the process's arguments; prints the help, or what is wrong with them.
+pub fn read_command_line(rt: &HostRuntime) -> Asked {
+    let Ok(args) = env::args(rt) else {
+        return Asked::Answered(2);
+    };
+    let Ok(words) = args.collect::<Vec<String>>(rt.alloc()) else {
+        return Asked::OutOfMemory;
+    };
+    match parse(rt.alloc(), words.as_slice()) {
+        Ok(Some(line)) => Asked::Run(line),
+        Ok(None) => Asked::OutOfMemory,
+        Err(error) => answer(rt, &error),
+    }
+}
+
+/// Prints what `clap` answers.
+fn answer(rt: &HostRuntime, error: &Error) -> Asked {
+    if error.kind() == ErrorKind::OutOfMemory {
+        return Asked::OutOfMemory;
+    }
+    let _ = error.print(rt);
+    Asked::Answered(if error.use_stderr() { 2 } else { 0 })
+}
+
+/// Reads the words of a command line; `None` where an allocation was refused.
+fn parse(alloc: Global, words: &[String]) -> Result<Option<CommandLine>, Error> {
+    let frames = Arg::new(alloc, "frames")
+        .long("frames")
+        .value_name("N")
+        .help("How many frames of 4096 bytes the arena has, 1 to 65536")
+        .required(true)
+        .value_parser(value_parser!(u32).range(1..=65536));
+    let script = Arg::new(alloc, "script")
+        .value_name("SCRIPT")
+        .help("The script: a line an event")
+        .required(true);
+    let files = Arg::new(alloc, "files")
+        .value_name("FILE")
+        .help("The images and inputs that the script names by their numbers from 1")
+        .num_args(0..)
+        .action(ArgAction::Append);
+    let command = Command::new(alloc, "mte_host")
+        .about(
+            "Runs a script of tenants, each on an Arm core with memory tagging, and prints its report",
+        )
+        .arg(frames)?
+        .arg(script)?
+        .arg(files)?;
+    let matches = command.try_get_matches_from(words)?;
+    Ok(taken(alloc, &matches).ok())
+}
+
+/// The values of a command line that `clap` took.
+fn taken(alloc: Global, matches: &ArgMatches<'_>) -> Result<CommandLine, AllocError> {
+    let frames = in_range(matches.get_one::<u32>("frames").unwrap_or(1));
+    let script = String::from_str(alloc, matches.get_str("script").unwrap_or(""))?;
+    let mut files = Vec::new(alloc);
+    if let Some(names) = matches.get_strs("files") {
+        for name in names {
+            files.push(String::from_str(alloc, name)?)?;
+        }
+    }
+    Ok(CommandLine {
+        frames,
+        script,
+        files,
+    })
+}
+
+/// A number of frames that the option's range has let pass, so it is answered as it is.
+fn in_range(frames: u32) -> u32
+    ensures same { 1 ≤ frames → frames ≤ 65536 → result ≡ frames }
+    ensures some { 1 ≤ result }
+    ensures few { result ≤ 65536 }
+{
+    frames.max(1).min(65_536)
+}

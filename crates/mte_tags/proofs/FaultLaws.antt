@@ -1,0 +1,80 @@
+-- A fault depends on attributes and tags alone.
+use Rattle.std.proofs.Common.{◌≡◌, ℕ, ◌/◌, ◌%◌, ◌==◌, ◌&&◌, Bool, true, false, cond, Option, Some, None, List, [], ◌∷◌, refl, sym, ap, ◌∙◌, eq-eqb}
+use Rattle.std.proofs.lemmas.Bool.{cond-true}
+use Rattle.a64_bits.specs.Addresses.{plain}
+use Rattle.mte_tags.specs.Memory.{Memory, Page, page_at, has, attrs_at, attrs_in, tag_at, tag_in}
+use Rattle.mte_tags.specs.Accesses.{granules, byte_fault, first_fault, or_else, fault, fault_in, granule_tag, read_fault, write_fault, tags_fault, store_access, written}
+use Rattle.mte_tags.specs.declared.access.MemFault.{MemFault}
+use Rattle.mte_tags.specs.declared.access.Access.{Access}
+use Rattle.mte_tags.specs.declared.access.FaultKind.TheVariants.{Translation, Permission, TagCheck, Alignment}
+use Rattle.mte_tags.proofs.PageLaws.{attrs_at-written}
+use Rattle.mte_tags.proofs.ByteLaws.{tag_at-written}
+
+-- how a byte fails, by its page's attributes and its granule's tag
+pub fault_by : Access → ℕ → Option ℕ → ℕ → Option MemFault
+fault_by x a None t = Some (fault Translation x a 0)
+fault_by x a (Some attrs) t =
+    cond (has attrs x.need)
+    (cond (x.checked && has attrs 8) (cond (t == x.tag) None (Some (fault TagCheck x a t))) None)
+    (Some (fault Permission x a 0))
+
+tagged_case : (c h : Bool) (f : ℕ → Option MemFault) (t : ℕ) → cond (c && h) (f t) None ≡ cond (c && h) (f (cond h t 0)) None
+tagged_case true true f t = refl
+tagged_case true false f t = refl
+tagged_case false h f t = refl
+
+in_page : (x : Access) (o : Option Page) (a : ℕ) → fault_in x o a ≡ fault_by x a (attrs_in o) (tag_in o (a % 4096 / 16))
+unfolding fault_by
+in_page x None a = refl
+in_page x (Some p) a =
+    ap (λ k. cond (has p.attrs x.need) k (Some (fault Permission x a 0)))
+    (tagged_case x.checked (has p.attrs 8) (λ t. cond (t == x.tag) None (Some (fault TagCheck x a t))) (granule_tag p a))
+
+pub byte_fault-by : (m : Memory) (x : Access) (a : ℕ) → byte_fault m x a ≡ fault_by x a (attrs_at m (a / 4096)) (tag_at m a)
+unfolding byte_fault attrs_at tag_at
+byte_fault-by m x a = in_page x (page_at m (a / 4096)) a
+
+-- memories with the same attributes and tags have the same faults
+pub first_fault-same : (m m' : Memory) (x : Access) (xs : List ℕ) → ((q : ℕ) → attrs_at m q ≡ attrs_at m' q) → ((a : ℕ) → tag_at m a ≡ tag_at m' a) → first_fault m x xs ≡ first_fault m' x xs
+unfolding first_fault
+first_fault-same m m' x [] e f = refl
+first_fault-same m m' x (a ∷ xs) e f =
+    ap (λ g. or_else g (first_fault m x xs)) (byte_fault-by m x a ∙ ap (λ k. fault_by x a k (tag_at m a)) (e (a / 4096)) ∙ ap (fault_by x a (attrs_at m' (a / 4096))) (f a) ∙ sym (byte_fault-by m' x a))
+    ∙ ap (or_else (byte_fault m' x a)) (first_fault-same m m' x xs e f)
+
+-- a write changes no fault
+pub first_fault-written : (m : Memory) (a : ℕ) (bs : List ℕ) (x : Access) (xs : List ℕ) → first_fault (written m a bs) x xs ≡ first_fault m x xs
+first_fault-written m a bs x xs = first_fault-same (written m a bs) m x xs (attrs_at-written m a bs) (tag_at-written m a bs)
+
+pub read_fault-written : (m : Memory) (a : ℕ) (bs : List ℕ) (b n : ℕ) (check : Bool) → read_fault (written m a bs) b n check ≡ read_fault m b n check
+unfolding read_fault
+read_fault-written m a bs b n check = first_fault-written m a bs _ _
+
+pub write_fault-written : (m : Memory) (a : ℕ) (bs : List ℕ) (b n : ℕ) (check : Bool) → write_fault (written m a bs) b n check ≡ write_fault m b n check
+unfolding write_fault
+write_fault-written m a bs b n check = first_fault-written m a bs _ _
+
+pub tags_fault-written : (m : Memory) (a : ℕ) (bs : List ℕ) (b n : ℕ) → tags_fault (written m a bs) b n ≡ tags_fault m b n
+unfolding tags_fault
+tags_fault-written m a bs b n = ap (λ f. cond (b % 16 == 0) f (Some (fault Alignment (store_access b) (plain b) 0))) (first_fault-written m a bs (store_access b) (granules (plain b) n))
+
+-- an access has no fault where each byte's page has what it needs, and its tag where tags are compared
+fits_tag : (F : MemFault) (c : Bool) (b : Bool) → (c ≡ true → b ≡ true) → cond c (cond b None (Some F)) None ≡ None
+fits_tag F true b h = cond-true _ _ _ (h refl)
+fits_tag F false b h = refl
+
+-- each address of a list has these attributes, and the access's tag where tags are compared
+abbrev pub AllAt : Memory → Access → ℕ → List ℕ → Type 0
+AllAt m x attrs [] = Unit {0}
+AllAt m x attrs (a ∷ xs) = (attrs_at m (a / 4096) ≡ Some attrs) × ((x.checked && has attrs 8) ≡ true → tag_at m a ≡ x.tag) × AllAt m x attrs xs
+
+fits : (x : Access) (a attrs t : ℕ) → has attrs x.need ≡ true → ((x.checked && has attrs 8) ≡ true → t ≡ x.tag) → fault_by x a (Some attrs) t ≡ None
+unfolding fault_by
+fits x a attrs t e f = cond-true _ _ _ e ∙ fits_tag (fault TagCheck x a t) (x.checked && has attrs 8) (t == x.tag) (λ u. eq-eqb t x.tag (f u))
+
+pub first_fault-none : (m : Memory) (x : Access) (xs : List ℕ) (attrs : ℕ) → has attrs x.need ≡ true → AllAt m x attrs xs → first_fault m x xs ≡ None
+unfolding first_fault
+first_fault-none m x [] attrs e h = refl
+first_fault-none m x (a ∷ xs) attrs e h =
+    ap (λ g. or_else g (first_fault m x xs)) (byte_fault-by m x a ∙ ap (λ k. fault_by x a k (tag_at m a)) h.0 ∙ fits x a attrs (tag_at m a) e h.1)
+    ∙ first_fault-none m x xs attrs e h.2

@@ -1,0 +1,15 @@
+mod Choices
+mod RandomBits
+pub mod Pages
+pub mod PageLaws
+pub mod Whole
+pub mod ByteLaws
+pub mod TagLaws
+pub mod FaultLaws
+pub mod AddressLists
+pub mod RunSteps
+pub mod GranuleLists
+pub mod PageRuns
+pub mod TagRuns
+mod Places
+mod Found

@@ -1,0 +1,6 @@
+pub mod Memory
+pub mod Accesses
+pub mod TagChoice
+pub mod RandomTags
+pub mod Slots
+pub mod Flats

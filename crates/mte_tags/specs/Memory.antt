@@ -1,0 +1,131 @@
+-- A tagged memory: how many pages it may have, and the pages that it has.
+--     page_at m q           the page q, if it is mapped
+--     with_page m q p       m with p as its page q
+--     without_page m q      m without its page q
+--     pages_left m          how many more pages may be mapped
+--     byte_at m a           the byte at a plain address
+--     tag_at m a            the allocation tag of the granule at a plain address
+-- A page has 4096 bytes and 256 granules of 16 bytes. The page of a plain address a is a / 4096.
+use Rattle.std.specs.Prelude.{◌≡◌, ℕ, zero, suc, ◌+◌, ◌-◌, ◌*◌, ◌<◌, ◌/◌, ◌%◌, ◌^◌, ◌==◌, Bool, List, ◌++◌, take, drop, replicate, slice_index, slice_set, if◌then◌else◌, Option, Some, None, IsSome, refl}
+use Rattle.std.specs.Int.RustNames.{bit_and}
+use Rattle.std.specs.Ordering.{nat_cmp}
+use Rattle.std.specs.FinMap as map
+use Rattle.std.specs.FinMap.{FinMap}
+use Rattle.std.specs.Coded.{Coded, code_by, coded×, coded_ℕ, coded_list}
+use Rattle.mte_tags.specs.declared.access.Attrs.{Attrs}
+
+-- attrs is the sum of READ 1, WRITE 2, EXEC 4 and TAGGED 8; a tag for each granule
+pub record Page : Type 0 where
+  pub attrs : ℕ
+  pub bytes : List ℕ
+  pub tags : List ℕ
+
+pub record Memory : Type 0 where
+  pub limit : ℕ
+  pub pages : FinMap nat_cmp Page
+
+abbrev pub coded_page : Coded Page
+coded_page =
+    code_by (ℕ × (List ℕ × List ℕ)) (coded× coded_ℕ (coded× (coded_list coded_ℕ) (coded_list coded_ℕ)))
+    (λ p. (p.attrs, (p.bytes, p.tags)))
+    (λ c. record { attrs = c.0; bytes = c.1.0; tags = c.1.1 })
+    (λ _. refl)
+
+abbrev pub coded_memory : Coded Memory
+coded_memory =
+    code_by (ℕ × FinMap nat_cmp Page) (coded× coded_ℕ (map.code coded_ℕ coded_page))
+    (λ m. (m.limit, m.pages))
+    (λ c. record { limit = c.0; pages = c.1 })
+    (λ _. refl)
+
+unfoldable pub page_at : Memory → ℕ → Option Page
+page_at m q = map.get m.pages q
+
+unfoldable pub with_page : Memory → ℕ → Page → Memory
+with_page m q p = record { limit = m.limit; pages = map.insert m.pages q p }
+
+unfoldable pub without_page : Memory → ℕ → Memory
+without_page m q = record { limit = m.limit; pages = map.remove m.pages q }
+
+unfoldable pub pages_left : Memory → ℕ
+pages_left m = m.limit - map.len m.pages
+
+unfoldable pub no_pages : ℕ → Memory
+no_pages limit = record { limit = limit; pages = map.empty }
+
+-- a page of zero bytes and tag 0
+unfoldable pub new_page : ℕ → Page
+new_page attrs = record { attrs = attrs; bytes = replicate 4096 0; tags = replicate 256 0 }
+
+-- m with n new pages from q on
+unfoldable pub with_new_pages : Memory → ℕ → ℕ → Attrs → Memory
+with_new_pages m q zero attrs = m
+with_new_pages m q (suc n) attrs = with_new_pages (with_page m q (new_page attrs.0)) (q + 1) n attrs
+
+-- m without the n pages from q on
+unfoldable pub without_pages : Memory → ℕ → ℕ → Memory
+without_pages m q zero = m
+without_pages m q (suc n) = without_pages (without_page m q) (q + 1) n
+
+-- none of the n pages from q on is mapped
+abbrev pub IsFree : Memory → ℕ → ℕ → Type 0
+IsFree m q n = (i : ℕ) → i < n → page_at m (q + i) ≡ None
+
+-- each of the n pages from q on is mapped
+abbrev pub ArePages : Memory → ℕ → ℕ → Type 0
+ArePages m q n = (i : ℕ) → i < n → IsSome (page_at m (q + i))
+
+-- whether attributes have all those of need
+abbrev pub has : ℕ → ℕ → Bool
+has attrs need = bit_and attrs need == need
+
+abbrev pub attrs_in : Option Page → Option ℕ
+attrs_in None = None
+attrs_in (Some p) = Some p.attrs
+
+-- the attributes of a page, if it is mapped
+unfoldable pub attrs_at : Memory → ℕ → Option ℕ
+attrs_at m q = attrs_in (page_at m q)
+
+abbrev pub byte_in : Option Page → ℕ → ℕ
+byte_in None o = 0
+byte_in (Some p) o = slice_index p.bytes o
+
+-- the byte at a plain address, 0 where no page is mapped
+unfoldable pub byte_at : Memory → ℕ → ℕ
+byte_at m a = byte_in (page_at m (a / 4096)) (a % 4096)
+
+abbrev pub with_byte_in : Memory → ℕ → ℕ → ℕ → Option Page → Memory
+with_byte_in m q o b None = m
+with_byte_in m q o b (Some p) = with_page m q (record p { bytes = slice_set p.bytes o b })
+
+-- m with b as the byte at a plain address
+unfoldable pub with_byte : Memory → ℕ → ℕ → Memory
+with_byte m a b = with_byte_in m (a / 4096) (a % 4096) b (page_at m (a / 4096))
+
+-- only a TAGGED page has tags: elsewhere a tag reads as 0
+abbrev pub tag_in : Option Page → ℕ → ℕ
+tag_in None g = 0
+tag_in (Some p) g = if has p.attrs 8 then slice_index p.tags g else 0
+
+-- the allocation tag of the granule at a plain address, 0 where the page is not mapped or not TAGGED
+unfoldable pub tag_at : Memory → ℕ → ℕ
+tag_at m a = tag_in (page_at m (a / 4096)) (a % 4096 / 16)
+
+-- the bytes of a page with those of the granule g zero
+abbrev pub zeroed : List ℕ → ℕ → List ℕ
+zeroed bytes g = take (16 * g) bytes ++ replicate 16 0 ++ drop (16 * g + 16) bytes
+
+abbrev pub with_granule_in : Memory → ℕ → ℕ → ℕ → Bool → Option Page → Memory
+with_granule_in m q g t zero_it None = m
+with_granule_in m q g t zero_it (Some p) =
+    with_page m q (record { attrs = p.attrs; bytes = if zero_it then zeroed p.bytes g else p.bytes; tags = slice_set p.tags g t })
+
+-- m with t as the tag of the granule at a plain address, and its bytes zero where that is asked
+unfoldable pub with_granule : Memory → ℕ → ℕ → Bool → Memory
+with_granule m a t zero_it = with_granule_in m (a / 4096) (a % 4096 / 16) t zero_it (page_at m (a / 4096))
+
+-- the same for n granules from a plain address on: after the last address comes 0
+unfoldable pub with_granules : Memory → ℕ → ℕ → ℕ → Bool → Memory
+with_granules m a zero t zero_it = m
+with_granules m a (suc n) t zero_it = with_granules (with_granule m a t zero_it) ((a + 16) % 2 ^ 56) n t zero_it

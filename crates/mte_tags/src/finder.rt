@@ -1,0 +1,76 @@
+//! Where the pages of the plain memory were put. What is told here is compared with the page itself before
+//! it is used, so that nothing but time rests on it.
+
+ghost use Rattle.std.specs.Prelude.{◌≡◌, ◌<◌};
+
+use std::alloc::{AllocError, Global};
+
+/// A page and the slot that it was put into.
+#[derive(Clone, Copy, PartialEq, Eq, Debug)]
+struct Place {
+    page: u64,
+    slot: usize,
+}
+
+/// The slots of pages: those that were found last, by a hash of the page, and all of them, by page.
+#[derive(Drop)]
+pub struct Finder {
+    last: [usize; 64],
+    places: Vec<Place>,
+}
+
+fn hash(page: u64) -> usize
+    ensures { result < 64 }
+{
+    ((page % 64 + page / 512) % 64) as usize
+}
+
+impl Finder {
+    /// One with room for so many pages, which takes no more memory later.
+    pub(crate) fn new(alloc: Global, pages: usize) -> Result<Finder, AllocError> {
+        Ok(Finder {
+            last: [0; 64],
+            places: Vec::with_capacity(alloc, pages)?,
+        })
+    }
+
+    /// The slot that was found last for a page of this hash.
+    #[inline]
+    pub(crate) fn last(&self, page: u64) -> usize {
+        self.last[hash(page)]
+    }
+
+    #[inline]
+    pub(crate) fn found(&mut self, page: u64, slot: usize) {
+        self.last[hash(page)] = slot;
+    }
+
+    /// The slot of a page.
+    pub(crate) fn place(&self, page: u64) -> Option<usize> {
+        let at = self
+            .places
+            .binary_search_by_key(&page, |place| place.page)
+            .ok()?;
+        Some(self.places[at].slot)
+    }
+
+    /// A page was put into a slot.
+    pub(crate) fn put(&mut self, page: u64, slot: usize) {
+        let place = Place { page, slot };
+        match self.places.binary_search_by_key(&page, |place| place.page) {
+            Ok(at) => self.places[at] = place,
+            Err(at) => {
+                if self.places.len() < self.places.capacity() {
+                    let _ = self.places.insert(at, place);
+                }
+            }
+        }
+    }
+
+    /// A page was taken out.
+    pub(crate) fn take(&mut self, page: u64) {
+        if let Ok(at) = self.places.binary_search_by_key(&page, |place| place.page) {
+            self.places.remove(at);
+        }
+    }
+}

@@ -1,0 +1,303 @@
+//! A plain tagged memory, which keeps its pages in one list.
+
+ghost use Rattle.std.specs.Prelude.{◌≡◌, ℕ, ◌<◌, ◌≤◌, ◌+◌, ◌*◌, ◌%◌, ◌^◌, false, IfOk, is_ok, None, length, if◌then◌else◌, vec_len, vec_capacity};
+ghost use Rattle.mte_tags.specs.Memory.{page_at, no_pages, tag_at, with_granules, with_new_pages, without_pages, IsFree, ArePages};
+ghost use Rattle.mte_tags.specs.Accesses.{outcome, loaded, addresses, granules, byte_fault, first_fault, bytes_at, with_bytes};
+ghost use Rattle.mte_tags.specs.Slots.{slots_memory, AreSlots};
+
+use crate::access::{Access, Attrs, FaultKind, MemFault};
+use crate::finder::Finder;
+use crate::runs::copy_in;
+use crate::slots::{Slot, find, new_slot};
+use crate::store::PageStore;
+use crate::tagged::{NoQuota, Paged};
+use a64_bits::plain;
+use std::alloc::{AllocError, Global};
+use std::marker::Model;
+
+/// A tagged memory of its own. It takes all that it will ever need, at most 4500 bytes a page, when it is
+/// made.
+#[derive(Drop)]
+pub struct Flat {
+    limit: usize,
+    slots: Vec<Slot>,
+    finder: Finder,
+}
+
+impl Model for Flat {
+    ghost use Rattle.mte_tags.specs.Memory.{Memory, coded_memory};
+    ghost use Rattle.mte_tags.specs.Flats.{flat_memory, IsFlat};
+
+    ghost Value = { Memory };
+
+    ghost coded = { coded_memory };
+
+    ghost view = { flat_memory };
+
+    ghost invariant = { IsFlat };
+}
+
+impl Flat {
+    /// A memory of at most `pages` pages, none of them mapped. It is refused only where its memory is; no
+    /// later call takes any.
+    pub fn new(alloc: Global, pages: usize) -> Result<Flat, AllocError>
+        requires { 0 < pages }
+        ensures empty { IfOk result (λ memory. memory ≡ no_pages pages) }
+        ensures free { IfOk result (λ memory. (page : ℕ) → page_at memory page ≡ None) }
+    {
+        let slots = Vec::with_capacity(alloc, pages)?;
+        let finder = Finder::new(alloc, pages)?;
+        Ok(Flat {
+            limit: pages,
+            slots,
+            finder,
+        })
+    }
+}
+
+/// How the first byte of a run fails that does.
+#[inline]
+fn slots_fault(
+    slots: &[Slot],
+    finder: &mut Finder,
+    at: u64,
+    count: usize,
+    access: &Access,
+) -> Option<MemFault>
+    requires some { 0 < count }
+    requires inside { at % 4096 + count ≤ 4096 }
+    requires plain { at < 2 ^ 56 }
+    requires slots { AreSlots slots.now }
+    ensures { (n : ℕ) → result ≡ first_fault (slots_memory n slots.now) access.now (addresses at count) }
+{
+    match find(slots, finder, at / 4096) {
+        None => Some(access.fault(FaultKind::Translation, at, 0)),
+        Some(s) => slots[s].run_fault(at, count, access),
+    }
+}
+
+/// Copies a run of bytes out, or tells the first that fails.
+#[inline(always)]
+fn read_slots(
+    slots: &[Slot],
+    finder: &mut Finder,
+    at: u64,
+    buffer: &mut [u8],
+    access: &Access,
+) -> Result<(), MemFault>
+    requires some { 0 < length buffer.old }
+    requires inside { at % 4096 + length buffer.old ≤ 4096 }
+    requires plain { at < 2 ^ 56 }
+    requires slots { AreSlots slots.now }
+    ensures answer { (n : ℕ) → result ≡ outcome (first_fault (slots_memory n slots.now) access.now (addresses at (length buffer.old))) }
+    ensures bytes { (n : ℕ) → buffer.new ≡ (if is_ok result then bytes_at (slots_memory n slots.now) (addresses at (length buffer.old)) else buffer.old) }
+{
+    let Some(s) = find(slots, finder, at / 4096) else {
+        return Err(access.fault(FaultKind::Translation, at, 0));
+    };
+    let slot = &slots[s];
+    if let Some(fault) = slot.run_fault(at, buffer.len(), access) {
+        return Err(fault);
+    }
+    slot.copy_out(at, buffer);
+    Ok(())
+}
+
+/// Copies a run of bytes in, or tells the first that fails.
+#[inline(always)]
+fn write_slots(
+    slots: &mut [Slot],
+    finder: &mut Finder,
+    at: u64,
+    bytes: &[u8],
+    access: &Access,
+) -> Result<(), MemFault>
+    requires some { 0 < length bytes.now }
+    requires inside { at % 4096 + length bytes.now ≤ 4096 }
+    requires plain { at < 2 ^ 56 }
+    requires slots { AreSlots slots.old }
+    ensures answer { (n : ℕ) → result ≡ outcome (first_fault (slots_memory n slots.old) access.now (addresses at (length bytes.now))) }
+    ensures memory { (n : ℕ) → slots_memory n slots.new ≡ (if is_ok result then with_bytes (slots_memory n slots.old) (addresses at (length bytes.now)) bytes.now else slots_memory n slots.old) }
+    ensures slots { AreSlots slots.new }
+{
+    let Some(s) = find(slots, finder, at / 4096) else {
+        return Err(access.fault(FaultKind::Translation, at, 0));
+    };
+    let slot = &mut slots[s];
+    if let Some(fault) = slot.run_fault(at, bytes.len(), access) {
+        return Err(fault);
+    }
+    slot.copy_in(at, bytes);
+    Ok(())
+}
+
+/// The tag of the granule at an address, or how the byte there fails.
+#[inline]
+fn tag_in_slots(
+    slots: &[Slot],
+    finder: &mut Finder,
+    at: u64,
+    access: &Access,
+) -> Result<u8, MemFault>
+    requires plain { at < 2 ^ 56 }
+    requires slots { AreSlots slots.now }
+    ensures small { IfOk result (λ t. t < 16) }
+    ensures answer { (n : ℕ) → result ≡ loaded (byte_fault (slots_memory n slots.now) access.now at) (tag_at (slots_memory n slots.now) at) }
+{
+    let Some(s) = find(slots, finder, at / 4096) else {
+        return Err(access.fault(FaultKind::Translation, at, 0));
+    };
+    let slot = &slots[s];
+    if let Some(fault) = slot.run_fault(at, 1, access) {
+        return Err(fault);
+    }
+    Ok(slot.tag(at))
+}
+
+/// Replaces the tags of a run of granules, or tells the first that fails.
+#[inline]
+fn retag_slots(
+    slots: &mut [Slot],
+    finder: &mut Finder,
+    at: u64,
+    count: usize,
+    tag: u8,
+    zero: bool,
+    access: &Access,
+) -> Result<(), MemFault>
+    requires some { 0 < count }
+    requires aligned { at % 16 ≡ 0 }
+    requires inside { at % 4096 + 16 * count ≤ 4096 }
+    requires plain { at < 2 ^ 56 }
+    requires tag { tag < 16 }
+    requires unchecked { access.now.checked ≡ false }
+    requires slots { AreSlots slots.old }
+    ensures answer { (n : ℕ) → result ≡ outcome (first_fault (slots_memory n slots.old) access.now (granules at count)) }
+    ensures memory { (n : ℕ) → slots_memory n slots.new ≡ (if is_ok result then with_granules (slots_memory n slots.old) at count tag zero else slots_memory n slots.old) }
+    ensures slots { AreSlots slots.new }
+{
+    let Some(s) = find(slots, finder, at / 4096) else {
+        return Err(access.fault(FaultKind::Translation, at, 0));
+    };
+    let slot = &mut slots[s];
+    if let Some(fault) = slot.run_fault(at, 1, access) {
+        return Err(fault);
+    }
+    slot.retag((at % 4096 / 16) as usize, count, tag, zero);
+    Ok(())
+}
+
+impl PageStore for Flat {
+    ghost use Rattle.std.specs.Prelude.{⊤};
+
+    ghost content = { λ f. f };
+
+    ghost rest_kept = { λ _ _. ⊤ };
+
+    #[inline]
+    fn run_fault(&mut self, at: u64, count: usize, access: &Access) -> Option<MemFault> {
+        slots_fault(&self.slots, &mut self.finder, at, count, access)
+    }
+
+    #[inline(always)]
+    fn read_run(&mut self, at: u64, buffer: &mut [u8], access: &Access) -> Result<(), MemFault> {
+        read_slots(&self.slots, &mut self.finder, at, buffer, access)
+    }
+
+    #[inline(always)]
+    fn write_run(&mut self, at: u64, bytes: &[u8], access: &Access) -> Result<(), MemFault> {
+        write_slots(&mut self.slots, &mut self.finder, at, bytes, access)
+    }
+
+    #[inline]
+    fn granule_tag(&mut self, at: u64, access: &Access) -> Result<u8, MemFault> {
+        tag_in_slots(&self.slots, &mut self.finder, at, access)
+    }
+
+    #[inline]
+    fn tag_run(
+        &mut self,
+        at: u64,
+        count: usize,
+        tag: u8,
+        zero: bool,
+        access: &Access,
+    ) -> Result<(), MemFault> {
+        retag_slots(
+            &mut self.slots,
+            &mut self.finder,
+            at,
+            count,
+            tag,
+            zero,
+            access,
+        )
+    }
+
+    ghost rest_kept_same = { λ _. tt };
+
+    ghost rest_kept_on = { λ _ _ _ _ _. tt };
+}
+
+/// Adds pages of zero bytes and tag 0.
+fn map_slots(slots: &mut Vec<Slot>, finder: &mut Finder, page: u64, count: usize, attrs: Attrs)
+    requires room { vec_len slots.old + count ≤ vec_capacity slots.old }
+    requires in_range { page + count ≤ 2 ^ 18 }
+    requires slots { AreSlots slots.old.items }
+    requires free { IsFree (slots_memory 0 slots.old.items) page count }
+    ensures memory { (n : ℕ) → slots_memory n slots.new.items ≡ with_new_pages (slots_memory n slots.old.items) page count attrs }
+    ensures slots { AreSlots slots.new.items }
+    ensures len { vec_len slots.new ≡ vec_len slots.old + count }
+    ensures capacity { vec_capacity slots.new ≡ vec_capacity slots.old }
+{
+    for i in 0..count {
+        let slot = new_slot(page + i as u64, attrs);
+        finder.put(page + i as u64, slots.len());
+        slots.push_reserved(slot);
+    }
+}
+
+/// Takes pages out that are there.
+fn unmap_slots(slots: &mut Vec<Slot>, finder: &mut Finder, page: u64, count: usize)
+    requires slots { AreSlots slots.old.items }
+    requires mapped { ArePages (slots_memory 0 slots.old.items) page count }
+    ensures memory { (n : ℕ) → slots_memory n slots.new.items ≡ without_pages (slots_memory n slots.old.items) page count }
+    ensures slots { AreSlots slots.new.items }
+    ensures len { vec_len slots.new ≤ vec_len slots.old }
+    ensures capacity { vec_capacity slots.new ≡ vec_capacity slots.old }
+{
+    for i in 0..count {
+        let gone = page + i as u64;
+        let Some(s) = find(slots, finder, gone) else {
+            return;
+        };
+        finder.take(gone);
+        slots.swap_remove(s);
+        if s < slots.len() {
+            finder.put(slots[s].page, s);
+        }
+    }
+}
+
+impl Paged for Flat {
+    fn pages_left(&mut self) -> usize {
+        let mapped = self.slots.len();
+        self.limit - mapped
+    }
+
+    fn map_pages(&mut self, page: u64, count: usize, attrs: Attrs) -> Result<(), NoQuota> {
+        if count > self.limit - self.slots.len() {
+            return Err(NoQuota);
+        }
+        map_slots(&mut self.slots, &mut self.finder, page, count, attrs);
+        Ok(())
+    }
+
+    fn unmap_pages(&mut self, page: u64, count: usize) {
+        unmap_slots(&mut self.slots, &mut self.finder, page, count);
+    }
+
+    fn load_bytes(&mut self, addr: u64, bytes: &[u8]) {
+        copy_in(self, plain(addr), bytes);
+    }
+}
