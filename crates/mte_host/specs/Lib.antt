@@ -8,3 +8,4 @@ pub mod Scripts
 pub mod ScriptFaults
 pub mod ScriptWords
 pub mod Endings
+pub mod Statuses

@@ -1,5 +1,9 @@
 //! How the program ends: its exit status, and its line on standard error.
 
+ghost use Rattle.std.specs.Prelude.{◌≡◌, ◌⊎◌, OnOk, OnErr};
+ghost use Rattle.mte_host.specs.Streams.{WroteAll, WrotePart};
+ghost use Rattle.mte_host.specs.Statuses.{status_of, ending_text, fault_name};
+
 use crate::report::write_parts;
 use crate::script::ScriptFault;
 use crate::streams::{Sink, WriteFault};
@@ -22,7 +26,10 @@ pub enum Ending<'a> {
 
 /// Writes the line for standard error, if there is one, and answers the exit status, whether or not the
 /// line could be written: 0 done, 3 script, 4 memory, 5 read, 6 write.
-pub fn finish<W: Sink>(ending: &Ending<'_>, out: &mut W) -> u8 {
+pub fn finish<W: Sink>(ending: &Ending<'_>, out: &mut W) -> u8
+    ensures status { result ≡ status_of ending.now }
+    ensures line { WroteAll (W.taken out.old) (W.taken out.new) (W.failures out.old) (W.failures out.new) (ending_text ending.now) ⊎ WrotePart (W.taken out.old) (W.taken out.new) (W.failures out.old) (W.failures out.new) (ending_text ending.now) }
+{
     let _ = write_line(ending, out);
     match ending {
         Ending::Done => 0,
@@ -34,9 +41,12 @@ pub fn finish<W: Sink>(ending: &Ending<'_>, out: &mut W) -> u8 {
 }
 
 /// Writes the line for standard error, if there is one.
-fn write_line<W: Sink>(ending: &Ending<'_>, out: &mut W) -> Result<(), WriteFault> {
+fn write_line<W: Sink>(ending: &Ending<'_>, out: &mut W) -> Result<(), WriteFault>
+    ensures ok { OnOk result (WroteAll (W.taken out.old) (W.taken out.new) (W.failures out.old) (W.failures out.new) (ending_text ending.now)) }
+    ensures err { OnErr result (WrotePart (W.taken out.old) (W.taken out.new) (W.failures out.old) (W.failures out.new) (ending_text ending.now)) }
+{
     match ending {
-        Ending::Done => Ok(()),
+        Ending::Done => write_parts(out, &[]),
         Ending::Script(line, fault) => {
             let mut digits = Buffer::new();
             let number = digits.format(*line).as_bytes();
@@ -60,7 +70,9 @@ fn write_line<W: Sink>(ending: &Ending<'_>, out: &mut W) -> Result<(), WriteFaul
 }
 
 /// The name of what is wrong with a line.
-fn fault_text(fault: ScriptFault) -> &'static [u8] {
+fn fault_text(fault: ScriptFault) -> &'static [u8]
+    ensures { result.now ≡ fault_name fault }
+{
     match fault {
         ScriptFault::Syntax => b"Syntax",
         ScriptFault::BadNumber => b"BadNumber",

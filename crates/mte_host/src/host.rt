@@ -8,7 +8,6 @@ ghost use Rattle.mte_host.specs.Hosts.{has_id, is_bad, admission_refusal, with_a
 
 use crate::admission::{Admission, AdmitError, NotLive, PAGE_LIMIT, ROOM_LIMIT};
 use crate::machine::{Machine, STACK_PAGES};
-use crate::record::Record;
 use mte_elf::{ElfError, Plan, plan};
 use std::alloc::Global;
 
@@ -109,14 +108,6 @@ impl Host {
                 Ok(())
             }
             _ => Err(NotLive),
-        }
-    }
-
-    /// The record of the tenant with a number, stopped or not.
-    pub fn view(&self, id: u16) -> Option<&Record> {
-        match &self.tenant {
-            Some(tenant) if tenant.machine.known.id == id => Some(&tenant.machine.known),
-            _ => None,
         }
     }
 

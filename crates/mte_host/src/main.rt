@@ -13,6 +13,8 @@ mod script;
 mod session;
 mod streams;
 mod system;
+#[cfg(test)]
+mod tests;
 
 use command_line::{Asked, CommandLine, read_command_line};
 use ending::{Ending, finish};

@@ -7,7 +7,7 @@ ghost use Rattle.mte_tags.specs.Slots.{slots_memory, AreSlots};
 
 use crate::access::{Access, Attrs, FaultKind, MemFault};
 use crate::finder::Finder;
-use crate::runs::copy_in;
+use crate::runs::replace_bytes;
 use crate::slots::{Slot, find, new_slot};
 use crate::store::PageStore;
 use crate::tagged::{NoQuota, Paged};
@@ -298,6 +298,6 @@ impl Paged for Flat {
     }
 
     fn load_bytes(&mut self, addr: u64, bytes: &[u8]) {
-        copy_in(self, plain(addr), bytes);
+        replace_bytes(self, plain(addr), bytes);
     }
 }

@@ -58,14 +58,16 @@ fn copy_out<S: PageStore>(store: &mut S, at: u64, buffer: &mut [u8])
     let mut done = 0;
     while done < buffer.len() {
         let run = (buffer.len() - done).min((4096 - place % 4096) as usize);
+        // A mapped page lacks nothing that this access asks for.
         let _ = store.read_run(place, &mut buffer[done..done + run], &access);
         place = (place + run as u64) % ADDRESSES;
         done += run;
     }
 }
 
-/// Replaces bytes of mapped pages.
-pub(crate) fn copy_in<S: PageStore>(store: &mut S, at: u64, bytes: &[u8])
+/// Replaces bytes of mapped pages from a plain address, below 2^56, on, whatever their attributes and tags.
+/// A memory made of pages loads bytes by it.
+pub fn replace_bytes<S: PageStore>(store: &mut S, at: u64, bytes: &[u8])
     requires plain { at < 2 ^ 56 }
     requires mapped { AreMapped (S.content store.old) (addresses at (length bytes.now)) }
     ensures memory { S.content store.new ≡ with_bytes (S.content store.old) (addresses at (length bytes.now)) bytes.now }
@@ -76,6 +78,7 @@ pub(crate) fn copy_in<S: PageStore>(store: &mut S, at: u64, bytes: &[u8])
     let mut done = 0;
     while done < bytes.len() {
         let run = (bytes.len() - done).min((4096 - place % 4096) as usize);
+        // A mapped page lacks nothing that this access asks for.
         let _ = store.write_run(place, &bytes[done..done + run], &access);
         place = (place + run as u64) % ADDRESSES;
         done += run;
@@ -125,7 +128,7 @@ fn write_by_runs<S: PageStore>(
         return store.write_run(at, bytes, &access);
     }
     check_bytes(store, at, bytes.len(), &access)?;
-    copy_in(store, at, bytes);
+    replace_bytes(store, at, bytes);
     Ok(())
 }
 
@@ -199,6 +202,7 @@ fn tag_granules<S: PageStore>(store: &mut S, at: u64, count: u64, tag: u8, zero:
     let mut left = count;
     while left > 0 {
         let run = left.min((4096 - place % 4096) / 16);
+        // A mapped page lacks nothing that this access asks for.
         let _ = store.tag_run(place, run as usize, tag, zero, &access);
         place = (place + 16 * run) % ADDRESSES;
         left -= run;

@@ -2,7 +2,7 @@
 
 ghost use Rattle.std.specs.Prelude.{◌≡◌, ◌+◌, ◌<◌, None};
 
-use crate::access::{Access, Attrs, FaultKind, MemFault};
+use crate::access::{Attrs, FaultKind, MemFault};
 use crate::flat::Flat;
 use crate::generator::Rgsr;
 use crate::tagged::{NoQuota, Paged, Tagged};

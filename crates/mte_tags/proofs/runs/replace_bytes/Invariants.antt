@@ -1,6 +1,6 @@
 use Rattle.std.proofs.Common.{◌≡◌, ◌<◌, ◌≤◌, ◌-◌, ◌^◌, length, drop}
 use Rattle.mte_tags.specs.Accesses.{with_bytes, addresses, AreMapped}
-use Rattle.mte_tags.proofs.runs.copy_in.Given as goal
+use Rattle.mte_tags.proofs.runs.replace_bytes.Given as goal
 
 abbrev pub invariant-loop-done : goal.invariant-loop-done
 invariant-loop-done g l = record {

@@ -3,7 +3,7 @@ use Rattle.std.specs.List.{slice_range}
 use Rattle.std.proofs.lemmas.Bool.{cond-true}
 use Rattle.mte_tags.specs.Accesses.{outcome, with_bytes, addresses, AreMapped}
 use Rattle.mte_tags.proofs.RunSteps.{AreMapped_run, copied_in, length_range, AreMapped-with_bytes, no_fault_where_mapped}
-use Rattle.mte_tags.proofs.runs.copy_in.Goals as goal
+use Rattle.mte_tags.proofs.runs.replace_bytes.Goals as goal
 
 pub loop-done-preserved : goal.loop-done-preserved
 loop-done-preserved g c =

@@ -1,0 +1,6 @@
+use Rattle.mte_tags.specs.Accesses.{addresses}
+use Rattle.a64_vectors.proofs.place.put_byte.Goals as goal
+
+pub load_bytes-requires : goal.load_bytes-requires
+unfolding addresses
+load_bytes-requires g c = (rw (c.is_mapped.ensures.memory) (c.is_mapped.ensures.value.0 c.if-is_mapped.true), tt)

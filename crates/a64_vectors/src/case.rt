@@ -1,0 +1,126 @@
+//! A case: what stands before a step, and what stands after it.
+
+use crate::line::{Ending, Granule, Line};
+use a64_bits::Flags;
+use a64_step::Regs;
+use mte_tags::{Attrs, Rgsr};
+use std::alloc::{AllocError, Global};
+
+/// Some pages of the map, the same for all cases.
+#[derive(Clone, Copy, Debug, PartialEq, Eq)]
+pub struct Pages {
+    pub first: u64,
+    pub count: u64,
+    pub attrs: Attrs,
+}
+
+/// One step.
+#[derive(Drop)]
+pub struct Case {
+    pub id: u64,
+    pub word: u32,
+    pub before: Regs,
+    pub granules_before: Vec<Granule>,
+    pub ending: Option<Ending>,
+    pub after: Regs,
+    pub granules_after: Vec<Granule>,
+}
+
+impl Case {
+    /// A case of which only its number is known.
+    pub fn new(alloc: Global, id: u64) -> Case {
+        let mut x = [0; 31];
+        for (value, number) in x.iter_mut().zip(0..31u64) {
+            // 0xd00dNN0000beefNN
+            *value = 0xd00d_0000_00be_ef00 + number % 32 * 0x100_0000_0001;
+        }
+        let flags = Flags {
+            n: false,
+            z: false,
+            c: false,
+            v: false,
+        };
+        let regs = Regs {
+            x,
+            sp: 0,
+            pc: 0,
+            flags,
+            rgsr: Rgsr { tag: 0, seed: 0 },
+        };
+        Case {
+            id,
+            word: 0,
+            before: regs,
+            granules_before: Vec::new(alloc),
+            ending: None,
+            after: regs,
+            granules_after: Vec::new(alloc),
+        }
+    }
+
+    /// Takes in a line of the case; `false` where it has no place here.
+    pub fn take(&mut self, line: Line) -> Result<bool, AllocError> {
+        if self.ending.is_none() {
+            self.take_before(line)
+        } else {
+            self.take_after(line)
+        }
+    }
+
+    fn take_before(&mut self, line: Line) -> Result<bool, AllocError> {
+        match line {
+            Line::Word(word) => self.word = word,
+            Line::Granule(granule) => self.granules_before.push(granule)?,
+            Line::Then(ending) => {
+                self.after = self.before;
+                self.ending = Some(ending);
+            }
+            _ => return Ok(set(&mut self.before, line)),
+        }
+        Ok(true)
+    }
+
+    fn take_after(&mut self, line: Line) -> Result<bool, AllocError> {
+        match line {
+            Line::Granule(granule) => {
+                self.granules_after.push(granule)?;
+                Ok(true)
+            }
+            _ => Ok(set(&mut self.after, line)),
+        }
+    }
+}
+
+/// Sets the register that a line names; `false` where it names none.
+fn set(regs: &mut Regs, line: Line) -> bool {
+    match line {
+        Line::Register { number, value } => {
+            if number < 31 {
+                regs.x[number] = value;
+            }
+            number < 31
+        }
+        Line::StackPointer(value) => {
+            regs.sp = value;
+            true
+        }
+        Line::ProgramCounter(value) => {
+            regs.pc = value;
+            true
+        }
+        Line::Nzcv(nzcv) => {
+            regs.flags = Flags {
+                n: nzcv & 8 != 0,
+                z: nzcv & 4 != 0,
+                c: nzcv & 2 != 0,
+                v: nzcv & 1 != 0,
+            };
+            true
+        }
+        Line::Rgsr(rgsr) => {
+            regs.rgsr = rgsr;
+            true
+        }
+        _ => false,
+    }
+}

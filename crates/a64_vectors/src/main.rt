@@ -1,0 +1,126 @@
+//! Runs single instructions whose effect an outside emulator recorded, and tells where ours differs.
+//!
+//! Standard input has one item a line, its words separated by one space, numbers in hexadecimal but where
+//! said. First the map of all cases, `page PAGE COUNT LETTERS`: the number of the first page (its address
+//! divided by 4096), how many (decimal), and R, W, X, T for read, write, execute, tagged. Then the cases:
+//!
+//! - `case ID NAME`, ID decimal, begins one. What stands before the step follows: `word W` at the program
+//!   counter; `x N V`, N decimal (a register that isn't named holds 0xd00dNN0000beefNN, NN its number);
+//!   `sp V`; `pc V`; `nzcv V`; `rgsr TAG SEED`; `granule ADDRESS BYTES TAG`. All other bytes and tags are 0.
+//! - `then next`, `then illegal`, `then break N` (decimal) or `then fault KIND read|write ADDRESS PTR MEM`
+//!   (KIND 1 Translation, 2 Permission, 3 TagCheck, 4 Alignment, 5 SpAlignment, 6 PcAlignment; ADDRESS
+//!   plain; the address tag and the allocation tag). What stands after the step follows; what isn't named
+//!   is as before.
+//!
+//! Each case that differs gives one line of standard output: its ID and what differs, ours first. The last
+//! line counts both. Pages without R are not compared. A malformed line is refused with its number.
+#![tactic(auto)]
+
+mod case;
+mod line;
+mod place;
+mod report;
+
+use a64_step::step;
+use anyhow::{Result, bail};
+use case::{Case, Pages};
+use line::{Line, parse};
+use mte_tags::Flat;
+use std::alloc::{AllocError, Global};
+use std::io::{BufRead, BufReader};
+
+/// The map, the case that is being read, and the counts so far.
+#[derive(Drop)]
+struct Session {
+    map: Vec<Pages>,
+    case: Option<Case>,
+    same: u64,
+    different: u64,
+}
+
+/// Runs a case that was read whole; what differs, or `None` where its parts don't fit together.
+fn run(alloc: Global, map: &[Pages], case: &Case) -> Result<Option<String>, AllocError> {
+    let mut ours = Flat::new(alloc, 512)?;
+    let mut theirs = Flat::new(alloc, 512)?;
+    let fits = case.ending.is_some()
+        && place::prepare(&mut ours, map, case)
+        && place::prepare(&mut theirs, map, case)
+        && place::put_granules(&mut theirs, &case.granules_after);
+    if !fits {
+        return Ok(None);
+    }
+    let mut regs = case.before;
+    let outcome = step(&mut regs, &mut ours);
+    Ok(Some(report::differences(alloc, case, outcome, &regs, map, &mut ours, &mut theirs)?))
+}
+
+impl Session {
+    /// Runs the case that was read, prints where it differs, and counts it.
+    fn finish(&mut self, rt: &(impl Print + AllocGlobal)) -> Result<bool> {
+        let Some(case) = self.case.take() else {
+            return Ok(true);
+        };
+        let Some(text) = run(rt.alloc(), self.map.as_slice(), &case)? else {
+            return Ok(false);
+        };
+        if text.is_empty() {
+            self.same = self.same.saturating_add(1);
+        } else {
+            self.different = self.different.saturating_add(1);
+            println!(rt; "{}:{}", case.id, text)?;
+        }
+        Ok(true)
+    }
+
+    /// Takes in a line; `false` where it is malformed.
+    fn take(&mut self, rt: &(impl Print + AllocGlobal), text: &str) -> Result<bool> {
+        let Some(line) = parse(text) else {
+            return Ok(false);
+        };
+        match line {
+            Line::Case(id) => {
+                if !self.finish(rt)? {
+                    return Ok(false);
+                }
+                self.case = Some(Case::new(rt.alloc(), id));
+                Ok(true)
+            }
+            Line::Page { page, count, attrs } => {
+                self.map.push(Pages {
+                    first: page,
+                    count,
+                    attrs,
+                })?;
+                Ok(self.case.is_none())
+            }
+            _ => match &mut self.case {
+                Some(case) => Ok(case.take(line)?),
+                None => Ok(false),
+            },
+        }
+    }
+}
+
+fn main(rt: HostRuntime) -> Result<()> {
+    let mut session = Session {
+        map: Vec::new(rt.alloc()),
+        case: None,
+        same: 0,
+        different: 0,
+    };
+    let mut number = 0u64;
+    for text in BufReader::new(rt.alloc(), rt.reader())?.lines(rt.alloc()) {
+        number = number.saturating_add(1);
+        if !session.take(&rt, text?.as_str())? {
+            bail!("line {number} is malformed");
+        }
+    }
+    if !session.finish(&rt)? {
+        bail!("the last case is malformed");
+    }
+    println!(rt; "{} same, {} different", session.same, session.different)?;
+    Ok(())
+}
+
+#[cfg(test)]
+mod tests;

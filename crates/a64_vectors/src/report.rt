@@ -1,0 +1,75 @@
+//! What a step left against what was recorded.
+
+use crate::case::{Case, Pages};
+use crate::place::granule_at;
+use a64_step::{Outcome, Regs};
+use mte_tags::Tagged;
+use std::alloc::{AllocError, Global};
+
+/// Adds what differs between two values.
+macro_rules! compare {
+    ($text:expr, $name:expr, $ours:expr, $theirs:expr) => {
+        if $ours != $theirs {
+            write!($text, " {}: {:?} for {:?};", $name, $ours, $theirs)?;
+        }
+    };
+}
+
+fn compare_registers(text: &mut String, ours: &Regs, theirs: &Regs) -> Result<(), AllocError> {
+    for ((ours, theirs), number) in ours.x.iter().zip(theirs.x.iter()).zip(0..31u64) {
+        if *ours != *theirs {
+            write!(text, " x{number}: {ours:#018x} for {theirs:#018x};")?;
+        }
+    }
+    if ours.sp != theirs.sp {
+        write!(text, " sp: {:#018x} for {:#018x};", ours.sp, theirs.sp)?;
+    }
+    if ours.pc != theirs.pc {
+        write!(text, " pc: {:#018x} for {:#018x};", ours.pc, theirs.pc)?;
+    }
+    compare!(text, "flags", ours.flags, theirs.flags);
+    compare!(text, "rgsr", ours.rgsr, theirs.rgsr);
+    Ok(())
+}
+
+/// Compares each granule of some pages.
+fn compare_pages<M: Tagged>(
+    text: &mut String,
+    ours: &mut M,
+    theirs: &mut M,
+    pages: &Pages,
+) -> Result<(), AllocError> {
+    for number in 0..pages.count.saturating_mul(256) {
+        let address = pages
+            .first
+            .wrapping_mul(4096)
+            .wrapping_add(number.wrapping_mul(16));
+        compare!(
+            text,
+            "granule",
+            granule_at(ours, address),
+            granule_at(theirs, address)
+        );
+    }
+    Ok(())
+}
+
+/// What differs after a step, or an empty text; `theirs` is the memory that is expected.
+pub fn differences<M: Tagged>(
+    alloc: Global,
+    case: &Case,
+    outcome: Outcome,
+    regs: &Regs,
+    map: &[Pages],
+    ours: &mut M,
+    theirs: &mut M,
+) -> Result<String, AllocError> {
+    let mut text = String::new(alloc);
+    let expected = case.ending.map(|ending| ending.outcome(case.word));
+    compare!(text, "outcome", Some(outcome), expected);
+    compare_registers(&mut text, regs, &case.after)?;
+    for pages in map {
+        compare_pages(&mut text, ours, theirs, pages)?;
+    }
+    Ok(text)
+}
