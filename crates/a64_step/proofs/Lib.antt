@@ -1,3 +1,4 @@
 pub mod Drawing
 pub mod Effects
 pub mod Running
+pub mod TagStores

@@ -1,5 +1,5 @@
 -- Loops over program headers and segments.
-use Rattle.std.proofs.Common.{◌≡◌, ℕ, zero, suc, ◌+◌, ◌*◌, ◌-◌, ◌<◌, ◌≤◌, List, [], ◌∷◌, ◌++◌, length, drop, get_or, true, false, ◌||◌, ◌&&◌, refl, ap, sym, ◌∙◌, arith, append_assoc, sum_by, count_by, filter, map, ◌^◌, take, Bool, nat_le, ◌/◌}
+use Rattle.std.proofs.Common.{◌≡◌, ℕ, zero, suc, ◌+◌, ◌*◌, ◌-◌, ◌<◌, ◌≤◌, List, [], ◌∷◌, ◌++◌, length, drop, get_or, true, false, ◌&&◌, refl, arith, append_assoc, sum_by, count_by, filter, map, ◌^◌, take, Bool, nat_le}
 use Rattle.std.specs.List.{list_any, list_all}
 use Rattle.std.proofs.lemmas.List.{take_all, append-nil, length-map}
 use Rattle.std.proofs.lemmas.List.Sums.{sum_by-cons, length-filter, count_by-le-length}

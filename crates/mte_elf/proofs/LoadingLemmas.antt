@@ -1,6 +1,6 @@
 -- Pages for segments, one after another.
-use Rattle.std.proofs.Common.{◌≡◌, ℕ, zero, suc, ◌+◌, ◌*◌, ◌-◌, ◌/◌, ◌%◌, ◌^◌, ◌<◌, ◌≤◌, List, [], ◌∷◌, ◌++◌, length, drop, get_or, true, false, Bool, ◌||◌, ◌&&◌, nat_le, nat_lt, IsSome, Some, None, Option, refl, ap, sym, subst, ◌∙◌, arith, length-drop, sum_by, map, filter, not, if◌then◌else◌, ◌==◌}
-use Rattle.std.specs.List.{list_any, list_all, range_with_len}
+use Rattle.std.proofs.Common.{◌≡◌, ℕ, zero, suc, ◌+◌, ◌*◌, ◌-◌, ◌/◌, ◌%◌, ◌^◌, ◌<◌, ◌≤◌, List, [], ◌∷◌, length, drop, get_or, true, false, Bool, ◌||◌, ◌&&◌, nat_le, nat_lt, Some, None, Option, refl, subst, ◌∙◌, arith, length-drop, sum_by, map, filter, not, if◌then◌else◌, ◌==◌}
+use Rattle.std.specs.List.{list_any, list_all}
 use Rattle.std.proofs.lemmas.Bool.{leb-true, le-leb}
 use borrow.Author.Tests.{ltb-true}
 use Rattle.std.proofs.lemmas.List.{drop_more, nil_from_length}
@@ -9,7 +9,7 @@ use Rattle.a64_bits.specs.Addresses.{plain}
 use Rattle.mte_tags.specs.Memory.{Memory, page_at, attrs_at, pages_left, with_new_pages, IsFree, new_page}
 use Rattle.mte_tags.specs.Accesses.{written, addresses, AreMapped, IsMapped}
 use Rattle.mte_tags.specs.declared.access.Attrs.{Attrs}
-use Rattle.mte_tags.proofs.PageLaws.{page_at-with_new_pages_in, page_at-with_new_pages_out, pages_left-with_new_pages, pages_left-written, attrs_at-written, page_at-no_attrs, attrs_at-with_new_pages_out}
+use Rattle.mte_tags.proofs.PageLaws.{page_at-with_new_pages_in, page_at-with_new_pages_out, pages_left-with_new_pages, pages_left-written, attrs_at-written, page_at-no_attrs}
 use Rattle.mte_elf.specs.Images.{is_in_range, first_page, last_page, page_count, share_page, any_share_page, refusal_of, pages_of, tests_of, first_refusal}
 use Rattle.mte_elf.specs.Headers.{is_loaded, segment_of, segments_of, headers_of}
 use Rattle.mte_elf.specs.declared.error.ElfError.{ElfError}

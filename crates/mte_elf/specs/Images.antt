@@ -1,5 +1,5 @@
 -- Which files are images, and what an image holds (System V ABI, Object Files and Program Loading).
-use Rattle.std.specs.Prelude.{◌≡◌, ℕ, ◌+◌, ◌-◌, ◌*◌, ◌/◌, ◌%◌, ◌<◌, ◌≤◌, ◌==◌, nat_lt, nat_le, ◌&&◌, ◌||◌, Bool, true, false, not, List, [], ◌∷◌, length, slice_index, Option, Some, None, if◌then◌else◌, nat_eq, sum_by}
+use Rattle.std.specs.Prelude.{ℕ, ◌+◌, ◌-◌, ◌*◌, ◌/◌, ◌%◌, ◌==◌, nat_lt, nat_le, ◌&&◌, ◌||◌, Bool, false, not, List, [], ◌∷◌, length, Option, Some, None, if◌then◌else◌, nat_eq, sum_by}
 use Rattle.std.specs.List.{list_any, list_all, starts_with}
 use Rattle.mte_elf.specs.Headers.{file_type_of, machine_of, entry_of, table_offset_of, header_size_of, header_count_of, headers_of, is_interpreter, segments_of}
 use Rattle.mte_elf.specs.declared.image.Segment.{Segment}

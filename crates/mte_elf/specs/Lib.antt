@@ -1,3 +1,4 @@
 pub mod Headers
 pub mod Images
 pub mod Loading
+pub mod Pages

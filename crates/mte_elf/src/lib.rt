@@ -13,3 +13,6 @@ pub use error::ElfError;
 pub use image::{Plan, Segment};
 pub use loading::load;
 pub use planning::plan;
+
+#[cfg(test)]
+mod tests;

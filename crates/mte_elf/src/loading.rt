@@ -6,6 +6,7 @@ ghost use Rattle.mte_tags.specs.Accesses.{IsPageAttrs};
 ghost use Rattle.mte_elf.specs.Headers.{segments_of};
 ghost use Rattle.mte_elf.specs.Images.{refusal_of, pages_of, is_in_range, first_page, page_count};
 ghost use Rattle.mte_elf.specs.Loading.{attrs_of, file_part, with_segment, with_segments};
+ghost use Rattle.mte_elf.specs.Pages.{image_page, page_or};
 
 use crate::image::{Plan, Segment};
 use crate::planning::{last_page_touched, pages_touched};
@@ -19,6 +20,7 @@ pub fn load<M: Paged>(plan: &Plan, file: &[u8], memory: &mut M)
     requires free { (page : ℕ) → page < 65536 → page_at (M.Tagged.memory memory.old) page ≡ None }
     requires room { pages_of file.now ≤ pages_left (M.Tagged.memory memory.old) }
     ensures memory { M.Tagged.memory memory.new ≡ with_segments file.now (M.Tagged.memory memory.old) (segments_of file.now) }
+    ensures pages { (page : ℕ) → page_at (M.Tagged.memory memory.new) page ≡ page_or (image_page file.now (segments_of file.now) page) (page_at (M.Tagged.memory memory.old) page) }
     ensures left { pages_left (M.Tagged.memory memory.new) ≡ pages_left (M.Tagged.memory memory.old) - pages_of file.now }
     ensures above { (page : ℕ) → 65536 ≤ page → page_at (M.Tagged.memory memory.old) page ≡ None → page_at (M.Tagged.memory memory.new) page ≡ None }
     ensures kept { M.Tagged.kept memory.old memory.new }

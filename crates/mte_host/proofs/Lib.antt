@@ -3,3 +3,4 @@ pub mod ReportLemmas
 pub mod MachineLemmas
 pub mod ScriptLemmas
 pub mod SessionLemmas
+pub mod AloneLemmas

@@ -1,5 +1,5 @@
 -- Texts that are written in parts.
-use Rattle.std.proofs.Common.{◌≡◌, ℕ, ◌+◌, ◌<◌, List, [], ◌∷◌, ◌++◌, length, take, drop, get_or, map, Option, Some, None, Result, Ok, Err, OnErr, refl, ap, sym, ◌∙◌, arith, append_assoc, slice_index, ◌/◌, ◌%◌, codes, decimal}
+use Rattle.std.proofs.Common.{◌≡◌, ℕ, ◌+◌, ◌<◌, List, [], ◌∷◌, ◌++◌, length, take, drop, get_or, map, Option, Result, Ok, Err, OnErr, refl, ap, sym, ◌∙◌, arith, append_assoc, slice_index, ◌/◌, ◌%◌, codes, decimal}
 use Rattle.mte_host.specs.Report.{line, output_parts, status_parts}
 use Rattle.mte_host.specs.declared.record.Record.{Record}
 use Rattle.std.specs.List.{concat}

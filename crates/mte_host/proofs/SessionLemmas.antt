@@ -1,12 +1,12 @@
 -- Events one after another.
-use Rattle.std.proofs.Common.{◌≡◌, ◌⊎◌, ℕ, ◌+◌, ◌<◌, ◌≤◌, List, [], ◌∷◌, ◌++◌, length, drop, get_or, Option, Some, None, refl, ap, sym, ◌∙◌, arith, inl, inr}
+use Rattle.std.proofs.Common.{◌≡◌, ◌⊎◌, ℕ, ◌+◌, ◌<◌, ◌≤◌, List, [], ◌∷◌, ◌++◌, length, drop, get_or, Some, None, refl, sym, ◌∙◌, arith, inl, inr}
 use Rattle.std.proofs.lemmas.List.{drop_more, nil_from_length}
 use Rattle.std.proofs.Common.{length-drop}
 use Rattle.mte_host.specs.declared.host.Host.{Host}
 use Rattle.mte_host.specs.declared.script.Event.{Event}
 use Rattle.mte_host.specs.declared.session.Refusal.{Refusal}
 use Rattle.mte_host.specs.declared.session.Refused.{Refused}
-use Rattle.mte_host.specs.Sessions.{played, played_on, played_by, Played, event_refusal, after_event, session_text, refused_texts, tenant_text}
+use Rattle.mte_host.specs.Sessions.{played, played_on, Played, event_refusal, after_event, session_text, refused_texts, tenant_text}
 
 abbrev pub at : Host → List Refused → Played
 at host refused = record { host = host; refused = refused }

@@ -1,9 +1,9 @@
 -- What a text that goes out in parts leaves.
-use Rattle.std.proofs.Common.{◌≡◌, ℕ, ◌+◌, ◌<◌, ◌≤◌, List, [], ◌∷◌, ◌++◌, length, take, drop, Option, Some, None, Result, Ok, Err, option_map, refl, ap, sym, ◌∙◌, arith, append_assoc, add_assoc, add-zero, take-take, Bool, true, false, ◌&&◌, ◌==◌, nat_lt, if◌then◌else◌, ◌-◌, length-drop, length-take, subst, ◌≢◌}
+use Rattle.std.proofs.Common.{◌≡◌, ℕ, ◌+◌, ◌<◌, ◌≤◌, List, [], ◌++◌, length, take, drop, Option, Some, None, refl, ap, sym, ◌∙◌, arith, append_assoc, add_assoc, add-zero, take-take, true, false, ◌&&◌, ◌==◌, nat_lt, if◌then◌else◌, ◌-◌, length-drop, length-take, ◌≢◌}
 use Rattle.std.proofs.lemmas.List.{append-nil, take-append-drop}
 use Rattle.std.proofs.Math.Seq.{take-add}
 use Rattle.std.proofs.lemmas.Bool.{lt-ltb, ne_eqb}
-use Rattle.mte_host.specs.Streams.{appended, counted, WroteAll, WrotePart, MadeAtMost}
+use Rattle.mte_host.specs.Streams.{appended, counted, WrotePart, MadeAtMost}
 
 pub appended-appended : (known : Option (List ℕ)) (a b : List ℕ) → appended (appended known a) b ≡ appended known (a ++ b)
 appended-appended None a b = refl

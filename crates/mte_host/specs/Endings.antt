@@ -1,5 +1,5 @@
 -- How a session ends.
-use Rattle.std.specs.Prelude.{◌≡◌, ℕ, List, length, Option, Result, Ok, Err}
+use Rattle.std.specs.Prelude.{◌≡◌, ℕ, List, length, Option, Ok, Err}
 use Rattle.mte_host.specs.declared.script.Event.{Event}
 use Rattle.mte_host.specs.declared.script.ScriptError.{ScriptError}
 use Rattle.mte_host.specs.declared.script.ScriptError.TheVariants as script

@@ -1,6 +1,5 @@
 -- The host of one tenant: what is refused, and what each accepted event makes of it.
-use Rattle.std.specs.Prelude.{ℕ, ◌+◌, ◌-◌, ◌*◌, ◌==◌, nat_lt, nat_le, not, ◌&&◌, ◌||◌, Bool, true, false, List, [], ◌∷◌, Option, Some, None, if◌then◌else◌, option_map, is_some}
-use Rattle.mte_elf.specs.declared.error.ElfError.{ElfError}
+use Rattle.std.specs.Prelude.{ℕ, ◌+◌, ◌-◌, ◌*◌, ◌==◌, nat_lt, ◌&&◌, ◌||◌, Bool, true, false, List, [], ◌∷◌, Option, Some, None, if◌then◌else◌, option_map, is_some}
 use Rattle.mte_elf.specs.Images.{refusal_of, pages_of}
 use Rattle.mte_host.specs.declared.admission.AdmitError.{AdmitError}
 use Rattle.mte_host.specs.declared.admission.AdmitError.TheVariants.{Duplicate, BadReservation, Image, ReservationTooSmall, NoFrames, TooManyLive}

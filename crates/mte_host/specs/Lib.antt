@@ -9,3 +9,4 @@ pub mod ScriptFaults
 pub mod ScriptWords
 pub mod Endings
 pub mod Statuses
+pub mod Alone

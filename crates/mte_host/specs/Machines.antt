@@ -1,6 +1,5 @@
 -- A tenant alone on a tagged memory: its first machine, what an attempted instruction and a service make of it.
-use Rattle.std.specs.Prelude.{ℕ, zero, suc, ◌+◌, ◌-◌, ◌*◌, ◌/◌, ◌%◌, ◌^◌, ◌==◌, min, Bool, true, false, List, [], ◌++◌, replicate, slice_index, slice_set, Option, Some, None, if◌then◌else◌}
-use Rattle.a64_bits.specs.declared.arithmetic.Flags.{Flags}
+use Rattle.std.specs.Prelude.{ℕ, zero, suc, ◌+◌, ◌-◌, ◌/◌, ◌%◌, ◌^◌, ◌==◌, min, Bool, true, false, List, [], ◌++◌, replicate, slice_index, slice_set, Option, Some, None, if◌then◌else◌}
 use Rattle.a64_step.specs.declared.registers.Regs.{Regs}
 use Rattle.a64_step.specs.declared.outcome.Outcome.{Outcome}
 use Rattle.a64_step.specs.declared.outcome.Outcome.TheVariants as outcome

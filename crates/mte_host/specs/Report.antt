@@ -1,9 +1,8 @@
 -- The report's text, a line at a time.
-use Rattle.std.specs.Prelude.{ℕ, Bool, true, false, List, [], ◌∷◌, ◌++◌, length, codes, decimal, if◌then◌else◌}
+use Rattle.std.specs.Prelude.{ℕ, Bool, true, false, List, [], ◌∷◌, ◌++◌, length, codes, decimal}
 use Rattle.std.specs.List.{concat}
 use Rattle.std.specs.Int.{to_be_bytes, w32, w64}
 use Rattle.hex.specs.Hex.{encode_lower}
-use Rattle.mte_tags.specs.declared.access.MemFault.{MemFault}
 use Rattle.mte_tags.specs.declared.access.FaultKind.{FaultKind}
 use Rattle.mte_tags.specs.declared.access.FaultKind.TheVariants.{Translation, Permission, TagCheck, Alignment, SpAlignment, PcAlignment}
 use Rattle.mte_host.specs.declared.record.Status.{Status}

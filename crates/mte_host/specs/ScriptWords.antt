@@ -1,5 +1,5 @@
 -- An admission's line, by borrowed words.
-use Rattle.std.specs.Prelude.{List, [], ℕ, map, Option}
+use Rattle.std.specs.Prelude.{List, ℕ, map, Option}
 use Rattle.std.specs.Borrow.{Bor}
 use Rattle.mte_host.specs.declared.script.Line.{Line}
 use Rattle.mte_host.specs.Scripts.{admit_line, nth}

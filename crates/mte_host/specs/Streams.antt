@@ -1,5 +1,5 @@
 -- What reads and writes pass on, where it is known (as std's Read and Write mean them).
-use Rattle.std.specs.Prelude.{◌≡◌, ℕ, ◌+◌, ◌≤◌, ◌<◌, ◌==◌, nat_lt, ◌&&◌, List, [], ◌++◌, take, length, Option, Some, None, Result, Ok, Err, option_map, if◌then◌else◌}
+use Rattle.std.specs.Prelude.{◌≡◌, ℕ, ◌+◌, ◌≤◌, ◌<◌, ◌==◌, nat_lt, ◌&&◌, List, ◌++◌, take, length, Option, Result, Ok, Err, option_map, if◌then◌else◌}
 use Rattle.mte_host.specs.declared.streams.StreamError.{StreamError}
 
 -- known bytes and more of them

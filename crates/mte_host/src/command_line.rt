@@ -2,10 +2,12 @@
 
 ghost use Rattle.std.specs.Prelude.{◌≡◌, ◌≤◌};
 
+use crate::streams::write_all;
+use crate::system::SystemSink;
 use clap::error::ErrorKind;
 use clap::{Arg, ArgAction, ArgMatches, Command, Error, value_parser};
 use std::alloc::{AllocError, Global};
-use std::env;
+use std::{env, io};
 
 /// What the program is run on.
 #[derive(Debug, Drop)]
@@ -33,8 +35,9 @@ pub enum Asked {
 
 /// Reads the process's arguments; prints the help, or what is wrong with them.
 pub fn read_command_line(rt: &HostRuntime) -> Asked {
-    let Ok(args) = env::args(rt) else {
-        return Asked::Answered(2);
+    let args = match env::args(rt) {
+        Ok(args) => args,
+        Err(error) => return unread(rt, &error),
     };
     let Ok(words) = args.collect::<Vec<String>>(rt.alloc()) else {
         return Asked::OutOfMemory;
@@ -44,6 +47,18 @@ pub fn read_command_line(rt: &HostRuntime) -> Asked {
         Ok(None) => Asked::OutOfMemory,
         Err(error) => answer(rt, &error),
     }
+}
+
+/// What is answered where the arguments can't be read: for want of memory, or since one isn't text.
+fn unread(rt: &HostRuntime, error: &io::Error) -> Asked {
+    if error.kind() == io::ErrorKind::OutOfMemory {
+        return Asked::OutOfMemory;
+    }
+    let _ = write_all(
+        &mut SystemSink(rt.stderr()),
+        b"mte_host: an argument is not text\n",
+    );
+    Asked::Answered(2)
 }
 
 /// Prints what `clap` answers.

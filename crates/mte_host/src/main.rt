@@ -5,6 +5,7 @@ mod admission;
 mod command_line;
 mod ending;
 mod host;
+mod isolation;
 mod machine;
 mod output;
 mod record;

@@ -144,7 +144,8 @@ fn report(alloc: Global, frames: u32, script: &[u8], programs: &[&[u32]]) -> Res
     Ok(out.held)
 }
 
-const ADMIT: &[u8] = b"admit 1 image 1 input 0 seed 0000000000000001 frames 5 out 16\nslice 1 100\n";
+const ADMIT: &[u8] =
+    b"admit 1 image 1 input 0 seed 0000000000000001 frames 5 out 16\nslice 1 100\n";
 
 #[test]
 fn an_empty_script_has_an_empty_report(rt: HostRuntime) -> Result<(), Fail> {
@@ -156,7 +157,11 @@ fn an_empty_script_has_an_empty_report(rt: HostRuntime) -> Result<(), Fail> {
 #[test]
 fn one_tenant_alone(rt: HostRuntime) -> Result<(), Fail> {
     let cases: [(&[u32], &[u8], &[u8]); 8] = [
-        (&HI, ADMIT, b"tenant 1\nstatus exit 0\nsteps 8\noutput 2 4869\nheap 0\nend\n"),
+        (
+            &HI,
+            ADMIT,
+            b"tenant 1\nstatus exit 0\nsteps 8\noutput 2 4869\nheap 0\nend\n",
+        ),
         (
             &HI,
             b"admit 1 image 1 input 0 seed 0000000000000001 frames 5 out 16\nslice 1 3\n",
@@ -295,9 +300,19 @@ fn scripts(rt: HostRuntime) -> Result<(), Fail> {
         };
         assert!(rt; answer == want, "{script:?}");
     }
-    let events = parse_script(rt.alloc(), b"slice 7 1048576\n\nstop 65535", files.as_slice())?;
+    let events = parse_script(
+        rt.alloc(),
+        b"slice 7 1048576\n\nstop 65535",
+        files.as_slice(),
+    )?;
     assert_eq!(rt; events.len(), 2);
-    assert!(rt; events[0] == Event::Slice { id: 7, steps: 1048576 });
+    assert!(rt;
+        events[0]
+            == Event::Slice {
+                id: 7,
+                steps: 1048576
+            }
+    );
     assert!(rt; events[1] == Event::Stop { id: 65535 });
     Ok(())
 }
@@ -308,7 +323,10 @@ fn too_many_events(rt: HostRuntime) -> Result<(), Fail> {
     for _ in 0..10000 {
         script.extend_from_slice(b"stop 1\n")?;
     }
-    assert_eq!(rt; parse_script(rt.alloc(), script.as_slice(), &[])?.len(), 10000);
+    assert_eq!(rt;
+        parse_script(rt.alloc(), script.as_slice(), &[])?.len(),
+        10000
+    );
     script.extend_from_slice(b"stop 1\n")?;
     match parse_script(rt.alloc(), script.as_slice(), &[]) {
         Err(ScriptError::Script(10001, ScriptFault::TooManyEvents)) => Ok(()),
@@ -353,10 +371,16 @@ fn nothing_is_written_of_a_faulty_script(rt: HostRuntime) -> Result<(), Fail> {
 
 #[test]
 fn readers(rt: HostRuntime) -> Result<(), Fail> {
-    assert_eq!(rt; read_whole(rt.alloc(), &mut make_tape(16_777_216, 1_000_000))?.len(), 16_777_216);
+    assert_eq!(rt;
+        read_whole(rt.alloc(), &mut make_tape(16_777_216, 1_000_000))?.len(),
+        16_777_216
+    );
     let answer = read_whole(rt.alloc(), &mut make_tape(16_777_217, 1_000_000));
     assert!(rt; matches!(&answer, Err(ReadFault::TooLong)));
-    assert_eq!(rt; read_whole(rt.alloc(), &mut make_tape(1000, 1))?.len(), 1000);
+    assert_eq!(rt;
+        read_whole(rt.alloc(), &mut make_tape(1000, 1))?.len(),
+        1000
+    );
     for k in 1..6 {
         let mut reader = make_tape(5, 1);
         reader.fails_at = k;

@@ -1,5 +1,4 @@
 use Rattle.std.proofs.Common.{◌≡◌, ◌++◌, ◌∷◌, [], arith, rules}
-use Rattle.mte_elf.specs.Headers.{header_at}
 use Rattle.mte_elf.proofs.ImageLemmas.{headers_from-next, headers_from-all}
 use Rattle.mte_elf.proofs.headers.program_headers.Goals as goal
 

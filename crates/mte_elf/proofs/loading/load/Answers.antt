@@ -1,7 +1,8 @@
-use Rattle.std.proofs.Common.{◌≡◌, ◌∙◌, ap, refl}
+use Rattle.std.proofs.Common.{◌∙◌, ap, refl}
 use Rattle.mte_tags.specs.Memory.{page_at, pages_left}
 use Rattle.mte_elf.specs.Headers.{segments_of}
 use Rattle.mte_elf.proofs.LoadingLemmas.{ready_at_first, ready_step, rest_step, rest_end, image_left, image_above}
+use Rattle.mte_elf.proofs.PageLemmas.{image_loaded}
 use Rattle.mte_elf.proofs.loading.load.Goals as goal
 
 pub loop-segment-init : goal.loop-segment-init
@@ -33,3 +34,8 @@ pub returns-clause-above : goal.returns-clause-above
 returns-clause-above g c = λ page high free.
     let memory = rest_end c.args.file.now (g.M.Tagged.memory c.loop-segment.memory) _ (segments_of c.args.file.now) _ c.loop-segment.segment-index (c.deref-segment-items.ensures.value ∙ c.requires.plan) c.loop-segment-test.false c.loop-segment.invariant.rest in
     ap (λ m. page_at m page) memory ∙ image_above c.args.file.now _ page c.requires.image high free
+
+pub returns-clause-pages : goal.returns-clause-pages
+returns-clause-pages g c = λ page.
+    let memory = rest_end c.args.file.now (g.M.Tagged.memory c.loop-segment.memory) _ (segments_of c.args.file.now) _ c.loop-segment.segment-index (c.deref-segment-items.ensures.value ∙ c.requires.plan) c.loop-segment-test.false c.loop-segment.invariant.rest in
+    ap (λ m. page_at m page) memory ∙ image_loaded c.args.file.now _ page c.requires.image

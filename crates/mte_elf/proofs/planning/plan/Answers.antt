@@ -1,5 +1,5 @@
-use Rattle.std.proofs.Common.{◌≡◌, arith, ap, sym, ◌∙◌, ◌≤◌, length, map, sym, filter, true, false, ◌<◌, sum_by, ◌^◌, rules}
-use Rattle.mte_elf.specs.Images.{page_count, is_in_range}
+use Rattle.std.proofs.Common.{◌≡◌, ap, sym, ◌∙◌, ◌≤◌, length, map, sym, filter, true, rules}
+use Rattle.mte_elf.specs.Images.{is_in_range}
 use Rattle.std.specs.List.{list_all}
 use Rattle.mte_elf.specs.Headers.{segment_of, is_loaded, headers_of, header_count_of}
 use Rattle.mte_elf.proofs.ImageLemmas.{pages-lt, length-headers_from, header_count-le}

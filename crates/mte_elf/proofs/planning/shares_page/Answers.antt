@@ -1,4 +1,4 @@
-use Rattle.std.proofs.Common.{◌≡◌, sym, ◌∙◌, arith, false, rules, length, ◌≤◌, ◌-◌, ◌+◌, drop, length-drop}
+use Rattle.std.proofs.Common.{sym, ◌∙◌, arith, length, ◌≤◌, ◌-◌, ◌+◌, drop, length-drop}
 use Rattle.mte_elf.proofs.ImageLemmas.{any_share_page-next}
 use Rattle.mte_elf.proofs.planning.shares_page.Goals as goal
 

@@ -1,4 +1,3 @@
-use Rattle.std.proofs.Common.{◌≡◌, sym}
 use Rattle.mte_host.proofs.ending.write_line.Goals as goal
 
 pub returns-in-Read-clause-ok : goal.returns-in-Read-clause-ok

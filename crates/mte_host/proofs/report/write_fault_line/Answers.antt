@@ -1,4 +1,4 @@
-use Rattle.std.proofs.Common.{◌≡◌, ◌∙◌, decimal, rules}
+use Rattle.std.proofs.Common.{◌≡◌, decimal, rules}
 use Rattle.mte_host.proofs.report.write_fault_line.Goals as goal
 
 pub returns-clause-ok : goal.returns-clause-ok

@@ -1,4 +1,4 @@
-use Rattle.std.proofs.Common.{◌≡◌, ◌+◌, ◌-◌, ◌≤◌, arith}
+use Rattle.std.proofs.Common.{◌≡◌, ◌+◌, ◌-◌, arith}
 use Rattle.mte_host.proofs.ReportLemmas.{on_write_err, wrote_no_digits, hex_more, hex_part}
 use Rattle.mte_host.proofs.report.write_hex.Goals as goal
 

@@ -1,4 +1,4 @@
-use Rattle.std.proofs.Common.{◌≡◌, ◌≤◌, ◌-◌, length, take}
+use Rattle.std.proofs.Common.{◌≤◌, ◌-◌, length, take}
 use Rattle.hex.specs.Hex.{encode_lower}
 use Rattle.mte_host.specs.Streams.{WroteAll}
 use Rattle.mte_host.proofs.report.write_hex.Given as goal

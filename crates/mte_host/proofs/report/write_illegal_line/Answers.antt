@@ -1,4 +1,3 @@
-use Rattle.std.proofs.Common.{◌≡◌}
 use Rattle.mte_host.proofs.report.write_illegal_line.Goals as goal
 
 pub returns-clause-ok : goal.returns-clause-ok

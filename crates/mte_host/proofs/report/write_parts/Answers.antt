@@ -1,7 +1,4 @@
-use Rattle.std.proofs.Common.{◌≡◌, ◌∙◌, sym, subst, ap, ◌+◌, ◌++◌, List, ℕ, take, drop, map, arith, rules, refl}
-use Rattle.std.specs.List.{concat}
-use Rattle.mte_host.specs.Streams.{WroteAll, WrotePart}
-use Rattle.mte_host.specs.declared.streams.WriteFault.{WriteFault}
+use Rattle.std.proofs.Common.{arith}
 use Rattle.mte_host.proofs.ReportLemmas.{on_write_err, then_all_more, then_part_more}
 use Rattle.mte_host.proofs.report.write_parts.Goals as goal
 

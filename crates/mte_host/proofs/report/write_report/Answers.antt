@@ -1,4 +1,3 @@
-use Rattle.std.proofs.Common.{◌≡◌, rules}
 use Rattle.mte_host.specs.Streams.{WroteAll, WrotePart}
 use Rattle.mte_host.specs.Report.{record_text}
 use Rattle.mte_host.proofs.ReportLemmas.{on_write_err, write_err_then, then_part, then_all, part_more, line_1, line_2, line_3, line_4, line_5, line_6, lines_1, lines_2, lines_3, lines_4, lines_5}

@@ -1,4 +1,3 @@
-use Rattle.std.proofs.Common.{◌≡◌}
 use Rattle.mte_host.proofs.ScriptLemmas.{cut_some, cut_none}
 use Rattle.mte_host.proofs.script.cut.Goals as goal
 

@@ -1,7 +1,7 @@
-use Rattle.std.proofs.Common.{◌≡◌, ◌∙◌, ◌+◌, ◌<◌, ◌≤◌, ◌++◌, ◌∷◌, [], length, ap, sym, Ok, Some, arith, rules, refl, inl, inr}
+use Rattle.std.proofs.Common.{◌≡◌, ◌+◌, ◌<◌, ◌≤◌, ◌++◌, ◌∷◌, [], length, arith, rules, refl, inl, inr}
 use Rattle.std.proofs.lemmas.List.{length_push}
 use Rattle.mte_host.specs.Scripts.{script_events}
-use Rattle.mte_host.proofs.ScriptLemmas.{next_lines, fewer_left, unroll, line_fault, line_skipped, line_taken, line_over, script_end, behind_none, measure_of}
+use Rattle.mte_host.proofs.ScriptLemmas.{next_lines, fewer_left, unroll, line_fault, line_skipped, line_taken, line_over, script_end, behind_none}
 use Rattle.mte_host.proofs.script.parse_script.Goals as goal
 
 pub loop-rest-init : goal.loop-rest-init

@@ -1,4 +1,4 @@
-use Rattle.std.proofs.Common.{◌≡◌, ◌∙◌, sym, arith}
+use Rattle.std.proofs.Common.{◌∙◌, sym, arith}
 use Rattle.std.proofs.lemmas.Bool.{ne_eqb, eq-eqb}
 use Rattle.mte_host.proofs.ScriptLemmas.{len_step, len_found, len_end}
 use Rattle.mte_host.proofs.script.piece_len.Goals as goal

@@ -1,4 +1,4 @@
-use Rattle.std.proofs.Common.{◌≡◌, ◌≤◌, sym, arith}
+use Rattle.std.proofs.Common.{◌≤◌, arith}
 use Rattle.mte_host.proofs.ScriptLemmas.{value_step, digits_step, below_step, value_end}
 use Rattle.mte_host.proofs.script.value_of.Goals as goal
 

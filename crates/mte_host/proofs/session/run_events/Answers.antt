@@ -1,4 +1,4 @@
-use Rattle.std.proofs.Common.{◌≡◌, ◌∙◌, ◌+◌, ◌++◌, ◌∷◌, [], sym, ap, map, arith, rules, refl}
+use Rattle.std.proofs.Common.{◌≡◌, ◌+◌, ◌++◌, ◌∷◌, [], sym, map, rules}
 use Rattle.mte_host.specs.declared.session.Refusal.TheVariants.{Admit}
 use Rattle.mte_host.specs.declared.admission.AdmitError.TheVariants.{OutOfMemory}
 use Rattle.mte_host.proofs.SessionLemmas.{played_accepted, played_refused, played_end, not_first}

@@ -1,5 +1,5 @@
 use Rattle.std.proofs.Common.{◌≡◌, ◌+◌, map, drop, []}
-use Rattle.mte_host.specs.Sessions.{played, Played}
+use Rattle.mte_host.specs.Sessions.{played}
 use Rattle.mte_host.proofs.SessionLemmas.{at}
 use Rattle.mte_host.proofs.session.run_events.Given as goal
 

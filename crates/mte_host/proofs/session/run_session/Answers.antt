@@ -1,4 +1,4 @@
-use Rattle.std.proofs.Common.{◌≡◌, map}
+use Rattle.std.proofs.Common.{map}
 use Rattle.std.proofs.lemmas.List.{length-map}
 use Rattle.mte_host.proofs.SessionLemmas.{session_text_is}
 use Rattle.mte_host.proofs.session.run_session.Goals as goal

@@ -1,6 +1,6 @@
-use Rattle.std.proofs.Common.{◌≡◌, arith}
+use Rattle.std.proofs.Common.{arith}
 use Rattle.mte_host.specs.Sessions.{refused_text}
-use Rattle.mte_host.proofs.ReportLemmas.{on_write_err, then_all_more, then_part_more, wrote_none}
+use Rattle.mte_host.proofs.ReportLemmas.{on_write_err, then_all_more, then_part_more}
 use Rattle.mte_host.proofs.session.write_refusals.Goals as goal
 
 pub returns-in_err-write_refusal-clause-err : goal.returns-in_err-write_refusal-clause-err

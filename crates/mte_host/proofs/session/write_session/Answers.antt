@@ -1,4 +1,3 @@
-use Rattle.std.proofs.Common.{◌≡◌}
 use Rattle.mte_host.specs.Report.{record_text}
 use Rattle.mte_host.specs.Sessions.{refused_texts, tenant_text}
 use Rattle.mte_host.proofs.ReportLemmas.{on_write_err, write_err_then, then_part, part_more}

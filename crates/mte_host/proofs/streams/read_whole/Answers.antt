@@ -1,4 +1,4 @@
-use Rattle.std.proofs.Common.{◌≡◌, ◌∙◌, ap, sym, drop, ◌≢◌, arith, rules, ◌≤◌, ◌<◌, ◌+◌, length, take, length-take, length-append, ◌++◌}
+use Rattle.std.proofs.Common.{◌≡◌, ◌∙◌, ap, sym, drop, ◌≢◌, arith, rules, ◌≤◌, ◌+◌, length, take, length-take, length-append, ◌++◌}
 use Rattle.mte_host.proofs.StreamLemmas.{one_more_call, more_given, some_pass, counted-counted, counted-zero}
 use Rattle.std.proofs.lemmas.List.{take-append-le}
 use Rattle.mte_host.specs.Streams.{counted, appended}

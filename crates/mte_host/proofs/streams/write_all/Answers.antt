@@ -1,5 +1,5 @@
-use Rattle.std.proofs.Common.{◌≡◌, ◌∙◌, arith, rules, refl, ◌≤◌, ◌-◌, ◌+◌, length, take, drop, length-take, length-drop}
-use Rattle.mte_host.proofs.StreamLemmas.{part_after, more_taken, took_none, none_fails, some_pass, counted-zero}
+use Rattle.std.proofs.Common.{◌∙◌, arith, rules, ◌≤◌, ◌-◌, length, take, drop, length-take, length-drop}
+use Rattle.mte_host.proofs.StreamLemmas.{part_after, more_taken, took_none, none_fails, some_pass}
 use Rattle.mte_host.proofs.streams.write_all.Goals as goal
 
 pub returns-in-Err-clause-err : goal.returns-in-Err-clause-err

@@ -1,5 +1,5 @@
-use Rattle.std.proofs.Common.{◌≡◌, ◌∙◌, sym, ap, arith, ◌<◌, ◌≤◌, ◌^◌}
-use Rattle.mte_host.proofs.MachineLemmas.{run_advances, left_le, left_lt, after_some, after_none}
+use Rattle.std.proofs.Common.{arith}
+use Rattle.mte_host.proofs.MachineLemmas.{left_le, left_lt, after_some, after_none}
 use Rattle.mte_host.proofs.machine.Machine.run_on.Goals as goal
 
 pub overflow_sub-left : goal.overflow_sub-left

@@ -1,4 +1,4 @@
-use Rattle.std.proofs.Common.{◌≡◌, ◌∙◌, sym, arith, refl, zero, suc}
+use Rattle.std.proofs.Common.{◌∙◌, sym, arith}
 use Rattle.mte_host.proofs.MachineLemmas.{advance-ended, advance_none}
 use Rattle.mte_host.proofs.machine.Machine.slice.Goals as goal
 

@@ -1,5 +1,5 @@
-use Rattle.std.proofs.Common.{◌≡◌, ◌∙◌, sym, ap, arith, rules, refl, ◌≤◌, ◌-◌}
-use Rattle.mte_tags.specs.Memory.{pages_left, no_pages}
+use Rattle.std.proofs.Common.{◌≡◌, ◌∙◌, ap, arith, refl, ◌-◌}
+use Rattle.mte_tags.specs.Memory.{pages_left}
 use Rattle.mte_elf.specs.Images.{pages_of}
 use Rattle.mte_host.specs.Machines.{start_of, first_memory}
 use Rattle.mte_host.proofs.MachineLemmas.{left-no_pages, first_memory_by}

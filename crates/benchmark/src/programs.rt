@@ -1,0 +1,84 @@
+//! The programs that are run.
+
+ghost use Rattle.std.specs.Prelude.{◌≡◌, IfSome};
+
+use crate::measured::Batch;
+use a64_bits::Flags;
+use a64_step::{Regs, run};
+use mte_tags::{Flat, Rgsr};
+
+/// A loop of instructions between registers (assembled by llvm-mc).
+pub const ALU: [u32; 16] = [
+    0x8B01_0000, // add x0, x0, x1
+    0xCB03_0002, // sub x2, x0, x3
+    0xCA00_1C44, // eor x4, x2, x0, lsl #7
+    0xD343_FC85, // lsr x5, x4, #3
+    0xAA01_00A6, // orr x6, x5, x1
+    0x9104_8CC7, // add x7, x6, #291
+    0x9240_3CE8, // and x8, x7, #0xffff
+    0xD37B_E909, // lsl x9, x8, #5
+    0xEB02_012A, // subs x10, x9, x2
+    0x93CA_254B, // ror x11, x10, #9
+    0x8A24_016C, // bic x12, x11, x4
+    0x8B25_498D, // add x13, x12, w5, uxtw #2
+    0xCA00_01A1, // eor x1, x13, x0
+    0xD100_0463, // sub x3, x3, #1
+    0x9342_FC6E, // asr x14, x3, #2
+    0x17FF_FFF1, // b #-60
+];
+
+/// A loop of which four instructions are loads and four stores, through x0 and x1 (assembled by llvm-mc).
+pub const MEMORY: [u32; 16] = [
+    0xF940_0002, // ldr x2, [x0]
+    0x8B02_0063, // add x3, x3, x2
+    0xF900_0403, // str x3, [x0, #8]
+    0xCA02_0064, // eor x4, x3, x2
+    0xF940_0825, // ldr x5, [x1, #16]
+    0xCB04_00A6, // sub x6, x5, x4
+    0xF900_0C26, // str x6, [x1, #24]
+    0xD345_FCC7, // lsr x7, x6, #5
+    0xF944_0008, // ldr x8, [x0, #2048]
+    0x8B07_0109, // add x9, x8, x7
+    0xF904_0809, // str x9, [x0, #2064]
+    0xAA03_012A, // orr x10, x9, x3
+    0xF947_F82B, // ldr x11, [x1, #4080]
+    0x9100_1D6C, // add x12, x11, #7
+    0xF907_FC2C, // str x12, [x1, #4088]
+    0x17FF_FFF1, // b #-60
+];
+
+/// The steps of a batch.
+const STEPS: u64 = 1 << 16;
+
+/// Registers at the start of a program: x0, x1 and the program counter as given, the others 0.
+pub fn start(x0: u64, x1: u64, pc: u64) -> Regs {
+    let mut regs = Regs {
+        x: [0; 31],
+        sp: 0,
+        pc,
+        flags: Flags {
+            n: false,
+            z: false,
+            c: false,
+            v: false,
+        },
+        rgsr: Rgsr { tag: 0, seed: 1 },
+    };
+    regs.x[0] = x0;
+    regs.x[1] = x1;
+    regs
+}
+
+/// Goes on with a program, `None` where it stops.
+pub fn run_on(regs: &mut Regs, memory: &mut Flat) -> Option<Batch>
+    ensures { IfSome result (λ b. b.count ≡ 65536) }
+{
+    if run(regs, memory, STEPS).outcome.is_some() {
+        return None;
+    }
+    let mut sum: u64 = 0;
+    for value in &regs.x {
+        sum = sum.wrapping_add(*value);
+    }
+    Some(Batch { count: STEPS, sum })
+}

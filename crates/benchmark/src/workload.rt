@@ -1,0 +1,98 @@
+//! The workloads and their names.
+
+/// What is timed.
+#[derive(Clone, Copy, PartialEq, Eq, Debug)]
+pub enum Workload {
+    /// Decoding of mixed instruction words.
+    Decode,
+    /// Checked loads of 8 bytes within a tagged page.
+    Load,
+    /// Checked stores of 8 bytes within a tagged page.
+    Store,
+    /// Checked loads of 8 bytes over two tagged pages.
+    LoadAcross,
+    /// Checked stores of 8 bytes over two tagged pages.
+    StoreAcross,
+    /// Fetches of instruction words.
+    Fetch,
+    /// Steps of a loop of instructions between registers.
+    Alu,
+    /// Steps of a loop half of which reaches memory.
+    Memory,
+}
+
+impl Workload {
+    /// All of them, in the order in which they are run.
+    pub const ALL: [Workload; 8] = [
+        Workload::Decode,
+        Workload::Load,
+        Workload::Store,
+        Workload::LoadAcross,
+        Workload::StoreAcross,
+        Workload::Fetch,
+        Workload::Alu,
+        Workload::Memory,
+    ];
+
+    /// Its name on the command line.
+    pub fn name(self) -> &'static str {
+        match self {
+            Workload::Decode => "decode",
+            Workload::Load => "load",
+            Workload::Store => "store",
+            Workload::LoadAcross => "load_across",
+            Workload::StoreAcross => "store_across",
+            Workload::Fetch => "fetch",
+            Workload::Alu => "alu",
+            Workload::Memory => "memory",
+        }
+    }
+
+    /// What is counted, after "ns".
+    pub fn unit(self) -> &'static str {
+        match self {
+            Workload::Decode => "a word",
+            Workload::Load | Workload::LoadAcross => "a load",
+            Workload::Store | Workload::StoreAcross => "a store",
+            Workload::Fetch => "a fetch",
+            Workload::Alu | Workload::Memory => "an instruction",
+        }
+    }
+
+    /// The workload of a name.
+    pub fn from_name(name: &str) -> Option<Workload> {
+        Workload::ALL
+            .into_iter()
+            .find(|workload| workload.name() == name)
+    }
+}
+
+/// What a command line asks for.
+#[derive(Clone, Copy, PartialEq, Eq, Debug)]
+pub enum Asked {
+    /// No argument was given.
+    Help,
+    /// The arguments are not the name of a workload.
+    Unknown,
+    /// One workload.
+    One(Workload),
+    /// Each workload in turn.
+    All,
+}
+
+/// Reads a command line, of which the first word is the program's name.
+pub fn read_words(words: &[String]) -> Asked {
+    match words {
+        [] | [_] => Asked::Help,
+        [_, name] => {
+            if name.as_str() == "all" {
+                return Asked::All;
+            }
+            match Workload::from_name(name.as_str()) {
+                Some(workload) => Asked::One(workload),
+                None => Asked::Unknown,
+            }
+        }
+        _ => Asked::Unknown,
+    }
+}
