@@ -3,7 +3,7 @@
 ghost use Rattle.std.specs.Prelude.{◌<◌};
 
 use crate::accesses::{fetch_each, load_each, store_each};
-use crate::decoding::{decode_each, shuffled};
+use crate::decoding::{decode_each, in_order, shuffled};
 use crate::measured::Batch;
 use crate::programs::{ALU, MEMORY, run_on, start};
 use crate::workload::Workload;
@@ -30,7 +30,8 @@ const TAG: u8 = 5;
 #[derive(Drop)]
 pub struct Bench {
     memory: Flat,
-    words: Vec<u32>,
+    text: Vec<u32>,
+    shuffled: Vec<u32>,
     within: Vec<u64>,
     across: Vec<u64>,
     code: Vec<u64>,
@@ -57,7 +58,8 @@ impl Bench {
         }
         Ok(Bench {
             memory,
-            words: shuffled(alloc)?,
+            text: in_order(alloc)?,
+            shuffled: shuffled(alloc)?,
             within,
             across: places(alloc, second.wrapping_sub(7), 7, 1)?,
             code: places(alloc, CODE, 1024, 4)?,
@@ -69,7 +71,8 @@ impl Bench {
     /// Runs a batch of a workload, `None` where an access is refused.
     pub fn batch(&mut self, workload: Workload) -> Option<Batch> {
         match workload {
-            Workload::Decode => Some(decode_each(&self.words)),
+            Workload::Decode => Some(decode_each(&self.text)),
+            Workload::DecodeShuffled => Some(decode_each(&self.shuffled)),
             Workload::Load => load_each(&mut self.memory, &self.within),
             Workload::Store => store_each(&mut self.memory, &self.within),
             Workload::LoadAcross => load_each(&mut self.memory, &self.across),

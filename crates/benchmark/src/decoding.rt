@@ -3,6 +3,7 @@
 ghost use Rattle.std.specs.Prelude.{◌≡◌, length};
 
 use crate::measured::Batch;
+use crate::text::TEXT;
 use a64_asm::Instr;
 use a64_decode::decode;
 use std::alloc::{AllocError, Global};
@@ -45,6 +46,15 @@ const WORDS: [u32; 32] = [
 
 /// How many words are decoded in a batch: more than a processor's branch predictor remembers.
 const COUNT: u32 = 1 << 16;
+
+/// The words of a program in their order, again and again.
+pub fn in_order(alloc: Global) -> Result<Vec<u32>, AllocError> {
+    let mut words = Vec::new(alloc);
+    for i in 0..COUNT {
+        words.push(TEXT[i as usize % TEXT.len()])?;
+    }
+    Ok(words)
+}
 
 /// The words in an order from a linear congruential generator.
 pub fn shuffled(alloc: Global) -> Result<Vec<u32>, AllocError> {

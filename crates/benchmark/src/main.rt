@@ -6,6 +6,7 @@ mod bench;
 mod decoding;
 mod measured;
 mod programs;
+mod text;
 mod workload;
 
 use anyhow::{Result, bail};
@@ -18,15 +19,16 @@ use workload::{Asked, Workload, read_words};
 
 const USAGE: &str = "usage: benchmark WORKLOAD
 Runs a workload for about a second and prints its rate. The workloads:
-  decode        words of 32 instructions, in a random order
-  load          checked loads of 8 bytes within a tagged page
-  store         checked stores of 8 bytes within a tagged page
-  load_across   checked loads of 8 bytes over two tagged pages
-  store_across  checked stores of 8 bytes over two tagged pages
-  fetch         fetches of instruction words
-  alu           steps of a loop that adds, subtracts, shifts and combines registers
-  memory        steps of a loop, a quarter of them loads and a quarter stores
-  all           each of them in turn
+  decode           the words of a compiled program, in their order
+  decode_shuffled  words of 32 instructions, in a random order
+  load             checked loads of 8 bytes within a tagged page
+  store            checked stores of 8 bytes within a tagged page
+  load_across      checked loads of 8 bytes over two tagged pages
+  store_across     checked stores of 8 bytes over two tagged pages
+  fetch            fetches of instruction words
+  alu              steps of a loop that adds, subtracts, shifts and combines registers
+  memory           steps of a loop, a quarter of them loads and a quarter stores
+  all              each of them in turn
 ";
 
 const SECOND: u64 = 1_000_000_000;

@@ -12,6 +12,7 @@ fn each_workload_runs(rt: HostRuntime) -> Result<(), Fail> {
     };
     for (workload, count) in [
         (Workload::Decode, 65536u64),
+        (Workload::DecodeShuffled, 65536),
         (Workload::Load, 2048),
         (Workload::Store, 2048),
         (Workload::LoadAcross, 2048),

@@ -3,8 +3,10 @@
 /// What is timed.
 #[derive(Clone, Copy, PartialEq, Eq, Debug)]
 pub enum Workload {
-    /// Decoding of mixed instruction words.
+    /// Decoding of a program's words, in their order.
     Decode,
+    /// Decoding of mixed words, in a random order.
+    DecodeShuffled,
     /// Checked loads of 8 bytes within a tagged page.
     Load,
     /// Checked stores of 8 bytes within a tagged page.
@@ -23,8 +25,9 @@ pub enum Workload {
 
 impl Workload {
     /// All of them, in the order in which they are run.
-    pub const ALL: [Workload; 8] = [
+    pub const ALL: [Workload; 9] = [
         Workload::Decode,
+        Workload::DecodeShuffled,
         Workload::Load,
         Workload::Store,
         Workload::LoadAcross,
@@ -38,6 +41,7 @@ impl Workload {
     pub fn name(self) -> &'static str {
         match self {
             Workload::Decode => "decode",
+            Workload::DecodeShuffled => "decode_shuffled",
             Workload::Load => "load",
             Workload::Store => "store",
             Workload::LoadAcross => "load_across",
@@ -51,7 +55,7 @@ impl Workload {
     /// What is counted, after "ns".
     pub fn unit(self) -> &'static str {
         match self {
-            Workload::Decode => "a word",
+            Workload::Decode | Workload::DecodeShuffled => "a word",
             Workload::Load | Workload::LoadAcross => "a load",
             Workload::Store | Workload::StoreAcross => "a store",
             Workload::Fetch => "a fetch",

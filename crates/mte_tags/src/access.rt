@@ -67,9 +67,9 @@ pub enum FaultKind {
 /// (Arm ARM DDI 0487, AArch64.CheckTag and the fault types of FaultRecord).
 #[derive(Clone, Copy, PartialEq, Eq, Debug)]
 pub struct MemFault {
-    pub kind: FaultKind,
     /// The plain address that failed, below 2^56. For the alignment kinds the unaligned address.
     pub addr: u64,
+    pub kind: FaultKind,
     /// Whether a store failed.
     pub write: bool,
     /// The tag of the address that was used, below 16.

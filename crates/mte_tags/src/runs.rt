@@ -87,7 +87,7 @@ pub fn replace_bytes<S: PageStore>(store: &mut S, at: u64, bytes: &[u8])
 
 /// Copies bytes out, or tells the first that fails.
 #[tactic(auto, unfolding(crate::specs::Accesses::read_fault, crate::specs::Accesses::read_bytes))]
-#[inline]
+#[inline(always)]
 fn read_by_runs<S: PageStore>(
     store: &mut S,
     addr: u64,
@@ -111,7 +111,7 @@ fn read_by_runs<S: PageStore>(
 
 /// Copies bytes in, or tells the first that fails.
 #[tactic(auto, unfolding(crate::specs::Accesses::write_fault, crate::specs::Accesses::written))]
-#[inline]
+#[inline(always)]
 fn write_by_runs<S: PageStore>(
     store: &mut S,
     addr: u64,
@@ -133,7 +133,7 @@ fn write_by_runs<S: PageStore>(
 }
 
 /// The instruction word at an address; one page holds an aligned word.
-#[inline]
+#[inline(always)]
 fn fetch_word<S: PageStore>(store: &mut S, pc: u64) -> Result<u32, MemFault>
     ensures answer { result ≡ fetched (S.content store.old) pc }
     ensures memory { S.content store.new ≡ S.content store.old }
@@ -242,17 +242,17 @@ impl<S: PageStore> Tagged for S {
 
     ghost kept = { λ a b. S.rest_kept a b };
 
-    #[inline]
+    #[inline(always)]
     fn fetch(&mut self, pc: u64) -> Result<u32, MemFault> {
         fetch_word(self, pc)
     }
 
-    #[inline]
+    #[inline(always)]
     fn read(&mut self, addr: u64, buffer: &mut [u8], check: bool) -> Result<(), MemFault> {
         read_by_runs(self, addr, buffer, check)
     }
 
-    #[inline]
+    #[inline(always)]
     fn write(&mut self, addr: u64, bytes: &[u8], check: bool) -> Result<(), MemFault> {
         write_by_runs(self, addr, bytes, check)
     }

@@ -9,13 +9,14 @@ use crate::access::{Access, Attrs, FaultKind, MemFault};
 use crate::finder::Finder;
 use bitflags::Flags;
 
-/// A mapped page: its number, its attributes, its bytes and a tag for each granule.
+/// A mapped page: its number, its bytes, a tag for each granule, and its attributes. The bytes stand where an
+/// aligned access stays aligned.
 #[derive(Drop)]
 pub struct Slot {
     pub(crate) page: u64,
-    pub(crate) attrs: Attrs,
     pub(crate) bytes: [u8; 4096],
     pub(crate) tags: [u8; 256],
+    pub(crate) attrs: Attrs,
 }
 
 /// A page of zero bytes and tag 0.
@@ -26,9 +27,9 @@ pub(crate) fn new_slot(page: u64, attrs: Attrs) -> Slot
 {
     Slot {
         page,
-        attrs,
         bytes: [0; 4096],
         tags: [0; 256],
+        attrs,
     }
 }
 
