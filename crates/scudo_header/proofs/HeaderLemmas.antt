@@ -110,12 +110,12 @@ low_part w k = omega arith
 header_back : (h : Header) (k : ℕ) → AreFields h.class_id (state_number h.state) (origin_number h.origin) h.size_or_unused_bytes h.offset
     → header_of (header_word h + 2 ^ 48 * k) ≡ h
 header_back h k a = λ i. record {
-    class_id = class_back _ _ _ _ _ k a i;
-    state = (ap state_of (state_field _ _ _ _ _ k a) ∙ state_back h.state) i;
-    origin = (ap origin_of (origin_field _ _ _ _ _ k a) ∙ origin_back h.origin) i;
-    size_or_unused_bytes = size_field _ _ _ _ _ k a i;
-    offset = offset_field _ _ _ _ _ k a i;
-  }
+  class_id = class_back _ _ _ _ _ k a i;
+  state = (ap state_of (state_field _ _ _ _ _ k a) ∙ state_back h.state) i;
+  origin = (ap origin_of (origin_field _ _ _ _ _ k a) ∙ origin_back h.origin) i;
+  size_or_unused_bytes = size_field _ _ _ _ _ k a i;
+  offset = offset_field _ _ _ _ _ k a i;
+}
 
 -- what is packed is unpacked
 pub unpacked-packed : (cookie pointer : ℕ) (h : Header) → h.class_id < 2 ^ 8 → h.size_or_unused_bytes < 2 ^ 20 → h.offset < 2 ^ 16
@@ -125,9 +125,9 @@ unpacked-packed cookie pointer h c z f =
     let w = header_word h in
     let k = checksum_of cookie pointer w in
     let a : AreFields h.class_id (state_number h.state) (origin_number h.origin) h.size_or_unused_bytes h.offset =
-      record { class = c; state = state_small h.state; origin = origin_small h.origin; size = z; offset = f } in
+    record { class = c; state = state_small h.state; origin = origin_small h.origin; size = z; offset = f } in
     let e : field_of 48 16 (w + 2 ^ 48 * k) ≡ checksum_of cookie pointer (w + 2 ^ 48 * k) =
-      top_field w k (sum_small _ _ _ _ _ a) (checksum_of-small cookie pointer w) ∙ checksum_of-low cookie pointer w (w + 2 ^ 48 * k) (sym (low_part w k)) in
+    top_field w k (sum_small _ _ _ _ _ a) (checksum_of-small cookie pointer w) ∙ checksum_of-low cookie pointer w (w + 2 ^ 48 * k) (sym (low_part w k)) in
     cond-true _ _ _ (eq-eqb _ _ e) ∙ ap Some (header_back h k a)
 
 sum_fits : (w s k : ℕ) → s ≡ k → k < 2 ^ 16 → w + s * 281474976710656 % 18446744073709551616 ≡ w + 2 ^ 48 * k
@@ -159,7 +159,7 @@ header_word-of w =
     let o : origin_number (origin_of (field_of 10 2 w)) ≡ field_of 10 2 w = origin_number-of _ (field_small w 10) in
     (λ i. w % 2 ^ 8 + 2 ^ 8 * s i + 2 ^ 10 * o i + 2 ^ 12 * field_of 12 20 w + 2 ^ 32 * field_of 32 16 w)
     ∙ parts_sum (w % 2 ^ 8) (field_of 8 2 w) (field_of 10 2 w) (field_of 12 20 w) (field_of 32 16 w) (w % 2 ^ 10) (w % 2 ^ 12) (w % 2 ^ 32) (w % 2 ^ 48)
-      (mod-pow-add w 16 32) (mod-pow-add w 20 12) (mod-pow-add w 2 10) (mod-pow-add w 2 8)
+    (mod-pow-add w 16 32) (mod-pow-add w 20 12) (mod-pow-add w 2 10) (mod-pow-add w 2 8)
 
 whole : (w k : ℕ) → k ≡ w / 2 ^ 48 → w % 2 ^ 48 + 2 ^ 48 * k ≡ w
 whole w k e = omega arith

@@ -8,4 +8,7 @@ mod regions;
 
 pub use classes::{CLASSES, LARGEST_CLASS_SIZE, class_of, size_of_class};
 pub use headers::{Header, Origin, State, checksum, pack, unpack};
-pub use regions::{PAGE_SIZE, REGION_SIZE, REGIONS_START};
+pub use regions::{MAX_PAGES, PAGE_SIZE, REGION_SIZE, REGIONS_START};
+
+#[cfg(test)]
+mod tests;
