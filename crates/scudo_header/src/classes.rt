@@ -21,7 +21,7 @@ static SIZES: [u64; 45] = [
     24576, 28672, 32768, 40960, 49152, 57344, 65536, 81920, 98304, 114_688, 131_072,
 ];
 
-/// The bytes of a class's blocks.
+/// The bytes of the blocks of a class, 1 to `CLASSES` (`getSizeByClassId`).
 #[inline]
 pub fn size_of_class(class: u8) -> u64
     requires low { 0 < class }
@@ -34,7 +34,8 @@ pub fn size_of_class(class: u8) -> u64
     SIZES[class as usize]
 }
 
-/// The least class whose blocks hold `need` bytes. There is none where `need` is above the largest class's size.
+/// The least class whose blocks hold `need` bytes (`getClassIdBySize`). There is none where `need` is above
+/// `LARGEST_CLASS_SIZE`.
 #[inline]
 pub fn class_of(need: u64) -> Option<u8>
     ensures class { result ≡ class_for need }

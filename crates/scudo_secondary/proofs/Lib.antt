@@ -1,2 +1,3 @@
 pub mod MappingLemmas
 pub mod PlaceLemmas
+pub mod TestLemmas

@@ -1,7 +1,7 @@
 -- The order of the mappings, and what adding, finding and removing one comes to.
-use Rattle.std.proofs.Common.{◌≡◌, ◌≢◌, ℕ, zero, suc, ◌+◌, ◌*◌, ◌%◌, ◌<◌, ◌≤◌, ◌==◌, ◌⊎◌, Bool, true, false, cond, not, nat_lt, nat_le, List, [], ◌∷◌, ◌++◌, length, get_or, take, drop, Some, None, refl, sym, ap, subst, ◌∙◌, inl, inr, arith, eq-eqb}
+use Rattle.std.proofs.Common.{◌≡◌, ◌≢◌, ℕ, zero, suc, ◌+◌, ◌<◌, ◌≤◌, ◌==◌, ◌⊎◌, Bool, true, false, not, nat_lt, List, [], ◌∷◌, length, get_or, Some, None, refl, sym, ap, subst, ◌∙◌, inl, inr, arith, eq-eqb}
 use Rattle.std.specs.Prelude.{filter, IsSome}
-use Rattle.std.specs.List.{find, insert, remove, sum_by}
+use Rattle.std.specs.List.{find, insert, remove}
 use Rattle.std.specs.List.Sorted.{IsNonDecreasingBy}
 use Rattle.std.proofs.lemmas.Bool.{cases_eq, cases_lt, cond-true, cond-false}
 use Rattle.std.proofs.lemmas.Bool.Decides.{nat_tests}
@@ -75,7 +75,7 @@ pub mapping_of-at : (ms : List Mapping) (user i : ℕ) (d : Mapping) → AreMapp
 unfolding AreMappings
 mapping_of-at ms user i d a l e =
     found_at (λ m. m.user == user) ms i d l (is_user _ user e)
-      (λ k b. let r : (get_or ms k d).user < (get_or ms i d).user = users_rise ms _ a k i d b l in not_user _ user (λ q. omega arith))
+    (λ k b. let r : (get_or ms k d).user < (get_or ms i d).user = users_rise ms _ a k i d b l in not_user _ user (λ q. omega arith))
 
 -- between the lower user addresses and the higher ones
 pub mapping_of-none : (ms : List Mapping) (user i : ℕ) → AreMappings ms → ((k : ℕ) (d : Mapping) → k < i → (get_or ms k d).user < user)
@@ -83,17 +83,17 @@ pub mapping_of-none : (ms : List Mapping) (user i : ℕ) → AreMappings ms → 
 unfolding AreMappings
 mapping_of-none ms user i a low high e other =
     found_none (λ m. m.user == user) ms (λ k d l. not_user _ user (λ q. elim (cases_lt k i) [
-        | inl b ↦ let r : (get_or ms k d).user < user = low k d b in omega arith
-        | inr b ↦ elim (cases_eq k i) [
-            | inl s ↦
-              let z : i < length ms = omega arith in
-              other z (ap (λ m. m.user) (get_or_default ms i e d z) ∙ ap (λ x. (get_or ms x d).user) (sym s) ∙ q)
-            | inr n ↦
-              let r : (get_or ms i d).user < (get_or ms k d).user = users_rise ms _ a i k d (omega arith) l in
-              let s : user ≤ (get_or ms i d).user = high i d (omega arith) (omega arith) in
-              omega arith
-          ]
-      ]))
+      | inl b ↦ let r : (get_or ms k d).user < user = low k d b in omega arith
+      | inr b ↦ elim (cases_eq k i) [
+        | inl s ↦
+            let z : i < length ms = omega arith in
+            other z (ap (λ m. m.user) (get_or_default ms i e d z) ∙ ap (λ x. (get_or ms x d).user) (sym s) ∙ q)
+        | inr n ↦
+            let r : (get_or ms i d).user < (get_or ms k d).user = users_rise ms _ a i k d (omega arith) l in
+            let s : user ≤ (get_or ms i d).user = high i d (omega arith) (omega arith) in
+            omega arith
+      ]
+    ]))
 
 -- ---- removing
 
@@ -113,10 +113,10 @@ pub filter-at : (ms : List Mapping) (user i : ℕ) → AreMappings ms → i < le
 unfolding AreMappings
 filter-at ms user i a l e =
     sym (kept_but (λ m. not (m.user == user)) ms i l (λ d. ap not (is_user _ user (e d)))
-      (λ k d b n. ap not (not_user _ user (λ q. elim (cases_lt k i) [
-          | inl h ↦ let r : (get_or ms k d).user < (get_or ms i d).user = users_rise ms _ a k i d h l in let s = e d in omega arith
-          | inr h ↦ let r : (get_or ms i d).user < (get_or ms k d).user = users_rise ms _ a i k d (omega arith) b in let s = e d in omega arith
-        ]))))
+    (λ k d b n. ap not (not_user _ user (λ q. elim (cases_lt k i) [
+      | inl h ↦ let r : (get_or ms k d).user < (get_or ms i d).user = users_rise ms _ a k i d h l in let s = e d in omega arith
+      | inr h ↦ let r : (get_or ms i d).user < (get_or ms k d).user = users_rise ms _ a i k d (omega arith) b in let s = e d in omega arith
+    ]))))
 
 pub removed : (ms xs : List Mapping) (user i : ℕ) → xs ≡ ms → AreMappings ms → (i < length xs) × ((d : Mapping) → (get_or xs i d).user ≡ user) → remove ms i ≡ filter (λ m. not (m.user == user)) ms
 removed ms xs user i e a h = filter-at ms user i a (subst (λ y. i < length y) e h.0) (λ d. subst (λ y. (get_or y i d).user ≡ user) e (h.1 d))
@@ -193,15 +193,15 @@ from_with (m ∷ more) n least a h e apart =
     let more_some = h.some in
     elim (cases_lt m.start n.start) [
       | inl b ↦
-        let t : nat_lt m.start n.start ≡ true = grind (arith, nat_tests) in
-        let l : end_of m + PAGE_SIZE ≤ n.start = elim (apart 0 m (omega arith)) [ inl x ↦ x | inr y ↦ absurd (omega arith) ] in
-        let h' : IsMapping (end_of m + PAGE_SIZE) n = record { above = l; aligned = h.aligned; some = h.some; first = h.first; last = h.last } in
-        subst (AreFrom least) (sym (cond-true _ _ _ t)) (a.0, from_with more n (end_of m + PAGE_SIZE) a.1 h' e (λ k d b'. apart (suc k) d (omega arith)))
+          let t : nat_lt m.start n.start ≡ true = grind (arith, nat_tests) in
+          let l : end_of m + PAGE_SIZE ≤ n.start = elim (apart 0 m (omega arith)) [ inl x ↦ x | inr y ↦ absurd (omega arith) ] in
+          let h' : IsMapping (end_of m + PAGE_SIZE) n = record { above = l; aligned = h.aligned; some = h.some; first = h.first; last = h.last } in
+          subst (AreFrom least) (sym (cond-true _ _ _ t)) (a.0, from_with more n (end_of m + PAGE_SIZE) a.1 h' e (λ k d b'. apart (suc k) d (omega arith)))
       | inr b ↦
-        let t : nat_lt m.start n.start ≡ false = grind (arith, nat_tests) in
-        let l : end_of n + PAGE_SIZE ≤ m.start = elim (apart 0 m (omega arith)) [ inl x ↦ absurd (omega arith) | inr y ↦ y ] in
-        let m' : IsMapping (end_of n + PAGE_SIZE) m = record { above = l; aligned = a.0.aligned; some = a.0.some; first = a.0.first; last = a.0.last } in
-        subst (AreFrom least) (sym (cond-false _ _ _ t)) (h, (m', a.1))
+          let t : nat_lt m.start n.start ≡ false = grind (arith, nat_tests) in
+          let l : end_of n + PAGE_SIZE ≤ m.start = elim (apart 0 m (omega arith)) [ inl x ↦ absurd (omega arith) | inr y ↦ y ] in
+          let m' : IsMapping (end_of n + PAGE_SIZE) m = record { above = l; aligned = a.0.aligned; some = a.0.some; first = a.0.first; last = a.0.last } in
+          subst (AreFrom least) (sym (cond-false _ _ _ t)) (h, (m', a.1))
     ]
 
 pub AreMappings-with_mapping : (ms : List Mapping) (n : Mapping) → AreMappings ms → IsMapping (SECONDARY_START + PAGE_SIZE) n → end_of n + PAGE_SIZE ≤ SECONDARY_END
@@ -217,13 +217,13 @@ pages_of-with_mapping (m ∷ more) n =
     let s : pages_of (m ∷ more) ≡ m.pages + pages_of more = sum_by-cons (λ m. m.pages) m more in
     elim (bool_cases (nat_lt m.start n.start)) [
       | inl t ↦
-        let e : pages_of (with_mapping (m ∷ more) n) ≡ pages_of (m ∷ with_mapping more n) = ap pages_of (cond-true _ _ _ t) in
-        let f : pages_of (m ∷ with_mapping more n) ≡ m.pages + pages_of (with_mapping more n) = sum_by-cons (λ m. m.pages) m (with_mapping more n) in
-        omega arith
+          let e : pages_of (with_mapping (m ∷ more) n) ≡ pages_of (m ∷ with_mapping more n) = ap pages_of (cond-true _ _ _ t) in
+          let f : pages_of (m ∷ with_mapping more n) ≡ m.pages + pages_of (with_mapping more n) = sum_by-cons (λ m. m.pages) m (with_mapping more n) in
+          omega arith
       | inr t ↦
-        let e : pages_of (with_mapping (m ∷ more) n) ≡ pages_of (n ∷ (m ∷ more)) = ap pages_of (cond-false _ _ _ t) in
-        let f : pages_of (n ∷ (m ∷ more)) ≡ n.pages + pages_of (m ∷ more) = sum_by-cons (λ m. m.pages) n (m ∷ more) in
-        omega arith
+          let e : pages_of (with_mapping (m ∷ more) n) ≡ pages_of (n ∷ (m ∷ more)) = ap pages_of (cond-false _ _ _ t) in
+          let f : pages_of (n ∷ (m ∷ more)) ≡ n.pages + pages_of (m ∷ more) = sum_by-cons (λ m. m.pages) n (m ∷ more) in
+          omega arith
     ]
 
 -- each mapping has a page at least
@@ -261,9 +261,9 @@ less_room ms new n before after e h k =
 
 users_from : (ms : List Mapping) (least : ℕ) → AreFrom least ms → IsNonDecreasingBy (λ m. m.user) ms
 users_from ms least a i j d h l = elim (cases_eq i j) [
-    | inl e ↦ let s : (get_or ms i d).user ≡ (get_or ms j d).user = ap (λ x. (get_or ms x d).user) e in omega arith
-    | inr n ↦ let s : (get_or ms i d).user < (get_or ms j d).user = users_rise ms least a i j d (omega arith) l in omega arith
-  ]
+  | inl e ↦ let s : (get_or ms i d).user ≡ (get_or ms j d).user = ap (λ x. (get_or ms x d).user) e in omega arith
+  | inr n ↦ let s : (get_or ms i d).user < (get_or ms j d).user = users_rise ms least a i j d (omega arith) l in omega arith
+]
 
 pub users_sorted : (ms : List Mapping) → AreMappings ms → IsNonDecreasingBy (λ m. m.user) ms
 unfolding AreMappings
@@ -271,9 +271,9 @@ users_sorted ms a = users_from ms _ a
 
 starts_from : (ms : List Mapping) (least : ℕ) → AreFrom least ms → IsNonDecreasingBy (λ m. m.start) ms
 starts_from ms least a i j d h l = elim (cases_eq i j) [
-    | inl e ↦ let s : (get_or ms i d).start ≡ (get_or ms j d).start = ap (λ x. (get_or ms x d).start) e in omega arith
-    | inr n ↦ let s : (get_or ms i d).start < (get_or ms j d).start = starts_rise ms least a i j d (omega arith) l in omega arith
-  ]
+  | inl e ↦ let s : (get_or ms i d).start ≡ (get_or ms j d).start = ap (λ x. (get_or ms x d).start) e in omega arith
+  | inr n ↦ let s : (get_or ms i d).start < (get_or ms j d).start = starts_rise ms least a i j d (omega arith) l in omega arith
+]
 
 pub starts_sorted : (ms : List Mapping) → AreMappings ms → IsNonDecreasingBy (λ m. m.start) ms
 unfolding AreMappings

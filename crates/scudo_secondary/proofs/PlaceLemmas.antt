@@ -1,12 +1,12 @@
 -- The least place, by one pass over the mappings.
-use Rattle.std.proofs.Common.{◌≡◌, ◌≢◌, ℕ, zero, suc, ◌+◌, ◌-◌, ◌*◌, ◌/◌, ◌%◌, ◌<◌, ◌≤◌, ◌==◌, ◌&&◌, ◌||◌, ◌⊎◌, Bool, true, false, cond, nat_lt, nat_le, List, [], ◌∷◌, length, get_or, drop, drop-cons, Option, IfSome, IfNone, Some, None, refl, sym, ap, subst, ◌∙◌, inl, inr, arith}
+use Rattle.std.proofs.Common.{◌≡◌, ℕ, zero, suc, ◌+◌, ◌-◌, ◌*◌, ◌/◌, ◌%◌, ◌<◌, ◌≤◌, ◌==◌, ◌&&◌, ◌||◌, ◌⊎◌, Bool, true, false, cond, nat_le, List, [], ◌∷◌, length, get_or, drop, drop-cons, Option, IfSome, IfNone, Some, None, refl, sym, ap, subst, ◌∙◌, inl, inr, arith}
 use Rattle.std.specs.List.{find, list_all}
-use Rattle.std.proofs.lemmas.Bool.{cases_eq, cases_lt, cond-true, cond-false}
+use Rattle.std.proofs.lemmas.Bool.{cases_lt, cond-true, cond-false}
 use Rattle.std.proofs.lemmas.Bool.Decides.{nat_tests}
 use Rattle.scudo_header.specs.declared.regions.TheConstants.{PAGE_SIZE}
 use Rattle.scudo_secondary.specs.declared.mappings.TheConstants.{SECONDARY_START, SECONDARY_END}
 use Rattle.scudo_secondary.specs.declared.mappings.Mapping.{Mapping}
-use Rattle.scudo_secondary.specs.Mappings.{end_of, is_apart, is_place, page_starts, place_of, with_mapping, IsMapping, AreFrom, AreMappings}
+use Rattle.scudo_secondary.specs.Mappings.{end_of, is_apart, is_place, page_starts, place_of, with_mapping, AreFrom, AreMappings}
 use Rattle.scudo_secondary.proofs.MappingLemmas.{IsApart, start_at, end_below, bool_cases, AreMappings-with_mapping}
 
 -- ---- what the test of a place says
@@ -25,12 +25,12 @@ both false b h k = h
 
 apart_true : (pages start : ℕ) (m : Mapping) → is_apart pages start m ≡ true → (end_of m + PAGE_SIZE ≤ start) ⊎ (start + PAGE_SIZE * pages + PAGE_SIZE ≤ m.start)
 apart_true pages start m h = elim (cases_lt start (end_of m + PAGE_SIZE)) [
-    | inl b ↦
+  | inl b ↦
       let f : nat_le (end_of m + PAGE_SIZE) start ≡ false = grind (arith, nat_tests) in
       let g : nat_le (start + PAGE_SIZE * pages + PAGE_SIZE) m.start ≡ true = ap (λ x. x || nat_le (start + PAGE_SIZE * pages + PAGE_SIZE) m.start) (sym f) ∙ h in
       inr (grind (arith, nat_tests))
-    | inr b ↦ inl b
-  ]
+  | inr b ↦ inl b
+]
 
 or_right : (a b : Bool) → b ≡ true → (a || b) ≡ true
 or_right true b h = refl
@@ -126,7 +126,7 @@ before_first m more from pages e a h =
       fits = record {
         below = omega arith;
         apart = apart_cons m more from (from + PAGE_SIZE * pages) (inr h)
-          (λ k d l. inr (let r : end_of m + PAGE_SIZE ≤ (get_or more k d).start = start_at more (end_of m + PAGE_SIZE) a.1 k d l in omega arith));
+            (λ k d l. inr (let r : end_of m + PAGE_SIZE ≤ (get_or more k d).start = start_at more (end_of m + PAGE_SIZE) a.1 k d l in omega arith));
       };
       least = λ lower b f. b;
     }
@@ -146,10 +146,10 @@ after_first m more from pages (Some s) b t r =
 gap_least : (ms : List Mapping) (from pages : ℕ) → from % PAGE_SIZE ≡ 0 → AreFrom from ms → LeastFrom from pages ms (gap_from from pages ms)
 unfolding gap_from
 gap_least [] from pages e a = elim (cases_lt SECONDARY_END (from + PAGE_SIZE * pages + PAGE_SIZE)) [
-    | inl b ↦
+  | inl b ↦
       let f : nat_le (from + PAGE_SIZE * pages + PAGE_SIZE) SECONDARY_END ≡ false = grind (arith, nat_tests) in
       subst (LeastFrom from pages []) (sym (cond-false _ _ _ f)) (λ lower h g. let x = g.below in omega arith)
-    | inr b ↦
+  | inr b ↦
       let f : nat_le (from + PAGE_SIZE * pages + PAGE_SIZE) SECONDARY_END ≡ true = grind (arith, nat_tests) in
       let r : IsLeast from pages [] from = record {
         above = omega arith;
@@ -158,18 +158,18 @@ gap_least [] from pages e a = elim (cases_lt SECONDARY_END (from + PAGE_SIZE * p
         least = λ lower h g. h;
       } in
       subst (LeastFrom from pages []) (sym (cond-true _ _ _ f)) r
-  ]
+]
 gap_least (m ∷ more) from pages e a = elim (cases_lt m.start (from + PAGE_SIZE * pages + PAGE_SIZE)) [
-    | inl b ↦
+  | inl b ↦
       let f : nat_le (from + PAGE_SIZE * pages + PAGE_SIZE) m.start ≡ false = grind (arith, nat_tests) in
       let z = a.0.aligned in
       let z' : (end_of m + PAGE_SIZE) % PAGE_SIZE ≡ 0 = omega arith in
       let r : LeastFrom (end_of m + PAGE_SIZE) pages more (gap_from (end_of m + PAGE_SIZE) pages more) = gap_least more (end_of m + PAGE_SIZE) pages z' a.1 in
       subst (LeastFrom from pages (m ∷ more)) (sym (cond-false _ _ _ f)) (after_first m more from pages (gap_from (end_of m + PAGE_SIZE) pages more) a.0.above b r)
-    | inr b ↦
+  | inr b ↦
       let f : nat_le (from + PAGE_SIZE * pages + PAGE_SIZE) m.start ≡ true = grind (arith, nat_tests) in
       subst (LeastFrom from pages (m ∷ more)) (sym (cond-true _ _ _ f)) (before_first m more from pages e a b)
-  ]
+]
 
 -- ---- the least of all page-aligned addresses
 
@@ -192,7 +192,7 @@ starts_found p from (suc n) (suc j) l t h =
     let f : from + PAGE_SIZE + PAGE_SIZE * j ≡ from + PAGE_SIZE * suc j = omega arith in
     cond-false _ _ _ (ap p (sym e) ∙ h 0 (omega arith))
     ∙ starts_found p (from + PAGE_SIZE) n j (omega arith) (ap p f ∙ t)
-      (λ i b. let g : from + PAGE_SIZE + PAGE_SIZE * i ≡ from + PAGE_SIZE * suc i = omega arith in ap p g ∙ h (suc i) (omega arith))
+    (λ i b. let g : from + PAGE_SIZE + PAGE_SIZE * i ≡ from + PAGE_SIZE * suc i = omega arith in ap p g ∙ h (suc i) (omega arith))
     ∙ ap Some f
 
 no_place : (ms : List Mapping) (pages start : ℕ) → (IsPlace ms pages start → ⊥) → is_place ms pages start ≡ false
@@ -209,7 +209,7 @@ least_of_all ms pages n (Some s) e r =
     let q : SECONDARY_START + PAGE_SIZE * j ≡ s = omega arith in
     let t : is_place ms pages s ≡ true = facts-place ms pages s (record { aligned = b; above = a; fits = r.fits }) in
     starts_found (is_place ms pages) SECONDARY_START n j (omega arith) (ap (is_place ms pages) q ∙ t)
-      (λ i l. no_place ms pages (SECONDARY_START + PAGE_SIZE * i) (λ p. let x : s ≤ SECONDARY_START + PAGE_SIZE * i = r.least _ p.above p.fits in omega arith))
+    (λ i l. no_place ms pages (SECONDARY_START + PAGE_SIZE * i) (λ p. let x : s ≤ SECONDARY_START + PAGE_SIZE * i = r.least _ p.above p.fits in omega arith))
     ∙ ap Some q
 
 pub place_of-gap : (ms : List Mapping) (pages : ℕ) → AreMappings ms → gap_from (SECONDARY_START + PAGE_SIZE) pages ms ≡ place_of ms pages
@@ -275,9 +275,9 @@ AreMappings-added ms start pages user a s p first last =
 found_passes : (p : ℕ → Bool) (xs : List ℕ) → IfSome (find p xs) (λ s. p s ≡ true)
 found_passes p [] = tt
 found_passes p (x ∷ xs) = elim (bool_cases (p x)) [
-    | inl t ↦ subst (λ o. IfSome o (λ s. p s ≡ true)) (sym (cond-true _ _ _ t)) t
-    | inr f ↦ subst (λ o. IfSome o (λ s. p s ≡ true)) (sym (cond-false _ _ _ f)) (found_passes p xs)
-  ]
+  | inl t ↦ subst (λ o. IfSome o (λ s. p s ≡ true)) (sym (cond-true _ _ _ t)) t
+  | inr f ↦ subst (λ o. IfSome o (λ s. p s ≡ true)) (sym (cond-false _ _ _ f)) (found_passes p xs)
+]
 
 pub place_of-fits : (ms : List Mapping) (pages : ℕ) (o : Option ℕ) → o ≡ place_of ms pages → IfSome o (λ s. is_place ms pages s ≡ true)
 unfolding place_of

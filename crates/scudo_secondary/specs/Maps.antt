@@ -1,5 +1,5 @@
 -- What the list of mappings in the code is.
-use Rattle.std.specs.Prelude.{◌≡◌, ◌≤◌, vec_len, vec_capacity}
+use Rattle.std.specs.Prelude.{◌≤◌, vec_capacity}
 use Rattle.scudo_secondary.specs.Mappings.{MapsState, AreMappings, pages_of}
 use Rattle.scudo_secondary.specs.declared.maps.Maps.TheInside.{Inside}
 

@@ -8,3 +8,6 @@ mod maps;
 
 pub use mappings::{Mapping, SECONDARY_END, SECONDARY_START};
 pub use maps::Maps;
+
+#[cfg(test)]
+mod tests;

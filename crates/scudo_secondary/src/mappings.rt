@@ -42,7 +42,9 @@ pub(crate) fn insert_in_order(mappings: &mut Vec<Mapping>, mapping: Mapping)
     ensures capacity { vec_capacity mappings.new ≡ vec_capacity mappings.old }
 {
     let start = mapping.start;
-    let i = mappings.as_slice().partition_point(|other| other.start < start);
+    let i = mappings
+        .as_slice()
+        .partition_point(|other| other.start < start);
     let _ = mappings.insert(i, mapping);
 }
 

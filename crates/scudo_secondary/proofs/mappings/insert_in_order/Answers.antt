@@ -12,5 +12,5 @@ returns-clause-items c =
     let point = IsPartitionPoint-from_clause (λ m. ltb m.start c.args.mapping.start) _ _ c.partition_point-i.ensures.partitioned parted (λ a r q k. search rules) in
     c.insert.ensures.items ∙ cond-true _ _ _ (c.insert.ensures.succeeds c.requires.room)
     ∙ inserted c.args.mappings.now.items c.as_slice.result.now c.args.mapping c.partition_point-i.result c.as_slice.ensures.value c.partition_point-i.ensures.bound
-      (λ k d h. ltb-true _ _ (point.0 k d (omega arith) h))
-      (λ k d h l. ltb-false _ _ (point.1 k d h l))
+    (λ k d h. ltb-true _ _ (point.0 k d (omega arith) h))
+    (λ k d h l. ltb-false _ _ (point.1 k d h l))

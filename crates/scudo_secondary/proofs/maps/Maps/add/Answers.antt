@@ -1,4 +1,4 @@
-use Rattle.std.proofs.Common.{◌≡◌, ◌+◌, ◌≤◌, true, arith, sym, subst, ap, ◌∙◌}
+use Rattle.std.proofs.Common.{◌≡◌, ◌+◌, ◌≤◌, true, sym, subst}
 use Rattle.scudo_secondary.specs.Mappings.{MapsState, AreMappings, pages_of, is_place}
 use Rattle.scudo_secondary.proofs.MappingLemmas.{more_room, less_room}
 use Rattle.scudo_secondary.proofs.PlaceLemmas.{AreMappings-added}

@@ -1,5 +1,3 @@
-use Rattle.std.proofs.Common.{◌≡◌, ◌≤◌, ℕ, List, [], sym, subst, arith}
-use Rattle.scudo_secondary.specs.declared.mappings.Mapping.{Mapping}
 use Rattle.scudo_secondary.proofs.MappingLemmas.{none_ordered, none_counted}
 use Rattle.scudo_secondary.proofs.maps.Maps.new.Goals as goal
 
