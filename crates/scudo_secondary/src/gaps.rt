@@ -1,6 +1,6 @@
 //! The search for a place.
 
-ghost use Rattle.std.specs.Prelude.{◌≡◌, ◌+◌, ◌*◌, ◌%◌, ◌<◌, ◌≤◌, nat_le};
+ghost use Rattle.std.specs.Prelude.{◌≡◌, ◌+◌, ◌*◌, ◌<◌, ◌≤◌, nat_le};
 ghost use Rattle.scudo_secondary.specs.Mappings.{AreMappings, place_of};
 
 use crate::mappings::{Mapping, SECONDARY_END, SECONDARY_START};

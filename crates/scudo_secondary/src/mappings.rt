@@ -1,9 +1,10 @@
 //! A list of mappings in the order of their starts.
 
 ghost use Rattle.std.specs.Prelude.{◌≡◌, ◌<◌, IfSome, IfNone, IsSome, None, filter, not, ◌==◌, length, slice_index_or, vec_len, vec_capacity};
+ghost use Rattle.std.specs.Vec.{vec_ptr};
 ghost use Rattle.scudo_secondary.specs.Mappings.{AreMappings, mapping_of, with_mapping};
 
-/// The first address of the range of the mappings.
+/// The first address of the range of the mappings, a place that this project fixes.
 pub const SECONDARY_START: u64 = 0x2000_0000;
 
 /// The end of the range of the mappings.
@@ -34,17 +35,19 @@ pub(crate) fn index_of(mappings: &[Mapping], user: u64) -> Option<usize>
     }
 }
 
-/// Adds a mapping where there is room for it.
+/// Adds a mapping where there is room for it, so that nothing is reallocated.
 pub(crate) fn insert_in_order(mappings: &mut Vec<Mapping>, mapping: Mapping)
     requires mappings { AreMappings mappings.old.items }
     requires room { vec_len mappings.old < vec_capacity mappings.old }
     ensures items { mappings.new.items ≡ with_mapping mappings.old.items mapping }
     ensures capacity { vec_capacity mappings.new ≡ vec_capacity mappings.old }
+    ensures in_place { vec_ptr mappings.new ≡ vec_ptr mappings.old }
 {
     let start = mapping.start;
     let i = mappings
         .as_slice()
         .partition_point(|other| other.start < start);
+    // There is room, so it succeeds.
     let _ = mappings.insert(i, mapping);
 }
 

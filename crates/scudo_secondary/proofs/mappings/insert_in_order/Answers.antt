@@ -14,3 +14,6 @@ returns-clause-items c =
     ∙ inserted c.args.mappings.now.items c.as_slice.result.now c.args.mapping c.partition_point-i.result c.as_slice.ensures.value c.partition_point-i.ensures.bound
     (λ k d h. ltb-true _ _ (point.0 k d (omega arith) h))
     (λ k d h l. ltb-false _ _ (point.1 k d h l))
+
+pub returns-clause-in_place : goal.returns-clause-in_place
+returns-clause-in_place c = (c.insert.ensures.in_place c.requires.room).0
