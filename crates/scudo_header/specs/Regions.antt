@@ -1,0 +1,7 @@
+-- Where the blocks of each size class lie.
+use Rattle.std.specs.Prelude.{ℕ, ◌+◌, ◌*◌}
+use Rattle.scudo_header.specs.declared.regions.TheConstants.{REGIONS_START, REGION_SIZE}
+
+-- The first address of a class's region.
+abbrev pub region_of : ℕ → ℕ
+region_of class = REGIONS_START + class * REGION_SIZE

@@ -1,0 +1,3 @@
+pub mod MappingLemmas
+pub mod PlaceLemmas
+pub mod TestLemmas
