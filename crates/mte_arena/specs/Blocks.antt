@@ -4,7 +4,7 @@
 --     frames_of cs         the blocks as frames
 --     presence cs          which blocks there are
 --     with_part xs i n ws  the block xs, with ws in the place of the n bytes from i on
-use Rattle.std.specs.Prelude.{◌≡◌, ℕ, ◌+◌, ◌/◌, ◌%◌, if◌then◌else◌, nat_eq, Bool, true, false, List, [], ◌∷◌, ◌++◌, length, take, drop, replicate, get_or, Option, Some, None}
+use Rattle.std.specs.Prelude.{◌≡◌, ℕ, ◌+◌, ◌/◌, ◌%◌, if◌then◌else◌, nat_eq, Bool, true, false, List, [], ◌∷◌, ◌++◌, map, length, take, drop, replicate, get_or, Option, Some, None}
 use Rattle.std.specs.List.{refill}
 use Rattle.mte_arena.specs.Frames.{Frame, make_frame}
 
@@ -25,16 +25,14 @@ frame_if (Some xs) = Some (frame_of xs)
 frame_if None = None
 
 abbrev pub frames_of : List (Option (List ℕ)) → List (Option Frame)
-frames_of [] = []
-frames_of (c ∷ cs) = frame_if c ∷ frames_of cs
+frames_of = map frame_if
 
 abbrev pub is_there : Option (List ℕ) → Bool
 is_there (Some xs) = true
 is_there None = false
 
 abbrev pub presence : List (Option (List ℕ)) → List Bool
-presence [] = []
-presence (c ∷ cs) = is_there c ∷ presence cs
+presence = map is_there
 
 -- the block f has been written
 abbrev pub IsPresent : List (Option (List ℕ)) → ℕ → Type 0

@@ -7,7 +7,7 @@ use Rattle.mte_arena.specs.contracts.region.Region.{the_row as R}
 use Rattle.mte_arena.specs.contracts.region.RegionStart.{the_row as S}
 use Rattle.mte_arena.proofs.region.RegionStart.TheLaws.{the_told as start_told}
 use Rattle.mte_arena.proofs.Memory.{frame_seen, long_lit}
-use Rattle.mte_arena.proofs.Present.{within_of}
+use Rattle.mte_arena.proofs.Frames.{within_of}
 use Rattle.mte_arena.specs.contracts.region.Region.block as f
 use Rattle.mte_arena.proofs.region.Region.block.Statement.{statement}
 use Rattle.mte_arena.proofs.region.Region.block.Code as code

@@ -17,7 +17,7 @@ use Rattle.mte_arena.specs.contracts.region.RegionStart.{the_row as S}
 use Rattle.mte_arena.proofs.region.RegionStart.TheLaws.{the_told as start_told}
 use Rattle.mte_arena.proofs.Memory.{others, around, block_bytes, bytes_block, frame_out, frame_in, part_out, part_in, long_lit}
 use Rattle.mte_arena.proofs.Parts.{length-part, with_part-same, length-with_part}
-use Rattle.mte_arena.proofs.Present.{within_of}
+use Rattle.mte_arena.proofs.Frames.{within_of}
 use Rattle.mte_arena.specs.contracts.region.Region.part_mut as f
 use Rattle.mte_arena.proofs.region.Region.part_mut.Statement.{statement}
 use Rattle.mte_arena.proofs.region.Region.part_mut.Code as code

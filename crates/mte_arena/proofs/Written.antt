@@ -1,0 +1,56 @@
+-- An arena of which a part of a frame was written.
+use lib.Seq.{take_at, drop_at}
+use Rattle.std.proofs.lemmas.List.{length-set, map-set, length-append, drop-append-le}
+use Rattle.std.proofs.Common.{◌≡◌, ℕ, zero, suc, ◌+◌, ◌≤◌, List, [], ◌∷◌, ◌++◌, length, take, drop, get_or, slice_set, Option, Some, None, refl, sym, ap, ◌∙◌, arith, length-take, length-drop, append-nil}
+use Rattle.std.specs.List.{refill}
+use Rattle.mte_arena.specs.Blocks.{unpacked, frame_of, frame_if, frames_of, block_or, block_at, with_part, IsPresent, AreBlocks}
+use Rattle.mte_arena.specs.Frames.{Frame, make_frame, frame_at}
+use Rattle.mte_arena.specs.RegionLends.{with_blocks}
+use Rattle.mte_arena.specs.Whole.{IsArena}
+use Rattle.mte_arena.specs.declared.arena.Arena.TheInside.{Inside}
+use Rattle.mte_arena.proofs.Frames.{frame_at-is, presence-written, written_sized}
+use Rattle.mte_arena.proofs.Parts.{length-part, length-refill, refill-same, length-with_part}
+
+pub block_long : (cs : List (Option (List ℕ))) (f : ℕ) → AreBlocks cs → IsPresent cs f → length (block_at cs f) ≡ 4224
+block_long cs f sized there = ap length (ap block_or there.1) ∙ sized f there.0 there.1
+
+pub frame_at-block : (cs : List (Option (List ℕ))) (f : ℕ) → IsPresent cs f → frame_at (frames_of cs) f ≡ frame_of (block_at cs f)
+frame_at-block cs f there = frame_at-is cs f there.0 there.1 ∙ ap frame_of (sym (ap block_or there.1))
+
+pub still_arena : (a : Inside) (f i n : ℕ) (ws : List ℕ) → IsArena a → IsPresent a.region.blocks f → i + n ≤ 4224
+    → IsArena (record a { region = with_blocks a.region (slice_set a.region.blocks f (Some (with_part (block_at a.region.blocks f) i n ws))) })
+still_arena a f i n ws h there within =
+    let cs = a.region.blocks in let new = with_part (block_at cs f) i n ws in let whole = block_long cs f h.sized there in let long = length-set cs f (Some new) in
+    record {
+      start = h.start;
+      right_start = h.right_start;
+      right_count = h.right_count ∙ sym long;
+      right_alloc = h.right_alloc;
+      live = h.live ∙ sym (presence-written cs f there.0 new there.1);
+      sized = written_sized cs f new h.sized (length-with_part (block_at cs f) i n ws (omega (arith, within, whole)) ∙ whole);
+      small = rw long h.small;
+    }
+
+nothing_left : (xs : List ℕ) → length xs ≡ 0 → xs ≡ []
+nothing_left [] e = refl
+nothing_left (x ∷ xs) e = absurd (omega (arith, e))
+
+pub frame_with_data : (xs ws : List ℕ) → length xs ≡ 4224 → frame_of (with_part xs 0 4096 ws) ≡ make_frame (refill 4096 (frame_of xs).bytes ws) (frame_of xs).tags
+frame_with_data xs ws long =
+    let front = refill 4096 (take 4096 xs) ws in let front_long : length front ≡ 4096 = length-refill 4096 (take 4096 xs) ws (omega (arith, long, length-take 4096 xs)) in
+    λ i. make_frame (take_at front (drop 4096 xs) 4096 front_long i) (unpacked (drop_at front (drop 4096 xs) 4096 front_long i))
+
+pub frame_with_tags : (xs ws : List ℕ) → length xs ≡ 4224 → length ws ≡ 128 → frame_of (with_part xs 4096 128 ws) ≡ make_frame (frame_of xs).bytes (unpacked ws)
+frame_with_tags xs ws long count =
+    let front : length (take 4096 xs) ≡ 4096 = omega (arith, long, length-take 4096 xs) in
+    let last : drop 4224 xs ≡ [] = nothing_left (drop 4224 xs) (omega (arith, long, length-drop 4224 xs)) in
+    let tags : refill 128 (take 128 (drop 4096 xs)) ws ++ drop 4224 xs ≡ ws = (λ i. refill-same 128 (take 128 (drop 4096 xs)) ws count i ++ last i) ∙ append-nil ws in
+    let back = refill 128 (take 128 (drop 4096 xs)) ws ++ drop 4224 xs in
+    λ i. make_frame (take_at (take 4096 xs) back 4096 front i) (unpacked ((drop_at (take 4096 xs) back 4096 front ∙ tags) i))
+
+-- the tag bytes of a block are all that is left after its data
+pub tag_bytes : (xs : List ℕ) → length xs ≡ 4224 → take 128 (drop 4096 xs) ≡ drop 4096 xs
+tag_bytes xs long = sym (ap (take 128) (append-nil (drop 4096 xs))) ∙ take_at (drop 4096 xs) [] 128 (omega (arith, long, length-drop 4096 xs))
+
+pub frames_written : (cs : List (Option (List ℕ))) (f : ℕ) (xs : List ℕ) (p : Frame) → frame_of xs ≡ p → frames_of (slice_set cs f (Some xs)) ≡ slice_set (frames_of cs) f (Some p)
+frames_written cs f xs p e = map-set frame_if cs f (Some xs) ∙ ap (λ q. slice_set (frames_of cs) f (Some q)) e
