@@ -48,9 +48,12 @@ frame_with_tags xs ws long count =
     let back = refill 128 (take 128 (drop 4096 xs)) ws ++ drop 4224 xs in
     λ i. make_frame (take_at (take 4096 xs) back 4096 front i) (unpacked ((drop_at (take 4096 xs) back 4096 front ∙ tags) i))
 
+pub taken_whole : (n : ℕ) (xs : List ℕ) → length xs ≡ n → take n xs ≡ xs
+taken_whole n xs long = sym (ap (take n) (append-nil xs)) ∙ take_at xs [] n long
+
 -- the tag bytes of a block are all that is left after its data
 pub tag_bytes : (xs : List ℕ) → length xs ≡ 4224 → take 128 (drop 4096 xs) ≡ drop 4096 xs
-tag_bytes xs long = sym (ap (take 128) (append-nil (drop 4096 xs))) ∙ take_at (drop 4096 xs) [] 128 (omega (arith, long, length-drop 4096 xs))
+tag_bytes xs long = taken_whole 128 (drop 4096 xs) (omega (arith, long, length-drop 4096 xs))
 
 pub frames_written : (cs : List (Option (List ℕ))) (f : ℕ) (xs : List ℕ) (p : Frame) → frame_of xs ≡ p → frames_of (slice_set cs f (Some xs)) ≡ slice_set (frames_of cs) f (Some p)
 frames_written cs f xs p e = map-set frame_if cs f (Some xs) ∙ ap (λ q. slice_set (frames_of cs) f (Some q)) e

@@ -2,10 +2,10 @@
 
 ghost use Rattle.std.specs.Prelude.{◌≡◌, ◌↔◌, ℕ, ◌+◌, ◌<◌, ◌≤◌, List, Option, Some, None, length, replicate, get_or, slice_set, slice_index, IfOk, IsTrue};
 ghost use Rattle.std.specs.Borrow.{sem};
-ghost use Rattle.mte_arena.specs.Frames.{Frame, make_frame, IsLive, AreFrames, frame_at, zero_frame};
-ghost use Rattle.mte_arena.specs.Blocks.{half};
+ghost use Rattle.mte_arena.specs.Frames.{Frame, IsLive, AreFrames, frame_at, retagged, zero_frame};
+ghost use Rattle.mte_arena.specs.Blocks.{half, unpacked};
 
-use crate::region::{FreeingRight, Region, RegionStart, allocate, deallocate};
+use crate::region::{FreeingRight, Region, RegionStart, STRIDE, allocate, deallocate};
 use std::alloc::Global;
 use std::marker::Model;
 
@@ -129,6 +129,20 @@ impl Arena {
         self.region.part_mut(self.start, f, 0, FRAME_BYTES)
     }
 
+    /// Both planes of the frame `f`, which is present: its 4096 bytes, and its tags, two a byte, the even
+    /// granule's in the low half. What the arena holds after such a lend is told by no clause; `data_mut` and
+    /// `set_tag` are for callers that have to know.
+    pub fn planes_mut(&mut self, f: usize) -> (&mut [u8], &mut [u8])
+        requires { IsLive self.old f }
+        ensures bytes { result.0.now ≡ (frame_at self.old f).bytes }
+        ensures tags { unpacked result.1.now ≡ (frame_at self.old f).tags }
+        ensures len { (length result.0.now ≡ FRAME_BYTES) × (length result.1.now ≡ 128) }
+    {
+        self.region
+            .part_mut(self.start, f, 0, STRIDE)
+            .split_at_mut(FRAME_BYTES)
+    }
+
     /// The tag of the granule `g` of the frame `f`, which is present.
     pub fn tag(&self, f: usize, g: usize) -> u8
         requires live { IsLive self.now f }
@@ -146,7 +160,7 @@ impl Arena {
         requires live { IsLive self.old f }
         requires granule { g < FRAME_GRANULES }
         requires tag { tag < 16 }
-        ensures { self.new ≡ slice_set self.old f (Some (make_frame (frame_at self.old f).bytes (slice_set (frame_at self.old f).tags g tag))) }
+        ensures { self.new ≡ retagged self.old f g tag }
     {
         let packed = self
             .region
