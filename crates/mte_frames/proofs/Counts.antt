@@ -1,7 +1,7 @@
 -- How often a number stands in a list, how many frames a quota has out, and sums.
 use Rattle.std.proofs.lemmas.Bool.Decides.{nat_tests}
 use Rattle.std.proofs.lemmas.List.Sums.{sum_by-cons}
-use Rattle.std.specs.Prelude.{if◌then◌else◌, nat_eq, ◌≢◌, sum, get_or, slice_set}
+use Rattle.std.specs.Prelude.{if◌then◌else◌, nat_eq, nat_lt, ◌≢◌, sum, get_or, slice_set}
 use Rattle.std.proofs.Common.{◌≡◌, ℕ, zero, suc, ◌+◌, ◌<◌, ◌≤◌, List, [], ◌∷◌, ◌++◌, length, Option, Some, None, refl, ap, ◌∙◌, arith, replicate, ◌⊎◌, inl, inr}
 use Rattle.mte_frames.specs.Pool.{is_owned, owned_by}
 use Rattle.mte_frames.specs.Whole.{times, vacant}
@@ -99,3 +99,26 @@ some_sum (t ∷ ts) (suc q) h = omega (arith, some_sum ts q h, sum-cons t ts)
 pub all_used : (rs : List ℕ) → ((k : ℕ) → k < length rs → 0 < get_or rs k 0) → length rs ≤ sum rs
 all_used [] h = omega arith
 all_used (r ∷ rs) h = let first : 0 < r = h 0 (omega arith) in omega (arith, first, all_used rs (λ k l. h (suc k) (omega (arith, l))), sum-cons r rs)
+
+-- ---- a pool of which nothing is reserved
+pub below_more : (g f : ℕ) → ◌≡◌ {A = ℕ} ((if nat_lt g f then 1 else 0) + (if nat_eq g f then 1 else 0)) (if nat_lt g (f + 1) then 1 else 0)
+below_more g f = grind (arith, nat_tests)
+
+pub zero_at : (n q : ℕ) → ◌≡◌ {A = ℕ} (get_or (replicate n 0) q 0) 0
+zero_at zero q = refl
+zero_at (suc n) zero = refl
+zero_at (suc n) (suc q) = zero_at n q
+
+pub none_owned : (q n : ℕ) → owned_by q (replicate n None) ≡ 0
+none_owned q zero = refl
+none_owned q (suc n) = omega (arith, none_owned q n)
+
+pub none_at : (n f : ℕ) → ◌≡◌ {A = Option ℕ} (get_or (replicate n None) f None) None
+none_at zero f = refl
+none_at (suc n) zero = refl
+none_at (suc n) (suc f) = none_at n f
+
+pub vacant_at : (n f : ℕ) → ◌≡◌ {A = ℕ} (if nat_lt f n then 1 else 0) (vacant (get_or (replicate n None) f (Some 0)))
+vacant_at zero f = grind (arith, nat_tests)
+vacant_at (suc n) zero = grind (arith, nat_tests)
+vacant_at (suc n) (suc f) = let step : ◌≡◌ {A = ℕ} (if nat_lt (suc f) (suc n) then 1 else 0) (if nat_lt f n then 1 else 0) = grind (arith, nat_tests) in step ∙ vacant_at n f

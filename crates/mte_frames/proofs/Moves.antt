@@ -6,7 +6,7 @@ use Rattle.mte_arena.specs.Frames.{Frame, IsLive, zero_frame}
 use Rattle.mte_frames.specs.Pool.{Pool, make_pool, unreserved, reserved_by, taken_by, IsOut, IsSound, is_owned, owned_by}
 use Rattle.mte_frames.specs.Whole.{times, vacant, pool_of, IsPool}
 use Rattle.mte_frames.specs.declared.pool.FramePool.TheInside.{Inside}
-use Rattle.mte_frames.proofs.Counts.{same_or_not, times-push, once, never, owned_by-set, owned_by-some, self_owned, owner_within, vacant_within, any_default, within_of, sum-set, sum-less, vacant_none}
+use Rattle.mte_frames.proofs.Counts.{same_or_not, times-push, once, never, owned_by-set, owned_by-some, self_owned, owner_within, vacant_within, any_default, within_of, sum-set, sum-less, sum-zeros, vacant_none, zero_at, none_owned, none_at}
 
 pub no_owner : (k : ℕ) → ◌≡◌ {A = Option ℕ} None (Some k) → ⊥
 no_owner k e = cc
@@ -163,3 +163,14 @@ written_pool a f c h = let long = length-set a.arena f (Some c) in record {
 -- a condition on a pool and a quota's number, as one on the fields
 pub of_fields : (P : Pool → ℕ → Type 0) (a : Inside) (p : Pool) (q k : ℕ) → pool_of a ≡ p → k ≡ q → P p q → P (pool_of a) k
 of_fields P a p q k e d h = subst (λ j. P (pool_of a) j) (sym d) (subst (λ x. P x q) (sym e) h)
+
+pub fresh_sound : (fs : List (Option Frame)) → let n : ℕ = length fs in IsSound (make_pool fs (replicate n None) (replicate n 0) (replicate n 0))
+fresh_sound fs = let n = length fs in record {
+  owners_len = length-replicate n None;
+  reserved_len = length-replicate {A = ℕ} n 0;
+  taken_len = length-replicate {A = ℕ} n 0;
+  reserved_all = omega (arith, sum-zeros n);
+  taken_within = λ q. omega (arith, zero_at n q);
+  taken_count = λ q. zero_at n q ∙ sym (none_owned q n);
+  live = λ f q o. absurd (no_owner q (sym (none_at n f) ∙ o));
+}

@@ -2,11 +2,12 @@
 -- each quota has reserved and taken. A quota is known by its number; a number of which nothing is reserved is
 -- no quota's.
 --     unreserved p          how many frames no quota has reserved
+--     with_bytes_at p f ws  p with other bytes in the frame f
 --     IsOut p f q           the frame f is out under the quota q.        IsTaken p f      under some quota
 --     IsSound p             what holds of every pool
 --     KeepsOthers q p n     from p to n all other quotas than q are left alone, and the frames out under them
 use Rattle.std.specs.Prelude.{◌≡◌, ◌≢◌, ◌↔◌, ℕ, ◌+◌, ◌-◌, ◌<◌, ◌≤◌, if◌then◌else◌, nat_eq, List, [], ◌∷◌, length, sum, get_or, Option, Some, None}
-use Rattle.mte_arena.specs.Frames.{Frame, IsLive}
+use Rattle.mte_arena.specs.Frames.{Frame, IsLive, with_bytes}
 
 pub record Pool : Type 0 where
   pub frames : List (Option Frame)
@@ -16,6 +17,10 @@ pub record Pool : Type 0 where
 
 abbrev pub make_pool : List (Option Frame) → List (Option ℕ) → List ℕ → List ℕ → Pool
 make_pool fs os rs ts = record { frames = fs; owners = os; reserved = rs; taken = ts }
+
+-- the frame f with the bytes ws, and all else as it was
+abbrev pub with_bytes_at : Pool → ℕ → List ℕ → Pool
+with_bytes_at p f ws = make_pool (with_bytes p.frames f ws) p.owners p.reserved p.taken
 
 abbrev pub unreserved : Pool → ℕ
 unreserved p = length p.frames - sum p.reserved

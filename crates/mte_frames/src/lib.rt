@@ -3,7 +3,7 @@
 
 mod pool;
 
-pub use pool::{FramePool, NoFrames, OutOfMemory, Quota};
+pub use pool::{FramePool, NoFrames, OutOfMemory, Quota, others_are_kept};
 
 #[cfg(test)]
 mod tests;

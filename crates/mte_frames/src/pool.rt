@@ -3,7 +3,7 @@
 ghost use Rattle.std.specs.Prelude.{◌≡◌, ◌↔◌, ℕ, ◌+◌, ◌-◌, ◌<◌, ◌≤◌, List, Option, Some, None, length, replicate, get_or, slice_set, sum, IfOk, IfErr, IsErr, OnErr, IfSome, vec_capacity};
 ghost use Rattle.std.specs.Borrow.{sem};
 ghost use Rattle.mte_arena.specs.Frames.{frame_at, AreFrames, retagged, zero_frame};
-ghost use Rattle.mte_frames.specs.Pool.{make_pool, unreserved, reserved_by, taken_by, IsOut, IsTaken, IsSound, KeepsOthers};
+ghost use Rattle.mte_frames.specs.Pool.{Pool, make_pool, with_bytes_at, unreserved, reserved_by, taken_by, IsOut, IsTaken, IsSound, KeepsOthers};
 
 use mte_arena::{Arena, FRAME_BYTES, FRAME_GRANULES};
 use std::alloc::{AllocError, Global};
@@ -58,7 +58,7 @@ impl Model for FramePool {
 }
 
 impl FramePool {
-    ghost use Rattle.mte_frames.specs.Lends.{lends_pool_bytes};
+    ghost use Rattle.mte_frames.specs.Lends.{lends_bytes};
 
     /// A pool of the arena's frames, of which none is reserved. Where memory is refused the arena is handed
     /// back as it was.
@@ -67,15 +67,15 @@ impl FramePool {
         ensures err { IfErr result (λ e. e.arena ≡ arena) }
     {
         let frames = arena.frames();
-        let Ok(books) = Books::new(alloc, frames) else {
+        let Ok(lists) = PoolLists::new(alloc, frames) else {
             return Err(OutOfMemory { arena });
         };
-        let Books {
+        let PoolLists {
             free,
             owners,
             reserved,
             taken,
-        } = books;
+        } = lists;
         Ok(FramePool {
             arena,
             free,
@@ -171,7 +171,7 @@ impl FramePool {
     /// The same, to be written. The frame's tags and all other frames stay as they are.
     pub fn data_mut(&mut self, f: usize) -> &mut [u8]
         requires { IsTaken self.old f }
-        ensures* writes_back { sem 𝓛 (lends_pool_bytes self.entry f result) }
+        ensures* writes_back { sem 𝓛 (lends_bytes self.entry f result) }
         ensures value { result.now ≡ (frame_at self.old.frames f).bytes }
         ensures len { length result.now ≡ FRAME_BYTES }
     {
@@ -202,21 +202,31 @@ impl FramePool {
     }
 }
 
+/// What is kept of the other quotas: nothing changes them where nothing is done, what one call after another
+/// keeps both keep, and a lend of a frame that is out under a quota keeps all others. This holds of every pool,
+/// and the call does nothing.
+pub fn others_are_kept()
+    ensures still { (q : ℕ) (p : Pool) → KeepsOthers q p p }
+    ensures on { (q : ℕ) (p n m : Pool) → KeepsOthers q p n → KeepsOthers q n m → KeepsOthers q p m }
+    ensures lent { (q f : ℕ) (ws : List ℕ) (p : Pool) → IsOut p f q → KeepsOthers q p (with_bytes_at p f ws) }
+{
+}
+
 // What a pool keeps beside its arena.
 #[derive(Drop)]
-struct Books {
+struct PoolLists {
     free: Vec<usize>,
     owners: Vec<Option<usize>>,
     reserved: Vec<usize>,
     taken: Vec<usize>,
 }
 
-impl Books {
+impl PoolLists {
     ghost use Rattle.mte_frames.specs.Whole.{times};
     ghost use Rattle.std.specs.Prelude.{if◌then◌else◌, nat_lt};
 
     // All frames free, and nothing reserved.
-    fn new(alloc: Global, frames: usize) -> Result<Books, AllocError>
+    fn new(alloc: Global, frames: usize) -> Result<PoolLists, AllocError>
         ensures free { IfOk result (λ b. (f : ℕ) → times f b.free.items ≡ (if nat_lt f frames then 1 else 0)) }
         ensures count { IfOk result (λ b. (length b.free.items ≡ frames) × (frames ≤ vec_capacity b.free)) }
         ensures others { IfOk result (λ b. (b.owners.items ≡ replicate frames None) × (b.reserved.items ≡ replicate frames 0) × (b.taken.items ≡ replicate frames 0)) }
@@ -228,7 +238,7 @@ impl Books {
         let owners = Vec::from_elem(alloc, None, frames)?;
         let reserved = Vec::from_elem(alloc, 0, frames)?;
         let taken = Vec::from_elem(alloc, 0, frames)?;
-        Ok(Books {
+        Ok(PoolLists {
             free,
             owners,
             reserved,
