@@ -2,7 +2,6 @@
 use denote.Array.{Array, array_val, Array-repeat}
 use denote.Builtin.{u8}
 use denote.Plain.{uint_Makes, uint_copy}
-
 use lib.Dec.{T}
 use mir.Syntax.{ty_array, ty_int, w8}
 use mir.Val.{Val, vint, of_list, has_ty, all_n, WT, WTs}

@@ -162,9 +162,7 @@ impl Arena {
         requires tag { tag < 16 }
         ensures { self.new ≡ retagged self.old f g tag }
     {
-        let packed = self
-            .region
-            .part_mut(self.start, f, FRAME_BYTES, TAG_BYTES);
+        let packed = self.region.part_mut(self.start, f, FRAME_BYTES, TAG_BYTES);
         packed[g / 2] = with_half(packed[g / 2], g, tag);
     }
 }

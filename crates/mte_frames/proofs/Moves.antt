@@ -137,16 +137,32 @@ some_free p q h left = omega (arith, sum-less p.taken p.reserved q h.taken_withi
 pub take_free : (free rest : List ℕ) (os : List (Option ℕ)) (f q : ℕ) → ((g : ℕ) → times g free ≡ vacant (get_or os g (Some 0))) → free ≡ rest ++ f ∷ [] → get_or os f (Some 0) ≡ None
     → (g : ℕ) → times g rest ≡ vacant (get_or (slice_set os f (Some q)) g (Some 0))
 take_free free rest os f q are e was g = let gone = ap (times g) e ∙ times-push g f rest in elim (same_or_not g f) [
-  | inl same ↦ omega (arith, gone, are g, ap (λ j. vacant (get_or os j (Some 0))) same, ap vacant was, once g f same,
-      ap (λ j. vacant (get_or (slice_set os f (Some q)) j (Some 0))) same, ap vacant (get_or-set_same os f (Some q) (Some 0) (vacant_within os f was)))
+  | inl same ↦ omega (
+    arith,
+    gone,
+    are g,
+    ap (λ j. vacant (get_or os j (Some 0))) same,
+    ap vacant was,
+    once g f same,
+    ap (λ j. vacant (get_or (slice_set os f (Some q)) j (Some 0))) same,
+    ap vacant (get_or-set_same os f (Some q) (Some 0) (vacant_within os f was)),
+  )
   | inr d ↦ omega (arith, gone, are g, never g f d, ap vacant (get_or-set_other os f g (Some q) (Some 0) d))
 ]
 
 pub give_free : (free : List ℕ) (os : List (Option ℕ)) (f q : ℕ) → ((g : ℕ) → times g free ≡ vacant (get_or os g (Some 0))) → f < length os → get_or os f (Some 0) ≡ Some q
     → (g : ℕ) → times g (free ++ f ∷ []) ≡ vacant (get_or (slice_set os f None) g (Some 0))
 give_free free os f q are within was g = let more = times-push g f free in elim (same_or_not g f) [
-  | inl same ↦ omega (arith, more, are g, ap (λ j. vacant (get_or os j (Some 0))) same, ap vacant was, once g f same,
-      ap (λ j. vacant (get_or (slice_set os f None) j (Some 0))) same, ap vacant (get_or-set_same os f None (Some 0) within))
+  | inl same ↦ omega (
+    arith,
+    more,
+    are g,
+    ap (λ j. vacant (get_or os j (Some 0))) same,
+    ap vacant was,
+    once g f same,
+    ap (λ j. vacant (get_or (slice_set os f None) j (Some 0))) same,
+    ap vacant (get_or-set_same os f None (Some 0) within),
+  )
   | inr d ↦ omega (arith, more, are g, never g f d, ap vacant (get_or-set_other os f g None (Some 0) d))
 ]
 

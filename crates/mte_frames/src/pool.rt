@@ -1,6 +1,6 @@
 //! Frames are reserved for quotas, and taken and given back under them.
 
-ghost use Rattle.std.specs.Prelude.{◌≡◌, ◌↔◌, ℕ, ◌+◌, ◌-◌, ◌<◌, ◌≤◌, List, Option, Some, None, length, replicate, get_or, slice_set, sum, IfOk, IfErr, IsErr, OnErr, IfSome, vec_capacity};
+ghost use Rattle.std.specs.Prelude.{◌≡◌, ◌↔◌, ℕ, ◌+◌, ◌-◌, ◌<◌, ◌≤◌, List, Option, Some, None, length, replicate, get_or, slice_set, sum, IfOk, IfErr, IsErr, OnErr, IfSome, IsTrue, vec_capacity};
 ghost use Rattle.std.specs.Borrow.{sem};
 ghost use Rattle.mte_arena.specs.Frames.{frame_at, AreFrames, retagged, zero_frame};
 ghost use Rattle.mte_frames.specs.Pool.{Pool, make_pool, with_bytes_at, unreserved, reserved_by, taken_by, IsOut, IsTaken, IsSound, KeepsOthers};
@@ -94,6 +94,36 @@ impl FramePool {
     {
         let _ = &self.free;
         self.arena.frames()
+    }
+
+    /// How many frames the quota has reserved.
+    pub fn reserved(&self, quota: &Quota) -> usize
+        ensures { result ≡ reserved_by self.now quota.now }
+    {
+        match self.reserved.get(quota.number) {
+            Some(count) => *count,
+            None => 0,
+        }
+    }
+
+    /// How many frames are out under the quota.
+    pub fn taken(&self, quota: &Quota) -> usize
+        ensures { result ≡ taken_by self.now quota.now }
+    {
+        match self.taken.get(quota.number) {
+            Some(count) => *count,
+            None => 0,
+        }
+    }
+
+    /// Whether the frame `f` is out under the quota.
+    pub fn is_out(&self, quota: &Quota, f: usize) -> bool
+        ensures { IsTrue result ↔ IsOut self.now f quota.now }
+    {
+        match self.owners.get(f) {
+            Some(Some(number)) => *number == quota.number,
+            _ => false,
+        }
     }
 
     /// Reserves `count` frames for a new quota. It is refused exactly where so many aren't unreserved.
@@ -209,8 +239,7 @@ pub fn others_are_kept()
     ensures still { (q : ℕ) (p : Pool) → KeepsOthers q p p }
     ensures on { (q : ℕ) (p n m : Pool) → KeepsOthers q p n → KeepsOthers q n m → KeepsOthers q p m }
     ensures lent { (q f : ℕ) (ws : List ℕ) (p : Pool) → IsOut p f q → KeepsOthers q p (with_bytes_at p f ws) }
-{
-}
+{}
 
 // What a pool keeps beside its arena.
 #[derive(Drop)]
