@@ -1,10 +1,10 @@
 -- Blocks as frames, one by one.
 use Rattle.std.proofs.Math.ListN.{get_or-map}
 use Rattle.std.proofs.Math.Seq.{map-set_same}
-use Rattle.std.proofs.lemmas.List.{length-map, length-set, take-replicate, map-set}
-use Rattle.std.proofs.Common.{◌≡◌, ℕ, zero, suc, ◌+◌, ◌<◌, ◌≤◌, List, [], ◌∷◌, length, take, drop, get_or, slice_set, slice_index_or, replicate, Option, Some, None, Bool, true, false, IsTrue, ◌↔◌, map, refl, sym, ap, ◌∙◌, subst, arith, length-take, length-drop, get_or-set_same, get_or-set_other, ◌⊎◌, inl, inr}
+use Rattle.std.proofs.lemmas.List.{take-replicate}
+use Rattle.std.proofs.Common.{◌≡◌, ℕ, zero, suc, ◌+◌, ◌<◌, List, [], ◌∷◌, length, drop, get_or, slice_set, slice_index_or, replicate, Option, Some, None, Bool, IsTrue, ◌↔◌, map, refl, sym, ap, ◌∙◌, subst, arith, length-take, length-drop, ◌⊎◌, inl, inr}
 use Rattle.std.specs.Prelude.{◌≢◌}
-use Rattle.mte_arena.specs.Blocks.{unpacked, frame_of, frame_if, frames_of, is_there, presence, block_or, block_at, zero_block, IsPresent, AreBlocks}
+use Rattle.mte_arena.specs.Blocks.{unpacked, frame_of, frame_if, frames_of, is_there, presence, block_or, zero_block, IsPresent, AreBlocks}
 use Rattle.mte_arena.specs.Frames.{Frame, make_frame, IsLive, IsFrame, AreFrames, frame_at, frame_or, zero_frame}
 use Rattle.mte_arena.proofs.Tags.{length-unpacked, unpacked-small, unpacked-zero}
 

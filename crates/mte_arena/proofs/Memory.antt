@@ -10,7 +10,7 @@ use native.Mathlib.Omega.{arith}
 use seplogic.Ra.Ura.{Ura}
 use base.Fraction.{full_share}
 use base.Fml.{Fml, Lft, ftrue, fsep, fat, froom}
-use base.Logic.{ent, sep, guard, guard_i, id⊢, via, snd∗}
+use base.Logic.{ent, sep, guard, guard_i, id⊢, via}
 use borrow.Table.Elements.{at, at_byte, cut_app, join_app}
 use borrow.Table.OneValue.{part_out as value_out}
 use denote.Builtin.{u8}
@@ -20,12 +20,12 @@ use lib.Seq.{drop-drop}
 use mir.Syntax.{Width, int_big, ty_array}
 use mir.Val.{Val, Fits, vint}
 use prog.Wp.{Env}
-use types.Kit.{Item, ‵, ◌⊛◌, some, given, ◌$◌, ◌∵◌, !, qed, by, move, keep, use1, use2, split, pick, rewrite, fsplit, fjoin, done}
+use types.Kit.{Item, ‵, ◌⊛◌, some, ◌$◌, ◌∵◌, !, qed, by, move, keep, use1, use2, split, pick, rewrite, fsplit, fjoin, done}
 use types.Logic.{Logic, sem}
 use types.Run.{Opd}
 use types.SemTy.{cells}
 use Rattle.core.proofs.slice.Relends.{array_out, array_in}
-use Rattle.std.proofs.Common.{◌≡◌, ℕ, zero, suc, ◌+◌, ◌*◌, ◌<◌, ◌≤◌, List, [], ◌∷◌, ◌++◌, length, take, drop, get_or, slice_set, replicate, Option, Some, None, refl, sym, ap, ◌∙◌, subst, length-take, length-drop, length-append}
+use Rattle.std.proofs.Common.{◌≡◌, ℕ, zero, suc, ◌+◌, ◌*◌, ◌<◌, ◌≤◌, List, [], ◌∷◌, ◌++◌, length, take, drop, get_or, slice_set, replicate, Option, Some, None, refl, sym, ap, ◌∙◌, subst, length-take, length-drop}
 use Rattle.mte_arena.specs.Ownership.{Block, frame_owned, frames_owned, frame_shown, frames_shown}
 
 -- the row of frames, but for the frame f

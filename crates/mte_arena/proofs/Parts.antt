@@ -1,5 +1,5 @@
 -- A part of a block of bytes, and what it is replaced by.
-use Rattle.std.proofs.Common.{◌≡◌, ℕ, ◌+◌, ◌≤◌, List, ◌++◌, length, take, drop, refl, ap, ◌∙◌, arith, length-take, length-drop, length-append}
+use Rattle.std.proofs.Common.{◌≡◌, ℕ, ◌+◌, ◌≤◌, List, ◌++◌, length, take, drop, ap, arith, length-take, length-drop, length-append}
 use Rattle.std.specs.List.{refill}
 use Rattle.mte_arena.specs.Blocks.{with_part}
 use lib.Seq.{take_at}

@@ -1,7 +1,7 @@
 -- Two tags a byte: one is read, and one is replaced.
 use Rattle.std.proofs.lemmas.Bool.Decides.{nat_tests}
-use Rattle.std.specs.Prelude.{if◌then◌else◌, nat_eq, ◌≢◌, ◌⊎◌}
-use Rattle.std.proofs.Common.{◌≡◌, ℕ, zero, suc, ◌+◌, ◌*◌, ◌/◌, ◌%◌, ◌<◌, List, [], ◌∷◌, length, get_or, slice_set, replicate, refl, sym, ap, ◌∙◌, inl, inr, arith}
+use Rattle.std.specs.Prelude.{◌≢◌, ◌⊎◌}
+use Rattle.std.proofs.Common.{◌≡◌, ℕ, zero, suc, ◌+◌, ◌*◌, ◌/◌, ◌%◌, ◌<◌, List, [], ◌∷◌, ◌++◌, length, take, drop, get_or, slice_set, replicate, refl, sym, ap, ◌∙◌, inl, inr, arith}
 use Rattle.mte_arena.specs.Blocks.{half, unpacked}
 
 pub length-unpacked : (bs : List ℕ) → length (unpacked bs) ≡ length bs + length bs
@@ -17,6 +17,20 @@ unpacked-small (b ∷ bs) (suc (suc g)) = unpacked-small bs g
 pub unpacked-zero : (n : ℕ) → unpacked (replicate n 0) ≡ replicate (n * 2) 0
 unpacked-zero zero = refl
 unpacked-zero (suc n) = let more : suc n * 2 ≡ suc (suc (n * 2)) = omega arith in ap (λ l. 0 ∷ 0 ∷ l) (unpacked-zero n) ∙ ap (λ k. replicate k 0) (sym more)
+
+pub unpacked-append : (xs ys : List ℕ) → unpacked (xs ++ ys) ≡ unpacked xs ++ unpacked ys
+unpacked-append [] ys = refl
+unpacked-append (x ∷ xs) ys = ap (λ l. x % 16 ∷ x / 16 % 16 ∷ l) (unpacked-append xs ys)
+
+pub unpacked-take : (n : ℕ) (xs : List ℕ) → unpacked (take n xs) ≡ take (n * 2) (unpacked xs)
+unpacked-take zero xs = refl
+unpacked-take (suc n) [] = let more : suc n * 2 ≡ suc (suc (n * 2)) = omega arith in rw more refl
+unpacked-take (suc n) (x ∷ xs) = let more : suc n * 2 ≡ suc (suc (n * 2)) = omega arith in rw more (ap (λ l. x % 16 ∷ x / 16 % 16 ∷ l) (unpacked-take n xs))
+
+pub unpacked-drop : (n : ℕ) (xs : List ℕ) → unpacked (drop n xs) ≡ drop (n * 2) (unpacked xs)
+unpacked-drop zero xs = refl
+unpacked-drop (suc n) [] = let more : suc n * 2 ≡ suc (suc (n * 2)) = omega arith in rw more refl
+unpacked-drop (suc n) (x ∷ xs) = let more : suc n * 2 ≡ suc (suc (n * 2)) = omega arith in rw more (unpacked-drop n xs)
 
 is_even : (g : ℕ) → (g % 2 ≡ 0) ⊎ (g % 2 ≢ 0)
 is_even g = number (g % 2)

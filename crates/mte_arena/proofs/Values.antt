@@ -3,11 +3,9 @@
 --     three_made                a tuple of three
 --     frames_size, frames_align     the layout of n frames
 use base.Logic.{ent, emp, sep}
-use denote.Builtin.{u8}
 use denote.Memory.{lone}
-use denote.Param.{layout}
-use denote.RattleType.{RattleType, Valss, owns}
-use denote.RawPtr.{Ptr, RawPtr, ptr_val, rawptr_pure}
+use denote.RattleType.{RattleType, Valss}
+use denote.RawPtr.{Ptr, ptr_val, rawptr_pure}
 use denote.Shadow.{makes_shadow}
 use denote.Steps.{nothing}
 use denote.Struct.Declared as Declared

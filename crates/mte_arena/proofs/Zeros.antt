@@ -1,13 +1,13 @@
 -- A block of zero bytes, as a machine value. Assumes `Logic`.
-use denote.Array.{Array, array_val, Array-repeat}
+use denote.Array.{array_val, Array-repeat}
 use denote.Builtin.{u8}
 use denote.Plain.{uint_Makes, uint_copy}
 use lib.Dec.{T}
 use mir.Syntax.{ty_array, ty_int, w8}
 use mir.Val.{Val, vint, of_list, has_ty, all_n, WT, WTs}
-use base.Logic.{ent, emp, via}
+use base.Logic.{ent, emp}
 use seplogic.Ra.Ura.{Ura}
-use types.Kit.{‵, ◌$◌, ◌∵◌, !, qed, by, done}
+use types.Kit.{◌$◌, ◌∵◌, !, qed, by}
 use types.Logic.{Logic, sem}
 use denote.Steps.{owned}
 use Rattle.std.proofs.Common.{ℕ, zero, suc, [], ◌∷◌, replicate, refl, lit<}

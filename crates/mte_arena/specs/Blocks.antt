@@ -4,9 +4,9 @@
 --     frames_of cs         the blocks as frames
 --     presence cs          which blocks there are
 --     with_part xs i n ws  the block xs, with ws in the place of the n bytes from i on
-use Rattle.std.specs.Prelude.{◌≡◌, ℕ, ◌+◌, ◌/◌, ◌%◌, if◌then◌else◌, nat_eq, Bool, true, false, List, [], ◌∷◌, ◌++◌, map, length, take, drop, replicate, get_or, Option, Some, None}
+use Rattle.std.specs.Prelude.{◌≡◌, ℕ, ◌+◌, ◌/◌, ◌%◌, if◌then◌else◌, nat_eq, Bool, true, false, List, [], ◌∷◌, ◌++◌, map, length, take, drop, replicate, get_or, slice_set, Option, Some, None}
 use Rattle.std.specs.List.{refill}
-use Rattle.mte_arena.specs.Frames.{Frame, make_frame}
+use Rattle.mte_arena.specs.Frames.{Frame, make_frame, frame_at}
 
 -- the tag that a byte holds for the granule g
 abbrev pub half : ℕ → ℕ → ℕ
@@ -55,3 +55,7 @@ with_part xs i n ws = take i xs ++ (refill n (take n (drop i xs)) ws ++ drop (i 
 -- each block that there is has 4224 bytes
 abbrev pub AreBlocks : List (Option (List ℕ)) → Type 0
 AreBlocks cs = (f : ℕ) (xs : List ℕ) → get_or cs f None ≡ Some xs → length xs ≡ 4224
+
+-- the frame f has the bytes and the tags of the block ws, cut or filled up from its own, and all else is as it was
+abbrev pub with_block : List (Option Frame) → ℕ → List ℕ → List (Option Frame)
+with_block fs f ws = slice_set fs f (Some (make_frame (refill 4096 (frame_at fs f).bytes ws) (refill 256 (frame_at fs f).tags (unpacked (drop 4096 ws)))))

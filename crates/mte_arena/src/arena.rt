@@ -3,9 +3,9 @@
 ghost use Rattle.std.specs.Prelude.{◌≡◌, ◌↔◌, ℕ, ◌+◌, ◌<◌, ◌≤◌, List, Option, Some, None, length, replicate, get_or, slice_set, slice_index, IfOk, IsTrue};
 ghost use Rattle.std.specs.Borrow.{sem};
 ghost use Rattle.mte_arena.specs.Frames.{Frame, IsLive, AreFrames, frame_at, retagged, zero_frame};
-ghost use Rattle.mte_arena.specs.Blocks.{half, unpacked};
+ghost use Rattle.mte_arena.specs.Blocks.{half, unpacked, frame_of};
 
-use crate::region::{FreeingRight, Region, RegionStart, STRIDE, allocate, deallocate};
+use crate::region::{FreeingRight, Region, RegionStart, allocate, deallocate};
 use std::alloc::Global;
 use std::marker::Model;
 
@@ -15,7 +15,9 @@ pub const FRAME_BYTES: usize = 4096;
 /// The granules of a frame, of 16 bytes each.
 pub const FRAME_GRANULES: usize = 256;
 
-// Two tags a byte.
+/// The bytes of a frame and of its tags, two a byte.
+pub const BLOCK_BYTES: usize = 4224;
+
 const TAG_BYTES: usize = 128;
 
 /// The most frames that an arena has.
@@ -56,7 +58,7 @@ impl Model for Arena {
 }
 
 impl Arena {
-    ghost use Rattle.mte_arena.specs.FrameLends.{lends_bytes};
+    ghost use Rattle.mte_arena.specs.FrameLends.{lends_bytes, lends_block};
     ghost use Rattle.mte_arena.specs.declared.arena.ArenaError.TheVariants.{OutOfMemory, BadCount};
     ghost use Rattle.std.specs.Prelude.{Err, ◌⊎◌};
 
@@ -64,7 +66,7 @@ impl Arena {
     /// `OutOfMemory` comes only where an allocation was refused.
     pub fn new(alloc: Global, frames: usize) -> Result<Arena, ArenaError>
         ensures ok { IfOk result (λ a. a ≡ replicate frames None) }
-        ensures bad_count { (result ≡ Err BadCount) ↔ ((frames ≡ 0) ⊎ (65536 < frames)) }
+        ensures bad_count { (result ≡ Err BadCount) ↔ ((frames ≡ 0) ⊎ (MAX_FRAMES < frames)) }
     {
         if frames == 0 || frames > MAX_FRAMES {
             return Err(ArenaError::BadCount);
@@ -129,18 +131,26 @@ impl Arena {
         self.region.part_mut(self.start, f, 0, FRAME_BYTES)
     }
 
-    /// Both planes of the frame `f`, which is present: its 4096 bytes, and its tags, two a byte, the even
-    /// granule's in the low half. What the arena holds after such a lend is told by no clause; `data_mut` and
-    /// `set_tag` are for callers that have to know.
+    /// Both planes of the frame `f`, which is present, in one lend: its 4096 bytes, and then 128 bytes with two
+    /// tags each, the even granule's in the low half. All other frames stay as they are.
+    pub fn block_mut(&mut self, f: usize) -> &mut [u8]
+        requires { IsLive self.old f }
+        ensures* writes_back { sem 𝓛 (lends_block self.entry f result) }
+        ensures value { frame_of result.now ≡ frame_at self.old f }
+        ensures len { length result.now ≡ BLOCK_BYTES }
+    {
+        self.region.part_mut(self.start, f, 0, BLOCK_BYTES)
+    }
+
+    /// The same in two. What the arena holds after such a lend is told by no clause; `block_mut`, `data_mut`
+    /// and `set_tag` are for callers that have to know.
     pub fn planes_mut(&mut self, f: usize) -> (&mut [u8], &mut [u8])
         requires { IsLive self.old f }
         ensures bytes { result.0.now ≡ (frame_at self.old f).bytes }
         ensures tags { unpacked result.1.now ≡ (frame_at self.old f).tags }
         ensures len { (length result.0.now ≡ FRAME_BYTES) × (length result.1.now ≡ 128) }
     {
-        self.region
-            .part_mut(self.start, f, 0, STRIDE)
-            .split_at_mut(FRAME_BYTES)
+        self.block_mut(f).split_at_mut(FRAME_BYTES)
     }
 
     /// The tag of the granule `g` of the frame `f`, which is present.

@@ -5,7 +5,7 @@
 mod arena;
 mod region;
 
-pub use arena::{Arena, ArenaError, FRAME_BYTES, FRAME_GRANULES, MAX_FRAMES};
+pub use arena::{Arena, ArenaError, BLOCK_BYTES, FRAME_BYTES, FRAME_GRANULES, MAX_FRAMES};
 
 #[cfg(test)]
 mod tests;

@@ -2,7 +2,7 @@
 //!
 //! Each function here is a line or two and is proved by hand; all else is safe code over them.
 
-ghost use Rattle.std.specs.Prelude.{◌≡◌, ℕ, ◌+◌, ◌<◌, ◌≤◌, List, Option, Some, None, length, take, drop, replicate, get_or, slice_set, IfOk, ⊤};
+ghost use Rattle.std.specs.Prelude.{◌≡◌, ℕ, ◌+◌, ◌*◌, ◌^◌, ◌<◌, ◌≤◌, List, Option, Some, None, length, take, drop, replicate, get_or, slice_set, IfOk, ⊤};
 ghost use Rattle.std.specs.Borrow.{sem};
 ghost use base.Fml.{ftrue};
 ghost use denote.RawPtr.{Ptr};
@@ -65,7 +65,7 @@ pub(crate) fn allocate<A: Allocator>(
     alloc: &A,
     count: usize,
 ) -> Result<(RegionStart, Region, FreeingRight<A>), AllocError>
-    requires { count ≤ 65536 }
+    requires { count * STRIDE < 2 ^ 63 }
     ensures { IfOk result (λ r. (r.1.start ≡ r.0.pointer) × (r.1.blocks ≡ replicate count None) × (r.2.start ≡ r.0.pointer) × (r.2.count ≡ count) × (r.2.alloc ≡ alloc.now)) }
 {
     match alloc.allocate(count * STRIDE, 1) {

@@ -55,6 +55,15 @@ fn write_planes(arena: &mut Arena, f: usize) {
     }
 }
 
+fn write_block(arena: &mut Arena, f: usize) {
+    if is_there(arena, f) {
+        let block = arena.block_mut(f);
+        block[4095] = 7;
+        block[4096] = 0x21;
+        block[4223] = 0x43;
+    }
+}
+
 fn is_zero(arena: &Arena, f: usize) -> bool {
     for i in 0..4096 {
         if byte_at(arena, f, i) != Some(0) {
@@ -118,14 +127,18 @@ fn frames_are_apart(rt: HostRuntime) -> Result<(), Fail> {
 
 #[test]
 fn both_planes_at_once(rt: HostRuntime) -> Result<(), Fail> {
-    let mut arena = arena_of(&rt, 2)?;
+    let mut arena = arena_of(&rt, 3)?;
     clear(&mut arena, 0);
     clear(&mut arena, 1);
+    clear(&mut arena, 2);
     write_planes(&mut arena, 0);
-    assert_eq!(rt; byte_at(&arena, 0, 4094), Some(0));
-    assert_eq!(rt; byte_at(&arena, 0, 4095), Some(7));
-    for (g, tag) in [(0, 1), (1, 2), (2, 0), (253, 0), (254, 3), (255, 4)] {
-        assert_eq!(rt; tag_at(&arena, 0, g), Some(tag), "granule {g}");
+    write_block(&mut arena, 2);
+    for f in [0, 2] {
+        assert_eq!(rt; byte_at(&arena, f, 4094), Some(0));
+        assert_eq!(rt; byte_at(&arena, f, 4095), Some(7));
+        for (g, tag) in [(0, 1), (1, 2), (2, 0), (253, 0), (254, 3), (255, 4)] {
+            assert_eq!(rt; tag_at(&arena, f, g), Some(tag), "granule {g}");
+        }
     }
     assert!(rt; is_zero(&arena, 1));
     Ok(())

@@ -1,7 +1,7 @@
 -- The laws of `KeepsOthers`: a pool keeps all quotas of itself, one step after another keeps what both keep,
 -- and a write of one frame, of one owner or of one quota's counts is such a step.
 use Rattle.std.specs.Prelude.{◌≢◌}
-use Rattle.std.proofs.Common.{◌≡◌, ◌↔◌, ℕ, ◌<◌, List, length, get_or, slice_set, Option, Some, None, refl, sym, ap, ◌∙◌, inl, inr, get_or-set_same, get_or-set_other}
+use Rattle.std.proofs.Common.{◌≡◌, ℕ, ◌<◌, List, length, get_or, slice_set, Option, Some, None, refl, sym, ap, ◌∙◌, inl, inr, get_or-set_same, get_or-set_other}
 use Rattle.mte_arena.specs.Frames.{Frame}
 use Rattle.mte_frames.specs.Pool.{Pool, make_pool, IsOut, KeepsOthers}
 use Rattle.mte_frames.proofs.Counts.{same_or_not, any_default}

@@ -1,6 +1,6 @@
 -- A pool stays sound where a quota comes or goes, and where a frame is taken, given back or written.
-use Rattle.std.proofs.lemmas.List.{length-set, length-replicate, length-append}
-use Rattle.std.specs.Prelude.{if◌then◌else◌, nat_eq, nat_lt, ◌≢◌, sum, get_or, slice_set}
+use Rattle.std.proofs.lemmas.List.{length-set, length-replicate}
+use Rattle.std.specs.Prelude.{◌≢◌, sum, get_or, slice_set}
 use Rattle.std.proofs.Common.{◌≡◌, ℕ, zero, suc, ◌+◌, ◌-◌, ◌<◌, ◌≤◌, List, [], ◌∷◌, ◌++◌, length, replicate, Option, Some, None, refl, sym, ap, ◌∙◌, subst, arith, inl, inr, get_or-set_same, get_or-set_other}
 use Rattle.mte_arena.specs.Frames.{Frame, IsLive, zero_frame}
 use Rattle.mte_frames.specs.Pool.{Pool, make_pool, unreserved, reserved_by, taken_by, IsOut, IsSound, is_owned, owned_by}

@@ -2,11 +2,12 @@
 -- each quota has reserved and taken. A quota is known by its number; a number of which nothing is reserved is
 -- no quota's.
 --     unreserved p          how many frames no quota has reserved
---     with_bytes_at p f ws  p with other bytes in the frame f
+--     with_bytes_at p f ws  p with other bytes in the frame f.        with_block_at p f ws      with other bytes and tags
 --     IsOut p f q           the frame f is out under the quota q.        IsTaken p f      under some quota
 --     IsSound p             what holds of every pool
 --     KeepsOthers q p n     from p to n all other quotas than q are left alone, and the frames out under them
-use Rattle.std.specs.Prelude.{◌≡◌, ◌≢◌, ◌↔◌, ℕ, ◌+◌, ◌-◌, ◌<◌, ◌≤◌, if◌then◌else◌, nat_eq, List, [], ◌∷◌, length, sum, get_or, Option, Some, None}
+use Rattle.std.specs.Prelude.{◌≡◌, ◌≢◌, ◌↔◌, ℕ, ◌+◌, ◌-◌, ◌≤◌, if◌then◌else◌, nat_eq, List, [], ◌∷◌, length, sum, get_or, Option, Some, None}
+use Rattle.mte_arena.specs.Blocks.{with_block}
 use Rattle.mte_arena.specs.Frames.{Frame, IsLive, with_bytes}
 
 pub record Pool : Type 0 where
@@ -21,6 +22,10 @@ make_pool fs os rs ts = record { frames = fs; owners = os; reserved = rs; taken 
 -- the frame f with the bytes ws, and all else as it was
 abbrev pub with_bytes_at : Pool → ℕ → List ℕ → Pool
 with_bytes_at p f ws = make_pool (with_bytes p.frames f ws) p.owners p.reserved p.taken
+
+-- the frame f with the bytes and tags of the block ws
+abbrev pub with_block_at : Pool → ℕ → List ℕ → Pool
+with_block_at p f ws = make_pool (with_block p.frames f ws) p.owners p.reserved p.taken
 
 abbrev pub unreserved : Pool → ℕ
 unreserved p = length p.frames - sum p.reserved

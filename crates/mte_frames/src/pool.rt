@@ -3,9 +3,10 @@
 ghost use Rattle.std.specs.Prelude.{◌≡◌, ◌↔◌, ℕ, ◌+◌, ◌-◌, ◌<◌, ◌≤◌, List, Option, Some, None, length, replicate, get_or, slice_set, sum, IfOk, IfErr, IsErr, OnErr, IfSome, IsTrue, vec_capacity};
 ghost use Rattle.std.specs.Borrow.{sem};
 ghost use Rattle.mte_arena.specs.Frames.{frame_at, AreFrames, retagged, zero_frame};
-ghost use Rattle.mte_frames.specs.Pool.{Pool, make_pool, with_bytes_at, unreserved, reserved_by, taken_by, IsOut, IsTaken, IsSound, KeepsOthers};
+ghost use Rattle.mte_arena.specs.Blocks.{frame_of, unpacked};
+ghost use Rattle.mte_frames.specs.Pool.{Pool, make_pool, with_bytes_at, with_block_at, unreserved, reserved_by, taken_by, IsOut, IsTaken, IsSound, KeepsOthers};
 
-use mte_arena::{Arena, FRAME_BYTES, FRAME_GRANULES};
+use mte_arena::{Arena, BLOCK_BYTES, FRAME_BYTES, FRAME_GRANULES};
 use std::alloc::{AllocError, Global};
 use std::marker::Model;
 
@@ -58,7 +59,7 @@ impl Model for FramePool {
 }
 
 impl FramePool {
-    ghost use Rattle.mte_frames.specs.Lends.{lends_bytes};
+    ghost use Rattle.mte_frames.specs.Lends.{lends_bytes, lends_block};
 
     /// A pool of the arena's frames, of which none is reserved. Where memory is refused the arena is handed
     /// back as it was.
@@ -208,6 +209,28 @@ impl FramePool {
         self.arena.data_mut(f)
     }
 
+    /// Both planes of the frame `f`, which is out, in one lend: its 4096 bytes, and then 128 bytes with two tags
+    /// each, the even granule's in the low half. All other frames stay as they are.
+    pub fn block_mut(&mut self, f: usize) -> &mut [u8]
+        requires { IsTaken self.old f }
+        ensures* writes_back { sem 𝓛 (lends_block self.entry f result) }
+        ensures value { frame_of result.now ≡ frame_at self.old.frames f }
+        ensures len { length result.now ≡ BLOCK_BYTES }
+    {
+        self.arena.block_mut(f)
+    }
+
+    /// The same in two. What the pool holds after such a lend is told by no clause; `block_mut`, `data_mut` and
+    /// `set_tag` are for callers that have to know.
+    pub fn planes_mut(&mut self, f: usize) -> (&mut [u8], &mut [u8])
+        requires { IsTaken self.old f }
+        ensures bytes { result.0.now ≡ (frame_at self.old.frames f).bytes }
+        ensures tags { unpacked result.1.now ≡ (frame_at self.old.frames f).tags }
+        ensures len { (length result.0.now ≡ FRAME_BYTES) × (length result.1.now ≡ 128) }
+    {
+        self.block_mut(f).split_at_mut(FRAME_BYTES)
+    }
+
     /// The tag of the granule `g` of the frame `f`, which is out.
     pub fn tag(&self, f: usize, g: usize) -> u8
         requires out { IsTaken self.now f }
@@ -238,7 +261,7 @@ impl FramePool {
 pub fn others_are_kept()
     ensures still { (q : ℕ) (p : Pool) → KeepsOthers q p p }
     ensures on { (q : ℕ) (p n m : Pool) → KeepsOthers q p n → KeepsOthers q n m → KeepsOthers q p m }
-    ensures lent { (q f : ℕ) (ws : List ℕ) (p : Pool) → IsOut p f q → KeepsOthers q p (with_bytes_at p f ws) }
+    ensures lent { (q f : ℕ) (ws : List ℕ) (p : Pool) → IsOut p f q → KeepsOthers q p (with_bytes_at p f ws) × KeepsOthers q p (with_block_at p f ws) }
 {}
 
 // What a pool keeps beside its arena.

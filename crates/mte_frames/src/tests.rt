@@ -54,6 +54,22 @@ fn mark(pool: &mut FramePool, quota: &Quota, f: usize, g: usize, tag: u8) {
     }
 }
 
+fn write_block(pool: &mut FramePool, quota: &Quota, f: usize) {
+    if pool.is_out(quota, f) {
+        let block = pool.block_mut(f);
+        block[0] = 7;
+        block[4096] = 0x21;
+    }
+}
+
+fn write_planes(pool: &mut FramePool, quota: &Quota, f: usize) {
+    if pool.is_out(quota, f) {
+        let (bytes, tags) = pool.planes_mut(f);
+        bytes[4095] = 8;
+        tags[127] = 0x43;
+    }
+}
+
 fn byte_at(pool: &FramePool, quota: &Quota, f: usize, i: usize) -> Option<u8> {
     if pool.is_out(quota, f) && i < 4096 {
         Some(pool.bytes(f)[i])
@@ -209,5 +225,26 @@ fn a_thousand_rounds(rt: HostRuntime) -> Result<(), Fail> {
             "round {round}"
         );
     }
+    Ok(())
+}
+
+#[test]
+fn both_planes_at_once(rt: HostRuntime) -> Result<(), Fail> {
+    let mut pool = pool_of(rt.alloc(), 2)?;
+    let Ok(mut quota) = reserve(&mut pool, 2) else {
+        return Err(Fail::new("a quota is refused"));
+    };
+    let (Some(f), Some(g)) = (take(&mut pool, &mut quota), take(&mut pool, &mut quota)) else {
+        return Err(Fail::new("a frame is missing"));
+    };
+    write_block(&mut pool, &quota, f);
+    write_planes(&mut pool, &quota, f);
+    for (at, byte) in [(0, 7), (1, 0), (4094, 0), (4095, 8)] {
+        assert_eq!(rt; byte_at(&pool, &quota, f, at), Some(byte), "byte {at}");
+    }
+    for (at, tag) in [(0, 1), (1, 2), (2, 0), (254, 3), (255, 4)] {
+        assert_eq!(rt; tag_at(&pool, &quota, f, at), Some(tag), "granule {at}");
+    }
+    assert!(rt; is_all(&pool, &quota, g, 0, 0));
     Ok(())
 }

@@ -1,5 +1,5 @@
 -- `allocate` takes memory for absent frames, and keeps the right to free it. Assumes `Logic`.
-use Rattle.mte_arena.proofs.Steps.{arith, full_share, ftrue, flft, id⊢, fact, tables, usize, yes, lone, uint_vals, uint_Tells, owns, Ptr, block_ptr, ShrRef, shr_vals, shr_Tells, plain, nothing, heard, owned, Stays, stay_dropped, walk_of, says, ends_at, Goes-dropped, named, w64, Val, vptr, vint, vstruct, vcons, vnil, alloc_all, pass_all, free_all, look_at, get, get_in, sets, sets_last, env, Item, ‵, raw, ◌⊛◌, later, at_ret, ◌$◌, ◌∵◌, !, qed, move, keep, skip, use0, use1, use2, use3, split, join, rewrite, fsplit, fjoin, feq_l, flt_i, await, suffices, frame, done, whole, agg, enter, of_opd, lit, bin, stop, fld, and_then, no_more, first, exec, returns, proved, lit<, ◌≡◌, ℕ, ◌+◌, ◌*◌, ◌^◌, ◌<◌, ◌≤◌, List, [], ◌∷◌, length, replicate, None, refl, sym, ap, ◌∙◌, subst, word-Good}
+use Rattle.mte_arena.proofs.Steps.{arith, ftrue, flft, fact, tables, usize, yes, lone, uint_vals, uint_Tells, owns, Ptr, block_ptr, ShrRef, shr_vals, shr_Tells, plain, nothing, heard, owned, Stays, stay_dropped, walk_of, says, ends_at, Goes-dropped, named, w64, Val, vstruct, vcons, vnil, alloc_all, pass_all, free_all, look_at, get, get_in, sets, sets_last, env, ‵, raw, ◌⊛◌, later, at_ret, ◌$◌, ◌∵◌, !, qed, move, keep, skip, use0, use1, use2, use3, split, join, fsplit, fjoin, flt_i, await, suffices, frame, done, whole, agg, enter, of_opd, lit, bin, stop, fld, and_then, no_more, first, exec, returns, proved, lit<, ℕ, ◌*◌, ◌^◌, ◌<◌, List, [], ◌∷◌, length, replicate, None, refl, sym, subst, word-Good}
 use contract.BorrowLft.{◌⊑◌}
 use base.Fml.{Incl-trans}
 use denote.Builtin.{RefOf}
@@ -76,7 +76,7 @@ allocate_spec 𝓤 𝓛 𝓜 𝓡 wired W LW g d dd met md =
     (λ κs qs bounds a _ are.
     let κ = κs.0 in let q = qs.0 in let h = a.0.now in let rb = a.0.ref_ptr.0 in let ro = a.0.ref_ptr.1 in let count = a.1.0 in
     let y : Wk.Ghost = ((κs, qs, bounds, a, (shr_vals a.0, (uint_vals w64 count, tt))), tt) in
-    qed 𝓛 (((‵ (flft κ q) ⊛ (‵ (flft κs.1.0 qs.1.0) ⊛ ‵ ftrue)) ⊛ ‵ (owns (ShrRef (named 0) κ (P Z) ∷ usize ∷ []) a y.0.4)) ∷ (raw (fact 𝓤 (κs.1.0 ⊑ W.lives)) ⊛ raw (fact 𝓤 (count ≤ 65536))) ∷ []) ∵
+    qed 𝓛 (((‵ (flft κ q) ⊛ (‵ (flft κs.1.0 qs.1.0) ⊛ ‵ ftrue)) ⊛ ‵ (owns (ShrRef (named 0) κ (P Z) ∷ usize ∷ []) a y.0.4)) ∷ (raw (fact 𝓤 (κs.1.0 ⊑ W.lives)) ⊛ raw (fact 𝓤 (count * 4224 < 2 ^ 63))) ∷ []) ∵
     split ! $ split ! $ move ! (3 ∷ []) $ split ! $ heard ! _ (λ alive. heard ! _ (λ asked. move ! (2 ∷ []) $ fsplit ! $ keep ! (0 ∷ 2 ∷ 3 ∷ []) $ fsplit ! $ skip ! $
     -- [a `&` to the allocator; the token; that of the allocator's lifetime]
     let small : count * 4224 < 2 ^ 63 = omega (arith, asked) in let fits : count * 4224 < 2 ^ 64 = omega (arith, asked) in

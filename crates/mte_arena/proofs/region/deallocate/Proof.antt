@@ -1,5 +1,5 @@
 -- `deallocate` empties each frame and gives the memory back with the allocator's token. Assumes `Logic`.
-use Rattle.mte_arena.proofs.Steps.{arith, full_share, ftrue, fat, flft, never, id⊢, fact, tables, usize, yes, no, lone, layout, uint_vals, uint_Tells, owns, Ptr, block_ptr, in_a_block, ShrRef, shr_vals, shr_Tells, plain, nothing, heard, Stays, stay_dropped, walk_of, ends_at, Goes-dropped, named, w64, Val, vptr, vint, vunit, alloc_all, pass_all, free_all, look_at, get, get_in, sets, take_at, give_at, env, ‵, raw, ◌⊛◌, given, later, at_ret, ◌$◌, ◌∵◌, !, qed, move, keep, skip, use1, split, join, group, rewrite, fsplit, fjoin, feq_i, flt_l, learn, await, suffices, done, whole, sub, enter, of_opd, lit, unit_lit, bin, stop, fld, and_then, no_more, first, blocks, exec, returns, proved, lit<, ◌≡◌, ℕ, ◌+◌, ◌*◌, ◌^◌, ◌<◌, ◌≤◌, List, [], ◌∷◌, length, refl, sym, ap, ◌∙◌, subst, word-Good}
+use Rattle.mte_arena.proofs.Steps.{arith, full_share, ftrue, fat, flft, never, id⊢, fact, tables, usize, yes, no, lone, layout, uint_vals, uint_Tells, owns, Ptr, in_a_block, ShrRef, shr_vals, shr_Tells, plain, nothing, heard, Stays, stay_dropped, walk_of, ends_at, Goes-dropped, named, w64, Val, vunit, alloc_all, pass_all, free_all, look_at, get, get_in, sets, take_at, give_at, env, ‵, raw, ◌⊛◌, given, later, at_ret, ◌$◌, ◌∵◌, !, qed, move, keep, skip, use1, split, join, group, rewrite, fsplit, fjoin, feq_i, flt_l, learn, await, suffices, done, whole, sub, enter, of_opd, lit, unit_lit, bin, stop, fld, and_then, no_more, first, blocks, exec, returns, proved, lit<, ◌≡◌, ℕ, ◌*◌, ◌^◌, ◌<◌, List, [], ◌∷◌, length, refl, sym, ◌∙◌, subst, word-Good}
 use contract.BorrowLft.{◌⊑◌}
 use base.Fml.{Incl-trans, froom}
 use denote.Builtin.{RefOf}

@@ -1,7 +1,7 @@
-use Rattle.std.proofs.Common.{refl, sym, ap, ◌∙◌, arith}
+use Rattle.std.proofs.Common.{refl, sym, arith}
 use Rattle.std.specs.List.{refill}
 use Rattle.mte_arena.specs.Blocks.{block_at, frame_of, with_part}
-use Rattle.mte_arena.specs.Frames.{Frame, make_frame}
+use Rattle.mte_arena.specs.Frames.{make_frame}
 use Rattle.mte_arena.proofs.Frames.{present}
 use Rattle.mte_arena.proofs.Written.{block_long, frame_at-block, still_arena, frame_with_data, frames_written}
 use Rattle.mte_arena.proofs.arena.Arena.data_mut.Goals as goal

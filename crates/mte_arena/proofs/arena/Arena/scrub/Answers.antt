@@ -1,6 +1,6 @@
 use Rattle.std.proofs.Common.{ℕ, sym, ap, ◌∙◌, length, arith, Some, true, slice_set}
 use Rattle.std.proofs.lemmas.List.{length-map, length-set, length-replicate, map-set}
-use Rattle.mte_arena.specs.Blocks.{frame_if, frames_of, is_there, presence, zero_block, AreBlocks}
+use Rattle.mte_arena.specs.Blocks.{frame_if, frames_of, is_there, presence, zero_block}
 use Rattle.mte_arena.proofs.Frames.{written_sized, frame_of-zero}
 use Rattle.mte_arena.proofs.arena.Arena.scrub.Goals as goal
 
@@ -22,7 +22,6 @@ invariant_of-self c = let i = c.self.invariant in let cs = c.self.inside.region.
       right_alloc = i.right_alloc;
       live = ap (λ l. slice_set l f true) i.live ∙ sym (ap presence e.1 ∙ map-set is_there cs f (Some zero_block));
       sized = rw e.1 (written_sized cs f zero_block i.sized (length-replicate {A = ℕ} 4224 0));
-      small = rw long i.small;
     }
 
 pub returns : goal.returns

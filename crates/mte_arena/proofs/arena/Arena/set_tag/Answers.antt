@@ -1,7 +1,7 @@
-use Rattle.std.proofs.Common.{ℕ, ◌/◌, sym, ap, ◌∙◌, length, take, drop, arith, Some, slice_set}
+use Rattle.std.proofs.Common.{◌/◌, sym, ap, ◌∙◌, arith, slice_set}
 use Rattle.std.proofs.lemmas.List.{length-set}
 use Rattle.mte_arena.specs.Blocks.{unpacked, block_at, frame_of, with_part}
-use Rattle.mte_arena.specs.Frames.{Frame, make_frame}
+use Rattle.mte_arena.specs.Frames.{make_frame}
 use Rattle.mte_arena.proofs.Frames.{present}
 use Rattle.mte_arena.proofs.Tags.{tag_set}
 use Rattle.mte_arena.proofs.Written.{block_long, frame_at-block, still_arena, frame_with_tags, frames_written, tag_bytes}

@@ -1,4 +1,4 @@
-use Rattle.std.proofs.Common.{◌≡◌, ℕ, ◌+◌, ◌/◌, sym, ap, ◌∙◌, arith, get_or, get_or-drop, drop, length, length-drop}
+use Rattle.std.proofs.Common.{◌/◌, sym, ap, ◌∙◌, arith, get_or, get_or-drop, drop, length-drop}
 use Rattle.mte_arena.specs.Blocks.{half}
 use Rattle.mte_arena.specs.Frames.{Frame}
 use Rattle.mte_arena.proofs.Frames.{present, frame_at-is}

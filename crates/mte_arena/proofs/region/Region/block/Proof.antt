@@ -1,8 +1,8 @@
 -- `block` shows a frame's bytes through a `&`. Assumes `Logic`.
-use Rattle.mte_arena.proofs.Steps.{arith, full_share, ftrue, fat, flft, never, id⊢, fact, tables, u8, usize, yes, layout, uint_vals, uint_Tells, owns, Ptr, block_ptr, in_a_block, ShrRef, shr_vals, shr_Tells, plain, hide, unhide, ShrSlice, slice_val, elements_shared, shared_of, hidden_shr, nothing, heard, Stays, stay_dropped, walk_of, ends_at, Goes-dropped, named, w64, Val, vptr, alloc_all, pass_all, free_all, look_at, get, get_in, sets, sets_last, take_at, give_at, env, ‵, raw, ◌⊛◌, at_ret, ◌$◌, ◌∵◌, !, qed, move, keep, skip, use1, split, join, rewrite, fsplit, fjoin, feq_l, feq_i, flt_l, flt_i, suffices, frame, done, whole, sub, agg, enter, of_opd, bin, stop, fld, and_then, no_more, first, blocks, exec, returns, proved, lit<, ◌≡◌, ℕ, ◌+◌, ◌*◌, ◌^◌, ◌<◌, List, [], ◌∷◌, length, get_or, Option, Some, None, refl, sym, ap, ◌∙◌, subst, word-Good}
+use Rattle.mte_arena.proofs.Steps.{arith, full_share, ftrue, fat, flft, never, id⊢, fact, tables, usize, yes, layout, uint_vals, uint_Tells, owns, Ptr, in_a_block, ShrRef, shr_vals, shr_Tells, plain, hide, unhide, slice_val, nothing, heard, Stays, stay_dropped, walk_of, ends_at, Goes-dropped, named, w64, Val, alloc_all, pass_all, free_all, look_at, get, get_in, sets, sets_last, take_at, give_at, env, ‵, raw, ◌⊛◌, at_ret, ◌$◌, ◌∵◌, !, qed, move, keep, skip, use1, split, join, rewrite, fsplit, fjoin, feq_l, feq_i, flt_l, flt_i, suffices, frame, done, whole, sub, agg, enter, of_opd, bin, stop, fld, and_then, no_more, first, blocks, exec, returns, proved, lit<, ◌≡◌, ℕ, ◌+◌, ◌*◌, ◌^◌, ◌<◌, List, [], ◌∷◌, length, get_or, Option, Some, None, refl, sym, ap, ◌∙◌, word-Good}
 use denote.Builtin.{RefOf}
 use Rattle.core.proofs.mem.Facts.{says_two}
-use Rattle.mte_arena.specs.Ownership.{Block, frame_shown, region_shown}
+use Rattle.mte_arena.specs.Ownership.{frame_shown, region_shown}
 use Rattle.mte_arena.specs.contracts.region.Region.{the_row as R}
 use Rattle.mte_arena.specs.contracts.region.RegionStart.{the_row as S}
 use Rattle.mte_arena.proofs.region.RegionStart.TheLaws.{the_told as start_told}

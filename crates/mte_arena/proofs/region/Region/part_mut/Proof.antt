@@ -1,5 +1,5 @@
 -- `part_mut` lends some of a frame's bytes, and the region follows them. Assumes `Logic`.
-use Rattle.mte_arena.proofs.Steps.{arith, full_share, ftrue, fsep, fat, flft, fobs, fbor, ent, sep, never, id⊢, fact, tables, Array, u8, usize, yes, follows, lends_Elements, mem, cell_at, layout, uint_vals, uint_Tells, owns, Ptr, block_ptr, in_a_block, MutBor, MutRef, mut_vals, mut_Tells, plain, MutSlice, slice_val, nothing, opens, heard, Stays, stay_dropped, walk_of, ends_at, Goes-dropped, Goes-spent_ref, named, w64, Val, vptr, vint, GName, alloc_all, pass_all, free_all, look_at, get, get_in, sets, sets_last, take_at, give_at, env, ‵, raw, ◌⊛◌, some, given, later, at_ret, ◌$◌, ◌∵◌, !, qed, by, move, keep, skip, use1, use2, split, split3, join, group, rewrite, fsplit, fsplit3, fjoin, fpack, flt_l, flt_i, pick, learn, await, suffices, frame, done, sem, whole, sub, agg, enter, of_opd, bin, stop, fld, and_then, no_more, first, blocks, exec, returns, cells, proved, lit<, ◌≡◌, ℕ, ◌+◌, ◌*◌, ◌^◌, ◌<◌, ◌≤◌, List, [], ◌∷◌, ◌++◌, length, take, drop, get_or, slice_set, Option, Some, None, refl, sym, ap, ◌∙◌, subst, word-Good}
+use Rattle.mte_arena.proofs.Steps.{arith, full_share, ftrue, fsep, fat, flft, ent, sep, never, id⊢, fact, tables, Array, u8, usize, yes, follows, lends_Elements, mem, cell_at, layout, uint_vals, uint_Tells, owns, Ptr, block_ptr, in_a_block, MutRef, mut_vals, mut_Tells, plain, MutSlice, slice_val, nothing, opens, heard, Stays, stay_dropped, walk_of, ends_at, Goes-dropped, Goes-spent_ref, named, w64, Val, GName, alloc_all, pass_all, free_all, look_at, get, get_in, sets, sets_last, take_at, give_at, env, ‵, raw, ◌⊛◌, some, given, later, at_ret, ◌$◌, ◌∵◌, !, qed, move, keep, skip, use1, use2, split, split3, join, group, rewrite, fsplit, fsplit3, fjoin, fpack, flt_l, flt_i, pick, learn, await, suffices, frame, done, sem, whole, sub, agg, enter, of_opd, bin, stop, fld, and_then, no_more, first, blocks, exec, returns, cells, proved, lit<, ◌≡◌, ℕ, ◌+◌, ◌*◌, ◌^◌, ◌<◌, ◌≤◌, List, [], ◌∷◌, ◌++◌, length, take, drop, get_or, slice_set, Option, Some, None, refl, sym, ap, ◌∙◌, subst, word-Good}
 use base.Fml.{Fml}
 use denote.Memory.{part_of}
 use denote.Struct.Owning.{shape}

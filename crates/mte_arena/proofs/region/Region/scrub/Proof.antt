@@ -1,5 +1,5 @@
 -- `scrub` writes zeros over a frame, present or not. Assumes `Logic`.
-use Rattle.mte_arena.proofs.Steps.{arith, full_share, ftrue, fat, flft, ent, never, id⊢, fact, tables, usize, yes, layout, lone, uint_vals, uint_Tells, owns, Ptr, in_a_block, MutRef, mut_vals, mut_Tells, plain, nothing, opens, closes, heard, Stays, stay_dropped, stay_ref, walk_of, says, ends_at, Goes-dropped, Goes-ref, named, w64, Val, vptr, vunit, alloc_all, pass_all, free_all, look_at, get, get_in, through, sets, take_at, give_at, env, ‵, raw, ◌⊛◌, at_ret, ◌$◌, ◌∵◌, !, qed, move, keep, skip, use0, use1, use2, split, join, rewrite, fsplit, fsplit3, fjoin, fjoin3, feq_i, flt_l, flt_i, suffices, frame, done, whole, sub, rep, enter, of_opd, lit, unit_lit, bin, stop, fld, first, blocks, exec, returns, assigns_last, init, proved, lit<, ◌≡◌, ℕ, ◌+◌, ◌*◌, ◌^◌, ◌<◌, List, [], ◌∷◌, length, get_or, slice_set, Option, Some, None, refl, sym, ap, ◌∙◌, subst, word-Good}
+use Rattle.mte_arena.proofs.Steps.{arith, full_share, ftrue, fat, flft, never, id⊢, fact, tables, usize, yes, layout, lone, uint_vals, uint_Tells, owns, Ptr, in_a_block, MutRef, mut_vals, mut_Tells, plain, nothing, opens, closes, heard, Stays, stay_dropped, stay_ref, walk_of, says, ends_at, Goes-dropped, Goes-ref, named, w64, Val, vptr, vunit, alloc_all, pass_all, free_all, look_at, get, get_in, through, sets, take_at, give_at, env, ‵, raw, ◌⊛◌, at_ret, ◌$◌, ◌∵◌, !, qed, move, keep, skip, use0, use1, use2, split, join, rewrite, fsplit, fsplit3, fjoin, fjoin3, feq_i, flt_l, flt_i, suffices, frame, done, whole, sub, rep, enter, of_opd, lit, unit_lit, bin, stop, fld, first, blocks, exec, returns, assigns_last, init, proved, lit<, ◌≡◌, ◌+◌, ◌*◌, ◌^◌, ◌<◌, List, [], ◌∷◌, length, get_or, slice_set, Some, None, refl, sym, ◌∙◌, subst, word-Good}
 use base.Fml.{froom}
 use borrow.Table.OneValue.{part_in as value_in}
 use Rattle.std.proofs.lemmas.List.{length-set}

@@ -1,5 +1,4 @@
-use Rattle.std.proofs.lemmas.List.{length-set}
-use Rattle.std.proofs.Common.{◌≡◌, ℕ, ◌+◌, ◌-◌, ◌<◌, [], ◌∷◌, length, get_or, slice_set, Some, None, sym, ap, ◌∙◌, arith, length-append}
+use Rattle.std.proofs.Common.{◌≡◌, ◌-◌, [], ◌∷◌, length, get_or, ap, ◌∙◌, arith, length-append}
 use Rattle.mte_frames.specs.Pool.{IsOut}
 use Rattle.mte_frames.specs.Whole.{pool_of}
 use Rattle.mte_frames.proofs.Counts.{any_default, owner_within, some_sum, sum-set}

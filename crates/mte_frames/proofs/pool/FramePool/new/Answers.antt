@@ -1,4 +1,4 @@
-use Rattle.std.proofs.Common.{ℕ, Some, get_or, ap, sym, ◌∙◌, arith}
+use Rattle.std.proofs.Common.{Some, get_or, ap, sym, ◌∙◌, arith}
 use Rattle.std.specs.Prelude.{sum}
 use Rattle.mte_frames.specs.Whole.{vacant}
 use Rattle.mte_frames.proofs.Counts.{vacant_at, sum-zeros}

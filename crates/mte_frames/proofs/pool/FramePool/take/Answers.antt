@@ -1,5 +1,5 @@
 use Rattle.std.proofs.lemmas.List.{length-set}
-use Rattle.std.proofs.Common.{◌≡◌, ℕ, ◌+◌, ◌<◌, [], ◌∷◌, length, get_or, slice_set, Some, None, sym, ap, ◌∙◌, arith, length-append}
+use Rattle.std.proofs.Common.{◌≡◌, ◌+◌, ◌<◌, [], ◌∷◌, length, get_or, Some, sym, ap, ◌∙◌, arith, length-append}
 use Rattle.mte_arena.specs.Frames.{zero_frame}
 use Rattle.mte_frames.specs.Pool.{taken_by, reserved_by}
 use Rattle.mte_frames.specs.Whole.{pool_of}
