@@ -1,0 +1,9 @@
+pub mod Frames
+pub mod Memory
+pub mod Parts
+pub mod Sharing
+pub mod Steps
+pub mod Tags
+pub mod Values
+pub mod Written
+pub mod Zeros

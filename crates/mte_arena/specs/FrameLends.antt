@@ -1,0 +1,12 @@
+-- What an arena ends as, once a lend of a frame's bytes has ended.
+use Rattle.std.specs.Prelude.{ℕ, List, Option}
+use Rattle.std.specs.Borrow.{Fml, MutBor, Lends, Array, u8}
+use Rattle.mte_arena.specs.Frames.{Frame, with_bytes}
+use Rattle.mte_arena.specs.Blocks.{with_block}
+use Rattle.mte_arena.specs.contracts.arena.Arena.{the_row}
+
+abbrev pub lends_bytes : MutBor (List (Option Frame)) → ℕ → MutBor (List ℕ) → Fml
+lends_bytes s f r = Lends the_row (Array u8 0) s r (with_bytes s.now f)
+
+abbrev pub lends_block : MutBor (List (Option Frame)) → ℕ → MutBor (List ℕ) → Fml
+lends_block s f r = Lends the_row (Array u8 0) s r (with_block s.now f)
