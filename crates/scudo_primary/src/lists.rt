@@ -25,7 +25,7 @@ pub(crate) struct Entry {
 /// The stack of a class: its top, how many blocks it has, and how many pages of the region are carved.
 #[derive(Clone, Copy)]
 pub(crate) struct ClassList {
-    pub(crate) head: u64,
+    pub(crate) head: u32,
     pub(crate) count: u64,
     pub(crate) pages: u64,
 }
@@ -99,12 +99,12 @@ pub(crate) fn link(
     let list = lists[class as usize - 1];
     let at = place(numbers, class, block);
     entries[at] = Entry {
-        next: list.head as u32,
+        next: list.head,
         free: true,
         last,
     };
     lists[class as usize - 1] = ClassList {
-        head: block,
+        head: block as u32,
         count: list.count + 1,
         pages: list.pages,
     };
@@ -127,14 +127,15 @@ pub(crate) fn unlink(
     ensures rest { Became entries.old numbers.now lists.old entries.new lists.new class (pop_in class (class_in entries.old numbers.now class (list_at lists.old class)) (class_in entries.old numbers.now class (list_at lists.old class)).stack) }
 {
     let list = lists[class as usize - 1];
-    let next = entries[place(numbers, class, list.head)].next;
-    set_mark(entries, numbers, class, list.head, false);
+    let block = list.head as u64;
+    let next = entries[place(numbers, class, block)].next;
+    set_mark(entries, numbers, class, block, false);
     lists[class as usize - 1] = ClassList {
-        head: u64::from(next),
+        head: next,
         count: list.count - 1,
         pages: list.pages,
     };
-    list.head
+    block
 }
 
 /// Takes the top batch of the stack of a class into the buffer, in its own order, and answers its length. The marks stay.
@@ -157,10 +158,11 @@ pub(crate) fn unlink_batch(
     let mut count = 0;
     let mut more = list.count != 0;
     while more {
-        let entry = entries[place(numbers, class, next)];
-        buffer[count] = next;
+        let block = next as u64;
+        let entry = entries[place(numbers, class, block)];
+        buffer[count] = block;
         count += 1;
-        next = u64::from(entry.next);
+        next = entry.next;
         more = !entry.last && (count as u64) < list.count;
     }
     lists[class as usize - 1] = ClassList {

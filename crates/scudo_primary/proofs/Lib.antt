@@ -1,0 +1,4 @@
+pub mod BlockLemmas
+pub mod ListLemmas
+pub mod TableLemmas
+pub mod LinkLemmas
