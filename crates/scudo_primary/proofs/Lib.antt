@@ -2,3 +2,4 @@ pub mod BlockLemmas
 pub mod ListLemmas
 pub mod TableLemmas
 pub mod LinkLemmas
+pub mod ModelLemmas

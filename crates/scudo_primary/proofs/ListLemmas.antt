@@ -1,11 +1,13 @@
 -- Lists that are linked through a function, and their batches.
-use Rattle.std.proofs.Common.{◌≡◌, ◌≢◌, ℕ, zero, suc, ◌+◌, ◌-◌, ◌*◌, ◌<◌, ◌≤◌, ◌==◌, ◌||◌, Bool, true, false, List, [], ◌∷◌, length, map, refl, sym, ap, subst, ◌∙◌, inl, inr, arith, eq-eqb, eqb}
+use Rattle.std.proofs.Common.{◌≡◌, ◌≢◌, ℕ, zero, suc, ◌+◌, ◌-◌, ◌*◌, ◌<◌, ◌≤◌, ◌==◌, ◌||◌, Bool, true, false, List, [], ◌∷◌, length, map, refl, sym, ap, subst, ◌∙◌, inl, inr, arith, eq-eqb, eqb, cond, nat_le}
 use Rattle.std.proofs.lemmas.Bool.{cases_eq, cond-false}
 use Rattle.std.proofs.lemmas.Bool.Decides.{nat_tests}
 use Rattle.std.specs.List.{AllByRecursion, IsDistinct, list_any}
 use Rattle.scudo_primary.specs.Pools.{is_member}
 use Rattle.scudo_primary.specs.Lists.{follow, Each, one_more, joined, sizes_by}
-use Rattle.scudo_primary.specs.Batches.{first_size, one_less}
+use Rattle.scudo_header.specs.Classes.{size_of}
+use Rattle.scudo_primary.specs.Batches.{max_count_of, first_size, one_less}
+use Rattle.scudo_primary.specs.declared.batches.TheConstants.{SMALL_SIZE, MAX_COUNT, MAX_COUNT_ABOVE}
 
 pub follow-suc : (f : ℕ → ℕ) (n at : ℕ) → follow f (suc n) at ≡ at ∷ follow f n (f at)
 unfolding follow
@@ -121,3 +123,12 @@ pub Each-joined : (last : Bool) (sizes : List ℕ) (m : ℕ) → Each (λ n. n �
 Each-joined true sizes m h = h.1
 Each-joined false [] m h = tt
 Each-joined false (n ∷ ns) m h = let a = h.0 in (omega arith, h.1)
+
+pub max_count-low : (c : ℕ) → MAX_COUNT_ABOVE ≤ max_count_of c
+max_count-low c = elim (nat_le (size_of c) SMALL_SIZE) as (λ b. MAX_COUNT_ABOVE ≤ cond b MAX_COUNT MAX_COUNT_ABOVE) [ true ↦ omega arith | false ↦ omega arith ]
+
+pub max_count-high : (c : ℕ) → max_count_of c ≤ MAX_COUNT
+max_count-high c = elim (nat_le (size_of c) SMALL_SIZE) as (λ b. cond b MAX_COUNT MAX_COUNT_ABOVE ≤ MAX_COUNT) [ true ↦ omega arith | false ↦ omega arith ]
+
+pub max_count-pos : (c : ℕ) → 1 ≤ max_count_of c
+max_count-pos c = let a = max_count-low c in omega arith

@@ -1,0 +1,167 @@
+-- What the table says of the value that callers see.
+use Rattle.std.proofs.Common.{◌≡◌, ◌≢◌, ℕ, zero, suc, ◌+◌, ◌-◌, ◌*◌, ◌<◌, ◌≤◌, Bool, true, false, List, [], ◌∷◌, length, map, get_or, Some, None, ◌⊎◌, refl, sym, ap, subst, ◌∙◌, inl, inr, arith, unwrap_or, eq-eqb}
+use Rattle.std.proofs.lemmas.Bool.{cases_eq, cases_lt, cond-true, cond-false}
+use Rattle.std.proofs.lemmas.List.{with_items_is}
+use Rattle.std.specs.List.{range_with_len}
+use Rattle.std.specs.Prelude.{vec_len}
+use Rattle.std.specs.Vec.{with_items}
+use Rattle.std.specs.Ordering.{nat_cmp, eq_by_cmp}
+use Rattle.std.specs.Cmp.{unsigned_tied, nat_cmp_total}
+use Rattle.std.specs.FinMap as finite
+use Rattle.std.specs.FinMap.{find, get-insert, get-from_entries, same_map, nat_cmp-IsAntisymmetric}
+use Rattle.scudo_header.specs.declared.classes.TheConstants.{CLASSES}
+use Rattle.scudo_primary.specs.Blocks.{number_of, IsBlock}
+use Rattle.scudo_primary.specs.Pools.{ClassState, PoolState, empty_class, pool_by, class_at, with_class, popped, pop_in, is_member}
+use Rattle.scudo_primary.specs.Lists.{IsClass, Each, list_at, class_in, state_of, pool_in, follow, free_in, stack_from, marks_in, page_number, IsLinked, IsTable, IsPool, Became}
+use Rattle.scudo_primary.specs.declared.lists.Entry.{Entry}
+use Rattle.scudo_primary.specs.declared.lists.ClassList.{ClassList}
+use Rattle.scudo_primary.specs.declared.pool.Pool.TheInside.{Inside}
+use Rattle.scudo_primary.proofs.ListLemmas.{member-fact}
+use Rattle.scudo_primary.proofs.TableLemmas.{mark-block}
+
+-- ---- maps by class
+
+tied-same : (q : ℕ) → eq_by_cmp nat_cmp q q ≡ true
+tied-same q = unsigned_tied q q ∙ eq-eqb q q refl
+
+tied-other : (q r : ℕ) → q ≢ r → eq_by_cmp nat_cmp q r ≡ false
+tied-other q r n = unsigned_tied q r ∙ grind arith
+
+entries-in : {X : Type 0} (f : ℕ → X) (n a q : ℕ) → a ≤ q → q < a + n → find nat_cmp q (map (λ c. (c, f c)) (range_with_len a n)) ≡ Some (f q)
+entries-in f zero a q l h = absurd (omega arith)
+entries-in f (suc n) a q l h = elim (cases_eq q a) [
+    | inl s ↦ ap (λ t. find nat_cmp t (map (λ c. (c, f c)) (range_with_len a (suc n)))) s ∙ cond-true _ _ _ (tied-same a) ∙ ap (λ t. Some (f t)) (sym s)
+    | inr o ↦ cond-false _ _ _ (tied-other q a o) ∙ entries-in f n (a + 1) q (omega arith) (omega arith)
+  ]
+
+entries-out : {X : Type 0} (f : ℕ → X) (n a q : ℕ) → ((a ≤ q) × (q < a + n) → ⊥) → find nat_cmp q (map (λ c. (c, f c)) (range_with_len a n)) ≡ None
+entries-out f zero a q h = refl
+entries-out f (suc n) a q h =
+    let o : q ≢ a = λ e. h (omega arith, omega arith) in
+    cond-false _ _ _ (tied-other q a o) ∙ entries-out f n (a + 1) q (λ t. let l = t.0 in let u = t.1 in h (omega arith, omega arith))
+
+get-in : (left : ℕ) (f : ℕ → ClassState) (c : ℕ) → IsClass c → finite.get (pool_by left f).classes c ≡ Some (f c)
+get-in left f c h = let a = h.low in let b = h.high in get-from_entries nat_cmp_total (map (λ d. (d, f d)) (range_with_len 1 CLASSES)) c ∙ entries-in f CLASSES 1 c (omega arith) (omega arith)
+
+get-out : (left : ℕ) (f : ℕ → ClassState) (c : ℕ) → (IsClass c → ⊥) → finite.get (pool_by left f).classes c ≡ None
+get-out left f c h =
+    get-from_entries nat_cmp_total (map (λ d. (d, f d)) (range_with_len 1 CLASSES)) c ∙ entries-out f CLASSES 1 c (λ t. let l = t.0 in let u = t.1 in h (record { low = omega arith; high = omega arith }))
+
+pub class_at-pool_by : (left : ℕ) (f : ℕ → ClassState) (c : ℕ) → IsClass c → class_at (pool_by left f) c ≡ f c
+unfolding class_at
+class_at-pool_by left f c h = ap (λ o. unwrap_or o empty_class) (get-in left f c h)
+
+is-class : (c : ℕ) → IsClass c ⊎ (IsClass c → ⊥)
+is-class c = elim (cases_lt 0 c) [
+    | inl p ↦ elim (cases_lt CLASSES c) [
+      | inl q ↦ inr (λ h. let b = h.high in omega arith)
+      | inr q ↦ inl (record { low = p; high = q })
+    ]
+    | inr q ↦ inr (λ h. let a = h.low in omega arith)
+  ]
+
+-- one class of a pool by classes
+pub pool_by-with_class : (left : ℕ) (f g : ℕ → ClassState) (c : ℕ) (k : ClassState) → IsClass c → g c ≡ k → ((d : ℕ) → IsClass d → d ≢ c → g d ≡ f d) → pool_by left g ≡ with_class (pool_by left f) c k
+unfolding with_class
+pool_by-with_class left f g c k h own other =
+    let same : (q : ℕ) → finite.get (pool_by left g).classes q ≡ finite.get (finite.insert (pool_by left f).classes c k) q = λ q.
+      (elim (is-class q) [
+        | inl hq ↦ get-in left g q hq ∙ elim (cases_eq q c) [
+          | inl s ↦ ap Some (ap g s ∙ own) ∙ sym (cond-true _ _ _ (ap (λ t. eq_by_cmp nat_cmp t c) s ∙ tied-same c))
+          | inr n ↦ ap Some (other q hq n) ∙ sym (get-in left f q hq) ∙ sym (cond-false _ _ _ (tied-other q c n))
+        ]
+        | inr o ↦ get-out left g q o ∙ sym (get-out left f q o) ∙ sym (cond-false _ _ _ (tied-other q c (λ e. o (subst IsClass (sym e) h))))
+      ]) ∙ sym (get-insert nat_cmp_total (pool_by left f).classes c k q) in
+    ap (λ m. record { left = left; classes = m }) (same_map nat_cmp_total nat_cmp-IsAntisymmetric _ _ same)
+
+-- ---- a pool's value
+
+pub class_at-state : (left : ℕ) (es : List Entry) (ns : List ℕ) (ks : List ClassList) (c : ℕ) → IsClass c → class_at (state_of left es ns ks) c ≡ class_in es ns c (list_at ks c)
+class_at-state left es ns ks c h = class_at-pool_by left (λ d. class_in es ns d (list_at ks d)) c h
+
+pub class_at-value : (f : Inside) (v : PoolState) (c : ℕ) → pool_in f ≡ v → IsClass c → class_at v c ≡ class_in f.entries.items f.numbers.items c (list_at f.lists c)
+class_at-value f v c e h = ap (λ p. class_at p c) (sym e) ∙ class_at-state (f.limit - f.used) f.entries.items f.numbers.items f.lists c h
+
+pub became-state : (left : ℕ) (es es' : List Entry) (ns : List ℕ) (ks ks' : List ClassList) (c : ℕ) (k : ClassState) → IsClass c → Became es ns ks es' ks' c k
+    → state_of left es' ns ks' ≡ with_class (state_of left es ns ks) c k
+became-state left es es' ns ks ks' c k h b =
+    pool_by-with_class left (λ d. class_in es ns d (list_at ks d)) (λ d. class_in es' ns d (list_at ks' d)) c k h b.class b.others
+
+abbrev pub inside_with : Inside → List Entry → List ClassList → Inside
+inside_with f es ks = record { entries = with_items f.entries es; numbers = f.numbers; lists = ks; used = f.used; limit = f.limit }
+
+-- what a change of one class makes of the pool
+pub record PoolDone (f : Inside) (v : PoolState) (ns : List ℕ) (es' : List Entry) (ks' : List ClassList) (c : ℕ) (F : ClassState → ClassState) : Type 0 where
+  pub invariant : IsPool (inside_with f es' ks')
+  pub view : pool_in (inside_with f es' ks') ≡ with_class v c (F (class_at v c))
+  pub now : class_at (pool_in (inside_with f es' ks')) c ≡ class_in es' ns c (list_at ks' c)
+  pub pages : (list_at ks' c).pages ≡ (list_at f.lists c).pages
+
+pub pool-done : (f : Inside) (v : PoolState) (es : List Entry) (ns : List ℕ) (es' : List Entry) (ks' : List ClassList) (c : ℕ) (F : ClassState → ClassState) → pool_in f ≡ v → IsPool f → IsClass c
+    → es ≡ f.entries.items → length es ≡ vec_len f.entries → ns ≡ f.numbers.items → Became es ns f.lists es' ks' c (F (class_in es ns c (list_at f.lists c))) → PoolDone f v ns es' ks' c F
+pool-done f v es ns es' ks' c F e h hc ee le en b =
+    let xs = f.entries.items in
+    let ys = f.numbers.items in
+    let old : Became xs ys f.lists es' ks' c (F (class_in xs ys c (list_at f.lists c))) =
+      subst (λ t. Became xs t f.lists es' ks' c (F (class_in xs t c (list_at f.lists c)))) en
+        (subst (λ t. Became t ns f.lists es' ks' c (F (class_in t ns c (list_at f.lists c)))) ee b) in
+    let items : (with_items f.entries es').items ≡ es' = with_items_is f.entries es' (b.len ∙ le) in
+    let few = h.few in
+    record {
+      invariant = record {
+        table = subst (λ t. IsTable t ys ks') (sym items) old.table;
+        counted = λ d i hd l. h.counted d i hd (subst (λ t. i < t) (old.pages d hd) l);
+        few = λ d hd. subst (λ t. t ≤ f.used) (sym (old.pages d hd)) (h.few d hd);
+        below = h.below;
+        most = h.most;
+        room = h.room;
+        slots = h.slots;
+      };
+      view = ap (λ t. state_of (f.limit - f.used) t ys ks') items
+        ∙ became-state (f.limit - f.used) xs es' ys f.lists ks' c _ hc old
+        ∙ ap (λ t. with_class t c (F (class_in xs ys c (list_at f.lists c)))) e
+        ∙ ap (λ t. with_class v c (F t)) (sym (class_at-value f v c e hc));
+      now = class_at-state (f.limit - f.used) (with_items f.entries es').items ys ks' c hc ∙ ap (λ t. class_in t ys c (list_at ks' c)) items ∙ ap (λ t. class_in es' t c (list_at ks' c)) (sym en);
+      pages = old.pages c hc;
+    }
+
+pub class_at-with_class : (p : PoolState) (c : ℕ) (k : ClassState) → class_at (with_class p c k) c ≡ k
+unfolding class_at with_class
+class_at-with_class p c k = ap (λ o. unwrap_or o empty_class) (get-insert nat_cmp_total p.classes c k c ∙ cond-true _ _ _ (tied-same c))
+
+pub class_at-with_class_other : (p : PoolState) (c d : ℕ) (k : ClassState) → d ≢ c → class_at (with_class p c k) d ≡ class_at p d
+unfolding class_at with_class
+class_at-with_class_other p c d k n = ap (λ o. unwrap_or o empty_class) (get-insert nat_cmp_total p.classes c k d ∙ cond-false _ _ _ (tied-other d c n))
+
+-- a class put in as it stands
+pub with_class-kept : (f : Inside) (v : PoolState) (c : ℕ) → pool_in f ≡ v → IsClass c → v ≡ with_class v c (class_at v c)
+with_class-kept f v c e h =
+    let own : ℕ → ClassState = λ d. class_in f.entries.items f.numbers.items d (list_at f.lists d) in
+    sym e ∙ pool_by-with_class (f.limit - f.used) own own c (own c) h refl (λ d hd n. refl) ∙ ap (λ t. with_class t c (own c)) e ∙ ap (with_class v c) (sym (class_at-value f v c e h))
+
+pub empty-stack : (f : Inside) (v : PoolState) (c : ℕ) → pool_in f ≡ v → IsClass c → (list_at f.lists c).count ≡ 0 → (class_at v c).stack ≡ []
+unfolding stack_from follow
+empty-stack f v c e h z =
+    ap (λ (t : ClassState). t.stack) (class_at-value f v c e h) ∙ ap (λ n. stack_from f.entries.items f.numbers.items c n (list_at f.lists c).head) z
+
+pub popped-empty : (f : Inside) (v : PoolState) (c : ℕ) → pool_in f ≡ v → IsClass c → (list_at f.lists c).count ≡ 0 → v ≡ popped v c
+unfolding popped
+popped-empty f v c e h z = with_class-kept f v c e h ∙ ap (λ t. with_class v c (pop_in c (class_at v c) t)) (sym (empty-stack f v c e h z))
+
+-- the table of an open pool, as slices
+pub table-same : (f : Inside) (es : List Entry) (ns : List ℕ) → IsPool f → es ≡ f.entries.items → ns ≡ f.numbers.items → IsTable es ns f.lists
+table-same f es ns h ee en = subst (λ t. IsTable es t f.lists) (sym en) (subst (λ t. IsTable t f.numbers.items f.lists) (sym ee) h.table)
+
+pub class_at-slices : (f : Inside) (v : PoolState) (es : List Entry) (ns : List ℕ) (c : ℕ) → pool_in f ≡ v → IsClass c → es ≡ f.entries.items → ns ≡ f.numbers.items → class_at v c ≡ class_in es ns c (list_at f.lists c)
+class_at-slices f v es ns c e h ee en =
+    class_at-value f v c e h ∙ ap (λ t. class_in t f.numbers.items c (list_at f.lists c)) (sym ee) ∙ ap (λ t. class_in es t c (list_at f.lists c)) (sym en)
+
+-- a block that is marked used is in no list
+pub used-unlisted : (es : List Entry) (ns : List ℕ) (c : ℕ) (k : ClassList) (b : ℕ) → IsLinked es ns c k → IsBlock c k.pages b → get_or (marks_in es ns c k.pages) (number_of c b) false ≡ false
+    → is_member (stack_from es ns c k.count k.head) b ≡ false
+used-unlisted es ns c k b h block u =
+    let out : free_in es ns c b ≡ false = sym (mark-block es ns c k.pages b false block) ∙ u in
+    elim (is_member (stack_from es ns c k.count k.head) b) as (λ t. is_member (stack_from es ns c k.count k.head) b ≡ t → t ≡ false) [
+      | true ↦ λ m. let free = member-fact (stack_from es ns c k.count k.head) (λ x. free_in es ns c x ≡ true) b h.marked m in sym free ∙ out
+      | false ↦ λ m. refl
+    ] refl
