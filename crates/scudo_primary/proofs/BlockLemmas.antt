@@ -1,5 +1,5 @@
 -- Blocks, their numbers, and where in a region they lie.
-use Rattle.std.proofs.Common.{◌≡◌, ◌≢◌, ℕ, ◌+◌, ◌-◌, ◌*◌, ◌/◌, ◌%◌, ◌<◌, ◌≤◌, refl, sym, ap, subst, ◌∙◌, arith}
+use Rattle.std.proofs.Common.{◌≡◌, ℕ, ◌+◌, ◌-◌, ◌*◌, ◌/◌, ◌%◌, ◌<◌, ◌≤◌, nat_le, sym, ap, subst, ◌∙◌, arith}
 use Rattle.std.proofs.Math.Nat.{mul-mod_right, le-div_iff_mul-le, div-mul-le_self, mul-le-mul_right}
 use Rattle.std.proofs.lemmas.Nat.{div-add-mod', div-mul-add, mod-mul-add}
 use Rattle.scudo_header.specs.Classes.{size_of}
@@ -7,6 +7,8 @@ use Rattle.scudo_header.specs.Regions.{region_of}
 use Rattle.scudo_header.specs.declared.regions.TheConstants.{PAGE_SIZE}
 use Rattle.scudo_header.proofs.ClassLemmas.{IsSize, size_of-IsSize}
 use Rattle.scudo_primary.specs.Blocks.{carved_count, block_at, number_of, IsBlock}
+use Rattle.std.specs.Prelude.{IsTrue}
+use Rattle.std.proofs.lemmas.Bool.Decides.{nat_tests}
 use Rattle.scudo_primary.specs.Lists.{IsClass}
 
 pub size-IsSize : (c : ℕ) → IsClass c → IsSize (size_of c)
@@ -97,3 +99,12 @@ IsBlock-more c m n b h l k =
     let a = carved_count-≤ c m n h l in
     let r = k.carved in
     record { inside = k.inside; start = k.start; carved = omega arith }
+
+-- the test of a block, by the bytes that are left behind its start
+pub block-test : (c m pages b s start room : ℕ) → IsClass c → m ≡ pages → start ≡ region_of c → s ≡ size_of c → start ≤ b → (b - start) % s ≡ 0 → room ≡ PAGE_SIZE * pages - (b - start)
+    → (IsTrue (nat_le s room) → IsBlock c m b) × (IsBlock c m b → IsTrue (nat_le s room))
+block-test c m pages b s start room h same es ez l e r =
+    let p = (size-IsSize c h).least in
+    let start-is : (b - region_of c) % size_of c ≡ 0 = subst (λ t. (b - region_of c) % t ≡ 0) ez (subst (λ t. (b - t) % s ≡ 0) es e) in
+    ((λ t. let k : s ≤ room = grind (arith, nat_tests) in subst (λ n. IsBlock c n b) (sym same) (IsBlock-from_whole c pages b h (omega arith) start-is (omega arith))),
+    (λ k. let w = block-whole c m b h k in let q : s ≤ room = omega arith in grind (arith, nat_tests)))

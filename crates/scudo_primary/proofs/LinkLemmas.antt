@@ -1,21 +1,19 @@
 -- A block put on a list, the top of a list taken, a block marked.
-use Rattle.std.proofs.Common.{◌≡◌, ◌≢◌, ℕ, zero, suc, ◌+◌, ◌-◌, ◌*◌, ◌/◌, ◌%◌, ◌<◌, ◌≤◌, ◌^◌, Bool, true, false, List, [], ◌∷◌, Some, length, map, get_or, set, slice_get, refl, sym, ap, subst, ◌∙◌, inl, inr, arith, eqb}
+use Rattle.std.proofs.Common.{◌≡◌, ◌≢◌, ℕ, suc, ◌+◌, ◌-◌, ◌<◌, ◌≤◌, ◌^◌, Bool, true, false, List, ◌∷◌, map, get_or, set, refl, sym, ap, subst, ◌∙◌, inl, inr, arith, eqb}
 use Rattle.std.proofs.lemmas.Bool.{cases_eq}
 use Rattle.std.proofs.lemmas.List.{length-set}
-use Rattle.std.specs.List.{IsDistinct, list_any}
+use Rattle.std.specs.List.{IsDistinct}
 use Rattle.std.proofs.lemmas.Map.Steps.{length-le_from_distinct_below}
-use Rattle.scudo_header.specs.Regions.{region_of}
-use Rattle.scudo_header.specs.declared.regions.TheConstants.{PAGE_SIZE}
-use Rattle.scudo_primary.specs.Blocks.{carved_count, block_at, number_of, IsBlock}
+use Rattle.scudo_primary.specs.Blocks.{number_of, IsBlock}
 use Rattle.scudo_primary.specs.Batches.{max_count_of, one_less}
 use Rattle.scudo_primary.specs.Pools.{ClassState, is_member, pop_in, mark_in}
-use Rattle.scudo_primary.specs.Lists.{IsClass, Each, follow, joined, sizes_by, place_of, no_entry, entry_at, list_at, next_in, last_in, free_in, stack_from, sizes_from, marks_in, class_in, link_in, IsNumbered, IsLinked, IsTable, Became}
+use Rattle.scudo_primary.specs.Lists.{IsClass, Each, joined, sizes_by, place_of, no_entry, entry_at, list_at, next_in, last_in, free_in, stack_from, sizes_from, marks_in, class_in, link_in, IsLinked, IsTable, Became}
 use Rattle.scudo_primary.specs.declared.batches.TheConstants.{MAX_PAGES}
 use Rattle.scudo_primary.specs.declared.lists.Entry.{Entry}
 use Rattle.scudo_primary.specs.declared.lists.ClassList.{ClassList}
-use Rattle.scudo_primary.proofs.BlockLemmas.{IsCell, block-IsCell, block-whole}
+use Rattle.scudo_primary.proofs.BlockLemmas.{IsCell, block-IsCell}
 use Rattle.scudo_primary.proofs.ListLemmas.{follow-suc, length-follow, Each-map, Each-both, Each-other, distinct-cons, distinct-head, distinct-tail, member-fact, sizes_by-cons, one_less-joined, Each-joined}
-use Rattle.scudo_primary.proofs.TableLemmas.{Writes, writes, writes-others, became, marks-set, stack-agree, sizes-agree, next-same, last-same, free-same, list-same, list-other, mark-block}
+use Rattle.scudo_primary.proofs.TableLemmas.{Writes, writes, writes-others, became, marks-set, stack-agree, sizes-agree, next-same, last-same, free-same, list-same, list-other}
 
 stack-cons : (es : List Entry) (ns : List ℕ) (c n at : ℕ) → stack_from es ns c (suc n) at ≡ at ∷ stack_from es ns c n (next_in es ns c at)
 unfolding stack_from

@@ -1,12 +1,12 @@
 -- Lists that are linked through a function, and their batches.
-use Rattle.std.proofs.Common.{◌≡◌, ◌≢◌, ℕ, zero, suc, ◌+◌, ◌-◌, ◌*◌, ◌<◌, ◌≤◌, ◌==◌, ◌||◌, Bool, true, false, List, [], ◌∷◌, length, map, refl, sym, ap, subst, ◌∙◌, inl, inr, arith, eq-eqb, eqb, cond, nat_le}
+use Rattle.std.proofs.Common.{◌≡◌, ◌≢◌, ℕ, zero, suc, ◌+◌, ◌-◌, ◌<◌, ◌≤◌, ◌==◌, ◌||◌, Bool, true, false, List, [], ◌∷◌, length, map, refl, sym, ap, subst, ◌∙◌, inl, inr, arith, eq-eqb, eqb, cond, nat_le}
 use Rattle.std.proofs.lemmas.Bool.{cases_eq, cond-false}
 use Rattle.std.proofs.lemmas.Bool.Decides.{nat_tests}
-use Rattle.std.specs.List.{AllByRecursion, IsDistinct, list_any}
+use Rattle.std.specs.List.{AllByRecursion, IsDistinct}
 use Rattle.scudo_primary.specs.Pools.{is_member}
 use Rattle.scudo_primary.specs.Lists.{follow, Each, one_more, joined, sizes_by}
 use Rattle.scudo_header.specs.Classes.{size_of}
-use Rattle.scudo_primary.specs.Batches.{max_count_of, first_size, one_less}
+use Rattle.scudo_primary.specs.Batches.{max_count_of, one_less}
 use Rattle.scudo_primary.specs.declared.batches.TheConstants.{SMALL_SIZE, MAX_COUNT, MAX_COUNT_ABOVE}
 
 pub follow-suc : (f : ℕ → ℕ) (n at : ℕ) → follow f (suc n) at ≡ at ∷ follow f n (f at)

@@ -1,5 +1,5 @@
 -- What the table says of the value that callers see.
-use Rattle.std.proofs.Common.{◌≡◌, ◌≢◌, ℕ, zero, suc, ◌+◌, ◌-◌, ◌*◌, ◌<◌, ◌≤◌, Bool, true, false, List, [], ◌∷◌, length, map, get_or, Some, None, ◌⊎◌, refl, sym, ap, subst, ◌∙◌, inl, inr, arith, unwrap_or, eq-eqb}
+use Rattle.std.proofs.Common.{◌≡◌, ◌≢◌, ℕ, zero, suc, ◌+◌, ◌-◌, ◌/◌, ◌<◌, ◌≤◌, Bool, true, false, List, [], length, map, get_or, set, Some, None, ◌⊎◌, refl, sym, ap, subst, ◌∙◌, inl, inr, arith, unwrap_or, eq-eqb}
 use Rattle.std.proofs.lemmas.Bool.{cases_eq, cases_lt, cond-true, cond-false}
 use Rattle.std.proofs.lemmas.List.{with_items_is}
 use Rattle.std.specs.List.{range_with_len}
@@ -9,15 +9,20 @@ use Rattle.std.specs.Ordering.{nat_cmp, eq_by_cmp}
 use Rattle.std.specs.Cmp.{unsigned_tied, nat_cmp_total}
 use Rattle.std.specs.FinMap as finite
 use Rattle.std.specs.FinMap.{find, get-insert, get-from_entries, same_map, nat_cmp-IsAntisymmetric}
+use Rattle.scudo_header.specs.Regions.{region_of}
+use Rattle.scudo_header.specs.declared.regions.TheConstants.{PAGE_SIZE}
 use Rattle.scudo_header.specs.declared.classes.TheConstants.{CLASSES}
 use Rattle.scudo_primary.specs.Blocks.{number_of, IsBlock}
-use Rattle.scudo_primary.specs.Pools.{ClassState, PoolState, empty_class, pool_by, class_at, with_class, popped, pop_in, is_member}
-use Rattle.scudo_primary.specs.Lists.{IsClass, Each, list_at, class_in, state_of, pool_in, follow, free_in, stack_from, marks_in, page_number, IsLinked, IsTable, IsPool, Became}
+use Rattle.scudo_primary.specs.Pools.{ClassState, PoolState, empty_class, pool_by, class_at, with_class, popped, pop_in, mark_in, is_marked, is_member}
+use Rattle.scudo_primary.specs.Lists.{IsClass, list_at, class_in, state_of, pool_in, follow, free_in, stack_from, marks_in, slot_of, place_of, no_entry, entry_at, IsLinked, IsTable, IsPool, Became}
+use Rattle.scudo_primary.specs.declared.batches.TheConstants.{MAX_PAGES}
 use Rattle.scudo_primary.specs.declared.lists.Entry.{Entry}
 use Rattle.scudo_primary.specs.declared.lists.ClassList.{ClassList}
 use Rattle.scudo_primary.specs.declared.pool.Pool.TheInside.{Inside}
 use Rattle.scudo_primary.proofs.ListLemmas.{member-fact}
-use Rattle.scudo_primary.proofs.TableLemmas.{mark-block}
+use Rattle.scudo_primary.proofs.BlockLemmas.{block-IsCell}
+use Rattle.scudo_primary.proofs.TableLemmas.{mark-block, slot-in, place-in}
+use Rattle.scudo_primary.proofs.LinkLemmas.{used_entry, marked}
 
 -- ---- maps by class
 
@@ -165,3 +170,42 @@ used-unlisted es ns c k b h block u =
       | true ↦ λ m. let free = member-fact (stack_from es ns c k.count k.head) (λ x. free_in es ns c x ≡ true) b h.marked m in sym free ∙ out
       | false ↦ λ m. refl
     ] refl
+
+pub pages-few : (f : Inside) (c : ℕ) → IsPool f → IsClass c → (list_at f.lists c).pages ≤ MAX_PAGES
+pages-few f c h hc = let a = h.few c hc in let b = h.below in let m = h.most in omega arith
+
+pub pages-value : (f : Inside) (v : PoolState) (c : ℕ) → pool_in f ≡ v → IsClass c → (class_at v c).pages ≡ (list_at f.lists c).pages
+pages-value f v c e h = ap (λ (k : ClassState). k.pages) (class_at-value f v c e h)
+
+-- where a carved block's entry stands
+pub record IsPlaced (es : List Entry) (ns : List ℕ) (c b : ℕ) : Type 0 where
+  pub inside : region_of c ≤ b
+  pub slot : slot_of c ((b - region_of c) / PAGE_SIZE) < length ns
+  pub place : place_of ns c b < length es
+
+pub placed : (f : Inside) (v : PoolState) (es : List Entry) (ns : List ℕ) (c b : ℕ) → pool_in f ≡ v → IsPool f → IsClass c → es ≡ f.entries.items → ns ≡ f.numbers.items → IsBlock c (class_at v c).pages b
+    → IsPlaced es ns c b
+placed f v es ns c b e h hc ee en block =
+    let k = subst (λ n. IsBlock c n b) (pages-value f v c e hc) block in
+    let cell = block-IsCell c (list_at f.lists c).pages b hc k in
+    let t = table-same f es ns h ee en in
+    record { inside = cell.inside; slot = slot-in ns f.lists (length es) c b t.numbered hc cell; place = place-in ns f.lists (length es) c b t.numbered hc cell }
+
+pub mark-done : (f : Inside) (v : PoolState) (es es' : List Entry) (ns : List ℕ) (c b : ℕ) (free : Bool) → pool_in f ≡ v → IsPool f → IsClass c → es ≡ f.entries.items → length es ≡ vec_len f.entries → ns ≡ f.numbers.items
+    → IsBlock c (class_at v c).pages b → (free ≡ false → is_member (class_at v c).stack b ≡ false) → es' ≡ set es (place_of ns c b) (used_entry es ns c b free)
+    → PoolDone f v ns es' f.lists c (λ k. mark_in c k b free)
+mark-done f v es es' ns c b free e h hc ee le en block out new =
+    let at = class_at-slices f v es ns c e hc ee en in
+    let done = marked es ns f.lists c b free (table-same f es ns h ee en) hc (subst (λ (k : ClassState). IsBlock c k.pages b) at block)
+      (λ i. subst (λ (k : ClassState). is_member k.stack b ≡ false) at (out i)) in
+    pool-done f v es ns es' f.lists c (λ k. mark_in c k b free) e h hc ee le en
+      (subst (λ t. Became es ns f.lists t f.lists c (mark_in c (class_in es ns c (list_at f.lists c)) b free)) (sym new) done)
+
+-- the mark of a carved block is its entry's
+pub mark-entry : (f : Inside) (v : PoolState) (c b at : ℕ) (e : Entry) → pool_in f ≡ v → IsClass c → IsBlock c (class_at v c).pages b → at ≡ place_of f.numbers.items c b → get_or f.entries.items at no_entry ≡ e → is_marked v c b ≡ e.free
+unfolding free_in entry_at
+mark-entry f v c b at e is h block ea ee =
+    let k = subst (λ n. IsBlock c n b) (pages-value f v c is h) block in
+    ap (λ (t : ClassState). get_or t.marks (number_of c b) false) (class_at-value f v c is h)
+    ∙ mark-block f.entries.items f.numbers.items c (list_at f.lists c).pages b false k
+    ∙ ap (λ t. (get_or f.entries.items t no_entry).free) (sym ea) ∙ ap (λ (t : Entry). t.free) ee

@@ -1,22 +1,21 @@
 -- What a write to the table leaves of the classes' lists.
-use Rattle.std.proofs.Common.{◌≡◌, ◌≢◌, ℕ, zero, suc, ◌+◌, ◌-◌, ◌*◌, ◌/◌, ◌%◌, ◌<◌, ◌≤◌, Bool, true, false, List, [], ◌∷◌, length, map, get_or, set, refl, sym, ap, subst, ◌∙◌, inl, inr, arith, eqb}
+use Rattle.std.proofs.Common.{◌≡◌, ◌≢◌, ℕ, ◌-◌, ◌/◌, ◌<◌, ◌≤◌, Bool, true, false, List, [], ◌∷◌, length, map, get_or, set, sym, ap, subst, ◌∙◌, inl, inr, arith, eqb}
 use Rattle.std.proofs.lemmas.Bool.{cases_eq}
 use Rattle.std.proofs.lemmas.List.{get_or-set_same, get_or-set_other, length-set, ext_get_or}
 use Rattle.std.proofs.lemmas.List.FromFn.{length-map-range_with_len, get_or-map-range_with_len}
-use Rattle.std.specs.List.{range_with_len, IsDistinct}
-use Rattle.scudo_header.specs.Classes.{size_of}
+use Rattle.std.specs.List.{IsDistinct}
 use Rattle.scudo_header.specs.Regions.{region_of}
 use Rattle.scudo_header.specs.declared.classes.TheConstants.{CLASSES}
 use Rattle.scudo_header.specs.declared.regions.TheConstants.{PAGE_SIZE}
 use Rattle.scudo_primary.specs.Blocks.{carved_count, block_at, number_of, IsBlock}
 use Rattle.scudo_primary.specs.Batches.{max_count_of}
-use Rattle.scudo_primary.specs.Pools.{ClassState, is_member}
-use Rattle.scudo_primary.specs.Lists.{IsClass, Each, follow, sizes_by, place_of, page_number, slot_of, no_entry, no_list, entry_at, list_at, next_in, last_in, free_in, stack_from, sizes_from, marks_in, class_in, IsNumbered, IsLinked, IsTable, Became}
+use Rattle.scudo_primary.specs.Pools.{ClassState}
+use Rattle.scudo_primary.specs.Lists.{IsClass, Each, sizes_by, place_of, page_number, slot_of, no_entry, no_list, entry_at, list_at, next_in, last_in, free_in, stack_from, sizes_from, marks_in, class_in, IsNumbered, IsLinked, IsTable, Became}
 use Rattle.scudo_primary.specs.declared.batches.TheConstants.{MAX_PAGES}
 use Rattle.scudo_primary.specs.declared.lists.Entry.{Entry}
 use Rattle.scudo_primary.specs.declared.lists.ClassList.{ClassList}
 use Rattle.scudo_primary.proofs.BlockLemmas.{IsCell, block-IsCell, block_at-IsBlock, number_of-block_at, block_at-number}
-use Rattle.scudo_primary.proofs.ListLemmas.{follow-agree, Each-map, map-agree}
+use Rattle.scudo_primary.proofs.ListLemmas.{follow-agree, map-agree}
 
 -- ---- places
 

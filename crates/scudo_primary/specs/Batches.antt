@@ -1,5 +1,5 @@
 -- How a class's free blocks are cut into batches (Scudo, local_cache.h: a transfer batch).
-use Rattle.std.specs.Prelude.{ℕ, ◌+◌, ◌-◌, ◌/◌, ◌%◌, ◌==◌, nat_le, List, [], ◌∷◌, ◌++◌, replicate, if◌then◌else◌}
+use Rattle.std.specs.Prelude.{ℕ, ◌-◌, ◌/◌, ◌%◌, ◌==◌, nat_le, List, [], ◌∷◌, ◌++◌, replicate, if◌then◌else◌}
 use Rattle.scudo_header.specs.Classes.{size_of}
 use Rattle.scudo_primary.specs.declared.batches.TheConstants.{SMALL_SIZE, MAX_COUNT, MAX_COUNT_ABOVE}
 

@@ -170,10 +170,10 @@ impl Pool {
         if block < start {
             return false;
         }
+        let offset = block - start;
         let bytes = PAGE_SIZE * self.lists[class as usize - 1].pages;
         let size = size_of_class(class);
-        let offset = block - start;
-        offset < bytes && size <= bytes - offset && offset % size == 0
+        offset % size == 0 && size <= bytes.saturating_sub(offset)
     }
 
     /// Whether an address is that of a carved block of a class that is marked free: it is in the pool, or in a cache above it.
