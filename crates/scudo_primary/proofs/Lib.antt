@@ -3,3 +3,4 @@ pub mod ListLemmas
 pub mod TableLemmas
 pub mod LinkLemmas
 pub mod ModelLemmas
+pub mod NewLemmas

@@ -65,6 +65,16 @@ is-class c = elim (cases_lt 0 c) [
     | inr q ↦ inr (λ h. let a = h.low in omega arith)
   ]
 
+-- two pools whose classes agree
+pub pool_by-agree : (m n : ℕ) (f g : ℕ → ClassState) → m ≡ n → ((c : ℕ) → IsClass c → f c ≡ g c) → pool_by m f ≡ pool_by n g
+pool_by-agree m n f g e h =
+    let same : (q : ℕ) → finite.get (pool_by m f).classes q ≡ finite.get (pool_by m g).classes q = λ q.
+      elim (is-class q) [
+        | inl hq ↦ get-in m f q hq ∙ ap Some (h q hq) ∙ sym (get-in m g q hq)
+        | inr o ↦ get-out m f q o ∙ sym (get-out m g q o)
+      ] in
+    ap (λ t. record { left = m; classes = t }) (same_map nat_cmp_total nat_cmp-IsAntisymmetric _ _ same) ∙ ap (λ t. pool_by t g) e
+
 -- one class of a pool by classes
 pub pool_by-with_class : (left : ℕ) (f g : ℕ → ClassState) (c : ℕ) (k : ClassState) → IsClass c → g c ≡ k → ((d : ℕ) → IsClass d → d ≢ c → g d ≡ f d) → pool_by left g ≡ with_class (pool_by left f) c k
 unfolding with_class
