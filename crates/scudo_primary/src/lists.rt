@@ -45,7 +45,7 @@ pub(crate) fn region_start(class: u8) -> u64
 #[inline(always)]
 fn slot(class: u8, page: u64) -> usize
     requires class { IsClass class }
-    requires page { page < 2 ^ 52 }
+    requires fits { page * CLASSES + CLASSES < 2 ^ 64 }
     ensures { result ≡ slot_of class page }
 {
     (page * u64::from(CLASSES) + u64::from(class - 1)) as usize
