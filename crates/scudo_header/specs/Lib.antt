@@ -1,2 +1,3 @@
 pub mod Classes
 pub mod Regions
+pub mod Headers

@@ -3,7 +3,12 @@
 #![tactic(auto)]
 
 mod classes;
+mod headers;
 mod regions;
 
 pub use classes::{CLASSES, LARGEST_CLASS_SIZE, class_of, size_of_class};
-pub use regions::{PAGE_SIZE, REGION_SIZE, REGIONS_START};
+pub use headers::{Header, Origin, State, checksum, pack, unpack};
+pub use regions::{MAX_PAGES, PAGE_SIZE, REGION_SIZE, REGIONS_START};
+
+#[cfg(test)]
+mod tests;

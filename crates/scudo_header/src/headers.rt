@@ -1,0 +1,169 @@
+//! The header in front of each chunk, and its checksum (Scudo, `chunk.h` and `checksum.h`).
+
+ghost use Rattle.std.specs.Prelude.{◌≡◌, ◌≢◌, ◌↔◌, ◌<◌, ◌/◌, ◌^◌, Some, IsNone, IfSome};
+ghost use Rattle.std.specs.List.{fold};
+ghost use Rattle.scudo_header.specs.Headers.{state_number, state_of, origin_number, origin_of, header_word, with_byte, checksum_of, packed, unpacked};
+
+use a64_bits::plain;
+
+/// What a chunk is used for.
+#[derive(Clone, Copy, Debug, PartialEq, Eq)]
+pub enum State {
+    /// 0: free.
+    Available,
+    /// 1: handed out.
+    Allocated,
+    /// 2: held back after its release. This heap never writes it.
+    Quarantined,
+    /// 3: no state of Scudo's. A word that was not written by the heap may have it.
+    Reserved,
+}
+
+/// The call that a chunk was handed out by.
+#[derive(Clone, Copy, Debug, PartialEq, Eq)]
+pub enum Origin {
+    /// 0: malloc, calloc or realloc.
+    Malloc,
+    /// 1: operator new.
+    New,
+    /// 2: operator new[]. This heap never writes it.
+    NewArray,
+    /// 3: memalign.
+    Memalign,
+}
+
+/// What the header of a chunk tells, but for its checksum.
+#[derive(Clone, Copy, Debug, PartialEq, Eq)]
+pub struct Header {
+    /// The size class of the chunk's block (8 bits). It is 0 for a chunk with pages of its own.
+    pub class_id: u8,
+    /// What the chunk is used for (2 bits).
+    pub state: State,
+    /// The call that it was handed out by (2 bits).
+    pub origin: Origin,
+    /// The size in bytes that was asked for; for a chunk with pages of its own, the bytes that are left after
+    /// it (20 bits).
+    pub size_or_unused_bytes: u32,
+    /// The distance from the block's first header place to this one, in units of 16 bytes (16 bits).
+    pub offset: u16,
+}
+
+/// A state's two bits.
+fn state_bits(state: State) -> u64
+    ensures number { result ≡ state_number state }
+    ensures below { result < 4 }
+{
+    match state {
+        State::Available => 0,
+        State::Allocated => 1,
+        State::Quarantined => 2,
+        State::Reserved => 3,
+    }
+}
+
+/// The state of two bits.
+fn state_from(bits: u64) -> State
+    requires { bits < 4 }
+    ensures { result ≡ state_of bits }
+{
+    match bits {
+        0 => State::Available,
+        1 => State::Allocated,
+        2 => State::Quarantined,
+        _ => State::Reserved,
+    }
+}
+
+/// An origin's two bits.
+fn origin_bits(origin: Origin) -> u64
+    ensures number { result ≡ origin_number origin }
+    ensures below { result < 4 }
+{
+    match origin {
+        Origin::Malloc => 0,
+        Origin::New => 1,
+        Origin::NewArray => 2,
+        Origin::Memalign => 3,
+    }
+}
+
+/// The origin of two bits.
+fn origin_from(bits: u64) -> Origin
+    requires { bits < 4 }
+    ensures { result ≡ origin_of bits }
+{
+    match bits {
+        0 => Origin::Malloc,
+        1 => Origin::New,
+        2 => Origin::NewArray,
+        _ => Origin::Memalign,
+    }
+}
+
+/// The sum after more bytes.
+fn add_bytes(start: u16, bytes: &[u8]) -> u16
+    ensures { result ≡ fold with_byte start bytes.now }
+{
+    let mut sum = start;
+    for byte in bytes {
+        sum = ((sum >> 1) + (sum % 2) * 0x8000).wrapping_add(u16::from(*byte));
+    }
+    sum
+}
+
+/// The checksum of a header for a chunk at an address, of which the plain address counts. The header's own
+/// checksum counts as 0.
+#[tactic(auto, unfolding(crate::specs::Headers::checksum_of))]
+pub fn checksum(cookie: u32, pointer: u64, header: u64) -> u16
+    ensures { result ≡ checksum_of cookie pointer header }
+{
+    let start = (cookie % (1 << 16)) as u16;
+    let sum = add_bytes(start, &plain(pointer).to_le_bytes());
+    add_bytes(sum, &(header % (1 << 48)).to_le_bytes())
+}
+
+/// The word of a header whose checksum is 0.
+fn unchecked_word(header: &Header) -> u64
+    requires { header.now.size_or_unused_bytes < 2 ^ 20 }
+    ensures word { result ≡ header_word header.now }
+    ensures below { result < 2 ^ 48 }
+    ensures class { header.now.class_id < 2 ^ 8 }
+    ensures offset { header.now.offset < 2 ^ 16 }
+{
+    u64::from(header.class_id)
+        + (state_bits(header.state) << 8)
+        + (origin_bits(header.origin) << 10)
+        + (u64::from(header.size_or_unused_bytes) << 12)
+        + (u64::from(header.offset) << 32)
+}
+
+/// The word of a header with its checksum for a chunk at an address.
+#[tactic(auto, unfolding(crate::specs::Headers::packed))]
+pub fn pack(cookie: u32, pointer: u64, header: &Header) -> u64
+    requires { header.now.size_or_unused_bytes < 2 ^ 20 }
+    ensures word { result ≡ packed cookie pointer header.now }
+    ensures back { unpacked cookie pointer result ≡ Some header.now }
+{
+    let word = unchecked_word(header);
+    word + (u64::from(checksum(cookie, pointer, word)) << 48)
+}
+
+/// The header of a word, for a chunk at an address. There is none exactly where the word's checksum is not
+/// that of the rest of it.
+#[tactic(auto, unfolding(crate::specs::Headers::unpacked))]
+pub fn unpack(cookie: u32, pointer: u64, word: u64) -> Option<Header>
+    ensures header { result ≡ unpacked cookie pointer word }
+    ensures none { IsNone result ↔ (word / 2 ^ 48 ≢ checksum_of cookie pointer word) }
+    ensures some { IfSome result (λ header. packed cookie pointer header ≡ word) }
+{
+    if (word >> 48) as u16 != checksum(cookie, pointer, word) {
+        return None;
+    }
+    Some(Header {
+        class_id: (word % (1 << 8)) as u8,
+        state: state_from((word >> 8) % (1 << 2)),
+        origin: origin_from((word >> 10) % (1 << 2)),
+        size_or_unused_bytes: ((word >> 12) % (1 << 20)) as u32,
+        offset: ((word >> 32) % (1 << 16)) as u16,
+    })
+}

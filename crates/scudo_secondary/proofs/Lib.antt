@@ -1,0 +1,2 @@
+pub mod MappingLemmas
+pub mod PlaceLemmas

@@ -1,0 +1,2 @@
+pub mod Mappings
+pub mod Maps

@@ -1,0 +1,59 @@
+//! A list of mappings in the order of their starts.
+
+ghost use Rattle.std.specs.Prelude.{◌≡◌, ◌<◌, IfSome, IfNone, IsSome, None, filter, not, ◌==◌, length, slice_index_or, vec_len, vec_capacity};
+ghost use Rattle.scudo_secondary.specs.Mappings.{AreMappings, mapping_of, with_mapping};
+
+/// The first address of the range of the mappings.
+pub const SECONDARY_START: u64 = 0x2000_0000;
+
+/// The end of the range of the mappings.
+pub const SECONDARY_END: u64 = 0x3000_0000;
+
+/// The pages of a chunk.
+#[derive(Clone, Copy, Debug, PartialEq, Eq)]
+pub struct Mapping {
+    /// The address of the first page.
+    pub start: u64,
+    /// How many pages there are.
+    pub pages: u64,
+    /// The address in them that the chunk's user was given.
+    pub user: u64,
+}
+
+/// The index of the mapping with a user address.
+pub(crate) fn index_of(mappings: &[Mapping], user: u64) -> Option<usize>
+    requires { AreMappings mappings.now }
+    ensures some { IfSome result (λ i. (i < length mappings.now) × ((d : _) → (slice_index_or mappings.now i d).user ≡ user)) }
+    ensures none { IfNone result (mapping_of mappings.now user ≡ None) }
+{
+    let i = mappings.partition_point(|mapping| mapping.user < user);
+    if i < mappings.len() && mappings[i].user == user {
+        Some(i)
+    } else {
+        None
+    }
+}
+
+/// Adds a mapping where there is room for it.
+pub(crate) fn insert_in_order(mappings: &mut Vec<Mapping>, mapping: Mapping)
+    requires mappings { AreMappings mappings.old.items }
+    requires room { vec_len mappings.old < vec_capacity mappings.old }
+    ensures items { mappings.new.items ≡ with_mapping mappings.old.items mapping }
+    ensures capacity { vec_capacity mappings.new ≡ vec_capacity mappings.old }
+{
+    let start = mapping.start;
+    let i = mappings.as_slice().partition_point(|other| other.start < start);
+    let _ = mappings.insert(i, mapping);
+}
+
+/// Takes the mapping with a user address away.
+pub(crate) fn remove_user(mappings: &mut Vec<Mapping>, user: u64)
+    requires mappings { AreMappings mappings.old.items }
+    requires there { IsSome (mapping_of mappings.old.items user) }
+    ensures items { mappings.new.items ≡ filter (λ m. not (m.user == user)) mappings.old.items }
+    ensures capacity { vec_capacity mappings.new ≡ vec_capacity mappings.old }
+{
+    if let Some(i) = index_of(mappings, user) {
+        mappings.remove(i);
+    }
+}

@@ -1,0 +1,85 @@
+//! The mappings of a heap.
+
+ghost use Rattle.std.specs.Prelude.{◌≡◌, ℕ, ◌+◌, ◌*◌, ◌<◌, ◌≤◌, [], false, IfOk, IfSome, IfNone, IsSome, IsTrue, filter, not, ◌==◌};
+ghost use Rattle.scudo_secondary.specs.Mappings.{AreMappings, is_place, place_of, mapping_of, with_mapping, pages_of};
+
+use crate::gaps::first_gap;
+use crate::mappings::{Mapping, index_of, insert_in_order, remove_user};
+use scudo_header::{MAX_PAGES, PAGE_SIZE};
+use std::alloc::{AllocError, Global};
+use std::marker::Model;
+
+/// The mappings of a heap, in the order of their starts. All that they will ever need is taken when they are
+/// made.
+#[derive(Drop)]
+pub struct Maps {
+    mappings: Vec<Mapping>,
+}
+
+impl Model for Maps {
+    ghost use Rattle.scudo_secondary.specs.Mappings.{MapsState, coded_maps};
+    ghost use Rattle.scudo_secondary.specs.Maps.{maps_state, IsMaps};
+
+    ghost Value = { MapsState };
+
+    ghost coded = { coded_maps };
+
+    ghost view = { maps_state };
+
+    ghost invariant = { IsMaps };
+}
+
+impl Maps {
+    /// No mappings, with room for those of `pages` pages together, 1 to `MAX_PAGES`. It is refused only where
+    /// its memory is; no later call takes any.
+    pub fn new(alloc: Global, pages: u64) -> Result<Maps, AllocError>
+        requires some { 0 < pages }
+        requires most { pages ≤ MAX_PAGES }
+        ensures { IfOk result (λ maps. maps ≡ record { limit = pages; mappings = [] }) }
+    {
+        let mappings = Vec::with_capacity(alloc, pages as usize)?;
+        Ok(Maps { mappings })
+    }
+
+    /// The least address at which `pages` pages, at least one, may be mapped. There is none where they fit
+    /// nowhere.
+    pub fn place(&self, pages: u64) -> Option<u64>
+        requires { 0 < pages }
+        ensures place { result ≡ place_of self.now.mappings pages }
+        ensures fits { IfSome result (λ start. IsTrue (is_place self.now.mappings pages start)) }
+        ensures least { IfSome result (λ start. (lower : ℕ) → IsTrue (is_place self.now.mappings pages lower) → start ≤ lower) }
+        ensures none { IfNone result ((start : ℕ) → is_place self.now.mappings pages start ≡ false) }
+        ensures mappings { AreMappings self.now.mappings }
+    {
+        first_gap(&self.mappings, pages)
+    }
+
+    /// Adds a mapping at a place for it, with a user address in its pages.
+    pub fn add(&mut self, start: u64, pages: u64, user: u64)
+        requires some { 0 < pages }
+        requires place { IsTrue (is_place self.old.mappings pages start) }
+        requires first { start ≤ user }
+        requires last { user < start + PAGE_SIZE * pages }
+        requires room { pages_of self.old.mappings + pages ≤ self.old.limit }
+        ensures { self.new ≡ record self.old { mappings = with_mapping self.old.mappings (record { start = start; pages = pages; user = user }) } }
+    {
+        insert_in_order(&mut self.mappings, Mapping { start, pages, user });
+    }
+
+    /// The mapping with a user address.
+    pub fn find(&self, user: u64) -> Option<Mapping>
+        ensures mapping { result ≡ mapping_of self.now.mappings user }
+        ensures mappings { AreMappings self.now.mappings }
+    {
+        let i = index_of(&self.mappings, user)?;
+        Some(self.mappings[i])
+    }
+
+    /// Takes away the mapping with a user address, which is there.
+    pub fn remove(&mut self, user: u64)
+        requires { IsSome (mapping_of self.old.mappings user) }
+        ensures { self.new ≡ record self.old { mappings = filter (λ m. not (m.user == user)) self.old.mappings } }
+    {
+        remove_user(&mut self.mappings, user);
+    }
+}
