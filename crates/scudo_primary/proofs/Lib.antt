@@ -4,3 +4,5 @@ pub mod TableLemmas
 pub mod LinkLemmas
 pub mod ModelLemmas
 pub mod NewLemmas
+pub mod CutLemmas
+pub mod CarveLemmas

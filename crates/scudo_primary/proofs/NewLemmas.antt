@@ -10,7 +10,7 @@ use Rattle.scudo_header.specs.declared.regions.TheConstants.{PAGE_SIZE}
 use Rattle.scudo_primary.specs.Blocks.{carved_count, block_at}
 use Rattle.scudo_primary.specs.Pools.{ClassState, PoolState, empty_class, empty_pool, pool_by}
 use Rattle.scudo_primary.specs.Lists.{IsClass, follow, sizes_by, no_list, list_at, free_in, stack_from, sizes_from, marks_in, class_in, pool_in, IsLinked, IsTable, IsPool}
-use Rattle.scudo_primary.specs.declared.batches.TheConstants.{MAX_PAGES}
+use Rattle.scudo_header.specs.declared.regions.TheConstants.{MAX_PAGES}
 use Rattle.scudo_primary.specs.declared.lists.Entry.{Entry}
 use Rattle.scudo_primary.specs.declared.lists.ClassList.{ClassList}
 use Rattle.scudo_primary.specs.declared.pool.Pool.TheInside.{Inside}

@@ -11,7 +11,7 @@ use Rattle.scudo_primary.specs.Blocks.{carved_count, block_at, number_of, IsBloc
 use Rattle.scudo_primary.specs.Batches.{max_count_of}
 use Rattle.scudo_primary.specs.Pools.{ClassState}
 use Rattle.scudo_primary.specs.Lists.{IsClass, Each, sizes_by, place_of, page_number, slot_of, no_entry, no_list, entry_at, list_at, next_in, last_in, free_in, stack_from, sizes_from, marks_in, class_in, IsNumbered, IsLinked, IsTable, Became}
-use Rattle.scudo_primary.specs.declared.batches.TheConstants.{MAX_PAGES}
+use Rattle.scudo_header.specs.declared.regions.TheConstants.{MAX_PAGES}
 use Rattle.scudo_primary.specs.declared.lists.Entry.{Entry}
 use Rattle.scudo_primary.specs.declared.lists.ClassList.{ClassList}
 use Rattle.scudo_primary.proofs.BlockLemmas.{IsCell, block-IsCell, block_at-IsBlock, number_of-block_at, block_at-number}

@@ -1,6 +1,6 @@
 -- How the pool keeps its stacks: linked through one table of entries. A carved block has its own entry as long as the pool
 -- lives: each carved page has a number, and 128 entries from 128 times that number on, one for each 32 bytes.
-use Rattle.std.specs.Prelude.{◌≡◌, ◌≢◌, ℕ, zero, suc, ◌+◌, ◌-◌, ◌*◌, ◌/◌, ◌%◌, ◌<◌, ◌≤◌, Bool, true, false, nat_eq, List, [], ◌∷◌, ◌++◌, length, map, take, replicate, slice_index, slice_index_or, slice_set, vec_len}
+use Rattle.std.specs.Prelude.{◌≡◌, ◌≢◌, ℕ, zero, suc, ◌==◌, ◌||◌, ◌+◌, ◌-◌, ◌*◌, ◌/◌, ◌%◌, ◌<◌, ◌≤◌, Bool, true, false, nat_eq, List, [], ◌∷◌, ◌++◌, length, map, take, replicate, slice_index, slice_index_or, slice_set, vec_len}
 use Rattle.std.specs.List.{range_with_len, IsDistinct}
 use Rattle.scudo_header.specs.Regions.{region_of}
 use Rattle.scudo_header.specs.declared.classes.TheConstants.{CLASSES}
@@ -8,7 +8,7 @@ use Rattle.scudo_header.specs.declared.regions.TheConstants.{PAGE_SIZE}
 use Rattle.scudo_primary.specs.Blocks.{carved_count, block_at, number_of, IsBlock, blocks_from}
 use Rattle.scudo_primary.specs.Batches.{max_count_of, batch_sizes}
 use Rattle.scudo_primary.specs.Pools.{ClassState, PoolState, pool_by}
-use Rattle.scudo_primary.specs.declared.batches.TheConstants.{MAX_PAGES}
+use Rattle.scudo_header.specs.declared.regions.TheConstants.{MAX_PAGES}
 use Rattle.scudo_primary.specs.declared.lists.Entry.{Entry}
 use Rattle.scudo_primary.specs.declared.lists.ClassList.{ClassList}
 use Rattle.scudo_primary.specs.declared.pool.Pool.TheInside.{Inside}
@@ -42,6 +42,10 @@ joined false sizes = one_more sizes
 unfoldable pub sizes_by : List Bool → List ℕ
 sizes_by [] = []
 sizes_by (last ∷ more) = joined last (sizes_by more)
+
+-- whether the block at a place among n new ones, counted from the lowest, is the last of its batch
+abbrev pub is_last_at : ℕ → ℕ → ℕ → Bool
+is_last_at half n place = (place + 1 == n) || ((place + 1) % half == 0)
 
 -- ---- the table
 

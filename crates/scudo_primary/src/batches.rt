@@ -1,12 +1,9 @@
-//! How many blocks a batch holds, and how many pages a pool.
+//! How many blocks a batch holds.
 
 ghost use Rattle.std.specs.Prelude.{◌≡◌, ◌<◌, ◌≤◌};
 ghost use Rattle.scudo_primary.specs.Batches.{max_count_of};
 
-use scudo_header::{CLASSES, PAGE_SIZE, REGION_SIZE, size_of_class};
-
-/// The most pages that a pool is made for: a class's region has no more.
-pub const MAX_PAGES: u64 = REGION_SIZE / PAGE_SIZE;
+use scudo_header::{CLASSES, size_of_class};
 
 /// The largest size of a class's blocks of which a local cache holds `MAX_COUNT`.
 pub const SMALL_SIZE: u64 = 512;

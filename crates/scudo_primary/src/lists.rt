@@ -30,7 +30,7 @@ pub(crate) struct ClassList {
     pub(crate) pages: u64,
 }
 
-ghost use Rattle.scudo_primary.specs.Lists.{IsClass, IsTable, Became, Each, joined, list_at, entry_at, class_in, link_in, link_new_in, place_of, slot_of, page_number};
+ghost use Rattle.scudo_primary.specs.Lists.{IsClass, IsTable, Became, Each, joined, is_last_at, list_at, entry_at, class_in, link_in, link_new_in, place_of, slot_of, page_number};
 
 /// The first address of a class's region.
 #[inline(always)]
@@ -212,6 +212,16 @@ pub(crate) fn number_pages(numbers: &mut [u16], class: u8, from: u64, pages: u64
     }
 }
 
+/// Whether the block at a place among `count` new ones, counted from the lowest, is the last of its batch.
+#[inline(always)]
+fn is_last(half: u64, count: u64, place: u64) -> bool
+    requires half { 0 < half }
+    requires place { place < count }
+    ensures { result ≡ is_last_at half count place }
+{
+    place + 1 == count || (place + 1) % half == 0
+}
+
 /// Puts the blocks of a class from the one with the number `from` to below `to` on top of its stack and marks them free, the
 /// lowest on top, cut into batches from the lowest on.
 pub(crate) fn link_new(
@@ -235,7 +245,7 @@ pub(crate) fn link_new(
     let mut n = to;
     while n > from {
         n -= 1;
-        let last = n + 1 == to || (n + 1 - from) % half == 0;
+        let last = is_last(half, to - from, n - from);
         link(entries, numbers, lists, class, start + n * size, last);
     }
 }

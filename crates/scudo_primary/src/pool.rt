@@ -6,9 +6,9 @@ ghost use Rattle.scudo_primary.specs.Blocks.{IsBlock, carved_count};
 ghost use Rattle.scudo_primary.specs.Batches.{max_count_of, first_size};
 ghost use Rattle.scudo_primary.specs.Pools.{pages_of, stack_of, sizes_of, is_listed, is_marked, IsFree, IsCached, empty_pool, popped, pushed, top_batch, without_batch, with_batch, with_mark, with_pages};
 
-use crate::batches::{MAX_COUNT, MAX_PAGES};
+use crate::batches::MAX_COUNT;
 use crate::lists::{ClassList, Entry, LISTS, link, link_batch, link_new, number_pages, place, region_start, set_mark, unlink, unlink_batch};
-use scudo_header::{CLASSES, PAGE_SIZE, size_of_class};
+use scudo_header::{CLASSES, MAX_PAGES, PAGE_SIZE, size_of_class};
 use std::alloc::{AllocError, Global};
 use std::marker::Model;
 
