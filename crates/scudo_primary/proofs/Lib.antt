@@ -6,3 +6,4 @@ pub mod ModelLemmas
 pub mod NewLemmas
 pub mod CutLemmas
 pub mod CarveLemmas
+pub mod WidenLemmas
