@@ -7,3 +7,4 @@ pub mod NewLemmas
 pub mod CutLemmas
 pub mod CarveLemmas
 pub mod WidenLemmas
+pub mod BatchLemmas
