@@ -8,3 +8,4 @@ pub mod CutLemmas
 pub mod CarveLemmas
 pub mod WidenLemmas
 pub mod BatchLemmas
+pub mod TakingLemmas

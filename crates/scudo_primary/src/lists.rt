@@ -1,6 +1,6 @@
 //! The stacks of free blocks, linked through one table of entries.
 
-ghost use Rattle.std.specs.Prelude.{◌≡◌, ◌≤◌, ◌≢◌, ◌<◌, ◌+◌, ◌-◌, ◌*◌, ◌/◌, ◌++◌, ℕ, Some, false, length, drop, slice_get, slice_set, nat_eq, ◌^◌};
+ghost use Rattle.std.specs.Prelude.{◌≡◌, ◌≤◌, ◌≢◌, ◌<◌, ◌+◌, ◌-◌, ◌*◌, ◌/◌, ◌++◌, ℕ, Some, false, length, drop, slice_get, slice_set, nat_eq, nat_lt, not, ◌&&◌, ◌^◌};
 ghost use Rattle.std.specs.List.{All, IsDistinct};
 ghost use Rattle.scudo_header.specs.Regions.{region_of};
 ghost use Rattle.scudo_primary.specs.Blocks.{IsBlock, carved_count, number_of};
@@ -138,6 +138,14 @@ pub(crate) fn unlink(
     block
 }
 
+/// Whether a batch goes on below a block: it isn't the last of its batch, nor of the stack.
+#[inline(always)]
+fn goes_on(last: bool, count: u64, all: u64) -> bool
+    ensures { result ≡ (not last && nat_lt count all) }
+{
+    !last && count < all
+}
+
 /// Takes the top batch of the stack of a class into the buffer, in its own order, and answers its length. The marks stay.
 #[inline]
 pub(crate) fn unlink_batch(
@@ -163,7 +171,7 @@ pub(crate) fn unlink_batch(
         buffer[count] = block;
         count += 1;
         next = entry.next;
-        more = !entry.last && (count as u64) < list.count;
+        more = goes_on(entry.last, count as u64, list.count);
     }
     lists[class as usize - 1] = ClassList {
         head: next,
