@@ -9,3 +9,4 @@ pub mod CarveLemmas
 pub mod WidenLemmas
 pub mod BatchLemmas
 pub mod TakingLemmas
+pub mod TakenLemmas

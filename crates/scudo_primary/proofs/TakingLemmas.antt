@@ -24,7 +24,7 @@ distinct-right : (xs ys : List ℕ) → IsDistinct eqb (xs ++ ys) → IsDistinct
 distinct-right [] ys h = h
 distinct-right (x ∷ xs) ys h = distinct-right xs ys (distinct-tail x (xs ++ ys) h)
 
-first-more : (sizes : List ℕ) → first_size (one_more sizes) ≡ first_size sizes + 1
+pub first-more : (sizes : List ℕ) → first_size (one_more sizes) ≡ first_size sizes + 1
 first-more [] = refl
 first-more (n ∷ ns) = refl
 
@@ -32,11 +32,11 @@ drop-more : (sizes : List ℕ) → drop 1 (one_more sizes) ≡ drop 1 sizes
 drop-more [] = refl
 drop-more (n ∷ ns) = refl
 
-first-pos : (last : Bool) (sizes : List ℕ) → 0 < first_size (joined last sizes)
+pub first-pos : (last : Bool) (sizes : List ℕ) → 0 < first_size (joined last sizes)
 first-pos true sizes = omega arith
 first-pos false sizes = let e = first-more sizes in omega arith
 
-first-below : (sizes : List ℕ) (m : ℕ) → Each (λ n. n ≤ m) sizes → first_size sizes ≤ m
+pub first-below : (sizes : List ℕ) (m : ℕ) → Each (λ n. n ≤ m) sizes → first_size sizes ≤ m
 first-below [] m h = omega arith
 first-below (n ∷ ns) m h = h.0
 
