@@ -1,5 +1,5 @@
 -- A batch put on a class's list, block by block.
-use Rattle.std.proofs.Common.{◌≡◌, ◌≢◌, ℕ, zero, suc, ◌+◌, ◌-◌, ◌*◌, ◌<◌, ◌≤◌, ◌==◌, Bool, true, false, List, [], ◌∷◌, ◌++◌, length, take, reverse, get_or, set, refl, sym, ap, subst, ◌∙◌, arith, eqb, eq-eqb}
+use Rattle.std.proofs.Common.{◌≡◌, ◌≢◌, ℕ, zero, suc, ◌+◌, ◌-◌, ◌<◌, ◌≤◌, ◌==◌, Bool, true, false, List, [], ◌∷◌, ◌++◌, length, take, reverse, get_or, set, refl, sym, ap, subst, ◌∙◌, arith, eqb, eq-eqb}
 use Rattle.std.proofs.lemmas.List.{reverse-append, take_more, take_all, set-get_or, length-take-le, get_or-take, get_or_default}
 use Rattle.std.proofs.lemmas.Bool.Decides.{nat_tests}
 use Rattle.std.proofs.lemmas.Map.Keys.{apart_from_distinct}
@@ -59,7 +59,7 @@ unfolding pushing_in
 link-pushing k c blocks n b last h l e el =
     let taken : take (n + 1) blocks ≡ take n blocks ++ b ∷ [] = take_more blocks n b l ∙ ap (λ t. take n blocks ++ t ∷ []) (sym e) in
     let stack : b ∷ (reverse (take n blocks) ++ k.stack) ≡ reverse (take (n + 1) blocks) ++ k.stack =
-      sym (ap (λ t. reverse t ++ k.stack) taken ∙ ap (λ t. t ++ k.stack) (reverse-append (take n blocks) (b ∷ []))) in
+    sym (ap (λ t. reverse t ++ k.stack) taken ∙ ap (λ t. t ++ k.stack) (reverse-append (take n blocks) (b ∷ []))) in
     let sizes : joined last (grown k.sizes n) ≡ grown k.sizes (n + 1) = grown-next k.sizes n last el ∙ sym (grown-suc k.sizes n) in
     let marks = marks-kept k c b h in
     λ i. record { pages = k.pages; stack = stack i; sizes = sizes i; marks = marks i }
@@ -82,9 +82,9 @@ pushing-block es es' ns ks ks' c blocks n b last hc all p l e =
 taken-apart : (blocks : List ℕ) (n b : ℕ) → IsDistinct eqb blocks → n < length blocks → b ≡ get_or blocks n b → Each (λ x. x ≢ b) (take n blocks)
 taken-apart blocks n b h l e =
     All-Each (take n blocks) (λ x. x ≢ b) (λ k d q.
-      let low : k < n = let t = length-take-le n blocks (omega arith) in omega arith in
-      let a = apart_from_distinct eqb blocks k n b h low l in
-      λ s. apart-of _ _ a (sym (get_or-take n blocks k b low) ∙ get_or_default (take n blocks) k b d q ∙ s ∙ e))
+    let low : k < n = let t = length-take-le n blocks (omega arith) in omega arith in
+    let a = apart_from_distinct eqb blocks k n b h low l in
+    λ s. apart-of _ _ a (sym (get_or-take n blocks k b low) ∙ get_or_default (take n blocks) k b d q ∙ s ∙ e))
   where
     apart-of : (x y : ℕ) → eqb x y ≡ false → x ≡ y → ⊥
     apart-of x y f s = let t = eq-eqb x y s in cc
@@ -95,7 +95,7 @@ unfolding pushing_in
 pushing-unlisted es es' ns ks ks' c blocks n b last all d p l e =
     let k = class_in es ns c (list_at ks c) in
     let out : Each (λ x. x ≢ b) (reverse (take n blocks) ++ k.stack) =
-      Each-append (reverse (take n blocks)) k.stack (λ x. x ≢ b) (Each-reverse (take n blocks) (λ x. x ≢ b) (taken-apart blocks n b d l e)) (Each-other k.stack b (loose k c blocks n b all l e).unlisted) in
+    Each-append (reverse (take n blocks)) k.stack (λ x. x ≢ b) (Each-reverse (take n blocks) (λ x. x ≢ b) (taken-apart blocks n b d l e)) (Each-other k.stack b (loose k c blocks n b all l e).unlisted) in
     ap (λ (t : ClassState). is_member t.stack b) p.became.class ∙ not-member (reverse (take n blocks) ++ k.stack) (λ x. x ≢ b) b out (λ q. q refl)
 
 pub pushing-room : (es es' : List Entry) (ns : List ℕ) (ks ks' : List ClassList) (c : ℕ) (blocks : List ℕ) (n : ℕ) (last : Bool) → IsClass c → IsTable es ns ks → length blocks ≤ max_count_of c
@@ -114,4 +114,4 @@ pushing-end es es' ns ks ks' c blocks n last p e some =
     let size : grown k.sizes (length blocks) ≡ length blocks ∷ k.sizes = ap (grown k.sizes) (sym up) ∙ grown-suc k.sizes (length blocks - 1) ∙ ap (λ t. t ∷ k.sizes) up in
     let all : take n blocks ≡ blocks = take_all n blocks (omega arith) in
     became-is es es' ns ks ks' c _ _ ((λ i. record { pages = k.pages; stack = reverse (all i) ++ k.stack; sizes = grown k.sizes (e i); marks = k.marks })
-      ∙ ap (λ t. record { pages = k.pages; stack = reverse blocks ++ k.stack; sizes = t; marks = k.marks }) size) p.became
+    ∙ ap (λ t. record { pages = k.pages; stack = reverse blocks ++ k.stack; sizes = t; marks = k.marks }) size) p.became

@@ -105,6 +105,7 @@ pub block-test : (c m pages b s start room : ℕ) → IsClass c → m ≡ pages 
     → (IsTrue (nat_le s room) → IsBlock c m b) × (IsBlock c m b → IsTrue (nat_le s room))
 block-test c m pages b s start room h same es ez l e r =
     let p = (size-IsSize c h).least in
-    let start-is : (b - region_of c) % size_of c ≡ 0 = subst (λ t. (b - region_of c) % t ≡ 0) ez (subst (λ t. (b - t) % s ≡ 0) es e) in
-    ((λ t. let k : s ≤ room = grind (arith, nat_tests) in subst (λ n. IsBlock c n b) (sym same) (IsBlock-from_whole c pages b h (omega arith) start-is (omega arith))),
-    (λ k. let w = block-whole c m b h k in let q : s ≤ room = omega arith in grind (arith, nat_tests)))
+    let start-is : (b - region_of c) % size_of c ≡ 0 = subst (λ t. (b - region_of c) % t ≡ 0) ez (subst (λ t. (b - t) % s ≡ 0) es e) in (
+      (λ t. let k : s ≤ room = grind (arith, nat_tests) in subst (λ n. IsBlock c n b) (sym same) (IsBlock-from_whole c pages b h (omega arith) start-is (omega arith))),
+      (λ k. let w = block-whole c m b h k in let q : s ≤ room = omega arith in grind (arith, nat_tests)),
+    )

@@ -1,5 +1,5 @@
 -- How new blocks are cut into batches.
-use Rattle.std.proofs.Common.{◌≡◌, ◌≢◌, ℕ, zero, suc, ◌+◌, ◌-◌, ◌*◌, ◌/◌, ◌%◌, ◌<◌, ◌≤◌, ◌==◌, ◌||◌, Bool, true, false, cond, min, List, [], ◌∷◌, ◌++◌, replicate, refl, sym, ap, subst, ◌∙◌, inl, inr, arith}
+use Rattle.std.proofs.Common.{◌≡◌, ℕ, zero, suc, ◌+◌, ◌-◌, ◌*◌, ◌/◌, ◌%◌, ◌<◌, ◌≤◌, ◌==◌, ◌||◌, Bool, true, false, cond, min, List, [], ◌∷◌, ◌++◌, replicate, refl, sym, ap, subst, ◌∙◌, inl, inr, arith}
 use Rattle.std.proofs.lemmas.Bool.{cases_eq, cases_lt, cond-true, cond-false}
 use Rattle.std.proofs.lemmas.Bool.Decides.{nat_tests}
 use Rattle.std.proofs.Math.Nat.{zero-div}
@@ -47,7 +47,7 @@ cut_by-zero half p =
 -- the first batch and the others
 cut_by-first : (half m : ℕ) → 0 < half → 0 < m → cut_by half m ≡ min half m ∷ cut_by half (m - min half m)
 cut_by-first half m p q = elim (cases_lt m half) [
-    | inl s ↦
+  | inl s ↦
       (let e : m ≡ 0 * half + m = omega arith in
       let d : m / half ≡ 0 = ap (λ t. t / half) e ∙ div-mul-add 0 half m s in
       let r : m % half ≡ m = ap (λ t. t % half) e ∙ mod-mul-add 0 half m s in
@@ -56,7 +56,7 @@ cut_by-first half m p q = elim (cases_lt m half) [
       let none : m - min half m ≡ 0 = omega arith in
       ap (λ k. replicate k half ++ cond (m % half == 0) [] ((m % half) ∷ [])) d ∙ cond-false _ _ _ t ∙ ap (λ k. k ∷ []) (r ∙ sym least)
       ∙ ap (λ l. min half m ∷ l) (sym (ap (cut_by half) none ∙ cut_by-zero half p)))
-    | inr s ↦
+  | inr s ↦
       (let a = m - half in
       let da = div-add-mod' a half in
       let la = mod_below a half p in
@@ -69,7 +69,7 @@ cut_by-first half m p q = elim (cases_lt m half) [
       ap (λ k. replicate k half ++ cond (m % half == 0) [] ((m % half) ∷ [])) d
       ∙ ap (λ k. half ∷ (replicate (a / half) half ++ cond (k == 0) [] (k ∷ []))) r
       ∙ ap (λ k. k ∷ cut_by half a) least ∙ ap (λ k. min half m ∷ cut_by half k) rest)
-  ]
+]
 
 -- the batch of the lowest of the r blocks, and those above
 pub cut-first : (half n r : ℕ) → 0 < half → suc r ≤ n → cut half n (suc r) ≡ min (half - (n - suc r) % half) (suc r) ∷ cut_by half (suc r - min (half - (n - suc r) % half) (suc r))
@@ -89,23 +89,23 @@ cut-first half n (suc r) p l =
     let a : (i + 1 == n) ≡ false = grind (arith, nat_tests) in
     elim (cases_eq (i % half + 1) half) [
       | inl s ↦
-        (let z : (i + 1) % half ≡ 0 = mod-end i half s in
-        let b : ((i + 1) % half == 0) ≡ true = grind (arith, nat_tests) in
-        let zn : (n - suc r) % half ≡ 0 = ap (λ t. t % half) next ∙ z in
-        let first : min (half - (n - suc r) % half) (suc r) ≡ min half (suc r) = omega arith in
-        let tail : cut half n (suc r) ≡ cut_by half (suc r) = more ∙ ap (λ t. t ∷ cut_by half (suc r - t)) first ∙ sym (cut_by-first half (suc r) p (omega arith)) in
-        let one : 1 ≡ min (half - i % half) (suc (suc r)) = omega arith in
-        let rest : suc r ≡ suc (suc r) - min (half - i % half) (suc (suc r)) = omega arith in
-        ap (λ t. joined (t || ((i + 1) % half == 0)) (cut half n (suc r))) a ∙ ap (λ t. joined t (cut half n (suc r))) b ∙ ap (λ t. 1 ∷ t) tail
-        ∙ ap (λ t. t ∷ cut_by half (suc r)) one ∙ ap (λ t. min (half - i % half) (suc (suc r)) ∷ cut_by half t) rest)
+          (let z : (i + 1) % half ≡ 0 = mod-end i half s in
+          let b : ((i + 1) % half == 0) ≡ true = grind (arith, nat_tests) in
+          let zn : (n - suc r) % half ≡ 0 = ap (λ t. t % half) next ∙ z in
+          let first : min (half - (n - suc r) % half) (suc r) ≡ min half (suc r) = omega arith in
+          let tail : cut half n (suc r) ≡ cut_by half (suc r) = more ∙ ap (λ t. t ∷ cut_by half (suc r - t)) first ∙ sym (cut_by-first half (suc r) p (omega arith)) in
+          let one : 1 ≡ min (half - i % half) (suc (suc r)) = omega arith in
+          let rest : suc r ≡ suc (suc r) - min (half - i % half) (suc (suc r)) = omega arith in
+          ap (λ t. joined (t || ((i + 1) % half == 0)) (cut half n (suc r))) a ∙ ap (λ t. joined t (cut half n (suc r))) b ∙ ap (λ t. 1 ∷ t) tail
+          ∙ ap (λ t. t ∷ cut_by half (suc r)) one ∙ ap (λ t. min (half - i % half) (suc (suc r)) ∷ cut_by half t) rest)
       | inr s ↦
-        (let z : (i + 1) % half ≡ i % half + 1 = mod-next i half (omega arith) in
-        let b : ((i + 1) % half == 0) ≡ false = grind (arith, nat_tests) in
-        let zn : (n - suc r) % half ≡ i % half + 1 = ap (λ t. t % half) next ∙ z in
-        let first : min (half - (n - suc r) % half) (suc r) + 1 ≡ min (half - i % half) (suc (suc r)) = omega arith in
-        let rest : suc r - min (half - (n - suc r) % half) (suc r) ≡ suc (suc r) - min (half - i % half) (suc (suc r)) = omega arith in
-        ap (λ t. joined (t || ((i + 1) % half == 0)) (cut half n (suc r))) a ∙ ap (λ t. joined t (cut half n (suc r))) b ∙ ap one_more more
-        ∙ ap (λ t. t ∷ cut_by half (suc r - min (half - (n - suc r) % half) (suc r))) first ∙ ap (λ t. min (half - i % half) (suc (suc r)) ∷ cut_by half t) rest)
+          (let z : (i + 1) % half ≡ i % half + 1 = mod-next i half (omega arith) in
+          let b : ((i + 1) % half == 0) ≡ false = grind (arith, nat_tests) in
+          let zn : (n - suc r) % half ≡ i % half + 1 = ap (λ t. t % half) next ∙ z in
+          let first : min (half - (n - suc r) % half) (suc r) + 1 ≡ min (half - i % half) (suc (suc r)) = omega arith in
+          let rest : suc r - min (half - (n - suc r) % half) (suc r) ≡ suc (suc r) - min (half - i % half) (suc (suc r)) = omega arith in
+          ap (λ t. joined (t || ((i + 1) % half == 0)) (cut half n (suc r))) a ∙ ap (λ t. joined t (cut half n (suc r))) b ∙ ap one_more more
+          ∙ ap (λ t. t ∷ cut_by half (suc r - min (half - (n - suc r) % half) (suc r))) first ∙ ap (λ t. min (half - i % half) (suc (suc r)) ∷ cut_by half t) rest)
     ]
 
 -- all of them
@@ -130,7 +130,7 @@ cut_by-below : (half m : ℕ) → 0 < half → Each (λ k. k ≤ half) (cut_by h
 cut_by-below half m p =
     let l = mod_below m half p in
     Each-append (replicate (m / half) half) _ _ (Each-replicate (m / half) half (λ k. k ≤ half) (omega arith))
-      (elim (m % half == 0) as (λ b. Each (λ k. k ≤ half) (cond b [] ((m % half) ∷ []))) [ true ↦ tt | false ↦ (omega arith, tt) ])
+    (elim (m % half == 0) as (λ b. Each (λ k. k ≤ half) (cond b [] ((m % half) ∷ []))) [ true ↦ tt | false ↦ (omega arith, tt) ])
 
 pub cut-below : (half n r : ℕ) → 0 < half → r ≤ n → Each (λ k. k ≤ half) (cut half n r)
 unfolding cut

@@ -67,22 +67,23 @@ link-class es es' ns c b k last hc old block out room w =
     let stay : (x : ℕ) → IsBlock c k.pages x × (x ≢ b) → entry_at es' ns c x ≡ entry_at es ns c x = λ x q. w.other x q.0 q.1 in
     let below : stack_from es' ns c k.count k.head ≡ xs = stack-agree es es' ns ns c k.count k.head _ away (λ x q. next-same es es' ns ns c x (stay x q)) in
     let sizes_below : sizes_from es' ns c k.count k.head ≡ sizes_from es ns c k.count k.head =
-      sizes-agree es es' ns ns c k.count k.head _ away below (λ x q. last-same es es' ns ns c x (stay x q)) in
+    sizes-agree es es' ns ns c k.count k.head _ away below (λ x q. last-same es es' ns ns c x (stay x q)) in
     let n : k.count + 1 ≡ suc k.count = omega arith in
     let stack : stack_from es' ns c (k.count + 1) b ≡ b ∷ xs =
-      ap (λ t. stack_from es' ns c t b) n ∙ stack-cons es' ns c k.count b ∙ ap (λ t. b ∷ stack_from es' ns c k.count t) (next-of es' ns c b e w.own) ∙ ap (λ t. b ∷ t) below in
+    ap (λ t. stack_from es' ns c t b) n ∙ stack-cons es' ns c k.count b ∙ ap (λ t. b ∷ stack_from es' ns c k.count t) (next-of es' ns c b e w.own) ∙ ap (λ t. b ∷ t) below in
     let sizes : sizes_from es' ns c (k.count + 1) b ≡ joined last (sizes_from es ns c k.count k.head) =
-      ap (λ t. sizes_from es' ns c t b) n ∙ sizes-cons es' ns c k.count b
-      ∙ ap (λ t. joined t (sizes_from es' ns c k.count (next_in es' ns c b))) (last-of es' ns c b e w.own)
-      ∙ ap (λ t. joined last (sizes_from es' ns c k.count t)) (next-of es' ns c b e w.own) ∙ ap (joined last) sizes_below in
-    let marks = marks-set es es' ns c k.pages b e hc block w in
-    (record {
-      blocks = subst (Each (IsBlock c k.pages)) (sym stack) (block, old.blocks);
-      distinct = subst (IsDistinct eqb) (sym stack) (distinct-cons b xs out old.distinct);
-      marked = subst (Each (λ x. free_in es' ns c x ≡ true)) (sym stack) (free-of es' ns c b e w.own, marked-kept es es' ns c xs _ away old.marked stay);
-      batches = subst (Each (λ n. n ≤ max_count_of c)) (sym sizes) room;
-    },
-    (λ i. record { pages = k.pages; stack = stack i; sizes = sizes i; marks = marks i }))
+    ap (λ t. sizes_from es' ns c t b) n ∙ sizes-cons es' ns c k.count b
+    ∙ ap (λ t. joined t (sizes_from es' ns c k.count (next_in es' ns c b))) (last-of es' ns c b e w.own)
+    ∙ ap (λ t. joined last (sizes_from es' ns c k.count t)) (next-of es' ns c b e w.own) ∙ ap (joined last) sizes_below in
+    let marks = marks-set es es' ns c k.pages b e hc block w in (
+      record {
+        blocks = subst (Each (IsBlock c k.pages)) (sym stack) (block, old.blocks);
+        distinct = subst (IsDistinct eqb) (sym stack) (distinct-cons b xs out old.distinct);
+        marked = subst (Each (λ x. free_in es' ns c x ≡ true)) (sym stack) (free-of es' ns c b e w.own, marked-kept es es' ns c xs _ away old.marked stay);
+        batches = subst (Each (λ n. n ≤ max_count_of c)) (sym sizes) room;
+      },
+      (λ i. record { pages = k.pages; stack = stack i; sizes = sizes i; marks = marks i }),
+    )
 
 pub linked : (es : List Entry) (ns : List ℕ) (ks : List ClassList) (c b at : ℕ) (last : Bool) → IsTable es ns ks → IsClass c → IsBlock c (list_at ks c).pages b
     → is_member (stack_from es ns c (list_at ks c).count (list_at ks c).head) b ≡ false
@@ -93,9 +94,9 @@ linked es ns ks c b at last h hc block out room is =
     let e = link_entry k last in
     let new = link-class es (set es (place_of ns c b) e) ns c b k last hc (h.linked c hc) block out room (writes es ns ks c b e h hc block) in
     subst (λ t. Became es ns ks (set es t e) (set ks (c - 1) (link_list k b)) c (link_in c (class_in es ns c k) b last)) (sym is)
-      (became es (set es (place_of ns c b) e) ns ks (set ks (c - 1) (link_list k b)) c (link_list k b) (link_in c (class_in es ns c k) b last) h hc
-        (length-set es (place_of ns c b) e) (length-set ks (c - 1) (link_list k b)) (list-same ks c (link_list k b) hc h.all) (λ d hd n. list-other ks c d (link_list k b) hc hd n) refl
-        (writes-others es ns ks c b e h hc block) new.0 new.1)
+    (became es (set es (place_of ns c b) e) ns ks (set ks (c - 1) (link_list k b)) c (link_list k b) (link_in c (class_in es ns c k) b last) h hc
+    (length-set es (place_of ns c b) e) (length-set ks (c - 1) (link_list k b)) (list-same ks c (link_list k b) hc h.all) (λ d hd n. list-other ks c d (link_list k b) hc hd n) refl
+    (writes-others es ns ks c b e h hc block) new.0 new.1)
 
 -- ---- the top is taken
 
@@ -122,20 +123,21 @@ unlink-class es es' ns c k hc old some w =
     let stay : (x : ℕ) → IsBlock c k.pages x × (x ≢ b) → entry_at es' ns c x ≡ entry_at es ns c x = λ x q. w.other x q.0 q.1 in
     let stack : stack_from es' ns c k'.count k'.head ≡ xs = stack-agree es es' ns ns c k'.count k'.head _ away (λ x q. next-same es es' ns ns c x (stay x q)) in
     let sizes : sizes_from es' ns c k'.count k'.head ≡ sizes_from es ns c k'.count k'.head =
-      sizes-agree es es' ns ns c k'.count k'.head _ away stack (λ x q. last-same es es' ns ns c x (stay x q)) in
+    sizes-agree es es' ns ns c k'.count k'.head _ away stack (λ x q. last-same es es' ns ns c x (stay x q)) in
     let less : sizes_from es ns c k'.count k'.head ≡ one_less (sizes_from es ns c k.count k.head) =
-      sym (ap one_less cut ∙ sizes-less es ns c k'.count k'.head (last_in es ns c b)) in
+    sym (ap one_less cut ∙ sizes-less es ns c k'.count k'.head (last_in es ns c b)) in
     let marks = marks-set es es' ns c k.pages b e hc blocks.0 w in
     let room = Each-joined (last_in es ns c b) _ (max_count_of c) (subst (Each (λ n. n ≤ max_count_of c)) cut old.batches) in
     let after : ClassState = record { pages = k.pages; stack = xs; sizes = one_less (sizes_from es ns c k.count k.head); marks = set (marks_in es ns c k.pages) (number_of c b) false } in
-    let done : class_in es' ns c k' ≡ after = λ i. record { pages = k.pages; stack = stack i; sizes = (sizes ∙ less) i; marks = marks i } in
-    (record {
-      blocks = subst (Each (IsBlock c k.pages)) (sym stack) blocks.1;
-      distinct = subst (IsDistinct eqb) (sym stack) (distinct-tail b xs distinct);
-      marked = subst (Each (λ x. free_in es' ns c x ≡ true)) (sym stack) (marked-kept es es' ns c xs _ away marked.1 stay);
-      batches = subst (Each (λ n. n ≤ max_count_of c)) (sym sizes) room;
-    },
-    done ∙ sym (ap (pop_in c (class_in es ns c k)) is))
+    let done : class_in es' ns c k' ≡ after = λ i. record { pages = k.pages; stack = stack i; sizes = (sizes ∙ less) i; marks = marks i } in (
+      record {
+        blocks = subst (Each (IsBlock c k.pages)) (sym stack) blocks.1;
+        distinct = subst (IsDistinct eqb) (sym stack) (distinct-tail b xs distinct);
+        marked = subst (Each (λ x. free_in es' ns c x ≡ true)) (sym stack) (marked-kept es es' ns c xs _ away marked.1 stay);
+        batches = subst (Each (λ n. n ≤ max_count_of c)) (sym sizes) room;
+      },
+      done ∙ sym (ap (pop_in c (class_in es ns c k)) is),
+    )
 
 -- what is known of the top
 pub record IsTop (es : List Entry) (ns : List ℕ) (ks : List ClassList) (c : ℕ) : Type 0 where
@@ -160,7 +162,7 @@ top-of es ns ks c h hc some =
 
 pub unlinked : (es : List Entry) (ns : List ℕ) (ks : List ClassList) (c : ℕ) → IsTable es ns ks → IsClass c → 0 < (list_at ks c).count
     → Became es ns ks (set es (place_of ns c (list_at ks c).head) (used_entry es ns c (list_at ks c).head false)) (set ks (c - 1) (unlink_list es ns c (list_at ks c))) c
-        (pop_in c (class_in es ns c (list_at ks c)) (class_in es ns c (list_at ks c)).stack)
+    (pop_in c (class_in es ns c (list_at ks c)) (class_in es ns c (list_at ks c)).stack)
 unlinked es ns ks c h hc some =
     let k = list_at ks c in
     let k' = unlink_list es ns c k in
@@ -168,20 +170,20 @@ unlinked es ns ks c h hc some =
     let block = (top-of es ns ks c h hc some).block in
     let new = unlink-class es (set es (place_of ns c k.head) e) ns c k hc (h.linked c hc) some (writes es ns ks c k.head e h hc block) in
     became es (set es (place_of ns c k.head) e) ns ks (set ks (c - 1) k') c k' (pop_in c (class_in es ns c k) (class_in es ns c k).stack) h hc
-      (length-set es (place_of ns c k.head) e) (length-set ks (c - 1) k') (list-same ks c k' hc h.all) (λ d hd n. list-other ks c d k' hc hd n) refl
-      (writes-others es ns ks c k.head e h hc block) new.0 new.1
+    (length-set es (place_of ns c k.head) e) (length-set ks (c - 1) k') (list-same ks c k' hc h.all) (λ d hd n. list-other ks c d k' hc hd n) refl
+    (writes-others es ns ks c k.head e h hc block) new.0 new.1
 
 pub unlink-done : (es es' : List Entry) (ns : List ℕ) (ks : List ClassList) (c at : ℕ) → IsTable es ns ks → IsClass c → 0 < (list_at ks c).count → at ≡ place_of ns c (list_at ks c).head
     → es' ≡ set es (place_of ns c (list_at ks c).head) (used_entry es ns c (list_at ks c).head false)
     → Became es ns ks es' (set ks (c - 1) (record { head = (get_or es at no_entry).next; count = (list_at ks c).count - 1; pages = (list_at ks c).pages })) c
-        (pop_in c (class_in es ns c (list_at ks c)) (class_in es ns c (list_at ks c)).stack)
+    (pop_in c (class_in es ns c (list_at ks c)) (class_in es ns c (list_at ks c)).stack)
 unfolding entry_at
 unlink-done es es' ns ks c at h hc some is new =
     let k = list_at ks c in
     let K = pop_in c (class_in es ns c k) (class_in es ns c k).stack in
     subst (λ t. Became es ns ks t (set ks (c - 1) (record { head = (get_or es at no_entry).next; count = k.count - 1; pages = k.pages })) c K) (sym new)
-      (subst (λ t. Became es ns ks (set es (place_of ns c k.head) (used_entry es ns c k.head false)) (set ks (c - 1) (record { head = (get_or es t no_entry).next; count = k.count - 1; pages = k.pages })) c K) (sym is)
-        (unlinked es ns ks c h hc some))
+    (subst (λ t. Became es ns ks (set es (place_of ns c k.head) (used_entry es ns c k.head false)) (set ks (c - 1) (record { head = (get_or es t no_entry).next; count = k.count - 1; pages = k.pages })) c K) (sym is)
+    (unlinked es ns ks c h hc some))
 
 pub unlink-unlisted : (es es' : List Entry) (ns : List ℕ) (ks ks' : List ClassList) (c : ℕ) → IsTable es ns ks → IsClass c → 0 < (list_at ks c).count
     → Became es ns ks es' ks' c (pop_in c (class_in es ns c (list_at ks c)) (class_in es ns c (list_at ks c)).stack)
@@ -213,18 +215,19 @@ mark-class es es' ns c b k free hc old block out w =
     let marks = marks-set es es' ns c k.pages b e hc block w in
     let keep : (f : Bool) → free ≡ f → Each (λ x. free_in es' ns c x ≡ true) xs = λ f. elim f as (λ f. free ≡ f → Each (λ x. free_in es' ns c x ≡ true) xs) [
       | true ↦ λ is. Each-map xs _ _ (Each-both xs (IsBlock c k.pages) (λ x. free_in es ns c x ≡ true) old.blocks old.marked) (λ x q. elim (cases_eq x b) [
-          | inl s ↦ ap (free_in es' ns c) s ∙ ap (λ (t : Entry). t.free) w.own ∙ is
-          | inr n ↦ free-same es es' ns ns c x (w.other x q.0 n) ∙ q.1
-        ])
+        | inl s ↦ ap (free_in es' ns c) s ∙ ap (λ (t : Entry). t.free) w.own ∙ is
+        | inr n ↦ free-same es es' ns ns c x (w.other x q.0 n) ∙ q.1
+      ])
       | false ↦ λ is. marked-kept es es' ns c xs _ (Each-both xs (IsBlock c k.pages) (λ x. x ≢ b) old.blocks (Each-other xs b (out is))) old.marked (λ x q. w.other x q.0 q.1)
-    ] in
-    (record {
-      blocks = subst (Each (IsBlock c k.pages)) (sym stack) old.blocks;
-      distinct = subst (IsDistinct eqb) (sym stack) old.distinct;
-      marked = subst (Each (λ x. free_in es' ns c x ≡ true)) (sym stack) (keep free refl);
-      batches = subst (Each (λ n. n ≤ max_count_of c)) (sym sizes) old.batches;
-    },
-    (λ i. record { pages = k.pages; stack = stack i; sizes = sizes i; marks = marks i }))
+    ] in (
+      record {
+        blocks = subst (Each (IsBlock c k.pages)) (sym stack) old.blocks;
+        distinct = subst (IsDistinct eqb) (sym stack) old.distinct;
+        marked = subst (Each (λ x. free_in es' ns c x ≡ true)) (sym stack) (keep free refl);
+        batches = subst (Each (λ n. n ≤ max_count_of c)) (sym sizes) old.batches;
+      },
+      (λ i. record { pages = k.pages; stack = stack i; sizes = sizes i; marks = marks i }),
+    )
 
 pub marked : (es : List Entry) (ns : List ℕ) (ks : List ClassList) (c b : ℕ) (free : Bool) → IsTable es ns ks → IsClass c → IsBlock c (list_at ks c).pages b
     → (free ≡ false → is_member (stack_from es ns c (list_at ks c).count (list_at ks c).head) b ≡ false)
@@ -234,7 +237,7 @@ marked es ns ks c b free h hc block out =
     let e = used_entry es ns c b free in
     let new = mark-class es (set es (place_of ns c b) e) ns c b k free hc (h.linked c hc) block out (writes es ns ks c b e h hc block) in
     became es (set es (place_of ns c b) e) ns ks ks c k (mark_in c (class_in es ns c k) b free) h hc
-      (length-set es (place_of ns c b) e) refl refl (λ d hd n. refl) refl (writes-others es ns ks c b e h hc block) new.0 new.1
+    (length-set es (place_of ns c b) e) refl refl (λ d hd n. refl) refl (writes-others es ns ks c b e h hc block) new.0 new.1
 
 -- ---- bounds
 
@@ -253,5 +256,5 @@ count-below es ns ks c h hc =
     let old = h.linked c hc in
     let xs = stack_from es ns c k.count k.head in
     let m = length-le_from_distinct_below xs (2 ^ 30) old.distinct
-      (λ q t. block-below c k.pages q hc (h.numbered.few c hc) (member-fact xs (IsBlock c k.pages) q old.blocks t)) in
+    (λ q t. block-below c k.pages q hc (h.numbered.few c hc) (member-fact xs (IsBlock c k.pages) q old.blocks t)) in
     subst (λ t. t ≤ 2 ^ 30) (length-follow k.count (next_in es ns c) k.head) m

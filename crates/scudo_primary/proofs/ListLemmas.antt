@@ -86,9 +86,9 @@ not-member (x ∷ xs) P b h n =
 pub member-fact : (xs : List ℕ) (P : ℕ → Type 0) (b : ℕ) → Each P xs → is_member xs b ≡ true → P b
 member-fact [] P b h e = cc
 member-fact (x ∷ xs) P b h e = elim (cases_eq b x) [
-    | inl s ↦ subst P (sym s) h.0
-    | inr o ↦ member-fact xs P b h.1 (sym (member-other x xs b o) ∙ e)
-  ]
+  | inl s ↦ subst P (sym s) h.0
+  | inr o ↦ member-fact xs P b h.1 (sym (member-other x xs b o) ∙ e)
+]
 
 -- ---- batches
 

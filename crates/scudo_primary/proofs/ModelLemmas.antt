@@ -35,9 +35,9 @@ tied-other q r n = unsigned_tied q r ∙ grind arith
 entries-in : {X : Type 0} (f : ℕ → X) (n a q : ℕ) → a ≤ q → q < a + n → find nat_cmp q (map (λ c. (c, f c)) (range_with_len a n)) ≡ Some (f q)
 entries-in f zero a q l h = absurd (omega arith)
 entries-in f (suc n) a q l h = elim (cases_eq q a) [
-    | inl s ↦ ap (λ t. find nat_cmp t (map (λ c. (c, f c)) (range_with_len a (suc n)))) s ∙ cond-true _ _ _ (tied-same a) ∙ ap (λ t. Some (f t)) (sym s)
-    | inr o ↦ cond-false _ _ _ (tied-other q a o) ∙ entries-in f n (a + 1) q (omega arith) (omega arith)
-  ]
+  | inl s ↦ ap (λ t. find nat_cmp t (map (λ c. (c, f c)) (range_with_len a (suc n)))) s ∙ cond-true _ _ _ (tied-same a) ∙ ap (λ t. Some (f t)) (sym s)
+  | inr o ↦ cond-false _ _ _ (tied-other q a o) ∙ entries-in f n (a + 1) q (omega arith) (omega arith)
+]
 
 entries-out : {X : Type 0} (f : ℕ → X) (n a q : ℕ) → ((a ≤ q) × (q < a + n) → ⊥) → find nat_cmp q (map (λ c. (c, f c)) (range_with_len a n)) ≡ None
 entries-out f zero a q h = refl
@@ -58,21 +58,21 @@ class_at-pool_by left f c h = ap (λ o. unwrap_or o empty_class) (get-in left f 
 
 is-class : (c : ℕ) → IsClass c ⊎ (IsClass c → ⊥)
 is-class c = elim (cases_lt 0 c) [
-    | inl p ↦ elim (cases_lt CLASSES c) [
-      | inl q ↦ inr (λ h. let b = h.high in omega arith)
-      | inr q ↦ inl (record { low = p; high = q })
-    ]
-    | inr q ↦ inr (λ h. let a = h.low in omega arith)
+  | inl p ↦ elim (cases_lt CLASSES c) [
+    | inl q ↦ inr (λ h. let b = h.high in omega arith)
+    | inr q ↦ inl (record { low = p; high = q })
   ]
+  | inr q ↦ inr (λ h. let a = h.low in omega arith)
+]
 
 -- two pools whose classes agree
 pub pool_by-agree : (m n : ℕ) (f g : ℕ → ClassState) → m ≡ n → ((c : ℕ) → IsClass c → f c ≡ g c) → pool_by m f ≡ pool_by n g
 pool_by-agree m n f g e h =
     let same : (q : ℕ) → finite.get (pool_by m f).classes q ≡ finite.get (pool_by m g).classes q = λ q.
-      elim (is-class q) [
-        | inl hq ↦ get-in m f q hq ∙ ap Some (h q hq) ∙ sym (get-in m g q hq)
-        | inr o ↦ get-out m f q o ∙ sym (get-out m g q o)
-      ] in
+    elim (is-class q) [
+      | inl hq ↦ get-in m f q hq ∙ ap Some (h q hq) ∙ sym (get-in m g q hq)
+      | inr o ↦ get-out m f q o ∙ sym (get-out m g q o)
+    ] in
     ap (λ t. record { left = m; classes = t }) (same_map nat_cmp_total nat_cmp-IsAntisymmetric _ _ same) ∙ ap (λ t. pool_by t g) e
 
 -- one class of a pool by classes
@@ -80,13 +80,13 @@ pub pool_by-with_class : (left : ℕ) (f g : ℕ → ClassState) (c : ℕ) (k : 
 unfolding with_class
 pool_by-with_class left f g c k h own other =
     let same : (q : ℕ) → finite.get (pool_by left g).classes q ≡ finite.get (finite.insert (pool_by left f).classes c k) q = λ q.
-      (elim (is-class q) [
-        | inl hq ↦ get-in left g q hq ∙ elim (cases_eq q c) [
-          | inl s ↦ ap Some (ap g s ∙ own) ∙ sym (cond-true _ _ _ (ap (λ t. eq_by_cmp nat_cmp t c) s ∙ tied-same c))
-          | inr n ↦ ap Some (other q hq n) ∙ sym (get-in left f q hq) ∙ sym (cond-false _ _ _ (tied-other q c n))
-        ]
-        | inr o ↦ get-out left g q o ∙ sym (get-out left f q o) ∙ sym (cond-false _ _ _ (tied-other q c (λ e. o (subst IsClass (sym e) h))))
-      ]) ∙ sym (get-insert nat_cmp_total (pool_by left f).classes c k q) in
+    (elim (is-class q) [
+      | inl hq ↦ get-in left g q hq ∙ elim (cases_eq q c) [
+        | inl s ↦ ap Some (ap g s ∙ own) ∙ sym (cond-true _ _ _ (ap (λ t. eq_by_cmp nat_cmp t c) s ∙ tied-same c))
+        | inr n ↦ ap Some (other q hq n) ∙ sym (get-in left f q hq) ∙ sym (cond-false _ _ _ (tied-other q c n))
+      ]
+      | inr o ↦ get-out left g q o ∙ sym (get-out left f q o) ∙ sym (cond-false _ _ _ (tied-other q c (λ e. o (subst IsClass (sym e) h))))
+    ]) ∙ sym (get-insert nat_cmp_total (pool_by left f).classes c k q) in
     ap (λ m. record { left = left; classes = m }) (same_map nat_cmp_total nat_cmp-IsAntisymmetric _ _ same)
 
 -- ---- a pool's value
@@ -118,8 +118,8 @@ pool-done f v es ns es' ks' c F e h hc ee le en b =
     let xs = f.entries.items in
     let ys = f.numbers.items in
     let old : Became xs ys f.lists es' ks' c (F (class_in xs ys c (list_at f.lists c))) =
-      subst (λ t. Became xs t f.lists es' ks' c (F (class_in xs t c (list_at f.lists c)))) en
-        (subst (λ t. Became t ns f.lists es' ks' c (F (class_in t ns c (list_at f.lists c)))) ee b) in
+    subst (λ t. Became xs t f.lists es' ks' c (F (class_in xs t c (list_at f.lists c)))) en
+    (subst (λ t. Became t ns f.lists es' ks' c (F (class_in t ns c (list_at f.lists c)))) ee b) in
     let items : (with_items f.entries es').items ≡ es' = with_items_is f.entries es' (b.len ∙ le) in
     let few = h.few in
     record {
@@ -133,9 +133,9 @@ pool-done f v es ns es' ks' c F e h hc ee le en b =
         slots = h.slots;
       };
       view = ap (λ t. state_of (f.limit - f.used) t ys ks') items
-        ∙ became-state (f.limit - f.used) xs es' ys f.lists ks' c _ hc old
-        ∙ ap (λ t. with_class t c (F (class_in xs ys c (list_at f.lists c)))) e
-        ∙ ap (λ t. with_class v c (F t)) (sym (class_at-value f v c e hc));
+          ∙ became-state (f.limit - f.used) xs es' ys f.lists ks' c _ hc old
+          ∙ ap (λ t. with_class t c (F (class_in xs ys c (list_at f.lists c)))) e
+          ∙ ap (λ t. with_class v c (F t)) (sym (class_at-value f v c e hc));
       now = class_at-state (f.limit - f.used) (with_items f.entries es').items ys ks' c hc ∙ ap (λ t. class_in t ys c (list_at ks' c)) items ∙ ap (λ t. class_in es' t c (list_at ks' c)) (sym en);
       pages = old.pages c hc;
     }
@@ -207,9 +207,9 @@ pub mark-done : (f : Inside) (v : PoolState) (es es' : List Entry) (ns : List �
 mark-done f v es es' ns c b free e h hc ee le en block out new =
     let at = class_at-slices f v es ns c e hc ee en in
     let done = marked es ns f.lists c b free (table-same f es ns h ee en) hc (subst (λ (k : ClassState). IsBlock c k.pages b) at block)
-      (λ i. subst (λ (k : ClassState). is_member k.stack b ≡ false) at (out i)) in
+    (λ i. subst (λ (k : ClassState). is_member k.stack b ≡ false) at (out i)) in
     pool-done f v es ns es' f.lists c (λ k. mark_in c k b free) e h hc ee le en
-      (subst (λ t. Became es ns f.lists t f.lists c (mark_in c (class_in es ns c (list_at f.lists c)) b free)) (sym new) done)
+    (subst (λ t. Became es ns f.lists t f.lists c (mark_in c (class_in es ns c (list_at f.lists c)) b free)) (sym new) done)
 
 -- the mark of a carved block is its entry's
 pub mark-entry : (f : Inside) (v : PoolState) (c b at : ℕ) (e : Entry) → pool_in f ≡ v → IsClass c → IsBlock c (class_at v c).pages b → at ≡ place_of f.numbers.items c b → get_or f.entries.items at no_entry ≡ e → is_marked v c b ≡ e.free

@@ -85,8 +85,8 @@ marks-agree es es' ns ns' c pages h e =
     let la = length-marks es' ns' c pages in
     let lb = length-marks es ns c pages in
     ext_get_or false _ _ (la ∙ sym lb) (λ i l.
-      let low : i < carved_count c pages = omega arith in
-      mark-at es' ns' c pages i false low ∙ e (block_at c i) (block_at-IsBlock c pages i h low) ∙ sym (mark-at es ns c pages i false low))
+    let low : i < carved_count c pages = omega arith in
+    mark-at es' ns' c pages i false low ∙ e (block_at c i) (block_at-IsBlock c pages i h low) ∙ sym (mark-at es ns c pages i false low))
 
 pub next-same : (es es' : List Entry) (ns ns' : List ℕ) (c x : ℕ) → entry_at es' ns' c x ≡ entry_at es ns c x → next_in es' ns' c x ≡ next_in es ns c x
 unfolding next_in
@@ -106,15 +106,16 @@ pub class-kept : (es es' : List Entry) (ns ns' : List ℕ) (c : ℕ) (k : ClassL
 class-kept es es' ns ns' c k h old e =
     let stack = stack-agree es es' ns ns' c k.count k.head _ old.blocks (λ x q. next-same es es' ns ns' c x (e x q)) in
     let sizes = sizes-agree es es' ns ns' c k.count k.head _ old.blocks stack (λ x q. last-same es es' ns ns' c x (e x q)) in
-    let marks = marks-agree es es' ns ns' c k.pages h (λ x q. free-same es es' ns ns' c x (e x q)) in
-    ((λ i. record { pages = k.pages; stack = stack i; sizes = sizes i; marks = marks i }),
-    record {
-      blocks = subst (Each (IsBlock c k.pages)) (sym stack) old.blocks;
-      distinct = subst (IsDistinct eqb) (sym stack) old.distinct;
-      marked = subst (Each (λ b. free_in es' ns' c b ≡ true)) (sym stack)
-        (both-map (stack_from es ns c k.count k.head) (IsBlock c k.pages) (λ b. free_in es ns c b ≡ true) (λ b. free_in es' ns' c b ≡ true) old.blocks old.marked (λ x q m. free-same es es' ns ns' c x (e x q) ∙ m));
-      batches = subst (Each (λ n. n ≤ max_count_of c)) (sym sizes) old.batches;
-    })
+    let marks = marks-agree es es' ns ns' c k.pages h (λ x q. free-same es es' ns ns' c x (e x q)) in (
+      (λ i. record { pages = k.pages; stack = stack i; sizes = sizes i; marks = marks i }),
+      record {
+        blocks = subst (Each (IsBlock c k.pages)) (sym stack) old.blocks;
+        distinct = subst (IsDistinct eqb) (sym stack) old.distinct;
+        marked = subst (Each (λ b. free_in es' ns' c b ≡ true)) (sym stack)
+            (both-map (stack_from es ns c k.count k.head) (IsBlock c k.pages) (λ b. free_in es ns c b ≡ true) (λ b. free_in es' ns' c b ≡ true) old.blocks old.marked (λ x q m. free-same es es' ns ns' c x (e x q) ∙ m));
+        batches = subst (Each (λ n. n ≤ max_count_of c)) (sym sizes) old.batches;
+      },
+    )
   where
     both-map : (xs : List ℕ) (P Q R : ℕ → Type 0) → Each P xs → Each Q xs → ((x : ℕ) → P x → Q x → R x) → Each R xs
     both-map [] P Q R hp hq f = tt
@@ -122,11 +123,11 @@ class-kept es es' ns ns' c k h old e =
 
 pub numbered-pages : (ns : List ℕ) (ks ks' : List ClassList) (n m : ℕ) → IsNumbered ns ks n → m ≡ n → ((d : ℕ) → IsClass d → (list_at ks' d).pages ≡ (list_at ks d).pages) → IsNumbered ns ks' m
 numbered-pages ns ks ks' n m h s e = record {
-    slot = λ c i k l. h.slot c i k (subst (λ t. i < t) (e c k) l);
-    room = λ c i k l. let r = h.room c i k (subst (λ t. i < t) (e c k) l) in omega arith;
-    apart = λ c d i j kc kd li lj q. h.apart c d i j kc kd (subst (λ t. i < t) (e c kc) li) (subst (λ t. j < t) (e d kd) lj) q;
-    few = λ c k. subst (λ t. t ≤ MAX_PAGES) (sym (e c k)) (h.few c k);
-  }
+  slot = λ c i k l. h.slot c i k (subst (λ t. i < t) (e c k) l);
+  room = λ c i k l. let r = h.room c i k (subst (λ t. i < t) (e c k) l) in omega arith;
+  apart = λ c d i j kc kd li lj q. h.apart c d i j kc kd (subst (λ t. i < t) (e c kc) li) (subst (λ t. j < t) (e d kd) lj) q;
+  few = λ c k. subst (λ t. t ≤ MAX_PAGES) (sym (e c k)) (h.few c k);
+}
 
 -- a change of one class alone
 pub became : (es es' : List Entry) (ns : List ℕ) (ks ks' : List ClassList) (c : ℕ) (k' : ClassList) (K : ClassState) → IsTable es ns ks → IsClass c → length es' ≡ length es → length ks' ≡ length ks
@@ -135,12 +136,12 @@ pub became : (es es' : List Entry) (ns : List ℕ) (ks ks' : List ClassList) (c 
     → IsLinked es' ns c k' → class_in es' ns c k' ≡ K → Became es ns ks es' ks' c K
 became es es' ns ks ks' c k' K h hc le lk own other pages entries new is =
     let same : (d : ℕ) → IsClass d → (list_at ks' d).pages ≡ (list_at ks d).pages =
-      λ d hd. elim (cases_eq d c) [
-        | inl s ↦ ap (λ t. (list_at ks' t).pages) s ∙ ap (λ (t : ClassList). t.pages) own ∙ pages ∙ ap (λ t. (list_at ks t).pages) (sym s)
-        | inr n ↦ ap (λ (t : ClassList). t.pages) (other d hd n)
-      ] in
+    λ d hd. elim (cases_eq d c) [
+      | inl s ↦ ap (λ t. (list_at ks' t).pages) s ∙ ap (λ (t : ClassList). t.pages) own ∙ pages ∙ ap (λ t. (list_at ks t).pages) (sym s)
+      | inr n ↦ ap (λ (t : ClassList). t.pages) (other d hd n)
+    ] in
     let kept : (d : ℕ) → IsClass d → d ≢ c → (class_in es' ns d (list_at ks d) ≡ class_in es ns d (list_at ks d)) × IsLinked es' ns d (list_at ks d) =
-      λ d hd n. class-kept es es' ns ns d (list_at ks d) hd (h.linked d hd) (λ x q. entries d x hd n q) in
+    λ d hd n. class-kept es es' ns ns d (list_at ks d) hd (h.linked d hd) (λ x q. entries d x hd n q) in
     record {
       table = record {
         numbered = numbered-pages ns ks ks' (length es) (length es') h.numbered le same;
@@ -198,15 +199,15 @@ marks-set es es' ns c pages b e h k w =
     let carved = k.carved in
     let lc = length-set (marks_in es ns c pages) (number_of c b) e.free in
     ext_get_or false _ _ (la ∙ sym (lc ∙ lb)) (λ i l.
-      let low : i < carved_count c pages = omega arith in
-      let block = block_at-IsBlock c pages i h low in
-      mark-at es' ns c pages i false low ∙ elim (cases_eq i (number_of c b)) [
-        | inl s ↦
+    let low : i < carved_count c pages = omega arith in
+    let block = block_at-IsBlock c pages i h low in
+    mark-at es' ns c pages i false low ∙ elim (cases_eq i (number_of c b)) [
+      | inl s ↦
           (let same : block_at c i ≡ b = ap (block_at c) s ∙ block_at-number c pages b k in
           ap (free_in es' ns c) same ∙ free-of es' ns c b e w.own
           ∙ sym (ap (λ t. get_or (set (marks_in es ns c pages) (number_of c b) e.free) t false) s ∙ get_or-set_same (marks_in es ns c pages) (number_of c b) e.free false (omega arith)))
-        | inr n ↦
+      | inr n ↦
           (let apart : block_at c i ≢ b = λ q. n (sym (number_of-block_at c i h) ∙ ap (number_of c) q) in
           free-same es es' ns ns c (block_at c i) (w.other (block_at c i) block apart) ∙ sym (mark-at es ns c pages i false low)
           ∙ sym (get_or-set_other (marks_in es ns c pages) (number_of c b) i e.free false n))
-      ])
+    ])

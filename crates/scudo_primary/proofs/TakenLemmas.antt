@@ -1,15 +1,15 @@
 -- What a batch that was taken tells of its blocks.
-use Rattle.std.proofs.Common.{◌≡◌, ◌≢◌, ℕ, zero, suc, ◌+◌, ◌-◌, ◌*◌, ◌<◌, ◌≤◌, ◌↔◌, ◌==◌, ◌||◌, Bool, true, false, List, [], ◌∷◌, ◌++◌, length, map, take, drop, reverse, get_or, refl, sym, ap, subst, ◌∙◌, inl, inr, arith, eqb, eq-eqb}
+use Rattle.std.proofs.Common.{◌≡◌, ℕ, zero, suc, ◌-◌, ◌<◌, ◌≤◌, ◌↔◌, ◌==◌, ◌||◌, Bool, true, false, List, [], ◌∷◌, ◌++◌, length, map, take, drop, reverse, refl, sym, ap, subst, ◌∙◌, inl, inr, arith, eqb, eq-eqb}
 use Rattle.std.proofs.lemmas.Bool.{cases_eq}
 use Rattle.std.proofs.lemmas.Bool.Decides.{nat_tests}
-use Rattle.std.proofs.lemmas.List.{take_at, drop_at, length-take-le, length-reverse, reverse-reverse, take-append-drop, length-map}
+use Rattle.std.proofs.lemmas.List.{take_at, length-take-le, length-reverse, reverse-reverse, take-append-drop, length-map}
 use Rattle.std.proofs.lemmas.List.Sorted.{IsPermutation-reverse}
 use Rattle.std.proofs.lemmas.Map.Keys.{IsDistinct-IsPermutation}
 use Rattle.std.specs.List.{All, IsDistinct}
-use Rattle.scudo_primary.specs.Blocks.{IsBlock, number_of}
+use Rattle.scudo_primary.specs.Blocks.{IsBlock}
 use Rattle.scudo_primary.specs.Batches.{max_count_of, first_size}
 use Rattle.scudo_primary.specs.Pools.{ClassState, PoolState, IsLoose, is_member, batch_in, pop_batch_in, class_at, with_class, without_batch, top_batch}
-use Rattle.scudo_primary.specs.Lists.{IsClass, Each, joined, sizes_by, list_at, free_in, last_in, stack_from, sizes_from, marks_in, class_in, state_of, pool_in, IsLinked, IsTable, IsPool, Became}
+use Rattle.scudo_primary.specs.Lists.{IsClass, Each, sizes_by, list_at, free_in, last_in, stack_from, sizes_from, class_in, state_of, pool_in, IsLinked, IsTable, IsPool, Became}
 use Rattle.scudo_primary.specs.declared.lists.Entry.{Entry}
 use Rattle.scudo_primary.specs.declared.lists.ClassList.{ClassList}
 use Rattle.scudo_primary.specs.declared.pool.Pool.TheInside.{Inside}
@@ -17,7 +17,7 @@ use Rattle.scudo_primary.proofs.ListLemmas.{Each-both, Each-map, distinct-head, 
 use Rattle.scudo_primary.proofs.TableLemmas.{mark-block}
 use Rattle.scudo_primary.proofs.BatchLemmas.{Each-reverse}
 use Rattle.scudo_primary.proofs.TakingLemmas.{first-pos, first-more, first-below}
-use Rattle.scudo_primary.proofs.ModelLemmas.{class_at-slices, class_at-with_class, table-same, became-state, class_at-value}
+use Rattle.scudo_primary.proofs.ModelLemmas.{class_at-slices, class_at-with_class, table-same, became-state}
 
 Each-All : (xs : List ℕ) (P : ℕ → Type 0) → Each P xs → All P xs
 Each-All [] P h k d l = absurd (omega arith)
@@ -61,9 +61,9 @@ first-none f (x ∷ xs) = ((λ e. let p = first-pos (f x) (sizes_by (map f xs)) 
 
 eqb-flip : (x y : ℕ) → eqb x y ≡ eqb y x
 eqb-flip x y = elim (cases_eq x y) [
-    | inl e ↦ eq-eqb x y e ∙ sym (eq-eqb y x (sym e))
-    | inr n ↦ (let a : eqb x y ≡ false = grind (arith, nat_tests) in let b : eqb y x ≡ false = grind (arith, nat_tests) in a ∙ sym b)
-  ]
+  | inl e ↦ eq-eqb x y e ∙ sym (eq-eqb y x (sym e))
+  | inr n ↦ (let a : eqb x y ≡ false = grind (arith, nat_tests) in let b : eqb y x ≡ false = grind (arith, nat_tests) in a ∙ sym b)
+]
 
 -- what holds of the top batch of a class
 pub record IsBatch (c : ℕ) (k : ClassState) : Type 0 where
@@ -81,11 +81,11 @@ batch-of es ns c k h =
     let short : n ≤ length s = let a = first-length (map (last_in es ns c) s) in let b = length-map s (last_in es ns c) in omega arith in
     let cut : take n s ++ drop n s ≡ s = take-append-drop n s in
     let facts : Each (λ x. IsBlock c k.pages x × (free_in es ns c x ≡ true)) (take n s) =
-      Each-left (take n s) (drop n s) _ (subst (Each (λ x. IsBlock c k.pages x × (free_in es ns c x ≡ true))) (sym cut) (Each-both s (IsBlock c k.pages) (λ x. free_in es ns c x ≡ true) h.blocks h.marked)) in
+    Each-left (take n s) (drop n s) _ (subst (Each (λ x. IsBlock c k.pages x × (free_in es ns c x ≡ true))) (sym cut) (Each-both s (IsBlock c k.pages) (λ x. free_in es ns c x ≡ true) h.blocks h.marked)) in
     let distinct = subst (IsDistinct eqb) (sym cut) h.distinct in
     let loose : Each (IsLoose (pop_batch_in (class_in es ns c k)) c) (take n s) =
-      Each-map (take n s) _ _ (Each-both (take n s) _ (λ x. is_member (drop n s) x ≡ false) facts (distinct-across (take n s) (drop n s) distinct))
-        (λ x q. record { carved = q.0.0; marked = mark-block es ns c k.pages x false q.0.0 ∙ q.0.1; unlisted = q.1 }) in
+    Each-map (take n s) _ _ (Each-both (take n s) _ (λ x. is_member (drop n s) x ≡ false) facts (distinct-across (take n s) (drop n s) distinct))
+    (λ x q. record { carved = q.0.0; marked = mark-block es ns c k.pages x false q.0.0 ∙ q.0.1; unlisted = q.1 }) in
     record {
       most = first-below (sizes_from es ns c k.count k.head) (max_count_of c) h.batches;
       empty = first-none (last_in es ns c) s;
@@ -121,10 +121,10 @@ batch-done f v es ns ks' c n buffer buffer' e h hc ee en count blocks b =
     let batch = batch-of es ns c (list_at f.lists c) (t.linked c hc) in
     let taken : take n buffer' ≡ batch_in K = ap (take n) blocks ∙ take_at (batch_in K) (drop n buffer) n (batch.len ∙ sym count) in
     let view : pool_in (inside_lists f ks') ≡ with_class v c (pop_batch_in (class_at v c)) =
-      ap (λ t. state_of (f.limit - f.used) t f.numbers.items ks') (sym ee) ∙ ap (λ t. state_of (f.limit - f.used) es t ks') (sym en)
-      ∙ became-state (f.limit - f.used) es es ns f.lists ks' c (pop_batch_in K) hc b
-      ∙ ap (λ t. with_class (state_of (f.limit - f.used) t ns f.lists) c (pop_batch_in K)) ee ∙ ap (λ t. with_class (state_of (f.limit - f.used) f.entries.items t f.lists) c (pop_batch_in K)) en
-      ∙ ap (λ t. with_class t c (pop_batch_in K)) e ∙ ap (λ (t : ClassState). with_class v c (pop_batch_in t)) (sym at) in
+    ap (λ t. state_of (f.limit - f.used) t f.numbers.items ks') (sym ee) ∙ ap (λ t. state_of (f.limit - f.used) es t ks') (sym en)
+    ∙ became-state (f.limit - f.used) es es ns f.lists ks' c (pop_batch_in K) hc b
+    ∙ ap (λ t. with_class (state_of (f.limit - f.used) t ns f.lists) c (pop_batch_in K)) ee ∙ ap (λ t. with_class (state_of (f.limit - f.used) f.entries.items t f.lists) c (pop_batch_in K)) en
+    ∙ ap (λ t. with_class t c (pop_batch_in K)) e ∙ ap (λ (t : ClassState). with_class v c (pop_batch_in t)) (sym at) in
     let now : class_at (pool_in (inside_lists f ks')) c ≡ pop_batch_in K = ap (λ t. class_at t c) view ∙ class_at-with_class v c (pop_batch_in (class_at v c)) ∙ ap (λ (t : ClassState). pop_batch_in t) at in
     record {
       invariant = record {
@@ -142,10 +142,10 @@ batch-done f v es ns ks' c n buffer buffer' e h hc ee en count blocks b =
       most = subst (λ m. m ≤ max_count_of c) (sym count) batch.most;
       empty = subst (λ (t : ClassState). (n ≡ 0) ↔ (t.stack ≡ [])) (sym at) (subst (λ m. (m ≡ 0) ↔ (K.stack ≡ [])) (sym count) batch.empty);
       stack = ap (λ (t : ClassState). t.stack) at
-        ∙ sym (take-append-drop (first_size K.sizes) K.stack)
-        ∙ ap (λ s. s ++ drop (first_size K.sizes) K.stack) (sym (reverse-reverse (take (first_size K.sizes) K.stack)))
-        ∙ ap (λ s. reverse s ++ drop (first_size K.sizes) K.stack) (sym taken)
-        ∙ ap (λ (t : ClassState). reverse (take n buffer') ++ t.stack) (sym now);
+          ∙ sym (take-append-drop (first_size K.sizes) K.stack)
+          ∙ ap (λ s. s ++ drop (first_size K.sizes) K.stack) (sym (reverse-reverse (take (first_size K.sizes) K.stack)))
+          ∙ ap (λ s. reverse s ++ drop (first_size K.sizes) K.stack) (sym taken)
+          ∙ ap (λ (t : ClassState). reverse (take n buffer') ++ t.stack) (sym now);
       cached = subst (λ (t : ClassState). All (IsLoose t c) (take n buffer')) (sym now) (subst (All (IsLoose (pop_batch_in K) c)) (sym taken) batch.loose);
       distinct = subst (IsDistinct eqb) (sym taken) batch.distinct;
     }

@@ -1,12 +1,11 @@
 -- The top batch of a class's list taken, block by block.
-use Rattle.std.proofs.Common.{◌≡◌, ◌≢◌, ℕ, zero, suc, ◌+◌, ◌-◌, ◌*◌, ◌<◌, ◌≤◌, ◌==◌, ◌&&◌, not, nat_lt, Bool, true, false, List, [], ◌∷◌, ◌++◌, length, take, drop, reverse, get_or, set, refl, sym, ap, subst, ◌∙◌, inl, inr, arith, eqb}
-use Rattle.std.proofs.lemmas.Bool.{cases_lt}
+use Rattle.std.proofs.Common.{◌≡◌, ℕ, zero, suc, ◌+◌, ◌-◌, ◌<◌, ◌≤◌, ◌==◌, ◌&&◌, not, nat_lt, Bool, true, false, List, [], ◌∷◌, ◌++◌, length, take, drop, reverse, get_or, set, refl, sym, ap, subst, ◌∙◌, arith, eqb}
 use Rattle.std.proofs.lemmas.Bool.Decides.{nat_tests}
 use Rattle.std.proofs.lemmas.List.{take_more_set, length-set, take_at, drop_at, length-take-le, drop-drop, drop-set-lt, append_assoc}
 use Rattle.std.specs.List.{IsDistinct}
 use Rattle.scudo_primary.specs.Blocks.{IsBlock}
 use Rattle.scudo_primary.specs.Batches.{max_count_of, first_size}
-use Rattle.scudo_primary.specs.Pools.{ClassState, batch_in, pop_batch_in}
+use Rattle.scudo_primary.specs.Pools.{batch_in, pop_batch_in}
 use Rattle.scudo_primary.specs.Lists.{IsClass, Each, follow, sizes_by, joined, one_more, place_of, no_entry, entry_at, list_at, next_in, last_in, free_in, stack_from, sizes_from, marks_in, class_in, IsLinked, IsTable, Became}
 use Rattle.scudo_primary.specs.declared.batches.TheConstants.{MAX_COUNT}
 use Rattle.scudo_primary.specs.declared.lists.Entry.{Entry}
@@ -68,9 +67,9 @@ taking-init es ns c n at buffer more some none =
       rest = refl;
       goes = λ e. (some e, (let f = ap (λ t. first_size (sizes_from es ns c t at)) (sym all) in omega arith), ap (λ t. drop 1 (sizes_from es ns c t at)) (sym all));
       ends = λ e.
-        let z = sizes-none es ns c n at (none e) in
-        let y = sizes-none es ns c (n - 0) at (sym all ∙ none e) in
-        (sym (ap first_size z), y ∙ sym (ap (drop 1) z));
+          let z = sizes-none es ns c n at (none e) in
+          let y = sizes-none es ns c (n - 0) at (sym all ∙ none e) in
+          (sym (ap first_size z), y ∙ sym (ap (drop 1) z));
     }
 
 -- the next block of the batch
@@ -90,7 +89,7 @@ taking-next es ns ks c start buffer count next more h hc t e =
     let is : stack_from es ns c (k.count - count) next ≡ next ∷ xs = stack-split es ns c (k.count - count) next some in
     let all : Each (IsBlock c k.pages) (next ∷ xs) = subst (Each (IsBlock c k.pages)) is (Each-right (take count buffer) _ (IsBlock c k.pages) (subst (Each (IsBlock c k.pages)) t.stack old.blocks)) in
     let pos : 0 < first_size (sizes_from es ns c (k.count - count) next) =
-      subst (λ s. 0 < first_size s) (sym (sizes-split es ns c (k.count - count) next some)) (first-pos (last_in es ns c next) _) in
+    subst (λ s. 0 < first_size s) (sym (sizes-split es ns c (k.count - count) next some)) (first-pos (last_in es ns c next) _) in
     let up = first-below (sizes_from es ns c k.count k.head) (max_count_of c) old.batches in
     let high = max_count-high c in
     let sum = g.1 in
@@ -128,10 +127,10 @@ taking-step es ns c n at start buffer count next place more more' t e fits is em
     let own : entry_at es ns c next ≡ entry = ap (λ p. get_or es p no_entry) (sym is) in
     let below = sizes_from es ns c (n - (count + 1)) entry.next in
     let split : stack_from es ns c (n - count) next ≡ next ∷ stack_from es ns c (n - (count + 1)) entry.next =
-      stack-split es ns c (n - count) next some ∙ ap (λ p. next ∷ stack_from es ns c (n - count - 1) (get_or es p no_entry).next) (sym is) ∙ ap (λ m. next ∷ stack_from es ns c m entry.next) less in
+    stack-split es ns c (n - count) next some ∙ ap (λ p. next ∷ stack_from es ns c (n - count - 1) (get_or es p no_entry).next) (sym is) ∙ ap (λ m. next ∷ stack_from es ns c m entry.next) less in
     let sizes : sizes_from es ns c (n - count) next ≡ joined entry.last below =
-      sizes-split es ns c (n - count) next some ∙ ap (λ p. joined (get_or es p no_entry).last (sizes_from es ns c (n - count - 1) (get_or es p no_entry).next)) (sym is)
-      ∙ ap (λ m. joined entry.last (sizes_from es ns c m entry.next)) less in
+    sizes-split es ns c (n - count) next some ∙ ap (λ p. joined (get_or es p no_entry).last (sizes_from es ns c (n - count - 1) (get_or es p no_entry).next)) (sym is)
+    ∙ ap (λ m. joined entry.last (sizes_from es ns c m entry.next)) less in
     let taken : take (count + 1) (set buffer count next) ≡ take count buffer ++ next ∷ [] = take_more_set buffer count next fits in
     let sum : first_size (joined entry.last below) + count ≡ first_size (sizes_from es ns c n at) = ap (λ s. first_size s + count) (sym sizes) ∙ g.1 in
     let tail : drop 1 (joined entry.last below) ≡ drop 1 (sizes_from es ns c n at) = ap (drop 1) (sym sizes) ∙ g.2 in
@@ -157,14 +156,15 @@ taken-class es ns c k start buffer count next more old t e =
     let g = t.ends e in
     let len : length (take count buffer) ≡ count = length-take-le count buffer t.fits in
     let dropped : drop count (stack_from es ns c k.count k.head) ≡ xs = ap (drop count) t.stack ∙ drop_at (take count buffer) xs count len in
-    let stack : xs ≡ drop (first_size (sizes_from es ns c k.count k.head)) (stack_from es ns c k.count k.head) = sym dropped ∙ ap (λ m. drop m (stack_from es ns c k.count k.head)) g.0 in
-    (record {
-      blocks = Each-right (take count buffer) xs (IsBlock c k.pages) (subst (Each (IsBlock c k.pages)) t.stack old.blocks);
-      distinct = distinct-right (take count buffer) xs (subst (IsDistinct eqb) t.stack old.distinct);
-      marked = Each-right (take count buffer) xs (λ b. free_in es ns c b ≡ true) (subst (Each (λ b. free_in es ns c b ≡ true)) t.stack old.marked);
-      batches = subst (Each (λ n. n ≤ max_count_of c)) (sym g.1) (Each-drop (sizes_from es ns c k.count k.head) (λ n. n ≤ max_count_of c) old.batches);
-    },
-    (λ i. record { pages = k.pages; stack = stack i; sizes = (g.1) i; marks = marks_in es ns c k.pages }))
+    let stack : xs ≡ drop (first_size (sizes_from es ns c k.count k.head)) (stack_from es ns c k.count k.head) = sym dropped ∙ ap (λ m. drop m (stack_from es ns c k.count k.head)) g.0 in (
+      record {
+        blocks = Each-right (take count buffer) xs (IsBlock c k.pages) (subst (Each (IsBlock c k.pages)) t.stack old.blocks);
+        distinct = distinct-right (take count buffer) xs (subst (IsDistinct eqb) t.stack old.distinct);
+        marked = Each-right (take count buffer) xs (λ b. free_in es ns c b ≡ true) (subst (Each (λ b. free_in es ns c b ≡ true)) t.stack old.marked);
+        batches = subst (Each (λ n. n ≤ max_count_of c)) (sym g.1) (Each-drop (sizes_from es ns c k.count k.head) (λ n. n ≤ max_count_of c) old.batches);
+      },
+      (λ i. record { pages = k.pages; stack = stack i; sizes = (g.1) i; marks = marks_in es ns c k.pages }),
+    )
 
 pub taken : (es : List Entry) (ns : List ℕ) (ks : List ClassList) (c : ℕ) (start buffer : List ℕ) (count next : ℕ) (more : Bool) → IsTable es ns ks → IsClass c
     → IsTaking es ns c (list_at ks c).count (list_at ks c).head start buffer count next more → more ≡ false
@@ -174,7 +174,7 @@ taken es ns ks c start buffer count next more h hc t e =
     let k' = below_list k count next in
     let new = taken-class es ns c k start buffer count next more (h.linked c hc) t e in
     became es es ns ks (set ks (c - 1) k') c k' (pop_batch_in (class_in es ns c k)) h hc refl (length-set ks (c - 1) k') (list-same ks c k' hc h.all) (λ d hd n. list-other ks c d k' hc hd n) refl
-      (λ d x hd n q. refl) new.0 new.1
+    (λ d x hd n q. refl) new.0 new.1
 
 pub taken-buffer : (es : List Entry) (ns : List ℕ) (c : ℕ) (k : ClassList) (start buffer : List ℕ) (count next : ℕ) (more : Bool) → IsTaking es ns c k.count k.head start buffer count next more → more ≡ false
     → reverse (take count buffer) ++ drop count buffer ≡ batch_in (class_in es ns c k) ++ drop count start
@@ -183,7 +183,7 @@ taken-buffer es ns c k start buffer count next more t e =
     let g = t.ends e in
     let len : length (take count buffer) ≡ count = length-take-le count buffer t.fits in
     let same : take count buffer ≡ take (first_size (sizes_from es ns c k.count k.head)) (stack_from es ns c k.count k.head) =
-      sym (ap (take count) t.stack ∙ take_at (take count buffer) xs count len) ∙ ap (λ m. take m (stack_from es ns c k.count k.head)) g.0 in
+    sym (ap (take count) t.stack ∙ take_at (take count buffer) xs count len) ∙ ap (λ m. take m (stack_from es ns c k.count k.head)) g.0 in
     ap (λ s. reverse s ++ drop count buffer) same ∙ ap (λ s. reverse (take (first_size (sizes_from es ns c k.count k.head)) (stack_from es ns c k.count k.head)) ++ s) t.rest
 
 pub more-at-first : (n : ℕ) → (not (n == 0) ≡ true → 0 < n) × (not (n == 0) ≡ false → n ≡ 0)

@@ -1,9 +1,8 @@
 -- A class gets pages, and what that leaves of the pool.
-use Rattle.std.proofs.Common.{◌≡◌, ◌≢◌, ℕ, zero, suc, ◌+◌, ◌-◌, ◌*◌, ◌/◌, ◌%◌, ◌<◌, ◌≤◌, Bool, true, false, List, [], ◌∷◌, ◌++◌, length, map, take, replicate, get_or, set, refl, sym, ap, subst, ◌∙◌, ◌⊎◌, inl, inr, arith}
+use Rattle.std.proofs.Common.{◌≡◌, ◌≢◌, ℕ, ◌+◌, ◌-◌, ◌*◌, ◌/◌, ◌%◌, ◌<◌, ◌≤◌, true, List, ◌++◌, length, take, replicate, get_or, set, sym, ap, subst, ◌∙◌, ◌⊎◌, inl, inr, arith}
 use Rattle.std.proofs.lemmas.Bool.{cases_eq, cases_lt}
 use Rattle.std.proofs.lemmas.List.{length-set, with_items_is}
 use Rattle.std.proofs.lemmas.List.FromFn.{take-map-range_with_len}
-use Rattle.std.specs.List.{range_with_len}
 use Rattle.std.specs.Prelude.{vec_len}
 use Rattle.std.specs.Vec.{with_items}
 use Rattle.scudo_header.specs.Classes.{size_of}
@@ -12,14 +11,14 @@ use Rattle.scudo_header.specs.declared.classes.TheConstants.{CLASSES}
 use Rattle.scudo_header.specs.declared.regions.TheConstants.{PAGE_SIZE, MAX_PAGES}
 use Rattle.scudo_primary.specs.Blocks.{carved_count, block_at, number_of, blocks_from, IsBlock}
 use Rattle.scudo_primary.specs.Batches.{batch_sizes}
-use Rattle.scudo_primary.specs.Pools.{ClassState, PoolState, pool_by, class_at, with_class, with_pages, carve_in, new_count}
-use Rattle.scudo_primary.specs.Lists.{IsClass, Each, page_number, slot_of, place_of, no_entry, entry_at, list_at, free_in, marks_in, class_in, link_new_in, state_of, pool_in, IsNumbered, IsLinked, IsTable, IsPool, Became}
+use Rattle.scudo_primary.specs.Pools.{ClassState, PoolState, class_at, with_class, with_pages, carve_in, new_count}
+use Rattle.scudo_primary.specs.Lists.{IsClass, Each, page_number, no_entry, entry_at, list_at, free_in, marks_in, class_in, link_new_in, state_of, pool_in, IsNumbered, IsLinked, IsTable, IsPool, Became}
 use Rattle.scudo_primary.specs.declared.lists.Entry.{Entry}
 use Rattle.scudo_primary.specs.declared.lists.ClassList.{ClassList}
 use Rattle.scudo_primary.specs.declared.pool.Pool.TheInside.{Inside}
-use Rattle.scudo_primary.proofs.BlockLemmas.{IsCell, block-IsCell, IsBlock-more, carved_count-≤}
+use Rattle.scudo_primary.proofs.BlockLemmas.{block-IsCell, IsBlock-more, carved_count-≤}
 use Rattle.scudo_primary.proofs.ListLemmas.{Each-map}
-use Rattle.scudo_primary.proofs.TableLemmas.{class-kept, marks-agree, free-same, list-same, list-other}
+use Rattle.scudo_primary.proofs.TableLemmas.{class-kept, list-same, list-other}
 use Rattle.scudo_primary.proofs.ModelLemmas.{pool_by-with_class, class_at-state, table-same}
 
 abbrev pub wide : ClassList → ℕ → ClassList
@@ -53,17 +52,17 @@ pub number-cases : (ns ns' : List ℕ) (ks : List ClassList) (n c pages used lim
     → i < (list_at (set ks (c - 1) (wide (list_at ks c) pages)) d).pages
     → ((i < (list_at ks d).pages) × (page_number ns' d i ≡ page_number ns d i)) ⊎ ((d ≡ c) × ((list_at ks c).pages ≤ i) × (i < (list_at ks c).pages + pages) × (page_number ns' d i ≡ used + (i - (list_at ks c).pages)))
 number-cases ns ns' ks n c pages used limit d i all r m hd l = elim (cases_eq d c) [
-    | inr o ↦ inl (subst (λ (t : ClassList). i < t.pages) (wide-other ks c pages d r.class hd o) l, m.others d i hd o)
-    | inl s ↦
+  | inr o ↦ inl (subst (λ (t : ClassList). i < t.pages) (wide-other ks c pages d r.class hd o) l, m.others d i hd o)
+  | inl s ↦
       (let old = (list_at ks c).pages in
       let up : i < old + pages = subst (λ (t : ClassList). i < t.pages) (ap (list_at (set ks (c - 1) (wide (list_at ks c) pages))) s ∙ wide-list ks c pages all r.class) l in
       elim (cases_lt i old) [
         | inl q ↦ inl (subst (λ t. i < (list_at ks t).pages) (sym s) q, ap (λ t. page_number ns' t i) s ∙ m.before i q ∙ ap (λ t. page_number ns t i) (sym s))
         | inr q ↦
-          (let at : old + (i - old) ≡ i = omega arith in
-          inr (s, q, up, ap (λ t. page_number ns' t i) s ∙ ap (page_number ns' c) (sym at) ∙ m.numbered (i - old) (omega arith)))
+            (let at : old + (i - old) ≡ i = omega arith in
+            inr (s, q, up, ap (λ t. page_number ns' t i) s ∙ ap (page_number ns' c) (sym at) ∙ m.numbered (i - old) (omega arith)))
       ])
-  ]
+]
 
 pub numbered-wide : (ns ns' : List ℕ) (ks : List ClassList) (n c pages used limit : ℕ) → length ks ≡ CLASSES → IsNumbered ns ks n → IsRoomy ns ks n c pages used limit → IsNumberedOn ns ns' c (list_at ks c).pages pages used
     → IsNumbered ns' (set ks (c - 1) (wide (list_at ks c) pages)) n
@@ -127,7 +126,7 @@ widened es ns ns' ks c pages used limit h r m =
     let k = list_at ks c in
     let ks' = set ks (c - 1) (wide k pages) in
     let kept : (d : ℕ) → IsClass d → (class_in es ns' d (list_at ks d) ≡ class_in es ns d (list_at ks d)) × IsLinked es ns' d (list_at ks d) =
-      λ d hd. class-kept es es ns ns' d (list_at ks d) hd (h.linked d hd) (λ x b. entry-kept es ns ns' ks c pages used d x m hd b) in
+    λ d hd. class-kept es es ns ns' d (list_at ks d) hd (h.linked d hd) (λ x b. entry-kept es ns ns' ks c pages used d x m hd b) in
     let mine = (kept c r.class).1 in
     let more : IsLinked es ns' c (wide k pages) = record {
       blocks = Each-map _ _ _ mine.blocks (λ x b. IsBlock-more c k.pages (k.pages + pages) x r.class (omega arith) b);
@@ -152,7 +151,7 @@ widened es ns ns' ks c pages used limit h r m =
 -- the class with its new blocks
 pub carved-class : (es : List Entry) (ns ns' : List ℕ) (ks : List ClassList) (c pages : ℕ) → IsClass c → IsWide es ns ns' ks c pages
     → link_new_in c (class_in es ns' c (list_at (set ks (c - 1) (wide (list_at ks c) pages)) c)) (carved_count c (list_at ks c).pages) (new_count c (list_at ks c).pages pages)
-      ≡ carve_in c (class_in es ns c (list_at ks c)) pages (new_count c (list_at ks c).pages pages)
+    ≡ carve_in c (class_in es ns c (list_at ks c)) pages (new_count c (list_at ks c).pages pages)
 unfolding marks_in
 carved-class es ns ns' ks c pages h w =
     let k = list_at ks c in
@@ -216,9 +215,9 @@ old-below f v es ns ns' ns2 c pages from r e =
     let k = list_at f.lists c in
     let w = ready-wide f v es ns ns' ns2 c pages r in
     let same : (class_in es ns2 c (list_at (set f.lists (c - 1) (wide k pages)) c)).stack ≡ (class_in es ns c k).stack =
-      ap (λ (t : ClassList). (class_in es ns2 c t).stack) w.own ∙ ap (λ (t : ClassState). t.stack) w.old in
+    ap (λ (t : ClassList). (class_in es ns2 c t).stack) w.own ∙ ap (λ (t : ClassState). t.stack) w.old in
     subst (Each (λ b. number_of c b < from)) (sym same)
-      (Each-map (class_in es ns c k).stack (IsBlock c k.pages) (λ b. number_of c b < from) (r.table.linked c r.roomy.class).blocks (λ x b. subst (λ t. number_of c x < t) (sym e) b.carved))
+    (Each-map (class_in es ns c k).stack (IsBlock c k.pages) (λ b. number_of c b < from) (r.table.linked c r.roomy.class).blocks (λ x b. subst (λ t. number_of c x < t) (sym e) b.carved))
 
 pub record CarveDone (f : Inside) (v : PoolState) (es' : List Entry) (ns' : List ℕ) (ks'' : List ClassList) (c pages : ℕ) : Type 0 where
   pub invariant : IsPool (inside_carved f es' ns' ks'' (f.used + pages))
@@ -235,10 +234,10 @@ carve-invariant f v es es' ns ns' ns2 ks'' c pages k r h b =
     record {
       table = subst (λ t. IsTable t (with_items f.numbers ns').items ks'') (sym items) (subst (λ t. IsTable es' t ks'') (sym r.same) b.table);
       counted = λ d i hd l. subst (λ t. page_number t d i < f.used + pages) (sym r.same)
-        (elim (number-cases ns ns2 f.lists (length es) c pages f.used f.limit d i all r.roomy r.numbered hd (subst (λ t. i < t) (b.pages d hd) l)) [
-          | inl o ↦ (let x = r.roomy.counted d i hd o.0 in let y = o.1 in omega arith)
-          | inr o ↦ (let x = o.3 in let y = o.2 in let z = o.1 in omega arith)
-        ]);
+          (elim (number-cases ns ns2 f.lists (length es) c pages f.used f.limit d i all r.roomy r.numbered hd (subst (λ t. i < t) (b.pages d hd) l)) [
+            | inl o ↦ (let x = r.roomy.counted d i hd o.0 in let y = o.1 in omega arith)
+            | inr o ↦ (let x = o.3 in let y = o.2 in let z = o.1 in omega arith)
+          ]);
       few = λ d hd. elim (cases_eq d c) [
         | inl s ↦ (let x = b.pages c hc ∙ ap (λ (t : ClassList). t.pages) (wide-list f.lists c pages all hc) in subst (λ t. (list_at ks'' t).pages ≤ f.used + pages) (sym s) (omega arith))
         | inr o ↦ (let x = b.pages d hd ∙ ap (λ (t : ClassList). t.pages) (wide-other f.lists c pages d hc hd o) in let y = r.roomy.few d hd in omega arith)
@@ -251,7 +250,7 @@ carve-invariant f v es es' ns ns' ns2 ks'' c pages k r h b =
 
 pub carve-view : (f : Inside) (v : PoolState) (es es' : List Entry) (ns ns' ns2 : List ℕ) (ks'' : List ClassList) (c pages : ℕ) → IsReady f v es ns ns' ns2 c pages
     → Became es ns2 (set f.lists (c - 1) (wide (list_at f.lists c) pages)) es' ks'' c
-        (link_new_in c (class_in es ns2 c (list_at (set f.lists (c - 1) (wide (list_at f.lists c) pages)) c)) (carved_count c (list_at f.lists c).pages) (new_count c (list_at f.lists c).pages pages))
+    (link_new_in c (class_in es ns2 c (list_at (set f.lists (c - 1) (wide (list_at f.lists c) pages)) c)) (carved_count c (list_at f.lists c).pages) (new_count c (list_at f.lists c).pages pages))
     → pool_in (inside_carved f es' ns' ks'' (f.used + pages)) ≡ with_pages v c pages
 unfolding with_pages
 carve-view f v es es' ns ns' ns2 ks'' c pages r b =
@@ -296,11 +295,11 @@ carve-all f v es ns ns' ns2 c pages s r e =
 
 pub carve-end : (f : Inside) (v : PoolState) (es es' : List Entry) (ns ns' ns2 : List ℕ) (ks'' : List ClassList) (c pages s : ℕ) → IsReady f v es ns ns' ns2 c pages → s ≡ size_of c
     → Became es ns2 (set f.lists (c - 1) (wide (list_at f.lists c) pages)) es' ks'' c
-        (link_new_in c (class_in es ns2 c (list_at (set f.lists (c - 1) (wide (list_at f.lists c) pages)) c)) (PAGE_SIZE * (list_at f.lists c).pages / s)
-          (PAGE_SIZE * ((list_at f.lists c).pages + pages) / s - PAGE_SIZE * (list_at f.lists c).pages / s))
+    (link_new_in c (class_in es ns2 c (list_at (set f.lists (c - 1) (wide (list_at f.lists c) pages)) c)) (PAGE_SIZE * (list_at f.lists c).pages / s)
+    (PAGE_SIZE * ((list_at f.lists c).pages + pages) / s - PAGE_SIZE * (list_at f.lists c).pages / s))
     → Became es ns2 (set f.lists (c - 1) (wide (list_at f.lists c) pages)) es' ks'' c
-        (link_new_in c (class_in es ns2 c (list_at (set f.lists (c - 1) (wide (list_at f.lists c) pages)) c)) (carved_count c (list_at f.lists c).pages) (new_count c (list_at f.lists c).pages pages))
+    (link_new_in c (class_in es ns2 c (list_at (set f.lists (c - 1) (wide (list_at f.lists c) pages)) c)) (carved_count c (list_at f.lists c).pages) (new_count c (list_at f.lists c).pages pages))
 carve-end f v es es' ns ns' ns2 ks'' c pages s r e b =
     subst (λ t. Became es ns2 (set f.lists (c - 1) (wide (list_at f.lists c) pages)) es' ks'' c
-        (link_new_in c (class_in es ns2 c (list_at (set f.lists (c - 1) (wide (list_at f.lists c) pages)) c)) (PAGE_SIZE * (list_at f.lists c).pages / t)
-          (PAGE_SIZE * ((list_at f.lists c).pages + pages) / t - PAGE_SIZE * (list_at f.lists c).pages / t))) e b
+    (link_new_in c (class_in es ns2 c (list_at (set f.lists (c - 1) (wide (list_at f.lists c) pages)) c)) (PAGE_SIZE * (list_at f.lists c).pages / t)
+    (PAGE_SIZE * ((list_at f.lists c).pages + pages) / t - PAGE_SIZE * (list_at f.lists c).pages / t))) e b

@@ -93,11 +93,11 @@ marks_in es ns class pages = map (λ n. free_in es ns class (block_at class n)) 
 
 abbrev pub class_in : List Entry → List ℕ → ℕ → ClassList → ClassState
 class_in es ns class k = record {
-    pages = k.pages;
-    stack = stack_from es ns class k.count k.head;
-    sizes = sizes_from es ns class k.count k.head;
-    marks = marks_in es ns class k.pages;
-  }
+  pages = k.pages;
+  stack = stack_from es ns class k.count k.head;
+  sizes = sizes_from es ns class k.count k.head;
+  marks = marks_in es ns class k.pages;
+}
 
 abbrev pub state_of : ℕ → List Entry → List ℕ → List ClassList → PoolState
 state_of left es ns ks = pool_by left (λ class. class_in es ns class (list_at ks class))
@@ -112,11 +112,11 @@ link_in class k block last = record k { stack = block ∷ k.stack; sizes = joine
 -- the class with n new blocks from the one with the number m on, on top and marked free
 abbrev pub link_new_in : ℕ → ClassState → ℕ → ℕ → ClassState
 link_new_in class k m n = record {
-    pages = k.pages;
-    stack = blocks_from class m n ++ k.stack;
-    sizes = batch_sizes class n ++ k.sizes;
-    marks = take m k.marks ++ replicate n true;
-  }
+  pages = k.pages;
+  stack = blocks_from class m n ++ k.stack;
+  sizes = batch_sizes class n ++ k.sizes;
+  marks = take m k.marks ++ replicate n true;
+}
 
 -- ---- what holds of it
 

@@ -124,11 +124,11 @@ push_batch_in k blocks = record k { stack = reverse blocks ++ k.stack; sizes = l
 -- the class with so many more blocks on top, the lowest first, marked free
 abbrev pub carve_in : ℕ → ClassState → ℕ → ℕ → ClassState
 carve_in class k pages n = record {
-    pages = k.pages + pages;
-    stack = blocks_from class (carved_count class k.pages) n ++ k.stack;
-    sizes = batch_sizes class n ++ k.sizes;
-    marks = k.marks ++ replicate n true;
-  }
+  pages = k.pages + pages;
+  stack = blocks_from class (carved_count class k.pages) n ++ k.stack;
+  sizes = batch_sizes class n ++ k.sizes;
+  marks = k.marks ++ replicate n true;
+}
 
 -- ---- what the calls leave of a pool
 

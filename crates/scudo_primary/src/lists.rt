@@ -75,7 +75,11 @@ pub(crate) fn set_mark(entries: &mut [Entry], numbers: &[u16], class: u8, block:
 {
     let at = place(numbers, class, block);
     let entry = entries[at];
-    entries[at] = Entry { next: entry.next, free, last: entry.last };
+    entries[at] = Entry {
+        next: entry.next,
+        free,
+        last: entry.last,
+    };
 }
 
 /// Puts a block on top of the stack of its class, and marks it free. It is the last of a new batch, or it joins the top

@@ -7,7 +7,10 @@ ghost use Rattle.scudo_primary.specs.Batches.{max_count_of, first_size};
 ghost use Rattle.scudo_primary.specs.Pools.{pages_of, stack_of, sizes_of, is_listed, is_marked, IsFree, IsCached, empty_pool, popped, pushed, top_batch, without_batch, with_batch, with_mark, with_pages};
 
 use crate::batches::MAX_COUNT;
-use crate::lists::{ClassList, Entry, LISTS, link, link_batch, link_new, number_pages, place, region_start, set_mark, unlink, unlink_batch};
+use crate::lists::{
+    ClassList, Entry, LISTS, link, link_batch, link_new, number_pages, place, region_start,
+    set_mark, unlink, unlink_batch,
+};
 use scudo_header::{CLASSES, MAX_PAGES, PAGE_SIZE, size_of_class};
 use std::alloc::{AllocError, Global};
 use std::marker::Model;
@@ -45,8 +48,16 @@ impl Pool {
         requires high { pages ≤ MAX_PAGES }
         ensures { IfOk result (λ pool. pool ≡ empty_pool pages) }
     {
-        let no_entry = Entry { next: 0, free: false, last: false };
-        let no_list = ClassList { head: 0, count: 0, pages: 0 };
+        let no_entry = Entry {
+            next: 0,
+            free: false,
+            last: false,
+        };
+        let no_list = ClassList {
+            head: 0,
+            count: 0,
+            pages: 0,
+        };
         let entries = vec![in alloc; no_entry; 128 * pages as usize]?;
         let numbers = vec![in alloc; 0; LISTS * pages as usize]?;
         Ok(Pool {
@@ -104,7 +115,14 @@ impl Pool {
         requires used { is_marked self.old class block ≡ false }
         ensures { self.new ≡ pushed self.old class block }
     {
-        link(&mut self.entries, &self.numbers, &mut self.lists, class, block, true);
+        link(
+            &mut self.entries,
+            &self.numbers,
+            &mut self.lists,
+            class,
+            block,
+            true,
+        );
     }
 
     /// Takes the top batch of the stack of a class into the front of the buffer, in its own order, its top block last, and
@@ -136,7 +154,13 @@ impl Pool {
         requires distinct { IsDistinct nat_eq blocks.now }
         ensures { self.new ≡ with_batch self.old class blocks.now }
     {
-        link_batch(&mut self.entries, &self.numbers, &mut self.lists, class, blocks);
+        link_batch(
+            &mut self.entries,
+            &self.numbers,
+            &mut self.lists,
+            class,
+            blocks,
+        );
     }
 
     /// Marks a carved block free.

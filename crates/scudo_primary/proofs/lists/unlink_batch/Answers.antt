@@ -1,7 +1,7 @@
-use Rattle.std.proofs.Common.{◌≡◌, ◌<◌, ◌+◌, ◌++◌, arith, length, drop, sym, subst, ap, ◌∙◌}
+use Rattle.std.proofs.Common.{◌<◌, ◌++◌, arith, length, drop, sym, subst, ap, ◌∙◌}
 use Rattle.scudo_primary.specs.Lists.{list_at}
 use Rattle.scudo_primary.proofs.TableLemmas.{slot-in, place-in}
-use Rattle.scudo_primary.proofs.TakingLemmas.{IsNext, taking-init, taking-next, taking-step, taken, taken-buffer, more-at-first}
+use Rattle.scudo_primary.proofs.TakingLemmas.{taking-init, taking-next, taking-step, taken, taken-buffer, more-at-first}
 use Rattle.scudo_primary.proofs.lists.unlink_batch.Goals as goal
 
 pub loop-more-init : goal.loop-more-init
@@ -23,7 +23,7 @@ pub bounds-entries-place : goal.bounds-entries-place
 unfolding list_at
 bounds-entries-place c =
     subst (λ t. t < length c.args.entries.now) (sym c.place.ensures)
-      (place-in _ _ _ _ _ c.requires.table.numbered c.requires.class (taking-next _ _ _ _ _ _ _ _ _ c.requires.table c.requires.class c.loop-more.invariant c.loop-more-test.true).cell)
+    (place-in _ _ _ _ _ c.requires.table.numbered c.requires.class (taking-next _ _ _ _ _ _ _ _ _ c.requires.table c.requires.class c.loop-more.invariant c.loop-more-test.true).cell)
 
 pub bounds-buffer-count : goal.bounds-buffer-count
 unfolding list_at

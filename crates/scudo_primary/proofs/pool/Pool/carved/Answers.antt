@@ -1,4 +1,4 @@
-use Rattle.std.proofs.Common.{◌≡◌, ◌≤◌, ◌*◌, ◌/◌, ◌<◌, ℕ, arith, ap, sym, ◌∙◌}
+use Rattle.std.proofs.Common.{◌*◌, ◌/◌, arith, ap, sym, ◌∙◌}
 use Rattle.scudo_header.specs.Classes.{size_of}
 use Rattle.scudo_header.specs.declared.regions.TheConstants.{PAGE_SIZE}
 use Rattle.scudo_primary.specs.Lists.{list_at}

@@ -13,4 +13,4 @@ unfolding list_at
 returns-then-offset-size-eq0 c =
     let h : IsClass c.args.class = record { low = c.requires.low; high = c.requires.high } in
     block-test c.args.class _ (list_at c.self.inside.lists c.args.class).pages c.args.block _ _ _ h (pages-value c.self.inside c.args.self.now _ c.self.view_is h)
-      c.region_start-start.ensures c.size_of_class-size.ensures.size c.if-block-start.false c.if-offset-size-eq0.true c.saturating_sub.ensures
+    c.region_start-start.ensures c.size_of_class-size.ensures.size c.if-block-start.false c.if-offset-size-eq0.true c.saturating_sub.ensures

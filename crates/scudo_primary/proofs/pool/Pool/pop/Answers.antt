@@ -1,14 +1,14 @@
-use Rattle.std.proofs.Common.{◌≡◌, ◌<◌, ℕ, List, false, ap, subst, sym, ◌∙◌, arith, slice_get}
+use Rattle.std.proofs.Common.{ℕ, List, ap, subst, sym, ◌∙◌, arith, slice_get}
 use Rattle.scudo_primary.specs.Blocks.{IsBlock}
 use Rattle.scudo_primary.specs.Pools.{ClassState, popped, pop_in, is_member}
-use Rattle.scudo_primary.specs.Lists.{IsClass, list_at}
-use Rattle.scudo_primary.proofs.ModelLemmas.{PoolDone, pool-done, table-same, class_at-slices, empty-stack, popped-empty}
+use Rattle.scudo_primary.specs.Lists.{list_at}
+use Rattle.scudo_primary.proofs.ModelLemmas.{PoolDone, pool-done, class_at-slices, empty-stack, popped-empty}
 use Rattle.scudo_primary.proofs.pool.Pool.pop.Goals as goal
 
 done : (c : goal.After-self-1) → PoolDone c.self.inside c.args.self.now c.deref.result.now c.unlink.new.entries c.unlink.new.lists c.args.class (λ (k : ClassState). pop_in c.args.class k k.stack)
 done c =
     pool-done c.self.inside c.args.self.now c.deref_mut.result.now c.deref.result.now _ _ _ (λ (k : ClassState). pop_in c.args.class k k.stack) c.self.view_is c.self.invariant
-      (record { low = c.requires.low; high = c.requires.high }) c.deref_mut.ensures.value c.deref_mut.ensures.len c.deref.ensures.value c.unlink.ensures.rest
+    (record { low = c.requires.low; high = c.requires.high }) c.deref_mut.ensures.value c.deref_mut.ensures.len c.deref.ensures.value c.unlink.ensures.rest
 
 pub returns-then-self-class-eq0-clause-answer : goal.returns-then-self-class-eq0-clause-answer
 unfolding list_at
@@ -30,7 +30,7 @@ invariant_of-self c = (done c).invariant
 pub returns-clause-answer : goal.returns-clause-answer
 returns-clause-answer c =
     sym (ap (λ (k : ClassState). slice_get k.stack 0) (class_at-slices c.self.inside c.args.self.now _ _ _ c.self.view_is (record { low = c.requires.low; high = c.requires.high }) c.deref_mut.ensures.value c.deref.ensures.value)
-      ∙ c.unlink.ensures.top)
+    ∙ c.unlink.ensures.top)
 
 pub returns-clause-pool : goal.returns-clause-pool
 unfolding popped
