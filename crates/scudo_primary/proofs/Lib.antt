@@ -10,3 +10,4 @@ pub mod WidenLemmas
 pub mod BatchLemmas
 pub mod TakingLemmas
 pub mod TakenLemmas
+pub mod PoolLaws

@@ -9,3 +9,6 @@ mod pool;
 
 pub use batches::{MAX_COUNT, MAX_COUNT_ABOVE, SMALL_SIZE, max_count};
 pub use pool::Pool;
+
+#[cfg(test)]
+mod tests;

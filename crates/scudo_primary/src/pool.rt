@@ -204,7 +204,8 @@ impl Pool {
     pub fn is_free(&self, class: u8, block: u64) -> bool
         requires low { 0 < class }
         requires high { class ≤ CLASSES }
-        ensures { IsTrue result ↔ IsFree self.now class block }
+        ensures free { IsTrue result ↔ IsFree self.now class block }
+        ensures mark { IsBlock class (pages_of self.now class) block → result ≡ is_marked self.now class block }
     {
         self.is_block(class, block) && self.entries[place(&self.numbers, class, block)].free
     }

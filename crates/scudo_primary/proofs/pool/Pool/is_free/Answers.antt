@@ -29,4 +29,4 @@ returns-then-is_block c =
     subst (λ t. t < length c.self.inside.entries.items) (sym c.place.ensures)
     (placed c.self.inside c.args.self.now c.self.inside.entries.items _ _ _ c.self.view_is c.self.invariant (record { low = c.requires.low; high = c.requires.high }) refl c.deref.ensures.value (c.if-is_block.ensures.0 refl)).place in
     let m = mark c l in
-    ((λ t. record { carved = c.if-is_block.ensures.0 refl; marked = m ∙ t }), (λ k. sym m ∙ k.marked))
+    record { free = ((λ t. record { carved = c.if-is_block.ensures.0 refl; marked = m ∙ t }), (λ k. sym m ∙ k.marked)); mark = λ b. sym m }
