@@ -1,5 +1,5 @@
 -- What the table says of the value that callers see.
-use Rattle.std.proofs.Common.{◌≡◌, ◌≢◌, ℕ, zero, suc, ◌+◌, ◌-◌, ◌/◌, ◌<◌, ◌≤◌, Bool, true, false, List, [], length, map, get_or, set, Some, None, ◌⊎◌, refl, sym, ap, subst, ◌∙◌, inl, inr, arith, unwrap_or, eq-eqb}
+use Rattle.std.proofs.Common.{◌≡◌, ◌≢◌, ℕ, zero, suc, ◌+◌, ◌-◌, ◌/◌, ◌<◌, ◌≤◌, Bool, true, false, List, [], ◌∷◌, length, map, get_or, set, slice_get, Some, None, ◌⊎◌, refl, sym, ap, subst, ◌∙◌, inl, inr, arith, unwrap_or, eq-eqb}
 use Rattle.std.proofs.lemmas.Bool.{cases_eq, cases_lt, cond-true, cond-false}
 use Rattle.std.proofs.lemmas.List.{with_items_is}
 use Rattle.std.specs.List.{range_with_len}
@@ -162,6 +162,23 @@ empty-stack f v c e h z =
 pub popped-empty : (f : Inside) (v : PoolState) (c : ℕ) → pool_in f ≡ v → IsClass c → (list_at f.lists c).count ≡ 0 → v ≡ popped v c
 unfolding popped
 popped-empty f v c e h z = with_class-kept f v c e h ∙ ap (λ t. with_class v c (pop_in c (class_at v c) t)) (sym (empty-stack f v c e h z))
+
+cleared : (marks : List Bool) (n : ℕ) → get_or (set marks n false) n false ≡ false
+cleared [] n = refl
+cleared (m ∷ ms) zero = refl
+cleared (m ∷ ms) (suc n) = cleared ms n
+
+pop-cleared : (c : ℕ) (k : ClassState) (stack : List ℕ) (b : ℕ) → slice_get stack 0 ≡ Some b → get_or (pop_in c k stack).marks (number_of c b) false ≡ false
+pop-cleared c k [] b e = cc
+pop-cleared c k (x ∷ xs) b e =
+    let same : x ≡ b = cc in
+    ap (λ t. get_or (set k.marks (number_of c t) false) (number_of c b) false) same ∙ cleared k.marks (number_of c b)
+
+-- a block that was popped is marked used
+pub popped-used : (v v' : PoolState) (c b : ℕ) → v' ≡ with_class v c (pop_in c (class_at v c) (class_at v c).stack) → slice_get (class_at v c).stack 0 ≡ Some b → is_marked v' c b ≡ false
+popped-used v v' c b e top =
+    ap (λ (k : ClassState). get_or k.marks (number_of c b) false) (ap (λ p. class_at p c) e ∙ class_at-with_class v c (pop_in c (class_at v c) (class_at v c).stack))
+    ∙ pop-cleared c (class_at v c) (class_at v c).stack b top
 
 -- the table of an open pool, as slices
 pub table-same : (f : Inside) (es : List Entry) (ns : List ℕ) → IsPool f → es ≡ f.entries.items → ns ≡ f.numbers.items → IsTable es ns f.lists

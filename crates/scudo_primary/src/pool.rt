@@ -100,6 +100,7 @@ impl Pool {
         ensures pool { self.new ≡ popped self.old class }
         ensures block { IfSome result (IsBlock class (pages_of self.new class)) }
         ensures unlisted { IfSome result (λ block. is_listed self.new class block ≡ false) }
+        ensures used { IfSome result (λ block. is_marked self.new class block ≡ false) }
     {
         if self.lists[class as usize - 1].count == 0 {
             return None;

@@ -2,7 +2,7 @@ use Rattle.std.proofs.Common.{ℕ, List, ap, subst, sym, ◌∙◌, arith, slice
 use Rattle.scudo_primary.specs.Blocks.{IsBlock}
 use Rattle.scudo_primary.specs.Pools.{ClassState, popped, pop_in, is_member}
 use Rattle.scudo_primary.specs.Lists.{list_at}
-use Rattle.scudo_primary.proofs.ModelLemmas.{PoolDone, pool-done, class_at-slices, empty-stack, popped-empty}
+use Rattle.scudo_primary.proofs.ModelLemmas.{PoolDone, pool-done, class_at-slices, empty-stack, popped-empty, popped-used}
 use Rattle.scudo_primary.proofs.pool.Pool.pop.Goals as goal
 
 done : (c : goal.After-self-1) → PoolDone c.self.inside c.args.self.now c.deref.result.now c.unlink.new.entries c.unlink.new.lists c.args.class (λ (k : ClassState). pop_in c.args.class k k.stack)
@@ -44,3 +44,8 @@ returns-clause-block c =
 pub returns-clause-unlisted : goal.returns-clause-unlisted
 returns-clause-unlisted c =
     ap (λ (k : ClassState). is_member k.stack c.unlink.result) (done c).now ∙ c.unlink.ensures.unlisted
+
+pub returns-clause-used : goal.returns-clause-used
+returns-clause-used c =
+    let at = class_at-slices c.self.inside c.args.self.now _ _ _ c.self.view_is (record { low = c.requires.low; high = c.requires.high }) c.deref_mut.ensures.value c.deref.ensures.value in
+    popped-used c.args.self.now _ c.args.class c.unlink.result (done c).view (ap (λ (k : ClassState). slice_get k.stack 0) at ∙ c.unlink.ensures.top)
