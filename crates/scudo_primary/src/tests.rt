@@ -272,10 +272,11 @@ fn round_of_both(
     Ok(agrees)
 }
 
-#[test]
+/// Five such rounds of four classes. Answers whether the pool and the lists agree throughout.
 #[tactic(auto, using(crate::proofs::PoolLaws::left_laws))]
-fn a_thousand_steps_beside_plain_lists(rt: HostRuntime) -> Result<(), Fail> {
-    let mut pool = Pool::new(rt.alloc(), 512)?;
+fn rounds_agree(alloc: Global, pool: &mut Pool) -> Result<bool, AllocError>
+    requires { 175 ≤ pool.old.left }
+{
     let small = Tested {
         class: 1,
         size: 32,
@@ -296,28 +297,26 @@ fn a_thousand_steps_beside_plain_lists(rt: HostRuntime) -> Result<(), Fail> {
         size: 131_072,
         half: 4,
     };
-    let mut of_small = no_blocks(rt.alloc());
-    let mut of_odd = no_blocks(rt.alloc());
-    let mut of_above = no_blocks(rt.alloc());
-    let mut of_large = no_blocks(rt.alloc());
+    let mut of_small = no_blocks(alloc);
+    let mut of_odd = no_blocks(alloc);
+    let mut of_above = no_blocks(alloc);
+    let mut of_large = no_blocks(alloc);
     let mut seed = 1;
+    let mut agree = true;
     for round in 0..5u64 {
-        assert!(rt;
-            round_of_both(&mut pool, small, 1, &mut of_small, &mut seed)?,
-            "round {round}"
-        );
-        assert!(rt;
-            round_of_both(&mut pool, odd, 1, &mut of_odd, &mut seed)?,
-            "round {round}"
-        );
-        assert!(rt;
-            round_of_both(&mut pool, above, 1, &mut of_above, &mut seed)?,
-            "round {round}"
-        );
-        assert!(rt;
-            round_of_both(&mut pool, large, 32, &mut of_large, &mut seed)?,
-            "round {round}"
-        );
+        let first = round_of_both(pool, small, 1, &mut of_small, &mut seed)?;
+        let second = round_of_both(pool, odd, 1, &mut of_odd, &mut seed)?;
+        let third = round_of_both(pool, above, 1, &mut of_above, &mut seed)?;
+        let fourth = round_of_both(pool, large, 32, &mut of_large, &mut seed)?;
+        agree = agree && first && second && third && fourth;
     }
+    Ok(agree)
+}
+
+#[test]
+#[tactic(auto, using(crate::proofs::PoolLaws::left_laws))]
+fn a_thousand_steps_beside_plain_lists(rt: HostRuntime) -> Result<(), Fail> {
+    let mut pool = Pool::new(rt.alloc(), 175)?;
+    assert!(rt; rounds_agree(rt.alloc(), &mut pool)?);
     Ok(())
 }
