@@ -1,6 +1,6 @@
 -- What the words of a pool's state say of its pages and of each class, for the layers above.
-use Rattle.std.proofs.Common.{◌≡◌, ◌≢◌, ℕ, ◌+◌, ◌-◌, ◌<◌, ◌≤◌, Bool, List, refl, ap}
-use Rattle.scudo_primary.specs.Pools.{ClassState, PoolState, empty_class, empty_pool, class_at, with_class, popped, pushed, with_mark, without_batch, with_batch, with_pages, new_count, pop_in, push_in, mark_in, pop_batch_in, push_batch_in, carve_in}
+use Rattle.std.proofs.Common.{◌≡◌, ◌≢◌, ℕ, ◌-◌, Bool, List, refl}
+use Rattle.scudo_primary.specs.Pools.{PoolState, empty_class, empty_pool, class_at, with_class, popped, pushed, with_mark, without_batch, with_batch, with_pages, new_count, pop_in, push_in, mark_in, pop_batch_in, push_batch_in, carve_in}
 use Rattle.scudo_primary.specs.Lists.{IsClass}
 use Rattle.scudo_primary.proofs.ModelLemmas.{class_at-pool_by, class_at-with_class, class_at-with_class_other}
 
