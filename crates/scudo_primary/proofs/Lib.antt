@@ -1,0 +1,13 @@
+pub mod BlockLemmas
+pub mod ListLemmas
+pub mod TableLemmas
+pub mod LinkLemmas
+pub mod ModelLemmas
+pub mod NewLemmas
+pub mod CutLemmas
+pub mod CarveLemmas
+pub mod WidenLemmas
+pub mod BatchLemmas
+pub mod TakingLemmas
+pub mod TakenLemmas
+pub mod PoolLaws

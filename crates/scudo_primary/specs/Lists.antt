@@ -1,0 +1,155 @@
+-- How the pool keeps its stacks: linked through one table of entries. A carved block has its own entry as long as the pool
+-- lives: each carved page has a number, and 128 entries from 128 times that number on, one for each 32 bytes.
+use Rattle.std.specs.Prelude.{◌≡◌, ◌≢◌, ℕ, zero, suc, ◌==◌, ◌||◌, ◌+◌, ◌-◌, ◌*◌, ◌/◌, ◌%◌, ◌<◌, ◌≤◌, Bool, true, false, nat_eq, List, [], ◌∷◌, ◌++◌, length, map, take, replicate, slice_index, slice_index_or, slice_set, vec_len}
+use Rattle.std.specs.List.{range_with_len, IsDistinct}
+use Rattle.scudo_header.specs.Regions.{region_of}
+use Rattle.scudo_header.specs.declared.classes.TheConstants.{CLASSES}
+use Rattle.scudo_header.specs.declared.regions.TheConstants.{PAGE_SIZE}
+use Rattle.scudo_primary.specs.Blocks.{carved_count, block_at, number_of, IsBlock, blocks_from}
+use Rattle.scudo_primary.specs.Batches.{max_count_of, batch_sizes}
+use Rattle.scudo_primary.specs.Pools.{ClassState, PoolState, pool_by}
+use Rattle.scudo_header.specs.declared.regions.TheConstants.{MAX_PAGES}
+use Rattle.scudo_primary.specs.declared.lists.Entry.{Entry}
+use Rattle.scudo_primary.specs.declared.lists.ClassList.{ClassList}
+use Rattle.scudo_primary.specs.declared.pool.Pool.TheInside.{Inside}
+
+pub record IsClass (class : ℕ) : Type 0 where
+  pub low : 0 < class
+  pub high : class ≤ CLASSES
+
+-- ---- a list that is linked through a function from each member to the next
+
+-- the n members from at on
+unfoldable pub follow : (ℕ → ℕ) → ℕ → ℕ → List ℕ
+follow next zero at = []
+follow next (suc n) at = at ∷ follow next n (next at)
+
+abbrev pub Each : (ℕ → Type 0) → List ℕ → Type 0
+Each P [] = Unit {0}
+Each P (x ∷ xs) = P x × Each P xs
+
+-- the sizes with one block more on top of the first batch
+abbrev pub one_more : List ℕ → List ℕ
+one_more [] = 1 ∷ []
+one_more (n ∷ more) = (n + 1) ∷ more
+
+-- the sizes with one block more on top, which begins a batch or joins the first
+abbrev pub joined : Bool → List ℕ → List ℕ
+joined true sizes = 1 ∷ sizes
+joined false sizes = one_more sizes
+
+-- the sizes of the batches of a stack, by which of its members are the last of their batch
+unfoldable pub sizes_by : List Bool → List ℕ
+sizes_by [] = []
+sizes_by (last ∷ more) = joined last (sizes_by more)
+
+-- whether the block at a place among n new ones, counted from the lowest, is the last of its batch
+abbrev pub is_last_at : ℕ → ℕ → ℕ → Bool
+is_last_at half n place = (place + 1 == n) || ((place + 1) % half == 0)
+
+-- ---- the table
+
+-- where the number of a class's page stands
+abbrev pub slot_of : ℕ → ℕ → ℕ
+slot_of class page = page * CLASSES + (class - 1)
+
+abbrev pub page_number : List ℕ → ℕ → ℕ → ℕ
+page_number ns class page = slice_index ns (slot_of class page)
+
+-- where the entry of a block stands
+abbrev pub place_of : List ℕ → ℕ → ℕ → ℕ
+place_of ns class block = page_number ns class ((block - region_of class) / PAGE_SIZE) * 128 + (block - region_of class) % PAGE_SIZE / 32
+
+abbrev pub no_entry : Entry
+no_entry = record { next = 0; free = false; last = false }
+
+abbrev pub no_list : ClassList
+no_list = record { head = 0; count = 0; pages = 0 }
+
+unfoldable pub entry_at : List Entry → List ℕ → ℕ → ℕ → Entry
+entry_at es ns class block = slice_index_or es (place_of ns class block) no_entry
+
+unfoldable pub list_at : List ClassList → ℕ → ClassList
+list_at ks class = slice_index_or ks (class - 1) no_list
+
+unfoldable pub next_in : List Entry → List ℕ → ℕ → ℕ → ℕ
+next_in es ns class block = (entry_at es ns class block).next
+
+unfoldable pub last_in : List Entry → List ℕ → ℕ → ℕ → Bool
+last_in es ns class block = (entry_at es ns class block).last
+
+unfoldable pub free_in : List Entry → List ℕ → ℕ → ℕ → Bool
+free_in es ns class block = (entry_at es ns class block).free
+
+-- the n members of a class's list from at on, and the sizes of their batches
+unfoldable pub stack_from : List Entry → List ℕ → ℕ → ℕ → ℕ → List ℕ
+stack_from es ns class n at = follow (next_in es ns class) n at
+
+unfoldable pub sizes_from : List Entry → List ℕ → ℕ → ℕ → ℕ → List ℕ
+sizes_from es ns class n at = sizes_by (map (last_in es ns class) (stack_from es ns class n at))
+
+unfoldable pub marks_in : List Entry → List ℕ → ℕ → ℕ → List Bool
+marks_in es ns class pages = map (λ n. free_in es ns class (block_at class n)) (range_with_len 0 (carved_count class pages))
+
+abbrev pub class_in : List Entry → List ℕ → ℕ → ClassList → ClassState
+class_in es ns class k = record {
+  pages = k.pages;
+  stack = stack_from es ns class k.count k.head;
+  sizes = sizes_from es ns class k.count k.head;
+  marks = marks_in es ns class k.pages;
+}
+
+abbrev pub state_of : ℕ → List Entry → List ℕ → List ClassList → PoolState
+state_of left es ns ks = pool_by left (λ class. class_in es ns class (list_at ks class))
+
+abbrev pub pool_in : Inside → PoolState
+pool_in f = state_of (f.limit - f.used) f.entries.items f.numbers.items f.lists
+
+-- the class with one block more on top, which begins a batch or joins the first, marked free
+abbrev pub link_in : ℕ → ClassState → ℕ → Bool → ClassState
+link_in class k block last = record k { stack = block ∷ k.stack; sizes = joined last k.sizes; marks = slice_set k.marks (number_of class block) true }
+
+-- the class with n new blocks from the one with the number m on, on top and marked free
+abbrev pub link_new_in : ℕ → ClassState → ℕ → ℕ → ClassState
+link_new_in class k m n = record {
+  pages = k.pages;
+  stack = blocks_from class m n ++ k.stack;
+  sizes = batch_sizes class n ++ k.sizes;
+  marks = take m k.marks ++ replicate n true;
+}
+
+-- ---- what holds of it
+
+pub record IsNumbered (ns : List ℕ) (ks : List ClassList) (n : ℕ) : Type 0 where
+  pub slot : (c i : ℕ) → IsClass c → i < (list_at ks c).pages → slot_of c i < length ns
+  pub room : (c i : ℕ) → IsClass c → i < (list_at ks c).pages → page_number ns c i * 128 + 128 ≤ n
+  pub apart : (c d i j : ℕ) → IsClass c → IsClass d → i < (list_at ks c).pages → j < (list_at ks d).pages → page_number ns c i ≡ page_number ns d j → (c ≡ d) × (i ≡ j)
+  pub few : (c : ℕ) → IsClass c → (list_at ks c).pages ≤ MAX_PAGES
+
+pub record IsLinked (es : List Entry) (ns : List ℕ) (c : ℕ) (k : ClassList) : Type 0 where
+  pub blocks : Each (IsBlock c k.pages) (stack_from es ns c k.count k.head)
+  pub distinct : IsDistinct nat_eq (stack_from es ns c k.count k.head)
+  pub marked : Each (λ b. free_in es ns c b ≡ true) (stack_from es ns c k.count k.head)
+  pub batches : Each (λ n. n ≤ max_count_of c) (sizes_from es ns c k.count k.head)
+
+pub record IsTable (es : List Entry) (ns : List ℕ) (ks : List ClassList) : Type 0 where
+  pub numbered : IsNumbered ns ks (length es)
+  pub all : length ks ≡ CLASSES
+  pub linked : (c : ℕ) → IsClass c → IsLinked es ns c (list_at ks c)
+
+pub record IsPool (f : Inside) : Type 0 where
+  pub table : IsTable f.entries.items f.numbers.items f.lists
+  pub counted : (c i : ℕ) → IsClass c → i < (list_at f.lists c).pages → page_number f.numbers.items c i < f.used
+  pub few : (c : ℕ) → IsClass c → (list_at f.lists c).pages ≤ f.used
+  pub below : f.used ≤ f.limit
+  pub most : f.limit ≤ MAX_PAGES
+  pub room : vec_len f.entries ≡ 128 * f.limit
+  pub slots : vec_len f.numbers ≡ CLASSES * f.limit
+
+-- a call changed the class c to k, and no other class
+pub record Became (es : List Entry) (ns : List ℕ) (ks : List ClassList) (es' : List Entry) (ks' : List ClassList) (c : ℕ) (k : ClassState) : Type 0 where
+  pub table : IsTable es' ns ks'
+  pub class : class_in es' ns c (list_at ks' c) ≡ k
+  pub others : (d : ℕ) → IsClass d → d ≢ c → class_in es' ns d (list_at ks' d) ≡ class_in es ns d (list_at ks d)
+  pub pages : (d : ℕ) → IsClass d → (list_at ks' d).pages ≡ (list_at ks d).pages
+  pub len : length es' ≡ length es

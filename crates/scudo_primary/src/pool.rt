@@ -1,0 +1,222 @@
+//! The pool of free blocks.
+
+ghost use Rattle.std.specs.Prelude.{◌≡◌, ◌≤◌, ◌<◌, ◌++◌, ◌↔◌, [], true, false, length, take, drop, reverse, slice_get, nat_eq, IfSome, IfOk, IsTrue};
+ghost use Rattle.std.specs.List.{All, IsDistinct};
+ghost use Rattle.scudo_primary.specs.Blocks.{IsBlock, carved_count};
+ghost use Rattle.scudo_primary.specs.Batches.{max_count_of, first_size};
+ghost use Rattle.scudo_primary.specs.Pools.{pages_of, stack_of, sizes_of, is_listed, is_marked, IsFree, IsCached, empty_pool, popped, pushed, top_batch, without_batch, with_batch, with_mark, with_pages};
+
+use crate::batches::MAX_COUNT;
+use crate::lists::{
+    ClassList, Entry, LISTS, link, link_batch, link_new, number_pages, place, region_start,
+    set_mark, unlink, unlink_batch,
+};
+use scudo_header::{CLASSES, MAX_PAGES, PAGE_SIZE, size_of_class};
+use std::alloc::{AllocError, Global};
+use std::marker::Model;
+
+/// For each size class the pages of its region that are carved into blocks, one stack of free blocks, and a mark for
+/// each carved block that tells whether it is free.
+#[derive(Drop)]
+pub struct Pool {
+    /// 128 for each page, one for each 32 bytes.
+    entries: Vec<Entry>,
+    /// For each page of a region and each class the number of that page among all carved ones.
+    numbers: Vec<u16>,
+    lists: [ClassList; LISTS],
+    used: u64,
+    limit: u64,
+}
+
+impl Model for Pool {
+    ghost use Rattle.scudo_primary.specs.Pools.{PoolState, coded_pool};
+    ghost use Rattle.scudo_primary.specs.Lists.{pool_in, IsPool};
+
+    ghost Value = { PoolState };
+
+    ghost coded = { coded_pool };
+
+    ghost view = { pool_in };
+
+    ghost invariant = { IsPool };
+}
+
+impl Pool {
+    /// A pool for `pages` pages, none of them carved. It is refused only where its memory is; no later call takes any.
+    pub fn new(alloc: Global, pages: u64) -> Result<Pool, AllocError>
+        requires low { 0 < pages }
+        requires high { pages ≤ MAX_PAGES }
+        ensures { IfOk result (λ pool. pool ≡ empty_pool pages) }
+    {
+        let no_entry = Entry {
+            next: 0,
+            free: false,
+            last: false,
+        };
+        let no_list = ClassList {
+            head: 0,
+            count: 0,
+            pages: 0,
+        };
+        let entries = vec![in alloc; no_entry; 128 * pages as usize]?;
+        let numbers = vec![in alloc; 0; LISTS * pages as usize]?;
+        Ok(Pool {
+            entries,
+            numbers,
+            lists: [no_list; LISTS],
+            used: 0,
+            limit: pages,
+        })
+    }
+
+    /// Carves `pages` pages more of a class's region into blocks. The new blocks come on top of its stack, marked free, the
+    /// lowest on top, in batches of at most half of what a local cache holds.
+    pub fn carve(&mut self, class: u8, pages: u64)
+        requires low { 0 < class }
+        requires high { class ≤ CLASSES }
+        requires room { pages ≤ self.old.left }
+        ensures { self.new ≡ with_pages self.old class pages }
+    {
+        let list = self.lists[class as usize - 1];
+        number_pages(&mut self.numbers, class, list.pages, pages, self.used);
+        self.used += pages;
+        self.lists[class as usize - 1].pages = list.pages + pages;
+        let size = size_of_class(class);
+        link_new(
+            &mut self.entries,
+            &self.numbers,
+            &mut self.lists,
+            class,
+            PAGE_SIZE * list.pages / size,
+            PAGE_SIZE * (list.pages + pages) / size,
+        );
+    }
+
+    /// Takes the top block of the stack of a class and marks it used. There is none where the stack is empty.
+    pub fn pop(&mut self, class: u8) -> Option<u64>
+        requires low { 0 < class }
+        requires high { class ≤ CLASSES }
+        ensures answer { result ≡ slice_get (stack_of self.old class) 0 }
+        ensures pool { self.new ≡ popped self.old class }
+        ensures block { IfSome result (IsBlock class (pages_of self.new class)) }
+        ensures unlisted { IfSome result (λ block. is_listed self.new class block ≡ false) }
+        ensures used { IfSome result (λ block. is_marked self.new class block ≡ false) }
+    {
+        if self.lists[class as usize - 1].count == 0 {
+            return None;
+        }
+        Some(unlink(&mut self.entries, &self.numbers, &mut self.lists, class))
+    }
+
+    /// Puts a carved block that is marked used on top of the stack of its class, as a batch of its own, and marks it free.
+    pub fn push(&mut self, class: u8, block: u64)
+        requires low { 0 < class }
+        requires high { class ≤ CLASSES }
+        requires carved { IsBlock class (pages_of self.old class) block }
+        requires used { is_marked self.old class block ≡ false }
+        ensures { self.new ≡ pushed self.old class block }
+    {
+        link(
+            &mut self.entries,
+            &self.numbers,
+            &mut self.lists,
+            class,
+            block,
+            true,
+        );
+    }
+
+    /// Takes the top batch of the stack of a class into the front of the buffer, in its own order, its top block last, and
+    /// answers its length: 0 where the stack is empty. The blocks stay marked free.
+    pub fn pop_batch(&mut self, class: u8, buffer: &mut [u64; MAX_COUNT]) -> usize
+        requires low { 0 < class }
+        requires high { class ≤ CLASSES }
+        ensures count { result ≡ first_size (sizes_of self.old class) }
+        ensures blocks { buffer.new ≡ top_batch self.old class ++ drop result buffer.old }
+        ensures pool { self.new ≡ without_batch self.old class }
+
+        // What follows from the pool's own order.
+        ensures most { result ≤ max_count_of class }
+        ensures empty { (result ≡ 0) ↔ (stack_of self.old class ≡ []) }
+        ensures stack { stack_of self.old class ≡ reverse (take result buffer.new) ++ stack_of self.new class }
+        ensures cached { All (IsCached self.new class) (take result buffer.new) }
+        ensures distinct { IsDistinct nat_eq (take result buffer.new) }
+    {
+        unlink_batch(&self.entries, &self.numbers, &mut self.lists, class, buffer)
+    }
+
+    /// Puts blocks on top of the stack of their class as one batch that keeps their order: the last comes on top.
+    pub fn push_batch(&mut self, class: u8, blocks: &[u64])
+        requires low { 0 < class }
+        requires high { class ≤ CLASSES }
+        requires some { 0 < length blocks.now }
+        requires most { length blocks.now ≤ max_count_of class }
+        requires cached { All (IsCached self.old class) blocks.now }
+        requires distinct { IsDistinct nat_eq blocks.now }
+        ensures { self.new ≡ with_batch self.old class blocks.now }
+    {
+        link_batch(
+            &mut self.entries,
+            &self.numbers,
+            &mut self.lists,
+            class,
+            blocks,
+        );
+    }
+
+    /// Marks a carved block free.
+    pub fn mark_free(&mut self, class: u8, block: u64)
+        requires low { 0 < class }
+        requires high { class ≤ CLASSES }
+        requires carved { IsBlock class (pages_of self.old class) block }
+        ensures { self.new ≡ with_mark self.old class block true }
+    {
+        set_mark(&mut self.entries, &self.numbers, class, block, true);
+    }
+
+    /// Marks a carved block used, which is in no list of the pool.
+    pub fn mark_used(&mut self, class: u8, block: u64)
+        requires low { 0 < class }
+        requires high { class ≤ CLASSES }
+        requires carved { IsBlock class (pages_of self.old class) block }
+        requires unlisted { is_listed self.old class block ≡ false }
+        ensures { self.new ≡ with_mark self.old class block false }
+    {
+        set_mark(&mut self.entries, &self.numbers, class, block, false);
+    }
+
+    /// Whether an address is that of a carved block of a class.
+    pub fn is_block(&self, class: u8, block: u64) -> bool
+        requires low { 0 < class }
+        requires high { class ≤ CLASSES }
+        ensures { IsTrue result ↔ IsBlock class (pages_of self.now class) block }
+    {
+        let start = region_start(class);
+        if block < start {
+            return false;
+        }
+        let offset = block - start;
+        let bytes = PAGE_SIZE * self.lists[class as usize - 1].pages;
+        let size = size_of_class(class);
+        offset % size == 0 && size <= bytes.saturating_sub(offset)
+    }
+
+    /// Whether an address is that of a carved block of a class that is marked free: it is in the pool, or in a cache above it.
+    pub fn is_free(&self, class: u8, block: u64) -> bool
+        requires low { 0 < class }
+        requires high { class ≤ CLASSES }
+        ensures free { IsTrue result ↔ IsFree self.now class block }
+        ensures mark { IsBlock class (pages_of self.now class) block → result ≡ is_marked self.now class block }
+    {
+        self.is_block(class, block) && self.entries[place(&self.numbers, class, block)].free
+    }
+
+    /// How many blocks of a class are carved.
+    pub fn carved(&self, class: u8) -> u64
+        requires low { 0 < class }
+        requires high { class ≤ CLASSES }
+        ensures { result ≡ carved_count class (pages_of self.now class) }
+    {
+        PAGE_SIZE * self.lists[class as usize - 1].pages / size_of_class(class)
+    }
+}
