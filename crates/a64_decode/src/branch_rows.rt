@@ -7,7 +7,6 @@ ghost use Rattle.a64_decode.specs.Reading.{branch_at, branch_cond_at, cmp_branch
 use a64_asm::Instr;
 use a64_bits::{field, signed_field};
 
-#[inline(always)]
 pub fn branch(word: u32) -> Option<Instr>
     ensures { SomeIff result (IsAllowed (branch_at word)) (branch_at word) }
 {
@@ -17,7 +16,6 @@ pub fn branch(word: u32) -> Option<Instr>
     })
 }
 
-#[inline(always)]
 pub fn branch_cond(word: u32) -> Option<Instr>
     ensures { SomeIff result (IsAllowed (branch_cond_at word)) (branch_cond_at word) }
 {
@@ -27,7 +25,6 @@ pub fn branch_cond(word: u32) -> Option<Instr>
     })
 }
 
-#[inline(always)]
 pub fn cmp_branch(word: u32) -> Option<Instr>
     ensures { SomeIff result (IsAllowed (cmp_branch_at word)) (cmp_branch_at word) }
 {

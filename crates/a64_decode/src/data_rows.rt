@@ -7,7 +7,6 @@ ghost use Rattle.a64_decode.specs.Reading.{add_sub_imm_at, add_sub_shift_at, add
 use a64_asm::Instr;
 use a64_bits::{field, is_mask, signed_field};
 
-#[inline(always)]
 pub fn add_sub_imm(word: u32) -> Option<Instr>
     ensures { SomeIff result (IsAllowed (add_sub_imm_at word)) (add_sub_imm_at word) }
 {
@@ -22,7 +21,6 @@ pub fn add_sub_imm(word: u32) -> Option<Instr>
     })
 }
 
-#[inline(always)]
 pub fn add_sub_shift(word: u32) -> Option<Instr>
     ensures { SomeIff result (IsAllowed (add_sub_shift_at word)) (add_sub_shift_at word) }
 {
@@ -63,7 +61,6 @@ pub fn add_sub_ext(word: u32) -> Option<Instr>
     })
 }
 
-#[inline(always)]
 pub fn log_imm(word: u32) -> Option<Instr>
     ensures { SomeIff result (IsAllowed (log_imm_at word)) (log_imm_at word) }
 {
@@ -84,7 +81,6 @@ pub fn log_imm(word: u32) -> Option<Instr>
     })
 }
 
-#[inline(always)]
 pub fn log_shift(word: u32) -> Option<Instr>
     ensures { SomeIff result (IsAllowed (log_shift_at word)) (log_shift_at word) }
 {
@@ -105,7 +101,6 @@ pub fn log_shift(word: u32) -> Option<Instr>
     })
 }
 
-#[inline(always)]
 pub fn move_wide(word: u32) -> Option<Instr>
     ensures { SomeIff result (IsAllowed (move_wide_at word)) (move_wide_at word) }
 {
@@ -124,7 +119,6 @@ pub fn move_wide(word: u32) -> Option<Instr>
     })
 }
 
-#[inline(always)]
 pub fn bitfield(word: u32) -> Option<Instr>
     ensures { SomeIff result (IsAllowed (bitfield_at word)) (bitfield_at word) }
 {

@@ -9,7 +9,7 @@ use crate::dispatch::read;
 use a64_asm::Instr;
 
 /// The instruction whose word is `word` (Arm ARM DDI 0487, C4.1), `None` exactly where the profile has none.
-#[inline(always)]
+#[inline]
 pub fn decode(word: u32) -> Option<Instr>
     ensures means { (i : Instr) → ((result ≡ Some i) ↔ IsWordOf word i) }
     // The same as a function of the word, for those who have to name the instruction.

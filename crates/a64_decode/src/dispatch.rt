@@ -10,29 +10,25 @@ use a64_asm::Instr;
 use a64_bits::field;
 
 /// The instruction of `word`, whose row and fields are found by its fixed bits.
-///
-/// The rows that programs are mostly made of are read in place, so that who decodes has their fields in registers.
-/// All others have a function of their own, whose answer is unpacked and packed again for the same reason.
-#[inline(always)]
 #[tactic(auto, unfolding(crate::specs::Reading::row_of))]
 pub fn read(word: u32) -> Option<Instr>
     ensures row { Reads result (row_of word) }
     ensures found { IfSome result (λ i. word_of i ≡ word) }
 {
     match field(word, 24, 5) {
-        8 => Some(post_indexed_pair(word)?),
-        9 => Some(other_pair(word)?),
+        8 => post_indexed_pair(word),
+        9 => other_pair(word),
         10 => logical_register(word),
         11 => add_register(word),
-        16 => Some(address(word)?),
+        16 => address(word),
         17 => add_immediate(word),
         18 => logical_immediate(word),
         19 => bitfield_or_extract(word),
         20..=23 => branch_or_system(word),
-        24 => Some(load_store_register(word)?),
+        24 => load_store_register(word),
         25 => load_store_offset(word),
-        26 => Some(register_operands(word)?),
-        27 => Some(multiply(word)?),
+        26 => register_operands(word),
+        27 => multiply(word),
         _ => None,
     }
 }
@@ -68,7 +64,6 @@ fn other_pair(word: u32) -> Option<Instr>
 }
 
 /// Logic of shifted registers.
-#[inline(always)]
 #[tactic(auto, unfolding(crate::specs::Reading::logical_register_of))]
 fn logical_register(word: u32) -> Option<Instr>
     requires { field_of 24 5 word ≡ 10 }
@@ -79,7 +74,6 @@ fn logical_register(word: u32) -> Option<Instr>
 }
 
 /// Sums of shifted and extended registers.
-#[inline(always)]
 #[tactic(auto, unfolding(crate::specs::Reading::add_register_of))]
 fn add_register(word: u32) -> Option<Instr>
     requires { field_of 24 5 word ≡ 11 }
@@ -89,7 +83,7 @@ fn add_register(word: u32) -> Option<Instr>
     if field(word, 21, 1) == 0 {
         data_rows::add_sub_shift(word)
     } else if field(word, 22, 2) == 0 {
-        Some(data_rows::add_sub_ext(word)?)
+        data_rows::add_sub_ext(word)
     } else {
         None
     }
@@ -106,7 +100,6 @@ fn address(word: u32) -> Option<Instr>
 }
 
 /// Sums with an immediate, of tags too.
-#[inline(always)]
 #[tactic(auto, unfolding(crate::specs::Reading::add_immediate_of))]
 fn add_immediate(word: u32) -> Option<Instr>
     requires { field_of 24 5 word ≡ 17 }
@@ -120,14 +113,13 @@ fn add_immediate(word: u32) -> Option<Instr>
         && field(word, 22, 1) == 0
         && field(word, 14, 2) == 0
     {
-        Some(tag_rows::add_g(word)?)
+        tag_rows::add_g(word)
     } else {
         None
     }
 }
 
 /// Logic with an immediate, and moves of one.
-#[inline(always)]
 #[tactic(auto, unfolding(crate::specs::Reading::logical_immediate_of))]
 fn logical_immediate(word: u32) -> Option<Instr>
     requires { field_of 24 5 word ≡ 18 }
@@ -142,7 +134,6 @@ fn logical_immediate(word: u32) -> Option<Instr>
 }
 
 /// Moves of bit fields.
-#[inline(always)]
 #[tactic(auto, unfolding(crate::specs::Reading::bitfield_or_extract_of))]
 fn bitfield_or_extract(word: u32) -> Option<Instr>
     requires { field_of 24 5 word ≡ 19 }
@@ -152,14 +143,13 @@ fn bitfield_or_extract(word: u32) -> Option<Instr>
     if field(word, 23, 1) == 0 {
         data_rows::bitfield(word)
     } else if field(word, 29, 2) == 0 && field(word, 21, 1) == 0 {
-        Some(data_rows::extr(word)?)
+        data_rows::extr(word)
     } else {
         None
     }
 }
 
 /// Branches, exceptions and hints.
-#[inline(always)]
 #[tactic(auto, unfolding(crate::specs::Reading::branch_or_system_of))]
 fn branch_or_system(word: u32) -> Option<Instr>
     requires { field_of 26 3 word ≡ 5 }
@@ -171,7 +161,7 @@ fn branch_or_system(word: u32) -> Option<Instr>
     } else if field(word, 29, 1) == 1 {
         None
     } else if field(word, 31, 1) == 1 {
-        Some(system(word)?)
+        system(word)
     } else if field(word, 24, 2) == 0 && field(word, 4, 1) == 0 {
         branch_rows::branch_cond(word)
     } else {
@@ -180,7 +170,6 @@ fn branch_or_system(word: u32) -> Option<Instr>
 }
 
 /// Branches that are always taken, and those on a register or a bit.
-#[inline(always)]
 #[tactic(auto, unfolding(crate::specs::Reading::immediate_branch_of))]
 fn immediate_branch(word: u32) -> Option<Instr>
     requires class { field_of 26 3 word ≡ 5 }
@@ -193,7 +182,7 @@ fn immediate_branch(word: u32) -> Option<Instr>
     } else if field(word, 25, 1) == 0 {
         branch_rows::cmp_branch(word)
     } else {
-        Some(branch_rows::test_branch(word)?)
+        branch_rows::test_branch(word)
     }
 }
 
@@ -250,7 +239,6 @@ fn signed_offset(word: u32) -> Option<Instr>
 }
 
 /// Loads and stores at an unsigned offset, and of tags.
-#[inline(always)]
 #[tactic(auto, unfolding(crate::specs::Reading::load_store_offset_of))]
 fn load_store_offset(word: u32) -> Option<Instr>
     requires { field_of 24 5 word ≡ 25 }
@@ -260,7 +248,7 @@ fn load_store_offset(word: u32) -> Option<Instr>
     if field(word, 29, 1) == 1 {
         memory_rows::ld_st_imm(word)
     } else if field(word, 30, 2) == 3 && field(word, 21, 1) == 1 {
-        Some(tag_memory(word)?)
+        tag_memory(word)
     } else {
         None
     }

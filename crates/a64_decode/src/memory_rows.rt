@@ -7,7 +7,6 @@ ghost use Rattle.a64_decode.specs.Reading.{ld_st_imm_at, ld_st_unscaled_at, ld_s
 use a64_asm::{Instr, is_access, is_free_base, is_pair};
 use a64_bits::{field, signed_field};
 
-#[inline(always)]
 pub fn ld_st_imm(word: u32) -> Option<Instr>
     ensures { SomeIff result (IsAllowed (ld_st_imm_at word)) (ld_st_imm_at word) }
 {
