@@ -164,12 +164,13 @@ impl Pool {
         );
     }
 
-    /// Marks a carved block free.
+    /// Marks a carved block free. One that was marked used is in no list of the pool, so a cache may hold it from now on.
     pub fn mark_free(&mut self, class: u8, block: u64)
         requires low { 0 < class }
         requires high { class ≤ CLASSES }
         requires carved { IsBlock class (pages_of self.old class) block }
-        ensures { self.new ≡ with_mark self.old class block true }
+        ensures pool { self.new ≡ with_mark self.old class block true }
+        ensures cached { is_marked self.old class block ≡ false → IsCached self.new class block }
     {
         set_mark(&mut self.entries, &self.numbers, class, block, true);
     }

@@ -1,0 +1,174 @@
+//! The blocks of each class that are at hand.
+
+ghost use Rattle.std.specs.Prelude.{◌≡◌, ◌≢◌, ◌<◌, ◌≤◌, ◌-◌, ◌+◌, ◌∷◌, ◌++◌, [], ℕ, List, length, drop, reverse, slice_get, replicate, nat_eq, false, IfOk};
+ghost use Rattle.std.specs.List.{All, IsDistinct};
+ghost use Rattle.arrayvec.specs.ArrayVec.{array_vec_len};
+ghost use Rattle.scudo_primary.specs.Batches.{max_count_of};
+ghost use Rattle.scudo_primary.specs.Blocks.{IsBlock};
+ghost use Rattle.scudo_primary.specs.Pools.{pages_of, stack_of, sizes_of, is_marked, IsCached};
+ghost use Rattle.scudo_cache.specs.Caches.{entries_of, with_entries, one_stack, IsAbove, refilled, newest, after_take, with_room, after_put};
+
+use arrayvec::ArrayVec;
+use scudo_header::CLASSES;
+use scudo_primary::{MAX_COUNT, Pool, max_count};
+use std::alloc::{AllocError, Global};
+use std::marker::Model;
+
+/// For each size class the free blocks that are at hand, the oldest first: at most 28 of the classes up to 512
+/// bytes, and 8 of the others.
+#[derive(Drop)]
+pub struct Cache {
+    entries: Vec<ArrayVec<u64, MAX_COUNT>>,
+}
+
+impl Model for Cache {
+    ghost use Rattle.std.specs.Prelude.{List, ℕ};
+    ghost use Rattle.scudo_cache.specs.Whole.{cache_of, IsCache};
+
+    ghost Value = { List (List ℕ) };
+
+    ghost view = { cache_of };
+
+    ghost invariant = { IsCache };
+}
+
+impl Cache {
+    /// A cache that holds no block. It is refused only where its memory is; no later call takes any.
+    pub fn new(alloc: Global) -> Result<Cache, AllocError>
+        ensures { IfOk result (λ cache. cache ≡ replicate CLASSES []) }
+    {
+        let entries = vec![in alloc; ArrayVec::new(); CLASSES as usize]?;
+        Ok(Cache { entries })
+    }
+
+    /// Takes the newest block of a class and marks it used. A cache that holds none of the class first gets the
+    /// pool's top batch; there is no block where the pool has none either.
+    pub fn take(&mut self, class: u8, pool: &mut Pool) -> Option<u64>
+        requires low { 0 < class }
+        requires high { class ≤ CLASSES }
+        requires above { IsAbove self.old pool.old }
+        ensures answer { result ≡ newest (refilled class (entries_of self.old class) pool.old).entries }
+        ensures cache { self.new ≡ with_entries self.old class (after_take class (refilled class (entries_of self.old class) pool.old)).entries }
+        ensures pool { pool.new ≡ (after_take class (refilled class (entries_of self.old class) pool.old)).pool }
+        ensures above { IsAbove self.new pool.new }
+
+        // Cache and pool are one stack, and a block that is at hand leaves the pool's lists as they are.
+        ensures top { result ≡ slice_get (one_stack self.old pool.old class) 0 }
+        ensures rest { one_stack self.new pool.new class ≡ drop 1 (one_stack self.old pool.old class) }
+        ensures lists { entries_of self.old class ≢ [] → (stack_of pool.new class ≡ stack_of pool.old class) }
+        ensures batches { entries_of self.old class ≢ [] → (sizes_of pool.new class ≡ sizes_of pool.old class) }
+    {
+        take_from(&mut self.entries[class as usize - 1], class, pool)
+    }
+
+    /// Puts a carved block that is marked used, and marks it free. A full cache first gives its oldest half to the
+    /// pool, as one batch that keeps its order.
+    pub fn put(&mut self, class: u8, block: u64, pool: &mut Pool)
+        requires low { 0 < class }
+        requires high { class ≤ CLASSES }
+        requires above { IsAbove self.old pool.old }
+        requires carved { IsBlock class (pages_of pool.old class) block }
+        requires used { is_marked pool.old class block ≡ false }
+        ensures cache { self.new ≡ with_entries self.old class (after_put class block (with_room class (entries_of self.old class) pool.old)).entries }
+        ensures pool { pool.new ≡ (after_put class block (with_room class (entries_of self.old class) pool.old)).pool }
+        ensures above { IsAbove self.new pool.new }
+
+        // Cache and pool are one stack, and a cache that has room leaves the pool's lists as they are.
+        ensures stack { one_stack self.new pool.new class ≡ block ∷ one_stack self.old pool.old class }
+        ensures lists { length (entries_of self.old class) < max_count_of class → (stack_of pool.new class ≡ stack_of pool.old class) }
+        ensures batches { length (entries_of self.old class) < max_count_of class → (sizes_of pool.new class ≡ sizes_of pool.old class) }
+    {
+        put_into(&mut self.entries[class as usize - 1], class, block, pool);
+    }
+}
+
+/// Takes the newest of a class's entries.
+fn take_from(entries: &mut ArrayVec<u64, MAX_COUNT>, class: u8, pool: &mut Pool) -> Option<u64>
+    requires low { 0 < class }
+    requires high { class ≤ CLASSES }
+    requires cached { All (IsCached pool.old class) entries.old.items }
+    requires distinct { IsDistinct nat_eq entries.old.items }
+    requires most { array_vec_len entries.old ≤ max_count_of class }
+    ensures answer { result ≡ newest (refilled class entries.old.items pool.old).entries }
+    ensures entries { entries.new.items ≡ (after_take class (refilled class entries.old.items pool.old)).entries }
+    ensures pool { pool.new ≡ (after_take class (refilled class entries.old.items pool.old)).pool }
+    ensures cached { All (IsCached pool.new class) entries.new.items }
+    ensures distinct { IsDistinct nat_eq entries.new.items }
+    ensures most { array_vec_len entries.new ≤ max_count_of class }
+    ensures top { result ≡ slice_get (reverse entries.old.items ++ stack_of pool.old class) 0 }
+    ensures rest { reverse entries.new.items ++ stack_of pool.new class ≡ drop 1 (reverse entries.old.items ++ stack_of pool.old class) }
+{
+    refill(entries, class, pool);
+    let block = entries.pop()?;
+    pool.mark_used(class, block);
+    Some(block)
+}
+
+/// Fills an empty list of entries with the pool's top batch.
+fn refill(entries: &mut ArrayVec<u64, MAX_COUNT>, class: u8, pool: &mut Pool)
+    requires low { 0 < class }
+    requires high { class ≤ CLASSES }
+    requires cached { All (IsCached pool.old class) entries.old.items }
+    requires distinct { IsDistinct nat_eq entries.old.items }
+    requires most { array_vec_len entries.old ≤ max_count_of class }
+    ensures entries { entries.new.items ≡ (refilled class entries.old.items pool.old).entries }
+    ensures pool { pool.new ≡ (refilled class entries.old.items pool.old).pool }
+    ensures cached { All (IsCached pool.new class) entries.new.items }
+    ensures distinct { IsDistinct nat_eq entries.new.items }
+    ensures most { array_vec_len entries.new ≤ max_count_of class }
+    ensures none { entries.new.items ≡ [] → stack_of pool.new class ≡ [] }
+    ensures stack { reverse entries.new.items ++ stack_of pool.new class ≡ reverse entries.old.items ++ stack_of pool.old class }
+{
+    if !entries.is_empty() {
+        return;
+    }
+    let mut batch = [0; MAX_COUNT];
+    let count = pool.pop_batch(class, &mut batch);
+    for block in &batch[..count] {
+        entries.push(*block);
+    }
+}
+
+/// Puts a block behind a class's entries.
+fn put_into(entries: &mut ArrayVec<u64, MAX_COUNT>, class: u8, block: u64, pool: &mut Pool)
+    requires low { 0 < class }
+    requires high { class ≤ CLASSES }
+    requires cached { All (IsCached pool.old class) entries.old.items }
+    requires distinct { IsDistinct nat_eq entries.old.items }
+    requires most { array_vec_len entries.old ≤ max_count_of class }
+    requires carved { IsBlock class (pages_of pool.old class) block }
+    requires used { is_marked pool.old class block ≡ false }
+    ensures entries { entries.new.items ≡ (after_put class block (with_room class entries.old.items pool.old)).entries }
+    ensures pool { pool.new ≡ (after_put class block (with_room class entries.old.items pool.old)).pool }
+    ensures cached { All (IsCached pool.new class) entries.new.items }
+    ensures distinct { IsDistinct nat_eq entries.new.items }
+    ensures most { array_vec_len entries.new ≤ max_count_of class }
+    ensures stack { reverse entries.new.items ++ stack_of pool.new class ≡ block ∷ reverse entries.old.items ++ stack_of pool.old class }
+{
+    make_room(entries, class, pool);
+    entries.push(block);
+    pool.mark_free(class, block);
+}
+
+/// Gives the oldest half of full entries to the pool.
+fn make_room(entries: &mut ArrayVec<u64, MAX_COUNT>, class: u8, pool: &mut Pool)
+    requires low { 0 < class }
+    requires high { class ≤ CLASSES }
+    requires cached { All (IsCached pool.old class) entries.old.items }
+    requires distinct { IsDistinct nat_eq entries.old.items }
+    requires most { array_vec_len entries.old ≤ max_count_of class }
+    ensures entries { entries.new.items ≡ (with_room class entries.old.items pool.old).entries }
+    ensures pool { pool.new ≡ (with_room class entries.old.items pool.old).pool }
+    ensures cached { All (IsCached pool.new class) entries.new.items }
+    ensures distinct { IsDistinct nat_eq entries.new.items }
+    ensures room { array_vec_len entries.new < max_count_of class }
+    ensures stack { reverse entries.new.items ++ stack_of pool.new class ≡ reverse entries.old.items ++ stack_of pool.old class }
+{
+    let most = max_count(class);
+    if entries.len() < most {
+        return;
+    }
+    let half = most / 2;
+    pool.push_batch(class, &entries.as_slice()[..half]);
+    entries.drain(..half);
+}
