@@ -1,3 +1,4 @@
 pub mod EntryLemmas
 pub mod ClassLemmas
 pub mod CacheLemmas
+pub mod CacheLaws
