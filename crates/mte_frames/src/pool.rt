@@ -93,7 +93,6 @@ impl FramePool {
         ensures sized { AreFrames self.now.frames }
         ensures sound { IsSound self.now }
     {
-        let _ = &self.free;
         self.arena.frames()
     }
 
@@ -195,7 +194,6 @@ impl FramePool {
         ensures value { result.now ≡ (frame_at self.now.frames f).bytes }
         ensures len { length result.now ≡ FRAME_BYTES }
     {
-        let _ = &self.free;
         self.arena.bytes(f)
     }
 
@@ -238,7 +236,6 @@ impl FramePool {
         ensures tag { result ≡ get_or (frame_at self.now.frames f).tags g 0 }
         ensures small { result < 16 }
     {
-        let _ = &self.free;
         self.arena.tag(f, g)
     }
 
