@@ -1,6 +1,6 @@
 //! Words of the assembler, one for each row, and the words of the sample programs.
 
-use crate::decode;
+use crate::{Decoder, decode};
 use a64_asm::{Instr, encode};
 
 #[test]
@@ -499,4 +499,34 @@ fn refused_words(rt: HostRuntime) {
         rt: 0,
     };
     assert_eq!(rt; decode(0xA940_0400), Some(pair));
+}
+
+#[test]
+fn decodes_again(rt: HostRuntime) {
+    let mut decoder = Decoder::new();
+    let nop = Some(Instr::Hint { imm7: 0 });
+    for (address, word, expected) in [
+        (0, 0xD503_201F, nop),
+        (0, 0xD400_0001, Some(Instr::Svc)),
+        // The same address with another word, and the same place with another address.
+        (0, 0xD503_201F, nop),
+        (1024, 0xD400_0001, Some(Instr::Svc)),
+        (0, 0xD400_0001, Some(Instr::Svc)),
+        (0, 0, None),
+        (0, 0xD400_0001, Some(Instr::Svc)),
+        (1020, 0, None),
+        (
+            0xFFFF_FFFF_FFFF_FFFF,
+            0xD420_0020,
+            Some(Instr::Brk { imm16: 1 }),
+        ),
+        (
+            0xFFFF_FFFF_FFFF_FFFF,
+            0xD420_0020,
+            Some(Instr::Brk { imm16: 1 }),
+        ),
+    ] {
+        let decoded = decoder.decode(address, word).copied();
+        assert_eq!(rt; decoded, expected, "decode {word:#x} at {address:#x}");
+    }
 }

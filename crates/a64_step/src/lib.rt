@@ -77,4 +77,35 @@ mod tests {
         assert_eq!(rt; step(&mut regs, &mut memory), Outcome::Fault(fault));
         Ok(())
     }
+
+    #[test]
+    fn changes_its_own_code(rt: HostRuntime) -> Result<(), Fail> {
+        let mut memory = Flat::new(rt.alloc(), 1)?;
+        assert!(rt; memory.map_pages(16, 1, Attrs(15)).is_ok());
+        // add x0, x0, #1; str w1, [x2]; b #-8
+        let code: [u32; 3] = [0x91000400, 0xB9000041, 0x17FFFFFE];
+        let mut at = 0x10000;
+        for word in &code {
+            assert!(rt; memory.write(at, &word.to_le_bytes(), false).is_ok());
+            at = at.wrapping_add(4);
+        }
+        let mut regs = Regs {
+            x: [0; 31],
+            sp: 0x10100,
+            pc: 0x10000,
+            flags: Flags {
+                n: false,
+                z: false,
+                c: false,
+                v: false,
+            },
+            rgsr: Rgsr { tag: 0, seed: 1 },
+        };
+        // add x0, x0, #2
+        regs.x[1] = 0x91000800;
+        regs.x[2] = 0x10000;
+        run(&mut regs, &mut memory, 7);
+        assert_eq!(rt; (regs.x[0], regs.pc), (5, 0x10004));
+        Ok(())
+    }
 }
