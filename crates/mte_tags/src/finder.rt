@@ -12,9 +12,12 @@ struct Place {
     slot: usize,
 }
 
-/// The slots of pages: those that were found last, by a hash of the page, and all of them, by page.
+/// The slots of pages: that of the last instruction, those that were found last, by a hash of the page, and all
+/// of them, by page.
 #[derive(Drop)]
 pub struct Finder {
+    /// No address leads to it, so a fetch need not wait for one.
+    pub(crate) code: usize,
     last: [usize; 64],
     places: Vec<Place>,
 }
@@ -29,6 +32,7 @@ impl Finder {
     /// One with room for so many pages, which takes no more memory later.
     pub(crate) fn new(alloc: Global, pages: usize) -> Result<Finder, AllocError> {
         Ok(Finder {
+            code: 0,
             last: [0; 64],
             places: Vec::with_capacity(alloc, pages)?,
         })

@@ -8,7 +8,7 @@ ghost use Rattle.mte_tags.specs.Slots.{slots_memory, AreSlots};
 use crate::access::{Access, Attrs, FaultKind, MemFault};
 use crate::finder::Finder;
 use crate::runs::replace_bytes;
-use crate::slots::{Slot, find, new_slot};
+use crate::slots::{Slot, find, find_for, new_slot};
 use crate::store::PageStore;
 use crate::tagged::{NoQuota, Paged};
 use a64_bits::plain;
@@ -92,7 +92,7 @@ fn read_slots(
     ensures answer { (n : ℕ) → result ≡ outcome (first_fault (slots_memory n slots.now) access.now (addresses at (length buffer.old))) }
     ensures bytes { (n : ℕ) → buffer.new ≡ (if is_ok result then bytes_at (slots_memory n slots.now) (addresses at (length buffer.old)) else buffer.old) }
 {
-    let Some(s) = find(slots, finder, at / 4096) else {
+    let Some(s) = find_for(slots, finder, at / 4096, access) else {
         return Err(access.fault(FaultKind::Translation, at, 0));
     };
     let slot = &slots[s];

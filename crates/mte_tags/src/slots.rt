@@ -70,6 +70,39 @@ fn find_again(slots: &[Slot], finder: &mut Finder, page: u64) -> Option<usize>
     search(slots, page)
 }
 
+/// The slot of a page for an access. That of a fetch is mostly that of the instruction before.
+#[inline(always)]
+pub(crate) fn find_for(
+    slots: &[Slot],
+    finder: &mut Finder,
+    page: u64,
+    access: &Access,
+) -> Option<usize>
+    ensures some { IfSome result (λ s. (s < length slots.now) × ((d : _) → (slice_index_or slots.now s d).page ≡ page)) }
+    ensures none { IsNone result → (n : ℕ) → page_at (slots_memory n slots.now) page ≡ None }
+{
+    if access.need != Attrs::EXEC.0 {
+        return find(slots, finder, page);
+    }
+    let code = finder.code;
+    if holds(slots, code, page) {
+        return Some(code);
+    }
+    find_other_code(slots, finder, page)
+}
+
+/// The slot of a page that is not that of the instruction before.
+#[cold]
+#[inline(never)]
+fn find_other_code(slots: &[Slot], finder: &mut Finder, page: u64) -> Option<usize>
+    ensures some { IfSome result (λ s. (s < length slots.now) × ((d : _) → (slice_index_or slots.now s d).page ≡ page)) }
+    ensures none { IsNone result → (n : ℕ) → page_at (slots_memory n slots.now) page ≡ None }
+{
+    let s = find(slots, finder, page)?;
+    finder.code = s;
+    Some(s)
+}
+
 /// The slot of a page among all of them. Only a page that is not mapped is sought in this way.
 fn search(slots: &[Slot], page: u64) -> Option<usize>
     ensures some { IfSome result (λ s. (s < length slots.now) × ((d : _) → (slice_index_or slots.now s d).page ≡ page)) }
