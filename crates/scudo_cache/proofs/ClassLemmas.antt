@@ -108,10 +108,10 @@ room-left c xs p h =
     let t : eqb (length xs) (max_count_of c) ≡ false = grind (arith, nat_tests) in
     (ap (λ (k : Class). k.entries) (cond-false _ _ _ t), ap (λ (k : Class). k.pool) (cond-false _ _ _ t))
 
-abbrev halved_class : ℕ → List ℕ → PoolState → Class
+abbrev pub halved_class : ℕ → List ℕ → PoolState → Class
 halved_class c xs p = record { entries = drop (max_count_of c / 2) xs; pool = with_batch p c (take (max_count_of c / 2) xs) }
 
-abbrev whole_class : List ℕ → PoolState → Class
+abbrev pub whole_class : List ℕ → PoolState → Class
 whole_class xs p = record { entries = xs; pool = p }
 
 room-class : (c : ℕ) (xs : List ℕ) (p : PoolState) → ((class_at (with_room c xs p).pool c).pages ≡ (class_at p c).pages) × ((class_at (with_room c xs p).pool c).marks ≡ (class_at p c).marks)
