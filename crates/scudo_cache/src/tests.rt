@@ -388,18 +388,18 @@ fn drain_both(both: &mut Both, plain: &mut Plain) -> Result<bool, AllocError> {
 /// A thousand steps of four classes. Answers whether the cache above its pool and the lists agree throughout.
 fn steps_agree(alloc: Global, both: &mut Both) -> Result<bool, AllocError> {
     let mut small = no_blocks(alloc, 1, 32, 28, 1);
-    let mut odd = no_blocks(alloc, 9, 320, 28, 1);
+    let mut edge = no_blocks(alloc, 12, 512, 28, 1);
     let mut above = no_blocks(alloc, 13, 640, 8, 1);
     let mut large = no_blocks(alloc, 44, 131_072, 8, 32);
     // From this number on each of the four caches is refilled, and gives up a half.
-    let mut seed = 7;
+    let mut seed = 132;
     let mut agree = true;
     for step in 0..1000u64 {
         let takes = step / 200 % 2 == 0;
         let choice = next(&mut seed);
         let plain = match choice % 4 {
             0 => &mut small,
-            1 => &mut odd,
+            1 => &mut edge,
             2 => &mut above,
             _ => &mut large,
         };
@@ -407,7 +407,7 @@ fn steps_agree(alloc: Global, both: &mut Both) -> Result<bool, AllocError> {
         agree = agree && same;
     }
     agree = agree && drain_both(both, &mut small)?;
-    agree = agree && drain_both(both, &mut odd)?;
+    agree = agree && drain_both(both, &mut edge)?;
     agree = agree && drain_both(both, &mut above)?;
     Ok(agree && drain_both(both, &mut large)?)
 }
