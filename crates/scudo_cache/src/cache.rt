@@ -109,7 +109,7 @@ fn take_from(entries: &mut ArrayVec<u64, MAX_COUNT>, class: u8, pool: &mut Pool)
     hand_out(entries, class, pool)
 }
 
-/// The same where the pool may have to be asked: apart, so that a take of what is at hand stays short.
+/// The same where there is none: apart, so that a take of what is at hand stays short.
 #[inline(never)]
 fn refill_and_take(
     entries: &mut ArrayVec<u64, MAX_COUNT>,
@@ -118,9 +118,7 @@ fn refill_and_take(
 ) -> Option<u64>
     requires low { 0 < class }
     requires high { class ≤ CLASSES }
-    requires cached { All (IsCached pool.old class) entries.old.items }
-    requires distinct { IsDistinct nat_eq entries.old.items }
-    requires most { array_vec_len entries.old ≤ max_count_of class }
+    requires empty { array_vec_len entries.old ≡ 0 }
     ensures answer { result ≡ newest (refilled class entries.old.items pool.old).entries }
     ensures entries { entries.new.items ≡ (after_take class (refilled class entries.old.items pool.old)).entries }
     ensures pool { pool.new ≡ (after_take class (refilled class entries.old.items pool.old)).pool }
@@ -164,9 +162,7 @@ fn hand_out(entries: &mut ArrayVec<u64, MAX_COUNT>, class: u8, pool: &mut Pool) 
 fn refill(entries: &mut ArrayVec<u64, MAX_COUNT>, class: u8, pool: &mut Pool)
     requires low { 0 < class }
     requires high { class ≤ CLASSES }
-    requires cached { All (IsCached pool.old class) entries.old.items }
-    requires distinct { IsDistinct nat_eq entries.old.items }
-    requires most { array_vec_len entries.old ≤ max_count_of class }
+    requires empty { array_vec_len entries.old ≡ 0 }
     ensures entries { entries.new.items ≡ (refilled class entries.old.items pool.old).entries }
     ensures pool { pool.new ≡ (refilled class entries.old.items pool.old).pool }
     ensures cached { All (IsCached pool.new class) entries.new.items }
@@ -175,9 +171,6 @@ fn refill(entries: &mut ArrayVec<u64, MAX_COUNT>, class: u8, pool: &mut Pool)
     ensures none { entries.new.items ≡ [] → stack_of pool.new class ≡ [] }
     ensures stack { reverse entries.new.items ++ stack_of pool.new class ≡ reverse entries.old.items ++ stack_of pool.old class }
 {
-    if !entries.is_empty() {
-        return;
-    }
     let mut batch = [0; MAX_COUNT];
     let count = pool.pop_batch(class, &mut batch);
     for block in &batch[..count] {
@@ -208,14 +201,14 @@ fn put_into(entries: &mut ArrayVec<u64, MAX_COUNT>, class: u8, block: u64, pool:
     add(entries, class, block, pool);
 }
 
-/// The same where the pool may have to take a half: apart, so that a put where there is room stays short.
+/// The same where they are full: apart, so that a put where there is room stays short.
 #[inline(never)]
 fn make_room_and_put(entries: &mut ArrayVec<u64, MAX_COUNT>, class: u8, block: u64, pool: &mut Pool)
     requires low { 0 < class }
     requires high { class ≤ CLASSES }
     requires cached { All (IsCached pool.old class) entries.old.items }
     requires distinct { IsDistinct nat_eq entries.old.items }
-    requires most { array_vec_len entries.old ≤ max_count_of class }
+    requires full { array_vec_len entries.old ≡ max_count_of class }
     requires carved { IsBlock class (pages_of pool.old class) block }
     requires used { is_marked pool.old class block ≡ false }
     ensures entries { entries.new.items ≡ (after_put class block (with_room class entries.old.items pool.old)).entries }
@@ -256,7 +249,7 @@ fn make_room(entries: &mut ArrayVec<u64, MAX_COUNT>, class: u8, pool: &mut Pool)
     requires high { class ≤ CLASSES }
     requires cached { All (IsCached pool.old class) entries.old.items }
     requires distinct { IsDistinct nat_eq entries.old.items }
-    requires most { array_vec_len entries.old ≤ max_count_of class }
+    requires full { array_vec_len entries.old ≡ max_count_of class }
     ensures entries { entries.new.items ≡ (with_room class entries.old.items pool.old).entries }
     ensures pool { pool.new ≡ (with_room class entries.old.items pool.old).pool }
     ensures cached { All (IsCached pool.new class) entries.new.items }
@@ -264,11 +257,7 @@ fn make_room(entries: &mut ArrayVec<u64, MAX_COUNT>, class: u8, pool: &mut Pool)
     ensures room { array_vec_len entries.new < max_count_of class }
     ensures stack { reverse entries.new.items ++ stack_of pool.new class ≡ reverse entries.old.items ++ stack_of pool.old class }
 {
-    let most = max_count(class);
-    if entries.len() < most {
-        return;
-    }
-    let half = most / 2;
+    let half = max_count(class) / 2;
     pool.push_batch(class, &entries.as_slice()[..half]);
     entries.drain(..half);
 }
