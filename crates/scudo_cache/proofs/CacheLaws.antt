@@ -1,18 +1,21 @@
--- What a caller needs beside the contracts: where a cache stands above a pool, at the start and after more pages were carved.
-use Rattle.std.proofs.Common.{◌≡◌, ℕ, zero, suc, ◌+◌, ◌-◌, ◌<◌, ◌≤◌, true, false, List, [], length, replicate, refl, sym, ap, subst, ◌∙◌, inl, inr, arith}
+-- What a caller needs beside the contracts: where a cache stands above a pool, at the start and after the pool's own calls, and which pages a pool has left.
+use Rattle.std.proofs.Common.{◌≡◌, ◌≢◌, ℕ, zero, suc, ◌+◌, ◌-◌, ◌/◌, ◌<◌, ◌≤◌, true, false, List, [], ◌∷◌, length, take, replicate, eqb, cond, slice_get, slice_index_or, Option, Some, None, refl, sym, ap, subst, ◌∙◌, inl, inr, arith}
 use Rattle.std.proofs.lemmas.Bool.{cases_eq, cases_lt}
 use Rattle.std.proofs.lemmas.List.{get_or-replicate, get_or_append_left, get_or_past}
 use Rattle.std.proofs.lemmas.List.Elements.{All-weaker, All-nil}
 use Rattle.std.specs.List.{All}
+use Rattle.std.specs.Option.{IfSome}
 use Rattle.scudo_header.specs.declared.classes.TheConstants.{CLASSES}
 use Rattle.scudo_primary.specs.Blocks.{carved_count, block_at, number_of, IsBlock, blocks_from}
-use Rattle.scudo_primary.specs.Pools.{ClassState, PoolState, IsLoose, is_member, class_at, carve_in, with_pages, new_count}
+use Rattle.scudo_primary.specs.Batches.{max_count_of}
+use Rattle.scudo_primary.specs.Pools.{ClassState, PoolState, IsLoose, is_member, is_marked, class_at, pages_of, stack_of, carve_in, push_in, pop_in, popped, pushed, with_pages, new_count}
 use Rattle.scudo_primary.specs.Lists.{IsClass}
 use Rattle.scudo_primary.proofs.BlockLemmas.{number_of-block_at, IsBlock-more}
-use Rattle.scudo_primary.proofs.ListLemmas.{member-other}
-use Rattle.scudo_primary.proofs.PoolLaws.{class_at-with_pages, class_at-with_pages_other}
-use Rattle.scudo_cache.specs.Caches.{entries_of, IsAbove}
-use Rattle.scudo_cache.proofs.EntryLemmas.{member-both}
+use Rattle.scudo_primary.proofs.ListLemmas.{member-other, member-first}
+use Rattle.scudo_primary.proofs.PoolLaws.{class_at-with_pages, class_at-with_pages_other, class_at-pushed, class_at-pushed_other, class_at-popped, class_at-popped_other, left-pushed, left-with_mark, left-without_batch, left-with_batch, left-with_pages}
+use Rattle.scudo_cache.specs.Caches.{entries_of, IsAbove, refilled, newest, handed_out, after_take, with_room, after_put}
+use Rattle.scudo_cache.proofs.EntryLemmas.{member-both, loose-mark}
+use Rattle.scudo_cache.proofs.ClassLemmas.{halved_class, whole_class}
 
 pub above-new : (v : List (List ℕ)) (p : PoolState) → v ≡ replicate CLASSES [] → IsAbove v p
 above-new v p e = record {
@@ -39,15 +42,91 @@ loose-carve k c pages n b h l =
       unlisted = member-both (blocks_from c (carved_count c k.pages) n) k.stack b (new-unlisted c (carved_count c k.pages) n b h (let t : IsBlock c k.pages b = l.carved in t.carved)) l.unlisted;
     }
 
-pub above-with_pages : (v : List (List ℕ)) (p : PoolState) (c pages : ℕ) → 0 < c → c ≤ CLASSES → IsAbove v p → IsAbove v (with_pages p c pages)
-above-with_pages v p c pages low high h = record {
+-- the entries of the class that a call changes stay loose
+above-changed : (v : List (List ℕ)) (p p' : PoolState) (c : ℕ) → IsClass c → ((b : ℕ) → IsLoose (class_at p c) c b → IsLoose (class_at p' c) c b) → ((d : ℕ) → d ≢ c → class_at p' d ≡ class_at p d) → IsAbove v p → IsAbove v p'
+above-changed v p p' c hc loose same h = record {
   cached = λ d a b. elim (cases_eq d c) [
-    | inl s ↦ subst (λ t. All (IsLoose (class_at (with_pages p c pages) t) t) (entries_of v t)) (sym s)
-        (subst (λ (k : ClassState). All (IsLoose k c) (entries_of v c)) (sym (class_at-with_pages p c pages))
-        (All-weaker (IsLoose (class_at p c) c) (IsLoose (carve_in c (class_at p c) pages (new_count c (class_at p c).pages pages)) c)
-        (λ x l. loose-carve (class_at p c) c pages (new_count c (class_at p c).pages pages) x (record { low = low; high = high }) l) (entries_of v c) (h.cached c low high)))
-    | inr n ↦ subst (λ (k : ClassState). All (IsLoose k d) (entries_of v d)) (sym (class_at-with_pages_other p c pages d n)) (h.cached d a b)
+    | inl s ↦ subst (λ t. All (IsLoose (class_at p' t) t) (entries_of v t)) (sym s)
+        (All-weaker (IsLoose (class_at p c) c) (IsLoose (class_at p' c) c) loose (entries_of v c) (h.cached c hc.low hc.high))
+    | inr n ↦ subst (λ (k : ClassState). All (IsLoose k d) (entries_of v d)) (sym (same d n)) (h.cached d a b)
   ];
 }
 
-pub ruleset above_laws = (above-new, above-with_pages)
+pub above-with_pages : (v : List (List ℕ)) (p : PoolState) (c pages : ℕ) → 0 < c → c ≤ CLASSES → IsAbove v p → IsAbove v (with_pages p c pages)
+above-with_pages v p c pages low high h =
+    let hc : IsClass c = record { low = low; high = high } in
+    let k = class_at p c in
+    above-changed v p (with_pages p c pages) c hc
+    (λ b l. subst (λ (t : ClassState). IsLoose t c b) (sym (class_at-with_pages p c pages)) (loose-carve k c pages (new_count c k.pages pages) b hc l))
+    (λ d n. class_at-with_pages_other p c pages d n) h
+
+-- ---- after a push and a pop of the pool itself
+
+loose-push : (k : ClassState) (c b d : ℕ) → IsBlock c k.pages b → slice_index_or k.marks (number_of c b) false ≡ false → IsLoose k c d → IsLoose (push_in c k b) c d
+loose-push k c b d block used l =
+    let n : d ≢ b = λ e. let t : slice_index_or k.marks (number_of c d) false ≡ true = l.marked in let u = ap (λ x. slice_index_or k.marks (number_of c x) false) e in cc in
+    let m = loose-mark k c b true d block n l in
+    record { carved = l.carved; marked = m.marked; unlisted = member-other b k.stack d n ∙ l.unlisted }
+
+pub above-pushed : (v : List (List ℕ)) (p : PoolState) (c b : ℕ) → 0 < c → c ≤ CLASSES → IsBlock c (pages_of p c) b → is_marked p c b ≡ false → IsAbove v p → IsAbove v (pushed p c b)
+above-pushed v p c b low high block used h =
+    let hc : IsClass c = record { low = low; high = high } in
+    above-changed v p (pushed p c b) c hc
+    (λ d l. subst (λ (t : ClassState). IsLoose t c d) (sym (class_at-pushed p c b)) (loose-push (class_at p c) c b d block used l))
+    (λ d n. class_at-pushed_other p c b d n) h
+
+pages-pop : (k : ClassState) (c : ℕ) (s : List ℕ) → (pop_in c k s).pages ≡ k.pages
+pages-pop k c [] = refl
+pages-pop k c (b ∷ more) = refl
+
+loose-pop : (k : ClassState) (c : ℕ) (s : List ℕ) (d : ℕ) → IfSome (slice_get s 0) (IsBlock c k.pages) → is_member s d ≡ false → IsLoose k c d → IsLoose (pop_in c k s) c d
+loose-pop k c [] d block other l = l
+loose-pop k c (b ∷ more) d block other l =
+    let n : d ≢ b = λ e. let t = member-first b more in let u = ap (is_member (b ∷ more)) e in cc in
+    let m = loose-mark k c b false d block n l in
+    record { carved = l.carved; marked = m.marked; unlisted = sym (member-other b more d n) ∙ other }
+
+-- by the clauses of `pop`
+pub above-popped : (v : List (List ℕ)) (p p' : PoolState) (c : ℕ) (r : Option ℕ) → 0 < c → c ≤ CLASSES → r ≡ slice_get (stack_of p c) 0 → p' ≡ popped p c → IfSome r (IsBlock c (pages_of p' c)) → IsAbove v p → IsAbove v p'
+above-popped v p p' c r low high er ep block h =
+    let hc : IsClass c = record { low = low; high = high } in
+    let k = class_at p c in
+    let at : class_at p' c ≡ pop_in c k k.stack = ap (λ t. class_at t c) ep ∙ class_at-popped p c in
+    let pages : pages_of p' c ≡ k.pages = ap (λ (t : ClassState). t.pages) at ∙ pages-pop k c k.stack in
+    let top : IfSome (slice_get k.stack 0) (IsBlock c k.pages) = subst (λ t. IfSome (slice_get k.stack 0) (IsBlock c t)) pages (subst (λ o. IfSome o (IsBlock c (pages_of p' c))) er block) in
+    above-changed v p p' c hc
+    (λ d l. subst (λ (t : ClassState). IsLoose t c d) (sym at) (loose-pop k c k.stack d top l.unlisted l))
+    (λ d n. ap (λ t. class_at t d) ep ∙ class_at-popped_other p c d n) h
+
+pub ruleset above_laws = (above-new, above-with_pages, above-pushed)
+
+pub ruleset pool_laws = (above-with_pages, above-pushed, left-with_pages, left-pushed)
+
+-- ---- pages left
+
+left-refilled : (c : ℕ) (xs : List ℕ) (p : PoolState) → (refilled c xs p).pool.left ≡ p.left
+unfolding refilled
+left-refilled c [] p = left-without_batch p c
+left-refilled c (b ∷ more) p = refl
+
+left-handed_out : (c : ℕ) (p : PoolState) (o : Option ℕ) → (handed_out c p o).left ≡ p.left
+left-handed_out c p None = refl
+left-handed_out c p (Some b) = left-with_mark p c b false
+
+-- by the clauses of `take` and `put`
+pub left-taken : (c : ℕ) (xs : List ℕ) (p : PoolState) → (after_take c (refilled c xs p)).pool.left ≡ p.left
+unfolding after_take
+left-taken c xs p = left-handed_out c (refilled c xs p).pool (newest (refilled c xs p).entries) ∙ left-refilled c xs p
+
+left-with_room : (c : ℕ) (xs : List ℕ) (p : PoolState) → (with_room c xs p).pool.left ≡ p.left
+unfolding with_room
+left-with_room c xs p = elim (eqb (length xs) (max_count_of c)) as (λ t. (cond t (halved_class c xs p) (whole_class xs p)).pool.left ≡ p.left) [
+  | true ↦ left-with_batch p c (take (max_count_of c / 2) xs)
+  | false ↦ refl
+]
+
+pub left-put : (c b : ℕ) (xs : List ℕ) (p : PoolState) → (after_put c b (with_room c xs p)).pool.left ≡ p.left
+unfolding after_put
+left-put c b xs p = left-with_mark (with_room c xs p).pool c b true ∙ left-with_room c xs p
+
+pub ruleset left_laws = (left-taken, left-put)

@@ -1,5 +1,5 @@
 -- One class: the blocks that the cache holds of it, the pool, and their one stack.
-use Rattle.std.proofs.Common.{◌≡◌, ◌≢◌, ℕ, zero, suc, ◌-◌, ◌/◌, ◌<◌, ◌≤◌, Bool, true, false, List, [], ◌∷◌, ◌++◌, length, take, drop, reverse, get_or, slice_get, Option, Some, None, refl, sym, ap, subst, ◌∙◌, arith, nat_eq, eqb, cond, eq-eqb}
+use Rattle.std.proofs.Common.{◌≡◌, ◌≢◌, ℕ, zero, suc, ◌-◌, ◌/◌, ◌<◌, ◌≤◌, Bool, true, false, List, [], ◌∷◌, ◌++◌, length, take, drop, reverse, get_or, set, slice_get, Option, Some, None, refl, sym, ap, subst, ◌∙◌, arith, nat_eq, eqb, cond, eq-eqb}
 use Rattle.std.proofs.lemmas.Bool.{cond-true, cond-false}
 use Rattle.std.proofs.lemmas.Bool.Decides.{nat_tests}
 use Rattle.std.proofs.lemmas.List.{reverse-append, append_assoc, take-append-drop, length-drop, length-append, take_at}
@@ -70,6 +70,23 @@ taken-loose p p' c b xs ys ep ey e u h =
     (subst (All (IsLoose (mark_in c (class_at p c) b false) c)) (sym ey)
     (all-loose-mark (class_at p c) c b false (take n xs) loose.carved (others-before n xs b r.0 r.1 u) (All-take (IsLoose (class_at p c) c) n xs h))))
 
+-- it is carved, and marked used
+pub taken-block : (p p' : PoolState) (c b : ℕ) (xs : List ℕ) → p' ≡ with_mark p c b false → Some b ≡ newest xs → All (IsLoose (class_at p c) c) xs → IsBlock c (class_at p' c).pages b
+taken-block p p' c b xs ep e h =
+    let r = at-place xs b (length xs - 1) e in
+    let loose = subst (IsLoose (class_at p c) c) r.1 (All-get_or (IsLoose (class_at p c) c) xs (length xs - 1) 0 r.0 h) in
+    subst (λ (k : ClassState). IsBlock c k.pages b) (sym (ap (λ t. class_at t c) ep ∙ class_at-with_mark p c b false)) loose.carved
+
+unmarked : (ms : List Bool) (i : ℕ) → get_or (set ms i false) i false ≡ false
+unmarked [] i = refl
+unmarked (m ∷ ms) zero = refl
+unmarked (m ∷ ms) (suc i) = unmarked ms i
+
+pub taken-used : (p p' : PoolState) (c b : ℕ) → p' ≡ with_mark p c b false → is_marked p' c b ≡ false
+taken-used p p' c b ep =
+    ap (λ t. is_marked t c b) ep ∙ ap (λ (k : ClassState). get_or k.marks (number_of c b) false) (class_at-with_mark p c b false)
+    ∙ unmarked (class_at p c).marks (number_of c b)
+
 pub taken-distinct : (xs ys : List ℕ) → ys ≡ take (length xs - 1) xs → IsDistinct nat_eq xs → IsDistinct nat_eq ys
 taken-distinct xs ys e u = subst (IsDistinct nat_eq) (sym e) (distinct-take (length xs - 1) xs (omega arith) u)
 
@@ -108,10 +125,10 @@ room-left c xs p h =
     let t : eqb (length xs) (max_count_of c) ≡ false = grind (arith, nat_tests) in
     (ap (λ (k : Class). k.entries) (cond-false _ _ _ t), ap (λ (k : Class). k.pool) (cond-false _ _ _ t))
 
-abbrev halved_class : ℕ → List ℕ → PoolState → Class
+abbrev pub halved_class : ℕ → List ℕ → PoolState → Class
 halved_class c xs p = record { entries = drop (max_count_of c / 2) xs; pool = with_batch p c (take (max_count_of c / 2) xs) }
 
-abbrev whole_class : List ℕ → PoolState → Class
+abbrev pub whole_class : List ℕ → PoolState → Class
 whole_class xs p = record { entries = xs; pool = p }
 
 room-class : (c : ℕ) (xs : List ℕ) (p : PoolState) → ((class_at (with_room c xs p).pool c).pages ≡ (class_at p c).pages) × ((class_at (with_room c xs p).pool c).marks ≡ (class_at p c).marks)

@@ -1,12 +1,12 @@
 //! The blocks of each class that are at hand.
 
-ghost use Rattle.std.specs.Prelude.{◌≡◌, ◌≢◌, ◌<◌, ◌≤◌, ◌-◌, ◌+◌, ◌∷◌, ◌++◌, [], ℕ, List, length, drop, reverse, slice_get, replicate, nat_eq, false, IfOk};
+ghost use Rattle.std.specs.Prelude.{◌≡◌, ◌≢◌, ◌<◌, ◌≤◌, ◌-◌, ◌+◌, ◌∷◌, ◌++◌, [], ℕ, List, length, drop, reverse, slice_get, replicate, nat_eq, false, true, IfSome, IfOk};
 ghost use Rattle.std.specs.List.{All, IsDistinct};
 ghost use Rattle.arrayvec.specs.ArrayVec.{array_vec_len};
 ghost use Rattle.scudo_primary.specs.Batches.{max_count_of};
 ghost use Rattle.scudo_primary.specs.Blocks.{IsBlock};
-ghost use Rattle.scudo_primary.specs.Pools.{pages_of, stack_of, sizes_of, is_marked, IsCached};
-ghost use Rattle.scudo_cache.specs.Caches.{entries_of, with_entries, one_stack, IsAbove, refilled, newest, after_take, with_room, after_put};
+ghost use Rattle.scudo_primary.specs.Pools.{pages_of, stack_of, sizes_of, is_marked, with_mark, IsCached};
+ghost use Rattle.scudo_cache.specs.Caches.{entries_of, with_entries, one_stack, IsAbove, refilled, newest, without_newest, handed_out, after_take, with_room, after_put};
 
 use arrayvec::ArrayVec;
 use scudo_header::CLASSES;
@@ -55,6 +55,8 @@ impl Cache {
         // Cache and pool are one stack, and a block that is at hand leaves the pool's lists as they are.
         ensures top { result ≡ slice_get (one_stack self.old pool.old class) 0 }
         ensures rest { one_stack self.new pool.new class ≡ drop 1 (one_stack self.old pool.old class) }
+        ensures block { IfSome result (IsBlock class (pages_of pool.new class)) }
+        ensures used { IfSome result (λ block. is_marked pool.new class block ≡ false) }
         ensures lists { entries_of self.old class ≢ [] → (stack_of pool.new class ≡ stack_of pool.old class) }
         ensures batches { entries_of self.old class ≢ [] → (sizes_of pool.new class ≡ sizes_of pool.old class) }
     {
@@ -83,6 +85,7 @@ impl Cache {
 }
 
 /// Takes the newest of a class's entries.
+#[inline]
 fn take_from(entries: &mut ArrayVec<u64, MAX_COUNT>, class: u8, pool: &mut Pool) -> Option<u64>
     requires low { 0 < class }
     requires high { class ≤ CLASSES }
@@ -97,8 +100,59 @@ fn take_from(entries: &mut ArrayVec<u64, MAX_COUNT>, class: u8, pool: &mut Pool)
     ensures most { array_vec_len entries.new ≤ max_count_of class }
     ensures top { result ≡ slice_get (reverse entries.old.items ++ stack_of pool.old class) 0 }
     ensures rest { reverse entries.new.items ++ stack_of pool.new class ≡ drop 1 (reverse entries.old.items ++ stack_of pool.old class) }
+    ensures block { IfSome result (IsBlock class (pages_of pool.new class)) }
+    ensures used { IfSome result (λ block. is_marked pool.new class block ≡ false) }
+{
+    if entries.is_empty() {
+        return refill_and_take(entries, class, pool);
+    }
+    hand_out(entries, class, pool)
+}
+
+/// The same where there is none: apart, so that a take of what is at hand stays short.
+#[inline(never)]
+fn refill_and_take(
+    entries: &mut ArrayVec<u64, MAX_COUNT>,
+    class: u8,
+    pool: &mut Pool,
+) -> Option<u64>
+    requires low { 0 < class }
+    requires high { class ≤ CLASSES }
+    requires empty { array_vec_len entries.old ≡ 0 }
+    ensures answer { result ≡ newest (refilled class entries.old.items pool.old).entries }
+    ensures entries { entries.new.items ≡ (after_take class (refilled class entries.old.items pool.old)).entries }
+    ensures pool { pool.new ≡ (after_take class (refilled class entries.old.items pool.old)).pool }
+    ensures cached { All (IsCached pool.new class) entries.new.items }
+    ensures distinct { IsDistinct nat_eq entries.new.items }
+    ensures most { array_vec_len entries.new ≤ max_count_of class }
+    ensures top { result ≡ slice_get (reverse entries.old.items ++ stack_of pool.old class) 0 }
+    ensures rest { reverse entries.new.items ++ stack_of pool.new class ≡ drop 1 (reverse entries.old.items ++ stack_of pool.old class) }
+    ensures block { IfSome result (IsBlock class (pages_of pool.new class)) }
+    ensures used { IfSome result (λ block. is_marked pool.new class block ≡ false) }
 {
     refill(entries, class, pool);
+    hand_out(entries, class, pool)
+}
+
+/// Takes the newest entry and marks it used. Where there is none, the pool has none either.
+#[inline]
+fn hand_out(entries: &mut ArrayVec<u64, MAX_COUNT>, class: u8, pool: &mut Pool) -> Option<u64>
+    requires low { 0 < class }
+    requires high { class ≤ CLASSES }
+    requires cached { All (IsCached pool.old class) entries.old.items }
+    requires distinct { IsDistinct nat_eq entries.old.items }
+    requires none { entries.old.items ≡ [] → stack_of pool.old class ≡ [] }
+    ensures answer { result ≡ newest entries.old.items }
+    ensures entries { entries.new.items ≡ without_newest entries.old.items }
+    ensures pool { pool.new ≡ handed_out class pool.old result }
+    ensures cached { All (IsCached pool.new class) entries.new.items }
+    ensures distinct { IsDistinct nat_eq entries.new.items }
+    ensures most { array_vec_len entries.new ≤ array_vec_len entries.old }
+    ensures top { result ≡ slice_get (reverse entries.old.items ++ stack_of pool.old class) 0 }
+    ensures rest { reverse entries.new.items ++ stack_of pool.new class ≡ drop 1 (reverse entries.old.items ++ stack_of pool.old class) }
+    ensures block { IfSome result (IsBlock class (pages_of pool.new class)) }
+    ensures used { IfSome result (λ block. is_marked pool.new class block ≡ false) }
+{
     let block = entries.pop()?;
     pool.mark_used(class, block);
     Some(block)
@@ -108,9 +162,7 @@ fn take_from(entries: &mut ArrayVec<u64, MAX_COUNT>, class: u8, pool: &mut Pool)
 fn refill(entries: &mut ArrayVec<u64, MAX_COUNT>, class: u8, pool: &mut Pool)
     requires low { 0 < class }
     requires high { class ≤ CLASSES }
-    requires cached { All (IsCached pool.old class) entries.old.items }
-    requires distinct { IsDistinct nat_eq entries.old.items }
-    requires most { array_vec_len entries.old ≤ max_count_of class }
+    requires empty { array_vec_len entries.old ≡ 0 }
     ensures entries { entries.new.items ≡ (refilled class entries.old.items pool.old).entries }
     ensures pool { pool.new ≡ (refilled class entries.old.items pool.old).pool }
     ensures cached { All (IsCached pool.new class) entries.new.items }
@@ -119,9 +171,6 @@ fn refill(entries: &mut ArrayVec<u64, MAX_COUNT>, class: u8, pool: &mut Pool)
     ensures none { entries.new.items ≡ [] → stack_of pool.new class ≡ [] }
     ensures stack { reverse entries.new.items ++ stack_of pool.new class ≡ reverse entries.old.items ++ stack_of pool.old class }
 {
-    if !entries.is_empty() {
-        return;
-    }
     let mut batch = [0; MAX_COUNT];
     let count = pool.pop_batch(class, &mut batch);
     for block in &batch[..count] {
@@ -130,6 +179,7 @@ fn refill(entries: &mut ArrayVec<u64, MAX_COUNT>, class: u8, pool: &mut Pool)
 }
 
 /// Puts a block behind a class's entries.
+#[inline]
 fn put_into(entries: &mut ArrayVec<u64, MAX_COUNT>, class: u8, block: u64, pool: &mut Pool)
     requires low { 0 < class }
     requires high { class ≤ CLASSES }
@@ -145,7 +195,50 @@ fn put_into(entries: &mut ArrayVec<u64, MAX_COUNT>, class: u8, block: u64, pool:
     ensures most { array_vec_len entries.new ≤ max_count_of class }
     ensures stack { reverse entries.new.items ++ stack_of pool.new class ≡ block ∷ reverse entries.old.items ++ stack_of pool.old class }
 {
+    if entries.len() >= max_count(class) {
+        return make_room_and_put(entries, class, block, pool);
+    }
+    add(entries, class, block, pool);
+}
+
+/// The same where they are full: apart, so that a put where there is room stays short.
+#[inline(never)]
+fn make_room_and_put(entries: &mut ArrayVec<u64, MAX_COUNT>, class: u8, block: u64, pool: &mut Pool)
+    requires low { 0 < class }
+    requires high { class ≤ CLASSES }
+    requires cached { All (IsCached pool.old class) entries.old.items }
+    requires distinct { IsDistinct nat_eq entries.old.items }
+    requires full { array_vec_len entries.old ≡ max_count_of class }
+    requires carved { IsBlock class (pages_of pool.old class) block }
+    requires used { is_marked pool.old class block ≡ false }
+    ensures entries { entries.new.items ≡ (after_put class block (with_room class entries.old.items pool.old)).entries }
+    ensures pool { pool.new ≡ (after_put class block (with_room class entries.old.items pool.old)).pool }
+    ensures cached { All (IsCached pool.new class) entries.new.items }
+    ensures distinct { IsDistinct nat_eq entries.new.items }
+    ensures most { array_vec_len entries.new ≤ max_count_of class }
+    ensures stack { reverse entries.new.items ++ stack_of pool.new class ≡ block ∷ reverse entries.old.items ++ stack_of pool.old class }
+{
     make_room(entries, class, pool);
+    add(entries, class, block, pool);
+}
+
+/// Adds a block where there is room, and marks it free.
+#[inline]
+fn add(entries: &mut ArrayVec<u64, MAX_COUNT>, class: u8, block: u64, pool: &mut Pool)
+    requires low { 0 < class }
+    requires high { class ≤ CLASSES }
+    requires cached { All (IsCached pool.old class) entries.old.items }
+    requires distinct { IsDistinct nat_eq entries.old.items }
+    requires room { array_vec_len entries.old < max_count_of class }
+    requires carved { IsBlock class (pages_of pool.old class) block }
+    requires used { is_marked pool.old class block ≡ false }
+    ensures entries { entries.new.items ≡ entries.old.items ++ block ∷ [] }
+    ensures pool { pool.new ≡ with_mark pool.old class block true }
+    ensures cached { All (IsCached pool.new class) entries.new.items }
+    ensures distinct { IsDistinct nat_eq entries.new.items }
+    ensures most { array_vec_len entries.new ≤ max_count_of class }
+    ensures stack { reverse entries.new.items ++ stack_of pool.new class ≡ block ∷ reverse entries.old.items ++ stack_of pool.old class }
+{
     entries.push(block);
     pool.mark_free(class, block);
 }
@@ -156,7 +249,7 @@ fn make_room(entries: &mut ArrayVec<u64, MAX_COUNT>, class: u8, pool: &mut Pool)
     requires high { class ≤ CLASSES }
     requires cached { All (IsCached pool.old class) entries.old.items }
     requires distinct { IsDistinct nat_eq entries.old.items }
-    requires most { array_vec_len entries.old ≤ max_count_of class }
+    requires full { array_vec_len entries.old ≡ max_count_of class }
     ensures entries { entries.new.items ≡ (with_room class entries.old.items pool.old).entries }
     ensures pool { pool.new ≡ (with_room class entries.old.items pool.old).pool }
     ensures cached { All (IsCached pool.new class) entries.new.items }
@@ -164,11 +257,7 @@ fn make_room(entries: &mut ArrayVec<u64, MAX_COUNT>, class: u8, pool: &mut Pool)
     ensures room { array_vec_len entries.new < max_count_of class }
     ensures stack { reverse entries.new.items ++ stack_of pool.new class ≡ reverse entries.old.items ++ stack_of pool.old class }
 {
-    let most = max_count(class);
-    if entries.len() < most {
-        return;
-    }
-    let half = most / 2;
+    let half = max_count(class) / 2;
     pool.push_batch(class, &entries.as_slice()[..half]);
     entries.drain(..half);
 }

@@ -1,24 +1,18 @@
-use Rattle.scudo_cache.proofs.ClassLemmas.{block-still, used-still, put-entries, put-pool, put-loose, put-distinct, put-stack}
+use Rattle.std.proofs.Common.{◌≡◌, ◌<◌, length, rules, sym}
+use Rattle.scudo_primary.specs.Batches.{max_count_of}
+use Rattle.scudo_cache.specs.Caches.{with_room}
+use Rattle.scudo_cache.proofs.ClassLemmas.{room-left, put-entries, put-pool}
 use Rattle.scudo_cache.proofs.cache.put_into.Goals as goal
 
-pub mark_free-requires-clause-carved : goal.mark_free-requires-clause-carved
-mark_free-requires-clause-carved c = block-still c.args.class c.args.block c.args.entries.now.items c.args.pool.now c.make_room.new.pool c.make_room.ensures.pool c.requires.carved
+-- there is room, so no half moves
+room : (c : goal.After-add) → (c.args.entries.now.items ≡ (with_room c.args.class c.args.entries.now.items c.args.pool.now).entries) × (c.args.pool.now ≡ (with_room c.args.class c.args.entries.now.items c.args.pool.now).pool)
+room c =
+    let l : length c.args.entries.now.items < max_count_of c.args.class = search rules in
+    let r = room-left c.args.class c.args.entries.now.items c.args.pool.now l in
+    (sym r.0, sym r.1)
 
 pub returns-clause-entries : goal.returns-clause-entries
-returns-clause-entries c = put-entries c.args.class c.args.block _ _ _ c.make_room.ensures.entries c.push.ensures.items
+returns-clause-entries c = put-entries c.args.class c.args.block _ _ _ (room c).0 c.add.ensures.entries
 
 pub returns-clause-pool : goal.returns-clause-pool
-returns-clause-pool c = put-pool c.args.class c.args.block _ _ _ c.make_room.ensures.pool c.mark_free.ensures.pool
-
-pub returns-clause-cached : goal.returns-clause-cached
-returns-clause-cached c =
-    put-loose c.make_room.new.pool c.mark_free.new.self c.args.class c.args.block c.make_room.new.entries.items c.push.new.self.items c.mark_free.ensures.pool c.push.ensures.items (block-still c.args.class c.args.block c.args.entries.now.items c.args.pool.now c.make_room.new.pool c.make_room.ensures.pool c.requires.carved) (used-still c.args.class c.args.block c.args.entries.now.items c.args.pool.now c.make_room.new.pool c.make_room.ensures.pool c.requires.used)
-    (c.mark_free.ensures.cached (used-still c.args.class c.args.block c.args.entries.now.items c.args.pool.now c.make_room.new.pool c.make_room.ensures.pool c.requires.used)) c.make_room.ensures.cached
-
-pub returns-clause-distinct : goal.returns-clause-distinct
-returns-clause-distinct c =
-    put-distinct c.make_room.new.pool c.args.class c.args.block c.make_room.new.entries.items c.push.new.self.items c.push.ensures.items (used-still c.args.class c.args.block c.args.entries.now.items c.args.pool.now c.make_room.new.pool c.make_room.ensures.pool c.requires.used) c.make_room.ensures.cached c.make_room.ensures.distinct
-
-pub returns-clause-stack : goal.returns-clause-stack
-returns-clause-stack c =
-    put-stack c.make_room.new.pool c.mark_free.new.self c.args.class c.args.block c.make_room.new.entries.items c.push.new.self.items _ c.mark_free.ensures.pool c.push.ensures.items c.make_room.ensures.stack
+returns-clause-pool c = put-pool c.args.class c.args.block _ _ _ (room c).1 c.add.ensures.pool

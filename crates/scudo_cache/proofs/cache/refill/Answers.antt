@@ -1,19 +1,13 @@
-use Rattle.std.proofs.Common.{◌≡◌, ◌<◌, length, take, rules, refl, sym, ap, ◌∙◌, arith}
+use Rattle.std.proofs.Common.{◌≡◌, length, take, rules, refl, sym, ap, ◌∙◌, arith}
 use Rattle.std.proofs.lemmas.List.{length-take-le, take_all}
 use Rattle.scudo_primary.specs.Pools.{top_batch}
 use Rattle.scudo_primary.proofs.ListLemmas.{max_count-high}
-use Rattle.scudo_cache.proofs.ClassLemmas.{refilled-some, refilled-none, front}
+use Rattle.scudo_cache.proofs.ClassLemmas.{refilled-none, front}
 use Rattle.scudo_cache.proofs.cache.refill.Goals as goal
-
-pub returns-then-not-is_empty-clause-entries : goal.returns-then-not-is_empty-clause-entries
-returns-then-not-is_empty-clause-entries c = let l : 0 < length c.args.entries.now.items = search rules in sym (refilled-some c.args.class c.args.entries.now.items c.args.pool.now l).0
-
-pub returns-then-not-is_empty-clause-pool : goal.returns-then-not-is_empty-clause-pool
-returns-then-not-is_empty-clause-pool c = let l : 0 < length c.args.entries.now.items = search rules in sym (refilled-some c.args.class c.args.entries.now.items c.args.pool.now l).1
 
 pub returns-clause-entries : goal.returns-clause-entries
 returns-clause-entries c =
-    let l : length c.args.entries.now.items ≡ 0 = search rules in
+    let l : length c.args.entries.now.items ≡ 0 = c.requires.empty in
     let most = c.pop_batch-count.ensures.most in
     let high = max_count-high c.args.class in
     let i : c.loop-block.block-index ≡ c.pop_batch-count.result = search rules in
@@ -25,5 +19,5 @@ returns-clause-entries c =
 
 pub returns-clause-pool : goal.returns-clause-pool
 returns-clause-pool c =
-    let l : length c.args.entries.now.items ≡ 0 = search rules in
+    let l : length c.args.entries.now.items ≡ 0 = c.requires.empty in
     c.pop_batch-count.ensures.pool ∙ sym (refilled-none c.args.class c.args.entries.now.items c.args.pool.now l).1

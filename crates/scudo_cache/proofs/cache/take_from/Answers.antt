@@ -1,27 +1,20 @@
-use Rattle.std.proofs.Common.{◌∙◌, Some, None}
-use Rattle.scudo_cache.proofs.ClassLemmas.{taken-pool, taken-entries, taken-loose, taken-distinct, taken-rest}
+use Rattle.std.proofs.Common.{◌≡◌, ◌<◌, ◌∙◌, length, rules, sym, ap}
+use Rattle.scudo_cache.specs.Caches.{refilled, newest}
+use Rattle.scudo_cache.proofs.ClassLemmas.{refilled-some, taken-pool, taken-entries}
 use Rattle.scudo_cache.proofs.cache.take_from.Goals as goal
 
-pub returns-in_err-block-clause-entries : goal.returns-in_err-block-clause-entries
-returns-in_err-block-clause-entries c = taken-entries c.args.class _ _ _ c.refill.ensures.entries c.pop.ensures.rest
+-- there is an entry, so nothing is refilled
+at-hand : (c : goal.After-hand_out) → (c.args.entries.now.items ≡ (refilled c.args.class c.args.entries.now.items c.args.pool.now).entries) × (c.args.pool.now ≡ (refilled c.args.class c.args.entries.now.items c.args.pool.now).pool)
+at-hand c =
+    let l : 0 < length c.args.entries.now.items = search rules in
+    let r = refilled-some c.args.class c.args.entries.now.items c.args.pool.now l in
+    (sym r.0, sym r.1)
 
-pub returns-in_err-block-clause-pool : goal.returns-in_err-block-clause-pool
-returns-in_err-block-clause-pool c = taken-pool c.args.class None _ _ _ c.refill.ensures.pool c.refill.ensures.entries c.in_err-block.ensures.value
+pub returns-clause-answer : goal.returns-clause-answer
+returns-clause-answer c = c.hand_out.ensures.answer ∙ ap newest (at-hand c).0
 
 pub returns-clause-entries : goal.returns-clause-entries
-returns-clause-entries c = taken-entries c.args.class _ _ _ c.refill.ensures.entries c.pop.ensures.rest
+returns-clause-entries c = taken-entries c.args.class _ _ _ (at-hand c).0 c.hand_out.ensures.entries
 
 pub returns-clause-pool : goal.returns-clause-pool
-returns-clause-pool c = c.mark_used.ensures ∙ taken-pool c.args.class (Some c.in_ok-block.block) _ _ _ c.refill.ensures.pool c.refill.ensures.entries c.in_ok-block.ensures.value
-
-pub returns-clause-cached : goal.returns-clause-cached
-returns-clause-cached c =
-    taken-loose c.refill.new.pool c.mark_used.new.self c.args.class c.in_ok-block.block c.refill.new.entries.items c.pop.new.self.items c.mark_used.ensures c.pop.ensures.rest c.in_ok-block.ensures.value
-    c.refill.ensures.distinct c.refill.ensures.cached
-
-pub returns-clause-distinct : goal.returns-clause-distinct
-returns-clause-distinct c = taken-distinct c.refill.new.entries.items c.pop.new.self.items c.pop.ensures.rest c.refill.ensures.distinct
-
-pub returns-clause-rest : goal.returns-clause-rest
-returns-clause-rest c =
-    taken-rest c.refill.new.pool c.mark_used.new.self c.args.class c.in_ok-block.block c.refill.new.entries.items c.pop.new.self.items _ c.mark_used.ensures c.in_ok-block.ensures.items c.refill.ensures.stack
+returns-clause-pool c = c.hand_out.ensures.pool ∙ taken-pool c.args.class c.hand_out.result _ _ _ (at-hand c).1 (at-hand c).0 c.hand_out.ensures.answer
