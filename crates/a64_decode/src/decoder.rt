@@ -16,7 +16,9 @@ pub fn decode(word: u32) -> Option<Instr>
     ensures value { result ≡ decoded word }
     ensures fits { IfSome result IsAllowed }
 {
-    read(word)
+    let mut found = None;
+    read(word, &mut found);
+    found
 }
 
 /// No two instructions have the same word.

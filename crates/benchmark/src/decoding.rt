@@ -67,22 +67,10 @@ pub fn shuffled(alloc: Global) -> Result<Vec<u32>, AllocError> {
     Ok(words)
 }
 
-/// A number made of fields of an instruction, so that they have to be read.
+/// A number that an instruction tells: an offset where it branches.
 fn weight(instr: Option<Instr>) -> u64 {
     match instr {
-        Some(Instr::AddSubImm { imm12, rd, sf, .. }) => u64::from(imm12)
-            ^ u64::from(rd)
-            ^ u64::from(sf),
-        Some(Instr::LogImm { immr, imms, .. }) => u64::from(immr) ^ u64::from(imms),
-        Some(Instr::MoveWide { imm16, hw, .. }) => u64::from(imm16) ^ u64::from(hw),
-        Some(Instr::Bitfield { immr, rd, .. }) => u64::from(immr) ^ u64::from(rd),
-        Some(Instr::BranchCond { imm19, cond }) => u64::from(imm19.unsigned_abs())
-            ^ u64::from(cond),
-        Some(Instr::LdStImm { imm12, rt, .. }) => u64::from(imm12) ^ u64::from(rt),
-        Some(Instr::LdStPost { imm9, rt, .. }) => u64::from(imm9.unsigned_abs()) ^ u64::from(rt),
-        Some(Instr::PairPost { imm7, rt2, .. }) => u64::from(imm7.unsigned_abs()) ^ u64::from(rt2),
-        Some(Instr::AddG { uimm6, .. }) => u64::from(uimm6),
-        Some(Instr::StG { imm9, .. }) => u64::from(imm9.unsigned_abs()),
+        Some(Instr::Branch { imm26, .. }) => u64::from(imm26.unsigned_abs()),
         Some(_) => 1,
         None => 7,
     }

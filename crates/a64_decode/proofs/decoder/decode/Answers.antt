@@ -5,7 +5,7 @@ use Rattle.a64_decode.proofs.decoder.decode.Goals as goal
 
 pub returns-clause-means : goal.returns-clause-means
 returns-clause-means c i = (
-  λ e. record { allowed = read_allowed _ _ i c.read.ensures.row e; same = found_same _ _ i c.read.ensures.found e },
+  λ e. record { allowed = read_allowed _ _ i c.read.ensures.row e; same = found_same _ _ i c.read.ensures.same e },
   λ h. reads_it _ _ i c.read.ensures.row (again i _ h.allowed h.same) h.allowed,
 )
 
