@@ -1,16 +1,20 @@
 -- What an access is in the slot that was found for its page.
-use Rattle.std.proofs.Common.{◌≡◌, ℕ, ◌+◌, ◌-◌, ◌*◌, ◌/◌, ◌%◌, ◌^◌, ◌<◌, ◌≤◌, Bool, Some, None, List, length, take, drop, get_or, set, false, sym, ap, ◌∙◌, arith}
+use Rattle.std.proofs.Common.{◌≡◌, ℕ, ◌+◌, ◌-◌, ◌*◌, ◌/◌, ◌%◌, ◌^◌, ◌<◌, ◌≤◌, Bool, Some, None, Ok, Err, List, length, take, drop, get_or, set, true, false, refl, sym, ap, ◌∙◌, arith, eq-eqb}
+use Rattle.std.proofs.lemmas.Bool.{cond-true}
 use Rattle.std.proofs.lemmas.List.{length-take}
+use Rattle.std.specs.Int.{from_le_bytes, w32}
+use Rattle.a64_bits.specs.Addresses.{plain}
 use Rattle.std.specs.List.{range_with_len, slice_range, All}
-use Rattle.mte_tags.specs.Memory.{Memory, page_at, with_page, tag_at, tag_in, with_granules}
+use Rattle.mte_tags.specs.Memory.{Memory, page_at, with_page, tag_at, tag_in, with_granules, has}
 use Rattle.mte_tags.specs.declared.access.FaultKind.TheVariants.{Translation}
-use Rattle.mte_tags.specs.Accesses.{addresses, granules, byte_fault, first_fault, fault, fault_in, bytes_at, with_bytes}
+use Rattle.mte_tags.specs.Accesses.{addresses, granules, byte_fault, first_fault, fault, fault_in, bytes_at, with_bytes, fetched, fetched_by, fetch_access, word_at, read_bytes}
 use Rattle.mte_tags.specs.Slots.{page_of, slots_memory, AreSlots, spliced, first_in, retagged}
 use Rattle.mte_tags.specs.declared.slots.Slot.{Slot}
 use Rattle.mte_tags.specs.declared.access.Access.{Access}
 use Rattle.mte_tags.proofs.AddressLists.{addresses_in_page}
 use Rattle.mte_tags.proofs.GranuleLists.{first_fault_in_run, first_fault_one}
-use Rattle.mte_tags.proofs.PageRuns.{first_fault_in, first_in-none, bytes_at-run, with_bytes-run}
+use Rattle.mte_tags.proofs.PageRuns.{first_fault_in, first_in-none, first_in-untagged, bytes_at-run, with_bytes-run}
+use Rattle.mte_tags.proofs.RunSteps.{length_range}
 use Rattle.mte_tags.proofs.TagRuns.{with_granules-run}
 use Rattle.mte_tags.proofs.Places.{page_at-slots_some, slots_memory-set}
 
@@ -84,6 +88,41 @@ slot_retagged n slots s at count t z d new h l f g r u long same small e =
     ∙ ap (λ q. with_page (slots_memory n slots) q (page_of new)) page
     ∙ ap (λ p. with_page (slots_memory n slots) (at / 4096) p) e
     ∙ sym (with_granules-run count (slots_memory n slots) (page_of old) at t z (found_page n slots s (at / 4096) d h l (f d)) g (omega arith) long u)
+
+-- the fetch of an aligned word
+fetched_aligned : (m : Memory) (pc at : ℕ) (x : Access) → pc % 4 ≡ 0 → at ≡ plain pc → x ≡ fetch_access pc → fetched m pc ≡ fetched_by m pc (first_fault m x (addresses at 4))
+unfolding fetched
+fetched_aligned m pc at x g p e =
+    cond-true _ _ _ (eq-eqb _ _ g)
+    ∙ ap (λ a. fetched_by m pc (first_fault m (fetch_access pc) (addresses a 4))) (sym p)
+    ∙ ap (λ y. fetched_by m pc (first_fault m y (addresses at 4))) (sym e)
+
+pub fetch_missing : (m : Memory) (pc at : ℕ) (x : Access) → pc % 4 ≡ 0 → at ≡ plain pc → x ≡ fetch_access pc → page_at m (at / 4096) ≡ None → Err (fault Translation x at 0) ≡ fetched m pc
+fetch_missing m pc at x g p e away =
+    sym (fetched_aligned m pc at x g p e ∙ ap (fetched_by m pc) (fault_missing m at 4 x (omega arith) (omega arith) (omega arith) away))
+
+pub fetch_found : (n : ℕ) (slots : List Slot) (s pc at : ℕ) (d : Slot) (x : Access) → AreSlots slots → s < length slots → ((e : Slot) → (get_or slots s e).page ≡ at / 4096) → pc % 4 ≡ 0 → at ≡ plain pc → x ≡ fetch_access pc
+    → fetched_by (slots_memory n slots) pc (first_in x (Some (page_of (get_or slots s d))) (range_with_len at 4)) ≡ fetched (slots_memory n slots) pc
+fetch_found n slots s pc at d x h l f g p e =
+    ap (fetched_by (slots_memory n slots) pc) (fault_found n slots s at 4 d x h l f (omega arith) (omega arith)) ∙ sym (fetched_aligned (slots_memory n slots) pc at x g p e)
+
+pub word_found : (n : ℕ) (slots : List Slot) (s pc at : ℕ) (d : Slot) → AreSlots slots → s < length slots → ((e : Slot) → (get_or slots s e).page ≡ at / 4096) → pc % 4 ≡ 0 → at ≡ plain pc → length (get_or slots s d).bytes ≡ 4096
+    → from_le_bytes w32 (slice_range (get_or slots s d).bytes (at % 4096) (at % 4096 + 4)) ≡ word_at (slots_memory n slots) pc
+unfolding word_at read_bytes
+word_found n slots s pc at d h l f g p long =
+    let bs = (get_or slots s d).bytes in
+    let size : length (slice_range bs (at % 4096) (at % 4096 + 4)) ≡ 4 = length_range bs (at % 4096) 4 (omega arith) in
+    ap (from_le_bytes w32) (piece_read n slots s at 4 4 d (slice_range bs (at % 4096) (at % 4096 + 4)) h l f (omega arith) (omega arith) size refl refl)
+    ∙ ap (λ a. from_le_bytes w32 (bytes_at (slots_memory n slots) (addresses a 4))) p
+
+-- pages lie low, so the address whose page was found without taking its top byte off has none
+pub code_found : (n : ℕ) (slots : List Slot) (s pc w : ℕ) (d : Slot) → AreSlots slots → s < length slots → ((e : Slot) → (get_or slots s e).page ≡ pc / 4096) → pc % 4 ≡ 0 → has (get_or slots s d).attrs.0 4 ≡ true
+    → length (get_or slots s d).bytes ≡ 4096 → w ≡ from_le_bytes w32 (slice_range (get_or slots s d).bytes (pc % 4096) (pc % 4096 + 4)) → Ok w ≡ fetched (slots_memory n slots) pc
+code_found n slots s pc w d h l f g x long e =
+    let low : pc ≡ plain pc = omega (arith, h.low s d l, f d) in
+    ap (λ v. Ok v) (e ∙ word_found n slots s pc pc d h l f g low long)
+    ∙ ap (fetched_by (slots_memory n slots) pc) (sym (first_in-untagged (fetch_access pc) (page_of (get_or slots s d)) pc 4 x refl))
+    ∙ fetch_found n slots s pc pc d (fetch_access pc) h l f g low refl
 
 pub tag_found : (n : ℕ) (slots : List Slot) (s at : ℕ) (d : Slot) → AreSlots slots → s < length slots → ((e : Slot) → (get_or slots s e).page ≡ at / 4096)
     → tag_at (slots_memory n slots) at ≡ tag_in (Some (page_of (get_or slots s d))) (at % 4096 / 16)

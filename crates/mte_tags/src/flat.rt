@@ -2,16 +2,17 @@
 
 ghost use Rattle.std.specs.Prelude.{◌≡◌, ℕ, ◌<◌, ◌≤◌, ◌+◌, ◌*◌, ◌%◌, ◌^◌, false, IfOk, is_ok, None, length, if◌then◌else◌, vec_len, vec_capacity};
 ghost use Rattle.mte_tags.specs.Memory.{page_at, no_pages, tag_at, with_granules, with_new_pages, without_pages, IsFree, ArePages};
-ghost use Rattle.mte_tags.specs.Accesses.{outcome, loaded, addresses, granules, byte_fault, first_fault, bytes_at, with_bytes};
+ghost use Rattle.mte_tags.specs.Accesses.{outcome, loaded, addresses, granules, byte_fault, first_fault, bytes_at, with_bytes, fetched};
 ghost use Rattle.mte_tags.specs.Slots.{slots_memory, AreSlots};
 
 use crate::access::{Access, Attrs, FaultKind, MemFault};
 use crate::finder::Finder;
 use crate::runs::replace_bytes;
-use crate::slots::{Slot, find, find_for, new_slot};
+use crate::slots::{Slot, find, holds, new_slot};
 use crate::store::PageStore;
 use crate::tagged::{NoQuota, Paged};
 use a64_bits::plain;
+use bitflags::Flags;
 use std::alloc::{AllocError, Global};
 use std::marker::Model;
 
@@ -76,6 +77,45 @@ fn slots_fault(
     }
 }
 
+/// The instruction word at an aligned address, mostly on the page of the instruction before. That page is
+/// sought without taking the top byte off the address: no page has one.
+#[inline(always)]
+fn fetch_slots(slots: &[Slot], finder: &mut Finder, pc: u64) -> Result<u32, MemFault>
+    requires aligned { pc % 4 ≡ 0 }
+    requires slots { AreSlots slots.now }
+    ensures { (n : ℕ) → result ≡ fetched (slots_memory n slots.now) pc }
+{
+    let code = finder.code;
+    if holds(slots, code, pc / 4096) {
+        let slot = &slots[code];
+        if slot.attrs.contains(Attrs::EXEC) {
+            return Ok(slot.word(pc));
+        }
+    }
+    fetch_again(slots, finder, pc)
+}
+
+/// The instruction word at an aligned address, on whatever page.
+#[cold]
+#[inline(never)]
+fn fetch_again(slots: &[Slot], finder: &mut Finder, pc: u64) -> Result<u32, MemFault>
+    requires aligned { pc % 4 ≡ 0 }
+    requires slots { AreSlots slots.now }
+    ensures { (n : ℕ) → result ≡ fetched (slots_memory n slots.now) pc }
+{
+    let access = Access::fetching(pc);
+    let at = plain(pc);
+    let Some(s) = find(slots, finder, at / 4096) else {
+        return Err(access.fault(FaultKind::Translation, at, 0));
+    };
+    finder.code = s;
+    let slot = &slots[s];
+    if let Some(fault) = slot.run_fault(at, 4, &access) {
+        return Err(fault);
+    }
+    Ok(slot.word(at))
+}
+
 /// Copies a run of bytes out, or tells the first that fails.
 #[inline(always)]
 fn read_slots(
@@ -92,7 +132,7 @@ fn read_slots(
     ensures answer { (n : ℕ) → result ≡ outcome (first_fault (slots_memory n slots.now) access.now (addresses at (length buffer.old))) }
     ensures bytes { (n : ℕ) → buffer.new ≡ (if is_ok result then bytes_at (slots_memory n slots.now) (addresses at (length buffer.old)) else buffer.old) }
 {
-    let Some(s) = find_for(slots, finder, at / 4096, access) else {
+    let Some(s) = find(slots, finder, at / 4096) else {
         return Err(access.fault(FaultKind::Translation, at, 0));
     };
     let slot = &slots[s];
@@ -197,6 +237,11 @@ impl PageStore for Flat {
     #[inline]
     fn run_fault(&mut self, at: u64, count: usize, access: &Access) -> Option<MemFault> {
         slots_fault(&self.slots, &mut self.finder, at, count, access)
+    }
+
+    #[inline(always)]
+    fn fetch_aligned(&mut self, pc: u64) -> Result<u32, MemFault> {
+        fetch_slots(&self.slots, &mut self.finder, pc)
     }
 
     #[inline(always)]

@@ -139,14 +139,10 @@ fn fetch_word<S: PageStore>(store: &mut S, pc: u64) -> Result<u32, MemFault>
     ensures memory { S.content store.new ≡ S.content store.old }
     ensures kept { S.rest_kept store.old store.new }
 {
-    let access = Access::fetching(pc);
-    let at = plain(pc);
     if pc % 4 != 0 {
-        return Err(access.fault(FaultKind::PcAlignment, at, 0));
+        return Err(Access::fetching(pc).fault(FaultKind::PcAlignment, plain(pc), 0));
     }
-    let mut word = [0; 4];
-    store.read_run(at, &mut word, &access)?;
-    Ok(u32::from_le_bytes(word))
+    store.fetch_aligned(pc)
 }
 
 /// The tag of the granule that holds an address.

@@ -2,6 +2,7 @@
 
 ghost use Rattle.std.specs.Prelude.{◌≡◌, ◌≢◌, ℕ, ◌<◌, ◌≤◌, ◌+◌, ◌*◌, ◌%◌, ◌/◌, ◌^◌, ◌&&◌, ◌↔◌, true, false, Some, None, IfSome, IsNone, IsSome, IsTrue, length, slice_index_or, slice_range};
 ghost use Rattle.std.specs.List.{All, range_with_len};
+ghost use Rattle.std.specs.Int.{from_le_bytes, w32};
 ghost use Rattle.mte_tags.specs.Memory.{page_at, new_page, has, tag_in};
 ghost use Rattle.mte_tags.specs.Slots.{page_of, slots_memory, first_in, spliced, retagged};
 
@@ -35,7 +36,7 @@ pub(crate) fn new_slot(page: u64, attrs: Attrs) -> Slot
 
 /// Whether a slot is there and has a page.
 #[inline(always)]
-fn holds(slots: &[Slot], s: usize, page: u64) -> bool
+pub(crate) fn holds(slots: &[Slot], s: usize, page: u64) -> bool
     ensures { IsTrue result ↔ ((s < length slots.now) × ((d : _) → (slice_index_or slots.now s d).page ≡ page)) }
 {
     s < slots.len() && slots[s].page == page
@@ -68,39 +69,6 @@ fn find_again(slots: &[Slot], finder: &mut Finder, page: u64) -> Option<usize>
         }
     }
     search(slots, page)
-}
-
-/// The slot of a page for an access. That of a fetch is mostly that of the instruction before.
-#[inline(always)]
-pub(crate) fn find_for(
-    slots: &[Slot],
-    finder: &mut Finder,
-    page: u64,
-    access: &Access,
-) -> Option<usize>
-    ensures some { IfSome result (λ s. (s < length slots.now) × ((d : _) → (slice_index_or slots.now s d).page ≡ page)) }
-    ensures none { IsNone result → (n : ℕ) → page_at (slots_memory n slots.now) page ≡ None }
-{
-    if access.need != Attrs::EXEC.0 {
-        return find(slots, finder, page);
-    }
-    let code = finder.code;
-    if holds(slots, code, page) {
-        return Some(code);
-    }
-    find_other_code(slots, finder, page)
-}
-
-/// The slot of a page that is not that of the instruction before.
-#[cold]
-#[inline(never)]
-fn find_other_code(slots: &[Slot], finder: &mut Finder, page: u64) -> Option<usize>
-    ensures some { IfSome result (λ s. (s < length slots.now) × ((d : _) → (slice_index_or slots.now s d).page ≡ page)) }
-    ensures none { IsNone result → (n : ℕ) → page_at (slots_memory n slots.now) page ≡ None }
-{
-    let s = find(slots, finder, page)?;
-    finder.code = s;
-    Some(s)
 }
 
 /// The slot of a page among all of them. Only a page that is not mapped is sought in this way.
@@ -175,6 +143,18 @@ impl Slot {
         } else {
             buffer.copy_from_slice(&self.bytes[from..from + buffer.len()]);
         }
+    }
+
+    /// The instruction word at an address.
+    #[inline(always)]
+    pub(crate) fn word(&self, at: u64) -> u32
+        requires { at % 4096 + 4 ≤ 4096 }
+        ensures long { length self.now.bytes ≡ 4096 }
+        ensures word { result ≡ from_le_bytes w32 (slice_range self.now.bytes (at % 4096) (at % 4096 + 4)) }
+    {
+        let mut word = [0; 4];
+        self.copy_out(at, &mut word);
+        u32::from_le_bytes(word)
     }
 
     /// Replaces a run of bytes.

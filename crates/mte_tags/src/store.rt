@@ -2,7 +2,7 @@
 
 ghost use Rattle.std.specs.Prelude.{◌≡◌, ℕ, ◌<◌, ◌≤◌, ◌+◌, ◌*◌, ◌%◌, ◌^◌, false, IfOk, is_ok, length, if◌then◌else◌};
 ghost use Rattle.mte_tags.specs.Memory.{Memory, tag_at, with_granules};
-ghost use Rattle.mte_tags.specs.Accesses.{outcome, loaded, addresses, granules, byte_fault, first_fault, bytes_at, with_bytes};
+ghost use Rattle.mte_tags.specs.Accesses.{outcome, loaded, addresses, granules, byte_fault, first_fault, bytes_at, with_bytes, fetched};
 
 use crate::access::{Access, MemFault};
 
@@ -22,6 +22,13 @@ pub trait PageStore {
         requires inside { at % 4096 + count ≤ 4096 }
         requires plain { at < 2 ^ 56 }
         ensures answer { result ≡ first_fault (content self.old) access.now (addresses at count) }
+        ensures memory { content self.new ≡ content self.old }
+        ensures kept { rest_kept self.old self.new };
+
+    /// The instruction word at an aligned address, which one page holds, or how its fetch fails.
+    fn fetch_aligned(&mut self, pc: u64) -> Result<u32, MemFault>
+        requires aligned { pc % 4 ≡ 0 }
+        ensures answer { result ≡ fetched (content self.old) pc }
         ensures memory { content self.new ≡ content self.old }
         ensures kept { rest_kept self.old self.new };
 
