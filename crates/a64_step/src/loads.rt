@@ -11,9 +11,42 @@ use crate::registers::Regs;
 use a64_bits::sign_extend;
 use mte_tags::Tagged;
 
-/// Unsigned offset.
-#[inline(never)]
+/// Unsigned offset. An access of 64 bits has a copy of its own, which asks for its size once.
+#[inline(always)]
+#[tactic(auto, unfolding(crate::specs::Loads::single_of))]
 pub fn ld_st_imm<M: Tagged>(
+    regs: &mut Regs,
+    memory: &mut M,
+    size: u8,
+    opc: u8,
+    imm12: u16,
+    rn: u8,
+    rt: u8,
+    outcome: &mut Outcome,
+)
+    requires rn { rn < 32 }
+    requires rt { rt < 32 }
+    requires wide { size ≡ 3 → opc < 2 }
+    requires outcome { outcome.old ≡ Outcome.Next }
+    ensures outcome { outcome.new ≡ (single_of regs.old (M.memory memory.old) size opc rn rt (scaled_place regs.old size imm12 rn)).outcome }
+    ensures regs { regs.new ≡ (single_of regs.old (M.memory memory.old) size opc rn rt (scaled_place regs.old size imm12 rn)).regs }
+    ensures memory { M.memory memory.new ≡ (single_of regs.old (M.memory memory.old) size opc rn rt (scaled_place regs.old size imm12 rn)).memory }
+    ensures kept { M.kept memory.old memory.new }
+{
+    if size != 3 {
+        return ld_st_imm_narrow(regs, memory, size, opc, imm12, rn, rt, outcome);
+    }
+    let place = Place::scaled(regs, 3, imm12, rn);
+    if opc == 0 {
+        store(regs, memory, 3, rn, rt, place, outcome)
+    } else {
+        load(regs, memory, 3, 1, rn, rt, place, outcome)
+    }
+}
+
+/// Unsigned offset, of less than 64 bits.
+#[inline(never)]
+fn ld_st_imm_narrow<M: Tagged>(
     regs: &mut Regs,
     memory: &mut M,
     size: u8,
