@@ -1,5 +1,5 @@
 -- What an access is in the slot that was found for its page.
-use Rattle.std.proofs.Common.{◌≡◌, ℕ, ◌+◌, ◌-◌, ◌*◌, ◌/◌, ◌%◌, ◌^◌, ◌<◌, ◌≤◌, Bool, Some, None, Ok, Err, List, length, take, drop, get_or, set, true, false, refl, sym, ap, ◌∙◌, arith, eq-eqb}
+use Rattle.std.proofs.Common.{◌≡◌, ℕ, ◌+◌, ◌-◌, ◌*◌, ◌/◌, ◌%◌, ◌^◌, ◌<◌, ◌≤◌, Bool, Option, Some, None, is_none, Ok, Err, List, length, take, drop, get_or, set, true, false, refl, sym, ap, ◌∙◌, arith, eq-eqb}
 use Rattle.std.proofs.lemmas.Bool.{cond-true}
 use Rattle.std.proofs.lemmas.List.{length-take}
 use Rattle.std.specs.Int.{from_le_bytes, w32}
@@ -7,10 +7,11 @@ use Rattle.a64_bits.specs.Addresses.{plain}
 use Rattle.std.specs.List.{range_with_len, slice_range, All}
 use Rattle.mte_tags.specs.Memory.{Memory, page_at, with_page, tag_at, tag_in, with_granules, has}
 use Rattle.mte_tags.specs.declared.access.FaultKind.TheVariants.{Translation}
-use Rattle.mte_tags.specs.Accesses.{addresses, granules, byte_fault, first_fault, fault, fault_in, bytes_at, with_bytes, fetched, fetched_by, fetch_access, word_at, read_bytes}
+use Rattle.mte_tags.specs.Accesses.{addresses, granules, outcome, byte_fault, first_fault, fault, fault_in, bytes_at, with_bytes, fetched, fetched_by, fetch_access, word_at, read_bytes}
 use Rattle.mte_tags.specs.Slots.{page_of, slots_memory, AreSlots, spliced, first_in, retagged}
 use Rattle.mte_tags.specs.declared.slots.Slot.{Slot}
 use Rattle.mte_tags.specs.declared.access.Access.{Access}
+use Rattle.mte_tags.specs.declared.access.MemFault.{MemFault}
 use Rattle.mte_tags.proofs.AddressLists.{addresses_in_page}
 use Rattle.mte_tags.proofs.GranuleLists.{first_fault_in_run, first_fault_one}
 use Rattle.mte_tags.proofs.PageRuns.{first_fault_in, first_in-none, first_in-untagged, bytes_at-run, with_bytes-run}
@@ -27,6 +28,14 @@ pub fault_found : (n : ℕ) (slots : List Slot) (s at count : ℕ) (d : Slot) (x
 fault_found n slots s at count d x h l f p u =
     sym (ap (first_fault (slots_memory n slots) x) (addresses_in_page at count u p) ∙ first_fault_in (slots_memory n slots) x at count p
     ∙ ap (λ q. first_in x q (range_with_len at count)) (found_page n slots s (at / 4096) d h l (f d)))
+
+passed : (o : Option MemFault) → is_none o ≡ true → Ok tt ≡ outcome o
+passed None h = refl
+passed (Some f) h = cc
+
+pub run_passed : (n : ℕ) (slots : List Slot) (s at count : ℕ) (d : Slot) (x : Access) → AreSlots slots → s < length slots → ((e : Slot) → (get_or slots s e).page ≡ at / 4096) → at % 4096 + count ≤ 4096 → at < 2 ^ 56
+    → is_none (first_in x (Some (page_of (get_or slots s d))) (range_with_len at count)) ≡ true → Ok tt ≡ outcome (first_fault (slots_memory n slots) x (addresses at count))
+run_passed n slots s at count d x h l f p u e = passed _ e ∙ ap outcome (fault_found n slots s at count d x h l f p u)
 
 pub fault_missing : (m : Memory) (at count : ℕ) (x : Access) → 0 < count → at % 4096 + count ≤ 4096 → at < 2 ^ 56 → page_at m (at / 4096) ≡ None
     → first_fault m x (addresses at count) ≡ Some (fault Translation x at 0)

@@ -1,8 +1,8 @@
 -- Runs of bytes and granules within one page.
-use Rattle.std.proofs.Common.{◌≡◌, ◌≢◌, ℕ, suc, zero, ◌+◌, ◌-◌, ◌/◌, ◌%◌, ◌<◌, ◌≤◌, ◌==◌, ◌&&◌, Bool, true, false, cond, Option, Some, None, List, [], ◌∷◌, ◌++◌, length, take, drop, set, replicate, refl, sym, ap, ◌∙◌, arith, eq-eqb}
+use Rattle.std.proofs.Common.{◌≡◌, ◌≢◌, ℕ, suc, zero, ◌+◌, ◌-◌, ◌/◌, ◌%◌, ◌<◌, ◌≤◌, ◌==◌, ◌&&◌, Bool, true, false, cond, Option, Some, None, is_none, List, [], ◌∷◌, ◌++◌, length, take, drop, set, replicate, refl, sym, ap, ◌∙◌, inl, inr, arith, eq-eqb}
 use Rattle.std.proofs.lemmas.List.{ext_get_or, get_or-take, get_or-drop, length-take-le, length-set, drop-set-lt, append_assoc, take_more_set, take-append-drop, drop-drop, length-replicate}
 use Rattle.std.proofs.lemmas.List.FromFn.{get_or-map-range_with_len, length-map-range_with_len}
-use Rattle.std.proofs.lemmas.Bool.{cond-true, cond-false}
+use Rattle.std.proofs.lemmas.Bool.{cases_eq, cond-true, cond-false}
 use Rattle.std.specs.List.{range_with_len, slice_range}
 use Rattle.std.specs.Prelude.{slice_index}
 use Rattle.mte_tags.specs.Memory.{Memory, Page, page_at, with_page, has, byte_in, byte_at, with_byte_in, with_byte}
@@ -82,6 +82,13 @@ first_in-tag x p a (suc n) h e f d =
     let t : (granule_tag p a == x.tag) ≡ false = grind arith in
     ap (λ g. or_else g (first_in x (Some p) (range_with_len (a + 1) n))) (cond-true _ _ _ e ∙ cond-true _ _ _ f ∙ cond-false _ _ _ t)
 
+-- whether a run within one granule passes
+pub granule_passes : (x : Access) (p : Page) (a n : ℕ) → 0 < n → a % 16 + n ≤ 16 → has p.attrs x.need ≡ true → (x.checked && has p.attrs 8) ≡ true → (granule_tag p a == x.tag) ≡ is_none (first_in x (Some p) (range_with_len a n))
+granule_passes x p a n h k e f = elim (cases_eq (granule_tag p a) x.tag) [
+  | inl same ↦ eq-eqb _ _ same ∙ sym (ap is_none (first_in-granule x p a n k e same))
+  | inr other ↦ let t : (granule_tag p a == x.tag) ≡ false = grind arith in t ∙ sym (ap is_none (first_in-tag x p a n h e f other))
+]
+
 -- what a run in a page holds
 pub bytes_at-run : (m : Memory) (p : Page) (a n : ℕ) → page_at m (a / 4096) ≡ Some p → n ≤ length (drop (a % 4096) p.bytes) → a % 4096 + n ≤ 4096
     → bytes_at m (range_with_len a n) ≡ slice_range p.bytes (a % 4096) (a % 4096 + n)
@@ -126,6 +133,15 @@ spliced_is (b ∷ bs) xs o h =
     ∙ ap (λ t. t ++ (bs ++ drop (o + 1 + length bs) (set xs o b))) (take_more_set xs o b lt)
     ∙ append_assoc (take o xs) (b ∷ []) (bs ++ drop (o + 1 + length bs) (set xs o b))
     ∙ ap (λ t. take o xs ++ (b ∷ (bs ++ t))) (ap (λ k. drop k (set xs o b)) e ∙ drop-set-lt (o + suc (length bs)) xs o b lt')
+
+-- a run that was copied in
+pub copied_in : (bs ys xs : List ℕ) (o n : ℕ) → ys ≡ bs → length bs ≡ n → o + length bs ≤ length xs → take o xs ++ (ys ++ drop (o + n - o) (drop o xs)) ≡ spliced xs o bs
+copied_in bs ys xs o n same e h =
+    let k : o + n - o ≡ length bs = omega arith in
+    ap (λ l. take o xs ++ (l ++ drop (o + n - o) (drop o xs))) same
+    ∙ ap (λ j. take o xs ++ (bs ++ drop j (drop o xs))) k
+    ∙ ap (λ l. take o xs ++ (bs ++ l)) (drop-drop (length bs) o xs)
+    ∙ sym (spliced_is bs xs o h)
 
 -- a run goes on where its first granule passed
 pub first_in-append : (x : Access) (p : Page) (a n k : ℕ) → first_in x (Some p) (range_with_len a n) ≡ None → first_in x (Some p) (range_with_len a (n + k)) ≡ first_in x (Some p) (range_with_len (a + n) k)

@@ -153,3 +153,20 @@ impl Access {
         }
     }
 }
+
+/// The same answer, field by field: what a function apart wrote into memory then goes on in registers.
+#[inline(always)]
+pub(crate) fn by_fields(answer: Result<(), MemFault>) -> Result<(), MemFault>
+    ensures { result ≡ answer }
+{
+    match answer {
+        Ok(()) => Ok(()),
+        Err(fault) => Err(MemFault {
+            addr: fault.addr,
+            kind: fault.kind,
+            write: fault.write,
+            ptr_tag: fault.ptr_tag,
+            mem_tag: fault.mem_tag,
+        }),
+    }
+}

@@ -5,7 +5,7 @@ ghost use Rattle.mte_tags.specs.Memory.{page_at, no_pages, tag_at, with_granules
 ghost use Rattle.mte_tags.specs.Accesses.{outcome, loaded, addresses, granules, byte_fault, first_fault, bytes_at, with_bytes, fetched};
 ghost use Rattle.mte_tags.specs.Slots.{slots_memory, AreSlots};
 
-use crate::access::{Access, Attrs, FaultKind, MemFault};
+use crate::access::{Access, Attrs, FaultKind, MemFault, by_fields};
 use crate::finder::Finder;
 use crate::runs::replace_bytes;
 use crate::slots::{Slot, find, holds, new_slot};
@@ -116,9 +116,58 @@ fn fetch_again(slots: &[Slot], finder: &mut Finder, pc: u64) -> Result<u32, MemF
     Ok(slot.word(at))
 }
 
-/// Copies a run of bytes out, or tells the first that fails.
+/// Copies a run of bytes out, or tells the first that fails, mostly on the page that was found last.
 #[inline(always)]
 fn read_slots(
+    slots: &[Slot],
+    finder: &mut Finder,
+    at: u64,
+    buffer: &mut [u8],
+    access: &Access,
+) -> Result<(), MemFault>
+    requires some { 0 < length buffer.old }
+    requires inside { at % 4096 + length buffer.old ≤ 4096 }
+    requires plain { at < 2 ^ 56 }
+    requires slots { AreSlots slots.now }
+    ensures answer { (n : ℕ) → result ≡ outcome (first_fault (slots_memory n slots.now) access.now (addresses at (length buffer.old))) }
+    ensures bytes { (n : ℕ) → buffer.new ≡ (if is_ok result then bytes_at (slots_memory n slots.now) (addresses at (length buffer.old)) else buffer.old) }
+{
+    let s = finder.last(at / 4096);
+    if holds(slots, s, at / 4096) {
+        let slot = &slots[s];
+        if slot.passes(at, buffer.len(), access) {
+            slot.copy_out(at, buffer);
+            return Ok(());
+        }
+    }
+    read_again(slots, finder, at, buffer, access)
+}
+
+/// Goes on in a function apart, with copies of its own of what that is given and answers by a place in memory:
+/// the way of most accesses then has all of it in registers.
+#[inline(always)]
+fn read_again(
+    slots: &[Slot],
+    finder: &mut Finder,
+    at: u64,
+    buffer: &mut [u8],
+    access: &Access,
+) -> Result<(), MemFault>
+    requires some { 0 < length buffer.old }
+    requires inside { at % 4096 + length buffer.old ≤ 4096 }
+    requires plain { at < 2 ^ 56 }
+    requires slots { AreSlots slots.now }
+    ensures answer { (n : ℕ) → result ≡ outcome (first_fault (slots_memory n slots.now) access.now (addresses at (length buffer.old))) }
+    ensures bytes { (n : ℕ) → buffer.new ≡ (if is_ok result then bytes_at (slots_memory n slots.now) (addresses at (length buffer.old)) else buffer.old) }
+{
+    let own = *access;
+    by_fields(read_anywhere(slots, finder, at, buffer, &own))
+}
+
+/// Copies a run of bytes out, or tells the first that fails, on whatever page.
+#[cold]
+#[inline(never)]
+fn read_anywhere(
     slots: &[Slot],
     finder: &mut Finder,
     at: u64,
@@ -143,9 +192,60 @@ fn read_slots(
     Ok(())
 }
 
-/// Copies a run of bytes in, or tells the first that fails.
+/// Copies a run of bytes in, or tells the first that fails, mostly on the page that was found last.
 #[inline(always)]
 fn write_slots(
+    slots: &mut [Slot],
+    finder: &mut Finder,
+    at: u64,
+    bytes: &[u8],
+    access: &Access,
+) -> Result<(), MemFault>
+    requires some { 0 < length bytes.now }
+    requires inside { at % 4096 + length bytes.now ≤ 4096 }
+    requires plain { at < 2 ^ 56 }
+    requires slots { AreSlots slots.old }
+    ensures answer { (n : ℕ) → result ≡ outcome (first_fault (slots_memory n slots.old) access.now (addresses at (length bytes.now))) }
+    ensures memory { (n : ℕ) → slots_memory n slots.new ≡ (if is_ok result then with_bytes (slots_memory n slots.old) (addresses at (length bytes.now)) bytes.now else slots_memory n slots.old) }
+    ensures slots { AreSlots slots.new }
+{
+    let s = finder.last(at / 4096);
+    if holds(slots, s, at / 4096) {
+        let slot = &mut slots[s];
+        if slot.passes(at, bytes.len(), access) {
+            slot.copy_in(at, bytes);
+            return Ok(());
+        }
+    }
+    write_again(slots, finder, at, bytes, access)
+}
+
+/// Goes on in a function apart, with copies of its own of what that is given and answers by a place in memory:
+/// the way of most accesses then has all of it in registers.
+#[inline(always)]
+fn write_again(
+    slots: &mut [Slot],
+    finder: &mut Finder,
+    at: u64,
+    bytes: &[u8],
+    access: &Access,
+) -> Result<(), MemFault>
+    requires some { 0 < length bytes.now }
+    requires inside { at % 4096 + length bytes.now ≤ 4096 }
+    requires plain { at < 2 ^ 56 }
+    requires slots { AreSlots slots.old }
+    ensures answer { (n : ℕ) → result ≡ outcome (first_fault (slots_memory n slots.old) access.now (addresses at (length bytes.now))) }
+    ensures memory { (n : ℕ) → slots_memory n slots.new ≡ (if is_ok result then with_bytes (slots_memory n slots.old) (addresses at (length bytes.now)) bytes.now else slots_memory n slots.old) }
+    ensures slots { AreSlots slots.new }
+{
+    let own = *access;
+    by_fields(write_anywhere(slots, finder, at, bytes, &own))
+}
+
+/// Copies a run of bytes in, or tells the first that fails, on whatever page.
+#[cold]
+#[inline(never)]
+fn write_anywhere(
     slots: &mut [Slot],
     finder: &mut Finder,
     at: u64,

@@ -5,7 +5,7 @@ ghost use Rattle.a64_bits.specs.Addresses.{plain};
 ghost use Rattle.mte_tags.specs.Memory.{Memory, tag_at, with_granules};
 ghost use Rattle.mte_tags.specs.Accesses.{outcome, loaded, addresses, granules, first_fault, bytes_at, with_bytes, AreMapped, fetched, read_fault, read_bytes, write_fault, written, tags_fault, tag_load_fault};
 
-use crate::access::{Access, FaultKind, MemFault};
+use crate::access::{Access, FaultKind, MemFault, by_fields};
 use crate::store::PageStore;
 use crate::tagged::Tagged;
 use a64_bits::plain;
@@ -85,6 +85,44 @@ pub fn replace_bytes<S: PageStore>(store: &mut S, at: u64, bytes: &[u8])
     }
 }
 
+/// Copies bytes out page by page, or tells the first that fails.
+#[cold]
+#[inline(never)]
+fn read_each_page<S: PageStore>(
+    store: &mut S,
+    at: u64,
+    buffer: &mut [u8],
+    access: &Access,
+) -> Result<(), MemFault>
+    requires plain { at < 2 ^ 56 }
+    ensures answer { result ≡ outcome (first_fault (S.content store.old) access.now (addresses at (length buffer.old))) }
+    ensures bytes { buffer.new ≡ (if is_ok result then bytes_at (S.content store.old) (addresses at (length buffer.old)) else buffer.old) }
+    ensures memory { S.content store.new ≡ S.content store.old }
+    ensures kept { S.rest_kept store.old store.new }
+{
+    check_bytes(store, at, buffer.len(), access)?;
+    copy_out(store, at, buffer);
+    Ok(())
+}
+
+/// Goes on in a function apart, with a copy of the access, for the sake of accesses within a page.
+#[inline(always)]
+fn read_over_pages<S: PageStore>(
+    store: &mut S,
+    at: u64,
+    buffer: &mut [u8],
+    access: &Access,
+) -> Result<(), MemFault>
+    requires plain { at < 2 ^ 56 }
+    ensures answer { result ≡ outcome (first_fault (S.content store.old) access.now (addresses at (length buffer.old))) }
+    ensures bytes { buffer.new ≡ (if is_ok result then bytes_at (S.content store.old) (addresses at (length buffer.old)) else buffer.old) }
+    ensures memory { S.content store.new ≡ S.content store.old }
+    ensures kept { S.rest_kept store.old store.new }
+{
+    let own = *access;
+    by_fields(read_each_page(store, at, buffer, &own))
+}
+
 /// Copies bytes out, or tells the first that fails.
 #[tactic(auto, unfolding(crate::specs::Accesses::read_fault, crate::specs::Accesses::read_bytes))]
 #[inline(always)]
@@ -104,9 +142,43 @@ fn read_by_runs<S: PageStore>(
     if fits_one_page(at, buffer.len() as u64) {
         return store.read_run(at, buffer, &access);
     }
-    check_bytes(store, at, buffer.len(), &access)?;
-    copy_out(store, at, buffer);
+    read_over_pages(store, at, buffer, &access)
+}
+
+/// Copies bytes in page by page, all of them, or tells the first that fails.
+#[cold]
+#[inline(never)]
+fn write_each_page<S: PageStore>(
+    store: &mut S,
+    at: u64,
+    bytes: &[u8],
+    access: &Access,
+) -> Result<(), MemFault>
+    requires plain { at < 2 ^ 56 }
+    ensures answer { result ≡ outcome (first_fault (S.content store.old) access.now (addresses at (length bytes.now))) }
+    ensures memory { S.content store.new ≡ (if is_ok result then with_bytes (S.content store.old) (addresses at (length bytes.now)) bytes.now else S.content store.old) }
+    ensures kept { S.rest_kept store.old store.new }
+{
+    check_bytes(store, at, bytes.len(), access)?;
+    replace_bytes(store, at, bytes);
     Ok(())
+}
+
+/// Goes on in a function apart, with a copy of the access, for the sake of accesses within a page.
+#[inline(always)]
+fn write_over_pages<S: PageStore>(
+    store: &mut S,
+    at: u64,
+    bytes: &[u8],
+    access: &Access,
+) -> Result<(), MemFault>
+    requires plain { at < 2 ^ 56 }
+    ensures answer { result ≡ outcome (first_fault (S.content store.old) access.now (addresses at (length bytes.now))) }
+    ensures memory { S.content store.new ≡ (if is_ok result then with_bytes (S.content store.old) (addresses at (length bytes.now)) bytes.now else S.content store.old) }
+    ensures kept { S.rest_kept store.old store.new }
+{
+    let own = *access;
+    by_fields(write_each_page(store, at, bytes, &own))
 }
 
 /// Copies bytes in, or tells the first that fails.
@@ -127,9 +199,7 @@ fn write_by_runs<S: PageStore>(
     if fits_one_page(at, bytes.len() as u64) {
         return store.write_run(at, bytes, &access);
     }
-    check_bytes(store, at, bytes.len(), &access)?;
-    replace_bytes(store, at, bytes);
-    Ok(())
+    write_over_pages(store, at, bytes, &access)
 }
 
 /// The instruction word at an address; one page holds an aligned word.

@@ -1,6 +1,6 @@
 //! The pages of the plain memory, and what is done within one of them.
 
-ghost use Rattle.std.specs.Prelude.{◌≡◌, ◌≢◌, ℕ, ◌<◌, ◌≤◌, ◌+◌, ◌*◌, ◌%◌, ◌/◌, ◌^◌, ◌&&◌, ◌↔◌, true, false, Some, None, IfSome, IsNone, IsSome, IsTrue, length, slice_index_or, slice_range};
+ghost use Rattle.std.specs.Prelude.{◌≡◌, ◌≢◌, ℕ, ◌<◌, ◌≤◌, ◌+◌, ◌*◌, ◌%◌, ◌/◌, ◌^◌, ◌&&◌, ◌↔◌, true, false, Some, None, IfSome, IsNone, IsSome, IsTrue, is_none, length, slice_index_or, slice_range};
 ghost use Rattle.std.specs.List.{All, range_with_len};
 ghost use Rattle.std.specs.Int.{from_le_bytes, w32};
 ghost use Rattle.mte_tags.specs.Memory.{page_at, new_page, has, tag_in};
@@ -105,8 +105,45 @@ impl Slot {
         self.tag_fault(at, count, access)
     }
 
+    /// Whether no byte of a run fails: what nearly all accesses ask, with no fault to be made.
+    #[inline(always)]
+    pub(crate) fn passes(&self, at: u64, count: usize, access: &Access) -> bool
+        requires some { 0 < count }
+        requires inside { at % 4096 + count ≤ 4096 }
+        requires plain { at < 2 ^ 56 }
+        ensures { result ≡ is_none (first_in access.now (Some (page_of self.now)) (range_with_len at count)) }
+    {
+        let permitted = self.attrs.0 & access.need == access.need;
+        if !permitted {
+            return false;
+        }
+        let compared = access.checked && self.attrs.contains(Attrs::TAGGED);
+        if !compared {
+            return true;
+        }
+        if at % 16 + count as u64 <= 16 {
+            return self.tags[(at % 4096 / 16) as usize] == access.tag;
+        }
+        self.tags_pass(at, count, access)
+    }
+
+    /// Whether no byte of a run fails where tags are compared. Its own function, with a copy of the access, for
+    /// the sake of those that have one granule.
+    #[inline(always)]
+    fn tags_pass(&self, at: u64, count: usize, access: &Access) -> bool
+        requires some { 0 < count }
+        requires inside { at % 4096 + count ≤ 4096 }
+        requires plain { at < 2 ^ 56 }
+        requires permitted { has self.now.attrs.0 access.now.need ≡ true }
+        requires checked { (access.now.checked && has self.now.attrs.0 8) ≡ true }
+        ensures { result ≡ is_none (first_in access.now (Some (page_of self.now)) (range_with_len at count)) }
+    {
+        let own = *access;
+        self.tag_fault(at, count, &own).is_none()
+    }
+
     /// How the first byte of a run fails where tags are compared.
-    #[inline]
+    #[inline(never)]
     fn tag_fault(&self, at: u64, count: usize, access: &Access) -> Option<MemFault>
         requires some { 0 < count }
         requires inside { at % 4096 + count ≤ 4096 }
@@ -157,14 +194,24 @@ impl Slot {
         u32::from_le_bytes(word)
     }
 
-    /// Replaces a run of bytes.
+    /// Replaces a run of bytes. Runs of one register go through a copy, which lies apart from the page.
     #[inline(always)]
     pub(crate) fn copy_in(&mut self, at: u64, bytes: &[u8])
         requires { at % 4096 + length bytes.now ≤ 4096 }
         ensures { self.new ≡ record self.old { bytes = spliced self.old.bytes (at % 4096) bytes.now } }
     {
         let from = (at % 4096) as usize;
-        self.bytes[from..from + bytes.len()].copy_from_slice(bytes);
+        if bytes.len() == 8 {
+            let mut number = [0; 8];
+            number.copy_from_slice(bytes);
+            self.bytes[from..from + 8].copy_from_slice(&number);
+        } else if bytes.len() == 4 {
+            let mut number = [0; 4];
+            number.copy_from_slice(bytes);
+            self.bytes[from..from + 4].copy_from_slice(&number);
+        } else {
+            self.bytes[from..from + bytes.len()].copy_from_slice(bytes);
+        }
     }
 
     /// The tag of the granule at a plain address, 0 on a page without TAGGED.

@@ -1,20 +1,21 @@
-use Rattle.std.proofs.Common.{◌≡◌, ◌≤◌, ◌∙◌, ◌+◌, ◌-◌, ◌%◌, ◌++◌, sym, ap, length, take, drop, arith}
-use Rattle.std.proofs.lemmas.List.{drop-drop}
-use Rattle.mte_tags.specs.Slots.{spliced}
-use Rattle.mte_tags.proofs.PageRuns.{spliced_is}
+use Rattle.std.proofs.Common.{◌≤◌, ◌∙◌, ◌+◌, ◌%◌, ap, refl, length, arith}
+use Rattle.mte_tags.proofs.PageRuns.{copied_in}
 use Rattle.mte_tags.proofs.slots.Slot.copy_in.Goals as goal
 
-pub returns : goal.returns
-returns c =
-    let xs = c.args.self.now.bytes in
-    let bs = c.args.bytes.now in
-    let o = c.args.at % 4096 in
-    let long : length xs ≡ 4096 = omega arith in
-    let room : o + length bs ≤ length xs = omega arith in
-    let k : o + length bs - o ≡ length bs = omega arith in
-    let e : take o xs ++ (c.copy_from_slice.new.self ++ drop (o + length bs - o) (drop o xs)) ≡ spliced xs o bs =
-    ap (λ ys. take o xs ++ (ys ++ drop (o + length bs - o) (drop o xs))) c.copy_from_slice.ensures.after
-    ∙ ap (λ j. take o xs ++ (bs ++ drop j (drop o xs))) k
-    ∙ ap (λ zs. take o xs ++ (bs ++ zs)) (drop-drop (length bs) o xs)
-    ∙ sym (spliced_is bs xs o room) in
-    ap (λ ys. record c.args.self.now { bytes = ys }) e
+pub returns-then-bytes-eq8 : goal.returns-then-bytes-eq8
+returns-then-bytes-eq8 c =
+    let slot = c.args.self.now in
+    let room : c.args.at % 4096 + length c.args.bytes.now ≤ length slot.bytes = omega arith in
+    ap (λ bytes. record slot { bytes = bytes }) (copied_in c.args.bytes.now _ slot.bytes (c.args.at % 4096) 8 (c.copy_from_slice-then-bytes-eq8.ensures.after ∙ c.copy_from_slice.ensures.after) c.if-bytes-eq8.true room)
+
+pub returns-then-bytes-eq4 : goal.returns-then-bytes-eq4
+returns-then-bytes-eq4 c =
+    let slot = c.args.self.now in
+    let room : c.args.at % 4096 + length c.args.bytes.now ≤ length slot.bytes = omega arith in
+    ap (λ bytes. record slot { bytes = bytes }) (copied_in c.args.bytes.now _ slot.bytes (c.args.at % 4096) 4 (c.copy_from_slice-then-bytes-eq4-2.ensures.after ∙ c.copy_from_slice-then-bytes-eq4.ensures.after) c.if-bytes-eq4.true room)
+
+pub returns-else-bytes-eq4 : goal.returns-else-bytes-eq4
+returns-else-bytes-eq4 c =
+    let slot = c.args.self.now in
+    let room : c.args.at % 4096 + length c.args.bytes.now ≤ length slot.bytes = omega arith in
+    ap (λ bytes. record slot { bytes = bytes }) (copied_in c.args.bytes.now _ slot.bytes (c.args.at % 4096) (length c.args.bytes.now) (c.copy_from_slice-else-bytes-eq4.ensures.after) refl room)
