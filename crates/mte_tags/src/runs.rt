@@ -3,7 +3,7 @@
 ghost use Rattle.std.specs.Prelude.{◌≡◌, ℕ, ◌<◌, ◌≤◌, ◌+◌, ◌-◌, ◌*◌, ◌%◌, ◌/◌, ◌^◌, ◌↔◌, false, IsTrue, IfOk, is_ok, length, if◌then◌else◌};
 ghost use Rattle.a64_bits.specs.Addresses.{plain};
 ghost use Rattle.mte_tags.specs.Memory.{Memory, tag_at, with_granules};
-ghost use Rattle.mte_tags.specs.Accesses.{outcome, loaded, addresses, granules, first_fault, bytes_at, with_bytes, AreMapped, fetched, read_fault, read_bytes, write_fault, written, tags_fault, tag_load_fault};
+ghost use Rattle.mte_tags.specs.Accesses.{outcome, loaded, addresses, granules, first_fault, bytes_at, with_bytes, AreMapped, fetched, read_fault, read_bytes, write_fault, written, tags_fault, tag_load_fault, fault, fetch_access};
 
 use crate::access::{Access, FaultKind, MemFault, by_fields};
 use crate::store::PageStore;
@@ -210,9 +210,18 @@ fn fetch_word<S: PageStore>(store: &mut S, pc: u64) -> Result<u32, MemFault>
     ensures kept { S.rest_kept store.old store.new }
 {
     if pc % 4 != 0 {
-        return Err(Access::fetching(pc).fault(FaultKind::PcAlignment, plain(pc), 0));
+        return Err(unaligned_fetch(pc));
     }
     store.fetch_aligned(pc)
+}
+
+/// The fault of a fetch at an address that is not a multiple of 4.
+#[cold]
+#[inline(never)]
+fn unaligned_fetch(pc: u64) -> MemFault
+    ensures { result ≡ fault FaultKind.PcAlignment (fetch_access pc) (plain pc) 0 }
+{
+    Access::fetching(pc).fault(FaultKind::PcAlignment, plain(pc), 0)
 }
 
 /// The tag of the granule that holds an address.
