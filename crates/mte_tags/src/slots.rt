@@ -121,14 +121,21 @@ impl Slot {
         if !compared {
             return true;
         }
+        if self.tags[(at % 4096 / 16) as usize] != access.tag {
+            return false;
+        }
         if at % 16 + count as u64 <= 16 {
-            return self.tags[(at % 4096 / 16) as usize] == access.tag;
+            return true;
+        }
+        if count <= 16 {
+            let last = at + count as u64 - 1;
+            return self.tags[(last % 4096 / 16) as usize] == access.tag;
         }
         self.tags_pass(at, count, access)
     }
 
     /// Whether no byte of a run fails where tags are compared. Its own function, with a copy of the access, for
-    /// the sake of those that have one granule.
+    /// the sake of those that lie in one granule or two.
     #[inline(always)]
     fn tags_pass(&self, at: u64, count: usize, access: &Access) -> bool
         requires some { 0 < count }
