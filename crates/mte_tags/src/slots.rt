@@ -134,9 +134,8 @@ impl Slot {
         self.tags_pass(at, count, access)
     }
 
-    /// Whether no byte of a run fails where tags are compared. Its own function, with a copy of the access, for
-    /// the sake of those that lie in one granule or two.
-    #[inline(always)]
+    /// Whether no byte of a run fails where tags are compared.
+    #[inline(never)]
     fn tags_pass(&self, at: u64, count: usize, access: &Access) -> bool
         requires some { 0 < count }
         requires inside { at % 4096 + count ≤ 4096 }
@@ -145,8 +144,7 @@ impl Slot {
         requires checked { (access.now.checked && has self.now.attrs.0 8) ≡ true }
         ensures { result ≡ is_none (first_in access.now (Some (page_of self.now)) (range_with_len at count)) }
     {
-        let own = *access;
-        self.tag_fault(at, count, &own).is_none()
+        self.tag_fault(at, count, access).is_none()
     }
 
     /// How the first byte of a run fails where tags are compared.
