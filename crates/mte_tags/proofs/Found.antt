@@ -7,7 +7,7 @@ use Rattle.a64_bits.specs.Addresses.{plain}
 use Rattle.std.specs.List.{range_with_len, slice_range, All}
 use Rattle.mte_tags.specs.Memory.{Memory, page_at, with_page, tag_at, tag_in, with_granules, has}
 use Rattle.mte_tags.specs.declared.access.FaultKind.TheVariants.{Translation}
-use Rattle.mte_tags.specs.Accesses.{addresses, granules, outcome, byte_fault, first_fault, fault, fault_in, bytes_at, with_bytes, fetched, fetched_by, fetch_access, word_at, read_bytes}
+use Rattle.mte_tags.specs.Accesses.{addresses, granules, byte_fault, first_fault, fault, fault_in, bytes_at, with_bytes, fetched, fetched_by, fetch_access, word_at, read_bytes}
 use Rattle.mte_tags.specs.Slots.{page_of, slots_memory, AreSlots, spliced, first_in, retagged}
 use Rattle.mte_tags.specs.declared.slots.Slot.{Slot}
 use Rattle.mte_tags.specs.declared.access.Access.{Access}
@@ -29,13 +29,13 @@ fault_found n slots s at count d x h l f p u =
     sym (ap (first_fault (slots_memory n slots) x) (addresses_in_page at count u p) ∙ first_fault_in (slots_memory n slots) x at count p
     ∙ ap (λ q. first_in x q (range_with_len at count)) (found_page n slots s (at / 4096) d h l (f d)))
 
-passed : (o : Option MemFault) → is_none o ≡ true → Ok tt ≡ outcome o
+passed : (o : Option MemFault) → is_none o ≡ true → o ≡ None
 passed None h = refl
 passed (Some f) h = cc
 
 pub run_passed : (n : ℕ) (slots : List Slot) (s at count : ℕ) (d : Slot) (x : Access) → AreSlots slots → s < length slots → ((e : Slot) → (get_or slots s e).page ≡ at / 4096) → at % 4096 + count ≤ 4096 → at < 2 ^ 56
-    → is_none (first_in x (Some (page_of (get_or slots s d))) (range_with_len at count)) ≡ true → Ok tt ≡ outcome (first_fault (slots_memory n slots) x (addresses at count))
-run_passed n slots s at count d x h l f p u e = passed _ e ∙ ap outcome (fault_found n slots s at count d x h l f p u)
+    → is_none (first_in x (Some (page_of (get_or slots s d))) (range_with_len at count)) ≡ true → first_fault (slots_memory n slots) x (addresses at count) ≡ None
+run_passed n slots s at count d x h l f p u e = sym (fault_found n slots s at count d x h l f p u) ∙ passed _ e
 
 pub fault_missing : (m : Memory) (at count : ℕ) (x : Access) → 0 < count → at % 4096 + count ≤ 4096 → at < 2 ^ 56 → page_at m (at / 4096) ≡ None
     → first_fault m x (addresses at count) ≡ Some (fault Translation x at 0)

@@ -89,6 +89,35 @@ granule_passes x p a n h k e f = elim (cases_eq (granule_tag p a) x.tag) [
   | inr other ↦ let t : (granule_tag p a == x.tag) ≡ false = grind arith in t ∙ sym (ap is_none (first_in-tag x p a n h e f other))
 ]
 
+-- a run goes on where its first granule passed
+pub first_in-append : (x : Access) (p : Page) (a n k : ℕ) → first_in x (Some p) (range_with_len a n) ≡ None → first_in x (Some p) (range_with_len a (n + k)) ≡ first_in x (Some p) (range_with_len (a + n) k)
+unfolding first_in
+first_in-append x p a zero k h = let e : a + 0 ≡ a = omega arith in let f : 0 + k ≡ k = omega arith in rw (e, f) refl
+first_in-append x p a (suc n) k h =
+    let e : suc n + k ≡ suc (n + k) = omega arith in
+    let f : a + 1 + n ≡ a + suc n = omega arith in
+    let both = first_none (page_fault x p a) (first_in x (Some p) (range_with_len (a + 1) n)) h in
+    ap (λ j. first_in x (Some p) (range_with_len a j)) e
+    ∙ ap (λ g. or_else g (first_in x (Some p) (range_with_len (a + 1) (n + k)))) both.0
+    ∙ first_in-append x p (a + 1) n k both.1
+    ∙ ap (λ b. first_in x (Some p) (range_with_len b k)) f
+
+pub first_in-next : (x : Access) (p : Page) (a n left : ℕ) → a % 16 + n ≤ 16 → n ≤ left → has p.attrs x.need ≡ true → granule_tag p a ≡ x.tag
+    → first_in x (Some p) (range_with_len a left) ≡ first_in x (Some p) (range_with_len (a + n) (left - n))
+first_in-next x p a n left h l e f =
+    let k : left ≡ n + (left - n) = omega arith in
+    ap (λ j. first_in x (Some p) (range_with_len a j)) k ∙ first_in-append x p a n (left - n) (first_in-granule x p a n h e f)
+
+-- the same of a run whose first granule passed, and which ends in the next one
+pub two_granules_pass : (x : Access) (p : Page) (a n : ℕ) → 16 < a % 16 + n → n ≤ 16 → a % 4096 + n ≤ 4096 → has p.attrs x.need ≡ true → (x.checked && has p.attrs 8) ≡ true → granule_tag p a ≡ x.tag
+    → (granule_tag p (a + n - 1) == x.tag) ≡ is_none (first_in x (Some p) (range_with_len a n))
+two_granules_pass x p a n h k inside e f same =
+    let first = 16 - a % 16 in
+    let place : (a + n - 1) % 4096 / 16 ≡ (a + first) % 4096 / 16 = omega arith in
+    ap (λ o. slice_index p.tags o == x.tag) place
+    ∙ granule_passes x p (a + first) (n - first) (omega arith) (omega arith) e f
+    ∙ sym (ap is_none (first_in-next x p a first n (omega arith) (omega arith) e same))
+
 -- what a run in a page holds
 pub bytes_at-run : (m : Memory) (p : Page) (a n : ℕ) → page_at m (a / 4096) ≡ Some p → n ≤ length (drop (a % 4096) p.bytes) → a % 4096 + n ≤ 4096
     → bytes_at m (range_with_len a n) ≡ slice_range p.bytes (a % 4096) (a % 4096 + n)
@@ -142,25 +171,6 @@ copied_in bs ys xs o n same e h =
     ∙ ap (λ j. take o xs ++ (bs ++ drop j (drop o xs))) k
     ∙ ap (λ l. take o xs ++ (bs ++ l)) (drop-drop (length bs) o xs)
     ∙ sym (spliced_is bs xs o h)
-
--- a run goes on where its first granule passed
-pub first_in-append : (x : Access) (p : Page) (a n k : ℕ) → first_in x (Some p) (range_with_len a n) ≡ None → first_in x (Some p) (range_with_len a (n + k)) ≡ first_in x (Some p) (range_with_len (a + n) k)
-unfolding first_in
-first_in-append x p a zero k h = let e : a + 0 ≡ a = omega arith in let f : 0 + k ≡ k = omega arith in rw (e, f) refl
-first_in-append x p a (suc n) k h =
-    let e : suc n + k ≡ suc (n + k) = omega arith in
-    let f : a + 1 + n ≡ a + suc n = omega arith in
-    let both = first_none (page_fault x p a) (first_in x (Some p) (range_with_len (a + 1) n)) h in
-    ap (λ j. first_in x (Some p) (range_with_len a j)) e
-    ∙ ap (λ g. or_else g (first_in x (Some p) (range_with_len (a + 1) (n + k)))) both.0
-    ∙ first_in-append x p (a + 1) n k both.1
-    ∙ ap (λ b. first_in x (Some p) (range_with_len b k)) f
-
-pub first_in-next : (x : Access) (p : Page) (a n left : ℕ) → a % 16 + n ≤ 16 → n ≤ left → has p.attrs x.need ≡ true → granule_tag p a ≡ x.tag
-    → first_in x (Some p) (range_with_len a left) ≡ first_in x (Some p) (range_with_len (a + n) (left - n))
-first_in-next x p a n left h l e f =
-    let k : left ≡ n + (left - n) = omega arith in
-    ap (λ j. first_in x (Some p) (range_with_len a j)) k ∙ first_in-append x p a n (left - n) (first_in-granule x p a n h e f)
 
 -- a part of a list that was filled
 pub filled : (xs ys : List ℕ) (o n v : ℕ) → o + n ≤ length xs → ys ≡ replicate (length (slice_range xs o (o + n))) v

@@ -1,13 +1,13 @@
 //! A plain tagged memory, which keeps its pages in one list.
 
-ghost use Rattle.std.specs.Prelude.{◌≡◌, ℕ, ◌<◌, ◌≤◌, ◌+◌, ◌*◌, ◌%◌, ◌^◌, false, IfOk, is_ok, None, length, if◌then◌else◌, vec_len, vec_capacity};
+ghost use Rattle.std.specs.Prelude.{◌≡◌, ℕ, ◌<◌, ◌≤◌, ◌+◌, ◌*◌, ◌%◌, ◌^◌, false, IfOk, IsTrue, is_ok, None, length, if◌then◌else◌, vec_len, vec_capacity};
 ghost use Rattle.mte_tags.specs.Memory.{page_at, no_pages, tag_at, with_granules, with_new_pages, without_pages, IsFree, ArePages};
 ghost use Rattle.mte_tags.specs.Accesses.{outcome, loaded, addresses, granules, byte_fault, first_fault, bytes_at, with_bytes, fetched};
 ghost use Rattle.mte_tags.specs.Slots.{slots_memory, AreSlots};
 
-use crate::access::{Access, Attrs, FaultKind, MemFault, by_fields};
+use crate::access::{Access, Attrs, FaultKind, MemFault};
 use crate::finder::Finder;
-use crate::runs::replace_bytes;
+use crate::runs::{fits_one_page, replace_bytes};
 use crate::slots::{Slot, find, holds, new_slot};
 use crate::store::PageStore;
 use crate::tagged::{NoQuota, Paged};
@@ -116,58 +116,31 @@ fn fetch_again(slots: &[Slot], finder: &mut Finder, pc: u64) -> Result<u32, MemF
     Ok(slot.word(at))
 }
 
-/// Copies a run of bytes out, or tells the first that fails, mostly on the page that was found last.
+/// Copies bytes out that lie on the page which was found last and do not fail, and answers whether it did.
 #[inline(always)]
-fn read_slots(
-    slots: &[Slot],
-    finder: &mut Finder,
-    at: u64,
-    buffer: &mut [u8],
-    access: &Access,
-) -> Result<(), MemFault>
-    requires some { 0 < length buffer.old }
-    requires inside { at % 4096 + length buffer.old ≤ 4096 }
+fn read_found(slots: &[Slot], finder: &Finder, at: u64, buffer: &mut [u8], access: &Access) -> bool
     requires plain { at < 2 ^ 56 }
     requires slots { AreSlots slots.now }
-    ensures answer { (n : ℕ) → result ≡ outcome (first_fault (slots_memory n slots.now) access.now (addresses at (length buffer.old))) }
-    ensures bytes { (n : ℕ) → buffer.new ≡ (if is_ok result then bytes_at (slots_memory n slots.now) (addresses at (length buffer.old)) else buffer.old) }
+    ensures passed { IsTrue result → (n : ℕ) → first_fault (slots_memory n slots.now) access.now (addresses at (length buffer.old)) ≡ None }
+    ensures bytes { (n : ℕ) → buffer.new ≡ (if result then bytes_at (slots_memory n slots.now) (addresses at (length buffer.old)) else buffer.old) }
 {
-    let s = finder.last(at / 4096);
-    if holds(slots, s, at / 4096) {
-        let slot = &slots[s];
-        if slot.passes(at, buffer.len(), access) {
-            slot.copy_out(at, buffer);
-            return Ok(());
-        }
+    if !fits_one_page(at, buffer.len() as u64) {
+        return false;
     }
-    read_again(slots, finder, at, buffer, access)
+    let s = finder.last(at / 4096);
+    if !holds(slots, s, at / 4096) {
+        return false;
+    }
+    let slot = &slots[s];
+    if !slot.passes(at, buffer.len(), access) {
+        return false;
+    }
+    slot.copy_out(at, buffer);
+    true
 }
 
-/// Goes on in a function apart, with copies of its own of what that is given and answers by a place in memory:
-/// the way of most accesses then has all of it in registers.
-#[inline(always)]
-fn read_again(
-    slots: &[Slot],
-    finder: &mut Finder,
-    at: u64,
-    buffer: &mut [u8],
-    access: &Access,
-) -> Result<(), MemFault>
-    requires some { 0 < length buffer.old }
-    requires inside { at % 4096 + length buffer.old ≤ 4096 }
-    requires plain { at < 2 ^ 56 }
-    requires slots { AreSlots slots.now }
-    ensures answer { (n : ℕ) → result ≡ outcome (first_fault (slots_memory n slots.now) access.now (addresses at (length buffer.old))) }
-    ensures bytes { (n : ℕ) → buffer.new ≡ (if is_ok result then bytes_at (slots_memory n slots.now) (addresses at (length buffer.old)) else buffer.old) }
-{
-    let own = *access;
-    by_fields(read_anywhere(slots, finder, at, buffer, &own))
-}
-
-/// Copies a run of bytes out, or tells the first that fails, on whatever page.
-#[cold]
-#[inline(never)]
-fn read_anywhere(
+/// Copies a run of bytes out, or tells the first that fails.
+fn read_slots(
     slots: &[Slot],
     finder: &mut Finder,
     at: u64,
@@ -192,60 +165,32 @@ fn read_anywhere(
     Ok(())
 }
 
-/// Copies a run of bytes in, or tells the first that fails, mostly on the page that was found last.
+/// Copies bytes in that lie on the page which was found last and do not fail, and answers whether it did.
 #[inline(always)]
-fn write_slots(
-    slots: &mut [Slot],
-    finder: &mut Finder,
-    at: u64,
-    bytes: &[u8],
-    access: &Access,
-) -> Result<(), MemFault>
-    requires some { 0 < length bytes.now }
-    requires inside { at % 4096 + length bytes.now ≤ 4096 }
+fn write_found(slots: &mut [Slot], finder: &Finder, at: u64, bytes: &[u8], access: &Access) -> bool
     requires plain { at < 2 ^ 56 }
     requires slots { AreSlots slots.old }
-    ensures answer { (n : ℕ) → result ≡ outcome (first_fault (slots_memory n slots.old) access.now (addresses at (length bytes.now))) }
-    ensures memory { (n : ℕ) → slots_memory n slots.new ≡ (if is_ok result then with_bytes (slots_memory n slots.old) (addresses at (length bytes.now)) bytes.now else slots_memory n slots.old) }
+    ensures passed { IsTrue result → (n : ℕ) → first_fault (slots_memory n slots.old) access.now (addresses at (length bytes.now)) ≡ None }
+    ensures memory { (n : ℕ) → slots_memory n slots.new ≡ (if result then with_bytes (slots_memory n slots.old) (addresses at (length bytes.now)) bytes.now else slots_memory n slots.old) }
     ensures slots { AreSlots slots.new }
 {
-    let s = finder.last(at / 4096);
-    if holds(slots, s, at / 4096) {
-        let slot = &mut slots[s];
-        if slot.passes(at, bytes.len(), access) {
-            slot.copy_in(at, bytes);
-            return Ok(());
-        }
+    if !fits_one_page(at, bytes.len() as u64) {
+        return false;
     }
-    write_again(slots, finder, at, bytes, access)
+    let s = finder.last(at / 4096);
+    if !holds(slots, s, at / 4096) {
+        return false;
+    }
+    let slot = &mut slots[s];
+    if !slot.passes(at, bytes.len(), access) {
+        return false;
+    }
+    slot.copy_in(at, bytes);
+    true
 }
 
-/// Goes on in a function apart, with copies of its own of what that is given and answers by a place in memory:
-/// the way of most accesses then has all of it in registers.
-#[inline(always)]
-fn write_again(
-    slots: &mut [Slot],
-    finder: &mut Finder,
-    at: u64,
-    bytes: &[u8],
-    access: &Access,
-) -> Result<(), MemFault>
-    requires some { 0 < length bytes.now }
-    requires inside { at % 4096 + length bytes.now ≤ 4096 }
-    requires plain { at < 2 ^ 56 }
-    requires slots { AreSlots slots.old }
-    ensures answer { (n : ℕ) → result ≡ outcome (first_fault (slots_memory n slots.old) access.now (addresses at (length bytes.now))) }
-    ensures memory { (n : ℕ) → slots_memory n slots.new ≡ (if is_ok result then with_bytes (slots_memory n slots.old) (addresses at (length bytes.now)) bytes.now else slots_memory n slots.old) }
-    ensures slots { AreSlots slots.new }
-{
-    let own = *access;
-    by_fields(write_anywhere(slots, finder, at, bytes, &own))
-}
-
-/// Copies a run of bytes in, or tells the first that fails, on whatever page.
-#[cold]
-#[inline(never)]
-fn write_anywhere(
+/// Copies a run of bytes in, or tells the first that fails.
+fn write_slots(
     slots: &mut [Slot],
     finder: &mut Finder,
     at: u64,
@@ -345,11 +290,19 @@ impl PageStore for Flat {
     }
 
     #[inline(always)]
+    fn read_quickly(&mut self, at: u64, buffer: &mut [u8], access: &Access) -> bool {
+        read_found(&self.slots, &self.finder, at, buffer, access)
+    }
+
     fn read_run(&mut self, at: u64, buffer: &mut [u8], access: &Access) -> Result<(), MemFault> {
         read_slots(&self.slots, &mut self.finder, at, buffer, access)
     }
 
     #[inline(always)]
+    fn write_quickly(&mut self, at: u64, bytes: &[u8], access: &Access) -> bool {
+        write_found(&mut self.slots, &self.finder, at, bytes, access)
+    }
+
     fn write_run(&mut self, at: u64, bytes: &[u8], access: &Access) -> Result<(), MemFault> {
         write_slots(&mut self.slots, &mut self.finder, at, bytes, access)
     }

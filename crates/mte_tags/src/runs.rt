@@ -14,7 +14,7 @@ const ADDRESSES: u64 = 1 << 56;
 
 /// Whether some bytes are wanted, and one page holds them.
 #[inline]
-fn fits_one_page(at: u64, count: u64) -> bool
+pub(crate) fn fits_one_page(at: u64, count: u64) -> bool
     ensures { IsTrue result ↔ ((0 < count) × (at % 4096 + count ≤ 4096)) }
 {
     count > 0 && count <= 4096 - at % 4096
@@ -105,7 +105,7 @@ fn read_each_page<S: PageStore>(
     Ok(())
 }
 
-/// Goes on in a function apart, with a copy of the access, for the sake of accesses within a page.
+/// Goes on in a function apart, with a copy of the access, and its answer by fields, so that quick accesses have all in registers.
 #[inline(always)]
 fn read_over_pages<S: PageStore>(
     store: &mut S,
@@ -139,8 +139,8 @@ fn read_by_runs<S: PageStore>(
 {
     let access = Access::reading(addr, checked);
     let at = plain(addr);
-    if fits_one_page(at, buffer.len() as u64) {
-        return store.read_run(at, buffer, &access);
+    if store.read_quickly(at, buffer, &access) {
+        return Ok(());
     }
     read_over_pages(store, at, buffer, &access)
 }
@@ -164,7 +164,7 @@ fn write_each_page<S: PageStore>(
     Ok(())
 }
 
-/// Goes on in a function apart, with a copy of the access, for the sake of accesses within a page.
+/// Goes on in a function apart, with a copy of the access, and its answer by fields, so that quick accesses have all in registers.
 #[inline(always)]
 fn write_over_pages<S: PageStore>(
     store: &mut S,
@@ -196,8 +196,8 @@ fn write_by_runs<S: PageStore>(
 {
     let access = Access::writing(addr, checked);
     let at = plain(addr);
-    if fits_one_page(at, bytes.len() as u64) {
-        return store.write_run(at, bytes, &access);
+    if store.write_quickly(at, bytes, &access) {
+        return Ok(());
     }
     write_over_pages(store, at, bytes, &access)
 }

@@ -121,15 +121,21 @@ impl Slot {
         if !compared {
             return true;
         }
+        if self.tags[(at % 4096 / 16) as usize] != access.tag {
+            return false;
+        }
         if at % 16 + count as u64 <= 16 {
-            return self.tags[(at % 4096 / 16) as usize] == access.tag;
+            return true;
+        }
+        if count <= 16 {
+            let last = at + count as u64 - 1;
+            return self.tags[(last % 4096 / 16) as usize] == access.tag;
         }
         self.tags_pass(at, count, access)
     }
 
-    /// Whether no byte of a run fails where tags are compared. Its own function, with a copy of the access, for
-    /// the sake of those that have one granule.
-    #[inline(always)]
+    /// Whether no byte of a run fails where tags are compared.
+    #[inline(never)]
     fn tags_pass(&self, at: u64, count: usize, access: &Access) -> bool
         requires some { 0 < count }
         requires inside { at % 4096 + count ≤ 4096 }
@@ -138,8 +144,7 @@ impl Slot {
         requires checked { (access.now.checked && has self.now.attrs.0 8) ≡ true }
         ensures { result ≡ is_none (first_in access.now (Some (page_of self.now)) (range_with_len at count)) }
     {
-        let own = *access;
-        self.tag_fault(at, count, &own).is_none()
+        self.tag_fault(at, count, access).is_none()
     }
 
     /// How the first byte of a run fails where tags are compared.

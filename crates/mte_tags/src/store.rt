@@ -1,6 +1,6 @@
 //! Memories that are reached one page at a time.
 
-ghost use Rattle.std.specs.Prelude.{◌≡◌, ℕ, ◌<◌, ◌≤◌, ◌+◌, ◌*◌, ◌%◌, ◌^◌, false, IfOk, is_ok, length, if◌then◌else◌};
+ghost use Rattle.std.specs.Prelude.{◌≡◌, ℕ, ◌<◌, ◌≤◌, ◌+◌, ◌*◌, ◌%◌, ◌^◌, false, None, IfOk, IsTrue, is_ok, length, if◌then◌else◌};
 ghost use Rattle.mte_tags.specs.Memory.{Memory, tag_at, with_granules};
 ghost use Rattle.mte_tags.specs.Accesses.{outcome, loaded, addresses, granules, byte_fault, first_fault, bytes_at, with_bytes, fetched};
 
@@ -42,6 +42,14 @@ pub trait PageStore {
         ensures memory { content self.new ≡ content self.old }
         ensures kept { rest_kept self.old self.new };
 
+    /// Copies bytes out where that is quick, and answers whether it did. Else it changes and tells nothing.
+    fn read_quickly(&mut self, at: u64, buffer: &mut [u8], access: &Access) -> bool
+        requires { at < 2 ^ 56 }
+        ensures passed { IsTrue result → first_fault (content self.old) access.now (addresses at (length buffer.old)) ≡ None }
+        ensures bytes { buffer.new ≡ (if result then bytes_at (content self.old) (addresses at (length buffer.old)) else buffer.old) }
+        ensures memory { content self.new ≡ content self.old }
+        ensures kept { rest_kept self.old self.new };
+
     /// Copies a run of bytes in, or tells the first that fails.
     fn write_run(&mut self, at: u64, bytes: &[u8], access: &Access) -> Result<(), MemFault>
         requires some { 0 < length bytes.now }
@@ -49,6 +57,13 @@ pub trait PageStore {
         requires plain { at < 2 ^ 56 }
         ensures answer { result ≡ outcome (first_fault (content self.old) access.now (addresses at (length bytes.now))) }
         ensures memory { content self.new ≡ (if is_ok result then with_bytes (content self.old) (addresses at (length bytes.now)) bytes.now else content self.old) }
+        ensures kept { rest_kept self.old self.new };
+
+    /// Copies bytes in where that is quick, and answers whether it did. Else it changes and tells nothing.
+    fn write_quickly(&mut self, at: u64, bytes: &[u8], access: &Access) -> bool
+        requires { at < 2 ^ 56 }
+        ensures passed { IsTrue result → first_fault (content self.old) access.now (addresses at (length bytes.now)) ≡ None }
+        ensures memory { content self.new ≡ (if result then with_bytes (content self.old) (addresses at (length bytes.now)) bytes.now else content self.old) }
         ensures kept { rest_kept self.old self.new };
 
     /// The tag of the granule at an address, or how the byte there fails.

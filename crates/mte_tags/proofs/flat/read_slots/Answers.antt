@@ -1,13 +1,25 @@
-use Rattle.std.proofs.Common.{◌∙◌, sym, length, refl}
-use Rattle.mte_tags.proofs.Found.{run_passed, piece_read}
+use Rattle.std.proofs.Common.{◌∙◌, sym, ap, length, Err, refl}
+use Rattle.mte_tags.specs.Accesses.{outcome}
+use Rattle.mte_tags.specs.Slots.{slots_memory}
+use Rattle.mte_tags.proofs.Found.{fault_found, fault_missing, piece_read}
 use Rattle.mte_tags.proofs.flat.read_slots.Goals as goal
 
-pub returns-then-passes-clause-answer : goal.returns-then-passes-clause-answer
-returns-then-passes-clause-answer c = λ n.
-    let found = c.if-holds.ensures.0 refl in
-    run_passed n c.args.slots.now c.last-s.result c.args.at (length c.args.buffer.now) _ c.args.access.now c.requires.slots found.0 found.1 c.requires.inside c.requires.plain (sym c.passes.ensures ∙ c.if-passes.true)
+pub returns-in_default-clause-answer : goal.returns-in_default-clause-answer
+returns-in_default-clause-answer c = λ n.
+    ap (λ f. Err f) c.fault.ensures
+    ∙ sym (ap outcome (fault_missing (slots_memory n c.args.slots.now) c.args.at (length c.args.buffer.now) c.args.access.now c.requires.some c.requires.inside c.requires.plain (c.in_default.ensures.none refl n)))
 
-pub returns-then-passes-clause-bytes : goal.returns-then-passes-clause-bytes
-returns-then-passes-clause-bytes c = λ n.
-    let found = c.if-holds.ensures.0 refl in
-    piece_read n c.args.slots.now c.last-s.result c.args.at (length c.args.buffer.now) _ _ c.copy_out.new.buffer c.requires.slots found.0 found.1 c.requires.inside c.requires.plain c.copy_out.auto.buffer refl c.copy_out.ensures
+pub returns-in-Some-run_fault-clause-answer : goal.returns-in-Some-run_fault-clause-answer
+returns-in-Some-run_fault-clause-answer c = λ n.
+    let found = c.in-Some.ensures.some in
+    ap outcome (c.in-Some-run_fault.ensures ∙ fault_found n c.args.slots.now c.in-Some.s c.args.at (length c.args.buffer.now) _ c.args.access.now c.requires.slots found.0 found.1 c.requires.inside c.requires.plain)
+
+pub returns-clause-answer : goal.returns-clause-answer
+returns-clause-answer c = λ n.
+    let found = c.in-Some.ensures.some in
+    ap outcome (sym c.in_default-run_fault.is ∙ c.run_fault.ensures ∙ fault_found n c.args.slots.now c.in-Some.s c.args.at (length c.args.buffer.now) _ c.args.access.now c.requires.slots found.0 found.1 c.requires.inside c.requires.plain)
+
+pub returns-clause-bytes : goal.returns-clause-bytes
+returns-clause-bytes c = λ n.
+    let found = c.in-Some.ensures.some in
+    piece_read n c.args.slots.now c.in-Some.s c.args.at (length c.args.buffer.now) _ _ c.copy_out.new.buffer c.requires.slots found.0 found.1 c.requires.inside c.requires.plain c.copy_out.auto.buffer refl c.copy_out.ensures
