@@ -105,9 +105,10 @@ fn read_each_page<S: PageStore>(
     Ok(())
 }
 
-/// Goes on in a function apart, with a copy of the access, and its answer by fields, so that quick accesses have all in registers.
+/// Reads where that was not quick. A copy of the access goes along, and the answer comes back by its fields, so
+/// that quick accesses hold both in registers.
 #[inline(always)]
-fn read_over_pages<S: PageStore>(
+fn read_slowly<S: PageStore>(
     store: &mut S,
     at: u64,
     buffer: &mut [u8],
@@ -142,7 +143,7 @@ fn read_by_runs<S: PageStore>(
     if store.read_quickly(at, buffer, &access) {
         return Ok(());
     }
-    read_over_pages(store, at, buffer, &access)
+    read_slowly(store, at, buffer, &access)
 }
 
 /// Copies bytes in page by page, all of them, or tells the first that fails.
@@ -164,9 +165,10 @@ fn write_each_page<S: PageStore>(
     Ok(())
 }
 
-/// Goes on in a function apart, with a copy of the access, and its answer by fields, so that quick accesses have all in registers.
+/// Writes where that was not quick. A copy of the access goes along, and the answer comes back by its fields, so
+/// that quick accesses hold both in registers.
 #[inline(always)]
-fn write_over_pages<S: PageStore>(
+fn write_slowly<S: PageStore>(
     store: &mut S,
     at: u64,
     bytes: &[u8],
@@ -199,7 +201,7 @@ fn write_by_runs<S: PageStore>(
     if store.write_quickly(at, bytes, &access) {
         return Ok(());
     }
-    write_over_pages(store, at, bytes, &access)
+    write_slowly(store, at, bytes, &access)
 }
 
 /// The instruction word at an address; one page holds an aligned word.

@@ -35,7 +35,7 @@ pub(crate) fn new_slot(page: u64, attrs: Attrs) -> Slot
 }
 
 /// Whether a slot is there and has a page.
-#[inline(always)]
+#[inline]
 pub(crate) fn holds(slots: &[Slot], s: usize, page: u64) -> bool
     ensures { IsTrue result ↔ ((s < length slots.now) × ((d : _) → (slice_index_or slots.now s d).page ≡ page)) }
 {
@@ -200,7 +200,7 @@ impl Slot {
     }
 
     /// Replaces a run of bytes. Runs of one register go through a copy, which lies apart from the page.
-    #[inline(always)]
+    #[inline]
     pub(crate) fn copy_in(&mut self, at: u64, bytes: &[u8])
         requires { at % 4096 + length bytes.now ≤ 4096 }
         ensures { self.new ≡ record self.old { bytes = spliced self.old.bytes (at % 4096) bytes.now } }
