@@ -11,7 +11,7 @@ use crate::registers::Regs;
 use a64_bits::sign_extend;
 use mte_tags::Tagged;
 
-/// Unsigned offset. An access of 64 bits has a copy of its own, which asks for its size once.
+/// Unsigned offset. Accesses of 64 and of 32 bits have copies of their own, which ask for the size once.
 #[inline(always)]
 #[tactic(auto, unfolding(crate::specs::Loads::single_of))]
 pub fn ld_st_imm<M: Tagged>(
@@ -33,18 +33,26 @@ pub fn ld_st_imm<M: Tagged>(
     ensures memory { M.memory memory.new ≡ (single_of regs.old (M.memory memory.old) size opc rn rt (scaled_place regs.old size imm12 rn)).memory }
     ensures kept { M.kept memory.old memory.new }
 {
-    if size != 3 {
-        return ld_st_imm_narrow(regs, memory, size, opc, imm12, rn, rt, outcome);
-    }
-    let place = Place::scaled(regs, 3, imm12, rn);
-    if opc == 0 {
-        store(regs, memory, 3, rn, rt, place, outcome)
+    if size == 3 {
+        let place = Place::scaled(regs, 3, imm12, rn);
+        if opc == 0 {
+            store(regs, memory, 3, rn, rt, place, outcome)
+        } else {
+            load(regs, memory, 3, 1, rn, rt, place, outcome)
+        }
+    } else if size == 2 && opc < 2 {
+        let place = Place::scaled(regs, 2, imm12, rn);
+        if opc == 0 {
+            store(regs, memory, 2, rn, rt, place, outcome)
+        } else {
+            load(regs, memory, 2, 1, rn, rt, place, outcome)
+        }
     } else {
-        load(regs, memory, 3, 1, rn, rt, place, outcome)
+        ld_st_imm_narrow(regs, memory, size, opc, imm12, rn, rt, outcome)
     }
 }
 
-/// Unsigned offset, of less than 64 bits.
+/// Unsigned offset, of less than 32 bits or with a sign.
 #[inline(never)]
 fn ld_st_imm_narrow<M: Tagged>(
     regs: &mut Regs,
