@@ -148,7 +148,7 @@ impl Slot {
     }
 
     /// How the first byte of a run fails where tags are compared.
-    #[inline(never)]
+    #[inline]
     fn tag_fault(&self, at: u64, count: usize, access: &Access) -> Option<MemFault>
         requires some { 0 < count }
         requires inside { at % 4096 + count ≤ 4096 }
