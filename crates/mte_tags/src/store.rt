@@ -8,7 +8,8 @@ use crate::access::{Access, MemFault};
 
 /// A tagged memory of which each call reaches one page. It is a `Tagged` memory, whose accesses over
 /// several pages are made of these calls. Each `at` is a plain address, below 2^56; a run of bytes or
-/// granules from there on lies within one page and is not empty.
+/// granules from there on lies within one page and is not empty. Only the quick calls take any bytes, and may
+/// leave them to the others.
 pub trait PageStore {
     /// What it holds, however it is kept.
     ghost content: { Self → Memory };
@@ -42,7 +43,8 @@ pub trait PageStore {
         ensures memory { content self.new ≡ content self.old }
         ensures kept { rest_kept self.old self.new };
 
-    /// Copies bytes out where that is quick, and answers whether it did. Else it changes and tells nothing.
+    /// Copies bytes out where that is quick, and answers whether it did. `false` changes nothing, and does not
+    /// say that an access fails.
     fn read_quickly(&mut self, at: u64, buffer: &mut [u8], access: &Access) -> bool
         requires { at < 2 ^ 56 }
         ensures passed { IsTrue result → first_fault (content self.old) access.now (addresses at (length buffer.old)) ≡ None }
@@ -59,7 +61,8 @@ pub trait PageStore {
         ensures memory { content self.new ≡ (if is_ok result then with_bytes (content self.old) (addresses at (length bytes.now)) bytes.now else content self.old) }
         ensures kept { rest_kept self.old self.new };
 
-    /// Copies bytes in where that is quick, and answers whether it did. Else it changes and tells nothing.
+    /// Copies bytes in where that is quick, and answers whether it did. `false` changes nothing, and does not
+    /// say that an access fails.
     fn write_quickly(&mut self, at: u64, bytes: &[u8], access: &Access) -> bool
         requires { at < 2 ^ 56 }
         ensures passed { IsTrue result → first_fault (content self.old) access.now (addresses at (length bytes.now)) ≡ None }
