@@ -1,8 +1,11 @@
 -- What an access does to a tagged memory, and how it fails.
--- An access is the list of its plain addresses. Each is tested for translation, then permission, then the
--- tag; the first address that fails is the fault, and an access with a fault changes nothing.
--- Arm ARM DDI 0487, "The Memory Tagging Extension", AArch64.CheckTag; the translation regime is one page map.
-use Rattle.std.specs.Prelude.{◌≡◌, ℕ, zero, suc, ◌+◌, ◌*◌, ◌/◌, ◌%◌, ◌^◌, ◌==◌, Bool, true, false, ◌&&◌, List, [], ◌∷◌, map, length, slice_index, Option, Some, None, IsSome, Result, Ok, Err, if◌then◌else◌}
+-- An access is the list of its plain addresses. Each is tested for translation, then permission,
+-- then the tag; the first address that fails is the fault, and an access with a fault changes
+-- nothing. Arm ARM DDI 0487, "The Memory Tagging Extension", AArch64.CheckTag; the translation
+-- regime is one page map.
+use Rattle.std.specs.Prelude.{◌≡◌, ℕ, zero, suc, ◌+◌, ◌*◌, ◌/◌, ◌%◌, ◌^◌, ◌==◌, Bool, true, false}
+use Rattle.std.specs.Prelude.{◌&&◌, List, [], ◌∷◌, map, length, slice_index, Option, Some, None}
+use Rattle.std.specs.Prelude.{IsSome, Result, Ok, Err, if◌then◌else◌}
 use Rattle.std.specs.Int.{from_le_bytes, w32}
 use Rattle.a64_bits.specs.Addresses.{plain, address_tag}
 use Rattle.mte_tags.specs.Memory.{Memory, Page, page_at, byte_at, with_byte, has}
@@ -10,7 +13,8 @@ use Rattle.mte_tags.specs.declared.access.Attrs.{Attrs}
 use Rattle.mte_tags.specs.declared.access.MemFault.{MemFault}
 use Rattle.mte_tags.specs.declared.access.Access.{Access}
 use Rattle.mte_tags.specs.declared.access.FaultKind.{FaultKind}
-use Rattle.mte_tags.specs.declared.access.FaultKind.TheVariants.{Translation, Permission, TagCheck, Alignment, PcAlignment}
+use Rattle.mte_tags.specs.declared.access.FaultKind.TheVariants.{Translation, Permission, TagCheck}
+use Rattle.mte_tags.specs.declared.access.FaultKind.TheVariants.{Alignment, PcAlignment}
 
 -- the attributes that a page may have: TAGGED exactly with WRITE, and READ with WRITE
 abbrev pub IsPageAttrs : Attrs → Type 0

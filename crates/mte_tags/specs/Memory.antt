@@ -6,7 +6,9 @@
 --     byte_at m a           the byte at a plain address
 --     tag_at m a            the allocation tag of the granule at a plain address
 -- A page has 4096 bytes and 256 granules of 16 bytes. The page of a plain address a is a / 4096.
-use Rattle.std.specs.Prelude.{◌≡◌, ℕ, zero, suc, ◌+◌, ◌-◌, ◌*◌, ◌<◌, ◌/◌, ◌%◌, ◌^◌, ◌==◌, Bool, List, ◌++◌, take, drop, replicate, slice_index, slice_set, if◌then◌else◌, Option, Some, None, IsSome, refl}
+use Rattle.std.specs.Prelude.{◌≡◌, ℕ, zero, suc, ◌+◌, ◌-◌, ◌*◌, ◌<◌, ◌/◌, ◌%◌, ◌^◌, ◌==◌, Bool}
+use Rattle.std.specs.Prelude.{List, ◌++◌, take, drop, replicate, slice_index, slice_set}
+use Rattle.std.specs.Prelude.{if◌then◌else◌, Option, Some, None, IsSome, refl}
 use Rattle.std.specs.Int.RustNames.{bit_and}
 use Rattle.std.specs.Ordering.{nat_cmp}
 use Rattle.std.specs.FinMap as map
@@ -108,7 +110,8 @@ abbrev pub tag_in : Option Page → ℕ → ℕ
 tag_in None g = 0
 tag_in (Some p) g = if has p.attrs 8 then slice_index p.tags g else 0
 
--- the allocation tag of the granule at a plain address, 0 where the page is not mapped or not TAGGED
+-- the allocation tag of the granule at a plain address, 0 where the page is not mapped or not
+-- TAGGED
 unfoldable pub tag_at : Memory → ℕ → ℕ
 tag_at m a = tag_in (page_at m (a / 4096)) (a % 4096 / 16)
 

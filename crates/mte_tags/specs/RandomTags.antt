@@ -1,6 +1,8 @@
 -- Random tags: the bits that the generator's seed gives, and the tag that is drawn with them.
--- Arm ARM DDI 0487, AArch64.NextRandomTagBit, AArch64.RandomTag and RGSR_EL1, told by one sequence of bits.
-use Rattle.std.specs.Prelude.{ℕ, zero, suc, ◌+◌, ◌*◌, ◌/◌, ◌%◌, ◌^◌, List, [], ◌∷◌, ◌++◌, map, slice_index}
+-- Arm ARM DDI 0487, AArch64.NextRandomTagBit, AArch64.RandomTag and RGSR_EL1, told by one sequence
+-- of bits.
+use Rattle.std.specs.Prelude.{ℕ, zero, suc, ◌+◌, ◌*◌, ◌/◌, ◌%◌, ◌^◌, List, [], ◌∷◌, ◌++◌, map}
+use Rattle.std.specs.Prelude.{slice_index}
 use Rattle.std.specs.List.{range_with_len}
 use Rattle.mte_tags.specs.TagChoice.{chosen_tag}
 use Rattle.mte_tags.specs.declared.generator.Rgsr.{Rgsr}
@@ -9,8 +11,8 @@ use Rattle.mte_tags.specs.declared.generator.Rgsr.{Rgsr}
 abbrev pub next_bit : List ℕ → ℕ → ℕ
 next_bit bits n = (slice_index bits n + slice_index bits (n + 2) + slice_index bits (n + 3) + slice_index bits (n + 5)) % 2
 
--- the first 16 + n bits: those of the seed, lowest first, and each further one the sum modulo 2 of those
--- that stand 16, 14, 13 and 11 places before it
+-- the first 16 + n bits: those of the seed, lowest first, and each further one the sum modulo 2 of
+-- those that stand 16, 14, 13 and 11 places before it
 abbrev pub bits_before : ℕ → ℕ → List ℕ
 bits_before seed zero = map (λ i. seed / 2 ^ i % 2) (range_with_len 0 16)
 bits_before seed (suc n) = bits_before seed n ++ next_bit (bits_before seed n) n ∷ []

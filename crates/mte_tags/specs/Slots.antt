@@ -1,5 +1,8 @@
--- The parts of the plain memory: its slots, one for each mapped page, and what they say of the tagged memory.
-use Rattle.std.specs.Prelude.{◌≡◌, ℕ, ◌+◌, ◌*◌, ◌<◌, ◌^◌, Bool, List, [], ◌∷◌, ◌++◌, map, length, take, drop, replicate, slice_index_or, slice_set, Option, None, if◌then◌else◌}
+-- The parts of the plain memory: its slots, one for each mapped page, and what they say of the
+-- tagged memory.
+use Rattle.std.specs.Prelude.{◌≡◌, ℕ, ◌+◌, ◌*◌, ◌<◌, ◌^◌, Bool, List, [], ◌∷◌, ◌++◌, map, length}
+use Rattle.std.specs.Prelude.{take, drop, replicate, slice_index_or, slice_set, Option, None}
+use Rattle.std.specs.Prelude.{if◌then◌else◌}
 use Rattle.std.specs.List.{All}
 use Rattle.std.specs.FinMap as finite
 use Rattle.mte_tags.specs.Memory.{Memory, Page}

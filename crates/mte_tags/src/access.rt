@@ -140,7 +140,8 @@ impl Access {
         }
     }
 
-    /// The fault of this access at a plain address; `mem_tag` is the granule's tag for TagCheck, else 0.
+    /// The fault of this access at a plain address; `mem_tag` is the granule's tag for TagCheck,
+    /// else 0.
     pub fn fault(&self, kind: FaultKind, addr: u64, mem_tag: u8) -> MemFault
         ensures { result ≡ fault kind self.now addr mem_tag }
     {
@@ -154,7 +155,8 @@ impl Access {
     }
 }
 
-/// The same answer, field by field: what a function apart wrote into memory then goes on in registers.
+/// The same answer, field by field: what a function apart wrote into memory then goes on in
+/// registers.
 #[inline(always)]
 pub(crate) fn by_fields(answer: Result<(), MemFault>) -> Result<(), MemFault>
     ensures { result ≡ answer }

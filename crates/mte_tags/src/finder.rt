@@ -1,5 +1,5 @@
-//! Where the pages of the plain memory were put. What is told here is compared with the page itself before
-//! it is used, so that nothing but time rests on it.
+//! Where the pages of the plain memory were put. What is told here is compared with the page itself
+//! before it is used, so that nothing but time rests on it.
 
 ghost use Rattle.std.specs.Prelude.{◌≡◌, ◌<◌};
 
@@ -12,8 +12,8 @@ struct Place {
     slot: usize,
 }
 
-/// The slots of pages: that of the last instruction, those that were found last, by a hash of the page, and all
-/// of them, by page.
+/// The slots of pages: that of the last instruction, those that were found last, by a hash of the
+/// page, and all of them, by page.
 #[derive(Drop)]
 pub struct Finder {
     /// No address leads to it, so a fetch need not wait for one.

@@ -1,8 +1,11 @@
 //! A plain tagged memory, which keeps its pages in one list.
 
-ghost use Rattle.std.specs.Prelude.{◌≡◌, ℕ, ◌<◌, ◌≤◌, ◌+◌, ◌*◌, ◌%◌, ◌^◌, false, IfOk, IsTrue, is_ok, None, length, if◌then◌else◌, vec_len, vec_capacity};
-ghost use Rattle.mte_tags.specs.Memory.{page_at, no_pages, tag_at, with_granules, with_new_pages, without_pages, IsFree, ArePages};
-ghost use Rattle.mte_tags.specs.Accesses.{outcome, loaded, addresses, granules, byte_fault, first_fault, bytes_at, with_bytes, fetched};
+ghost use Rattle.std.specs.Prelude.{◌≡◌, ℕ, ◌<◌, ◌≤◌, ◌+◌, ◌*◌, ◌%◌, ◌^◌, false, IfOk, IsTrue};
+ghost use Rattle.std.specs.Prelude.{is_ok, None, length, if◌then◌else◌, vec_len, vec_capacity};
+ghost use Rattle.mte_tags.specs.Memory.{page_at, no_pages, tag_at, with_granules, with_new_pages};
+ghost use Rattle.mte_tags.specs.Memory.{without_pages, IsFree, ArePages};
+ghost use Rattle.mte_tags.specs.Accesses.{outcome, loaded, addresses, granules, byte_fault};
+ghost use Rattle.mte_tags.specs.Accesses.{first_fault, bytes_at, with_bytes, fetched};
 ghost use Rattle.mte_tags.specs.Slots.{slots_memory, AreSlots};
 
 use crate::access::{Access, Attrs, FaultKind, MemFault};
@@ -16,8 +19,8 @@ use bitflags::Flags;
 use std::alloc::{AllocError, Global};
 use std::marker::Model;
 
-/// A tagged memory of its own. It takes all that it will ever need, at most 4500 bytes a page, when it is
-/// made.
+/// A tagged memory of its own. It takes all that it will ever need, at most 4500 bytes a page, when
+/// it is made.
 #[derive(Drop)]
 pub struct Flat {
     limit: usize,
@@ -39,8 +42,8 @@ impl Model for Flat {
 }
 
 impl Flat {
-    /// A memory of at most `pages` pages, none of them mapped. It is refused only where its memory is; no
-    /// later call takes any.
+    /// A memory of at most `pages` pages, none of them mapped. It is refused only where its memory
+    /// is; no later call takes any.
     pub fn new(alloc: Global, pages: usize) -> Result<Flat, AllocError>
         requires { 0 < pages }
         ensures empty { IfOk result (λ memory. memory ≡ no_pages pages) }
@@ -77,8 +80,8 @@ fn slots_fault(
     }
 }
 
-/// The instruction word at an aligned address, mostly on the page of the instruction before. That page is
-/// sought without taking the top byte off the address: no page has one.
+/// The instruction word at an aligned address, mostly on the page of the instruction before. That
+/// page is sought without taking the top byte off the address: no page has one.
 #[inline(always)]
 fn fetch_slots(slots: &[Slot], finder: &mut Finder, pc: u64) -> Result<u32, MemFault>
     requires aligned { pc % 4 ≡ 0 }
@@ -116,13 +119,21 @@ fn fetch_again(slots: &[Slot], finder: &mut Finder, pc: u64) -> Result<u32, MemF
     Ok(slot.word(at))
 }
 
-/// Copies bytes out that lie on the page which was found last and do not fail, and answers whether it did.
+/// Copies bytes out that lie on the page which was found last and do not fail, and answers whether
+/// it did.
 #[inline(always)]
 fn read_found(slots: &[Slot], finder: &Finder, at: u64, buffer: &mut [u8], access: &Access) -> bool
     requires plain { at < 2 ^ 56 }
     requires slots { AreSlots slots.now }
-    ensures passed { IsTrue result → (n : ℕ) → first_fault (slots_memory n slots.now) access.now (addresses at (length buffer.old)) ≡ None }
-    ensures bytes { (n : ℕ) → buffer.new ≡ (if result then bytes_at (slots_memory n slots.now) (addresses at (length buffer.old)) else buffer.old) }
+    ensures passed { IsTrue result
+        → (n : ℕ)
+        → first_fault (slots_memory n slots.now) access.now (addresses at (length buffer.old))
+        ≡ None }
+    ensures bytes { (n : ℕ)
+        → buffer.new
+        ≡ (if result
+        then bytes_at (slots_memory n slots.now) (addresses at (length buffer.old))
+        else buffer.old) }
 {
     if !fits_one_page(at, buffer.len() as u64) {
         return false;
@@ -151,8 +162,16 @@ fn read_slots(
     requires inside { at % 4096 + length buffer.old ≤ 4096 }
     requires plain { at < 2 ^ 56 }
     requires slots { AreSlots slots.now }
-    ensures answer { (n : ℕ) → result ≡ outcome (first_fault (slots_memory n slots.now) access.now (addresses at (length buffer.old))) }
-    ensures bytes { (n : ℕ) → buffer.new ≡ (if is_ok result then bytes_at (slots_memory n slots.now) (addresses at (length buffer.old)) else buffer.old) }
+    ensures answer { (n : ℕ)
+        → result
+        ≡ outcome
+        (first_fault (slots_memory n slots.now) access.now
+        (addresses at (length buffer.old))) }
+    ensures bytes { (n : ℕ)
+        → buffer.new
+        ≡ (if is_ok result
+        then bytes_at (slots_memory n slots.now) (addresses at (length buffer.old))
+        else buffer.old) }
 {
     let Some(s) = find(slots, finder, at / 4096) else {
         return Err(access.fault(FaultKind::Translation, at, 0));
@@ -165,13 +184,22 @@ fn read_slots(
     Ok(())
 }
 
-/// Copies bytes in that lie on the page which was found last and do not fail, and answers whether it did.
+/// Copies bytes in that lie on the page which was found last and do not fail, and answers whether
+/// it did.
 #[inline(always)]
 fn write_found(slots: &mut [Slot], finder: &Finder, at: u64, bytes: &[u8], access: &Access) -> bool
     requires plain { at < 2 ^ 56 }
     requires slots { AreSlots slots.old }
-    ensures passed { IsTrue result → (n : ℕ) → first_fault (slots_memory n slots.old) access.now (addresses at (length bytes.now)) ≡ None }
-    ensures memory { (n : ℕ) → slots_memory n slots.new ≡ (if result then with_bytes (slots_memory n slots.old) (addresses at (length bytes.now)) bytes.now else slots_memory n slots.old) }
+    ensures passed { IsTrue result
+        → (n : ℕ)
+        → first_fault (slots_memory n slots.old) access.now (addresses at (length bytes.now))
+        ≡ None }
+    ensures memory { (n : ℕ)
+        → slots_memory n slots.new
+        ≡ (if result
+        then with_bytes (slots_memory n slots.old) (addresses at (length bytes.now))
+        bytes.now
+        else slots_memory n slots.old) }
     ensures slots { AreSlots slots.new }
 {
     if !fits_one_page(at, bytes.len() as u64) {
@@ -201,8 +229,16 @@ fn write_slots(
     requires inside { at % 4096 + length bytes.now ≤ 4096 }
     requires plain { at < 2 ^ 56 }
     requires slots { AreSlots slots.old }
-    ensures answer { (n : ℕ) → result ≡ outcome (first_fault (slots_memory n slots.old) access.now (addresses at (length bytes.now))) }
-    ensures memory { (n : ℕ) → slots_memory n slots.new ≡ (if is_ok result then with_bytes (slots_memory n slots.old) (addresses at (length bytes.now)) bytes.now else slots_memory n slots.old) }
+    ensures answer { (n : ℕ)
+        → result
+        ≡ outcome
+        (first_fault (slots_memory n slots.old) access.now (addresses at (length bytes.now))) }
+    ensures memory { (n : ℕ)
+        → slots_memory n slots.new
+        ≡ (if is_ok result
+        then with_bytes (slots_memory n slots.old) (addresses at (length bytes.now))
+        bytes.now
+        else slots_memory n slots.old) }
     ensures slots { AreSlots slots.new }
 {
     let Some(s) = find(slots, finder, at / 4096) else {
@@ -227,7 +263,10 @@ fn tag_in_slots(
     requires plain { at < 2 ^ 56 }
     requires slots { AreSlots slots.now }
     ensures small { IfOk result (λ t. t < 16) }
-    ensures answer { (n : ℕ) → result ≡ loaded (byte_fault (slots_memory n slots.now) access.now at) (tag_at (slots_memory n slots.now) at) }
+    ensures answer { (n : ℕ)
+        → result
+        ≡ loaded (byte_fault (slots_memory n slots.now) access.now at)
+        (tag_at (slots_memory n slots.now) at) }
 {
     let Some(s) = find(slots, finder, at / 4096) else {
         return Err(access.fault(FaultKind::Translation, at, 0));
@@ -257,8 +296,14 @@ fn retag_slots(
     requires tag { tag < 16 }
     requires unchecked { access.now.checked ≡ false }
     requires slots { AreSlots slots.old }
-    ensures answer { (n : ℕ) → result ≡ outcome (first_fault (slots_memory n slots.old) access.now (granules at count)) }
-    ensures memory { (n : ℕ) → slots_memory n slots.new ≡ (if is_ok result then with_granules (slots_memory n slots.old) at count tag zero else slots_memory n slots.old) }
+    ensures answer { (n : ℕ)
+        → result
+        ≡ outcome (first_fault (slots_memory n slots.old) access.now (granules at count)) }
+    ensures memory { (n : ℕ)
+        → slots_memory n slots.new
+        ≡ (if is_ok result
+        then with_granules (slots_memory n slots.old) at count tag zero
+        else slots_memory n slots.old) }
     ensures slots { AreSlots slots.new }
 {
     let Some(s) = find(slots, finder, at / 4096) else {
@@ -343,7 +388,9 @@ fn map_slots(slots: &mut Vec<Slot>, finder: &mut Finder, page: u64, count: usize
     requires in_range { page + count ≤ 2 ^ 18 }
     requires slots { AreSlots slots.old.items }
     requires free { IsFree (slots_memory 0 slots.old.items) page count }
-    ensures memory { (n : ℕ) → slots_memory n slots.new.items ≡ with_new_pages (slots_memory n slots.old.items) page count attrs }
+    ensures memory { (n : ℕ)
+        → slots_memory n slots.new.items
+        ≡ with_new_pages (slots_memory n slots.old.items) page count attrs }
     ensures slots { AreSlots slots.new.items }
     ensures len { vec_len slots.new ≡ vec_len slots.old + count }
     ensures capacity { vec_capacity slots.new ≡ vec_capacity slots.old }
@@ -359,7 +406,9 @@ fn map_slots(slots: &mut Vec<Slot>, finder: &mut Finder, page: u64, count: usize
 fn unmap_slots(slots: &mut Vec<Slot>, finder: &mut Finder, page: u64, count: usize)
     requires slots { AreSlots slots.old.items }
     requires mapped { ArePages (slots_memory 0 slots.old.items) page count }
-    ensures memory { (n : ℕ) → slots_memory n slots.new.items ≡ without_pages (slots_memory n slots.old.items) page count }
+    ensures memory { (n : ℕ)
+        → slots_memory n slots.new.items
+        ≡ without_pages (slots_memory n slots.old.items) page count }
     ensures slots { AreSlots slots.new.items }
     ensures len { vec_len slots.new ≤ vec_len slots.old }
     ensures capacity { vec_capacity slots.new ≡ vec_capacity slots.old }

@@ -2,7 +2,8 @@
 
 ghost use Rattle.std.specs.Prelude.{◌≡◌, ◌<◌, ◌+◌, ◌^◌, ℕ};
 ghost use Rattle.mte_tags.specs.TagChoice.{chosen_tag};
-ghost use Rattle.mte_tags.specs.RandomTags.{drawn, random_bit, random_number, offset_of, seed_after};
+ghost use Rattle.mte_tags.specs.RandomTags.{drawn, random_bit, random_number, offset_of};
+ghost use Rattle.mte_tags.specs.RandomTags.{seed_after};
 
 use crate::tags::choose_non_excluded;
 
@@ -14,16 +15,21 @@ pub struct Rgsr {
 }
 
 impl Rgsr {
-    /// Draws a tag that bit t of `exclude` does not exclude, or 0 where all 16 bits are set, as IRG does
-    /// with GCR_EL1.RRND 0 (Arm ARM DDI 0487, AArch64.RandomTag and ChooseNonExcludedTag).
+    /// Draws a tag that bit t of `exclude` does not exclude, or 0 where all 16 bits are set, as IRG
+    /// does with GCR_EL1.RRND 0 (Arm ARM DDI 0487, AArch64.RandomTag and ChooseNonExcludedTag).
     pub fn draw(&mut self, exclude: u16) -> u8
         requires { self.old.tag < 16 }
         ensures tag { result ≡ (drawn self.old exclude).tag }
         ensures rgsr { self.new ≡ (drawn self.old exclude).rgsr }
         ensures below { result < 16 }
         ensures last { self.new.tag ≡ result }
-        ensures in_sequence { (first draws : ℕ) → self.old.seed ≡ seed_after first draws → self.new.seed ≡ seed_after first (draws + 1) }
-        ensures by_sequence { (first draws : ℕ) → self.old.seed ≡ seed_after first draws → result ≡ chosen_tag self.old.tag (offset_of first draws) exclude }
+        ensures in_sequence { (first draws : ℕ)
+            → self.old.seed
+            ≡ seed_after first draws → self.new.seed ≡ seed_after first (draws + 1) }
+        ensures by_sequence { (first draws : ℕ)
+            → self.old.seed
+            ≡ seed_after first draws
+            → result ≡ chosen_tag self.old.tag (offset_of first draws) exclude }
     {
         let offset = random_tag(&mut self.seed);
         self.tag = choose_non_excluded(self.tag, offset, exclude);
@@ -31,8 +37,8 @@ impl Rgsr {
     }
 }
 
-/// The next bit of the sequence: the exclusive or of the seed's bits 0, 2, 3 and 5, which the seed takes in
-/// at its upper end (Arm ARM DDI 0487, AArch64.NextRandomTagBit).
+/// The next bit of the sequence: the exclusive or of the seed's bits 0, 2, 3 and 5, which the seed
+/// takes in at its upper end (Arm ARM DDI 0487, AArch64.NextRandomTagBit).
 fn next_bit(seed: &mut u16) -> u8
     ensures bit { result ≡ random_bit seed.old 16 }
     ensures small { result < 2 }

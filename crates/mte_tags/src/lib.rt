@@ -1,5 +1,5 @@
-//! Tagged memory as FEAT_MTE2 has it: allocation tags, their choice and their generator, what a memory of
-//! tagged granules means, and a plain memory that keeps its pages in one list.
+//! Tagged memory as FEAT_MTE2 has it: allocation tags, their choice and their generator, what a
+//! memory of tagged granules means, and a plain memory that keeps its pages in one list.
 #![tactic(auto)]
 
 pub mod access;

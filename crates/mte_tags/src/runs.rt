@@ -1,9 +1,13 @@
 //! The accesses of a memory that is reached one page at a time, made of runs within a page.
 
-ghost use Rattle.std.specs.Prelude.{◌≡◌, ℕ, ◌<◌, ◌≤◌, ◌+◌, ◌-◌, ◌*◌, ◌%◌, ◌/◌, ◌^◌, ◌↔◌, false, IsTrue, IfOk, is_ok, length, if◌then◌else◌};
+ghost use Rattle.std.specs.Prelude.{◌≡◌, ℕ, ◌<◌, ◌≤◌, ◌+◌, ◌-◌, ◌*◌, ◌%◌, ◌/◌, ◌^◌, ◌↔◌, false};
+ghost use Rattle.std.specs.Prelude.{IsTrue, IfOk, is_ok, length, if◌then◌else◌};
 ghost use Rattle.a64_bits.specs.Addresses.{plain};
 ghost use Rattle.mte_tags.specs.Memory.{Memory, tag_at, with_granules};
-ghost use Rattle.mte_tags.specs.Accesses.{outcome, loaded, addresses, granules, first_fault, bytes_at, with_bytes, AreMapped, fetched, read_fault, read_bytes, write_fault, written, tags_fault, tag_load_fault, fault, fetch_access};
+ghost use Rattle.mte_tags.specs.Accesses.{outcome, loaded, addresses, granules, first_fault};
+ghost use Rattle.mte_tags.specs.Accesses.{bytes_at, with_bytes, AreMapped, fetched, read_fault};
+ghost use Rattle.mte_tags.specs.Accesses.{read_bytes, write_fault, written, tags_fault};
+ghost use Rattle.mte_tags.specs.Accesses.{tag_load_fault, fault, fetch_access};
 
 use crate::access::{Access, FaultKind, MemFault, by_fields};
 use crate::store::PageStore;
@@ -65,12 +69,13 @@ fn copy_out<S: PageStore>(store: &mut S, at: u64, buffer: &mut [u8])
     }
 }
 
-/// Replaces bytes of mapped pages from a plain address, below 2^56, on, whatever their attributes and tags.
-/// A memory made of pages loads bytes by it.
+/// Replaces bytes of mapped pages from a plain address, below 2^56, on, whatever their attributes
+/// and tags. A memory made of pages loads bytes by it.
 pub fn replace_bytes<S: PageStore>(store: &mut S, at: u64, bytes: &[u8])
     requires plain { at < 2 ^ 56 }
     requires mapped { AreMapped (S.content store.old) (addresses at (length bytes.now)) }
-    ensures memory { S.content store.new ≡ with_bytes (S.content store.old) (addresses at (length bytes.now)) bytes.now }
+    ensures memory { S.content store.new
+        ≡ with_bytes (S.content store.old) (addresses at (length bytes.now)) bytes.now }
     ensures kept { S.rest_kept store.old store.new }
 {
     let access = Access::mapped();
@@ -95,8 +100,13 @@ fn read_each_page<S: PageStore>(
     access: &Access,
 ) -> Result<(), MemFault>
     requires plain { at < 2 ^ 56 }
-    ensures answer { result ≡ outcome (first_fault (S.content store.old) access.now (addresses at (length buffer.old))) }
-    ensures bytes { buffer.new ≡ (if is_ok result then bytes_at (S.content store.old) (addresses at (length buffer.old)) else buffer.old) }
+    ensures answer { result
+        ≡ outcome
+        (first_fault (S.content store.old) access.now (addresses at (length buffer.old))) }
+    ensures bytes { buffer.new
+        ≡ (if is_ok result
+        then bytes_at (S.content store.old) (addresses at (length buffer.old))
+        else buffer.old) }
     ensures memory { S.content store.new ≡ S.content store.old }
     ensures kept { S.rest_kept store.old store.new }
 {
@@ -105,8 +115,8 @@ fn read_each_page<S: PageStore>(
     Ok(())
 }
 
-/// Reads where that was not quick. A copy of the access goes along, and the answer comes back by its fields, so
-/// that quick accesses hold both in registers.
+/// Reads where that was not quick. A copy of the access goes along, and the answer comes back by
+/// its fields, so that quick accesses hold both in registers.
 #[inline(always)]
 fn read_slowly<S: PageStore>(
     store: &mut S,
@@ -115,8 +125,13 @@ fn read_slowly<S: PageStore>(
     access: &Access,
 ) -> Result<(), MemFault>
     requires plain { at < 2 ^ 56 }
-    ensures answer { result ≡ outcome (first_fault (S.content store.old) access.now (addresses at (length buffer.old))) }
-    ensures bytes { buffer.new ≡ (if is_ok result then bytes_at (S.content store.old) (addresses at (length buffer.old)) else buffer.old) }
+    ensures answer { result
+        ≡ outcome
+        (first_fault (S.content store.old) access.now (addresses at (length buffer.old))) }
+    ensures bytes { buffer.new
+        ≡ (if is_ok result
+        then bytes_at (S.content store.old) (addresses at (length buffer.old))
+        else buffer.old) }
     ensures memory { S.content store.new ≡ S.content store.old }
     ensures kept { S.rest_kept store.old store.new }
 {
@@ -134,7 +149,10 @@ fn read_by_runs<S: PageStore>(
     checked: bool,
 ) -> Result<(), MemFault>
     ensures answer { result ≡ outcome (read_fault (S.content store.old) addr (length buffer.old) checked) }
-    ensures bytes { buffer.new ≡ (if is_ok result then read_bytes (S.content store.old) addr (length buffer.old) else buffer.old) }
+    ensures bytes { buffer.new
+        ≡ (if is_ok result
+        then read_bytes (S.content store.old) addr (length buffer.old)
+        else buffer.old) }
     ensures memory { S.content store.new ≡ S.content store.old }
     ensures kept { S.rest_kept store.old store.new }
 {
@@ -156,8 +174,13 @@ fn write_each_page<S: PageStore>(
     access: &Access,
 ) -> Result<(), MemFault>
     requires plain { at < 2 ^ 56 }
-    ensures answer { result ≡ outcome (first_fault (S.content store.old) access.now (addresses at (length bytes.now))) }
-    ensures memory { S.content store.new ≡ (if is_ok result then with_bytes (S.content store.old) (addresses at (length bytes.now)) bytes.now else S.content store.old) }
+    ensures answer { result
+        ≡ outcome
+        (first_fault (S.content store.old) access.now (addresses at (length bytes.now))) }
+    ensures memory { S.content store.new
+        ≡ (if is_ok result
+        then with_bytes (S.content store.old) (addresses at (length bytes.now)) bytes.now
+        else S.content store.old) }
     ensures kept { S.rest_kept store.old store.new }
 {
     check_bytes(store, at, bytes.len(), access)?;
@@ -165,8 +188,8 @@ fn write_each_page<S: PageStore>(
     Ok(())
 }
 
-/// Writes where that was not quick. A copy of the access goes along, and the answer comes back by its fields, so
-/// that quick accesses hold both in registers.
+/// Writes where that was not quick. A copy of the access goes along, and the answer comes back by
+/// its fields, so that quick accesses hold both in registers.
 #[inline(always)]
 fn write_slowly<S: PageStore>(
     store: &mut S,
@@ -175,8 +198,13 @@ fn write_slowly<S: PageStore>(
     access: &Access,
 ) -> Result<(), MemFault>
     requires plain { at < 2 ^ 56 }
-    ensures answer { result ≡ outcome (first_fault (S.content store.old) access.now (addresses at (length bytes.now))) }
-    ensures memory { S.content store.new ≡ (if is_ok result then with_bytes (S.content store.old) (addresses at (length bytes.now)) bytes.now else S.content store.old) }
+    ensures answer { result
+        ≡ outcome
+        (first_fault (S.content store.old) access.now (addresses at (length bytes.now))) }
+    ensures memory { S.content store.new
+        ≡ (if is_ok result
+        then with_bytes (S.content store.old) (addresses at (length bytes.now)) bytes.now
+        else S.content store.old) }
     ensures kept { S.rest_kept store.old store.new }
 {
     let own = *access;
@@ -193,7 +221,10 @@ fn write_by_runs<S: PageStore>(
     checked: bool,
 ) -> Result<(), MemFault>
     ensures answer { result ≡ outcome (write_fault (S.content store.old) addr (length bytes.now) checked) }
-    ensures memory { S.content store.new ≡ (if is_ok result then written (S.content store.old) addr bytes.now else S.content store.old) }
+    ensures memory { S.content store.new
+        ≡ (if is_ok result
+        then written (S.content store.old) addr bytes.now
+        else S.content store.old) }
     ensures kept { S.rest_kept store.old store.new }
 {
     let access = Access::writing(addr, checked);
@@ -230,7 +261,9 @@ fn unaligned_fetch(pc: u64) -> MemFault
 #[inline]
 fn load_granule_tag<S: PageStore>(store: &mut S, addr: u64) -> Result<u8, MemFault>
     ensures small { IfOk result (λ t. t < 16) }
-    ensures answer { result ≡ loaded (tag_load_fault (S.content store.old) addr) (tag_at (S.content store.old) (plain addr)) }
+    ensures answer { result
+        ≡ loaded (tag_load_fault (S.content store.old) addr)
+        (tag_at (S.content store.old) (plain addr)) }
     ensures memory { S.content store.new ≡ S.content store.old }
     ensures kept { S.rest_kept store.old store.new }
 {
@@ -298,7 +331,10 @@ fn store_granule_tags<S: PageStore>(
 ) -> Result<(), MemFault>
     requires { tag < 16 }
     ensures answer { result ≡ outcome (tags_fault (S.content store.old) addr count) }
-    ensures memory { S.content store.new ≡ (if is_ok result then with_granules (S.content store.old) (plain addr) count tag zero else S.content store.old) }
+    ensures memory { S.content store.new
+        ≡ (if is_ok result
+        then with_granules (S.content store.old) (plain addr) count tag zero
+        else S.content store.old) }
     ensures kept { S.rest_kept store.old store.new }
 {
     let access = Access::writing(addr, false);

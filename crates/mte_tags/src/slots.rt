@@ -1,6 +1,8 @@
 //! The pages of the plain memory, and what is done within one of them.
 
-ghost use Rattle.std.specs.Prelude.{◌≡◌, ◌≢◌, ℕ, ◌<◌, ◌≤◌, ◌+◌, ◌*◌, ◌%◌, ◌/◌, ◌^◌, ◌&&◌, ◌↔◌, true, false, Some, None, IfSome, IsNone, IsSome, IsTrue, is_none, length, slice_index_or, slice_range};
+ghost use Rattle.std.specs.Prelude.{◌≡◌, ◌≢◌, ℕ, ◌<◌, ◌≤◌, ◌+◌, ◌*◌, ◌%◌, ◌/◌, ◌^◌, ◌&&◌, ◌↔◌};
+ghost use Rattle.std.specs.Prelude.{true, false, Some, None, IfSome, IsNone, IsSome, IsTrue};
+ghost use Rattle.std.specs.Prelude.{is_none, length, slice_index_or, slice_range};
 ghost use Rattle.std.specs.List.{All, range_with_len};
 ghost use Rattle.std.specs.Int.{from_le_bytes, w32};
 ghost use Rattle.mte_tags.specs.Memory.{page_at, new_page, has, tag_in};
@@ -10,8 +12,8 @@ use crate::access::{Access, Attrs, FaultKind, MemFault};
 use crate::finder::Finder;
 use bitflags::Flags;
 
-/// A mapped page: its number, its bytes, a tag for each granule, and its attributes. The bytes stand where an
-/// aligned access stays aligned.
+/// A mapped page: its number, its bytes, a tag for each granule, and its attributes. The bytes
+/// stand where an aligned access stays aligned.
 #[derive(Drop)]
 pub struct Slot {
     pub(crate) page: u64,
@@ -37,7 +39,8 @@ pub(crate) fn new_slot(page: u64, attrs: Attrs) -> Slot
 /// Whether a slot is there and has a page.
 #[inline]
 pub(crate) fn holds(slots: &[Slot], s: usize, page: u64) -> bool
-    ensures { IsTrue result ↔ ((s < length slots.now) × ((d : _) → (slice_index_or slots.now s d).page ≡ page)) }
+    ensures { IsTrue result
+        ↔ ((s < length slots.now) × ((d : _) → (slice_index_or slots.now s d).page ≡ page)) }
 {
     s < slots.len() && slots[s].page == page
 }
@@ -45,7 +48,8 @@ pub(crate) fn holds(slots: &[Slot], s: usize, page: u64) -> bool
 /// The slot of a page.
 #[inline(always)]
 pub(crate) fn find(slots: &[Slot], finder: &mut Finder, page: u64) -> Option<usize>
-    ensures some { IfSome result (λ s. (s < length slots.now) × ((d : _) → (slice_index_or slots.now s d).page ≡ page)) }
+    ensures some { IfSome result
+        (λ s. (s < length slots.now) × ((d : _) → (slice_index_or slots.now s d).page ≡ page)) }
     ensures none { IsNone result → (n : ℕ) → page_at (slots_memory n slots.now) page ≡ None }
 {
     let s = finder.last(page);
@@ -59,7 +63,8 @@ pub(crate) fn find(slots: &[Slot], finder: &mut Finder, page: u64) -> Option<usi
 #[cold]
 #[inline(never)]
 fn find_again(slots: &[Slot], finder: &mut Finder, page: u64) -> Option<usize>
-    ensures some { IfSome result (λ s. (s < length slots.now) × ((d : _) → (slice_index_or slots.now s d).page ≡ page)) }
+    ensures some { IfSome result
+        (λ s. (s < length slots.now) × ((d : _) → (slice_index_or slots.now s d).page ≡ page)) }
     ensures none { IsNone result → (n : ℕ) → page_at (slots_memory n slots.now) page ≡ None }
 {
     if let Some(s) = finder.place(page) {
@@ -73,7 +78,8 @@ fn find_again(slots: &[Slot], finder: &mut Finder, page: u64) -> Option<usize>
 
 /// The slot of a page among all of them. Only a page that is not mapped is sought in this way.
 fn search(slots: &[Slot], page: u64) -> Option<usize>
-    ensures some { IfSome result (λ s. (s < length slots.now) × ((d : _) → (slice_index_or slots.now s d).page ≡ page)) }
+    ensures some { IfSome result
+        (λ s. (s < length slots.now) × ((d : _) → (slice_index_or slots.now s d).page ≡ page)) }
     ensures none { IsNone result → (n : ℕ) → page_at (slots_memory n slots.now) page ≡ None }
 {
     for (s, slot) in slots.iter().enumerate() {
@@ -111,7 +117,8 @@ impl Slot {
         requires some { 0 < count }
         requires inside { at % 4096 + count ≤ 4096 }
         requires plain { at < 2 ^ 56 }
-        ensures { result ≡ is_none (first_in access.now (Some (page_of self.now)) (range_with_len at count)) }
+        ensures { result
+            ≡ is_none (first_in access.now (Some (page_of self.now)) (range_with_len at count)) }
     {
         let permitted = self.attrs.0 & access.need == access.need;
         if !permitted {
@@ -142,7 +149,8 @@ impl Slot {
         requires plain { at < 2 ^ 56 }
         requires permitted { has self.now.attrs.0 access.now.need ≡ true }
         requires checked { (access.now.checked && has self.now.attrs.0 8) ≡ true }
-        ensures { result ≡ is_none (first_in access.now (Some (page_of self.now)) (range_with_len at count)) }
+        ensures { result
+            ≡ is_none (first_in access.now (Some (page_of self.now)) (range_with_len at count)) }
     {
         self.tag_fault(at, count, access).is_none()
     }
@@ -199,7 +207,8 @@ impl Slot {
         u32::from_le_bytes(word)
     }
 
-    /// Replaces a run of bytes. Runs of one register go through a copy, which lies apart from the page.
+    /// Replaces a run of bytes. Runs of one register go through a copy, which lies apart from the
+    /// page.
     #[inline]
     pub(crate) fn copy_in(&mut self, at: u64, bytes: &[u8])
         requires { at % 4096 + length bytes.now ≤ 4096 }
@@ -233,8 +242,8 @@ impl Slot {
         self.tags[(at % 4096 / 16) as usize]
     }
 
-    /// Replaces the tags of `count` granules from granule `first` on, and makes their bytes zero where `zero`
-    /// asks for it.
+    /// Replaces the tags of `count` granules from granule `first` on, and makes their bytes zero
+    /// where `zero` asks for it.
     #[inline]
     pub(crate) fn retag(&mut self, first: usize, count: usize, tag: u8, zero: bool)
         requires inside { first + count ≤ 256 }

@@ -1,15 +1,20 @@
 //! The traits of a tagged memory.
 
-ghost use Rattle.std.specs.Prelude.{◌≡◌, ◌<◌, ◌≤◌, ◌+◌, ◌↔◌, ◌^◌, IsOk, OnErr, OnOk, IfOk, is_ok, length, if◌then◌else◌, Bool};
+ghost use Rattle.std.specs.Prelude.{◌≡◌, ◌<◌, ◌≤◌, ◌+◌, ◌↔◌, ◌^◌, IsOk, OnErr, OnOk, IfOk, is_ok};
+ghost use Rattle.std.specs.Prelude.{length, if◌then◌else◌, Bool};
 ghost use Rattle.a64_bits.specs.Addresses.{plain};
-ghost use Rattle.mte_tags.specs.Memory.{Memory, pages_left, with_new_pages, without_pages, IsFree, ArePages, tag_at, with_granules};
-ghost use Rattle.mte_tags.specs.Accesses.{fetched, outcome, read_fault, read_bytes, write_fault, written, IsMapped, IsPageAttrs, tags_fault, tag_load_fault, loaded};
+ghost use Rattle.mte_tags.specs.Memory.{Memory, pages_left, with_new_pages, without_pages, IsFree};
+ghost use Rattle.mte_tags.specs.Memory.{ArePages, tag_at, with_granules};
+ghost use Rattle.mte_tags.specs.Accesses.{fetched, outcome, read_fault, read_bytes, write_fault};
+ghost use Rattle.mte_tags.specs.Accesses.{written, IsMapped, IsPageAttrs, tags_fault};
+ghost use Rattle.mte_tags.specs.Accesses.{tag_load_fault, loaded};
 
 use crate::access::{Attrs, MemFault};
 
-/// A memory of tagged granules: pages of 4096 bytes, each of 256 granules of 16 bytes with an allocation
-/// tag below 16. An access uses the low 56 bits of its address and goes on at 0 after the last of them.
-/// A fault changes nothing (Arm ARM DDI 0487, "The Memory Tagging Extension", synchronous mode).
+/// A memory of tagged granules: pages of 4096 bytes, each of 256 granules of 16 bytes with an
+/// allocation tag below 16. An access uses the low 56 bits of its address and goes on at 0 after
+/// the last of them. A fault changes nothing (Arm ARM DDI 0487, "The Memory Tagging Extension",
+/// synchronous mode).
 pub trait Tagged {
     /// What it holds, however it is kept.
     ghost memory: { Self → Memory };
@@ -17,42 +22,55 @@ pub trait Tagged {
     /// What every call leaves of all that is not the memory.
     ghost kept: { Self → Self → Type 0 };
 
-    /// The instruction word at an address, of four bytes, the lowest first. It needs EXEC and is never tag
-    /// checked; an address that is not a multiple of 4 is a PcAlignment fault before all else.
+    /// The instruction word at an address, of four bytes, the lowest first. It needs EXEC and is
+    /// never tag checked; an address that is not a multiple of 4 is a PcAlignment fault before all
+    /// else.
     fn fetch(&mut self, pc: u64) -> Result<u32, MemFault>
         ensures answer { result ≡ fetched (memory self.old) pc }
         ensures memory { memory self.new ≡ memory self.old }
         ensures kept { kept self.old self.new };
 
-    /// Copies bytes out of pages with READ, and compares tags where `check` asks for it. After a fault the
-    /// buffer is as it was.
+    /// Copies bytes out of pages with READ, and compares tags where `check` asks for it. After a
+    /// fault the buffer is as it was.
     fn read(&mut self, addr: u64, buffer: &mut [u8], check: bool) -> Result<(), MemFault>
         ensures answer { result ≡ outcome (read_fault (memory self.old) addr (length buffer.old) check) }
-        ensures bytes { buffer.new ≡ (if is_ok result then read_bytes (memory self.old) addr (length buffer.old) else buffer.old) }
+        ensures bytes { buffer.new
+            ≡ (if is_ok result
+            then read_bytes (memory self.old) addr (length buffer.old)
+            else buffer.old) }
         ensures memory { memory self.new ≡ memory self.old }
         ensures kept { kept self.old self.new };
 
-    /// Copies bytes into pages with WRITE, all of them or none, and compares tags where `check` asks for it.
+    /// Copies bytes into pages with WRITE, all of them or none, and compares tags where `check`
+    /// asks for it.
     fn write(&mut self, addr: u64, bytes: &[u8], check: bool) -> Result<(), MemFault>
         ensures answer { result ≡ outcome (write_fault (memory self.old) addr (length bytes.now) check) }
-        ensures memory { memory self.new ≡ (if is_ok result then written (memory self.old) addr bytes.now else memory self.old) }
+        ensures memory { memory self.new
+            ≡ (if is_ok result
+            then written (memory self.old) addr bytes.now
+            else memory self.old) }
         ensures kept { kept self.old self.new };
 
-    /// The tag, below 16, of the granule that holds an address. It needs READ and compares no tag; a page
-    /// without TAGGED gives 0. A fault tells the granule's first address.
+    /// The tag, below 16, of the granule that holds an address. It needs READ and compares no tag;
+    /// a page without TAGGED gives 0. A fault tells the granule's first address.
     fn load_tag(&mut self, addr: u64) -> Result<u8, MemFault>
         ensures small { IfOk result (λ t. t < 16) }
-        ensures answer { result ≡ loaded (tag_load_fault (memory self.old) addr) (tag_at (memory self.old) (plain addr)) }
+        ensures answer { result
+            ≡ loaded (tag_load_fault (memory self.old) addr)
+            (tag_at (memory self.old) (plain addr)) }
         ensures memory { memory self.new ≡ memory self.old }
         ensures kept { kept self.old self.new };
 
-    /// Replaces the tags of consecutive granules of pages with WRITE, all of them or none, and makes their
-    /// bytes zero where `zero` asks for it. It compares no tag; an address that is not a multiple of 16 is
-    /// an Alignment fault before all else.
+    /// Replaces the tags of consecutive granules of pages with WRITE, all of them or none, and
+    /// makes their bytes zero where `zero` asks for it. It compares no tag; an address that is not
+    /// a multiple of 16 is an Alignment fault before all else.
     fn store_tags(&mut self, addr: u64, granules: u64, tag: u8, zero: bool) -> Result<(), MemFault>
         requires { tag < 16 }
         ensures answer { result ≡ outcome (tags_fault (memory self.old) addr granules) }
-        ensures memory { memory self.new ≡ (if is_ok result then with_granules (memory self.old) (plain addr) granules tag zero else memory self.old) }
+        ensures memory { memory self.new
+            ≡ (if is_ok result
+            then with_granules (memory self.old) (plain addr) granules tag zero
+            else memory self.old) }
         ensures kept { kept self.old self.new };
 
     ghost kept_same: { (a : Self) → kept a a };
@@ -64,8 +82,8 @@ pub trait Tagged {
 #[derive(Clone, Copy, PartialEq, Eq, Debug)]
 pub struct NoQuota;
 
-/// A tagged memory whose pages can be mapped. A page is named by its number, the plain address of its
-/// first byte divided by 4096.
+/// A tagged memory whose pages can be mapped. A page is named by its number, the plain address of
+/// its first byte divided by 4096.
 pub trait Paged: Tagged {
     /// How many more pages may be mapped.
     fn pages_left(&mut self) -> usize
@@ -73,15 +91,16 @@ pub trait Paged: Tagged {
         ensures memory { Self.memory self.new ≡ Self.memory self.old }
         ensures kept { Self.kept self.old self.new };
 
-    /// Maps `count` pages from `page` on, of zero bytes and tag 0, all of them or none. They lie below the
-    /// address 2^30, none of them is mapped, and they have TAGGED exactly with WRITE, and READ with WRITE.
-    /// It is refused exactly where `count` exceeds the pages left.
+    /// Maps `count` pages from `page` on, of zero bytes and tag 0, all of them or none. They lie
+    /// below the address 2^30, none of them is mapped, and they have TAGGED exactly with WRITE, and
+    /// READ with WRITE. It is refused exactly where `count` exceeds the pages left.
     fn map_pages(&mut self, page: u64, count: usize, attrs: Attrs) -> Result<(), NoQuota>
         requires in_range { page + count ≤ 2 ^ 18 }
         requires free { IsFree (Self.memory self.old) page count }
         requires attrs { IsPageAttrs attrs }
         ensures answer { IsOk result ↔ (count ≤ pages_left (Self.memory self.old)) }
-        ensures ok { OnOk result (Self.memory self.new ≡ with_new_pages (Self.memory self.old) page count attrs) }
+        ensures ok { OnOk result
+            (Self.memory self.new ≡ with_new_pages (Self.memory self.old) page count attrs) }
         ensures err { OnErr result (Self.memory self.new ≡ Self.memory self.old) }
         ensures kept { Self.kept self.old self.new };
 

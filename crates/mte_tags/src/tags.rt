@@ -1,6 +1,7 @@
 //! The tag of an address, and the choice of a tag.
 
-ghost use Rattle.std.specs.Prelude.{◌≡◌, ◌+◌, ◌-◌, ◌*◌, ◌<◌, ◌≤◌, ◌^◌, length, take, count_by, nat_lt};
+ghost use Rattle.std.specs.Prelude.{◌≡◌, ◌+◌, ◌-◌, ◌*◌, ◌<◌, ◌≤◌, ◌^◌, length, take, count_by};
+ghost use Rattle.std.specs.Prelude.{nat_lt};
 ghost use Rattle.a64_bits.specs.Addresses.{address_tag};
 ghost use Rattle.mte_tags.specs.TagChoice.{allowed_tags, chosen_tag};
 
@@ -22,9 +23,9 @@ pub fn with_tag(address: u64, tag: u8) -> u64
     address - TAG_UNIT * u64::from(tag_of(address)) + TAG_UNIT * u64::from(tag)
 }
 
-/// The tag that stands `offset` allowed places after `tag`, in a circle; with offset 0 the first allowed one
-/// at or after `tag`. Bit t of `exclude` excludes the tag t; where all 16 are set the answer is 0. Tag and
-/// offset are below 16 (Arm ARM DDI 0487, ChooseNonExcludedTag).
+/// The tag that stands `offset` allowed places after `tag`, in a circle; with offset 0 the first
+/// allowed one at or after `tag`. Bit t of `exclude` excludes the tag t; where all 16 are set the
+/// answer is 0. Tag and offset are below 16 (Arm ARM DDI 0487, ChooseNonExcludedTag).
 pub fn choose_non_excluded(tag: u8, offset: u8, exclude: u16) -> u8
     requires tag { tag < 16 }
     requires offset { offset < 16 }
@@ -45,7 +46,8 @@ pub fn choose_non_excluded(tag: u8, offset: u8, exclude: u16) -> u8
     allowed[rank % count]
 }
 
-/// Puts the tags that are not excluded at the front of a table, in increasing order, and tells how many.
+/// Puts the tags that are not excluded at the front of a table, in increasing order, and tells how
+/// many.
 fn list_allowed(exclude: u16, table: &mut [u8; 16]) -> usize
     ensures count { result ≡ length (allowed_tags exclude) }
     ensures fits { result ≤ 16 }
