@@ -4,7 +4,7 @@ use Rattle.std.proofs.lemmas.Bool.{cases_eq}
 use Rattle.std.specs.List.{range_with_len}
 use Rattle.mte_tags.specs.Memory.{Memory, Page, page_at, with_page, with_byte}
 use Rattle.mte_tags.specs.Accesses.{addresses, byte_fault, first_fault, or_else, fault_in, outcome, with_bytes, AreMapped}
-use Rattle.mte_tags.specs.declared.access.MemFault.{MemFault}
+use Rattle.mte_tags.specs.declared.fault.MemFault.{MemFault}
 use Rattle.mte_tags.specs.declared.access.Access.{Access}
 use Rattle.mte_tags.proofs.Pages.{page_at-with_page_same, page_at-with_page_other}
 

@@ -4,9 +4,9 @@ use Rattle.std.proofs.lemmas.Bool.{cond-true}
 use Rattle.a64_bits.specs.Addresses.{plain}
 use Rattle.mte_tags.specs.Memory.{Memory, Page, page_at, has, attrs_at, attrs_in, tag_at, tag_in}
 use Rattle.mte_tags.specs.Accesses.{granules, byte_fault, first_fault, or_else, fault, fault_in, granule_tag, read_fault, write_fault, tags_fault, store_access, written}
-use Rattle.mte_tags.specs.declared.access.MemFault.{MemFault}
+use Rattle.mte_tags.specs.declared.fault.MemFault.{MemFault}
 use Rattle.mte_tags.specs.declared.access.Access.{Access}
-use Rattle.mte_tags.specs.declared.access.FaultKind.TheVariants.{Translation, Permission, TagCheck, Alignment}
+use Rattle.mte_tags.specs.declared.fault.FaultKind.TheVariants.{Translation, Permission, TagCheck, Alignment}
 use Rattle.mte_tags.proofs.PageLaws.{attrs_at-written}
 use Rattle.mte_tags.proofs.ByteLaws.{tag_at-written}
 

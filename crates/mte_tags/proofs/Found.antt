@@ -6,12 +6,12 @@ use Rattle.std.specs.Int.{from_le_bytes, w32}
 use Rattle.a64_bits.specs.Addresses.{plain}
 use Rattle.std.specs.List.{range_with_len, slice_range, All}
 use Rattle.mte_tags.specs.Memory.{Memory, page_at, with_page, tag_at, tag_in, with_granules, has}
-use Rattle.mte_tags.specs.declared.access.FaultKind.TheVariants.{Translation}
+use Rattle.mte_tags.specs.declared.fault.FaultKind.TheVariants.{Translation}
 use Rattle.mte_tags.specs.Accesses.{addresses, granules, byte_fault, first_fault, fault, fault_in, bytes_at, with_bytes, fetched, fetched_by, fetch_access, word_at, read_bytes}
 use Rattle.mte_tags.specs.Slots.{page_of, slots_memory, AreSlots, spliced, first_in, retagged}
-use Rattle.mte_tags.specs.declared.slots.Slot.{Slot}
+use Rattle.mte_tags.specs.declared.flat.slot.Slot.{Slot}
 use Rattle.mte_tags.specs.declared.access.Access.{Access}
-use Rattle.mte_tags.specs.declared.access.MemFault.{MemFault}
+use Rattle.mte_tags.specs.declared.fault.MemFault.{MemFault}
 use Rattle.mte_tags.proofs.AddressLists.{addresses_in_page}
 use Rattle.mte_tags.proofs.GranuleLists.{first_fault_in_run, first_fault_one}
 use Rattle.mte_tags.proofs.PageRuns.{first_fault_in, first_in-none, first_in-untagged, bytes_at-run, with_bytes-run}

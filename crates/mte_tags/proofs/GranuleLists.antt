@@ -2,8 +2,8 @@
 use Rattle.std.proofs.Common.{◌≡◌, ℕ, suc, zero, ◌+◌, ◌-◌, ◌*◌, ◌/◌, ◌%◌, ◌^◌, ◌<◌, ◌≤◌, Bool, true, false, cond, Option, Some, None, List, ◌∷◌, ◌++◌, refl, sym, ap, subst, ◌∙◌, arith}
 use Rattle.mte_tags.specs.Memory.{Memory, Page, page_at, has, with_granule_in, with_granule, with_granules, tag_at, tag_in}
 use Rattle.mte_tags.specs.Accesses.{addresses, granules, byte_fault, first_fault, or_else, fault, page_fault, fault_in, AreMapped}
-use Rattle.mte_tags.specs.declared.access.FaultKind.TheVariants.{Permission}
-use Rattle.mte_tags.specs.declared.access.MemFault.{MemFault}
+use Rattle.mte_tags.specs.declared.fault.FaultKind.TheVariants.{Permission}
+use Rattle.mte_tags.specs.declared.fault.MemFault.{MemFault}
 use Rattle.mte_tags.specs.declared.access.Access.{Access}
 use Rattle.mte_tags.proofs.AddressLists.{first_fault-append, AreMapped-append, AreMapped-with_page}
 

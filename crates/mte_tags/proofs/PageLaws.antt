@@ -2,7 +2,7 @@
 use Rattle.std.proofs.Common.{◌≡◌, ℕ, suc, zero, ◌+◌, ◌-◌, ◌/◌, ◌%◌, ◌^◌, ◌<◌, ◌≤◌, Bool, Option, Some, None, IsSome, is_some, List, [], ◌∷◌, refl, sym, ap, subst, ◌∙◌, inl, inr, arith}
 use Rattle.std.proofs.lemmas.Bool.{cases_eq}
 use Rattle.mte_tags.specs.Memory.{Memory, Page, page_at, with_page, without_page, pages_left, new_page, with_new_pages, without_pages, IsFree, ArePages, attrs_in, attrs_at, with_byte_in, with_byte, with_granule_in, with_granule, with_granules}
-use Rattle.mte_tags.specs.declared.access.Attrs.{Attrs}
+use Rattle.mte_tags.specs.declared.attrs.Attrs.{Attrs}
 use Rattle.mte_tags.specs.Accesses.{addresses, with_bytes, written, AreMapped, IsMapped}
 use Rattle.a64_bits.specs.Addresses.{plain}
 use Rattle.mte_tags.proofs.Pages.{page_at-with_page_same, page_at-with_page_other, page_at-without_page_same, page_at-without_page_other, pages_left-with_old, pages_left-with_new}

@@ -7,9 +7,9 @@ use Rattle.std.specs.List.{range_with_len, slice_range}
 use Rattle.std.specs.Prelude.{slice_index}
 use Rattle.mte_tags.specs.Memory.{Memory, Page, page_at, with_page, has, byte_in, byte_at, with_byte_in, with_byte}
 use Rattle.mte_tags.specs.Accesses.{byte_fault, first_fault, or_else, fault, fault_in, page_fault, granule_tag, bytes_at, with_bytes}
-use Rattle.mte_tags.specs.declared.access.MemFault.{MemFault}
+use Rattle.mte_tags.specs.declared.fault.MemFault.{MemFault}
 use Rattle.mte_tags.specs.declared.access.Access.{Access}
-use Rattle.mte_tags.specs.declared.access.FaultKind.TheVariants.{Translation, Permission, TagCheck}
+use Rattle.mte_tags.specs.declared.fault.FaultKind.TheVariants.{Translation, Permission, TagCheck}
 use Rattle.mte_tags.specs.Slots.{first_in, spliced}
 use Rattle.mte_tags.proofs.Pages.{with_page_twice, with_page_kept, page_at-with_page_same}
 use Rattle.mte_tags.proofs.AddressLists.{first_none}

@@ -7,10 +7,10 @@ use Rattle.std.specs.Cmp.{nat_cmp_total}
 use Rattle.std.specs.FinMap as finite
 use Rattle.std.specs.FinMap.{find, get-from_entries, from_entries_push, nat_cmp-IsAntisymmetric}
 use Rattle.mte_tags.specs.Memory.{Memory, Page, page_at, with_page, without_page, pages_left, new_page, with_new_pages, without_pages}
-use Rattle.mte_tags.specs.declared.access.Attrs.{Attrs}
+use Rattle.mte_tags.specs.declared.attrs.Attrs.{Attrs}
 use Rattle.std.specs.List.{All, swap_remove}
 use Rattle.mte_tags.specs.Slots.{page_of, entry_of, slots_memory, AreSlots}
-use Rattle.mte_tags.specs.declared.slots.Slot.{Slot}
+use Rattle.mte_tags.specs.declared.flat.slot.Slot.{Slot}
 use Rattle.mte_tags.proofs.Pages.{tied_same, tied_other, same_memory, page_at-with_page_same, page_at-with_page_other, limit-with_page, page_at-without_page_same, page_at-without_page_other, limit-without_page}
 
 at_slots : (n : ℕ) (slots : List Slot) (q : ℕ) → page_at (slots_memory n slots) q ≡ find nat_cmp q (map entry_of slots)

@@ -7,7 +7,7 @@ use Rattle.std.specs.Cmp.{nat_cmp_total}
 use Rattle.std.specs.FinMap as map
 use Rattle.std.specs.FinMap.{len-insert, len-empty}
 use Rattle.mte_tags.specs.Memory.{Memory, Page, page_at, with_page, without_page, pages_left, no_pages, new_page, with_new_pages, without_pages, IsFree, ArePages, with_byte_in, with_byte, zeroed, with_granule_in, with_granule, with_granules}
-use Rattle.mte_tags.specs.declared.access.Attrs.{Attrs}
+use Rattle.mte_tags.specs.declared.attrs.Attrs.{Attrs}
 use Rattle.mte_tags.specs.Accesses.{with_bytes, written}
 use Rattle.mte_tags.proofs.Pages.{page_at-with_page_same, page_at-with_page_other, page_at-without_page_same, page_at-without_page_other, page_at-no_pages, same_memory, limit-with_page, limit-without_page, pages_left-with_new}
 use Rattle.mte_tags.proofs.TagRuns.{length-zeroed}

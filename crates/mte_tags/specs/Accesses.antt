@@ -9,12 +9,12 @@ use Rattle.std.specs.Prelude.{IsSome, Result, Ok, Err, if◌then◌else◌}
 use Rattle.std.specs.Int.{from_le_bytes, w32}
 use Rattle.a64_bits.specs.Addresses.{plain, address_tag}
 use Rattle.mte_tags.specs.Memory.{Memory, Page, page_at, byte_at, with_byte, has}
-use Rattle.mte_tags.specs.declared.access.Attrs.{Attrs}
-use Rattle.mte_tags.specs.declared.access.MemFault.{MemFault}
+use Rattle.mte_tags.specs.declared.attrs.Attrs.{Attrs}
+use Rattle.mte_tags.specs.declared.fault.MemFault.{MemFault}
 use Rattle.mte_tags.specs.declared.access.Access.{Access}
-use Rattle.mte_tags.specs.declared.access.FaultKind.{FaultKind}
-use Rattle.mte_tags.specs.declared.access.FaultKind.TheVariants.{Translation, Permission, TagCheck}
-use Rattle.mte_tags.specs.declared.access.FaultKind.TheVariants.{Alignment, PcAlignment}
+use Rattle.mte_tags.specs.declared.fault.FaultKind.{FaultKind}
+use Rattle.mte_tags.specs.declared.fault.FaultKind.TheVariants.{Translation, Permission, TagCheck}
+use Rattle.mte_tags.specs.declared.fault.FaultKind.TheVariants.{Alignment, PcAlignment}
 
 -- the attributes that a page may have: TAGGED exactly with WRITE, and READ with WRITE
 abbrev pub IsPageAttrs : Attrs → Type 0

@@ -3,4 +3,4 @@ pub mod Accesses
 pub mod TagChoice
 pub mod RandomTags
 pub mod Slots
-pub mod Flats
+pub mod FlatMemory

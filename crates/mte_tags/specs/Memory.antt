@@ -14,7 +14,7 @@ use Rattle.std.specs.Ordering.{nat_cmp}
 use Rattle.std.specs.FinMap as map
 use Rattle.std.specs.FinMap.{FinMap}
 use Rattle.std.specs.Coded.{Coded, code_by, coded×, coded_ℕ, coded_list}
-use Rattle.mte_tags.specs.declared.access.Attrs.{Attrs}
+use Rattle.mte_tags.specs.declared.attrs.Attrs.{Attrs}
 
 -- attrs is the sum of READ 1, WRITE 2, EXEC 4 and TAGGED 8; a tag for each granule
 pub record Page : Type 0 where

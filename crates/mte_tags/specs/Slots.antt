@@ -7,9 +7,9 @@ use Rattle.std.specs.List.{All}
 use Rattle.std.specs.FinMap as finite
 use Rattle.mte_tags.specs.Memory.{Memory, Page}
 use Rattle.mte_tags.specs.Accesses.{or_else, fault_in}
-use Rattle.mte_tags.specs.declared.slots.Slot.{Slot}
+use Rattle.mte_tags.specs.declared.flat.slot.Slot.{Slot}
 use Rattle.mte_tags.specs.declared.access.Access.{Access}
-use Rattle.mte_tags.specs.declared.access.MemFault.{MemFault}
+use Rattle.mte_tags.specs.declared.fault.MemFault.{MemFault}
 
 abbrev pub page_of : Slot → Page
 page_of s = record { attrs = s.attrs.0; bytes = s.bytes; tags = s.tags }

@@ -8,11 +8,16 @@ ghost use Rattle.mte_tags.specs.Accesses.{outcome, loaded, addresses, granules, 
 ghost use Rattle.mte_tags.specs.Accesses.{first_fault, bytes_at, with_bytes, fetched};
 ghost use Rattle.mte_tags.specs.Slots.{slots_memory, AreSlots};
 
-use crate::access::{Access, Attrs, FaultKind, MemFault};
-use crate::finder::Finder;
-use crate::runs::{fits_one_page, replace_bytes};
-use crate::slots::{Slot, find, holds, new_slot};
-use crate::store::PageStore;
+mod finder;
+mod slot;
+
+use crate::access::Access;
+use crate::attrs::Attrs;
+use crate::by_page::{fits_one_page, replace_bytes};
+use crate::fault::{FaultKind, MemFault};
+use crate::flat::finder::Finder;
+use crate::flat::slot::{Slot, find, holds, new_slot};
+use crate::page_store::PageStore;
 use crate::tagged::{NoQuota, Paged};
 use a64_bits::plain;
 use bitflags::Flags;
@@ -30,7 +35,7 @@ pub struct Flat {
 
 impl Model for Flat {
     ghost use Rattle.mte_tags.specs.Memory.{Memory, coded_memory};
-    ghost use Rattle.mte_tags.specs.Flats.{flat_memory, IsFlat};
+    ghost use Rattle.mte_tags.specs.FlatMemory.{flat_memory, IsFlat};
 
     ghost Value = { Memory };
 
@@ -335,20 +340,25 @@ impl PageStore for Flat {
     }
 
     #[inline(always)]
-    fn read_quickly(&mut self, at: u64, buffer: &mut [u8], access: &Access) -> bool {
+    fn try_read(&mut self, at: u64, buffer: &mut [u8], access: &Access) -> bool {
         read_found(&self.slots, &self.finder, at, buffer, access)
     }
 
-    fn read_run(&mut self, at: u64, buffer: &mut [u8], access: &Access) -> Result<(), MemFault> {
+    fn read_in_page(
+        &mut self,
+        at: u64,
+        buffer: &mut [u8],
+        access: &Access,
+    ) -> Result<(), MemFault> {
         read_slots(&self.slots, &mut self.finder, at, buffer, access)
     }
 
     #[inline(always)]
-    fn write_quickly(&mut self, at: u64, bytes: &[u8], access: &Access) -> bool {
+    fn try_write(&mut self, at: u64, bytes: &[u8], access: &Access) -> bool {
         write_found(&mut self.slots, &self.finder, at, bytes, access)
     }
 
-    fn write_run(&mut self, at: u64, bytes: &[u8], access: &Access) -> Result<(), MemFault> {
+    fn write_in_page(&mut self, at: u64, bytes: &[u8], access: &Access) -> Result<(), MemFault> {
         write_slots(&mut self.slots, &mut self.finder, at, bytes, access)
     }
 
@@ -358,7 +368,7 @@ impl PageStore for Flat {
     }
 
     #[inline]
-    fn tag_run(
+    fn store_tags_in_page(
         &mut self,
         at: u64,
         count: usize,

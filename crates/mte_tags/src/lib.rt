@@ -2,21 +2,23 @@
 //! memory of tagged granules means, and a plain memory that keeps its pages in one list.
 #![tactic(auto)]
 
-pub mod access;
-mod finder;
-pub mod flat;
-pub mod generator;
-pub mod runs;
-mod slots;
-pub mod store;
-pub mod tagged;
-pub mod tags;
+mod access;
+mod attrs;
+mod by_page;
+mod fault;
+mod flat;
+mod generator;
+mod page_store;
+mod tagged;
+mod tags;
 
-pub use access::{Access, Attrs, FaultKind, MemFault};
+pub use access::Access;
+pub use attrs::Attrs;
+pub use by_page::replace_bytes;
+pub use fault::{FaultKind, MemFault};
 pub use flat::Flat;
 pub use generator::Rgsr;
-pub use runs::replace_bytes;
-pub use store::PageStore;
+pub use page_store::PageStore;
 pub use tagged::{NoQuota, Paged, Tagged};
 pub use tags::{choose_non_excluded, tag_of, with_tag};
 

@@ -9,7 +9,8 @@ ghost use Rattle.mte_tags.specs.Accesses.{fetched, outcome, read_fault, read_byt
 ghost use Rattle.mte_tags.specs.Accesses.{written, IsMapped, IsPageAttrs, tags_fault};
 ghost use Rattle.mte_tags.specs.Accesses.{tag_load_fault, loaded};
 
-use crate::access::{Attrs, MemFault};
+use crate::attrs::Attrs;
+use crate::fault::MemFault;
 
 /// A memory of tagged granules: pages of 4096 bytes, each of 256 granules of 16 bytes with an
 /// allocation tag below 16. An access uses the low 56 bits of its address and goes on at 0 after

@@ -2,7 +2,8 @@
 
 ghost use Rattle.std.specs.Prelude.{◌≡◌, ◌+◌, ◌<◌, None};
 
-use crate::access::{Attrs, FaultKind, MemFault};
+use crate::attrs::Attrs;
+use crate::fault::{FaultKind, MemFault};
 use crate::flat::Flat;
 use crate::generator::Rgsr;
 use crate::tagged::{NoQuota, Paged, Tagged};

@@ -1,7 +1,7 @@
 use Rattle.std.proofs.Common.{◌≡◌, ◌∙◌, ◌<◌, ◌^◌, ◌+◌, ◌-◌, ℕ, IsSome, None, sym, ap, subst, arith, refl, length, get_or}
 use Rattle.mte_tags.specs.Memory.{page_at, without_page, without_pages}
 use Rattle.mte_tags.specs.Slots.{slots_memory, AreSlots}
-use Rattle.mte_tags.specs.declared.slots.Slot.{Slot}
+use Rattle.mte_tags.specs.declared.flat.slot.Slot.{Slot}
 use Rattle.mte_tags.proofs.Pages.{page_at-without_page_other}
 use Rattle.mte_tags.proofs.Places.{mapped_low, some_is_not_none, AreSlots-swap_remove, slots_memory-swap_remove, without_pages-step}
 use Rattle.mte_tags.proofs.flat.unmap_slots.Goals as goal

@@ -4,7 +4,7 @@ use Rattle.mte_tags.specs.Accesses.{outcome}
 use Rattle.mte_tags.specs.Slots.{slots_memory}
 use Rattle.mte_tags.proofs.Found.{fault_found, fault_missing, slot_written}
 use Rattle.mte_tags.proofs.Places.{AreSlots-set}
-use Rattle.mte_tags.specs.declared.slots.Slot.{Slot}
+use Rattle.mte_tags.specs.declared.flat.slot.Slot.{Slot}
 use Rattle.mte_tags.proofs.flat.write_slots.Goals as goal
 
 pub returns-in_default-clause-answer : goal.returns-in_default-clause-answer

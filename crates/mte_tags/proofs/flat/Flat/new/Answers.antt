@@ -1,6 +1,6 @@
 use Rattle.std.proofs.Common.{rules, ap, ◌∙◌, List, [], arith}
 use Rattle.mte_tags.specs.Memory.{no_pages, page_at}
-use Rattle.mte_tags.specs.declared.slots.Slot.{Slot}
+use Rattle.mte_tags.specs.declared.flat.slot.Slot.{Slot}
 use Rattle.mte_tags.proofs.Places.{page_at-slots_none}
 use Rattle.mte_tags.specs.Slots.{slots_memory}
 use Rattle.mte_tags.proofs.flat.Flat.new.Goals as goal

@@ -1,0 +1,83 @@
+//! What may be done with a page.
+
+ghost use Rattle.std.specs.Prelude.{⊤, ◌≡◌, ◌==◌, [], ◌∷◌, codes};
+ghost use Rattle.std.specs.Int.RustNames.{bit_and, bit_or};
+
+use bitflags::{Flag, Flags};
+use std::ops::BitOr;
+
+/// What may be done with a page of 4096 bytes, as the sum of its bits.
+#[derive(Clone, Copy, PartialEq, Eq, Debug)]
+pub struct Attrs(pub u8);
+
+impl Attrs {
+    /// Its bytes may be read.
+    pub const READ: Attrs = Attrs(1);
+    /// Its bytes and tags may be written.
+    pub const WRITE: Attrs = Attrs(2);
+    /// Its words may be executed.
+    pub const EXEC: Attrs = Attrs(4);
+    /// Its granules have allocation tags, which checked accesses compare.
+    pub const TAGGED: Attrs = Attrs(8);
+
+    /// No access at all.
+    pub const NONE: Attrs = Attrs(0);
+    /// Code that may be read: READ and EXEC.
+    pub const TEXT: Attrs = Attrs(5);
+    /// Data: READ, WRITE and TAGGED.
+    pub const DATA: Attrs = Attrs(11);
+    /// Data that may be executed: all four.
+    pub const ALL: Attrs = Attrs(15);
+
+    const FLAGS: &'static [Flag<Attrs>] = &[
+        Flag {
+            name: "READ",
+            value: Attrs::READ,
+        },
+        Flag {
+            name: "WRITE",
+            value: Attrs::WRITE,
+        },
+        Flag {
+            name: "EXEC",
+            value: Attrs::EXEC,
+        },
+        Flag {
+            name: "TAGGED",
+            value: Attrs::TAGGED,
+        },
+    ];
+}
+
+impl Flags for Attrs {
+    type Bits = u8;
+
+    ghost exact = { ⊤ };
+
+    ghost table = { (codes "READ", 1) ∷ (codes "WRITE", 2) ∷ (codes "EXEC", 4) ∷ (codes "TAGGED", 8) ∷ [] };
+
+    ghost set_of = { λ a. a.0 };
+
+    fn flags<'a>() -> &'a [Flag<Attrs>] {
+        Attrs::FLAGS
+    }
+
+    fn bits(&self) -> u8 {
+        self.0
+    }
+
+    fn from_bits_retain(bits: u8) -> Attrs {
+        Attrs(bits)
+    }
+}
+
+/// The attributes of both.
+impl BitOr for Attrs {
+    type Output = Attrs;
+
+    ghost bitor_gives = { λ a b both. both.0 ≡ bit_or a.0 b.0 };
+
+    fn bitor(self, other: Attrs) -> Attrs {
+        Attrs(self.0 | other.0)
+    }
+}

@@ -1,0 +1,393 @@
+//! The accesses of a memory that is reached one page at a time, made of runs within a page.
+
+ghost use Rattle.std.specs.Prelude.{◌≡◌, ℕ, ◌<◌, ◌≤◌, ◌+◌, ◌-◌, ◌*◌, ◌%◌, ◌/◌, ◌^◌, ◌↔◌, false};
+ghost use Rattle.std.specs.Prelude.{IsTrue, IfOk, is_ok, length, if◌then◌else◌};
+ghost use Rattle.a64_bits.specs.Addresses.{plain};
+ghost use Rattle.mte_tags.specs.Memory.{Memory, tag_at, with_granules};
+ghost use Rattle.mte_tags.specs.Accesses.{outcome, loaded, addresses, granules, first_fault};
+ghost use Rattle.mte_tags.specs.Accesses.{bytes_at, with_bytes, AreMapped, fetched, read_fault};
+ghost use Rattle.mte_tags.specs.Accesses.{read_bytes, write_fault, written, tags_fault};
+ghost use Rattle.mte_tags.specs.Accesses.{tag_load_fault, fault, fetch_access};
+
+use crate::access::Access;
+use crate::fault::{FaultKind, MemFault, by_fields};
+use crate::page_store::PageStore;
+use crate::tagged::Tagged;
+use a64_bits::plain;
+
+const ADDRESSES: u64 = 1 << 56;
+
+/// Whether some bytes are wanted, and one page holds them.
+#[inline]
+pub(crate) fn fits_one_page(at: u64, count: u64) -> bool
+    ensures { IsTrue result ↔ ((0 < count) × (at % 4096 + count ≤ 4096)) }
+{
+    count > 0 && count <= 4096 - at % 4096
+}
+
+/// How the first byte of an access fails that does.
+fn check_bytes<S: PageStore>(
+    store: &mut S,
+    at: u64,
+    count: usize,
+    access: &Access,
+) -> Result<(), MemFault>
+    requires { at < 2 ^ 56 }
+    ensures answer { result ≡ outcome (first_fault (S.content store.old) access.now (addresses at count)) }
+    ensures memory { S.content store.new ≡ S.content store.old }
+    ensures kept { S.rest_kept store.old store.new }
+{
+    let mut place = at;
+    let mut left = count;
+    while left > 0 {
+        let run = left.min((4096 - place % 4096) as usize);
+        if let Some(fault) = store.run_fault(place, run, access) {
+            return Err(fault);
+        }
+        place = (place + run as u64) % ADDRESSES;
+        left -= run;
+    }
+    Ok(())
+}
+
+/// Copies bytes of mapped pages out.
+fn copy_out<S: PageStore>(store: &mut S, at: u64, buffer: &mut [u8])
+    requires plain { at < 2 ^ 56 }
+    requires mapped { AreMapped (S.content store.old) (addresses at (length buffer.old)) }
+    ensures bytes { buffer.new ≡ bytes_at (S.content store.old) (addresses at (length buffer.old)) }
+    ensures memory { S.content store.new ≡ S.content store.old }
+    ensures kept { S.rest_kept store.old store.new }
+{
+    let access = Access::mapped();
+    let mut place = at;
+    let mut done = 0;
+    while done < buffer.len() {
+        let run = (buffer.len() - done).min((4096 - place % 4096) as usize);
+        // A mapped page lacks nothing that this access asks for.
+        let _ = store.read_in_page(place, &mut buffer[done..done + run], &access);
+        place = (place + run as u64) % ADDRESSES;
+        done += run;
+    }
+}
+
+/// Replaces bytes of mapped pages from a plain address, below 2^56, on, whatever their attributes
+/// and tags. A memory made of pages loads bytes by it.
+pub fn replace_bytes<S: PageStore>(store: &mut S, at: u64, bytes: &[u8])
+    requires plain { at < 2 ^ 56 }
+    requires mapped { AreMapped (S.content store.old) (addresses at (length bytes.now)) }
+    ensures memory { S.content store.new
+        ≡ with_bytes (S.content store.old) (addresses at (length bytes.now)) bytes.now }
+    ensures kept { S.rest_kept store.old store.new }
+{
+    let access = Access::mapped();
+    let mut place = at;
+    let mut done = 0;
+    while done < bytes.len() {
+        let run = (bytes.len() - done).min((4096 - place % 4096) as usize);
+        // A mapped page lacks nothing that this access asks for.
+        let _ = store.write_in_page(place, &bytes[done..done + run], &access);
+        place = (place + run as u64) % ADDRESSES;
+        done += run;
+    }
+}
+
+/// Copies bytes out page by page, or tells the first that fails.
+#[cold]
+#[inline(never)]
+fn read_across_pages<S: PageStore>(
+    store: &mut S,
+    at: u64,
+    buffer: &mut [u8],
+    access: &Access,
+) -> Result<(), MemFault>
+    requires plain { at < 2 ^ 56 }
+    ensures answer { result
+        ≡ outcome
+        (first_fault (S.content store.old) access.now (addresses at (length buffer.old))) }
+    ensures bytes { buffer.new
+        ≡ (if is_ok result
+        then bytes_at (S.content store.old) (addresses at (length buffer.old))
+        else buffer.old) }
+    ensures memory { S.content store.new ≡ S.content store.old }
+    ensures kept { S.rest_kept store.old store.new }
+{
+    check_bytes(store, at, buffer.len(), access)?;
+    copy_out(store, at, buffer);
+    Ok(())
+}
+
+/// Reads where that was not quick. A copy of the access goes along, and the answer comes back by
+/// its fields, so that quick accesses hold both in registers.
+#[inline(always)]
+fn read_slowly<S: PageStore>(
+    store: &mut S,
+    at: u64,
+    buffer: &mut [u8],
+    access: &Access,
+) -> Result<(), MemFault>
+    requires plain { at < 2 ^ 56 }
+    ensures answer { result
+        ≡ outcome
+        (first_fault (S.content store.old) access.now (addresses at (length buffer.old))) }
+    ensures bytes { buffer.new
+        ≡ (if is_ok result
+        then bytes_at (S.content store.old) (addresses at (length buffer.old))
+        else buffer.old) }
+    ensures memory { S.content store.new ≡ S.content store.old }
+    ensures kept { S.rest_kept store.old store.new }
+{
+    let own = *access;
+    by_fields(read_across_pages(store, at, buffer, &own))
+}
+
+/// Copies bytes out, or tells the first that fails.
+#[tactic(auto, unfolding(crate::specs::Accesses::read_fault, crate::specs::Accesses::read_bytes))]
+#[inline(always)]
+fn read_at<S: PageStore>(
+    store: &mut S,
+    addr: u64,
+    buffer: &mut [u8],
+    checked: bool,
+) -> Result<(), MemFault>
+    ensures answer { result ≡ outcome (read_fault (S.content store.old) addr (length buffer.old) checked) }
+    ensures bytes { buffer.new
+        ≡ (if is_ok result
+        then read_bytes (S.content store.old) addr (length buffer.old)
+        else buffer.old) }
+    ensures memory { S.content store.new ≡ S.content store.old }
+    ensures kept { S.rest_kept store.old store.new }
+{
+    let access = Access::reading(addr, checked);
+    let at = plain(addr);
+    if store.try_read(at, buffer, &access) {
+        return Ok(());
+    }
+    read_slowly(store, at, buffer, &access)
+}
+
+/// Copies bytes in page by page, all of them, or tells the first that fails.
+#[cold]
+#[inline(never)]
+fn write_across_pages<S: PageStore>(
+    store: &mut S,
+    at: u64,
+    bytes: &[u8],
+    access: &Access,
+) -> Result<(), MemFault>
+    requires plain { at < 2 ^ 56 }
+    ensures answer { result
+        ≡ outcome
+        (first_fault (S.content store.old) access.now (addresses at (length bytes.now))) }
+    ensures memory { S.content store.new
+        ≡ (if is_ok result
+        then with_bytes (S.content store.old) (addresses at (length bytes.now)) bytes.now
+        else S.content store.old) }
+    ensures kept { S.rest_kept store.old store.new }
+{
+    check_bytes(store, at, bytes.len(), access)?;
+    replace_bytes(store, at, bytes);
+    Ok(())
+}
+
+/// Writes where that was not quick. A copy of the access goes along, and the answer comes back by
+/// its fields, so that quick accesses hold both in registers.
+#[inline(always)]
+fn write_slowly<S: PageStore>(
+    store: &mut S,
+    at: u64,
+    bytes: &[u8],
+    access: &Access,
+) -> Result<(), MemFault>
+    requires plain { at < 2 ^ 56 }
+    ensures answer { result
+        ≡ outcome
+        (first_fault (S.content store.old) access.now (addresses at (length bytes.now))) }
+    ensures memory { S.content store.new
+        ≡ (if is_ok result
+        then with_bytes (S.content store.old) (addresses at (length bytes.now)) bytes.now
+        else S.content store.old) }
+    ensures kept { S.rest_kept store.old store.new }
+{
+    let own = *access;
+    by_fields(write_across_pages(store, at, bytes, &own))
+}
+
+/// Copies bytes in, or tells the first that fails.
+#[tactic(auto, unfolding(crate::specs::Accesses::write_fault, crate::specs::Accesses::written))]
+#[inline(always)]
+fn write_at<S: PageStore>(
+    store: &mut S,
+    addr: u64,
+    bytes: &[u8],
+    checked: bool,
+) -> Result<(), MemFault>
+    ensures answer { result ≡ outcome (write_fault (S.content store.old) addr (length bytes.now) checked) }
+    ensures memory { S.content store.new
+        ≡ (if is_ok result
+        then written (S.content store.old) addr bytes.now
+        else S.content store.old) }
+    ensures kept { S.rest_kept store.old store.new }
+{
+    let access = Access::writing(addr, checked);
+    let at = plain(addr);
+    if store.try_write(at, bytes, &access) {
+        return Ok(());
+    }
+    write_slowly(store, at, bytes, &access)
+}
+
+/// The instruction word at an address; one page holds an aligned word.
+#[inline(always)]
+fn fetch_word<S: PageStore>(store: &mut S, pc: u64) -> Result<u32, MemFault>
+    ensures answer { result ≡ fetched (S.content store.old) pc }
+    ensures memory { S.content store.new ≡ S.content store.old }
+    ensures kept { S.rest_kept store.old store.new }
+{
+    if pc % 4 != 0 {
+        return Err(unaligned_fetch(pc));
+    }
+    store.fetch_aligned(pc)
+}
+
+/// The fault of a fetch at an address that is not a multiple of 4.
+#[cold]
+#[inline(never)]
+fn unaligned_fetch(pc: u64) -> MemFault
+    ensures { result ≡ fault FaultKind.PcAlignment (fetch_access pc) (plain pc) 0 }
+{
+    Access::fetching(pc).fault(FaultKind::PcAlignment, plain(pc), 0)
+}
+
+/// The tag of the granule that holds an address.
+#[inline]
+fn load_granule_tag<S: PageStore>(store: &mut S, addr: u64) -> Result<u8, MemFault>
+    ensures small { IfOk result (λ t. t < 16) }
+    ensures answer { result
+        ≡ loaded (tag_load_fault (S.content store.old) addr)
+        (tag_at (S.content store.old) (plain addr)) }
+    ensures memory { S.content store.new ≡ S.content store.old }
+    ensures kept { S.rest_kept store.old store.new }
+{
+    let access = Access::reading(addr, false);
+    store.granule_tag(plain(addr) / 16 * 16, &access)
+}
+
+/// How the first granule of an access without a tag check fails that does.
+fn check_granules<S: PageStore>(
+    store: &mut S,
+    at: u64,
+    count: u64,
+    access: &Access,
+) -> Result<(), MemFault>
+    requires plain { at < 2 ^ 56 }
+    requires aligned { at % 16 ≡ 0 }
+    requires unchecked { access.now.checked ≡ false }
+    ensures answer { result ≡ outcome (first_fault (S.content store.old) access.now (granules at count)) }
+    ensures memory { S.content store.new ≡ S.content store.old }
+    ensures kept { S.rest_kept store.old store.new }
+{
+    let mut place = at;
+    let mut left = count;
+    while left > 0 {
+        let run = left.min((4096 - place % 4096) / 16);
+        if let Some(fault) = store.run_fault(place, 1, access) {
+            return Err(fault);
+        }
+        place = (place + 16 * run) % ADDRESSES;
+        left -= run;
+    }
+    Ok(())
+}
+
+/// Replaces the tags of granules of mapped pages.
+fn tag_granules<S: PageStore>(store: &mut S, at: u64, count: u64, tag: u8, zero: bool)
+    requires plain { at < 2 ^ 56 }
+    requires aligned { at % 16 ≡ 0 }
+    requires tag { tag < 16 }
+    requires mapped { AreMapped (S.content store.old) (granules at count) }
+    ensures memory { S.content store.new ≡ with_granules (S.content store.old) at count tag zero }
+    ensures kept { S.rest_kept store.old store.new }
+{
+    let access = Access::mapped();
+    let mut place = at;
+    let mut left = count;
+    while left > 0 {
+        let run = left.min((4096 - place % 4096) / 16);
+        // A mapped page lacks nothing that this access asks for.
+        let _ = store.store_tags_in_page(place, run as usize, tag, zero, &access);
+        place = (place + 16 * run) % ADDRESSES;
+        left -= run;
+    }
+}
+
+/// Replaces the tags of granules, or tells the first that fails.
+#[tactic(auto, unfolding(crate::specs::Accesses::tags_fault))]
+#[inline]
+fn store_granule_tags<S: PageStore>(
+    store: &mut S,
+    addr: u64,
+    count: u64,
+    tag: u8,
+    zero: bool,
+) -> Result<(), MemFault>
+    requires { tag < 16 }
+    ensures answer { result ≡ outcome (tags_fault (S.content store.old) addr count) }
+    ensures memory { S.content store.new
+        ≡ (if is_ok result
+        then with_granules (S.content store.old) (plain addr) count tag zero
+        else S.content store.old) }
+    ensures kept { S.rest_kept store.old store.new }
+{
+    let access = Access::writing(addr, false);
+    let at = plain(addr);
+    if addr % 16 != 0 {
+        return Err(access.fault(FaultKind::Alignment, at, 0));
+    }
+    if count > 0 && count <= (4096 - at % 4096) / 16 {
+        return store.store_tags_in_page(at, count as usize, tag, zero, &access);
+    }
+    check_granules(store, at, count, &access)?;
+    tag_granules(store, at, count, tag, zero);
+    Ok(())
+}
+
+impl<S: PageStore> Tagged for S {
+    ghost memory = { λ s. S.content s };
+
+    ghost kept = { λ a b. S.rest_kept a b };
+
+    #[inline(always)]
+    fn fetch(&mut self, pc: u64) -> Result<u32, MemFault> {
+        fetch_word(self, pc)
+    }
+
+    #[inline(always)]
+    fn read(&mut self, addr: u64, buffer: &mut [u8], check: bool) -> Result<(), MemFault> {
+        read_at(self, addr, buffer, check)
+    }
+
+    #[inline(always)]
+    fn write(&mut self, addr: u64, bytes: &[u8], check: bool) -> Result<(), MemFault> {
+        write_at(self, addr, bytes, check)
+    }
+
+    #[inline]
+    fn load_tag(&mut self, addr: u64) -> Result<u8, MemFault> {
+        load_granule_tag(self, addr)
+    }
+
+    #[inline]
+    fn store_tags(
+        &mut self,
+        addr: u64,
+        granules: u64,
+        tag: u8,
+        zero: bool,
+    ) -> Result<(), MemFault> {
+        store_granule_tags(self, addr, granules, tag, zero)
+    }
+
+    ghost kept_same = { λ a. S.rest_kept_same a };
+
+    ghost kept_on = { λ a b c p q. S.rest_kept_on a b c p q };
+}
