@@ -33,9 +33,9 @@ fn check_bytes<S: PageStore>(
     access: &Access,
 ) -> Result<(), MemFault>
     requires { at < 2 ^ 56 }
-    ensures answer { result ≡ outcome (first_fault (S.content store.old) access.now (addresses at count)) }
-    ensures memory { S.content store.new ≡ S.content store.old }
-    ensures kept { S.rest_kept store.old store.new }
+    ensures answer { result ≡ outcome (first_fault (S.memory store.old) access.now (addresses at count)) }
+    ensures memory { S.memory store.new ≡ S.memory store.old }
+    ensures kept { S.kept store.old store.new }
 {
     let mut place = at;
     let mut left = count;
@@ -53,10 +53,10 @@ fn check_bytes<S: PageStore>(
 /// Copies bytes of mapped pages out.
 fn copy_out<S: PageStore>(store: &mut S, at: u64, buffer: &mut [u8])
     requires plain { at < 2 ^ 56 }
-    requires mapped { AreMapped (S.content store.old) (addresses at (length buffer.old)) }
-    ensures bytes { buffer.new ≡ bytes_at (S.content store.old) (addresses at (length buffer.old)) }
-    ensures memory { S.content store.new ≡ S.content store.old }
-    ensures kept { S.rest_kept store.old store.new }
+    requires mapped { AreMapped (S.memory store.old) (addresses at (length buffer.old)) }
+    ensures bytes { buffer.new ≡ bytes_at (S.memory store.old) (addresses at (length buffer.old)) }
+    ensures memory { S.memory store.new ≡ S.memory store.old }
+    ensures kept { S.kept store.old store.new }
 {
     let access = Access::mapped();
     let mut place = at;
@@ -74,10 +74,10 @@ fn copy_out<S: PageStore>(store: &mut S, at: u64, buffer: &mut [u8])
 /// and tags. A memory made of pages loads bytes by it.
 pub fn replace_bytes<S: PageStore>(store: &mut S, at: u64, bytes: &[u8])
     requires plain { at < 2 ^ 56 }
-    requires mapped { AreMapped (S.content store.old) (addresses at (length bytes.now)) }
-    ensures memory { S.content store.new
-        ≡ with_bytes (S.content store.old) (addresses at (length bytes.now)) bytes.now }
-    ensures kept { S.rest_kept store.old store.new }
+    requires mapped { AreMapped (S.memory store.old) (addresses at (length bytes.now)) }
+    ensures memory { S.memory store.new
+        ≡ with_bytes (S.memory store.old) (addresses at (length bytes.now)) bytes.now }
+    ensures kept { S.kept store.old store.new }
 {
     let access = Access::mapped();
     let mut place = at;
@@ -103,13 +103,13 @@ fn read_across_pages<S: PageStore>(
     requires plain { at < 2 ^ 56 }
     ensures answer { result
         ≡ outcome
-        (first_fault (S.content store.old) access.now (addresses at (length buffer.old))) }
+        (first_fault (S.memory store.old) access.now (addresses at (length buffer.old))) }
     ensures bytes { buffer.new
         ≡ (if is_ok result
-        then bytes_at (S.content store.old) (addresses at (length buffer.old))
+        then bytes_at (S.memory store.old) (addresses at (length buffer.old))
         else buffer.old) }
-    ensures memory { S.content store.new ≡ S.content store.old }
-    ensures kept { S.rest_kept store.old store.new }
+    ensures memory { S.memory store.new ≡ S.memory store.old }
+    ensures kept { S.kept store.old store.new }
 {
     check_bytes(store, at, buffer.len(), access)?;
     copy_out(store, at, buffer);
@@ -128,13 +128,13 @@ fn read_slowly<S: PageStore>(
     requires plain { at < 2 ^ 56 }
     ensures answer { result
         ≡ outcome
-        (first_fault (S.content store.old) access.now (addresses at (length buffer.old))) }
+        (first_fault (S.memory store.old) access.now (addresses at (length buffer.old))) }
     ensures bytes { buffer.new
         ≡ (if is_ok result
-        then bytes_at (S.content store.old) (addresses at (length buffer.old))
+        then bytes_at (S.memory store.old) (addresses at (length buffer.old))
         else buffer.old) }
-    ensures memory { S.content store.new ≡ S.content store.old }
-    ensures kept { S.rest_kept store.old store.new }
+    ensures memory { S.memory store.new ≡ S.memory store.old }
+    ensures kept { S.kept store.old store.new }
 {
     let own = *access;
     by_fields(read_across_pages(store, at, buffer, &own))
@@ -149,13 +149,13 @@ fn read_at<S: PageStore>(
     buffer: &mut [u8],
     checked: bool,
 ) -> Result<(), MemFault>
-    ensures answer { result ≡ outcome (read_fault (S.content store.old) addr (length buffer.old) checked) }
+    ensures answer { result ≡ outcome (read_fault (S.memory store.old) addr (length buffer.old) checked) }
     ensures bytes { buffer.new
         ≡ (if is_ok result
-        then read_bytes (S.content store.old) addr (length buffer.old)
+        then read_bytes (S.memory store.old) addr (length buffer.old)
         else buffer.old) }
-    ensures memory { S.content store.new ≡ S.content store.old }
-    ensures kept { S.rest_kept store.old store.new }
+    ensures memory { S.memory store.new ≡ S.memory store.old }
+    ensures kept { S.kept store.old store.new }
 {
     let access = Access::reading(addr, checked);
     let at = plain(addr);
@@ -177,12 +177,12 @@ fn write_across_pages<S: PageStore>(
     requires plain { at < 2 ^ 56 }
     ensures answer { result
         ≡ outcome
-        (first_fault (S.content store.old) access.now (addresses at (length bytes.now))) }
-    ensures memory { S.content store.new
+        (first_fault (S.memory store.old) access.now (addresses at (length bytes.now))) }
+    ensures memory { S.memory store.new
         ≡ (if is_ok result
-        then with_bytes (S.content store.old) (addresses at (length bytes.now)) bytes.now
-        else S.content store.old) }
-    ensures kept { S.rest_kept store.old store.new }
+        then with_bytes (S.memory store.old) (addresses at (length bytes.now)) bytes.now
+        else S.memory store.old) }
+    ensures kept { S.kept store.old store.new }
 {
     check_bytes(store, at, bytes.len(), access)?;
     replace_bytes(store, at, bytes);
@@ -201,12 +201,12 @@ fn write_slowly<S: PageStore>(
     requires plain { at < 2 ^ 56 }
     ensures answer { result
         ≡ outcome
-        (first_fault (S.content store.old) access.now (addresses at (length bytes.now))) }
-    ensures memory { S.content store.new
+        (first_fault (S.memory store.old) access.now (addresses at (length bytes.now))) }
+    ensures memory { S.memory store.new
         ≡ (if is_ok result
-        then with_bytes (S.content store.old) (addresses at (length bytes.now)) bytes.now
-        else S.content store.old) }
-    ensures kept { S.rest_kept store.old store.new }
+        then with_bytes (S.memory store.old) (addresses at (length bytes.now)) bytes.now
+        else S.memory store.old) }
+    ensures kept { S.kept store.old store.new }
 {
     let own = *access;
     by_fields(write_across_pages(store, at, bytes, &own))
@@ -221,12 +221,12 @@ fn write_at<S: PageStore>(
     bytes: &[u8],
     checked: bool,
 ) -> Result<(), MemFault>
-    ensures answer { result ≡ outcome (write_fault (S.content store.old) addr (length bytes.now) checked) }
-    ensures memory { S.content store.new
+    ensures answer { result ≡ outcome (write_fault (S.memory store.old) addr (length bytes.now) checked) }
+    ensures memory { S.memory store.new
         ≡ (if is_ok result
-        then written (S.content store.old) addr bytes.now
-        else S.content store.old) }
-    ensures kept { S.rest_kept store.old store.new }
+        then written (S.memory store.old) addr bytes.now
+        else S.memory store.old) }
+    ensures kept { S.kept store.old store.new }
 {
     let access = Access::writing(addr, checked);
     let at = plain(addr);
@@ -239,9 +239,9 @@ fn write_at<S: PageStore>(
 /// The instruction word at an address; one page holds an aligned word.
 #[inline(always)]
 fn fetch_word<S: PageStore>(store: &mut S, pc: u64) -> Result<u32, MemFault>
-    ensures answer { result ≡ fetched (S.content store.old) pc }
-    ensures memory { S.content store.new ≡ S.content store.old }
-    ensures kept { S.rest_kept store.old store.new }
+    ensures answer { result ≡ fetched (S.memory store.old) pc }
+    ensures memory { S.memory store.new ≡ S.memory store.old }
+    ensures kept { S.kept store.old store.new }
 {
     if pc % 4 != 0 {
         return Err(unaligned_fetch(pc));
@@ -263,10 +263,10 @@ fn unaligned_fetch(pc: u64) -> MemFault
 fn load_granule_tag<S: PageStore>(store: &mut S, addr: u64) -> Result<u8, MemFault>
     ensures small { IfOk result (λ t. t < 16) }
     ensures answer { result
-        ≡ loaded (tag_load_fault (S.content store.old) addr)
-        (tag_at (S.content store.old) (plain addr)) }
-    ensures memory { S.content store.new ≡ S.content store.old }
-    ensures kept { S.rest_kept store.old store.new }
+        ≡ loaded (tag_load_fault (S.memory store.old) addr)
+        (tag_at (S.memory store.old) (plain addr)) }
+    ensures memory { S.memory store.new ≡ S.memory store.old }
+    ensures kept { S.kept store.old store.new }
 {
     let access = Access::reading(addr, false);
     store.granule_tag(plain(addr) / 16 * 16, &access)
@@ -282,9 +282,9 @@ fn check_granules<S: PageStore>(
     requires plain { at < 2 ^ 56 }
     requires aligned { at % 16 ≡ 0 }
     requires unchecked { access.now.checked ≡ false }
-    ensures answer { result ≡ outcome (first_fault (S.content store.old) access.now (granules at count)) }
-    ensures memory { S.content store.new ≡ S.content store.old }
-    ensures kept { S.rest_kept store.old store.new }
+    ensures answer { result ≡ outcome (first_fault (S.memory store.old) access.now (granules at count)) }
+    ensures memory { S.memory store.new ≡ S.memory store.old }
+    ensures kept { S.kept store.old store.new }
 {
     let mut place = at;
     let mut left = count;
@@ -304,9 +304,9 @@ fn tag_granules<S: PageStore>(store: &mut S, at: u64, count: u64, tag: u8, zero:
     requires plain { at < 2 ^ 56 }
     requires aligned { at % 16 ≡ 0 }
     requires tag { tag < 16 }
-    requires mapped { AreMapped (S.content store.old) (granules at count) }
-    ensures memory { S.content store.new ≡ with_granules (S.content store.old) at count tag zero }
-    ensures kept { S.rest_kept store.old store.new }
+    requires mapped { AreMapped (S.memory store.old) (granules at count) }
+    ensures memory { S.memory store.new ≡ with_granules (S.memory store.old) at count tag zero }
+    ensures kept { S.kept store.old store.new }
 {
     let access = Access::mapped();
     let mut place = at;
@@ -331,12 +331,12 @@ fn store_granule_tags<S: PageStore>(
     zero: bool,
 ) -> Result<(), MemFault>
     requires { tag < 16 }
-    ensures answer { result ≡ outcome (tags_fault (S.content store.old) addr count) }
-    ensures memory { S.content store.new
+    ensures answer { result ≡ outcome (tags_fault (S.memory store.old) addr count) }
+    ensures memory { S.memory store.new
         ≡ (if is_ok result
-        then with_granules (S.content store.old) (plain addr) count tag zero
-        else S.content store.old) }
-    ensures kept { S.rest_kept store.old store.new }
+        then with_granules (S.memory store.old) (plain addr) count tag zero
+        else S.memory store.old) }
+    ensures kept { S.kept store.old store.new }
 {
     let access = Access::writing(addr, false);
     let at = plain(addr);
@@ -352,9 +352,9 @@ fn store_granule_tags<S: PageStore>(
 }
 
 impl<S: PageStore> Tagged for S {
-    ghost memory = { λ s. S.content s };
+    ghost memory = { λ s. S.memory s };
 
-    ghost kept = { λ a b. S.rest_kept a b };
+    ghost kept = { λ a b. S.kept a b };
 
     #[inline(always)]
     fn fetch(&mut self, pc: u64) -> Result<u32, MemFault> {
@@ -387,7 +387,7 @@ impl<S: PageStore> Tagged for S {
         store_granule_tags(self, addr, granules, tag, zero)
     }
 
-    ghost kept_same = { λ a. S.rest_kept_same a };
+    ghost kept_same = { λ a. S.kept_same a };
 
-    ghost kept_on = { λ a b c p q. S.rest_kept_on a b c p q };
+    ghost kept_on = { λ a b c p q. S.kept_on a b c p q };
 }

@@ -325,9 +325,9 @@ fn retag_slots(
 impl PageStore for Flat {
     ghost use Rattle.std.specs.Prelude.{⊤};
 
-    ghost content = { λ f. f };
+    ghost memory = { λ f. f };
 
-    ghost rest_kept = { λ _ _. ⊤ };
+    ghost kept = { λ _ _. ⊤ };
 
     #[inline]
     fn run_fault(&mut self, at: u64, count: usize, access: &Access) -> Option<MemFault> {
@@ -387,9 +387,9 @@ impl PageStore for Flat {
         )
     }
 
-    ghost rest_kept_same = { λ _. tt };
+    ghost kept_same = { λ _. tt };
 
-    ghost rest_kept_on = { λ _ _ _ _ _. tt };
+    ghost kept_on = { λ _ _ _ _ _. tt };
 }
 
 /// Adds pages of zero bytes and tag 0.

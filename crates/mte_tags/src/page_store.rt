@@ -15,26 +15,26 @@ use crate::fault::MemFault;
 /// any bytes, and may leave them to the others.
 pub trait PageStore {
     /// What it holds, however it is kept.
-    ghost content: { Self → Memory };
+    ghost memory: { Self → Memory };
 
     /// What every call leaves of all that is not the memory.
-    ghost rest_kept: { Self → Self → Type 0 };
+    ghost kept: { Self → Self → Type 0 };
 
     /// How the first byte of a run fails that does.
     fn run_fault(&mut self, at: u64, count: usize, access: &Access) -> Option<MemFault>
         requires some { 0 < count }
         requires inside { at % 4096 + count ≤ 4096 }
         requires plain { at < 2 ^ 56 }
-        ensures answer { result ≡ first_fault (content self.old) access.now (addresses at count) }
-        ensures memory { content self.new ≡ content self.old }
-        ensures kept { rest_kept self.old self.new };
+        ensures answer { result ≡ first_fault (memory self.old) access.now (addresses at count) }
+        ensures memory { memory self.new ≡ memory self.old }
+        ensures kept { kept self.old self.new };
 
     /// The instruction word at an aligned address, which one page holds, or how its fetch fails.
     fn fetch_aligned(&mut self, pc: u64) -> Result<u32, MemFault>
         requires aligned { pc % 4 ≡ 0 }
-        ensures answer { result ≡ fetched (content self.old) pc }
-        ensures memory { content self.new ≡ content self.old }
-        ensures kept { rest_kept self.old self.new };
+        ensures answer { result ≡ fetched (memory self.old) pc }
+        ensures memory { memory self.new ≡ memory self.old }
+        ensures kept { kept self.old self.new };
 
     /// Copies a run of bytes out, or tells the first that fails.
     fn read_in_page(&mut self, at: u64, buffer: &mut [u8], access: &Access) -> Result<(), MemFault>
@@ -43,27 +43,27 @@ pub trait PageStore {
         requires plain { at < 2 ^ 56 }
         ensures answer { result
             ≡ outcome
-            (first_fault (content self.old) access.now (addresses at (length buffer.old))) }
+            (first_fault (memory self.old) access.now (addresses at (length buffer.old))) }
         ensures bytes { buffer.new
             ≡ (if is_ok result
-            then bytes_at (content self.old) (addresses at (length buffer.old))
+            then bytes_at (memory self.old) (addresses at (length buffer.old))
             else buffer.old) }
-        ensures memory { content self.new ≡ content self.old }
-        ensures kept { rest_kept self.old self.new };
+        ensures memory { memory self.new ≡ memory self.old }
+        ensures kept { kept self.old self.new };
 
     /// Copies bytes out where that is quick, and answers whether it did. `false` changes nothing,
     /// and does not say that an access fails.
     fn try_read(&mut self, at: u64, buffer: &mut [u8], access: &Access) -> bool
         requires { at < 2 ^ 56 }
         ensures passed { IsTrue result
-            → first_fault (content self.old) access.now (addresses at (length buffer.old))
+            → first_fault (memory self.old) access.now (addresses at (length buffer.old))
             ≡ None }
         ensures bytes { buffer.new
             ≡ (if result
-            then bytes_at (content self.old) (addresses at (length buffer.old))
+            then bytes_at (memory self.old) (addresses at (length buffer.old))
             else buffer.old) }
-        ensures memory { content self.new ≡ content self.old }
-        ensures kept { rest_kept self.old self.new };
+        ensures memory { memory self.new ≡ memory self.old }
+        ensures kept { kept self.old self.new };
 
     /// Copies a run of bytes in, or tells the first that fails.
     fn write_in_page(&mut self, at: u64, bytes: &[u8], access: &Access) -> Result<(), MemFault>
@@ -72,34 +72,34 @@ pub trait PageStore {
         requires plain { at < 2 ^ 56 }
         ensures answer { result
             ≡ outcome
-            (first_fault (content self.old) access.now (addresses at (length bytes.now))) }
-        ensures memory { content self.new
+            (first_fault (memory self.old) access.now (addresses at (length bytes.now))) }
+        ensures memory { memory self.new
             ≡ (if is_ok result
-            then with_bytes (content self.old) (addresses at (length bytes.now)) bytes.now
-            else content self.old) }
-        ensures kept { rest_kept self.old self.new };
+            then with_bytes (memory self.old) (addresses at (length bytes.now)) bytes.now
+            else memory self.old) }
+        ensures kept { kept self.old self.new };
 
     /// Copies bytes in where that is quick, and answers whether it did. `false` changes nothing,
     /// and does not say that an access fails.
     fn try_write(&mut self, at: u64, bytes: &[u8], access: &Access) -> bool
         requires { at < 2 ^ 56 }
         ensures passed { IsTrue result
-            → first_fault (content self.old) access.now (addresses at (length bytes.now)) ≡ None }
-        ensures memory { content self.new
+            → first_fault (memory self.old) access.now (addresses at (length bytes.now)) ≡ None }
+        ensures memory { memory self.new
             ≡ (if result
-            then with_bytes (content self.old) (addresses at (length bytes.now)) bytes.now
-            else content self.old) }
-        ensures kept { rest_kept self.old self.new };
+            then with_bytes (memory self.old) (addresses at (length bytes.now)) bytes.now
+            else memory self.old) }
+        ensures kept { kept self.old self.new };
 
     /// The tag of the granule at an address, or how the byte there fails.
     fn granule_tag(&mut self, at: u64, access: &Access) -> Result<u8, MemFault>
         requires { at < 2 ^ 56 }
         ensures small { IfOk result (λ t. t < 16) }
         ensures answer { result
-            ≡ loaded (byte_fault (content self.old) access.now at)
-            (tag_at (content self.old) at) }
-        ensures memory { content self.new ≡ content self.old }
-        ensures kept { rest_kept self.old self.new };
+            ≡ loaded (byte_fault (memory self.old) access.now at)
+            (tag_at (memory self.old) at) }
+        ensures memory { memory self.new ≡ memory self.old }
+        ensures kept { kept self.old self.new };
 
     /// Replaces the tags of a run of granules, and makes their bytes zero where `zero` asks for it,
     /// or tells the first granule that fails. The access is not tag checked.
@@ -117,14 +117,14 @@ pub trait PageStore {
         requires plain { at < 2 ^ 56 }
         requires tag { tag < 16 }
         requires unchecked { access.now.checked ≡ false }
-        ensures answer { result ≡ outcome (first_fault (content self.old) access.now (granules at count)) }
-        ensures memory { content self.new
+        ensures answer { result ≡ outcome (first_fault (memory self.old) access.now (granules at count)) }
+        ensures memory { memory self.new
             ≡ (if is_ok result
-            then with_granules (content self.old) at count tag zero
-            else content self.old) }
-        ensures kept { rest_kept self.old self.new };
+            then with_granules (memory self.old) at count tag zero
+            else memory self.old) }
+        ensures kept { kept self.old self.new };
 
-    ghost rest_kept_same: { (a : Self) → rest_kept a a };
+    ghost kept_same: { (a : Self) → kept a a };
 
-    ghost rest_kept_on: { (a b c : Self) → rest_kept a b → rest_kept b c → rest_kept a c };
+    ghost kept_on: { (a b c : Self) → kept a b → kept b c → kept a c };
 }

@@ -5,7 +5,7 @@ use Rattle.mte_tags.proofs.by_page.check_bytes.Goals as goal
 
 pub returns-in-Some-clause-answer : goal.returns-in-Some-clause-answer
 returns-in-Some-clause-answer g c =
-    let m = g.S.PageStore.content c.args.store.now in
+    let m = g.S.PageStore.memory c.args.store.now in
     let x = c.args.access.now in
     let n = c.min-run.result in
     let e = first_fault_run m x c.loop-left.place n c.loop-left.left c.loop-left.invariant.plain (omega (arith, c.min-run.ensures)) in
@@ -14,7 +14,7 @@ returns-in-Some-clause-answer g c =
 
 pub loop-left-preserved : goal.loop-left-preserved
 loop-left-preserved g c =
-    let m = g.S.PageStore.content c.args.store.now in
+    let m = g.S.PageStore.memory c.args.store.now in
     let x = c.args.access.now in
     let n = c.min-run.result in
     let e = first_fault_run m x c.loop-left.place n c.loop-left.left c.loop-left.invariant.plain (omega (arith, c.min-run.ensures)) in
@@ -22,7 +22,7 @@ loop-left-preserved g c =
     record {
       plain = omega arith;
       same = c.run_fault.ensures.memory ∙ c.loop-left.invariant.same;
-      kept = g.met.S.PageStore.rest_kept_on _ _ _ c.loop-left.invariant.kept c.run_fault.ensures.kept;
+      kept = g.met.S.PageStore.kept_on _ _ _ c.loop-left.invariant.kept c.run_fault.ensures.kept;
       rest = c.loop-left.invariant.rest ∙ e ∙ ap (λ f. or_else f (first_fault m x (addresses ((c.loop-left.place + n) % 2 ^ 56) (c.loop-left.left - n)))) (sym r);
     }
 
@@ -30,4 +30,4 @@ pub returns-clause-answer : goal.returns-clause-answer
 unfolding first_fault addresses
 returns-clause-answer g c =
     let e : c.loop-left.left ≡ 0 = omega arith in
-    sym (ap outcome (c.loop-left.invariant.rest ∙ ap (λ k. first_fault (g.S.PageStore.content c.args.store.now) c.args.access.now (addresses c.loop-left.place k)) e))
+    sym (ap outcome (c.loop-left.invariant.rest ∙ ap (λ k. first_fault (g.S.PageStore.memory c.args.store.now) c.args.access.now (addresses c.loop-left.place k)) e))

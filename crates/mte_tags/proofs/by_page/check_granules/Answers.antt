@@ -5,7 +5,7 @@ use Rattle.mte_tags.proofs.by_page.check_granules.Goals as goal
 
 pub returns-in-Some-clause-answer : goal.returns-in-Some-clause-answer
 returns-in-Some-clause-answer g c =
-    let m = g.S.PageStore.content c.args.store.now in
+    let m = g.S.PageStore.memory c.args.store.now in
     let x = c.args.access.now in
     let n = c.min-run.result in
     let place = c.loop-left.place in
@@ -18,7 +18,7 @@ returns-in-Some-clause-answer g c =
 
 pub loop-left-preserved : goal.loop-left-preserved
 loop-left-preserved g c =
-    let m = g.S.PageStore.content c.args.store.now in
+    let m = g.S.PageStore.memory c.args.store.now in
     let x = c.args.access.now in
     let n = c.min-run.result in
     let place = c.loop-left.place in
@@ -31,7 +31,7 @@ loop-left-preserved g c =
       plain = omega arith;
       aligned = omega arith;
       same = c.run_fault.ensures.memory ∙ c.loop-left.invariant.same;
-      kept = g.met.S.PageStore.rest_kept_on _ _ _ c.loop-left.invariant.kept c.run_fault.ensures.kept;
+      kept = g.met.S.PageStore.kept_on _ _ _ c.loop-left.invariant.kept c.run_fault.ensures.kept;
       rest = c.loop-left.invariant.rest ∙ e ∙ ap (λ f. or_else f (first_fault m x (granules ((place + 16 * n) % 2 ^ 56) (c.loop-left.left - n)))) (sym r);
     }
 
@@ -39,4 +39,4 @@ pub returns-clause-answer : goal.returns-clause-answer
 unfolding first_fault granules
 returns-clause-answer g c =
     let e : c.loop-left.left ≡ 0 = omega arith in
-    sym (ap outcome (c.loop-left.invariant.rest ∙ ap (λ k. first_fault (g.S.PageStore.content c.args.store.now) c.args.access.now (granules c.loop-left.place k)) e))
+    sym (ap outcome (c.loop-left.invariant.rest ∙ ap (λ k. first_fault (g.S.PageStore.memory c.args.store.now) c.args.access.now (granules c.loop-left.place k)) e))

@@ -6,9 +6,9 @@ abbrev pub invariant-loop-left : goal.invariant-loop-left
 invariant-loop-left g l = record {
   plain : l.place < 2 ^ 56;
   aligned : l.place % 16 ≡ 0;
-  same : g.S.PageStore.content l.store ≡ g.S.PageStore.content l.fn.store;
-  kept : g.S.PageStore.rest_kept l.fn.store l.store;
-  rest : first_fault (g.S.PageStore.content l.fn.store) l.access (granules l.at l.count) ≡ first_fault (g.S.PageStore.content l.fn.store) l.access (granules l.place l.left);
+  same : g.S.PageStore.memory l.store ≡ g.S.PageStore.memory l.fn.store;
+  kept : g.S.PageStore.kept l.fn.store l.store;
+  rest : first_fault (g.S.PageStore.memory l.fn.store) l.access (granules l.at l.count) ≡ first_fault (g.S.PageStore.memory l.fn.store) l.access (granules l.place l.left);
 }
 
 abbrev pub decreases-loop-left : goal.decreases-loop-left

@@ -8,7 +8,7 @@ use Rattle.mte_tags.proofs.by_page.copy_out.Goals as goal
 
 pub loop-done-preserved : goal.loop-done-preserved
 loop-done-preserved g c =
-    let m = g.S.PageStore.content c.args.store.now in
+    let m = g.S.PageStore.memory c.args.store.now in
     let n = c.min-run.result in
     let place = c.loop-done.place in
     let total = length c.args.buffer.now in
@@ -26,7 +26,7 @@ loop-done-preserved g c =
       plain = omega arith;
       within = within;
       same = c.read_in_page.ensures.memory ∙ same;
-      kept = g.met.S.PageStore.rest_kept_on _ _ _ c.loop-done.invariant.kept c.read_in_page.ensures.kept;
+      kept = g.met.S.PageStore.kept_on _ _ _ c.loop-done.invariant.kept c.read_in_page.ensures.kept;
       mapped = subst (λ k. AreMapped m (addresses ((place + n) % 2 ^ 56) k)) t both.1;
       bytes = copied_out m c.loop-done.buffer c.read_in_page.new.buffer c.loop-done.done n total place c.loop-done.invariant.plain within c.loop-done.auto.buffer long piece ∙ c.loop-done.invariant.bytes;
     }
@@ -34,7 +34,7 @@ loop-done-preserved g c =
 pub returns-clause-bytes : goal.returns-clause-bytes
 unfolding bytes_at addresses
 returns-clause-bytes g c =
-    let m = g.S.PageStore.content c.args.store.now in
+    let m = g.S.PageStore.memory c.args.store.now in
     let e : length c.args.buffer.now - c.loop-done.done ≡ 0 = omega (arith, c.loop-done.auto.buffer) in
     let whole : length c.loop-done.buffer ≤ c.loop-done.done = omega arith in
     sym (append-nil _ ∙ take_all c.loop-done.done c.loop-done.buffer whole)

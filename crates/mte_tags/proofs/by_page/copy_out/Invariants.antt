@@ -6,10 +6,10 @@ abbrev pub invariant-loop-done : goal.invariant-loop-done
 invariant-loop-done g l = record {
   plain : l.place < 2 ^ 56;
   within : l.done ≤ length l.initial.buffer;
-  same : g.S.PageStore.content l.store ≡ g.S.PageStore.content l.fn.store;
-  kept : g.S.PageStore.rest_kept l.fn.store l.store;
-  mapped : AreMapped (g.S.PageStore.content l.fn.store) (addresses l.place (length l.initial.buffer - l.done));
-  bytes : take l.done l.buffer ++ bytes_at (g.S.PageStore.content l.fn.store) (addresses l.place (length l.initial.buffer - l.done)) ≡ bytes_at (g.S.PageStore.content l.fn.store) (addresses l.at (length l.initial.buffer));
+  same : g.S.PageStore.memory l.store ≡ g.S.PageStore.memory l.fn.store;
+  kept : g.S.PageStore.kept l.fn.store l.store;
+  mapped : AreMapped (g.S.PageStore.memory l.fn.store) (addresses l.place (length l.initial.buffer - l.done));
+  bytes : take l.done l.buffer ++ bytes_at (g.S.PageStore.memory l.fn.store) (addresses l.place (length l.initial.buffer - l.done)) ≡ bytes_at (g.S.PageStore.memory l.fn.store) (addresses l.at (length l.initial.buffer));
 }
 
 abbrev pub decreases-loop-done : goal.decreases-loop-done

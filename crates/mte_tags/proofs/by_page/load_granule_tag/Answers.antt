@@ -8,7 +8,7 @@ use Rattle.mte_tags.proofs.by_page.load_granule_tag.Goals as goal
 pub returns-clause-answer : goal.returns-clause-answer
 unfolding tag_load_fault
 returns-clause-answer g c =
-    let m = g.S.PageStore.content c.args.store.now in
+    let m = g.S.PageStore.memory c.args.store.now in
     c.granule_tag.ensures.answer
     ∙ ap (λ x. loaded (byte_fault m x (c.plain.result / 16 * 16)) (tag_at m (c.plain.result / 16 * 16))) c.reading-access.ensures
     ∙ ap (λ a. loaded (byte_fault m (read_access c.args.addr false) (a / 16 * 16)) (tag_at m (a / 16 * 16))) c.plain.ensures

@@ -7,7 +7,7 @@ use Rattle.mte_tags.proofs.by_page.replace_bytes.Goals as goal
 
 pub loop-done-preserved : goal.loop-done-preserved
 loop-done-preserved g c =
-    let m = g.S.PageStore.content c.loop-done.store in
+    let m = g.S.PageStore.memory c.loop-done.store in
     let n = c.min-run.result in
     let place = c.loop-done.place in
     let total = length c.args.bytes.now in
@@ -18,12 +18,12 @@ loop-done-preserved g c =
     let long : length piece ≡ n = length_range c.args.bytes.now c.loop-done.done n within in
     let there = subst (λ k. AreMapped m (addresses place k)) (sym long) both.0 in
     let fine : c.write_in_page.result ≡ Ok tt = c.write_in_page.ensures.answer ∙ ap outcome (no_fault_where_mapped _ _ _ c.mapped-access.ensures there) in
-    let new : g.S.PageStore.content c.write_in_page.new.self ≡ with_bytes m (addresses place n) piece =
+    let new : g.S.PageStore.memory c.write_in_page.new.self ≡ with_bytes m (addresses place n) piece =
     c.write_in_page.ensures.memory ∙ cond-true _ _ _ (ap is_ok fine) ∙ ap (λ k. with_bytes m (addresses place k) piece) long in
     record {
       plain = omega arith;
       within = within;
-      kept = g.met.S.PageStore.rest_kept_on _ _ _ c.loop-done.invariant.kept c.write_in_page.ensures.kept;
+      kept = g.met.S.PageStore.kept_on _ _ _ c.loop-done.invariant.kept c.write_in_page.ensures.kept;
       mapped =
           subst (λ k. AreMapped k (addresses ((place + n) % 2 ^ 56) (total - (c.loop-done.done + n)))) (sym new)
           (AreMapped-with_bytes m (addresses place n) _ piece (subst (λ k. AreMapped m (addresses ((place + n) % 2 ^ 56) k)) t both.1));
@@ -34,5 +34,5 @@ pub returns-clause-memory : goal.returns-clause-memory
 unfolding addresses with_bytes
 returns-clause-memory g c =
     let e : length c.args.bytes.now - c.loop-done.done ≡ 0 = omega arith in
-    ap (λ k. with_bytes (g.S.PageStore.content c.loop-done.store) (addresses c.loop-done.place k) (drop c.loop-done.done c.args.bytes.now)) (sym e)
+    ap (λ k. with_bytes (g.S.PageStore.memory c.loop-done.store) (addresses c.loop-done.place k) (drop c.loop-done.done c.args.bytes.now)) (sym e)
     ∙ c.loop-done.invariant.bytes

@@ -7,9 +7,9 @@ abbrev pub invariant-loop-left : goal.invariant-loop-left
 invariant-loop-left g l = record {
   plain : l.place < 2 ^ 56;
   aligned : l.place % 16 ≡ 0;
-  kept : g.S.PageStore.rest_kept l.fn.store l.store;
-  mapped : AreMapped (g.S.PageStore.content l.store) (granules l.place l.left);
-  tags : with_granules (g.S.PageStore.content l.store) l.place l.left l.tag l.zero ≡ with_granules (g.S.PageStore.content l.fn.store) l.at l.count l.tag l.zero;
+  kept : g.S.PageStore.kept l.fn.store l.store;
+  mapped : AreMapped (g.S.PageStore.memory l.store) (granules l.place l.left);
+  tags : with_granules (g.S.PageStore.memory l.store) l.place l.left l.tag l.zero ≡ with_granules (g.S.PageStore.memory l.fn.store) l.at l.count l.tag l.zero;
 }
 
 abbrev pub decreases-loop-left : goal.decreases-loop-left
