@@ -21,6 +21,3 @@ pub use generator::Rgsr;
 pub use page_store::PageStore;
 pub use tagged::{NoQuota, Paged, Tagged};
 pub use tags::{choose_non_excluded, tag_of, with_tag};
-
-#[cfg(test)]
-mod tests;

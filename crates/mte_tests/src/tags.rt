@@ -1,0 +1,221 @@
+//! Worked values of the architecture's rules, and one call of each public function.
+
+ghost use Rattle.std.specs.Prelude.{◌≡◌, ◌+◌, ◌<◌, None};
+
+use mte_tags::{
+    Attrs, FaultKind, Flat, MemFault, NoQuota, Paged, Rgsr, Tagged, choose_non_excluded, tag_of,
+    with_tag,
+};
+use std::test::Fail;
+
+fn fault(kind: FaultKind, addr: u64, write: bool, ptr_tag: u8, mem_tag: u8) -> MemFault {
+    MemFault {
+        kind,
+        addr,
+        write,
+        ptr_tag,
+        mem_tag,
+    }
+}
+
+#[test]
+fn tags_of_addresses(rt: HostRuntime) {
+    assert_eq!(rt; tag_of(0xF123_4567_89AB_CDEF), 1);
+    assert_eq!(rt; with_tag(0xFF23_4567_89AB_CDEF, 5), 0xF523_4567_89AB_CDEF);
+    for (tag, offset, exclude, want) in [
+        (0u8, 0u8, 0x0001u16, 1u8),
+        (15, 0, 0x8001, 1),
+        (3, 2, 0x0000, 5),
+        (14, 3, 0x8000, 2),
+        (7, 9, 0xFFFF, 0),
+    ] {
+        if tag < 16 && offset < 16 {
+            assert_eq!(rt;
+                choose_non_excluded(tag, offset, exclude),
+                want,
+                "from {tag} by {offset}"
+            );
+        }
+    }
+}
+
+#[test]
+fn draws(rt: HostRuntime) {
+    let mut rgsr = Rgsr { tag: 0, seed: 1 };
+    assert_eq!(rt; rgsr.draw(0x5555), 1);
+    assert_eq!(rt; rgsr.draw(0x5557), 3);
+    assert_eq!(rt; rgsr.draw(0x555D), 5);
+    assert_eq!(rt; rgsr.seed, 0x8010);
+    let mut still = Rgsr { tag: 0, seed: 0 };
+    assert_eq!(rt; still.draw(0x0001), 1);
+    assert_eq!(rt; still.draw(0x0001), 1);
+    assert_eq!(rt; still.seed, 0);
+    assert_eq!(rt; still.draw(0xFFFF), 0);
+}
+
+#[test]
+fn access_over_two_granules(rt: HostRuntime) -> Result<(), Fail> {
+    let mut memory = Flat::new(rt.alloc(), 4)?;
+    assert_eq!(rt; memory.pages_left(), 4);
+    assert_eq!(rt; memory.map_pages(0x3FFFC, 1, Attrs::DATA), Ok(()));
+    assert_eq!(rt; memory.pages_left(), 3);
+    assert_eq!(rt; memory.store_tags(0x3FFF_C000, 1, 1, false), Ok(()));
+    assert_eq!(rt; memory.load_tag(0x3FFF_C00F), Ok(1));
+    assert_eq!(rt; memory.load_tag(0x3FFF_C010), Ok(0));
+    let pointer = 0x0100_0000_3FFF_C00C;
+    let mut bytes = [7u8; 8];
+    let refused = fault(FaultKind::TagCheck, 0x3FFF_C010, false, 1, 0);
+    assert_eq!(rt; memory.read(pointer, &mut bytes, true), Err(refused));
+    assert_eq!(rt; bytes, [7; 8]);
+    let refused = fault(FaultKind::TagCheck, 0x3FFF_C010, true, 1, 0);
+    assert_eq!(rt; memory.write(pointer - 4, &[9; 16], true), Err(refused));
+    assert_eq!(rt; memory.read(pointer, &mut bytes, false), Ok(()));
+    assert_eq!(rt; bytes, [0; 8]);
+    assert_eq!(rt;
+        memory.write(pointer - 4, &[1, 2, 3, 4, 5, 6, 7, 8], true),
+        Ok(())
+    );
+    assert_eq!(rt; memory.read(pointer - 4, &mut bytes, true), Ok(()));
+    assert_eq!(rt; bytes, [1, 2, 3, 4, 5, 6, 7, 8]);
+    assert_eq!(rt; memory.store_tags(0x3FFF_C000, 2, 3, true), Ok(()));
+    assert_eq!(rt;
+        memory.read(0x0300_0000_3FFF_C008, &mut bytes, true),
+        Ok(())
+    );
+    assert_eq!(rt; bytes, [0; 8]);
+    Ok(())
+}
+
+#[test]
+fn too_many_pages(rt: HostRuntime) {
+    assert!(rt; Flat::new(rt.alloc(), 1 << 58).is_err());
+}
+
+/// More pages than the finder keeps in its table of those found last.
+#[test]
+fn many_pages(rt: HostRuntime) -> Result<(), Fail> {
+    let mut memory = Flat::new(rt.alloc(), 300)?;
+    memory.map_pages(16, 300, Attrs::DATA)?;
+    for round in 0..2u64 {
+        for i in 0..300u64 {
+            let addr = (16 + i) * 4096 + 8 * round;
+            assert_eq!(rt;
+                memory.write(addr, &(i + round).to_le_bytes(), true),
+                Ok(())
+            );
+        }
+    }
+    let mut bytes = [0u8; 8];
+    for i in 0..300u64 {
+        assert_eq!(rt; memory.read((16 + i) * 4096 + 8, &mut bytes, true), Ok(()));
+        assert_eq!(rt; u64::from_le_bytes(bytes), i + 1);
+    }
+    Ok(())
+}
+
+#[test]
+fn fetches(rt: HostRuntime) -> Result<(), Fail> {
+    let mut memory = Flat::new(rt.alloc(), 1)?;
+    assert_eq!(rt; memory.map_pages(16, 1, Attrs::TEXT), Ok(()));
+    let unaligned = fault(FaultKind::PcAlignment, 0x10001, false, 0, 0);
+    assert_eq!(rt; memory.fetch(0x10001), Err(unaligned));
+    let missing = fault(FaultKind::Translation, 0x11000, false, 0, 0);
+    assert_eq!(rt; memory.fetch(0x11000), Err(missing));
+    assert_eq!(rt; memory.fetch(0x10000), Ok(0));
+    let refused = fault(FaultKind::Permission, 0x10ffc, true, 3, 0);
+    assert_eq!(rt;
+        memory.write(0x0300_0000_0001_0ffc, &[1; 4], true),
+        Err(refused)
+    );
+    Ok(())
+}
+
+#[test]
+fn access_over_two_pages(rt: HostRuntime) -> Result<(), Fail> {
+    let mut memory = Flat::new(rt.alloc(), 2)?;
+    assert_eq!(rt; memory.map_pages(0, 1, Attrs::DATA), Ok(()));
+    assert_eq!(rt; memory.store_tags(0, 1, 5, false), Ok(()));
+    let mut bytes = [7u8; 8];
+    let top = fault(FaultKind::Translation, 0x00FF_FFFF_FFFF_FFFC, false, 5, 0);
+    assert_eq!(rt;
+        memory.read(0x05FF_FFFF_FFFF_FFFC, &mut bytes, true),
+        Err(top)
+    );
+    let next = fault(FaultKind::Translation, 0x1000, false, 0, 0);
+    assert_eq!(rt; memory.read(0xFFC, &mut bytes, true), Err(next));
+    let next = fault(FaultKind::Translation, 0x1000, true, 0, 0);
+    assert_eq!(rt; memory.write(0xFFC, &[9; 8], true), Err(next));
+    assert_eq!(rt; bytes, [7; 8]);
+    let next = fault(FaultKind::Translation, 0x1000, true, 0, 0);
+    assert_eq!(rt; memory.store_tags(0xFF0, 2, 9, true), Err(next));
+    assert_eq!(rt; memory.load_tag(0xFF0), Ok(0));
+    let unaligned = fault(FaultKind::Alignment, 0x8, true, 2, 0);
+    assert_eq!(rt;
+        memory.store_tags(0x0200_0000_0000_0008, 1, 9, true),
+        Err(unaligned)
+    );
+    Ok(())
+}
+
+#[test]
+fn access_over_pages_of_two_kinds(rt: HostRuntime) -> Result<(), Fail> {
+    let mut memory = Flat::new(rt.alloc(), 3)?;
+    memory.map_pages(16, 1, Attrs::DATA)?;
+    memory.map_pages(17, 1, Attrs::READ)?;
+    memory.map_pages(18, 1, Attrs::EXEC)?;
+    assert_eq!(rt; memory.store_tags(0x10FF0, 1, 5, false), Ok(()));
+    let pointer = 0x0500_0000_0001_0FFC;
+    let mut bytes = [7u8; 8];
+    assert_eq!(rt; memory.read(pointer, &mut bytes, true), Ok(()));
+    assert_eq!(rt; bytes, [0; 8]);
+    let refused = fault(FaultKind::Permission, 0x11000, true, 5, 0);
+    assert_eq!(rt; memory.write(pointer, &[9; 8], true), Err(refused));
+    assert_eq!(rt; memory.read(pointer, &mut bytes, true), Ok(()));
+    assert_eq!(rt; bytes, [0; 8]);
+    let refused = fault(FaultKind::Permission, 0x12000, false, 5, 0);
+    assert_eq!(rt; memory.read(pointer + 4096, &mut bytes, true), Err(refused));
+    assert_eq!(rt; memory.load_tag(0x11000), Ok(0));
+    let refused = fault(FaultKind::Permission, 0x12000, false, 0, 0);
+    assert_eq!(rt; memory.load_tag(0x12008), Err(refused));
+    Ok(())
+}
+
+#[test]
+fn loading(rt: HostRuntime) -> Result<(), Fail> {
+    let mut memory = Flat::new(rt.alloc(), 2)?;
+    memory.map_pages(16, 2, Attrs::READ)?;
+    memory.load_bytes(0x0400_0000_0001_0FFC, &[1, 2, 3, 4, 5, 6, 7, 8]);
+    let mut bytes = [0u8; 8];
+    assert_eq!(rt;
+        memory.read(0x0400_0000_0001_0FFC, &mut bytes, true),
+        Ok(())
+    );
+    assert_eq!(rt; bytes, [1, 2, 3, 4, 5, 6, 7, 8]);
+    Ok(())
+}
+
+#[test]
+fn refused_mapping(rt: HostRuntime) -> Result<(), Fail> {
+    let mut memory = Flat::new(rt.alloc(), 2)?;
+    assert_eq!(rt; memory.map_pages(16, 3, Attrs::DATA), Err(NoQuota));
+    assert_eq!(rt; memory.pages_left(), 2);
+    let missing = fault(FaultKind::Translation, 0x10000, false, 0, 0);
+    assert_eq!(rt; memory.load_tag(0x10008), Err(missing));
+    Ok(())
+}
+
+#[test]
+fn mapping_again(rt: HostRuntime) -> Result<(), Fail> {
+    let mut memory = Flat::new(rt.alloc(), 2)?;
+    memory.map_pages(16, 2, Attrs::DATA)?;
+    memory.load_bytes(0x10FFC, &[1, 2, 3, 4, 5, 6, 7, 8]);
+    memory.store_tags(0x10FF0, 2, 4, false)?;
+    memory.unmap_pages(16, 2);
+    assert_eq!(rt; memory.pages_left(), 2);
+    memory.map_pages(16, 2, Attrs::DATA)?;
+    assert_eq!(rt; memory.load_tag(0x10FF0), Ok(0));
+    let mut bytes = [7u8; 8];
+    assert_eq!(rt; memory.read(0x10FFC, &mut bytes, true), Ok(()));
+    assert_eq!(rt; bytes, [0; 8]);
+    Ok(())
+}
