@@ -1,10 +1,12 @@
--- How a frame lies in memory: a block of 4224 bytes, 4096 of data and then 128 that hold two tags each, the
--- even granule's in the low half and the odd one's in the high half.
+-- How a frame lies in memory: a block of 4224 bytes, 4096 of data and then 128 that hold two tags
+-- each, the even granule's in the low half and the odd one's in the high half.
 --     frame_of xs          the frame that the block holds
 --     frames_of cs         the blocks as frames
 --     presence cs          which blocks there are
 --     with_part xs i n ws  the block xs, with ws in the place of the n bytes from i on
-use Rattle.std.specs.Prelude.{◌≡◌, ℕ, ◌+◌, ◌/◌, ◌%◌, if◌then◌else◌, nat_eq, Bool, true, false, List, [], ◌∷◌, ◌++◌, map, length, take, drop, replicate, get_or, slice_set, Option, Some, None}
+use Rattle.std.specs.Prelude.{◌≡◌, ℕ, ◌+◌, ◌/◌, ◌%◌, if◌then◌else◌, nat_eq, Bool, true, false, List}
+use Rattle.std.specs.Prelude.{[], ◌∷◌, ◌++◌, map, length, take, drop, replicate, get_or, slice_set}
+use Rattle.std.specs.Prelude.{Option, Some, None}
 use Rattle.std.specs.List.{refill}
 use Rattle.mte_arena.specs.Frames.{Frame, make_frame, frame_at}
 
@@ -56,6 +58,10 @@ with_part xs i n ws = take i xs ++ (refill n (take n (drop i xs)) ws ++ drop (i 
 abbrev pub AreBlocks : List (Option (List ℕ)) → Type 0
 AreBlocks cs = (f : ℕ) (xs : List ℕ) → get_or cs f None ≡ Some xs → length xs ≡ 4224
 
--- the frame f has the bytes and the tags of the block ws, cut or filled up from its own, and all else is as it was
+-- the frame f has the bytes and the tags of the block ws, cut or filled up from its own, and all
+-- else is as it was
 abbrev pub with_block : List (Option Frame) → ℕ → List ℕ → List (Option Frame)
-with_block fs f ws = slice_set fs f (Some (make_frame (refill 4096 (frame_at fs f).bytes ws) (refill 256 (frame_at fs f).tags (unpacked (drop 4096 ws)))))
+with_block fs f ws =
+    let bytes = refill 4096 (frame_at fs f).bytes ws in
+    let tags = refill 256 (frame_at fs f).tags (unpacked (drop 4096 ws)) in
+    slice_set fs f (Some (make_frame bytes tags))

@@ -1,10 +1,13 @@
--- What a contract sees of an arena: a list of optional frames. A frame that is absent has no bytes and no tags.
+-- What a contract sees of an arena: a list of optional frames. A frame that is absent has no bytes
+-- and no tags.
 --     IsLive fs f       the frame f is present
 --     frame_at fs f     the frame f, where it is present
 --     zero_frame        4096 zero bytes and 256 tags 0
---     with_bytes fs f ws, retagged fs f g t      fs with other bytes in the frame f, and with another tag there
+--     with_bytes fs f ws        fs with other bytes in the frame f
+--     retagged fs f g t         fs with another tag there
 --     AreFrames fs      each frame that is present has 4096 bytes and 256 tags, each below 16
-use Rattle.std.specs.Prelude.{◌≡◌, ℕ, ◌<◌, List, length, replicate, get_or, slice_set, Option, Some, None}
+use Rattle.std.specs.Prelude.{◌≡◌, ℕ, ◌<◌, List, length, replicate, get_or, slice_set, Option, Some}
+use Rattle.std.specs.Prelude.{None}
 use Rattle.std.specs.List.{refill}
 
 -- a frame's bytes, and the allocation tags of its granules of 16 bytes
@@ -38,8 +41,10 @@ AreFrames fs = (f : ℕ) (p : Frame) → get_or fs f None ≡ Some p → IsFrame
 
 -- the frame f has the bytes ws, cut or filled up from its own to 4096, and all else is as it was
 abbrev pub with_bytes : List (Option Frame) → ℕ → List ℕ → List (Option Frame)
-with_bytes fs f ws = slice_set fs f (Some (make_frame (refill 4096 (frame_at fs f).bytes ws) (frame_at fs f).tags))
+with_bytes fs f ws =
+    slice_set fs f (Some (make_frame (refill 4096 (frame_at fs f).bytes ws) (frame_at fs f).tags))
 
 -- the granule g of the frame f has the tag t, and all else is as it was
 abbrev pub retagged : List (Option Frame) → ℕ → ℕ → ℕ → List (Option Frame)
-retagged fs f g t = slice_set fs f (Some (make_frame (frame_at fs f).bytes (slice_set (frame_at fs f).tags g t)))
+retagged fs f g t =
+    slice_set fs f (Some (make_frame (frame_at fs f).bytes (slice_set (frame_at fs f).tags g t)))

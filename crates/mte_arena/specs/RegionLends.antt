@@ -10,4 +10,8 @@ with_blocks r cs = record { mark = r.mark; start = r.start; blocks = cs }
 
 -- the n bytes from i on of the frame f end as what the borrower left there, and all else stays
 abbrev pub lends_part : MutBor Region → ℕ → ℕ → ℕ → MutBor (List ℕ) → Fml
-lends_part r f i n result = Lends the_row (Array u8 0) r result (λ ws. with_blocks r.now (slice_set r.now.blocks f (Some (with_part (block_at r.now.blocks f) i n ws))))
+lends_part r f i n result =
+    Lends the_row (Array u8 0) r result
+    (λ ws.
+    let part = with_part (block_at r.now.blocks f) i n ws in
+    with_blocks r.now (slice_set r.now.blocks f (Some part)))

@@ -1,6 +1,7 @@
 //! The arena: frames that are absent until they are scrubbed.
 
-ghost use Rattle.std.specs.Prelude.{◌≡◌, ◌↔◌, ℕ, ◌+◌, ◌<◌, ◌≤◌, List, Option, Some, None, length, replicate, get_or, slice_set, slice_index, IfOk, IsTrue};
+ghost use Rattle.std.specs.Prelude.{◌≡◌, ◌↔◌, ℕ, ◌+◌, ◌<◌, ◌≤◌, List, Option, Some, None, length};
+ghost use Rattle.std.specs.Prelude.{replicate, get_or, slice_set, slice_index, IfOk, IsTrue};
 ghost use Rattle.std.specs.Borrow.{sem};
 ghost use Rattle.mte_arena.specs.Frames.{Frame, IsLive, AreFrames, frame_at, retagged, zero_frame};
 ghost use Rattle.mte_arena.specs.Blocks.{half, unpacked, frame_of};
@@ -32,9 +33,11 @@ pub enum ArenaError {
     BadCount,
 }
 
-/// Frames of 4096 bytes with a tag for each granule of 16 bytes, in one allocation that nobody initialised.
+/// Frames of 4096 bytes with a tag for each granule of 16 bytes, in one allocation that nobody
+/// initialised.
 ///
-/// A frame is absent until `scrub` makes it present and zero. An absent frame has no bytes and no tags.
+/// A frame is absent until `scrub` makes it present and zero. An absent frame has no bytes and no
+/// tags.
 pub struct Arena {
     start: RegionStart,
     region: Region,
@@ -62,8 +65,8 @@ impl Arena {
     ghost use Rattle.mte_arena.specs.declared.arena.ArenaError.TheVariants.{OutOfMemory, BadCount};
     ghost use Rattle.std.specs.Prelude.{Err, ◌⊎◌};
 
-    /// An arena of `frames` frames, none of them present. The number is tested before any memory is taken;
-    /// `OutOfMemory` comes only where an allocation was refused.
+    /// An arena of `frames` frames, none of them present. The number is tested before any memory is
+    /// taken; `OutOfMemory` comes only where an allocation was refused.
     pub fn new(alloc: Global, frames: usize) -> Result<Arena, ArenaError>
         ensures ok { IfOk result (λ a. a ≡ replicate frames None) }
         ensures bad_count { (result ≡ Err BadCount) ↔ ((frames ≡ 0) ⊎ (MAX_FRAMES < frames)) }
@@ -131,8 +134,9 @@ impl Arena {
         self.region.part_mut(self.start, f, 0, FRAME_BYTES)
     }
 
-    /// Both planes of the frame `f`, which is present, in one lend: its 4096 bytes, and then 128 bytes with two
-    /// tags each, the even granule's in the low half. All other frames stay as they are.
+    /// Both planes of the frame `f`, which is present, in one lend: its 4096 bytes, and then 128
+    /// bytes with two tags each, the even granule's in the low half. All other frames stay as they
+    /// are.
     pub fn block_mut(&mut self, f: usize) -> &mut [u8]
         requires { IsLive self.old f }
         ensures* writes_back { sem 𝓛 (lends_block self.entry f result) }
@@ -142,8 +146,8 @@ impl Arena {
         self.region.part_mut(self.start, f, 0, BLOCK_BYTES)
     }
 
-    /// The same in two. What the arena holds after such a lend is told by no clause; `block_mut`, `data_mut`
-    /// and `set_tag` are for callers that have to know.
+    /// The same in two. What the arena holds after such a lend is told by no clause; `block_mut`,
+    /// `data_mut` and `set_tag` are for callers that have to know.
     pub fn planes_mut(&mut self, f: usize) -> (&mut [u8], &mut [u8])
         requires { IsLive self.old f }
         ensures bytes { result.0.now ≡ (frame_at self.old f).bytes }
@@ -164,8 +168,8 @@ impl Arena {
         half_of(block[FRAME_BYTES + g / 2], g)
     }
 
-    /// Sets the tag of the granule `g` of the frame `f`, which is present. The frame's bytes, its other tags
-    /// and all other frames stay as they are.
+    /// Sets the tag of the granule `g` of the frame `f`, which is present. The frame's bytes, its
+    /// other tags and all other frames stay as they are.
     pub fn set_tag(&mut self, f: usize, g: usize, tag: u8)
         requires live { IsLive self.old f }
         requires granule { g < FRAME_GRANULES }

@@ -2,7 +2,8 @@
 //!
 //! Each function here is a line or two and is proved by hand; all else is safe code over them.
 
-ghost use Rattle.std.specs.Prelude.{◌≡◌, ℕ, ◌+◌, ◌*◌, ◌^◌, ◌<◌, ◌≤◌, List, Option, Some, None, length, take, drop, replicate, get_or, slice_set, IfOk, ⊤};
+ghost use Rattle.std.specs.Prelude.{◌≡◌, ℕ, ◌+◌, ◌*◌, ◌^◌, ◌<◌, ◌≤◌, List, Option, Some, None};
+ghost use Rattle.std.specs.Prelude.{length, take, drop, replicate, get_or, slice_set, IfOk, ⊤};
 ghost use Rattle.std.specs.Borrow.{sem};
 ghost use base.Fml.{ftrue};
 ghost use denote.RawPtr.{Ptr};
@@ -66,7 +67,10 @@ pub(crate) fn allocate<A: Allocator>(
     count: usize,
 ) -> Result<(RegionStart, Region, FreeingRight<A>), AllocError>
     requires { count * STRIDE < 2 ^ 63 }
-    ensures { IfOk result (λ r. (r.1.start ≡ r.0.pointer) × (r.1.blocks ≡ replicate count None) × (r.2.start ≡ r.0.pointer) × (r.2.count ≡ count) × (r.2.alloc ≡ alloc.now)) }
+    ensures { IfOk result
+        (λ r. (r.1.start ≡ r.0.pointer)
+        × (r.1.blocks ≡ replicate count None)
+        × (r.2.start ≡ r.0.pointer) × (r.2.count ≡ count) × (r.2.alloc ≡ alloc.now)) }
 {
     match alloc.allocate(count * STRIDE, 1) {
         Ok(pointer) => Ok((
@@ -86,7 +90,9 @@ pub(crate) fn deallocate<A: Allocator>(
     region: Region,
     right: FreeingRight<A>,
 )
-    requires { (region.start ≡ start.pointer) × (length region.blocks ≡ count) × (right.start ≡ start.pointer) × (right.count ≡ count) × (right.alloc ≡ alloc.now) }
+    requires { (region.start ≡ start.pointer)
+        × (length region.blocks ≡ count)
+        × (right.start ≡ start.pointer) × (right.count ≡ count) × (right.alloc ≡ alloc.now) }
 {
     let Region { mark: _ } = region;
     let FreeingRight { mark: _ } = right;
@@ -101,7 +107,8 @@ impl Region {
     /// Fills the frame `f` with zeros, whatever was there.
     pub(crate) fn scrub(&mut self, start: RegionStart, f: usize)
         requires { (start.pointer ≡ self.old.start) × (f < length self.old.blocks) }
-        ensures { (self.new.start ≡ self.old.start) × (self.new.blocks ≡ slice_set self.old.blocks f (Some zero_block)) }
+        ensures { (self.new.start ≡ self.old.start)
+            × (self.new.blocks ≡ slice_set self.old.blocks f (Some zero_block)) }
     {
         unsafe { (start.pointer.add(f * STRIDE) as *mut [u8; STRIDE]).write([0; STRIDE]) }
     }
@@ -123,7 +130,8 @@ impl Region {
         from: usize,
         count: usize,
     ) -> &mut [u8]
-        requires { (start.pointer ≡ self.old.start) × IsPresent self.old.blocks f × (from + count ≤ 4224) }
+        requires { (start.pointer ≡ self.old.start)
+            × IsPresent self.old.blocks f × (from + count ≤ 4224) }
         ensures* writes_back { sem 𝓛 (lends_part self.entry f from count result) }
         ensures value { result.now ≡ take count (drop from (block_at self.old.blocks f)) }
         ensures len { length result.now ≡ count }

@@ -8,7 +8,7 @@ use Rattle.std.proofs.lemmas.List.Sums.{sum_by-cons}
 use Rattle.a64_bits.specs.Addresses.{plain}
 use Rattle.mte_tags.specs.Memory.{Memory, page_at, attrs_at, pages_left, with_new_pages, IsFree, new_page}
 use Rattle.mte_tags.specs.Accesses.{written, addresses, AreMapped, IsMapped}
-use Rattle.mte_tags.specs.declared.access.Attrs.{Attrs}
+use Rattle.mte_tags.specs.declared.attrs.Attrs.{Attrs}
 use Rattle.mte_tags.proofs.PageLaws.{page_at-with_new_pages_in, page_at-with_new_pages_out, pages_left-with_new_pages, pages_left-written, attrs_at-written, page_at-no_attrs}
 use Rattle.mte_elf.specs.Images.{is_in_range, first_page, last_page, page_count, share_page, any_share_page, refusal_of, pages_of, tests_of, first_refusal}
 use Rattle.mte_elf.specs.Headers.{is_loaded, segment_of, segments_of, headers_of}

@@ -1,5 +1,7 @@
--- An ELF64 file as numbers: its file header and its table of program headers (System V ABI, Object Files).
-use Rattle.std.specs.Prelude.{ℕ, zero, suc, ◌+◌, ◌==◌, nat_lt, ◌&&◌, Bool, List, [], ◌∷◌, drop, map, filter}
+-- An ELF64 file as numbers: its file header and its table of program headers (System V ABI, Object
+-- Files).
+use Rattle.std.specs.Prelude.{ℕ, zero, suc, ◌+◌, ◌==◌, nat_lt, ◌&&◌, Bool, List, [], ◌∷◌, drop, map}
+use Rattle.std.specs.Prelude.{filter}
 use Rattle.byteorder.specs.Endian.{little_number}
 use Rattle.mte_elf.specs.declared.headers.ProgramHeader.{ProgramHeader}
 use Rattle.mte_elf.specs.declared.image.Segment.{Segment}

@@ -1,10 +1,16 @@
 -- Which files are images, and what an image holds (System V ABI, Object Files and Program Loading).
-use Rattle.std.specs.Prelude.{ℕ, ◌+◌, ◌-◌, ◌*◌, ◌/◌, ◌%◌, ◌==◌, nat_lt, nat_le, ◌&&◌, ◌||◌, Bool, false, not, List, [], ◌∷◌, length, Option, Some, None, if◌then◌else◌, nat_eq, sum_by}
+use Rattle.std.specs.Prelude.{ℕ, ◌+◌, ◌-◌, ◌*◌, ◌/◌, ◌%◌, ◌==◌, nat_lt, nat_le, ◌&&◌, ◌||◌, Bool}
+use Rattle.std.specs.Prelude.{false, not, List, [], ◌∷◌, length, Option, Some, None, if◌then◌else◌}
+use Rattle.std.specs.Prelude.{nat_eq, sum_by}
 use Rattle.std.specs.List.{list_any, list_all, starts_with}
-use Rattle.mte_elf.specs.Headers.{file_type_of, machine_of, entry_of, table_offset_of, header_size_of, header_count_of, headers_of, is_interpreter, segments_of}
+use Rattle.mte_elf.specs.Headers.{file_type_of, machine_of, entry_of, table_offset_of}
+use Rattle.mte_elf.specs.Headers.{header_size_of, header_count_of, headers_of, is_interpreter}
+use Rattle.mte_elf.specs.Headers.{segments_of}
 use Rattle.mte_elf.specs.declared.image.Segment.{Segment}
 use Rattle.mte_elf.specs.declared.error.ElfError.{ElfError}
-use Rattle.mte_elf.specs.declared.error.ElfError.TheVariants.{Short, NotElf64, NotAarch64, NotExec, BadHeaders, Interpreter, SegmentRange, Overlap, NoEntry}
+use Rattle.mte_elf.specs.declared.error.ElfError.TheVariants.{Short, NotElf64, NotAarch64, NotExec}
+use Rattle.mte_elf.specs.declared.error.ElfError.TheVariants.{BadHeaders, Interpreter, SegmentRange}
+use Rattle.mte_elf.specs.declared.error.ElfError.TheVariants.{Overlap, NoEntry}
 
 -- 0x7F 'E' 'L' 'F', 64 bits, little-endian, version 1
 abbrev pub identification : List ℕ
@@ -13,10 +19,12 @@ identification = 0x7F ∷ 0x45 ∷ 0x4C ∷ 0x46 ∷ 2 ∷ 1 ∷ 1 ∷ []
 -- the table has 1 to 64 headers of 56 bytes, and ends in the file
 abbrev pub has_table : List ℕ → Bool
 has_table file =
-    (header_size_of file == 56) && nat_lt 0 (header_count_of file) && nat_le (header_count_of file) 64
+    (header_size_of file == 56) && nat_lt 0 (header_count_of file)
+    && nat_le (header_count_of file) 64
     && nat_le (table_offset_of file + 56 * header_count_of file) (length file)
 
--- a segment's file part is no larger than the segment and lies in the file, and its addresses lie in the range for images
+-- a segment's file part is no larger than the segment and lies in the file, and its addresses lie
+-- in the range for images
 abbrev pub is_in_range : ℕ → Segment → Bool
 is_in_range size s =
     nat_le s.filesz s.memsz && ((s.filesz == 0) || nat_le (s.offset + s.filesz) size)

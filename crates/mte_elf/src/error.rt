@@ -21,14 +21,15 @@ pub enum ElfError {
     /// `e_type` isn't ET_EXEC (2).
     #[error("NotExec")]
     NotExec,
-    /// `e_phentsize` isn't 56, `e_phnum` isn't 1 to 64, or the table of program headers passes the file's end.
+    /// `e_phentsize` isn't 56, `e_phnum` isn't 1 to 64, or the table of program headers passes the
+    /// file's end.
     #[error("BadHeaders")]
     BadHeaders,
     /// A program header is PT_INTERP (3).
     #[error("Interpreter")]
     Interpreter,
-    /// A segment's file size exceeds its memory size, its bytes pass the file's end, or its addresses
-    /// don't lie in 0x1000 to 0x10000000.
+    /// A segment's file size exceeds its memory size, its bytes pass the file's end, or its
+    /// addresses don't lie in 0x1000 to 0x10000000.
     #[error("SegmentRange")]
     SegmentRange,
     /// Two segments touch one page of 4096 bytes.

@@ -143,9 +143,11 @@ fn is_loadable(header: &ProgramHeader) -> bool
     header.kind == LOAD && header.memsz > 0
 }
 
-/// The loadable segments with bytes in memory, in the order of the headers. The error is `OutOfMemory`.
+/// The loadable segments with bytes in memory, in the order of the headers. The error is
+/// `OutOfMemory`.
 pub fn segments(alloc: Global, headers: &[ProgramHeader]) -> Result<Vec<Segment>, ElfError>
-    ensures segments { IfOk result (λ segments. segments.items ≡ map segment_of (filter is_loaded headers.now)) }
+    ensures segments { IfOk result
+        (λ segments. segments.items ≡ map segment_of (filter is_loaded headers.now)) }
     ensures memory { IfErr result (λ e. e ≡ ElfError.OutOfMemory) }
 {
     let segments = headers

@@ -1,7 +1,7 @@
 //! What the loader does for an image.
 
-/// A loadable segment: `memsz` bytes from `vaddr` on, of which the first `filesz` stand in the file from
-/// `offset` on and the others are 0. Its flags are execute 1, write 2 and read 4.
+/// A loadable segment: `memsz` bytes from `vaddr` on, of which the first `filesz` stand in the file
+/// from `offset` on and the others are 0. Its flags are execute 1, write 2 and read 4.
 #[derive(Clone, Copy, Debug, PartialEq, Eq)]
 pub struct Segment {
     /// The first address.
@@ -16,14 +16,15 @@ pub struct Segment {
     pub flags: u32,
 }
 
-/// What the loader does for an image: the pages and bytes of its segments, and where its program begins.
+/// What the loader does for an image: the pages and bytes of its segments, and where its program
+/// begins.
 #[derive(Debug, Drop)]
 pub struct Plan {
     /// The first instruction's address.
     pub entry: u64,
     /// How many pages of 4096 bytes the segments touch.
     pub pages: u64,
-    /// The loadable segments with bytes in memory, in the order of the program headers. No two touch
-    /// one page.
+    /// The loadable segments with bytes in memory, in the order of the program headers. No two
+    /// touch one page.
     pub segments: Vec<Segment>,
 }

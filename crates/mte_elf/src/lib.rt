@@ -1,4 +1,5 @@
-//! The loader's reading of an image: an ELF64 executable for AArch64, checked as a whole before anything is mapped.
+//! The loader's reading of an image: an ELF64 executable for AArch64, checked as a whole before
+//! anything is mapped.
 //!
 //! Source: System V ABI, Object Files (ELF64); the limits on addresses are this project's.
 #![tactic(auto)]
@@ -13,6 +14,3 @@ pub use error::ElfError;
 pub use image::{Plan, Segment};
 pub use loading::load;
 pub use planning::plan;
-
-#[cfg(test)]
-mod tests;

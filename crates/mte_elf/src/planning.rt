@@ -1,9 +1,12 @@
 //! The loader's plan for an image.
 
-ghost use Rattle.std.specs.Prelude.{◌≡◌, ◌⊎◌, ℕ, ◌+◌, ◌-◌, ◌*◌, ◌/◌, ◌^◌, ◌≤◌, ◌<◌, length, IfOk, IfErr, Some, None, sum_by, true};
+ghost use Rattle.std.specs.Prelude.{◌≡◌, ◌⊎◌, ℕ, ◌+◌, ◌-◌, ◌*◌, ◌/◌, ◌^◌, ◌≤◌, ◌<◌, length, IfOk};
+ghost use Rattle.std.specs.Prelude.{IfErr, Some, None, sum_by, true};
 ghost use Rattle.std.specs.List.{list_any, list_all};
 ghost use Rattle.mte_elf.specs.Headers.{entry_of, segments_of, is_interpreter};
-ghost use Rattle.mte_elf.specs.Images.{refusal_of, pages_of, has_table, is_in_range, any_share_page, share_page, is_entry, page_count, first_page, last_page};
+ghost use Rattle.mte_elf.specs.Images.{refusal_of, pages_of, has_table, is_in_range};
+ghost use Rattle.mte_elf.specs.Images.{any_share_page, share_page, is_entry, page_count};
+ghost use Rattle.mte_elf.specs.Images.{first_page, last_page};
 
 use crate::error::ElfError;
 use crate::headers::{
@@ -39,15 +42,16 @@ const INTERPRETER: u32 = 3;
 
 /// Reads an image as a whole, before anything of it is mapped.
 ///
-/// The refusal is the first of [`ElfError`]'s tests that the file fails. Only `OutOfMemory`, where an
-/// allocation was refused, can come in place of another answer.
+/// The refusal is the first of [`ElfError`]'s tests that the file fails. Only `OutOfMemory`, where
+/// an allocation was refused, can come in place of another answer.
 #[tactic(auto, unfolding(crate::specs::Images::refusal_of))]
 pub fn plan(alloc: Global, file: &[u8]) -> Result<Plan, ElfError>
     ensures image { IfOk result (λ p. refusal_of file.now ≡ None) }
     ensures entry { IfOk result (λ p. p.entry ≡ entry_of file.now) }
     ensures pages { IfOk result (λ p. p.pages ≡ pages_of file.now) }
     ensures segments { IfOk result (λ p. p.segments.items ≡ segments_of file.now) }
-    ensures refused { IfErr result (λ e. (e ≡ ElfError.OutOfMemory) ⊎ (refusal_of file.now ≡ Some e)) }
+    ensures refused { IfErr result
+        (λ e. (e ≡ ElfError.OutOfMemory) ⊎ (refusal_of file.now ≡ Some e)) }
 {
     if file.len() < FILE_HEADER {
         return Err(ElfError::Short);
@@ -123,7 +127,8 @@ fn any_holds_entry(segments: &[Segment], entry: u64) -> bool
     segments.iter().any(|segment| holds_entry(segment, entry))
 }
 
-/// Whether a segment's file part lies in it and in a file of `size` bytes, and its addresses in the range for images.
+/// Whether a segment's file part lies in it and in a file of `size` bytes, and its addresses in the
+/// range for images.
 fn lies_in_range(segment: &Segment, size: u64) -> bool
     ensures { result ≡ is_in_range size segment.now }
 {

@@ -1,12 +1,15 @@
--- What a contract sees of a pool of frames: the arena's frames, the quota that each is out under, and what
--- each quota has reserved and taken. A quota is known by its number; a number of which nothing is reserved is
--- no quota's.
+-- What a contract sees of a pool of frames: the arena's frames, the quota that each is out under,
+-- and what each quota has reserved and taken. A quota is known by its number; a number of which
+-- nothing is reserved is no quota's.
 --     unreserved p          how many frames no quota has reserved
---     with_bytes_at p f ws  p with other bytes in the frame f.        with_block_at p f ws      with other bytes and tags
---     IsOut p f q           the frame f is out under the quota q.        IsTaken p f      under some quota
+--     with_bytes_at p f ws  p with other bytes in the frame f
+--     with_block_at p f ws  p with other bytes and tags in the frame f
+--     IsOut p f q           the frame f is out under the quota q
+--     IsTaken p f           the frame f is out under some quota
 --     IsSound p             what holds of every pool
---     KeepsOthers q p n     from p to n all other quotas than q are left alone, and the frames out under them
-use Rattle.std.specs.Prelude.{◌≡◌, ◌≢◌, ◌↔◌, ℕ, ◌+◌, ◌-◌, ◌≤◌, if◌then◌else◌, nat_eq, List, [], ◌∷◌, length, sum, get_or, Option, Some, None}
+--     KeepsOthers q p n     from p to n all other quotas, and the frames out under them, stay
+use Rattle.std.specs.Prelude.{◌≡◌, ◌≢◌, ◌↔◌, ℕ, ◌+◌, ◌-◌, ◌≤◌, if◌then◌else◌, nat_eq, List, [], ◌∷◌}
+use Rattle.std.specs.Prelude.{length, sum, get_or, Option, Some, None}
 use Rattle.mte_arena.specs.Blocks.{with_block}
 use Rattle.mte_arena.specs.Frames.{Frame, IsLive, with_bytes}
 

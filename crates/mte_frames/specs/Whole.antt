@@ -1,5 +1,6 @@
 -- What holds of the fields of a pool.
-use Rattle.std.specs.Prelude.{◌≡◌, ℕ, ◌+◌, ◌≤◌, if◌then◌else◌, nat_eq, List, [], ◌∷◌, length, sum, get_or, Option, Some, None, vec_capacity}
+use Rattle.std.specs.Prelude.{◌≡◌, ℕ, ◌+◌, ◌≤◌, if◌then◌else◌, nat_eq, List, [], ◌∷◌, length, sum}
+use Rattle.std.specs.Prelude.{get_or, Option, Some, None, vec_capacity}
 use Rattle.mte_frames.specs.Pool.{Pool, make_pool, IsSound}
 use Rattle.mte_frames.specs.declared.pool.FramePool.TheInside.{Inside}
 

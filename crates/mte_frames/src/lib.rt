@@ -4,6 +4,3 @@
 mod pool;
 
 pub use pool::{FramePool, NoFrames, OutOfMemory, Quota, others_are_kept};
-
-#[cfg(test)]
-mod tests;

@@ -1,10 +1,14 @@
 //! Frames are reserved for quotas, and taken and given back under them.
 
-ghost use Rattle.std.specs.Prelude.{◌≡◌, ◌↔◌, ℕ, ◌+◌, ◌-◌, ◌<◌, ◌≤◌, List, Option, Some, None, length, replicate, get_or, slice_set, sum, IfOk, IfErr, IsErr, OnErr, IfSome, IsTrue, vec_capacity};
+ghost use Rattle.std.specs.Prelude.{◌≡◌, ◌↔◌, ℕ, ◌+◌, ◌-◌, ◌<◌, ◌≤◌, List, Option, Some, None};
+ghost use Rattle.std.specs.Prelude.{length, replicate, get_or, slice_set, sum, IfOk, IfErr, IsErr};
+ghost use Rattle.std.specs.Prelude.{OnErr, IfSome, IsTrue, vec_capacity};
 ghost use Rattle.std.specs.Borrow.{sem};
 ghost use Rattle.mte_arena.specs.Frames.{frame_at, AreFrames, retagged, zero_frame};
 ghost use Rattle.mte_arena.specs.Blocks.{frame_of, unpacked};
-ghost use Rattle.mte_frames.specs.Pool.{Pool, make_pool, with_bytes_at, with_block_at, unreserved, reserved_by, taken_by, IsOut, IsTaken, IsSound, KeepsOthers};
+ghost use Rattle.mte_frames.specs.Pool.{Pool, make_pool, with_bytes_at, with_block_at, unreserved};
+ghost use Rattle.mte_frames.specs.Pool.{reserved_by, taken_by, IsOut, IsTaken, IsSound};
+ghost use Rattle.mte_frames.specs.Pool.{KeepsOthers};
 
 use mte_arena::{Arena, BLOCK_BYTES, FRAME_BYTES, FRAME_GRANULES};
 use std::alloc::{AllocError, Global};
@@ -20,8 +24,8 @@ pub struct OutOfMemory {
     pub arena: Arena,
 }
 
-/// The right to take as many frames as were reserved. It can't be cloned; where it is dropped without
-/// `release`, its frames stay reserved.
+/// The right to take as many frames as were reserved. It can't be cloned; where it is dropped
+/// without `release`, its frames stay reserved.
 #[derive(Drop)]
 pub struct Quota {
     number: usize,
@@ -61,10 +65,13 @@ impl Model for FramePool {
 impl FramePool {
     ghost use Rattle.mte_frames.specs.Lends.{lends_bytes, lends_block};
 
-    /// A pool of the arena's frames, of which none is reserved. Where memory is refused the arena is handed
-    /// back as it was.
+    /// A pool of the arena's frames, of which none is reserved. Where memory is refused the arena
+    /// is handed back as it was.
     pub fn new(alloc: Global, arena: Arena) -> Result<FramePool, OutOfMemory>
-        ensures ok { IfOk result (λ p. p ≡ make_pool arena (replicate (length arena) None) (replicate (length arena) 0) (replicate (length arena) 0)) }
+        ensures ok { IfOk result
+            (λ p. p
+            ≡ make_pool arena (replicate (length arena) None) (replicate (length arena) 0)
+            (replicate (length arena) 0)) }
         ensures err { IfErr result (λ e. e.arena ≡ arena) }
     {
         let frames = arena.frames();
@@ -126,13 +133,19 @@ impl FramePool {
         }
     }
 
-    /// Reserves `count` frames for a new quota. It is refused exactly where so many aren't unreserved.
+    /// Reserves `count` frames for a new quota. It is refused exactly where so many aren't
+    /// unreserved.
     pub fn reserve(&mut self, count: usize) -> Result<Quota, NoFrames>
         requires { 0 < count }
         ensures refused { IsErr result ↔ (unreserved self.old < count) }
         ensures err { OnErr result (self.new ≡ self.old) }
-        ensures number { IfOk result (λ q. (q < length self.old.frames) × (reserved_by self.old q ≡ 0) × (taken_by self.old q ≡ 0)) }
-        ensures pool { IfOk result (λ q. self.new ≡ make_pool self.old.frames self.old.owners (slice_set self.old.reserved q count) self.old.taken) }
+        ensures number { IfOk result
+            (λ q. (q < length self.old.frames)
+            × (reserved_by self.old q ≡ 0) × (taken_by self.old q ≡ 0)) }
+        ensures pool { IfOk result
+            (λ q. self.new
+            ≡ make_pool self.old.frames self.old.owners (slice_set self.old.reserved q count)
+            self.old.taken) }
         ensures others { IfOk result (λ q. KeepsOthers q self.old self.new) }
     {
         if count > self.unreserved {
@@ -150,7 +163,9 @@ impl FramePool {
     pub fn release(&mut self, quota: Quota)
         requires reserved { 0 < reserved_by self.old quota }
         requires nothing_out { taken_by self.old quota ≡ 0 }
-        ensures pool { self.new ≡ make_pool self.old.frames self.old.owners (slice_set self.old.reserved quota 0) self.old.taken }
+        ensures pool { self.new
+            ≡ make_pool self.old.frames self.old.owners (slice_set self.old.reserved quota 0)
+            self.old.taken }
         ensures others { KeepsOthers quota self.old self.new }
     {
         let Quota { number } = quota;
@@ -158,13 +173,16 @@ impl FramePool {
         self.reserved[number] = 0;
     }
 
-    /// Takes a frame that is out under no quota, and makes its bytes and tags zero. While the quota has
-    /// something left there is one.
+    /// Takes a frame that is out under no quota, and makes its bytes and tags zero. While the quota
+    /// has something left there is one.
     pub fn take(&mut self, quota: &mut Quota) -> usize
         requires { taken_by self.old quota.old < reserved_by self.old quota.old }
         ensures same { quota.new ≡ quota.old }
         ensures vacant { get_or self.old.owners result (Some 0) ≡ None }
-        ensures pool { self.new ≡ make_pool (slice_set self.old.frames result (Some zero_frame)) (slice_set self.old.owners result (Some quota.old)) self.old.reserved (slice_set self.old.taken quota.old (taken_by self.old quota.old + 1)) }
+        ensures pool { self.new
+            ≡ make_pool (slice_set self.old.frames result (Some zero_frame))
+            (slice_set self.old.owners result (Some quota.old)) self.old.reserved
+            (slice_set self.old.taken quota.old (taken_by self.old quota.old + 1)) }
         ensures others { KeepsOthers quota.old self.old self.new }
     {
         let Some(f) = self.free.pop() else {
@@ -180,7 +198,9 @@ impl FramePool {
     pub fn give(&mut self, quota: &mut Quota, f: usize)
         requires { IsOut self.old f quota.old }
         ensures same { quota.new ≡ quota.old }
-        ensures pool { self.new ≡ make_pool self.old.frames (slice_set self.old.owners f None) self.old.reserved (slice_set self.old.taken quota.old (taken_by self.old quota.old - 1)) }
+        ensures pool { self.new
+            ≡ make_pool self.old.frames (slice_set self.old.owners f None) self.old.reserved
+            (slice_set self.old.taken quota.old (taken_by self.old quota.old - 1)) }
         ensures others { KeepsOthers quota.old self.old self.new }
     {
         self.owners[f] = None;
@@ -207,8 +227,8 @@ impl FramePool {
         self.arena.data_mut(f)
     }
 
-    /// Both planes of the frame `f`, which is out, in one lend: its 4096 bytes, and then 128 bytes with two tags
-    /// each, the even granule's in the low half. All other frames stay as they are.
+    /// Both planes of the frame `f`, which is out, in one lend: its 4096 bytes, and then 128 bytes
+    /// with two tags each, the even granule's in the low half. All other frames stay as they are.
     pub fn block_mut(&mut self, f: usize) -> &mut [u8]
         requires { IsTaken self.old f }
         ensures* writes_back { sem 𝓛 (lends_block self.entry f result) }
@@ -218,8 +238,8 @@ impl FramePool {
         self.arena.block_mut(f)
     }
 
-    /// The same in two. What the pool holds after such a lend is told by no clause; `block_mut`, `data_mut` and
-    /// `set_tag` are for callers that have to know.
+    /// The same in two. What the pool holds after such a lend is told by no clause; `block_mut`,
+    /// `data_mut` and `set_tag` are for callers that have to know.
     pub fn planes_mut(&mut self, f: usize) -> (&mut [u8], &mut [u8])
         requires { IsTaken self.old f }
         ensures bytes { result.0.now ≡ (frame_at self.old.frames f).bytes }
@@ -239,26 +259,31 @@ impl FramePool {
         self.arena.tag(f, g)
     }
 
-    /// Sets the tag of the granule `g` of the frame `f`, which is out. The frame's bytes, its other tags and
-    /// all other frames stay as they are.
+    /// Sets the tag of the granule `g` of the frame `f`, which is out. The frame's bytes, its other
+    /// tags and all other frames stay as they are.
     pub fn set_tag(&mut self, f: usize, g: usize, tag: u8)
         requires out { IsTaken self.old f }
         requires granule { g < FRAME_GRANULES }
         requires tag { tag < 16 }
-        ensures pool { self.new ≡ make_pool (retagged self.old.frames f g tag) self.old.owners self.old.reserved self.old.taken }
+        ensures pool { self.new
+            ≡ make_pool (retagged self.old.frames f g tag) self.old.owners self.old.reserved
+            self.old.taken }
         ensures others { (q : ℕ) → IsOut self.old f q → KeepsOthers q self.old self.new }
     {
         self.arena.set_tag(f, g, tag);
     }
 }
 
-/// What is kept of the other quotas: nothing changes them where nothing is done, what one call after another
-/// keeps both keep, and a lend of a frame that is out under a quota keeps all others. This holds of every pool,
-/// and the call does nothing.
+/// What is kept of the other quotas: nothing changes them where nothing is done, what one call
+/// after another keeps both keep, and a lend of a frame that is out under a quota keeps all others.
+/// This holds of every pool, and the call does nothing.
 pub fn others_are_kept()
     ensures still { (q : ℕ) (p : Pool) → KeepsOthers q p p }
-    ensures on { (q : ℕ) (p n m : Pool) → KeepsOthers q p n → KeepsOthers q n m → KeepsOthers q p m }
-    ensures lent { (q f : ℕ) (ws : List ℕ) (p : Pool) → IsOut p f q → KeepsOthers q p (with_bytes_at p f ws) × KeepsOthers q p (with_block_at p f ws) }
+    ensures on { (q : ℕ) (p n m : Pool)
+        → KeepsOthers q p n → KeepsOthers q n m → KeepsOthers q p m }
+    ensures lent { (q f : ℕ) (ws : List ℕ) (p : Pool)
+        → IsOut p f q
+        → KeepsOthers q p (with_bytes_at p f ws) × KeepsOthers q p (with_block_at p f ws) }
 {}
 
 // What a pool keeps beside its arena.
@@ -276,9 +301,13 @@ impl PoolLists {
 
     // All frames free, and nothing reserved.
     fn new(alloc: Global, frames: usize) -> Result<PoolLists, AllocError>
-        ensures free { IfOk result (λ b. (f : ℕ) → times f b.free.items ≡ (if nat_lt f frames then 1 else 0)) }
-        ensures count { IfOk result (λ b. (length b.free.items ≡ frames) × (frames ≤ vec_capacity b.free)) }
-        ensures others { IfOk result (λ b. (b.owners.items ≡ replicate frames None) × (b.reserved.items ≡ replicate frames 0) × (b.taken.items ≡ replicate frames 0)) }
+        ensures free { IfOk result
+            (λ b. (f : ℕ) → times f b.free.items ≡ (if nat_lt f frames then 1 else 0)) }
+        ensures count { IfOk result
+            (λ b. (length b.free.items ≡ frames) × (frames ≤ vec_capacity b.free)) }
+        ensures others { IfOk result
+            (λ b. (b.owners.items ≡ replicate frames None)
+            × (b.reserved.items ≡ replicate frames 0) × (b.taken.items ≡ replicate frames 0)) }
     {
         let mut free = Vec::with_capacity(alloc, frames)?;
         for f in 0..frames {

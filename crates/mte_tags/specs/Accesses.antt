@@ -29,10 +29,12 @@ abbrev pub granule_tag : Page → ℕ → ℕ
 granule_tag p a = slice_index p.tags (a % 4096 / 16)
 
 abbrev pub fault : FaultKind → Access → ℕ → ℕ → MemFault
-fault kind x a tag = record { kind = kind; addr = a; write = x.write; ptr_tag = x.tag; mem_tag = tag }
+fault kind x a tag =
+    record { kind = kind; addr = a; write = x.write; ptr_tag = x.tag; mem_tag = tag }
 
 abbrev pub tag_fault : Access → Page → ℕ → Option MemFault
-tag_fault x p a = if granule_tag p a == x.tag then None else Some (fault TagCheck x a (granule_tag p a))
+tag_fault x p a =
+    if granule_tag p a == x.tag then None else Some (fault TagCheck x a (granule_tag p a))
 
 -- how a byte fails in a page that is mapped
 abbrev pub page_fault : Access → Page → ℕ → Option MemFault

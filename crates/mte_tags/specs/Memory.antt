@@ -28,7 +28,8 @@ pub record Memory : Type 0 where
 
 abbrev pub coded_page : Coded Page
 coded_page =
-    code_by (ℕ × (List ℕ × List ℕ)) (coded× coded_ℕ (coded× (coded_list coded_ℕ) (coded_list coded_ℕ)))
+    code_by (ℕ × (List ℕ × List ℕ))
+    (coded× coded_ℕ (coded× (coded_list coded_ℕ) (coded_list coded_ℕ)))
     (λ p. (p.attrs, (p.bytes, p.tags)))
     (λ c. record { attrs = c.0; bytes = c.1.0; tags = c.1.1 })
     (λ _. refl)
@@ -122,13 +123,19 @@ zeroed bytes g = take (16 * g) bytes ++ replicate 16 0 ++ drop (16 * g + 16) byt
 abbrev pub with_granule_in : Memory → ℕ → ℕ → ℕ → Bool → Option Page → Memory
 with_granule_in m q g t zero_it None = m
 with_granule_in m q g t zero_it (Some p) =
-    with_page m q (record { attrs = p.attrs; bytes = if zero_it then zeroed p.bytes g else p.bytes; tags = slice_set p.tags g t })
+    with_page m q (record {
+      attrs = p.attrs;
+      bytes = if zero_it then zeroed p.bytes g else p.bytes;
+      tags = slice_set p.tags g t;
+    })
 
 -- m with t as the tag of the granule at a plain address, and its bytes zero where that is asked
 unfoldable pub with_granule : Memory → ℕ → ℕ → Bool → Memory
-with_granule m a t zero_it = with_granule_in m (a / 4096) (a % 4096 / 16) t zero_it (page_at m (a / 4096))
+with_granule m a t zero_it =
+    with_granule_in m (a / 4096) (a % 4096 / 16) t zero_it (page_at m (a / 4096))
 
 -- the same for n granules from a plain address on: after the last address comes 0
 unfoldable pub with_granules : Memory → ℕ → ℕ → ℕ → Bool → Memory
 with_granules m a zero t zero_it = m
-with_granules m a (suc n) t zero_it = with_granules (with_granule m a t zero_it) ((a + 16) % 2 ^ 56) n t zero_it
+with_granules m a (suc n) t zero_it =
+    with_granules (with_granule m a t zero_it) ((a + 16) % 2 ^ 56) n t zero_it

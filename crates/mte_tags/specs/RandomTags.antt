@@ -9,7 +9,10 @@ use Rattle.mte_tags.specs.declared.generator.Rgsr.{Rgsr}
 
 -- the bit that follows the first 16 + n
 abbrev pub next_bit : List ℕ → ℕ → ℕ
-next_bit bits n = (slice_index bits n + slice_index bits (n + 2) + slice_index bits (n + 3) + slice_index bits (n + 5)) % 2
+next_bit bits n =
+    (slice_index bits n + slice_index bits (n + 2)
+    + slice_index bits (n + 3) + slice_index bits (n + 5))
+    % 2
 
 -- the first 16 + n bits: those of the seed, lowest first, and each further one the sum modulo 2 of
 -- those that stand 16, 14, 13 and 11 places before it
@@ -47,4 +50,8 @@ drawn_tag r exclude = chosen_tag r.tag (offset_of r.seed 0) exclude
 
 -- one draw: the tag that is chosen from the last one becomes the last one
 unfoldable pub drawn : Rgsr → ℕ → Drawn
-drawn r exclude = record { tag = drawn_tag r exclude; rgsr = record { tag = drawn_tag r exclude; seed = seed_after r.seed 1 } }
+drawn r exclude =
+    record {
+      tag = drawn_tag r exclude;
+      rgsr = record { tag = drawn_tag r exclude; seed = seed_after r.seed 1 };
+    }

@@ -23,9 +23,12 @@ slots_memory n slots = record { limit = n; pages = finite.from_entries (map entr
 
 -- no two slots are one page, pages lie below the address 2 ^ 30, and tags are below 16
 pub record AreSlots (slots : List Slot) : Type 0 where
-  pub apart : (i j : ℕ) (d : Slot) → i < length slots → j < length slots → (slice_index_or slots i d).page ≡ (slice_index_or slots j d).page → i ≡ j
+  pub apart :
+      (i j : ℕ) (d : Slot) → i < length slots → j < length slots
+      → (slice_index_or slots i d).page ≡ (slice_index_or slots j d).page → i ≡ j
   pub low : (i : ℕ) (d : Slot) → i < length slots → (slice_index_or slots i d).page < 2 ^ 18
-  pub small : (i : ℕ) (d : Slot) → i < length slots → All (λ t. t < 16) (slice_index_or slots i d).tags
+  pub small :
+      (i : ℕ) (d : Slot) → i < length slots → All (λ t. t < 16) (slice_index_or slots i d).tags
 
 -- how the first of a list of bytes fails in a page
 unfoldable pub first_in : Access → Option Page → List ℕ → Option MemFault
@@ -41,6 +44,7 @@ spliced xs o (b ∷ bs) = spliced (slice_set xs o b) (o + 1) bs
 abbrev pub retagged : Page → ℕ → ℕ → ℕ → Bool → Page
 retagged p g n t zero_it = record {
   attrs = p.attrs;
-  bytes = if zero_it then take (16 * g) p.bytes ++ (replicate (16 * n) 0 ++ drop (16 * g + 16 * n) p.bytes) else p.bytes;
+  bytes = if zero_it then take (16 * g) p.bytes
+      ++ (replicate (16 * n) 0 ++ drop (16 * g + 16 * n) p.bytes) else p.bytes;
   tags = spliced p.tags g (replicate n t);
 }

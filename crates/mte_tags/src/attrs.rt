@@ -54,7 +54,8 @@ impl Flags for Attrs {
 
     ghost exact = { ⊤ };
 
-    ghost table = { (codes "READ", 1) ∷ (codes "WRITE", 2) ∷ (codes "EXEC", 4) ∷ (codes "TAGGED", 8) ∷ [] };
+    ghost table = { (codes "READ", 1) ∷ (codes "WRITE", 2) ∷ (codes "EXEC", 4) ∷
+        (codes "TAGGED", 8) ∷ [] };
 
     ghost set_of = { λ a. a.0 };
 

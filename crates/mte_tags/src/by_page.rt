@@ -33,7 +33,8 @@ fn check_bytes<S: PageStore>(
     access: &Access,
 ) -> Result<(), MemFault>
     requires { at < 2 ^ 56 }
-    ensures answer { result ≡ outcome (first_fault (S.memory store.old) access.now (addresses at count)) }
+    ensures answer { result
+        ≡ outcome (first_fault (S.memory store.old) access.now (addresses at count)) }
     ensures memory { S.memory store.new ≡ S.memory store.old }
     ensures kept { S.kept store.old store.new }
 {
@@ -149,7 +150,8 @@ fn read_at<S: PageStore>(
     buffer: &mut [u8],
     checked: bool,
 ) -> Result<(), MemFault>
-    ensures answer { result ≡ outcome (read_fault (S.memory store.old) addr (length buffer.old) checked) }
+    ensures answer { result
+        ≡ outcome (read_fault (S.memory store.old) addr (length buffer.old) checked) }
     ensures bytes { buffer.new
         ≡ (if is_ok result
         then read_bytes (S.memory store.old) addr (length buffer.old)
@@ -221,7 +223,8 @@ fn write_at<S: PageStore>(
     bytes: &[u8],
     checked: bool,
 ) -> Result<(), MemFault>
-    ensures answer { result ≡ outcome (write_fault (S.memory store.old) addr (length bytes.now) checked) }
+    ensures answer { result
+        ≡ outcome (write_fault (S.memory store.old) addr (length bytes.now) checked) }
     ensures memory { S.memory store.new
         ≡ (if is_ok result
         then written (S.memory store.old) addr bytes.now
@@ -282,7 +285,8 @@ fn check_granules<S: PageStore>(
     requires plain { at < 2 ^ 56 }
     requires aligned { at % 16 ≡ 0 }
     requires unchecked { access.now.checked ≡ false }
-    ensures answer { result ≡ outcome (first_fault (S.memory store.old) access.now (granules at count)) }
+    ensures answer { result
+        ≡ outcome (first_fault (S.memory store.old) access.now (granules at count)) }
     ensures memory { S.memory store.new ≡ S.memory store.old }
     ensures kept { S.kept store.old store.new }
 {

@@ -77,7 +77,8 @@ fn slots_fault(
     requires inside { at % 4096 + count ≤ 4096 }
     requires plain { at < 2 ^ 56 }
     requires slots { AreSlots slots.now }
-    ensures { (n : ℕ) → result ≡ first_fault (slots_memory n slots.now) access.now (addresses at count) }
+    ensures { (n : ℕ)
+        → result ≡ first_fault (slots_memory n slots.now) access.now (addresses at count) }
 {
     match find(slots, finder, at / 4096) {
         None => Some(access.fault(FaultKind::Translation, at, 0)),

@@ -117,7 +117,8 @@ pub trait PageStore {
         requires plain { at < 2 ^ 56 }
         requires tag { tag < 16 }
         requires unchecked { access.now.checked ≡ false }
-        ensures answer { result ≡ outcome (first_fault (memory self.old) access.now (granules at count)) }
+        ensures answer { result
+            ≡ outcome (first_fault (memory self.old) access.now (granules at count)) }
         ensures memory { memory self.new
             ≡ (if is_ok result
             then with_granules (memory self.old) at count tag zero

@@ -34,7 +34,8 @@ pub trait Tagged {
     /// Copies bytes out of pages with READ, and compares tags where `check` asks for it. After a
     /// fault the buffer is as it was.
     fn read(&mut self, addr: u64, buffer: &mut [u8], check: bool) -> Result<(), MemFault>
-        ensures answer { result ≡ outcome (read_fault (memory self.old) addr (length buffer.old) check) }
+        ensures answer { result
+            ≡ outcome (read_fault (memory self.old) addr (length buffer.old) check) }
         ensures bytes { buffer.new
             ≡ (if is_ok result
             then read_bytes (memory self.old) addr (length buffer.old)
@@ -45,7 +46,8 @@ pub trait Tagged {
     /// Copies bytes into pages with WRITE, all of them or none, and compares tags where `check`
     /// asks for it.
     fn write(&mut self, addr: u64, bytes: &[u8], check: bool) -> Result<(), MemFault>
-        ensures answer { result ≡ outcome (write_fault (memory self.old) addr (length bytes.now) check) }
+        ensures answer { result
+            ≡ outcome (write_fault (memory self.old) addr (length bytes.now) check) }
         ensures memory { memory self.new
             ≡ (if is_ok result
             then written (memory self.old) addr bytes.now

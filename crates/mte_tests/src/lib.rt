@@ -3,4 +3,10 @@
 #![tactic(auto)]
 
 #[cfg(test)]
+mod arena;
+#[cfg(test)]
+mod elf;
+#[cfg(test)]
+mod frames;
+#[cfg(test)]
 mod tags;

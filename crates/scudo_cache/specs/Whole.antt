@@ -12,5 +12,8 @@ cache_of f = map (λ (v : ArrayVec ℕ). v.items) f.entries.items
 
 pub record IsCache (f : Inside) : Type 0 where
   pub all : length f.entries.items ≡ CLASSES
-  pub most : (class : ℕ) → 0 < class → class ≤ CLASSES → length (entries_of (cache_of f) class) ≤ max_count_of class
-  pub distinct : (class : ℕ) → 0 < class → class ≤ CLASSES → IsDistinct nat_eq (entries_of (cache_of f) class)
+  pub most :
+      (class : ℕ) → 0 < class → class ≤ CLASSES
+      → length (entries_of (cache_of f) class) ≤ max_count_of class
+  pub distinct :
+      (class : ℕ) → 0 < class → class ≤ CLASSES → IsDistinct nat_eq (entries_of (cache_of f) class)

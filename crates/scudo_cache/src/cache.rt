@@ -1,12 +1,17 @@
 //! The blocks of each class that are at hand.
 
-ghost use Rattle.std.specs.Prelude.{◌≡◌, ◌≢◌, ◌<◌, ◌≤◌, ◌-◌, ◌+◌, ◌∷◌, ◌++◌, [], ℕ, List, length, drop, reverse, slice_get, replicate, nat_eq, false, true, IfSome, IfOk};
+ghost use Rattle.std.specs.Prelude.{◌≡◌, ◌≢◌, ◌<◌, ◌≤◌, ◌-◌, ◌+◌, ◌∷◌, ◌++◌, [], ℕ, List, length};
+ghost use Rattle.std.specs.Prelude.{drop, reverse, slice_get, replicate, nat_eq, false, true};
+ghost use Rattle.std.specs.Prelude.{IfSome, IfOk};
 ghost use Rattle.std.specs.List.{All, IsDistinct};
 ghost use Rattle.arrayvec.specs.ArrayVec.{array_vec_len};
 ghost use Rattle.scudo_primary.specs.Batches.{max_count_of};
 ghost use Rattle.scudo_primary.specs.Blocks.{IsBlock};
-ghost use Rattle.scudo_primary.specs.Pools.{pages_of, stack_of, sizes_of, is_marked, with_mark, IsCached};
-ghost use Rattle.scudo_cache.specs.Caches.{entries_of, with_entries, one_stack, IsAbove, refilled, newest, without_newest, handed_out, after_take, with_room, after_put};
+ghost use Rattle.scudo_primary.specs.Pools.{pages_of, stack_of, sizes_of, is_marked, with_mark};
+ghost use Rattle.scudo_primary.specs.Pools.{IsCached};
+ghost use Rattle.scudo_cache.specs.Caches.{entries_of, with_entries, one_stack, IsAbove, refilled};
+ghost use Rattle.scudo_cache.specs.Caches.{newest, without_newest, handed_out, after_take};
+ghost use Rattle.scudo_cache.specs.Caches.{with_room, after_put};
 
 use arrayvec::ArrayVec;
 use scudo_header::CLASSES;
@@ -14,8 +19,8 @@ use scudo_primary::{MAX_COUNT, Pool, max_count};
 use std::alloc::{AllocError, Global};
 use std::marker::Model;
 
-/// For each size class the free blocks that are at hand, the oldest first: at most 28 of the classes up to 512
-/// bytes, and 8 of the others.
+/// For each size class the free blocks that are at hand, the oldest first: at most 28 of the
+/// classes up to 512 bytes, and 8 of the others.
 #[derive(Drop)]
 pub struct Cache {
     entries: Vec<ArrayVec<u64, MAX_COUNT>>,
@@ -33,7 +38,8 @@ impl Model for Cache {
 }
 
 impl Cache {
-    /// A cache that holds no block. It is refused only where its memory is; no later call takes any.
+    /// A cache that holds no block. It is refused only where its memory is; no later call takes
+    /// any.
     pub fn new(alloc: Global) -> Result<Cache, AllocError>
         ensures { IfOk result (λ cache. cache ≡ replicate CLASSES []) }
     {
@@ -41,44 +47,59 @@ impl Cache {
         Ok(Cache { entries })
     }
 
-    /// Takes the newest block of a class and marks it used. A cache that holds none of the class first gets the
-    /// pool's top batch; there is no block where the pool has none either.
+    /// Takes the newest block of a class and marks it used. A cache that holds none of the class
+    /// first gets the pool's top batch; there is no block where the pool has none either.
     pub fn take(&mut self, class: u8, pool: &mut Pool) -> Option<u64>
         requires low { 0 < class }
         requires high { class ≤ CLASSES }
         requires above { IsAbove self.old pool.old }
-        ensures answer { result ≡ newest (refilled class (entries_of self.old class) pool.old).entries }
-        ensures cache { self.new ≡ with_entries self.old class (after_take class (refilled class (entries_of self.old class) pool.old)).entries }
-        ensures pool { pool.new ≡ (after_take class (refilled class (entries_of self.old class) pool.old)).pool }
+        ensures answer { result
+            ≡ newest (refilled class (entries_of self.old class) pool.old).entries }
+        ensures cache { self.new
+            ≡ with_entries self.old class
+            (after_take class (refilled class (entries_of self.old class) pool.old)).entries }
+        ensures pool { pool.new
+            ≡ (after_take class (refilled class (entries_of self.old class) pool.old)).pool }
         ensures above { IsAbove self.new pool.new }
 
-        // Cache and pool are one stack, and a block that is at hand leaves the pool's lists as they are.
+        // Cache and pool are one stack, and a block that is at hand leaves the pool's lists as they
+        // are.
         ensures top { result ≡ slice_get (one_stack self.old pool.old class) 0 }
-        ensures rest { one_stack self.new pool.new class ≡ drop 1 (one_stack self.old pool.old class) }
+        ensures rest { one_stack self.new pool.new class
+            ≡ drop 1 (one_stack self.old pool.old class) }
         ensures block { IfSome result (IsBlock class (pages_of pool.new class)) }
         ensures used { IfSome result (λ block. is_marked pool.new class block ≡ false) }
-        ensures lists { entries_of self.old class ≢ [] → (stack_of pool.new class ≡ stack_of pool.old class) }
-        ensures batches { entries_of self.old class ≢ [] → (sizes_of pool.new class ≡ sizes_of pool.old class) }
+        ensures lists { entries_of self.old class ≢ []
+            → (stack_of pool.new class ≡ stack_of pool.old class) }
+        ensures batches { entries_of self.old class ≢ []
+            → (sizes_of pool.new class ≡ sizes_of pool.old class) }
     {
         take_from(&mut self.entries[class as usize - 1], class, pool)
     }
 
-    /// Puts a carved block that is marked used, and marks it free. A full cache first gives its oldest half to the
-    /// pool, as one batch that keeps its order.
+    /// Puts a carved block that is marked used, and marks it free. A full cache first gives its
+    /// oldest half to the pool, as one batch that keeps its order.
     pub fn put(&mut self, class: u8, block: u64, pool: &mut Pool)
         requires low { 0 < class }
         requires high { class ≤ CLASSES }
         requires above { IsAbove self.old pool.old }
         requires carved { IsBlock class (pages_of pool.old class) block }
         requires used { is_marked pool.old class block ≡ false }
-        ensures cache { self.new ≡ with_entries self.old class (after_put class block (with_room class (entries_of self.old class) pool.old)).entries }
-        ensures pool { pool.new ≡ (after_put class block (with_room class (entries_of self.old class) pool.old)).pool }
+        ensures cache { self.new
+            ≡ with_entries self.old class
+            (after_put class block (with_room class (entries_of self.old class) pool.old)).entries }
+        ensures pool { pool.new
+            ≡ (after_put class block (with_room class (entries_of self.old class) pool.old)).pool }
         ensures above { IsAbove self.new pool.new }
 
-        // Cache and pool are one stack, and a cache that has room leaves the pool's lists as they are.
-        ensures stack { one_stack self.new pool.new class ≡ block ∷ one_stack self.old pool.old class }
-        ensures lists { length (entries_of self.old class) < max_count_of class → (stack_of pool.new class ≡ stack_of pool.old class) }
-        ensures batches { length (entries_of self.old class) < max_count_of class → (sizes_of pool.new class ≡ sizes_of pool.old class) }
+        // Cache and pool are one stack, and a cache that has room leaves the pool's lists as they
+        // are.
+        ensures stack { one_stack self.new pool.new class
+            ≡ block ∷ one_stack self.old pool.old class }
+        ensures lists { length (entries_of self.old class) < max_count_of class
+            → (stack_of pool.new class ≡ stack_of pool.old class) }
+        ensures batches { length (entries_of self.old class) < max_count_of class
+            → (sizes_of pool.new class ≡ sizes_of pool.old class) }
     {
         put_into(&mut self.entries[class as usize - 1], class, block, pool);
     }
@@ -93,13 +114,15 @@ fn take_from(entries: &mut ArrayVec<u64, MAX_COUNT>, class: u8, pool: &mut Pool)
     requires distinct { IsDistinct nat_eq entries.old.items }
     requires most { array_vec_len entries.old ≤ max_count_of class }
     ensures answer { result ≡ newest (refilled class entries.old.items pool.old).entries }
-    ensures entries { entries.new.items ≡ (after_take class (refilled class entries.old.items pool.old)).entries }
+    ensures entries { entries.new.items
+        ≡ (after_take class (refilled class entries.old.items pool.old)).entries }
     ensures pool { pool.new ≡ (after_take class (refilled class entries.old.items pool.old)).pool }
     ensures cached { All (IsCached pool.new class) entries.new.items }
     ensures distinct { IsDistinct nat_eq entries.new.items }
     ensures most { array_vec_len entries.new ≤ max_count_of class }
     ensures top { result ≡ slice_get (reverse entries.old.items ++ stack_of pool.old class) 0 }
-    ensures rest { reverse entries.new.items ++ stack_of pool.new class ≡ drop 1 (reverse entries.old.items ++ stack_of pool.old class) }
+    ensures rest { reverse entries.new.items ++ stack_of pool.new class
+        ≡ drop 1 (reverse entries.old.items ++ stack_of pool.old class) }
     ensures block { IfSome result (IsBlock class (pages_of pool.new class)) }
     ensures used { IfSome result (λ block. is_marked pool.new class block ≡ false) }
 {
@@ -120,13 +143,15 @@ fn refill_and_take(
     requires high { class ≤ CLASSES }
     requires empty { array_vec_len entries.old ≡ 0 }
     ensures answer { result ≡ newest (refilled class entries.old.items pool.old).entries }
-    ensures entries { entries.new.items ≡ (after_take class (refilled class entries.old.items pool.old)).entries }
+    ensures entries { entries.new.items
+        ≡ (after_take class (refilled class entries.old.items pool.old)).entries }
     ensures pool { pool.new ≡ (after_take class (refilled class entries.old.items pool.old)).pool }
     ensures cached { All (IsCached pool.new class) entries.new.items }
     ensures distinct { IsDistinct nat_eq entries.new.items }
     ensures most { array_vec_len entries.new ≤ max_count_of class }
     ensures top { result ≡ slice_get (reverse entries.old.items ++ stack_of pool.old class) 0 }
-    ensures rest { reverse entries.new.items ++ stack_of pool.new class ≡ drop 1 (reverse entries.old.items ++ stack_of pool.old class) }
+    ensures rest { reverse entries.new.items ++ stack_of pool.new class
+        ≡ drop 1 (reverse entries.old.items ++ stack_of pool.old class) }
     ensures block { IfSome result (IsBlock class (pages_of pool.new class)) }
     ensures used { IfSome result (λ block. is_marked pool.new class block ≡ false) }
 {
@@ -149,7 +174,8 @@ fn hand_out(entries: &mut ArrayVec<u64, MAX_COUNT>, class: u8, pool: &mut Pool) 
     ensures distinct { IsDistinct nat_eq entries.new.items }
     ensures most { array_vec_len entries.new ≤ array_vec_len entries.old }
     ensures top { result ≡ slice_get (reverse entries.old.items ++ stack_of pool.old class) 0 }
-    ensures rest { reverse entries.new.items ++ stack_of pool.new class ≡ drop 1 (reverse entries.old.items ++ stack_of pool.old class) }
+    ensures rest { reverse entries.new.items ++ stack_of pool.new class
+        ≡ drop 1 (reverse entries.old.items ++ stack_of pool.old class) }
     ensures block { IfSome result (IsBlock class (pages_of pool.new class)) }
     ensures used { IfSome result (λ block. is_marked pool.new class block ≡ false) }
 {
@@ -169,7 +195,8 @@ fn refill(entries: &mut ArrayVec<u64, MAX_COUNT>, class: u8, pool: &mut Pool)
     ensures distinct { IsDistinct nat_eq entries.new.items }
     ensures most { array_vec_len entries.new ≤ max_count_of class }
     ensures none { entries.new.items ≡ [] → stack_of pool.new class ≡ [] }
-    ensures stack { reverse entries.new.items ++ stack_of pool.new class ≡ reverse entries.old.items ++ stack_of pool.old class }
+    ensures stack { reverse entries.new.items ++ stack_of pool.new class
+        ≡ reverse entries.old.items ++ stack_of pool.old class }
 {
     let mut batch = [0; MAX_COUNT];
     let count = pool.pop_batch(class, &mut batch);
@@ -188,12 +215,15 @@ fn put_into(entries: &mut ArrayVec<u64, MAX_COUNT>, class: u8, block: u64, pool:
     requires most { array_vec_len entries.old ≤ max_count_of class }
     requires carved { IsBlock class (pages_of pool.old class) block }
     requires used { is_marked pool.old class block ≡ false }
-    ensures entries { entries.new.items ≡ (after_put class block (with_room class entries.old.items pool.old)).entries }
-    ensures pool { pool.new ≡ (after_put class block (with_room class entries.old.items pool.old)).pool }
+    ensures entries { entries.new.items
+        ≡ (after_put class block (with_room class entries.old.items pool.old)).entries }
+    ensures pool { pool.new
+        ≡ (after_put class block (with_room class entries.old.items pool.old)).pool }
     ensures cached { All (IsCached pool.new class) entries.new.items }
     ensures distinct { IsDistinct nat_eq entries.new.items }
     ensures most { array_vec_len entries.new ≤ max_count_of class }
-    ensures stack { reverse entries.new.items ++ stack_of pool.new class ≡ block ∷ reverse entries.old.items ++ stack_of pool.old class }
+    ensures stack { reverse entries.new.items ++ stack_of pool.new class
+        ≡ block ∷ reverse entries.old.items ++ stack_of pool.old class }
 {
     if entries.len() >= max_count(class) {
         return make_room_and_put(entries, class, block, pool);
@@ -211,12 +241,15 @@ fn make_room_and_put(entries: &mut ArrayVec<u64, MAX_COUNT>, class: u8, block: u
     requires full { array_vec_len entries.old ≡ max_count_of class }
     requires carved { IsBlock class (pages_of pool.old class) block }
     requires used { is_marked pool.old class block ≡ false }
-    ensures entries { entries.new.items ≡ (after_put class block (with_room class entries.old.items pool.old)).entries }
-    ensures pool { pool.new ≡ (after_put class block (with_room class entries.old.items pool.old)).pool }
+    ensures entries { entries.new.items
+        ≡ (after_put class block (with_room class entries.old.items pool.old)).entries }
+    ensures pool { pool.new
+        ≡ (after_put class block (with_room class entries.old.items pool.old)).pool }
     ensures cached { All (IsCached pool.new class) entries.new.items }
     ensures distinct { IsDistinct nat_eq entries.new.items }
     ensures most { array_vec_len entries.new ≤ max_count_of class }
-    ensures stack { reverse entries.new.items ++ stack_of pool.new class ≡ block ∷ reverse entries.old.items ++ stack_of pool.old class }
+    ensures stack { reverse entries.new.items ++ stack_of pool.new class
+        ≡ block ∷ reverse entries.old.items ++ stack_of pool.old class }
 {
     make_room(entries, class, pool);
     add(entries, class, block, pool);
@@ -237,7 +270,8 @@ fn add(entries: &mut ArrayVec<u64, MAX_COUNT>, class: u8, block: u64, pool: &mut
     ensures cached { All (IsCached pool.new class) entries.new.items }
     ensures distinct { IsDistinct nat_eq entries.new.items }
     ensures most { array_vec_len entries.new ≤ max_count_of class }
-    ensures stack { reverse entries.new.items ++ stack_of pool.new class ≡ block ∷ reverse entries.old.items ++ stack_of pool.old class }
+    ensures stack { reverse entries.new.items ++ stack_of pool.new class
+        ≡ block ∷ reverse entries.old.items ++ stack_of pool.old class }
 {
     entries.push(block);
     pool.mark_free(class, block);
@@ -255,7 +289,8 @@ fn make_room(entries: &mut ArrayVec<u64, MAX_COUNT>, class: u8, pool: &mut Pool)
     ensures cached { All (IsCached pool.new class) entries.new.items }
     ensures distinct { IsDistinct nat_eq entries.new.items }
     ensures room { array_vec_len entries.new < max_count_of class }
-    ensures stack { reverse entries.new.items ++ stack_of pool.new class ≡ reverse entries.old.items ++ stack_of pool.old class }
+    ensures stack { reverse entries.new.items ++ stack_of pool.new class
+        ≡ reverse entries.old.items ++ stack_of pool.old class }
 {
     let half = max_count(class) / 2;
     pool.push_batch(class, &entries.as_slice()[..half]);

@@ -1,10 +1,7 @@
-//! The local cache (Scudo, `local_cache.h`): for each size class some free blocks, above the pool's. Both are one
-//! stack; whole batches move between them.
+//! The local cache (Scudo, `local_cache.h`): for each size class some free blocks, above the
+//! pool's. Both are one stack; whole batches move between them.
 #![tactic(auto)]
 
 mod cache;
 
 pub use cache::Cache;
-
-#[cfg(test)]
-mod tests;

@@ -1,5 +1,7 @@
--- The size classes and their block sizes (Scudo, size_class_map.h: the fixed map with MinSizeLog 5, MidSizeLog 8 and S 2).
-use Rattle.std.specs.Prelude.{ℕ, ◌+◌, ◌-◌, ◌*◌, ◌/◌, ◌%◌, ◌^◌, ◌≤◌, ◌<◌, nat_le, Option, if◌then◌else◌}
+-- The size classes and their block sizes (Scudo, size_class_map.h: the fixed map with MinSizeLog 5,
+-- MidSizeLog 8 and S 2).
+use Rattle.std.specs.Prelude.{ℕ, ◌+◌, ◌-◌, ◌*◌, ◌/◌, ◌%◌, ◌^◌, ◌≤◌, ◌<◌, nat_le, Option}
+use Rattle.std.specs.Prelude.{if◌then◌else◌}
 use Rattle.std.specs.List.{find, range_with_len}
 use Rattle.scudo_header.specs.declared.classes.TheConstants.{CLASSES}
 
@@ -9,7 +11,10 @@ power_below k = 256 * 2 ^ (k / 4)
 
 -- The sizes go up by 32 to the middle class, and then by quarters of the power of two below them.
 unfoldable pub size_of : ℕ → ℕ
-size_of class = if nat_le class 8 then 32 * class else power_below (class - 8) + power_below (class - 8) / 4 * ((class - 8) % 4)
+size_of class =
+    if nat_le class 8
+    then 32 * class
+    else power_below (class - 8) + power_below (class - 8) / 4 * ((class - 8) % 4)
 
 -- The first of the classes 1, 2, .. whose blocks hold a need.
 unfoldable pub class_for : ℕ → Option ℕ

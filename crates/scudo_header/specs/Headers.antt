@@ -1,12 +1,15 @@
--- The header of a chunk (Scudo, chunk.h, UnpackedHeader), and its checksum (Scudo, checksum.h, computeBSDChecksum).
-use Rattle.std.specs.Prelude.{ℕ, ◌+◌, ◌*◌, ◌/◌, ◌%◌, ◌^◌, ◌==◌, ◌++◌, Option, Some, None, if◌then◌else◌}
+-- The header of a chunk (Scudo, chunk.h, UnpackedHeader), and its checksum (Scudo, checksum.h,
+-- computeBSDChecksum).
+use Rattle.std.specs.Prelude.{ℕ, ◌+◌, ◌*◌, ◌/◌, ◌%◌, ◌^◌, ◌==◌, ◌++◌, Option, Some, None}
+use Rattle.std.specs.Prelude.{if◌then◌else◌}
 use Rattle.std.specs.Int.{to_le_bytes, w64}
 use Rattle.std.specs.List.{fold}
 use Rattle.a64_bits.specs.Addresses.{plain}
 use Rattle.a64_bits.specs.Fields.{field_of}
 use Rattle.scudo_header.specs.declared.headers.Header.{Header}
 use Rattle.scudo_header.specs.declared.headers.State.{State}
-use Rattle.scudo_header.specs.declared.headers.State.TheVariants.{Available, Allocated, Quarantined, Reserved}
+use Rattle.scudo_header.specs.declared.headers.State.TheVariants.{Available, Allocated, Quarantined}
+use Rattle.scudo_header.specs.declared.headers.State.TheVariants.{Reserved}
 use Rattle.scudo_header.specs.declared.headers.Origin.{Origin}
 use Rattle.scudo_header.specs.declared.headers.Origin.TheVariants.{Malloc, New, NewArray, Memalign}
 
@@ -24,18 +27,23 @@ origin_number Memalign = 3
 
 -- ---- packing
 
--- The header with checksum 0: from bit 0 on a class of 8 bits, a state of 2, an origin of 2, a size of 20 and an offset of 16.
+-- The header with checksum 0: from bit 0 on a class of 8 bits, a state of 2, an origin of 2, a size
+-- of 20 and an offset of 16.
 abbrev pub header_word : Header → ℕ
-header_word h = h.class_id + 2 ^ 8 * state_number h.state + 2 ^ 10 * origin_number h.origin + 2 ^ 12 * h.size_or_unused_bytes + 2 ^ 32 * h.offset
+header_word h =
+    h.class_id + 2 ^ 8 * state_number h.state + 2 ^ 10 * origin_number h.origin
+    + 2 ^ 12 * h.size_or_unused_bytes + 2 ^ 32 * h.offset
 
 -- The sum is rotated right by one bit of its 16, and the byte is added.
 abbrev pub with_byte : ℕ → ℕ → ℕ
 with_byte sum byte = (sum / 2 + 2 ^ 15 * (sum % 2) + byte) % 2 ^ 16
 
--- The checksum of a header word: from the low 16 bits of the cookie, over the eight bytes of the plain address
--- and then the eight of the header with checksum 0, the lowest first.
+-- The checksum of a header word: from the low 16 bits of the cookie, over the eight bytes of the
+-- plain address and then the eight of the header with checksum 0, the lowest first.
 unfoldable pub checksum_of : ℕ → ℕ → ℕ → ℕ
-checksum_of cookie pointer word = fold with_byte (cookie % 2 ^ 16) (to_le_bytes w64 (plain pointer) ++ to_le_bytes w64 (word % 2 ^ 48))
+checksum_of cookie pointer word =
+    fold with_byte (cookie % 2 ^ 16)
+        (to_le_bytes w64 (plain pointer) ++ to_le_bytes w64 (word % 2 ^ 48))
 
 unfoldable pub packed : ℕ → ℕ → Header → ℕ
 packed cookie pointer h = header_word h + 2 ^ 48 * checksum_of cookie pointer (header_word h)
@@ -43,10 +51,14 @@ packed cookie pointer h = header_word h + 2 ^ 48 * checksum_of cookie pointer (h
 -- ---- unpacking
 
 abbrev pub state_of : ℕ → State
-state_of n = if n == 0 then Available else (if n == 1 then Allocated else (if n == 2 then Quarantined else Reserved))
+state_of n =
+    if n == 0
+    then Available
+    else (if n == 1 then Allocated else (if n == 2 then Quarantined else Reserved))
 
 abbrev pub origin_of : ℕ → Origin
-origin_of n = if n == 0 then Malloc else (if n == 1 then New else (if n == 2 then NewArray else Memalign))
+origin_of n =
+    if n == 0 then Malloc else (if n == 1 then New else (if n == 2 then NewArray else Memalign))
 
 abbrev pub header_of : ℕ → Header
 header_of word = record {
@@ -58,4 +70,5 @@ header_of word = record {
 }
 
 unfoldable pub unpacked : ℕ → ℕ → ℕ → Option Header
-unpacked cookie pointer word = if field_of 48 16 word == checksum_of cookie pointer word then Some (header_of word) else None
+unpacked cookie pointer word =
+    if field_of 48 16 word == checksum_of cookie pointer word then Some (header_of word) else None

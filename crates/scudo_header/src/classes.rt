@@ -1,4 +1,5 @@
-//! The size classes (Scudo, `size_class_map.h`: the fixed map with MinSizeLog 5, MidSizeLog 8, S 2).
+//! The size classes (Scudo, `size_class_map.h`: the fixed map with MinSizeLog 5, MidSizeLog 8, S
+//! 2).
 
 ghost use Rattle.std.specs.Prelude.{◌≡◌, ◌↔◌, ◌≤◌, ◌<◌, ◌%◌, IfSome, IsNone};
 ghost use Rattle.scudo_header.specs.Classes.{size_of, class_for, IsLeastClass};
@@ -34,8 +35,8 @@ pub fn size_of_class(class: u8) -> u64
     SIZES[class as usize]
 }
 
-/// The least class whose blocks hold `need` bytes (`getClassIdBySize`). There is none where `need` is above
-/// `LARGEST_CLASS_SIZE`.
+/// The least class whose blocks hold `need` bytes (`getClassIdBySize`). There is none where `need`
+/// is above `LARGEST_CLASS_SIZE`.
 #[inline]
 pub fn class_of(need: u64) -> Option<u8>
     ensures class { result ≡ class_for need }

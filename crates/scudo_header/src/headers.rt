@@ -2,7 +2,8 @@
 
 ghost use Rattle.std.specs.Prelude.{◌≡◌, ◌≢◌, ◌↔◌, ◌<◌, ◌/◌, ◌^◌, Some, IsNone, IfSome};
 ghost use Rattle.std.specs.List.{fold};
-ghost use Rattle.scudo_header.specs.Headers.{state_number, state_of, origin_number, origin_of, header_word, with_byte, checksum_of, packed, unpacked};
+ghost use Rattle.scudo_header.specs.Headers.{state_number, state_of, origin_number, origin_of};
+ghost use Rattle.scudo_header.specs.Headers.{header_word, with_byte, checksum_of, packed, unpacked};
 
 use a64_bits::plain;
 
@@ -41,8 +42,8 @@ pub struct Header {
     pub state: State,
     /// The call that it was handed out by (2 bits).
     pub origin: Origin,
-    /// The size in bytes that was asked for; for a chunk with pages of its own, the bytes that are left after
-    /// it (20 bits).
+    /// The size in bytes that was asked for; for a chunk with pages of its own, the bytes that are
+    /// left after it (20 bits).
     pub size_or_unused_bytes: u32,
     /// The distance from the start of the block to this header, in units of 16 bytes (16 bits).
     pub offset: u16,
@@ -111,8 +112,9 @@ fn add_bytes(start: u16, bytes: &[u8]) -> u16
     sum
 }
 
-/// The checksum of a header for the chunk at an address (`computeHeaderChecksum` without hardware support): a sum
-/// of 16 bits over the bytes of the plain address and of the header. The header's own checksum counts as 0.
+/// The checksum of a header for the chunk at an address (`computeHeaderChecksum` without hardware
+/// support): a sum of 16 bits over the bytes of the plain address and of the header. The header's
+/// own checksum counts as 0.
 #[tactic(auto, unfolding(crate::specs::Headers::checksum_of))]
 pub fn checksum(cookie: u32, pointer: u64, header: u64) -> u16
     ensures { result ≡ checksum_of cookie pointer header }
@@ -137,7 +139,8 @@ fn unchecked_word(header: &Header) -> u64
         + (u64::from(header.offset) << 32)
 }
 
-/// The word of a header with its checksum, for the chunk at an address. The size or unused bytes are below 2^20.
+/// The word of a header with its checksum, for the chunk at an address. The size or unused bytes
+/// are below 2^20.
 #[tactic(auto, unfolding(crate::specs::Headers::packed))]
 pub fn pack(cookie: u32, pointer: u64, header: &Header) -> u64
     requires { header.now.size_or_unused_bytes < 2 ^ 20 }
@@ -148,8 +151,8 @@ pub fn pack(cookie: u32, pointer: u64, header: &Header) -> u64
     word + (u64::from(checksum(cookie, pointer, word)) << 48)
 }
 
-/// The header of a word, for the chunk at an address. There is none exactly where the word's checksum is not
-/// that of the rest of it.
+/// The header of a word, for the chunk at an address. There is none exactly where the word's
+/// checksum is not that of the rest of it.
 #[tactic(auto, unfolding(crate::specs::Headers::unpacked))]
 pub fn unpack(cookie: u32, pointer: u64, word: u64) -> Option<Header>
     ensures header { result ≡ unpacked cookie pointer word }

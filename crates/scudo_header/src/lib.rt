@@ -1,5 +1,5 @@
-//! What the heap's parts share: the size classes of Scudo's primary allocator, their regions, and the header
-//! in front of each chunk.
+//! What the heap's parts share: the size classes of Scudo's primary allocator, their regions, and
+//! the header in front of each chunk.
 #![tactic(auto)]
 
 mod classes;
@@ -9,6 +9,3 @@ mod regions;
 pub use classes::{CLASSES, LARGEST_CLASS_SIZE, class_of, size_of_class};
 pub use headers::{Header, Origin, State, checksum, pack, unpack};
 pub use regions::{MAX_PAGES, PAGE_SIZE, REGION_SIZE, REGIONS_START};
-
-#[cfg(test)]
-mod tests;

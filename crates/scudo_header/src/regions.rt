@@ -1,5 +1,5 @@
-//! Where the blocks of each size class lie: each class has a region of its own (Scudo, `primary64.h`), at a
-//! place that this project fixes.
+//! Where the blocks of each size class lie: each class has a region of its own (Scudo,
+//! `primary64.h`), at a place that this project fixes.
 
 /// The bytes of a page.
 pub const PAGE_SIZE: u64 = 4096;

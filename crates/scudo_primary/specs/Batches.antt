@@ -1,13 +1,16 @@
 -- How a class's free blocks are cut into batches (Scudo, local_cache.h: a transfer batch).
-use Rattle.std.specs.Prelude.{ℕ, ◌-◌, ◌/◌, ◌%◌, ◌==◌, nat_le, List, [], ◌∷◌, ◌++◌, replicate, if◌then◌else◌}
+use Rattle.std.specs.Prelude.{ℕ, ◌-◌, ◌/◌, ◌%◌, ◌==◌, nat_le, List, [], ◌∷◌, ◌++◌, replicate}
+use Rattle.std.specs.Prelude.{if◌then◌else◌}
 use Rattle.scudo_header.specs.Classes.{size_of}
-use Rattle.scudo_primary.specs.declared.batches.TheConstants.{SMALL_SIZE, MAX_COUNT, MAX_COUNT_ABOVE}
+use Rattle.scudo_primary.specs.declared.batches.TheConstants.{SMALL_SIZE, MAX_COUNT}
+use Rattle.scudo_primary.specs.declared.batches.TheConstants.{MAX_COUNT_ABOVE}
 
 -- The most blocks of a class that a local cache or a batch holds.
 abbrev pub max_count_of : ℕ → ℕ
 max_count_of class = if nat_le (size_of class) SMALL_SIZE then MAX_COUNT else MAX_COUNT_ABOVE
 
--- The sizes of the batches, from the lowest on, into which n new blocks of a class are cut: half of the maximum each, and what is left in the last.
+-- The sizes of the batches, from the lowest on, into which n new blocks of a class are cut: half of
+-- the maximum each, and what is left in the last.
 abbrev pub cut_by : ℕ → ℕ → List ℕ
 cut_by half n = replicate (n / half) half ++ (if n % half == 0 then [] else (n % half) ∷ [])
 

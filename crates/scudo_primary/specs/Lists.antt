@@ -1,6 +1,9 @@
--- How the pool keeps its stacks: linked through one table of entries. A carved block has its own entry as long as the pool
--- lives: each carved page has a number, and 128 entries from 128 times that number on, one for each 32 bytes.
-use Rattle.std.specs.Prelude.{◌≡◌, ◌≢◌, ℕ, zero, suc, ◌==◌, ◌||◌, ◌+◌, ◌-◌, ◌*◌, ◌/◌, ◌%◌, ◌<◌, ◌≤◌, Bool, true, false, nat_eq, List, [], ◌∷◌, ◌++◌, length, map, take, replicate, slice_index, slice_index_or, slice_set, vec_len}
+-- How the pool keeps its stacks: linked through one table of entries. A carved block has its own
+-- entry as long as the pool lives: each carved page has a number, and 128 entries from 128 times
+-- that number on, one for each 32 bytes.
+use Rattle.std.specs.Prelude.{◌≡◌, ◌≢◌, ℕ, zero, suc, ◌==◌, ◌||◌, ◌+◌, ◌-◌, ◌*◌, ◌/◌, ◌%◌, ◌<◌, ◌≤◌}
+use Rattle.std.specs.Prelude.{Bool, true, false, nat_eq, List, [], ◌∷◌, ◌++◌, length, map, take}
+use Rattle.std.specs.Prelude.{replicate, slice_index, slice_index_or, slice_set, vec_len}
 use Rattle.std.specs.List.{range_with_len, IsDistinct}
 use Rattle.scudo_header.specs.Regions.{region_of}
 use Rattle.scudo_header.specs.declared.classes.TheConstants.{CLASSES}
@@ -58,7 +61,9 @@ page_number ns class page = slice_index ns (slot_of class page)
 
 -- where the entry of a block stands
 abbrev pub place_of : List ℕ → ℕ → ℕ → ℕ
-place_of ns class block = page_number ns class ((block - region_of class) / PAGE_SIZE) * 128 + (block - region_of class) % PAGE_SIZE / 32
+place_of ns class block =
+    page_number ns class ((block - region_of class) / PAGE_SIZE) * 128
+    + (block - region_of class) % PAGE_SIZE / 32
 
 abbrev pub no_entry : Entry
 no_entry = record { next = 0; free = false; last = false }
@@ -89,7 +94,8 @@ unfoldable pub sizes_from : List Entry → List ℕ → ℕ → ℕ → ℕ → 
 sizes_from es ns class n at = sizes_by (map (last_in es ns class) (stack_from es ns class n at))
 
 unfoldable pub marks_in : List Entry → List ℕ → ℕ → ℕ → List Bool
-marks_in es ns class pages = map (λ n. free_in es ns class (block_at class n)) (range_with_len 0 (carved_count class pages))
+marks_in es ns class pages =
+    map (λ n. free_in es ns class (block_at class n)) (range_with_len 0 (carved_count class pages))
 
 abbrev pub class_in : List Entry → List ℕ → ℕ → ClassList → ClassState
 class_in es ns class k = record {
@@ -107,7 +113,12 @@ pool_in f = state_of (f.limit - f.used) f.entries.items f.numbers.items f.lists
 
 -- the class with one block more on top, which begins a batch or joins the first, marked free
 abbrev pub link_in : ℕ → ClassState → ℕ → Bool → ClassState
-link_in class k block last = record k { stack = block ∷ k.stack; sizes = joined last k.sizes; marks = slice_set k.marks (number_of class block) true }
+link_in class k block last =
+    record k {
+      stack = block ∷ k.stack;
+      sizes = joined last k.sizes;
+      marks = slice_set k.marks (number_of class block) true;
+    }
 
 -- the class with n new blocks from the one with the number m on, on top and marked free
 abbrev pub link_new_in : ℕ → ClassState → ℕ → ℕ → ClassState
@@ -123,7 +134,9 @@ link_new_in class k m n = record {
 pub record IsNumbered (ns : List ℕ) (ks : List ClassList) (n : ℕ) : Type 0 where
   pub slot : (c i : ℕ) → IsClass c → i < (list_at ks c).pages → slot_of c i < length ns
   pub room : (c i : ℕ) → IsClass c → i < (list_at ks c).pages → page_number ns c i * 128 + 128 ≤ n
-  pub apart : (c d i j : ℕ) → IsClass c → IsClass d → i < (list_at ks c).pages → j < (list_at ks d).pages → page_number ns c i ≡ page_number ns d j → (c ≡ d) × (i ≡ j)
+  pub apart :
+      (c d i j : ℕ) → IsClass c → IsClass d → i < (list_at ks c).pages → j < (list_at ks d).pages
+      → page_number ns c i ≡ page_number ns d j → (c ≡ d) × (i ≡ j)
   pub few : (c : ℕ) → IsClass c → (list_at ks c).pages ≤ MAX_PAGES
 
 pub record IsLinked (es : List Entry) (ns : List ℕ) (c : ℕ) (k : ClassList) : Type 0 where
@@ -139,7 +152,9 @@ pub record IsTable (es : List Entry) (ns : List ℕ) (ks : List ClassList) : Typ
 
 pub record IsPool (f : Inside) : Type 0 where
   pub table : IsTable f.entries.items f.numbers.items f.lists
-  pub counted : (c i : ℕ) → IsClass c → i < (list_at f.lists c).pages → page_number f.numbers.items c i < f.used
+  pub counted :
+      (c i : ℕ) → IsClass c → i < (list_at f.lists c).pages
+      → page_number f.numbers.items c i < f.used
   pub few : (c : ℕ) → IsClass c → (list_at f.lists c).pages ≤ f.used
   pub below : f.used ≤ f.limit
   pub most : f.limit ≤ MAX_PAGES
@@ -147,9 +162,13 @@ pub record IsPool (f : Inside) : Type 0 where
   pub slots : vec_len f.numbers ≡ CLASSES * f.limit
 
 -- a call changed the class c to k, and no other class
-pub record Became (es : List Entry) (ns : List ℕ) (ks : List ClassList) (es' : List Entry) (ks' : List ClassList) (c : ℕ) (k : ClassState) : Type 0 where
+pub record Became (es :
+    List Entry) (ns : List ℕ) (ks : List ClassList) (es' : List Entry) (ks' : List ClassList) (c :
+    ℕ) (k : ClassState) : Type 0 where
   pub table : IsTable es' ns ks'
   pub class : class_in es' ns c (list_at ks' c) ≡ k
-  pub others : (d : ℕ) → IsClass d → d ≢ c → class_in es' ns d (list_at ks' d) ≡ class_in es ns d (list_at ks d)
+  pub others :
+      (d : ℕ) → IsClass d → d ≢ c
+      → class_in es' ns d (list_at ks' d) ≡ class_in es ns d (list_at ks d)
   pub pages : (d : ℕ) → IsClass d → (list_at ks' d).pages ≡ (list_at ks d).pages
   pub len : length es' ≡ length es

@@ -1,4 +1,5 @@
--- The pool of free blocks: for each size class the pages of its region, ONE stack of free blocks, and a mark for each carved block.
+-- The pool of free blocks: for each size class the pages of its region, ONE stack of free blocks,
+-- and a mark for each carved block.
 --     class_at p class                   what a class has
 --     popped p class                     p without the top block of the class's stack
 --     pushed p class block               p with a block more on top
@@ -6,7 +7,9 @@
 --     with_batch p class blocks          p with a batch more on top
 --     with_mark p class block mark       p with a block marked free or used
 --     with_pages p class pages           p with pages more for the class, and the new blocks on top
-use Rattle.std.specs.Prelude.{◌≡◌, ℕ, ◌+◌, ◌-◌, ◌==◌, Bool, true, false, List, [], ◌∷◌, ◌++◌, length, map, take, drop, reverse, replicate, slice_set, slice_index_or, unwrap_or, refl}
+use Rattle.std.specs.Prelude.{◌≡◌, ℕ, ◌+◌, ◌-◌, ◌==◌, Bool, true, false, List, [], ◌∷◌, ◌++◌}
+use Rattle.std.specs.Prelude.{length, map, take, drop, reverse, replicate, slice_set}
+use Rattle.std.specs.Prelude.{slice_index_or, unwrap_or, refl}
 use Rattle.std.specs.List.{range_with_len, list_any}
 use Rattle.std.specs.Ordering.{nat_cmp}
 use Rattle.std.specs.FinMap as finite
@@ -18,8 +21,9 @@ use Rattle.scudo_primary.specs.Batches.{batch_sizes, first_size, one_less}
 
 -- pages: the pages of the class's region that are carved
 -- stack: the free blocks that the pool itself keeps, the top first
--- sizes: how that stack is cut into batches, from the top on. A batch's last entry is its top, so its own order is the stack's turned round
--- marks: for each carved block, in ascending order, whether it is marked free
+-- sizes: how that stack is cut into batches, from the top on. A batch's last entry is its top, so
+-- its own order is the stack's turned round marks: for each carved block, in ascending order,
+-- whether it is marked free
 pub record ClassState : Type 0 where
   pub pages : ℕ
   pub stack : List ℕ
@@ -33,7 +37,9 @@ pub record PoolState : Type 0 where
 
 abbrev pub coded_class : Coded ClassState
 coded_class =
-    code_by (ℕ × (List ℕ × (List ℕ × List Bool))) (coded× coded_ℕ (coded× (coded_list coded_ℕ) (coded× (coded_list coded_ℕ) (coded_list coded_bool))))
+    code_by (ℕ × (List ℕ × (List ℕ × List Bool)))
+    (coded× coded_ℕ
+    (coded× (coded_list coded_ℕ) (coded× (coded_list coded_ℕ) (coded_list coded_bool))))
     (λ k. (k.pages, (k.stack, (k.sizes, k.marks))))
     (λ c. record { pages = c.0; stack = c.1.0; sizes = c.1.1.0; marks = c.1.1.1 })
     (λ _. refl)
@@ -50,7 +56,11 @@ empty_class = record { pages = 0; stack = []; sizes = []; marks = [] }
 
 -- a pool by what each class has
 abbrev pub pool_by : ℕ → (ℕ → ClassState) → PoolState
-pool_by left f = record { left = left; classes = finite.from_entries (map (λ class. (class, f class)) (range_with_len 1 CLASSES)) }
+pool_by left f =
+    record {
+      left = left;
+      classes = finite.from_entries (map (λ class. (class, f class)) (range_with_len 1 CLASSES));
+    }
 
 -- A pool for so many pages, none of them carved.
 unfoldable pub empty_pool : ℕ → PoolState
@@ -105,11 +115,21 @@ mark_in class k block mark = record k { marks = slice_set k.marks (number_of cla
 -- the class without its top block, which is then marked used
 abbrev pub pop_in : ℕ → ClassState → List ℕ → ClassState
 pop_in class k [] = k
-pop_in class k (block ∷ more) = record k { stack = more; sizes = one_less k.sizes; marks = slice_set k.marks (number_of class block) false }
+pop_in class k (block ∷ more) =
+    record k {
+      stack = more;
+      sizes = one_less k.sizes;
+      marks = slice_set k.marks (number_of class block) false;
+    }
 
 -- the class with one more block on top, a batch of its own, marked free
 abbrev pub push_in : ℕ → ClassState → ℕ → ClassState
-push_in class k block = record k { stack = block ∷ k.stack; sizes = 1 ∷ k.sizes; marks = slice_set k.marks (number_of class block) true }
+push_in class k block =
+    record k {
+      stack = block ∷ k.stack;
+      sizes = 1 ∷ k.sizes;
+      marks = slice_set k.marks (number_of class block) true;
+    }
 
 -- the top batch in its own order, whose last entry is the top of the stack
 abbrev pub batch_in : ClassState → List ℕ
@@ -119,7 +139,8 @@ abbrev pub pop_batch_in : ClassState → ClassState
 pop_batch_in k = record k { stack = drop (first_size k.sizes) k.stack; sizes = drop 1 k.sizes }
 
 abbrev pub push_batch_in : ClassState → List ℕ → ClassState
-push_batch_in k blocks = record k { stack = reverse blocks ++ k.stack; sizes = length blocks ∷ k.sizes }
+push_batch_in k blocks =
+    record k { stack = reverse blocks ++ k.stack; sizes = length blocks ∷ k.sizes }
 
 -- the class with so many more blocks on top, the lowest first, marked free
 abbrev pub carve_in : ℕ → ClassState → ℕ → ℕ → ClassState
@@ -155,4 +176,7 @@ abbrev pub new_count : ℕ → ℕ → ℕ → ℕ
 new_count class before more = carved_count class (before + more) - carved_count class before
 
 unfoldable pub with_pages : PoolState → ℕ → ℕ → PoolState
-with_pages p class pages = record (with_class p class (carve_in class (class_at p class) pages (new_count class (pages_of p class) pages))) { left = p.left - pages }
+with_pages p class pages =
+    let count = new_count class (pages_of p class) pages in
+    let carved = carve_in class (class_at p class) pages count in
+    record (with_class p class carved) { left = p.left - pages }

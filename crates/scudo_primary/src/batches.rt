@@ -8,7 +8,8 @@ use scudo_header::{CLASSES, size_of_class};
 /// The largest size of a class's blocks of which a local cache holds `MAX_COUNT`.
 pub const SMALL_SIZE: u64 = 512;
 
-/// The most blocks of a class that a local cache or a batch holds (Scudo, `local_cache.h`: `MaxCount`).
+/// The most blocks of a class that a local cache or a batch holds (Scudo, `local_cache.h`:
+/// `MaxCount`).
 pub const MAX_COUNT: usize = 28;
 
 /// The same, for the classes of blocks above `SMALL_SIZE` bytes.

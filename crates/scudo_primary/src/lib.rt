@@ -1,6 +1,6 @@
-//! The primary allocator's pool: for each size class one stack of free blocks, cut into batches that move to a
-//! local cache and back whole (Scudo, `primary64.h` and `local_cache.h`). Here no block is touched: the stacks are linked
-//! through a table beside the memory.
+//! The primary allocator's pool: for each size class one stack of free blocks, cut into batches
+//! that move to a local cache and back whole (Scudo, `primary64.h` and `local_cache.h`). Here no
+//! block is touched: the stacks are linked through a table beside the memory.
 #![tactic(auto)]
 
 mod batches;
@@ -9,6 +9,3 @@ mod pool;
 
 pub use batches::{MAX_COUNT, MAX_COUNT_ABOVE, SMALL_SIZE, max_count};
 pub use pool::Pool;
-
-#[cfg(test)]
-mod tests;

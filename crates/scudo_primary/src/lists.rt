@@ -1,11 +1,14 @@
 //! The stacks of free blocks, linked through one table of entries.
 
-ghost use Rattle.std.specs.Prelude.{◌≡◌, ◌≤◌, ◌≢◌, ◌<◌, ◌+◌, ◌-◌, ◌*◌, ◌/◌, ◌++◌, ℕ, Some, false, length, drop, slice_get, slice_set, nat_eq, nat_lt, not, ◌&&◌, ◌^◌};
+ghost use Rattle.std.specs.Prelude.{◌≡◌, ◌≤◌, ◌≢◌, ◌<◌, ◌+◌, ◌-◌, ◌*◌, ◌/◌, ◌++◌, ℕ, Some, false};
+ghost use Rattle.std.specs.Prelude.{length, drop, slice_get, slice_set, nat_eq, nat_lt, not, ◌&&◌};
+ghost use Rattle.std.specs.Prelude.{◌^◌};
 ghost use Rattle.std.specs.List.{All, IsDistinct};
 ghost use Rattle.scudo_header.specs.Regions.{region_of};
 ghost use Rattle.scudo_primary.specs.Blocks.{IsBlock, carved_count, number_of};
 ghost use Rattle.scudo_primary.specs.Batches.{max_count_of, first_size};
-ghost use Rattle.scudo_primary.specs.Pools.{is_member, IsLoose, pop_in, batch_in, pop_batch_in, push_batch_in};
+ghost use Rattle.scudo_primary.specs.Pools.{is_member, IsLoose, pop_in, batch_in, pop_batch_in};
+ghost use Rattle.scudo_primary.specs.Pools.{push_batch_in};
 
 use crate::batches::{MAX_COUNT, max_count};
 use scudo_header::{CLASSES, PAGE_SIZE, REGION_SIZE, REGIONS_START, size_of_class};
@@ -13,8 +16,8 @@ use scudo_header::{CLASSES, PAGE_SIZE, REGION_SIZE, REGIONS_START, size_of_class
 /// How many lists there are: one for each size class.
 pub(crate) const LISTS: usize = CLASSES as usize;
 
-/// What is kept for a block: the address of the block below it in its stack, whether it is marked free, and whether it
-/// is the last of its batch.
+/// What is kept for a block: the address of the block below it in its stack, whether it is marked
+/// free, and whether it is the last of its batch.
 #[derive(Clone, Copy)]
 pub(crate) struct Entry {
     pub(crate) next: u32,
@@ -22,7 +25,8 @@ pub(crate) struct Entry {
     pub(crate) last: bool,
 }
 
-/// The stack of a class: its top, how many blocks it has, and how many pages of the region are carved.
+/// The stack of a class: its top, how many blocks it has, and how many pages of the region are
+/// carved.
 #[derive(Clone, Copy)]
 pub(crate) struct ClassList {
     pub(crate) head: u32,
@@ -30,7 +34,9 @@ pub(crate) struct ClassList {
     pub(crate) pages: u64,
 }
 
-ghost use Rattle.scudo_primary.specs.Lists.{IsClass, IsTable, Became, Each, joined, is_last_at, list_at, entry_at, class_in, link_in, link_new_in, place_of, slot_of, page_number};
+ghost use Rattle.scudo_primary.specs.Lists.{IsClass, IsTable, Became, Each, joined, is_last_at};
+ghost use Rattle.scudo_primary.specs.Lists.{list_at, entry_at, class_in, link_in, link_new_in};
+ghost use Rattle.scudo_primary.specs.Lists.{place_of, slot_of, page_number};
 
 /// The first address of a class's region.
 #[inline(always)]
@@ -71,7 +77,9 @@ pub(crate) fn set_mark(entries: &mut [Entry], numbers: &[u16], class: u8, block:
     requires inside { region_of class ≤ block }
     requires slot { slot_of class ((block - region_of class) / PAGE_SIZE) < length numbers.now }
     requires place { place_of numbers.now class block < length entries.old }
-    ensures { entries.new ≡ slice_set entries.old (place_of numbers.now class block) (record (entry_at entries.old numbers.now class block) { free = free }) }
+    ensures { entries.new
+        ≡ slice_set entries.old (place_of numbers.now class block)
+        (record (entry_at entries.old numbers.now class block) { free = free }) }
 {
     let at = place(numbers, class, block);
     let entry = entries[at];
@@ -82,8 +90,8 @@ pub(crate) fn set_mark(entries: &mut [Entry], numbers: &[u16], class: u8, block:
     };
 }
 
-/// Puts a block on top of the stack of its class, and marks it free. It is the last of a new batch, or it joins the top
-/// batch.
+/// Puts a block on top of the stack of its class, and marks it free. It is the last of a new batch,
+/// or it joins the top batch.
 #[inline]
 pub(crate) fn link(
     entries: &mut [Entry],
@@ -96,9 +104,14 @@ pub(crate) fn link(
     requires table { IsTable entries.old numbers.now lists.old }
     requires class { IsClass class }
     requires block { IsBlock class (list_at lists.old class).pages block }
-    requires unlisted { is_member (class_in entries.old numbers.now class (list_at lists.old class)).stack block ≡ false }
-    requires room { Each (λ n. n ≤ max_count_of class) (joined last (class_in entries.old numbers.now class (list_at lists.old class)).sizes) }
-    ensures { Became entries.old numbers.now lists.old entries.new lists.new class (link_in class (class_in entries.old numbers.now class (list_at lists.old class)) block last) }
+    requires unlisted { is_member
+        (class_in entries.old numbers.now class (list_at lists.old class)).stack block
+        ≡ false }
+    requires room { Each (λ n. n ≤ max_count_of class)
+        (joined last (class_in entries.old numbers.now class (list_at lists.old class)).sizes) }
+    ensures { Became entries.old numbers.now lists.old entries.new lists.new class
+        (link_in class (class_in entries.old numbers.now class (list_at lists.old class)) block
+        last) }
 {
     let list = lists[class as usize - 1];
     let at = place(numbers, class, block);
@@ -125,10 +138,16 @@ pub(crate) fn unlink(
     requires table { IsTable entries.old numbers.now lists.old }
     requires class { IsClass class }
     requires some { 0 < (list_at lists.old class).count }
-    ensures top { slice_get (class_in entries.old numbers.now class (list_at lists.old class)).stack 0 ≡ Some result }
+    ensures top { slice_get
+        (class_in entries.old numbers.now class (list_at lists.old class)).stack 0
+        ≡ Some result }
     ensures block { IsBlock class (list_at lists.old class).pages result }
-    ensures unlisted { is_member (class_in entries.new numbers.now class (list_at lists.new class)).stack result ≡ false }
-    ensures rest { Became entries.old numbers.now lists.old entries.new lists.new class (pop_in class (class_in entries.old numbers.now class (list_at lists.old class)) (class_in entries.old numbers.now class (list_at lists.old class)).stack) }
+    ensures unlisted { is_member
+        (class_in entries.new numbers.now class (list_at lists.new class)).stack result
+        ≡ false }
+    ensures rest { Became entries.old numbers.now lists.old entries.new lists.new class
+        (pop_in class (class_in entries.old numbers.now class (list_at lists.old class))
+        (class_in entries.old numbers.now class (list_at lists.old class)).stack) }
 {
     let list = lists[class as usize - 1];
     let block = list.head as u64;
@@ -150,7 +169,8 @@ fn goes_on(last: bool, count: u64, all: u64) -> bool
     !last && count < all
 }
 
-/// Takes the top batch of the stack of a class into the buffer, in its own order, and answers its length. The marks stay.
+/// Takes the top batch of the stack of a class into the buffer, in its own order, and answers its
+/// length. The marks stay.
 #[inline]
 pub(crate) fn unlink_batch(
     entries: &[Entry],
@@ -161,9 +181,13 @@ pub(crate) fn unlink_batch(
 ) -> usize
     requires table { IsTable entries.now numbers.now lists.old }
     requires class { IsClass class }
-    ensures count { result ≡ first_size (class_in entries.now numbers.now class (list_at lists.old class)).sizes }
-    ensures buffer { buffer.new ≡ batch_in (class_in entries.now numbers.now class (list_at lists.old class)) ++ drop result buffer.old }
-    ensures rest { Became entries.now numbers.now lists.old entries.now lists.new class (pop_batch_in (class_in entries.now numbers.now class (list_at lists.old class))) }
+    ensures count { result
+        ≡ first_size (class_in entries.now numbers.now class (list_at lists.old class)).sizes }
+    ensures buffer { buffer.new
+        ≡ batch_in (class_in entries.now numbers.now class (list_at lists.old class)) ++ drop
+        result buffer.old }
+    ensures rest { Became entries.now numbers.now lists.old entries.now lists.new class
+        (pop_batch_in (class_in entries.now numbers.now class (list_at lists.old class))) }
 {
     let list = lists[class as usize - 1];
     let mut next = list.head;
@@ -199,9 +223,13 @@ pub(crate) fn link_batch(
     requires class { IsClass class }
     requires some { 0 < length blocks.now }
     requires most { length blocks.now ≤ max_count_of class }
-    requires blocks { All (IsLoose (class_in entries.old numbers.now class (list_at lists.old class)) class) blocks.now }
+    requires blocks { All
+        (IsLoose (class_in entries.old numbers.now class (list_at lists.old class)) class)
+        blocks.now }
     requires distinct { IsDistinct nat_eq blocks.now }
-    ensures { Became entries.old numbers.now lists.old entries.new lists.new class (push_batch_in (class_in entries.old numbers.now class (list_at lists.old class)) blocks.now) }
+    ensures { Became entries.old numbers.now lists.old entries.new lists.new class
+        (push_batch_in (class_in entries.old numbers.now class (list_at lists.old class))
+        blocks.now) }
 {
     let mut last = true;
     for block in blocks {
@@ -216,15 +244,19 @@ pub(crate) fn number_pages(numbers: &mut [u16], class: u8, from: u64, pages: u64
     requires slots { CLASSES * (from + pages) ≤ length numbers.old }
     requires numbers { first + pages < 2 ^ 16 }
     ensures numbered { (i : ℕ) → i < pages → page_number numbers.new class (from + i) ≡ first + i }
-    ensures before { (i : ℕ) → i < from → page_number numbers.new class i ≡ page_number numbers.old class i }
-    ensures others { (other i : ℕ) → IsClass other → other ≢ class → page_number numbers.new other i ≡ page_number numbers.old other i }
+    ensures before { (i : ℕ)
+        → i < from → page_number numbers.new class i ≡ page_number numbers.old class i }
+    ensures others { (other i : ℕ)
+        → IsClass other
+        → other ≢ class → page_number numbers.new other i ≡ page_number numbers.old other i }
 {
     for i in 0..pages {
         numbers[slot(class, from + i)] = (first + i) as u16;
     }
 }
 
-/// Whether the block at a place among `count` new ones, counted from the lowest, is the last of its batch.
+/// Whether the block at a place among `count` new ones, counted from the lowest, is the last of its
+/// batch.
 #[inline(always)]
 fn is_last(half: u64, count: u64, place: u64) -> bool
     requires half { 0 < half }
@@ -234,8 +266,8 @@ fn is_last(half: u64, count: u64, place: u64) -> bool
     place + 1 == count || (place + 1) % half == 0
 }
 
-/// Puts the blocks of a class from the one with the number `from` to below `to` on top of its stack and marks them free, the
-/// lowest on top, cut into batches from the lowest on.
+/// Puts the blocks of a class from the one with the number `from` to below `to` on top of its stack
+/// and marks them free, the lowest on top, cut into batches from the lowest on.
 pub(crate) fn link_new(
     entries: &mut [Entry],
     numbers: &[u16],
@@ -248,8 +280,11 @@ pub(crate) fn link_new(
     requires class { IsClass class }
     requires order { from ≤ to }
     requires all { to ≡ carved_count class (list_at lists.old class).pages }
-    requires new { Each (λ block. number_of class block < from) (class_in entries.old numbers.now class (list_at lists.old class)).stack }
-    ensures { Became entries.old numbers.now lists.old entries.new lists.new class (link_new_in class (class_in entries.old numbers.now class (list_at lists.old class)) from (to - from)) }
+    requires new { Each (λ block. number_of class block < from)
+        (class_in entries.old numbers.now class (list_at lists.old class)).stack }
+    ensures { Became entries.old numbers.now lists.old entries.new lists.new class
+        (link_new_in class (class_in entries.old numbers.now class (list_at lists.old class))
+        from (to - from)) }
 {
     let half = max_count(class) as u64 / 2;
     let size = size_of_class(class);

@@ -1,10 +1,14 @@
 //! The pool of free blocks.
 
-ghost use Rattle.std.specs.Prelude.{◌≡◌, ◌≤◌, ◌<◌, ◌++◌, ◌↔◌, [], true, false, length, take, drop, reverse, slice_get, nat_eq, IfSome, IfOk, IsTrue};
+ghost use Rattle.std.specs.Prelude.{◌≡◌, ◌≤◌, ◌<◌, ◌++◌, ◌↔◌, [], true, false, length, take, drop};
+ghost use Rattle.std.specs.Prelude.{reverse, slice_get, nat_eq, IfSome, IfOk, IsTrue};
 ghost use Rattle.std.specs.List.{All, IsDistinct};
 ghost use Rattle.scudo_primary.specs.Blocks.{IsBlock, carved_count};
 ghost use Rattle.scudo_primary.specs.Batches.{max_count_of, first_size};
-ghost use Rattle.scudo_primary.specs.Pools.{pages_of, stack_of, sizes_of, is_listed, is_marked, IsFree, IsCached, empty_pool, popped, pushed, top_batch, without_batch, with_batch, with_mark, with_pages};
+ghost use Rattle.scudo_primary.specs.Pools.{pages_of, stack_of, sizes_of, is_listed, is_marked};
+ghost use Rattle.scudo_primary.specs.Pools.{IsFree, IsCached, empty_pool, popped, pushed};
+ghost use Rattle.scudo_primary.specs.Pools.{top_batch, without_batch, with_batch, with_mark};
+ghost use Rattle.scudo_primary.specs.Pools.{with_pages};
 
 use crate::batches::MAX_COUNT;
 use crate::lists::{
@@ -15,8 +19,8 @@ use scudo_header::{CLASSES, MAX_PAGES, PAGE_SIZE, size_of_class};
 use std::alloc::{AllocError, Global};
 use std::marker::Model;
 
-/// For each size class the pages of its region that are carved into blocks, one stack of free blocks, and a mark for
-/// each carved block that tells whether it is free.
+/// For each size class the pages of its region that are carved into blocks, one stack of free
+/// blocks, and a mark for each carved block that tells whether it is free.
 #[derive(Drop)]
 pub struct Pool {
     /// 128 for each page, one for each 32 bytes.
@@ -42,7 +46,8 @@ impl Model for Pool {
 }
 
 impl Pool {
-    /// A pool for `pages` pages, none of them carved. It is refused only where its memory is; no later call takes any.
+    /// A pool for `pages` pages, none of them carved. It is refused only where its memory is; no
+    /// later call takes any.
     pub fn new(alloc: Global, pages: u64) -> Result<Pool, AllocError>
         requires low { 0 < pages }
         requires high { pages ≤ MAX_PAGES }
@@ -69,8 +74,9 @@ impl Pool {
         })
     }
 
-    /// Carves `pages` pages more of a class's region into blocks. The new blocks come on top of its stack, marked free, the
-    /// lowest on top, in batches of at most half of what a local cache holds.
+    /// Carves `pages` pages more of a class's region into blocks. The new blocks come on top of its
+    /// stack, marked free, the lowest on top, in batches of at most half of what a local cache
+    /// holds.
     pub fn carve(&mut self, class: u8, pages: u64)
         requires low { 0 < class }
         requires high { class ≤ CLASSES }
@@ -92,7 +98,8 @@ impl Pool {
         );
     }
 
-    /// Takes the top block of the stack of a class and marks it used. There is none where the stack is empty.
+    /// Takes the top block of the stack of a class and marks it used. There is none where the stack
+    /// is empty.
     pub fn pop(&mut self, class: u8) -> Option<u64>
         requires low { 0 < class }
         requires high { class ≤ CLASSES }
@@ -108,7 +115,8 @@ impl Pool {
         Some(unlink(&mut self.entries, &self.numbers, &mut self.lists, class))
     }
 
-    /// Puts a carved block that is marked used on top of the stack of its class, as a batch of its own, and marks it free.
+    /// Puts a carved block that is marked used on top of the stack of its class, as a batch of its
+    /// own, and marks it free.
     pub fn push(&mut self, class: u8, block: u64)
         requires low { 0 < class }
         requires high { class ≤ CLASSES }
@@ -126,8 +134,9 @@ impl Pool {
         );
     }
 
-    /// Takes the top batch of the stack of a class into the front of the buffer, in its own order, its top block last, and
-    /// answers its length: 0 where the stack is empty. The blocks stay marked free.
+    /// Takes the top batch of the stack of a class into the front of the buffer, in its own order,
+    /// its top block last, and answers its length: 0 where the stack is empty. The blocks stay
+    /// marked free.
     pub fn pop_batch(&mut self, class: u8, buffer: &mut [u64; MAX_COUNT]) -> usize
         requires low { 0 < class }
         requires high { class ≤ CLASSES }
@@ -138,14 +147,16 @@ impl Pool {
         // What follows from the pool's own order.
         ensures most { result ≤ max_count_of class }
         ensures empty { (result ≡ 0) ↔ (stack_of self.old class ≡ []) }
-        ensures stack { stack_of self.old class ≡ reverse (take result buffer.new) ++ stack_of self.new class }
+        ensures stack { stack_of self.old class
+            ≡ reverse (take result buffer.new) ++ stack_of self.new class }
         ensures cached { All (IsCached self.new class) (take result buffer.new) }
         ensures distinct { IsDistinct nat_eq (take result buffer.new) }
     {
         unlink_batch(&self.entries, &self.numbers, &mut self.lists, class, buffer)
     }
 
-    /// Puts blocks on top of the stack of their class as one batch that keeps their order: the last comes on top.
+    /// Puts blocks on top of the stack of their class as one batch that keeps their order: the last
+    /// comes on top.
     pub fn push_batch(&mut self, class: u8, blocks: &[u64])
         requires low { 0 < class }
         requires high { class ≤ CLASSES }
@@ -164,7 +175,8 @@ impl Pool {
         );
     }
 
-    /// Marks a carved block free. One that was marked used is in no list of the pool, so a cache may hold it from now on.
+    /// Marks a carved block free. One that was marked used is in no list of the pool, so a cache
+    /// may hold it from now on.
     pub fn mark_free(&mut self, class: u8, block: u64)
         requires low { 0 < class }
         requires high { class ≤ CLASSES }
@@ -202,12 +214,14 @@ impl Pool {
         offset % size == 0 && size <= bytes.saturating_sub(offset)
     }
 
-    /// Whether an address is that of a carved block of a class that is marked free: it is in the pool, or in a cache above it.
+    /// Whether an address is that of a carved block of a class that is marked free: it is in the
+    /// pool, or in a cache above it.
     pub fn is_free(&self, class: u8, block: u64) -> bool
         requires low { 0 < class }
         requires high { class ≤ CLASSES }
         ensures free { IsTrue result ↔ IsFree self.now class block }
-        ensures mark { IsBlock class (pages_of self.now class) block → result ≡ is_marked self.now class block }
+        ensures mark { IsBlock class (pages_of self.now class) block
+            → result ≡ is_marked self.now class block }
     {
         self.is_block(class, block) && self.entries[place(&self.numbers, class, block)].free
     }

@@ -1,3 +1,2 @@
 pub mod MappingLemmas
 pub mod PlaceLemmas
-pub mod TestLemmas

@@ -1,5 +1,8 @@
--- The chunks with pages of their own (Scudo, secondary.h): a list of mappings, and where the next one may be.
-use Rattle.std.specs.Prelude.{◌≡◌, ℕ, zero, suc, ◌+◌, ◌-◌, ◌*◌, ◌/◌, ◌%◌, ◌<◌, ◌≤◌, ◌==◌, Bool, ◌&&◌, ◌||◌, nat_le, nat_lt, List, [], ◌∷◌, Option, if◌then◌else◌, refl}
+-- The chunks with pages of their own (Scudo, secondary.h): a list of mappings, and where the next
+-- one may be.
+use Rattle.std.specs.Prelude.{◌≡◌, ℕ, zero, suc, ◌+◌, ◌-◌, ◌*◌, ◌/◌, ◌%◌, ◌<◌, ◌≤◌, ◌==◌, Bool}
+use Rattle.std.specs.Prelude.{◌&&◌, ◌||◌, nat_le, nat_lt, List, [], ◌∷◌, Option, if◌then◌else◌}
+use Rattle.std.specs.Prelude.{refl}
 use Rattle.std.specs.List.{find, list_all, sum_by}
 use Rattle.std.specs.Coded.{Coded, code_by, coded×, coded_ℕ, coded_list}
 use Rattle.scudo_header.specs.declared.regions.TheConstants.{PAGE_SIZE}
@@ -19,7 +22,11 @@ coded_mapping =
     (λ _. refl)
 
 abbrev pub coded_maps : Coded MapsState
-coded_maps = code_by (ℕ × List Mapping) (coded× coded_ℕ (coded_list coded_mapping)) (λ s. (s.limit, s.mappings)) (λ c. record { limit = c.0; mappings = c.1 }) (λ _. refl)
+coded_maps =
+    code_by (ℕ × List Mapping) (coded× coded_ℕ (coded_list coded_mapping))
+    (λ s. (s.limit, s.mappings))
+    (λ c. record { limit = c.0; mappings = c.1 })
+    (λ _. refl)
 
 -- The address after a mapping's last page.
 abbrev pub end_of : Mapping → ℕ
@@ -32,11 +39,16 @@ pages_of ms = sum_by (λ m. m.pages) ms
 
 -- Whether a page at least lies between a mapping and so many pages from an address on.
 abbrev pub is_apart : ℕ → ℕ → Mapping → Bool
-is_apart pages start m = nat_le (end_of m + PAGE_SIZE) start || nat_le (start + PAGE_SIZE * pages + PAGE_SIZE) m.start
+is_apart pages start m =
+    nat_le (end_of m + PAGE_SIZE) start || nat_le (start + PAGE_SIZE * pages + PAGE_SIZE) m.start
 
--- Whether pages may be mapped at an address: they and one page on each side lie in the range, and none of these is a mapping's.
+-- Whether pages may be mapped at an address: they and one page on each side lie in the range, and
+-- none of these is a mapping's.
 unfoldable pub is_place : List Mapping → ℕ → ℕ → Bool
-is_place ms pages start = (start % PAGE_SIZE == 0) && nat_le (SECONDARY_START + PAGE_SIZE) start && nat_le (start + PAGE_SIZE * pages + PAGE_SIZE) SECONDARY_END && list_all (is_apart pages start) ms
+is_place ms pages start =
+    (start % PAGE_SIZE == 0) && nat_le (SECONDARY_START + PAGE_SIZE) start
+    && nat_le (start + PAGE_SIZE * pages + PAGE_SIZE) SECONDARY_END
+    && list_all (is_apart pages start) ms
 
 -- The first addresses of n pages.
 unfoldable pub page_starts : ℕ → ℕ → List ℕ
@@ -45,7 +57,9 @@ page_starts from (suc n) = from ∷ page_starts (from + PAGE_SIZE) n
 
 -- The least place of all in the range.
 unfoldable pub place_of : List Mapping → ℕ → Option ℕ
-place_of ms pages = find (is_place ms pages) (page_starts SECONDARY_START ((SECONDARY_END - SECONDARY_START) / PAGE_SIZE))
+place_of ms pages =
+    find (is_place ms pages)
+    (page_starts SECONDARY_START ((SECONDARY_END - SECONDARY_START) / PAGE_SIZE))
 
 -- ---- the list
 
@@ -57,7 +71,8 @@ pub record IsMapping (least : ℕ) (m : Mapping) : Type 0 where
   pub first : m.start ≤ m.user
   pub last : m.user < end_of m
 
--- The mappings from an address on: between two of them, and before the range's end, a page at least is left.
+-- The mappings from an address on: between two of them, and before the range's end, a page at least
+-- is left.
 abbrev pub AreFrom : ℕ → List Mapping → Type 0
 AreFrom least [] = least ≤ SECONDARY_END
 AreFrom least (m ∷ more) = IsMapping least m × AreFrom (end_of m + PAGE_SIZE) more
@@ -72,4 +87,5 @@ mapping_of ms user = find (λ m. m.user == user) ms
 -- A mapping more, before those that begin above it.
 unfoldable pub with_mapping : List Mapping → Mapping → List Mapping
 with_mapping [] n = n ∷ []
-with_mapping (m ∷ more) n = if nat_lt m.start n.start then m ∷ with_mapping more n else n ∷ (m ∷ more)
+with_mapping (m ∷ more) n =
+    if nat_lt m.start n.start then m ∷ with_mapping more n else n ∷ (m ∷ more)

@@ -1,5 +1,5 @@
-//! Where the chunks lie that have pages of their own (Scudo, `secondary.h`): their places in a range of
-//! addresses, each with a page on both sides that is never mapped.
+//! Where the chunks lie that have pages of their own (Scudo, `secondary.h`): their places in a
+//! range of addresses, each with a page on both sides that is never mapped.
 #![tactic(auto)]
 
 mod gaps;
@@ -8,6 +8,3 @@ mod maps;
 
 pub use mappings::{Mapping, SECONDARY_END, SECONDARY_START};
 pub use maps::Maps;
-
-#[cfg(test)]
-mod tests;

@@ -1,6 +1,7 @@
 //! A list of mappings in the order of their starts.
 
-ghost use Rattle.std.specs.Prelude.{◌≡◌, ◌<◌, IfSome, IfNone, IsSome, None, filter, not, ◌==◌, length, slice_index_or, vec_len, vec_capacity};
+ghost use Rattle.std.specs.Prelude.{◌≡◌, ◌<◌, IfSome, IfNone, IsSome, None, filter, not, ◌==◌};
+ghost use Rattle.std.specs.Prelude.{length, slice_index_or, vec_len, vec_capacity};
 ghost use Rattle.std.specs.Vec.{vec_ptr};
 ghost use Rattle.scudo_secondary.specs.Mappings.{AreMappings, mapping_of, with_mapping};
 
@@ -24,7 +25,9 @@ pub struct Mapping {
 /// The index of the mapping with a user address.
 pub(crate) fn index_of(mappings: &[Mapping], user: u64) -> Option<usize>
     requires { AreMappings mappings.now }
-    ensures some { IfSome result (λ i. (i < length mappings.now) × ((d : _) → (slice_index_or mappings.now i d).user ≡ user)) }
+    ensures some { IfSome result
+        (λ i. (i < length mappings.now)
+        × ((d : _) → (slice_index_or mappings.now i d).user ≡ user)) }
     ensures none { IfNone result (mapping_of mappings.now user ≡ None) }
 {
     let i = mappings.partition_point(|mapping| mapping.user < user);

@@ -1,7 +1,9 @@
 //! The mappings of a heap.
 
-ghost use Rattle.std.specs.Prelude.{◌≡◌, ℕ, ◌+◌, ◌*◌, ◌<◌, ◌≤◌, [], false, IfOk, IfSome, IfNone, IsSome, IsTrue, filter, not, ◌==◌};
-ghost use Rattle.scudo_secondary.specs.Mappings.{AreMappings, is_place, place_of, mapping_of, with_mapping, pages_of};
+ghost use Rattle.std.specs.Prelude.{◌≡◌, ℕ, ◌+◌, ◌*◌, ◌<◌, ◌≤◌, [], false, IfOk, IfSome, IfNone};
+ghost use Rattle.std.specs.Prelude.{IsSome, IsTrue, filter, not, ◌==◌};
+ghost use Rattle.scudo_secondary.specs.Mappings.{AreMappings, is_place, place_of, mapping_of};
+ghost use Rattle.scudo_secondary.specs.Mappings.{with_mapping, pages_of};
 
 use crate::gaps::first_gap;
 use crate::mappings::{Mapping, index_of, insert_in_order, remove_user};
@@ -9,8 +11,8 @@ use scudo_header::{MAX_PAGES, PAGE_SIZE};
 use std::alloc::{AllocError, Global};
 use std::marker::Model;
 
-/// The mappings of a heap, in the order of their starts. All that they will ever need is taken when they are
-/// made.
+/// The mappings of a heap, in the order of their starts. All that they will ever need is taken when
+/// they are made.
 #[derive(Drop)]
 pub struct Maps {
     mappings: Vec<Mapping>,
@@ -30,8 +32,8 @@ impl Model for Maps {
 }
 
 impl Maps {
-    /// No mappings, with room for those of `pages` pages together, 1 to `MAX_PAGES`. It is refused only where
-    /// its memory is; no later call takes any.
+    /// No mappings, with room for those of `pages` pages together, 1 to `MAX_PAGES`. It is refused
+    /// only where its memory is; no later call takes any.
     pub fn new(alloc: Global, pages: u64) -> Result<Maps, AllocError>
         requires some { 0 < pages }
         requires most { pages ≤ MAX_PAGES }
@@ -41,14 +43,17 @@ impl Maps {
         Ok(Maps { mappings })
     }
 
-    /// The least address at which `pages` pages, at least one, may be mapped. There is none where they fit
-    /// nowhere.
+    /// The least address at which `pages` pages, at least one, may be mapped. There is none where
+    /// they fit nowhere.
     pub fn place(&self, pages: u64) -> Option<u64>
         requires { 0 < pages }
         ensures place { result ≡ place_of self.now.mappings pages }
         ensures fits { IfSome result (λ start. IsTrue (is_place self.now.mappings pages start)) }
-        ensures least { IfSome result (λ start. (lower : ℕ) → IsTrue (is_place self.now.mappings pages lower) → start ≤ lower) }
-        ensures none { IfNone result ((start : ℕ) → is_place self.now.mappings pages start ≡ false) }
+        ensures least { IfSome result
+            (λ start. (lower : ℕ)
+            → IsTrue (is_place self.now.mappings pages lower) → start ≤ lower) }
+        ensures none { IfNone result
+            ((start : ℕ) → is_place self.now.mappings pages start ≡ false) }
         ensures mappings { AreMappings self.now.mappings }
     {
         first_gap(&self.mappings, pages)
@@ -61,7 +66,8 @@ impl Maps {
         requires first { start ≤ user }
         requires last { user < start + PAGE_SIZE * pages }
         requires room { pages_of self.old.mappings + pages ≤ self.old.limit }
-        ensures { self.new ≡ record self.old { mappings = with_mapping self.old.mappings (record { start = start; pages = pages; user = user }) } }
+        ensures { let mapping = record { start = start; pages = pages; user = user } in
+            self.new ≡ record self.old { mappings = with_mapping self.old.mappings mapping } }
     {
         insert_in_order(&mut self.mappings, Mapping { start, pages, user });
     }
@@ -78,7 +84,9 @@ impl Maps {
     /// Takes away the mapping with a user address, which is there.
     pub fn remove(&mut self, user: u64)
         requires { IsSome (mapping_of self.old.mappings user) }
-        ensures { self.new ≡ record self.old { mappings = filter (λ m. not (m.user == user)) self.old.mappings } }
+        ensures { self.new
+            ≡ record self.old
+            { mappings = filter (λ m. not (m.user == user)) self.old.mappings } }
     {
         remove_user(&mut self.mappings, user);
     }

@@ -185,7 +185,8 @@ impl Slot {
     #[inline(always)]
     pub(crate) fn copy_out(&self, at: u64, buffer: &mut [u8])
         requires { at % 4096 + length buffer.old ≤ 4096 }
-        ensures { buffer.new ≡ slice_range self.now.bytes (at % 4096) (at % 4096 + length buffer.old) }
+        ensures { buffer.new
+            ≡ slice_range self.now.bytes (at % 4096) (at % 4096 + length buffer.old) }
     {
         let from = (at % 4096) as usize;
         if buffer.len() == 8 {
@@ -202,7 +203,8 @@ impl Slot {
     pub(crate) fn word(&self, at: u64) -> u32
         requires { at % 4096 + 4 ≤ 4096 }
         ensures long { length self.now.bytes ≡ 4096 }
-        ensures word { result ≡ from_le_bytes w32 (slice_range self.now.bytes (at % 4096) (at % 4096 + 4)) }
+        ensures word { result
+            ≡ from_le_bytes w32 (slice_range self.now.bytes (at % 4096) (at % 4096 + 4)) }
     {
         let mut word = [0; 4];
         self.copy_out(at, &mut word);
@@ -214,7 +216,8 @@ impl Slot {
     #[inline]
     pub(crate) fn copy_in(&mut self, at: u64, bytes: &[u8])
         requires { at % 4096 + length bytes.now ≤ 4096 }
-        ensures { self.new ≡ record self.old { bytes = spliced self.old.bytes (at % 4096) bytes.now } }
+        ensures { self.new
+            ≡ record self.old { bytes = spliced self.old.bytes (at % 4096) bytes.now } }
     {
         let from = (at % 4096) as usize;
         if bytes.len() == 8 {

@@ -1,0 +1,180 @@
+//! Quotas that fill a pool, frames that come back zero, and many rounds of takes and gives.
+
+ghost use Rattle.std.specs.Prelude.{IsTrue};
+ghost use Rattle.mte_frames.specs.Pool.{IsOut};
+
+use mte_arena::Arena;
+use mte_frames::{FramePool, NoFrames, Quota};
+use std::alloc::Global;
+use std::test::Fail;
+
+fn pool_of(alloc: Global, frames: usize) -> Result<FramePool, Fail> {
+    let Ok(arena) = Arena::new(alloc, frames) else {
+        return Err(Fail::new("no memory for the arena"));
+    };
+    match FramePool::new(alloc, arena) {
+        Ok(pool) => Ok(pool),
+        Err(_) => Err(Fail::new("no memory for the pool")),
+    }
+}
+
+fn take(pool: &mut FramePool, quota: &mut Quota) -> Option<usize> {
+    if pool.taken(quota) < pool.reserved(quota) {
+        Some(pool.take(quota))
+    } else {
+        None
+    }
+}
+
+fn give(pool: &mut FramePool, quota: &mut Quota, f: usize) -> bool {
+    let out = pool.is_out(quota, f);
+    if out {
+        pool.give(quota, f);
+    }
+    out
+}
+
+fn release(pool: &mut FramePool, quota: Quota) -> bool {
+    let may = pool.reserved(&quota) > 0 && pool.taken(&quota) == 0;
+    if may {
+        pool.release(quota);
+    }
+    may
+}
+
+fn fill(pool: &mut FramePool, quota: &Quota, f: usize, value: u8) {
+    if pool.is_out(quota, f) {
+        pool.data_mut(f).fill(value);
+    }
+}
+
+fn mark(pool: &mut FramePool, quota: &Quota, f: usize, g: usize, tag: u8) {
+    if pool.is_out(quota, f) && g < 256 && tag < 16 {
+        pool.set_tag(f, g, tag);
+    }
+}
+
+fn write_block(pool: &mut FramePool, quota: &Quota, f: usize) {
+    if pool.is_out(quota, f) {
+        let block = pool.block_mut(f);
+        block[0] = 7;
+        block[4096] = 0x21;
+    }
+}
+
+fn write_planes(pool: &mut FramePool, quota: &Quota, f: usize) {
+    if pool.is_out(quota, f) {
+        let (bytes, tags) = pool.planes_mut(f);
+        bytes[4095] = 8;
+        tags[127] = 0x43;
+    }
+}
+
+fn byte_at(pool: &FramePool, quota: &Quota, f: usize, i: usize) -> Option<u8> {
+    if pool.is_out(quota, f) && i < 4096 {
+        Some(pool.bytes(f)[i])
+    } else {
+        None
+    }
+}
+
+fn tag_at(pool: &FramePool, quota: &Quota, f: usize, g: usize) -> Option<u8> {
+    if pool.is_out(quota, f) && g < 256 {
+        Some(pool.tag(f, g))
+    } else {
+        None
+    }
+}
+
+fn is_all(pool: &FramePool, quota: &Quota, f: usize, byte: u8, tag: u8) -> bool {
+    for i in 0..4096 {
+        if byte_at(pool, quota, f, i) != Some(byte) {
+            return false;
+        }
+    }
+    for g in 0..256 {
+        if tag_at(pool, quota, f, g) != Some(tag) {
+            return false;
+        }
+    }
+    true
+}
+
+fn reserve(pool: &mut FramePool, count: usize) -> Result<Quota, NoFrames> {
+    if count == 0 {
+        return Err(NoFrames);
+    }
+    pool.reserve(count)
+}
+
+// With `rt try --test --fail-alloc N` one of its six allocations is refused.
+#[test]
+fn refused_memory(rt: HostRuntime) {
+    if let Ok(arena) = Arena::new(rt.alloc(), 11) {
+        match FramePool::new(rt.alloc(), arena) {
+            Ok(pool) => assert_eq!(rt; pool.frames(), 11),
+            Err(refused) => assert_eq!(rt; refused.arena.frames(), 11),
+        }
+    }
+}
+
+#[test]
+fn all_frames_are_reserved_once(rt: HostRuntime) -> Result<(), Fail> {
+    let mut pool = pool_of(rt.alloc(), 11)?;
+    let Ok(all) = reserve(&mut pool, 11) else {
+        return Err(Fail::new("eleven of eleven are refused"));
+    };
+    assert!(rt; reserve(&mut pool, 1).is_err());
+    assert!(rt; release(&mut pool, all));
+    assert!(rt; reserve(&mut pool, 12).is_err());
+    assert!(rt; reserve(&mut pool, 1).is_ok());
+    Ok(())
+}
+
+#[test]
+fn a_frame_comes_back_zero(rt: HostRuntime) -> Result<(), Fail> {
+    let mut pool = pool_of(rt.alloc(), 1)?;
+    let Ok(mut first) = reserve(&mut pool, 1) else {
+        return Err(Fail::new("the first quota"));
+    };
+    let Some(f) = take(&mut pool, &mut first) else {
+        return Err(Fail::new("the first take"));
+    };
+    fill(&mut pool, &first, f, 0xFF);
+    for g in 0..256 {
+        mark(&mut pool, &first, f, g, 15);
+    }
+    assert!(rt; is_all(&pool, &first, f, 0xFF, 15));
+    assert!(rt; take(&mut pool, &mut first).is_none());
+    assert!(rt; give(&mut pool, &mut first, f));
+    assert!(rt; release(&mut pool, first));
+    let Ok(mut second) = reserve(&mut pool, 1) else {
+        return Err(Fail::new("the second quota"));
+    };
+    let Some(f) = take(&mut pool, &mut second) else {
+        return Err(Fail::new("the second take"));
+    };
+    assert!(rt; is_all(&pool, &second, f, 0, 0));
+    Ok(())
+}
+
+#[test]
+fn both_planes_at_once(rt: HostRuntime) -> Result<(), Fail> {
+    let mut pool = pool_of(rt.alloc(), 2)?;
+    let Ok(mut quota) = reserve(&mut pool, 2) else {
+        return Err(Fail::new("a quota is refused"));
+    };
+    let (Some(f), Some(g)) = (take(&mut pool, &mut quota), take(&mut pool, &mut quota)) else {
+        return Err(Fail::new("a frame is missing"));
+    };
+    write_block(&mut pool, &quota, f);
+    write_planes(&mut pool, &quota, f);
+    for (at, byte) in [(0, 7), (1, 0), (4094, 0), (4095, 8)] {
+        assert_eq!(rt; byte_at(&pool, &quota, f, at), Some(byte), "byte {at}");
+    }
+    for (at, tag) in [(0, 1), (1, 2), (2, 0), (254, 3), (255, 4)] {
+        assert_eq!(rt; tag_at(&pool, &quota, f, at), Some(tag), "granule {at}");
+    }
+    assert!(rt; is_all(&pool, &quota, g, 0, 0));
+    Ok(())
+}

@@ -1,0 +1,115 @@
+//! Worked numbers of blocks and batches, one call of each public function, and a plain list beside
+//! the pool.
+
+ghost use Rattle.std.specs.Prelude.{◌≡◌, ◌≤◌, ◌<◌, ◌-◌};
+
+use scudo_primary::{MAX_COUNT, Pool, max_count};
+use std::alloc::{AllocError, Global};
+use std::test::Fail;
+
+/// The first address of a class's region.
+fn start(class: u64) -> u64
+    requires { class ≤ 44 }
+    ensures { result ≤ 0x2000_0000 }
+{
+    0x1000_0000 + class * 0x20_0000
+}
+
+/// Class 9 has 320 bytes: a page holds 12 blocks, two pages 25.
+#[test]
+#[tactic(auto, using(scudo_primary::proofs::PoolLaws::left_laws))]
+fn thirteen_blocks_of_class_9(rt: HostRuntime) -> Result<(), Fail> {
+    let mut pool = Pool::new(rt.alloc(), 2)?;
+    assert_eq!(rt; pool.carved(9), 0);
+    assert_eq!(rt; pool.pop(9), None);
+    assert!(rt; !pool.is_block(9, 0x1120_0000));
+    pool.carve(9, 1);
+    assert_eq!(rt; pool.carved(9), 12);
+    assert!(rt; pool.is_block(9, 0x1120_0dc0));
+    assert!(rt; !pool.is_block(9, 0x1120_0f00));
+    assert!(rt; !pool.is_free(9, 0x1120_0f00));
+    for n in 0..12u64 {
+        assert_eq!(rt; pool.pop(9), Some(0x1120_0000 + 320 * n));
+    }
+    assert_eq!(rt; pool.pop(9), None);
+    Ok(())
+}
+
+/// A class of 640 bytes has six blocks in a page: a batch of four, the lowest of them last, and one
+/// of two.
+#[test]
+#[tactic(auto, using(scudo_primary::proofs::PoolLaws::left_laws))]
+fn batches_of_a_carve(rt: HostRuntime) -> Result<(), Fail> {
+    let mut pool = Pool::new(rt.alloc(), 2)?;
+    let mut buffer = [7u64; MAX_COUNT];
+    assert_eq!(rt; pool.pop_batch(13, &mut buffer), 0);
+    assert_eq!(rt; buffer, [7; MAX_COUNT]);
+    pool.carve(13, 1);
+    let first = start(13);
+    assert_eq!(rt; pool.pop_batch(13, &mut buffer), 4);
+    assert_eq!(rt;
+        &buffer[..5],
+        [first + 3 * 640, first + 2 * 640, first + 640, first, 7].as_slice()
+    );
+    assert_eq!(rt; pool.pop_batch(13, &mut buffer), 2);
+    assert_eq!(rt;
+        &buffer[..3],
+        [first + 5 * 640, first + 4 * 640, first + 640].as_slice()
+    );
+    assert_eq!(rt; pool.pop_batch(13, &mut buffer), 0);
+    pool.carve(1, 1);
+    for batch in 0..10usize {
+        let count = pool.pop_batch(1, &mut buffer);
+        assert_eq!(rt; count, if batch < 9 { 14 } else { 2 });
+        assert_eq!(rt;
+            buffer[0],
+            start(1) + 32 * (14 * batch as u64 + count as u64 - 1)
+        );
+    }
+    assert_eq!(rt; pool.pop_batch(1, &mut buffer), 0);
+    assert_eq!(rt; max_count(12), 28);
+    assert_eq!(rt; max_count(13), 8);
+    Ok(())
+}
+
+/// A batch that was taken and put back is taken again in the same order, and its last block comes
+/// first.
+#[test]
+#[tactic(auto, using(scudo_primary::proofs::PoolLaws::left_laws))]
+fn a_batch_keeps_its_order(rt: HostRuntime) -> Result<(), Fail> {
+    let mut pool = Pool::new(rt.alloc(), 1)?;
+    pool.carve(13, 1);
+    let mut buffer = [0u64; MAX_COUNT];
+    let count = pool.pop_batch(13, &mut buffer);
+    assert_eq!(rt; count, 4);
+    assert!(rt; pool.is_free(13, buffer[0]));
+    pool.push_batch(13, &buffer[..count]);
+    let mut again = [0u64; MAX_COUNT];
+    assert_eq!(rt; pool.pop_batch(13, &mut again), 4);
+    assert_eq!(rt; again, buffer);
+    assert_eq!(rt; pool.pop(13), Some(start(13) + 4 * 640));
+    Ok(())
+}
+
+/// Marks follow `pop` and the two calls that set them.
+#[test]
+#[tactic(auto, using(scudo_primary::proofs::PoolLaws::left_laws))]
+fn marks(rt: HostRuntime) -> Result<(), Fail> {
+    let mut pool = Pool::new(rt.alloc(), 32)?;
+    pool.carve(44, 32);
+    assert_eq!(rt; pool.carved(44), 1);
+    let block = start(44);
+    assert!(rt; pool.is_block(44, block));
+    assert!(rt; pool.is_free(44, block));
+    let popped = pool.pop(44);
+    assert_eq!(rt; popped, Some(block));
+    if let Some(popped) = popped {
+        pool.mark_used(44, popped);
+    }
+    assert!(rt; pool.is_block(44, block));
+    assert!(rt; !pool.is_free(44, block));
+    pool.mark_free(44, block);
+    assert!(rt; pool.is_free(44, block));
+    assert_eq!(rt; pool.pop(44), None);
+    Ok(())
+}
