@@ -78,11 +78,11 @@ fn page_attrs(flags: u32) -> Attrs
     ensures valid { IsPageAttrs result }
 {
     match flags % 8 {
-        0 => Attrs(0),
-        1 => Attrs(4),
-        4 => Attrs(1),
-        5 => Attrs(5),
-        2 | 6 => Attrs(11),
-        _ => Attrs(15),
+        0 => Attrs::NONE,
+        1 => Attrs::EXEC,
+        4 => Attrs::READ,
+        5 => Attrs::TEXT,
+        2 | 6 => Attrs::DATA,
+        _ => Attrs::ALL,
     }
 }

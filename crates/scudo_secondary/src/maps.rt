@@ -66,8 +66,10 @@ impl Maps {
         requires first { start ≤ user }
         requires last { user < start + PAGE_SIZE * pages }
         requires room { pages_of self.old.mappings + pages ≤ self.old.limit }
-        ensures { let mapping = record { start = start; pages = pages; user = user } in
-            self.new ≡ record self.old { mappings = with_mapping self.old.mappings mapping } }
+        ensures { self.new ≡ record self.old {
+          mappings = with_mapping self.old.mappings
+              (record { start = start; pages = pages; user = user });
+        } }
     {
         insert_in_order(&mut self.mappings, Mapping { start, pages, user });
     }
