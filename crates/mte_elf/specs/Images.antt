@@ -6,6 +6,7 @@ use Rattle.std.specs.List.{list_any, list_all, starts_with}
 use Rattle.mte_elf.specs.Headers.{file_type_of, machine_of, entry_of, table_offset_of}
 use Rattle.mte_elf.specs.Headers.{header_size_of, header_count_of, headers_of, is_interpreter}
 use Rattle.mte_elf.specs.Headers.{segments_of}
+use Rattle.address_map.specs.declared.ranges.TheConstants.{IMAGE_START, IMAGE_END}
 use Rattle.mte_elf.specs.declared.image.Segment.{Segment}
 use Rattle.mte_elf.specs.declared.error.ElfError.{ElfError}
 use Rattle.mte_elf.specs.declared.error.ElfError.TheVariants.{Short, NotElf64, NotAarch64, NotExec}
@@ -28,7 +29,7 @@ has_table file =
 abbrev pub is_in_range : ℕ → Segment → Bool
 is_in_range size s =
     nat_le s.filesz s.memsz && ((s.filesz == 0) || nat_le (s.offset + s.filesz) size)
-    && nat_le 0x1000 s.vaddr && nat_le (s.vaddr + s.memsz) 0x10000000
+    && nat_le IMAGE_START s.vaddr && nat_le (s.vaddr + s.memsz) IMAGE_END
 
 -- the first and the last page that a segment touches
 abbrev pub first_page : Segment → ℕ

@@ -14,16 +14,11 @@ use crate::headers::{
     table_offset,
 };
 use crate::image::{Plan, Segment};
+use address_map::{IMAGE_END, IMAGE_START, PAGE_SIZE};
 use std::alloc::Global;
 
 /// The bytes of a page.
-const PAGE: u128 = 4096;
-
-/// Where the addresses of images begin.
-const FIRST: u64 = 0x1000;
-
-/// Where they end.
-const END: u64 = 0x1000_0000;
+const PAGE: u128 = PAGE_SIZE as u128;
 
 /// The bytes of a file header (Elf64_Ehdr).
 const FILE_HEADER: usize = 64;
@@ -136,9 +131,9 @@ fn lies_in_range(segment: &Segment, size: u64) -> bool
         || (segment.filesz <= size && segment.offset <= size - segment.filesz);
     segment.filesz <= segment.memsz
         && in_file
-        && segment.vaddr >= FIRST
-        && segment.memsz <= END
-        && segment.vaddr <= END - segment.memsz
+        && segment.vaddr >= IMAGE_START
+        && segment.memsz <= IMAGE_END
+        && segment.vaddr <= IMAGE_END - segment.memsz
 }
 
 /// The last page that a segment touches.

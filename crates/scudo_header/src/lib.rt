@@ -4,8 +4,6 @@
 
 mod classes;
 mod headers;
-mod regions;
 
 pub use classes::{CLASSES, LARGEST_CLASS_SIZE, class_of, size_of_class};
 pub use headers::{Header, Origin, State, checksum, pack, unpack};
-pub use regions::{MAX_PAGES, PAGE_SIZE, REGION_SIZE, REGIONS_START};

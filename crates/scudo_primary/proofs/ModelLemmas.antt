@@ -10,12 +10,12 @@ use Rattle.std.specs.Cmp.{unsigned_tied, nat_cmp_total}
 use Rattle.std.specs.FinMap as finite
 use Rattle.std.specs.FinMap.{find, get-insert, get-from_entries, same_map, nat_cmp-IsAntisymmetric}
 use Rattle.scudo_header.specs.Regions.{region_of}
-use Rattle.scudo_header.specs.declared.regions.TheConstants.{PAGE_SIZE}
+use Rattle.address_map.specs.declared.limits.TheConstants.{PAGE_SIZE}
 use Rattle.scudo_header.specs.declared.classes.TheConstants.{CLASSES}
 use Rattle.scudo_primary.specs.Blocks.{number_of, IsBlock}
 use Rattle.scudo_primary.specs.Pools.{ClassState, PoolState, empty_class, pool_by, class_at, with_class, popped, pop_in, mark_in, is_marked, is_member}
 use Rattle.scudo_primary.specs.Lists.{IsClass, list_at, class_in, state_of, pool_in, follow, free_in, stack_from, marks_in, slot_of, place_of, no_entry, entry_at, IsLinked, IsTable, IsPool, Became}
-use Rattle.scudo_header.specs.declared.regions.TheConstants.{MAX_PAGES}
+use Rattle.address_map.specs.declared.limits.TheConstants.{MAX_PAGES}
 use Rattle.scudo_primary.specs.declared.lists.Entry.{Entry}
 use Rattle.scudo_primary.specs.declared.lists.ClassList.{ClassList}
 use Rattle.scudo_primary.specs.declared.pool.Pool.TheInside.{Inside}

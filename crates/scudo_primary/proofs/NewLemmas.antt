@@ -9,7 +9,7 @@ use Rattle.scudo_header.specs.declared.classes.TheConstants.{CLASSES}
 use Rattle.scudo_primary.specs.Blocks.{carved_count, block_at}
 use Rattle.scudo_primary.specs.Pools.{empty_class, empty_pool}
 use Rattle.scudo_primary.specs.Lists.{IsClass, follow, sizes_by, no_list, list_at, free_in, stack_from, sizes_from, marks_in, class_in, pool_in, IsLinked, IsPool}
-use Rattle.scudo_header.specs.declared.regions.TheConstants.{MAX_PAGES}
+use Rattle.address_map.specs.declared.limits.TheConstants.{MAX_PAGES}
 use Rattle.scudo_primary.specs.declared.lists.Entry.{Entry}
 use Rattle.scudo_primary.specs.declared.lists.ClassList.{ClassList}
 use Rattle.scudo_primary.specs.declared.pool.Pool.TheInside.{Inside}

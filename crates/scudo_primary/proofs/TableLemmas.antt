@@ -6,12 +6,12 @@ use Rattle.std.proofs.lemmas.List.FromFn.{length-map-range_with_len, get_or-map-
 use Rattle.std.specs.List.{IsDistinct}
 use Rattle.scudo_header.specs.Regions.{region_of}
 use Rattle.scudo_header.specs.declared.classes.TheConstants.{CLASSES}
-use Rattle.scudo_header.specs.declared.regions.TheConstants.{PAGE_SIZE}
+use Rattle.address_map.specs.declared.limits.TheConstants.{PAGE_SIZE}
 use Rattle.scudo_primary.specs.Blocks.{carved_count, block_at, number_of, IsBlock}
 use Rattle.scudo_primary.specs.Batches.{max_count_of}
 use Rattle.scudo_primary.specs.Pools.{ClassState}
 use Rattle.scudo_primary.specs.Lists.{IsClass, Each, sizes_by, place_of, page_number, slot_of, no_entry, no_list, entry_at, list_at, next_in, last_in, free_in, stack_from, sizes_from, marks_in, class_in, IsNumbered, IsLinked, IsTable, Became}
-use Rattle.scudo_header.specs.declared.regions.TheConstants.{MAX_PAGES}
+use Rattle.address_map.specs.declared.limits.TheConstants.{MAX_PAGES}
 use Rattle.scudo_primary.specs.declared.lists.Entry.{Entry}
 use Rattle.scudo_primary.specs.declared.lists.ClassList.{ClassList}
 use Rattle.scudo_primary.proofs.BlockLemmas.{IsCell, block-IsCell, block_at-IsBlock, number_of-block_at, block_at-number}

@@ -8,7 +8,7 @@ use Rattle.std.specs.Vec.{with_items}
 use Rattle.scudo_header.specs.Classes.{size_of}
 use Rattle.scudo_header.specs.Regions.{region_of}
 use Rattle.scudo_header.specs.declared.classes.TheConstants.{CLASSES}
-use Rattle.scudo_header.specs.declared.regions.TheConstants.{PAGE_SIZE, MAX_PAGES}
+use Rattle.address_map.specs.declared.limits.TheConstants.{PAGE_SIZE, MAX_PAGES}
 use Rattle.scudo_primary.specs.Blocks.{carved_count, block_at, number_of, blocks_from, IsBlock}
 use Rattle.scudo_primary.specs.Batches.{batch_sizes}
 use Rattle.scudo_primary.specs.Pools.{ClassState, PoolState, class_at, with_class, with_pages, carve_in, new_count}

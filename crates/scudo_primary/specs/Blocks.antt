@@ -4,7 +4,7 @@ use Rattle.std.specs.Prelude.{◌≡◌, ℕ, ◌+◌, ◌-◌, ◌*◌, ◌/◌
 use Rattle.std.specs.List.{range_with_len}
 use Rattle.scudo_header.specs.Classes.{size_of}
 use Rattle.scudo_header.specs.Regions.{region_of}
-use Rattle.scudo_header.specs.declared.regions.TheConstants.{PAGE_SIZE}
+use Rattle.address_map.specs.declared.limits.TheConstants.{PAGE_SIZE}
 
 -- How many blocks lie whole in the first pages of a class's region.
 abbrev pub carved_count : ℕ → ℕ → ℕ

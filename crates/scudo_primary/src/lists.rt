@@ -11,7 +11,8 @@ ghost use Rattle.scudo_primary.specs.Pools.{is_member, IsLoose, pop_in, batch_in
 ghost use Rattle.scudo_primary.specs.Pools.{push_batch_in};
 
 use crate::batches::{MAX_COUNT, max_count};
-use scudo_header::{CLASSES, PAGE_SIZE, REGION_SIZE, REGIONS_START, size_of_class};
+use address_map::{PAGE_SIZE, REGION_SIZE, REGIONS_START};
+use scudo_header::{CLASSES, size_of_class};
 
 /// How many lists there are: one for each size class.
 pub(crate) const LISTS: usize = CLASSES as usize;

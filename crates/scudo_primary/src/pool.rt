@@ -15,7 +15,8 @@ use crate::lists::{
     ClassList, Entry, LISTS, link, link_batch, link_new, number_pages, place, region_start,
     set_mark, unlink, unlink_batch,
 };
-use scudo_header::{CLASSES, MAX_PAGES, PAGE_SIZE, size_of_class};
+use address_map::{MAX_PAGES, PAGE_SIZE};
+use scudo_header::{CLASSES, size_of_class};
 use std::alloc::{AllocError, Global};
 use std::marker::Model;
 

@@ -3,8 +3,8 @@
 ghost use Rattle.std.specs.Prelude.{◌≡◌, ◌+◌, ◌*◌, ◌<◌, ◌≤◌, nat_le};
 ghost use Rattle.scudo_secondary.specs.Mappings.{AreMappings, place_of};
 
-use crate::mappings::{Mapping, SECONDARY_END, SECONDARY_START};
-use scudo_header::PAGE_SIZE;
+use crate::mappings::Mapping;
+use address_map::{PAGE_SIZE, SECONDARY_END, SECONDARY_START};
 
 /// Whether pages from `start` on and one more lie below `end`.
 #[inline]

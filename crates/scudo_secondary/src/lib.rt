@@ -6,5 +6,5 @@ mod gaps;
 mod mappings;
 mod maps;
 
-pub use mappings::{Mapping, SECONDARY_END, SECONDARY_START};
+pub use mappings::Mapping;
 pub use maps::Maps;

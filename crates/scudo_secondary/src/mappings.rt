@@ -5,12 +5,6 @@ ghost use Rattle.std.specs.Prelude.{length, slice_index_or, vec_len, vec_capacit
 ghost use Rattle.std.specs.Vec.{vec_ptr};
 ghost use Rattle.scudo_secondary.specs.Mappings.{AreMappings, mapping_of, with_mapping};
 
-/// The first address of the range of the mappings, a place that this project fixes.
-pub const SECONDARY_START: u64 = 0x2000_0000;
-
-/// The end of the range of the mappings.
-pub const SECONDARY_END: u64 = 0x3000_0000;
-
 /// The pages of a chunk.
 #[derive(Clone, Copy, Debug, PartialEq, Eq)]
 pub struct Mapping {

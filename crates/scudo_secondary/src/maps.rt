@@ -7,7 +7,7 @@ ghost use Rattle.scudo_secondary.specs.Mappings.{with_mapping, pages_of};
 
 use crate::gaps::first_gap;
 use crate::mappings::{Mapping, index_of, insert_in_order, remove_user};
-use scudo_header::{MAX_PAGES, PAGE_SIZE};
+use address_map::{MAX_PAGES, PAGE_SIZE};
 use std::alloc::{AllocError, Global};
 use std::marker::Model;
 

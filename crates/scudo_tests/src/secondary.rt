@@ -3,7 +3,7 @@
 ghost use Rattle.std.specs.Prelude.{◌≡◌, ◌+◌, ◌<◌, ◌≤◌, []};
 ghost use Rattle.scudo_secondary.specs.Mappings.{pages_of};
 
-use scudo_secondary::{Mapping, Maps, SECONDARY_START};
+use scudo_secondary::{Mapping, Maps};
 use std::test::Fail;
 
 /// Maps pages at the least place, and gives their user the address 16 bytes above it.

@@ -1,5 +1,5 @@
 use Rattle.std.proofs.Common.{◌*◌, ◌/◌, ap, arith}
-use Rattle.scudo_header.specs.declared.regions.TheConstants.{PAGE_SIZE}
+use Rattle.address_map.specs.declared.limits.TheConstants.{PAGE_SIZE}
 use Rattle.scudo_primary.specs.Lists.{list_at}
 use Rattle.scudo_primary.proofs.WidenLemmas.{ready, ready-wide, old-below, carve-bounds, carve-all, carve-end, carve-invariant, carve-view}
 use Rattle.scudo_primary.proofs.pool.Pool.carve.Goals as goal

@@ -1,0 +1,47 @@
+//! The address map of a tenant: ranges of plain addresses, lowest first. Each range ends before
+//! the address that is named its end.
+
+use crate::limits::PAGE_SIZE;
+
+/// The first address that an image may use. Page 0 is never mapped.
+pub const IMAGE_START: u64 = 0x1000;
+
+/// The end of the range of images.
+pub const IMAGE_END: u64 = 0x1000_0000;
+
+/// The region of size class c begins at `REGIONS_START + c * REGION_SIZE`.
+pub const REGIONS_START: u64 = 0x1000_0000;
+
+/// The bytes of the region of a size class.
+pub const REGION_SIZE: u64 = 0x20_0000;
+
+/// The first address of the range of secondary chunks.
+pub const SECONDARY_START: u64 = 0x2000_0000;
+
+/// The end of the range of secondary chunks.
+pub const SECONDARY_END: u64 = 0x3000_0000;
+
+/// The first address of the stack.
+pub const STACK_START: u64 = 0x3FFF_C000;
+
+/// The end of the stack, which is the stack pointer that a tenant starts with.
+pub const STACK_END: u64 = 0x4000_0000;
+
+/// The pages of the stack.
+pub const STACK_PAGES: u64 = 4;
+
+/// No page at or above this address is ever mapped.
+pub const ADDRESS_END: u64 = 0x4000_0000;
+
+/// The number of size classes, 1 to 44 (Scudo, `size_class_map.h`).
+const CLASSES: u64 = 44;
+
+const _: () = prove!(IMAGE_START >= PAGE_SIZE && IMAGE_END <= REGIONS_START + REGION_SIZE);
+
+const _: () = prove!(REGIONS_START + (CLASSES + 1) * REGION_SIZE <= SECONDARY_START);
+
+const _: () = prove!(SECONDARY_START < SECONDARY_END && SECONDARY_END <= STACK_START);
+
+const _: () = prove!(STACK_START + STACK_PAGES * PAGE_SIZE == STACK_END);
+
+const _: () = prove!(STACK_END <= ADDRESS_END);
