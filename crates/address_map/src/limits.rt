@@ -7,7 +7,7 @@ pub const PAGE_SIZE: u64 = 4096;
 pub const GRANULE_SIZE: u64 = 16;
 
 /// The most frames that an arena has.
-pub const MAX_FRAMES: u64 = 65536;
+pub const MAX_FRAMES: usize = 65536;
 
 /// The most pages that a tenant reserves, and that a heap or its parts are made for.
 pub const MAX_PAGES: u64 = 512;

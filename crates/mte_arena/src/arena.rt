@@ -7,11 +7,12 @@ ghost use Rattle.mte_arena.specs.Frames.{Frame, IsLive, AreFrames, frame_at, ret
 ghost use Rattle.mte_arena.specs.Blocks.{half, unpacked, frame_of};
 
 use crate::region::{FreeingRight, Region, RegionStart, allocate, deallocate};
+use address_map::{MAX_FRAMES, PAGE_SIZE};
 use std::alloc::Global;
 use std::marker::Model;
 
 /// The bytes of a frame.
-pub const FRAME_BYTES: usize = 4096;
+pub const FRAME_BYTES: usize = PAGE_SIZE as usize;
 
 /// The granules of a frame, of 16 bytes each.
 pub const FRAME_GRANULES: usize = 256;
@@ -20,9 +21,6 @@ pub const FRAME_GRANULES: usize = 256;
 pub const BLOCK_BYTES: usize = 4224;
 
 const TAG_BYTES: usize = 128;
-
-/// The most frames that an arena has.
-pub const MAX_FRAMES: usize = 65536;
 
 /// Why there is no arena.
 #[derive(Clone, Copy, Debug, PartialEq, Eq)]

@@ -5,4 +5,4 @@
 mod arena;
 mod region;
 
-pub use arena::{Arena, ArenaError, BLOCK_BYTES, FRAME_BYTES, FRAME_GRANULES, MAX_FRAMES};
+pub use arena::{Arena, ArenaError, BLOCK_BYTES, FRAME_BYTES, FRAME_GRANULES};
