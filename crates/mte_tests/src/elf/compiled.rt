@@ -30,7 +30,7 @@
 //     GNU_STACK      0x000000 0x0000000000000000 0x0000000000000000 0x000000 0x000000 RW  0x10
 
 use super::loaded;
-use crate::planning::plan;
+use mte_elf::plan;
 use mte_tags::{Paged, Tagged};
 use std::test::Fail;
 
