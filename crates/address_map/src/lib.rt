@@ -1,5 +1,5 @@
-//! Where a tenant's image, heap and stack lie, and the limits of what it is given. Each number
-//! stands here once; the crates above cite it by name.
+//! Where a tenant's image, heap and stack lie, and the limits of what it is given. Each number is
+//! given here once; the crates above cite it by name.
 #![tactic(auto)]
 
 mod limits;

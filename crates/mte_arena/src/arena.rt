@@ -132,7 +132,7 @@ impl Arena {
         self.region.part_mut(self.start, f, 0, FRAME_BYTES)
     }
 
-    /// Both planes of the frame `f`, which is present, in one lend: its 4096 bytes, and then 128
+    /// Both planes of the frame `f`, which is present, in one loan: its 4096 bytes, and then 128
     /// bytes with two tags each, the even granule's in the low half. All other frames stay as they
     /// are.
     pub fn block_mut(&mut self, f: usize) -> &mut [u8]
@@ -144,7 +144,7 @@ impl Arena {
         self.region.part_mut(self.start, f, 0, BLOCK_BYTES)
     }
 
-    /// The same in two. What the arena holds after such a lend is told by no clause; `block_mut`,
+    /// The same in two. What the arena holds after such a loan is said by no clause; `block_mut`,
     /// `data_mut` and `set_tag` are for callers that have to know.
     pub fn planes_mut(&mut self, f: usize) -> (&mut [u8], &mut [u8])
         requires { IsLive self.old f }
@@ -192,7 +192,7 @@ impl Drop for Arena {
     }
 }
 
-// An even granule's tag is the low half of its byte, an odd one's the high half.
+/// An even granule's tag is the low half of its byte, an odd one's the high half.
 fn half_of(byte: u8, g: usize) -> u8
     ensures { result ≡ half byte g }
 {

@@ -6,7 +6,7 @@ use Rattle.byteorder.specs.Endian.{little_number}
 use Rattle.mte_elf.specs.declared.headers.ProgramHeader.{ProgramHeader}
 use Rattle.mte_elf.specs.declared.image.Segment.{Segment}
 
--- the number of n bytes that stands at a place of the file, the lowest byte first
+-- the number of n bytes at a place of the file, the lowest byte first
 unfoldable pub number_at : List ℕ → ℕ → ℕ → ℕ
 number_at file n at = little_number n (drop at file)
 
@@ -28,7 +28,7 @@ header_size_of file = number_at file 2 54
 abbrev pub header_count_of : List ℕ → ℕ
 header_count_of file = number_at file 2 56
 
--- the program header of 56 bytes that stands at a place
+-- the program header of 56 bytes at a place
 unfoldable pub header_at : List ℕ → ℕ → ProgramHeader
 header_at file at = record {
   kind = number_at file 4 at;
@@ -39,7 +39,7 @@ header_at file at = record {
   memsz = number_at file 8 (at + 40);
 }
 
--- n of them, one behind the other
+-- n of them, one after the other
 abbrev pub headers_from : List ℕ → ℕ → ℕ → List ProgramHeader
 headers_from file at zero = []
 headers_from file at (suc n) = header_at file at ∷ headers_from file (at + 56) n

@@ -11,7 +11,7 @@ use Rattle.mte_elf.specs.declared.image.Segment.{Segment}
 abbrev pub attrs_of : ℕ → Attrs
 attrs_of flags = record { 0 = (if flags / 2 % 2 == 1 then 11 else flags / 4 % 2) + 4 * (flags % 2) }
 
--- a segment's bytes that stand in the file
+-- a segment's bytes that lie in the file
 abbrev pub file_part : List ℕ → Segment → List ℕ
 file_part file s = if s.filesz == 0 then [] else slice_range file s.offset (s.offset + s.filesz)
 

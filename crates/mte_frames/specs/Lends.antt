@@ -1,4 +1,4 @@
--- What a pool ends as, once a lend of a frame's bytes has ended.
+-- What a pool ends as, once a loan of a frame's bytes has ended.
 use Rattle.std.specs.Prelude.{ℕ, List}
 use Rattle.std.specs.Borrow.{Fml, MutBor, Lends, Array, u8}
 use Rattle.mte_frames.specs.Pool.{Pool, with_bytes_at, with_block_at}

@@ -14,7 +14,7 @@ use mte_arena::{Arena, BLOCK_BYTES, FRAME_BYTES, FRAME_GRANULES};
 use std::alloc::{AllocError, Global};
 use std::marker::Model;
 
-/// More frames were asked for than no quota has reserved.
+/// More frames were requested than are unreserved.
 #[derive(Clone, Copy, Debug, PartialEq, Eq)]
 pub struct NoFrames;
 
@@ -39,7 +39,7 @@ impl Model for Quota {
     ghost view = { λ q. q.number };
 }
 
-/// An arena's frames, each out under one quota or under none. After `new` nothing takes memory.
+/// An arena's frames, each out under one quota or under none. After `new` nothing allocates.
 #[derive(Drop)]
 pub struct FramePool {
     arena: Arena,
@@ -227,7 +227,7 @@ impl FramePool {
         self.arena.data_mut(f)
     }
 
-    /// Both planes of the frame `f`, which is out, in one lend: its 4096 bytes, and then 128 bytes
+    /// Both planes of the frame `f`, which is out, in one loan: its 4096 bytes, and then 128 bytes
     /// with two tags each, the even granule's in the low half. All other frames stay as they are.
     pub fn block_mut(&mut self, f: usize) -> &mut [u8]
         requires { IsTaken self.old f }
@@ -238,7 +238,7 @@ impl FramePool {
         self.arena.block_mut(f)
     }
 
-    /// The same in two. What the pool holds after such a lend is told by no clause; `block_mut`,
+    /// The same in two. What the pool holds after such a loan is said by no clause; `block_mut`,
     /// `data_mut` and `set_tag` are for callers that have to know.
     pub fn planes_mut(&mut self, f: usize) -> (&mut [u8], &mut [u8])
         requires { IsTaken self.old f }
@@ -275,7 +275,7 @@ impl FramePool {
 }
 
 /// What is kept of the other quotas: nothing changes them where nothing is done, what one call
-/// after another keeps both keep, and a lend of a frame that is out under a quota keeps all others.
+/// after another keeps both keep, and a loan of a frame that is out under a quota keeps all others.
 /// This holds of every pool, and the call does nothing.
 pub fn others_are_kept()
     ensures still { (q : ℕ) (p : Pool) → KeepsOthers q p p }
@@ -286,7 +286,7 @@ pub fn others_are_kept()
         → KeepsOthers q p (with_bytes_at p f ws) × KeepsOthers q p (with_block_at p f ws) }
 {}
 
-// What a pool keeps beside its arena.
+/// What a pool keeps beside its arena.
 #[derive(Drop)]
 struct PoolLists {
     free: Vec<usize>,
@@ -299,7 +299,7 @@ impl PoolLists {
     ghost use Rattle.mte_frames.specs.Whole.{times};
     ghost use Rattle.std.specs.Prelude.{if◌then◌else◌, nat_lt};
 
-    // All frames free, and nothing reserved.
+    /// All frames free, and nothing reserved.
     fn new(alloc: Global, frames: usize) -> Result<PoolLists, AllocError>
         ensures free { IfOk result
             (λ b. (f : ℕ) → times f b.free.items ≡ (if nat_lt f frames then 1 else 0)) }
@@ -325,7 +325,7 @@ impl PoolLists {
     }
 }
 
-// A number that no quota has.
+/// A number that no quota has.
 fn unused_number(reserved: &[usize]) -> Option<usize>
     ensures some { IfSome result (λ i. (i < length reserved.now) × (get_or reserved.now i 0 ≡ 0)) }
     ensures none { result ≡ None → length reserved.now ≤ sum reserved.now }

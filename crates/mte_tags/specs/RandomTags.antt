@@ -1,6 +1,6 @@
--- Random tags: the bits that the generator's seed gives, and the tag that is drawn with them.
--- Arm ARM DDI 0487, AArch64.NextRandomTagBit, AArch64.RandomTag and RGSR_EL1, told by one sequence
--- of bits.
+-- Random tags: the bits that the generator's seed gives, and the tag that is drawn with them. Arm
+-- ARM DDI 0487, AArch64.NextRandomTagBit, AArch64.RandomTag and RGSR_EL1, given by one sequence of
+-- bits.
 use Rattle.std.specs.Prelude.{ℕ, zero, suc, ◌+◌, ◌*◌, ◌/◌, ◌%◌, ◌^◌, List, [], ◌∷◌, ◌++◌, map}
 use Rattle.std.specs.Prelude.{slice_index}
 use Rattle.std.specs.List.{range_with_len}

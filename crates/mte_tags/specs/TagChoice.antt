@@ -1,5 +1,5 @@
--- The choice of a tag that is not excluded.
--- Arm ARM DDI 0487, ChooseNonExcludedTag, told by the list of the tags that are left.
+-- The choice of a tag that is not excluded. Arm ARM DDI 0487, ChooseNonExcludedTag, given by the
+-- list of the tags that are left.
 use Rattle.std.specs.Prelude.{ℕ, zero, suc, ◌+◌, ◌/◌, ◌%◌, ◌^◌, ◌==◌, Bool, List, [], ◌∷◌, length}
 use Rattle.std.specs.Prelude.{filter, count_by, nat_lt, slice_index}
 use Rattle.std.specs.List.{range_with_len}

@@ -1,4 +1,4 @@
-//! What an access asks of a page, and how it fails.
+//! What an access requires of a page, and how it fails.
 
 ghost use Rattle.std.specs.Prelude.{◌≡◌, false};
 ghost use Rattle.mte_tags.specs.Accesses.{read_access, write_access, fetch_access, fault};
@@ -7,7 +7,7 @@ use crate::attrs::Attrs;
 use crate::fault::{FaultKind, MemFault};
 use crate::tags::tag_of;
 
-/// What an access asks of each of its bytes.
+/// What an access requires of each of its bytes.
 #[derive(Clone, Copy, PartialEq, Eq, Debug)]
 pub struct Access {
     /// The bits of `Attrs` that the page must have.
@@ -57,7 +57,7 @@ impl Access {
         }
     }
 
-    /// One that asks for nothing but a mapped page.
+    /// One that requires nothing but a mapped page.
     pub(crate) fn mapped() -> Access
         ensures { result ≡ record { need = 0; write = false; checked = false; tag = 0 } }
     {

@@ -25,7 +25,7 @@ pub(crate) fn fits_one_page(at: u64, count: u64) -> bool
     count > 0 && count <= 4096 - at % 4096
 }
 
-/// How the first byte of an access fails that does.
+/// The fault of the first byte of an access that fails, if any.
 fn check_bytes<S: PageStore>(
     store: &mut S,
     at: u64,
@@ -64,7 +64,7 @@ fn copy_out<S: PageStore>(store: &mut S, at: u64, buffer: &mut [u8])
     let mut done = 0;
     while done < buffer.len() {
         let run = (buffer.len() - done).min((4096 - place % 4096) as usize);
-        // A mapped page lacks nothing that this access asks for.
+        // A mapped page lacks nothing that this access requires.
         let _ = store.read_in_page(place, &mut buffer[done..done + run], &access);
         place = (place + run as u64) % ADDRESSES;
         done += run;
@@ -85,14 +85,14 @@ pub fn replace_bytes<S: PageStore>(store: &mut S, at: u64, bytes: &[u8])
     let mut done = 0;
     while done < bytes.len() {
         let run = (bytes.len() - done).min((4096 - place % 4096) as usize);
-        // A mapped page lacks nothing that this access asks for.
+        // A mapped page lacks nothing that this access requires.
         let _ = store.write_in_page(place, &bytes[done..done + run], &access);
         place = (place + run as u64) % ADDRESSES;
         done += run;
     }
 }
 
-/// Copies bytes out page by page, or tells the first that fails.
+/// Copies bytes out page by page, or returns the fault of the first that fails.
 #[cold]
 #[inline(never)]
 fn read_across_pages<S: PageStore>(
@@ -117,8 +117,8 @@ fn read_across_pages<S: PageStore>(
     Ok(())
 }
 
-/// Reads where that was not quick. A copy of the access goes along, and the answer comes back by
-/// its fields, so that quick accesses hold both in registers.
+/// Reads where that was not quick. A copy of the access goes along, and the result comes back field
+/// by field, so that quick accesses hold both in registers.
 #[inline(always)]
 fn read_slowly<S: PageStore>(
     store: &mut S,
@@ -141,7 +141,7 @@ fn read_slowly<S: PageStore>(
     by_fields(read_across_pages(store, at, buffer, &own))
 }
 
-/// Copies bytes out, or tells the first that fails.
+/// Copies bytes out, or returns the fault of the first that fails.
 #[tactic(auto, unfolding(crate::specs::Accesses::read_fault, crate::specs::Accesses::read_bytes))]
 #[inline(always)]
 fn read_at<S: PageStore>(
@@ -167,7 +167,7 @@ fn read_at<S: PageStore>(
     read_slowly(store, at, buffer, &access)
 }
 
-/// Copies bytes in page by page, all of them, or tells the first that fails.
+/// Copies bytes in page by page, all of them, or returns the fault of the first that fails.
 #[cold]
 #[inline(never)]
 fn write_across_pages<S: PageStore>(
@@ -191,8 +191,8 @@ fn write_across_pages<S: PageStore>(
     Ok(())
 }
 
-/// Writes where that was not quick. A copy of the access goes along, and the answer comes back by
-/// its fields, so that quick accesses hold both in registers.
+/// Writes where that was not quick. A copy of the access goes along, and the result comes back
+/// field by field, so that quick accesses hold both in registers.
 #[inline(always)]
 fn write_slowly<S: PageStore>(
     store: &mut S,
@@ -214,7 +214,7 @@ fn write_slowly<S: PageStore>(
     by_fields(write_across_pages(store, at, bytes, &own))
 }
 
-/// Copies bytes in, or tells the first that fails.
+/// Copies bytes in, or returns the fault of the first that fails.
 #[tactic(auto, unfolding(crate::specs::Accesses::write_fault, crate::specs::Accesses::written))]
 #[inline(always)]
 fn write_at<S: PageStore>(
@@ -275,7 +275,7 @@ fn load_granule_tag<S: PageStore>(store: &mut S, addr: u64) -> Result<u8, MemFau
     store.granule_tag(plain(addr) / 16 * 16, &access)
 }
 
-/// How the first granule of an access without a tag check fails that does.
+/// The fault of the first granule that fails of an access without a tag check, if any.
 fn check_granules<S: PageStore>(
     store: &mut S,
     at: u64,
@@ -317,14 +317,14 @@ fn tag_granules<S: PageStore>(store: &mut S, at: u64, count: u64, tag: u8, zero:
     let mut left = count;
     while left > 0 {
         let run = left.min((4096 - place % 4096) / 16);
-        // A mapped page lacks nothing that this access asks for.
+        // A mapped page lacks nothing that this access requires.
         let _ = store.store_tags_in_page(place, run as usize, tag, zero, &access);
         place = (place + 16 * run) % ADDRESSES;
         left -= run;
     }
 }
 
-/// Replaces the tags of granules, or tells the first that fails.
+/// Replaces the tags of granules, or returns the fault of the first that fails.
 #[tactic(auto, unfolding(crate::specs::Accesses::tags_fault))]
 #[inline]
 fn store_granule_tags<S: PageStore>(

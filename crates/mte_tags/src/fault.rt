@@ -34,8 +34,7 @@ pub struct MemFault {
     pub mem_tag: u8,
 }
 
-/// The same answer, field by field: what a function apart wrote into memory then goes on in
-/// registers.
+/// Rebuilds the result field by field, so that the compiler keeps it in registers.
 #[inline(always)]
 pub(crate) fn by_fields(answer: Result<(), MemFault>) -> Result<(), MemFault>
     ensures { result ≡ answer }

@@ -64,7 +64,7 @@ impl Flat {
     }
 }
 
-/// How the first byte of a run fails that does.
+/// The fault of the first byte of a run that fails, if any.
 #[inline]
 fn slots_fault(
     slots: &[Slot],
@@ -125,7 +125,7 @@ fn fetch_again(slots: &[Slot], finder: &mut Finder, pc: u64) -> Result<u32, MemF
     Ok(slot.word(at))
 }
 
-/// Copies bytes out that lie on the page which was found last and do not fail, and answers whether
+/// Copies bytes out that lie on the page which was found last and do not fail, and returns whether
 /// it did.
 #[inline(always)]
 fn read_found(slots: &[Slot], finder: &Finder, at: u64, buffer: &mut [u8], access: &Access) -> bool
@@ -156,7 +156,7 @@ fn read_found(slots: &[Slot], finder: &Finder, at: u64, buffer: &mut [u8], acces
     true
 }
 
-/// Copies a run of bytes out, or tells the first that fails.
+/// Copies a run of bytes out, or returns the fault of the first that fails.
 fn read_slots(
     slots: &[Slot],
     finder: &mut Finder,
@@ -190,7 +190,7 @@ fn read_slots(
     Ok(())
 }
 
-/// Copies bytes in that lie on the page which was found last and do not fail, and answers whether
+/// Copies bytes in that lie on the page which was found last and do not fail, and returns whether
 /// it did.
 #[inline(always)]
 fn write_found(slots: &mut [Slot], finder: &Finder, at: u64, bytes: &[u8], access: &Access) -> bool
@@ -223,7 +223,7 @@ fn write_found(slots: &mut [Slot], finder: &Finder, at: u64, bytes: &[u8], acces
     true
 }
 
-/// Copies a run of bytes in, or tells the first that fails.
+/// Copies a run of bytes in, or returns the fault of the first that fails.
 fn write_slots(
     slots: &mut [Slot],
     finder: &mut Finder,
@@ -284,7 +284,7 @@ fn tag_in_slots(
     Ok(slot.tag(at))
 }
 
-/// Replaces the tags of a run of granules, or tells the first that fails.
+/// Replaces the tags of a run of granules, or returns the fault of the first that fails.
 #[inline]
 fn retag_slots(
     slots: &mut [Slot],

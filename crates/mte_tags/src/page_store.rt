@@ -20,7 +20,7 @@ pub trait PageStore {
     /// What every call leaves of all that is not the memory.
     ghost kept: { Self → Self → Type 0 };
 
-    /// How the first byte of a run fails that does.
+    /// The fault of the first byte of a run that fails, if any.
     fn run_fault(&mut self, at: u64, count: usize, access: &Access) -> Option<MemFault>
         requires some { 0 < count }
         requires inside { at % 4096 + count ≤ 4096 }
@@ -36,7 +36,7 @@ pub trait PageStore {
         ensures memory { memory self.new ≡ memory self.old }
         ensures kept { kept self.old self.new };
 
-    /// Copies a run of bytes out, or tells the first that fails.
+    /// Copies a run of bytes out, or returns the fault of the first that fails.
     fn read_in_page(&mut self, at: u64, buffer: &mut [u8], access: &Access) -> Result<(), MemFault>
         requires some { 0 < length buffer.old }
         requires inside { at % 4096 + length buffer.old ≤ 4096 }
@@ -51,7 +51,7 @@ pub trait PageStore {
         ensures memory { memory self.new ≡ memory self.old }
         ensures kept { kept self.old self.new };
 
-    /// Copies bytes out where that is quick, and answers whether it did. `false` changes nothing,
+    /// Copies bytes out where that is quick, and returns whether it did. `false` changes nothing,
     /// and does not say that an access fails.
     fn try_read(&mut self, at: u64, buffer: &mut [u8], access: &Access) -> bool
         requires { at < 2 ^ 56 }
@@ -65,7 +65,7 @@ pub trait PageStore {
         ensures memory { memory self.new ≡ memory self.old }
         ensures kept { kept self.old self.new };
 
-    /// Copies a run of bytes in, or tells the first that fails.
+    /// Copies a run of bytes in, or returns the fault of the first that fails.
     fn write_in_page(&mut self, at: u64, bytes: &[u8], access: &Access) -> Result<(), MemFault>
         requires some { 0 < length bytes.now }
         requires inside { at % 4096 + length bytes.now ≤ 4096 }
@@ -79,7 +79,7 @@ pub trait PageStore {
             else memory self.old) }
         ensures kept { kept self.old self.new };
 
-    /// Copies bytes in where that is quick, and answers whether it did. `false` changes nothing,
+    /// Copies bytes in where that is quick, and returns whether it did. `false` changes nothing,
     /// and does not say that an access fails.
     fn try_write(&mut self, at: u64, bytes: &[u8], access: &Access) -> bool
         requires { at < 2 ^ 56 }
@@ -101,8 +101,8 @@ pub trait PageStore {
         ensures memory { memory self.new ≡ memory self.old }
         ensures kept { kept self.old self.new };
 
-    /// Replaces the tags of a run of granules, and makes their bytes zero where `zero` asks for it,
-    /// or tells the first granule that fails. The access is not tag checked.
+    /// Replaces the tags of a run of granules, and makes their bytes zero where `zero` is set, or
+    /// returns the fault of the first granule that fails. The access is not tag checked.
     fn store_tags_in_page(
         &mut self,
         at: u64,

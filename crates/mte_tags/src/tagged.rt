@@ -31,8 +31,8 @@ pub trait Tagged {
         ensures memory { memory self.new ≡ memory self.old }
         ensures kept { kept self.old self.new };
 
-    /// Copies bytes out of pages with READ, and compares tags where `check` asks for it. After a
-    /// fault the buffer is as it was.
+    /// Copies bytes out of pages with READ, and compares tags where `check` is set. After a fault
+    /// the buffer is as it was.
     fn read(&mut self, addr: u64, buffer: &mut [u8], check: bool) -> Result<(), MemFault>
         ensures answer { result
             ≡ outcome (read_fault (memory self.old) addr (length buffer.old) check) }
@@ -43,8 +43,8 @@ pub trait Tagged {
         ensures memory { memory self.new ≡ memory self.old }
         ensures kept { kept self.old self.new };
 
-    /// Copies bytes into pages with WRITE, all of them or none, and compares tags where `check`
-    /// asks for it.
+    /// Copies bytes into pages with WRITE, all of them or none, and compares tags where `check` is
+    /// set.
     fn write(&mut self, addr: u64, bytes: &[u8], check: bool) -> Result<(), MemFault>
         ensures answer { result
             ≡ outcome (write_fault (memory self.old) addr (length bytes.now) check) }
@@ -55,7 +55,7 @@ pub trait Tagged {
         ensures kept { kept self.old self.new };
 
     /// The tag, below 16, of the granule that holds an address. It needs READ and compares no tag;
-    /// a page without TAGGED gives 0. A fault tells the granule's first address.
+    /// a page without TAGGED gives 0. A fault reports the granule's first address.
     fn load_tag(&mut self, addr: u64) -> Result<u8, MemFault>
         ensures small { IfOk result (λ t. t < 16) }
         ensures answer { result
@@ -65,8 +65,8 @@ pub trait Tagged {
         ensures kept { kept self.old self.new };
 
     /// Replaces the tags of consecutive granules of pages with WRITE, all of them or none, and
-    /// makes their bytes zero where `zero` asks for it. It compares no tag; an address that is not
-    /// a multiple of 16 is an Alignment fault before all else.
+    /// makes their bytes zero where `zero` is set. It compares no tag; an address that is not a
+    /// multiple of 16 is an Alignment fault before all else.
     fn store_tags(&mut self, addr: u64, granules: u64, tag: u8, zero: bool) -> Result<(), MemFault>
         requires { tag < 16 }
         ensures answer { result ≡ outcome (tags_fault (memory self.old) addr granules) }
@@ -81,7 +81,7 @@ pub trait Tagged {
     ghost kept_on: { (a b c : Self) → kept a b → kept b c → kept a c };
 }
 
-/// More pages were asked for than are left.
+/// More pages were requested than are left.
 #[derive(Clone, Copy, PartialEq, Eq, Debug)]
 pub struct NoQuota;
 

@@ -25,7 +25,7 @@ pub fn with_tag(address: u64, tag: u8) -> u64
 
 /// The tag that stands `offset` allowed places after `tag`, in a circle; with offset 0 the first
 /// allowed one at or after `tag`. Bit t of `exclude` excludes the tag t; where all 16 are set the
-/// answer is 0. Tag and offset are below 16 (Arm ARM DDI 0487, ChooseNonExcludedTag).
+/// result is 0. Tag and offset are below 16 (Arm ARM DDI 0487, ChooseNonExcludedTag).
 pub fn choose_non_excluded(tag: u8, offset: u8, exclude: u16) -> u8
     requires tag { tag < 16 }
     requires offset { offset < 16 }
@@ -46,8 +46,8 @@ pub fn choose_non_excluded(tag: u8, offset: u8, exclude: u16) -> u8
     allowed[rank % count]
 }
 
-/// Puts the tags that are not excluded at the front of a table, in increasing order, and tells how
-/// many.
+/// Puts the tags that are not excluded at the start of a table, in increasing order, and returns
+/// their number.
 fn list_allowed(exclude: u16, table: &mut [u8; 16]) -> usize
     ensures count { result ≡ length (allowed_tags exclude) }
     ensures fits { result ≤ 16 }

@@ -1,4 +1,4 @@
-//! The sizes that an arena may have, what a refused allocation answers, and each call once.
+//! The sizes that an arena may have, what a refused allocation returns, and each call once.
 
 ghost use Rattle.std.specs.Prelude.{IsTrue};
 ghost use Rattle.mte_arena.specs.Frames.{IsLive};
@@ -46,24 +46,6 @@ fn mark(arena: &mut Arena, f: usize, g: usize, tag: u8) {
     }
 }
 
-fn write_planes(arena: &mut Arena, f: usize) {
-    if is_there(arena, f) {
-        let (bytes, tags) = arena.planes_mut(f);
-        bytes[4095] = 7;
-        tags[0] = 0x21;
-        tags[127] = 0x43;
-    }
-}
-
-fn write_block(arena: &mut Arena, f: usize) {
-    if is_there(arena, f) {
-        let block = arena.block_mut(f);
-        block[4095] = 7;
-        block[4096] = 0x21;
-        block[4223] = 0x43;
-    }
-}
-
 fn is_zero(arena: &Arena, f: usize) -> bool {
     for i in 0..4096 {
         if byte_at(arena, f, i) != Some(0) {
@@ -93,7 +75,7 @@ fn numbers_of_frames(rt: HostRuntime) -> Result<(), Fail> {
     Ok(())
 }
 
-// With `rt try --test --fail-alloc 1`, and 2, one of its allocations is refused.
+/// With `rt try --test --fail-alloc 1`, and 2, one of its allocations is refused.
 #[test]
 fn refused_memory(rt: HostRuntime) {
     match Arena::new(rt.alloc(), 11) {
@@ -121,25 +103,6 @@ fn frames_are_apart(rt: HostRuntime) -> Result<(), Fail> {
     }
     assert!(rt; is_zero(&arena, 2));
     clear(&mut arena, 1);
-    assert!(rt; is_zero(&arena, 1));
-    Ok(())
-}
-
-#[test]
-fn both_planes_at_once(rt: HostRuntime) -> Result<(), Fail> {
-    let mut arena = arena_of(&rt, 3)?;
-    clear(&mut arena, 0);
-    clear(&mut arena, 1);
-    clear(&mut arena, 2);
-    write_planes(&mut arena, 0);
-    write_block(&mut arena, 2);
-    for f in [0, 2] {
-        assert_eq!(rt; byte_at(&arena, f, 4094), Some(0));
-        assert_eq!(rt; byte_at(&arena, f, 4095), Some(7));
-        for (g, tag) in [(0, 1), (1, 2), (2, 0), (253, 0), (254, 3), (255, 4)] {
-            assert_eq!(rt; tag_at(&arena, f, g), Some(tag), "granule {g}");
-        }
-    }
     assert!(rt; is_zero(&arena, 1));
     Ok(())
 }

@@ -107,7 +107,7 @@ fn reserve(pool: &mut FramePool, count: usize) -> Result<Quota, NoFrames> {
     pool.reserve(count)
 }
 
-// With `rt try --test --fail-alloc N` one of its six allocations is refused.
+/// With `rt try --test --fail-alloc N` one of its six allocations is refused.
 #[test]
 fn refused_memory(rt: HostRuntime) {
     if let Ok(arena) = Arena::new(rt.alloc(), 11) {

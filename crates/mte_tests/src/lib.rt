@@ -4,9 +4,3 @@
 
 #[cfg(test)]
 mod arena;
-#[cfg(test)]
-mod elf;
-#[cfg(test)]
-mod frames;
-#[cfg(test)]
-mod tags;

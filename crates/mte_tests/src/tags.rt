@@ -91,28 +91,6 @@ fn too_many_pages(rt: HostRuntime) {
     assert!(rt; Flat::new(rt.alloc(), 1 << 58).is_err());
 }
 
-/// More pages than the finder keeps in its table of those found last.
-#[test]
-fn many_pages(rt: HostRuntime) -> Result<(), Fail> {
-    let mut memory = Flat::new(rt.alloc(), 300)?;
-    memory.map_pages(16, 300, Attrs::DATA)?;
-    for round in 0..2u64 {
-        for i in 0..300u64 {
-            let addr = (16 + i) * 4096 + 8 * round;
-            assert_eq!(rt;
-                memory.write(addr, &(i + round).to_le_bytes(), true),
-                Ok(())
-            );
-        }
-    }
-    let mut bytes = [0u8; 8];
-    for i in 0..300u64 {
-        assert_eq!(rt; memory.read((16 + i) * 4096 + 8, &mut bytes, true), Ok(()));
-        assert_eq!(rt; u64::from_le_bytes(bytes), i + 1);
-    }
-    Ok(())
-}
-
 #[test]
 fn fetches(rt: HostRuntime) -> Result<(), Fail> {
     let mut memory = Flat::new(rt.alloc(), 1)?;
@@ -127,56 +105,6 @@ fn fetches(rt: HostRuntime) -> Result<(), Fail> {
         memory.write(0x0300_0000_0001_0ffc, &[1; 4], true),
         Err(refused)
     );
-    Ok(())
-}
-
-#[test]
-fn access_over_two_pages(rt: HostRuntime) -> Result<(), Fail> {
-    let mut memory = Flat::new(rt.alloc(), 2)?;
-    assert_eq!(rt; memory.map_pages(0, 1, Attrs::DATA), Ok(()));
-    assert_eq!(rt; memory.store_tags(0, 1, 5, false), Ok(()));
-    let mut bytes = [7u8; 8];
-    let top = fault(FaultKind::Translation, 0x00FF_FFFF_FFFF_FFFC, false, 5, 0);
-    assert_eq!(rt;
-        memory.read(0x05FF_FFFF_FFFF_FFFC, &mut bytes, true),
-        Err(top)
-    );
-    let next = fault(FaultKind::Translation, 0x1000, false, 0, 0);
-    assert_eq!(rt; memory.read(0xFFC, &mut bytes, true), Err(next));
-    let next = fault(FaultKind::Translation, 0x1000, true, 0, 0);
-    assert_eq!(rt; memory.write(0xFFC, &[9; 8], true), Err(next));
-    assert_eq!(rt; bytes, [7; 8]);
-    let next = fault(FaultKind::Translation, 0x1000, true, 0, 0);
-    assert_eq!(rt; memory.store_tags(0xFF0, 2, 9, true), Err(next));
-    assert_eq!(rt; memory.load_tag(0xFF0), Ok(0));
-    let unaligned = fault(FaultKind::Alignment, 0x8, true, 2, 0);
-    assert_eq!(rt;
-        memory.store_tags(0x0200_0000_0000_0008, 1, 9, true),
-        Err(unaligned)
-    );
-    Ok(())
-}
-
-#[test]
-fn access_over_pages_of_two_kinds(rt: HostRuntime) -> Result<(), Fail> {
-    let mut memory = Flat::new(rt.alloc(), 3)?;
-    memory.map_pages(16, 1, Attrs::DATA)?;
-    memory.map_pages(17, 1, Attrs::READ)?;
-    memory.map_pages(18, 1, Attrs::EXEC)?;
-    assert_eq!(rt; memory.store_tags(0x10FF0, 1, 5, false), Ok(()));
-    let pointer = 0x0500_0000_0001_0FFC;
-    let mut bytes = [7u8; 8];
-    assert_eq!(rt; memory.read(pointer, &mut bytes, true), Ok(()));
-    assert_eq!(rt; bytes, [0; 8]);
-    let refused = fault(FaultKind::Permission, 0x11000, true, 5, 0);
-    assert_eq!(rt; memory.write(pointer, &[9; 8], true), Err(refused));
-    assert_eq!(rt; memory.read(pointer, &mut bytes, true), Ok(()));
-    assert_eq!(rt; bytes, [0; 8]);
-    let refused = fault(FaultKind::Permission, 0x12000, false, 5, 0);
-    assert_eq!(rt; memory.read(pointer + 4096, &mut bytes, true), Err(refused));
-    assert_eq!(rt; memory.load_tag(0x11000), Ok(0));
-    let refused = fault(FaultKind::Permission, 0x12000, false, 0, 0);
-    assert_eq!(rt; memory.load_tag(0x12008), Err(refused));
     Ok(())
 }
 

@@ -205,7 +205,7 @@ fn refill(entries: &mut ArrayVec<u64, MAX_COUNT>, class: u8, pool: &mut Pool)
     }
 }
 
-/// Puts a block behind a class's entries.
+/// Appends a block to a class's entries.
 #[inline]
 fn put_into(entries: &mut ArrayVec<u64, MAX_COUNT>, class: u8, block: u64, pool: &mut Pool)
     requires low { 0 < class }

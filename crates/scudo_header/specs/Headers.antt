@@ -43,7 +43,7 @@ with_byte sum byte = (sum / 2 + 2 ^ 15 * (sum % 2) + byte) % 2 ^ 16
 unfoldable pub checksum_of : ℕ → ℕ → ℕ → ℕ
 checksum_of cookie pointer word =
     fold with_byte (cookie % 2 ^ 16)
-        (to_le_bytes w64 (plain pointer) ++ to_le_bytes w64 (word % 2 ^ 48))
+    (to_le_bytes w64 (plain pointer) ++ to_le_bytes w64 (word % 2 ^ 48))
 
 unfoldable pub packed : ℕ → ℕ → Header → ℕ
 packed cookie pointer h = header_word h + 2 ^ 48 * checksum_of cookie pointer (header_word h)

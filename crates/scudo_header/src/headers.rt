@@ -33,7 +33,7 @@ pub enum Origin {
     Memalign,
 }
 
-/// What the header of a chunk tells, but for its checksum.
+/// What the header of a chunk says, but for its checksum.
 #[derive(Clone, Copy, Debug, PartialEq, Eq)]
 pub struct Header {
     /// The size class of the chunk's block (8 bits). It is 0 for a chunk with pages of its own.
@@ -42,8 +42,8 @@ pub struct Header {
     pub state: State,
     /// The call that it was handed out by (2 bits).
     pub origin: Origin,
-    /// The size in bytes that was asked for; for a chunk with pages of its own, the bytes that are
-    /// left after it (20 bits).
+    /// The requested size in bytes; for a chunk with pages of its own, the bytes that are left
+    /// after it (20 bits).
     pub size_or_unused_bytes: u32,
     /// The distance from the start of the block to this header, in units of 16 bytes (16 bits).
     pub offset: u16,

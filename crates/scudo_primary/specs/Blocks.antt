@@ -1,4 +1,4 @@
--- The blocks of a size class: they lie one behind another from the start of the class's region on
+-- The blocks of a size class: they lie one after another from the start of the class's region on
 -- (Scudo, primary64.h).
 use Rattle.std.specs.Prelude.{◌≡◌, ℕ, ◌+◌, ◌-◌, ◌*◌, ◌/◌, ◌%◌, ◌<◌, ◌≤◌, List, map}
 use Rattle.std.specs.List.{range_with_len}

@@ -170,7 +170,7 @@ fn goes_on(last: bool, count: u64, all: u64) -> bool
     !last && count < all
 }
 
-/// Takes the top batch of the stack of a class into the buffer, in its own order, and answers its
+/// Takes the top batch of the stack of a class into the buffer, in its own order, and returns its
 /// length. The marks stay.
 #[inline]
 pub(crate) fn unlink_batch(

@@ -21,7 +21,7 @@ use std::alloc::{AllocError, Global};
 use std::marker::Model;
 
 /// For each size class the pages of its region that are carved into blocks, one stack of free
-/// blocks, and a mark for each carved block that tells whether it is free.
+/// blocks, and a mark for each carved block that says whether it is free.
 #[derive(Drop)]
 pub struct Pool {
     /// 128 for each page, one for each 32 bytes.
@@ -135,9 +135,9 @@ impl Pool {
         );
     }
 
-    /// Takes the top batch of the stack of a class into the front of the buffer, in its own order,
-    /// its top block last, and answers its length: 0 where the stack is empty. The blocks stay
-    /// marked free.
+    /// Takes the top batch of the stack of a class into the first places of the buffer, in its own
+    /// order, its top block last, and returns its length: 0 where the stack is empty. The blocks
+    /// stay marked free.
     pub fn pop_batch(&mut self, class: u8, buffer: &mut [u64; MAX_COUNT]) -> usize
         requires low { 0 < class }
         requires high { class ≤ CLASSES }

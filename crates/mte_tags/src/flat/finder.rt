@@ -1,4 +1,4 @@
-//! Where the pages of the plain memory were put. What is told here is compared with the page itself
+//! Where the pages of the plain memory were put. What it says is compared with the page itself
 //! before it is used, so that nothing but time rests on it.
 
 ghost use Rattle.std.specs.Prelude.{◌≡◌, ◌<◌};
@@ -29,7 +29,7 @@ fn hash(page: u64) -> usize
 }
 
 impl Finder {
-    /// One with room for so many pages, which takes no more memory later.
+    /// One with room for `pages` pages; later calls allocate nothing.
     pub(crate) fn new(alloc: Global, pages: usize) -> Result<Finder, AllocError> {
         Ok(Finder {
             code: 0,

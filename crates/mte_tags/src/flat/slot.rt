@@ -93,7 +93,7 @@ fn search(slots: &[Slot], page: u64) -> Option<usize>
 }
 
 impl Slot {
-    /// How the first byte of a run fails that does.
+    /// The fault of the first byte of a run that fails, if any.
     #[inline(always)]
     pub(crate) fn run_fault(&self, at: u64, count: usize, access: &Access) -> Option<MemFault>
         requires some { 0 < count }
@@ -113,7 +113,7 @@ impl Slot {
         self.tag_fault(at, count, access)
     }
 
-    /// Whether no byte of a run fails: what nearly all accesses ask, with no fault to be made.
+    /// Whether the whole run is permitted: the common case, which builds no fault.
     #[inline(always)]
     pub(crate) fn passes(&self, at: u64, count: usize, access: &Access) -> bool
         requires some { 0 < count }
@@ -248,7 +248,7 @@ impl Slot {
     }
 
     /// Replaces the tags of `count` granules from granule `first` on, and makes their bytes zero
-    /// where `zero` asks for it.
+    /// where `zero` is set.
     #[inline]
     pub(crate) fn retag(&mut self, first: usize, count: usize, tag: u8, zero: bool)
         requires inside { first + count ≤ 256 }

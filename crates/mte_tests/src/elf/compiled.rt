@@ -80,7 +80,7 @@ const SMALL: [u8; 680] = [
     0x00, 0x00, 0x00, 0x00, 0x00, 0x00, 0x00, 0x00,
 ];
 
-/// Text and data as objdump -s shows them, and zeros behind the data.
+/// Text and data as objdump -s shows them, and zeros after the data.
 #[test]
 fn compiled_program(rt: HostRuntime) -> Result<(), Fail> {
     let plan = plan(rt.alloc(), &SMALL)?;
