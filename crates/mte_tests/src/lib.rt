@@ -4,3 +4,9 @@
 
 #[cfg(test)]
 mod arena;
+#[cfg(test)]
+mod elf;
+#[cfg(test)]
+mod frames;
+#[cfg(test)]
+mod tags;
