@@ -2,7 +2,7 @@
 
 ghost use Rattle.std.specs.Prelude.{◌≡◌, ◌+◌, ◌%◌, ◌^◌, ◌<◌, ◌≤◌};
 ghost use Rattle.a64_bits.specs.Arithmetic.{IsRegisterSize};
-ghost use Rattle.a64_bits.specs.Values.{extracted, placed_field, moved_field};
+ghost use Rattle.a64_bits.specs.FieldMoves.{extracted, placed_field, moved_field};
 
 use crate::powers::{low_bits, ones, power_of_two};
 
