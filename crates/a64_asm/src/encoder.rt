@@ -16,8 +16,8 @@ macro_rules! by_row {
     };
 }
 
-/// The word of `instr`: the base of its row plus its fields at their places (Arm ARM DDI 0487, C4.1).
-/// `None` exactly where a field exceeds its width or has a value that the row refuses.
+/// The word of `instr`: the base of its row plus its fields at their places (Arm ARM DDI 0487,
+/// C4.1). `None` exactly where a field exceeds its width or has a value that the row refuses.
 pub fn encode(instr: &Instr) -> Option<u32>
     ensures { SomeIff result (IsAllowed instr.now) (word_of instr.now) }
 {

@@ -31,7 +31,8 @@ pub fn is_load_store_pair(opc: u8, l: u8, rt: u8, rt2: u8) -> bool
     l == 0 || rt != rt2
 }
 
-/// Whether the base `rn` may be written back by an access of the register `rt`: they differ, or `rn` is SP (31).
+/// Whether the base `rn` may be written back by an access of the register `rt`: they differ, or
+/// `rn` is SP (31).
 #[inline(always)]
 pub fn may_write_back(rn: u8, rt: u8) -> bool
     ensures { IsTrue result ↔ Holds (write_back rn rt) }

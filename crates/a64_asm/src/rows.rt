@@ -38,7 +38,9 @@ pub fn add_sub_imm(sf: u8, op: u8, s: u8, sh: u8, imm12: u16, rn: u8, rd: u8) ->
 }
 
 #[rattlefmt::skip]
-pub fn add_sub_shift(sf: u8, op: u8, s: u8, shift: u8, rm: u8, imm6: u8, rn: u8, rd: u8) -> Option<u32>
+pub fn add_sub_shift(
+    sf: u8, op: u8, s: u8, shift: u8, rm: u8, imm6: u8, rn: u8, rd: u8,
+) -> Option<u32>
     ensures { Encodes result (instr.AddSubShift sf op s shift rm imm6 rn rd) }
 {
     row!(0x0B00_0000, sf 31:1, op 30:1, s 29:1, shift 22:2, rm 16:5, imm6 10:6, rn 5:5, rd 0:5;
@@ -46,7 +48,9 @@ pub fn add_sub_shift(sf: u8, op: u8, s: u8, shift: u8, rm: u8, imm6: u8, rn: u8,
 }
 
 #[rattlefmt::skip]
-pub fn add_sub_ext(sf: u8, op: u8, s: u8, rm: u8, option: u8, imm3: u8, rn: u8, rd: u8) -> Option<u32>
+pub fn add_sub_ext(
+    sf: u8, op: u8, s: u8, rm: u8, option: u8, imm3: u8, rn: u8, rd: u8,
+) -> Option<u32>
     ensures { Encodes result (instr.AddSubExt sf op s rm option imm3 rn rd) }
 {
     row!(0x0B20_0000, sf 31:1, op 30:1, s 29:1, rm 16:5, option 13:3, imm3 10:3, rn 5:5, rd 0:5;
@@ -219,7 +223,8 @@ pub fn pair_post(opc: u8, l: u8, imm7: i8, rt2: u8, rn: u8, rt: u8) -> Option<u3
     ensures { Encodes result (instr.PairPost opc l imm7 rt2 rn rt) }
 {
     row!(0x2880_0000, opc 30:2, l 22:1, rt2 10:5, rn 5:5, rt 0:5; signed imm7 15:7;
-        refused !is_load_store_pair(opc, l, rt, rt2), !may_write_back(rn, rt), !may_write_back(rn, rt2))
+        refused !is_load_store_pair(opc, l, rt, rt2),
+            !may_write_back(rn, rt), !may_write_back(rn, rt2))
 }
 
 pub fn pair_off(opc: u8, l: u8, imm7: i8, rt2: u8, rn: u8, rt: u8) -> Option<u32>
@@ -233,7 +238,8 @@ pub fn pair_pre(opc: u8, l: u8, imm7: i8, rt2: u8, rn: u8, rt: u8) -> Option<u32
     ensures { Encodes result (instr.PairPre opc l imm7 rt2 rn rt) }
 {
     row!(0x2980_0000, opc 30:2, l 22:1, rt2 10:5, rn 5:5, rt 0:5; signed imm7 15:7;
-        refused !is_load_store_pair(opc, l, rt, rt2), !may_write_back(rn, rt), !may_write_back(rn, rt2))
+        refused !is_load_store_pair(opc, l, rt, rt2),
+            !may_write_back(rn, rt), !may_write_back(rn, rt2))
 }
 
 pub fn brk(imm16: u16) -> Option<u32>

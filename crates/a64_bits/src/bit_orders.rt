@@ -23,7 +23,8 @@ pub fn reverse_bits(x: u64, size: u32) -> u64
     }
 }
 
-/// `x` with the bytes of each group of `group` bytes in the opposite order (REV16, REV32, REV for 2, 4 and 8).
+/// `x` with the bytes of each group of `group` bytes in the opposite order
+/// (REV16, REV32, REV for 2, 4 and 8).
 #[inline(always)]
 pub fn reverse_bytes(x: u64, group: u32, size: u32) -> u64
     requires size { IsRegisterSize size }

@@ -7,7 +7,8 @@ ghost use Rattle.a64_bits.specs.Division.{quotient_of};
 
 use crate::powers::{ones, power_of_two};
 
-/// The quotient of `x` by `y` in `size` bits, 32 or 64, rounded toward zero (UDIV, and SDIV where `signed`); 0 where `y` is 0.
+/// The quotient of `x` by `y` in `size` bits, 32 or 64, rounded toward zero (UDIV, and SDIV where
+/// `signed`); 0 where `y` is 0.
 #[inline(always)]
 #[tactic(auto, unfolding(crate::specs::Division::quotient_of))]
 pub fn divide(x: u64, y: u64, size: u32, signed: bool) -> u64
@@ -25,7 +26,8 @@ pub fn divide(x: u64, y: u64, size: u32, signed: bool) -> u64
     }
 }
 
-/// The quotient of the magnitudes, with its sign. That of the least number by -1 is 2^(size-1), the least number's bits.
+/// The quotient of the magnitudes, with its sign. That of the least number by -1 is 2^(size-1), the
+/// least number's bits.
 #[inline(always)]
 fn divide_signed(x: u64, y: u64, size: u32) -> u64
     requires size { IsRegisterSize size }

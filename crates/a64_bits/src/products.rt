@@ -17,7 +17,8 @@ pub fn multiply_high(x: u64, y: u64, signed: bool) -> u64
     }
 }
 
-/// The upper half of the signed product, from that of the unsigned one. A negative x stands for x - 2^64, so the product has y * 2^64 less.
+/// The upper half of the signed product, from that of the unsigned one. A negative `x` represents
+/// `x` - 2^64, so the product is less by `y` * 2^64.
 #[inline(always)]
 fn signed_high(high: u64, x: u64, y: u64) -> u64
     requires { high ≡ x * y / 2 ^ 64 }

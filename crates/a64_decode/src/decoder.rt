@@ -8,7 +8,8 @@ ghost use Rattle.a64_decode.specs.Decoded.{decoded};
 use crate::dispatch::read;
 use a64_asm::Instr;
 
-/// The instruction whose word is `word` (Arm ARM DDI 0487, C4.1), `None` exactly where the profile has none.
+/// The instruction whose word is `word` (Arm ARM DDI 0487, C4.1), `None` exactly where the profile
+/// has none.
 #[inline]
 pub fn decode(word: u32) -> Option<Instr>
     ensures means { (i : Instr) → ((result ≡ Some i) ↔ IsWordOf word i) }

@@ -1,4 +1,5 @@
-//! The row of a word: bits 28 to 24 tell its class, and other fixed bits the row.
+//! The row of a word, by the encoding groups of the Arm ARM (DDI 0487, C4.1): bits 28 to 24 select
+//! the group, and other fixed bits the row.
 
 ghost use Rattle.std.specs.Prelude.{◌≡◌, IfSome};
 ghost use Rattle.a64_bits.specs.Fields.{field_of};
@@ -32,8 +33,8 @@ use crate::rows;
 use a64_asm::Instr;
 use a64_bits::field;
 
-/// Writes the instruction of `word`, whose row and fields are found by its fixed bits. All rows write to one
-/// place, so that their fields are not merged where the rows meet.
+/// Writes the instruction of `word`, whose row and fields are found by its fixed bits. All rows
+/// write to one place, so that their fields are not merged where the rows meet.
 #[inline(never)]
 #[tactic(auto, unfolding(crate::specs::Dispatch::row_of))]
 pub fn read(word: u32, found: &mut Option<Instr>)
@@ -58,7 +59,7 @@ pub fn read(word: u32, found: &mut Option<Instr>)
     }
 }
 
-/// Pairs, post-indexed.
+/// Load/store register pair (post-indexed).
 #[tactic(auto, unfolding(crate::specs::Dispatch::load_store_pair_post_of))]
 fn load_store_pair_post(word: u32, found: &mut Option<Instr>)
     requires { field_of 24 5 word ≡ 8 }
@@ -72,7 +73,7 @@ fn load_store_pair_post(word: u32, found: &mut Option<Instr>)
     }
 }
 
-/// Pairs with an offset, and pre-indexed.
+/// Load/store register pair (offset and pre-indexed).
 #[tactic(auto, unfolding(crate::specs::Dispatch::load_store_pair_of))]
 fn load_store_pair(word: u32, found: &mut Option<Instr>)
     requires { field_of 24 5 word ≡ 9 }
@@ -88,7 +89,7 @@ fn load_store_pair(word: u32, found: &mut Option<Instr>)
     }
 }
 
-/// Logic of shifted registers.
+/// Logical (shifted register).
 #[tactic(auto, unfolding(crate::specs::Dispatch::logical_shifted_register_of))]
 fn logical_shifted_register(word: u32, found: &mut Option<Instr>)
     requires { field_of 24 5 word ≡ 10 }
@@ -98,7 +99,7 @@ fn logical_shifted_register(word: u32, found: &mut Option<Instr>)
     *found = rows::log_shift(word)
 }
 
-/// Sums of shifted and extended registers.
+/// Add/subtract (shifted register and extended register).
 #[tactic(auto, unfolding(crate::specs::Dispatch::add_sub_register_of))]
 fn add_sub_register(word: u32, found: &mut Option<Instr>)
     requires { field_of 24 5 word ≡ 11 }
@@ -114,7 +115,7 @@ fn add_sub_register(word: u32, found: &mut Option<Instr>)
     }
 }
 
-/// Addresses relative to the instruction.
+/// PC-rel. addressing.
 #[tactic(auto, unfolding(crate::specs::Dispatch::pc_rel_addressing_of))]
 fn pc_rel_addressing(word: u32, found: &mut Option<Instr>)
     requires { field_of 24 5 word ≡ 16 }
@@ -124,7 +125,7 @@ fn pc_rel_addressing(word: u32, found: &mut Option<Instr>)
     *found = rows::adr(word)
 }
 
-/// Sums with an immediate, of tags too.
+/// Add/subtract (immediate, and immediate with tags).
 #[tactic(auto, unfolding(crate::specs::Dispatch::add_sub_immediate_of))]
 fn add_sub_immediate(word: u32, found: &mut Option<Instr>)
     requires { field_of 24 5 word ≡ 17 }
@@ -144,7 +145,7 @@ fn add_sub_immediate(word: u32, found: &mut Option<Instr>)
     }
 }
 
-/// Logic with an immediate, and moves of one.
+/// Logical (immediate), and move wide (immediate).
 #[tactic(auto, unfolding(crate::specs::Dispatch::logical_and_move_wide_of))]
 fn logical_and_move_wide(word: u32, found: &mut Option<Instr>)
     requires { field_of 24 5 word ≡ 18 }
@@ -158,7 +159,7 @@ fn logical_and_move_wide(word: u32, found: &mut Option<Instr>)
     }
 }
 
-/// Moves of bit fields.
+/// Bitfield, and extract.
 #[tactic(auto, unfolding(crate::specs::Dispatch::bitfield_and_extract_of))]
 fn bitfield_and_extract(word: u32, found: &mut Option<Instr>)
     requires { field_of 24 5 word ≡ 19 }
@@ -174,7 +175,7 @@ fn bitfield_and_extract(word: u32, found: &mut Option<Instr>)
     }
 }
 
-/// Branches, exceptions and hints.
+/// Branches, exception generating and system instructions.
 #[tactic(auto, unfolding(crate::specs::Dispatch::branches_exceptions_system_of))]
 fn branches_exceptions_system(word: u32, found: &mut Option<Instr>)
     requires { field_of 26 3 word ≡ 5 }
@@ -194,7 +195,7 @@ fn branches_exceptions_system(word: u32, found: &mut Option<Instr>)
     }
 }
 
-/// Branches that are always taken, and those on a register or a bit.
+/// Unconditional, compare and test branch (immediate).
 #[tactic(auto, unfolding(crate::specs::Dispatch::branch_immediate_of))]
 fn branch_immediate(word: u32, found: &mut Option<Instr>)
     requires class { field_of 26 3 word ≡ 5 }
@@ -211,7 +212,7 @@ fn branch_immediate(word: u32, found: &mut Option<Instr>)
     }
 }
 
-/// Exceptions, hints and branches to a register.
+/// Exception generation, hints, and unconditional branch (register).
 #[tactic(auto, unfolding(crate::specs::Dispatch::exceptions_and_system_of))]
 fn exceptions_and_system(word: u32, found: &mut Option<Instr>)
     requires { field_of 26 6 word ≡ 0x35 }
@@ -228,7 +229,7 @@ fn exceptions_and_system(word: u32, found: &mut Option<Instr>)
     }
 }
 
-/// Literals, and loads and stores of a register but for an unsigned offset.
+/// Load register (literal), and load/store register but for an unsigned immediate.
 #[tactic(auto, unfolding(crate::specs::Dispatch::load_store_register_of))]
 fn load_store_register(word: u32, found: &mut Option<Instr>)
     requires { field_of 24 5 word ≡ 24 }
@@ -246,7 +247,7 @@ fn load_store_register(word: u32, found: &mut Option<Instr>)
     }
 }
 
-/// Loads and stores of a register at a signed offset.
+/// Load/store register (unscaled immediate, immediate post-indexed and pre-indexed).
 #[tactic(auto, unfolding(crate::specs::Dispatch::load_store_signed_offset_of))]
 fn load_store_signed_offset(word: u32, found: &mut Option<Instr>)
     requires class { field_of 24 5 word ≡ 24 }
@@ -263,7 +264,7 @@ fn load_store_signed_offset(word: u32, found: &mut Option<Instr>)
     }
 }
 
-/// Loads and stores at an unsigned offset, and of tags.
+/// Load/store register (unsigned immediate), and load/store memory tags.
 #[tactic(auto, unfolding(crate::specs::Dispatch::load_store_unsigned_immediate_of))]
 fn load_store_unsigned_immediate(word: u32, found: &mut Option<Instr>)
     requires { field_of 24 5 word ≡ 25 }
@@ -279,7 +280,7 @@ fn load_store_unsigned_immediate(word: u32, found: &mut Option<Instr>)
     }
 }
 
-/// Loads and stores of tags.
+/// Load/store memory tags.
 #[tactic(auto, unfolding(crate::specs::Dispatch::load_store_memory_tags_of))]
 fn load_store_memory_tags(word: u32, found: &mut Option<Instr>)
     requires class { field_of 24 8 word ≡ 0xD9 }
@@ -294,7 +295,7 @@ fn load_store_memory_tags(word: u32, found: &mut Option<Instr>)
     }
 }
 
-/// Operations on registers.
+/// Data processing (register): with carry, conditional, and 1 or 2 sources.
 #[tactic(auto, unfolding(crate::specs::Dispatch::data_processing_register_of))]
 fn data_processing_register(word: u32, found: &mut Option<Instr>)
     requires { field_of 24 5 word ≡ 26 }
@@ -311,7 +312,7 @@ fn data_processing_register(word: u32, found: &mut Option<Instr>)
     }
 }
 
-/// Operations on one and two registers, of tags too.
+/// Data-processing (1 source and 2 source).
 #[tactic(auto, unfolding(crate::specs::Dispatch::data_processing_1_2_source_of))]
 fn data_processing_1_2_source(word: u32, found: &mut Option<Instr>)
     requires { field_of 21 8 word ≡ 0xD6 }
@@ -329,7 +330,7 @@ fn data_processing_1_2_source(word: u32, found: &mut Option<Instr>)
     }
 }
 
-/// Operations on one register.
+/// Data-processing (1 source).
 #[tactic(auto, unfolding(crate::specs::Dispatch::data_processing_1_source_of))]
 fn data_processing_1_source(word: u32, found: &mut Option<Instr>)
     requires class { field_of 21 8 word ≡ 0xD6 }
@@ -344,7 +345,7 @@ fn data_processing_1_source(word: u32, found: &mut Option<Instr>)
     }
 }
 
-/// Operations on two registers.
+/// Data-processing (2 source).
 #[tactic(auto, unfolding(crate::specs::Dispatch::data_processing_2_source_of))]
 fn data_processing_2_source(word: u32, found: &mut Option<Instr>)
     requires class { field_of 21 8 word ≡ 0xD6 }
@@ -359,7 +360,7 @@ fn data_processing_2_source(word: u32, found: &mut Option<Instr>)
     }
 }
 
-/// Products.
+/// Data-processing (3 source).
 #[tactic(auto, unfolding(crate::specs::Dispatch::data_processing_3_source_of))]
 fn data_processing_3_source(word: u32, found: &mut Option<Instr>)
     requires { field_of 24 5 word ≡ 27 }

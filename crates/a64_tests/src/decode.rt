@@ -9,9 +9,11 @@ const ROWS: [(u32, Instr); 40] = [
     // adds w3, w4, #0x456, lsl #12
     (0x3151_5883, Instr::AddSubImm { sf: 0, op: 0, s: 1, sh: 1, imm12: 1110, rn: 4, rd: 3 }),
     // add x5, x6, x7, lsl #63
-    (0x8B07_FCC5, Instr::AddSubShift { sf: 1, op: 0, s: 0, shift: 0, rm: 7, imm6: 63, rn: 6, rd: 5 }),
+    (0x8B07_FCC5,
+        Instr::AddSubShift { sf: 1, op: 0, s: 0, shift: 0, rm: 7, imm6: 63, rn: 6, rd: 5 }),
     // subs w14, w15, w16, uxtb #4
-    (0x6B30_11EE, Instr::AddSubExt { sf: 0, op: 1, s: 1, rm: 16, option: 0, imm3: 4, rn: 15, rd: 14 }),
+    (0x6B30_11EE,
+        Instr::AddSubExt { sf: 0, op: 1, s: 1, rm: 16, option: 0, imm3: 4, rn: 15, rd: 14 }),
     // orr w3, w4, #0xaaaaaaaa
     (0x3201_F083, Instr::LogImm { sf: 0, opc: 1, n: 0, immr: 1, imms: 60, rn: 4, rd: 3 }),
     // bic w4, w5, w6, ror #31
