@@ -5,29 +5,7 @@ ghost use Rattle.std.specs.Prelude.{◌≡◌, IfSome};
 ghost use Rattle.a64_bits.specs.Fields.{field_of};
 ghost use Rattle.a64_asm.specs.Encoding.{word_of};
 ghost use Rattle.a64_decode.specs.Rows.{Reads};
-ghost use Rattle.a64_decode.specs.Dispatch.{
-  row_of,
-  load_store_pair_post_of,
-  load_store_pair_of,
-  logical_shifted_register_of,
-  add_sub_register_of,
-  pc_rel_addressing_of,
-  add_sub_immediate_of,
-  logical_and_move_wide_of,
-  bitfield_and_extract_of,
-  branches_exceptions_system_of,
-  branch_immediate_of,
-  exceptions_and_system_of,
-  load_store_register_of,
-  load_store_signed_offset_of,
-  load_store_unsigned_immediate_of,
-  load_store_memory_tags_of,
-  data_processing_register_of,
-  data_processing_1_2_source_of,
-  data_processing_1_source_of,
-  data_processing_2_source_of,
-  data_processing_3_source_of,
-};
+ghost use Rattle.a64_decode.specs.Dispatch;
 
 use crate::rows;
 use a64_asm::Instr;
@@ -38,7 +16,7 @@ use a64_bits::field;
 #[inline(never)]
 #[tactic(auto, unfolding(crate::specs::Dispatch::row_of))]
 pub fn read(word: u32, found: &mut Option<Instr>)
-    ensures row { Reads found.new (row_of word) }
+    ensures row { Reads found.new (Dispatch.row_of word) }
     ensures same { IfSome found.new (λ i. word_of i ≡ word) }
 {
     match field(word, 24, 5) {
@@ -63,7 +41,7 @@ pub fn read(word: u32, found: &mut Option<Instr>)
 #[tactic(auto, unfolding(crate::specs::Dispatch::load_store_pair_post_of))]
 fn load_store_pair_post(word: u32, found: &mut Option<Instr>)
     requires { field_of 24 5 word ≡ 8 }
-    ensures row { Reads found.new (load_store_pair_post_of word) }
+    ensures row { Reads found.new (Dispatch.load_store_pair_post_of word) }
     ensures same { IfSome found.new (λ i. word_of i ≡ word) }
 {
     if field(word, 29, 1) == 1 && field(word, 23, 1) == 1 {
@@ -77,7 +55,7 @@ fn load_store_pair_post(word: u32, found: &mut Option<Instr>)
 #[tactic(auto, unfolding(crate::specs::Dispatch::load_store_pair_of))]
 fn load_store_pair(word: u32, found: &mut Option<Instr>)
     requires { field_of 24 5 word ≡ 9 }
-    ensures row { Reads found.new (load_store_pair_of word) }
+    ensures row { Reads found.new (Dispatch.load_store_pair_of word) }
     ensures same { IfSome found.new (λ i. word_of i ≡ word) }
 {
     if field(word, 29, 1) == 1 && field(word, 23, 1) == 0 {
@@ -93,7 +71,7 @@ fn load_store_pair(word: u32, found: &mut Option<Instr>)
 #[tactic(auto, unfolding(crate::specs::Dispatch::logical_shifted_register_of))]
 fn logical_shifted_register(word: u32, found: &mut Option<Instr>)
     requires { field_of 24 5 word ≡ 10 }
-    ensures row { Reads found.new (logical_shifted_register_of word) }
+    ensures row { Reads found.new (Dispatch.logical_shifted_register_of word) }
     ensures same { IfSome found.new (λ i. word_of i ≡ word) }
 {
     *found = rows::log_shift(word)
@@ -103,7 +81,7 @@ fn logical_shifted_register(word: u32, found: &mut Option<Instr>)
 #[tactic(auto, unfolding(crate::specs::Dispatch::add_sub_register_of))]
 fn add_sub_register(word: u32, found: &mut Option<Instr>)
     requires { field_of 24 5 word ≡ 11 }
-    ensures row { Reads found.new (add_sub_register_of word) }
+    ensures row { Reads found.new (Dispatch.add_sub_register_of word) }
     ensures same { IfSome found.new (λ i. word_of i ≡ word) }
 {
     if field(word, 21, 1) == 0 {
@@ -119,7 +97,7 @@ fn add_sub_register(word: u32, found: &mut Option<Instr>)
 #[tactic(auto, unfolding(crate::specs::Dispatch::pc_rel_addressing_of))]
 fn pc_rel_addressing(word: u32, found: &mut Option<Instr>)
     requires { field_of 24 5 word ≡ 16 }
-    ensures row { Reads found.new (pc_rel_addressing_of word) }
+    ensures row { Reads found.new (Dispatch.pc_rel_addressing_of word) }
     ensures same { IfSome found.new (λ i. word_of i ≡ word) }
 {
     *found = rows::adr(word)
@@ -129,7 +107,7 @@ fn pc_rel_addressing(word: u32, found: &mut Option<Instr>)
 #[tactic(auto, unfolding(crate::specs::Dispatch::add_sub_immediate_of))]
 fn add_sub_immediate(word: u32, found: &mut Option<Instr>)
     requires { field_of 24 5 word ≡ 17 }
-    ensures row { Reads found.new (add_sub_immediate_of word) }
+    ensures row { Reads found.new (Dispatch.add_sub_immediate_of word) }
     ensures same { IfSome found.new (λ i. word_of i ≡ word) }
 {
     if field(word, 23, 1) == 0 {
@@ -149,7 +127,7 @@ fn add_sub_immediate(word: u32, found: &mut Option<Instr>)
 #[tactic(auto, unfolding(crate::specs::Dispatch::logical_and_move_wide_of))]
 fn logical_and_move_wide(word: u32, found: &mut Option<Instr>)
     requires { field_of 24 5 word ≡ 18 }
-    ensures row { Reads found.new (logical_and_move_wide_of word) }
+    ensures row { Reads found.new (Dispatch.logical_and_move_wide_of word) }
     ensures same { IfSome found.new (λ i. word_of i ≡ word) }
 {
     if field(word, 23, 1) == 0 {
@@ -163,7 +141,7 @@ fn logical_and_move_wide(word: u32, found: &mut Option<Instr>)
 #[tactic(auto, unfolding(crate::specs::Dispatch::bitfield_and_extract_of))]
 fn bitfield_and_extract(word: u32, found: &mut Option<Instr>)
     requires { field_of 24 5 word ≡ 19 }
-    ensures row { Reads found.new (bitfield_and_extract_of word) }
+    ensures row { Reads found.new (Dispatch.bitfield_and_extract_of word) }
     ensures same { IfSome found.new (λ i. word_of i ≡ word) }
 {
     if field(word, 23, 1) == 0 {
@@ -179,7 +157,7 @@ fn bitfield_and_extract(word: u32, found: &mut Option<Instr>)
 #[tactic(auto, unfolding(crate::specs::Dispatch::branches_exceptions_system_of))]
 fn branches_exceptions_system(word: u32, found: &mut Option<Instr>)
     requires { field_of 26 3 word ≡ 5 }
-    ensures row { Reads found.new (branches_exceptions_system_of word) }
+    ensures row { Reads found.new (Dispatch.branches_exceptions_system_of word) }
     ensures same { IfSome found.new (λ i. word_of i ≡ word) }
 {
     if field(word, 30, 1) == 0 {
@@ -200,7 +178,7 @@ fn branches_exceptions_system(word: u32, found: &mut Option<Instr>)
 fn branch_immediate(word: u32, found: &mut Option<Instr>)
     requires class { field_of 26 3 word ≡ 5 }
     requires bit_30 { field_of 30 1 word ≡ 0 }
-    ensures row { Reads found.new (branch_immediate_of word) }
+    ensures row { Reads found.new (Dispatch.branch_immediate_of word) }
     ensures same { IfSome found.new (λ i. word_of i ≡ word) }
 {
     if field(word, 29, 1) == 0 {
@@ -216,7 +194,7 @@ fn branch_immediate(word: u32, found: &mut Option<Instr>)
 #[tactic(auto, unfolding(crate::specs::Dispatch::exceptions_and_system_of))]
 fn exceptions_and_system(word: u32, found: &mut Option<Instr>)
     requires { field_of 26 6 word ≡ 0x35 }
-    ensures row { Reads found.new (exceptions_and_system_of word) }
+    ensures row { Reads found.new (Dispatch.exceptions_and_system_of word) }
     ensures same { IfSome found.new (λ i. word_of i ≡ word) }
 {
     match field(word, 24, 2) {
@@ -233,7 +211,7 @@ fn exceptions_and_system(word: u32, found: &mut Option<Instr>)
 #[tactic(auto, unfolding(crate::specs::Dispatch::load_store_register_of))]
 fn load_store_register(word: u32, found: &mut Option<Instr>)
     requires { field_of 24 5 word ≡ 24 }
-    ensures row { Reads found.new (load_store_register_of word) }
+    ensures row { Reads found.new (Dispatch.load_store_register_of word) }
     ensures same { IfSome found.new (λ i. word_of i ≡ word) }
 {
     if field(word, 29, 1) == 0 {
@@ -253,7 +231,7 @@ fn load_store_signed_offset(word: u32, found: &mut Option<Instr>)
     requires class { field_of 24 5 word ≡ 24 }
     requires bit_29 { field_of 29 1 word ≡ 1 }
     requires bit_21 { field_of 21 1 word ≡ 0 }
-    ensures row { Reads found.new (load_store_signed_offset_of word) }
+    ensures row { Reads found.new (Dispatch.load_store_signed_offset_of word) }
     ensures same { IfSome found.new (λ i. word_of i ≡ word) }
 {
     match field(word, 10, 2) {
@@ -268,7 +246,7 @@ fn load_store_signed_offset(word: u32, found: &mut Option<Instr>)
 #[tactic(auto, unfolding(crate::specs::Dispatch::load_store_unsigned_immediate_of))]
 fn load_store_unsigned_immediate(word: u32, found: &mut Option<Instr>)
     requires { field_of 24 5 word ≡ 25 }
-    ensures row { Reads found.new (load_store_unsigned_immediate_of word) }
+    ensures row { Reads found.new (Dispatch.load_store_unsigned_immediate_of word) }
     ensures same { IfSome found.new (λ i. word_of i ≡ word) }
 {
     if field(word, 29, 1) == 1 {
@@ -285,7 +263,7 @@ fn load_store_unsigned_immediate(word: u32, found: &mut Option<Instr>)
 fn load_store_memory_tags(word: u32, found: &mut Option<Instr>)
     requires class { field_of 24 8 word ≡ 0xD9 }
     requires bit_21 { field_of 21 1 word ≡ 1 }
-    ensures row { Reads found.new (load_store_memory_tags_of word) }
+    ensures row { Reads found.new (Dispatch.load_store_memory_tags_of word) }
     ensures same { IfSome found.new (λ i. word_of i ≡ word) }
 {
     if field(word, 10, 2) == 0 && field(word, 22, 2) == 1 {
@@ -299,7 +277,7 @@ fn load_store_memory_tags(word: u32, found: &mut Option<Instr>)
 #[tactic(auto, unfolding(crate::specs::Dispatch::data_processing_register_of))]
 fn data_processing_register(word: u32, found: &mut Option<Instr>)
     requires { field_of 24 5 word ≡ 26 }
-    ensures row { Reads found.new (data_processing_register_of word) }
+    ensures row { Reads found.new (Dispatch.data_processing_register_of word) }
     ensures same { IfSome found.new (λ i. word_of i ≡ word) }
 {
     match field(word, 21, 3) {
@@ -316,7 +294,7 @@ fn data_processing_register(word: u32, found: &mut Option<Instr>)
 #[tactic(auto, unfolding(crate::specs::Dispatch::data_processing_1_2_source_of))]
 fn data_processing_1_2_source(word: u32, found: &mut Option<Instr>)
     requires { field_of 21 8 word ≡ 0xD6 }
-    ensures row { Reads found.new (data_processing_1_2_source_of word) }
+    ensures row { Reads found.new (Dispatch.data_processing_1_2_source_of word) }
     ensures same { IfSome found.new (λ i. word_of i ≡ word) }
 {
     if field(word, 30, 1) == 1 {
@@ -335,7 +313,7 @@ fn data_processing_1_2_source(word: u32, found: &mut Option<Instr>)
 fn data_processing_1_source(word: u32, found: &mut Option<Instr>)
     requires class { field_of 21 8 word ≡ 0xD6 }
     requires bit_30 { field_of 30 1 word ≡ 1 }
-    ensures row { Reads found.new (data_processing_1_source_of word) }
+    ensures row { Reads found.new (Dispatch.data_processing_1_source_of word) }
     ensures same { IfSome found.new (λ i. word_of i ≡ word) }
 {
     if field(word, 29, 1) == 0 && field(word, 16, 5) == 0 {
@@ -350,7 +328,7 @@ fn data_processing_1_source(word: u32, found: &mut Option<Instr>)
 fn data_processing_2_source(word: u32, found: &mut Option<Instr>)
     requires class { field_of 21 8 word ≡ 0xD6 }
     requires bits_29 { field_of 29 2 word ≡ 0 }
-    ensures row { Reads found.new (data_processing_2_source_of word) }
+    ensures row { Reads found.new (Dispatch.data_processing_2_source_of word) }
     ensures same { IfSome found.new (λ i. word_of i ≡ word) }
 {
     match field(word, 10, 6) {
@@ -364,7 +342,7 @@ fn data_processing_2_source(word: u32, found: &mut Option<Instr>)
 #[tactic(auto, unfolding(crate::specs::Dispatch::data_processing_3_source_of))]
 fn data_processing_3_source(word: u32, found: &mut Option<Instr>)
     requires { field_of 24 5 word ≡ 27 }
-    ensures row { Reads found.new (data_processing_3_source_of word) }
+    ensures row { Reads found.new (Dispatch.data_processing_3_source_of word) }
     ensures same { IfSome found.new (λ i. word_of i ≡ word) }
 {
     match field(word, 21, 2) {
