@@ -4,7 +4,7 @@ use Rattle.std.proofs.Math.Nat.{pow-le-pow_right}
 use Rattle.std.proofs.lemmas.Bool.{cases_lt, lt-ltb, le-ltb, cases_eq}
 use Rattle.std.proofs.lemmas.Nat.{leading_length, pow-add}
 use Rattle.std.specs.Int.Count.{count_leading_zeros}
-use Rattle.a64_bits.specs.Values.{leading_zeros_of}
+use Rattle.a64_bits.specs.Counts.{leading_zeros_of}
 use Rattle.a64_bits.proofs.FieldLemmas.{doubled}
 
 -- The bits from j up are zeros.

@@ -57,7 +57,7 @@ pub short_some : (imms immr size : ℕ) → IsMask 0 imms →
 unfolding bit_mask_of
 short_some imms immr size h = rw (ne_eqb (imms % element_size 0 imms) (element_size 0 imms - 1) h) refl
 
--- The same, as the code tells the cases.
+-- The same, by the cases of the code.
 pub by_wide_none : (n imms immr size : ℕ) → IsMask n imms → n ≡ 1 → size ≡ 32 → None ≡ bit_mask_of n imms immr size
 by_wide_none n imms immr size h is_n is_size =
     let mask : IsMask 1 imms = subst (λ k. IsMask k imms) is_n h in

@@ -3,7 +3,7 @@ use Rattle.std.proofs.Common.{◌≡◌, ℕ, zero, suc, ◌+◌, ◌*◌, ◌/�
 use Rattle.std.proofs.Math.Nat.{pow-suc, mul_assoc, add-mul}
 use Rattle.std.specs.Int.{reverse_bits_onto}
 use Rattle.a64_bits.specs.Arithmetic.{IsRegisterSize}
-use Rattle.a64_bits.specs.Values.{reversed_digits, each_digit, reversed_bits, reversed_bytes}
+use Rattle.a64_bits.specs.BitOrders.{reversed_digits, each_digit, reversed_bits, reversed_bytes}
 
 -- The library collects the digits from the other end.
 pub reverse_bits_onto-is : (k n a : ℕ) → reverse_bits_onto k n a ≡ a * 2 ^ k + reversed_digits 2 k n

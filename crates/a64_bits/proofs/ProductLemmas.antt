@@ -3,7 +3,7 @@ use Rattle.std.proofs.Common.{◌≡◌, ℕ, suc, ◌+◌, ◌-◌, ◌*◌, �
 use Rattle.std.proofs.Math.Nat.{mul-add, add-mul, mul_comm, zero-mul, mul-pos, mul-lt-mul_of_pos_right}
 use Rattle.std.proofs.lemmas.Bool.{cases_eq}
 use Rattle.a64_bits.specs.Fields.{twos_complement}
-use Rattle.a64_bits.specs.Values.{high_product}
+use Rattle.a64_bits.specs.Products.{high_product}
 use Rattle.a64_bits.proofs.FieldLemmas.{signed_of_small, signed_of_large}
 use Rattle.a64_bits.proofs.MoveLemmas.{twos_complement-neg}
 

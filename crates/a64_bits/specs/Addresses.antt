@@ -1,4 +1,5 @@
--- The parts of a 64-bit address, whose top byte is no part of the place that it names (Arm ARM DDI 0487, "Address tagging" and "The Memory Tagging Extension").
+-- The parts of a 64-bit address, whose top byte is no part of the place that it names (Arm ARM
+-- DDI 0487, "Address tagging" and "The Memory Tagging Extension").
 use Rattle.std.specs.Prelude.{ℕ, ◌/◌, ◌%◌, ◌^◌}
 
 -- The plain address: the low 56 bits.

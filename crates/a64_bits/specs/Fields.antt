@@ -1,5 +1,7 @@
--- A field of a word: `width` binary digits from the digit `position` up; and numbers in two's complement.
-use Rattle.std.specs.Prelude.{ℕ, ◌+◌, ◌-◌, ◌/◌, ◌%◌, ◌^◌, ◌<◌, ℤ, pos, negsuc, if◌then◌else◌, nat_lt}
+-- A field of a word: `width` binary digits from the digit `position` up; and numbers in two's
+-- complement.
+use Rattle.std.specs.Prelude.{ℕ, ◌+◌, ◌-◌, ◌/◌, ◌%◌, ◌^◌, ◌<◌, ℤ, pos, negsuc}
+use Rattle.std.specs.Prelude.{if◌then◌else◌, nat_lt}
 
 abbrev pub field_of : ℕ → ℕ → ℕ → ℕ
 field_of position width word = word / 2 ^ position % 2 ^ width

@@ -3,4 +3,8 @@ pub mod Fields
 pub mod Arithmetic
 pub mod Shifts
 pub mod Masks
-pub mod Values
+pub mod Products
+pub mod Division
+pub mod BitOrders
+pub mod Counts
+pub mod FieldMoves

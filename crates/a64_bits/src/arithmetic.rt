@@ -19,7 +19,8 @@ pub struct Sum {
     pub flags: Flags,
 }
 
-/// `x + y + carry` in `size` bits, 32 or 64 (AddWithCarry). A difference is the sum of `x`, the inverted `y` and a carry of 1.
+/// `x + y + carry` in `size` bits, 32 or 64 (AddWithCarry). A difference is the sum of `x`, the
+/// inverted `y` and a carry of 1.
 #[inline(always)]
 pub fn add_with_carry(x: u64, y: u64, carry: bool, size: u32) -> Sum
     requires size { IsRegisterSize size }

@@ -1,10 +1,13 @@
-//! Orders of bits and bytes, and counts of leading bits.
+//! Orders of bits and bytes (RBIT, REV16, REV32, REV).
 
 ghost use Rattle.std.specs.Prelude.{◌≡◌, ◌*◌, ◌^◌, ◌<◌, ◌≤◌, ◌⊎◌};
 ghost use Rattle.a64_bits.specs.Arithmetic.{IsRegisterSize};
-ghost use Rattle.a64_bits.specs.Values.{reversed_bits, reversed_bytes, reversed_digits, each_digit, leading_zeros_of, leading_signs_of};
-
-use crate::powers::{ones, power_of_two};
+ghost use Rattle.a64_bits.specs.BitOrders.{
+  reversed_bits,
+  reversed_bytes,
+  reversed_digits,
+  each_digit,
+};
 
 /// The `size` bits of `x` in the opposite order (RBIT).
 #[inline(always)]
@@ -20,7 +23,8 @@ pub fn reverse_bits(x: u64, size: u32) -> u64
     }
 }
 
-/// `x` with the bytes of each group of `group` bytes in the opposite order (REV16, REV32, REV for 2, 4 and 8).
+/// `x` with the bytes of each group of `group` bytes in the opposite order
+/// (REV16, REV32, REV for 2, 4 and 8).
 #[inline(always)]
 pub fn reverse_bytes(x: u64, group: u32, size: u32) -> u64
     requires size { IsRegisterSize size }
@@ -58,39 +62,4 @@ fn swap_twice(x: u64) -> u64
     let odd = (x >> 24) * (1 << 16) + (x >> 8) % 256;
     let even = (x >> 16) % 256 * (1 << 16) + x % 256;
     even * 256 + odd
-}
-
-/// The zeros above the highest one in `size` bits (CLZ).
-#[inline(always)]
-pub fn count_leading_zeros(x: u64, size: u32) -> u64
-    requires size { IsRegisterSize size }
-    requires x { x < 2 ^ size }
-    ensures { result ≡ leading_zeros_of size x }
-{
-    leading_zeros(x, size)
-}
-
-/// The bits below the top bit that equal it without a break (CLS).
-#[inline(always)]
-#[tactic(auto, unfolding(crate::specs::Values::leading_signs_of))]
-pub fn count_leading_sign(x: u64, size: u32) -> u64
-    requires size { IsRegisterSize size }
-    requires x { x < 2 ^ size }
-    ensures { result ≡ leading_signs_of size x }
-{
-    if x < power_of_two(size - 1) {
-        leading_zeros(x, size - 1)
-    } else {
-        leading_zeros(ones(size) - x, size - 1)
-    }
-}
-
-/// The zeros above the highest one in a number of any `size` up to 64 bits.
-#[inline(always)]
-fn leading_zeros(x: u64, size: u32) -> u64
-    requires size { size ≤ 64 }
-    requires x { x < 2 ^ size }
-    ensures { result ≡ leading_zeros_of size x }
-{
-    (x.leading_zeros() - (64 - size)) as u64
 }

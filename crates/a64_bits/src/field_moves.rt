@@ -2,7 +2,7 @@
 
 ghost use Rattle.std.specs.Prelude.{◌≡◌, ◌+◌, ◌%◌, ◌^◌, ◌<◌, ◌≤◌};
 ghost use Rattle.a64_bits.specs.Arithmetic.{IsRegisterSize};
-ghost use Rattle.a64_bits.specs.Values.{extracted, placed_field, moved_field};
+ghost use Rattle.a64_bits.specs.FieldMoves.{extracted, placed_field, moved_field};
 
 use crate::powers::{low_bits, ones, power_of_two};
 
@@ -21,7 +21,8 @@ pub fn extract(high: u64, low: u64, lsb: u32, size: u32) -> u64
     (low_bits(high, lsb) << (size - lsb)) + (low >> lsb)
 }
 
-/// The field of `rn` that `immr` and `imms` tell, moved into zeros, signs or `rd` (SBFM, BFM and UBFM for `opc` 0, 1 and 2).
+/// The field of `rn` that `immr` and `imms` select, moved into zeros, signs or `rd`
+/// (SBFM, BFM and UBFM for `opc` 0, 1 and 2).
 #[inline(always)]
 pub fn move_field(opc: u8, rd: u64, rn: u64, immr: u32, imms: u32, size: u32) -> u64
     requires size { IsRegisterSize size }

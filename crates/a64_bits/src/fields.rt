@@ -1,7 +1,13 @@
 //! Fields of a word, and numbers in two's complement.
 
 ghost use Rattle.std.specs.Prelude.{◌≡◌, ◌+◌, ◌^◌, ◌<◌, ◌≤◌, IsTrue, ◌↔◌};
-ghost use Rattle.a64_bits.specs.Fields.{field_of, signed_of, FitsSignedField, twos_complement, sign_extended};
+ghost use Rattle.a64_bits.specs.Fields.{
+  field_of,
+  signed_of,
+  FitsSignedField,
+  twos_complement,
+  sign_extended,
+};
 
 use crate::powers::{low_bits, ones, power_of_two};
 

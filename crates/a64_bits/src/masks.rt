@@ -15,7 +15,7 @@ pub fn is_mask(n: u8, imms: u8) -> bool
     if n == 1 {
         return imms != 63;
     }
-    // The element's size is told by the ones at the top of imms; the bits below are its ones less 1.
+    // The ones at the top of imms give the element's size; the bits below are its ones less 1.
     match imms {
         0..=31 => imms != 31,
         32..=47 => imms != 47,
@@ -26,7 +26,8 @@ pub fn is_mask(n: u8, imms: u8) -> bool
     }
 }
 
-/// The mask that `n`, `imms` and `immr` stand for in a register of `size` bits, 32 or 64 (DecodeBitMasks).
+/// The mask that `n`, `imms` and `immr` encode in a register of `size` bits, 32 or 64
+/// (DecodeBitMasks).
 /// `None` exactly for a reserved form and for an element of 64 bits (`n` 1) in a register of 32.
 pub fn bit_masks(n: u8, imms: u8, immr: u8, size: u32) -> Option<u64>
     requires n_fits { n < 2 }
@@ -57,7 +58,8 @@ pub fn bit_masks(n: u8, imms: u8, immr: u8, size: u32) -> Option<u64>
 fn short_mask(imms: u8, immr: u8) -> u64
     requires imms_fits { imms < 64 }
     requires is_mask { IsMask 0 imms }
-    ensures same { let bits = element_size 0 imms in result ≡ copies bits (32 / bits) (element_of bits imms immr) }
+    ensures same { let bits = element_size 0 imms in
+        result ≡ copies bits (32 / bits) (element_of bits imms immr) }
     ensures below { result < 2 ^ 32 }
 {
     match imms {

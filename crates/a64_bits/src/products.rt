@@ -1,15 +1,11 @@
-//! Products and quotients.
+//! High halves of products (UMULH, SMULH).
 
-ghost use Rattle.std.specs.Prelude.{◌≡◌, ◌-◌, ◌*◌, ◌/◌, ◌^◌, ◌<◌, ◌≤◌, pos, neg_ℤ, int_div, true};
-ghost use Rattle.a64_bits.specs.Arithmetic.{IsRegisterSize};
-ghost use Rattle.a64_bits.specs.Fields.{signed_of, twos_complement};
-ghost use Rattle.a64_bits.specs.Values.{high_product, quotient_of};
-
-use crate::powers::{ones, power_of_two};
+ghost use Rattle.std.specs.Prelude.{◌≡◌, ◌*◌, ◌/◌, ◌^◌, true};
+ghost use Rattle.a64_bits.specs.Products.{high_product};
 
 /// The upper 64 bits of the product of `x` and `y` (UMULH, and SMULH where `signed`).
 #[inline(always)]
-#[tactic(auto, unfolding(crate::specs::Values::high_product))]
+#[tactic(auto, unfolding(crate::specs::Products::high_product))]
 pub fn multiply_high(x: u64, y: u64, signed: bool) -> u64
     ensures { result ≡ high_product x y signed }
 {
@@ -21,7 +17,8 @@ pub fn multiply_high(x: u64, y: u64, signed: bool) -> u64
     }
 }
 
-/// The upper half of the signed product, from that of the unsigned one. A negative x stands for x - 2^64, so the product has y * 2^64 less.
+/// The upper half of the signed product, from that of the unsigned one. A negative `x` represents
+/// `x` - 2^64, so the product is less by `y` * 2^64.
 #[inline(always)]
 fn signed_high(high: u64, x: u64, y: u64) -> u64
     requires { high ≡ x * y / 2 ^ 64 }
@@ -32,74 +29,5 @@ fn signed_high(high: u64, x: u64, y: u64) -> u64
         (true, false) => high.wrapping_sub(x),
         (false, true) => high.wrapping_sub(y),
         (false, false) => high.wrapping_sub(y).wrapping_sub(x),
-    }
-}
-
-/// The quotient of `x` by `y` in `size` bits, 32 or 64, rounded toward zero (UDIV, and SDIV where `signed`); 0 where `y` is 0.
-#[inline(always)]
-#[tactic(auto, unfolding(crate::specs::Values::quotient_of))]
-pub fn divide(x: u64, y: u64, size: u32, signed: bool) -> u64
-    requires size { IsRegisterSize size }
-    requires x { x < 2 ^ size }
-    requires y { y < 2 ^ size }
-    ensures { result ≡ quotient_of size signed x y }
-{
-    if y == 0 {
-        0
-    } else if signed {
-        divide_signed(x, y, size)
-    } else {
-        x / y
-    }
-}
-
-/// The quotient of the magnitudes, with its sign. That of the least number by -1 is 2^(size-1), the least number's bits.
-#[inline(always)]
-fn divide_signed(x: u64, y: u64, size: u32) -> u64
-    requires size { IsRegisterSize size }
-    requires x { x < 2 ^ size }
-    requires y { y < 2 ^ size }
-    requires divisor { 0 < y }
-    ensures { result ≡ twos_complement size (int_div (signed_of size x) (signed_of size y)) }
-{
-    let half = power_of_two(size - 1);
-    if x < half {
-        if y < half {
-            x / y
-        } else {
-            negated(x / magnitude(y, size), size)
-        }
-    } else {
-        let dividend = magnitude(x, size);
-        if y < half {
-            negated(dividend / y, size)
-        } else {
-            dividend / magnitude(y, size)
-        }
-    }
-}
-
-/// The magnitude of a negative number of `size` bits.
-#[inline(always)]
-fn magnitude(x: u64, size: u32) -> u64
-    requires size { IsRegisterSize size }
-    requires x { x < 2 ^ size }
-    requires negative { 2 ^ (size - 1) ≤ x }
-    ensures { result ≡ 2 ^ size - x }
-{
-    ones(size) - x + 1
-}
-
-/// -`quotient` in `size` bits.
-#[inline(always)]
-fn negated(quotient: u64, size: u32) -> u64
-    requires size { IsRegisterSize size }
-    requires fits { quotient < 2 ^ size }
-    ensures { result ≡ twos_complement size (neg_ℤ (pos quotient)) }
-{
-    if quotient == 0 {
-        0
-    } else {
-        ones(size) - quotient + 1
     }
 }

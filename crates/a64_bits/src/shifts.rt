@@ -1,7 +1,12 @@
 //! Shifts and rotations in a register of `size` bits.
 
 ghost use Rattle.std.specs.Prelude.{◌≡◌, ◌^◌, ◌<◌, ◌≤◌};
-ghost use Rattle.a64_bits.specs.Shifts.{shifted_left, shifted_right, shifted_right_signed, rotated_right};
+ghost use Rattle.a64_bits.specs.Shifts.{
+  shifted_left,
+  shifted_right,
+  shifted_right_signed,
+  rotated_right,
+};
 ghost use Rattle.a64_bits.specs.Arithmetic.{IsRegisterSize};
 
 use crate::powers::{low_bits, ones, power_of_two};

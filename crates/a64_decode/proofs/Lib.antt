@@ -5,5 +5,5 @@ pub mod MemoryWords
 pub mod SystemWords
 pub mod TagWords
 pub mod Words
-pub mod Allowed
-pub mod Decoding
+pub mod Tested
+pub mod Table

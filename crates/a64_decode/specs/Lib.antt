@@ -1,3 +1,4 @@
-pub mod Reading
+pub mod Rows
 pub mod Decoded
-pub mod Remembering
+pub mod DecodeCache
+pub mod Dispatch

@@ -1,6 +1,6 @@
 //! The instruction of a word.
 
-ghost use Rattle.std.specs.Prelude.{◌≡◌, ◌↔◌, IfSome};
+ghost use Rattle.std.specs.Prelude.{◌≡◌, ◌↔◌, ℕ, IfSome};
 ghost use Rattle.a64_asm.specs.Encoding.{IsAllowed, IsWordOf, word_of};
 ghost use Rattle.a64_asm.specs.declared.instruction.Instr.{Instr};
 ghost use Rattle.a64_decode.specs.Decoded.{decoded};
@@ -8,7 +8,8 @@ ghost use Rattle.a64_decode.specs.Decoded.{decoded};
 use crate::dispatch::read;
 use a64_asm::Instr;
 
-/// The instruction whose word is `word` (Arm ARM DDI 0487, C4.1), `None` exactly where the profile has none.
+/// The instruction whose word is `word` (Arm ARM DDI 0487, C4.1), `None` exactly where the profile
+/// has none.
 #[inline]
 pub fn decode(word: u32) -> Option<Instr>
     ensures means { (i : Instr) → ((result ≡ Some i) ↔ IsWordOf word i) }
@@ -21,7 +22,12 @@ pub fn decode(word: u32) -> Option<Instr>
     found
 }
 
+/// A word means the instruction that it is the word of, and nothing where there is none.
+pub fn words_mean()
+    ensures { (w : ℕ) (i : Instr) → ((decoded w ≡ Some i) ↔ IsWordOf w i) }
+{}
+
 /// No two instructions have the same word.
-pub fn words_differ()
+pub fn words_are_unique()
     ensures { (i j : Instr) → IsAllowed i → IsAllowed j → word_of i ≡ word_of j → i ≡ j }
 {}

@@ -1,16 +1,10 @@
-//! The A64 instructions that words stand for.
+//! The instruction of a word, and a cache of decoded words.
 #![tactic(auto)]
 
-mod branch_rows;
-mod data_rows;
+mod decode_cache;
 mod decoder;
 mod dispatch;
-mod memory_rows;
-mod remembering;
-mod system_rows;
-mod tag_rows;
-#[cfg(test)]
-mod tests;
+mod rows;
 
-pub use decoder::{decode, words_differ};
-pub use remembering::Decoder;
+pub use decode_cache::Decoder;
+pub use decoder::{decode, words_are_unique, words_mean};

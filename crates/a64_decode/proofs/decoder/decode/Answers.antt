@@ -1,6 +1,5 @@
-use Rattle.a64_decode.specs.Decoded.{decoded}
-use Rattle.a64_decode.proofs.Allowed.{reads_allowed_only, read_fits}
-use Rattle.a64_decode.proofs.Words.{again, read_allowed, reads_it, found_same}
+use Rattle.a64_decode.proofs.Table.{is_decoded}
+use Rattle.a64_decode.proofs.Words.{again, read_allowed, reads_it, found_same, read_fits}
 use Rattle.a64_decode.proofs.decoder.decode.Goals as goal
 
 pub returns-clause-means : goal.returns-clause-means
@@ -10,8 +9,7 @@ returns-clause-means c i = (
 )
 
 pub returns-clause-value : goal.returns-clause-value
-unfolding decoded
-returns-clause-value c = reads_allowed_only _ _ c.read.ensures.row
+returns-clause-value c = is_decoded _ _ (returns-clause-means c)
 
 pub returns-clause-fits : goal.returns-clause-fits
 returns-clause-fits c = read_fits _ _ c.read.ensures.row

@@ -1,5 +1,0 @@
-use Rattle.a64_decode.proofs.Words.{one_word}
-use Rattle.a64_decode.proofs.decoder.words_differ.Goals as goal
-
-pub returns : goal.returns
-returns c = one_word

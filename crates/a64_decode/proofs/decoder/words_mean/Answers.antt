@@ -1,0 +1,5 @@
+use Rattle.a64_decode.proofs.Table.{means}
+use Rattle.a64_decode.proofs.decoder.words_mean.Goals as goal
+
+pub returns : goal.returns
+returns c = means
