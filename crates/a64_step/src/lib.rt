@@ -14,6 +14,7 @@ mod places;
 mod registers;
 mod tagging;
 
+pub use a64_decode::Decoder;
 pub use machine::{run, step};
 pub use outcome::{Outcome, Stop};
 pub use registers::Regs;
@@ -49,7 +50,7 @@ mod tests {
             rgsr: Rgsr { tag: 0, seed: 1 },
         };
         assert_eq!(rt;
-            run(&mut regs, &mut memory, 4),
+            run(&mut Decoder::new(), &mut regs, &mut memory, 4),
             Stop {
                 outcome: None,
                 left: 0
@@ -60,7 +61,7 @@ mod tests {
             (0x10000, 0x10048, 0x10000)
         );
         assert_eq!(rt;
-            run(&mut regs, &mut memory, 9),
+            run(&mut Decoder::new(), &mut regs, &mut memory, 9),
             Stop {
                 outcome: Some(Outcome::Svc),
                 left: 8
@@ -74,7 +75,10 @@ mod tests {
             ptr_tag: 0,
             mem_tag: 0,
         };
-        assert_eq!(rt; step(&mut regs, &mut memory), Outcome::Fault(fault));
+        assert_eq!(rt;
+            step(&mut Decoder::new(), &mut regs, &mut memory),
+            Outcome::Fault(fault)
+        );
         Ok(())
     }
 
@@ -104,7 +108,7 @@ mod tests {
         // add x0, x0, #2
         regs.x[1] = 0x91000800;
         regs.x[2] = 0x10000;
-        run(&mut regs, &mut memory, 7);
+        run(&mut Decoder::new(), &mut regs, &mut memory, 7);
         assert_eq!(rt; (regs.x[0], regs.pc), (5, 0x10004));
         Ok(())
     }

@@ -2,6 +2,7 @@
 
 ghost use Rattle.std.specs.Prelude.{◌≡◌, ◌<◌};
 ghost use Rattle.a64_step.specs.Places.{scaled_place, offset_place, post_place, pre_place, register_place};
+ghost use Rattle.a64_step.specs.Results.{Left};
 ghost use Rattle.a64_step.specs.Loads.{store_of, load_of, single_of, literal_of};
 
 use crate::numbers::{moved_by, read_number, value_of_load, write_number};
@@ -28,9 +29,7 @@ pub fn ld_st_imm<M: Tagged>(
     requires rt { rt < 32 }
     requires wide { size ≡ 3 → opc < 2 }
     requires outcome { outcome.old ≡ Outcome.Next }
-    ensures outcome { outcome.new ≡ (single_of regs.old (M.memory memory.old) size opc rn rt (scaled_place regs.old size imm12 rn)).outcome }
-    ensures regs { regs.new ≡ (single_of regs.old (M.memory memory.old) size opc rn rt (scaled_place regs.old size imm12 rn)).regs }
-    ensures memory { M.memory memory.new ≡ (single_of regs.old (M.memory memory.old) size opc rn rt (scaled_place regs.old size imm12 rn)).memory }
+    ensures step { Left (single_of regs.old (M.memory memory.old) size opc rn rt (scaled_place regs.old size imm12 rn)) outcome.new regs.new (M.memory memory.new) }
     ensures kept { M.kept memory.old memory.new }
 {
     if size == 3 {
@@ -67,9 +66,7 @@ fn ld_st_imm_narrow<M: Tagged>(
     requires rn { rn < 32 }
     requires rt { rt < 32 }
     requires outcome { outcome.old ≡ Outcome.Next }
-    ensures outcome { outcome.new ≡ (single_of regs.old (M.memory memory.old) size opc rn rt (scaled_place regs.old size imm12 rn)).outcome }
-    ensures regs { regs.new ≡ (single_of regs.old (M.memory memory.old) size opc rn rt (scaled_place regs.old size imm12 rn)).regs }
-    ensures memory { M.memory memory.new ≡ (single_of regs.old (M.memory memory.old) size opc rn rt (scaled_place regs.old size imm12 rn)).memory }
+    ensures step { Left (single_of regs.old (M.memory memory.old) size opc rn rt (scaled_place regs.old size imm12 rn)) outcome.new regs.new (M.memory memory.new) }
     ensures kept { M.kept memory.old memory.new }
 {
     let place = Place::scaled(regs, size, imm12, rn);
@@ -91,9 +88,7 @@ pub fn ld_st_unscaled<M: Tagged>(
     requires rn { rn < 32 }
     requires rt { rt < 32 }
     requires outcome { outcome.old ≡ Outcome.Next }
-    ensures outcome { outcome.new ≡ (single_of regs.old (M.memory memory.old) size opc rn rt (offset_place regs.old 1 imm9 rn)).outcome }
-    ensures regs { regs.new ≡ (single_of regs.old (M.memory memory.old) size opc rn rt (offset_place regs.old 1 imm9 rn)).regs }
-    ensures memory { M.memory memory.new ≡ (single_of regs.old (M.memory memory.old) size opc rn rt (offset_place regs.old 1 imm9 rn)).memory }
+    ensures step { Left (single_of regs.old (M.memory memory.old) size opc rn rt (offset_place regs.old 1 imm9 rn)) outcome.new regs.new (M.memory memory.new) }
     ensures kept { M.kept memory.old memory.new }
 {
     let place = Place::offset(regs, 1, i64::from(imm9), rn);
@@ -115,9 +110,7 @@ pub fn ld_st_post<M: Tagged>(
     requires rn { rn < 32 }
     requires rt { rt < 32 }
     requires outcome { outcome.old ≡ Outcome.Next }
-    ensures outcome { outcome.new ≡ (single_of regs.old (M.memory memory.old) size opc rn rt (post_place regs.old 1 imm9 rn)).outcome }
-    ensures regs { regs.new ≡ (single_of regs.old (M.memory memory.old) size opc rn rt (post_place regs.old 1 imm9 rn)).regs }
-    ensures memory { M.memory memory.new ≡ (single_of regs.old (M.memory memory.old) size opc rn rt (post_place regs.old 1 imm9 rn)).memory }
+    ensures step { Left (single_of regs.old (M.memory memory.old) size opc rn rt (post_place regs.old 1 imm9 rn)) outcome.new regs.new (M.memory memory.new) }
     ensures kept { M.kept memory.old memory.new }
 {
     let place = Place::post(regs, 1, i64::from(imm9), rn);
@@ -139,9 +132,7 @@ pub fn ld_st_pre<M: Tagged>(
     requires rn { rn < 32 }
     requires rt { rt < 32 }
     requires outcome { outcome.old ≡ Outcome.Next }
-    ensures outcome { outcome.new ≡ (single_of regs.old (M.memory memory.old) size opc rn rt (pre_place regs.old 1 imm9 rn)).outcome }
-    ensures regs { regs.new ≡ (single_of regs.old (M.memory memory.old) size opc rn rt (pre_place regs.old 1 imm9 rn)).regs }
-    ensures memory { M.memory memory.new ≡ (single_of regs.old (M.memory memory.old) size opc rn rt (pre_place regs.old 1 imm9 rn)).memory }
+    ensures step { Left (single_of regs.old (M.memory memory.old) size opc rn rt (pre_place regs.old 1 imm9 rn)) outcome.new regs.new (M.memory memory.new) }
     ensures kept { M.kept memory.old memory.new }
 {
     let place = Place::pre(regs, 1, i64::from(imm9), rn);
@@ -167,9 +158,7 @@ pub fn ld_st_reg<M: Tagged>(
     requires rn { rn < 32 }
     requires rt { rt < 32 }
     requires outcome { outcome.old ≡ Outcome.Next }
-    ensures outcome { outcome.new ≡ (single_of regs.old (M.memory memory.old) size opc rn rt (register_place regs.old size rm option s rn)).outcome }
-    ensures regs { regs.new ≡ (single_of regs.old (M.memory memory.old) size opc rn rt (register_place regs.old size rm option s rn)).regs }
-    ensures memory { M.memory memory.new ≡ (single_of regs.old (M.memory memory.old) size opc rn rt (register_place regs.old size rm option s rn)).memory }
+    ensures step { Left (single_of regs.old (M.memory memory.old) size opc rn rt (register_place regs.old size rm option s rn)) outcome.new regs.new (M.memory memory.new) }
     ensures kept { M.kept memory.old memory.new }
 {
     let place = Place::register(regs, size, rm, option, s, rn);
@@ -192,9 +181,7 @@ fn single<M: Tagged>(
     requires rn { rn < 32 }
     requires rt { rt < 32 }
     requires outcome { outcome.old ≡ Outcome.Next }
-    ensures outcome { outcome.new ≡ (single_of regs.old (M.memory memory.old) size opc rn rt place).outcome }
-    ensures regs { regs.new ≡ (single_of regs.old (M.memory memory.old) size opc rn rt place).regs }
-    ensures memory { M.memory memory.new ≡ (single_of regs.old (M.memory memory.old) size opc rn rt place).memory }
+    ensures step { Left (single_of regs.old (M.memory memory.old) size opc rn rt place) outcome.new regs.new (M.memory memory.new) }
     ensures kept { M.kept memory.old memory.new }
 {
     if opc == 0 {
@@ -218,9 +205,7 @@ fn store<M: Tagged>(
     requires rn { rn < 32 }
     requires rt { rt < 32 }
     requires outcome { outcome.old ≡ Outcome.Next }
-    ensures outcome { outcome.new ≡ (store_of regs.old (M.memory memory.old) size rn rt place).outcome }
-    ensures regs { regs.new ≡ (store_of regs.old (M.memory memory.old) size rn rt place).regs }
-    ensures memory { M.memory memory.new ≡ (store_of regs.old (M.memory memory.old) size rn rt place).memory }
+    ensures step { Left (store_of regs.old (M.memory memory.old) size rn rt place) outcome.new regs.new (M.memory memory.new) }
     ensures kept { M.kept memory.old memory.new }
 {
     if let Some(fault) = fault_of_stack(regs, rn, true) {
@@ -250,9 +235,7 @@ fn load<M: Tagged>(
     requires rn { rn < 32 }
     requires rt { rt < 32 }
     requires outcome { outcome.old ≡ Outcome.Next }
-    ensures outcome { outcome.new ≡ (load_of regs.old (M.memory memory.old) size opc rn rt place).outcome }
-    ensures regs { regs.new ≡ (load_of regs.old (M.memory memory.old) size opc rn rt place).regs }
-    ensures memory { M.memory memory.new ≡ (load_of regs.old (M.memory memory.old) size opc rn rt place).memory }
+    ensures step { Left (load_of regs.old (M.memory memory.old) size opc rn rt place) outcome.new regs.new (M.memory memory.new) }
     ensures kept { M.kept memory.old memory.new }
 {
     if let Some(fault) = fault_of_stack(regs, rn, false) {
@@ -282,9 +265,7 @@ pub fn literal<M: Tagged>(
 )
     requires rt { rt < 32 }
     requires outcome { outcome.old ≡ Outcome.Next }
-    ensures outcome { outcome.new ≡ (literal_of regs.old (M.memory memory.old) opc imm19 rt).outcome }
-    ensures regs { regs.new ≡ (literal_of regs.old (M.memory memory.old) opc imm19 rt).regs }
-    ensures memory { M.memory memory.new ≡ (literal_of regs.old (M.memory memory.old) opc imm19 rt).memory }
+    ensures step { Left (literal_of regs.old (M.memory memory.old) opc imm19 rt) outcome.new regs.new (M.memory memory.new) }
     ensures kept { M.kept memory.old memory.new }
 {
     let address = moved_by(regs.pc, 4, i64::from(imm19));

@@ -17,6 +17,7 @@ pub struct Pair {
     pub second: u64,
 }
 
+ghost use Rattle.a64_step.specs.Results.{Left};
 ghost use Rattle.a64_step.specs.Places.{offset_place, post_place, pre_place};
 ghost use Rattle.a64_step.specs.Pairs.{pair_unit, pair_bytes, pair_in, pair_unless_fault, pair_read, pair_value, pair_store_of, pair_load_of, pair_of};
 
@@ -46,9 +47,7 @@ pub fn pair_post<M: Tagged>(
     requires rn { rn < 32 }
     requires rt { rt < 32 }
     requires outcome { outcome.old ≡ Outcome.Next }
-    ensures outcome { outcome.new ≡ (pair_of regs.old (M.memory memory.old) opc l rt2 rn rt (post_place regs.old (pair_unit opc) imm7 rn)).outcome }
-    ensures regs { regs.new ≡ (pair_of regs.old (M.memory memory.old) opc l rt2 rn rt (post_place regs.old (pair_unit opc) imm7 rn)).regs }
-    ensures memory { M.memory memory.new ≡ (pair_of regs.old (M.memory memory.old) opc l rt2 rn rt (post_place regs.old (pair_unit opc) imm7 rn)).memory }
+    ensures step { Left (pair_of regs.old (M.memory memory.old) opc l rt2 rn rt (post_place regs.old (pair_unit opc) imm7 rn)) outcome.new regs.new (M.memory memory.new) }
     ensures kept { M.kept memory.old memory.new }
 {
     let place = Place::post(regs, unit_of_pair(opc), i64::from(imm7), rn);
@@ -72,9 +71,7 @@ pub fn pair_off<M: Tagged>(
     requires rn { rn < 32 }
     requires rt { rt < 32 }
     requires outcome { outcome.old ≡ Outcome.Next }
-    ensures outcome { outcome.new ≡ (pair_of regs.old (M.memory memory.old) opc l rt2 rn rt (offset_place regs.old (pair_unit opc) imm7 rn)).outcome }
-    ensures regs { regs.new ≡ (pair_of regs.old (M.memory memory.old) opc l rt2 rn rt (offset_place regs.old (pair_unit opc) imm7 rn)).regs }
-    ensures memory { M.memory memory.new ≡ (pair_of regs.old (M.memory memory.old) opc l rt2 rn rt (offset_place regs.old (pair_unit opc) imm7 rn)).memory }
+    ensures step { Left (pair_of regs.old (M.memory memory.old) opc l rt2 rn rt (offset_place regs.old (pair_unit opc) imm7 rn)) outcome.new regs.new (M.memory memory.new) }
     ensures kept { M.kept memory.old memory.new }
 {
     let place = Place::offset(regs, unit_of_pair(opc), i64::from(imm7), rn);
@@ -98,9 +95,7 @@ pub fn pair_pre<M: Tagged>(
     requires rn { rn < 32 }
     requires rt { rt < 32 }
     requires outcome { outcome.old ≡ Outcome.Next }
-    ensures outcome { outcome.new ≡ (pair_of regs.old (M.memory memory.old) opc l rt2 rn rt (pre_place regs.old (pair_unit opc) imm7 rn)).outcome }
-    ensures regs { regs.new ≡ (pair_of regs.old (M.memory memory.old) opc l rt2 rn rt (pre_place regs.old (pair_unit opc) imm7 rn)).regs }
-    ensures memory { M.memory memory.new ≡ (pair_of regs.old (M.memory memory.old) opc l rt2 rn rt (pre_place regs.old (pair_unit opc) imm7 rn)).memory }
+    ensures step { Left (pair_of regs.old (M.memory memory.old) opc l rt2 rn rt (pre_place regs.old (pair_unit opc) imm7 rn)) outcome.new regs.new (M.memory memory.new) }
     ensures kept { M.kept memory.old memory.new }
 {
     let place = Place::pre(regs, unit_of_pair(opc), i64::from(imm7), rn);
@@ -125,9 +120,7 @@ fn both<M: Tagged>(
     requires rn { rn < 32 }
     requires rt { rt < 32 }
     requires outcome { outcome.old ≡ Outcome.Next }
-    ensures outcome { outcome.new ≡ (pair_of regs.old (M.memory memory.old) opc l rt2 rn rt place).outcome }
-    ensures regs { regs.new ≡ (pair_of regs.old (M.memory memory.old) opc l rt2 rn rt place).regs }
-    ensures memory { M.memory memory.new ≡ (pair_of regs.old (M.memory memory.old) opc l rt2 rn rt place).memory }
+    ensures step { Left (pair_of regs.old (M.memory memory.old) opc l rt2 rn rt place) outcome.new regs.new (M.memory memory.new) }
     ensures kept { M.kept memory.old memory.new }
 {
     if l == 0 {
@@ -153,9 +146,7 @@ fn store_pair<M: Tagged>(
     requires rn { rn < 32 }
     requires rt { rt < 32 }
     requires outcome { outcome.old ≡ Outcome.Next }
-    ensures outcome { outcome.new ≡ (pair_store_of regs.old (M.memory memory.old) opc rt2 rn rt place).outcome }
-    ensures regs { regs.new ≡ (pair_store_of regs.old (M.memory memory.old) opc rt2 rn rt place).regs }
-    ensures memory { M.memory memory.new ≡ (pair_store_of regs.old (M.memory memory.old) opc rt2 rn rt place).memory }
+    ensures step { Left (pair_store_of regs.old (M.memory memory.old) opc rt2 rn rt place) outcome.new regs.new (M.memory memory.new) }
     ensures kept { M.kept memory.old memory.new }
 {
     if let Some(fault) = fault_of_stack(regs, rn, true) {
@@ -190,9 +181,7 @@ fn load_pair<M: Tagged>(
     requires rn { rn < 32 }
     requires rt { rt < 32 }
     requires outcome { outcome.old ≡ Outcome.Next }
-    ensures outcome { outcome.new ≡ (pair_load_of regs.old (M.memory memory.old) opc rt2 rn rt place).outcome }
-    ensures regs { regs.new ≡ (pair_load_of regs.old (M.memory memory.old) opc rt2 rn rt place).regs }
-    ensures memory { M.memory memory.new ≡ (pair_load_of regs.old (M.memory memory.old) opc rt2 rn rt place).memory }
+    ensures step { Left (pair_load_of regs.old (M.memory memory.old) opc rt2 rn rt place) outcome.new regs.new (M.memory memory.new) }
     ensures kept { M.kept memory.old memory.new }
 {
     if let Some(fault) = fault_of_stack(regs, rn, false) {

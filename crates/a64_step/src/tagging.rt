@@ -2,6 +2,7 @@
 
 ghost use Rattle.std.specs.Prelude.{◌≡◌, ◌≢◌, ◌<◌, ◌+◌, ◌-◌, ◌*◌, ◌/◌, ◌%◌, ◌^◌};
 ghost use Rattle.std.specs.Int.RustNames.{bit_or};
+ghost use Rattle.a64_step.specs.Results.{Left};
 ghost use Rattle.a64_step.specs.Tags.{with_address_tag, add_g_of, sub_p_of, irg_of, gmi_of, ldg_of, st_g_at, st_g_of, tag_place, granule_count, is_zeroing};
 
 use crate::arithmetic::{add_into, add_or_subtract};
@@ -98,9 +99,7 @@ pub fn ldg<M: Tagged>(
     requires rn { rn < 32 }
     requires rt { rt < 32 }
     requires outcome { outcome.old ≡ Outcome.Next }
-    ensures outcome { outcome.new ≡ (ldg_of regs.old (M.memory memory.old) imm9 rn rt).outcome }
-    ensures regs { regs.new ≡ (ldg_of regs.old (M.memory memory.old) imm9 rn rt).regs }
-    ensures memory { M.memory memory.new ≡ (ldg_of regs.old (M.memory memory.old) imm9 rn rt).memory }
+    ensures step { Left (ldg_of regs.old (M.memory memory.old) imm9 rn rt) outcome.new regs.new (M.memory memory.new) }
     ensures kept { M.kept memory.old memory.new }
 {
     if let Some(fault) = fault_of_stack(regs, rn, false) {
@@ -133,9 +132,7 @@ pub fn st_g<M: Tagged>(
     requires rn { rn < 32 }
     requires rt { rt < 32 }
     requires outcome { outcome.old ≡ Outcome.Next }
-    ensures outcome { outcome.new ≡ (st_g_of regs.old (M.memory memory.old) opc imm9 mode rn rt).outcome }
-    ensures regs { regs.new ≡ (st_g_of regs.old (M.memory memory.old) opc imm9 mode rn rt).regs }
-    ensures memory { M.memory memory.new ≡ (st_g_of regs.old (M.memory memory.old) opc imm9 mode rn rt).memory }
+    ensures step { Left (st_g_of regs.old (M.memory memory.old) opc imm9 mode rn rt) outcome.new regs.new (M.memory memory.new) }
     ensures kept { M.kept memory.old memory.new }
 {
     let place = place_of_tags(regs, imm9, mode, rn);
@@ -167,9 +164,7 @@ fn store_at<M: Tagged>(
     requires rn { rn < 32 }
     requires rt { rt < 32 }
     requires outcome { outcome.old ≡ Outcome.Next }
-    ensures outcome { outcome.new ≡ (st_g_at regs.old (M.memory memory.old) opc rn rt place).outcome }
-    ensures regs { regs.new ≡ (st_g_at regs.old (M.memory memory.old) opc rn rt place).regs }
-    ensures memory { M.memory memory.new ≡ (st_g_at regs.old (M.memory memory.old) opc rn rt place).memory }
+    ensures step { Left (st_g_at regs.old (M.memory memory.old) opc rn rt place) outcome.new regs.new (M.memory memory.new) }
     ensures kept { M.kept memory.old memory.new }
 {
     if let Some(fault) = fault_of_stack(regs, rn, true) {

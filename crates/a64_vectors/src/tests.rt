@@ -4,7 +4,7 @@ use crate::case::Pages;
 use crate::line::{Line, parse};
 use crate::place::{granule_at, map, put_bytes};
 use a64_bits::Flags;
-use a64_step::{Outcome, Regs, Stop, run};
+use a64_step::{Decoder, Outcome, Regs, Stop, run};
 use mte_tags::{Attrs, FaultKind, Flat, MemFault, Rgsr};
 use std::alloc::Global;
 use std::test::Fail;
@@ -97,7 +97,7 @@ fn programs_stop_where_they_should(rt: HostRuntime) -> Result<(), Fail> {
     for (words, outcome, pc, steps) in rows {
         let mut memory = memory_of(rt.alloc(), words)?;
         let mut regs = start();
-        let stop = run(&mut regs, &mut memory, 100);
+        let stop = run(&mut Decoder::new(), &mut regs, &mut memory, 100);
         assert_eq!(rt;
             stop,
             Stop {
@@ -118,7 +118,7 @@ fn a_pair_is_stored_whole_or_not(rt: HostRuntime) -> Result<(), Fail> {
     let mut regs = start();
     regs.x[2] = 0x1122334455667788;
     regs.x[3] = 0x99aabbccddeeff00;
-    let stop = run(&mut regs, &mut memory, 100);
+    let stop = run(&mut Decoder::new(), &mut regs, &mut memory, 100);
     let fault = MemFault {
         kind: FaultKind::TagCheck,
         addr: 0x3fffc010,

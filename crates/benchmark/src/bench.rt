@@ -7,7 +7,7 @@ use crate::decoding::{decode_each, in_order, shuffled};
 use crate::measured::Batch;
 use crate::programs::{ALU, MEMORY, run_on, start};
 use crate::workload::Workload;
-use a64_step::Regs;
+use a64_step::{Decoder, Regs};
 use anyhow::{Result, bail};
 use mte_tags::{Attrs, Flat, Paged, Tagged, with_tag};
 use std::alloc::{AllocError, Global};
@@ -35,6 +35,7 @@ pub struct Bench {
     within: Vec<u64>,
     across: Vec<u64>,
     code: Vec<u64>,
+    decoder: Decoder,
     alu: Regs,
     loads: Regs,
 }
@@ -63,6 +64,7 @@ impl Bench {
             within,
             across: places(alloc, second.wrapping_sub(7), 7, 1)?,
             code: places(alloc, CODE, 1024, 4)?,
+            decoder: Decoder::new(),
             alu: start(3, 0x0123_4567_89AB_CDEF, CODE),
             loads: start(data, second, MEMORY_LOOP),
         })
@@ -78,8 +80,8 @@ impl Bench {
             Workload::LoadAcross => load_each(&mut self.memory, &self.across),
             Workload::StoreAcross => store_each(&mut self.memory, &self.across),
             Workload::Fetch => fetch_each(&mut self.memory, &self.code),
-            Workload::Alu => run_on(&mut self.alu, &mut self.memory),
-            Workload::Memory => run_on(&mut self.loads, &mut self.memory),
+            Workload::Alu => run_on(&mut self.decoder, &mut self.alu, &mut self.memory),
+            Workload::Memory => run_on(&mut self.decoder, &mut self.loads, &mut self.memory),
         }
     }
 }

@@ -4,7 +4,7 @@ ghost use Rattle.std.specs.Prelude.{◌≡◌, IfSome};
 
 use crate::measured::Batch;
 use a64_bits::Flags;
-use a64_step::{Regs, run};
+use a64_step::{Decoder, Regs, run};
 use mte_tags::{Flat, Rgsr};
 
 /// A loop of instructions between registers (assembled by llvm-mc).
@@ -70,10 +70,10 @@ pub fn start(x0: u64, x1: u64, pc: u64) -> Regs {
 }
 
 /// Goes on with a program, `None` where it stops.
-pub fn run_on(regs: &mut Regs, memory: &mut Flat) -> Option<Batch>
+pub fn run_on(decoder: &mut Decoder, regs: &mut Regs, memory: &mut Flat) -> Option<Batch>
     ensures { IfSome result (λ b. b.count ≡ 65536) }
 {
-    if run(regs, memory, STEPS).outcome.is_some() {
+    if run(decoder, regs, memory, STEPS).outcome.is_some() {
         return None;
     }
     let mut sum: u64 = 0;
