@@ -5,7 +5,7 @@ ghost use Rattle.std.specs.Prelude.{◌<◌};
 use crate::accesses::{fetch_each, load_each, store_each};
 use crate::decoding::{decode_each, in_order, shuffled};
 use crate::measured::Batch;
-use crate::programs::{ALU, MEMORY, run_on, start};
+use crate::programs::{ALU, MEMORY, SERVICES, run_on, serve_on, start};
 use crate::workload::Workload;
 use a64_step::{Decoder, Regs};
 use anyhow::{Result, bail};
@@ -20,13 +20,16 @@ const CODE_PAGE: u64 = 16;
 /// Where the second program begins.
 const MEMORY_LOOP: u64 = CODE + 1024;
 
+/// Where the third program begins.
+const SERVICE_LOOP: u64 = CODE + 2048;
+
 /// The first of the two pages of data.
 const DATA: u64 = 0x1_1000;
 
 /// The tag of the data.
 const TAG: u8 = 5;
 
-/// The memory, the lists of addresses and words, and the registers of the programs.
+/// The memory, the lists of addresses and words, the decoder, and the registers of the programs.
 #[derive(Drop)]
 pub struct Bench {
     memory: Flat,
@@ -38,10 +41,11 @@ pub struct Bench {
     decoder: Decoder,
     alu: Regs,
     loads: Regs,
+    services: Regs,
 }
 
 impl Bench {
-    /// A memory with both programs and two pages of tagged data.
+    /// A memory with the programs and two pages of tagged data.
     pub fn new(alloc: Global) -> Result<Bench> {
         let data = with_tag(DATA, TAG);
         let second = data.wrapping_add(4096);
@@ -53,6 +57,7 @@ impl Bench {
         let ready = memory.store_tags(DATA, 512, TAG, true).is_ok()
             && put_words(&mut memory, CODE, &ALU)
             && put_words(&mut memory, MEMORY_LOOP, &MEMORY)
+            && put_words(&mut memory, SERVICE_LOOP, &SERVICES)
             && store_each(&mut memory, &within).is_some();
         if !ready {
             bail!("the programs and the data could not be stored");
@@ -67,6 +72,7 @@ impl Bench {
             decoder: Decoder::new(),
             alu: start(3, 0x0123_4567_89AB_CDEF, CODE),
             loads: start(data, second, MEMORY_LOOP),
+            services: start(0, 1, SERVICE_LOOP),
         })
     }
 
@@ -82,6 +88,9 @@ impl Bench {
             Workload::Fetch => fetch_each(&mut self.memory, &self.code),
             Workload::Alu => run_on(&mut self.decoder, &mut self.alu, &mut self.memory),
             Workload::Memory => run_on(&mut self.decoder, &mut self.loads, &mut self.memory),
+            Workload::Services => {
+                serve_on(&mut self.decoder, &mut self.services, &mut self.memory)
+            }
         }
     }
 }
@@ -98,7 +107,7 @@ fn put_words(memory: &mut Flat, first: u64, words: &[u32]) -> bool {
     true
 }
 
-/// 2048 addresses: `count` of them that are `stride` bytes apart, again and again.
+/// 2048 addresses: `count` of them, `stride` bytes apart, again and again.
 fn places(alloc: Global, first: u64, count: u64, stride: u64) -> Result<Vec<u64>, AllocError>
     requires { 0 < count }
 {
