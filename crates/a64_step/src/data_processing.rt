@@ -1,10 +1,9 @@
 //! Data-processing (1 source), (2 source) and (3 source).
 
 ghost use Rattle.std.specs.Prelude.{◌≡◌, ◌≢◌, ◌<◌, ◌+◌, ◌-◌, ◌*◌, ◌%◌, ◌^◌, ◌⊎◌};
-ghost use Rattle.a64_bits.specs.Arithmetic.{IsRegisterSize};
 ghost use Rattle.a64_step.specs.DataProcessing.{long_operand, mul_add_long_of, mul_add_of};
 ghost use Rattle.a64_step.specs.DataProcessing.{mul_high_of, multiplied_sum, one_source_of};
-ghost use Rattle.a64_step.specs.DataProcessing.{one_source_value, two_source_of, two_source_value};
+ghost use Rattle.a64_step.specs.DataProcessing.{two_source_of};
 ghost use Rattle.a64_step.specs.Operands.{size_of};
 ghost use Rattle.a64_step.specs.Registers.{advanced};
 
@@ -15,27 +14,13 @@ use a64_bits::{
     sign_extend,
 };
 
-/// The value of a data-processing instruction with one source.
-#[tactic(auto, unfolding(crate::specs::DataProcessing::one_source_value))]
-fn from_one(size: u32, opcode: u8, x: u64) -> u64
-    requires size { IsRegisterSize size }
-    requires wide { opcode ≡ 3 → size ≡ 64 }
-    requires x { x < 2 ^ size }
-    ensures { result ≡ one_source_value size opcode x }
-{
-    match opcode {
-        0 => reverse_bits(x, size),
-        1 => reverse_bytes(x, 2, size),
-        2 => reverse_bytes(x, 4, size),
-        3 => reverse_bytes(x, 8, size),
-        4 => count_leading_zeros(x, size),
-        _ => count_leading_sign(x, size),
-    }
-}
-
 /// RBIT, REV16, REV32, REV, CLZ, CLS.
 #[inline(never)]
-#[tactic(auto, unfolding(crate::specs::DataProcessing::one_source_of))]
+#[rattlefmt::skip]
+#[tactic(auto, unfolding(
+    crate::specs::DataProcessing::one_source_of,
+    crate::specs::DataProcessing::one_source_value
+))]
 pub fn one_source(regs: &mut Regs, sf: u8, opcode: u8, rn: u8, rd: u8)
     requires sf { sf < 2 }
     requires wide { sf ≡ 0 → opcode ≢ 3 }
@@ -44,31 +29,26 @@ pub fn one_source(regs: &mut Regs, sf: u8, opcode: u8, rn: u8, rd: u8)
     ensures { regs.new ≡ advanced (one_source_of regs.old sf opcode rn rd) }
 {
     let x = truncate(sf, regs.get(rn));
-    regs.set(rd, from_one(size_of_operands(sf), opcode, x));
+    let size = size_of_operands(sf);
+    let value = match opcode {
+        0 => reverse_bits(x, size),
+        1 => reverse_bytes(x, 2, size),
+        2 => reverse_bytes(x, 4, size),
+        3 => reverse_bytes(x, 8, size),
+        4 => count_leading_zeros(x, size),
+        _ => count_leading_sign(x, size),
+    };
+    regs.set(rd, value);
     regs.advance();
-}
-
-/// The value of a data-processing instruction with two sources.
-#[tactic(auto, unfolding(crate::specs::DataProcessing::two_source_value))]
-fn from_two(size: u32, opcode: u8, x: u64, y: u64) -> u64
-    requires size { IsRegisterSize size }
-    requires opcode { opcode < 64 }
-    requires known { (opcode ≡ 2) ⊎ (opcode ≡ 3) ⊎ (opcode ≡ 8) ⊎ (opcode ≡ 9)
-        ⊎ (opcode ≡ 10) ⊎ (opcode ≡ 11) }
-    requires x { x < 2 ^ size }
-    requires y { y < 2 ^ size }
-    ensures { result ≡ two_source_value size opcode x y }
-{
-    match opcode {
-        2 => divide(x, y, size, false),
-        3 => divide(x, y, size, true),
-        _ => shift_by(opcode - 8, x, (y % u64::from(size)) as u32, size),
-    }
 }
 
 /// UDIV, SDIV, LSLV, LSRV, ASRV, RORV.
 #[inline(never)]
-#[tactic(auto, unfolding(crate::specs::DataProcessing::two_source_of))]
+#[rattlefmt::skip]
+#[tactic(auto, unfolding(
+    crate::specs::DataProcessing::two_source_of,
+    crate::specs::DataProcessing::two_source_value
+))]
 pub fn two_source(regs: &mut Regs, sf: u8, rm: u8, opcode: u8, rn: u8, rd: u8)
     requires rm { rm < 32 }
     requires opcode { opcode < 64 }
@@ -80,7 +60,13 @@ pub fn two_source(regs: &mut Regs, sf: u8, rm: u8, opcode: u8, rn: u8, rd: u8)
 {
     let x = truncate(sf, regs.get(rn));
     let y = truncate(sf, regs.get(rm));
-    regs.set(rd, from_two(size_of_operands(sf), opcode, x, y));
+    let size = size_of_operands(sf);
+    let value = match opcode {
+        2 => divide(x, y, size, false),
+        3 => divide(x, y, size, true),
+        _ => shift_by(opcode - 8, x, (y % u64::from(size)) as u32, size),
+    };
+    regs.set(rd, value);
     regs.advance();
 }
 

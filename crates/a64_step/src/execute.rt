@@ -30,8 +30,7 @@ use mte_tags::Tagged;
 pub fn execute<M: Tagged>(instr: &Instr, regs: &mut Regs, memory: &mut M, outcome: &mut Outcome)
     requires allowed { IsAllowed instr.now }
     requires outcome { outcome.old ≡ Outcome.Next }
-    ensures leaves { Leaves
-        (executed instr.now regs.old (M.memory memory.old))
+    ensures leaves { Leaves (executed instr.now regs.old (M.memory memory.old))
         outcome.new regs.new (M.memory memory.new) }
     ensures kept { M.kept memory.old memory.new }
 {

@@ -9,8 +9,11 @@ use mte_tags::{MemFault, Tagged};
 
 /// Writes the low `2^size` bytes of a register, all or none.
 #[inline(always)]
-#[tactic(auto, unfolding(crate::specs::Operands::bytes_of, crate::specs::MemoryAccess::stored_bytes))]
-pub fn write_number<M: Tagged>(
+#[rattlefmt::skip]
+#[tactic(auto, unfolding(
+    crate::specs::Operands::bytes_of,
+    crate::specs::MemoryAccess::stored_bytes
+))]pub fn write_number<M: Tagged>(
     memory: &mut M,
     address: u64,
     size: u8,

@@ -95,8 +95,7 @@ pub fn ldg<M: Tagged>(
     requires rn { rn < 32 }
     requires rt { rt < 32 }
     requires outcome { outcome.old ≡ Outcome.Next }
-    ensures leaves { Leaves
-        (ldg_of regs.old (M.memory memory.old) imm9 rn rt)
+    ensures leaves { Leaves (ldg_of regs.old (M.memory memory.old) imm9 rn rt)
         outcome.new regs.new (M.memory memory.new) }
     ensures kept { M.kept memory.old memory.new }
 {
@@ -130,8 +129,7 @@ pub fn st_g<M: Tagged>(
     requires rn { rn < 32 }
     requires rt { rt < 32 }
     requires outcome { outcome.old ≡ Outcome.Next }
-    ensures leaves { Leaves
-        (st_g_of regs.old (M.memory memory.old) opc imm9 mode rn rt)
+    ensures leaves { Leaves (st_g_of regs.old (M.memory memory.old) opc imm9 mode rn rt)
         outcome.new regs.new (M.memory memory.new) }
     ensures kept { M.kept memory.old memory.new }
 {
@@ -166,8 +164,7 @@ fn store_at<M: Tagged>(
     requires rn { rn < 32 }
     requires rt { rt < 32 }
     requires outcome { outcome.old ≡ Outcome.Next }
-    ensures leaves { Leaves
-        (st_g_at regs.old (M.memory memory.old) opc rn rt target)
+    ensures leaves { Leaves (st_g_at regs.old (M.memory memory.old) opc rn rt target)
         outcome.new regs.new (M.memory memory.new) }
     ensures kept { M.kept memory.old memory.new }
 {

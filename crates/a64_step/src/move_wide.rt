@@ -1,7 +1,7 @@
 //! Move wide (immediate).
 
 ghost use Rattle.std.specs.Prelude.{◌≡◌, ◌<◌, ◌+◌, ◌-◌, ◌*◌, ◌/◌, ◌%◌, ◌^◌};
-ghost use Rattle.a64_step.specs.MoveWide.{move_wide_of, wide_value};
+ghost use Rattle.a64_step.specs.MoveWide.{move_wide_of};
 ghost use Rattle.a64_step.specs.Registers.{advanced};
 
 use crate::operands::{inverted, truncate};
@@ -39,25 +39,9 @@ fn with_half(old: u64, imm16: u16, hw: u8) -> u64
     }
 }
 
-/// The value of MOVN, MOVZ, MOVK.
-#[inline(always)]
-#[tactic(auto, unfolding(crate::specs::MoveWide::wide_value))]
-fn wide(sf: u8, opc: u8, hw: u8, imm16: u16, old: u64) -> u64
-    requires sf { sf < 2 }
-    requires hw { hw < 4 }
-    requires narrow { sf ≡ 0 → hw < 2 }
-    ensures { result ≡ wide_value sf opc hw imm16 old }
-{
-    match opc {
-        0 => inverted(sf, placed_half(imm16, hw)),
-        2 => placed_half(imm16, hw),
-        _ => with_half(old, imm16, hw),
-    }
-}
-
 /// MOVN, MOVZ, MOVK.
 #[inline(always)]
-#[tactic(auto, unfolding(crate::specs::MoveWide::move_wide_of))]
+#[tactic(auto, unfolding(crate::specs::MoveWide::move_wide_of, crate::specs::MoveWide::wide_value))]
 pub fn move_wide(regs: &mut Regs, sf: u8, opc: u8, hw: u8, imm16: u16, rd: u8)
     requires sf { sf < 2 }
     requires hw { hw < 4 }
@@ -66,6 +50,11 @@ pub fn move_wide(regs: &mut Regs, sf: u8, opc: u8, hw: u8, imm16: u16, rd: u8)
     ensures { regs.new ≡ advanced (move_wide_of regs.old sf opc hw imm16 rd) }
 {
     let old = truncate(sf, regs.get(rd));
-    regs.set(rd, wide(sf, opc, hw, imm16, old));
+    let value = match opc {
+        0 => inverted(sf, placed_half(imm16, hw)),
+        2 => placed_half(imm16, hw),
+        _ => with_half(old, imm16, hw),
+    };
+    regs.set(rd, value);
     regs.advance();
 }

@@ -42,8 +42,15 @@ pub fn inverted(sf: u8, value: u64) -> u64
 
 /// A shift or a rotation: 0 LSL, 1 LSR, 2 ASR, 3 ROR (ShiftReg).
 #[inline(always)]
-#[tactic(auto, unfolding(crate::specs::Operands::shifted_by, a64_bits::specs::Shifts::shifted_left, a64_bits::specs::Shifts::shifted_right, a64_bits::specs::Shifts::shifted_right_signed, a64_bits::specs::Shifts::rotated_right,))]
-pub fn shift_by(kind: u8, value: u64, amount: u32, size: u32) -> u64
+#[rattlefmt::skip]
+#[tactic(auto, unfolding(
+    crate::specs::Operands::shifted_by,
+    a64_bits::specs::Shifts::shifted_left,
+    a64_bits::specs::Shifts::shifted_right,
+    a64_bits::specs::Shifts::shifted_right_signed,
+    a64_bits::specs::Shifts::rotated_right,
+    
+))]pub fn shift_by(kind: u8, value: u64, amount: u32, size: u32) -> u64
     requires size { IsRegisterSize size }
     requires within { amount < size }
     requires fits { value < 2 ^ size }

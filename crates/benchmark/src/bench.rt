@@ -5,7 +5,7 @@ ghost use Rattle.std.specs.Prelude.{◌<◌};
 use crate::accesses::{fetch_each, load_each, store_each};
 use crate::decoding::{decode_each, in_order, shuffled};
 use crate::measured::Batch;
-use crate::programs::{ALU, MEMORY, SERVICES, run_on, serve_on, start};
+use crate::programs::{ALU, MEMORY, SERVICES, run_on, start};
 use crate::workload::Workload;
 use a64_step::{Decoder, Regs};
 use anyhow::{Result, bail};
@@ -89,7 +89,7 @@ impl Bench {
             Workload::Alu => run_on(&mut self.decoder, &mut self.alu, &mut self.memory),
             Workload::Memory => run_on(&mut self.decoder, &mut self.loads, &mut self.memory),
             Workload::Services => {
-                serve_on(&mut self.decoder, &mut self.services, &mut self.memory)
+                run_on(&mut self.decoder, &mut self.services, &mut self.memory)
             }
         }
     }

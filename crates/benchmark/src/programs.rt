@@ -69,21 +69,8 @@ pub fn start(x0: u64, x1: u64, pc: u64) -> Regs {
     regs
 }
 
-/// Goes on with a program, `None` where it stops.
+/// Goes on with a program as a host does, past each SVC; `None` where it stops otherwise.
 pub fn run_on(decoder: &mut Decoder, regs: &mut Regs, memory: &mut Flat) -> Option<Batch>
-    ensures { IfSome result (λ b. b.count ≡ 65536) }
-{
-    if run(decoder, regs, memory, STEPS).outcome.is_some() {
-        return None;
-    }
-    Some(Batch {
-        count: STEPS,
-        sum: sum_of(regs),
-    })
-}
-
-/// Goes on with a program as a host does: past each SVC; `None` where it stops otherwise.
-pub fn serve_on(decoder: &mut Decoder, regs: &mut Regs, memory: &mut Flat) -> Option<Batch>
     ensures { IfSome result (λ b. b.count ≡ 65536) }
 {
     let mut left = STEPS;
@@ -99,17 +86,9 @@ pub fn serve_on(decoder: &mut Decoder, regs: &mut Regs, memory: &mut Flat) -> Op
         }
         left = stop.left;
     }
-    Some(Batch {
-        count: STEPS,
-        sum: sum_of(regs),
-    })
-}
-
-/// The sum of x0 to x30, modulo 2^64.
-fn sum_of(regs: &Regs) -> u64 {
     let mut sum: u64 = 0;
     for value in &regs.x {
         sum = sum.wrapping_add(*value);
     }
-    sum
+    Some(Batch { count: STEPS, sum })
 }
