@@ -13,7 +13,8 @@ use mte_tags::{MemFault, Tagged};
 #[tactic(auto, unfolding(
     crate::specs::Operands::bytes_of,
     crate::specs::MemoryAccess::stored_bytes
-))]pub fn write_number<M: Tagged>(
+))]
+pub fn write_number<M: Tagged>(
     memory: &mut M,
     address: u64,
     size: u8,

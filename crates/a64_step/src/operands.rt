@@ -50,7 +50,8 @@ pub fn inverted(sf: u8, value: u64) -> u64
     a64_bits::specs::Shifts::shifted_right_signed,
     a64_bits::specs::Shifts::rotated_right,
     
-))]pub fn shift_by(kind: u8, value: u64, amount: u32, size: u32) -> u64
+))]
+pub fn shift_by(kind: u8, value: u64, amount: u32, size: u32) -> u64
     requires size { IsRegisterSize size }
     requires within { amount < size }
     requires fits { value < 2 ^ size }

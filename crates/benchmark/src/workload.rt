@@ -75,7 +75,7 @@ impl Workload {
     }
 }
 
-/// What a command line asks for.
+/// The request of a command line.
 #[derive(Clone, Copy, PartialEq, Eq, Debug)]
 pub enum Asked {
     /// No argument was given.
