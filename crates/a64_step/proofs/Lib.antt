@@ -1,4 +1,3 @@
 pub mod Drawing
 pub mod Effects
 pub mod Running
-pub mod TagStores

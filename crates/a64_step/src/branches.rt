@@ -1,13 +1,15 @@
 //! Branches. Each leaves the program counter at the instruction that comes next.
 
 ghost use Rattle.std.specs.Prelude.{◌≡◌, ◌<◌, ◌+◌, ◌*◌, ◌/◌, ◌%◌, ◌^◌, ◌==◌};
-ghost use Rattle.a64_step.specs.Branches.{linked, jumped_if, branch_of, branch_cond_of, cmp_branch_of, test_branch_of, branch_reg_of};
+ghost use Rattle.a64_step.specs.Branches.{branch_cond_of, branch_of, branch_reg_of, cmp_branch_of};
+ghost use Rattle.a64_step.specs.Branches.{jumped_if, linked, test_branch_of};
 
-use crate::arithmetic::low_bits;
+use crate::addressing::moved_by;
 use crate::conditions::condition_holds;
-use crate::numbers::moved_by;
+use crate::operands::truncate;
 use crate::registers::Regs;
 
+/// Writes the address of the next instruction to x30.
 #[inline(always)]
 #[tactic(auto, unfolding(crate::specs::Branches::linked))]
 fn link(regs: &mut Regs)
@@ -16,6 +18,8 @@ fn link(regs: &mut Regs)
     regs.set(30, regs.pc.wrapping_add(4));
 }
 
+/// Moves the program counter by `offset` words where the branch is taken, else to the next
+/// instruction.
 #[inline(always)]
 #[tactic(auto, unfolding(crate::specs::Branches::jumped_if))]
 fn jump_if(regs: &mut Regs, taken: bool, offset: i64)
@@ -59,7 +63,7 @@ pub fn cmp_branch(regs: &mut Regs, sf: u8, op: u8, imm19: i32, rt: u8)
     requires { rt < 32 }
     ensures { regs.new ≡ cmp_branch_of regs.old sf op imm19 rt }
 {
-    let zero = low_bits(sf, regs.get(rt)) == 0;
+    let zero = truncate(sf, regs.get(rt)) == 0;
     let taken = if op == 0 { zero } else { !zero };
     jump_if(regs, taken, i64::from(imm19));
 }

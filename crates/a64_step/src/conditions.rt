@@ -1,12 +1,12 @@
-//! Conditions on the flags.
+//! The conditions on the flags.
 
 ghost use Rattle.std.specs.Prelude.{◌≡◌, ◌<◌};
 ghost use Rattle.a64_step.specs.Conditions.{holds};
 
 use a64_bits::Flags;
 
-/// Whether a condition of four bits holds (ConditionHolds): the upper three name a test, and the lowest
-/// turns it round, but for the last condition, which always holds.
+/// Whether a condition of four bits holds (ConditionHolds): the upper three select a test, and the
+/// lowest inverts it, but for the last condition, which always holds.
 #[inline(always)]
 #[tactic(auto, unfolding(crate::specs::Conditions::holds))]
 pub fn condition_holds(flags: Flags, code: u8) -> bool

@@ -20,8 +20,8 @@ pub enum Outcome {
 /// Why a run ended, and how many of its steps are left.
 #[derive(Clone, Copy, Debug, PartialEq, Eq)]
 pub struct Stop {
-    /// The last step's outcome, or `None` where all steps led to a next.
+    /// The last step's outcome, or `None` where each was `Next`.
     pub outcome: Option<Outcome>,
-    /// The steps that were not tried.
+    /// The steps that were not attempted.
     pub left: u64,
 }

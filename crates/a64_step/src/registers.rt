@@ -5,7 +5,8 @@ ghost use Rattle.std.specs.Prelude.{◌≡◌, ℕ, ◌<◌, ◌≤◌, ◌+◌,
 use a64_bits::Flags;
 use mte_tags::Rgsr;
 
-/// The registers of a core (Arm ARM DDI 0487, B1.2): x0 to x30, SP, PC, PSTATE.N, Z, C, V and RGSR_EL1.
+/// The registers of a core (Arm ARM DDI 0487, B1.2): x0 to x30, SP, PC, PSTATE.N, Z, C, V and
+/// RGSR_EL1.
 #[derive(Clone, Copy, Debug, PartialEq, Eq)]
 pub struct Regs {
     /// x0 to x30.
@@ -21,7 +22,26 @@ pub struct Regs {
 }
 
 impl Regs {
-    ghost use Rattle.a64_step.specs.Registers.{register, register_or_sp, with_register, with_register_or_sp, advanced, jumped};
+    ghost use Rattle.a64_step.specs.Registers.{fresh, register, register_or_sp, with_register};
+    ghost use Rattle.a64_step.specs.Registers.{with_register_or_sp, advanced, jumped};
+
+    /// Registers with PC and SP as given, and zero in all else: the flags, and RGSR_EL1 too.
+    pub fn new(pc: u64, sp: u64) -> Regs
+        ensures { result ≡ fresh pc sp }
+    {
+        Regs {
+            x: [0; 31],
+            sp,
+            pc,
+            flags: Flags {
+                n: false,
+                z: false,
+                c: false,
+                v: false,
+            },
+            rgsr: Rgsr { tag: 0, seed: 0 },
+        }
+    }
 
     /// A register, or 0 for number 31.
     #[inline(always)]

@@ -1,4 +1,5 @@
-//! Tests of the A64 crates: worked examples and words of the assembler.
+//! Tests of the A64 libraries through their public calls, in one crate at the top: a crate with
+//! tests of its own would be proved twice.
 #![tactic(auto)]
 
 #[cfg(test)]
@@ -7,3 +8,5 @@ mod asm;
 mod bits;
 #[cfg(test)]
 mod decode;
+#[cfg(test)]
+mod step;

@@ -3,7 +3,7 @@
 use crate::line::{Ending, Granule, Line};
 use a64_bits::Flags;
 use a64_step::Regs;
-use mte_tags::{Attrs, Rgsr};
+use mte_tags::Attrs;
 use std::alloc::{AllocError, Global};
 
 /// Some pages of the map, the same for all cases.
@@ -34,19 +34,8 @@ impl Case {
             // 0xd00dNN0000beefNN
             *value = 0xd00d_0000_00be_ef00 + number % 32 * 0x100_0000_0001;
         }
-        let flags = Flags {
-            n: false,
-            z: false,
-            c: false,
-            v: false,
-        };
-        let regs = Regs {
-            x,
-            sp: 0,
-            pc: 0,
-            flags,
-            rgsr: Rgsr { tag: 0, seed: 0 },
-        };
+        let mut regs = Regs::new(0, 0);
+        regs.x = x;
         Case {
             id,
             word: 0,

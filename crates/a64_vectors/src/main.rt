@@ -1,19 +1,23 @@
-//! Runs single instructions whose effect an outside emulator recorded, and tells where ours differs.
+//! Runs single instructions whose effect an outside emulator recorded, and reports where ours differ.
+//! It is a test of `a64_step`, and no part of the product.
 //!
-//! Standard input has one item a line, its words separated by one space, numbers in hexadecimal but where
-//! said. First the map of all cases, `page PAGE COUNT LETTERS`: the number of the first page (its address
-//! divided by 4096), how many (decimal), and R, W, X, T for read, write, execute, tagged. Then the cases:
+//! Standard input has one item per line, its words separated by one space, numbers in hexadecimal
+//! unless stated otherwise. First the map of all cases, `page PAGE COUNT LETTERS`: the number of the
+//! first page (its address divided by 4096), how many (decimal), and R, W, X, T for read, write,
+//! execute, tagged. Then the cases:
 //!
-//! - `case ID NAME`, ID decimal, begins one. What stands before the step follows: `word W` at the program
-//!   counter; `x N V`, N decimal (a register that isn't named holds 0xd00dNN0000beefNN, NN its number);
-//!   `sp V`; `pc V`; `nzcv V`; `rgsr TAG SEED`; `granule ADDRESS BYTES TAG`. All other bytes and tags are 0.
-//! - `then next`, `then illegal`, `then break N` (decimal) or `then fault KIND read|write ADDRESS PTR MEM`
-//!   (KIND 1 Translation, 2 Permission, 3 TagCheck, 4 Alignment, 5 SpAlignment, 6 PcAlignment; ADDRESS
-//!   plain; the address tag and the allocation tag). What stands after the step follows; what isn't named
-//!   is as before.
+//! - `case ID NAME`, ID decimal, begins one. What stands before the step follows: `word W` at the
+//!   program counter; `x N V`, N decimal (a register that isn't named holds 0xd00dNN0000beefNN, NN its
+//!   number); `sp V`; `pc V`; `nzcv V`; `rgsr TAG SEED`; `granule ADDRESS BYTES TAG`. All other bytes
+//!   and tags are 0.
+//! - `then next`, `then illegal`, `then break N` (decimal) or
+//!   `then fault KIND read|write ADDRESS PTR MEM` (KIND 1 Translation, 2 Permission, 3 TagCheck,
+//!   4 Alignment, 5 SpAlignment, 6 PcAlignment; ADDRESS plain; the address tag and the allocation
+//!   tag). What stands after the step follows; what isn't named is as before.
 //!
-//! Each case that differs gives one line of standard output: its ID and what differs, ours first. The last
-//! line counts both. Pages without R are not compared. A malformed line is refused with its number.
+//! Each case that differs gives one line of standard output: its ID and what differs, ours first. The
+//! last line counts both. Pages without R are not compared. A malformed line is refused with its
+//! number.
 #![tactic(auto)]
 
 mod case;
@@ -21,7 +25,7 @@ mod line;
 mod place;
 mod report;
 
-use a64_step::step;
+use a64_step::{Decoder, step};
 use anyhow::{Result, bail};
 use case::{Case, Pages};
 use line::{Line, parse};
@@ -29,9 +33,10 @@ use mte_tags::Flat;
 use std::alloc::{AllocError, Global};
 use std::io::{BufRead, BufReader};
 
-/// The map, the case that is being read, and the counts so far.
+/// The map, the case that is being read, the counts so far, and one decoder for all cases.
 #[derive(Drop)]
 struct Session {
+    decoder: Decoder,
     map: Vec<Pages>,
     case: Option<Case>,
     same: u64,
@@ -39,7 +44,12 @@ struct Session {
 }
 
 /// Runs a case that was read whole; what differs, or `None` where its parts don't fit together.
-fn run(alloc: Global, map: &[Pages], case: &Case) -> Result<Option<String>, AllocError> {
+fn run(
+    alloc: Global,
+    decoder: &mut Decoder,
+    map: &[Pages],
+    case: &Case,
+) -> Result<Option<String>, AllocError> {
     let mut ours = Flat::new(alloc, 512)?;
     let mut theirs = Flat::new(alloc, 512)?;
     let fits = case.ending.is_some()
@@ -50,7 +60,7 @@ fn run(alloc: Global, map: &[Pages], case: &Case) -> Result<Option<String>, Allo
         return Ok(None);
     }
     let mut regs = case.before;
-    let outcome = step(&mut regs, &mut ours);
+    let outcome = step(decoder, &mut regs, &mut ours);
     Ok(Some(report::differences(alloc, case, outcome, &regs, map, &mut ours, &mut theirs)?))
 }
 
@@ -60,7 +70,8 @@ impl Session {
         let Some(case) = self.case.take() else {
             return Ok(true);
         };
-        let Some(text) = run(rt.alloc(), self.map.as_slice(), &case)? else {
+        let map = self.map.as_slice();
+        let Some(text) = run(rt.alloc(), &mut self.decoder, map, &case)? else {
             return Ok(false);
         };
         if text.is_empty() {
@@ -103,6 +114,7 @@ impl Session {
 
 fn main(rt: HostRuntime) -> Result<()> {
     let mut session = Session {
+        decoder: Decoder::new(),
         map: Vec::new(rt.alloc()),
         case: None,
         same: 0,
@@ -121,6 +133,3 @@ fn main(rt: HostRuntime) -> Result<()> {
     println!(rt; "{} same, {} different", session.same, session.different)?;
     Ok(())
 }
-
-#[cfg(test)]
-mod tests;

@@ -89,7 +89,8 @@ fn attrs_are_allowed(attrs: Attrs) -> bool
     tagged == written && (!written || read)
 }
 
-/// Maps the whole map and puts what a case has before its step; `false` where that doesn't fit together.
+/// Maps the whole map and puts what a case has before its step; `false` where that doesn't fit
+/// together.
 pub fn prepare<M: Paged>(memory: &mut M, map_of_all: &[Pages], case: &Case) -> bool {
     for pages in map_of_all {
         if !map(memory, pages) {

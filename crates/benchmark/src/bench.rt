@@ -5,9 +5,9 @@ ghost use Rattle.std.specs.Prelude.{◌<◌};
 use crate::accesses::{fetch_each, load_each, store_each};
 use crate::decoding::{decode_each, in_order, shuffled};
 use crate::measured::Batch;
-use crate::programs::{ALU, MEMORY, run_on, start};
+use crate::programs::{ALU, MEMORY, SERVICES, run_on, start};
 use crate::workload::Workload;
-use a64_step::Regs;
+use a64_step::{Decoder, Regs};
 use anyhow::{Result, bail};
 use mte_tags::{Attrs, Flat, Paged, Tagged, with_tag};
 use std::alloc::{AllocError, Global};
@@ -20,13 +20,16 @@ const CODE_PAGE: u64 = 16;
 /// Where the second program begins.
 const MEMORY_LOOP: u64 = CODE + 1024;
 
+/// Where the third program begins.
+const SERVICE_LOOP: u64 = CODE + 2048;
+
 /// The first of the two pages of data.
 const DATA: u64 = 0x1_1000;
 
 /// The tag of the data.
 const TAG: u8 = 5;
 
-/// The memory, the lists of addresses and words, and the registers of the programs.
+/// The memory, the lists of addresses and words, the decoder, and the registers of the programs.
 #[derive(Drop)]
 pub struct Bench {
     memory: Flat,
@@ -35,12 +38,14 @@ pub struct Bench {
     within: Vec<u64>,
     across: Vec<u64>,
     code: Vec<u64>,
+    decoder: Decoder,
     alu: Regs,
     loads: Regs,
+    services: Regs,
 }
 
 impl Bench {
-    /// A memory with both programs and two pages of tagged data.
+    /// A memory with the programs and two pages of tagged data.
     pub fn new(alloc: Global) -> Result<Bench> {
         let data = with_tag(DATA, TAG);
         let second = data.wrapping_add(4096);
@@ -52,6 +57,7 @@ impl Bench {
         let ready = memory.store_tags(DATA, 512, TAG, true).is_ok()
             && put_words(&mut memory, CODE, &ALU)
             && put_words(&mut memory, MEMORY_LOOP, &MEMORY)
+            && put_words(&mut memory, SERVICE_LOOP, &SERVICES)
             && store_each(&mut memory, &within).is_some();
         if !ready {
             bail!("the programs and the data could not be stored");
@@ -63,8 +69,10 @@ impl Bench {
             within,
             across: places(alloc, second.wrapping_sub(7), 7, 1)?,
             code: places(alloc, CODE, 1024, 4)?,
+            decoder: Decoder::new(),
             alu: start(3, 0x0123_4567_89AB_CDEF, CODE),
             loads: start(data, second, MEMORY_LOOP),
+            services: start(0, 1, SERVICE_LOOP),
         })
     }
 
@@ -78,8 +86,11 @@ impl Bench {
             Workload::LoadAcross => load_each(&mut self.memory, &self.across),
             Workload::StoreAcross => store_each(&mut self.memory, &self.across),
             Workload::Fetch => fetch_each(&mut self.memory, &self.code),
-            Workload::Alu => run_on(&mut self.alu, &mut self.memory),
-            Workload::Memory => run_on(&mut self.loads, &mut self.memory),
+            Workload::Alu => run_on(&mut self.decoder, &mut self.alu, &mut self.memory),
+            Workload::Memory => run_on(&mut self.decoder, &mut self.loads, &mut self.memory),
+            Workload::Services => {
+                run_on(&mut self.decoder, &mut self.services, &mut self.memory)
+            }
         }
     }
 }
@@ -96,7 +107,7 @@ fn put_words(memory: &mut Flat, first: u64, words: &[u32]) -> bool {
     true
 }
 
-/// 2048 addresses: `count` of them that are `stride` bytes apart, again and again.
+/// 2048 addresses: `count` of them, `stride` bytes apart, again and again.
 fn places(alloc: Global, first: u64, count: u64, stride: u64) -> Result<Vec<u64>, AllocError>
     requires { 0 < count }
 {

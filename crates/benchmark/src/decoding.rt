@@ -67,7 +67,7 @@ pub fn shuffled(alloc: Global) -> Result<Vec<u32>, AllocError> {
     Ok(words)
 }
 
-/// A number that an instruction tells: an offset where it branches.
+/// A number of an instruction: the offset of a branch, else 1, and 7 of no instruction.
 fn weight(instr: Option<Instr>) -> u64 {
     match instr {
         Some(Instr::Branch { imm26, .. }) => u64::from(imm26.unsigned_abs()),

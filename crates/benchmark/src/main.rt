@@ -1,4 +1,5 @@
-//! `benchmark WORKLOAD`: runs a workload through the libraries for about a second and prints its rate.
+//! `benchmark WORKLOAD`: runs a workload through the libraries for about a second and prints its
+//! rate.
 #![tactic(auto)]
 
 mod accesses;
@@ -28,6 +29,7 @@ Runs a workload for about a second and prints its rate. The workloads:
   fetch            fetches of instruction words
   alu              steps of a loop that adds, subtracts, shifts and combines registers
   memory           steps of a loop, a quarter of them loads and a quarter stores
+  services         steps of a loop with an SVC in every seven instructions
   all              each of them in turn
 ";
 
@@ -101,6 +103,3 @@ fn measure(rt: &HostRuntime, bench: &mut Bench, workload: Workload) -> Result<Me
     }
     Ok(measured)
 }
-
-#[cfg(test)]
-mod tests;

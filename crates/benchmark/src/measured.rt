@@ -7,7 +7,7 @@ ghost use Rattle.std.specs.Prelude.{◌≡◌, ◌+◌, ◌*◌, ◌/◌, ◌%�
 pub struct Batch {
     /// The accesses, words or steps.
     pub count: u64,
-    /// A sum of what came out, so that no work can be left out.
+    /// A checksum of the results, so that the optimiser can drop nothing.
     pub sum: u64,
 }
 

@@ -3,9 +3,8 @@
 ghost use Rattle.std.specs.Prelude.{◌≡◌, IfSome};
 
 use crate::measured::Batch;
-use a64_bits::Flags;
-use a64_step::{Regs, run};
-use mte_tags::{Flat, Rgsr};
+use a64_step::{Decoder, Outcome, Regs, run};
+use mte_tags::Flat;
 
 /// A loop of instructions between registers (assembled by llvm-mc).
 pub const ALU: [u32; 16] = [
@@ -27,7 +26,8 @@ pub const ALU: [u32; 16] = [
     0x17FF_FFF1, // b #-60
 ];
 
-/// A loop of which four instructions are loads and four stores, through x0 and x1 (assembled by llvm-mc).
+/// A loop of which four instructions are loads and four stores, through x0 and x1 (assembled by
+/// llvm-mc).
 pub const MEMORY: [u32; 16] = [
     0xF940_0002, // ldr x2, [x0]
     0x8B02_0063, // add x3, x3, x2
@@ -47,34 +47,44 @@ pub const MEMORY: [u32; 16] = [
     0x17FF_FFF1, // b #-60
 ];
 
+/// A loop with an SVC in every seven instructions.
+pub const SERVICES: [u32; 7] = [
+    0xD400_0001, // svc #0
+    0x9100_0400, // add x0, x0, #1
+    0xCA00_0021, // eor x1, x1, x0
+    0xD341_FC22, // lsr x2, x1, #1
+    0x8B02_0063, // add x3, x3, x2
+    0xAA03_0044, // orr x4, x2, x3
+    0x17FF_FFFA, // b #-24
+];
+
 /// The steps of a batch.
 const STEPS: u64 = 1 << 16;
 
-/// Registers at the start of a program: x0, x1 and the program counter as given, the others 0.
+/// Registers at the start of a program: x0, x1 and PC as given, the others 0.
 pub fn start(x0: u64, x1: u64, pc: u64) -> Regs {
-    let mut regs = Regs {
-        x: [0; 31],
-        sp: 0,
-        pc,
-        flags: Flags {
-            n: false,
-            z: false,
-            c: false,
-            v: false,
-        },
-        rgsr: Rgsr { tag: 0, seed: 1 },
-    };
+    let mut regs = Regs::new(pc, 0);
     regs.x[0] = x0;
     regs.x[1] = x1;
     regs
 }
 
-/// Goes on with a program, `None` where it stops.
-pub fn run_on(regs: &mut Regs, memory: &mut Flat) -> Option<Batch>
+/// Goes on with a program as a host does, past each SVC; `None` where it stops otherwise.
+pub fn run_on(decoder: &mut Decoder, regs: &mut Regs, memory: &mut Flat) -> Option<Batch>
     ensures { IfSome result (λ b. b.count ≡ 65536) }
 {
-    if run(regs, memory, STEPS).outcome.is_some() {
-        return None;
+    let mut left = STEPS;
+    for _ in 0..STEPS {
+        if left == 0 {
+            break;
+        }
+        let stop = run(decoder, regs, memory, left);
+        match stop.outcome {
+            None => {}
+            Some(Outcome::Svc) => regs.pc = regs.pc.wrapping_add(4),
+            Some(_) => return None,
+        }
+        left = stop.left;
     }
     let mut sum: u64 = 0;
     for value in &regs.x {

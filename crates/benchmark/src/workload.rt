@@ -21,11 +21,13 @@ pub enum Workload {
     Alu,
     /// Steps of a loop half of which reaches memory.
     Memory,
+    /// Steps of a loop with an SVC in every seven instructions.
+    Services,
 }
 
 impl Workload {
     /// All of them, in the order in which they are run.
-    pub const ALL: [Workload; 9] = [
+    pub const ALL: [Workload; 10] = [
         Workload::Decode,
         Workload::DecodeShuffled,
         Workload::Load,
@@ -35,6 +37,7 @@ impl Workload {
         Workload::Fetch,
         Workload::Alu,
         Workload::Memory,
+        Workload::Services,
     ];
 
     /// Its name on the command line.
@@ -49,6 +52,7 @@ impl Workload {
             Workload::Fetch => "fetch",
             Workload::Alu => "alu",
             Workload::Memory => "memory",
+            Workload::Services => "services",
         }
     }
 
@@ -59,7 +63,7 @@ impl Workload {
             Workload::Load | Workload::LoadAcross => "a load",
             Workload::Store | Workload::StoreAcross => "a store",
             Workload::Fetch => "a fetch",
-            Workload::Alu | Workload::Memory => "an instruction",
+            Workload::Alu | Workload::Memory | Workload::Services => "an instruction",
         }
     }
 
@@ -71,7 +75,7 @@ impl Workload {
     }
 }
 
-/// What a command line asks for.
+/// The request of a command line.
 #[derive(Clone, Copy, PartialEq, Eq, Debug)]
 pub enum Asked {
     /// No argument was given.

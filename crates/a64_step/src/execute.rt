@@ -1,0 +1,87 @@
+//! The table of instructions.
+
+ghost use Rattle.std.specs.Prelude.{◌≡◌, ◌<◌};
+ghost use Rattle.a64_asm.specs.Encoding.{IsAllowed};
+ghost use Rattle.a64_step.specs.Registers.{advanced};
+ghost use Rattle.a64_step.specs.Results.{Leaves};
+ghost use Rattle.a64_step.specs.Steps.{executed};
+
+use crate::add_subtract::{adc_sbc, add_sub_ext, add_sub_imm, add_sub_shift};
+use crate::bitfield::{bitfield, extr};
+use crate::branches::{branch, branch_cond, branch_reg, cmp_branch, test_branch};
+use crate::conditional::{cond_cmp, cond_sel};
+use crate::data_processing::{mul_add, mul_add_long, mul_high, one_source, two_source};
+use crate::load_store::{ld_lit, ld_st_imm, ld_st_post, ld_st_pre, ld_st_reg, ld_st_unscaled};
+use crate::load_store_pair::{pair_off, pair_post, pair_pre};
+use crate::logical::{log_imm, log_shift};
+use crate::memory_tagging::{add_g, gmi, irg, ldg, st_g, sub_p};
+use crate::move_wide::move_wide;
+use crate::outcome::Outcome;
+use crate::pc_rel::adr;
+use crate::registers::Regs;
+use a64_asm::Instr;
+use mte_tags::Tagged;
+
+/// Executes an instruction. An arm with constants in its pattern passes them on, so that its copy of
+/// the function does not test them again.
+#[rattlefmt::skip]
+#[inline(always)]
+#[tactic(auto, unfolding(crate::specs::Steps::executed))]
+pub fn execute<M: Tagged>(instr: &Instr, regs: &mut Regs, memory: &mut M, outcome: &mut Outcome)
+    requires allowed { IsAllowed instr.now }
+    requires outcome { outcome.old ≡ Outcome.Next }
+    ensures leaves { Leaves (executed instr.now regs.old (M.memory memory.old))
+        outcome.new regs.new (M.memory memory.new) }
+    ensures kept { M.kept memory.old memory.new }
+{
+    match *instr {
+        Instr::AddSubImm { sf: 1, op, s, sh, imm12, rn, rd } => add_sub_imm(regs, 1, op, s, sh, imm12, rn, rd),
+        Instr::AddSubImm { sf, op, s, sh, imm12, rn, rd } => add_sub_imm(regs, sf, op, s, sh, imm12, rn, rd),
+        Instr::AddSubShift { sf: 1, op, s, shift, rm, imm6, rn, rd } => add_sub_shift(regs, 1, op, s, shift, rm, imm6, rn, rd),
+        Instr::AddSubShift { sf, op, s, shift, rm, imm6, rn, rd } => add_sub_shift(regs, sf, op, s, shift, rm, imm6, rn, rd),
+        Instr::AddSubExt { sf: 1, op, s, rm, option, imm3, rn, rd } => add_sub_ext(regs, 1, op, s, rm, option, imm3, rn, rd),
+        Instr::AddSubExt { sf, op, s, rm, option, imm3, rn, rd } => add_sub_ext(regs, sf, op, s, rm, option, imm3, rn, rd),
+        Instr::LogImm { sf, opc, n, immr, imms, rn, rd } => log_imm(regs, sf, opc, n, immr, imms, rn, rd),
+        Instr::LogShift { sf: 1, opc, shift, n: 0, rm, imm6: 0, rn, rd } => log_shift(regs, 1, opc, shift, 0, rm, 0, rn, rd),
+        Instr::LogShift { sf: 1, opc, shift, n, rm, imm6, rn, rd } => log_shift(regs, 1, opc, shift, n, rm, imm6, rn, rd),
+        Instr::LogShift { sf, opc, shift, n, rm, imm6, rn, rd } => log_shift(regs, sf, opc, shift, n, rm, imm6, rn, rd),
+        Instr::MoveWide { sf, opc, hw, imm16, rd } => move_wide(regs, sf, opc, hw, imm16, rd),
+        Instr::Bitfield { sf: 1, opc: 2, immr, imms, rn, rd, .. } => bitfield(regs, 1, 2, immr, imms, rn, rd),
+        Instr::Bitfield { sf: 1, opc, immr, imms, rn, rd, .. } => bitfield(regs, 1, opc, immr, imms, rn, rd),
+        Instr::Bitfield { sf, opc, immr, imms, rn, rd, .. } => bitfield(regs, sf, opc, immr, imms, rn, rd),
+        Instr::Extr { sf: 1, rm, imms, rn, rd, .. } => extr(regs, 1, rm, imms, rn, rd),
+        Instr::Extr { sf, rm, imms, rn, rd, .. } => extr(regs, sf, rm, imms, rn, rd),
+        Instr::Adr { op, immlo, immhi, rd } => adr(regs, op, immlo, immhi, rd),
+        Instr::AdcSbc { sf, op, s, rm, rn, rd } => adc_sbc(regs, sf, op, s, rm, rn, rd),
+        Instr::CondCmp { sf, op, rm, cond, i, rn, nzcv } => cond_cmp(regs, sf, op, rm, cond, i, rn, nzcv),
+        Instr::CondSel { sf, op, rm, cond, o2, rn, rd } => cond_sel(regs, sf, op, rm, cond, o2, rn, rd),
+        Instr::TwoSource { sf, rm, opcode, rn, rd } => two_source(regs, sf, rm, opcode, rn, rd),
+        Instr::OneSource { sf, opcode, rn, rd } => one_source(regs, sf, opcode, rn, rd),
+        Instr::MulAdd { sf, rm, o0, ra, rn, rd } => mul_add(regs, sf, rm, o0, ra, rn, rd),
+        Instr::MulAddLong { u, rm, o0, ra, rn, rd } => mul_add_long(regs, u, rm, o0, ra, rn, rd),
+        Instr::MulHigh { u, rm, rn, rd } => mul_high(regs, u, rm, rn, rd),
+        Instr::Branch { op, imm26 } => branch(regs, op, imm26),
+        Instr::BranchCond { imm19, cond } => branch_cond(regs, imm19, cond),
+        Instr::CmpBranch { sf, op, imm19, rt } => cmp_branch(regs, sf, op, imm19, rt),
+        Instr::TestBranch { b5, op, b40, imm14, rt } => test_branch(regs, b5, op, b40, imm14, rt),
+        Instr::BranchReg { opc, rn } => branch_reg(regs, opc, rn),
+        Instr::LdStImm { size, opc, imm12, rn, rt } => ld_st_imm(regs, memory, size, opc, imm12, rn, rt, outcome),
+        Instr::LdStUnscaled { size, opc, imm9, rn, rt } => ld_st_unscaled(regs, memory, size, opc, imm9, rn, rt, outcome),
+        Instr::LdStPost { size, opc, imm9, rn, rt } => ld_st_post(regs, memory, size, opc, imm9, rn, rt, outcome),
+        Instr::LdStPre { size, opc, imm9, rn, rt } => ld_st_pre(regs, memory, size, opc, imm9, rn, rt, outcome),
+        Instr::LdStReg { size, opc, rm, option, s, rn, rt } => ld_st_reg(regs, memory, size, opc, rm, option, s, rn, rt, outcome),
+        Instr::LdLit { opc, imm19, rt } => ld_lit(regs, memory, opc, imm19, rt, outcome),
+        Instr::PairPost { opc, l, imm7, rt2, rn, rt } => pair_post(regs, memory, opc, l, imm7, rt2, rn, rt, outcome),
+        Instr::PairOff { opc, l, imm7, rt2, rn, rt } => pair_off(regs, memory, opc, l, imm7, rt2, rn, rt, outcome),
+        Instr::PairPre { opc, l, imm7, rt2, rn, rt } => pair_pre(regs, memory, opc, l, imm7, rt2, rn, rt, outcome),
+        Instr::Svc => *outcome = Outcome::Svc,
+        Instr::Brk { imm16 } => *outcome = Outcome::Breakpoint(imm16),
+        Instr::Hint { .. } => regs.advance(),
+        Instr::AddG { op, uimm6, uimm4, rn, rd } => add_g(regs, op, uimm6, uimm4, rn, rd),
+        Instr::SubP { s, rm, rn, rd } => sub_p(regs, s, rm, rn, rd),
+        Instr::Irg { rm, rn, rd } => irg(regs, rm, rn, rd),
+        Instr::Gmi { rm, rn, rd } => gmi(regs, rm, rn, rd),
+        Instr::Ldg { imm9, rn, rt } => ldg(regs, memory, imm9, rn, rt, outcome),
+        Instr::StG { opc, imm9, mode, rn, rt } => st_g(regs, memory, opc, imm9, mode, rn, rt, outcome),
+    }
+}

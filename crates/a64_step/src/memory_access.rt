@@ -1,0 +1,91 @@
+//! Memory accesses of 1, 2, 4 or 8 bytes.
+
+ghost use Rattle.std.specs.Prelude.{◌≡◌, ◌<◌, ◌≤◌, ◌+◌, ◌*◌, ◌%◌, ◌^◌, is_ok, if◌then◌else◌};
+ghost use Rattle.mte_tags.specs.Accesses.{outcome, write_fault, written};
+ghost use Rattle.a64_step.specs.MemoryAccess.{number_read, stored_bytes};
+ghost use Rattle.a64_step.specs.Operands.{bytes_of};
+
+use mte_tags::{MemFault, Tagged};
+
+/// Writes the low `2^size` bytes of a register, all or none.
+#[inline(always)]
+#[rattlefmt::skip]
+#[tactic(auto, unfolding(
+    crate::specs::Operands::bytes_of,
+    crate::specs::MemoryAccess::stored_bytes
+))]
+pub fn write_number<M: Tagged>(
+    memory: &mut M,
+    address: u64,
+    size: u8,
+    value: u64,
+    checked: bool,
+) -> Result<(), MemFault>
+    ensures answer { result
+        ≡ outcome (write_fault (M.memory memory.old) address (bytes_of size) checked) }
+    ensures memory { M.memory memory.new
+        ≡ (if is_ok result
+        then written (M.memory memory.old) address (stored_bytes size value)
+        else M.memory memory.old) }
+    ensures kept { M.kept memory.old memory.new }
+{
+    match size {
+        0 => memory.write(address, &((value % (1 << 8)) as u8).to_le_bytes(), checked),
+        1 => memory.write(
+            address,
+            &((value % (1 << 16)) as u16).to_le_bytes(),
+            checked,
+        ),
+        2 => memory.write(
+            address,
+            &((value % (1 << 32)) as u32).to_le_bytes(),
+            checked,
+        ),
+        _ => memory.write(address, &value.to_le_bytes(), checked),
+    }
+}
+
+/// The number of `2^size` bytes.
+#[inline(always)]
+#[tactic(auto, unfolding(crate::specs::MemoryAccess::number_read))]
+pub fn read_number<M: Tagged>(
+    memory: &mut M,
+    address: u64,
+    size: u8,
+    checked: bool,
+) -> Result<u64, MemFault>
+    ensures answer { result ≡ number_read (M.memory memory.old) address size checked }
+    ensures memory { M.memory memory.new ≡ M.memory memory.old }
+    ensures kept { M.kept memory.old memory.new }
+{
+    match size {
+        0 => {
+            let mut bytes = [0; 1];
+            if let Err(fault) = memory.read(address, &mut bytes, checked) {
+                return Err(fault);
+            }
+            Ok(u64::from(u8::from_le_bytes(bytes)))
+        }
+        1 => {
+            let mut bytes = [0; 2];
+            if let Err(fault) = memory.read(address, &mut bytes, checked) {
+                return Err(fault);
+            }
+            Ok(u64::from(u16::from_le_bytes(bytes)))
+        }
+        2 => {
+            let mut bytes = [0; 4];
+            if let Err(fault) = memory.read(address, &mut bytes, checked) {
+                return Err(fault);
+            }
+            Ok(u64::from(u32::from_le_bytes(bytes)))
+        }
+        _ => {
+            let mut bytes = [0; 8];
+            if let Err(fault) = memory.read(address, &mut bytes, checked) {
+                return Err(fault);
+            }
+            Ok(u64::from_le_bytes(bytes))
+        }
+    }
+}

@@ -1,0 +1,184 @@
+//! Instructions on tags.
+
+ghost use Rattle.std.specs.Prelude.{◌≡◌, ◌<◌, ◌+◌, ◌-◌, ◌*◌, ◌%◌, ◌^◌};
+ghost use Rattle.std.specs.Int.RustNames.{bit_or};
+ghost use Rattle.a64_step.specs.MemoryTagging.{add_g_of, gmi_of, granule_count, irg_of, is_zeroing};
+ghost use Rattle.a64_step.specs.MemoryTagging.{ldg_of, st_g_at, st_g_of, sub_p_of, tag_target};
+ghost use Rattle.a64_step.specs.MemoryTagging.{with_address_tag};
+ghost use Rattle.a64_step.specs.Registers.{advanced};
+ghost use Rattle.a64_step.specs.Results.{Leaves};
+
+use crate::add_subtract::{add_into, add_or_subtract};
+use crate::addressing::{Target, fault_of_stack, moved_by, write_back};
+use crate::outcome::Outcome;
+use crate::registers::Regs;
+use a64_bits::sign_extend;
+use mte_tags::{Tagged, choose_non_excluded, tag_of, with_tag};
+
+/// GCR_EL1.Exclude: tag 0 is neither drawn nor chosen.
+const EXCLUDED: u16 = 1;
+
+/// ADDG, SUBG.
+#[inline(never)]
+#[tactic(auto, unfolding(crate::specs::MemoryTagging::add_g_of))]
+pub fn add_g(regs: &mut Regs, op: u8, uimm6: u8, uimm4: u8, rn: u8, rd: u8)
+    requires uimm6 { uimm6 < 64 }
+    requires uimm4 { uimm4 < 16 }
+    requires rn { rn < 32 }
+    requires rd { rd < 32 }
+    ensures { regs.new ≡ advanced (add_g_of regs.old op uimm6 uimm4 rn rd) }
+{
+    let base = regs.get_or_sp(rn);
+    let sum = add_or_subtract(1, op, base, 16 * u64::from(uimm6));
+    let tag = choose_non_excluded(tag_of(base), uimm4, EXCLUDED);
+    regs.set_or_sp(rd, with_tag(sum.result, tag));
+    regs.advance();
+}
+
+/// SUBP, SUBPS.
+#[inline(never)]
+#[tactic(auto, unfolding(crate::specs::MemoryTagging::sub_p_of))]
+pub fn sub_p(regs: &mut Regs, s: u8, rm: u8, rn: u8, rd: u8)
+    requires rm { rm < 32 }
+    requires rn { rn < 32 }
+    requires rd { rd < 32 }
+    ensures { regs.new ≡ advanced (sub_p_of regs.old s rm rn rd) }
+{
+    let x = sign_extend(regs.get_or_sp(rn), 56);
+    let y = sign_extend(regs.get_or_sp(rm), 56);
+    add_into(regs, 1, 1, s, rd, x, y);
+    regs.advance();
+}
+
+/// IRG.
+#[inline(never)]
+#[tactic(auto, unfolding(crate::specs::MemoryTagging::irg_of))]
+pub fn irg(regs: &mut Regs, rm: u8, rn: u8, rd: u8)
+    requires rm { rm < 32 }
+    requires rn { rn < 32 }
+    requires rd { rd < 32 }
+    ensures { regs.new ≡ advanced (irg_of regs.old rm rn rd) }
+{
+    let base = regs.get_or_sp(rn);
+    let exclude = (regs.get(rm) % (1 << 16)) as u16 | EXCLUDED;
+    regs.rgsr.tag %= 16;
+    let tag = regs.rgsr.draw(exclude);
+    regs.set_or_sp(rd, with_tag(base, tag));
+    regs.advance();
+}
+
+/// GMI.
+#[inline(never)]
+#[tactic(auto, unfolding(crate::specs::MemoryTagging::gmi_of))]
+pub fn gmi(regs: &mut Regs, rm: u8, rn: u8, rd: u8)
+    requires rm { rm < 32 }
+    requires rn { rn < 32 }
+    requires rd { rd < 32 }
+    ensures { regs.new ≡ advanced (gmi_of regs.old rm rn rd) }
+{
+    let bit = 1u64 << tag_of(regs.get_or_sp(rn));
+    regs.set(rd, regs.get(rm) | bit);
+    regs.advance();
+}
+
+/// LDG.
+#[inline(never)]
+#[tactic(auto, unfolding(crate::specs::MemoryTagging::ldg_of))]
+pub fn ldg<M: Tagged>(
+    regs: &mut Regs,
+    memory: &mut M,
+    imm9: i16,
+    rn: u8,
+    rt: u8,
+    outcome: &mut Outcome,
+)
+    requires rn { rn < 32 }
+    requires rt { rt < 32 }
+    requires outcome { outcome.old ≡ Outcome.Next }
+    ensures leaves { Leaves (ldg_of regs.old (M.memory memory.old) imm9 rn rt)
+        outcome.new regs.new (M.memory memory.new) }
+    ensures kept { M.kept memory.old memory.new }
+{
+    if let Some(fault) = fault_of_stack(regs, rn, false) {
+        *outcome = Outcome::Fault(fault);
+        return;
+    }
+    let address = moved_by(regs.get_or_sp(rn), 16, i64::from(imm9));
+    match memory.load_tag(address) {
+        Err(fault) => *outcome = Outcome::Fault(fault),
+        Ok(tag) => {
+            regs.set(rt, with_tag(regs.get(rt), tag));
+            regs.advance();
+        }
+    }
+}
+
+/// STG, STZG, ST2G, STZ2G.
+#[inline(never)]
+#[tactic(auto, unfolding(crate::specs::MemoryTagging::st_g_of))]
+pub fn st_g<M: Tagged>(
+    regs: &mut Regs,
+    memory: &mut M,
+    opc: u8,
+    imm9: i16,
+    mode: u8,
+    rn: u8,
+    rt: u8,
+    outcome: &mut Outcome,
+)
+    requires rn { rn < 32 }
+    requires rt { rt < 32 }
+    requires outcome { outcome.old ≡ Outcome.Next }
+    ensures leaves { Leaves (st_g_of regs.old (M.memory memory.old) opc imm9 mode rn rt)
+        outcome.new regs.new (M.memory memory.new) }
+    ensures kept { M.kept memory.old memory.new }
+{
+    let target = target_of_tags(regs, imm9, mode, rn);
+    store_at(regs, memory, opc, rn, rt, target, outcome)
+}
+
+/// The target of a store of tags.
+#[tactic(auto, unfolding(crate::specs::MemoryTagging::tag_target))]
+fn target_of_tags(regs: &Regs, imm9: i16, mode: u8, rn: u8) -> Target
+    requires { rn < 32 }
+    ensures { result ≡ tag_target regs.now imm9 mode rn }
+{
+    match mode {
+        1 => Target::post(regs, 16, i64::from(imm9), rn),
+        2 => Target::offset(regs, 16, i64::from(imm9), rn),
+        _ => Target::pre(regs, 16, i64::from(imm9), rn),
+    }
+}
+
+/// Stores the tags of one granule or two, and makes their bytes zero where the instruction says so.
+#[tactic(auto, unfolding(crate::specs::MemoryTagging::st_g_at))]
+fn store_at<M: Tagged>(
+    regs: &mut Regs,
+    memory: &mut M,
+    opc: u8,
+    rn: u8,
+    rt: u8,
+    target: Target,
+    outcome: &mut Outcome,
+)
+    requires rn { rn < 32 }
+    requires rt { rt < 32 }
+    requires outcome { outcome.old ≡ Outcome.Next }
+    ensures leaves { Leaves (st_g_at regs.old (M.memory memory.old) opc rn rt target)
+        outcome.new regs.new (M.memory memory.new) }
+    ensures kept { M.kept memory.old memory.new }
+{
+    if let Some(fault) = fault_of_stack(regs, rn, true) {
+        *outcome = Outcome::Fault(fault);
+        return;
+    }
+    let granules = if opc == 2 || opc == 3 { 2 } else { 1 };
+    let zero = opc == 1 || opc == 3;
+    let tag = tag_of(regs.get_or_sp(rt));
+    if let Err(fault) = memory.store_tags(target.address, granules, tag, zero) {
+        *outcome = Outcome::Fault(fault);
+        return;
+    }
+    write_back(regs, rn, target.new_base);
+    regs.advance();
+}
