@@ -1,0 +1,5 @@
+pub mod Parts
+pub mod Report
+pub mod Sessions
+pub mod Outcomes
+pub mod Endings
