@@ -1,5 +1,6 @@
 -- A host with a tenant admits no other, so its tenant goes by its own events.
-use Rattle.std.proofs.Common.{◌≡◌, ℕ, ◌+◌, ◌-◌, nat_lt, List, [], ◌∷◌, ◌++◌, Option, Some, None, false, option_map, refl, ap, sym}
+use Rattle.std.proofs.Common.{◌≡◌, ℕ, ◌+◌, ◌-◌, nat_lt, List, [], ◌∷◌, ◌++◌, Option, Some, None}
+use Rattle.std.proofs.Common.{false, option_map, refl, ap, sym}
 use Rattle.mte_sched.specs.declared.machine.Machine.{Machine}
 use Rattle.mte_sched.specs.declared.host.Host.{Host}
 use Rattle.mte_sched.specs.declared.host.Tenant.{Tenant}
@@ -9,12 +10,16 @@ use Rattle.mte_sched.specs.declared.refusal.Refusal.{Refusal}
 use Rattle.mte_sched.specs.declared.refusal.Refusal.TheVariants as refusal
 use Rattle.mte_sched.specs.declared.refusal.Refused.{Refused}
 use Rattle.mte_sched.specs.declared.admission.AdmitError.{AdmitError}
-use Rattle.mte_sched.specs.declared.admission.AdmitError.TheVariants.{Duplicate, BadReservation, Image, ReservationTooSmall, NoFrames, TooManyLive}
+use Rattle.mte_sched.specs.declared.admission.AdmitError.TheVariants.{Duplicate, BadReservation}
+use Rattle.mte_sched.specs.declared.admission.AdmitError.TheVariants.{Image, ReservationTooSmall}
+use Rattle.mte_sched.specs.declared.admission.AdmitError.TheVariants.{NoFrames, TooManyLive}
 use Rattle.mte_elf.specs.Images.{refusal_of, pages_of}
 use Rattle.mte_sched.specs.Machines.{advance, halted}
-use Rattle.mte_sched.specs.Hosts.{admission_refusal, first_of, when, has_id, is_bad, charged_for, charge_of, sliced, stopped, tenant_sliced, tenant_stopped}
+use Rattle.mte_sched.specs.Hosts.{admission_refusal, first_of, when, has_id, is_bad, charged_for}
+use Rattle.mte_sched.specs.Hosts.{charge_of, sliced, stopped, tenant_sliced, tenant_stopped}
 use Rattle.mte_sched.specs.Events.{event_refusal, after_event, played, played_on, played_by}
-use Rattle.mte_sched.specs.Alone.{Own, Sliced, Halted, alone, own_by, own_events, next_host, HasMachine, TenantIsAlone}
+use Rattle.mte_sched.specs.Alone.{Own, Sliced, Halted, alone, own_by, own_events, next_host}
+use Rattle.mte_sched.specs.Alone.{HasMachine, TenantIsAlone}
 
 -- a list of tests whose last fails
 pub last_fails : (a b c d e : Option AdmitError) (r : AdmitError) → first_of (a ∷ b ∷ c ∷ d ∷ e ∷ Some r ∷ []) ≡ None → ⊥

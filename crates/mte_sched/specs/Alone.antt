@@ -1,4 +1,5 @@
--- One tenant of a session is its program alone: its machine is its first machine after its own events, and nothing else.
+-- One tenant of a session is its program alone: its machine is its first machine after its own
+-- events, and nothing else.
 use Rattle.std.specs.Prelude.{◌≡◌, ℕ, List, [], ◌∷◌, ◌++◌, Option, Some, None}
 use Rattle.mte_sched.specs.declared.machine.Machine.{Machine}
 use Rattle.mte_sched.specs.declared.host.Host.{Host}
@@ -35,7 +36,8 @@ next_host None files h e = after_event files h e
 -- the tenant's own events among those of a session: its accepted slices and its stop
 unfoldable pub own_events : List (List ℕ) → Host → List Event → List Own
 own_events files h [] = []
-own_events files h (e ∷ more) = own_by (event_refusal files h e) e ++ own_events files (next_host (event_refusal files h e) files h e) more
+own_events files h (e ∷ more) = own_by (event_refusal files h e) e
+    ++ own_events files (next_host (event_refusal files h e) files h e) more
 
 abbrev pub HasMachine : Option Tenant → Machine → Type 0
 HasMachine None m = ⊥
@@ -43,5 +45,9 @@ HasMachine (Some t) m = t.machine ≡ m
 
 -- whatever the events are, the tenant that a host has is its machine alone after its own events
 abbrev pub TenantIsAlone : Type 0
-TenantIsAlone = (files : List (List ℕ)) (events : List Event) (h : Host) (t : Tenant) (refused : List Refused) (n : ℕ) → h.tenant ≡ Some t
-    → HasMachine (played files (record { host = h; refused = refused }) events n).host.tenant (alone t.machine (own_events files h events))
+TenantIsAlone =
+    (files : List (List ℕ)) (events : List Event) (h : Host) (t : Tenant)
+    (refused : List Refused) (n : ℕ)
+    → h.tenant ≡ Some t
+    → HasMachine (played files (record { host = h; refused = refused }) events n).host.tenant
+    (alone t.machine (own_events files h events))

@@ -1,12 +1,14 @@
 -- What a host makes of a script's events, and which of them it refuses.
-use Rattle.std.specs.Prelude.{◌≡◌, ℕ, false, ◌+◌, ◌-◌, ◌==◌, Bool, List, [], ◌∷◌, ◌++◌, slice_get, Option, Some, None, if◌then◌else◌, option_map, unwrap_or}
+use Rattle.std.specs.Prelude.{◌≡◌, ℕ, false, ◌+◌, ◌-◌, ◌==◌, Bool, List, [], ◌∷◌, ◌++◌, slice_get}
+use Rattle.std.specs.Prelude.{Option, Some, None, if◌then◌else◌, option_map, unwrap_or}
 use Rattle.mte_script.specs.declared.event.Event.{Event}
 use Rattle.mte_script.specs.declared.event.Event.TheVariants as event
 use Rattle.mte_sched.specs.declared.refusal.Refusal.{Refusal}
 use Rattle.mte_sched.specs.declared.refusal.Refusal.TheVariants as refusal
 use Rattle.mte_sched.specs.declared.refusal.Refused.{Refused}
 use Rattle.mte_sched.specs.declared.host.Host.{Host}
-use Rattle.mte_sched.specs.Hosts.{admission_refusal, has_id, is_bad, with_admitted, is_live, sliced, stopped}
+use Rattle.mte_sched.specs.Hosts.{admission_refusal, has_id, is_bad, with_admitted, is_live, sliced}
+use Rattle.mte_sched.specs.Hosts.{stopped}
 
 -- The bytes of a file by its number from 1; none for 0.
 abbrev pub file_at : List (List ℕ) → ℕ → List ℕ
@@ -42,7 +44,8 @@ pub record Played : Type 0 where
   pub refused : List Refused
 
 abbrev pub played_by : Option Refusal → List (List ℕ) → Played → Event → ℕ → Played
-played_by (Some r) files p e n = record p { refused = p.refused ++ (record { event = n; refusal = r }) ∷ [] }
+played_by (Some r) files p e n =
+    record p { refused = p.refused ++ (record { event = n; refusal = r }) ∷ [] }
 played_by None files p e n = record p { host = after_event files p.host e }
 
 -- One event, the n-th, after others.

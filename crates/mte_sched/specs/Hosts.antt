@@ -1,8 +1,11 @@
 -- The host of one tenant: what is refused, and what each accepted event makes of it.
-use Rattle.std.specs.Prelude.{ℕ, ◌+◌, ◌-◌, ◌*◌, ◌==◌, nat_lt, ◌&&◌, ◌||◌, Bool, true, false, List, [], ◌∷◌, Option, Some, None, if◌then◌else◌, option_map, is_some}
+use Rattle.std.specs.Prelude.{ℕ, ◌+◌, ◌-◌, ◌*◌, ◌==◌, nat_lt, ◌&&◌, ◌||◌, Bool, true, false, List}
+use Rattle.std.specs.Prelude.{[], ◌∷◌, Option, Some, None, if◌then◌else◌, option_map, is_some}
 use Rattle.mte_elf.specs.Images.{refusal_of, pages_of}
 use Rattle.mte_sched.specs.declared.admission.AdmitError.{AdmitError}
-use Rattle.mte_sched.specs.declared.admission.AdmitError.TheVariants.{Duplicate, BadReservation, Image, ReservationTooSmall, NoFrames, TooManyLive}
+use Rattle.mte_sched.specs.declared.admission.AdmitError.TheVariants.{Duplicate, BadReservation}
+use Rattle.mte_sched.specs.declared.admission.AdmitError.TheVariants.{Image, ReservationTooSmall}
+use Rattle.mte_sched.specs.declared.admission.AdmitError.TheVariants.{NoFrames, TooManyLive}
 use Rattle.mte_sched.specs.declared.host.Host.{Host}
 use Rattle.mte_sched.specs.declared.host.Tenant.{Tenant}
 use Rattle.mte_sched.specs.Machines.{start_of, advance, halted}
@@ -55,7 +58,13 @@ admission_refusal h id image pages room = first_of (
     ∷ [])
 
 unfoldable pub with_admitted : Host → ℕ → List ℕ → ℕ → ℕ → ℕ → Host
-with_admitted h id image seed pages room = record h { tenant = Some (record { machine = start_of id image seed pages room; pages = pages; live = true }) }
+with_admitted h id image seed pages room = record h {
+  tenant = Some (record {
+    machine = start_of id image seed pages room;
+    pages = pages;
+    live = true;
+  });
+}
 
 abbrev pub tenant_sliced : ℕ → Option Tenant → Option Tenant
 tenant_sliced steps None = None

@@ -1,5 +1,8 @@
--- A tenant alone on a tagged memory: its first machine, what an attempted instruction and a service make of it.
-use Rattle.std.specs.Prelude.{ℕ, zero, suc, ◌+◌, ◌-◌, ◌/◌, ◌%◌, ◌^◌, ◌==◌, min, Bool, true, false, List, [], ◌++◌, replicate, slice_index, slice_set, Option, Some, None, if◌then◌else◌}
+-- A tenant alone on a tagged memory: its first machine, what an attempted instruction and a service
+-- make of it.
+use Rattle.std.specs.Prelude.{ℕ, zero, suc, ◌+◌, ◌-◌, ◌/◌, ◌%◌, ◌^◌, ◌==◌, min, Bool, true, false}
+use Rattle.std.specs.Prelude.{List, [], ◌++◌, replicate, slice_index, slice_set, Option, Some, None}
+use Rattle.std.specs.Prelude.{if◌then◌else◌}
 use Rattle.a64_step.specs.declared.registers.Regs.{Regs}
 use Rattle.a64_step.specs.declared.outcome.Outcome.{Outcome}
 use Rattle.a64_step.specs.declared.outcome.Outcome.TheVariants as outcome
@@ -11,7 +14,8 @@ use Rattle.mte_elf.specs.Headers.{segments_of, entry_of}
 use Rattle.mte_elf.specs.Loading.{with_segments}
 use Rattle.mte_sched.specs.declared.machine.Machine.{Machine}
 use Rattle.mte_sched.specs.declared.record.Status.{Status}
-use Rattle.mte_sched.specs.declared.record.Status.TheVariants.{Running, Exited, Faulted, Illegal, Breakpoint, Stopped}
+use Rattle.mte_sched.specs.declared.record.Status.TheVariants.{Running, Exited, Faulted, Illegal}
+use Rattle.mte_sched.specs.declared.record.Status.TheVariants.{Breakpoint, Stopped}
 
 abbrev pub is_running : Status → Bool
 is_running Running = true
@@ -20,7 +24,8 @@ is_running other = false
 abbrev pub with_status : Machine → Status → Machine
 with_status m s = record m { account = record m.account { status = s } }
 
--- all registers are 0 but SP and PC; the seed's low 16 bits are RGSR_EL1.SEED, the next four RGSR_EL1.TAG
+-- all registers are 0 but SP and PC; the seed's low 16 bits are RGSR_EL1.SEED, the next four
+-- RGSR_EL1.TAG
 unfoldable pub first_registers : ℕ → ℕ → Regs
 first_registers entry seed = record {
   x = replicate 31 0;
@@ -32,18 +37,28 @@ first_registers entry seed = record {
 
 -- the pages of an image and four pages for a stack, of a reservation of so many
 unfoldable pub first_memory : List ℕ → ℕ → Memory
-first_memory image pages = with_new_pages (with_segments image (no_pages pages) (segments_of image)) 0x3FFFC 4 (record { 0 = 11 })
+first_memory image pages =
+    with_new_pages (with_segments image (no_pages pages) (segments_of image)) 0x3FFFC 4
+    (record { 0 = 11 })
 
 unfoldable pub start_of : ℕ → List ℕ → ℕ → ℕ → ℕ → Machine
 start_of id image seed pages room = record {
-  account = record { id = id; status = Running; steps = 0; output = record { bytes = []; left = room }; heap_calls = 0 };
+  account = record {
+    id = id;
+    status = Running;
+    steps = 0;
+    output = record { bytes = []; left = room };
+    heap_calls = 0;
+  };
   regs = first_registers (entry_of image) seed;
   memory = first_memory image pages;
 }
 
 -- a service answers in x0, and the tenant goes on behind the SVC
 unfoldable pub answered : Machine → ℕ → Machine
-answered m value = record m { regs = record m.regs { x = slice_set m.regs.x 0 value; pc = (m.regs.pc + 4) % 2 ^ 56 } }
+answered m value = record m {
+  regs = record m.regs { x = slice_set m.regs.x 0 value; pc = (m.regs.pc + 4) % 2 ^ 56 };
+}
 
 -- n bytes at x0 are appended by one checked read, which may fault
 abbrev pub wrote_by : Option MemFault → Machine → ℕ → Machine
@@ -64,7 +79,8 @@ abbrev pub write_count : Machine → ℕ
 write_count m = min (slice_index m.regs.x 1) m.account.output.left
 
 unfoldable pub wrote : Machine → Machine
-wrote m = wrote_by (read_fault m.memory (slice_index m.regs.x 0) (write_count m) true) m (write_count m)
+wrote m =
+    wrote_by (read_fault m.memory (slice_index m.regs.x 0) (write_count m) true) m (write_count m)
 
 -- a service, by x8: 0 exit, 1 write; another number answers 2^64 - 1
 unfoldable pub served : Machine → Machine
@@ -83,12 +99,17 @@ met (outcome.Breakpoint number) m = with_status m (Breakpoint number m.regs.pc)
 
 -- so many more instructions were attempted; the count stops at 2^64 - 1
 abbrev pub counted_on : ℕ → Machine → Machine
-counted_on n m = record m { account = record m.account { steps = min (m.account.steps + n) 18446744073709551615 } }
+counted_on n m = record m {
+  account = record m.account { steps = min (m.account.steps + n) 18446744073709551615 };
+}
 
 -- one attempted instruction
 unfoldable pub attempted : Machine → Machine
 attempted m = met (step_of m.regs m.memory).outcome
-    (counted_on 1 (record m { regs = (step_of m.regs m.memory).regs; memory = (step_of m.regs m.memory).memory }))
+    (counted_on 1 (record m {
+      regs = (step_of m.regs m.memory).regs;
+      memory = (step_of m.regs m.memory).memory;
+    }))
 
 -- at most n attempted instructions, while it is running
 unfoldable pub advance : ℕ → Machine → Machine

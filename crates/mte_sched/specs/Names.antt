@@ -3,7 +3,10 @@ use Rattle.std.specs.Prelude.{ℕ, List, codes}
 use Rattle.mte_elf.specs.declared.error.ElfError.{ElfError}
 use Rattle.mte_elf.specs.declared.error.ElfError.TheVariants as elf
 use Rattle.mte_sched.specs.declared.admission.AdmitError.{AdmitError}
-use Rattle.mte_sched.specs.declared.admission.AdmitError.TheVariants.{Duplicate, BadReservation, Image, ReservationTooSmall, NoFrames, TooManyLive, OutOfMemory}
+use Rattle.mte_sched.specs.declared.admission.AdmitError.TheVariants.{Duplicate, BadReservation}
+use Rattle.mte_sched.specs.declared.admission.AdmitError.TheVariants.{Image, ReservationTooSmall}
+use Rattle.mte_sched.specs.declared.admission.AdmitError.TheVariants.{NoFrames, TooManyLive}
+use Rattle.mte_sched.specs.declared.admission.AdmitError.TheVariants.{OutOfMemory}
 use Rattle.mte_sched.specs.declared.refusal.Refusal.{Refusal}
 use Rattle.mte_sched.specs.declared.refusal.Refusal.TheVariants as refusal
 

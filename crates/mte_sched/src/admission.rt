@@ -19,8 +19,8 @@ pub struct Admission<'a> {
     pub image: &'a [u8],
     /// The bytes that it may read.
     pub input: &'a [u8],
-    /// Seeds its tag generator (RGSR_EL1.SEED is bits 15:0, RGSR_EL1.TAG bits 19:16) and its heap's cookie
-    /// (bits 63:32).
+    /// Seeds its tag generator (RGSR_EL1.SEED is bits 15:0, RGSR_EL1.TAG bits 19:16) and its heap's
+    /// cookie (bits 63:32).
     pub seed: u64,
     /// Its reservation, 1 to 512 pages.
     pub pages: u32,

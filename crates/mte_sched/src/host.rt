@@ -1,10 +1,12 @@
 //! The host of one tenant: admission, slices, stop.
 
-ghost use Rattle.std.specs.Prelude.{◌≡◌, ◌⊎◌, IfOk, IfErr, Err, option_map, OnOk, OnErr, IsOk, ◌↔◌, Some, None, Bool, true, false, IsTrue, ◌+◌, ◌≤◌};
+ghost use Rattle.std.specs.Prelude.{◌≡◌, ◌⊎◌, IfOk, IfErr, Err, option_map, OnOk, OnErr, IsOk, ◌↔◌};
+ghost use Rattle.std.specs.Prelude.{Some, None, Bool, true, false, IsTrue, ◌+◌, ◌≤◌};
 ghost use Rattle.mte_elf.specs.Headers.{entry_of, segments_of};
 ghost use Rattle.mte_elf.specs.Images.{refusal_of, pages_of};
 ghost use Rattle.mte_sched.specs.declared.admission.AdmitError.TheVariants.{Image};
-ghost use Rattle.mte_sched.specs.Hosts.{has_id, is_bad, admission_refusal, with_admitted, is_live, sliced, stopped, charge_of, charged};
+ghost use Rattle.mte_sched.specs.Hosts.{has_id, is_bad, admission_refusal, with_admitted, is_live};
+ghost use Rattle.mte_sched.specs.Hosts.{sliced, stopped, charge_of, charged};
 
 use crate::admission::{Admission, AdmitError, NotLive, PAGE_LIMIT, ROOM_LIMIT};
 use crate::machine::{Machine, STACK_PAGES};
@@ -42,8 +44,8 @@ impl Host {
         }
     }
 
-    /// Admits a tenant, or returns the first refusal that applies. Only `OutOfMemory`, where an allocation
-    /// failed, can come in place of the refusals from `Image` on.
+    /// Admits a tenant, or returns the first refusal that applies. Only `OutOfMemory`, where an
+    /// allocation failed, can come in place of the refusals from `Image` on.
     #[tactic(auto, unfolding(crate::specs::Hosts::admission_refusal, crate::specs::Hosts::with_admitted))]
     pub fn admit(&mut self, alloc: Global, admission: &Admission<'_>) -> Result<(), AdmitError>
         ensures accepted { OnOk result (admission_refusal self.old admission.now.id
@@ -53,7 +55,8 @@ impl Host {
         ensures refused { IfErr result (λ e. (e ≡ AdmitError.OutOfMemory)
             ⊎ (admission_refusal self.old admission.now.id
             admission.now.image.now admission.now.pages admission.now.room ≡ Some e)) }
-        ensures memory { (result ≡ Err AdmitError.OutOfMemory) → (has_id self.old.tenant admission.now.id ≡ false)
+        ensures memory { (result ≡ Err AdmitError.OutOfMemory)
+            → (has_id self.old.tenant admission.now.id ≡ false)
             × (is_bad admission.now.pages admission.now.room ≡ false) }
         ensures err { OnErr result (self.new ≡ self.old) }
     {
@@ -82,8 +85,8 @@ impl Host {
         Ok(())
     }
 
-    /// Lets a live tenant attempt at most `steps` instructions; one that has ended does nothing. It is
-    /// refused exactly where no live tenant has the number, and then changes nothing.
+    /// Lets a live tenant attempt at most `steps` instructions; one that has ended does nothing. It
+    /// is refused exactly where no live tenant has the number, and then changes nothing.
     #[tactic(auto, unfolding(crate::specs::Hosts::sliced))]
     pub fn slice(&mut self, id: u16, steps: u32) -> Result<(), NotLive>
         ensures live { IsOk result ↔ (is_live self.old id ≡ true) }
@@ -99,8 +102,8 @@ impl Host {
         }
     }
 
-    /// Stops a live tenant; its record stays. It is refused exactly where no live tenant has the number, and
-    /// then changes nothing.
+    /// Stops a live tenant; its record stays. It is refused exactly where no live tenant has the
+    /// number, and then changes nothing.
     #[tactic(auto, unfolding(crate::specs::Hosts::stopped))]
     pub fn stop(&mut self, id: u16) -> Result<(), NotLive>
         ensures live { IsOk result ↔ (is_live self.old id ≡ true) }
@@ -158,7 +161,8 @@ fn plan_of(alloc: Global, image: &[u8]) -> Result<Plan, AdmitError>
     ensures entry { IfOk result (λ p. p.entry ≡ entry_of image.now) }
     ensures pages { IfOk result (λ p. p.pages ≡ pages_of image.now) }
     ensures segments { IfOk result (λ p. p.segments.items ≡ segments_of image.now) }
-    ensures refused { IfErr result (λ e. (e ≡ AdmitError.OutOfMemory) ⊎ (option_map Image (refusal_of image.now) ≡ Some e)) }
+    ensures refused { IfErr result (λ e.
+        (e ≡ AdmitError.OutOfMemory) ⊎ (option_map Image (refusal_of image.now) ≡ Some e)) }
 {
     match plan(alloc, image) {
         Ok(plan) => Ok(plan),

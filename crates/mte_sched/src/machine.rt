@@ -1,10 +1,12 @@
 //! A tenant's machine: its first state, its slices, its services.
 
-ghost use Rattle.std.specs.Prelude.{◌≡◌, ℕ, ◌+◌, ◌*◌, ◌^◌, ◌<◌, ◌≤◌, IfOk, IfErr, IsOkUnless, true, None};
+ghost use Rattle.std.specs.Prelude.{◌≡◌, ℕ, ◌+◌, ◌*◌, ◌^◌, ◌<◌, ◌≤◌, IfOk, IfErr, IsOkUnless, true};
+ghost use Rattle.std.specs.Prelude.{None};
 ghost use Rattle.mte_tags.specs.Memory.{page_at, pages_left, with_new_pages};
 ghost use Rattle.mte_elf.specs.Headers.{segments_of, entry_of};
 ghost use Rattle.mte_elf.specs.Images.{refusal_of, pages_of};
-ghost use Rattle.mte_sched.specs.Machines.{start_of, advance, is_running, halted, served, met, answered, wrote, with_status, first_registers};
+ghost use Rattle.mte_sched.specs.Machines.{start_of, advance, is_running, halted, served, met};
+ghost use Rattle.mte_sched.specs.Machines.{answered, wrote, with_status, first_registers};
 
 use crate::admission::Admission;
 use crate::output::Output;
@@ -41,10 +43,11 @@ pub const STACK_PAGES: usize = 4;
 const STACK_END: u64 = 0x4000_0000;
 
 impl Machine {
-    /// The machine at its first instruction: the image's pages, a stack of four pages, all registers 0 but
-    /// SP and PC. `plan` is the image's plan, and the reservation holds its pages and the stack's.
+    /// The machine at its first instruction: the image's pages, a stack of four pages, all
+    /// registers 0 but SP and PC. `plan` is the image's plan, and the reservation holds its pages
+    /// and the stack's.
     #[tactic(auto, unfolding(crate::specs::Machines::start_of))]
-    pub fn start(
+    pub(crate) fn start(
         alloc: Global,
         admission: &Admission<'_>,
         plan: &Plan,
@@ -85,7 +88,7 @@ impl Machine {
     }
 
     /// Lets it attempt at most `steps` instructions while it is running.
-    pub fn slice(&mut self, steps: u32)
+    pub(crate) fn slice(&mut self, steps: u32)
         ensures { self.new ≡ advance steps self.old }
     {
         let mut left = u64::from(steps);
@@ -94,7 +97,8 @@ impl Machine {
         }
     }
 
-    /// Runs to the next service, fault or end, or for `left` instructions; returns how many are left.
+    /// Runs to the next service, fault or end, or for `left` instructions; returns how many are
+    /// left.
     fn run_on(&mut self, left: u64) -> u64
         requires some { 0 < left }
         requires running { is_running self.old.account.status ≡ true }
@@ -165,7 +169,7 @@ impl Machine {
 
     /// Stops it where it is running.
     #[tactic(auto, unfolding(crate::specs::Machines::halted))]
-    pub fn halt(&mut self)
+    pub(crate) fn halt(&mut self)
         ensures { self.new ≡ halted self.old }
     {
         if self.is_running() {

@@ -28,7 +28,7 @@ impl Model for Output {
 
 impl Output {
     /// An empty output with room for `room` bytes.
-    pub fn new(alloc: Global, room: u32) -> Result<Output, AllocError>
+    pub(crate) fn new(alloc: Global, room: u32) -> Result<Output, AllocError>
         ensures { IfOk result (λ output. output ≡ record { bytes = []; left = room }) }
     {
         let bytes = vec![in alloc; 0; room as usize]?;
@@ -50,7 +50,7 @@ impl Output {
     }
 
     /// Appends the bytes at an address by one checked read, or none where it fails.
-    pub fn append_from<M: Tagged>(
+    pub(crate) fn append_from<M: Tagged>(
         &mut self,
         memory: &mut M,
         addr: u64,

@@ -1,5 +1,8 @@
 -- Texts cut at separators, and numbers read digit by digit.
-use Rattle.std.proofs.Common.{◌≡◌, ℕ, suc, ◌+◌, ◌-◌, ◌*◌, ◌^◌, ◌<◌, ◌≤◌, ◌==◌, ◌&&◌, nat_le, Bool, true, false, List, [], ◌∷◌, ◌++◌, length, take, drop, get_or, Option, Some, None, Result, Ok, Err, IfSome, IsNone, nat_lt, append_assoc, refl, ap, sym, ◌∙◌, arith, add-one, length-drop}
+use Rattle.std.proofs.Common.{◌≡◌, ℕ, suc, ◌+◌, ◌-◌, ◌*◌, ◌^◌, ◌<◌, ◌≤◌, ◌==◌, ◌&&◌, nat_le, Bool}
+use Rattle.std.proofs.Common.{true, false, List, [], ◌∷◌, ◌++◌, length, take, drop, get_or, Option}
+use Rattle.std.proofs.Common.{Some, None, Result, Ok, Err, IfSome, IsNone, nat_lt, append_assoc}
+use Rattle.std.proofs.Common.{refl, ap, sym, ◌∙◌, arith, add-one, length-drop}
 use Rattle.std.specs.List.{list_all}
 use Rattle.std.proofs.lemmas.List.{drop_more, nil_from_length, take_all, append-nil}
 use Rattle.std.specs.Borrow.{Bor}
@@ -10,7 +13,8 @@ use Rattle.mte_script.specs.declared.error.ScriptFault.{ScriptFault}
 use Rattle.mte_script.specs.declared.error.ScriptFault.TheVariants.{TooManyEvents}
 use Rattle.mte_script.specs.declared.error.ScriptError.{ScriptError}
 use Rattle.mte_script.specs.Faults.{IsLineFault, IsFirstFault}
-use Rattle.mte_script.specs.Scripts.{after_event, events_from, event_of_line, read_on, pieces_at, piece_len_of, words_of, digits_value, is_digit}
+use Rattle.mte_script.specs.Scripts.{after_event, events_from, event_of_line, read_on, pieces_at}
+use Rattle.mte_script.specs.Scripts.{piece_len_of, words_of, digits_value, is_digit}
 
 -- how much of a text is left to cut
 abbrev pub measure_of : Option (Bor (List ℕ)) → ℕ

@@ -2,7 +2,8 @@
 use Rattle.std.specs.Prelude.{◌≡◌, ℕ, List, codes, Option, Some, None, Result, Ok, Err}
 use Rattle.mte_script.specs.declared.event.Event.{Event}
 use Rattle.mte_script.specs.declared.error.ScriptFault.{ScriptFault}
-use Rattle.mte_script.specs.declared.error.ScriptFault.TheVariants.{Syntax, BadNumber, NoSuchFile, TooManyEvents}
+use Rattle.mte_script.specs.declared.error.ScriptFault.TheVariants.{Syntax, BadNumber, NoSuchFile}
+use Rattle.mte_script.specs.declared.error.ScriptFault.TheVariants.{TooManyEvents}
 use Rattle.mte_script.specs.declared.error.ScriptError.{ScriptError}
 use Rattle.mte_script.specs.declared.error.ScriptError.TheVariants.{Script}
 

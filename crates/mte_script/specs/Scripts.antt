@@ -1,5 +1,7 @@
 -- Scripts: lines of words, a line an event.
-use Rattle.std.specs.Prelude.{ℕ, ◌+◌, ◌-◌, ◌*◌, ◌^◌, ◌==◌, nat_lt, nat_le, nat_eq, ◌&&◌, ◌||◌, Bool, true, false, List, [], ◌∷◌, length, slice_index_or, filter, codes, Option, Some, None, Result, Ok, Err, if◌then◌else◌, option_map}
+use Rattle.std.specs.Prelude.{ℕ, ◌+◌, ◌-◌, ◌*◌, ◌^◌, ◌==◌, nat_lt, nat_le, nat_eq, ◌&&◌, ◌||◌, Bool}
+use Rattle.std.specs.Prelude.{true, false, List, [], ◌∷◌, length, slice_index_or, filter, codes}
+use Rattle.std.specs.Prelude.{Option, Some, None, Result, Ok, Err, if◌then◌else◌, option_map}
 use Rattle.std.specs.List.{list_all, starts_with}
 use Rattle.std.specs.Int.{from_be_bytes, w64}
 use Rattle.hex.specs.Hex.{decode_sized}
@@ -9,7 +11,8 @@ use Rattle.mte_script.specs.declared.event.Event.TheVariants as event
 use Rattle.mte_script.specs.declared.grammar.Line.{Line}
 use Rattle.mte_script.specs.declared.grammar.Line.TheVariants as raw
 use Rattle.mte_script.specs.declared.error.ScriptFault.{ScriptFault}
-use Rattle.mte_script.specs.declared.error.ScriptFault.TheVariants.{Syntax, BadNumber, NoSuchFile, TooManyEvents}
+use Rattle.mte_script.specs.declared.error.ScriptFault.TheVariants.{Syntax, BadNumber, NoSuchFile}
+use Rattle.mte_script.specs.declared.error.ScriptFault.TheVariants.{TooManyEvents}
 
 abbrev pub onto_first : ℕ → List (List ℕ) → List (List ℕ)
 onto_first b [] = (b ∷ []) ∷ []
@@ -18,7 +21,9 @@ onto_first b (piece ∷ more) = (b ∷ piece) ∷ more
 -- the pieces of a text between separators, empty ones too
 unfoldable pub pieces_at : ℕ → List ℕ → List (List ℕ)
 pieces_at separator [] = [] ∷ []
-pieces_at separator (b ∷ more) = if b == separator then [] ∷ pieces_at separator more else onto_first b (pieces_at separator more)
+pieces_at separator (b ∷ more) =
+    if b == separator then [] ∷ pieces_at separator more
+    else onto_first b (pieces_at separator more)
 
 -- how long the first piece is
 unfoldable pub piece_len_of : ℕ → List ℕ → ℕ
@@ -47,7 +52,9 @@ digits_value (d ∷ more) = (d - 48) * 10 ^ length more + digits_value more
 
 -- the number of 1 to 10 decimal digits
 unfoldable pub decimal_of : List ℕ → Option ℕ
-decimal_of word = if nat_lt 0 (length word) && nat_le (length word) 10 && list_all is_digit word then Some (digits_value word) else None
+decimal_of word =
+    if nat_lt 0 (length word) && nat_le (length word) 10 && list_all is_digit word
+    then Some (digits_value word) else None
 
 abbrev pub seed_by : Result (List ℕ) FromHexError → Option ℕ
 seed_by (Ok bytes) = Some (from_be_bytes w64 bytes)
@@ -69,26 +76,31 @@ slice_by (Some id) None = None
 slice_by None steps = None
 
 abbrev pub admit_by : Option ℕ → Option ℕ → Option ℕ → Option ℕ → Option ℕ → Option ℕ → Option Line
-admit_by (Some id) (Some image) (Some input) (Some seed) (Some frames) (Some room) = Some (raw.Admit id image input seed frames room)
-admit_by (Some id) (Some image) (Some input) (Some seed) (Some frames) None = None
+admit_by (Some id) (Some image) (Some input) (Some seed) (Some pages) (Some room) =
+    Some (raw.Admit id image input seed pages room)
+admit_by (Some id) (Some image) (Some input) (Some seed) (Some pages) None = None
 admit_by (Some id) (Some image) (Some input) (Some seed) None room = None
-admit_by (Some id) (Some image) (Some input) None frames room = None
-admit_by (Some id) (Some image) None seed frames room = None
-admit_by (Some id) None input seed frames room = None
-admit_by None image input seed frames room = None
+admit_by (Some id) (Some image) (Some input) None pages room = None
+admit_by (Some id) (Some image) None seed pages room = None
+admit_by (Some id) None input seed pages room = None
+admit_by None image input seed pages room = None
 
 -- `stop ID`, `slice ID STEPS`, and `admit ID image I input J seed HEX16 frames R out O`
 unfoldable pub stop_line : List ℕ → List ℕ → Option Line
 stop_line verb id = if is_word verb (codes "stop") then stop_by (decimal_of id) else None
 
 unfoldable pub slice_line : List ℕ → List ℕ → List ℕ → Option Line
-slice_line verb id steps = if is_word verb (codes "slice") then slice_by (decimal_of id) (decimal_of steps) else None
+slice_line verb id steps =
+    if is_word verb (codes "slice") then slice_by (decimal_of id) (decimal_of steps) else None
 
-unfoldable pub admit_line : List ℕ → List ℕ → List ℕ → List ℕ → List ℕ → List ℕ → List ℕ → List ℕ → List ℕ → List ℕ → List ℕ → List ℕ → Option Line
-admit_line verb id image_word image input_word input seed_word seed frames_word frames out_word out =
-    if is_word verb (codes "admit") && is_word image_word (codes "image") && is_word input_word (codes "input")
-    && is_word seed_word (codes "seed") && is_word frames_word (codes "frames") && is_word out_word (codes "out")
-    then admit_by (decimal_of id) (decimal_of image) (decimal_of input) (seed_of seed) (decimal_of frames) (decimal_of out)
+unfoldable pub admit_line : List ℕ → List ℕ → List ℕ → List ℕ → List ℕ → List ℕ
+    → List ℕ → List ℕ → List ℕ → List ℕ → List ℕ → List ℕ → Option Line
+admit_line verb id image_word image input_word input seed_word seed frames_word pages out_word out =
+    if is_word verb (codes "admit") && is_word image_word (codes "image")
+    && is_word input_word (codes "input") && is_word seed_word (codes "seed")
+    && is_word frames_word (codes "frames") && is_word out_word (codes "out")
+    then admit_by (decimal_of id) (decimal_of image) (decimal_of input)
+    (seed_of seed) (decimal_of pages) (decimal_of out)
     else None
 
 abbrev pub nth : List (List ℕ) → ℕ → List ℕ
@@ -100,8 +112,9 @@ line_of words =
     if length words == 2 then stop_line (nth words 0) (nth words 1)
     else (if length words == 3 then slice_line (nth words 0) (nth words 1) (nth words 2)
     else (if length words == 12
-    then admit_line (nth words 0) (nth words 1) (nth words 2) (nth words 3) (nth words 4) (nth words 5)
-    (nth words 6) (nth words 7) (nth words 8) (nth words 9) (nth words 10) (nth words 11)
+    then admit_line (nth words 0) (nth words 1) (nth words 2) (nth words 3)
+    (nth words 4) (nth words 5) (nth words 6) (nth words 7)
+    (nth words 8) (nth words 9) (nth words 10) (nth words 11)
     else None))
 
 abbrev pub first_fault_of : List (Bool × ScriptFault) → Option ScriptFault
@@ -114,14 +127,18 @@ event_or (Some fault) e = Err fault
 
 -- a line's event, or the first limit that it breaks; so many files are there
 unfoldable pub limited_of : ℕ → Line → Result Event ScriptFault
-limited_of files (raw.Stop id) = event_or (first_fault_of ((nat_lt 65535 id, BadNumber) ∷ [])) (event.Stop id)
-limited_of files (raw.Slice id steps) = event_or (first_fault_of ((nat_lt 65535 id, BadNumber) ∷ (nat_lt 1048576 steps, BadNumber) ∷ [])) (event.Slice id steps)
-limited_of files (raw.Admit id image input seed frames room) = event_or
+limited_of files (raw.Stop id) =
+    event_or (first_fault_of ((nat_lt 65535 id, BadNumber) ∷ [])) (event.Stop id)
+limited_of files (raw.Slice id steps) = event_or
+    (first_fault_of ((nat_lt 65535 id, BadNumber) ∷ (nat_lt 1048576 steps, BadNumber) ∷ []))
+    (event.Slice id steps)
+limited_of files (raw.Admit id image input seed pages room) = event_or
     (first_fault_of (
-    (nat_lt 65535 id, BadNumber) ∷ (nat_lt 4294967295 image, BadNumber) ∷ (nat_lt 4294967295 input, BadNumber)
-    ∷ (nat_lt 4294967295 frames, BadNumber) ∷ (nat_lt 4294967295 room, BadNumber)
+    (nat_lt 65535 id, BadNumber)
+    ∷ (nat_lt 4294967295 image, BadNumber) ∷ (nat_lt 4294967295 input, BadNumber)
+    ∷ (nat_lt 4294967295 pages, BadNumber) ∷ (nat_lt 4294967295 room, BadNumber)
     ∷ ((image == 0) || nat_lt files image || nat_lt files input, NoSuchFile) ∷ []))
-    (event.Admit id image input seed frames room)
+    (event.Admit id image input seed pages room)
 
 abbrev pub event_by : ℕ → Option Line → Result Event ScriptFault
 event_by files None = Err Syntax
@@ -131,28 +148,37 @@ abbrev pub starts_comment : List ℕ → Bool
 starts_comment [] = false
 starts_comment (b ∷ more) = b == 35
 
--- the event of a line, or what is wrong with it; lines without a word and lines whose first byte is `#` have none
+-- the event of a line, or what is wrong with it; lines without a word and lines whose first byte is
+-- `#` have none
 abbrev pub event_of_words : ℕ → List (List ℕ) → Option (Result Event ScriptFault)
 event_of_words files [] = None
 event_of_words files (word ∷ more) = Some (event_by files (line_of (word ∷ more)))
 
 unfoldable pub event_of_line : ℕ → List ℕ → Option (Result Event ScriptFault)
-event_of_line files line = if starts_comment line then None else event_of_words files (words_of line)
+event_of_line files line =
+    if starts_comment line then None else event_of_words files (words_of line)
 
-abbrev pub after_event : Event → Result (List Event) (ℕ × ScriptFault) → Result (List Event) (ℕ × ScriptFault)
+-- A script's events, or its first faulty line and its first fault.
+abbrev pub Parsed : Type 0
+Parsed = Result (List Event) (ℕ × ScriptFault)
+
+abbrev pub after_event : Event → Parsed → Parsed
 after_event e (Ok more) = Ok (e ∷ more)
 after_event e (Err fault) = Err fault
 
 -- n is the line's number, and k events stand before it: a script has at most 10000
-abbrev pub read_on : Option (Result Event ScriptFault) → ℕ → ℕ → Result (List Event) (ℕ × ScriptFault) → Result (List Event) (ℕ × ScriptFault) → Result (List Event) (ℕ × ScriptFault)
+abbrev pub read_on : Option (Result Event ScriptFault) → ℕ → ℕ → Parsed → Parsed → Parsed
 read_on None n k skipped taken = skipped
 read_on (Some (Err fault)) n k skipped taken = Err (n, fault)
-read_on (Some (Ok e)) n k skipped taken = if nat_lt k 10000 then after_event e taken else Err (n, TooManyEvents)
+read_on (Some (Ok e)) n k skipped taken =
+    if nat_lt k 10000 then after_event e taken else Err (n, TooManyEvents)
 
-unfoldable pub events_from : ℕ → List (List ℕ) → ℕ → ℕ → Result (List Event) (ℕ × ScriptFault)
+unfoldable pub events_from : ℕ → List (List ℕ) → ℕ → ℕ → Parsed
 events_from files [] n k = Ok []
-events_from files (line ∷ more) n k = read_on (event_of_line files line) n k (events_from files more (n + 1) k) (events_from files more (n + 1) (k + 1))
+events_from files (line ∷ more) n k = read_on (event_of_line files line) n k
+    (events_from files more (n + 1) k) (events_from files more (n + 1) (k + 1))
 
--- a script's events, or the number of its first faulty line and its first fault; so many files are there
-unfoldable pub script_events : ℕ → List ℕ → Result (List Event) (ℕ × ScriptFault)
+-- a script's events, or the number of its first faulty line and its first fault; so many files are
+-- there
+unfoldable pub script_events : ℕ → List ℕ → Parsed
 script_events files script = events_from files (lines_of script) 1 0

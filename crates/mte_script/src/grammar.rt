@@ -1,7 +1,8 @@
 //! The event of a line's words.
 
 ghost use Rattle.std.specs.Prelude.{◌≡◌, length, map};
-ghost use Rattle.mte_script.specs.Scripts.{event_by, line_of, decimal_of, seed_of, stop_line, slice_line, admit_by, limited_of};
+ghost use Rattle.mte_script.specs.Scripts.{event_by, line_of, decimal_of, seed_of, stop_line};
+ghost use Rattle.mte_script.specs.Scripts.{slice_line, admit_by, limited_of};
 ghost use Rattle.mte_script.specs.Words.{admission_of};
 
 use crate::error::ScriptFault;

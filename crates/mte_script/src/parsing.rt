@@ -13,17 +13,19 @@ use std::alloc::Global;
 /// The most events of a script.
 const EVENT_LIMIT: usize = 10_000;
 
-/// Reads a script: lines ended by LF, which the last may lack; in a line words separated by one or more
-/// spaces. Lines without a word and lines whose first byte is `#` are skipped. `files` are those that an
-/// event may name, the first being number 1.
+/// Reads a script: lines ended by LF, which the last may lack; in a line words separated by one or
+/// more spaces. Lines without a word and lines whose first byte is `#` are skipped. `files` are
+/// those that an event may name, the first being number 1.
 pub fn parse_script(
     alloc: Global,
     script: &[u8],
     files: &[Vec<u8>],
 ) -> Result<Vec<Event>, ScriptError>
-    ensures events { IfOk result (λ events. script_events (length files.now) script.now ≡ Ok events.items) }
+    ensures events { IfOk result (λ events.
+        script_events (length files.now) script.now ≡ Ok events.items) }
     ensures fault { IfErr result (λ e.
-        (e ≡ ScriptError.OutOfMemory) ⊎ IsFirstFault (script_events (length files.now) script.now) e) }
+        (e ≡ ScriptError.OutOfMemory)
+        ⊎ IsFirstFault (script_events (length files.now) script.now) e) }
 {
     let mut events = Vec::new(alloc);
     let mut rest = Some(script);

@@ -1,15 +1,18 @@
 //! Texts cut at separators, and the numbers of words.
 
-ghost use Rattle.std.specs.Prelude.{◌≡◌, ◌∷◌, [], ◌<◌, ◌≤◌, length, map, IfOk, IfErr, IfSome, IsNone, true};
+ghost use Rattle.std.specs.Prelude.{◌≡◌, ◌∷◌, [], ◌<◌, ◌≤◌, length, map, IfOk, IfErr, IfSome};
+ghost use Rattle.std.specs.Prelude.{IsNone, true};
 ghost use Rattle.std.specs.List.{list_all};
-ghost use Rattle.mte_script.specs.Scripts.{words_of, pieces_at, piece_len_of, decimal_of, digits_value, seed_of, is_word, is_digit};
+ghost use Rattle.mte_script.specs.Scripts.{words_of, pieces_at, piece_len_of, decimal_of};
+ghost use Rattle.mte_script.specs.Scripts.{digits_value, seed_of, is_word, is_digit};
 
 use crate::error::ScriptError;
 use std::alloc::Global;
 
 /// The part of a text before the first separator, and the text after it, if there is one.
 pub fn cut(text: &[u8], separator: u8) -> (&[u8], Option<&[u8]>)
-    ensures some { IfSome result.1 (λ rest. pieces_at separator text.now ≡ result.0.now ∷ pieces_at separator rest.now) }
+    ensures some { IfSome result.1 (λ rest.
+        pieces_at separator text.now ≡ result.0.now ∷ pieces_at separator rest.now) }
     ensures none { IsNone result.1 → pieces_at separator text.now ≡ result.0.now ∷ [] }
     ensures fewer { IfSome result.1 (λ rest. length rest.now < length text.now) }
 {

@@ -1,5 +1,7 @@
 -- Texts that are written in parts.
-use Rattle.std.proofs.Common.{◌≡◌, ℕ, ◌+◌, ◌<◌, List, [], ◌∷◌, ◌++◌, length, take, drop, get_or, map, Result, Ok, Err, refl, ap, sym, ◌∙◌, arith, append_assoc, slice_index, ◌/◌, ◌%◌, codes}
+use Rattle.std.proofs.Common.{◌≡◌, ℕ, ◌+◌, ◌<◌, List, [], ◌∷◌, ◌++◌, length, take, drop, get_or}
+use Rattle.std.proofs.Common.{map, Result, Ok, Err, refl, ap, sym, ◌∙◌, arith, append_assoc}
+use Rattle.std.proofs.Common.{slice_index, ◌/◌, ◌%◌, codes}
 use Rattle.mte_session.specs.Report.{line, number_line, status_line, output_line, long_output_line}
 use Rattle.mte_sched.specs.declared.record.Record.{Record}
 use Rattle.std.specs.List.{concat}

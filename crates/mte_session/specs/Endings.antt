@@ -34,7 +34,8 @@ status_of Write = 6
 abbrev pub ending_text : Ending → List ℕ
 ending_text Done = []
 ending_text (Script number fault) =
-    concat (codes "mte_host: script line " ∷ decimal number ∷ codes ": " ∷ fault_name fault ∷ codes "\n" ∷ [])
+    concat (codes "mte_host: script line " ∷ decimal number ∷ codes ": "
+    ∷ fault_name fault ∷ codes "\n" ∷ [])
 ending_text Memory = concat (codes "mte_host: out of memory\n" ∷ [])
 ending_text (Read name) = concat (codes "mte_host: cannot read " ∷ name.now ∷ codes "\n" ∷ [])
 ending_text Write = concat (codes "mte_host: cannot write\n" ∷ [])

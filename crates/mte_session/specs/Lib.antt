@@ -1,4 +1,5 @@
 pub mod Parts
+pub mod Files
 pub mod Report
 pub mod Sessions
 pub mod Outcomes

@@ -4,9 +4,12 @@ use Rattle.std.specs.List.{concat}
 use Rattle.std.specs.Int.{to_be_bytes, w32, w64}
 use Rattle.hex.specs.Hex.{encode_lower}
 use Rattle.mte_tags.specs.declared.access.FaultKind.{FaultKind}
-use Rattle.mte_tags.specs.declared.access.FaultKind.TheVariants.{Translation, Permission, TagCheck, Alignment, SpAlignment, PcAlignment}
+use Rattle.mte_tags.specs.declared.access.FaultKind.TheVariants.{Translation, Permission, TagCheck}
+use Rattle.mte_tags.specs.declared.access.FaultKind.TheVariants.{Alignment, SpAlignment}
+use Rattle.mte_tags.specs.declared.access.FaultKind.TheVariants.{PcAlignment}
 use Rattle.mte_sched.specs.declared.record.Status.{Status}
-use Rattle.mte_sched.specs.declared.record.Status.TheVariants.{Running, Exited, Faulted, Illegal, Breakpoint, Stopped}
+use Rattle.mte_sched.specs.declared.record.Status.TheVariants.{Running, Exited, Faulted, Illegal}
+use Rattle.mte_sched.specs.declared.record.Status.TheVariants.{Breakpoint, Stopped}
 use Rattle.mte_sched.specs.declared.record.Record.{Record}
 
 -- Parts in a row, and the end of the line.
@@ -38,10 +41,14 @@ status_parts Running = codes "running" ∷ []
 status_parts (Exited n) = codes "exit " ∷ decimal n ∷ []
 status_parts Stopped = codes "stopped" ∷ []
 status_parts (Faulted f pc) =
-    codes "fault " ∷ kind_name f.kind ∷ codes " " ∷ access_name f.write ∷ codes " addr 0x" ∷ sixteen_digits f.addr
-    ∷ codes " ptr " ∷ decimal f.ptr_tag ∷ codes " mem " ∷ decimal f.mem_tag ∷ codes " pc 0x" ∷ sixteen_digits pc ∷ []
-status_parts (Illegal w pc) = codes "illegal 0x" ∷ eight_digits w ∷ codes " pc 0x" ∷ sixteen_digits pc ∷ []
-status_parts (Breakpoint n pc) = codes "break " ∷ decimal n ∷ codes " pc 0x" ∷ sixteen_digits pc ∷ []
+    codes "fault " ∷ kind_name f.kind ∷ codes " " ∷ access_name f.write
+    ∷ codes " addr 0x" ∷ sixteen_digits f.addr
+    ∷ codes " ptr " ∷ decimal f.ptr_tag ∷ codes " mem " ∷ decimal f.mem_tag
+    ∷ codes " pc 0x" ∷ sixteen_digits pc ∷ []
+status_parts (Illegal w pc) =
+    codes "illegal 0x" ∷ eight_digits w ∷ codes " pc 0x" ∷ sixteen_digits pc ∷ []
+status_parts (Breakpoint n pc) =
+    codes "break " ∷ decimal n ∷ codes " pc 0x" ∷ sixteen_digits pc ∷ []
 
 -- How many bytes were written, and which, if any.
 abbrev pub output_parts : List ℕ → List (List ℕ)
@@ -57,10 +64,12 @@ status_line s = line (codes "status " ∷ status_parts s)
 abbrev pub output_line : List ℕ → List ℕ
 output_line bytes = line (codes "output " ∷ output_parts bytes)
 
--- The line of an output with some bytes, as it is written: what stands before the digits, these, the end.
+-- The line of an output with some bytes, as it is written: what stands before the digits, these,
+-- the end.
 abbrev pub long_output_line : List ℕ → List ℕ
 long_output_line bytes =
-    concat (codes "output " ∷ decimal (length bytes) ∷ codes " " ∷ []) ++ encode_lower bytes ++ concat (codes "\n" ∷ [])
+    concat (codes "output " ∷ decimal (length bytes) ∷ codes " " ∷ [])
+    ++ encode_lower bytes ++ concat (codes "\n" ∷ [])
 
 -- A tenant's lines, from `tenant` to `end`.
 unfoldable pub record_text : Record → List ℕ

@@ -21,7 +21,8 @@ prefix_of (refusal.Admit other) = []
 -- The line of a refused event.
 unfoldable pub refused_text : Refused → List ℕ
 refused_text r =
-    line (codes "refused " ∷ decimal r.event ∷ codes " " ∷ prefix_of r.refusal ∷ refusal_name r.refusal ∷ [])
+    line (codes "refused " ∷ decimal r.event ∷ codes " "
+    ∷ prefix_of r.refusal ∷ refusal_name r.refusal ∷ [])
 
 abbrev pub refused_texts : List Refused → List ℕ
 refused_texts refused = concat (map refused_text refused)

@@ -25,8 +25,8 @@ pub enum Ending<'a> {
     Write,
 }
 
-/// Writes the line for standard error, if there is one, and returns the exit status, whether or not the
-/// line could be written: 0 done, 3 script, 4 memory, 5 read, 6 write.
+/// Writes the line for standard error, if there is one, and returns the exit status, whether or not
+/// the line could be written: 0 done, 3 script, 4 memory, 5 read, 6 write.
 pub fn finish<W: Sink>(ending: &Ending<'_>, out: &mut W) -> u8
     ensures status { result ≡ status_of ending.now }
     ensures line { WroteAll (W.log out.old) (W.log out.new) (ending_text ending.now)
@@ -71,7 +71,8 @@ fn write_line<W: Sink>(ending: &Ending<'_>, out: &mut W) -> Result<(), WriteFaul
 }
 
 impl<'a> Ending<'a> {
-    /// The ending where a file cannot be read as a whole: `Memory` where an allocation failed, else `Read`.
+    /// The ending where a file cannot be read as a whole: `Memory` where an allocation failed, else
+    /// `Read`.
     pub fn of_read(fault: ReadFault, name: &'a str) -> Ending<'a>
         ensures { result ≡ read_ending fault name.entry }
     {

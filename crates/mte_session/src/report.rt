@@ -10,8 +10,8 @@ use itoa::Buffer;
 use mte_sched::Record;
 use mte_streams::{Sink, WriteFault};
 
-/// Writes a tenant's lines, from `tenant` to `end`. An error comes only where a write failed, and then a
-/// prefix of the lines was written.
+/// Writes a tenant's lines, from `tenant` to `end`. An error comes only where a write failed, and
+/// then a prefix of the lines was written.
 #[tactic(auto, unfolding(crate::specs::Report::record_text))]
 pub fn write_report<W: Sink>(tenant: &Record, out: &mut W) -> Result<(), WriteFault>
     ensures { Writes (W.log out.old) (W.log out.new) result (record_text tenant.now) }

@@ -1,9 +1,11 @@
 //! A session: a script in, its report out.
 
-ghost use Rattle.std.specs.Prelude.{◌≡◌, ◌⊎◌, [], ◌≤◌, map, OnOk, OnErr, IfOk, IfErr, Err, Some, None, IsTrue, ◌↔◌};
+ghost use Rattle.std.specs.Prelude.{◌≡◌, ◌⊎◌, [], ◌≤◌, map, OnOk, OnErr, IfOk, IfErr, Err, Some};
+ghost use Rattle.std.specs.Prelude.{None, IsTrue, ◌↔◌};
 ghost use Rattle.mte_streams.specs.Writing.{Writes};
 ghost use Rattle.mte_sched.specs.Events.{file_at, event_refusal, after_event, played, NeedsMemory};
 ghost use Rattle.mte_session.specs.declared.session.SessionError.TheVariants.{OutOfMemory};
+ghost use Rattle.mte_session.specs.Files.{contents};
 ghost use Rattle.mte_session.specs.Sessions.{refused_texts, session_report};
 ghost use Rattle.mte_session.specs.Outcomes.{session_error, Reported, Failed};
 
@@ -18,7 +20,8 @@ use thiserror::Error;
 /// Why a session has no whole report.
 #[derive(Clone, Copy, Debug, PartialEq, Eq, Error)]
 pub enum SessionError {
-    /// The script's first faulty line, counted from 1, and what is wrong with it; nothing was written.
+    /// The script's first faulty line, counted from 1, and what is wrong with it; nothing was
+    /// written.
     #[error("script line {0}: {1}")]
     Script(u64, ScriptFault),
     /// An allocation failed; nothing was written.
@@ -29,12 +32,12 @@ pub enum SessionError {
     Write,
 }
 
-/// Runs a script on a host of `frames` frames, 1 to 65536, and writes its report: a line for each refused
-/// event, then the lines of each admitted tenant.
+/// Runs a script on a host of `frames` frames, 1 to 65536, and writes its report: a line for each
+/// refused event, then the lines of each admitted tenant.
 ///
-/// On `Ok` the report was written, and nothing else; on `Write` a prefix of it, and a write failed. On
-/// `Script`, the script's first faulty line with its first fault, and on `OutOfMemory`, which comes only
-/// where an allocation failed, no write was made.
+/// On `Ok` the report was written, and nothing else; on `Write` a prefix of it, and a write failed.
+/// On `Script`, the script's first faulty line with its first fault, and on `OutOfMemory`, which
+/// comes only where an allocation failed, no write was made.
 pub fn run_session<W: Sink>(
     alloc: Global,
     frames: u32,
@@ -45,10 +48,10 @@ pub fn run_session<W: Sink>(
     requires some { 1 ≤ frames }
     requires few { frames ≤ 65536 }
     ensures done { OnOk result (Reported
-        (record { frames = frames; files = map (λ f. f.items) files.now; script = script.now })
+        (record { frames = frames; files = contents files.now; script = script.now })
         (W.log out.old) (W.log out.new)) }
     ensures failed { IfErr result (Failed
-        (record { frames = frames; files = map (λ f. f.items) files.now; script = script.now })
+        (record { frames = frames; files = contents files.now; script = script.now })
         (W.log out.old) (W.log out.new)) }
 {
     let events = parse_script(alloc, script, files)?;
@@ -89,7 +92,7 @@ fn run_events(
     files: &[Vec<u8>],
 ) -> Result<Vec<Refused>, SessionError>
     ensures played { IfOk result (λ refused.
-        played (map (λ f. f.items) files.now) (record { host = host.old; refused = [] }) events.now 1
+        played (contents files.now) (record { host = host.old; refused = [] }) events.now 1
         ≡ record { host = host.new; refused = refused.items }) }
     ensures memory { IfErr result (λ e. e ≡ SessionError.OutOfMemory) }
 {
@@ -119,15 +122,16 @@ fn is_out_of_memory(refusal: &Refusal) -> bool
     }
 }
 
-/// Executes one event. Only an admission's `OutOfMemory`, where an allocation failed, can come in place of
-/// its refusal or success.
+/// Executes one event. Only an admission's `OutOfMemory`, where an allocation failed, can come in
+/// place of its refusal or success.
 #[tactic(auto, unfolding(mte_sched::specs::Events::event_refusal, mte_sched::specs::Events::after_event))]
 fn play(alloc: Global, host: &mut Host, event: &Event, files: &[Vec<u8>]) -> Result<(), Refusal>
-    ensures accepted { OnOk result (event_refusal (map (λ f. f.items) files.now) host.old event.now ≡ None) }
-    ensures ok { OnOk result (host.new ≡ after_event (map (λ f. f.items) files.now) host.old event.now) }
+    ensures accepted { OnOk result (event_refusal (contents files.now) host.old event.now ≡ None) }
+    ensures ok { OnOk result (host.new ≡ after_event (contents files.now) host.old event.now) }
     ensures refused { IfErr result (λ r. (r ≡ Refusal.Admit AdmitError.OutOfMemory)
-        ⊎ (event_refusal (map (λ f. f.items) files.now) host.old event.now ≡ Some r)) }
-    ensures memory { (result ≡ Err (Refusal.Admit AdmitError.OutOfMemory)) → NeedsMemory host.old event.now }
+        ⊎ (event_refusal (contents files.now) host.old event.now ≡ Some r)) }
+    ensures memory { (result ≡ Err (Refusal.Admit AdmitError.OutOfMemory))
+        → NeedsMemory host.old event.now }
     ensures err { OnErr result (host.new ≡ host.old) }
 {
     match *event {
@@ -165,7 +169,7 @@ fn play(alloc: Global, host: &mut Host, event: &Event, files: &[Vec<u8>]) -> Res
 
 /// The bytes of a file by its number from 1; none for 0.
 fn file_of(files: &[Vec<u8>], number: u32) -> &[u8]
-    ensures { result.now ≡ file_at (map (λ f. f.items) files.now) number }
+    ensures { result.now ≡ file_at (contents files.now) number }
 {
     if number == 0 || number as usize > files.len() {
         return &[];

@@ -1,5 +1,7 @@
 -- Bytes and counts that are known, or not.
-use Rattle.std.proofs.Common.{◌≡◌, ℕ, ◌+◌, ◌<◌, List, [], ◌++◌, length, Option, Some, None, refl, ap, append_assoc, add_assoc, add-zero, true, false, if◌then◌else◌, ◌≢◌, ◌==◌, nat_lt}
+use Rattle.std.proofs.Common.{◌≡◌, ℕ, ◌+◌, ◌<◌, List, [], ◌++◌, length, Option, Some, None, refl}
+use Rattle.std.proofs.Common.{ap, append_assoc, add_assoc, add-zero, true, false, if◌then◌else◌}
+use Rattle.std.proofs.Common.{◌≢◌, ◌==◌, nat_lt}
 use Rattle.std.proofs.lemmas.List.{append-nil}
 use Rattle.std.proofs.lemmas.Bool.{lt-ltb, ne_eqb}
 use Rattle.mte_streams.specs.Known.{appended, counted, none_passed}

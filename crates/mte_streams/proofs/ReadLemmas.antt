@@ -1,8 +1,10 @@
 -- What a reader that gives a file in parts leaves.
-use Rattle.std.proofs.Common.{◌≡◌, ℕ, ◌+◌, ◌<◌, List, [], ◌++◌, length, take, Ok, refl, ap, sym, ◌∙◌, arith, ◌≢◌}
+use Rattle.std.proofs.Common.{◌≡◌, ℕ, ◌+◌, ◌<◌, List, [], ◌++◌, length, take, Ok, refl, ap, sym}
+use Rattle.std.proofs.Common.{◌∙◌, arith, ◌≢◌}
 use Rattle.mte_streams.specs.Known.{appended, counted}
 use Rattle.mte_streams.specs.Reading.{ReadLog, after_read, ReadAll, MadeAtMost}
-use Rattle.mte_streams.proofs.KnownLemmas.{appended-appended, appended-nil, counted-counted, counted-zero, none_counts, some_counts}
+use Rattle.mte_streams.proofs.KnownLemmas.{appended-appended, appended-nil, counted-counted}
+use Rattle.mte_streams.proofs.KnownLemmas.{counted-zero, none_counts, some_counts}
 
 -- So many reads gave these bytes; none failed, and none was the end.
 pub record Gave (old new : ReadLog) (bytes : List ℕ) (reads : ℕ) : Type 0 where

@@ -1,11 +1,13 @@
 -- What a text that is written in parts leaves.
-use Rattle.std.proofs.Common.{◌≡◌, ℕ, ◌+◌, ◌-◌, ◌<◌, ◌≤◌, List, [], length, take, drop, Ok, Err, ap, sym, ◌∙◌, arith, take-take, length-drop, length-take, ◌≢◌}
+use Rattle.std.proofs.Common.{◌≡◌, ℕ, ◌+◌, ◌-◌, ◌<◌, ◌≤◌, List, [], length, take, drop, Ok, Err, ap}
+use Rattle.std.proofs.Common.{sym, ◌∙◌, arith, take-take, length-drop, length-take, ◌≢◌}
 use Rattle.std.proofs.lemmas.List.{take-append-drop}
 use Rattle.std.proofs.Math.Seq.{take-add}
 use Rattle.mte_streams.specs.declared.error.StreamError.{StreamError}
 use Rattle.mte_streams.specs.Known.{appended, counted}
 use Rattle.mte_streams.specs.Writing.{WriteLog, WroteAll, WrotePart, after_write}
-use Rattle.mte_streams.proofs.KnownLemmas.{appended-appended, appended-nil, none_counts, some_counts}
+use Rattle.mte_streams.proofs.KnownLemmas.{appended-appended, appended-nil, none_counts}
+use Rattle.mte_streams.proofs.KnownLemmas.{some_counts}
 
 -- A write that fails after the first d bytes of a text.
 pub part_after : (old mid new : WriteLog) (text : List ℕ) (d : ℕ) (e : StreamError)

@@ -1,5 +1,6 @@
 -- Bytes and counts that are known, or not (None).
-use Rattle.std.specs.Prelude.{ℕ, ◌+◌, ◌==◌, nat_lt, ◌&&◌, Bool, List, ◌++◌, length, Option, option_map}
+use Rattle.std.specs.Prelude.{ℕ, ◌+◌, ◌==◌, nat_lt, ◌&&◌, Bool, List, ◌++◌, length, Option}
+use Rattle.std.specs.Prelude.{option_map}
 
 -- Known bytes, and more of them.
 abbrev pub appended : Option (List ℕ) → List ℕ → Option (List ℕ)

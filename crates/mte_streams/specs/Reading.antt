@@ -1,10 +1,11 @@
 -- What reads gave, where it is known (as std's Read means them).
-use Rattle.std.specs.Prelude.{◌≡◌, ℕ, ◌≤◌, ◌<◌, List, take, length, Option, None, Result, Ok, Err, if◌then◌else◌}
+use Rattle.std.specs.Prelude.{◌≡◌, ℕ, ◌≤◌, ◌<◌, List, take, length, Option, None, Result, Ok, Err}
+use Rattle.std.specs.Prelude.{if◌then◌else◌}
 use Rattle.mte_streams.specs.declared.error.StreamError.{StreamError}
 use Rattle.mte_streams.specs.Known.{appended, counted, none_passed}
 
--- The bytes that reads gave; how many reads were made; how many of them failed; and how many gave none of
--- some bytes that were asked for, which is the end.
+-- The bytes that reads gave; how many reads were made; how many of them failed; and how many gave
+-- none of some bytes that were asked for, which is the end.
 pub record ReadLog : Type 0 where
   pub given : Option (List ℕ)
   pub calls : Option ℕ
@@ -23,7 +24,8 @@ after_read log (Ok n) buffer = record {
   failures = log.failures;
   ends = counted log.ends (if none_passed n buffer then 1 else 0);
 }
-after_read log (Err e) buffer = record log { calls = counted log.calls 1; failures = counted log.failures 1 }
+after_read log (Err e) buffer =
+    record log { calls = counted log.calls 1; failures = counted log.failures 1 }
 
 -- The reader gave these bytes, and then its end.
 pub record ReadAll (old new : ReadLog) (bytes : List ℕ) : Type 0 where

@@ -1,11 +1,12 @@
 -- What writes took, where it is known (as std's Write means them).
-use Rattle.std.specs.Prelude.{◌≡◌, ℕ, List, ◌++◌, take, Option, None, Result, Ok, Err, if◌then◌else◌}
+use Rattle.std.specs.Prelude.{◌≡◌, ℕ, List, ◌++◌, take, Option, None, Result, Ok, Err}
+use Rattle.std.specs.Prelude.{if◌then◌else◌}
 use Rattle.mte_streams.specs.declared.error.StreamError.{StreamError}
 use Rattle.mte_streams.specs.declared.writing.WriteFault.{WriteFault}
 use Rattle.mte_streams.specs.Known.{appended, counted, none_passed}
 
--- The bytes that writes took; how many writes were made; and how many of them failed: returned an error, or
--- took none of some bytes.
+-- The bytes that writes took; how many writes were made; and how many of them failed: returned an
+-- error, or took none of some bytes.
 pub record WriteLog : Type 0 where
   pub taken : Option (List ℕ)
   pub calls : Option ℕ
@@ -22,7 +23,8 @@ after_write log (Ok n) bytes = record {
   calls = counted log.calls 1;
   failures = counted log.failures (if none_passed n bytes then 1 else 0);
 }
-after_write log (Err e) bytes = record log { calls = counted log.calls 1; failures = counted log.failures 1 }
+after_write log (Err e) bytes =
+    record log { calls = counted log.calls 1; failures = counted log.failures 1 }
 
 -- All of a text was written, and no write failed.
 pub record WroteAll (old new : WriteLog) (text : List ℕ) : Type 0 where

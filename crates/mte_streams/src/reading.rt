@@ -1,7 +1,8 @@
 //! Readers, and reading a whole file.
 
 ghost use Rattle.std.specs.Prelude.{◌≡◌, ◌≢◌, ◌≤◌, length, IfOk, IsErrOf, Err};
-ghost use Rattle.mte_streams.specs.Reading.{ReadLog, after_read, ReadAll, GaveMore, GaveAtMost, FailedOnce, NoneFailed, MadeAtMost};
+ghost use Rattle.mte_streams.specs.Reading.{ReadLog, after_read, ReadAll, GaveMore, GaveAtMost};
+ghost use Rattle.mte_streams.specs.Reading.{FailedOnce, NoneFailed, MadeAtMost};
 ghost use Rattle.mte_streams.specs.declared.reading.ReadFault.TheVariants.{OutOfMemory};
 
 use crate::error::StreamError;
@@ -13,8 +14,8 @@ pub trait Source {
     /// What its reads gave, as far as it is known: a file of the system says nothing.
     ghost log: { Self → ReadLog };
 
-    /// Reads some bytes into the start of the buffer, and returns how many. 0 is the end, or an empty
-    /// buffer.
+    /// Reads some bytes into the start of the buffer, and returns how many. 0 is the end, or an
+    /// empty buffer.
     fn read(&mut self, buffer: &mut [u8]) -> Result<usize, StreamError>
         ensures count { IfOk result (λ n. n ≤ length buffer.new) }
         ensures log { log self.new ≡ after_read (log self.old) result buffer.new };
@@ -42,14 +43,19 @@ pub enum ReadFault {
 
 /// Reads all bytes up to the end. It makes at most 16777217 reads, and none after one that failed.
 ///
-/// `TooLong` comes exactly where more than 16777216 bytes were given. What was read before an error stays
-/// read.
+/// `TooLong` comes exactly where more than 16777216 bytes were given. What was read before an error
+/// stays read.
 pub fn read_whole<R: Source>(alloc: Global, reader: &mut R) -> Result<Vec<u8>, ReadFault>
-    ensures whole { IfOk result (λ whole. ReadAll (R.log reader.old) (R.log reader.new) whole.items) }
-    ensures none_failed { (result ≢ Err ReadFault.Read) → NoneFailed (R.log reader.old) (R.log reader.new) }
-    ensures failed { IsErrOf result ReadFault.Read → FailedOnce (R.log reader.old) (R.log reader.new) }
-    ensures too_long { IsErrOf result ReadFault.TooLong → GaveMore (R.log reader.old) (R.log reader.new) FILE_LIMIT }
-    ensures within { (result ≢ Err ReadFault.TooLong) → GaveAtMost (R.log reader.old) (R.log reader.new) FILE_LIMIT }
+    ensures whole { IfOk result (λ whole.
+        ReadAll (R.log reader.old) (R.log reader.new) whole.items) }
+    ensures none_failed { (result ≢ Err ReadFault.Read)
+        → NoneFailed (R.log reader.old) (R.log reader.new) }
+    ensures failed { IsErrOf result ReadFault.Read
+        → FailedOnce (R.log reader.old) (R.log reader.new) }
+    ensures too_long { IsErrOf result ReadFault.TooLong
+        → GaveMore (R.log reader.old) (R.log reader.new) FILE_LIMIT }
+    ensures within { (result ≢ Err ReadFault.TooLong)
+        → GaveAtMost (R.log reader.old) (R.log reader.new) FILE_LIMIT }
     ensures calls { MadeAtMost (R.log reader.old) (R.log reader.new) 16777217 }
 {
     let mut whole = Vec::new(alloc);

@@ -1,4 +1,5 @@
-//! A writer in memory, which says all bytes that it took, and a reader that fails where a test wants it.
+//! A writer in memory, which says all bytes that it took, and a reader that fails where a test
+//! wants it.
 
 ghost use Rattle.std.specs.Prelude.{Some, None};
 ghost use Rattle.mte_streams.specs.Reading.{unknown_reads};

@@ -27,7 +27,8 @@ pub const HI: [u32; 9] = [
     0x00006948,
 ];
 
-/// Tags a granule of the stack, stores and loads through the tagged pointer, then through the untagged.
+/// Tags a granule of the stack, stores and loads through the tagged pointer, then through the
+/// untagged.
 pub const UNTAGGED: [u32; 7] = [
     0xD2A7FFE0, 0x91403000, 0x9ADF1001, 0xD9200821, 0xF9000021, 0xF9400022, 0xF9400002,
 ];

@@ -1,7 +1,9 @@
-use Rattle.std.proofs.Common.{◌≡◌, ◌+◌, ◌<◌, ◌≤◌, ◌++◌, ◌∷◌, [], length, arith, rules, refl, inl, inr}
+use Rattle.std.proofs.Common.{◌≡◌, ◌+◌, ◌<◌, ◌≤◌, ◌++◌, ◌∷◌, [], length, arith, rules, refl, inl}
+use Rattle.std.proofs.Common.{inr}
 use Rattle.std.proofs.lemmas.List.{length_push}
 use Rattle.mte_script.specs.Scripts.{script_events}
-use Rattle.mte_script.proofs.ScriptLemmas.{next_lines, fewer_left, unroll, line_fault, line_skipped, line_taken, line_over, script_end, behind_none}
+use Rattle.mte_script.proofs.ScriptLemmas.{next_lines, fewer_left, unroll, line_fault, line_skipped}
+use Rattle.mte_script.proofs.ScriptLemmas.{line_taken, line_over, script_end, behind_none}
 use Rattle.mte_script.proofs.parsing.parse_script.Goals as goal
 
 pub loop-rest-init : goal.loop-rest-init

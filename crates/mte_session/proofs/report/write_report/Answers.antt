@@ -1,7 +1,9 @@
 use Rattle.std.proofs.Common.{rules}
 use Rattle.mte_streams.specs.Writing.{WroteAll, WrotePart}
 use Rattle.mte_session.specs.Report.{record_text}
-use Rattle.mte_session.proofs.ReportLemmas.{err_writes, then_writes, then_part, then_all, part_more, line_1, line_2, line_3, line_4, line_5, line_6, lines_1, lines_2, lines_3, lines_4, lines_5}
+use Rattle.mte_session.proofs.ReportLemmas.{err_writes, then_writes, then_part, then_all, part_more}
+use Rattle.mte_session.proofs.ReportLemmas.{line_1, line_2, line_3, line_4, line_5, line_6, lines_1}
+use Rattle.mte_session.proofs.ReportLemmas.{lines_2, lines_3, lines_4, lines_5}
 use Rattle.mte_session.proofs.report.write_report.Goals as goal
 
 pub returns-in_err-write_number_line : goal.returns-in_err-write_number_line

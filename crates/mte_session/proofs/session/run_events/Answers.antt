@@ -2,7 +2,8 @@ use Rattle.std.proofs.Common.{◌≡◌, ◌+◌, ◌++◌, ◌∷◌, [], sym, 
 use Rattle.mte_sched.specs.declared.refusal.Refusal.TheVariants.{Admit}
 use Rattle.mte_sched.specs.declared.admission.AdmitError.TheVariants.{OutOfMemory}
 use Rattle.mte_session.proofs.SessionLemmas.{played_accepted, played_refused, played_end, not_first}
-use Rattle.mte_session.proofs.session.run_events.Goals.{in-Ok, in-Err+else-is_out_of_memory+in_ok-push-in-Err}
+use Rattle.mte_session.proofs.session.run_events.Goals.{in-Ok}
+use Rattle.mte_session.proofs.session.run_events.Goals.{in-Err+else-is_out_of_memory+in_ok-push-in-Err}
 use Rattle.mte_session.proofs.session.run_events.Goals as goal
 
 pub loop-before-preserved : goal.loop-before-preserved

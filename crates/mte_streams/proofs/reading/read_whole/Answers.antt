@@ -1,4 +1,5 @@
-use Rattle.std.proofs.Common.{◌≡◌, ◌∙◌, ap, drop, ◌≢◌, arith, rules, ◌≤◌, ◌+◌, length, take, length-take, length-append, ◌++◌}
+use Rattle.std.proofs.Common.{◌≡◌, ◌∙◌, ap, drop, ◌≢◌, arith, rules, ◌≤◌, ◌+◌, length, take}
+use Rattle.std.proofs.Common.{length-take, length-append, ◌++◌}
 use Rattle.std.proofs.lemmas.List.{take-append-le}
 use Rattle.mte_streams.specs.Reading.{ReadLog}
 use Rattle.mte_streams.proofs.ReadLemmas.{gave_more, one_more_read}
