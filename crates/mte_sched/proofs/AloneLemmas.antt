@@ -21,7 +21,7 @@ use Rattle.mte_sched.specs.Events.{event_refusal, after_event, played, played_on
 use Rattle.mte_sched.specs.Alone.{Own, Sliced, Halted, alone, own_by, own_events, next_host}
 use Rattle.mte_sched.specs.Alone.{HasMachine, TenantIsAlone}
 
--- a list of tests whose last fails
+-- A list of tests whose last fails.
 pub last_fails : (a b c d e : Option AdmitError) (r : AdmitError) → first_of (a ∷ b ∷ c ∷ d ∷ e ∷ Some r ∷ []) ≡ None → ⊥
 last_fails (Some x) b c d e r h = cc
 last_fails None (Some x) c d e r h = cc
@@ -44,7 +44,7 @@ pub mapped_none : (o : Option AdmitError) → option_map refusal.Admit o ≡ Non
 mapped_none None h = refl
 mapped_none (Some x) h = cc
 
--- the host has the tenant with another machine
+-- The host has the tenant with another machine.
 pub record Has (h : Host) (m : Machine) : Type 0 where
   pub tenant : Tenant
   pub there : h.tenant ≡ Some tenant
@@ -64,7 +64,7 @@ alone-append m [] ys = refl
 alone-append m (Sliced n ∷ xs) ys = alone-append (advance n m) xs ys
 alone-append m (Halted ∷ xs) ys = alone-append (halted m) xs ys
 
--- the first event of a session, before the others
+-- The first event of a session, before the others.
 pub next_is_alone : (files : List (List ℕ)) (more : List Event) (h : Host) (t : Tenant) (e : Event) (refused : List Refused) (n : ℕ) (r : Option Refusal)
     → Has (next_host r files h e) (alone t.machine (own_by r e))
     → ((t2 : Tenant) (refused2 : List Refused) → (next_host r files h e).tenant ≡ Some t2

@@ -28,7 +28,7 @@ left_le (suc n) r m =
     let h = left_goes (step_of r m).outcome n (run_of n (step_of r m).regs (step_of r m).memory) (record { regs = (step_of r m).regs; memory = (step_of r m).memory; stop = record { outcome = Some (step_of r m).outcome; left = n } }) (left_le n (step_of r m).regs (step_of r m).memory) refl in
     omega arith
 
--- a run of some steps uses one
+-- A run of some steps uses one.
 pub left_lt : (n : ℕ) (r : Regs) (m : Memory) → 0 < n → (run_of n r m).stop.left < n
 unfolding run_of
 left_lt zero r m some = absurd (omega arith)
@@ -36,12 +36,12 @@ left_lt (suc n) r m some =
     let h = left_goes (step_of r m).outcome n (run_of n (step_of r m).regs (step_of r m).memory) (record { regs = (step_of r m).regs; memory = (step_of r m).memory; stop = record { outcome = Some (step_of r m).outcome; left = n } }) (left_le n (step_of r m).regs (step_of r m).memory) refl in
     omega arith
 
--- what stopped a run, if anything did, is met
+-- What stopped a run, if anything did, is met.
 abbrev pub met_if : Option Outcome → Machine → Machine
 met_if None m = m
 met_if (Some o) m = met o m
 
--- the machine after a run of at most n steps
+-- The machine after a run of at most n steps.
 abbrev pub after_run : ℕ → Ran → Machine → Machine
 after_run n ran m = met_if ran.stop.outcome (counted_on (n - ran.stop.left) (record m { regs = ran.regs; memory = ran.memory }))
 
@@ -73,13 +73,13 @@ run_advances zero m running few =
 run_advances (suc n) m running few =
     step_advances n m (step_of m.regs m.memory).outcome refl running few (λ k r f. run_advances n k r f)
 
--- a machine that isn't running stays as it is
+-- A machine that is not running stays as it is.
 pub advance-ended : (n : ℕ) (m : Machine) → is_running m.account.status ≡ false → advance n m ≡ m
 unfolding advance
 advance-ended zero m ended = refl
 advance-ended (suc n) m ended = rw ended refl
 
--- the same, of what the code has in hand
+-- The same, of what the code has in hand.
 pub after_some : (n : ℕ) (m new : Machine) (stop : Stop) (r : Regs) (mem : Memory) (o : Outcome) (steps : ℕ)
     → stop ≡ (run_of n m.regs m.memory).stop → r ≡ (run_of n m.regs m.memory).regs → mem ≡ (run_of n m.regs m.memory).memory
     → stop.outcome ≡ Some o → steps ≡ min (m.account.steps + (n - stop.left)) 18446744073709551615
@@ -107,7 +107,7 @@ pub left-no_pages : (n : ℕ) → pages_left (no_pages n) ≡ n
 unfolding pages_left no_pages
 left-no_pages n = omega (arith, finite.len-empty nat_cmp Page)
 
--- the first memory, by the steps that make it
+-- The first memory, by the steps that make it.
 pub first_memory_by : (image : List ℕ) (pages : ℕ) (empty loaded stacked : Memory) → empty ≡ no_pages pages
     → loaded ≡ with_segments image empty (segments_of image) → stacked ≡ with_new_pages loaded 0x3FFFC 4 (record { 0 = 11 }) → stacked ≡ first_memory image pages
 unfolding first_memory

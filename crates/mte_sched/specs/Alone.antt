@@ -11,18 +11,18 @@ use Rattle.mte_sched.specs.declared.refusal.Refused.{Refused}
 use Rattle.mte_sched.specs.Machines.{advance, halted}
 use Rattle.mte_sched.specs.Events.{event_refusal, after_event, played}
 
--- what may happen to a machine
+-- What may happen to a machine.
 pub data Own : Type 0 where
   Sliced : ℕ → Own
   Halted : Own
 
--- a machine after its own events
+-- A machine after its own events.
 unfoldable pub alone : Machine → List Own → Machine
 alone m [] = m
 alone m (Sliced n ∷ more) = alone (advance n m) more
 alone m (Halted ∷ more) = alone (halted m) more
 
--- an accepted event as the tenant's own: an admission is none
+-- An accepted event as the tenant's own: an admission is none.
 abbrev pub own_by : Option Refusal → Event → List Own
 own_by (Some r) e = []
 own_by None (event.Admit id image input seed frames room) = []
@@ -33,7 +33,7 @@ abbrev pub next_host : Option Refusal → List (List ℕ) → Host → Event →
 next_host (Some r) files h e = h
 next_host None files h e = after_event files h e
 
--- the tenant's own events among those of a session: its accepted slices and its stop
+-- The tenant's own events among those of a session: its accepted slices and its stop.
 unfoldable pub own_events : List (List ℕ) → Host → List Event → List Own
 own_events files h [] = []
 own_events files h (e ∷ more) = own_by (event_refusal files h e) e
@@ -43,7 +43,7 @@ abbrev pub HasMachine : Option Tenant → Machine → Type 0
 HasMachine None m = ⊥
 HasMachine (Some t) m = t.machine ≡ m
 
--- whatever the events are, the tenant that a host has is its machine alone after its own events
+-- Whatever the events are, the tenant that a host has is its machine alone after its own events.
 abbrev pub TenantIsAlone : Type 0
 TenantIsAlone =
     (files : List (List ℕ)) (events : List Event) (h : Host) (t : Tenant)

@@ -10,7 +10,7 @@ use Rattle.mte_sched.specs.declared.host.Host.{Host}
 use Rattle.mte_sched.specs.declared.host.Tenant.{Tenant}
 use Rattle.mte_sched.specs.Machines.{start_of, advance, halted}
 
--- a reservation's pages, and one more than them for its tables
+-- A reservation's pages, and one more than them for its tables.
 abbrev pub charge_of : ℕ → ℕ
 charge_of pages = 2 * pages + 1
 
@@ -18,7 +18,7 @@ abbrev pub charged_for : Option Tenant → ℕ
 charged_for None = 0
 charged_for (Some t) = if t.live then charge_of t.pages else 0
 
--- how many frames live tenants are charged
+-- How many frames live tenants are charged.
 abbrev pub charged : Host → ℕ
 charged h = charged_for h.tenant
 
@@ -33,7 +33,7 @@ has_live_id (Some t) id = t.live && (t.machine.account.id == id)
 abbrev pub is_live : Host → ℕ → Bool
 is_live h id = has_live_id h.tenant id
 
--- the first refusal of a list of tests
+-- The first refusal of a list of tests.
 abbrev pub first_of : List (Option AdmitError) → Option AdmitError
 first_of [] = None
 first_of (Some e ∷ more) = Some e
@@ -42,11 +42,11 @@ first_of (None ∷ more) = first_of more
 abbrev pub when : Bool → AdmitError → Option AdmitError
 when test e = if test then Some e else None
 
--- a reservation is 1 to 512 pages, and the room at most 65536 bytes
+-- A reservation is 1 to 512 pages, and the room at most 65536 bytes.
 abbrev pub is_bad : ℕ → ℕ → Bool
 is_bad pages room = (pages == 0) || nat_lt 512 pages || nat_lt 65536 room
 
--- why an admission is refused, if it is
+-- Why an admission is refused, if it is.
 unfoldable pub admission_refusal : Host → ℕ → List ℕ → ℕ → ℕ → Option AdmitError
 admission_refusal h id image pages room = first_of (
     when (has_id h.tenant id) Duplicate
@@ -70,7 +70,7 @@ abbrev pub tenant_sliced : ℕ → Option Tenant → Option Tenant
 tenant_sliced steps None = None
 tenant_sliced steps (Some t) = Some (record t { machine = advance steps t.machine })
 
--- its tenant has attempted at most so many more instructions
+-- Its tenant has attempted at most `steps` more instructions.
 unfoldable pub sliced : Host → ℕ → Host
 sliced h steps = record h { tenant = tenant_sliced steps h.tenant }
 

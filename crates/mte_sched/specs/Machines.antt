@@ -24,8 +24,8 @@ is_running other = false
 abbrev pub with_status : Machine → Status → Machine
 with_status m s = record m { account = record m.account { status = s } }
 
--- all registers are 0 but SP and PC; the seed's low 16 bits are RGSR_EL1.SEED, the next four
--- RGSR_EL1.TAG
+-- All registers are 0 but SP and PC; the seed's low 16 bits are RGSR_EL1.SEED, the next four
+-- RGSR_EL1.TAG.
 unfoldable pub first_registers : ℕ → ℕ → Regs
 first_registers entry seed = record {
   x = replicate 31 0;
@@ -35,7 +35,7 @@ first_registers entry seed = record {
   rgsr = record { tag = seed / 65536 % 16; seed = seed % 65536 };
 }
 
--- the pages of an image and four pages for a stack, of a reservation of so many
+-- The pages of an image and four pages for a stack, of a reservation of `pages`.
 unfoldable pub first_memory : List ℕ → ℕ → Memory
 first_memory image pages =
     with_new_pages (with_segments image (no_pages pages) (segments_of image)) 0x3FFFC 4
@@ -54,13 +54,13 @@ start_of id image seed pages room = record {
   memory = first_memory image pages;
 }
 
--- a service answers in x0, and the tenant goes on behind the SVC
+-- A service returns its result in x0, and the tenant resumes after the SVC.
 unfoldable pub answered : Machine → ℕ → Machine
 answered m value = record m {
   regs = record m.regs { x = slice_set m.regs.x 0 value; pc = (m.regs.pc + 4) % 2 ^ 56 };
 }
 
--- n bytes at x0 are appended by one checked read, which may fault
+-- The n bytes at x0 are appended by one checked read, which may fault.
 abbrev pub wrote_by : Option MemFault → Machine → ℕ → Machine
 wrote_by (Some fault) m n = with_status m (Faulted fault m.regs.pc)
 wrote_by None m n = answered
@@ -74,7 +74,7 @@ wrote_by None m n = answered
     })
     n
 
--- write: x1 bytes, or as many as there is room for
+-- Write: x1 bytes, or as many as there is room for.
 abbrev pub write_count : Machine → ℕ
 write_count m = min (slice_index m.regs.x 1) m.account.output.left
 
@@ -82,14 +82,14 @@ unfoldable pub wrote : Machine → Machine
 wrote m =
     wrote_by (read_fault m.memory (slice_index m.regs.x 0) (write_count m) true) m (write_count m)
 
--- a service, by x8: 0 exit, 1 write; another number answers 2^64 - 1
+-- A service, by x8: 0 exit, 1 write; another number returns 2^64 - 1.
 unfoldable pub served : Machine → Machine
 served m =
     if slice_index m.regs.x 8 == 0 then with_status m (Exited (slice_index m.regs.x 0 % 256))
     else (if slice_index m.regs.x 8 == 1 then wrote m
     else answered m 18446744073709551615)
 
--- what an instruction's outcome makes of the machine
+-- What an instruction's outcome makes of the machine.
 unfoldable pub met : Outcome → Machine → Machine
 met outcome.Next m = m
 met outcome.Svc m = served m
@@ -97,13 +97,13 @@ met (outcome.Fault fault) m = with_status m (Faulted fault m.regs.pc)
 met (outcome.Illegal word) m = with_status m (Illegal word m.regs.pc)
 met (outcome.Breakpoint number) m = with_status m (Breakpoint number m.regs.pc)
 
--- so many more instructions were attempted; the count stops at 2^64 - 1
+-- After n more attempted instructions; the count stops at 2^64 - 1.
 abbrev pub counted_on : ℕ → Machine → Machine
 counted_on n m = record m {
   account = record m.account { steps = min (m.account.steps + n) 18446744073709551615 };
 }
 
--- one attempted instruction
+-- One attempted instruction.
 unfoldable pub attempted : Machine → Machine
 attempted m = met (step_of m.regs m.memory).outcome
     (counted_on 1 (record m {
@@ -111,11 +111,11 @@ attempted m = met (step_of m.regs m.memory).outcome
       memory = (step_of m.regs m.memory).memory;
     }))
 
--- at most n attempted instructions, while it is running
+-- At most n attempted instructions, while it is running.
 unfoldable pub advance : ℕ → Machine → Machine
 advance zero m = m
 advance (suc n) m = if is_running m.account.status then advance n (attempted m) else m
 
--- stopped where it is running
+-- Stopped where it is running.
 unfoldable pub halted : Machine → Machine
 halted m = if is_running m.account.status then with_status m Stopped else m

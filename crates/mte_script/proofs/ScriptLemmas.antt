@@ -16,7 +16,7 @@ use Rattle.mte_script.specs.Faults.{IsLineFault, IsFirstFault}
 use Rattle.mte_script.specs.Scripts.{after_event, events_from, event_of_line, read_on, pieces_at}
 use Rattle.mte_script.specs.Scripts.{piece_len_of, words_of, digits_value, is_digit}
 
--- how much of a text is left to cut
+-- How much of a text is left to cut.
 abbrev pub measure_of : Option (Bor (List ℕ)) → ℕ
 measure_of None = 0
 measure_of (Some text) = 1 + length text.now
@@ -65,7 +65,7 @@ cut_step separator b more false e rest below =
     let t = piece_len_of separator more in
     rw (e, inner, add-one t, add-one (suc t)) refl
 
--- a text with a separator is the piece before it and the pieces behind it
+-- A text with a separator is the piece before it and the pieces after it.
 pub cut_at : (separator : ℕ) (text : List ℕ) → piece_len_of separator text < length text
     → pieces_at separator text ≡ take (piece_len_of separator text) text ∷ pieces_at separator (drop (piece_len_of separator text + 1) text)
 cut_at separator [] below = absurd (omega arith)
@@ -81,13 +81,13 @@ whole_step separator b more false e rest over =
     let inner = rest (omega arith) in
     rw (e, inner) refl
 
--- a text without one is its only piece
+-- A text without one is its only piece.
 pub whole_at : (separator : ℕ) (text : List ℕ) → length text ≤ piece_len_of separator text → pieces_at separator text ≡ text ∷ []
 unfolding pieces_at
 whole_at separator [] over = refl
 whole_at separator (b ∷ more) over = whole_step separator b more (b == separator) refl (whole_at separator more) over
 
--- the same, of what the code has in hand
+-- The same, of what the code has in hand.
 pub cut_some : (separator : ℕ) (text : List ℕ) (end : ℕ) → end ≡ piece_len_of separator text → end < length text
     → pieces_at separator text ≡ take end text ∷ pieces_at separator (take (length text - (end + 1)) (drop (end + 1) text))
 cut_some separator text end same below =
@@ -104,7 +104,7 @@ cut_none separator text end same over = whole_at separator text (omega arith)
 pub ring_step : (v x p r w : ℕ) → v * (p * 10) + (x * p + r) ≡ w → (v * 10 + x) * p + r ≡ w
 ring_step v x p r w h = grind arith
 
--- one more digit of a number
+-- One more digit of a number.
 pub value_step : (word : List ℕ) (i d value : ℕ) → i < length word
     → value * 10 ^ (length word - i) + digits_value (drop i word) ≡ digits_value word
     → (value * 10 + (get_or word i d - 48)) * 10 ^ (length word - (i + 1)) + digits_value (drop (i + 1) word) ≡ digits_value word
@@ -144,7 +144,7 @@ abbrev pub lines_left : Option (Bor (List ℕ)) → List (List ℕ)
 lines_left None = []
 lines_left (Some text) = pieces_at 10 text.now
 
--- events in front of what the rest of a script gives
+-- Events before what the rest of a script gives.
 abbrev pub behind : List Event → Result (List Event) (ℕ × ScriptFault) → Result (List Event) (ℕ × ScriptFault)
 behind events (Ok more) = Ok (events ++ more)
 behind events (Err fault) = Err fault
@@ -167,14 +167,14 @@ pub fewer_left : (text : Bor (List ℕ)) (more : Option (Bor (List ℕ))) → If
 fewer_left text None h = omega arith
 fewer_left text (Some rest) h = let k : length rest.now < length text.now = h in omega arith
 
--- the first line of what is left of a script
+-- The first line of what is left of a script.
 pub unroll : (files n k : ℕ) (events : List Event) (text line : List ℕ) (more : Option (Bor (List ℕ))) (all : Result (List Event) (ℕ × ScriptFault))
     → pieces_at 10 text ≡ line ∷ lines_left more → behind events (events_from files (pieces_at 10 text) n k) ≡ all
     → behind events (read_on (event_of_line files line) n k (events_from files (lines_left more) (n + 1) k) (events_from files (lines_left more) (n + 1) (k + 1))) ≡ all
 unfolding events_from
 unroll files n k events text line more all e h = rw e at h
 
--- a line's fault is the script's first
+-- A line's fault is the script's first.
 pub line_fault : (n k : ℕ) (events : List Event) (o : Option (Result Event ScriptFault)) (x y all : Result (List Event) (ℕ × ScriptFault)) (error : ScriptError)
     → behind events (read_on o n k x y) ≡ all → IsLineFault n o error → IsFirstFault all error
 line_fault n k events None x y all error h bad = absurd bad

@@ -1,4 +1,4 @@
--- Scripts: lines of words, a line an event.
+-- Scripts: lines of words, one event per line.
 use Rattle.std.specs.Prelude.{ℕ, ◌+◌, ◌-◌, ◌*◌, ◌^◌, ◌==◌, nat_lt, nat_le, nat_eq, ◌&&◌, ◌||◌, Bool}
 use Rattle.std.specs.Prelude.{true, false, List, [], ◌∷◌, length, slice_index_or, filter, codes}
 use Rattle.std.specs.Prelude.{Option, Some, None, Result, Ok, Err, if◌then◌else◌, option_map}
@@ -18,19 +18,19 @@ abbrev pub onto_first : ℕ → List (List ℕ) → List (List ℕ)
 onto_first b [] = (b ∷ []) ∷ []
 onto_first b (piece ∷ more) = (b ∷ piece) ∷ more
 
--- the pieces of a text between separators, empty ones too
+-- The pieces of a text between separators, empty ones too.
 unfoldable pub pieces_at : ℕ → List ℕ → List (List ℕ)
 pieces_at separator [] = [] ∷ []
 pieces_at separator (b ∷ more) =
     if b == separator then [] ∷ pieces_at separator more
     else onto_first b (pieces_at separator more)
 
--- how long the first piece is
+-- How long the first piece is.
 unfoldable pub piece_len_of : ℕ → List ℕ → ℕ
 piece_len_of separator [] = 0
 piece_len_of separator (b ∷ more) = if b == separator then 0 else piece_len_of separator more + 1
 
--- the words of a line: what stands between spaces
+-- The words of a line: what stands between spaces.
 abbrev pub is_some_text : List ℕ → Bool
 is_some_text [] = false
 is_some_text (b ∷ more) = true
@@ -38,19 +38,19 @@ is_some_text (b ∷ more) = true
 abbrev pub words_of : List ℕ → List (List ℕ)
 words_of line = filter is_some_text (pieces_at 32 line)
 
--- the lines of a script: what stands between LFs
+-- The lines of a script: what stands between LFs.
 abbrev pub lines_of : List ℕ → List (List ℕ)
 lines_of script = pieces_at 10 script
 
 abbrev pub is_digit : ℕ → Bool
 is_digit b = nat_le 48 b && nat_le b 57
 
--- the number of some decimal digits: each times its power of ten
+-- The number of some decimal digits: each times its power of ten.
 unfoldable pub digits_value : List ℕ → ℕ
 digits_value [] = 0
 digits_value (d ∷ more) = (d - 48) * 10 ^ length more + digits_value more
 
--- the number of 1 to 10 decimal digits
+-- The number of 1 to 10 decimal digits.
 unfoldable pub decimal_of : List ℕ → Option ℕ
 decimal_of word =
     if nat_lt 0 (length word) && nat_le (length word) 10 && list_all is_digit word
@@ -60,7 +60,7 @@ abbrev pub seed_by : Result (List ℕ) FromHexError → Option ℕ
 seed_by (Ok bytes) = Some (from_be_bytes w64 bytes)
 seed_by (Err e) = None
 
--- the number of 16 hexadecimal digits of either case
+-- The number of 16 hexadecimal digits of either case.
 unfoldable pub seed_of : List ℕ → Option ℕ
 seed_of word = seed_by (decode_sized word 8)
 
@@ -85,7 +85,7 @@ admit_by (Some id) (Some image) None seed pages room = None
 admit_by (Some id) None input seed pages room = None
 admit_by None image input seed pages room = None
 
--- `stop ID`, `slice ID STEPS`, and `admit ID image I input J seed HEX16 frames R out O`
+-- `stop ID`, `slice ID STEPS`, and `admit ID image I input J seed HEX16 frames R out O`.
 unfoldable pub stop_line : List ℕ → List ℕ → Option Line
 stop_line verb id = if is_word verb (codes "stop") then stop_by (decimal_of id) else None
 
@@ -106,7 +106,7 @@ admit_line verb id image_word image input_word input seed_word seed frames_word 
 abbrev pub nth : List (List ℕ) → ℕ → List ℕ
 nth words i = slice_index_or words i []
 
--- the line that some words are, if they are one
+-- The line that some words are, if they are one.
 unfoldable pub line_of : List (List ℕ) → Option Line
 line_of words =
     if length words == 2 then stop_line (nth words 0) (nth words 1)
@@ -125,7 +125,7 @@ abbrev pub event_or : Option ScriptFault → Event → Result Event ScriptFault
 event_or None e = Ok e
 event_or (Some fault) e = Err fault
 
--- a line's event, or the first limit that it breaks; so many files are there
+-- A line's event, or the first limit that it breaks; `files` is how many files there are.
 unfoldable pub limited_of : ℕ → Line → Result Event ScriptFault
 limited_of files (raw.Stop id) =
     event_or (first_fault_of ((nat_lt 65535 id, BadNumber) ∷ [])) (event.Stop id)
@@ -148,8 +148,8 @@ abbrev pub starts_comment : List ℕ → Bool
 starts_comment [] = false
 starts_comment (b ∷ more) = b == 35
 
--- the event of a line, or what is wrong with it; lines without a word and lines whose first byte is
--- `#` have none
+-- The event of a line, or what is wrong with it; lines without a word and lines whose first byte is
+-- `#` have none.
 abbrev pub event_of_words : ℕ → List (List ℕ) → Option (Result Event ScriptFault)
 event_of_words files [] = None
 event_of_words files (word ∷ more) = Some (event_by files (line_of (word ∷ more)))
@@ -158,7 +158,7 @@ unfoldable pub event_of_line : ℕ → List ℕ → Option (Result Event ScriptF
 event_of_line files line =
     if starts_comment line then None else event_of_words files (words_of line)
 
--- A script's events, or its first faulty line and its first fault.
+-- What a script is: its events, or its first faulty line and its first fault.
 abbrev pub Parsed : Type 0
 Parsed = Result (List Event) (ℕ × ScriptFault)
 
@@ -166,7 +166,7 @@ abbrev pub after_event : Event → Parsed → Parsed
 after_event e (Ok more) = Ok (e ∷ more)
 after_event e (Err fault) = Err fault
 
--- n is the line's number, and k events stand before it: a script has at most 10000
+-- The line's number is n, and k events stand before it: a script has at most 10000.
 abbrev pub read_on : Option (Result Event ScriptFault) → ℕ → ℕ → Parsed → Parsed → Parsed
 read_on None n k skipped taken = skipped
 read_on (Some (Err fault)) n k skipped taken = Err (n, fault)
@@ -178,7 +178,7 @@ events_from files [] n k = Ok []
 events_from files (line ∷ more) n k = read_on (event_of_line files line) n k
     (events_from files more (n + 1) k) (events_from files more (n + 1) (k + 1))
 
--- a script's events, or the number of its first faulty line and its first fault; so many files are
--- there
+-- A script's events, or the number of its first faulty line and its first fault; `files` is how many
+-- files there are.
 unfoldable pub script_events : ℕ → List ℕ → Parsed
 script_events files script = events_from files (lines_of script) 1 0

@@ -41,7 +41,7 @@ played_text p = session_report p.host p.refused
 abbrev pub new_host : ℕ → Host
 new_host frames = record { frames = frames; tenant = None }
 
--- The report of events on a new host of so many frames.
+-- The report of events on a new host of `frames` frames.
 unfoldable pub session_text : ℕ → List (List ℕ) → List Event → List ℕ
 session_text frames files events =
     played_text (played files (record { host = new_host frames; refused = [] }) events 1)
