@@ -2,10 +2,10 @@
 
 ghost use Rattle.std.specs.Prelude.{◌≡◌, ◌≤◌};
 
-use crate::streams::write_all;
 use crate::system::SystemSink;
 use clap::error::ErrorKind;
 use clap::{Arg, ArgAction, ArgMatches, Command, Error, value_parser};
+use mte_session::write_all;
 use std::alloc::{AllocError, Global};
 use std::{env, io};
 
@@ -22,55 +22,55 @@ pub struct CommandLine {
     ghost few: { frames ≤ 65536 },
 }
 
-/// What a command line asks for.
+/// What a command line requests.
 #[derive(Debug, Drop)]
-pub enum Asked {
+pub enum Invocation {
     /// A session.
     Run(CommandLine),
-    /// Help or a fault, which was printed; the exit status.
-    Answered(u8),
-    /// An allocation was refused.
+    /// Nothing more: help or a usage fault was printed. The exit status.
+    Exit(u8),
+    /// An allocation failed.
     OutOfMemory,
 }
 
 /// Reads the process's arguments; prints the help, or what is wrong with them.
-pub fn read_command_line(rt: &HostRuntime) -> Asked {
+pub fn read_command_line(rt: &HostRuntime) -> Invocation {
     let args = match env::args(rt) {
         Ok(args) => args,
-        Err(error) => return unread(rt, &error),
+        Err(error) => return report_unreadable(rt, &error),
     };
     let Ok(words) = args.collect::<Vec<String>>(rt.alloc()) else {
-        return Asked::OutOfMemory;
+        return Invocation::OutOfMemory;
     };
     match parse(rt.alloc(), words.as_slice()) {
-        Ok(Some(line)) => Asked::Run(line),
-        Ok(None) => Asked::OutOfMemory,
-        Err(error) => answer(rt, &error),
+        Ok(Some(line)) => Invocation::Run(line),
+        Ok(None) => Invocation::OutOfMemory,
+        Err(error) => print_text(rt, &error),
     }
 }
 
-/// What is answered where the arguments can't be read: for want of memory, or since one isn't text.
-fn unread(rt: &HostRuntime, error: &io::Error) -> Asked {
+/// How to exit if the arguments cannot be read: out of memory, or not UTF-8.
+fn report_unreadable(rt: &HostRuntime, error: &io::Error) -> Invocation {
     if error.kind() == io::ErrorKind::OutOfMemory {
-        return Asked::OutOfMemory;
+        return Invocation::OutOfMemory;
     }
     let _ = write_all(
         &mut SystemSink(rt.stderr()),
         b"mte_host: an argument is not text\n",
     );
-    Asked::Answered(2)
+    Invocation::Exit(2)
 }
 
-/// Prints what `clap` answers.
-fn answer(rt: &HostRuntime, error: &Error) -> Asked {
+/// Prints the text of `clap`.
+fn print_text(rt: &HostRuntime, error: &Error) -> Invocation {
     if error.kind() == ErrorKind::OutOfMemory {
-        return Asked::OutOfMemory;
+        return Invocation::OutOfMemory;
     }
     let _ = error.print(rt);
-    Asked::Answered(if error.use_stderr() { 2 } else { 0 })
+    Invocation::Exit(if error.use_stderr() { 2 } else { 0 })
 }
 
-/// Reads the words of a command line; `None` where an allocation was refused.
+/// Reads the words of a command line; `None` where an allocation failed.
 fn parse(alloc: Global, words: &[String]) -> Result<Option<CommandLine>, Error> {
     let frames = Arg::new(alloc, "frames")
         .long("frames")
@@ -95,11 +95,11 @@ fn parse(alloc: Global, words: &[String]) -> Result<Option<CommandLine>, Error> 
         .arg(script)?
         .arg(files)?;
     let matches = command.try_get_matches_from(words)?;
-    Ok(taken(alloc, &matches).ok())
+    Ok(command_line_of(alloc, &matches).ok())
 }
 
-/// The values of a command line that `clap` took.
-fn taken(alloc: Global, matches: &ArgMatches<'_>) -> Result<CommandLine, AllocError> {
+/// The values of a command line that `clap` accepted.
+fn command_line_of(alloc: Global, matches: &ArgMatches<'_>) -> Result<CommandLine, AllocError> {
     let frames = in_range(matches.get_one::<u32>("frames").unwrap_or(1));
     let script = String::from_str(alloc, matches.get_str("script").unwrap_or(""))?;
     let mut files = Vec::new(alloc);
@@ -115,7 +115,7 @@ fn taken(alloc: Global, matches: &ArgMatches<'_>) -> Result<CommandLine, AllocEr
     })
 }
 
-/// A number of frames that the option's range has let pass, so it is answered as it is.
+/// A number of frames that the option's range has let pass, so it is returned as it is.
 fn in_range(frames: u32) -> u32
     ensures same { 1 ≤ frames → frames ≤ 65536 → result ≡ frames }
     ensures some { 1 ≤ result }

@@ -1,44 +1,29 @@
 //! `mte_host --frames N SCRIPT FILE...`: runs a script of tenants and prints its report.
 #![tactic(auto)]
 
-mod admission;
 mod command_line;
-mod ending;
-mod host;
-mod isolation;
-mod machine;
-mod output;
-mod record;
-mod report;
-mod script;
-mod session;
-mod streams;
 mod system;
-#[cfg(test)]
-mod tests;
 
-use command_line::{Asked, CommandLine, read_command_line};
-use ending::{Ending, finish};
-use session::{SessionError, run_session};
+use command_line::{CommandLine, Invocation, read_command_line};
+use mte_session::{Ending, finish, read_whole, run_session};
 use std::fs::File;
 use std::process::ExitCode;
-use streams::{ReadFault, read_whole};
 use system::{SystemSink, SystemSource};
 
 fn main(rt: HostRuntime) -> ExitCode {
     match read_command_line(&rt) {
-        Asked::Run(line) => {
+        Invocation::Run(line) => {
             let ending = run(&rt, &line);
             ExitCode::from(finish(&ending, &mut SystemSink(rt.stderr())))
         }
-        Asked::Answered(status) => ExitCode::from(status),
-        Asked::OutOfMemory => {
+        Invocation::Exit(status) => ExitCode::from(status),
+        Invocation::OutOfMemory => {
             ExitCode::from(finish(&Ending::Memory, &mut SystemSink(rt.stderr())))
         }
     }
 }
 
-/// Reads the script and the files in turn, runs the session, and tells how it ended.
+/// Reads the script and the files in order, runs the session, and returns how it ended.
 fn run<'a>(rt: &HostRuntime, line: &'a CommandLine) -> Ending<'a> {
     let script = match read_file(rt, line.script.as_str()) {
         Ok(bytes) => bytes,
@@ -63,20 +48,14 @@ fn run<'a>(rt: &HostRuntime, line: &'a CommandLine) -> Ending<'a> {
         &mut out,
     ) {
         Ok(()) => Ending::Done,
-        Err(SessionError::Script(number, fault)) => Ending::Script(number, fault),
-        Err(SessionError::OutOfMemory) => Ending::Memory,
-        Err(SessionError::Write) => Ending::Write,
+        Err(error) => Ending::from(error),
     }
 }
 
-/// All bytes of a file, or how the program ends for want of them.
+/// All bytes of a file, or how the program ends where it cannot be read.
 fn read_file<'a>(rt: &HostRuntime, name: &'a str) -> Result<Vec<u8>, Ending<'a>> {
     let Ok(file) = File::open(rt, name) else {
         return Err(Ending::Read(name));
     };
-    match read_whole(rt.alloc(), &mut SystemSource(file)) {
-        Ok(bytes) => Ok(bytes),
-        Err(ReadFault::OutOfMemory) => Err(Ending::Memory),
-        Err(_) => Err(Ending::Read(name)),
-    }
+    read_whole(rt.alloc(), &mut SystemSource(file)).map_err(|fault| Ending::of_read(fault, name))
 }

@@ -1,8 +1,9 @@
-//! Files and streams of the system. What they give and take isn't known to any contract.
+//! Files and streams of the system. What they give and take is not known to any contract.
 
-ghost use Rattle.std.specs.Prelude.{None};
+ghost use Rattle.mte_streams.specs.Reading.{unknown_reads};
+ghost use Rattle.mte_streams.specs.Writing.{unknown_writes};
 
-use crate::streams::{Sink, Source, StreamError};
+use mte_session::{Sink, Source, StreamError};
 use std::io::{Read, Write};
 
 /// A reader of the system.
@@ -10,13 +11,7 @@ use std::io::{Read, Write};
 pub struct SystemSource<R: Read + Drop>(pub R);
 
 impl<R: Read + Drop> Source for SystemSource<R> {
-    ghost given = { λ _. None };
-
-    ghost calls = { λ _. None };
-
-    ghost failures = { λ _. None };
-
-    ghost ends = { λ _. None };
+    ghost log = { λ _. unknown_reads };
 
     fn read(&mut self, buffer: &mut [u8]) -> Result<usize, StreamError> {
         self.0.read(buffer).map_err(|_| StreamError)
@@ -28,11 +23,7 @@ impl<R: Read + Drop> Source for SystemSource<R> {
 pub struct SystemSink<W: Write + Drop>(pub W);
 
 impl<W: Write + Drop> Sink for SystemSink<W> {
-    ghost taken = { λ _. None };
-
-    ghost calls = { λ _. None };
-
-    ghost failures = { λ _. None };
+    ghost log = { λ _. unknown_writes };
 
     fn write(&mut self, bytes: &[u8]) -> Result<usize, StreamError> {
         self.0.write(bytes).map_err(|_| StreamError)

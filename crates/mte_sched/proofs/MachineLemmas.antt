@@ -1,0 +1,114 @@
+-- A run of instructions between two services is as many attempted instructions.
+use Rattle.std.proofs.Common.{◌≡◌, ℕ, zero, suc, ◌+◌, ◌-◌, ◌<◌, ◌≤◌, min, true, false, Option, List}
+use Rattle.std.proofs.Common.{Some, None, refl, ap, arith}
+use Rattle.std.specs.FinMap as finite
+use Rattle.std.specs.Ordering.{nat_cmp}
+use Rattle.mte_tags.specs.Memory.{Memory, Page, pages_left, no_pages, with_new_pages}
+use Rattle.mte_elf.specs.Headers.{segments_of}
+use Rattle.mte_elf.specs.Loading.{with_segments}
+use Rattle.a64_step.specs.declared.registers.Regs.{Regs}
+use Rattle.a64_step.specs.declared.outcome.Outcome.{Outcome}
+use Rattle.a64_step.specs.declared.outcome.Outcome.TheVariants as outcome
+use Rattle.a64_step.specs.declared.outcome.Stop.{Stop}
+use Rattle.a64_step.specs.Steps.{step_of, run_of, Ran, goes_on}
+use Rattle.mte_sched.specs.declared.machine.Machine.{Machine}
+use Rattle.mte_sched.specs.Machines.{is_running, met, counted_on, attempted, advance, first_memory}
+
+pub left_goes : (o : Outcome) (n : ℕ) (more stopped : Ran) → more.stop.left ≤ n → stopped.stop.left ≡ n → (goes_on o more stopped).stop.left ≤ n
+left_goes outcome.Next n more stopped h e = h
+left_goes outcome.Svc n more stopped h e = omega arith
+left_goes (outcome.Fault f) n more stopped h e = omega arith
+left_goes (outcome.Illegal w) n more stopped h e = omega arith
+left_goes (outcome.Breakpoint k) n more stopped h e = omega arith
+
+pub left_le : (n : ℕ) (r : Regs) (m : Memory) → (run_of n r m).stop.left ≤ n
+unfolding run_of
+left_le zero r m = omega arith
+left_le (suc n) r m =
+    let h = left_goes (step_of r m).outcome n (run_of n (step_of r m).regs (step_of r m).memory) (record { regs = (step_of r m).regs; memory = (step_of r m).memory; stop = record { outcome = Some (step_of r m).outcome; left = n } }) (left_le n (step_of r m).regs (step_of r m).memory) refl in
+    omega arith
+
+-- A run of some steps uses one.
+pub left_lt : (n : ℕ) (r : Regs) (m : Memory) → 0 < n → (run_of n r m).stop.left < n
+unfolding run_of
+left_lt zero r m some = absurd (omega arith)
+left_lt (suc n) r m some =
+    let h = left_goes (step_of r m).outcome n (run_of n (step_of r m).regs (step_of r m).memory) (record { regs = (step_of r m).regs; memory = (step_of r m).memory; stop = record { outcome = Some (step_of r m).outcome; left = n } }) (left_le n (step_of r m).regs (step_of r m).memory) refl in
+    omega arith
+
+-- What stopped a run, if anything did, is met.
+abbrev pub met_if : Option Outcome → Machine → Machine
+met_if None m = m
+met_if (Some o) m = met o m
+
+-- The machine after a run of at most n steps.
+abbrev pub after_run : ℕ → Ran → Machine → Machine
+after_run n ran m = met_if ran.stop.outcome (counted_on (n - ran.stop.left) (record m { regs = ran.regs; memory = ran.memory }))
+
+abbrev pub RunAdvances : ℕ → Machine → Type 0
+RunAdvances n m = advance (run_of n m.regs m.memory).stop.left (after_run n (run_of n m.regs m.memory) m) ≡ advance n m
+
+pub step_advances : (n : ℕ) (m : Machine) (o : Outcome) → (step_of m.regs m.memory).outcome ≡ o → is_running m.account.status ≡ true → m.account.steps ≤ 18446744073709551615
+    → ((k : Machine) → is_running k.account.status ≡ true → k.account.steps ≤ 18446744073709551615 → RunAdvances n k)
+    → RunAdvances (suc n) m
+unfolding run_of advance attempted met
+step_advances n m outcome.Next e running few rest =
+    let s = step_of m.regs m.memory in
+    let next : Machine = counted_on 1 (record m { regs = s.regs; memory = s.memory }) in
+    let ran = run_of n s.regs s.memory in
+    let below : ran.stop.left ≤ n = left_le n s.regs s.memory in
+    let same : min (m.account.steps + (suc n - ran.stop.left)) 18446744073709551615 ≡ min (min (m.account.steps + 1) 18446744073709551615 + (n - ran.stop.left)) 18446744073709551615 = omega arith in
+    let rest_of_it = rest next running (omega arith) in
+    rw (e, running, same) rest_of_it
+step_advances n m outcome.Svc e running few rest = let one : suc n - n ≡ 1 = omega arith in rw (e, running, one) refl
+step_advances n m (outcome.Fault f) e running few rest = let one : suc n - n ≡ 1 = omega arith in rw (e, running, one) refl
+step_advances n m (outcome.Illegal w) e running few rest = let one : suc n - n ≡ 1 = omega arith in rw (e, running, one) refl
+step_advances n m (outcome.Breakpoint k) e running few rest = let one : suc n - n ≡ 1 = omega arith in rw (e, running, one) refl
+
+pub run_advances : (n : ℕ) (m : Machine) → is_running m.account.status ≡ true → m.account.steps ≤ 18446744073709551615 → RunAdvances n m
+unfolding run_of advance
+run_advances zero m running few =
+    let same : min (m.account.steps + (0 - 0)) 18446744073709551615 ≡ m.account.steps = omega arith in
+    ap (λ (k : ℕ). let z : Machine = record m { account = record m.account { steps = k } } in z) same
+run_advances (suc n) m running few =
+    step_advances n m (step_of m.regs m.memory).outcome refl running few (λ k r f. run_advances n k r f)
+
+-- A machine that is not running stays as it is.
+pub advance-ended : (n : ℕ) (m : Machine) → is_running m.account.status ≡ false → advance n m ≡ m
+unfolding advance
+advance-ended zero m ended = refl
+advance-ended (suc n) m ended = rw ended refl
+
+-- The same, of what the code has in hand.
+pub after_some : (n : ℕ) (m new : Machine) (stop : Stop) (r : Regs) (mem : Memory) (o : Outcome) (steps : ℕ)
+    → stop ≡ (run_of n m.regs m.memory).stop → r ≡ (run_of n m.regs m.memory).regs → mem ≡ (run_of n m.regs m.memory).memory
+    → stop.outcome ≡ Some o → steps ≡ min (m.account.steps + (n - stop.left)) 18446744073709551615
+    → new ≡ met o (record m { account = record m.account { steps = steps }; regs = r; memory = mem })
+    → is_running m.account.status ≡ true → m.account.steps ≤ 18446744073709551615 → advance stop.left new ≡ advance n m
+after_some n m new stop r mem o steps e_stop e_regs e_memory e_some e_steps e_new running few =
+    let h = run_advances n m running few in
+    let k = rw (← e_stop, ← e_regs, ← e_memory, e_some, ← e_steps) at h in
+    rw e_new k
+
+pub after_none : (n : ℕ) (m : Machine) (stop : Stop) (r : Regs) (mem : Memory) (steps : ℕ)
+    → stop ≡ (run_of n m.regs m.memory).stop → r ≡ (run_of n m.regs m.memory).regs → mem ≡ (run_of n m.regs m.memory).memory
+    → stop.outcome ≡ None → steps ≡ min (m.account.steps + (n - stop.left)) 18446744073709551615
+    → is_running m.account.status ≡ true → m.account.steps ≤ 18446744073709551615
+    → advance stop.left (record m { account = record m.account { steps = steps }; regs = r; memory = mem }) ≡ advance n m
+after_none n m stop r mem steps e_stop e_regs e_memory e_none e_steps running few =
+    let h = run_advances n m running few in
+    rw (← e_stop, ← e_regs, ← e_memory, e_none, ← e_steps) at h
+
+pub advance_none : (n : ℕ) (m : Machine) → n ≡ 0 → advance n m ≡ m
+unfolding advance
+advance_none n m none = rw none refl
+
+pub left-no_pages : (n : ℕ) → pages_left (no_pages n) ≡ n
+unfolding pages_left no_pages
+left-no_pages n = omega (arith, finite.len-empty nat_cmp Page)
+
+-- The first memory, by the steps that make it.
+pub first_memory_by : (image : List ℕ) (pages : ℕ) (empty loaded stacked : Memory) → empty ≡ no_pages pages
+    → loaded ≡ with_segments image empty (segments_of image) → stacked ≡ with_new_pages loaded 0x3FFFC 4 (record { 0 = 11 }) → stacked ≡ first_memory image pages
+unfolding first_memory
+first_memory_by image pages empty loaded stacked e_empty e_loaded e_stacked = rw (e_stacked, e_loaded, e_empty) refl

@@ -1,0 +1,82 @@
+-- The host of one tenant: what is refused, and what each accepted event makes of it.
+use Rattle.std.specs.Prelude.{ℕ, ◌+◌, ◌-◌, ◌*◌, ◌==◌, nat_lt, ◌&&◌, ◌||◌, Bool, true, false, List}
+use Rattle.std.specs.Prelude.{[], ◌∷◌, Option, Some, None, if◌then◌else◌, option_map, is_some}
+use Rattle.mte_elf.specs.Images.{refusal_of, pages_of}
+use Rattle.mte_sched.specs.declared.admission.AdmitError.{AdmitError}
+use Rattle.mte_sched.specs.declared.admission.AdmitError.TheVariants.{Duplicate, BadReservation}
+use Rattle.mte_sched.specs.declared.admission.AdmitError.TheVariants.{Image, ReservationTooSmall}
+use Rattle.mte_sched.specs.declared.admission.AdmitError.TheVariants.{NoFrames, TooManyLive}
+use Rattle.mte_sched.specs.declared.host.Host.{Host}
+use Rattle.mte_sched.specs.declared.host.Tenant.{Tenant}
+use Rattle.mte_sched.specs.Machines.{start_of, advance, halted}
+
+-- A reservation's pages, and one more than them for its tables.
+abbrev pub charge_of : ℕ → ℕ
+charge_of pages = 2 * pages + 1
+
+abbrev pub charged_for : Option Tenant → ℕ
+charged_for None = 0
+charged_for (Some t) = if t.live then charge_of t.pages else 0
+
+-- How many frames live tenants are charged.
+abbrev pub charged : Host → ℕ
+charged h = charged_for h.tenant
+
+abbrev pub has_id : Option Tenant → ℕ → Bool
+has_id None id = false
+has_id (Some t) id = t.machine.account.id == id
+
+abbrev pub has_live_id : Option Tenant → ℕ → Bool
+has_live_id None id = false
+has_live_id (Some t) id = t.live && (t.machine.account.id == id)
+
+abbrev pub is_live : Host → ℕ → Bool
+is_live h id = has_live_id h.tenant id
+
+-- The first refusal of a list of tests.
+abbrev pub first_of : List (Option AdmitError) → Option AdmitError
+first_of [] = None
+first_of (Some e ∷ more) = Some e
+first_of (None ∷ more) = first_of more
+
+abbrev pub when : Bool → AdmitError → Option AdmitError
+when test e = if test then Some e else None
+
+-- A reservation is 1 to 512 pages, and the room at most 65536 bytes.
+abbrev pub is_bad : ℕ → ℕ → Bool
+is_bad pages room = (pages == 0) || nat_lt 512 pages || nat_lt 65536 room
+
+-- Why an admission is refused, if it is.
+unfoldable pub admission_refusal : Host → ℕ → List ℕ → ℕ → ℕ → Option AdmitError
+admission_refusal h id image pages room = first_of (
+    when (has_id h.tenant id) Duplicate
+    ∷ when (is_bad pages room) BadReservation
+    ∷ option_map Image (refusal_of image)
+    ∷ when (nat_lt pages (pages_of image + 4)) ReservationTooSmall
+    ∷ when (nat_lt (h.frames - charged h) (charge_of pages)) NoFrames
+    ∷ when (is_some h.tenant) TooManyLive
+    ∷ [])
+
+unfoldable pub with_admitted : Host → ℕ → List ℕ → ℕ → ℕ → ℕ → Host
+with_admitted h id image seed pages room = record h {
+  tenant = Some (record {
+    machine = start_of id image seed pages room;
+    pages = pages;
+    live = true;
+  });
+}
+
+abbrev pub tenant_sliced : ℕ → Option Tenant → Option Tenant
+tenant_sliced steps None = None
+tenant_sliced steps (Some t) = Some (record t { machine = advance steps t.machine })
+
+-- Its tenant has attempted at most `steps` more instructions.
+unfoldable pub sliced : Host → ℕ → Host
+sliced h steps = record h { tenant = tenant_sliced steps h.tenant }
+
+abbrev pub tenant_stopped : Option Tenant → Option Tenant
+tenant_stopped None = None
+tenant_stopped (Some t) = Some (record t { machine = halted t.machine; live = false })
+
+unfoldable pub stopped : Host → Host
+stopped h = record h { tenant = tenant_stopped h.tenant }

@@ -1,0 +1,6 @@
+pub mod Outputs
+pub mod Machines
+pub mod Hosts
+pub mod Names
+pub mod Events
+pub mod Alone

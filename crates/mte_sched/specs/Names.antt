@@ -1,0 +1,37 @@
+-- The names of refusals in a report.
+use Rattle.std.specs.Prelude.{ℕ, List, codes}
+use Rattle.mte_elf.specs.declared.error.ElfError.{ElfError}
+use Rattle.mte_elf.specs.declared.error.ElfError.TheVariants as elf
+use Rattle.mte_sched.specs.declared.admission.AdmitError.{AdmitError}
+use Rattle.mte_sched.specs.declared.admission.AdmitError.TheVariants.{Duplicate, BadReservation}
+use Rattle.mte_sched.specs.declared.admission.AdmitError.TheVariants.{Image, ReservationTooSmall}
+use Rattle.mte_sched.specs.declared.admission.AdmitError.TheVariants.{NoFrames, TooManyLive}
+use Rattle.mte_sched.specs.declared.admission.AdmitError.TheVariants.{OutOfMemory}
+use Rattle.mte_sched.specs.declared.refusal.Refusal.{Refusal}
+use Rattle.mte_sched.specs.declared.refusal.Refusal.TheVariants as refusal
+
+abbrev pub image_name : ElfError → List ℕ
+image_name elf.Short = codes "Short"
+image_name elf.NotElf64 = codes "NotElf64"
+image_name elf.NotAarch64 = codes "NotAarch64"
+image_name elf.NotExec = codes "NotExec"
+image_name elf.BadHeaders = codes "BadHeaders"
+image_name elf.Interpreter = codes "Interpreter"
+image_name elf.SegmentRange = codes "SegmentRange"
+image_name elf.Overlap = codes "Overlap"
+image_name elf.NoEntry = codes "NoEntry"
+image_name elf.OutOfMemory = codes "OutOfMemory"
+
+-- The name of an image's refusal is that of the loader.
+abbrev pub admit_name : AdmitError → List ℕ
+admit_name Duplicate = codes "Duplicate"
+admit_name BadReservation = codes "BadReservation"
+admit_name (Image e) = image_name e
+admit_name ReservationTooSmall = codes "ReservationTooSmall"
+admit_name NoFrames = codes "NoFrames"
+admit_name TooManyLive = codes "TooManyLive"
+admit_name OutOfMemory = codes "OutOfMemory"
+
+abbrev pub refusal_name : Refusal → List ℕ
+refusal_name (refusal.Admit e) = admit_name e
+refusal_name refusal.NotLive = codes "NotLive"

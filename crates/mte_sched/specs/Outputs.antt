@@ -1,0 +1,21 @@
+-- What a tenant has written, and how much more it may write.
+use Rattle.std.specs.Prelude.{ℕ, ◌-◌, ◌≤◌, List, take, length, refl}
+use Rattle.std.specs.Coded.{Coded, code_by, coded×, coded_ℕ, coded_list}
+use Rattle.mte_sched.specs.declared.output.Output.TheInside.{Inside}
+
+pub record Written : Type 0 where
+  pub bytes : List ℕ
+  pub left : ℕ
+
+abbrev pub coded_written : Coded Written
+coded_written = code_by (List ℕ × ℕ) (coded× (coded_list coded_ℕ) coded_ℕ)
+    (λ w. (w.bytes, w.left)) (λ c. record { bytes = c.0; left = c.1 }) (λ _. refl)
+
+abbrev pub written_of : Inside → Written
+written_of o = record {
+  bytes = take o.written o.bytes.items;
+  left = length o.bytes.items - o.written;
+}
+
+abbrev pub IsWithin : Inside → Type 0
+IsWithin o = o.written ≤ length o.bytes.items

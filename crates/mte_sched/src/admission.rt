@@ -1,0 +1,125 @@
+//! What a tenant is admitted with, and why it is refused.
+
+ghost use Rattle.std.specs.Prelude.{◌≡◌};
+ghost use Rattle.mte_sched.specs.Names.{admit_name, image_name};
+ghost use Rattle.mte_sched.specs.declared.admission.AdmitError.TheVariants.{OutOfMemory};
+
+use crate::refusal::Refusal;
+use mte_elf::ElfError;
+use std::alloc::{AllocError, AllocFailed};
+use std::error::Error;
+use std::fmt;
+
+/// What a tenant is admitted with.
+#[derive(Clone, Copy, Debug)]
+pub struct Admission<'a> {
+    /// Its number, never admitted before.
+    pub id: u16,
+    /// Its ELF64 image.
+    pub image: &'a [u8],
+    /// The bytes that it may read.
+    pub input: &'a [u8],
+    /// Seeds its tag generator (RGSR_EL1.SEED is bits 15:0, RGSR_EL1.TAG bits 19:16) and its heap's
+    /// cookie (bits 63:32).
+    pub seed: u64,
+    /// Its reservation, 1 to 512 pages.
+    pub pages: u32,
+    /// How many bytes it may write, at most 65536.
+    pub room: u32,
+}
+
+/// Why an admission is refused, in the order in which it is tested. A refusal changes nothing.
+#[derive(Clone, Copy, Debug, PartialEq, Eq)]
+pub enum AdmitError {
+    /// The number was admitted before, stopped or not.
+    Duplicate,
+    /// The reservation or the room is out of its limits.
+    BadReservation,
+    /// The image is refused.
+    Image(ElfError),
+    /// The image's pages and the stack's exceed the reservation.
+    ReservationTooSmall,
+    /// The charge exceeds the frames that live tenants leave.
+    NoFrames,
+    /// The host has as many tenants as it can have.
+    TooManyLive,
+    /// An allocation failed; this can come in place of the refusals from `Image` on.
+    OutOfMemory,
+}
+
+/// No live tenant has the number.
+#[derive(Clone, Copy, Debug, PartialEq, Eq)]
+pub struct NotLive;
+
+/// The most pages of a reservation.
+pub const PAGE_LIMIT: u32 = 512;
+
+/// The most bytes that a tenant may write.
+pub const ROOM_LIMIT: u32 = 65_536;
+
+impl AdmitError {
+    /// Its name in a report; of an image's refusal the loader's name.
+    pub fn name(self) -> &'static str
+        ensures { result.now ≡ admit_name self }
+    {
+        match self {
+            AdmitError::Duplicate => "Duplicate",
+            AdmitError::BadReservation => "BadReservation",
+            AdmitError::Image(error) => image_text(error),
+            AdmitError::ReservationTooSmall => "ReservationTooSmall",
+            AdmitError::NoFrames => "NoFrames",
+            AdmitError::TooManyLive => "TooManyLive",
+            AdmitError::OutOfMemory => "OutOfMemory",
+        }
+    }
+}
+
+/// The name of an image's refusal.
+fn image_text(error: ElfError) -> &'static str
+    ensures { result.now ≡ image_name error }
+{
+    match error {
+        ElfError::Short => "Short",
+        ElfError::NotElf64 => "NotElf64",
+        ElfError::NotAarch64 => "NotAarch64",
+        ElfError::NotExec => "NotExec",
+        ElfError::BadHeaders => "BadHeaders",
+        ElfError::Interpreter => "Interpreter",
+        ElfError::SegmentRange => "SegmentRange",
+        ElfError::Overlap => "Overlap",
+        ElfError::NoEntry => "NoEntry",
+        ElfError::OutOfMemory => "OutOfMemory",
+    }
+}
+
+impl fmt::Display for AdmitError {
+    fn fmt<W: fmt::Write>(&self, f: &mut fmt::Formatter<W>) -> fmt::Result {
+        f.write_str(self.name())
+    }
+}
+
+impl Error for AdmitError {}
+
+impl fmt::Display for NotLive {
+    fn fmt<W: fmt::Write>(&self, f: &mut fmt::Formatter<W>) -> fmt::Result {
+        f.write_str(Refusal::NotLive.name())
+    }
+}
+
+impl Error for NotLive {}
+
+impl From<AllocError> for AdmitError {
+    ghost from_gives = { λ _ e. e ≡ OutOfMemory };
+
+    fn from(_error: AllocError) -> AdmitError {
+        AdmitError::OutOfMemory
+    }
+}
+
+impl<T: Drop> From<AllocFailed<T>> for AdmitError {
+    ghost from_gives = { λ _ e. e ≡ OutOfMemory };
+
+    fn from(_error: AllocFailed<T>) -> AdmitError {
+        AdmitError::OutOfMemory
+    }
+}

@@ -1,0 +1,18 @@
+//! The host of one tenant: admission, slices, stop, and what the tenant's machine does.
+#![tactic(auto)]
+
+mod admission;
+mod host;
+mod isolation;
+mod machine;
+mod output;
+mod record;
+mod refusal;
+
+pub use admission::{Admission, AdmitError, NotLive, PAGE_LIMIT, ROOM_LIMIT};
+pub use host::{Host, Tenant};
+pub use isolation::tenant_is_alone;
+pub use machine::{Machine, STACK_PAGES};
+pub use output::Output;
+pub use record::{Record, Status};
+pub use refusal::{Refusal, Refused};

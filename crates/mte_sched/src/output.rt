@@ -1,0 +1,74 @@
+//! What a tenant has written.
+
+ghost use Rattle.std.specs.Prelude.{◌≡◌, ◌≤◌, ◌+◌, ◌-◌, ◌++◌, [], IfOk, OnOk, OnErr, true};
+ghost use Rattle.mte_tags.specs.Accesses.{read_fault, read_bytes, outcome};
+
+use mte_tags::{MemFault, Tagged};
+use std::alloc::{AllocError, Global};
+use std::marker::Model;
+
+/// What a tenant has written, and the room that is left for more.
+#[derive(Drop)]
+pub struct Output {
+    bytes: Vec<u8>,
+    written: usize,
+}
+
+impl Model for Output {
+    ghost use Rattle.mte_sched.specs.Outputs.{Written, coded_written, written_of, IsWithin};
+
+    ghost Value = { Written };
+
+    ghost coded = { coded_written };
+
+    ghost view = { written_of };
+
+    ghost invariant = { IsWithin };
+}
+
+impl Output {
+    /// An empty output with room for `room` bytes.
+    pub(crate) fn new(alloc: Global, room: u32) -> Result<Output, AllocError>
+        ensures { IfOk result (λ output. output ≡ record { bytes = []; left = room }) }
+    {
+        let bytes = vec![in alloc; 0; room as usize]?;
+        Ok(Output { bytes, written: 0 })
+    }
+
+    /// How many more bytes may be written.
+    pub fn left(&self) -> u64
+        ensures { result ≡ self.now.left }
+    {
+        (self.bytes.len() - self.written) as u64
+    }
+
+    /// What was written.
+    pub fn as_slice(&self) -> &[u8]
+        ensures { result.now ≡ self.now.bytes }
+    {
+        &self.bytes[..self.written]
+    }
+
+    /// Appends the bytes at an address by one checked read, or none where it fails.
+    pub(crate) fn append_from<M: Tagged>(
+        &mut self,
+        memory: &mut M,
+        addr: u64,
+        count: u64,
+    ) -> Result<(), MemFault>
+        requires { count ≤ self.old.left }
+        ensures answer { result ≡ outcome (read_fault (M.memory memory.old) addr count true) }
+        ensures ok { OnOk result (self.new ≡ record {
+          bytes = self.old.bytes ++ read_bytes (M.memory memory.old) addr count;
+          left = self.old.left - count;
+        }) }
+        ensures err { OnErr result (self.new ≡ self.old) }
+        ensures memory { M.memory memory.new ≡ M.memory memory.old }
+        ensures kept { M.kept memory.old memory.new }
+    {
+        let end = self.written + count as usize;
+        memory.read(addr, &mut self.bytes[self.written..end], true)?;
+        self.written = end;
+        Ok(())
+    }
+}

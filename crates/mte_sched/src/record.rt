@@ -1,0 +1,36 @@
+//! A tenant's record, from its admission on.
+
+use crate::output::Output;
+use mte_tags::MemFault;
+
+/// A tenant's status. Addresses are those of instructions.
+#[derive(Clone, Copy, Debug, PartialEq, Eq)]
+pub enum Status {
+    /// It goes on with its next slice.
+    Running,
+    /// It ended itself, with a code.
+    Exited(u8),
+    /// An access failed, in the instruction at the address.
+    Faulted(MemFault, u64),
+    /// A word that encodes no instruction, and its address.
+    Illegal(u32, u64),
+    /// A breakpoint instruction's number, and its address.
+    Breakpoint(u16, u64),
+    /// It was stopped while it was running.
+    Stopped,
+}
+
+/// A tenant's record: what the report says of it.
+#[derive(Drop)]
+pub struct Record {
+    /// Its number.
+    pub id: u16,
+    /// Its status.
+    pub status: Status,
+    /// How many instructions it has attempted; the count stops at 2^64 - 1.
+    pub steps: u64,
+    /// What it has written.
+    pub output: Output,
+    /// How many heap calls it has made; the count stops at 2^64 - 1.
+    pub heap_calls: u64,
+}

@@ -1,0 +1,10 @@
+use Rattle.std.proofs.Common.{◌≡◌, ◌++◌, map}
+use Rattle.mte_script.specs.Scripts.{words_of}
+use Rattle.mte_script.proofs.ScriptLemmas.{measure_of, words_left}
+use Rattle.mte_script.proofs.text.words.Given as goal
+
+abbrev pub decreases-loop-rest : goal.decreases-loop-rest
+decreases-loop-rest l = measure_of l.rest
+
+abbrev pub invariant-loop-rest : goal.invariant-loop-rest
+invariant-loop-rest l = map (λ w. w.now) l.words.items ++ words_left l.rest ≡ words_of l.line

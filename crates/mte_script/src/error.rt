@@ -1,0 +1,71 @@
+//! What is wrong with a script.
+
+ghost use Rattle.std.specs.Prelude.{◌≡◌};
+ghost use Rattle.mte_script.specs.Faults.{fault_name};
+ghost use Rattle.mte_script.specs.declared.error.ScriptError.TheVariants.{OutOfMemory};
+
+use std::alloc::{AllocError, AllocFailed};
+use std::fmt;
+use thiserror::Error;
+
+/// What is wrong with a line, in the order in which it is tested.
+#[derive(Clone, Copy, Debug, PartialEq, Eq)]
+pub enum ScriptFault {
+    /// It has not the form of an event.
+    Syntax,
+    /// A number exceeds its limit.
+    BadNumber,
+    /// It names a file that is not there.
+    NoSuchFile,
+    /// It is the 10001st event.
+    TooManyEvents,
+}
+
+impl ScriptFault {
+    /// Its name, as the program's line on standard error gives it.
+    pub fn name(self) -> &'static str
+        ensures { result.now ≡ fault_name self }
+    {
+        match self {
+            ScriptFault::Syntax => "Syntax",
+            ScriptFault::BadNumber => "BadNumber",
+            ScriptFault::NoSuchFile => "NoSuchFile",
+            ScriptFault::TooManyEvents => "TooManyEvents",
+        }
+    }
+}
+
+impl fmt::Display for ScriptFault {
+    fn fmt<W: fmt::Write>(&self, f: &mut fmt::Formatter<W>) -> fmt::Result {
+        f.write_str(self.name())
+    }
+}
+
+impl std::error::Error for ScriptFault {}
+
+/// Why a script is not run.
+#[derive(Clone, Copy, Debug, PartialEq, Eq, Error)]
+pub enum ScriptError {
+    /// The first faulty line, counted from 1, and what is wrong with it.
+    #[error("line {0}: {1}")]
+    Script(u64, ScriptFault),
+    /// An allocation failed.
+    #[error("out of memory")]
+    OutOfMemory,
+}
+
+impl From<AllocError> for ScriptError {
+    ghost from_gives = { λ _ e. e ≡ OutOfMemory };
+
+    fn from(_error: AllocError) -> ScriptError {
+        ScriptError::OutOfMemory
+    }
+}
+
+impl<T: Drop> From<AllocFailed<T>> for ScriptError {
+    ghost from_gives = { λ _ e. e ≡ OutOfMemory };
+
+    fn from(_error: AllocFailed<T>) -> ScriptError {
+        ScriptError::OutOfMemory
+    }
+}

@@ -1,0 +1,33 @@
+//! The events of a script.
+
+/// What a line of a script requests. Files are numbered from 1.
+#[derive(Clone, Copy, Debug, PartialEq, Eq)]
+pub enum Event {
+    /// Admits a tenant.
+    Admit {
+        /// The tenant's number, 0 to 65535.
+        id: u16,
+        /// The file that is its image, from 1.
+        image: u32,
+        /// The file that is its input, from 1; 0 for no input.
+        input: u32,
+        /// Seeds its tag generator (bits 19:0) and its heap's cookie (bits 63:32).
+        seed: u64,
+        /// Its reservation in pages.
+        pages: u32,
+        /// How many bytes it may write.
+        room: u32,
+    },
+    /// Lets a tenant attempt at most `steps` instructions.
+    Slice {
+        /// The tenant's number.
+        id: u16,
+        /// At most 1048576.
+        steps: u32,
+    },
+    /// Stops a tenant.
+    Stop {
+        /// The tenant's number.
+        id: u16,
+    },
+}

@@ -1,0 +1,24 @@
+use Rattle.std.proofs.Common.{map}
+use Rattle.std.proofs.lemmas.List.{length-map}
+use Rattle.mte_session.proofs.SessionLemmas.{session_text_is}
+use Rattle.mte_session.proofs.session.run_session.Goals as goal
+
+pub returns-clause-failed : goal.returns-clause-failed
+returns-clause-failed g c =
+    let text = session_text_is c.args.frames (map (λ f. f.items) c.args.files.now) c.in_ok-events.events.items c.new-host.result c.run_events.new.host c.in_ok-refused.refused.items c.new-host.ensures
+    (rw c.as_slice.ensures.value at c.in_ok-refused.ensures.played) in
+    record {
+      events = c.in_ok-events.events.items;
+      read = rw (length-map c.args.files.now (λ f. f.items)) c.in_ok-events.ensures.events;
+      wrote = rw text (rw c.as_slice-2.ensures.value at c.in-Err.ensures);
+    }
+
+pub returns-in-Ok-clause-done : goal.returns-in-Ok-clause-done
+returns-in-Ok-clause-done g c =
+    let text = session_text_is c.args.frames (map (λ f. f.items) c.args.files.now) c.in_ok-events.events.items c.new-host.result c.run_events.new.host c.in_ok-refused.refused.items c.new-host.ensures
+    (rw c.as_slice.ensures.value at c.in_ok-refused.ensures.played) in
+    record {
+      events = c.in_ok-events.events.items;
+      read = rw (length-map c.args.files.now (λ f. f.items)) c.in_ok-events.ensures.events;
+      wrote = rw text (rw c.as_slice-2.ensures.value at c.in-Ok.ensures);
+    }

@@ -1,0 +1,82 @@
+-- A tenant's lines in the report.
+use Rattle.std.specs.Prelude.{ℕ, Bool, true, false, List, [], ◌∷◌, ◌++◌, length, codes, decimal}
+use Rattle.std.specs.List.{concat}
+use Rattle.std.specs.Int.{to_be_bytes, w32, w64}
+use Rattle.hex.specs.Hex.{encode_lower}
+use Rattle.mte_tags.specs.declared.access.FaultKind.{FaultKind}
+use Rattle.mte_tags.specs.declared.access.FaultKind.TheVariants.{Translation, Permission, TagCheck}
+use Rattle.mte_tags.specs.declared.access.FaultKind.TheVariants.{Alignment, SpAlignment}
+use Rattle.mte_tags.specs.declared.access.FaultKind.TheVariants.{PcAlignment}
+use Rattle.mte_sched.specs.declared.record.Status.{Status}
+use Rattle.mte_sched.specs.declared.record.Status.TheVariants.{Running, Exited, Faulted, Illegal}
+use Rattle.mte_sched.specs.declared.record.Status.TheVariants.{Breakpoint, Stopped}
+use Rattle.mte_sched.specs.declared.record.Record.{Record}
+
+-- Parts in a row, and the end of the line.
+abbrev pub line : List (List ℕ) → List ℕ
+line parts = concat (parts ++ codes "\n" ∷ [])
+
+-- Sixteen lower-case hexadecimal digits.
+abbrev pub sixteen_digits : ℕ → List ℕ
+sixteen_digits n = encode_lower (to_be_bytes w64 n)
+
+abbrev pub eight_digits : ℕ → List ℕ
+eight_digits n = encode_lower (to_be_bytes w32 n)
+
+abbrev pub kind_name : FaultKind → List ℕ
+kind_name Translation = codes "Translation"
+kind_name Permission = codes "Permission"
+kind_name TagCheck = codes "TagCheck"
+kind_name Alignment = codes "Alignment"
+kind_name SpAlignment = codes "SpAlignment"
+kind_name PcAlignment = codes "PcAlignment"
+
+abbrev pub access_name : Bool → List ℕ
+access_name true = codes "write"
+access_name false = codes "read"
+
+-- A tenant's status, in parts.
+abbrev pub status_parts : Status → List (List ℕ)
+status_parts Running = codes "running" ∷ []
+status_parts (Exited n) = codes "exit " ∷ decimal n ∷ []
+status_parts Stopped = codes "stopped" ∷ []
+status_parts (Faulted f pc) =
+    codes "fault " ∷ kind_name f.kind ∷ codes " " ∷ access_name f.write
+    ∷ codes " addr 0x" ∷ sixteen_digits f.addr
+    ∷ codes " ptr " ∷ decimal f.ptr_tag ∷ codes " mem " ∷ decimal f.mem_tag
+    ∷ codes " pc 0x" ∷ sixteen_digits pc ∷ []
+status_parts (Illegal w pc) =
+    codes "illegal 0x" ∷ eight_digits w ∷ codes " pc 0x" ∷ sixteen_digits pc ∷ []
+status_parts (Breakpoint n pc) =
+    codes "break " ∷ decimal n ∷ codes " pc 0x" ∷ sixteen_digits pc ∷ []
+
+-- How many bytes were written, and which, if any.
+abbrev pub output_parts : List ℕ → List (List ℕ)
+output_parts [] = codes "0" ∷ []
+output_parts (b ∷ more) = decimal (length (b ∷ more)) ∷ codes " " ∷ encode_lower (b ∷ more) ∷ []
+
+abbrev pub number_line : List ℕ → ℕ → List ℕ
+number_line label n = line (label ∷ decimal n ∷ [])
+
+abbrev pub status_line : Status → List ℕ
+status_line s = line (codes "status " ∷ status_parts s)
+
+abbrev pub output_line : List ℕ → List ℕ
+output_line bytes = line (codes "output " ∷ output_parts bytes)
+
+-- The line of an output with some bytes, as it is written: what stands before the digits, these,
+-- the end.
+abbrev pub long_output_line : List ℕ → List ℕ
+long_output_line bytes =
+    concat (codes "output " ∷ decimal (length bytes) ∷ codes " " ∷ [])
+    ++ encode_lower bytes ++ concat (codes "\n" ∷ [])
+
+-- A tenant's lines, from `tenant` to `end`.
+unfoldable pub record_text : Record → List ℕ
+record_text r =
+    number_line (codes "tenant ") r.id
+    ++ status_line r.status
+    ++ number_line (codes "steps ") r.steps
+    ++ output_line r.output.bytes
+    ++ number_line (codes "heap ") r.heap_calls
+    ++ line (codes "end" ∷ [])

@@ -1,0 +1,15 @@
+//! Sessions: a script and its files in, the report out.
+#![tactic(auto)]
+
+mod ending;
+mod refusals;
+mod report;
+mod session;
+mod status;
+mod text;
+
+pub use ending::{Ending, finish};
+pub use mte_script::{Event, ScriptError, ScriptFault, parse_script};
+pub use mte_streams::{ReadFault, Sink, Source, StreamError, WriteFault, read_whole, write_all};
+pub use report::write_report;
+pub use session::{SessionError, run_session};

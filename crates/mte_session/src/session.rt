@@ -1,0 +1,197 @@
+//! A session: a script in, its report out.
+
+ghost use Rattle.std.specs.Prelude.{◌≡◌, ◌⊎◌, [], ◌≤◌, map, OnOk, OnErr, IfOk, IfErr, Err, Some};
+ghost use Rattle.std.specs.Prelude.{None, IsTrue, ◌↔◌};
+ghost use Rattle.mte_streams.specs.Writing.{Writes};
+ghost use Rattle.mte_sched.specs.Events.{file_at, event_refusal, after_event, played, NeedsMemory};
+ghost use Rattle.mte_session.specs.declared.session.SessionError.TheVariants.{OutOfMemory};
+ghost use Rattle.mte_session.specs.Files.{contents};
+ghost use Rattle.mte_session.specs.Sessions.{refused_texts, session_report};
+ghost use Rattle.mte_session.specs.Outcomes.{session_error, Reported, Failed};
+
+use crate::refusals::write_refusal;
+use crate::report::write_report;
+use mte_sched::{Admission, AdmitError, Host, Refusal, Refused};
+use mte_script::{Event, ScriptError, ScriptFault, parse_script};
+use mte_streams::{Sink, WriteFault};
+use std::alloc::{AllocFailed, Global};
+use thiserror::Error;
+
+/// Why a session has no whole report.
+#[derive(Clone, Copy, Debug, PartialEq, Eq, Error)]
+pub enum SessionError {
+    /// The script's first faulty line, counted from 1, and what is wrong with it; nothing was
+    /// written.
+    #[error("script line {0}: {1}")]
+    Script(u64, ScriptFault),
+    /// An allocation failed; nothing was written.
+    #[error("out of memory")]
+    OutOfMemory,
+    /// A write failed; a prefix of the report was written.
+    #[error("cannot write")]
+    Write,
+}
+
+/// Runs a script on a host of `frames` frames, 1 to 65536, and writes its report: a line for each
+/// refused event, then the lines of each admitted tenant.
+///
+/// On `Ok` the report was written, and nothing else; on `Write` a prefix of it, and a write failed.
+/// On `Script`, the script's first faulty line with its first fault, and on `OutOfMemory`, which
+/// comes only where an allocation failed, no write was made.
+pub fn run_session<W: Sink>(
+    alloc: Global,
+    frames: u32,
+    script: &[u8],
+    files: &[Vec<u8>],
+    out: &mut W,
+) -> Result<(), SessionError>
+    requires some { 1 ≤ frames }
+    requires few { frames ≤ 65536 }
+    ensures done { OnOk result (Reported
+        (record { frames = frames; files = contents files.now; script = script.now })
+        (W.log out.old) (W.log out.new)) }
+    ensures failed { IfErr result (Failed
+        (record { frames = frames; files = contents files.now; script = script.now })
+        (W.log out.old) (W.log out.new)) }
+{
+    let events = parse_script(alloc, script, files)?;
+    let mut host = Host::new(frames);
+    let refused = run_events(alloc, &mut host, events.as_slice(), files)?;
+    match write_session(&host, refused.as_slice(), out) {
+        Ok(()) => Ok(()),
+        Err(_) => Err(SessionError::Write),
+    }
+}
+
+/// Writes the report of what became of a host.
+fn write_session<W: Sink>(host: &Host, refused: &[Refused], out: &mut W) -> Result<(), WriteFault>
+    ensures { Writes (W.log out.old) (W.log out.new) result (session_report host.now refused.now) }
+{
+    write_refusals(refused, out)?;
+    match &host.tenant {
+        Some(tenant) => write_report(&tenant.machine.account, out),
+        None => Ok(()),
+    }
+}
+
+/// Writes a line for each refused event.
+fn write_refusals<W: Sink>(refused: &[Refused], out: &mut W) -> Result<(), WriteFault>
+    ensures { Writes (W.log out.old) (W.log out.new) result (refused_texts refused.now) }
+{
+    for refusal in refused {
+        write_refusal(refusal, out)?;
+    }
+    Ok(())
+}
+
+/// Executes the events in order, and returns those that were refused.
+fn run_events(
+    alloc: Global,
+    host: &mut Host,
+    events: &[Event],
+    files: &[Vec<u8>],
+) -> Result<Vec<Refused>, SessionError>
+    ensures played { IfOk result (λ refused.
+        played (contents files.now) (record { host = host.old; refused = [] }) events.now 1
+        ≡ record { host = host.new; refused = refused.items }) }
+    ensures memory { IfErr result (λ e. e ≡ SessionError.OutOfMemory) }
+{
+    let mut refused = Vec::new(alloc);
+    for (before, event) in events.iter().enumerate() {
+        match play(alloc, host, event, files) {
+            Ok(()) => {}
+            Err(refusal) => {
+                if is_out_of_memory(&refusal) {
+                    return Err(SessionError::OutOfMemory);
+                }
+                let event = before as u64 + 1;
+                refused.push(Refused { event, refusal })?;
+            }
+        }
+    }
+    Ok(refused)
+}
+
+/// Whether an event failed because an allocation failed.
+fn is_out_of_memory(refusal: &Refusal) -> bool
+    ensures { IsTrue result ↔ (refusal.now ≡ Refusal.Admit AdmitError.OutOfMemory) }
+{
+    match refusal {
+        Refusal::Admit(AdmitError::OutOfMemory) => true,
+        _ => false,
+    }
+}
+
+/// Executes one event. Only an admission's `OutOfMemory`, where an allocation failed, can come in
+/// place of its refusal or success.
+#[tactic(auto, unfolding(mte_sched::specs::Events::event_refusal, mte_sched::specs::Events::after_event))]
+fn play(alloc: Global, host: &mut Host, event: &Event, files: &[Vec<u8>]) -> Result<(), Refusal>
+    ensures accepted { OnOk result (event_refusal (contents files.now) host.old event.now ≡ None) }
+    ensures ok { OnOk result (host.new ≡ after_event (contents files.now) host.old event.now) }
+    ensures refused { IfErr result (λ r. (r ≡ Refusal.Admit AdmitError.OutOfMemory)
+        ⊎ (event_refusal (contents files.now) host.old event.now ≡ Some r)) }
+    ensures memory { (result ≡ Err (Refusal.Admit AdmitError.OutOfMemory))
+        → NeedsMemory host.old event.now }
+    ensures err { OnErr result (host.new ≡ host.old) }
+{
+    match *event {
+        Event::Admit {
+            id,
+            image,
+            input,
+            seed,
+            pages,
+            room,
+        } => {
+            let admission = Admission {
+                id,
+                image: file_of(files, image),
+                input: file_of(files, input),
+                seed,
+                pages,
+                room,
+            };
+            match host.admit(alloc, &admission) {
+                Ok(()) => Ok(()),
+                Err(error) => Err(Refusal::Admit(error)),
+            }
+        }
+        Event::Slice { id, steps } => match host.slice(id, steps) {
+            Ok(()) => Ok(()),
+            Err(_) => Err(Refusal::NotLive),
+        },
+        Event::Stop { id } => match host.stop(id) {
+            Ok(()) => Ok(()),
+            Err(_) => Err(Refusal::NotLive),
+        },
+    }
+}
+
+/// The bytes of a file by its number from 1; none for 0.
+fn file_of(files: &[Vec<u8>], number: u32) -> &[u8]
+    ensures { result.now ≡ file_at (contents files.now) number }
+{
+    if number == 0 || number as usize > files.len() {
+        return &[];
+    }
+    files[number as usize - 1].as_slice()
+}
+
+impl From<ScriptError> for SessionError {
+    ghost from_gives = { λ e r. r ≡ session_error e };
+
+    fn from(error: ScriptError) -> SessionError {
+        match error {
+            ScriptError::Script(line, fault) => SessionError::Script(line, fault),
+            ScriptError::OutOfMemory => SessionError::OutOfMemory,
+        }
+    }
+}
+
+impl<T: Drop> From<AllocFailed<T>> for SessionError {
+    ghost from_gives = { λ _ r. r ≡ OutOfMemory };
+
+    fn from(_error: AllocFailed<T>) -> SessionError {
+        SessionError::OutOfMemory
+    }
+}

@@ -1,0 +1,10 @@
+//! Readers and writers, and what becomes of a whole file and of a whole text.
+#![tactic(auto)]
+
+mod error;
+mod reading;
+mod writing;
+
+pub use error::StreamError;
+pub use reading::{FILE_LIMIT, ReadFault, Source, read_whole};
+pub use writing::{Sink, WriteFault, write_all};

@@ -1,0 +1,85 @@
+//! Readers, and reading a whole file.
+
+ghost use Rattle.std.specs.Prelude.{◌≡◌, ◌≢◌, ◌≤◌, length, IfOk, IsErrOf, Err};
+ghost use Rattle.mte_streams.specs.Reading.{ReadLog, after_read, ReadAll, GaveMore, GaveAtMost};
+ghost use Rattle.mte_streams.specs.Reading.{FailedOnce, NoneFailed, MadeAtMost};
+ghost use Rattle.mte_streams.specs.declared.reading.ReadFault.TheVariants.{OutOfMemory};
+
+use crate::error::StreamError;
+use std::alloc::{AllocError, Global};
+use thiserror::Error;
+
+/// A reader, as `std::io::Read` means it.
+pub trait Source {
+    /// What its reads gave, as far as it is known: a file of the system says nothing.
+    ghost log: { Self → ReadLog };
+
+    /// Reads some bytes into the start of the buffer, and returns how many. 0 is the end, or an
+    /// empty buffer.
+    fn read(&mut self, buffer: &mut [u8]) -> Result<usize, StreamError>
+        ensures count { IfOk result (λ n. n ≤ length buffer.new) }
+        ensures log { log self.new ≡ after_read (log self.old) result buffer.new };
+}
+
+/// The most bytes that a file may have.
+pub const FILE_LIMIT: usize = 16_777_216;
+
+/// How many bytes are read at once.
+const CHUNK: usize = 65_536;
+
+/// Why a file could not be read as a whole.
+#[derive(Clone, Copy, Debug, PartialEq, Eq, Error)]
+pub enum ReadFault {
+    /// A read failed.
+    #[error("a read failed")]
+    Read,
+    /// The reader gave more than 16777216 bytes.
+    #[error("the file is too long")]
+    TooLong,
+    /// An allocation failed.
+    #[error("out of memory")]
+    OutOfMemory,
+}
+
+/// Reads all bytes up to the end. It makes at most 16777217 reads, and none after one that failed.
+///
+/// `TooLong` comes exactly where more than 16777216 bytes were given. What was read before an error
+/// stays read.
+pub fn read_whole<R: Source>(alloc: Global, reader: &mut R) -> Result<Vec<u8>, ReadFault>
+    ensures whole { IfOk result (λ whole.
+        ReadAll (R.log reader.old) (R.log reader.new) whole.items) }
+    ensures none_failed { (result ≢ Err ReadFault.Read)
+        → NoneFailed (R.log reader.old) (R.log reader.new) }
+    ensures failed { IsErrOf result ReadFault.Read
+        → FailedOnce (R.log reader.old) (R.log reader.new) }
+    ensures too_long { IsErrOf result ReadFault.TooLong
+        → GaveMore (R.log reader.old) (R.log reader.new) FILE_LIMIT }
+    ensures within { (result ≢ Err ReadFault.TooLong)
+        → GaveAtMost (R.log reader.old) (R.log reader.new) FILE_LIMIT }
+    ensures calls { MadeAtMost (R.log reader.old) (R.log reader.new) 16777217 }
+{
+    let mut whole = Vec::new(alloc);
+    let mut chunk = [0; CHUNK];
+    for _ in 0..FILE_LIMIT + 1 {
+        let wanted = CHUNK.min(FILE_LIMIT + 1 - whole.len());
+        match reader.read(&mut chunk[..wanted]) {
+            Err(_) => return Err(ReadFault::Read),
+            Ok(0) => return Ok(whole),
+            Ok(count) => {
+                if whole.len() + count > FILE_LIMIT {
+                    return Err(ReadFault::TooLong);
+                }
+                whole.extend_from_slice(&chunk[..count])?;
+            }
+        }
+    }
+    unreachable!()
+}
+
+impl From<AllocError> for ReadFault {
+    ghost from_gives = { λ _ e. e ≡ OutOfMemory };
+
+    fn from(_error: AllocError) -> ReadFault {
+        ReadFault::OutOfMemory
+    }
+}

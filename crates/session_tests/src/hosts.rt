@@ -1,0 +1,53 @@
+//! The host of one tenant, called by itself.
+
+use crate::doubles::MemorySink;
+use crate::images::{HI, image};
+use mte_sched::{Admission, AdmitError, Host, NotLive, Refusal, Status, tenant_is_alone};
+use mte_session::{ScriptFault, write_report};
+use std::test::Fail;
+
+#[test]
+fn one_host(rt: HostRuntime) -> Result<(), Fail> {
+    let file = image(rt.alloc(), &HI)?;
+    let mut host = Host::new(11);
+    let admission = Admission {
+        id: 7,
+        image: file.as_slice(),
+        input: &[],
+        seed: 1,
+        pages: 5,
+        room: 16,
+    };
+    assert!(rt; host.slice(7, 1) == Err(NotLive));
+    host.admit(rt.alloc(), &admission)?;
+    assert!(rt; host.admit(rt.alloc(), &admission) == Err(AdmitError::Duplicate));
+    host.slice(7, 3)?;
+    host.stop(7)?;
+    assert!(rt; host.stop(7) == Err(NotLive));
+    let Some(tenant) = &host.tenant else {
+        return Err(Fail::from(NotLive));
+    };
+    let account = &tenant.machine.account;
+    assert!(rt; account.status == Status::Stopped);
+    assert!(rt; !tenant.machine.is_running());
+    assert_eq!(rt; (account.steps, account.output.left()), (3, 16));
+    let mut out = MemorySink::new(rt.alloc());
+    write_report(account, &mut out)?;
+    assert_eq!(rt;
+        out.held.as_slice(),
+        b"tenant 7\nstatus stopped\nsteps 3\noutput 0\nheap 0\nend\n".as_slice()
+    );
+    tenant_is_alone();
+    Ok(())
+}
+
+#[test]
+fn names(rt: HostRuntime) {
+    assert_eq!(rt; ScriptFault::TooManyEvents.name(), "TooManyEvents");
+    assert_eq!(rt; AdmitError::NoFrames.name(), "NoFrames");
+    assert_eq!(rt; Refusal::NotLive.name(), "NotLive");
+    assert_eq!(rt;
+        Refusal::Admit(AdmitError::TooManyLive).name(),
+        "TooManyLive"
+    );
+}

@@ -1,0 +1,46 @@
+//! Images of small programs.
+
+use std::alloc::{AllocError, Global};
+
+/// An image of one segment, readable and executable, at 0x10000, of some words.
+pub fn image(alloc: Global, words: &[u32]) -> Result<Vec<u8>, AllocError> {
+    let mut file = Vec::from_slice(alloc, b"\x7fELF\x02\x01\x01\0\0\0\0\0\0\0\0\0")?;
+    let size = (words.len() as u64).wrapping_mul(4);
+    file.extend_from_slice(b"\x02\0\xb7\0\x01\0\0\0")?;
+    for number in [0x10000u64, 64, 0] {
+        file.extend_from_slice(&number.to_le_bytes())?;
+    }
+    file.extend_from_slice(b"\0\0\0\0\x40\0\x38\0\x01\0\0\0\0\0\0\0")?;
+    file.extend_from_slice(b"\x01\0\0\0\x05\0\0\0")?;
+    for number in [120u64, 0x10000, 0x10000, size, size, 1] {
+        file.extend_from_slice(&number.to_le_bytes())?;
+    }
+    for word in words {
+        file.extend_from_slice(&word.to_le_bytes())?;
+    }
+    Ok(file)
+}
+
+/// Writes `Hi` and exits with 0.
+pub const HI: [u32; 9] = [
+    0xD2A00020, 0x91008000, 0xD2800041, 0xD2800028, 0xD4000001, 0xD2800000, 0xD2800008, 0xD4000001,
+    0x00006948,
+];
+
+/// Tags a granule of the stack, stores and loads through the tagged pointer, then through the
+/// untagged.
+pub const UNTAGGED: [u32; 7] = [
+    0xD2A7FFE0, 0x91403000, 0x9ADF1001, 0xD9200821, 0xF9000021, 0xF9400022, 0xF9400002,
+];
+
+/// Loads with base SP at an offset, which is not checked, then pre-indexed, which is.
+pub const PRE_INDEXED: [u32; 5] = [0xD10083FF, 0x9ADF13E1, 0xD9200BE1, 0xF94003E2, 0xF8400FE2];
+
+/// Loads eight bytes across the end of a tagged granule.
+pub const ACROSS: [u32; 5] = [0xD2A7FFE0, 0x91403000, 0x9ADF1001, 0xD9200821, 0xF840C022];
+
+/// The word 0.
+pub const ILLEGAL: [u32; 1] = [0];
+
+/// Branches to 0x10001.
+pub const UNALIGNED: [u32; 3] = [0xD2A00020, 0x91000400, 0xD61F0000];

@@ -1,0 +1,15 @@
+//! Tests of whole sessions, and of the readers and writers, the scripts and the endings below them.
+#![tactic(auto)]
+
+#[cfg(test)]
+mod doubles;
+#[cfg(test)]
+mod hosts;
+#[cfg(test)]
+mod images;
+#[cfg(test)]
+mod scripts;
+#[cfg(test)]
+mod sessions;
+#[cfg(test)]
+mod streams;

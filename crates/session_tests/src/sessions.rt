@@ -1,0 +1,189 @@
+//! Worked examples of whole sessions.
+
+use crate::doubles::MemorySink;
+use crate::images::{ACROSS, HI, ILLEGAL, PRE_INDEXED, UNALIGNED, UNTAGGED, image};
+use mte_session::{ScriptFault, SessionError, run_session};
+use std::alloc::Global;
+use std::test::Fail;
+
+/// The report of a script on `frames` frames, over the images of some programs as files 1 and on.
+fn report(alloc: Global, frames: u32, script: &[u8], programs: &[&[u32]]) -> Result<Vec<u8>, Fail> {
+    let mut files = Vec::new(alloc);
+    for words in programs {
+        files.push(image(alloc, words)?)?;
+    }
+    let mut out = MemorySink::new(alloc);
+    run_session(
+        alloc,
+        frames.max(1).min(65536),
+        script,
+        files.as_slice(),
+        &mut out,
+    )?;
+    Ok(out.held)
+}
+
+/// One tenant with the first file, and one slice.
+const ADMIT: &[u8] =
+    b"admit 1 image 1 input 0 seed 0000000000000001 frames 5 out 16\nslice 1 100\n";
+
+#[test]
+fn an_empty_script_has_an_empty_report(rt: HostRuntime) -> Result<(), Fail> {
+    let text = report(rt.alloc(), 1, b"", &[])?;
+    assert_eq!(rt; text.len(), 0);
+    Ok(())
+}
+
+#[test]
+fn one_tenant_alone(rt: HostRuntime) -> Result<(), Fail> {
+    let cases: [(&[u32], &[u8], &[u8]); 8] = [
+        (
+            &HI,
+            ADMIT,
+            b"tenant 1\nstatus exit 0\nsteps 8\noutput 2 4869\nheap 0\nend\n",
+        ),
+        (
+            &HI,
+            b"admit 1 image 1 input 0 seed 0000000000000001 frames 5 out 16\nslice 1 3\n",
+            b"tenant 1\nstatus running\nsteps 3\noutput 0\nheap 0\nend\n",
+        ),
+        (
+            &HI,
+            b"admit 1 image 1 input 0 seed 0000000000000001 frames 5 out 1\nslice 1 100\n",
+            b"tenant 1\nstatus exit 0\nsteps 8\noutput 1 48\nheap 0\nend\n",
+        ),
+        (
+            &UNTAGGED,
+            ADMIT,
+            b"tenant 1\nstatus fault TagCheck read addr 0x000000003fffc000 ptr 0 mem 1 pc 0x0000000000010018\nsteps 7\noutput 0\nheap 0\nend\n",
+        ),
+        (
+            &PRE_INDEXED,
+            ADMIT,
+            b"tenant 1\nstatus fault TagCheck read addr 0x000000003fffffe0 ptr 0 mem 1 pc 0x0000000000010010\nsteps 5\noutput 0\nheap 0\nend\n",
+        ),
+        (
+            &ACROSS,
+            ADMIT,
+            b"tenant 1\nstatus fault TagCheck read addr 0x000000003fffc010 ptr 1 mem 0 pc 0x0000000000010010\nsteps 5\noutput 0\nheap 0\nend\n",
+        ),
+        (
+            &ILLEGAL,
+            ADMIT,
+            b"tenant 1\nstatus illegal 0x00000000 pc 0x0000000000010000\nsteps 1\noutput 0\nheap 0\nend\n",
+        ),
+        (
+            &UNALIGNED,
+            ADMIT,
+            b"tenant 1\nstatus fault PcAlignment read addr 0x0000000000010001 ptr 0 mem 0 pc 0x0000000000010001\nsteps 4\noutput 0\nheap 0\nend\n",
+        ),
+    ];
+    for (words, script, want) in cases {
+        let text = report(rt.alloc(), 11, script, &[words])?;
+        assert_eq!(rt; text.as_slice(), want);
+    }
+    Ok(())
+}
+
+#[test]
+fn refused_events(rt: HostRuntime) -> Result<(), Fail> {
+    let cases: [(u32, &[u8], &[u8]); 7] = [
+        (
+            10,
+            b"admit 1 image 1 input 0 seed 0000000000000001 frames 5 out 16\nslice 1 5\n",
+            b"refused 1 NoFrames\nrefused 2 NotLive\n",
+        ),
+        (
+            11,
+            b"admit 1 image 1 input 0 seed 0000000000000001 frames 4 out 16\n",
+            b"refused 1 ReservationTooSmall\n",
+        ),
+        (
+            11,
+            b"admit 1 image 1 input 0 seed 0000000000000001 frames 0 out 16\n",
+            b"refused 1 BadReservation\n",
+        ),
+        (
+            11,
+            b"admit 1 image 1 input 0 seed 0000000000000001 frames 5 out 65537\n",
+            b"refused 1 BadReservation\n",
+        ),
+        (
+            65536,
+            b"admit 1 image 2 input 0 seed 0000000000000001 frames 5 out 16\n",
+            b"refused 1 Image SegmentRange\n",
+        ),
+        (
+            22,
+            b"admit 1 image 1 input 0 seed 0000000000000001 frames 5 out 16\nadmit 1 image 1 input 0 seed 0000000000000001 frames 5 out 16\nadmit 2 image 1 input 0 seed 0000000000000001 frames 5 out 16\nstop 1\nslice 1 5\n",
+            b"refused 2 Duplicate\nrefused 3 TooManyLive\nrefused 5 NotLive\ntenant 1\nstatus stopped\nsteps 0\noutput 0\nheap 0\nend\n",
+        ),
+        (
+            21,
+            b"admit 1 image 1 input 0 seed 0000000000000001 frames 5 out 16\nslice 1 100\nslice 1 100\nadmit 2 image 1 input 0 seed 0000000000000001 frames 5 out 16\nstop 1\nadmit 2 image 1 input 0 seed 0000000000000001 frames 5 out 16\n",
+            b"refused 4 NoFrames\nrefused 6 TooManyLive\ntenant 1\nstatus exit 0\nsteps 8\noutput 2 4869\nheap 0\nend\n",
+        ),
+    ];
+    for (frames, script, want) in cases {
+        let mut files = Vec::new(rt.alloc());
+        files.push(image(rt.alloc(), &HI)?)?;
+        let mut cut = image(rt.alloc(), &HI)?;
+        cut.truncate(155);
+        files.push(cut)?;
+        let mut out = MemorySink::new(rt.alloc());
+        run_session(rt.alloc(), frames, script, files.as_slice(), &mut out)?;
+        assert_eq!(rt; out.held.as_slice(), want);
+    }
+    Ok(())
+}
+
+#[test]
+fn writers_that_fail(rt: HostRuntime) -> Result<(), Fail> {
+    let want = b"tenant 1\nstatus exit 0\nsteps 8\noutput 2 4869\nheap 0\nend\n";
+    let mut files = Vec::new(rt.alloc());
+    files.push(image(rt.alloc(), &HI)?)?;
+    for limit in 0..57usize {
+        for fails_by_error in [true, false] {
+            let mut out = MemorySink {
+                held: Vec::new(rt.alloc()),
+                most: 1,
+                limit,
+                fails_by_error,
+            };
+            let result = run_session(rt.alloc(), 11, ADMIT, files.as_slice(), &mut out);
+            if limit == 56 {
+                assert!(rt; result == Ok(()));
+            } else {
+                assert!(rt; result == Err(SessionError::Write));
+            }
+            assert_eq!(rt; out.held.len(), limit);
+            assert!(rt; want.starts_with(out.held.as_slice()));
+        }
+    }
+    Ok(())
+}
+
+#[test]
+fn nothing_is_written_of_a_faulty_script(rt: HostRuntime) -> Result<(), Fail> {
+    let mut out = MemorySink::new(rt.alloc());
+    let result = run_session(rt.alloc(), 11, b"admit 1 image 1", &[], &mut out);
+    assert!(rt; result == Err(SessionError::Script(1, ScriptFault::Syntax)));
+    assert_eq!(rt; out.held.len(), 0);
+    Ok(())
+}
+
+/// Files are numbered in their order, from 1.
+#[test]
+fn the_second_file(rt: HostRuntime) -> Result<(), Fail> {
+    let text = report(
+        rt.alloc(),
+        11,
+        b"admit 1 image 2 input 1 seed 0000000000000001 frames 5 out 16\nslice 1 100\n",
+        &[&HI, &ILLEGAL],
+    )?;
+    assert_eq!(rt;
+        text.as_slice(),
+        b"tenant 1\nstatus illegal 0x00000000 pc 0x0000000000010000\nsteps 1\noutput 0\nheap 0\nend\n".as_slice()
+    );
+    Ok(())
+}
