@@ -14,7 +14,7 @@ const STACK_END: u64 = 0x40000000;
 /// A memory with a program in its first page, which is followed by four stack pages.
 fn memory_of(alloc: Global, words: &[u32]) -> Result<Flat, Fail> {
     let mut memory = Flat::new(alloc, 5)?;
-    if memory.map_pages(0x3fffb, 5, Attrs(15)).is_err() {
+    if memory.map_pages(0x3fffb, 5, Attrs::ALL).is_err() {
         return Err(Fail::from("the pages are not mapped"));
     }
     let mut at = CODE;
@@ -64,7 +64,7 @@ fn runs_over_a_plain_memory(rt: HostRuntime) -> Result<(), Fail> {
     assert_eq!(rt; regs.pc, CODE + 20);
     regs.pc = STACK_END;
     assert_eq!(rt;
-        step(&mut decoder, &mut regs, &mut memory),
+        step(&mut regs, &mut memory),
         fault(FaultKind::Translation, STACK_END, false, 0, 0)
     );
     steps_keep_tags();

@@ -6,8 +6,8 @@ use Rattle.a64_bits.specs.Addresses.{plain}
 use Rattle.mte_tags.specs.Memory.{Memory, Page, page_at, has}
 use Rattle.mte_tags.specs.Accesses.{fault, fault_in, byte_fault, load_access}
 use Rattle.mte_tags.specs.Accesses.{tag_load_fault, loaded}
-use Rattle.mte_tags.specs.declared.access.MemFault.{MemFault}
-use Rattle.mte_tags.specs.declared.access.FaultKind.TheVariants.{Translation, Permission}
+use Rattle.mte_tags.specs.declared.fault.MemFault.{MemFault}
+use Rattle.mte_tags.specs.declared.fault.FaultKind.TheVariants.{Translation, Permission}
 
 in_page : (c : Bool) (b a t : ℕ) (f : MemFault)
     → Err f ≡ loaded (if c then None else Some (fault Permission (load_access b) a 0)) t

@@ -25,7 +25,7 @@ mod line;
 mod place;
 mod report;
 
-use a64_step::{Decoder, step};
+use a64_step::{Decoder, Outcome, run};
 use anyhow::{Result, bail};
 use case::{Case, Pages};
 use line::{Line, parse};
@@ -44,7 +44,7 @@ struct Session {
 }
 
 /// Runs a case that was read whole; what differs, or `None` where its parts don't fit together.
-fn run(
+fn differences(
     alloc: Global,
     decoder: &mut Decoder,
     map: &[Pages],
@@ -60,7 +60,9 @@ fn run(
         return Ok(None);
     }
     let mut regs = case.before;
-    let outcome = step(decoder, &mut regs, &mut ours);
+    let outcome = run(decoder, &mut regs, &mut ours, 1)
+        .outcome
+        .unwrap_or(Outcome::Next);
     Ok(Some(report::differences(alloc, case, outcome, &regs, map, &mut ours, &mut theirs)?))
 }
 
@@ -71,7 +73,7 @@ impl Session {
             return Ok(true);
         };
         let map = self.map.as_slice();
-        let Some(text) = run(rt.alloc(), &mut self.decoder, map, &case)? else {
+        let Some(text) = differences(rt.alloc(), &mut self.decoder, map, &case)? else {
             return Ok(false);
         };
         if text.is_empty() {

@@ -50,7 +50,7 @@ impl Bench {
         let data = with_tag(DATA, TAG);
         let second = data.wrapping_add(4096);
         let mut memory = Flat::new(alloc, 3)?;
-        if memory.map_pages(CODE_PAGE, 3, Attrs(15)).is_err() {
+        if memory.map_pages(CODE_PAGE, 3, Attrs::ALL).is_err() {
             bail!("the memory has no room for 3 pages");
         }
         let within = places(alloc, data, 512, 8)?;

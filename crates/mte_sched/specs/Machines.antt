@@ -7,7 +7,7 @@ use Rattle.a64_step.specs.declared.registers.Regs.{Regs}
 use Rattle.a64_step.specs.declared.outcome.Outcome.{Outcome}
 use Rattle.a64_step.specs.declared.outcome.Outcome.TheVariants as outcome
 use Rattle.a64_step.specs.Steps.{step_of}
-use Rattle.mte_tags.specs.declared.access.MemFault.{MemFault}
+use Rattle.mte_tags.specs.declared.fault.MemFault.{MemFault}
 use Rattle.mte_tags.specs.Memory.{Memory, no_pages, with_new_pages}
 use Rattle.mte_tags.specs.Accesses.{read_fault, read_bytes}
 use Rattle.mte_elf.specs.Headers.{segments_of, entry_of}

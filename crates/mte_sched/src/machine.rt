@@ -12,7 +12,7 @@ use crate::admission::Admission;
 use crate::output::Output;
 use crate::record::{Record, Status};
 use a64_bits::Flags;
-use a64_step::{Outcome, Regs, run};
+use a64_step::{Decoder, Outcome, Regs, run};
 use mte_elf::{Plan, load};
 use mte_tags::{Attrs, Flat, Paged, Rgsr};
 use std::alloc::{AllocError, Global};
@@ -91,21 +91,22 @@ impl Machine {
     pub(crate) fn slice(&mut self, steps: u32)
         ensures { self.new ≡ advance steps self.old }
     {
+        let mut decoder = Decoder::new();
         let mut left = u64::from(steps);
         while left > 0 && self.is_running() {
-            left = self.run_on(left);
+            left = self.run_on(&mut decoder, left);
         }
     }
 
     /// Runs to the next service, fault or end, or for `left` instructions; returns how many are
     /// left.
-    fn run_on(&mut self, left: u64) -> u64
+    fn run_on(&mut self, decoder: &mut Decoder, left: u64) -> u64
         requires some { 0 < left }
         requires running { is_running self.old.account.status ≡ true }
         ensures rest { advance result self.new ≡ advance left self.old }
         ensures fewer { result < left }
     {
-        let stop = run(&mut self.regs, &mut self.memory, left);
+        let stop = run(decoder, &mut self.regs, &mut self.memory, left);
         self.account.steps = self.account.steps.saturating_add(left - stop.left);
         match stop.outcome {
             Some(outcome) => self.handle(outcome),
@@ -184,7 +185,7 @@ fn map_stack(memory: &mut Flat)
     requires room { 4 ≤ pages_left memory.old }
     ensures { memory.new ≡ with_new_pages memory.old 0x3FFFC 4 (record { 0 = 11 }) }
 {
-    match memory.map_pages(STACK_PAGE, STACK_PAGES, Attrs(11)) {
+    match memory.map_pages(STACK_PAGE, STACK_PAGES, Attrs::DATA) {
         Ok(()) => {}
         Err(_) => unreachable!(),
     }

@@ -3,10 +3,10 @@ use Rattle.std.specs.Prelude.{ℕ, Bool, true, false, List, [], ◌∷◌, ◌++
 use Rattle.std.specs.List.{concat}
 use Rattle.std.specs.Int.{to_be_bytes, w32, w64}
 use Rattle.hex.specs.Hex.{encode_lower}
-use Rattle.mte_tags.specs.declared.access.FaultKind.{FaultKind}
-use Rattle.mte_tags.specs.declared.access.FaultKind.TheVariants.{Translation, Permission, TagCheck}
-use Rattle.mte_tags.specs.declared.access.FaultKind.TheVariants.{Alignment, SpAlignment}
-use Rattle.mte_tags.specs.declared.access.FaultKind.TheVariants.{PcAlignment}
+use Rattle.mte_tags.specs.declared.fault.FaultKind.{FaultKind}
+use Rattle.mte_tags.specs.declared.fault.FaultKind.TheVariants.{Translation, Permission, TagCheck}
+use Rattle.mte_tags.specs.declared.fault.FaultKind.TheVariants.{Alignment, SpAlignment}
+use Rattle.mte_tags.specs.declared.fault.FaultKind.TheVariants.{PcAlignment}
 use Rattle.mte_sched.specs.declared.record.Status.{Status}
 use Rattle.mte_sched.specs.declared.record.Status.TheVariants.{Running, Exited, Faulted, Illegal}
 use Rattle.mte_sched.specs.declared.record.Status.TheVariants.{Breakpoint, Stopped}
