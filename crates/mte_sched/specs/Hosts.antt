@@ -1,6 +1,8 @@
 -- The host of one tenant: what is refused, and what each accepted event makes of it.
 use Rattle.std.specs.Prelude.{ℕ, ◌+◌, ◌-◌, ◌*◌, ◌==◌, nat_lt, ◌&&◌, ◌||◌, Bool, true, false, List}
 use Rattle.std.specs.Prelude.{[], ◌∷◌, Option, Some, None, if◌then◌else◌, option_map, is_some}
+use Rattle.address_map.specs.declared.limits.TheConstants.{MAX_PAGES, MAX_OUTPUT}
+use Rattle.address_map.specs.declared.ranges.TheConstants.{STACK_PAGES}
 use Rattle.mte_elf.specs.Images.{refusal_of, pages_of}
 use Rattle.mte_sched.specs.declared.admission.AdmitError.{AdmitError}
 use Rattle.mte_sched.specs.declared.admission.AdmitError.TheVariants.{Duplicate, BadReservation}
@@ -44,7 +46,7 @@ when test e = if test then Some e else None
 
 -- A reservation is 1 to 512 pages, and the room at most 65536 bytes.
 abbrev pub is_bad : ℕ → ℕ → Bool
-is_bad pages room = (pages == 0) || nat_lt 512 pages || nat_lt 65536 room
+is_bad pages room = (pages == 0) || nat_lt MAX_PAGES pages || nat_lt MAX_OUTPUT room
 
 -- Why an admission is refused, if it is.
 unfoldable pub admission_refusal : Host → ℕ → List ℕ → ℕ → ℕ → Option AdmitError
@@ -52,7 +54,7 @@ admission_refusal h id image pages room = first_of (
     when (has_id h.tenant id) Duplicate
     ∷ when (is_bad pages room) BadReservation
     ∷ option_map Image (refusal_of image)
-    ∷ when (nat_lt pages (pages_of image + 4)) ReservationTooSmall
+    ∷ when (nat_lt pages (pages_of image + STACK_PAGES)) ReservationTooSmall
     ∷ when (nat_lt (h.frames - charged h) (charge_of pages)) NoFrames
     ∷ when (is_some h.tenant) TooManyLive
     ∷ [])

@@ -3,9 +3,11 @@
 use Rattle.std.specs.Prelude.{ℕ, zero, suc, ◌+◌, ◌-◌, ◌/◌, ◌%◌, ◌^◌, ◌==◌, min, Bool, true, false}
 use Rattle.std.specs.Prelude.{List, [], ◌++◌, replicate, slice_index, slice_set, Option, Some, None}
 use Rattle.std.specs.Prelude.{if◌then◌else◌}
+use Rattle.address_map.specs.declared.ranges.TheConstants.{STACK_START, STACK_END, STACK_PAGES}
 use Rattle.a64_step.specs.declared.registers.Regs.{Regs}
 use Rattle.a64_step.specs.declared.outcome.Outcome.{Outcome}
 use Rattle.a64_step.specs.declared.outcome.Outcome.TheVariants as outcome
+use Rattle.a64_step.specs.Registers.{fresh}
 use Rattle.a64_step.specs.Steps.{step_of}
 use Rattle.mte_tags.specs.declared.fault.MemFault.{MemFault}
 use Rattle.mte_tags.specs.Memory.{Memory, no_pages, with_new_pages}
@@ -27,19 +29,15 @@ with_status m s = record m { account = record m.account { status = s } }
 -- All registers are 0 but SP and PC; the seed's low 16 bits are RGSR_EL1.SEED, the next four
 -- RGSR_EL1.TAG.
 unfoldable pub first_registers : ℕ → ℕ → Regs
-first_registers entry seed = record {
-  x = replicate 31 0;
-  sp = 0x40000000;
-  pc = entry;
-  flags = record { n = false; z = false; c = false; v = false };
+first_registers entry seed = record (fresh entry STACK_END) {
   rgsr = record { tag = seed / 65536 % 16; seed = seed % 65536 };
 }
 
 -- The pages of an image and four pages for a stack, of a reservation of `pages`.
 unfoldable pub first_memory : List ℕ → ℕ → Memory
 first_memory image pages =
-    with_new_pages (with_segments image (no_pages pages) (segments_of image)) 0x3FFFC 4
-    (record { 0 = 11 })
+    with_new_pages (with_segments image (no_pages pages) (segments_of image))
+    (STACK_START / 4096) STACK_PAGES (record { 0 = 11 })
 
 unfoldable pub start_of : ℕ → List ℕ → ℕ → ℕ → ℕ → Machine
 start_of id image seed pages room = record {

@@ -51,12 +51,6 @@ pub enum AdmitError {
 #[derive(Clone, Copy, Debug, PartialEq, Eq)]
 pub struct NotLive;
 
-/// The most pages of a reservation.
-pub const PAGE_LIMIT: u32 = 512;
-
-/// The most bytes that a tenant may write.
-pub const ROOM_LIMIT: u32 = 65_536;
-
 impl AdmitError {
     /// Its name in a report; of an image's refusal the loader's name.
     pub fn name(self) -> &'static str

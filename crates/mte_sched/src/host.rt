@@ -8,8 +8,9 @@ ghost use Rattle.mte_sched.specs.declared.admission.AdmitError.TheVariants.{Imag
 ghost use Rattle.mte_sched.specs.Hosts.{has_id, is_bad, admission_refusal, with_admitted, is_live};
 ghost use Rattle.mte_sched.specs.Hosts.{sliced, stopped, charge_of, charged};
 
-use crate::admission::{Admission, AdmitError, NotLive, PAGE_LIMIT, ROOM_LIMIT};
-use crate::machine::{Machine, STACK_PAGES};
+use crate::admission::{Admission, AdmitError, NotLive};
+use crate::machine::Machine;
+use address_map::{MAX_OUTPUT, MAX_PAGES, STACK_PAGES};
 use mte_elf::{ElfError, Plan, plan};
 use std::alloc::Global;
 
@@ -152,7 +153,8 @@ fn charge(pages: u32) -> u64
 fn is_bad_reservation(admission: &Admission<'_>) -> bool
     ensures { result ≡ is_bad admission.now.pages admission.now.room }
 {
-    admission.pages == 0 || admission.pages > PAGE_LIMIT || admission.room > ROOM_LIMIT
+    let (pages, room) = (u64::from(admission.pages), u64::from(admission.room));
+    pages == 0 || pages > MAX_PAGES || room > MAX_OUTPUT
 }
 
 /// An image's plan, or its refusal as an admission's error.
@@ -173,7 +175,7 @@ fn plan_of(alloc: Global, image: &[u8]) -> Result<Plan, AdmitError>
 
 /// Whether a reservation holds an image's pages and a stack's.
 fn holds_image(reservation: u32, pages: u64) -> bool
-    ensures { IsTrue result ↔ (pages + 4 ≤ reservation) }
+    ensures { IsTrue result ↔ (pages + STACK_PAGES ≤ reservation) }
 {
-    u128::from(pages) + STACK_PAGES as u128 <= u128::from(reservation)
+    u128::from(pages) + u128::from(STACK_PAGES) <= u128::from(reservation)
 }

@@ -9,10 +9,10 @@ mod output;
 mod record;
 mod refusal;
 
-pub use admission::{Admission, AdmitError, NotLive, PAGE_LIMIT, ROOM_LIMIT};
+pub use admission::{Admission, AdmitError, NotLive};
 pub use host::{Host, Tenant};
 pub use isolation::tenant_is_alone;
-pub use machine::{Machine, STACK_PAGES};
+pub use machine::Machine;
 pub use output::Output;
 pub use record::{Record, Status};
 pub use refusal::{Refusal, Refused};

@@ -11,8 +11,8 @@ ghost use Rattle.mte_sched.specs.Machines.{answered, wrote, with_status, first_r
 use crate::admission::Admission;
 use crate::output::Output;
 use crate::record::{Record, Status};
-use a64_bits::Flags;
 use a64_step::{Decoder, Outcome, Regs, run};
+use address_map::{PAGE_SIZE, STACK_END, STACK_PAGES, STACK_START};
 use mte_elf::{Plan, load};
 use mte_tags::{Attrs, Flat, Paged, Rgsr};
 use std::alloc::{AllocError, Global};
@@ -33,15 +33,6 @@ const EXIT: u64 = 0;
 
 const WRITE: u64 = 1;
 
-/// The number of the page where a stack begins.
-const STACK_PAGE: u64 = 0x3FFFC;
-
-/// The pages of a stack.
-pub const STACK_PAGES: usize = 4;
-
-/// One past the end of the stack: the initial SP.
-const STACK_END: u64 = 0x4000_0000;
-
 impl Machine {
     /// The machine at its first instruction: the image's pages, a stack of four pages, all
     /// registers 0 but SP and PC. `plan` is the image's plan, and the reservation holds its pages
@@ -55,7 +46,7 @@ impl Machine {
         requires image { refusal_of admission.now.image.now ≡ None }
         requires segments { plan.now.segments.items ≡ segments_of admission.now.image.now }
         requires entry { plan.now.entry ≡ entry_of admission.now.image.now }
-        requires room { pages_of admission.now.image.now + 4 ≤ admission.now.pages }
+        requires room { pages_of admission.now.image.now + STACK_PAGES ≤ admission.now.pages }
         ensures { IfOk result (λ machine. machine ≡ start_of admission.now.id
             admission.now.image.now admission.now.seed admission.now.pages admission.now.room) }
     {
@@ -182,10 +173,11 @@ impl Machine {
 /// Maps the four pages of a stack.
 fn map_stack(memory: &mut Flat)
     requires free { (page : ℕ) → 65536 ≤ page → page_at memory.old page ≡ None }
-    requires room { 4 ≤ pages_left memory.old }
-    ensures { memory.new ≡ with_new_pages memory.old 0x3FFFC 4 (record { 0 = 11 }) }
+    requires room { STACK_PAGES ≤ pages_left memory.old }
+    ensures { memory.new
+        ≡ with_new_pages memory.old (STACK_START / 4096) STACK_PAGES (record { 0 = 11 }) }
 {
-    match memory.map_pages(STACK_PAGE, STACK_PAGES, Attrs::DATA) {
+    match memory.map_pages(STACK_START / PAGE_SIZE, STACK_PAGES as usize, Attrs::DATA) {
         Ok(()) => {}
         Err(_) => unreachable!(),
     }
@@ -196,19 +188,10 @@ fn map_stack(memory: &mut Flat)
 fn registers_at(entry: u64, seed: u64) -> Regs
     ensures { result ≡ first_registers entry seed }
 {
-    Regs {
-        x: [0; 31],
-        sp: STACK_END,
-        pc: entry,
-        flags: Flags {
-            n: false,
-            z: false,
-            c: false,
-            v: false,
-        },
-        rgsr: Rgsr {
-            tag: (seed / 65536 % 16) as u8,
-            seed: (seed % 65536) as u16,
-        },
-    }
+    let mut regs = Regs::new(entry, STACK_END);
+    regs.rgsr = Rgsr {
+        tag: (seed / 65536 % 16) as u8,
+        seed: (seed % 65536) as u16,
+    };
+    regs
 }

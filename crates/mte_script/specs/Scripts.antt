@@ -4,6 +4,7 @@ use Rattle.std.specs.Prelude.{true, false, List, [], ◌∷◌, length, slice_in
 use Rattle.std.specs.Prelude.{Option, Some, None, Result, Ok, Err, if◌then◌else◌, option_map}
 use Rattle.std.specs.List.{list_all, starts_with}
 use Rattle.std.specs.Int.{from_be_bytes, w64}
+use Rattle.address_map.specs.declared.limits.TheConstants.{MAX_STEPS}
 use Rattle.hex.specs.Hex.{decode_sized}
 use Rattle.hex.specs.declared.FromHexError.{FromHexError}
 use Rattle.mte_script.specs.declared.event.Event.{Event}
@@ -130,7 +131,7 @@ unfoldable pub limited_of : ℕ → Line → Result Event ScriptFault
 limited_of files (raw.Stop id) =
     event_or (first_fault_of ((nat_lt 65535 id, BadNumber) ∷ [])) (event.Stop id)
 limited_of files (raw.Slice id steps) = event_or
-    (first_fault_of ((nat_lt 65535 id, BadNumber) ∷ (nat_lt 1048576 steps, BadNumber) ∷ []))
+    (first_fault_of ((nat_lt 65535 id, BadNumber) ∷ (nat_lt MAX_STEPS steps, BadNumber) ∷ []))
     (event.Slice id steps)
 limited_of files (raw.Admit id image input seed pages room) = event_or
     (first_fault_of (

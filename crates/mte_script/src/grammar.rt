@@ -8,12 +8,10 @@ ghost use Rattle.mte_script.specs.Words.{admission_of};
 use crate::error::ScriptFault;
 use crate::event::Event;
 use crate::text::{decimal, is, sixteen_digits};
+use address_map::MAX_STEPS;
 
 /// The largest number of a tenant.
 const ID_LIMIT: u64 = 65_535;
-
-/// The most instructions of a slice.
-const STEP_LIMIT: u64 = 1_048_576;
 
 /// The largest number of a file, of a reservation and of a room.
 const NUMBER_LIMIT: u64 = 4_294_967_295;
@@ -148,7 +146,7 @@ fn limited(line: Line, files: usize) -> Result<Event, ScriptFault>
             Ok(Event::Stop { id: id as u16 })
         }
         Line::Slice { id, steps } => {
-            if id > ID_LIMIT || steps > STEP_LIMIT {
+            if id > ID_LIMIT || steps > MAX_STEPS {
                 return Err(ScriptFault::BadNumber);
             }
             Ok(Event::Slice {
