@@ -32,6 +32,9 @@ admit_name NoFrames = codes "NoFrames"
 admit_name TooManyLive = codes "TooManyLive"
 admit_name OutOfMemory = codes "OutOfMemory"
 
+abbrev pub not_live_name : List ℕ
+not_live_name = codes "NotLive"
+
 abbrev pub refusal_name : Refusal → List ℕ
 refusal_name (refusal.Admit e) = admit_name e
-refusal_name refusal.NotLive = codes "NotLive"
+refusal_name refusal.NotLive = not_live_name

@@ -1,7 +1,7 @@
 //! What a tenant is admitted with, and why it is refused.
 
-ghost use Rattle.std.specs.Prelude.{◌≡◌};
-ghost use Rattle.mte_sched.specs.Names.{admit_name, image_name};
+ghost use Rattle.std.specs.Prelude.{◌≡◌, Some};
+ghost use Rattle.mte_sched.specs.Names.{admit_name, image_name, not_live_name};
 ghost use Rattle.mte_sched.specs.declared.admission.AdmitError.TheVariants.{OutOfMemory};
 
 use crate::refusal::Refusal;
@@ -87,6 +87,8 @@ fn image_text(error: ElfError) -> &'static str
 }
 
 impl fmt::Display for AdmitError {
+    ghost output = { λ error. Some (admit_name error) };
+
     fn fmt<W: fmt::Write>(&self, f: &mut fmt::Formatter<W>) -> fmt::Result {
         f.write_str(self.name())
     }
@@ -95,6 +97,8 @@ impl fmt::Display for AdmitError {
 impl Error for AdmitError {}
 
 impl fmt::Display for NotLive {
+    ghost output = { λ _. Some not_live_name };
+
     fn fmt<W: fmt::Write>(&self, f: &mut fmt::Formatter<W>) -> fmt::Result {
         f.write_str(Refusal::NotLive.name())
     }

@@ -1,6 +1,6 @@
 //! What is wrong with a script.
 
-ghost use Rattle.std.specs.Prelude.{◌≡◌};
+ghost use Rattle.std.specs.Prelude.{◌≡◌, Some};
 ghost use Rattle.mte_script.specs.Faults.{fault_name};
 ghost use Rattle.mte_script.specs.declared.error.ScriptError.TheVariants.{OutOfMemory};
 
@@ -36,6 +36,8 @@ impl ScriptFault {
 }
 
 impl fmt::Display for ScriptFault {
+    ghost output = { λ fault. Some (fault_name fault) };
+
     fn fmt<W: fmt::Write>(&self, f: &mut fmt::Formatter<W>) -> fmt::Result {
         f.write_str(self.name())
     }
