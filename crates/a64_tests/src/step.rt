@@ -85,8 +85,8 @@ fn changes_its_own_code(rt: HostRuntime) -> Result<(), Fail> {
     Ok(())
 }
 
-// A load through the untagged pointer, one with base SP and write-back, and one that passes a granule's
-// end; a word without a meaning, and a branch to an odd address. One decoder serves all.
+// A load through the untagged pointer, one with base SP and write-back, and one that passes a
+// granule's end; a word without a meaning, and a branch to an odd address. One decoder serves all.
 #[test]
 fn programs_stop_where_they_should(rt: HostRuntime) -> Result<(), Fail> {
     let rows: [(&[u32], Outcome, u64, u64); 5] = [

@@ -179,7 +179,7 @@ events_from files [] n k = Ok []
 events_from files (line ∷ more) n k = read_on (event_of_line files line) n k
     (events_from files more (n + 1) k) (events_from files more (n + 1) (k + 1))
 
--- A script's events, or the number of its first faulty line and its first fault; `files` is how many
--- files there are.
+-- A script's events, or the number of its first faulty line and its first fault; `files` is how
+-- many files there are.
 unfoldable pub script_events : ℕ → List ℕ → Parsed
 script_events files script = events_from files (lines_of script) 1 0
