@@ -26,11 +26,15 @@ def image(words):
 
 
 def main():
-    if len(sys.argv) < 2:
+    if len(sys.argv) < 3:
         sys.exit(__doc__)
-    words = [int(word, 16) for word in sys.argv[2:]]
+    try:
+        words = [int(word, 16) for word in sys.argv[2:]]
+        body = image(words)
+    except (ValueError, struct.error):
+        sys.exit("build_image.py: a WORD isn't 8 hexadecimal digits")
     with open(sys.argv[1], "wb") as out:
-        out.write(image(words))
+        out.write(body)
 
 
 if __name__ == "__main__":
