@@ -105,6 +105,10 @@ class_in es ns class k = record {
   marks = marks_in es ns class k.pages;
 }
 
+-- a class, as its list says
+abbrev pub state_in : List Entry → List ℕ → List ClassList → ℕ → ClassState
+state_in es ns ks class = class_in es ns class (list_at ks class)
+
 abbrev pub state_of : ℕ → List Entry → List ℕ → List ClassList → PoolState
 state_of left es ns ks = pool_by left (λ class. class_in es ns class (list_at ks class))
 
