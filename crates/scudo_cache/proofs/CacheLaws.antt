@@ -13,9 +13,9 @@ use Rattle.scudo_primary.specs.Lists.{IsClass}
 use Rattle.scudo_primary.proofs.BlockLemmas.{number_of-block_at, IsBlock-more}
 use Rattle.scudo_primary.proofs.ListLemmas.{member-other, member-first}
 use Rattle.scudo_primary.proofs.PoolLaws.{class_at-with_pages, class_at-with_pages_other, class_at-pushed, class_at-pushed_other, class_at-popped, class_at-popped_other, left-pushed, left-with_mark, left-without_batch, left-with_batch, left-with_pages}
-use Rattle.scudo_cache.specs.Caches.{entries_of, IsAbove, refilled, newest, handed_out, after_take, with_room, after_put}
+use Rattle.scudo_cache.specs.Caches.{class_with, entries_of, IsAbove, refilled, newest, handed_out, after_take, with_room, after_put}
 use Rattle.scudo_cache.proofs.EntryLemmas.{member-both, loose-mark}
-use Rattle.scudo_cache.proofs.ClassLemmas.{halved_class, whole_class}
+use Rattle.scudo_cache.proofs.ClassLemmas.{halved_class}
 
 pub above-new : (v : List (List ℕ)) (p : PoolState) → v ≡ replicate CLASSES [] → IsAbove v p
 above-new v p e = record {
@@ -120,7 +120,7 @@ left-taken c xs p = left-handed_out c (refilled c xs p).pool (newest (refilled c
 
 left-with_room : (c : ℕ) (xs : List ℕ) (p : PoolState) → (with_room c xs p).pool.left ≡ p.left
 unfolding with_room
-left-with_room c xs p = elim (eqb (length xs) (max_count_of c)) as (λ t. (cond t (halved_class c xs p) (whole_class xs p)).pool.left ≡ p.left) [
+left-with_room c xs p = elim (eqb (length xs) (max_count_of c)) as (λ t. (cond t (halved_class c xs p) (class_with xs p)).pool.left ≡ p.left) [
   | true ↦ left-with_batch p c (take (max_count_of c / 2) xs)
   | false ↦ refl
 ]

@@ -9,19 +9,22 @@ use Rattle.scudo_primary.specs.Blocks.{number_of, IsBlock}
 use Rattle.scudo_primary.specs.Batches.{max_count_of}
 use Rattle.scudo_primary.specs.Pools.{ClassState, PoolState, IsLoose, is_marked, class_at, mark_in, push_batch_in, with_mark, with_batch, without_batch, top_batch}
 use Rattle.scudo_primary.proofs.PoolLaws.{class_at-with_mark, class_at-with_mark_other, class_at-without_batch_other, class_at-with_batch, class_at-with_batch_other}
-use Rattle.scudo_cache.specs.Caches.{Class, refilled, newest, handed_out, after_take, with_room, after_put}
+use Rattle.scudo_cache.specs.Caches.{Class, class_with, IsHeld, refilled, newest, handed_out, after_take, with_room, after_put}
 use Rattle.scudo_cache.proofs.EntryLemmas.{others-before, distinct-take, distinct-drop, all-loose-mark, used-other, distinct-new, loose-rest}
+
+pub class-same : (k : Class) (xs : List ℕ) (p : PoolState) → xs ≡ k.entries → p ≡ k.pool → class_with xs p ≡ k
+class-same k xs p ex ep = ap (λ t. class_with t p) ex ∙ ap (class_with k.entries) ep
 
 -- ---- an empty list of entries gets the top batch
 
-pub refilled-some : (c : ℕ) (xs : List ℕ) (p : PoolState) → 0 < length xs → ((refilled c xs p).entries ≡ xs) × ((refilled c xs p).pool ≡ p)
+pub refilled-some : (c : ℕ) (xs : List ℕ) (p : PoolState) → 0 < length xs → class_with xs p ≡ refilled c xs p
 unfolding refilled
 refilled-some c [] p h = absurd (omega arith)
-refilled-some c (x ∷ xs) p h = (refl, refl)
+refilled-some c (x ∷ xs) p h = refl
 
-pub refilled-none : (c : ℕ) (xs : List ℕ) (p : PoolState) → length xs ≡ 0 → ((refilled c xs p).entries ≡ top_batch p c) × ((refilled c xs p).pool ≡ without_batch p c)
+pub refilled-none : (c : ℕ) (xs : List ℕ) (p : PoolState) → length xs ≡ 0 → class_with (top_batch p c) (without_batch p c) ≡ refilled c xs p
 unfolding refilled
-refilled-none c [] p h = (refl, refl)
+refilled-none c [] p h = refl
 refilled-none c (x ∷ xs) p h = absurd (omega arith)
 
 -- the front of a buffer of m places, which was written
@@ -46,13 +49,9 @@ stack-mark p c b mark = ap (λ (k : ClassState). k.stack) (class_at-with_mark p 
 sizes-mark : (p : PoolState) (c b : ℕ) (mark : Bool) → (class_at (with_mark p c b mark) c).sizes ≡ (class_at p c).sizes
 sizes-mark p c b mark = ap (λ (k : ClassState). k.sizes) (class_at-with_mark p c b mark)
 
-pub taken-pool : (c : ℕ) (o : Option ℕ) (k : Class) (p : PoolState) (xs : List ℕ) → p ≡ k.pool → xs ≡ k.entries → o ≡ newest xs → handed_out c p o ≡ (after_take c k).pool
+pub taken-state : (p p' : PoolState) (c : ℕ) (o : Option ℕ) (xs ys : List ℕ) → p' ≡ handed_out c p o → ys ≡ take (length xs - 1) xs → o ≡ newest xs → class_with ys p' ≡ after_take c (class_with xs p)
 unfolding after_take
-taken-pool c o k p xs ep ex eo = ap (λ t. handed_out c t o) ep ∙ ap (handed_out c k.pool) (eo ∙ ap newest ex)
-
-pub taken-entries : (c : ℕ) (k : Class) (xs ys : List ℕ) → xs ≡ k.entries → ys ≡ take (length xs - 1) xs → ys ≡ (after_take c k).entries
-unfolding after_take
-taken-entries c k xs ys ex ey = ey ∙ ap (λ t. take (length t - 1) t) ex
+taken-state p p' c o xs ys ep ey eo = class-same (after_take c (class_with xs p)) ys p' ey (ep ∙ ap (handed_out c p) eo)
 
 at-place : (xs : List ℕ) (b n : ℕ) → Some b ≡ slice_get xs n → (n < length xs) × (get_or xs n 0 ≡ b)
 at-place [] b n e = cc
@@ -90,6 +89,9 @@ taken-used p p' c b ep =
 pub taken-distinct : (xs ys : List ℕ) → ys ≡ take (length xs - 1) xs → IsDistinct nat_eq xs → IsDistinct nat_eq ys
 taken-distinct xs ys e u = subst (IsDistinct nat_eq) (sym e) (distinct-take (length xs - 1) xs (omega arith) u)
 
+pub taken-top : (b : ℕ) (xs ys s : List ℕ) → xs ≡ ys ++ b ∷ [] → Some b ≡ slice_get (reverse xs ++ s) 0
+taken-top b xs ys s ex = sym (ap (λ t. slice_get (reverse t ++ s) 0) ex ∙ ap (λ t. slice_get (t ++ s) 0) (reverse-append ys (b ∷ [])))
+
 pub taken-rest : (p p' : PoolState) (c b : ℕ) (xs ys zs : List ℕ) → p' ≡ with_mark p c b false → xs ≡ ys ++ b ∷ [] → reverse xs ++ (class_at p c).stack ≡ zs → reverse ys ++ (class_at p' c).stack ≡ drop 1 zs
 taken-rest p p' c b xs ys zs ep ex e =
     ap (λ t. reverse ys ++ (class_at t c).stack) ep ∙ ap (λ s. reverse ys ++ s) (stack-mark p c b false)
@@ -112,31 +114,27 @@ taken-lists c k = elim (newest k.entries) as (λ o. ((class_at (handed_out c k.p
 
 -- ---- full entries give their oldest half
 
-pub room-full : (c : ℕ) (xs : List ℕ) (p : PoolState) → length xs ≡ max_count_of c
-    → ((with_room c xs p).entries ≡ drop (max_count_of c / 2) xs) × ((with_room c xs p).pool ≡ with_batch p c (take (max_count_of c / 2) xs))
-unfolding with_room
-room-full c xs p h =
-    let t : eqb (length xs) (max_count_of c) ≡ true = eq-eqb _ _ h in
-    (ap (λ (k : Class). k.entries) (cond-true _ _ _ t), ap (λ (k : Class). k.pool) (cond-true _ _ _ t))
-
-pub room-left : (c : ℕ) (xs : List ℕ) (p : PoolState) → length xs < max_count_of c → ((with_room c xs p).entries ≡ xs) × ((with_room c xs p).pool ≡ p)
-unfolding with_room
-room-left c xs p h =
-    let t : eqb (length xs) (max_count_of c) ≡ false = grind (arith, nat_tests) in
-    (ap (λ (k : Class). k.entries) (cond-false _ _ _ t), ap (λ (k : Class). k.pool) (cond-false _ _ _ t))
-
 abbrev pub halved_class : ℕ → List ℕ → PoolState → Class
 halved_class c xs p = record { entries = drop (max_count_of c / 2) xs; pool = with_batch p c (take (max_count_of c / 2) xs) }
 
-abbrev pub whole_class : List ℕ → PoolState → Class
-whole_class xs p = record { entries = xs; pool = p }
+pub room-full : (c : ℕ) (xs : List ℕ) (p : PoolState) → length xs ≡ max_count_of c → halved_class c xs p ≡ with_room c xs p
+unfolding with_room
+room-full c xs p h =
+    let t : eqb (length xs) (max_count_of c) ≡ true = eq-eqb _ _ h in
+    sym (cond-true _ _ _ t)
+
+pub room-left : (c : ℕ) (xs : List ℕ) (p : PoolState) → length xs < max_count_of c → class_with xs p ≡ with_room c xs p
+unfolding with_room
+room-left c xs p h =
+    let t : eqb (length xs) (max_count_of c) ≡ false = grind (arith, nat_tests) in
+    sym (cond-false _ _ _ t)
 
 room-class : (c : ℕ) (xs : List ℕ) (p : PoolState) → ((class_at (with_room c xs p).pool c).pages ≡ (class_at p c).pages) × ((class_at (with_room c xs p).pool c).marks ≡ (class_at p c).marks)
 unfolding with_room
 room-class c xs p =
     elim (eqb (length xs) (max_count_of c)) as (λ t.
-    ((class_at (cond t (halved_class c xs p) (whole_class xs p)).pool c).pages ≡ (class_at p c).pages)
-    × ((class_at (cond t (halved_class c xs p) (whole_class xs p)).pool c).marks ≡ (class_at p c).marks)) [
+    ((class_at (cond t (halved_class c xs p) (class_with xs p)).pool c).pages ≡ (class_at p c).pages)
+    × ((class_at (cond t (halved_class c xs p) (class_with xs p)).pool c).marks ≡ (class_at p c).marks)) [
       | true ↦ (ap (λ (k : ClassState). k.pages) (class_at-with_batch p c (take (max_count_of c / 2) xs)), ap (λ (k : ClassState). k.marks) (class_at-with_batch p c (take (max_count_of c / 2) xs)))
       | false ↦ (refl, refl)
     ]
@@ -150,41 +148,42 @@ used-still c b xs p q e h = ap (λ t. is_marked t c b) e ∙ ap (λ ms. get_or m
 pub room-other : (c : ℕ) (xs : List ℕ) (p : PoolState) (d : ℕ) → d ≢ c → class_at (with_room c xs p).pool d ≡ class_at p d
 unfolding with_room
 room-other c xs p d n =
-    elim (eqb (length xs) (max_count_of c)) as (λ t. class_at (cond t (halved_class c xs p) (whole_class xs p)).pool d ≡ class_at p d) [
+    elim (eqb (length xs) (max_count_of c)) as (λ t. class_at (cond t (halved_class c xs p) (class_with xs p)).pool d ≡ class_at p d) [
       | true ↦ class_at-with_batch_other p c (take (max_count_of c / 2) xs) d n
       | false ↦ refl
     ]
 
--- what the pool and the entries are after the half n went
+-- after the first n of the entries went
 pub record IsHalved (p p' : PoolState) (c : ℕ) (xs ys : List ℕ) : Type 0 where
-  pub loose : All (IsLoose (class_at p' c) c) ys
-  pub distinct : IsDistinct nat_eq ys
+  pub held : IsHeld c ys p'
   pub stack : reverse ys ++ (class_at p' c).stack ≡ reverse xs ++ (class_at p c).stack
 
-halved : (p p' : PoolState) (c n : ℕ) (xs ys : List ℕ) → n ≤ length xs → p' ≡ with_batch p c (take n xs) → ys ≡ drop n xs → IsDistinct nat_eq xs → All (IsLoose (class_at p c) c) xs → IsHalved p p' c xs ys
-halved p p' c n xs ys l ep ey u h =
+halved : (p p' : PoolState) (c n : ℕ) (xs ys : List ℕ) → n ≤ length xs → p' ≡ with_batch p c (take n xs) → ys ≡ drop n xs → IsHeld c xs p → IsHalved p p' c xs ys
+halved p p' c n xs ys l ep ey h =
     let at : class_at p' c ≡ push_batch_in (class_at p c) (take n xs) = ap (λ t. class_at t c) ep ∙ class_at-with_batch p c (take n xs) in
+    let len = length-drop n xs in
+    let most : length xs ≤ max_count_of c = h.most in
     record {
-      loose = subst (λ (k : ClassState). All (IsLoose k c) ys) (sym at) (subst (All (IsLoose (push_batch_in (class_at p c) (take n xs)) c)) (sym ey) (loose-rest (class_at p c) c n xs l u h));
-      distinct = subst (IsDistinct nat_eq) (sym ey) (distinct-drop n xs u);
+      held = record {
+        cached = subst (λ (k : ClassState). All (IsLoose k c) ys) (sym at) (subst (All (IsLoose (push_batch_in (class_at p c) (take n xs)) c)) (sym ey) (loose-rest (class_at p c) c n xs l h.distinct h.cached));
+        distinct = subst (IsDistinct nat_eq) (sym ey) (distinct-drop n xs h.distinct);
+        most = subst (λ (t : List ℕ). length t ≤ max_count_of c) (sym ey) (omega arith);
+      };
       stack = ap (λ (k : ClassState). reverse ys ++ k.stack) at ∙ ap (λ t. reverse t ++ (reverse (take n xs) ++ (class_at p c).stack)) ey
           ∙ sym (append_assoc (reverse (drop n xs)) (reverse (take n xs)) (class_at p c).stack)
           ∙ ap (λ t. t ++ (class_at p c).stack) (sym (reverse-append (take n xs) (drop n xs)) ∙ ap reverse (take-append-drop n xs));
     }
 
-pub room-halved : (p p' : PoolState) (c : ℕ) (xs ys : List ℕ) → length xs ≡ max_count_of c → ys ≡ (with_room c xs p).entries → p' ≡ (with_room c xs p).pool → IsDistinct nat_eq xs → All (IsLoose (class_at p c) c) xs
-    → IsHalved p p' c xs ys
-room-halved p p' c xs ys f ey ep u h = halved p p' c (max_count_of c / 2) xs ys (omega arith) (ep ∙ (room-full c xs p f).1) (ey ∙ (room-full c xs p f).0) u h
+pub room-halved : (p p' : PoolState) (c : ℕ) (xs ys : List ℕ) → length xs ≡ max_count_of c → class_with ys p' ≡ with_room c xs p → IsHeld c xs p → IsHalved p p' c xs ys
+room-halved p p' c xs ys f e h =
+    let t = e ∙ sym (room-full c xs p f) in
+    halved p p' c (max_count_of c / 2) xs ys (omega arith) (ap (λ (k : Class). k.pool) t) (ap (λ (k : Class). k.entries) t) h
 
 -- ---- a block behind the others
 
-pub put-entries : (c b : ℕ) (k : Class) (xs ys : List ℕ) → xs ≡ k.entries → ys ≡ xs ++ b ∷ [] → ys ≡ (after_put c b k).entries
+pub put-state : (p p' : PoolState) (c b : ℕ) (xs ys : List ℕ) → p' ≡ with_mark p c b true → ys ≡ xs ++ b ∷ [] → class_with ys p' ≡ after_put c b (class_with xs p)
 unfolding after_put
-put-entries c b k xs ys ex ey = ey ∙ ap (λ t. t ++ b ∷ []) ex
-
-pub put-pool : (c b : ℕ) (k : Class) (p p' : PoolState) → p ≡ k.pool → p' ≡ with_mark p c b true → p' ≡ (after_put c b k).pool
-unfolding after_put
-put-pool c b k p p' ep e = e ∙ ap (λ t. with_mark t c b true) ep
+put-state p p' c b xs ys ep ey = class-same (after_put c b (class_with xs p)) ys p' ey ep
 
 pub put-other : (c b : ℕ) (k : Class) (d : ℕ) → d ≢ c → class_at (after_put c b k).pool d ≡ class_at k.pool d
 unfolding after_put

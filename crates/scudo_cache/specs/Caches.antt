@@ -5,14 +5,15 @@
 --                               blocks, the newest on top, and then the pool's
 --     IsAbove c p               what the cache holds is carved, marked free and in no list of the
 --                               pool
-use Rattle.std.specs.Prelude.{ℕ, ◌-◌, ◌/◌, ◌<◌, ◌≤◌, ◌==◌, true, false, List, [], ◌∷◌, ◌++◌, length}
-use Rattle.std.specs.Prelude.{take, drop, reverse, get_or, slice_get, slice_set, Option, Some, None}
-use Rattle.std.specs.Prelude.{if◌then◌else◌}
-use Rattle.std.specs.List.{All}
+use Rattle.std.specs.Prelude.{ℕ, ◌-◌, ◌/◌, ◌<◌, ◌≤◌, ◌≡◌, ◌==◌, true, false, List, [], ◌∷◌, ◌++◌}
+use Rattle.std.specs.Prelude.{length, take, drop, reverse, get_or, slice_get, slice_set, nat_eq}
+use Rattle.std.specs.Prelude.{Option, Some, None, IfSome, if◌then◌else◌}
+use Rattle.std.specs.List.{All, IsDistinct}
 use Rattle.scudo_header.specs.declared.classes.TheConstants.{CLASSES}
 use Rattle.scudo_primary.specs.Batches.{max_count_of}
-use Rattle.scudo_primary.specs.Pools.{PoolState, stack_of, IsCached, top_batch, without_batch}
-use Rattle.scudo_primary.specs.Pools.{with_batch, with_mark}
+use Rattle.scudo_primary.specs.Blocks.{IsBlock}
+use Rattle.scudo_primary.specs.Pools.{PoolState, stack_of, pages_of, IsCached, is_marked}
+use Rattle.scudo_primary.specs.Pools.{top_batch, without_batch, with_batch, with_mark}
 
 abbrev pub entries_of : List (List ℕ) → ℕ → List ℕ
 entries_of c class = get_or c (class - 1) []
@@ -20,8 +21,12 @@ entries_of c class = get_or c (class - 1) []
 abbrev pub with_entries : List (List ℕ) → ℕ → List ℕ → List (List ℕ)
 with_entries c class entries = slice_set c (class - 1) entries
 
+-- a class's blocks, the oldest first, on the pool's
+abbrev pub stack_over : List ℕ → PoolState → ℕ → List ℕ
+stack_over entries p class = reverse entries ++ stack_of p class
+
 abbrev pub one_stack : List (List ℕ) → PoolState → ℕ → List ℕ
-one_stack c p class = reverse (entries_of c class) ++ stack_of p class
+one_stack c p class = stack_over (entries_of c class) p class
 
 pub record IsAbove (c : List (List ℕ)) (p : PoolState) : Type 0 where
   pub cached :
@@ -32,6 +37,9 @@ pub record IsAbove (c : List (List ℕ)) (p : PoolState) : Type 0 where
 pub record Class : Type 0 where
   pub entries : List ℕ
   pub pool : PoolState
+
+abbrev pub class_with : List ℕ → PoolState → Class
+class_with entries p = record { entries = entries; pool = p }
 
 -- where the cache holds none, it gets the pool's top batch
 unfoldable pub refilled : ℕ → List ℕ → PoolState → Class
@@ -65,3 +73,18 @@ with_room class entries p = if length entries == max_count_of class
 unfoldable pub after_put : ℕ → ℕ → Class → Class
 after_put class block k =
     record { entries = k.entries ++ block ∷ []; pool = with_mark k.pool class block true }
+
+-- the blocks that the cache holds of a class
+pub record IsHeld (class : ℕ) (entries : List ℕ) (p : PoolState) : Type 0 where
+  pub cached : All (IsCached p class) entries
+  pub distinct : IsDistinct nat_eq entries
+  pub most : length entries ≤ max_count_of class
+
+-- a block that is taken: the top of the class's stack, carved, and marked used
+pub record Took
+    (class : ℕ) (old : List ℕ) (p : PoolState) (new : List ℕ) (p' : PoolState)
+    (result : Option ℕ) : Type 0 where
+  pub top : result ≡ slice_get (stack_over old p class) 0
+  pub rest : stack_over new p' class ≡ drop 1 (stack_over old p class)
+  pub block : IfSome result (IsBlock class (pages_of p' class))
+  pub used : IfSome result (λ block. is_marked p' class block ≡ false)

@@ -1,17 +1,14 @@
 //! The blocks of each class that are at hand.
 
-ghost use Rattle.std.specs.Prelude.{◌≡◌, ◌≢◌, ◌<◌, ◌≤◌, ◌-◌, ◌+◌, ◌∷◌, ◌++◌, [], ℕ, List, length};
-ghost use Rattle.std.specs.Prelude.{drop, reverse, slice_get, replicate, nat_eq, false, true};
-ghost use Rattle.std.specs.Prelude.{IfSome, IfOk};
-ghost use Rattle.std.specs.List.{All, IsDistinct};
+ghost use Rattle.std.specs.Prelude.{◌≡◌, ◌≢◌, ◌<◌, ◌≤◌, ◌∷◌, [], ℕ, List, length};
+ghost use Rattle.std.specs.Prelude.{drop, slice_get, replicate, false, IfSome, IfOk};
 ghost use Rattle.arrayvec.specs.ArrayVec.{array_vec_len};
 ghost use Rattle.scudo_primary.specs.Batches.{max_count_of};
 ghost use Rattle.scudo_primary.specs.Blocks.{IsBlock};
-ghost use Rattle.scudo_primary.specs.Pools.{pages_of, stack_of, sizes_of, is_marked, with_mark};
-ghost use Rattle.scudo_primary.specs.Pools.{IsCached};
-ghost use Rattle.scudo_cache.specs.Caches.{entries_of, with_entries, one_stack, IsAbove, refilled};
-ghost use Rattle.scudo_cache.specs.Caches.{newest, without_newest, handed_out, after_take};
-ghost use Rattle.scudo_cache.specs.Caches.{with_room, after_put};
+ghost use Rattle.scudo_primary.specs.Pools.{pages_of, stack_of, sizes_of, is_marked};
+ghost use Rattle.scudo_cache.specs.Caches.{entries_of, with_entries, one_stack, stack_over};
+ghost use Rattle.scudo_cache.specs.Caches.{IsAbove, IsHeld, Took, class_with, refilled, newest};
+ghost use Rattle.scudo_cache.specs.Caches.{after_take, with_room, after_put};
 
 use arrayvec::ArrayVec;
 use scudo_header::CLASSES;
@@ -110,21 +107,12 @@ impl Cache {
 fn take_from(entries: &mut ArrayVec<u64, MAX_COUNT>, class: u8, pool: &mut Pool) -> Option<u64>
     requires low { 0 < class }
     requires high { class ≤ CLASSES }
-    requires cached { All (IsCached pool.old class) entries.old.items }
-    requires distinct { IsDistinct nat_eq entries.old.items }
-    requires most { array_vec_len entries.old ≤ max_count_of class }
+    requires held { IsHeld class entries.old.items pool.old }
     ensures answer { result ≡ newest (refilled class entries.old.items pool.old).entries }
-    ensures entries { entries.new.items
-        ≡ (after_take class (refilled class entries.old.items pool.old)).entries }
-    ensures pool { pool.new ≡ (after_take class (refilled class entries.old.items pool.old)).pool }
-    ensures cached { All (IsCached pool.new class) entries.new.items }
-    ensures distinct { IsDistinct nat_eq entries.new.items }
-    ensures most { array_vec_len entries.new ≤ max_count_of class }
-    ensures top { result ≡ slice_get (reverse entries.old.items ++ stack_of pool.old class) 0 }
-    ensures rest { reverse entries.new.items ++ stack_of pool.new class
-        ≡ drop 1 (reverse entries.old.items ++ stack_of pool.old class) }
-    ensures block { IfSome result (IsBlock class (pages_of pool.new class)) }
-    ensures used { IfSome result (λ block. is_marked pool.new class block ≡ false) }
+    ensures state { class_with entries.new.items pool.new
+        ≡ after_take class (refilled class entries.old.items pool.old) }
+    ensures held { IsHeld class entries.new.items pool.new }
+    ensures took { Took class entries.old.items pool.old entries.new.items pool.new result }
 {
     if entries.is_empty() {
         return refill_and_take(entries, class, pool);
@@ -143,17 +131,10 @@ fn refill_and_take(
     requires high { class ≤ CLASSES }
     requires empty { array_vec_len entries.old ≡ 0 }
     ensures answer { result ≡ newest (refilled class entries.old.items pool.old).entries }
-    ensures entries { entries.new.items
-        ≡ (after_take class (refilled class entries.old.items pool.old)).entries }
-    ensures pool { pool.new ≡ (after_take class (refilled class entries.old.items pool.old)).pool }
-    ensures cached { All (IsCached pool.new class) entries.new.items }
-    ensures distinct { IsDistinct nat_eq entries.new.items }
-    ensures most { array_vec_len entries.new ≤ max_count_of class }
-    ensures top { result ≡ slice_get (reverse entries.old.items ++ stack_of pool.old class) 0 }
-    ensures rest { reverse entries.new.items ++ stack_of pool.new class
-        ≡ drop 1 (reverse entries.old.items ++ stack_of pool.old class) }
-    ensures block { IfSome result (IsBlock class (pages_of pool.new class)) }
-    ensures used { IfSome result (λ block. is_marked pool.new class block ≡ false) }
+    ensures state { class_with entries.new.items pool.new
+        ≡ after_take class (refilled class entries.old.items pool.old) }
+    ensures held { IsHeld class entries.new.items pool.new }
+    ensures took { Took class entries.old.items pool.old entries.new.items pool.new result }
 {
     refill(entries, class, pool);
     hand_out(entries, class, pool)
@@ -164,20 +145,13 @@ fn refill_and_take(
 fn hand_out(entries: &mut ArrayVec<u64, MAX_COUNT>, class: u8, pool: &mut Pool) -> Option<u64>
     requires low { 0 < class }
     requires high { class ≤ CLASSES }
-    requires cached { All (IsCached pool.old class) entries.old.items }
-    requires distinct { IsDistinct nat_eq entries.old.items }
+    requires held { IsHeld class entries.old.items pool.old }
     requires none { entries.old.items ≡ [] → stack_of pool.old class ≡ [] }
     ensures answer { result ≡ newest entries.old.items }
-    ensures entries { entries.new.items ≡ without_newest entries.old.items }
-    ensures pool { pool.new ≡ handed_out class pool.old result }
-    ensures cached { All (IsCached pool.new class) entries.new.items }
-    ensures distinct { IsDistinct nat_eq entries.new.items }
-    ensures most { array_vec_len entries.new ≤ array_vec_len entries.old }
-    ensures top { result ≡ slice_get (reverse entries.old.items ++ stack_of pool.old class) 0 }
-    ensures rest { reverse entries.new.items ++ stack_of pool.new class
-        ≡ drop 1 (reverse entries.old.items ++ stack_of pool.old class) }
-    ensures block { IfSome result (IsBlock class (pages_of pool.new class)) }
-    ensures used { IfSome result (λ block. is_marked pool.new class block ≡ false) }
+    ensures state { class_with entries.new.items pool.new
+        ≡ after_take class (class_with entries.old.items pool.old) }
+    ensures held { IsHeld class entries.new.items pool.new }
+    ensures took { Took class entries.old.items pool.old entries.new.items pool.new result }
 {
     let block = entries.pop()?;
     pool.mark_used(class, block);
@@ -189,14 +163,12 @@ fn refill(entries: &mut ArrayVec<u64, MAX_COUNT>, class: u8, pool: &mut Pool)
     requires low { 0 < class }
     requires high { class ≤ CLASSES }
     requires empty { array_vec_len entries.old ≡ 0 }
-    ensures entries { entries.new.items ≡ (refilled class entries.old.items pool.old).entries }
-    ensures pool { pool.new ≡ (refilled class entries.old.items pool.old).pool }
-    ensures cached { All (IsCached pool.new class) entries.new.items }
-    ensures distinct { IsDistinct nat_eq entries.new.items }
-    ensures most { array_vec_len entries.new ≤ max_count_of class }
+    ensures state { class_with entries.new.items pool.new
+        ≡ refilled class entries.old.items pool.old }
+    ensures held { IsHeld class entries.new.items pool.new }
     ensures none { entries.new.items ≡ [] → stack_of pool.new class ≡ [] }
-    ensures stack { reverse entries.new.items ++ stack_of pool.new class
-        ≡ reverse entries.old.items ++ stack_of pool.old class }
+    ensures stack { stack_over entries.new.items pool.new class
+        ≡ stack_over entries.old.items pool.old class }
 {
     let mut batch = [0; MAX_COUNT];
     let count = pool.pop_batch(class, &mut batch);
@@ -210,20 +182,14 @@ fn refill(entries: &mut ArrayVec<u64, MAX_COUNT>, class: u8, pool: &mut Pool)
 fn put_into(entries: &mut ArrayVec<u64, MAX_COUNT>, class: u8, block: u64, pool: &mut Pool)
     requires low { 0 < class }
     requires high { class ≤ CLASSES }
-    requires cached { All (IsCached pool.old class) entries.old.items }
-    requires distinct { IsDistinct nat_eq entries.old.items }
-    requires most { array_vec_len entries.old ≤ max_count_of class }
+    requires held { IsHeld class entries.old.items pool.old }
     requires carved { IsBlock class (pages_of pool.old class) block }
     requires used { is_marked pool.old class block ≡ false }
-    ensures entries { entries.new.items
-        ≡ (after_put class block (with_room class entries.old.items pool.old)).entries }
-    ensures pool { pool.new
-        ≡ (after_put class block (with_room class entries.old.items pool.old)).pool }
-    ensures cached { All (IsCached pool.new class) entries.new.items }
-    ensures distinct { IsDistinct nat_eq entries.new.items }
-    ensures most { array_vec_len entries.new ≤ max_count_of class }
-    ensures stack { reverse entries.new.items ++ stack_of pool.new class
-        ≡ block ∷ reverse entries.old.items ++ stack_of pool.old class }
+    ensures state { class_with entries.new.items pool.new
+        ≡ after_put class block (with_room class entries.old.items pool.old) }
+    ensures held { IsHeld class entries.new.items pool.new }
+    ensures stack { stack_over entries.new.items pool.new class
+        ≡ block ∷ stack_over entries.old.items pool.old class }
 {
     if entries.len() >= max_count(class) {
         return make_room_and_put(entries, class, block, pool);
@@ -236,20 +202,15 @@ fn put_into(entries: &mut ArrayVec<u64, MAX_COUNT>, class: u8, block: u64, pool:
 fn make_room_and_put(entries: &mut ArrayVec<u64, MAX_COUNT>, class: u8, block: u64, pool: &mut Pool)
     requires low { 0 < class }
     requires high { class ≤ CLASSES }
-    requires cached { All (IsCached pool.old class) entries.old.items }
-    requires distinct { IsDistinct nat_eq entries.old.items }
+    requires held { IsHeld class entries.old.items pool.old }
     requires full { array_vec_len entries.old ≡ max_count_of class }
     requires carved { IsBlock class (pages_of pool.old class) block }
     requires used { is_marked pool.old class block ≡ false }
-    ensures entries { entries.new.items
-        ≡ (after_put class block (with_room class entries.old.items pool.old)).entries }
-    ensures pool { pool.new
-        ≡ (after_put class block (with_room class entries.old.items pool.old)).pool }
-    ensures cached { All (IsCached pool.new class) entries.new.items }
-    ensures distinct { IsDistinct nat_eq entries.new.items }
-    ensures most { array_vec_len entries.new ≤ max_count_of class }
-    ensures stack { reverse entries.new.items ++ stack_of pool.new class
-        ≡ block ∷ reverse entries.old.items ++ stack_of pool.old class }
+    ensures state { class_with entries.new.items pool.new
+        ≡ after_put class block (with_room class entries.old.items pool.old) }
+    ensures held { IsHeld class entries.new.items pool.new }
+    ensures stack { stack_over entries.new.items pool.new class
+        ≡ block ∷ stack_over entries.old.items pool.old class }
 {
     make_room(entries, class, pool);
     add(entries, class, block, pool);
@@ -260,18 +221,15 @@ fn make_room_and_put(entries: &mut ArrayVec<u64, MAX_COUNT>, class: u8, block: u
 fn add(entries: &mut ArrayVec<u64, MAX_COUNT>, class: u8, block: u64, pool: &mut Pool)
     requires low { 0 < class }
     requires high { class ≤ CLASSES }
-    requires cached { All (IsCached pool.old class) entries.old.items }
-    requires distinct { IsDistinct nat_eq entries.old.items }
+    requires held { IsHeld class entries.old.items pool.old }
     requires room { array_vec_len entries.old < max_count_of class }
     requires carved { IsBlock class (pages_of pool.old class) block }
     requires used { is_marked pool.old class block ≡ false }
-    ensures entries { entries.new.items ≡ entries.old.items ++ block ∷ [] }
-    ensures pool { pool.new ≡ with_mark pool.old class block true }
-    ensures cached { All (IsCached pool.new class) entries.new.items }
-    ensures distinct { IsDistinct nat_eq entries.new.items }
-    ensures most { array_vec_len entries.new ≤ max_count_of class }
-    ensures stack { reverse entries.new.items ++ stack_of pool.new class
-        ≡ block ∷ reverse entries.old.items ++ stack_of pool.old class }
+    ensures state { class_with entries.new.items pool.new
+        ≡ after_put class block (class_with entries.old.items pool.old) }
+    ensures held { IsHeld class entries.new.items pool.new }
+    ensures stack { stack_over entries.new.items pool.new class
+        ≡ block ∷ stack_over entries.old.items pool.old class }
 {
     entries.push(block);
     pool.mark_free(class, block);
@@ -281,16 +239,14 @@ fn add(entries: &mut ArrayVec<u64, MAX_COUNT>, class: u8, block: u64, pool: &mut
 fn make_room(entries: &mut ArrayVec<u64, MAX_COUNT>, class: u8, pool: &mut Pool)
     requires low { 0 < class }
     requires high { class ≤ CLASSES }
-    requires cached { All (IsCached pool.old class) entries.old.items }
-    requires distinct { IsDistinct nat_eq entries.old.items }
+    requires held { IsHeld class entries.old.items pool.old }
     requires full { array_vec_len entries.old ≡ max_count_of class }
-    ensures entries { entries.new.items ≡ (with_room class entries.old.items pool.old).entries }
-    ensures pool { pool.new ≡ (with_room class entries.old.items pool.old).pool }
-    ensures cached { All (IsCached pool.new class) entries.new.items }
-    ensures distinct { IsDistinct nat_eq entries.new.items }
+    ensures state { class_with entries.new.items pool.new
+        ≡ with_room class entries.old.items pool.old }
+    ensures held { IsHeld class entries.new.items pool.new }
     ensures room { array_vec_len entries.new < max_count_of class }
-    ensures stack { reverse entries.new.items ++ stack_of pool.new class
-        ≡ reverse entries.old.items ++ stack_of pool.old class }
+    ensures stack { stack_over entries.new.items pool.new class
+        ≡ stack_over entries.old.items pool.old class }
 {
     let half = max_count(class) / 2;
     pool.push_batch(class, &entries.as_slice()[..half]);

@@ -105,8 +105,12 @@ class_in es ns class k = record {
   marks = marks_in es ns class k.pages;
 }
 
+-- a class, as its list says
+abbrev pub state_in : List Entry → List ℕ → List ClassList → ℕ → ClassState
+state_in es ns ks class = class_in es ns class (list_at ks class)
+
 abbrev pub state_of : ℕ → List Entry → List ℕ → List ClassList → PoolState
-state_of left es ns ks = pool_by left (λ class. class_in es ns class (list_at ks class))
+state_of left es ns ks = pool_by left (state_in es ns ks)
 
 abbrev pub pool_in : Inside → PoolState
 pool_in f = state_of (f.limit - f.used) f.entries.items f.numbers.items f.lists
@@ -166,9 +170,8 @@ pub record Became (es :
     List Entry) (ns : List ℕ) (ks : List ClassList) (es' : List Entry) (ks' : List ClassList) (c :
     ℕ) (k : ClassState) : Type 0 where
   pub table : IsTable es' ns ks'
-  pub class : class_in es' ns c (list_at ks' c) ≡ k
+  pub class : state_in es' ns ks' c ≡ k
   pub others :
-      (d : ℕ) → IsClass d → d ≢ c
-      → class_in es' ns d (list_at ks' d) ≡ class_in es ns d (list_at ks d)
+      (d : ℕ) → IsClass d → d ≢ c → state_in es' ns ks' d ≡ state_in es ns ks d
   pub pages : (d : ℕ) → IsClass d → (list_at ks' d).pages ≡ (list_at ks d).pages
   pub len : length es' ≡ length es

@@ -36,7 +36,7 @@ pub(crate) struct ClassList {
 }
 
 ghost use Rattle.scudo_primary.specs.Lists.{IsClass, IsTable, Became, Each, joined, is_last_at};
-ghost use Rattle.scudo_primary.specs.Lists.{list_at, entry_at, class_in, link_in, link_new_in};
+ghost use Rattle.scudo_primary.specs.Lists.{list_at, entry_at, state_in, link_in, link_new_in};
 ghost use Rattle.scudo_primary.specs.Lists.{place_of, slot_of, page_number};
 
 /// The first address of a class's region.
@@ -105,14 +105,12 @@ pub(crate) fn link(
     requires table { IsTable entries.old numbers.now lists.old }
     requires class { IsClass class }
     requires block { IsBlock class (list_at lists.old class).pages block }
-    requires unlisted { is_member
-        (class_in entries.old numbers.now class (list_at lists.old class)).stack block
+    requires unlisted { is_member (state_in entries.old numbers.now lists.old class).stack block
         ≡ false }
     requires room { Each (λ n. n ≤ max_count_of class)
-        (joined last (class_in entries.old numbers.now class (list_at lists.old class)).sizes) }
+        (joined last (state_in entries.old numbers.now lists.old class).sizes) }
     ensures { Became entries.old numbers.now lists.old entries.new lists.new class
-        (link_in class (class_in entries.old numbers.now class (list_at lists.old class)) block
-        last) }
+        (link_in class (state_in entries.old numbers.now lists.old class) block last) }
 {
     let list = lists[class as usize - 1];
     let at = place(numbers, class, block);
@@ -139,16 +137,14 @@ pub(crate) fn unlink(
     requires table { IsTable entries.old numbers.now lists.old }
     requires class { IsClass class }
     requires some { 0 < (list_at lists.old class).count }
-    ensures top { slice_get
-        (class_in entries.old numbers.now class (list_at lists.old class)).stack 0
+    ensures top { slice_get (state_in entries.old numbers.now lists.old class).stack 0
         ≡ Some result }
     ensures block { IsBlock class (list_at lists.old class).pages result }
-    ensures unlisted { is_member
-        (class_in entries.new numbers.now class (list_at lists.new class)).stack result
+    ensures unlisted { is_member (state_in entries.new numbers.now lists.new class).stack result
         ≡ false }
     ensures rest { Became entries.old numbers.now lists.old entries.new lists.new class
-        (pop_in class (class_in entries.old numbers.now class (list_at lists.old class))
-        (class_in entries.old numbers.now class (list_at lists.old class)).stack) }
+        (pop_in class (state_in entries.old numbers.now lists.old class)
+        (state_in entries.old numbers.now lists.old class).stack) }
 {
     let list = lists[class as usize - 1];
     let block = list.head as u64;
@@ -182,13 +178,11 @@ pub(crate) fn unlink_batch(
 ) -> usize
     requires table { IsTable entries.now numbers.now lists.old }
     requires class { IsClass class }
-    ensures count { result
-        ≡ first_size (class_in entries.now numbers.now class (list_at lists.old class)).sizes }
+    ensures count { result ≡ first_size (state_in entries.now numbers.now lists.old class).sizes }
     ensures buffer { buffer.new
-        ≡ batch_in (class_in entries.now numbers.now class (list_at lists.old class)) ++ drop
-        result buffer.old }
+        ≡ batch_in (state_in entries.now numbers.now lists.old class) ++ drop result buffer.old }
     ensures rest { Became entries.now numbers.now lists.old entries.now lists.new class
-        (pop_batch_in (class_in entries.now numbers.now class (list_at lists.old class))) }
+        (pop_batch_in (state_in entries.now numbers.now lists.old class)) }
 {
     let list = lists[class as usize - 1];
     let mut next = list.head;
@@ -224,13 +218,11 @@ pub(crate) fn link_batch(
     requires class { IsClass class }
     requires some { 0 < length blocks.now }
     requires most { length blocks.now ≤ max_count_of class }
-    requires blocks { All
-        (IsLoose (class_in entries.old numbers.now class (list_at lists.old class)) class)
+    requires blocks { All (IsLoose (state_in entries.old numbers.now lists.old class) class)
         blocks.now }
     requires distinct { IsDistinct nat_eq blocks.now }
     ensures { Became entries.old numbers.now lists.old entries.new lists.new class
-        (push_batch_in (class_in entries.old numbers.now class (list_at lists.old class))
-        blocks.now) }
+        (push_batch_in (state_in entries.old numbers.now lists.old class) blocks.now) }
 {
     let mut last = true;
     for block in blocks {
@@ -282,10 +274,9 @@ pub(crate) fn link_new(
     requires order { from ≤ to }
     requires all { to ≡ carved_count class (list_at lists.old class).pages }
     requires new { Each (λ block. number_of class block < from)
-        (class_in entries.old numbers.now class (list_at lists.old class)).stack }
+        (state_in entries.old numbers.now lists.old class).stack }
     ensures { Became entries.old numbers.now lists.old entries.new lists.new class
-        (link_new_in class (class_in entries.old numbers.now class (list_at lists.old class))
-        from (to - from)) }
+        (link_new_in class (state_in entries.old numbers.now lists.old class) from (to - from)) }
 {
     let half = max_count(class) as u64 / 2;
     let size = size_of_class(class);

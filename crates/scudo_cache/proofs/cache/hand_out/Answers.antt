@@ -1,20 +1,29 @@
-use Rattle.scudo_cache.proofs.ClassLemmas.{taken-loose, taken-distinct, taken-rest, taken-block, taken-used}
-use Rattle.std.proofs.Common.{refl}
+use Rattle.std.proofs.Common.{◌≡◌, None, Some, refl, rules}
+use Rattle.scudo_cache.specs.Caches.{newest}
+use Rattle.scudo_cache.proofs.ClassLemmas.{taken-state, taken-loose, taken-distinct, taken-top, taken-rest, taken-block, taken-used}
 use Rattle.scudo_cache.proofs.cache.hand_out.Goals as goal
 
-pub returns-clause-cached : goal.returns-clause-cached
-returns-clause-cached c =
-    taken-loose c.args.pool.now c.mark_used.new.self c.args.class c.in_ok-block.block c.args.entries.now.items c.pop.new.self.items c.mark_used.ensures c.pop.ensures.rest c.in_ok-block.ensures.value c.requires.distinct c.requires.cached
+pub returns-in_err-block-clause-state : goal.returns-in_err-block-clause-state
+returns-in_err-block-clause-state c =
+    let e : None ≡ newest c.args.entries.now.items = search rules in
+    taken-state _ _ c.args.class None _ _ refl c.pop.ensures.rest e
 
-pub returns-clause-distinct : goal.returns-clause-distinct
-returns-clause-distinct c = taken-distinct c.args.entries.now.items c.pop.new.self.items c.pop.ensures.rest c.requires.distinct
+pub returns-clause-state : goal.returns-clause-state
+returns-clause-state c = taken-state _ _ c.args.class (Some c.in_ok-block.block) _ _ c.mark_used.ensures c.pop.ensures.rest c.in_ok-block.ensures.value
 
-pub returns-clause-rest : goal.returns-clause-rest
-returns-clause-rest c =
-    taken-rest c.args.pool.now c.mark_used.new.self c.args.class c.in_ok-block.block c.args.entries.now.items c.pop.new.self.items _ c.mark_used.ensures c.in_ok-block.ensures.items refl
+pub returns-clause-held : goal.returns-clause-held
+returns-clause-held c =
+    let h = c.requires.held in
+    record {
+      cached = taken-loose c.args.pool.now c.mark_used.new.self c.args.class c.in_ok-block.block c.args.entries.now.items c.pop.new.self.items c.mark_used.ensures c.pop.ensures.rest c.in_ok-block.ensures.value h.distinct h.cached;
+      distinct = taken-distinct c.args.entries.now.items c.pop.new.self.items c.pop.ensures.rest h.distinct;
+      most = search rules;
+    }
 
-pub returns-clause-block : goal.returns-clause-block
-returns-clause-block c = taken-block c.args.pool.now c.mark_used.new.self c.args.class c.in_ok-block.block c.args.entries.now.items c.mark_used.ensures c.in_ok-block.ensures.value c.requires.cached
-
-pub returns-clause-used : goal.returns-clause-used
-returns-clause-used c = taken-used c.args.pool.now c.mark_used.new.self c.args.class c.in_ok-block.block c.mark_used.ensures
+pub returns-clause-took : goal.returns-clause-took
+returns-clause-took c = record {
+  top = taken-top c.in_ok-block.block c.args.entries.now.items c.pop.new.self.items _ c.in_ok-block.ensures.items;
+  rest = taken-rest c.args.pool.now c.mark_used.new.self c.args.class c.in_ok-block.block c.args.entries.now.items c.pop.new.self.items _ c.mark_used.ensures c.in_ok-block.ensures.items refl;
+  block = taken-block c.args.pool.now c.mark_used.new.self c.args.class c.in_ok-block.block c.args.entries.now.items c.mark_used.ensures c.in_ok-block.ensures.value c.requires.held.cached;
+  used = taken-used c.args.pool.now c.mark_used.new.self c.args.class c.in_ok-block.block c.mark_used.ensures;
+}

@@ -1,20 +1,16 @@
-use Rattle.std.proofs.Common.{◌≡◌, ◌<◌, ◌∙◌, length, rules, sym, ap}
-use Rattle.scudo_cache.specs.Caches.{refilled, newest}
-use Rattle.scudo_cache.proofs.ClassLemmas.{refilled-some, taken-pool, taken-entries}
+use Rattle.std.proofs.Common.{◌≡◌, ◌<◌, ◌∙◌, length, rules, ap}
+use Rattle.scudo_cache.specs.Caches.{Class, class_with, refilled, newest, after_take}
+use Rattle.scudo_cache.proofs.ClassLemmas.{refilled-some}
 use Rattle.scudo_cache.proofs.cache.take_from.Goals as goal
 
 -- there is an entry, so nothing is refilled
-at-hand : (c : goal.After-hand_out) → (c.args.entries.now.items ≡ (refilled c.args.class c.args.entries.now.items c.args.pool.now).entries) × (c.args.pool.now ≡ (refilled c.args.class c.args.entries.now.items c.args.pool.now).pool)
+at-hand : (c : goal.After-hand_out) → class_with c.args.entries.now.items c.args.pool.now ≡ refilled c.args.class c.args.entries.now.items c.args.pool.now
 at-hand c =
     let l : 0 < length c.args.entries.now.items = search rules in
-    let r = refilled-some c.args.class c.args.entries.now.items c.args.pool.now l in
-    (sym r.0, sym r.1)
+    refilled-some c.args.class c.args.entries.now.items c.args.pool.now l
 
 pub returns-clause-answer : goal.returns-clause-answer
-returns-clause-answer c = c.hand_out.ensures.answer ∙ ap newest (at-hand c).0
+returns-clause-answer c = c.hand_out.ensures.answer ∙ ap (λ (k : Class). newest k.entries) (at-hand c)
 
-pub returns-clause-entries : goal.returns-clause-entries
-returns-clause-entries c = taken-entries c.args.class _ _ _ (at-hand c).0 c.hand_out.ensures.entries
-
-pub returns-clause-pool : goal.returns-clause-pool
-returns-clause-pool c = c.hand_out.ensures.pool ∙ taken-pool c.args.class c.hand_out.result _ _ _ (at-hand c).1 (at-hand c).0 c.hand_out.ensures.answer
+pub returns-clause-state : goal.returns-clause-state
+returns-clause-state c = c.hand_out.ensures.state ∙ ap (after_take c.args.class) (at-hand c)
