@@ -56,9 +56,7 @@ fn draws(rt: HostRuntime) {
 #[test]
 fn access_over_two_granules(rt: HostRuntime) -> Result<(), Fail> {
     let mut memory = Flat::new(rt.alloc(), 4)?;
-    assert_eq!(rt; memory.pages_left(), 4);
     assert_eq!(rt; memory.map_pages(0x3FFFC, 1, Attrs::DATA), Ok(()));
-    assert_eq!(rt; memory.pages_left(), 3);
     assert_eq!(rt; memory.store_tags(0x3FFF_C000, 1, 1, false), Ok(()));
     assert_eq!(rt; memory.load_tag(0x3FFF_C00F), Ok(1));
     assert_eq!(rt; memory.load_tag(0x3FFF_C010), Ok(0));
@@ -77,12 +75,6 @@ fn access_over_two_granules(rt: HostRuntime) -> Result<(), Fail> {
     );
     assert_eq!(rt; memory.read(pointer - 4, &mut bytes, true), Ok(()));
     assert_eq!(rt; bytes, [1, 2, 3, 4, 5, 6, 7, 8]);
-    assert_eq!(rt; memory.store_tags(0x3FFF_C000, 2, 3, true), Ok(()));
-    assert_eq!(rt;
-        memory.read(0x0300_0000_3FFF_C008, &mut bytes, true),
-        Ok(())
-    );
-    assert_eq!(rt; bytes, [0; 8]);
     Ok(())
 }
 
