@@ -3,11 +3,13 @@ use Rattle.std.proofs.Common.{◌≡◌, ℕ, ◌/◌, ◌%◌, ◌==◌, ◌&&�
 use Rattle.std.proofs.lemmas.Bool.{cond-true}
 use Rattle.a64_bits.specs.Addresses.{plain}
 use Rattle.mte_tags.specs.Memory.{Memory, Page, page_at, has, attrs_at, attrs_in, tag_at, tag_in}
-use Rattle.mte_tags.specs.Accesses.{granules, byte_fault, first_fault, or_else, fault, fault_in, granule_tag, read_fault, write_fault, tags_fault, store_access, written}
+use Rattle.mte_tags.specs.Accesses.{granules, byte_fault, first_fault, or_else, fault, fault_in, granule_tag, in_mode, access_fault, read_fault, write_fault, tags_fault, store_access, written}
 use Rattle.mte_tags.specs.declared.fault.MemFault.{MemFault}
 use Rattle.mte_tags.specs.declared.access.Access.{Access}
 use Rattle.mte_tags.specs.declared.fault.FaultKind.TheVariants.{Translation, Permission, TagCheck, Alignment}
+use Rattle.mte_tags.specs.declared.state.TagState.{TagState}
 use Rattle.mte_tags.proofs.PageLaws.{attrs_at-written}
+use Rattle.mte_tags.proofs.StateLaws.{state-written}
 use Rattle.mte_tags.proofs.ByteLaws.{tag_at-written}
 
 -- how a byte fails, by its page's attributes and its granule's tag
@@ -46,13 +48,18 @@ first_fault-same m m' x (a ∷ xs) e f =
 pub first_fault-written : (m : Memory) (a : ℕ) (bs : List ℕ) (x : Access) (xs : List ℕ) → first_fault (written m a bs) x xs ≡ first_fault m x xs
 first_fault-written m a bs x xs = first_fault-same (written m a bs) m x xs (attrs_at-written m a bs) (tag_at-written m a bs)
 
+pub access_fault-written : (m : Memory) (a : ℕ) (bs : List ℕ) (x : Access) (xs : List ℕ) → access_fault (written m a bs) x xs ≡ access_fault m x xs
+unfolding access_fault
+access_fault-written m a bs x xs =
+    ap (λ (s : TagState). first_fault (written m a bs) (in_mode s.mode x) xs) (state-written m a bs) ∙ first_fault-written m a bs (in_mode m.state.mode x) xs
+
 pub read_fault-written : (m : Memory) (a : ℕ) (bs : List ℕ) (b n : ℕ) (check : Bool) → read_fault (written m a bs) b n check ≡ read_fault m b n check
 unfolding read_fault
-read_fault-written m a bs b n check = first_fault-written m a bs _ _
+read_fault-written m a bs b n check = access_fault-written m a bs _ _
 
 pub write_fault-written : (m : Memory) (a : ℕ) (bs : List ℕ) (b n : ℕ) (check : Bool) → write_fault (written m a bs) b n check ≡ write_fault m b n check
 unfolding write_fault
-write_fault-written m a bs b n check = first_fault-written m a bs _ _
+write_fault-written m a bs b n check = access_fault-written m a bs _ _
 
 pub tags_fault-written : (m : Memory) (a : ℕ) (bs : List ℕ) (b n : ℕ) → tags_fault (written m a bs) b n ≡ tags_fault m b n
 unfolding tags_fault
