@@ -1,7 +1,7 @@
 -- Mode and flag: mapping, unmapping, bytes and tags leave both; an access leaves the mode.
 use Rattle.std.proofs.Common.{◌≡◌, ℕ, suc, zero, ◌+◌, ◌/◌, ◌%◌, ◌^◌, Bool, true, false, cond, Option, Some, None, List, [], ◌∷◌, refl, ap, ◌∙◌}
 use Rattle.mte_tags.specs.Memory.{Memory, Page, page_at, with_page, without_page, with_new_pages, without_pages, new_page, with_byte_in, with_byte, with_granule_in, with_granule, with_granules, with_pending}
-use Rattle.mte_tags.specs.Accesses.{with_bytes, written, has_mismatch, compared, write_access, after_read, after_write}
+use Rattle.mte_tags.specs.Accesses.{with_bytes, written, ending_in, after_access, write_access, after_read, after_write}
 use Rattle.mte_tags.specs.declared.access.Access.{Access}
 use Rattle.mte_tags.specs.declared.attrs.Attrs.{Attrs}
 use Rattle.mte_tags.specs.declared.state.TagState.{TagState}
@@ -47,14 +47,14 @@ unfolding with_pending
 mode_of_flag true m = refl
 mode_of_flag false m = refl
 
-pub mode-compared : (m : Memory) (x : Access) (xs : List ℕ) → (compared m x xs).state.mode ≡ m.state.mode
-unfolding compared
-mode-compared m x xs = mode_of_flag (has_mismatch m x xs) m
+pub mode-after_access : (m : Memory) (x : Access) (xs : List ℕ) → (after_access m x xs).state.mode ≡ m.state.mode
+unfolding after_access
+mode-after_access m x xs = mode_of_flag (ending_in m.state.mode m x xs).pending m
 
 pub mode-after_read : (m : Memory) (a n : ℕ) (check : Bool) → (after_read m a n check).state.mode ≡ m.state.mode
 unfolding after_read
-mode-after_read m a n check = mode-compared m _ _
+mode-after_read m a n check = mode-after_access m _ _
 
 pub mode-after_write : (m : Memory) (a : ℕ) (bs : List ℕ) (check : Bool) → (after_write m a bs check).state.mode ≡ m.state.mode
 unfolding after_write
-mode-after_write m a bs check = ap (λ (s : TagState). s.mode) (state-written (compared m (write_access a check) _) a bs) ∙ mode-compared m (write_access a check) _
+mode-after_write m a bs check = ap (λ (s : TagState). s.mode) (state-written (after_access m (write_access a check) _) a bs) ∙ mode-after_access m (write_access a check) _

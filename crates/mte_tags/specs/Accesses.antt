@@ -1,8 +1,8 @@
 -- What an access does to a tagged memory, and how it fails.
 -- An access is the list of its plain addresses. Each is tested for translation, then permission,
 -- then the tag; the first address that fails is the fault, and an access with a fault changes
--- nothing. In the asynchronous mode a tag that differs fails no access: one that has such a byte and
--- no fault sets the memory's flag, and completes.
+-- nothing. In the asynchronous mode a tag that differs fails no access: one that has such a byte
+-- and no fault sets the memory's flag, and completes.
 -- Arm ARM DDI 0487, "The Memory Tagging Extension", AArch64.CheckTag and SCTLR_EL1.TCF0; the
 -- translation regime is one page map.
 use Rattle.std.specs.Prelude.{◌≡◌, ℕ, zero, suc, ◌+◌, ◌*◌, ◌/◌, ◌%◌, ◌^◌, ◌==◌, Bool, true, false}
@@ -68,28 +68,34 @@ first_fault m x (a ∷ more) = or_else (byte_fault m x a) (first_fault m x more)
 abbrev pub unchecked : Access → Access
 unchecked x = record x { checked = false }
 
--- what a mode lets fail an access: in Async no tag does
-abbrev pub in_mode : TagMode → Access → Access
-in_mode Sync x = x
-in_mode Async x = unchecked x
-
--- how an access fails in the memory's mode
-unfoldable pub access_fault : Memory → Access → List ℕ → Option MemFault
-access_fault m x addrs = first_fault m (in_mode m.state.mode x) addrs
-
-abbrev pub mismatch_in : Access → Option Page → ℕ → Bool
-mismatch_in x None a = false
-mismatch_in x (Some p) a = (x.checked && has p.attrs 8) && not (granule_tag p a == x.tag)
+abbrev pub differs_in : Access → Option Page → ℕ → Bool
+differs_in x None a = false
+differs_in x (Some p) a = (x.checked && has p.attrs 8) && not (granule_tag p a == x.tag)
 
 -- whether an access compares tags, and that of one of its bytes differs
 unfoldable pub has_mismatch : Memory → Access → List ℕ → Bool
 has_mismatch m x [] = false
-has_mismatch m x (a ∷ more) = mismatch_in x (page_at m (a / 4096)) a || has_mismatch m x more
+has_mismatch m x (a ∷ more) = differs_in x (page_at m (a / 4096)) a || has_mismatch m x more
 
--- m after the comparisons of an access without a fault: a tag that differs sets the flag. (In Sync
--- an access without a fault has none.)
-unfoldable pub compared : Memory → Access → List ℕ → Memory
-compared m x addrs = if has_mismatch m x addrs then with_pending m else m
+-- how an access fails, and whether it sets the flag if it does not
+pub record Ending : Type 0 where
+  pub fault : Option MemFault
+  pub pending : Bool
+
+-- what the tag mode makes of it: a tag that differs is a fault in Sync, and sets the flag in Async
+abbrev pub ending_in : TagMode → Memory → Access → List ℕ → Ending
+ending_in Sync m x addrs = record { fault = first_fault m x addrs; pending = false }
+ending_in Async m x addrs =
+    record { fault = first_fault m (unchecked x) addrs; pending = has_mismatch m x addrs }
+
+-- how an access fails in the memory's mode
+unfoldable pub access_fault : Memory → Access → List ℕ → Option MemFault
+access_fault m x addrs = (ending_in m.state.mode m x addrs).fault
+
+-- m after an access that did not fail, but for what it writes
+unfoldable pub after_access : Memory → Access → List ℕ → Memory
+after_access m x addrs =
+    if (ending_in m.state.mode m x addrs).pending then with_pending m else m
 
 abbrev pub outcome : Option MemFault → Result (Unit {0}) MemFault
 outcome None = Ok tt
@@ -110,7 +116,7 @@ read_fault m a n check = access_fault m (read_access a check) (addresses (plain 
 
 -- m after a read of n bytes at an address that did not fail
 unfoldable pub after_read : Memory → ℕ → ℕ → Bool → Memory
-after_read m a n check = compared m (read_access a check) (addresses (plain a) n)
+after_read m a n check = after_access m (read_access a check) (addresses (plain a) n)
 
 -- how a write of n bytes at an address fails
 unfoldable pub write_fault : Memory → ℕ → ℕ → Bool → Option MemFault
@@ -137,7 +143,7 @@ written m a bs = with_bytes m (addresses (plain a) (length bs)) bs
 -- m after a write of bytes at an address that did not fail
 unfoldable pub after_write : Memory → ℕ → List ℕ → Bool → Memory
 after_write m a bs check =
-    written (compared m (write_access a check) (addresses (plain a) (length bs))) a bs
+    written (after_access m (write_access a check) (addresses (plain a) (length bs))) a bs
 
 -- the number of the four bytes at an address, the lowest first
 unfoldable pub word_at : Memory → ℕ → ℕ

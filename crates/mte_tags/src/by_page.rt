@@ -5,7 +5,7 @@ ghost use Rattle.std.specs.Prelude.{IsTrue, IfOk, is_ok, length, if◌then◌els
 ghost use Rattle.a64_bits.specs.Addresses.{plain};
 ghost use Rattle.mte_tags.specs.Memory.{Memory, tag_at, with_granules};
 ghost use Rattle.mte_tags.specs.Accesses.{outcome, loaded, addresses, granules, first_fault};
-ghost use Rattle.mte_tags.specs.Accesses.{access_fault, compared, bytes_at, with_bytes, AreMapped};
+ghost use Rattle.mte_tags.specs.Accesses.{access_fault, after_access, bytes_at, with_bytes, AreMapped};
 ghost use Rattle.mte_tags.specs.Accesses.{fetched, read_fault, read_bytes, after_read, write_fault};
 ghost use Rattle.mte_tags.specs.Accesses.{written, after_write, tags_fault};
 ghost use Rattle.mte_tags.specs.Accesses.{tag_load_fault, fault, fetch_access};
@@ -66,7 +66,7 @@ fn compare_tags<S: PageStore>(
         ≡ outcome (access_fault (S.memory store.old) access.now (addresses at count)) }
     ensures memory { S.memory store.new
         ≡ (if is_ok result
-        then compared (S.memory store.old) access.now (addresses at count)
+        then after_access (S.memory store.old) access.now (addresses at count)
         else S.memory store.old) }
     ensures kept { S.kept store.old store.new }
 {
@@ -145,7 +145,7 @@ fn read_across_pages<S: PageStore>(
         else buffer.old) }
     ensures memory { S.memory store.new
         ≡ (if is_ok result
-        then compared (S.memory store.old) access.now (addresses at (length buffer.old))
+        then after_access (S.memory store.old) access.now (addresses at (length buffer.old))
         else S.memory store.old) }
     ensures kept { S.kept store.old store.new }
 {
@@ -173,7 +173,7 @@ fn read_slowly<S: PageStore>(
         else buffer.old) }
     ensures memory { S.memory store.new
         ≡ (if is_ok result
-        then compared (S.memory store.old) access.now (addresses at (length buffer.old))
+        then after_access (S.memory store.old) access.now (addresses at (length buffer.old))
         else S.memory store.old) }
     ensures kept { S.kept store.old store.new }
 {
@@ -182,7 +182,12 @@ fn read_slowly<S: PageStore>(
 }
 
 /// Copies bytes out, or returns the fault of the first that fails.
-#[tactic(auto, unfolding(crate::specs::Accesses::read_fault, crate::specs::Accesses::read_bytes, crate::specs::Accesses::after_read))]
+#[rattlefmt::skip]
+#[tactic(auto, unfolding(
+    crate::specs::Accesses::read_fault,
+    crate::specs::Accesses::read_bytes,
+    crate::specs::Accesses::after_read
+))]
 #[inline(always)]
 fn read_at<S: PageStore>(
     store: &mut S,
@@ -226,7 +231,7 @@ fn write_across_pages<S: PageStore>(
     ensures memory { S.memory store.new
         ≡ (if is_ok result
         then with_bytes
-        (compared (S.memory store.old) access.now (addresses at (length bytes.now)))
+        (after_access (S.memory store.old) access.now (addresses at (length bytes.now)))
         (addresses at (length bytes.now))
         bytes.now
         else S.memory store.old) }
@@ -253,7 +258,7 @@ fn write_slowly<S: PageStore>(
     ensures memory { S.memory store.new
         ≡ (if is_ok result
         then with_bytes
-        (compared (S.memory store.old) access.now (addresses at (length bytes.now)))
+        (after_access (S.memory store.old) access.now (addresses at (length bytes.now)))
         (addresses at (length bytes.now))
         bytes.now
         else S.memory store.old) }
@@ -264,7 +269,12 @@ fn write_slowly<S: PageStore>(
 }
 
 /// Copies bytes in, or returns the fault of the first that fails.
-#[tactic(auto, unfolding(crate::specs::Accesses::write_fault, crate::specs::Accesses::written, crate::specs::Accesses::after_write))]
+#[rattlefmt::skip]
+#[tactic(auto, unfolding(
+    crate::specs::Accesses::write_fault,
+    crate::specs::Accesses::written,
+    crate::specs::Accesses::after_write
+))]
 #[inline(always)]
 fn write_at<S: PageStore>(
     store: &mut S,

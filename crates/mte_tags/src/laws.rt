@@ -1,6 +1,6 @@
 //! What holds of every memory in each tag mode, whatever the calls.
 
-ghost use Rattle.std.specs.Prelude.{◌≡◌, ◌≢◌, ℕ, Bool, List, Some, None, length};
+ghost use Rattle.std.specs.Prelude.{◌≡◌, ◌≢◌, ℕ, Bool, List, Some};
 ghost use Rattle.mte_tags.specs.Memory.{Memory, with_new_pages, without_pages, with_granules};
 ghost use Rattle.mte_tags.specs.Accesses.{read_fault, write_fault, after_read, after_write};
 ghost use Rattle.mte_tags.specs.Accesses.{written};
@@ -10,15 +10,14 @@ use crate::attrs::Attrs;
 use crate::fault::FaultKind;
 use crate::state::TagMode;
 
-/// In the synchronous mode no access sets the flag: a read changes nothing, a write its bytes alone.
+/// In the synchronous mode no access sets the flag: a read changes nothing, a write its bytes
+/// alone.
 pub fn flag_stays_in_sync()
     ensures read { (m : Memory) (a n : ℕ) (check : Bool)
         → m.state.mode ≡ TagMode.Sync
-        → read_fault m a n check ≡ None
         → after_read m a n check ≡ m }
     ensures write { (m : Memory) (a : ℕ) (bytes : List ℕ) (check : Bool)
         → m.state.mode ≡ TagMode.Sync
-        → write_fault m a (length bytes) check ≡ None
         → after_write m a bytes check ≡ written m a bytes }
 {}
 

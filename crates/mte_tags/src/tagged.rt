@@ -15,9 +15,9 @@ use crate::fault::MemFault;
 
 /// A memory of tagged granules: pages of 4096 bytes, each of 256 granules of 16 bytes with an
 /// allocation tag below 16. An access uses the low 56 bits of its address and goes on at 0 after
-/// the last of them. A fault changes nothing. In the synchronous mode a tag that differs is a fault;
-/// in the asynchronous mode the access completes and sets a flag (Arm ARM DDI 0487, "The Memory
-/// Tagging Extension", SCTLR_EL1.TCF0).
+/// the last of them. A fault changes nothing. In the synchronous mode a tag that differs is a
+/// fault; in the asynchronous mode the access completes and sets a flag (Arm ARM DDI 0487, "The
+/// Memory Tagging Extension", SCTLR_EL1.TCF0).
 pub trait Tagged {
     /// What it holds, however it is kept.
     ghost memory: { Self → Memory };

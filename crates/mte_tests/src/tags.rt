@@ -88,7 +88,10 @@ fn asynchronous_accesses(rt: HostRuntime) -> Result<(), Fail> {
     assert_eq!(rt; memory.map_pages(0x3FFFF, 1, Attrs::READ), Ok(()));
     assert_eq!(rt; memory.store_tags(0x3FFF_E000, 1, 1, false), Ok(()));
     let refused = fault(FaultKind::Permission, 0x3FFF_F000, true, 2, 0);
-    assert_eq!(rt; memory.write(0x0200_0000_3FFF_EFF9, &[9; 8], true), Err(refused));
+    assert_eq!(rt;
+        memory.write(0x0200_0000_3FFF_EFF9, &[9; 8], true),
+        Err(refused)
+    );
     assert!(rt; !memory.pending());
     assert_eq!(rt; memory.write(0x0100_0000_3FFF_E00C, &[5; 8], true), Ok(()));
     let state = TagState {
