@@ -22,8 +22,8 @@ use crate::registers::Regs;
 use a64_asm::Instr;
 use mte_tags::Tagged;
 
-/// Executes an instruction. An arm with constants in its pattern passes them on, so that its copy of
-/// the function does not test them again.
+/// Executes an instruction. An arm with constants in its pattern passes them on, so that its copy
+/// of the function does not test them again.
 #[rattlefmt::skip]
 #[inline(always)]
 #[tactic(auto, unfolding(crate::specs::Steps::executed))]
