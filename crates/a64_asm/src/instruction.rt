@@ -96,6 +96,8 @@ pub enum Instr {
     Ldg { imm9: i16, rn: u8, rt: u8 },
     /// STG, STZG, ST2G, STZ2G.
     StG { opc: u8, imm9: i16, mode: u8, rn: u8, rt: u8 },
+    /// STGP.
+    StGP { mode: u8, imm7: i8, rt2: u8, rn: u8, rt: u8 },
 }
 
 /// The word of an instruction by the function of its row.
@@ -153,6 +155,7 @@ pub fn encode(instr: &Instr) -> Option<u32>
         Gmi => gmi(rm, rn, rd),
         Ldg => ldg(imm9, rn, rt),
         StG => st_g(opc, imm9, mode, rn, rt),
+        StGP => st_g_p(mode, imm7, rt2, rn, rt),
     )
 }
 
@@ -439,4 +442,10 @@ fn st_g(opc: u8, imm9: i16, mode: u8, rn: u8, rt: u8) -> Option<u32>
 {
     row!(0xD920_0000, opc 22:2, mode 10:2, rn 5:5, rt 0:5; signed imm9 12:9;
         refused mode == 0)
+}
+
+fn st_g_p(mode: u8, imm7: i8, rt2: u8, rn: u8, rt: u8) -> Option<u32>
+    ensures { Encodes result (instr.StGP mode imm7 rt2 rn rt) }
+{
+    row!(0x6800_0000, mode 23:2, rt2 10:5, rn 5:5, rt 0:5; signed imm7 15:7; refused mode == 0)
 }

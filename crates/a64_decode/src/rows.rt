@@ -44,6 +44,8 @@ fn load_store_pair(word: u32, found: &mut Option<Instr>)
 {
     if field(word, 29, 1) == 0 {
         *found = None
+    } else if field(word, 30, 2) == 1 && field(word, 22, 1) == 0 {
+        *found = st_g_p(word)
     } else {
         match field(word, 23, 2) {
             1 => *found = pair_post(word),
@@ -610,4 +612,10 @@ fn st_g(word: u32) -> Option<Instr>
     ensures { Reads result (Some (Encoding.st_g_at word)) }
 {
     row!(StG word: opc 22:2, mode 10:2, rn 5:5, rt 0:5; signed imm9 12:9; refused mode == 0)
+}
+
+fn st_g_p(word: u32) -> Option<Instr>
+    ensures { Reads result (Some (Encoding.st_g_p_at word)) }
+{
+    row!(StGP word: mode 23:2, rt2 10:5, rn 5:5, rt 0:5; signed imm7 15:7; refused mode == 0)
 }
