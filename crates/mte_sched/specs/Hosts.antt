@@ -44,7 +44,7 @@ first_of (None ∷ more) = first_of more
 abbrev pub when : Bool → AdmitError → Option AdmitError
 when test e = if test then Some e else None
 
--- A reservation is 1 to 512 pages, and the room at most 65536 bytes.
+-- A reservation is 1 to 4096 pages, and the room at most 65536 bytes.
 abbrev pub is_bad : ℕ → ℕ → Bool
 is_bad pages room = (pages == 0) || nat_lt MAX_PAGES pages || nat_lt MAX_OUTPUT room
 

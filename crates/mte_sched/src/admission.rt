@@ -22,7 +22,7 @@ pub struct Admission<'a> {
     /// Seeds its tag generator (RGSR_EL1.SEED is bits 15:0, RGSR_EL1.TAG bits 19:16) and its heap's
     /// cookie (bits 63:32).
     pub seed: u64,
-    /// Its reservation, 1 to 512 pages.
+    /// Its reservation, 1 to 4096 pages.
     pub pages: u32,
     /// How many bytes it may write, at most 65536.
     pub room: u32,
