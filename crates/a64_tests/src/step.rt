@@ -1,7 +1,7 @@
 //! Short programs over a plain memory, through `a64_step`.
 
 use a64_step::{Decoder, Outcome, Regs, Stop, run, step, steps_keep_tags};
-use mte_tags::{Attrs, FaultKind, Flat, MemFault, Paged, Rgsr, Tagged};
+use mte_tags::{Attrs, FaultKind, Flat, MemFault, Paged, Rgsr, TagMode, Tagged};
 use std::alloc::Global;
 use std::test::Fail;
 
@@ -13,7 +13,7 @@ const STACK_END: u64 = 0x40000000;
 
 /// A memory with a program in its first page, which is followed by four stack pages.
 fn memory_of(alloc: Global, words: &[u32]) -> Result<Flat, Fail> {
-    let mut memory = Flat::new(alloc, 5)?;
+    let mut memory = Flat::new(alloc, 5, TagMode::Sync)?;
     if memory.map_pages(0x3fffb, 5, Attrs::ALL).is_err() {
         return Err(Fail::from("the pages are not mapped"));
     }

@@ -29,7 +29,7 @@ use a64_step::{Decoder, Outcome, run};
 use anyhow::{Result, bail};
 use case::{Case, Pages};
 use line::{Line, parse};
-use mte_tags::Flat;
+use mte_tags::{Flat, TagMode};
 use std::alloc::{AllocError, Global};
 use std::io::{BufRead, BufReader};
 
@@ -50,8 +50,8 @@ fn differences(
     map: &[Pages],
     case: &Case,
 ) -> Result<Option<String>, AllocError> {
-    let mut ours = Flat::new(alloc, 512)?;
-    let mut theirs = Flat::new(alloc, 512)?;
+    let mut ours = Flat::new(alloc, 512, TagMode::Sync)?;
+    let mut theirs = Flat::new(alloc, 512, TagMode::Sync)?;
     let fits = case.ending.is_some()
         && place::prepare(&mut ours, map, case)
         && place::prepare(&mut theirs, map, case)

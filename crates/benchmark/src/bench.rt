@@ -9,7 +9,7 @@ use crate::programs::{ALU, MEMORY, SERVICES, run_on, start};
 use crate::workload::Workload;
 use a64_step::{Decoder, Regs};
 use anyhow::{Result, bail};
-use mte_tags::{Attrs, Flat, Paged, Tagged, with_tag};
+use mte_tags::{Attrs, Flat, Paged, TagMode, Tagged, with_tag};
 use std::alloc::{AllocError, Global};
 
 /// The page of the programs, by its address and by its number.
@@ -49,7 +49,7 @@ impl Bench {
     pub fn new(alloc: Global) -> Result<Bench> {
         let data = with_tag(DATA, TAG);
         let second = data.wrapping_add(4096);
-        let mut memory = Flat::new(alloc, 3)?;
+        let mut memory = Flat::new(alloc, 3, TagMode::Sync)?;
         if memory.map_pages(CODE_PAGE, 3, Attrs::ALL).is_err() {
             bail!("the memory has no room for 3 pages");
         }

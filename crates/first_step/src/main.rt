@@ -5,7 +5,7 @@
 use a64_decode::decode;
 use a64_step::{Regs, step};
 use anyhow::{Result, bail};
-use mte_tags::{Attrs, Flat, Paged, Tagged};
+use mte_tags::{Attrs, Flat, Paged, TagMode, Tagged};
 
 /// `add x0, x0, #1`
 const WORD: u32 = 0x9100_0400;
@@ -18,7 +18,7 @@ fn main(rt: HostRuntime) -> Result<()> {
     let instr = decode(WORD);
     println!(rt; "{instr:?}")?;
 
-    let mut memory = Flat::new(rt.alloc(), 1)?;
+    let mut memory = Flat::new(rt.alloc(), 1, TagMode::Sync)?;
     if memory.map_pages(CODE / 4096, 1, Attrs::ALL).is_err() {
         bail!("no page is left");
     }

@@ -4,6 +4,7 @@ use Rattle.std.proofs.Common.{Some, None, refl, ap, arith}
 use Rattle.std.specs.FinMap as finite
 use Rattle.std.specs.Ordering.{nat_cmp}
 use Rattle.mte_tags.specs.Memory.{Memory, Page, pages_left, no_pages, with_new_pages}
+use Rattle.mte_tags.specs.declared.state.TagMode.TheVariants.{Sync}
 use Rattle.mte_elf.specs.Headers.{segments_of}
 use Rattle.mte_elf.specs.Loading.{with_segments}
 use Rattle.a64_step.specs.declared.registers.Regs.{Regs}
@@ -103,12 +104,12 @@ pub advance_none : (n : ℕ) (m : Machine) → n ≡ 0 → advance n m ≡ m
 unfolding advance
 advance_none n m none = rw none refl
 
-pub left-no_pages : (n : ℕ) → pages_left (no_pages n) ≡ n
+pub left-no_pages : (n : ℕ) → pages_left (no_pages n Sync) ≡ n
 unfolding pages_left no_pages
 left-no_pages n = omega (arith, finite.len-empty nat_cmp Page)
 
 -- The first memory, by the steps that make it.
-pub first_memory_by : (image : List ℕ) (pages : ℕ) (empty loaded stacked : Memory) → empty ≡ no_pages pages
+pub first_memory_by : (image : List ℕ) (pages : ℕ) (empty loaded stacked : Memory) → empty ≡ no_pages pages Sync
     → loaded ≡ with_segments image empty (segments_of image) → stacked ≡ with_new_pages loaded 0x3FFFC 4 (record { 0 = 11 }) → stacked ≡ first_memory image pages
 unfolding first_memory
 first_memory_by image pages empty loaded stacked e_empty e_loaded e_stacked = rw (e_stacked, e_loaded, e_empty) refl

@@ -12,6 +12,7 @@ use Rattle.a64_step.specs.Steps.{step_of}
 use Rattle.mte_tags.specs.declared.fault.MemFault.{MemFault}
 use Rattle.mte_tags.specs.Memory.{Memory, no_pages, with_new_pages}
 use Rattle.mte_tags.specs.Accesses.{read_fault, read_bytes}
+use Rattle.mte_tags.specs.declared.state.TagMode.TheVariants.{Sync}
 use Rattle.mte_elf.specs.Headers.{segments_of, entry_of}
 use Rattle.mte_elf.specs.Loading.{with_segments}
 use Rattle.mte_sched.specs.declared.machine.Machine.{Machine}
@@ -36,7 +37,7 @@ first_registers entry seed = record (fresh entry STACK_END) {
 -- The pages of an image and four pages for a stack, of a reservation of `pages`.
 unfoldable pub first_memory : List ℕ → ℕ → Memory
 first_memory image pages =
-    with_new_pages (with_segments image (no_pages pages) (segments_of image))
+    with_new_pages (with_segments image (no_pages pages Sync) (segments_of image))
     (STACK_START / 4096) STACK_PAGES (record { 0 = 11 })
 
 unfoldable pub start_of : ℕ → List ℕ → ℕ → ℕ → ℕ → Machine

@@ -14,7 +14,7 @@ use crate::record::{Record, Status};
 use a64_step::{Decoder, Outcome, Regs, run};
 use address_map::{PAGE_SIZE, STACK_END, STACK_PAGES, STACK_START};
 use mte_elf::{Plan, load};
-use mte_tags::{Attrs, Flat, Paged, Rgsr};
+use mte_tags::{Attrs, Flat, Paged, Rgsr, TagMode};
 use std::alloc::{AllocError, Global};
 
 /// A tenant's machine.
@@ -50,7 +50,7 @@ impl Machine {
         ensures { IfOk result (λ machine. machine ≡ start_of admission.now.id
             admission.now.image.now admission.now.seed admission.now.pages admission.now.room) }
     {
-        let mut memory = Flat::new(alloc, admission.pages as usize)?;
+        let mut memory = Flat::new(alloc, admission.pages as usize, TagMode::Sync)?;
         let output = Output::new(alloc, admission.room)?;
         load(plan, admission.image, &mut memory);
         map_stack(&mut memory);

@@ -3,11 +3,15 @@ use Rattle.std.proofs.Common.{◌≡◌, ℕ, ◌/◌, ◌%◌, ◌==◌, ◌&&�
 use Rattle.std.proofs.lemmas.Bool.{cond-true}
 use Rattle.a64_bits.specs.Addresses.{plain}
 use Rattle.mte_tags.specs.Memory.{Memory, Page, page_at, has, attrs_at, attrs_in, tag_at, tag_in}
-use Rattle.mte_tags.specs.Accesses.{granules, byte_fault, first_fault, or_else, fault, fault_in, granule_tag, read_fault, write_fault, tags_fault, store_access, written}
+use Rattle.mte_tags.specs.Accesses.{granules, byte_fault, first_fault, or_else, fault, fault_in, granule_tag, unchecked, ending_in, access_fault, read_fault, write_fault, tags_fault, store_access, written}
 use Rattle.mte_tags.specs.declared.fault.MemFault.{MemFault}
 use Rattle.mte_tags.specs.declared.access.Access.{Access}
 use Rattle.mte_tags.specs.declared.fault.FaultKind.TheVariants.{Translation, Permission, TagCheck, Alignment}
+use Rattle.mte_tags.specs.declared.state.TagMode.{TagMode}
+use Rattle.mte_tags.specs.declared.state.TagMode.TheVariants.{Sync, Async}
+use Rattle.mte_tags.specs.declared.state.TagState.{TagState}
 use Rattle.mte_tags.proofs.PageLaws.{attrs_at-written}
+use Rattle.mte_tags.proofs.StateLaws.{state-written}
 use Rattle.mte_tags.proofs.ByteLaws.{tag_at-written}
 
 -- how a byte fails, by its page's attributes and its granule's tag
@@ -46,24 +50,33 @@ first_fault-same m m' x (a ∷ xs) e f =
 pub first_fault-written : (m : Memory) (a : ℕ) (bs : List ℕ) (x : Access) (xs : List ℕ) → first_fault (written m a bs) x xs ≡ first_fault m x xs
 first_fault-written m a bs x xs = first_fault-same (written m a bs) m x xs (attrs_at-written m a bs) (tag_at-written m a bs)
 
+ending-written : (mode : TagMode) (m : Memory) (a : ℕ) (bs : List ℕ) (x : Access) (xs : List ℕ) → (ending_in mode (written m a bs) x xs).fault ≡ (ending_in mode m x xs).fault
+ending-written Sync m a bs x xs = first_fault-written m a bs x xs
+ending-written Async m a bs x xs = first_fault-written m a bs (unchecked x) xs
+
+pub access_fault-written : (m : Memory) (a : ℕ) (bs : List ℕ) (x : Access) (xs : List ℕ) → access_fault (written m a bs) x xs ≡ access_fault m x xs
+unfolding access_fault
+access_fault-written m a bs x xs =
+    ap (λ (s : TagState). (ending_in s.mode (written m a bs) x xs).fault) (state-written m a bs) ∙ ending-written m.state.mode m a bs x xs
+
 pub read_fault-written : (m : Memory) (a : ℕ) (bs : List ℕ) (b n : ℕ) (check : Bool) → read_fault (written m a bs) b n check ≡ read_fault m b n check
 unfolding read_fault
-read_fault-written m a bs b n check = first_fault-written m a bs _ _
+read_fault-written m a bs b n check = access_fault-written m a bs _ _
 
 pub write_fault-written : (m : Memory) (a : ℕ) (bs : List ℕ) (b n : ℕ) (check : Bool) → write_fault (written m a bs) b n check ≡ write_fault m b n check
 unfolding write_fault
-write_fault-written m a bs b n check = first_fault-written m a bs _ _
+write_fault-written m a bs b n check = access_fault-written m a bs _ _
 
 pub tags_fault-written : (m : Memory) (a : ℕ) (bs : List ℕ) (b n : ℕ) → tags_fault (written m a bs) b n ≡ tags_fault m b n
 unfolding tags_fault
 tags_fault-written m a bs b n = ap (λ f. cond (b % 16 == 0) f (Some (fault Alignment (store_access b) (plain b) 0))) (first_fault-written m a bs (store_access b) (granules (plain b) n))
 
--- an access has no fault where each byte's page has what it needs, and its tag where tags are compared
+-- an access has no fault where each byte's page has what it needs, and its tag where tags are after_access
 fits_tag : (F : MemFault) (c : Bool) (b : Bool) → (c ≡ true → b ≡ true) → cond c (cond b None (Some F)) None ≡ None
 fits_tag F true b h = cond-true _ _ _ (h refl)
 fits_tag F false b h = refl
 
--- each address of a list has these attributes, and the access's tag where tags are compared
+-- each address of a list has these attributes, and the access's tag where tags are after_access
 abbrev pub AllAt : Memory → Access → ℕ → List ℕ → Type 0
 AllAt m x attrs [] = Unit {0}
 AllAt m x attrs (a ∷ xs) = (attrs_at m (a / 4096) ≡ Some attrs) × ((x.checked && has attrs 8) ≡ true → tag_at m a ≡ x.tag) × AllAt m x attrs xs

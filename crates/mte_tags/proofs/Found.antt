@@ -19,11 +19,11 @@ use Rattle.mte_tags.proofs.RunSteps.{length_range}
 use Rattle.mte_tags.proofs.TagRuns.{with_granules-run}
 use Rattle.mte_tags.proofs.Places.{page_at-slots_some, slots_memory-set}
 
-pub found_page : (n : ℕ) (slots : List Slot) (s q : ℕ) (d : Slot) → AreSlots slots → s < length slots → (get_or slots s d).page ≡ q → page_at (slots_memory n slots) q ≡ Some (page_of (get_or slots s d))
+pub found_page : (n : Memory) (slots : List Slot) (s q : ℕ) (d : Slot) → AreSlots slots → s < length slots → (get_or slots s d).page ≡ q → page_at (slots_memory n slots) q ≡ Some (page_of (get_or slots s d))
 found_page n slots s q d h l e = ap (page_at (slots_memory n slots)) (sym e) ∙ page_at-slots_some n slots s d h l
 
 -- how a run fails in the slot that was found, and where none was
-pub fault_found : (n : ℕ) (slots : List Slot) (s at count : ℕ) (d : Slot) (x : Access) → AreSlots slots → s < length slots → ((e : Slot) → (get_or slots s e).page ≡ at / 4096) → at % 4096 + count ≤ 4096 → at < 2 ^ 56
+pub fault_found : (n : Memory) (slots : List Slot) (s at count : ℕ) (d : Slot) (x : Access) → AreSlots slots → s < length slots → ((e : Slot) → (get_or slots s e).page ≡ at / 4096) → at % 4096 + count ≤ 4096 → at < 2 ^ 56
     → first_in x (Some (page_of (get_or slots s d))) (range_with_len at count) ≡ first_fault (slots_memory n slots) x (addresses at count)
 fault_found n slots s at count d x h l f p u =
     sym (ap (first_fault (slots_memory n slots) x) (addresses_in_page at count u p) ∙ first_fault_in (slots_memory n slots) x at count p
@@ -33,7 +33,7 @@ passed : (o : Option MemFault) → is_none o ≡ true → o ≡ None
 passed None h = refl
 passed (Some f) h = cc
 
-pub run_passed : (n : ℕ) (slots : List Slot) (s at count : ℕ) (d : Slot) (x : Access) → AreSlots slots → s < length slots → ((e : Slot) → (get_or slots s e).page ≡ at / 4096) → at % 4096 + count ≤ 4096 → at < 2 ^ 56
+pub run_passed : (n : Memory) (slots : List Slot) (s at count : ℕ) (d : Slot) (x : Access) → AreSlots slots → s < length slots → ((e : Slot) → (get_or slots s e).page ≡ at / 4096) → at % 4096 + count ≤ 4096 → at < 2 ^ 56
     → is_none (first_in x (Some (page_of (get_or slots s d))) (range_with_len at count)) ≡ true → first_fault (slots_memory n slots) x (addresses at count) ≡ None
 run_passed n slots s at count d x h l f p u e = sym (fault_found n slots s at count d x h l f p u) ∙ passed _ e
 
@@ -42,7 +42,7 @@ pub fault_missing : (m : Memory) (at count : ℕ) (x : Access) → 0 < count →
 fault_missing m at count x h p u e =
     ap (first_fault m x) (addresses_in_page at count u p) ∙ first_fault_in m x at count p ∙ ap (λ q. first_in x q (range_with_len at count)) e ∙ first_in-none x at count h
 
-pub byte_fault_found : (n : ℕ) (slots : List Slot) (s at : ℕ) (d : Slot) (x : Access) → AreSlots slots → s < length slots → ((e : Slot) → (get_or slots s e).page ≡ at / 4096) → at < 2 ^ 56
+pub byte_fault_found : (n : Memory) (slots : List Slot) (s at : ℕ) (d : Slot) (x : Access) → AreSlots slots → s < length slots → ((e : Slot) → (get_or slots s e).page ≡ at / 4096) → at < 2 ^ 56
     → first_in x (Some (page_of (get_or slots s d))) (range_with_len at 1) ≡ byte_fault (slots_memory n slots) x at
 byte_fault_found n slots s at d x h l f u = fault_found n slots s at 1 d x h l f (omega arith) u ∙ first_fault_one (slots_memory n slots) x at
 
@@ -50,7 +50,7 @@ pub byte_fault_missing : (m : Memory) (at : ℕ) (x : Access) → page_at m (at 
 unfolding byte_fault
 byte_fault_missing m at x e = ap (λ p. fault_in x p at) e
 
-pub granules_fault_found : (n : ℕ) (slots : List Slot) (s at count : ℕ) (d : Slot) (x : Access) → AreSlots slots → s < length slots → ((e : Slot) → (get_or slots s e).page ≡ at / 4096)
+pub granules_fault_found : (n : Memory) (slots : List Slot) (s at count : ℕ) (d : Slot) (x : Access) → AreSlots slots → s < length slots → ((e : Slot) → (get_or slots s e).page ≡ at / 4096)
     → x.checked ≡ false → 0 < count → at % 16 ≡ 0 → at % 4096 + 16 * count ≤ 4096 → at < 2 ^ 56
     → first_in x (Some (page_of (get_or slots s d))) (range_with_len at 1) ≡ first_fault (slots_memory n slots) x (granules at count)
 granules_fault_found n slots s at count d x h l f c p g r u = byte_fault_found n slots s at d x h l f u ∙ sym (first_fault_in_run (slots_memory n slots) x at count c p g r u)
@@ -60,7 +60,7 @@ pub granules_fault_missing : (m : Memory) (at count : ℕ) (x : Access) → x.ch
 granules_fault_missing m at count x c p g r u e = first_fault_in_run m x at count c p g r u ∙ byte_fault_missing m at x e
 
 -- a run that was read is what the memory holds there
-pub piece_read : (n : ℕ) (slots : List Slot) (s place k l : ℕ) (d : Slot) (piece : List ℕ) → AreSlots slots → s < length slots → ((e : Slot) → (get_or slots s e).page ≡ place / 4096) → place % 4096 + k ≤ 4096 → place < 2 ^ 56
+pub piece_read : (n : Memory) (slots : List Slot) (s place k l : ℕ) (d : Slot) (piece : List ℕ) → AreSlots slots → s < length slots → ((e : Slot) → (get_or slots s e).page ≡ place / 4096) → place % 4096 + k ≤ 4096 → place < 2 ^ 56
     → length piece ≡ k → l ≡ k → piece ≡ slice_range (get_or slots s d).bytes (place % 4096) (place % 4096 + l) → piece ≡ bytes_at (slots_memory n slots) (addresses place k)
 piece_read n slots s place k l d piece h lt f p u long q was =
     let bs = (get_or slots s d).bytes in
@@ -72,7 +72,7 @@ piece_read n slots s place k l d piece h lt f p u long q was =
     ∙ bytes_at-run (slots_memory n slots) (page_of (get_or slots s d)) place k (found_page n slots s (place / 4096) d h lt (f d)) room p)
 
 -- a run that was written
-pub slot_written : (n : ℕ) (slots : List Slot) (s place : ℕ) (d new : Slot) (piece : List ℕ) → AreSlots slots → s < length slots → ((e : Slot) → (get_or slots s e).page ≡ place / 4096) → place % 4096 + length piece ≤ 4096 → place < 2 ^ 56
+pub slot_written : (n : Memory) (slots : List Slot) (s place : ℕ) (d new : Slot) (piece : List ℕ) → AreSlots slots → s < length slots → ((e : Slot) → (get_or slots s e).page ≡ place / 4096) → place % 4096 + length piece ≤ 4096 → place < 2 ^ 56
     → new ≡ record (get_or slots s d) { bytes = spliced (get_or slots s d).bytes (place % 4096) piece }
     → slots_memory n (set slots s new) ≡ with_bytes (slots_memory n slots) (addresses place (length piece)) piece
 slot_written n slots s place d new piece h l f p u e =
@@ -86,7 +86,7 @@ slot_written n slots s place d new piece h l f p u e =
     ∙ with_bytes-run piece (slots_memory n slots) (page_of old) place (found_page n slots s (place / 4096) d h l (f d)) p)
 
 -- a run that was retagged
-pub slot_retagged : (n : ℕ) (slots : List Slot) (s at count t : ℕ) (z : Bool) (d new : Slot) → AreSlots slots → s < length slots → ((e : Slot) → (get_or slots s e).page ≡ at / 4096)
+pub slot_retagged : (n : Memory) (slots : List Slot) (s at count t : ℕ) (z : Bool) (d new : Slot) → AreSlots slots → s < length slots → ((e : Slot) → (get_or slots s e).page ≡ at / 4096)
     → at % 16 ≡ 0 → at % 4096 + 16 * count ≤ 4096 → at < 2 ^ 56 → length (get_or slots s d).bytes ≡ 4096 → new.page ≡ (get_or slots s d).page → All (λ t. t < 16) new.tags
     → page_of new ≡ retagged (page_of (get_or slots s d)) (at % 4096 / 16) count t z
     → slots_memory n (set slots s new) ≡ with_granules (slots_memory n slots) at count t z
@@ -110,12 +110,12 @@ pub fetch_missing : (m : Memory) (pc at : ℕ) (x : Access) → pc % 4 ≡ 0 →
 fetch_missing m pc at x g p e away =
     sym (fetched_aligned m pc at x g p e ∙ ap (fetched_by m pc) (fault_missing m at 4 x (omega arith) (omega arith) (omega arith) away))
 
-pub fetch_found : (n : ℕ) (slots : List Slot) (s pc at : ℕ) (d : Slot) (x : Access) → AreSlots slots → s < length slots → ((e : Slot) → (get_or slots s e).page ≡ at / 4096) → pc % 4 ≡ 0 → at ≡ plain pc → x ≡ fetch_access pc
+pub fetch_found : (n : Memory) (slots : List Slot) (s pc at : ℕ) (d : Slot) (x : Access) → AreSlots slots → s < length slots → ((e : Slot) → (get_or slots s e).page ≡ at / 4096) → pc % 4 ≡ 0 → at ≡ plain pc → x ≡ fetch_access pc
     → fetched_by (slots_memory n slots) pc (first_in x (Some (page_of (get_or slots s d))) (range_with_len at 4)) ≡ fetched (slots_memory n slots) pc
 fetch_found n slots s pc at d x h l f g p e =
     ap (fetched_by (slots_memory n slots) pc) (fault_found n slots s at 4 d x h l f (omega arith) (omega arith)) ∙ sym (fetched_aligned (slots_memory n slots) pc at x g p e)
 
-pub word_found : (n : ℕ) (slots : List Slot) (s pc at : ℕ) (d : Slot) → AreSlots slots → s < length slots → ((e : Slot) → (get_or slots s e).page ≡ at / 4096) → pc % 4 ≡ 0 → at ≡ plain pc → length (get_or slots s d).bytes ≡ 4096
+pub word_found : (n : Memory) (slots : List Slot) (s pc at : ℕ) (d : Slot) → AreSlots slots → s < length slots → ((e : Slot) → (get_or slots s e).page ≡ at / 4096) → pc % 4 ≡ 0 → at ≡ plain pc → length (get_or slots s d).bytes ≡ 4096
     → from_le_bytes w32 (slice_range (get_or slots s d).bytes (at % 4096) (at % 4096 + 4)) ≡ word_at (slots_memory n slots) pc
 unfolding word_at read_bytes
 word_found n slots s pc at d h l f g p long =
@@ -125,7 +125,7 @@ word_found n slots s pc at d h l f g p long =
     ∙ ap (λ a. from_le_bytes w32 (bytes_at (slots_memory n slots) (addresses a 4))) p
 
 -- pages lie low, so the address whose page was found without taking its top byte off has none
-pub code_found : (n : ℕ) (slots : List Slot) (s pc w : ℕ) (d : Slot) → AreSlots slots → s < length slots → ((e : Slot) → (get_or slots s e).page ≡ pc / 4096) → pc % 4 ≡ 0 → has (get_or slots s d).attrs.0 4 ≡ true
+pub code_found : (n : Memory) (slots : List Slot) (s pc w : ℕ) (d : Slot) → AreSlots slots → s < length slots → ((e : Slot) → (get_or slots s e).page ≡ pc / 4096) → pc % 4 ≡ 0 → has (get_or slots s d).attrs.0 4 ≡ true
     → length (get_or slots s d).bytes ≡ 4096 → w ≡ from_le_bytes w32 (slice_range (get_or slots s d).bytes (pc % 4096) (pc % 4096 + 4)) → Ok w ≡ fetched (slots_memory n slots) pc
 code_found n slots s pc w d h l f g x long e =
     let low : pc ≡ plain pc = omega (arith, h.low s d l, f d) in
@@ -133,7 +133,7 @@ code_found n slots s pc w d h l f g x long e =
     ∙ ap (fetched_by (slots_memory n slots) pc) (sym (first_in-untagged (fetch_access pc) (page_of (get_or slots s d)) pc 4 x refl))
     ∙ fetch_found n slots s pc pc d (fetch_access pc) h l f g low refl
 
-pub tag_found : (n : ℕ) (slots : List Slot) (s at : ℕ) (d : Slot) → AreSlots slots → s < length slots → ((e : Slot) → (get_or slots s e).page ≡ at / 4096)
+pub tag_found : (n : Memory) (slots : List Slot) (s at : ℕ) (d : Slot) → AreSlots slots → s < length slots → ((e : Slot) → (get_or slots s e).page ≡ at / 4096)
     → tag_at (slots_memory n slots) at ≡ tag_in (Some (page_of (get_or slots s d))) (at % 4096 / 16)
 unfolding tag_at
 tag_found n slots s at d h l f = ap (λ p. tag_in p (at % 4096 / 16)) (found_page n slots s (at / 4096) d h l (f d))

@@ -3,10 +3,12 @@ mod RandomBits
 pub mod Pages
 pub mod PageLaws
 pub mod Whole
+pub mod StateLaws
 pub mod ByteLaws
 pub mod TagLaws
 pub mod FaultLaws
 pub mod AddressLists
+pub mod ModeLaws
 pub mod RunSteps
 pub mod GranuleLists
 pub mod PageRuns

@@ -6,6 +6,8 @@ use Rattle.std.specs.Cmp.{unsigned_tied, nat_cmp_total}
 use Rattle.std.specs.FinMap as map
 use Rattle.std.specs.FinMap.{get-insert, get-remove, get-empty, len-insert, same_map, nat_cmp-IsAntisymmetric}
 use Rattle.mte_tags.specs.Memory.{Memory, Page, page_at, with_page, without_page, pages_left, no_pages}
+use Rattle.mte_tags.specs.declared.state.TagMode.{TagMode}
+use Rattle.mte_tags.specs.declared.state.TagState.{TagState}
 
 pub tied_same : (q : ℕ) → eq_by_cmp nat_cmp q q ≡ true
 tied_same q = unsigned_tied q q ∙ eq-eqb q q refl
@@ -31,16 +33,20 @@ pub page_at-without_page_other : (m : Memory) (q r : ℕ) → r ≢ q → page_a
 unfolding page_at without_page
 page_at-without_page_other m q r n = get-remove nat_cmp_total m.pages q r ∙ cond-false _ _ _ (tied_other r q n)
 
-pub page_at-no_pages : (limit q : ℕ) → page_at (no_pages limit) q ≡ None
+pub page_at-no_pages : (limit : ℕ) (mode : TagMode) (q : ℕ) → page_at (no_pages limit mode) q ≡ None
 unfolding page_at no_pages
-page_at-no_pages limit q = get-empty nat_cmp q
+page_at-no_pages limit mode q = get-empty nat_cmp q
 
--- two memories of one limit that have the same pages are equal
-pub same_memory : (m n : Memory) → m.limit ≡ n.limit → ((q : ℕ) → page_at m q ≡ page_at n q) → m ≡ n
+-- what a memory is beside its pages
+abbrev pub rest_of : Memory → ℕ × TagState
+rest_of m = (m.limit, m.state)
+
+-- two memories that have the same pages are equal where the rest is
+pub same_memory : (m n : Memory) → rest_of m ≡ rest_of n → ((q : ℕ) → page_at m q ≡ page_at n q) → m ≡ n
 unfolding page_at
 same_memory m n e h =
     let pages : m.pages ≡ n.pages = same_map nat_cmp_total nat_cmp-IsAntisymmetric m.pages n.pages h in
-    λ i. record { limit = e i; pages = pages i }
+    λ i. record { limit = (e i).0; pages = pages i; state = (e i).1 }
 
 pub limit-with_page : (m : Memory) (q : ℕ) (p : Page) → (with_page m q p).limit ≡ m.limit
 unfolding with_page
@@ -50,10 +56,18 @@ pub limit-without_page : (m : Memory) (q : ℕ) → (without_page m q).limit ≡
 unfolding without_page
 limit-without_page m q = refl
 
+pub rest-with_page : (m : Memory) (q : ℕ) (p : Page) → rest_of (with_page m q p) ≡ rest_of m
+unfolding with_page
+rest-with_page m q p = refl
+
+pub rest-without_page : (m : Memory) (q : ℕ) → rest_of (without_page m q) ≡ rest_of m
+unfolding without_page
+rest-without_page m q = refl
+
 -- a page is put in twice
 pub with_page_twice : (m : Memory) (q : ℕ) (p r : Page) → with_page (with_page m q p) q r ≡ with_page m q r
 with_page_twice m q p r =
-    same_memory _ _ (limit-with_page (with_page m q p) q r ∙ limit-with_page m q p ∙ sym (limit-with_page m q r))
+    same_memory _ _ (rest-with_page (with_page m q p) q r ∙ rest-with_page m q p ∙ sym (rest-with_page m q r))
     (λ k. elim (cases_eq k q) [
       | inl e ↦ rw e (page_at-with_page_same (with_page m q p) q r ∙ sym (page_at-with_page_same m q r))
       | inr n ↦ page_at-with_page_other (with_page m q p) q r k n ∙ page_at-with_page_other m q p k n ∙ sym (page_at-with_page_other m q r k n)
@@ -62,7 +76,7 @@ with_page_twice m q p r =
 -- a page is put in as it is
 pub with_page_kept : (m : Memory) (q : ℕ) (p : Page) → page_at m q ≡ Some p → with_page m q p ≡ m
 with_page_kept m q p h =
-    same_memory _ _ (limit-with_page m q p)
+    same_memory _ _ (rest-with_page m q p)
     (λ k. elim (cases_eq k q) [
       | inl e ↦ rw e (page_at-with_page_same m q p ∙ sym h)
       | inr n ↦ page_at-with_page_other m q p k n

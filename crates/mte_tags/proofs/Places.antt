@@ -6,31 +6,32 @@ use Rattle.std.specs.Ordering.{nat_cmp, eq_by_cmp}
 use Rattle.std.specs.Cmp.{nat_cmp_total}
 use Rattle.std.specs.FinMap as finite
 use Rattle.std.specs.FinMap.{find, get-from_entries, from_entries_push, nat_cmp-IsAntisymmetric}
-use Rattle.mte_tags.specs.Memory.{Memory, Page, page_at, with_page, without_page, pages_left, new_page, with_new_pages, without_pages}
+use Rattle.mte_tags.specs.Memory.{Memory, Page, page_at, with_page, without_page, pages_left, no_pages, new_page, with_new_pages, without_pages}
+use Rattle.mte_tags.specs.declared.state.TagMode.TheVariants.{Sync}
 use Rattle.mte_tags.specs.declared.attrs.Attrs.{Attrs}
 use Rattle.std.specs.List.{All, swap_remove}
 use Rattle.mte_tags.specs.Slots.{page_of, entry_of, slots_memory, AreSlots}
 use Rattle.mte_tags.specs.declared.flat.slot.Slot.{Slot}
-use Rattle.mte_tags.proofs.Pages.{tied_same, tied_other, same_memory, page_at-with_page_same, page_at-with_page_other, limit-with_page, page_at-without_page_same, page_at-without_page_other, limit-without_page}
+use Rattle.mte_tags.proofs.Pages.{tied_same, tied_other, same_memory, rest_of, page_at-with_page_same, page_at-with_page_other, rest-with_page, page_at-without_page_same, page_at-without_page_other, rest-without_page}
 
-at_slots : (n : ℕ) (slots : List Slot) (q : ℕ) → page_at (slots_memory n slots) q ≡ find nat_cmp q (map entry_of slots)
+at_slots : (n : Memory) (slots : List Slot) (q : ℕ) → page_at (slots_memory n slots) q ≡ find nat_cmp q (map entry_of slots)
 unfolding page_at slots_memory
 at_slots n slots q = get-from_entries nat_cmp_total (map entry_of slots) q
 
-limit_slots : (n : ℕ) (slots : List Slot) → (slots_memory n slots).limit ≡ n
+rest_slots : (n : Memory) (slots : List Slot) → rest_of (slots_memory n slots) ≡ rest_of n
 unfolding slots_memory
-limit_slots n slots = refl
+rest_slots n slots = refl
 
-pub page_at-slots_limit : (n k : ℕ) (slots : List Slot) (q : ℕ) → page_at (slots_memory n slots) q ≡ page_at (slots_memory k slots) q
-unfolding page_at slots_memory
-page_at-slots_limit n k slots q = refl
+-- a memory for lemmas of slots alone
+abbrev pub any_memory : Memory
+any_memory = no_pages 0 Sync
 
 find_none : (slots : List Slot) (q : ℕ) → ((i : ℕ) (d : Slot) → i < length slots → (get_or slots i d).page ≢ q) → find nat_cmp q (map entry_of slots) ≡ None
 find_none [] q h = refl
 find_none (s ∷ ss) q h =
     cond-false _ _ _ (tied_other q s.page (λ e. h 0 s (omega arith) (sym e))) ∙ find_none ss q (λ i d l. h (suc i) d (omega arith))
 
-pub page_at-slots_none : (n : ℕ) (slots : List Slot) (q : ℕ) → ((i : ℕ) (d : Slot) → i < length slots → (get_or slots i d).page ≢ q) → page_at (slots_memory n slots) q ≡ None
+pub page_at-slots_none : (n : Memory) (slots : List Slot) (q : ℕ) → ((i : ℕ) (d : Slot) → i < length slots → (get_or slots i d).page ≢ q) → page_at (slots_memory n slots) q ≡ None
 page_at-slots_none n slots q h = at_slots n slots q ∙ find_none slots q h
 
 tail_apart : (s : Slot) (ss : List Slot) → AreSlots (s ∷ ss) → AreSlots ss
@@ -47,7 +48,7 @@ find_some (s ∷ ss) (suc i) d h l =
     cond-false _ _ _ (tied_other (get_or ss i d).page s.page (λ e. let r : suc i ≡ 0 = h.apart (suc i) 0 d (omega arith) (omega arith) e in omega arith))
     ∙ find_some ss i d (tail_apart s ss h) (omega arith)
 
-pub page_at-slots_some : (n : ℕ) (slots : List Slot) (i : ℕ) (d : Slot) → AreSlots slots → i < length slots → page_at (slots_memory n slots) (get_or slots i d).page ≡ Some (page_of (get_or slots i d))
+pub page_at-slots_some : (n : Memory) (slots : List Slot) (i : ℕ) (d : Slot) → AreSlots slots → i < length slots → page_at (slots_memory n slots) (get_or slots i d).page ≡ Some (page_of (get_or slots i d))
 page_at-slots_some n slots i d h l = at_slots n slots (get_or slots i d).page ∙ find_some slots i d h l
 
 -- a slot is changed and stays the slot of its page
@@ -73,10 +74,10 @@ find_set [] i q s l e n = refl
 find_set (t ∷ ss) zero q s l e n = cond-false _ _ _ (tied_other q s.page n) ∙ sym (cond-false _ _ _ (tied_other q t.page (λ r. n (r ∙ sym e))))
 find_set (t ∷ ss) (suc i) q s l e n = ap (cond (eq_by_cmp nat_cmp q t.page) (Some (page_of t))) (find_set ss i q s (omega arith) e n)
 
-pub slots_memory-set : (n : ℕ) (slots : List Slot) (i : ℕ) (s : Slot) → AreSlots slots → i < length slots → s.page ≡ (get_or slots i s).page → All (λ t. t < 16) s.tags
+pub slots_memory-set : (n : Memory) (slots : List Slot) (i : ℕ) (s : Slot) → AreSlots slots → i < length slots → s.page ≡ (get_or slots i s).page → All (λ t. t < 16) s.tags
     → slots_memory n (set slots i s) ≡ with_page (slots_memory n slots) s.page (page_of s)
 slots_memory-set n slots i s h l e small =
-    same_memory _ _ (limit_slots n (set slots i s) ∙ sym (limit-with_page (slots_memory n slots) s.page (page_of s) ∙ limit_slots n slots))
+    same_memory _ _ (rest_slots n (set slots i s) ∙ sym (rest-with_page (slots_memory n slots) s.page (page_of s) ∙ rest_slots n slots))
     (λ q. elim (cases_eq q s.page) [
       | inl r ↦
           let here : get_or (set slots i s) i s ≡ s = get_or-set_same slots i s s l in
@@ -89,22 +90,22 @@ slots_memory-set n slots i s h l e small =
           ∙ sym (page_at-with_page_other (slots_memory n slots) s.page (page_of s) q d)
     ])
 
-pub slots_memory-push : (n : ℕ) (slots : List Slot) (s : Slot) → page_at (slots_memory n slots) s.page ≡ None
+pub slots_memory-push : (n : Memory) (slots : List Slot) (s : Slot) → page_at (slots_memory n slots) s.page ≡ None
     → slots_memory n (slots ++ s ∷ []) ≡ with_page (slots_memory n slots) s.page (page_of s)
 unfolding slots_memory with_page
 slots_memory-push n slots s h =
     let e : map entry_of (slots ++ s ∷ []) ≡ map entry_of slots ++ entry_of s ∷ [] = map-append entry_of slots (s ∷ []) in
-    ap (λ es. record { limit = n; pages = finite.from_entries es }) e
-    ∙ ap (λ ps. record { limit = n; pages = ps }) (from_entries_push nat_cmp_total nat_cmp-IsAntisymmetric (map entry_of slots) s.page (page_of s) (sym (at_slots n slots s.page) ∙ h))
+    ap (λ es. record n { pages = finite.from_entries es }) e
+    ∙ ap (λ ps. record n { pages = ps }) (from_entries_push nat_cmp_total nat_cmp-IsAntisymmetric (map entry_of slots) s.page (page_of s) (sym (at_slots n slots s.page) ∙ h))
 
 -- a page that isn't there is no slot's
-no_slot : (n : ℕ) (slots : List Slot) (q : ℕ) → AreSlots slots → page_at (slots_memory n slots) q ≡ None → (i : ℕ) (d : Slot) → i < length slots → (get_or slots i d).page ≢ q
+no_slot : (n : Memory) (slots : List Slot) (q : ℕ) → AreSlots slots → page_at (slots_memory n slots) q ≡ None → (i : ℕ) (d : Slot) → i < length slots → (get_or slots i d).page ≢ q
 no_slot n slots q h e i d l r =
     let some : page_at (slots_memory n slots) q ≡ Some (page_of (get_or slots i d)) = ap (page_at (slots_memory n slots)) (sym r) ∙ page_at-slots_some n slots i d h l in
     cc
 
 -- a slot of a page that isn't there joins the slots
-pub AreSlots-push : (n : ℕ) (slots : List Slot) (s : Slot) → page_at (slots_memory n slots) s.page ≡ None → s.page < 2 ^ 18 → All (λ t. t < 16) s.tags → AreSlots slots → AreSlots (slots ++ s ∷ [])
+pub AreSlots-push : (n : Memory) (slots : List Slot) (s : Slot) → page_at (slots_memory n slots) s.page ≡ None → s.page < 2 ^ 18 → All (λ t. t < 16) s.tags → AreSlots slots → AreSlots (slots ++ s ∷ [])
 AreSlots-push n slots s e under small h =
     let page = λ (t : Slot). t.page in
     let new = no_slot n slots s.page h e in
@@ -136,7 +137,7 @@ AreSlots-push n slots s e under small h =
     }
 
 -- as many pages as slots
-pub len-slots : (n : ℕ) (slots : List Slot) → AreSlots slots → finite.len (slots_memory n slots).pages ≡ length slots
+pub len-slots : (n : Memory) (slots : List Slot) → AreSlots slots → finite.len (slots_memory n slots).pages ≡ length slots
 unfolding slots_memory page_at
 len-slots n [] h = finite.len-empty nat_cmp Page
 len-slots n (s ∷ ss) h =
@@ -144,9 +145,9 @@ len-slots n (s ∷ ss) h =
     let more : finite.len (slots_memory n ss).pages ≡ length ss = len-slots n ss (tail_apart s ss h) in
     finite.len-insert nat_cmp_total (slots_memory n ss).pages s.page (page_of s) ∙ cond-false _ _ _ (ap is_some none) ∙ omega arith
 
-pub pages_left-slots : (n : ℕ) (slots : List Slot) → AreSlots slots → pages_left (slots_memory n slots) ≡ n - length slots
-unfolding pages_left
-pages_left-slots n slots h = ap (λ k. (slots_memory n slots).limit - k) (len-slots n slots h) ∙ ap (λ k. k - length slots) (limit_slots n slots)
+pub pages_left-slots : (n : Memory) (slots : List Slot) → AreSlots slots → pages_left (slots_memory n slots) ≡ n.limit - length slots
+unfolding pages_left slots_memory
+pages_left-slots n slots h = ap (λ k. n.limit - k) (len-slots n slots h)
 
 -- one of several new pages
 pub with_new_pages-step : (m : Memory) (q n : ℕ) (attrs : Attrs) → 0 < n → with_new_pages m q n attrs ≡ with_new_pages (with_page m q (new_page attrs.0)) (q + 1) (n - 1) attrs
@@ -180,7 +181,7 @@ slot_or_none (s ∷ ss) q = elim (cases_eq s.page q) [
 ]
 
 -- each page that is mapped is some slot's
-pub slot_of_page : (n : ℕ) (slots : List Slot) (q : ℕ) → IsSome (page_at (slots_memory n slots) q) → (j : ℕ) × (j < length slots) × ((d : Slot) → (get_or slots j d).page ≡ q)
+pub slot_of_page : (n : Memory) (slots : List Slot) (q : ℕ) → IsSome (page_at (slots_memory n slots) q) → (j : ℕ) × (j < length slots) × ((d : Slot) → (get_or slots j d).page ≡ q)
 slot_of_page n slots q h = elim (slot_or_none slots q) [
   | inl w ↦ w
   | inr none ↦ let e : page_at (slots_memory n slots) q ≡ None = page_at-slots_none n slots q none in absurd (some_is_not_none (page_at (slots_memory n slots) q) h e)
@@ -189,7 +190,7 @@ slot_of_page n slots q h = elim (slot_or_none slots q) [
 any_slot : Slot
 any_slot = record { page = 0; attrs = record { 0 = 0 }; bytes = []; tags = [] }
 
-pub mapped_low : (n : ℕ) (slots : List Slot) (q : ℕ) → AreSlots slots → IsSome (page_at (slots_memory n slots) q) → q < 2 ^ 18
+pub mapped_low : (n : Memory) (slots : List Slot) (q : ℕ) → AreSlots slots → IsSome (page_at (slots_memory n slots) q) → q < 2 ^ 18
 mapped_low n slots q a h =
     let w = slot_of_page n slots q h in
     let b : (get_or slots w.0 any_slot).page < 2 ^ 18 = a.low w.0 any_slot w.1 in
@@ -249,12 +250,12 @@ kept_slot slots s j d l lj n =
       | inr f ↦ (j, omega arith, λ x. get_or-take (length slots - 1) (set slots s last) j x (omega arith) ∙ get_or-set_other slots s j last x n)
     ]
 
-pub slots_memory-swap_remove : (n : ℕ) (slots : List Slot) (s q : ℕ) (d : Slot) → AreSlots slots → s < length slots → (get_or slots s d).page ≡ q
+pub slots_memory-swap_remove : (n : Memory) (slots : List Slot) (s q : ℕ) (d : Slot) → AreSlots slots → s < length slots → (get_or slots s d).page ≡ q
     → slots_memory n (swap_remove slots s d) ≡ without_page (slots_memory n slots) q
 slots_memory-swap_remove n slots s q d h l p =
     let new = swap_remove slots s d in
     let page = λ (t : Slot). t.page in
-    same_memory _ _ (limit_slots n new ∙ sym (limit-without_page (slots_memory n slots) q ∙ limit_slots n slots))
+    same_memory _ _ (rest_slots n new ∙ sym (rest-without_page (slots_memory n slots) q ∙ rest_slots n slots))
     (λ r. elim (cases_eq r q) [
       | inl e ↦ rw e (
           page_at-slots_none n new q (λ k x lk f.

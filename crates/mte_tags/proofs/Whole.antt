@@ -8,8 +8,9 @@ use Rattle.std.specs.FinMap as map
 use Rattle.std.specs.FinMap.{len-insert, len-empty}
 use Rattle.mte_tags.specs.Memory.{Memory, Page, page_at, with_page, without_page, pages_left, no_pages, new_page, with_new_pages, without_pages, IsFree, ArePages, with_byte_in, with_byte, zeroed, with_granule_in, with_granule, with_granules}
 use Rattle.mte_tags.specs.declared.attrs.Attrs.{Attrs}
+use Rattle.mte_tags.specs.declared.state.TagMode.{TagMode}
 use Rattle.mte_tags.specs.Accesses.{with_bytes, written}
-use Rattle.mte_tags.proofs.Pages.{page_at-with_page_same, page_at-with_page_other, page_at-without_page_same, page_at-without_page_other, page_at-no_pages, same_memory, limit-with_page, limit-without_page, pages_left-with_new}
+use Rattle.mte_tags.proofs.Pages.{page_at-with_page_same, page_at-with_page_other, page_at-without_page_same, page_at-without_page_other, page_at-no_pages, same_memory, limit-without_page, rest-with_page, rest-without_page, pages_left-with_new}
 use Rattle.mte_tags.proofs.TagRuns.{length-zeroed}
 
 pub record IsWholePage (p : Page) : Type 0 where
@@ -57,7 +58,7 @@ whole_without m q h r p e = elim (cases_eq r q) [
 -- a page that was taken out is put back
 pub with_page-without_page : (m : Memory) (q : ℕ) (old : Page) → page_at m q ≡ Some old → with_page (without_page m q) q old ≡ m
 with_page-without_page m q old e =
-    same_memory _ _ (limit-with_page (without_page m q) q old ∙ limit-without_page m q)
+    same_memory _ _ (rest-with_page (without_page m q) q old ∙ rest-without_page m q)
     (λ r. elim (cases_eq r q) [
       | inl f ↦ rw f (page_at-with_page_same (without_page m q) q old ∙ sym e)
       | inr n ↦ page_at-with_page_other (without_page m q) q old r n ∙ page_at-without_page_other m q r n
@@ -81,11 +82,11 @@ pub pages_left-without_page : (m : Memory) (q : ℕ) (old : Page) → page_at m 
 unfolding pages_left
 pages_left-without_page m q old e h = let l = one_less m q old e in omega (arith, h.within, limit-without_page m q)
 
-pub whole-no_pages : (limit : ℕ) → IsWhole (no_pages limit)
+pub whole-no_pages : (limit : ℕ) (mode : TagMode) → IsWhole (no_pages limit mode)
 unfolding no_pages
-whole-no_pages limit = record {
+whole-no_pages limit mode = record {
   within = omega (arith, len-empty nat_cmp Page);
-  pages = λ q p e. let n = page_at-no_pages limit q in none_whole (page_at (no_pages limit) q) p n e;
+  pages = λ q p e. let n = page_at-no_pages limit mode q in none_whole (page_at (no_pages limit mode) q) p n e;
 }
 
 whole_new : (attrs : ℕ) → IsWholePage (new_page attrs)

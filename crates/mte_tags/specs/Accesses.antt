@@ -1,15 +1,19 @@
 -- What an access does to a tagged memory, and how it fails.
 -- An access is the list of its plain addresses. Each is tested for translation, then permission,
 -- then the tag; the first address that fails is the fault, and an access with a fault changes
--- nothing. Arm ARM DDI 0487, "The Memory Tagging Extension", AArch64.CheckTag; the translation
--- regime is one page map.
+-- nothing. In the asynchronous mode a tag that differs fails no access: one that has such a byte
+-- and no fault sets the memory's flag, and completes.
+-- Arm ARM DDI 0487, "The Memory Tagging Extension", AArch64.CheckTag and SCTLR_EL1.TCF0; the
+-- translation regime is one page map.
 use Rattle.std.specs.Prelude.{◌≡◌, ℕ, zero, suc, ◌+◌, ◌*◌, ◌/◌, ◌%◌, ◌^◌, ◌==◌, Bool, true, false}
-use Rattle.std.specs.Prelude.{◌&&◌, List, [], ◌∷◌, map, length, slice_index, Option, Some, None}
+use Rattle.std.specs.Prelude.{◌&&◌, ◌||◌, not, List, [], ◌∷◌, map, length, slice_index, Option, Some, None}
 use Rattle.std.specs.Prelude.{IsSome, Result, Ok, Err, if◌then◌else◌}
 use Rattle.std.specs.Int.{from_le_bytes, w32}
 use Rattle.a64_bits.specs.Addresses.{plain, address_tag}
-use Rattle.mte_tags.specs.Memory.{Memory, Page, page_at, byte_at, with_byte, has}
+use Rattle.mte_tags.specs.Memory.{Memory, Page, page_at, byte_at, with_byte, has, with_pending}
 use Rattle.mte_tags.specs.declared.attrs.Attrs.{Attrs}
+use Rattle.mte_tags.specs.declared.state.TagMode.{TagMode}
+use Rattle.mte_tags.specs.declared.state.TagMode.TheVariants.{Sync, Async}
 use Rattle.mte_tags.specs.declared.fault.MemFault.{MemFault}
 use Rattle.mte_tags.specs.declared.access.Access.{Access}
 use Rattle.mte_tags.specs.declared.fault.FaultKind.{FaultKind}
@@ -60,6 +64,39 @@ unfoldable pub first_fault : Memory → Access → List ℕ → Option MemFault
 first_fault m x [] = None
 first_fault m x (a ∷ more) = or_else (byte_fault m x a) (first_fault m x more)
 
+-- the same access without a comparison of tags
+abbrev pub unchecked : Access → Access
+unchecked x = record x { checked = false }
+
+abbrev pub differs_in : Access → Option Page → ℕ → Bool
+differs_in x None a = false
+differs_in x (Some p) a = (x.checked && has p.attrs 8) && not (granule_tag p a == x.tag)
+
+-- whether an access compares tags, and that of one of its bytes differs
+unfoldable pub has_mismatch : Memory → Access → List ℕ → Bool
+has_mismatch m x [] = false
+has_mismatch m x (a ∷ more) = differs_in x (page_at m (a / 4096)) a || has_mismatch m x more
+
+-- how an access fails, and whether it sets the flag if it does not
+pub record Ending : Type 0 where
+  pub fault : Option MemFault
+  pub pending : Bool
+
+-- what the tag mode makes of it: a tag that differs is a fault in Sync, and sets the flag in Async
+abbrev pub ending_in : TagMode → Memory → Access → List ℕ → Ending
+ending_in Sync m x addrs = record { fault = first_fault m x addrs; pending = false }
+ending_in Async m x addrs =
+    record { fault = first_fault m (unchecked x) addrs; pending = has_mismatch m x addrs }
+
+-- how an access fails in the memory's mode
+unfoldable pub access_fault : Memory → Access → List ℕ → Option MemFault
+access_fault m x addrs = (ending_in m.state.mode m x addrs).fault
+
+-- m after an access that did not fail, but for what it writes
+unfoldable pub after_access : Memory → Access → List ℕ → Memory
+after_access m x addrs =
+    if (ending_in m.state.mode m x addrs).pending then with_pending m else m
+
 abbrev pub outcome : Option MemFault → Result (Unit {0}) MemFault
 outcome None = Ok tt
 outcome (Some f) = Err f
@@ -75,11 +112,15 @@ fetch_access a = record { need = 4; write = false; checked = false; tag = addres
 
 -- how a read of n bytes at an address fails
 unfoldable pub read_fault : Memory → ℕ → ℕ → Bool → Option MemFault
-read_fault m a n check = first_fault m (read_access a check) (addresses (plain a) n)
+read_fault m a n check = access_fault m (read_access a check) (addresses (plain a) n)
+
+-- m after a read of n bytes at an address that did not fail
+unfoldable pub after_read : Memory → ℕ → ℕ → Bool → Memory
+after_read m a n check = after_access m (read_access a check) (addresses (plain a) n)
 
 -- how a write of n bytes at an address fails
 unfoldable pub write_fault : Memory → ℕ → ℕ → Bool → Option MemFault
-write_fault m a n check = first_fault m (write_access a check) (addresses (plain a) n)
+write_fault m a n check = access_fault m (write_access a check) (addresses (plain a) n)
 
 -- the bytes at plain addresses
 unfoldable pub bytes_at : Memory → List ℕ → List ℕ
@@ -95,9 +136,14 @@ with_bytes m (a ∷ more) (b ∷ bs) = with_bytes (with_byte m a b) more bs
 with_bytes m [] bs = m
 with_bytes m (a ∷ more) [] = m
 
--- m after a write of bytes at an address
+-- m with bytes at an address
 unfoldable pub written : Memory → ℕ → List ℕ → Memory
 written m a bs = with_bytes m (addresses (plain a) (length bs)) bs
+
+-- m after a write of bytes at an address that did not fail
+unfoldable pub after_write : Memory → ℕ → List ℕ → Bool → Memory
+after_write m a bs check =
+    written (after_access m (write_access a check) (addresses (plain a) (length bs))) a bs
 
 -- the number of the four bytes at an address, the lowest first
 unfoldable pub word_at : Memory → ℕ → ℕ

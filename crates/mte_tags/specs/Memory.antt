@@ -1,20 +1,25 @@
--- A tagged memory: how many pages it may have, and the pages that it has.
+-- A tagged memory: how many pages it may have, the pages that it has, its tag mode and its flag.
 --     page_at m q           the page q, if it is mapped
 --     with_page m q p       m with p as its page q
 --     without_page m q      m without its page q
 --     pages_left m          how many more pages may be mapped
 --     byte_at m a           the byte at a plain address
 --     tag_at m a            the allocation tag of the granule at a plain address
+--     with_pending m        m with its flag set
 -- A page has 4096 bytes and 256 granules of 16 bytes. The page of a plain address a is a / 4096.
 use Rattle.std.specs.Prelude.{◌≡◌, ℕ, zero, suc, ◌+◌, ◌-◌, ◌*◌, ◌<◌, ◌/◌, ◌%◌, ◌^◌, ◌==◌, Bool}
+use Rattle.std.specs.Prelude.{true, false}
 use Rattle.std.specs.Prelude.{List, ◌++◌, take, drop, replicate, slice_index, slice_set}
 use Rattle.std.specs.Prelude.{if◌then◌else◌, Option, Some, None, IsSome, refl}
 use Rattle.std.specs.Int.RustNames.{bit_and}
 use Rattle.std.specs.Ordering.{nat_cmp}
 use Rattle.std.specs.FinMap as map
 use Rattle.std.specs.FinMap.{FinMap}
-use Rattle.std.specs.Coded.{Coded, code_by, coded×, coded_ℕ, coded_list}
+use Rattle.std.specs.Coded.{Coded, code_by, coded×, coded_ℕ, coded_bool, coded_list}
 use Rattle.mte_tags.specs.declared.attrs.Attrs.{Attrs}
+use Rattle.mte_tags.specs.declared.state.TagMode.{TagMode}
+use Rattle.mte_tags.specs.declared.state.TagMode.TheVariants.{Sync, Async}
+use Rattle.mte_tags.specs.declared.state.TagState.{TagState}
 
 -- attrs is the sum of READ 1, WRITE 2, EXEC 4 and TAGGED 8; a tag for each granule
 pub record Page : Type 0 where
@@ -25,6 +30,26 @@ pub record Page : Type 0 where
 pub record Memory : Type 0 where
   pub limit : ℕ
   pub pages : FinMap nat_cmp Page
+  pub state : TagState
+
+abbrev pub is_async : TagMode → Bool
+is_async Sync = false
+is_async Async = true
+
+abbrev pub mode_of : Bool → TagMode
+mode_of false = Sync
+mode_of true = Async
+
+pub mode_of-is_async : (mode : TagMode) → mode_of (is_async mode) ≡ mode
+mode_of-is_async Sync = refl
+mode_of-is_async Async = refl
+
+abbrev pub coded_state : Coded TagState
+coded_state =
+    code_by (Bool × Bool) (coded× coded_bool coded_bool)
+    (λ s. (is_async s.mode, s.pending))
+    (λ c. record { mode = mode_of c.0; pending = c.1 })
+    (λ s. λ i. record { mode = mode_of-is_async s.mode i; pending = s.pending })
 
 abbrev pub coded_page : Coded Page
 coded_page =
@@ -36,25 +61,31 @@ coded_page =
 
 abbrev pub coded_memory : Coded Memory
 coded_memory =
-    code_by (ℕ × FinMap nat_cmp Page) (coded× coded_ℕ (map.code coded_ℕ coded_page))
-    (λ m. (m.limit, m.pages))
-    (λ c. record { limit = c.0; pages = c.1 })
+    code_by (ℕ × (FinMap nat_cmp Page × TagState))
+    (coded× coded_ℕ (coded× (map.code coded_ℕ coded_page) coded_state))
+    (λ m. (m.limit, (m.pages, m.state)))
+    (λ c. record { limit = c.0; pages = c.1.0; state = c.1.1 })
     (λ _. refl)
 
 unfoldable pub page_at : Memory → ℕ → Option Page
 page_at m q = map.get m.pages q
 
 unfoldable pub with_page : Memory → ℕ → Page → Memory
-with_page m q p = record { limit = m.limit; pages = map.insert m.pages q p }
+with_page m q p = record m { pages = map.insert m.pages q p }
 
 unfoldable pub without_page : Memory → ℕ → Memory
-without_page m q = record { limit = m.limit; pages = map.remove m.pages q }
+without_page m q = record m { pages = map.remove m.pages q }
 
 unfoldable pub pages_left : Memory → ℕ
 pages_left m = m.limit - map.len m.pages
 
-unfoldable pub no_pages : ℕ → Memory
-no_pages limit = record { limit = limit; pages = map.empty }
+-- a memory of a mode, without pages, its flag clear
+unfoldable pub no_pages : ℕ → TagMode → Memory
+no_pages limit mode =
+    record { limit = limit; pages = map.empty; state = record { mode = mode; pending = false } }
+
+unfoldable pub with_pending : Memory → Memory
+with_pending m = record m { state = record m.state { pending = true } }
 
 -- a page of zero bytes and tag 0
 unfoldable pub new_page : ℕ → Page

@@ -17,9 +17,9 @@ page_of s = record { attrs = s.attrs.0; bytes = s.bytes; tags = s.tags }
 abbrev pub entry_of : Slot → ℕ × Page
 entry_of s = (s.page, page_of s)
 
--- the memory of at most n pages that the slots hold
-unfoldable pub slots_memory : ℕ → List Slot → Memory
-slots_memory n slots = record { limit = n; pages = finite.from_entries (map entry_of slots) }
+-- m with the pages that the slots hold, in place of its own
+unfoldable pub slots_memory : Memory → List Slot → Memory
+slots_memory m slots = record m { pages = finite.from_entries (map entry_of slots) }
 
 -- no two slots are one page, pages lie below the address 2 ^ 30, and tags are below 16
 pub record AreSlots (slots : List Slot) : Type 0 where

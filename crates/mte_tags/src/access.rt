@@ -1,7 +1,8 @@
 //! What an access requires of a page, and how it fails.
 
 ghost use Rattle.std.specs.Prelude.{◌≡◌, false};
-ghost use Rattle.mte_tags.specs.Accesses.{read_access, write_access, fetch_access, fault};
+ghost use Rattle.mte_tags.specs.Accesses.{read_access, write_access, fetch_access, unchecked};
+ghost use Rattle.mte_tags.specs.Accesses.{fault};
 
 use crate::attrs::Attrs;
 use crate::fault::{FaultKind, MemFault};
@@ -55,6 +56,15 @@ impl Access {
             checked: false,
             tag: tag_of(pc),
         }
+    }
+
+    /// The same without a comparison of tags.
+    pub(crate) fn unchecked(&self) -> Access
+        ensures { result ≡ unchecked self.now }
+    {
+        let mut other = *self;
+        other.checked = false;
+        other
     }
 
     /// One that requires nothing but a mapped page.

@@ -5,13 +5,15 @@ ghost use Rattle.std.specs.Prelude.{IsTrue, IfOk, is_ok, length, if◌then◌els
 ghost use Rattle.a64_bits.specs.Addresses.{plain};
 ghost use Rattle.mte_tags.specs.Memory.{Memory, tag_at, with_granules};
 ghost use Rattle.mte_tags.specs.Accesses.{outcome, loaded, addresses, granules, first_fault};
-ghost use Rattle.mte_tags.specs.Accesses.{bytes_at, with_bytes, AreMapped, fetched, read_fault};
-ghost use Rattle.mte_tags.specs.Accesses.{read_bytes, write_fault, written, tags_fault};
+ghost use Rattle.mte_tags.specs.Accesses.{access_fault, after_access, bytes_at, with_bytes, AreMapped};
+ghost use Rattle.mte_tags.specs.Accesses.{fetched, read_fault, read_bytes, after_read, write_fault};
+ghost use Rattle.mte_tags.specs.Accesses.{written, after_write, tags_fault};
 ghost use Rattle.mte_tags.specs.Accesses.{tag_load_fault, fault, fetch_access};
 
 use crate::access::Access;
 use crate::fault::{FaultKind, MemFault, by_fields};
 use crate::page_store::PageStore;
+use crate::state::TagMode;
 use crate::tagged::Tagged;
 use a64_bits::plain;
 
@@ -49,6 +51,38 @@ fn check_bytes<S: PageStore>(
         left -= run;
     }
     Ok(())
+}
+
+/// The fault of an access in the memory's mode, if any. One that has none, and a byte whose tag
+/// differs, sets the flag.
+fn compare_tags<S: PageStore>(
+    store: &mut S,
+    at: u64,
+    count: usize,
+    access: &Access,
+) -> Result<(), MemFault>
+    requires { at < 2 ^ 56 }
+    ensures answer { result
+        ≡ outcome (access_fault (S.memory store.old) access.now (addresses at count)) }
+    ensures memory { S.memory store.new
+        ≡ (if is_ok result
+        then after_access (S.memory store.old) access.now (addresses at count)
+        else S.memory store.old) }
+    ensures kept { S.kept store.old store.new }
+{
+    let Err(fault) = check_bytes(store, at, count, access) else {
+        return Ok(());
+    };
+    match store.tag_state().mode {
+        TagMode::Sync => Err(fault),
+        TagMode::Async => {
+            if let Err(other) = check_bytes(store, at, count, &access.unchecked()) {
+                return Err(other);
+            }
+            store.set_pending();
+            Ok(())
+        }
+    }
 }
 
 /// Copies bytes of mapped pages out.
@@ -104,15 +138,18 @@ fn read_across_pages<S: PageStore>(
     requires plain { at < 2 ^ 56 }
     ensures answer { result
         ≡ outcome
-        (first_fault (S.memory store.old) access.now (addresses at (length buffer.old))) }
+        (access_fault (S.memory store.old) access.now (addresses at (length buffer.old))) }
     ensures bytes { buffer.new
         ≡ (if is_ok result
         then bytes_at (S.memory store.old) (addresses at (length buffer.old))
         else buffer.old) }
-    ensures memory { S.memory store.new ≡ S.memory store.old }
+    ensures memory { S.memory store.new
+        ≡ (if is_ok result
+        then after_access (S.memory store.old) access.now (addresses at (length buffer.old))
+        else S.memory store.old) }
     ensures kept { S.kept store.old store.new }
 {
-    check_bytes(store, at, buffer.len(), access)?;
+    compare_tags(store, at, buffer.len(), access)?;
     copy_out(store, at, buffer);
     Ok(())
 }
@@ -129,12 +166,15 @@ fn read_slowly<S: PageStore>(
     requires plain { at < 2 ^ 56 }
     ensures answer { result
         ≡ outcome
-        (first_fault (S.memory store.old) access.now (addresses at (length buffer.old))) }
+        (access_fault (S.memory store.old) access.now (addresses at (length buffer.old))) }
     ensures bytes { buffer.new
         ≡ (if is_ok result
         then bytes_at (S.memory store.old) (addresses at (length buffer.old))
         else buffer.old) }
-    ensures memory { S.memory store.new ≡ S.memory store.old }
+    ensures memory { S.memory store.new
+        ≡ (if is_ok result
+        then after_access (S.memory store.old) access.now (addresses at (length buffer.old))
+        else S.memory store.old) }
     ensures kept { S.kept store.old store.new }
 {
     let own = *access;
@@ -142,7 +182,12 @@ fn read_slowly<S: PageStore>(
 }
 
 /// Copies bytes out, or returns the fault of the first that fails.
-#[tactic(auto, unfolding(crate::specs::Accesses::read_fault, crate::specs::Accesses::read_bytes))]
+#[rattlefmt::skip]
+#[tactic(auto, unfolding(
+    crate::specs::Accesses::read_fault,
+    crate::specs::Accesses::read_bytes,
+    crate::specs::Accesses::after_read
+))]
 #[inline(always)]
 fn read_at<S: PageStore>(
     store: &mut S,
@@ -156,7 +201,10 @@ fn read_at<S: PageStore>(
         ≡ (if is_ok result
         then read_bytes (S.memory store.old) addr (length buffer.old)
         else buffer.old) }
-    ensures memory { S.memory store.new ≡ S.memory store.old }
+    ensures memory { S.memory store.new
+        ≡ (if is_ok result
+        then after_read (S.memory store.old) addr (length buffer.old) checked
+        else S.memory store.old) }
     ensures kept { S.kept store.old store.new }
 {
     let access = Access::reading(addr, checked);
@@ -179,14 +227,17 @@ fn write_across_pages<S: PageStore>(
     requires plain { at < 2 ^ 56 }
     ensures answer { result
         ≡ outcome
-        (first_fault (S.memory store.old) access.now (addresses at (length bytes.now))) }
+        (access_fault (S.memory store.old) access.now (addresses at (length bytes.now))) }
     ensures memory { S.memory store.new
         ≡ (if is_ok result
-        then with_bytes (S.memory store.old) (addresses at (length bytes.now)) bytes.now
+        then with_bytes
+        (after_access (S.memory store.old) access.now (addresses at (length bytes.now)))
+        (addresses at (length bytes.now))
+        bytes.now
         else S.memory store.old) }
     ensures kept { S.kept store.old store.new }
 {
-    check_bytes(store, at, bytes.len(), access)?;
+    compare_tags(store, at, bytes.len(), access)?;
     replace_bytes(store, at, bytes);
     Ok(())
 }
@@ -203,10 +254,13 @@ fn write_slowly<S: PageStore>(
     requires plain { at < 2 ^ 56 }
     ensures answer { result
         ≡ outcome
-        (first_fault (S.memory store.old) access.now (addresses at (length bytes.now))) }
+        (access_fault (S.memory store.old) access.now (addresses at (length bytes.now))) }
     ensures memory { S.memory store.new
         ≡ (if is_ok result
-        then with_bytes (S.memory store.old) (addresses at (length bytes.now)) bytes.now
+        then with_bytes
+        (after_access (S.memory store.old) access.now (addresses at (length bytes.now)))
+        (addresses at (length bytes.now))
+        bytes.now
         else S.memory store.old) }
     ensures kept { S.kept store.old store.new }
 {
@@ -215,7 +269,12 @@ fn write_slowly<S: PageStore>(
 }
 
 /// Copies bytes in, or returns the fault of the first that fails.
-#[tactic(auto, unfolding(crate::specs::Accesses::write_fault, crate::specs::Accesses::written))]
+#[rattlefmt::skip]
+#[tactic(auto, unfolding(
+    crate::specs::Accesses::write_fault,
+    crate::specs::Accesses::written,
+    crate::specs::Accesses::after_write
+))]
 #[inline(always)]
 fn write_at<S: PageStore>(
     store: &mut S,
@@ -227,7 +286,7 @@ fn write_at<S: PageStore>(
         ≡ outcome (write_fault (S.memory store.old) addr (length bytes.now) checked) }
     ensures memory { S.memory store.new
         ≡ (if is_ok result
-        then written (S.memory store.old) addr bytes.now
+        then after_write (S.memory store.old) addr bytes.now checked
         else S.memory store.old) }
     ensures kept { S.kept store.old store.new }
 {
@@ -373,6 +432,11 @@ impl<S: PageStore> Tagged for S {
     #[inline(always)]
     fn write(&mut self, addr: u64, bytes: &[u8], check: bool) -> Result<(), MemFault> {
         write_at(self, addr, bytes, check)
+    }
+
+    #[inline]
+    fn pending(&mut self) -> bool {
+        self.tag_state().pending
     }
 
     #[inline]

@@ -2,8 +2,8 @@
 
 ghost use Rattle.std.specs.Prelude.{◌≡◌, ℕ, ◌<◌, ◌≤◌, ◌+◌, ◌*◌, ◌%◌, ◌^◌, false, IfOk, IsTrue};
 ghost use Rattle.std.specs.Prelude.{is_ok, None, length, if◌then◌else◌, vec_len, vec_capacity};
-ghost use Rattle.mte_tags.specs.Memory.{page_at, no_pages, tag_at, with_granules, with_new_pages};
-ghost use Rattle.mte_tags.specs.Memory.{without_pages, IsFree, ArePages};
+ghost use Rattle.mte_tags.specs.Memory.{Memory, page_at, no_pages, tag_at, with_granules};
+ghost use Rattle.mte_tags.specs.Memory.{with_new_pages, without_pages, IsFree, ArePages};
 ghost use Rattle.mte_tags.specs.Accesses.{outcome, loaded, addresses, granules, byte_fault};
 ghost use Rattle.mte_tags.specs.Accesses.{first_fault, bytes_at, with_bytes, fetched};
 ghost use Rattle.mte_tags.specs.Slots.{slots_memory, AreSlots};
@@ -18,6 +18,7 @@ use crate::fault::{FaultKind, MemFault};
 use crate::flat::finder::Finder;
 use crate::flat::slot::{Slot, find, holds, new_slot};
 use crate::page_store::PageStore;
+use crate::state::{TagMode, TagState};
 use crate::tagged::{NoQuota, Paged};
 use a64_bits::plain;
 use bitflags::Flags;
@@ -31,6 +32,7 @@ pub struct Flat {
     limit: usize,
     slots: Vec<Slot>,
     finder: Finder,
+    state: TagState,
 }
 
 impl Model for Flat {
@@ -47,11 +49,11 @@ impl Model for Flat {
 }
 
 impl Flat {
-    /// A memory of at most `pages` pages, none of them mapped. It is refused only where its memory
-    /// is; no later call takes any.
-    pub fn new(alloc: Global, pages: usize) -> Result<Flat, AllocError>
+    /// A memory of at most `pages` pages, none of them mapped, in a tag mode, its flag clear. It is
+    /// refused only where its memory is; no later call takes any.
+    pub fn new(alloc: Global, pages: usize, mode: TagMode) -> Result<Flat, AllocError>
         requires { 0 < pages }
-        ensures empty { IfOk result (λ memory. memory ≡ no_pages pages) }
+        ensures empty { IfOk result (λ memory. memory ≡ no_pages pages mode) }
         ensures free { IfOk result (λ memory. (page : ℕ) → page_at memory page ≡ None) }
     {
         let slots = Vec::with_capacity(alloc, pages)?;
@@ -60,6 +62,10 @@ impl Flat {
             limit: pages,
             slots,
             finder,
+            state: TagState {
+                mode,
+                pending: false,
+            },
         })
     }
 }
@@ -77,8 +83,8 @@ fn slots_fault(
     requires inside { at % 4096 + count ≤ 4096 }
     requires plain { at < 2 ^ 56 }
     requires slots { AreSlots slots.now }
-    ensures { (n : ℕ)
-        → result ≡ first_fault (slots_memory n slots.now) access.now (addresses at count) }
+    ensures { (m : Memory)
+        → result ≡ first_fault (slots_memory m slots.now) access.now (addresses at count) }
 {
     match find(slots, finder, at / 4096) {
         None => Some(access.fault(FaultKind::Translation, at, 0)),
@@ -92,7 +98,7 @@ fn slots_fault(
 fn fetch_slots(slots: &[Slot], finder: &mut Finder, pc: u64) -> Result<u32, MemFault>
     requires aligned { pc % 4 ≡ 0 }
     requires slots { AreSlots slots.now }
-    ensures { (n : ℕ) → result ≡ fetched (slots_memory n slots.now) pc }
+    ensures { (m : Memory) → result ≡ fetched (slots_memory m slots.now) pc }
 {
     let code = finder.code;
     if holds(slots, code, pc / 4096) {
@@ -110,7 +116,7 @@ fn fetch_slots(slots: &[Slot], finder: &mut Finder, pc: u64) -> Result<u32, MemF
 fn fetch_again(slots: &[Slot], finder: &mut Finder, pc: u64) -> Result<u32, MemFault>
     requires aligned { pc % 4 ≡ 0 }
     requires slots { AreSlots slots.now }
-    ensures { (n : ℕ) → result ≡ fetched (slots_memory n slots.now) pc }
+    ensures { (m : Memory) → result ≡ fetched (slots_memory m slots.now) pc }
 {
     let access = Access::fetching(pc);
     let at = plain(pc);
@@ -132,13 +138,13 @@ fn read_found(slots: &[Slot], finder: &Finder, at: u64, buffer: &mut [u8], acces
     requires plain { at < 2 ^ 56 }
     requires slots { AreSlots slots.now }
     ensures passed { IsTrue result
-        → (n : ℕ)
-        → first_fault (slots_memory n slots.now) access.now (addresses at (length buffer.old))
+        → (m : Memory)
+        → first_fault (slots_memory m slots.now) access.now (addresses at (length buffer.old))
         ≡ None }
-    ensures bytes { (n : ℕ)
+    ensures bytes { (m : Memory)
         → buffer.new
         ≡ (if result
-        then bytes_at (slots_memory n slots.now) (addresses at (length buffer.old))
+        then bytes_at (slots_memory m slots.now) (addresses at (length buffer.old))
         else buffer.old) }
 {
     if !fits_one_page(at, buffer.len() as u64) {
@@ -168,15 +174,15 @@ fn read_slots(
     requires inside { at % 4096 + length buffer.old ≤ 4096 }
     requires plain { at < 2 ^ 56 }
     requires slots { AreSlots slots.now }
-    ensures answer { (n : ℕ)
+    ensures answer { (m : Memory)
         → result
         ≡ outcome
-        (first_fault (slots_memory n slots.now) access.now
+        (first_fault (slots_memory m slots.now) access.now
         (addresses at (length buffer.old))) }
-    ensures bytes { (n : ℕ)
+    ensures bytes { (m : Memory)
         → buffer.new
         ≡ (if is_ok result
-        then bytes_at (slots_memory n slots.now) (addresses at (length buffer.old))
+        then bytes_at (slots_memory m slots.now) (addresses at (length buffer.old))
         else buffer.old) }
 {
     let Some(s) = find(slots, finder, at / 4096) else {
@@ -197,15 +203,15 @@ fn write_found(slots: &mut [Slot], finder: &Finder, at: u64, bytes: &[u8], acces
     requires plain { at < 2 ^ 56 }
     requires slots { AreSlots slots.old }
     ensures passed { IsTrue result
-        → (n : ℕ)
-        → first_fault (slots_memory n slots.old) access.now (addresses at (length bytes.now))
+        → (m : Memory)
+        → first_fault (slots_memory m slots.old) access.now (addresses at (length bytes.now))
         ≡ None }
-    ensures memory { (n : ℕ)
-        → slots_memory n slots.new
+    ensures memory { (m : Memory)
+        → slots_memory m slots.new
         ≡ (if result
-        then with_bytes (slots_memory n slots.old) (addresses at (length bytes.now))
+        then with_bytes (slots_memory m slots.old) (addresses at (length bytes.now))
         bytes.now
-        else slots_memory n slots.old) }
+        else slots_memory m slots.old) }
     ensures slots { AreSlots slots.new }
 {
     if !fits_one_page(at, bytes.len() as u64) {
@@ -235,16 +241,16 @@ fn write_slots(
     requires inside { at % 4096 + length bytes.now ≤ 4096 }
     requires plain { at < 2 ^ 56 }
     requires slots { AreSlots slots.old }
-    ensures answer { (n : ℕ)
+    ensures answer { (m : Memory)
         → result
         ≡ outcome
-        (first_fault (slots_memory n slots.old) access.now (addresses at (length bytes.now))) }
-    ensures memory { (n : ℕ)
-        → slots_memory n slots.new
+        (first_fault (slots_memory m slots.old) access.now (addresses at (length bytes.now))) }
+    ensures memory { (m : Memory)
+        → slots_memory m slots.new
         ≡ (if is_ok result
-        then with_bytes (slots_memory n slots.old) (addresses at (length bytes.now))
+        then with_bytes (slots_memory m slots.old) (addresses at (length bytes.now))
         bytes.now
-        else slots_memory n slots.old) }
+        else slots_memory m slots.old) }
     ensures slots { AreSlots slots.new }
 {
     let Some(s) = find(slots, finder, at / 4096) else {
@@ -269,10 +275,10 @@ fn tag_in_slots(
     requires plain { at < 2 ^ 56 }
     requires slots { AreSlots slots.now }
     ensures small { IfOk result (λ t. t < 16) }
-    ensures answer { (n : ℕ)
+    ensures answer { (m : Memory)
         → result
-        ≡ loaded (byte_fault (slots_memory n slots.now) access.now at)
-        (tag_at (slots_memory n slots.now) at) }
+        ≡ loaded (byte_fault (slots_memory m slots.now) access.now at)
+        (tag_at (slots_memory m slots.now) at) }
 {
     let Some(s) = find(slots, finder, at / 4096) else {
         return Err(access.fault(FaultKind::Translation, at, 0));
@@ -302,14 +308,14 @@ fn retag_slots(
     requires tag { tag < 16 }
     requires unchecked { access.now.checked ≡ false }
     requires slots { AreSlots slots.old }
-    ensures answer { (n : ℕ)
+    ensures answer { (m : Memory)
         → result
-        ≡ outcome (first_fault (slots_memory n slots.old) access.now (granules at count)) }
-    ensures memory { (n : ℕ)
-        → slots_memory n slots.new
+        ≡ outcome (first_fault (slots_memory m slots.old) access.now (granules at count)) }
+    ensures memory { (m : Memory)
+        → slots_memory m slots.new
         ≡ (if is_ok result
-        then with_granules (slots_memory n slots.old) at count tag zero
-        else slots_memory n slots.old) }
+        then with_granules (slots_memory m slots.old) at count tag zero
+        else slots_memory m slots.old) }
     ensures slots { AreSlots slots.new }
 {
     let Some(s) = find(slots, finder, at / 4096) else {
@@ -329,6 +335,14 @@ impl PageStore for Flat {
     ghost memory = { λ f. f };
 
     ghost kept = { λ _ _. ⊤ };
+
+    fn tag_state(&mut self) -> TagState {
+        self.state
+    }
+
+    fn set_pending(&mut self) {
+        self.state.pending = true;
+    }
 
     #[inline]
     fn run_fault(&mut self, at: u64, count: usize, access: &Access) -> Option<MemFault> {
@@ -398,10 +412,10 @@ fn map_slots(slots: &mut Vec<Slot>, finder: &mut Finder, page: u64, count: usize
     requires room { vec_len slots.old + count ≤ vec_capacity slots.old }
     requires in_range { page + count ≤ 2 ^ 18 }
     requires slots { AreSlots slots.old.items }
-    requires free { IsFree (slots_memory 0 slots.old.items) page count }
-    ensures memory { (n : ℕ)
-        → slots_memory n slots.new.items
-        ≡ with_new_pages (slots_memory n slots.old.items) page count attrs }
+    requires free { (m : Memory) → IsFree (slots_memory m slots.old.items) page count }
+    ensures memory { (m : Memory)
+        → slots_memory m slots.new.items
+        ≡ with_new_pages (slots_memory m slots.old.items) page count attrs }
     ensures slots { AreSlots slots.new.items }
     ensures len { vec_len slots.new ≡ vec_len slots.old + count }
     ensures capacity { vec_capacity slots.new ≡ vec_capacity slots.old }
@@ -416,10 +430,10 @@ fn map_slots(slots: &mut Vec<Slot>, finder: &mut Finder, page: u64, count: usize
 /// Takes pages out that are there.
 fn unmap_slots(slots: &mut Vec<Slot>, finder: &mut Finder, page: u64, count: usize)
     requires slots { AreSlots slots.old.items }
-    requires mapped { ArePages (slots_memory 0 slots.old.items) page count }
-    ensures memory { (n : ℕ)
-        → slots_memory n slots.new.items
-        ≡ without_pages (slots_memory n slots.old.items) page count }
+    requires mapped { (m : Memory) → ArePages (slots_memory m slots.old.items) page count }
+    ensures memory { (m : Memory)
+        → slots_memory m slots.new.items
+        ≡ without_pages (slots_memory m slots.old.items) page count }
     ensures slots { AreSlots slots.new.items }
     ensures len { vec_len slots.new ≤ vec_len slots.old }
     ensures capacity { vec_capacity slots.new ≡ vec_capacity slots.old }

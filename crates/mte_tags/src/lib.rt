@@ -8,7 +8,9 @@ mod by_page;
 mod fault;
 mod flat;
 mod generator;
+mod laws;
 mod page_store;
+mod state;
 mod tagged;
 mod tags;
 
@@ -18,6 +20,8 @@ pub use by_page::replace_bytes;
 pub use fault::{FaultKind, MemFault};
 pub use flat::Flat;
 pub use generator::Rgsr;
+pub use laws::{flag_stays_in_sync, mode_stays, no_tag_check_in_async};
 pub use page_store::PageStore;
+pub use state::{TagMode, TagState};
 pub use tagged::{NoQuota, Paged, Tagged};
 pub use tags::{choose_non_excluded, tag_of, with_tag};

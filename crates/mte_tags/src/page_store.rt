@@ -2,23 +2,36 @@
 
 ghost use Rattle.std.specs.Prelude.{◌≡◌, ℕ, ◌<◌, ◌≤◌, ◌+◌, ◌*◌, ◌%◌, ◌^◌, false, None, IfOk};
 ghost use Rattle.std.specs.Prelude.{IsTrue, is_ok, length, if◌then◌else◌};
-ghost use Rattle.mte_tags.specs.Memory.{Memory, tag_at, with_granules};
+ghost use Rattle.mte_tags.specs.Memory.{Memory, tag_at, with_granules, with_pending};
 ghost use Rattle.mte_tags.specs.Accesses.{outcome, loaded, addresses, granules, byte_fault};
 ghost use Rattle.mte_tags.specs.Accesses.{first_fault, bytes_at, with_bytes, fetched};
 
 use crate::access::Access;
 use crate::fault::MemFault;
+use crate::state::TagState;
 
 /// A tagged memory of which each call reaches one page. It is a `Tagged` memory, whose accesses
 /// over several pages are made of these calls. Each `at` is a plain address, below 2^56; a run of
 /// bytes or granules from there on lies within one page and is not empty. Only the quick calls take
-/// any bytes, and may leave them to the others.
+/// any bytes, and may leave them to the others. The calls know no mode: in each of them a tag that
+/// differs is a fault, and no call but `set_pending` sets the flag.
 pub trait PageStore {
     /// What it holds, however it is kept.
     ghost memory: { Self → Memory };
 
     /// What every call leaves of all that is not the memory.
     ghost kept: { Self → Self → Type 0 };
+
+    /// Its tag mode and its flag.
+    fn tag_state(&mut self) -> TagState
+        ensures answer { result ≡ (memory self.old).state }
+        ensures memory { memory self.new ≡ memory self.old }
+        ensures kept { kept self.old self.new };
+
+    /// Sets its flag.
+    fn set_pending(&mut self)
+        ensures memory { memory self.new ≡ with_pending (memory self.old) }
+        ensures kept { kept self.old self.new };
 
     /// The fault of the first byte of a run that fails, if any.
     fn run_fault(&mut self, at: u64, count: usize, access: &Access) -> Option<MemFault>

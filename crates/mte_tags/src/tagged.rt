@@ -5,8 +5,9 @@ ghost use Rattle.std.specs.Prelude.{length, if◌then◌else◌, Bool};
 ghost use Rattle.a64_bits.specs.Addresses.{plain};
 ghost use Rattle.mte_tags.specs.Memory.{Memory, pages_left, with_new_pages, without_pages, IsFree};
 ghost use Rattle.mte_tags.specs.Memory.{ArePages, tag_at, with_granules};
-ghost use Rattle.mte_tags.specs.Accesses.{fetched, outcome, read_fault, read_bytes, write_fault};
-ghost use Rattle.mte_tags.specs.Accesses.{written, IsMapped, IsPageAttrs, tags_fault};
+ghost use Rattle.mte_tags.specs.Accesses.{fetched, outcome, read_fault, read_bytes, after_read};
+ghost use Rattle.mte_tags.specs.Accesses.{write_fault, after_write, written, tags_fault};
+ghost use Rattle.mte_tags.specs.Accesses.{IsMapped, IsPageAttrs};
 ghost use Rattle.mte_tags.specs.Accesses.{tag_load_fault, loaded};
 
 use crate::attrs::Attrs;
@@ -14,8 +15,9 @@ use crate::fault::MemFault;
 
 /// A memory of tagged granules: pages of 4096 bytes, each of 256 granules of 16 bytes with an
 /// allocation tag below 16. An access uses the low 56 bits of its address and goes on at 0 after
-/// the last of them. A fault changes nothing (Arm ARM DDI 0487, "The Memory Tagging Extension",
-/// synchronous mode).
+/// the last of them. A fault changes nothing. In the synchronous mode a tag that differs is a
+/// fault; in the asynchronous mode the access completes and sets a flag (Arm ARM DDI 0487, "The
+/// Memory Tagging Extension", SCTLR_EL1.TCF0).
 pub trait Tagged {
     /// What it holds, however it is kept.
     ghost memory: { Self → Memory };
@@ -32,7 +34,7 @@ pub trait Tagged {
         ensures kept { kept self.old self.new };
 
     /// Copies bytes out of pages with READ, and compares tags where `check` is set. After a fault
-    /// the buffer is as it was.
+    /// the buffer and the flag are as they were.
     fn read(&mut self, addr: u64, buffer: &mut [u8], check: bool) -> Result<(), MemFault>
         ensures answer { result
             ≡ outcome (read_fault (memory self.old) addr (length buffer.old) check) }
@@ -40,7 +42,10 @@ pub trait Tagged {
             ≡ (if is_ok result
             then read_bytes (memory self.old) addr (length buffer.old)
             else buffer.old) }
-        ensures memory { memory self.new ≡ memory self.old }
+        ensures memory { memory self.new
+            ≡ (if is_ok result
+            then after_read (memory self.old) addr (length buffer.old) check
+            else memory self.old) }
         ensures kept { kept self.old self.new };
 
     /// Copies bytes into pages with WRITE, all of them or none, and compares tags where `check` is
@@ -50,7 +55,7 @@ pub trait Tagged {
             ≡ outcome (write_fault (memory self.old) addr (length bytes.now) check) }
         ensures memory { memory self.new
             ≡ (if is_ok result
-            then written (memory self.old) addr bytes.now
+            then after_write (memory self.old) addr bytes.now check
             else memory self.old) }
         ensures kept { kept self.old self.new };
 
@@ -74,6 +79,12 @@ pub trait Tagged {
             ≡ (if is_ok result
             then with_granules (memory self.old) (plain addr) granules tag zero
             else memory self.old) }
+        ensures kept { kept self.old self.new };
+
+    /// Whether an access has set the flag.
+    fn pending(&mut self) -> bool
+        ensures answer { result ≡ (memory self.old).state.pending }
+        ensures memory { memory self.new ≡ memory self.old }
         ensures kept { kept self.old self.new };
 
     ghost kept_same: { (a : Self) → kept a a };

@@ -1,7 +1,7 @@
 //! Images of worked values, their refusals, and what they make of a memory.
 
 use mte_elf::{ElfError, load, plan};
-use mte_tags::{Flat, Paged, Tagged};
+use mte_tags::{Flat, Paged, TagMode, Tagged};
 use std::alloc::{AllocError, Global};
 use std::test::Fail;
 
@@ -121,7 +121,7 @@ fn push_words(bytes: &mut Vec<u8>) -> Result<(), AllocError> {
 /// A memory of 8 pages that an image was loaded into. An image of more pages is `OutOfMemory`.
 fn loaded(alloc: Global, file: &[u8]) -> Result<Flat, ElfError> {
     let plan = plan(alloc, file)?;
-    let mut memory = Flat::new(alloc, 8)?;
+    let mut memory = Flat::new(alloc, 8, TagMode::Sync)?;
     if plan.pages > memory.pages_left() as u64 {
         return Err(ElfError::OutOfMemory);
     }

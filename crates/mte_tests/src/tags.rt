@@ -3,8 +3,8 @@
 ghost use Rattle.std.specs.Prelude.{◌≡◌, ◌+◌, ◌<◌, None};
 
 use mte_tags::{
-    Attrs, FaultKind, Flat, MemFault, NoQuota, Paged, Rgsr, Tagged, choose_non_excluded, tag_of,
-    with_tag,
+    Attrs, FaultKind, Flat, MemFault, NoQuota, PageStore, Paged, Rgsr, TagMode, TagState, Tagged,
+    choose_non_excluded, flag_stays_in_sync, mode_stays, no_tag_check_in_async, tag_of, with_tag,
 };
 use std::test::Fail;
 
@@ -55,7 +55,7 @@ fn draws(rt: HostRuntime) {
 
 #[test]
 fn access_over_two_granules(rt: HostRuntime) -> Result<(), Fail> {
-    let mut memory = Flat::new(rt.alloc(), 4)?;
+    let mut memory = Flat::new(rt.alloc(), 4, TagMode::Sync)?;
     assert_eq!(rt; memory.map_pages(0x3FFFC, 1, Attrs::DATA), Ok(()));
     assert_eq!(rt; memory.store_tags(0x3FFF_C000, 1, 1, false), Ok(()));
     assert_eq!(rt; memory.load_tag(0x3FFF_C00F), Ok(1));
@@ -67,6 +67,7 @@ fn access_over_two_granules(rt: HostRuntime) -> Result<(), Fail> {
     assert_eq!(rt; bytes, [7; 8]);
     let refused = fault(FaultKind::TagCheck, 0x3FFF_C010, true, 1, 0);
     assert_eq!(rt; memory.write(pointer - 4, &[9; 16], true), Err(refused));
+    assert!(rt; !memory.pending());
     assert_eq!(rt; memory.read(pointer, &mut bytes, false), Ok(()));
     assert_eq!(rt; bytes, [0; 8]);
     assert_eq!(rt;
@@ -78,14 +79,52 @@ fn access_over_two_granules(rt: HostRuntime) -> Result<(), Fail> {
     Ok(())
 }
 
+/// Accesses whose tag differs in a granule: one that is permitted completes and sets the flag, one
+/// that is not, at its last byte, faults and doesn't.
+#[test]
+fn asynchronous_accesses(rt: HostRuntime) -> Result<(), Fail> {
+    let mut memory = Flat::new(rt.alloc(), 2, TagMode::Async)?;
+    assert_eq!(rt; memory.map_pages(0x3FFFE, 1, Attrs::DATA), Ok(()));
+    assert_eq!(rt; memory.map_pages(0x3FFFF, 1, Attrs::READ), Ok(()));
+    assert_eq!(rt; memory.store_tags(0x3FFF_E000, 1, 1, false), Ok(()));
+    let refused = fault(FaultKind::Permission, 0x3FFF_F000, true, 2, 0);
+    assert_eq!(rt;
+        memory.write(0x0200_0000_3FFF_EFF9, &[9; 8], true),
+        Err(refused)
+    );
+    assert!(rt; !memory.pending());
+    assert_eq!(rt; memory.write(0x0100_0000_3FFF_E00C, &[5; 8], true), Ok(()));
+    let state = TagState {
+        mode: TagMode::Async,
+        pending: true,
+    };
+    assert_eq!(rt; memory.tag_state(), state);
+    let mut bytes = [0u8; 8];
+    assert_eq!(rt; memory.read(0x3FFF_E00C, &mut bytes, true), Ok(()));
+    assert_eq!(rt; bytes, [5; 8]);
+    Ok(())
+}
+
+/// The host may set the flag itself.
+#[test]
+fn flag_set_by_hand(rt: HostRuntime) -> Result<(), Fail> {
+    let mut memory = Flat::new(rt.alloc(), 1, TagMode::Sync)?;
+    memory.set_pending();
+    assert!(rt; memory.pending());
+    flag_stays_in_sync();
+    no_tag_check_in_async();
+    mode_stays();
+    Ok(())
+}
+
 #[test]
 fn too_many_pages(rt: HostRuntime) {
-    assert!(rt; Flat::new(rt.alloc(), 1 << 58).is_err());
+    assert!(rt; Flat::new(rt.alloc(), 1 << 58, TagMode::Sync).is_err());
 }
 
 #[test]
 fn fetches(rt: HostRuntime) -> Result<(), Fail> {
-    let mut memory = Flat::new(rt.alloc(), 1)?;
+    let mut memory = Flat::new(rt.alloc(), 1, TagMode::Sync)?;
     assert_eq!(rt; memory.map_pages(16, 1, Attrs::TEXT), Ok(()));
     let unaligned = fault(FaultKind::PcAlignment, 0x10001, false, 0, 0);
     assert_eq!(rt; memory.fetch(0x10001), Err(unaligned));
@@ -102,7 +141,7 @@ fn fetches(rt: HostRuntime) -> Result<(), Fail> {
 
 #[test]
 fn loading(rt: HostRuntime) -> Result<(), Fail> {
-    let mut memory = Flat::new(rt.alloc(), 2)?;
+    let mut memory = Flat::new(rt.alloc(), 2, TagMode::Sync)?;
     memory.map_pages(16, 2, Attrs::READ)?;
     memory.load_bytes(0x0400_0000_0001_0FFC, &[1, 2, 3, 4, 5, 6, 7, 8]);
     let mut bytes = [0u8; 8];
@@ -116,7 +155,7 @@ fn loading(rt: HostRuntime) -> Result<(), Fail> {
 
 #[test]
 fn refused_mapping(rt: HostRuntime) -> Result<(), Fail> {
-    let mut memory = Flat::new(rt.alloc(), 2)?;
+    let mut memory = Flat::new(rt.alloc(), 2, TagMode::Sync)?;
     assert_eq!(rt; memory.map_pages(16, 3, Attrs::DATA), Err(NoQuota));
     assert_eq!(rt; memory.pages_left(), 2);
     let missing = fault(FaultKind::Translation, 0x10000, false, 0, 0);
@@ -126,7 +165,7 @@ fn refused_mapping(rt: HostRuntime) -> Result<(), Fail> {
 
 #[test]
 fn mapping_again(rt: HostRuntime) -> Result<(), Fail> {
-    let mut memory = Flat::new(rt.alloc(), 2)?;
+    let mut memory = Flat::new(rt.alloc(), 2, TagMode::Sync)?;
     memory.map_pages(16, 2, Attrs::DATA)?;
     memory.load_bytes(0x10FFC, &[1, 2, 3, 4, 5, 6, 7, 8]);
     memory.store_tags(0x10FF0, 2, 4, false)?;

@@ -5,7 +5,7 @@ ghost use Rattle.std.specs.Prelude.{true, false, Some, None, IfSome, IsNone, IsS
 ghost use Rattle.std.specs.Prelude.{is_none, length, slice_index_or, slice_range};
 ghost use Rattle.std.specs.List.{All, range_with_len};
 ghost use Rattle.std.specs.Int.{from_le_bytes, w32};
-ghost use Rattle.mte_tags.specs.Memory.{page_at, new_page, has, tag_in};
+ghost use Rattle.mte_tags.specs.Memory.{Memory, page_at, new_page, has, tag_in};
 ghost use Rattle.mte_tags.specs.Slots.{page_of, slots_memory, first_in, spliced, retagged};
 
 use crate::access::Access;
@@ -52,7 +52,7 @@ pub(crate) fn holds(slots: &[Slot], s: usize, page: u64) -> bool
 pub(crate) fn find(slots: &[Slot], finder: &mut Finder, page: u64) -> Option<usize>
     ensures some { IfSome result
         (λ s. (s < length slots.now) × ((d : _) → (slice_index_or slots.now s d).page ≡ page)) }
-    ensures none { IsNone result → (n : ℕ) → page_at (slots_memory n slots.now) page ≡ None }
+    ensures none { IsNone result → (m : Memory) → page_at (slots_memory m slots.now) page ≡ None }
 {
     let s = finder.last(page);
     if holds(slots, s, page) {
@@ -67,7 +67,7 @@ pub(crate) fn find(slots: &[Slot], finder: &mut Finder, page: u64) -> Option<usi
 fn find_again(slots: &[Slot], finder: &mut Finder, page: u64) -> Option<usize>
     ensures some { IfSome result
         (λ s. (s < length slots.now) × ((d : _) → (slice_index_or slots.now s d).page ≡ page)) }
-    ensures none { IsNone result → (n : ℕ) → page_at (slots_memory n slots.now) page ≡ None }
+    ensures none { IsNone result → (m : Memory) → page_at (slots_memory m slots.now) page ≡ None }
 {
     if let Some(s) = finder.place(page) {
         if holds(slots, s, page) {
@@ -82,7 +82,7 @@ fn find_again(slots: &[Slot], finder: &mut Finder, page: u64) -> Option<usize>
 fn search(slots: &[Slot], page: u64) -> Option<usize>
     ensures some { IfSome result
         (λ s. (s < length slots.now) × ((d : _) → (slice_index_or slots.now s d).page ≡ page)) }
-    ensures none { IsNone result → (n : ℕ) → page_at (slots_memory n slots.now) page ≡ None }
+    ensures none { IsNone result → (m : Memory) → page_at (slots_memory m slots.now) page ≡ None }
 {
     for (s, slot) in slots.iter().enumerate() {
         if slot.page == page {

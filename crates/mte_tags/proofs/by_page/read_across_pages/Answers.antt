@@ -1,10 +1,16 @@
-use Rattle.std.proofs.Common.{sym, subst, length}
+use Rattle.std.proofs.Common.{sym, subst, ap, ◌∙◌, length}
 use Rattle.mte_tags.specs.Memory.{Memory}
-use Rattle.mte_tags.specs.Accesses.{AreMapped, addresses}
-use Rattle.mte_tags.proofs.AddressLists.{AreMapped-from_first_fault, none_from_ok}
+use Rattle.mte_tags.specs.Accesses.{AreMapped, addresses, bytes_at}
+use Rattle.mte_tags.proofs.AddressLists.{none_from_ok}
+use Rattle.mte_tags.proofs.ModeLaws.{AreMapped-from_access, bytes_at-after_access}
 use Rattle.mte_tags.proofs.by_page.read_across_pages.Goals as goal
 
 pub copy_out-requires-clause-mapped : goal.copy_out-requires-clause-mapped
 copy_out-requires-clause-mapped g c =
     let places = addresses c.args.at (length c.args.buffer.now) in
-    subst (λ (m : Memory). AreMapped m places) (sym c.in_ok-check_bytes.ensures.memory) (AreMapped-from_first_fault _ _ places (none_from_ok _ _ c.in_ok-check_bytes.ensures.answer))
+    subst (λ (m : Memory). AreMapped m places) (sym c.in_ok-compare_tags.ensures.memory) (AreMapped-from_access _ _ places (none_from_ok _ _ c.in_ok-compare_tags.ensures.answer))
+
+pub returns-clause-bytes : goal.returns-clause-bytes
+returns-clause-bytes g c =
+    let places = addresses c.args.at (length c.args.buffer.now) in
+    c.copy_out.ensures.bytes ∙ ap (λ m. bytes_at m places) c.in_ok-compare_tags.ensures.memory ∙ bytes_at-after_access _ _ places places

@@ -1,8 +1,8 @@
-use Rattle.std.proofs.Common.{◌≡◌, ◌∙◌, ◌<◌, ◌^◌, ◌+◌, ◌-◌, ℕ, sym, ap, subst, arith, None}
-use Rattle.mte_tags.specs.Memory.{page_at, with_page, with_new_pages, new_page}
+use Rattle.std.proofs.Common.{◌≡◌, ◌∙◌, ◌<◌, ◌^◌, ◌+◌, ◌-◌, sym, ap, subst, arith, None}
+use Rattle.mte_tags.specs.Memory.{Memory, page_at, with_page, with_new_pages, new_page}
 use Rattle.mte_tags.specs.Slots.{slots_memory, page_of, AreSlots}
 use Rattle.mte_tags.proofs.Pages.{page_at-with_page_other}
-use Rattle.mte_tags.proofs.Places.{AreSlots-push, slots_memory-push, page_at-slots_limit, with_new_pages-step}
+use Rattle.mte_tags.proofs.Places.{AreSlots-push, slots_memory-push, any_memory, with_new_pages-step}
 use Rattle.mte_tags.proofs.flat.map_slots.Goals as goal
 
 pub loop-i-preserved : goal.loop-i-preserved
@@ -10,11 +10,11 @@ loop-i-preserved c =
     let items = c.loop-i.slots.items in
     let q = c.args.page + c.loop-i.i in
     let slot = c.new_slot-slot.result in
-    let free : page_at (slots_memory 0 items) slot.page ≡ None = rw c.new_slot-slot.ensures.page (c.loop-i.invariant.free c.loop-i.i (omega arith) (omega arith)) in
+    let free : (n : Memory) → page_at (slots_memory n items) slot.page ≡ None = λ n. rw c.new_slot-slot.ensures.page (c.loop-i.invariant.free n c.loop-i.i (omega arith) (omega arith)) in
     let low : slot.page < 2 ^ 18 = let p = c.new_slot-slot.ensures.page in omega arith in
     let pushed = c.push_reserved.ensures.items in
-    let new = λ (n : ℕ).
-    ap (slots_memory n) pushed ∙ slots_memory-push n items slot (page_at-slots_limit n 0 items slot.page ∙ free)
+    let new = λ (n : Memory).
+    ap (slots_memory n) pushed ∙ slots_memory-push n items slot (free n)
     ∙ ap (λ k. with_page (slots_memory n items) k (page_of slot)) c.new_slot-slot.ensures.page
     ∙ ap (with_page (slots_memory n items) q) c.new_slot-slot.ensures.holds in
     let next : c.args.page + (c.loop-i.i + 1) ≡ q + 1 = omega arith in
@@ -22,8 +22,8 @@ loop-i-preserved c =
     record {
       len = omega (arith, c.push_reserved.ensures.len);
       capacity = c.push_reserved.ensures.capacity ∙ c.loop-i.invariant.capacity;
-      slots = subst AreSlots (sym pushed) (AreSlots-push 0 items slot free low c.new_slot-slot.ensures.small c.loop-i.invariant.slots);
-      free = λ k l u. ap (λ m. page_at m (c.args.page + k)) (new 0) ∙ page_at-with_page_other (slots_memory 0 items) q (new_page c.args.attrs.0) (c.args.page + k) (omega arith) ∙ c.loop-i.invariant.free k (omega arith) (omega arith);
+      slots = subst AreSlots (sym pushed) (AreSlots-push any_memory items slot (free any_memory) low c.new_slot-slot.ensures.small c.loop-i.invariant.slots);
+      free = λ n k l u. ap (λ m. page_at m (c.args.page + k)) (new n) ∙ page_at-with_page_other (slots_memory n items) q (new_page c.args.attrs.0) (c.args.page + k) (omega arith) ∙ c.loop-i.invariant.free n k (omega arith) (omega arith);
       memory = λ n.
           ap (λ m. with_new_pages m (c.args.page + (c.loop-i.i + 1)) (c.args.count - (c.loop-i.i + 1)) c.args.attrs) (new n)
           ∙ ap (λ k. with_new_pages (with_page (slots_memory n items) q (new_page c.args.attrs.0)) k (c.args.count - (c.loop-i.i + 1)) c.args.attrs) next

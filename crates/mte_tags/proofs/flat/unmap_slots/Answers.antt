@@ -1,22 +1,22 @@
-use Rattle.std.proofs.Common.{◌≡◌, ◌∙◌, ◌<◌, ◌^◌, ◌+◌, ◌-◌, ℕ, IsSome, None, sym, ap, subst, arith, refl, length, get_or}
-use Rattle.mte_tags.specs.Memory.{page_at, without_page, without_pages}
+use Rattle.std.proofs.Common.{◌≡◌, ◌∙◌, ◌<◌, ◌^◌, ◌+◌, ◌-◌, IsSome, None, sym, ap, subst, arith, refl, length, get_or}
+use Rattle.mte_tags.specs.Memory.{Memory, page_at, without_page, without_pages}
 use Rattle.mte_tags.specs.Slots.{slots_memory, AreSlots}
 use Rattle.mte_tags.specs.declared.flat.slot.Slot.{Slot}
 use Rattle.mte_tags.proofs.Pages.{page_at-without_page_other}
-use Rattle.mte_tags.proofs.Places.{mapped_low, some_is_not_none, AreSlots-swap_remove, slots_memory-swap_remove, without_pages-step}
+use Rattle.mte_tags.proofs.Places.{any_memory, mapped_low, some_is_not_none, AreSlots-swap_remove, slots_memory-swap_remove, without_pages-step}
 use Rattle.mte_tags.proofs.flat.unmap_slots.Goals as goal
 
 pub overflow_add-gone : goal.overflow_add-gone
 overflow_add-gone c =
-    let low : c.args.page + c.loop-i.i < 2 ^ 18 = mapped_low 0 c.loop-i.slots.items (c.args.page + c.loop-i.i) c.loop-i.invariant.slots (c.loop-i.invariant.mapped c.loop-i.i (omega arith) (omega arith)) in
+    let low : c.args.page + c.loop-i.i < 2 ^ 18 = mapped_low any_memory c.loop-i.slots.items (c.args.page + c.loop-i.i) c.loop-i.invariant.slots (c.loop-i.invariant.mapped any_memory c.loop-i.i (omega arith) (omega arith)) in
     omega arith
 
 pub returns-in_default-clause-memory : goal.returns-in_default-clause-memory
 returns-in_default-clause-memory c =
     let q = c.args.page + c.loop-i.i in
-    let there = c.loop-i.invariant.mapped c.loop-i.i (omega arith) (omega arith) in
-    let gone : page_at (slots_memory 0 c.loop-i.slots.items) q ≡ None = subst (λ items. page_at (slots_memory 0 items) q ≡ None) c.deref.ensures.value (c.in_default.ensures.none refl 0) in
-    absurd (some_is_not_none (page_at (slots_memory 0 c.loop-i.slots.items) q) there gone)
+    let there = c.loop-i.invariant.mapped any_memory c.loop-i.i (omega arith) (omega arith) in
+    let gone : page_at (slots_memory any_memory c.loop-i.slots.items) q ≡ None = subst (λ items. page_at (slots_memory any_memory items) q ≡ None) c.deref.ensures.value (c.in_default.ensures.none refl any_memory) in
+    absurd (some_is_not_none (page_at (slots_memory any_memory c.loop-i.slots.items) q) there gone)
 
 pub loop-i-preserved : goal.loop-i-preserved
 loop-i-preserved c =
@@ -28,14 +28,14 @@ loop-i-preserved c =
     let page : (d : Slot) → (get_or items s d).page ≡ q = λ d. ap (λ xs. (get_or xs s d).page) (sym c.deref.ensures.value) ∙ found.1 d in
     let d = c.swap_remove.result in
     let removed = c.swap_remove.ensures.items in
-    let new = λ (n : ℕ). ap (slots_memory n) removed ∙ slots_memory-swap_remove n items s q d c.loop-i.invariant.slots there (page d) in
+    let new = λ (n : Memory). ap (slots_memory n) removed ∙ slots_memory-swap_remove n items s q d c.loop-i.invariant.slots there (page d) in
     let next : c.args.page + (c.loop-i.i + 1) ≡ q + 1 = omega arith in
     let less : c.args.count - (c.loop-i.i + 1) ≡ c.args.count - c.loop-i.i - 1 = omega arith in
     record {
       len = omega (arith, c.swap_remove.ensures.len);
       capacity = c.swap_remove.ensures.capacity ∙ c.loop-i.invariant.capacity;
       slots = subst AreSlots (sym removed) (AreSlots-swap_remove items s d there c.loop-i.invariant.slots);
-      mapped = λ k l u. subst IsSome (sym (ap (λ m. page_at m (c.args.page + k)) (new 0) ∙ page_at-without_page_other (slots_memory 0 items) q (c.args.page + k) (λ e. omega arith))) (c.loop-i.invariant.mapped k (omega arith) (omega arith));
+      mapped = λ n k l u. subst IsSome (sym (ap (λ m. page_at m (c.args.page + k)) (new n) ∙ page_at-without_page_other (slots_memory n items) q (c.args.page + k) (λ e. omega arith))) (c.loop-i.invariant.mapped n k (omega arith) (omega arith));
       memory = λ n.
           ap (λ m. without_pages m (c.args.page + (c.loop-i.i + 1)) (c.args.count - (c.loop-i.i + 1))) (new n)
           ∙ ap (λ k. without_pages (without_page (slots_memory n items) q) k (c.args.count - (c.loop-i.i + 1))) next

@@ -10,6 +10,8 @@ unfolding no_pages slots_memory
 returns-clause-empty c = search rules
 
 pub returns-clause-free : goal.returns-clause-free
+unfolding no_pages slots_memory page_at
 returns-clause-free c = λ page.
-    ap (λ (slots : List Slot). page_at (slots_memory c.args.pages slots) page) c.in_ok-slots.ensures.items
-    ∙ page_at-slots_none c.args.pages [] page (λ i d l. absurd (omega arith))
+    let empty = no_pages c.args.pages c.args.mode in
+    ap (λ (slots : List Slot). page_at (slots_memory empty slots) page) c.in_ok-slots.ensures.items
+    ∙ page_at-slots_none empty [] page (λ i d l. absurd (omega arith))

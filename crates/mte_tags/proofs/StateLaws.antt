@@ -1,0 +1,60 @@
+-- Mode and flag: mapping, unmapping, bytes and tags leave both; an access leaves the mode.
+use Rattle.std.proofs.Common.{◌≡◌, ℕ, suc, zero, ◌+◌, ◌/◌, ◌%◌, ◌^◌, Bool, true, false, cond, Option, Some, None, List, [], ◌∷◌, refl, ap, ◌∙◌}
+use Rattle.mte_tags.specs.Memory.{Memory, Page, page_at, with_page, without_page, with_new_pages, without_pages, new_page, with_byte_in, with_byte, with_granule_in, with_granule, with_granules, with_pending}
+use Rattle.mte_tags.specs.Accesses.{with_bytes, written, ending_in, after_access, write_access, after_read, after_write}
+use Rattle.mte_tags.specs.declared.access.Access.{Access}
+use Rattle.mte_tags.specs.declared.attrs.Attrs.{Attrs}
+use Rattle.mte_tags.specs.declared.state.TagState.{TagState}
+
+state-with_byte_in : (m : Memory) (q o b : ℕ) (p : Option Page) → (with_byte_in m q o b p).state ≡ m.state
+unfolding with_page
+state-with_byte_in m q o b None = refl
+state-with_byte_in m q o b (Some p) = refl
+
+pub state-with_bytes : (xs bs : List ℕ) (m : Memory) → (with_bytes m xs bs).state ≡ m.state
+unfolding with_bytes with_byte
+state-with_bytes (a ∷ more) (b ∷ bs) m = state-with_bytes more bs (with_byte m a b) ∙ state-with_byte_in m (a / 4096) (a % 4096) b (page_at m (a / 4096))
+state-with_bytes [] bs m = refl
+state-with_bytes (a ∷ more) [] m = refl
+
+pub state-written : (m : Memory) (a : ℕ) (bs : List ℕ) → (written m a bs).state ≡ m.state
+unfolding written
+state-written m a bs = state-with_bytes _ bs m
+
+state-with_granule_in : (m : Memory) (q g t : ℕ) (z : Bool) (p : Option Page) → (with_granule_in m q g t z p).state ≡ m.state
+unfolding with_page
+state-with_granule_in m q g t z None = refl
+state-with_granule_in m q g t z (Some p) = refl
+
+pub state-with_granules : (n : ℕ) (m : Memory) (a t : ℕ) (z : Bool) → (with_granules m a n t z).state ≡ m.state
+unfolding with_granules with_granule
+state-with_granules zero m a t z = refl
+state-with_granules (suc n) m a t z =
+    state-with_granules n (with_granule m a t z) ((a + 16) % 2 ^ 56) t z ∙ state-with_granule_in m (a / 4096) (a % 4096 / 16) t z (page_at m (a / 4096))
+
+pub state-with_new_pages : (n : ℕ) (m : Memory) (q : ℕ) (x : Attrs) → (with_new_pages m q n x).state ≡ m.state
+unfolding with_new_pages with_page
+state-with_new_pages zero m q x = refl
+state-with_new_pages (suc n) m q x = state-with_new_pages n (with_page m q (new_page x.0)) (q + 1) x
+
+pub state-without_pages : (n : ℕ) (m : Memory) (q : ℕ) → (without_pages m q n).state ≡ m.state
+unfolding without_pages without_page
+state-without_pages zero m q = refl
+state-without_pages (suc n) m q = state-without_pages n (without_page m q) (q + 1)
+
+mode_of_flag : (b : Bool) (m : Memory) → (cond b (with_pending m) m).state.mode ≡ m.state.mode
+unfolding with_pending
+mode_of_flag true m = refl
+mode_of_flag false m = refl
+
+pub mode-after_access : (m : Memory) (x : Access) (xs : List ℕ) → (after_access m x xs).state.mode ≡ m.state.mode
+unfolding after_access
+mode-after_access m x xs = mode_of_flag (ending_in m.state.mode m x xs).pending m
+
+pub mode-after_read : (m : Memory) (a n : ℕ) (check : Bool) → (after_read m a n check).state.mode ≡ m.state.mode
+unfolding after_read
+mode-after_read m a n check = mode-after_access m _ _
+
+pub mode-after_write : (m : Memory) (a : ℕ) (bs : List ℕ) (check : Bool) → (after_write m a bs check).state.mode ≡ m.state.mode
+unfolding after_write
+mode-after_write m a bs check = ap (λ (s : TagState). s.mode) (state-written (after_access m (write_access a check) _) a bs) ∙ mode-after_access m (write_access a check) _
