@@ -1,3 +1,4 @@
 pub mod Drawing
 pub mod Effects
+pub mod Modes
 pub mod Running

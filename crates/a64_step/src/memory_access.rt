@@ -1,7 +1,7 @@
 //! Memory accesses of 1, 2, 4 or 8 bytes.
 
-ghost use Rattle.std.specs.Prelude.{◌≡◌, ◌<◌, ◌≤◌, ◌+◌, ◌*◌, ◌%◌, ◌^◌, is_ok, if◌then◌else◌};
-ghost use Rattle.mte_tags.specs.Accesses.{outcome, write_fault, written};
+ghost use Rattle.std.specs.Prelude.{◌≡◌, false, ◌<◌, ◌≤◌, ◌+◌, ◌*◌, ◌%◌, ◌^◌, is_ok, if◌then◌else◌};
+ghost use Rattle.mte_tags.specs.Accesses.{outcome, after_read, write_fault, after_write};
 ghost use Rattle.a64_step.specs.MemoryAccess.{number_read, stored_bytes};
 ghost use Rattle.a64_step.specs.Operands.{bytes_of};
 
@@ -25,7 +25,7 @@ pub fn write_number<M: Tagged>(
         ≡ outcome (write_fault (M.memory memory.old) address (bytes_of size) checked) }
     ensures memory { M.memory memory.new
         ≡ (if is_ok result
-        then written (M.memory memory.old) address (stored_bytes size value)
+        then after_write (M.memory memory.old) address (stored_bytes size value) checked
         else M.memory memory.old) }
     ensures kept { M.kept memory.old memory.new }
 {
@@ -47,7 +47,11 @@ pub fn write_number<M: Tagged>(
 
 /// The number of `2^size` bytes.
 #[inline(always)]
-#[tactic(auto, unfolding(crate::specs::MemoryAccess::number_read))]
+#[rattlefmt::skip]
+#[tactic(auto, unfolding(
+    crate::specs::MemoryAccess::number_read,
+    crate::specs::Operands::bytes_of
+))]
 pub fn read_number<M: Tagged>(
     memory: &mut M,
     address: u64,
@@ -55,7 +59,10 @@ pub fn read_number<M: Tagged>(
     checked: bool,
 ) -> Result<u64, MemFault>
     ensures answer { result ≡ number_read (M.memory memory.old) address size checked }
-    ensures memory { M.memory memory.new ≡ M.memory memory.old }
+    ensures memory { M.memory memory.new
+        ≡ (if is_ok result
+        then after_read (M.memory memory.old) address (bytes_of size) checked
+        else M.memory memory.old) }
     ensures kept { M.kept memory.old memory.new }
 {
     match size {
@@ -88,4 +95,14 @@ pub fn read_number<M: Tagged>(
             Ok(u64::from_le_bytes(bytes))
         }
     }
+}
+
+/// The number of `2^size` bytes, whatever their tags. It sets no flag.
+#[inline(always)]
+pub fn read_unchecked<M: Tagged>(memory: &mut M, address: u64, size: u8) -> Result<u64, MemFault>
+    ensures answer { result ≡ number_read (M.memory memory.old) address size false }
+    ensures memory { M.memory memory.new ≡ M.memory memory.old }
+    ensures kept { M.kept memory.old memory.new }
+{
+    read_number(memory, address, size, false)
 }

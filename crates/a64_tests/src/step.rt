@@ -1,6 +1,6 @@
 //! Short programs over a plain memory, through `a64_step`.
 
-use a64_step::{Decoder, Outcome, Regs, Stop, run, step, steps_keep_tags};
+use a64_step::{Decoder, Outcome, Regs, Stop, run, step, steps_keep_tag_mode, steps_keep_tags};
 use mte_tags::{Attrs, FaultKind, Flat, MemFault, Paged, Rgsr, TagMode, Tagged};
 use std::alloc::Global;
 use std::test::Fail;
@@ -68,6 +68,7 @@ fn runs_over_a_plain_memory(rt: HostRuntime) -> Result<(), Fail> {
         fault(FaultKind::Translation, STACK_END, false, 0, 0)
     );
     steps_keep_tags();
+    steps_keep_tag_mode();
     Ok(())
 }
 

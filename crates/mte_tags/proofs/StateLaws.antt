@@ -1,10 +1,11 @@
--- Mode and flag: mapping, unmapping, bytes and tags leave both; an access leaves the mode.
+-- Mode and flag: mapping, unmapping, bytes and tags leave both; an access leaves the mode, and all tags.
 use Rattle.std.proofs.Common.{◌≡◌, ℕ, suc, zero, ◌+◌, ◌/◌, ◌%◌, ◌^◌, Bool, true, false, cond, Option, Some, None, List, [], ◌∷◌, refl, ap, ◌∙◌}
-use Rattle.mte_tags.specs.Memory.{Memory, Page, page_at, with_page, without_page, with_new_pages, without_pages, new_page, with_byte_in, with_byte, with_granule_in, with_granule, with_granules, with_pending}
+use Rattle.mte_tags.specs.Memory.{Memory, Page, page_at, with_page, without_page, with_new_pages, without_pages, new_page, with_byte_in, with_byte, with_granule_in, with_granule, with_granules, with_pending, tag_at}
 use Rattle.mte_tags.specs.Accesses.{with_bytes, written, ending_in, after_access, write_access, after_read, after_write}
 use Rattle.mte_tags.specs.declared.access.Access.{Access}
 use Rattle.mte_tags.specs.declared.attrs.Attrs.{Attrs}
 use Rattle.mte_tags.specs.declared.state.TagState.{TagState}
+use Rattle.mte_tags.proofs.ByteLaws.{tag_at-written}
 
 state-with_byte_in : (m : Memory) (q o b : ℕ) (p : Option Page) → (with_byte_in m q o b p).state ≡ m.state
 unfolding with_page
@@ -58,3 +59,21 @@ mode-after_read m a n check = mode-after_access m _ _
 pub mode-after_write : (m : Memory) (a : ℕ) (bs : List ℕ) (check : Bool) → (after_write m a bs check).state.mode ≡ m.state.mode
 unfolding after_write
 mode-after_write m a bs check = ap (λ (s : TagState). s.mode) (state-written (after_access m (write_access a check) _) a bs) ∙ mode-after_access m (write_access a check) _
+
+-- the flag is in no tag
+tag_of_flag : (b : Bool) (m : Memory) (c : ℕ) → tag_at (cond b (with_pending m) m) c ≡ tag_at m c
+unfolding tag_at page_at with_pending
+tag_of_flag true m c = refl
+tag_of_flag false m c = refl
+
+tag_at-after_access : (m : Memory) (x : Access) (xs : List ℕ) (c : ℕ) → tag_at (after_access m x xs) c ≡ tag_at m c
+unfolding after_access
+tag_at-after_access m x xs c = tag_of_flag (ending_in m.state.mode m x xs).pending m c
+
+pub tag_at-after_read : (m : Memory) (a n : ℕ) (check : Bool) (c : ℕ) → tag_at (after_read m a n check) c ≡ tag_at m c
+unfolding after_read
+tag_at-after_read m a n check c = tag_at-after_access m _ _ c
+
+pub tag_at-after_write : (m : Memory) (a : ℕ) (bs : List ℕ) (check : Bool) (c : ℕ) → tag_at (after_write m a bs check) c ≡ tag_at m c
+unfolding after_write
+tag_at-after_write m a bs check c = tag_at-written (after_access m (write_access a check) _) a bs c ∙ tag_at-after_access m (write_access a check) _ c
