@@ -10,7 +10,7 @@ pub const GRANULE_SIZE: u64 = 16;
 pub const MAX_FRAMES: usize = 65536;
 
 /// The most pages that a tenant reserves, and that a heap or its parts are made for.
-pub const MAX_PAGES: u64 = 512;
+pub const MAX_PAGES: u64 = 4096;
 
 /// The most bytes of output that a tenant has room for.
 pub const MAX_OUTPUT: u64 = 65536;

@@ -1,7 +1,7 @@
 //! The address map of a tenant: ranges of plain addresses, lowest first. Each range ends before
 //! the address that is named its end.
 
-use crate::limits::PAGE_SIZE;
+use crate::limits::{MAX_PAGES, PAGE_SIZE};
 
 /// The first address that an image may use. Page 0 is never mapped.
 pub const IMAGE_START: u64 = 0x1000;
@@ -13,13 +13,13 @@ pub const IMAGE_END: u64 = 0x1000_0000;
 pub const REGIONS_START: u64 = 0x1000_0000;
 
 /// The bytes of the region of a size class.
-pub const REGION_SIZE: u64 = 0x20_0000;
+pub const REGION_SIZE: u64 = 0x100_0000;
 
 /// The first address of the range of secondary chunks.
-pub const SECONDARY_START: u64 = 0x2000_0000;
+pub const SECONDARY_START: u64 = 0x3D00_0000;
 
 /// The end of the range of secondary chunks.
-pub const SECONDARY_END: u64 = 0x3000_0000;
+pub const SECONDARY_END: u64 = 0x3F00_0000;
 
 /// The first address of the stack.
 pub const STACK_START: u64 = 0x3FFF_C000;
@@ -39,6 +39,8 @@ const CLASSES: u64 = 44;
 const _: () = prove!(IMAGE_START >= PAGE_SIZE && IMAGE_END <= REGIONS_START + REGION_SIZE);
 
 const _: () = prove!(REGIONS_START + (CLASSES + 1) * REGION_SIZE <= SECONDARY_START);
+
+const _: () = prove!(MAX_PAGES * PAGE_SIZE <= REGION_SIZE);
 
 const _: () = prove!(SECONDARY_START < SECONDARY_END && SECONDARY_END <= STACK_START);
 

@@ -54,7 +54,7 @@ pub after_one : (files : List (List ℕ)) (h : Host) (t : Tenant) (e : Event) (r
     → Has (next_host r files h e) (alone t.machine (own_by r e))
 unfolding alone after_event event_refusal sliced stopped
 after_one files h t e (Some r) same there = record { tenant = t; there = there; machine = refl }
-after_one files h t (event.Admit id image input seed frames room) None same there = absurd (admits_no_other h t id _ frames room there (mapped_none _ same))
+after_one files h t (event.Admit id image input seed frames room mode) None same there = absurd (admits_no_other h t id _ frames room there (mapped_none _ same))
 after_one files h t (event.Slice id n) None same there = record { tenant = record t { machine = advance n t.machine }; there = ap (tenant_sliced n) there; machine = refl }
 after_one files h t (event.Stop id) None same there = record { tenant = record t { machine = halted t.machine; live = false }; there = ap tenant_stopped there; machine = refl }
 

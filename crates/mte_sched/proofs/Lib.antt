@@ -1,2 +1,3 @@
 pub mod MachineLemmas
 pub mod AloneLemmas
+mod FlagLemmas

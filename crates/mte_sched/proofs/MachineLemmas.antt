@@ -4,7 +4,7 @@ use Rattle.std.proofs.Common.{Some, None, refl, ap, arith}
 use Rattle.std.specs.FinMap as finite
 use Rattle.std.specs.Ordering.{nat_cmp}
 use Rattle.mte_tags.specs.Memory.{Memory, Page, pages_left, no_pages, with_new_pages}
-use Rattle.mte_tags.specs.declared.state.TagMode.TheVariants.{Sync}
+use Rattle.mte_tags.specs.declared.state.TagMode.{TagMode}
 use Rattle.mte_elf.specs.Headers.{segments_of}
 use Rattle.mte_elf.specs.Loading.{with_segments}
 use Rattle.a64_step.specs.declared.registers.Regs.{Regs}
@@ -13,7 +13,7 @@ use Rattle.a64_step.specs.declared.outcome.Outcome.TheVariants as outcome
 use Rattle.a64_step.specs.declared.outcome.Stop.{Stop}
 use Rattle.a64_step.specs.Steps.{step_of, run_of, Ran, goes_on}
 use Rattle.mte_sched.specs.declared.machine.Machine.{Machine}
-use Rattle.mte_sched.specs.Machines.{is_running, met, counted_on, attempted, advance, first_memory}
+use Rattle.mte_sched.specs.Machines.{is_running, met, counted_on, attempted, attempts, first_memory}
 
 pub left_goes : (o : Outcome) (n : ℕ) (more stopped : Ran) → more.stop.left ≤ n → stopped.stop.left ≡ n → (goes_on o more stopped).stop.left ≤ n
 left_goes outcome.Next n more stopped h e = h
@@ -47,12 +47,12 @@ abbrev pub after_run : ℕ → Ran → Machine → Machine
 after_run n ran m = met_if ran.stop.outcome (counted_on (n - ran.stop.left) (record m { regs = ran.regs; memory = ran.memory }))
 
 abbrev pub RunAdvances : ℕ → Machine → Type 0
-RunAdvances n m = advance (run_of n m.regs m.memory).stop.left (after_run n (run_of n m.regs m.memory) m) ≡ advance n m
+RunAdvances n m = attempts (run_of n m.regs m.memory).stop.left (after_run n (run_of n m.regs m.memory) m) ≡ attempts n m
 
 pub step_advances : (n : ℕ) (m : Machine) (o : Outcome) → (step_of m.regs m.memory).outcome ≡ o → is_running m.account.status ≡ true → m.account.steps ≤ 18446744073709551615
     → ((k : Machine) → is_running k.account.status ≡ true → k.account.steps ≤ 18446744073709551615 → RunAdvances n k)
     → RunAdvances (suc n) m
-unfolding run_of advance attempted met
+unfolding run_of attempts attempted met
 step_advances n m outcome.Next e running few rest =
     let s = step_of m.regs m.memory in
     let next : Machine = counted_on 1 (record m { regs = s.regs; memory = s.memory }) in
@@ -67,7 +67,7 @@ step_advances n m (outcome.Illegal w) e running few rest = let one : suc n - n �
 step_advances n m (outcome.Breakpoint k) e running few rest = let one : suc n - n ≡ 1 = omega arith in rw (e, running, one) refl
 
 pub run_advances : (n : ℕ) (m : Machine) → is_running m.account.status ≡ true → m.account.steps ≤ 18446744073709551615 → RunAdvances n m
-unfolding run_of advance
+unfolding run_of attempts
 run_advances zero m running few =
     let same : min (m.account.steps + (0 - 0)) 18446744073709551615 ≡ m.account.steps = omega arith in
     ap (λ (k : ℕ). let z : Machine = record m { account = record m.account { steps = k } } in z) same
@@ -75,17 +75,17 @@ run_advances (suc n) m running few =
     step_advances n m (step_of m.regs m.memory).outcome refl running few (λ k r f. run_advances n k r f)
 
 -- A machine that is not running stays as it is.
-pub advance-ended : (n : ℕ) (m : Machine) → is_running m.account.status ≡ false → advance n m ≡ m
-unfolding advance
-advance-ended zero m ended = refl
-advance-ended (suc n) m ended = rw ended refl
+pub attempts-ended : (n : ℕ) (m : Machine) → is_running m.account.status ≡ false → attempts n m ≡ m
+unfolding attempts
+attempts-ended zero m ended = refl
+attempts-ended (suc n) m ended = rw ended refl
 
 -- The same, of what the code has in hand.
 pub after_some : (n : ℕ) (m new : Machine) (stop : Stop) (r : Regs) (mem : Memory) (o : Outcome) (steps : ℕ)
     → stop ≡ (run_of n m.regs m.memory).stop → r ≡ (run_of n m.regs m.memory).regs → mem ≡ (run_of n m.regs m.memory).memory
     → stop.outcome ≡ Some o → steps ≡ min (m.account.steps + (n - stop.left)) 18446744073709551615
     → new ≡ met o (record m { account = record m.account { steps = steps }; regs = r; memory = mem })
-    → is_running m.account.status ≡ true → m.account.steps ≤ 18446744073709551615 → advance stop.left new ≡ advance n m
+    → is_running m.account.status ≡ true → m.account.steps ≤ 18446744073709551615 → attempts stop.left new ≡ attempts n m
 after_some n m new stop r mem o steps e_stop e_regs e_memory e_some e_steps e_new running few =
     let h = run_advances n m running few in
     let k = rw (← e_stop, ← e_regs, ← e_memory, e_some, ← e_steps) at h in
@@ -95,21 +95,21 @@ pub after_none : (n : ℕ) (m : Machine) (stop : Stop) (r : Regs) (mem : Memory)
     → stop ≡ (run_of n m.regs m.memory).stop → r ≡ (run_of n m.regs m.memory).regs → mem ≡ (run_of n m.regs m.memory).memory
     → stop.outcome ≡ None → steps ≡ min (m.account.steps + (n - stop.left)) 18446744073709551615
     → is_running m.account.status ≡ true → m.account.steps ≤ 18446744073709551615
-    → advance stop.left (record m { account = record m.account { steps = steps }; regs = r; memory = mem }) ≡ advance n m
+    → attempts stop.left (record m { account = record m.account { steps = steps }; regs = r; memory = mem }) ≡ attempts n m
 after_none n m stop r mem steps e_stop e_regs e_memory e_none e_steps running few =
     let h = run_advances n m running few in
     rw (← e_stop, ← e_regs, ← e_memory, e_none, ← e_steps) at h
 
-pub advance_none : (n : ℕ) (m : Machine) → n ≡ 0 → advance n m ≡ m
-unfolding advance
-advance_none n m none = rw none refl
+pub attempts_none : (n : ℕ) (m : Machine) → n ≡ 0 → attempts n m ≡ m
+unfolding attempts
+attempts_none n m none = rw none refl
 
-pub left-no_pages : (n : ℕ) → pages_left (no_pages n Sync) ≡ n
+pub left-no_pages : (n : ℕ) (mode : TagMode) → pages_left (no_pages n mode) ≡ n
 unfolding pages_left no_pages
-left-no_pages n = omega (arith, finite.len-empty nat_cmp Page)
+left-no_pages n mode = omega (arith, finite.len-empty nat_cmp Page)
 
 -- The first memory, by the steps that make it.
-pub first_memory_by : (image : List ℕ) (pages : ℕ) (empty loaded stacked : Memory) → empty ≡ no_pages pages Sync
-    → loaded ≡ with_segments image empty (segments_of image) → stacked ≡ with_new_pages loaded 0x3FFFC 4 (record { 0 = 11 }) → stacked ≡ first_memory image pages
+pub first_memory_by : (image : List ℕ) (pages : ℕ) (mode : TagMode) (empty loaded stacked : Memory) → empty ≡ no_pages pages mode
+    → loaded ≡ with_segments image empty (segments_of image) → stacked ≡ with_new_pages loaded 0x3FFFC 4 (record { 0 = 11 }) → stacked ≡ first_memory image pages mode
 unfolding first_memory
-first_memory_by image pages empty loaded stacked e_empty e_loaded e_stacked = rw (e_stacked, e_loaded, e_empty) refl
+first_memory_by image pages mode empty loaded stacked e_empty e_loaded e_stacked = rw (e_stacked, e_loaded, e_empty) refl

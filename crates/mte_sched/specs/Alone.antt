@@ -25,7 +25,7 @@ alone m (Halted ∷ more) = alone (halted m) more
 -- An accepted event as the tenant's own: an admission is none.
 abbrev pub own_by : Option Refusal → Event → List Own
 own_by (Some r) e = []
-own_by None (event.Admit id image input seed frames room) = []
+own_by None (event.Admit id image input seed pages room mode) = []
 own_by None (event.Slice id n) = Sliced n ∷ []
 own_by None (event.Stop id) = Halted ∷ []
 

@@ -19,21 +19,21 @@ unless_live live = if live then None else Some refusal.NotLive
 
 -- Why an event is refused, if it is.
 unfoldable pub event_refusal : List (List ℕ) → Host → Event → Option Refusal
-event_refusal files h (event.Admit id image input seed pages room) =
+event_refusal files h (event.Admit id image input seed pages room mode) =
     option_map refusal.Admit (admission_refusal h id (file_at files image) pages room)
 event_refusal files h (event.Slice id steps) = unless_live (is_live h id)
 event_refusal files h (event.Stop id) = unless_live (is_live h id)
 
 -- The host after an event that is not refused.
 unfoldable pub after_event : List (List ℕ) → Host → Event → Host
-after_event files h (event.Admit id image input seed pages room) =
-    with_admitted h id (file_at files image) seed pages room
+after_event files h (event.Admit id image input seed pages room mode) =
+    with_admitted h id (file_at files image) seed pages room mode
 after_event files h (event.Slice id steps) = sliced h steps
 after_event files h (event.Stop id) = stopped h
 
 -- An event that may need memory: an admission that is neither a duplicate nor out of its limits.
 abbrev pub NeedsMemory : Host → Event → Type 0
-NeedsMemory h (event.Admit id image input seed pages room) =
+NeedsMemory h (event.Admit id image input seed pages room mode) =
     (has_id h.tenant id ≡ false) × (is_bad pages room ≡ false)
 NeedsMemory h (event.Slice id steps) = ⊥
 NeedsMemory h (event.Stop id) = ⊥

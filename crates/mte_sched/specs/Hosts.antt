@@ -3,6 +3,7 @@ use Rattle.std.specs.Prelude.{ℕ, ◌+◌, ◌-◌, ◌*◌, ◌==◌, nat_lt, 
 use Rattle.std.specs.Prelude.{[], ◌∷◌, Option, Some, None, if◌then◌else◌, option_map, is_some}
 use Rattle.address_map.specs.declared.limits.TheConstants.{MAX_PAGES, MAX_OUTPUT}
 use Rattle.address_map.specs.declared.ranges.TheConstants.{STACK_PAGES}
+use Rattle.mte_tags.specs.declared.state.TagMode.{TagMode}
 use Rattle.mte_elf.specs.Images.{refusal_of, pages_of}
 use Rattle.mte_sched.specs.declared.admission.AdmitError.{AdmitError}
 use Rattle.mte_sched.specs.declared.admission.AdmitError.TheVariants.{Duplicate, BadReservation}
@@ -44,7 +45,7 @@ first_of (None ∷ more) = first_of more
 abbrev pub when : Bool → AdmitError → Option AdmitError
 when test e = if test then Some e else None
 
--- A reservation is 1 to 512 pages, and the room at most 65536 bytes.
+-- A reservation has 1 to MAX_PAGES pages, and the room at most MAX_OUTPUT bytes.
 abbrev pub is_bad : ℕ → ℕ → Bool
 is_bad pages room = (pages == 0) || nat_lt MAX_PAGES pages || nat_lt MAX_OUTPUT room
 
@@ -59,10 +60,10 @@ admission_refusal h id image pages room = first_of (
     ∷ when (is_some h.tenant) TooManyLive
     ∷ [])
 
-unfoldable pub with_admitted : Host → ℕ → List ℕ → ℕ → ℕ → ℕ → Host
-with_admitted h id image seed pages room = record h {
+unfoldable pub with_admitted : Host → ℕ → List ℕ → ℕ → ℕ → ℕ → TagMode → Host
+with_admitted h id image seed pages room mode = record h {
   tenant = Some (record {
-    machine = start_of id image seed pages room;
+    machine = start_of id image seed pages room mode;
     pages = pages;
     live = true;
   });

@@ -4,3 +4,4 @@ pub mod Hosts
 pub mod Names
 pub mod Events
 pub mod Alone
+pub mod Flags

@@ -6,6 +6,7 @@ ghost use Rattle.mte_sched.specs.declared.admission.AdmitError.TheVariants.{OutO
 
 use crate::refusal::Refusal;
 use mte_elf::ElfError;
+use mte_tags::TagMode;
 use std::alloc::{AllocError, AllocFailed};
 use std::error::Error;
 use std::fmt;
@@ -22,10 +23,12 @@ pub struct Admission<'a> {
     /// Seeds its tag generator (RGSR_EL1.SEED is bits 15:0, RGSR_EL1.TAG bits 19:16) and its heap's
     /// cookie (bits 63:32).
     pub seed: u64,
-    /// Its reservation, 1 to 512 pages.
+    /// Its reservation, 1 to `MAX_PAGES` pages.
     pub pages: u32,
-    /// How many bytes it may write, at most 65536.
+    /// How many bytes it may write, at most `MAX_OUTPUT`.
     pub room: u32,
+    /// What a tag that differs does to its accesses.
+    pub mode: TagMode,
 }
 
 /// Why an admission is refused, in the order in which it is tested. A refusal changes nothing.

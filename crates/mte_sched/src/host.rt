@@ -52,7 +52,8 @@ impl Host {
         ensures accepted { OnOk result (admission_refusal self.old admission.now.id
             admission.now.image.now admission.now.pages admission.now.room ≡ None) }
         ensures ok { OnOk result (self.new ≡ with_admitted self.old admission.now.id
-            admission.now.image.now admission.now.seed admission.now.pages admission.now.room) }
+            admission.now.image.now admission.now.seed admission.now.pages admission.now.room
+            admission.now.mode) }
         ensures refused { IfErr result (λ e. (e ≡ AdmitError.OutOfMemory)
             ⊎ (admission_refusal self.old admission.now.id
             admission.now.image.now admission.now.pages admission.now.room ≡ Some e)) }

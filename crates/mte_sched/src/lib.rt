@@ -11,7 +11,7 @@ mod refusal;
 
 pub use admission::{Admission, AdmitError, NotLive};
 pub use host::{Host, Tenant};
-pub use isolation::tenant_is_alone;
+pub use isolation::{flag_is_clear, tenant_is_alone};
 pub use machine::Machine;
 pub use output::Output;
 pub use record::{Record, Status};

@@ -7,6 +7,7 @@ ghost use Rattle.mte_elf.specs.Headers.{segments_of, entry_of};
 ghost use Rattle.mte_elf.specs.Images.{refusal_of, pages_of};
 ghost use Rattle.mte_sched.specs.Machines.{start_of, advance, is_running, halted, served, met};
 ghost use Rattle.mte_sched.specs.Machines.{answered, wrote, with_status, first_registers};
+ghost use Rattle.mte_sched.specs.Machines.{attempts, settled};
 
 use crate::admission::Admission;
 use crate::output::Output;
@@ -14,7 +15,7 @@ use crate::record::{Record, Status};
 use a64_step::{Decoder, Outcome, Regs, run};
 use address_map::{PAGE_SIZE, STACK_END, STACK_PAGES, STACK_START};
 use mte_elf::{Plan, load};
-use mte_tags::{Attrs, Flat, Paged, Rgsr, TagMode};
+use mte_tags::{Attrs, Flat, Paged, Rgsr, Tagged};
 use std::alloc::{AllocError, Global};
 
 /// A tenant's machine.
@@ -48,9 +49,10 @@ impl Machine {
         requires entry { plan.now.entry ≡ entry_of admission.now.image.now }
         requires room { pages_of admission.now.image.now + STACK_PAGES ≤ admission.now.pages }
         ensures { IfOk result (λ machine. machine ≡ start_of admission.now.id
-            admission.now.image.now admission.now.seed admission.now.pages admission.now.room) }
+            admission.now.image.now admission.now.seed admission.now.pages admission.now.room
+            admission.now.mode) }
     {
-        let mut memory = Flat::new(alloc, admission.pages as usize, TagMode::Sync)?;
+        let mut memory = Flat::new(alloc, admission.pages as usize, admission.mode)?;
         let output = Output::new(alloc, admission.room)?;
         load(plan, admission.image, &mut memory);
         map_stack(&mut memory);
@@ -78,7 +80,8 @@ impl Machine {
         }
     }
 
-    /// Lets it attempt at most `steps` instructions while it is running.
+    /// Lets it attempt at most `steps` instructions while it is running. It ends where its flag is
+    /// set then.
     pub(crate) fn slice(&mut self, steps: u32)
         ensures { self.new ≡ advance steps self.old }
     {
@@ -87,6 +90,7 @@ impl Machine {
         while left > 0 && self.is_running() {
             left = self.run_on(&mut decoder, left);
         }
+        self.settle();
     }
 
     /// Runs to the next service, fault or end, or for `left` instructions; returns how many are
@@ -94,7 +98,7 @@ impl Machine {
     fn run_on(&mut self, decoder: &mut Decoder, left: u64) -> u64
         requires some { 0 < left }
         requires running { is_running self.old.account.status ≡ true }
-        ensures rest { advance result self.new ≡ advance left self.old }
+        ensures rest { attempts result self.new ≡ attempts left self.old }
         ensures fewer { result < left }
     {
         let stop = run(decoder, &mut self.regs, &mut self.memory, left);
@@ -106,7 +110,18 @@ impl Machine {
         stop.left
     }
 
-    /// Handles an outcome: serves an SVC, and ends the tenant at anything else.
+    /// Ends the tenant where it is running and its flag is set.
+    #[tactic(auto, unfolding(crate::specs::Machines::settled))]
+    fn settle(&mut self)
+        ensures { self.new ≡ settled self.old }
+    {
+        if self.is_running() && self.memory.pending() {
+            self.account.status = Status::AsyncTag(self.regs.pc);
+        }
+    }
+
+    /// Handles an outcome: serves an SVC where the flag is clear, and ends the tenant at anything
+    /// else.
     #[tactic(auto, unfolding(crate::specs::Machines::met))]
     fn handle(&mut self, outcome: Outcome)
         ensures { self.new ≡ met outcome self.old }
@@ -114,7 +129,13 @@ impl Machine {
         let pc = self.regs.pc;
         match outcome {
             Outcome::Next => {}
-            Outcome::Svc => self.serve(),
+            Outcome::Svc => {
+                if self.memory.pending() {
+                    self.account.status = Status::AsyncTag(pc);
+                } else {
+                    self.serve();
+                }
+            }
             Outcome::Fault(fault) => self.account.status = Status::Faulted(fault, pc),
             Outcome::Illegal(word) => self.account.status = Status::Illegal(word, pc),
             Outcome::Breakpoint(number) => self.account.status = Status::Breakpoint(number, pc),

@@ -1,7 +1,8 @@
 //! What a tenant has written.
 
 ghost use Rattle.std.specs.Prelude.{◌≡◌, ◌≤◌, ◌+◌, ◌-◌, ◌++◌, [], IfOk, OnOk, OnErr, true};
-ghost use Rattle.mte_tags.specs.Accesses.{read_fault, read_bytes, outcome};
+ghost use Rattle.std.specs.Prelude.{is_ok, if◌then◌else◌};
+ghost use Rattle.mte_tags.specs.Accesses.{read_fault, read_bytes, after_read, outcome};
 
 use mte_tags::{MemFault, Tagged};
 use std::alloc::{AllocError, Global};
@@ -63,7 +64,10 @@ impl Output {
           left = self.old.left - count;
         }) }
         ensures err { OnErr result (self.new ≡ self.old) }
-        ensures memory { M.memory memory.new ≡ M.memory memory.old }
+        ensures memory { M.memory memory.new
+            ≡ (if is_ok result
+            then after_read (M.memory memory.old) addr count true
+            else M.memory memory.old) }
         ensures kept { M.kept memory.old memory.new }
     {
         let end = self.written + count as usize;

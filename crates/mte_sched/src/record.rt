@@ -16,6 +16,9 @@ pub enum Status {
     Illegal(u32, u64),
     /// A breakpoint instruction's number, and its address.
     Breakpoint(u16, u64),
+    /// In the asynchronous mode a tag differed in an access: it ended at its next SVC, which had no
+    /// effect, or with its slice. The address is that of the SVC, or of the next instruction.
+    AsyncTag(u64),
     /// It was stopped while it was running.
     Stopped,
 }

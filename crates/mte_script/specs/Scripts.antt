@@ -5,6 +5,8 @@ use Rattle.std.specs.Prelude.{Option, Some, None, Result, Ok, Err, if◌then◌e
 use Rattle.std.specs.List.{list_all, starts_with}
 use Rattle.std.specs.Int.{from_be_bytes, w64}
 use Rattle.address_map.specs.declared.limits.TheConstants.{MAX_STEPS}
+use Rattle.mte_tags.specs.declared.state.TagMode.{TagMode}
+use Rattle.mte_tags.specs.declared.state.TagMode.TheVariants.{Sync, Async}
 use Rattle.hex.specs.Hex.{decode_sized}
 use Rattle.hex.specs.declared.FromHexError.{FromHexError}
 use Rattle.mte_script.specs.declared.event.Event.{Event}
@@ -76,17 +78,19 @@ slice_by (Some id) (Some steps) = Some (raw.Slice id steps)
 slice_by (Some id) None = None
 slice_by None steps = None
 
-abbrev pub admit_by : Option ℕ → Option ℕ → Option ℕ → Option ℕ → Option ℕ → Option ℕ → Option Line
-admit_by (Some id) (Some image) (Some input) (Some seed) (Some pages) (Some room) =
-    Some (raw.Admit id image input seed pages room)
-admit_by (Some id) (Some image) (Some input) (Some seed) (Some pages) None = None
-admit_by (Some id) (Some image) (Some input) (Some seed) None room = None
-admit_by (Some id) (Some image) (Some input) None pages room = None
-admit_by (Some id) (Some image) None seed pages room = None
-admit_by (Some id) None input seed pages room = None
-admit_by None image input seed pages room = None
+abbrev pub admit_by : Option ℕ → Option ℕ → Option ℕ → Option ℕ → Option ℕ → Option ℕ
+    → TagMode → Option Line
+admit_by (Some id) (Some image) (Some input) (Some seed) (Some pages) (Some room) mode =
+    Some (raw.Admit id image input seed pages room mode)
+admit_by (Some id) (Some image) (Some input) (Some seed) (Some pages) None mode = None
+admit_by (Some id) (Some image) (Some input) (Some seed) None room mode = None
+admit_by (Some id) (Some image) (Some input) None pages room mode = None
+admit_by (Some id) (Some image) None seed pages room mode = None
+admit_by (Some id) None input seed pages room mode = None
+admit_by None image input seed pages room mode = None
 
--- `stop ID`, `slice ID STEPS`, and `admit ID image I input J seed HEX16 frames R out O`.
+-- `stop ID`, `slice ID STEPS`, and `admit ID image I input J seed HEX16 frames R out O`, after
+-- which one more word `async` may follow: the mode is synchronous without it.
 unfoldable pub stop_line : List ℕ → List ℕ → Option Line
 stop_line verb id = if is_word verb (codes "stop") then stop_by (decimal_of id) else None
 
@@ -95,28 +99,38 @@ slice_line verb id steps =
     if is_word verb (codes "slice") then slice_by (decimal_of id) (decimal_of steps) else None
 
 unfoldable pub admit_line : List ℕ → List ℕ → List ℕ → List ℕ → List ℕ → List ℕ
-    → List ℕ → List ℕ → List ℕ → List ℕ → List ℕ → List ℕ → Option Line
-admit_line verb id image_word image input_word input seed_word seed frames_word pages out_word out =
+    → List ℕ → List ℕ → List ℕ → List ℕ → List ℕ → List ℕ → TagMode → Option Line
+admit_line verb id image_word image input_word input
+    seed_word seed frames_word pages out_word out mode =
     if is_word verb (codes "admit") && is_word image_word (codes "image")
     && is_word input_word (codes "input") && is_word seed_word (codes "seed")
     && is_word frames_word (codes "frames") && is_word out_word (codes "out")
     then admit_by (decimal_of id) (decimal_of image) (decimal_of input)
-    (seed_of seed) (decimal_of pages) (decimal_of out)
+    (seed_of seed) (decimal_of pages) (decimal_of out) mode
     else None
 
 abbrev pub nth : List (List ℕ) → ℕ → List ℕ
 nth words i = slice_index_or words i []
+
+-- The line of an admission's first twelve words.
+abbrev pub admission_in : TagMode → List (List ℕ) → Option Line
+admission_in mode words = admit_line (nth words 0) (nth words 1) (nth words 2) (nth words 3)
+    (nth words 4) (nth words 5) (nth words 6) (nth words 7)
+    (nth words 8) (nth words 9) (nth words 10) (nth words 11) mode
+
+abbrev pub admission_of : List (List ℕ) → Option Line
+admission_of words =
+    if length words == 12 then admission_in Sync words
+    else (if (length words == 13) && is_word (nth words 12) (codes "async")
+    then admission_in Async words
+    else None)
 
 -- The line that some words are, if they are one.
 unfoldable pub line_of : List (List ℕ) → Option Line
 line_of words =
     if length words == 2 then stop_line (nth words 0) (nth words 1)
     else (if length words == 3 then slice_line (nth words 0) (nth words 1) (nth words 2)
-    else (if length words == 12
-    then admit_line (nth words 0) (nth words 1) (nth words 2) (nth words 3)
-    (nth words 4) (nth words 5) (nth words 6) (nth words 7)
-    (nth words 8) (nth words 9) (nth words 10) (nth words 11)
-    else None))
+    else admission_of words)
 
 abbrev pub first_fault_of : List (Bool × ScriptFault) → Option ScriptFault
 first_fault_of [] = None
@@ -133,13 +147,13 @@ limited_of files (raw.Stop id) =
 limited_of files (raw.Slice id steps) = event_or
     (first_fault_of ((nat_lt 65535 id, BadNumber) ∷ (nat_lt MAX_STEPS steps, BadNumber) ∷ []))
     (event.Slice id steps)
-limited_of files (raw.Admit id image input seed pages room) = event_or
+limited_of files (raw.Admit id image input seed pages room mode) = event_or
     (first_fault_of (
     (nat_lt 65535 id, BadNumber)
     ∷ (nat_lt 4294967295 image, BadNumber) ∷ (nat_lt 4294967295 input, BadNumber)
     ∷ (nat_lt 4294967295 pages, BadNumber) ∷ (nat_lt 4294967295 room, BadNumber)
     ∷ ((image == 0) || nat_lt files image || nat_lt files input, NoSuchFile) ∷ []))
-    (event.Admit id image input seed pages room)
+    (event.Admit id image input seed pages room mode)
 
 abbrev pub event_by : ℕ → Option Line → Result Event ScriptFault
 event_by files None = Err Syntax

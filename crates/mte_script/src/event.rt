@@ -1,5 +1,7 @@
 //! The events of a script.
 
+use mte_tags::TagMode;
+
 /// What a line of a script requests. Files are numbered from 1.
 #[derive(Clone, Copy, Debug, PartialEq, Eq)]
 pub enum Event {
@@ -17,6 +19,8 @@ pub enum Event {
         pages: u32,
         /// How many bytes it may write.
         room: u32,
+        /// What a tag that differs does to its accesses.
+        mode: TagMode,
     },
     /// Lets a tenant attempt at most `steps` instructions.
     Slice {

@@ -1,14 +1,15 @@
 //! The event of a line's words.
 
-ghost use Rattle.std.specs.Prelude.{◌≡◌, length, map};
+ghost use Rattle.std.specs.Prelude.{◌≡◌, ◌≤◌, length, map};
 ghost use Rattle.mte_script.specs.Scripts.{event_by, line_of, decimal_of, seed_of, stop_line};
 ghost use Rattle.mte_script.specs.Scripts.{slice_line, admit_by, limited_of};
-ghost use Rattle.mte_script.specs.Words.{admission_of};
+ghost use Rattle.mte_script.specs.Scripts.{admission_of, admission_in};
 
 use crate::error::ScriptFault;
 use crate::event::Event;
 use crate::text::{decimal, is, sixteen_digits};
 use address_map::MAX_STEPS;
+use mte_tags::TagMode;
 
 /// The largest number of a tenant.
 const ID_LIMIT: u64 = 65_535;
@@ -26,6 +27,7 @@ enum Line {
         seed: u64,
         pages: u64,
         room: u64,
+        mode: TagMode,
     },
     Slice {
         id: u64,
@@ -55,18 +57,29 @@ fn read_line(words: &[&[u8]]) -> Option<Line>
         read_stop(words[0], words[1])
     } else if words.len() == 3 {
         read_slice(words[0], words[1], words[2])
-    } else if words.len() == 12 {
+    } else {
         read_admission(words)
+    }
+}
+
+/// An admission's line: its mode is synchronous, or the last word says that it is not.
+fn read_admission(words: &[&[u8]]) -> Option<Line>
+    ensures { result ≡ admission_of (map (λ w. w.now) words.now) }
+{
+    if words.len() == 12 {
+        read_admission_in(TagMode::Sync, words)
+    } else if words.len() == 13 && is(words[12], b"async") {
+        read_admission_in(TagMode::Async, words)
     } else {
         None
     }
 }
 
-/// An admission's line, of its twelve words.
+/// An admission's line, of its first twelve words.
 #[tactic(auto, unfolding(crate::specs::Scripts::admit_line))]
-fn read_admission(words: &[&[u8]]) -> Option<Line>
-    requires { length words.now ≡ 12 }
-    ensures { result ≡ admission_of words.now }
+fn read_admission_in(mode: TagMode, words: &[&[u8]]) -> Option<Line>
+    requires { 12 ≤ length words.now }
+    ensures { result ≡ admission_in mode (map (λ w. w.now) words.now) }
 {
     let heads = is(words[0], b"admit")
         && is(words[2], b"image")
@@ -77,7 +90,9 @@ fn read_admission(words: &[&[u8]]) -> Option<Line>
     if !heads {
         return None;
     }
-    read_admit(words[1], words[3], words[5], words[7], words[9], words[11])
+    read_admit(
+        words[1], words[3], words[5], words[7], words[9], words[11], mode,
+    )
 }
 
 #[tactic(auto, unfolding(crate::specs::Scripts::stop_line))]
@@ -113,9 +128,10 @@ fn read_admit(
     seed: &[u8],
     pages: &[u8],
     room: &[u8],
+    mode: TagMode,
 ) -> Option<Line>
     ensures { result ≡ admit_by (decimal_of id.now) (decimal_of image.now) (decimal_of input.now)
-        (seed_of seed.now) (decimal_of pages.now) (decimal_of room.now) }
+        (seed_of seed.now) (decimal_of pages.now) (decimal_of room.now) mode }
 {
     let id = decimal(id)?;
     let image = decimal(image)?;
@@ -130,6 +146,7 @@ fn read_admit(
         seed,
         pages,
         room,
+        mode,
     })
 }
 
@@ -161,6 +178,7 @@ fn limited(line: Line, files: usize) -> Result<Event, ScriptFault>
             seed,
             pages,
             room,
+            mode,
         } => {
             if id > ID_LIMIT
                 || image > NUMBER_LIMIT
@@ -180,6 +198,7 @@ fn limited(line: Line, files: usize) -> Result<Event, ScriptFault>
                 seed,
                 pages: pages as u32,
                 room: room as u32,
+                mode,
             })
         }
     }

@@ -9,7 +9,7 @@ use Rattle.mte_tags.specs.declared.fault.FaultKind.TheVariants.{Alignment, SpAli
 use Rattle.mte_tags.specs.declared.fault.FaultKind.TheVariants.{PcAlignment}
 use Rattle.mte_sched.specs.declared.record.Status.{Status}
 use Rattle.mte_sched.specs.declared.record.Status.TheVariants.{Running, Exited, Faulted, Illegal}
-use Rattle.mte_sched.specs.declared.record.Status.TheVariants.{Breakpoint, Stopped}
+use Rattle.mte_sched.specs.declared.record.Status.TheVariants.{Breakpoint, AsyncTag, Stopped}
 use Rattle.mte_sched.specs.declared.record.Record.{Record}
 
 -- Parts in a row, and the end of the line.
@@ -49,6 +49,7 @@ status_parts (Illegal w pc) =
     codes "illegal 0x" ∷ eight_digits w ∷ codes " pc 0x" ∷ sixteen_digits pc ∷ []
 status_parts (Breakpoint n pc) =
     codes "break " ∷ decimal n ∷ codes " pc 0x" ∷ sixteen_digits pc ∷ []
+status_parts (AsyncTag pc) = codes "async pc 0x" ∷ sixteen_digits pc ∷ []
 
 -- How many bytes were written, and which, if any.
 abbrev pub output_parts : List ℕ → List (List ℕ)

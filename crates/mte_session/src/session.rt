@@ -142,6 +142,7 @@ fn play(alloc: Global, host: &mut Host, event: &Event, files: &[Vec<u8>]) -> Res
             seed,
             pages,
             room,
+            mode,
         } => {
             let admission = Admission {
                 id,
@@ -150,6 +151,7 @@ fn play(alloc: Global, host: &mut Host, event: &Event, files: &[Vec<u8>]) -> Res
                 seed,
                 pages,
                 room,
+                mode,
             };
             match host.admit(alloc, &admission) {
                 Ok(()) => Ok(()),

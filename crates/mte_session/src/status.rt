@@ -2,7 +2,7 @@
 
 ghost use Rattle.std.specs.Prelude.{◌≡◌};
 ghost use Rattle.mte_sched.specs.declared.record.Status.TheVariants.{Exited, Faulted, Illegal};
-ghost use Rattle.mte_sched.specs.declared.record.Status.TheVariants.{Breakpoint};
+ghost use Rattle.mte_sched.specs.declared.record.Status.TheVariants.{Breakpoint, AsyncTag};
 ghost use Rattle.mte_streams.specs.Writing.{Writes};
 ghost use Rattle.mte_session.specs.Report.{kind_name, access_name, status_line};
 
@@ -23,6 +23,7 @@ pub fn write_status_line<W: Sink>(out: &mut W, status: &Status) -> Result<(), Wr
         Status::Faulted(fault, pc) => write_fault_line(out, fault, *pc),
         Status::Illegal(word, pc) => write_illegal_line(out, *word, *pc),
         Status::Breakpoint(number, pc) => write_break_line(out, *number, *pc),
+        Status::AsyncTag(pc) => write_async_line(out, *pc),
     }
 }
 
@@ -98,6 +99,13 @@ fn write_break_line<W: Sink>(out: &mut W, number: u16, pc: u64) -> Result<(), Wr
             b"\n",
         ],
     )
+}
+
+/// Writes the line of a tag that differed in the asynchronous mode.
+fn write_async_line<W: Sink>(out: &mut W, pc: u64) -> Result<(), WriteFault>
+    ensures { Writes (W.log out.old) (W.log out.new) result (status_line (AsyncTag pc)) }
+{
+    write_parts(out, &[b"status ", b"async pc 0x", &sixteen_hex(pc), b"\n"])
 }
 
 /// The name of a kind of fault.

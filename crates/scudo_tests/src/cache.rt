@@ -16,7 +16,7 @@ fn block_at(class: u8, size: u64, number: u64) -> u64
     requires size { size ≤ 65552 }
     requires number { number ≤ 100000 }
 {
-    0x1000_0000 + class as u64 * 0x20_0000 + size * number
+    0x1000_0000 + class as u64 * 0x100_0000 + size * number
 }
 
 /// A pool whose first `count` blocks of a class were popped.

@@ -91,6 +91,7 @@ fn packed_headers(rt: HostRuntime) {
     };
     for (cookie, pointer, header, word) in [
         (0u32, 0x1040_0010u64, CHUNK, 0x1322_0000_0001_8102u64),
+        (0, 0x1200_0010, CHUNK, 0x1142_0000_0001_8102),
         (0xDEAD_BEEF, 0x2000_FFF0, odd, 0xB8F1_1234_FEDC_B7AB),
         (7, 0x2000_1010, aligned, 0xEE72_0000_00FF_FD00),
     ] {
@@ -104,9 +105,9 @@ fn packed_headers(rt: HostRuntime) {
 #[test]
 fn corrupt_headers(rt: HostRuntime) {
     for (pointer, word) in [
-        (0x1040_0010u64, 0x1322_0000_0001_8103u64),
-        (0x1040_0010, 0x1323_0000_0001_8102),
-        (0x1040_0020, 0x1322_0000_0001_8102),
+        (0x1200_0010u64, 0x1142_0000_0001_8103u64),
+        (0x1200_0010, 0x1143_0000_0001_8102),
+        (0x1200_0020, 0x1142_0000_0001_8102),
     ] {
         assert_eq!(rt;
             unpack(0, pointer, word),

@@ -10,9 +10,9 @@ use std::test::Fail;
 /// The first address of a class's region.
 fn start(class: u64) -> u64
     requires { class ≤ 44 }
-    ensures { result ≤ 0x2000_0000 }
+    ensures { result ≤ 0x3C00_0000 }
 {
-    0x1000_0000 + class * 0x20_0000
+    0x1000_0000 + class * 0x100_0000
 }
 
 /// Class 9 has 320 bytes: a page holds 12 blocks, two pages 25.
@@ -22,14 +22,14 @@ fn thirteen_blocks_of_class_9(rt: HostRuntime) -> Result<(), Fail> {
     let mut pool = Pool::new(rt.alloc(), 2)?;
     assert_eq!(rt; pool.carved(9), 0);
     assert_eq!(rt; pool.pop(9), None);
-    assert!(rt; !pool.is_block(9, 0x1120_0000));
+    assert!(rt; !pool.is_block(9, 0x1900_0000));
     pool.carve(9, 1);
     assert_eq!(rt; pool.carved(9), 12);
-    assert!(rt; pool.is_block(9, 0x1120_0dc0));
-    assert!(rt; !pool.is_block(9, 0x1120_0f00));
-    assert!(rt; !pool.is_free(9, 0x1120_0f00));
+    assert!(rt; pool.is_block(9, 0x1900_0dc0));
+    assert!(rt; !pool.is_block(9, 0x1900_0f00));
+    assert!(rt; !pool.is_free(9, 0x1900_0f00));
     for n in 0..12u64 {
-        assert_eq!(rt; pool.pop(9), Some(0x1120_0000 + 320 * n));
+        assert_eq!(rt; pool.pop(9), Some(0x1900_0000 + 320 * n));
     }
     assert_eq!(rt; pool.pop(9), None);
     Ok(())

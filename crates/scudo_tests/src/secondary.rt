@@ -35,10 +35,10 @@ fn take(maps: &mut Maps, user: u64) -> bool
 #[test]
 fn places_in_the_range(rt: HostRuntime) -> Result<(), Fail> {
     let maps = Maps::new(rt.alloc(), 512)?;
-    assert_eq!(rt; maps.place(1), Some(0x2000_1000));
-    assert_eq!(rt; maps.place(33), Some(0x2000_1000));
-    assert_eq!(rt; maps.place(65534), Some(0x2000_1000));
-    assert_eq!(rt; maps.place(65535), None);
+    assert_eq!(rt; maps.place(1), Some(0x3D00_1000));
+    assert_eq!(rt; maps.place(33), Some(0x3D00_1000));
+    assert_eq!(rt; maps.place(8190), Some(0x3D00_1000));
+    assert_eq!(rt; maps.place(8191), None);
     assert_eq!(rt; maps.place(u64::MAX), None);
     Ok(())
 }
@@ -46,64 +46,64 @@ fn places_in_the_range(rt: HostRuntime) -> Result<(), Fail> {
 #[test]
 fn mappings_share_the_page_between_them(rt: HostRuntime) -> Result<(), Fail> {
     let mut maps = Maps::new(rt.alloc(), 8)?;
-    assert_eq!(rt; put(&mut maps, 1), Some(0x2000_1000));
-    assert_eq!(rt; put(&mut maps, 2), Some(0x2000_3000));
-    assert_eq!(rt; put(&mut maps, 3), Some(0x2000_6000));
-    assert_eq!(rt; maps.place(1), Some(0x2000_A000));
-    assert_eq!(rt; maps.place(65525), Some(0x2000_A000));
-    assert_eq!(rt; maps.place(65526), None);
+    assert_eq!(rt; put(&mut maps, 1), Some(0x3D00_1000));
+    assert_eq!(rt; put(&mut maps, 2), Some(0x3D00_3000));
+    assert_eq!(rt; put(&mut maps, 3), Some(0x3D00_6000));
+    assert_eq!(rt; maps.place(1), Some(0x3D00_A000));
+    assert_eq!(rt; maps.place(8181), Some(0x3D00_A000));
+    assert_eq!(rt; maps.place(8182), None);
     Ok(())
 }
 
 #[test]
 fn first_fit_between_two_others(rt: HostRuntime) -> Result<(), Fail> {
     let mut maps = Maps::new(rt.alloc(), 16)?;
-    assert_eq!(rt; put(&mut maps, 1), Some(0x2000_1000));
-    assert_eq!(rt; put(&mut maps, 2), Some(0x2000_3000));
-    assert_eq!(rt; put(&mut maps, 3), Some(0x2000_6000));
-    assert!(rt; take(&mut maps, 0x2000_3010));
-    assert!(rt; !take(&mut maps, 0x2000_3010));
-    assert_eq!(rt; maps.place(3), Some(0x2000_A000));
-    assert_eq!(rt; put(&mut maps, 2), Some(0x2000_3000));
-    assert!(rt; take(&mut maps, 0x2000_1010));
-    assert_eq!(rt; maps.place(2), Some(0x2000_A000));
-    assert_eq!(rt; put(&mut maps, 1), Some(0x2000_1000));
+    assert_eq!(rt; put(&mut maps, 1), Some(0x3D00_1000));
+    assert_eq!(rt; put(&mut maps, 2), Some(0x3D00_3000));
+    assert_eq!(rt; put(&mut maps, 3), Some(0x3D00_6000));
+    assert!(rt; take(&mut maps, 0x3D00_3010));
+    assert!(rt; !take(&mut maps, 0x3D00_3010));
+    assert_eq!(rt; maps.place(3), Some(0x3D00_A000));
+    assert_eq!(rt; put(&mut maps, 2), Some(0x3D00_3000));
+    assert!(rt; take(&mut maps, 0x3D00_1010));
+    assert_eq!(rt; maps.place(2), Some(0x3D00_A000));
+    assert_eq!(rt; put(&mut maps, 1), Some(0x3D00_1000));
     Ok(())
 }
 
 #[test]
 fn mappings_found_and_removed(rt: HostRuntime) -> Result<(), Fail> {
     let mut maps = Maps::new(rt.alloc(), 512)?;
-    assert_eq!(rt; put(&mut maps, 33), Some(0x2000_1000));
-    assert_eq!(rt; put(&mut maps, 40), Some(0x2002_3000));
+    assert_eq!(rt; put(&mut maps, 33), Some(0x3D00_1000));
+    assert_eq!(rt; put(&mut maps, 40), Some(0x3D02_3000));
     let first = Mapping {
-        start: 0x2000_1000,
+        start: 0x3D00_1000,
         pages: 33,
-        user: 0x2000_1010,
+        user: 0x3D00_1010,
     };
     let second = Mapping {
-        start: 0x2002_3000,
+        start: 0x3D02_3000,
         pages: 40,
-        user: 0x2002_3010,
+        user: 0x3D02_3010,
     };
-    assert_eq!(rt; maps.find(0x2000_1010), Some(first));
-    assert_eq!(rt; maps.find(0x2002_3010), Some(second));
-    assert_eq!(rt; maps.find(0x2000_1000), None);
-    assert_eq!(rt; maps.find(0x2000_1020), None);
-    assert!(rt; take(&mut maps, 0x2000_1010));
-    assert_eq!(rt; maps.find(0x2000_1010), None);
-    assert_eq!(rt; maps.find(0x2002_3010), Some(second));
+    assert_eq!(rt; maps.find(0x3D00_1010), Some(first));
+    assert_eq!(rt; maps.find(0x3D02_3010), Some(second));
+    assert_eq!(rt; maps.find(0x3D00_1000), None);
+    assert_eq!(rt; maps.find(0x3D00_1020), None);
+    assert!(rt; take(&mut maps, 0x3D00_1010));
+    assert_eq!(rt; maps.find(0x3D00_1010), None);
+    assert_eq!(rt; maps.find(0x3D02_3010), Some(second));
     Ok(())
 }
 
 #[test]
 fn one_page_at_a_time(rt: HostRuntime) -> Result<(), Fail> {
     let mut maps = Maps::new(rt.alloc(), 3)?;
-    assert_eq!(rt; put(&mut maps, 1), Some(0x2000_1000));
-    assert_eq!(rt; put(&mut maps, 1), Some(0x2000_3000));
-    assert_eq!(rt; put(&mut maps, 1), Some(0x2000_5000));
-    assert!(rt; take(&mut maps, 0x2000_5010));
-    assert!(rt; take(&mut maps, 0x2000_1010));
-    assert_eq!(rt; maps.place(2), Some(0x2000_5000));
+    assert_eq!(rt; put(&mut maps, 1), Some(0x3D00_1000));
+    assert_eq!(rt; put(&mut maps, 1), Some(0x3D00_3000));
+    assert_eq!(rt; put(&mut maps, 1), Some(0x3D00_5000));
+    assert!(rt; take(&mut maps, 0x3D00_5010));
+    assert!(rt; take(&mut maps, 0x3D00_1010));
+    assert_eq!(rt; maps.place(2), Some(0x3D00_5000));
     Ok(())
 }

@@ -2,8 +2,11 @@
 
 use crate::doubles::MemorySink;
 use crate::images::{HI, image};
-use mte_sched::{Admission, AdmitError, Host, NotLive, Refusal, Status, tenant_is_alone};
+use mte_sched::{
+    Admission, AdmitError, Host, NotLive, Refusal, Status, flag_is_clear, tenant_is_alone,
+};
 use mte_session::{ScriptFault, write_report};
+use mte_tags::TagMode;
 use std::test::Fail;
 
 #[test]
@@ -17,6 +20,7 @@ fn one_host(rt: HostRuntime) -> Result<(), Fail> {
         seed: 1,
         pages: 5,
         room: 16,
+        mode: TagMode::Sync,
     };
     assert!(rt; host.slice(7, 1) == Err(NotLive));
     host.admit(rt.alloc(), &admission)?;
@@ -38,6 +42,7 @@ fn one_host(rt: HostRuntime) -> Result<(), Fail> {
         b"tenant 7\nstatus stopped\nsteps 3\noutput 0\nheap 0\nend\n".as_slice()
     );
     tenant_is_alone();
+    flag_is_clear();
     Ok(())
 }
 

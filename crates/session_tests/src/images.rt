@@ -33,6 +33,18 @@ pub const UNTAGGED: [u32; 7] = [
     0xD2A7FFE0, 0x91403000, 0x9ADF1001, 0xD9200821, 0xF9000021, 0xF9400022, 0xF9400002,
 ];
 
+/// The same, and then an exit with the address that it loaded from.
+pub const UNTAGGED_EXIT: [u32; 9] = [
+    0xD2A7FFE0, 0x91403000, 0x9ADF1001, 0xD9200821, 0xF9000021, 0xF9400022, 0xF9400002, 0xD2800008,
+    0xD4000001,
+];
+
+/// Tags a granule of the stack, writes it as output through the untagged pointer, and exits.
+pub const UNTAGGED_WRITE: [u32; 9] = [
+    0xD2A7FFE0, 0x91403000, 0x9ADF1001, 0xD9200821, 0xD2800201, 0xD2800028, 0xD4000001, 0xD2800008,
+    0xD4000001,
+];
+
 /// Loads with base SP at an offset, which is not checked, then pre-indexed, which is.
 pub const PRE_INDEXED: [u32; 5] = [0xD10083FF, 0x9ADF13E1, 0xD9200BE1, 0xF94003E2, 0xF8400FE2];
 

@@ -10,7 +10,7 @@ fn scripts(rt: HostRuntime) -> Result<(), Fail> {
         files.push(Vec::from_slice(rt.alloc(), b"x")?)?;
         files
     };
-    let cases: [(&[u8], Option<(u64, ScriptFault)>); 14] = [
+    let cases: [(&[u8], Option<(u64, ScriptFault)>); 18] = [
         (b"admit 1 image 1", Some((1, ScriptFault::Syntax))),
         (b"slice 70000 1", Some((1, ScriptFault::BadNumber))),
         (b"slice 1 1048577", Some((1, ScriptFault::BadNumber))),
@@ -36,6 +36,22 @@ fn scripts(rt: HostRuntime) -> Result<(), Fail> {
         (
             b"admit 1 image 1 input 1 seed 00000000DEADbeef frames 4294967295 out 0",
             None,
+        ),
+        (
+            b"admit 1 image 1 input 0 seed 0000000000000001 frames 5 out 16 async",
+            None,
+        ),
+        (
+            b"admit 1 image 1 input 0 seed 0000000000000001 frames 5 out 16 asynch",
+            Some((1, ScriptFault::Syntax)),
+        ),
+        (
+            b"admit 1 image 1 input 0 seed 0000000000000001 frames 5 out 16 async async",
+            Some((1, ScriptFault::Syntax)),
+        ),
+        (
+            b"admit 1 image 1 input 0 seed 0000000000000001 frames 5 out 16 ASYNC",
+            Some((1, ScriptFault::Syntax)),
         ),
     ];
     for (script, want) in cases {

@@ -1,7 +1,9 @@
 //! Worked examples of whole sessions.
 
 use crate::doubles::MemorySink;
-use crate::images::{ACROSS, HI, ILLEGAL, PRE_INDEXED, UNALIGNED, UNTAGGED, image};
+use crate::images::{
+    ACROSS, HI, ILLEGAL, PRE_INDEXED, UNALIGNED, UNTAGGED, UNTAGGED_EXIT, UNTAGGED_WRITE, image,
+};
 use mte_session::{ScriptFault, SessionError, run_session};
 use std::alloc::Global;
 use std::test::Fail;
@@ -85,9 +87,81 @@ fn one_tenant_alone(rt: HostRuntime) -> Result<(), Fail> {
     Ok(())
 }
 
+/// The largest reservation has 4096 pages, and is charged 8193 frames.
+#[test]
+fn the_largest_reservation(rt: HostRuntime) -> Result<(), Fail> {
+    let text = report(
+        rt.alloc(),
+        8193,
+        b"admit 1 image 1 input 0 seed 0000000000000001 frames 4096 out 16\nslice 1 100\n",
+        &[&HI],
+    )?;
+    assert_eq!(rt;
+        text.as_slice(),
+        b"tenant 1\nstatus exit 0\nsteps 8\noutput 2 4869\nheap 0\nend\n".as_slice()
+    );
+    Ok(())
+}
+
+/// In the asynchronous mode an access whose tag differs completes. The tenant ends at its next
+/// service, or with its slice.
+#[test]
+fn the_asynchronous_mode(rt: HostRuntime) -> Result<(), Fail> {
+    let cases: [(&[u32], &[u8], &[u8]); 7] = [
+        (
+            &UNTAGGED,
+            b" async\nslice 1 7\n",
+            b"status async pc 0x000000000001001c\nsteps 7\noutput 0\n",
+        ),
+        (
+            &UNTAGGED,
+            b" async\nslice 1 100\n",
+            b"status illegal 0x00000000 pc 0x000000000001001c\nsteps 8\noutput 0\n",
+        ),
+        (
+            &UNTAGGED_EXIT,
+            b" async\nslice 1 100\n",
+            b"status async pc 0x0000000000010020\nsteps 9\noutput 0\n",
+        ),
+        (
+            &UNTAGGED_EXIT,
+            b"\nslice 1 100\n",
+            b"status fault TagCheck read addr 0x000000003fffc000 ptr 0 mem 1 pc 0x0000000000010018\nsteps 7\noutput 0\n",
+        ),
+        (
+            &UNTAGGED_WRITE,
+            b" async\nslice 1 100\n",
+            b"status async pc 0x0000000000010020\nsteps 9\noutput 16 00000000000000000000000000000000\n",
+        ),
+        (
+            &UNTAGGED_WRITE,
+            b" async\nslice 1 7\n",
+            b"status async pc 0x000000000001001c\nsteps 7\noutput 16 00000000000000000000000000000000\n",
+        ),
+        (
+            &UNTAGGED_WRITE,
+            b"\nslice 1 100\n",
+            b"status fault TagCheck read addr 0x000000003fffc000 ptr 0 mem 1 pc 0x0000000000010018\nsteps 7\noutput 0\n",
+        ),
+    ];
+    for (words, rest, want) in cases {
+        let mut script = Vec::from_slice(
+            rt.alloc(),
+            b"admit 1 image 1 input 0 seed 0000000000000001 frames 5 out 16",
+        )?;
+        script.extend_from_slice(rest)?;
+        let text = report(rt.alloc(), 11, script.as_slice(), &[words])?;
+        let mut wanted = Vec::from_slice(rt.alloc(), b"tenant 1\n")?;
+        wanted.extend_from_slice(want)?;
+        wanted.extend_from_slice(b"heap 0\nend\n")?;
+        assert_eq!(rt; text.as_slice(), wanted.as_slice());
+    }
+    Ok(())
+}
+
 #[test]
 fn refused_events(rt: HostRuntime) -> Result<(), Fail> {
-    let cases: [(u32, &[u8], &[u8]); 7] = [
+    let cases: [(u32, &[u8], &[u8]); 9] = [
         (
             10,
             b"admit 1 image 1 input 0 seed 0000000000000001 frames 5 out 16\nslice 1 5\n",
@@ -102,6 +176,16 @@ fn refused_events(rt: HostRuntime) -> Result<(), Fail> {
             11,
             b"admit 1 image 1 input 0 seed 0000000000000001 frames 0 out 16\n",
             b"refused 1 BadReservation\n",
+        ),
+        (
+            11,
+            b"admit 1 image 1 input 0 seed 0000000000000001 frames 4097 out 16\n",
+            b"refused 1 BadReservation\n",
+        ),
+        (
+            8192,
+            b"admit 1 image 1 input 0 seed 0000000000000001 frames 4096 out 16\n",
+            b"refused 1 NoFrames\n",
         ),
         (
             11,

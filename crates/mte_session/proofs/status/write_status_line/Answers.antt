@@ -8,3 +8,6 @@ returns-in-Illegal g c = rw c.in-Illegal.is c.write_illegal_line.ensures
 
 pub returns-in-Breakpoint : goal.returns-in-Breakpoint
 returns-in-Breakpoint g c = rw c.in-Breakpoint.is c.write_break_line.ensures
+
+pub returns-in-AsyncTag : goal.returns-in-AsyncTag
+returns-in-AsyncTag g c = rw c.in-AsyncTag.is c.write_async_line.ensures

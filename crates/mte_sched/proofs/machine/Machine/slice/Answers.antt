@@ -1,9 +1,13 @@
-use Rattle.std.proofs.Common.{◌∙◌, sym, arith}
-use Rattle.mte_sched.proofs.MachineLemmas.{advance-ended, advance_none}
+use Rattle.std.proofs.Common.{◌≡◌, ◌∙◌, sym, ap, arith}
+use Rattle.mte_sched.specs.Machines.{attempts, settled, advance}
+use Rattle.mte_sched.proofs.MachineLemmas.{attempts-ended, attempts_none}
+use Rattle.mte_sched.proofs.machine.Machine.slice.Goals.{then-loop-left-test+else-is_running, else-loop-left-test}
 use Rattle.mte_sched.proofs.machine.Machine.slice.Goals as goal
 
-pub returns-else-is_running : goal.returns-else-is_running
-returns-else-is_running c = sym (advance-ended c.loop-left.left c.loop-left.self (sym c.is_running.ensures ∙ c.if-is_running.false)) ∙ c.loop-left.invariant
-
-pub returns-after-loop-left : goal.returns-after-loop-left
-returns-after-loop-left c = sym (advance_none c.loop-left.left c.loop-left.self (omega arith)) ∙ c.loop-left.invariant
+pub returns : goal.returns
+unfolding advance
+returns c =
+    let done : attempts c.loop-left.left c.loop-left.self ≡ c.loop-left.self = elim c.loop-left-test.branch [
+        then-loop-left-test+else-is_running w ↦ attempts-ended c.loop-left.left c.loop-left.self (sym w.is_running.ensures ∙ w.if-is_running.false)
+      | else-loop-left-test w ↦ attempts_none c.loop-left.left c.loop-left.self (omega arith) ] in
+    c.settle.ensures ∙ ap settled (sym done ∙ c.loop-left.invariant)
