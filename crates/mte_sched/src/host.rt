@@ -47,7 +47,11 @@ impl Host {
 
     /// Admits a tenant, or returns the first refusal that applies. Only `OutOfMemory`, where an
     /// allocation failed, can come in place of the refusals from `Image` on.
-    #[tactic(auto, unfolding(crate::specs::Hosts::admission_refusal, crate::specs::Hosts::with_admitted))]
+    #[rattlefmt::skip]
+    #[tactic(
+        auto,
+        unfolding(crate::specs::Hosts::admission_refusal, crate::specs::Hosts::with_admitted)
+    )]
     pub fn admit(&mut self, alloc: Global, admission: &Admission<'_>) -> Result<(), AdmitError>
         ensures accepted { OnOk result (admission_refusal self.old admission.now.id
             admission.now.image.now admission.now.pages admission.now.room ≡ None) }

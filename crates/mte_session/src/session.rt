@@ -124,7 +124,11 @@ fn is_out_of_memory(refusal: &Refusal) -> bool
 
 /// Executes one event. Only an admission's `OutOfMemory`, where an allocation failed, can come in
 /// place of its refusal or success.
-#[tactic(auto, unfolding(mte_sched::specs::Events::event_refusal, mte_sched::specs::Events::after_event))]
+#[rattlefmt::skip]
+#[tactic(
+    auto,
+    unfolding(mte_sched::specs::Events::event_refusal, mte_sched::specs::Events::after_event)
+)]
 fn play(alloc: Global, host: &mut Host, event: &Event, files: &[Vec<u8>]) -> Result<(), Refusal>
     ensures accepted { OnOk result (event_refusal (contents files.now) host.old event.now ≡ None) }
     ensures ok { OnOk result (host.new ≡ after_event (contents files.now) host.old event.now) }

@@ -5,7 +5,8 @@ ghost use Rattle.std.specs.Prelude.{IsTrue, IfOk, is_ok, length, if◌then◌els
 ghost use Rattle.a64_bits.specs.Addresses.{plain};
 ghost use Rattle.mte_tags.specs.Memory.{Memory, tag_at, with_granules};
 ghost use Rattle.mte_tags.specs.Accesses.{outcome, loaded, addresses, granules, first_fault};
-ghost use Rattle.mte_tags.specs.Accesses.{access_fault, after_access, bytes_at, with_bytes, AreMapped};
+ghost use Rattle.mte_tags.specs.Accesses.{access_fault, after_access, bytes_at, with_bytes};
+ghost use Rattle.mte_tags.specs.Accesses.{AreMapped};
 ghost use Rattle.mte_tags.specs.Accesses.{fetched, read_fault, read_bytes, after_read, write_fault};
 ghost use Rattle.mte_tags.specs.Accesses.{written, after_write, tags_fault};
 ghost use Rattle.mte_tags.specs.Accesses.{tag_load_fault, fault, fetch_access};

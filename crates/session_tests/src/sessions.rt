@@ -57,27 +57,32 @@ fn one_tenant_alone(rt: HostRuntime) -> Result<(), Fail> {
         (
             &UNTAGGED,
             ADMIT,
-            b"tenant 1\nstatus fault TagCheck read addr 0x000000003fffc000 ptr 0 mem 1 pc 0x0000000000010018\nsteps 7\noutput 0\nheap 0\nend\n",
+            b"tenant 1\nstatus fault TagCheck read addr 0x000000003fffc000 ptr 0 mem 1 pc \
+              0x0000000000010018\nsteps 7\noutput 0\nheap 0\nend\n",
         ),
         (
             &PRE_INDEXED,
             ADMIT,
-            b"tenant 1\nstatus fault TagCheck read addr 0x000000003fffffe0 ptr 0 mem 1 pc 0x0000000000010010\nsteps 5\noutput 0\nheap 0\nend\n",
+            b"tenant 1\nstatus fault TagCheck read addr 0x000000003fffffe0 ptr 0 mem 1 pc \
+              0x0000000000010010\nsteps 5\noutput 0\nheap 0\nend\n",
         ),
         (
             &ACROSS,
             ADMIT,
-            b"tenant 1\nstatus fault TagCheck read addr 0x000000003fffc010 ptr 1 mem 0 pc 0x0000000000010010\nsteps 5\noutput 0\nheap 0\nend\n",
+            b"tenant 1\nstatus fault TagCheck read addr 0x000000003fffc010 ptr 1 mem 0 pc \
+              0x0000000000010010\nsteps 5\noutput 0\nheap 0\nend\n",
         ),
         (
             &ILLEGAL,
             ADMIT,
-            b"tenant 1\nstatus illegal 0x00000000 pc 0x0000000000010000\nsteps 1\noutput 0\nheap 0\nend\n",
+            b"tenant 1\nstatus illegal 0x00000000 pc 0x0000000000010000\nsteps 1\noutput 0\n\
+              heap 0\nend\n",
         ),
         (
             &UNALIGNED,
             ADMIT,
-            b"tenant 1\nstatus fault PcAlignment read addr 0x0000000000010001 ptr 0 mem 0 pc 0x0000000000010001\nsteps 4\noutput 0\nheap 0\nend\n",
+            b"tenant 1\nstatus fault PcAlignment read addr 0x0000000000010001 ptr 0 mem 0 pc \
+              0x0000000000010001\nsteps 4\noutput 0\nheap 0\nend\n",
         ),
     ];
     for (words, script, want) in cases {
@@ -126,22 +131,26 @@ fn the_asynchronous_mode(rt: HostRuntime) -> Result<(), Fail> {
         (
             &UNTAGGED_EXIT,
             b"\nslice 1 100\n",
-            b"status fault TagCheck read addr 0x000000003fffc000 ptr 0 mem 1 pc 0x0000000000010018\nsteps 7\noutput 0\n",
+            b"status fault TagCheck read addr 0x000000003fffc000 ptr 0 mem 1 pc \
+              0x0000000000010018\nsteps 7\noutput 0\n",
         ),
         (
             &UNTAGGED_WRITE,
             b" async\nslice 1 100\n",
-            b"status async pc 0x0000000000010020\nsteps 9\noutput 16 00000000000000000000000000000000\n",
+            b"status async pc 0x0000000000010020\nsteps 9\n\
+              output 16 00000000000000000000000000000000\n",
         ),
         (
             &UNTAGGED_WRITE,
             b" async\nslice 1 7\n",
-            b"status async pc 0x000000000001001c\nsteps 7\noutput 16 00000000000000000000000000000000\n",
+            b"status async pc 0x000000000001001c\nsteps 7\n\
+              output 16 00000000000000000000000000000000\n",
         ),
         (
             &UNTAGGED_WRITE,
             b"\nslice 1 100\n",
-            b"status fault TagCheck read addr 0x000000003fffc000 ptr 0 mem 1 pc 0x0000000000010018\nsteps 7\noutput 0\n",
+            b"status fault TagCheck read addr 0x000000003fffc000 ptr 0 mem 1 pc \
+              0x0000000000010018\nsteps 7\noutput 0\n",
         ),
     ];
     for (words, rest, want) in cases {
@@ -199,13 +208,19 @@ fn refused_events(rt: HostRuntime) -> Result<(), Fail> {
         ),
         (
             22,
-            b"admit 1 image 1 input 0 seed 0000000000000001 frames 5 out 16\nadmit 1 image 1 input 0 seed 0000000000000001 frames 5 out 16\nadmit 2 image 1 input 0 seed 0000000000000001 frames 5 out 16\nstop 1\nslice 1 5\n",
-            b"refused 2 Duplicate\nrefused 3 TooManyLive\nrefused 5 NotLive\ntenant 1\nstatus stopped\nsteps 0\noutput 0\nheap 0\nend\n",
+            b"admit 1 image 1 input 0 seed 0000000000000001 frames 5 out 16\n\
+              admit 1 image 1 input 0 seed 0000000000000001 frames 5 out 16\n\
+              admit 2 image 1 input 0 seed 0000000000000001 frames 5 out 16\nstop 1\nslice 1 5\n",
+            b"refused 2 Duplicate\nrefused 3 TooManyLive\nrefused 5 NotLive\ntenant 1\n\
+              status stopped\nsteps 0\noutput 0\nheap 0\nend\n",
         ),
         (
             21,
-            b"admit 1 image 1 input 0 seed 0000000000000001 frames 5 out 16\nslice 1 100\nslice 1 100\nadmit 2 image 1 input 0 seed 0000000000000001 frames 5 out 16\nstop 1\nadmit 2 image 1 input 0 seed 0000000000000001 frames 5 out 16\n",
-            b"refused 4 NoFrames\nrefused 6 TooManyLive\ntenant 1\nstatus exit 0\nsteps 8\noutput 2 4869\nheap 0\nend\n",
+            b"admit 1 image 1 input 0 seed 0000000000000001 frames 5 out 16\nslice 1 100\n\
+              slice 1 100\nadmit 2 image 1 input 0 seed 0000000000000001 frames 5 out 16\nstop 1\n\
+              admit 2 image 1 input 0 seed 0000000000000001 frames 5 out 16\n",
+            b"refused 4 NoFrames\nrefused 6 TooManyLive\ntenant 1\nstatus exit 0\nsteps 8\n\
+              output 2 4869\nheap 0\nend\n",
         ),
     ];
     for (frames, script, want) in cases {
@@ -267,7 +282,9 @@ fn the_second_file(rt: HostRuntime) -> Result<(), Fail> {
     )?;
     assert_eq!(rt;
         text.as_slice(),
-        b"tenant 1\nstatus illegal 0x00000000 pc 0x0000000000010000\nsteps 1\noutput 0\nheap 0\nend\n".as_slice()
+        b"tenant 1\nstatus illegal 0x00000000 pc 0x0000000000010000\nsteps 1\noutput 0\nheap 0\n\
+          end\n"
+            .as_slice()
     );
     Ok(())
 }
