@@ -35,8 +35,13 @@ pub fn add_with_carry(x: u64, y: u64, carry: bool, size: u32) -> Sum
     }
 }
 
+#[rattlefmt::skip]
 #[inline(always)]
-#[tactic(auto, using(crate::proofs::ArithmeticLemmas::overflowed_32), unfolding(crate::specs::Arithmetic::sum_with_carry))]
+#[tactic(
+    auto,
+    using(crate::proofs::ArithmeticLemmas::overflowed_32),
+    unfolding(crate::specs::Arithmetic::sum_with_carry)
+)]
 fn add_32(x: u64, y: u64, carry: bool) -> Sum
     requires x_fits { x < 2 ^ 32 }
     requires y_fits { y < 2 ^ 32 }
@@ -57,8 +62,13 @@ fn add_32(x: u64, y: u64, carry: bool) -> Sum
     }
 }
 
+#[rattlefmt::skip]
 #[inline(always)]
-#[tactic(auto, using(crate::proofs::ArithmeticLemmas::overflowed_64), unfolding(crate::specs::Arithmetic::sum_with_carry))]
+#[tactic(
+    auto,
+    using(crate::proofs::ArithmeticLemmas::overflowed_64),
+    unfolding(crate::specs::Arithmetic::sum_with_carry)
+)]
 fn add_64(x: u64, y: u64, carry: bool) -> Sum
     ensures { result ≡ sum_with_carry 64 x y carry }
 {

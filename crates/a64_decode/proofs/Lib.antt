@@ -1,9 +1,4 @@
-pub mod Classes
-pub mod DataWords
-pub mod BranchWords
-pub mod MemoryWords
-pub mod SystemWords
-pub mod TagWords
-pub mod Words
 pub mod Tested
 pub mod Table
+pub mod RowLemmas
+pub mod Words

@@ -1,4 +1,2 @@
-pub mod Rows
 pub mod Decoded
 pub mod DecodeCache
-pub mod Dispatch

@@ -3,7 +3,6 @@
 
 mod decode_cache;
 mod decoder;
-mod dispatch;
 mod rows;
 
 pub use decode_cache::Decoder;

@@ -1,4 +1,5 @@
 pub mod Drawing
 pub mod Effects
+mod GranuleWrites
 pub mod Modes
 pub mod Running

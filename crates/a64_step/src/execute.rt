@@ -14,7 +14,7 @@ use crate::data_processing::{mul_add, mul_add_long, mul_high, one_source, two_so
 use crate::load_store::{ld_lit, ld_st_imm, ld_st_post, ld_st_pre, ld_st_reg, ld_st_unscaled};
 use crate::load_store_pair::{pair_off, pair_post, pair_pre};
 use crate::logical::{log_imm, log_shift};
-use crate::memory_tagging::{add_g, gmi, irg, ldg, st_g, sub_p};
+use crate::memory_tagging::{add_g, gmi, irg, ldg, st_g, st_g_p, sub_p};
 use crate::move_wide::move_wide;
 use crate::outcome::Outcome;
 use crate::pc_rel::adr;
@@ -22,8 +22,8 @@ use crate::registers::Regs;
 use a64_asm::Instr;
 use mte_tags::Tagged;
 
-/// Executes an instruction. An arm with constants in its pattern passes them on, so that its copy of
-/// the function does not test them again.
+/// Executes an instruction. An arm with constants in its pattern passes them on, so that its copy
+/// of the function does not test them again.
 #[rattlefmt::skip]
 #[inline(always)]
 #[tactic(auto, unfolding(crate::specs::Steps::executed))]
@@ -83,5 +83,6 @@ pub fn execute<M: Tagged>(instr: &Instr, regs: &mut Regs, memory: &mut M, outcom
         Instr::Gmi { rm, rn, rd } => gmi(regs, rm, rn, rd),
         Instr::Ldg { imm9, rn, rt } => ldg(regs, memory, imm9, rn, rt, outcome),
         Instr::StG { opc, imm9, mode, rn, rt } => st_g(regs, memory, opc, imm9, mode, rn, rt, outcome),
+        Instr::StGP { mode, imm7, rt2, rn, rt } => st_g_p(regs, memory, mode, imm7, rt2, rn, rt, outcome),
     }
 }

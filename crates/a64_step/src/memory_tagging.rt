@@ -1,19 +1,26 @@
 //! Instructions on tags.
 
-ghost use Rattle.std.specs.Prelude.{◌≡◌, ◌<◌, ◌+◌, ◌-◌, ◌*◌, ◌%◌, ◌^◌};
+ghost use Rattle.std.specs.Prelude.{◌≡◌, false, ◌<◌, ◌+◌, ◌-◌, ◌*◌, ◌%◌, ◌^◌, is_ok};
+ghost use Rattle.std.specs.Prelude.{if◌then◌else◌};
 ghost use Rattle.std.specs.Int.RustNames.{bit_or};
+ghost use Rattle.a64_bits.specs.Addresses.{plain, address_tag};
+ghost use Rattle.mte_tags.specs.Memory.{with_granules};
+ghost use Rattle.mte_tags.specs.Accesses.{outcome, tags_fault, written};
+ghost use Rattle.a64_step.specs.LoadStorePair.{pair_bytes};
 ghost use Rattle.a64_step.specs.MemoryTagging.{add_g_of, gmi_of, granule_count, irg_of, is_zeroing};
-ghost use Rattle.a64_step.specs.MemoryTagging.{ldg_of, st_g_at, st_g_of, sub_p_of, tag_target};
+ghost use Rattle.a64_step.specs.MemoryTagging.{ldg_of, st_g_at, st_g_of, st_g_p_at, st_g_p_of};
+ghost use Rattle.a64_step.specs.MemoryTagging.{sub_p_of, tag_target};
 ghost use Rattle.a64_step.specs.MemoryTagging.{with_address_tag};
 ghost use Rattle.a64_step.specs.Registers.{advanced};
 ghost use Rattle.a64_step.specs.Results.{Leaves};
 
 use crate::add_subtract::{add_into, add_or_subtract};
 use crate::addressing::{Target, fault_of_stack, moved_by, write_back};
+use crate::load_store_pair::{Pair, write_pair};
 use crate::outcome::Outcome;
 use crate::registers::Regs;
 use a64_bits::sign_extend;
-use mte_tags::{Tagged, choose_non_excluded, tag_of, with_tag};
+use mte_tags::{MemFault, Tagged, choose_non_excluded, tag_of, with_tag};
 
 /// GCR_EL1.Exclude: tag 0 is neither drawn nor chosen.
 const EXCLUDED: u16 = 1;
@@ -133,20 +140,20 @@ pub fn st_g<M: Tagged>(
         outcome.new regs.new (M.memory memory.new) }
     ensures kept { M.kept memory.old memory.new }
 {
-    let target = target_of_tags(regs, imm9, mode, rn);
+    let target = target_of_tags(regs, i64::from(imm9), mode, rn);
     store_at(regs, memory, opc, rn, rt, target, outcome)
 }
 
 /// The target of a store of tags.
 #[tactic(auto, unfolding(crate::specs::MemoryTagging::tag_target))]
-fn target_of_tags(regs: &Regs, imm9: i16, mode: u8, rn: u8) -> Target
+fn target_of_tags(regs: &Regs, offset: i64, mode: u8, rn: u8) -> Target
     requires { rn < 32 }
-    ensures { result ≡ tag_target regs.now imm9 mode rn }
+    ensures { result ≡ tag_target regs.now offset mode rn }
 {
     match mode {
-        1 => Target::post(regs, 16, i64::from(imm9), rn),
-        2 => Target::offset(regs, 16, i64::from(imm9), rn),
-        _ => Target::pre(regs, 16, i64::from(imm9), rn),
+        1 => Target::post(regs, 16, offset, rn),
+        2 => Target::offset(regs, 16, offset, rn),
+        _ => Target::pre(regs, 16, offset, rn),
     }
 }
 
@@ -181,4 +188,84 @@ fn store_at<M: Tagged>(
     }
     write_back(regs, rn, target.new_base);
     regs.advance();
+}
+
+/// STGP.
+#[inline(never)]
+#[tactic(auto, unfolding(crate::specs::MemoryTagging::st_g_p_of))]
+pub fn st_g_p<M: Tagged>(
+    regs: &mut Regs,
+    memory: &mut M,
+    mode: u8,
+    imm7: i8,
+    rt2: u8,
+    rn: u8,
+    rt: u8,
+    outcome: &mut Outcome,
+)
+    requires rt2 { rt2 < 32 }
+    requires rn { rn < 32 }
+    requires rt { rt < 32 }
+    requires outcome { outcome.old ≡ Outcome.Next }
+    ensures leaves { Leaves (st_g_p_of regs.old (M.memory memory.old) mode imm7 rt2 rn rt)
+        outcome.new regs.new (M.memory memory.new) }
+    ensures kept { M.kept memory.old memory.new }
+{
+    let target = target_of_tags(regs, i64::from(imm7), mode, rn);
+    store_pair_at(regs, memory, rt2, rn, rt, target, outcome)
+}
+
+/// Stores the tag of one granule and two registers into it.
+#[tactic(auto, unfolding(crate::specs::MemoryTagging::st_g_p_at))]
+fn store_pair_at<M: Tagged>(
+    regs: &mut Regs,
+    memory: &mut M,
+    rt2: u8,
+    rn: u8,
+    rt: u8,
+    target: Target,
+    outcome: &mut Outcome,
+)
+    requires rt2 { rt2 < 32 }
+    requires rn { rn < 32 }
+    requires rt { rt < 32 }
+    requires outcome { outcome.old ≡ Outcome.Next }
+    ensures leaves { Leaves (st_g_p_at regs.old (M.memory memory.old) rt2 rn rt target)
+        outcome.new regs.new (M.memory memory.new) }
+    ensures kept { M.kept memory.old memory.new }
+{
+    if let Some(fault) = fault_of_stack(regs, rn, true) {
+        *outcome = Outcome::Fault(fault);
+        return;
+    }
+    let values = Pair {
+        first: regs.get(rt),
+        second: regs.get(rt2),
+    };
+    if let Err(fault) = store_granule(memory, target.address, values) {
+        *outcome = Outcome::Fault(fault);
+        return;
+    }
+    write_back(regs, rn, target.new_base);
+    regs.advance();
+}
+
+/// Stores the address's tag and two numbers as one granule, all or nothing.
+fn store_granule<M: Tagged>(memory: &mut M, address: u64, values: Pair) -> Result<(), MemFault>
+    ensures answer { result ≡ outcome (tags_fault (M.memory memory.old) address 1) }
+    ensures memory { M.memory memory.new
+        ≡ (if is_ok result
+        then written
+        (with_granules (M.memory memory.old) (plain address) 1 (address_tag address) false)
+        address
+        (pair_bytes 2 values.first values.second)
+        else M.memory memory.old) }
+    ensures kept { M.kept memory.old memory.new }
+{
+    if let Err(fault) = memory.store_tags(address, 1, tag_of(address), false) {
+        return Err(fault);
+    }
+    // A granule whose tag may be stored may be written.
+    let _ = write_pair(memory, address, 2, values, false);
+    Ok(())
 }

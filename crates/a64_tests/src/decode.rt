@@ -5,7 +5,7 @@ use a64_decode::{Decoder, decode};
 
 /// A word as the assembler gives it for each row, and its instruction.
 #[rattlefmt::skip]
-const ROWS: [(u32, Instr); 40] = [
+const ROWS: [(u32, Instr); 41] = [
     // adds w3, w4, #0x456, lsl #12
     (0x3151_5883, Instr::AddSubImm { sf: 0, op: 0, s: 1, sh: 1, imm12: 1110, rn: 4, rd: 3 }),
     // add x5, x6, x7, lsl #63
@@ -88,6 +88,8 @@ const ROWS: [(u32, Instr); 40] = [
     (0xD970_0041, Instr::Ldg { imm9: -256, rn: 2, rt: 1 }),
     // stzg sp, [x4, #4080]
     (0xD96F_F89F, Instr::StG { opc: 1, imm9: 255, mode: 2, rn: 4, rt: 31 }),
+    // stgp x1, x2, [sp, #-1024]!
+    (0x69A0_0BE1, Instr::StGP { mode: 3, imm7: -64, rt2: 2, rn: 31, rt: 1 }),
 ];
 
 /// The words of the sample programs.
@@ -104,7 +106,7 @@ const SAMPLES: [u32; 43] = [
 
 /// Words that are none of the profile's.
 #[rattlefmt::skip]
-const REFUSED: [u32; 9] = [
+const REFUSED: [u32; 7] = [
     // The word 0, and data of a sample program.
     0, 0x0000_6948,
     // LDP and LDR with equal registers.
@@ -113,8 +115,8 @@ const REFUSED: [u32; 9] = [
     0xD400_0021,
     // ADDG with bit 14 set.
     0x9180_4000,
-    // STGP.
-    0x6880_0000, 0x6900_0000, 0x6980_0000,
+    // The pair with a tag in the place of the no-allocate pairs.
+    0x6800_0000,
 ];
 
 #[test]

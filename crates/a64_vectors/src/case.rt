@@ -7,7 +7,7 @@ use mte_tags::Attrs;
 use std::alloc::{AllocError, Global};
 
 /// Some pages of the map, the same for all cases.
-#[derive(Clone, Copy, Debug, PartialEq, Eq)]
+#[derive(Clone, Copy)]
 pub struct Pages {
     pub first: u64,
     pub count: u64,

@@ -14,7 +14,7 @@ pub struct Granule {
 }
 
 /// How a step is to end; an illegal word is not named again.
-#[derive(Clone, Copy, Debug, PartialEq, Eq)]
+#[derive(Clone, Copy)]
 pub enum Ending {
     Next,
     Illegal,
@@ -35,7 +35,7 @@ impl Ending {
 }
 
 /// What a line says.
-#[derive(Clone, Copy, Debug, PartialEq, Eq)]
+#[derive(Clone, Copy)]
 pub enum Line {
     Page { page: u64, count: u64, attrs: Attrs },
     Case(u64),

@@ -15,18 +15,21 @@ macro_rules! compare {
     };
 }
 
+fn compare_number(text: &mut String, name: &str, ours: u64, theirs: u64) -> Result<(), AllocError> {
+    if ours != theirs {
+        write!(text, " {name}: {ours:#018x} for {theirs:#018x};")?;
+    }
+    Ok(())
+}
+
 fn compare_registers(text: &mut String, ours: &Regs, theirs: &Regs) -> Result<(), AllocError> {
     for ((ours, theirs), number) in ours.x.iter().zip(theirs.x.iter()).zip(0..31u64) {
         if *ours != *theirs {
             write!(text, " x{number}: {ours:#018x} for {theirs:#018x};")?;
         }
     }
-    if ours.sp != theirs.sp {
-        write!(text, " sp: {:#018x} for {:#018x};", ours.sp, theirs.sp)?;
-    }
-    if ours.pc != theirs.pc {
-        write!(text, " pc: {:#018x} for {:#018x};", ours.pc, theirs.pc)?;
-    }
+    compare_number(text, "sp", ours.sp, theirs.sp)?;
+    compare_number(text, "pc", ours.pc, theirs.pc)?;
     compare!(text, "flags", ours.flags, theirs.flags);
     compare!(text, "rgsr", ours.rgsr, theirs.rgsr);
     Ok(())

@@ -88,9 +88,7 @@ fn parse(alloc: Global, words: &[String]) -> Result<Option<CommandLine>, Error> 
         .num_args(0..)
         .action(ArgAction::Append);
     let command = Command::new(alloc, "mte_host")
-        .about(
-            "Runs a script of tenants, each on an Arm core with memory tagging, and prints its report",
-        )
+        .about("Runs a script of tenants on an Arm core with memory tagging, and reports on each")
         .arg(frames)?
         .arg(script)?
         .arg(files)?;

@@ -1,4 +1,4 @@
-use Rattle.a64_decode.proofs.Table.{means}
+use Rattle.a64_decode.proofs.Words.{means}
 use Rattle.a64_decode.proofs.decoder.words_mean.Goals as goal
 
 pub returns : goal.returns
