@@ -1,6 +1,6 @@
 -- The flag of a tenant that is running is clear between events: a slice ends where it is set.
 use Rattle.std.proofs.Common.{◌≡◌, ℕ, ◌+◌, ◌&&◌, Bool, true, false, List, [], ◌∷◌, Option, Some, None, cond, refl, ap, ◌∙◌}
-use Rattle.mte_tags.specs.Memory.{Memory, no_pages, with_new_pages}
+use Rattle.mte_tags.specs.Memory.{Memory, no_pages}
 use Rattle.mte_tags.specs.declared.state.TagMode.{TagMode}
 use Rattle.mte_tags.specs.declared.state.TagState.{TagState}
 use Rattle.mte_tags.proofs.StateLaws.{state-with_new_pages, state-written}

@@ -45,6 +45,12 @@ pub const UNTAGGED_WRITE: [u32; 9] = [
     0xD4000001,
 ];
 
+/// Stores a pair and a tag to the second granule of the stack, loads from it through the tagged
+/// pointer, then through the untagged.
+pub const PAIR_WITH_TAG: [u32; 7] = [
+    0xD2A7FFE0, 0x91403000, 0x9ADF1001, 0xD28000A2, 0x6900FC22, 0xF9400823, 0xF9400803,
+];
+
 /// Loads with base SP at an offset, which is not checked, then pre-indexed, which is.
 pub const PRE_INDEXED: [u32; 5] = [0xD10083FF, 0x9ADF13E1, 0xD9200BE1, 0xF94003E2, 0xF8400FE2];
 

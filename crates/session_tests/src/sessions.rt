@@ -2,7 +2,8 @@
 
 use crate::doubles::MemorySink;
 use crate::images::{
-    ACROSS, HI, ILLEGAL, PRE_INDEXED, UNALIGNED, UNTAGGED, UNTAGGED_EXIT, UNTAGGED_WRITE, image,
+    ACROSS, HI, ILLEGAL, PAIR_WITH_TAG, PRE_INDEXED, UNALIGNED, UNTAGGED, UNTAGGED_EXIT,
+    UNTAGGED_WRITE, image,
 };
 use mte_session::{ScriptFault, SessionError, run_session};
 use std::alloc::Global;
@@ -38,7 +39,7 @@ fn an_empty_script_has_an_empty_report(rt: HostRuntime) -> Result<(), Fail> {
 
 #[test]
 fn one_tenant_alone(rt: HostRuntime) -> Result<(), Fail> {
-    let cases: [(&[u32], &[u8], &[u8]); 8] = [
+    let cases: [(&[u32], &[u8], &[u8]); 9] = [
         (
             &HI,
             ADMIT,
@@ -59,6 +60,11 @@ fn one_tenant_alone(rt: HostRuntime) -> Result<(), Fail> {
             ADMIT,
             b"tenant 1\nstatus fault TagCheck read addr 0x000000003fffc000 ptr 0 mem 1 pc \
               0x0000000000010018\nsteps 7\noutput 0\nheap 0\nend\n",
+        ),
+        (
+            &PAIR_WITH_TAG,
+            ADMIT,
+            b"tenant 1\nstatus fault TagCheck read addr 0x000000003fffc010 ptr 0 mem 1 pc 0x0000000000010018\nsteps 7\noutput 0\nheap 0\nend\n",
         ),
         (
             &PRE_INDEXED,
