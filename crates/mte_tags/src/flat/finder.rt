@@ -22,10 +22,11 @@ pub struct Finder {
     places: Vec<Place>,
 }
 
+/// The first pages of two regions of 4096 pages differ in it.
 fn hash(page: u64) -> usize
     ensures { result < 64 }
 {
-    ((page % 64 + page / 512) % 64) as usize
+    ((page % 64 + page / 4096) % 64) as usize
 }
 
 impl Finder {
