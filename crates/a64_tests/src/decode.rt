@@ -115,7 +115,7 @@ const REFUSED: [u32; 7] = [
     0xD400_0021,
     // ADDG with bit 14 set.
     0x9180_4000,
-    // The pair with a tag in the place of the no-allocate pairs.
+    // Mode 0 of STGP, which is unallocated.
     0x6800_0000,
 ];
 
