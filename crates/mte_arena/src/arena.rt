@@ -87,10 +87,11 @@ impl Arena {
         }
     }
 
-    /// How many frames there are, present or not.
+    /// How many frames there are, present or not: at most 65536.
     pub fn frames(&self) -> usize
         ensures count { result ≡ length self.now }
         ensures sized { AreFrames self.now }
+        ensures few { length self.now ≤ MAX_FRAMES }
     {
         self.live.len()
     }

@@ -1,6 +1,6 @@
 //! Frames are reserved for quotas, and taken and given back under them.
 
-ghost use Rattle.std.specs.Prelude.{◌≡◌, ◌↔◌, ℕ, ◌+◌, ◌-◌, ◌<◌, ◌≤◌, List, Option, Some, None};
+ghost use Rattle.std.specs.Prelude.{◌≡◌, ◌≢◌, ◌↔◌, ℕ, ◌+◌, ◌-◌, ◌<◌, ◌≤◌, List, Option, Some, None};
 ghost use Rattle.std.specs.Prelude.{length, replicate, get_or, slice_set, sum, IfOk, IfErr, IsErr};
 ghost use Rattle.std.specs.Prelude.{OnErr, IfSome, IsTrue, vec_capacity};
 ghost use Rattle.std.specs.Borrow.{sem};
@@ -94,7 +94,7 @@ impl FramePool {
         })
     }
 
-    /// How many frames there are.
+    /// How many frames there are: at most 65536.
     pub fn frames(&self) -> usize
         ensures count { result ≡ length self.now.frames }
         ensures sized { AreFrames self.now.frames }
@@ -174,15 +174,18 @@ impl FramePool {
     }
 
     /// Takes a frame that is out under no quota, and makes its bytes and tags zero. While the quota
-    /// has something left there is one.
+    /// has something left there is one. What was out stays out.
     pub fn take(&mut self, quota: &mut Quota) -> usize
         requires { taken_by self.old quota.old < reserved_by self.old quota.old }
         ensures same { quota.new ≡ quota.old }
         ensures vacant { get_or self.old.owners result (Some 0) ≡ None }
+        ensures within { result < length self.old.frames }
         ensures pool { self.new
             ≡ make_pool (slice_set self.old.frames result (Some zero_frame))
             (slice_set self.old.owners result (Some quota.old)) self.old.reserved
             (slice_set self.old.taken quota.old (taken_by self.old quota.old + 1)) }
+        ensures out { IsOut self.new result quota.old }
+        ensures still_out { (f k : ℕ) → IsOut self.old f k → IsOut self.new f k }
         ensures others { KeepsOthers quota.old self.old self.new }
     {
         let Some(f) = self.free.pop() else {
@@ -194,13 +197,14 @@ impl FramePool {
         f
     }
 
-    /// Gives back the frame `f`, which is out under the quota.
+    /// Gives back the frame `f`, which is out under the quota. What else was out stays out.
     pub fn give(&mut self, quota: &mut Quota, f: usize)
         requires { IsOut self.old f quota.old }
         ensures same { quota.new ≡ quota.old }
         ensures pool { self.new
             ≡ make_pool self.old.frames (slice_set self.old.owners f None) self.old.reserved
             (slice_set self.old.taken quota.old (taken_by self.old quota.old - 1)) }
+        ensures still_out { (g k : ℕ) → g ≢ f → IsOut self.old g k → IsOut self.new g k }
         ensures others { KeepsOthers quota.old self.old self.new }
     {
         self.owners[f] = None;
@@ -221,6 +225,8 @@ impl FramePool {
     pub fn data_mut(&mut self, f: usize) -> &mut [u8]
         requires { IsTaken self.old f }
         ensures* writes_back { sem 𝓛 (lends_bytes self.entry f result) }
+        ensures others { (q : ℕ) (ws : List ℕ)
+            → IsOut self.old f q → KeepsOthers q self.old (with_bytes_at self.old f ws) }
         ensures value { result.now ≡ (frame_at self.old.frames f).bytes }
         ensures len { length result.now ≡ FRAME_BYTES }
     {
@@ -232,6 +238,8 @@ impl FramePool {
     pub fn block_mut(&mut self, f: usize) -> &mut [u8]
         requires { IsTaken self.old f }
         ensures* writes_back { sem 𝓛 (lends_block self.entry f result) }
+        ensures others { (q : ℕ) (ws : List ℕ)
+            → IsOut self.old f q → KeepsOthers q self.old (with_block_at self.old f ws) }
         ensures value { frame_of result.now ≡ frame_at self.old.frames f }
         ensures len { length result.now ≡ BLOCK_BYTES }
     {

@@ -1,4 +1,4 @@
-use Rattle.std.proofs.Common.{◌≡◌, ◌-◌, [], ◌∷◌, length, get_or, ap, ◌∙◌, arith, length-append}
+use Rattle.std.proofs.Common.{◌≡◌, ◌-◌, [], ◌∷◌, length, get_or, get_or-set_other, None, ap, ◌∙◌, arith, length-append}
 use Rattle.mte_frames.specs.Pool.{IsOut}
 use Rattle.mte_frames.specs.Whole.{pool_of}
 use Rattle.mte_frames.proofs.Counts.{any_default, owner_within, some_sum, sum-set}
@@ -33,3 +33,6 @@ invariant_of-self c =
       unreserved_count = h.unreserved_count;
       room = omega (arith, h.room, push.capacity);
     }
+
+pub returns-clause-still_out : goal.returns-clause-still_out
+returns-clause-still_out c = rw (← c.self.view_is) (λ g k d o. get_or-set_other c.self.inside.owners.items c.args.f g None None d ∙ o)

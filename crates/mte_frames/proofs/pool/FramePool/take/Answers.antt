@@ -1,10 +1,10 @@
 use Rattle.std.proofs.lemmas.List.{length-set}
-use Rattle.std.proofs.Common.{◌≡◌, ◌+◌, ◌<◌, [], ◌∷◌, length, get_or, Some, sym, ap, ◌∙◌, arith, length-append}
+use Rattle.std.proofs.Common.{◌≡◌, ◌+◌, ◌<◌, [], ◌∷◌, length, get_or, get_or-set_same, None, Some, sym, ap, ◌∙◌, arith, length-append}
 use Rattle.mte_arena.specs.Frames.{zero_frame}
 use Rattle.mte_frames.specs.Pool.{taken_by, reserved_by}
 use Rattle.mte_frames.specs.Whole.{pool_of}
 use Rattle.mte_frames.proofs.Counts.{any_default, vacant_within, sum-set}
-use Rattle.mte_frames.proofs.Keeps.{keeps_taken}
+use Rattle.mte_frames.proofs.Keeps.{keeps_taken, still_taken}
 use Rattle.mte_frames.proofs.Moves.{of_fields, popped_vacant, some_free, numbered, take_sound, take_free}
 use Rattle.mte_frames.proofs.pool.FramePool.take.Goals as goal
 
@@ -45,3 +45,15 @@ pub returns-clause-others : goal.returns-clause-others
 returns-clause-others c =
     let a = c.self.inside in let f = c.in-Some.f in let was = popped_vacant a.free.items c.pop.new.self.items a.owners.items f c.self.invariant.free_are c.in-Some.ensures.items in
     rw (← c.self.view_is, ← c.quota.view_is, c.scrub.ensures) (keeps_taken c.quota.inside.number f (c.index_mut-2.result.now + 1) (Some zero_frame) (pool_of a) (vacant_within a.owners.items f was) was)
+
+pub returns-clause-within : goal.returns-clause-within
+returns-clause-within c = let a = c.self.inside in let f = c.in-Some.f in let was = popped_vacant a.free.items c.pop.new.self.items a.owners.items f c.self.invariant.free_are c.in-Some.ensures.items in
+    rw (← c.self.view_is) (let within : f < length a.arena = omega (arith, vacant_within a.owners.items f was, c.self.invariant.sound.owners_len) in within)
+
+pub returns-clause-out : goal.returns-clause-out
+returns-clause-out c = let a = c.self.inside in let f = c.in-Some.f in let was = popped_vacant a.free.items c.pop.new.self.items a.owners.items f c.self.invariant.free_are c.in-Some.ensures.items in
+    rw (← c.quota.view_is) (get_or-set_same a.owners.items f (Some c.quota.inside.number) None (vacant_within a.owners.items f was))
+
+pub returns-clause-still_out : goal.returns-clause-still_out
+returns-clause-still_out c = let a = c.self.inside in let f = c.in-Some.f in let was = popped_vacant a.free.items c.pop.new.self.items a.owners.items f c.self.invariant.free_are c.in-Some.ensures.items in
+    rw (← c.self.view_is) (λ g k o. still_taken a.owners.items f c.quota.inside.number g k was (vacant_within a.owners.items f was) o)
