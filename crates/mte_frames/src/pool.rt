@@ -4,7 +4,8 @@ ghost use Rattle.std.specs.Prelude.{◌≡◌, ◌≢◌, ◌↔◌, ℕ, ◌+�
 ghost use Rattle.std.specs.Prelude.{length, replicate, get_or, slice_set, sum, IfOk, IfErr, IsErr};
 ghost use Rattle.std.specs.Prelude.{OnErr, IfSome, IsTrue, vec_capacity};
 ghost use Rattle.std.specs.Borrow.{sem};
-ghost use Rattle.mte_arena.specs.Frames.{frame_at, AreFrames, retagged, zero_frame};
+ghost use Rattle.mte_arena.specs.Frames.{frame_at, AreFrames, retagged, retagged_run};
+ghost use Rattle.mte_arena.specs.Frames.{zero_frame};
 ghost use Rattle.mte_arena.specs.Blocks.{frame_of, unpacked};
 ghost use Rattle.mte_frames.specs.Pool.{Pool, make_pool, with_bytes_at, with_block_at, unreserved};
 ghost use Rattle.mte_frames.specs.Pool.{reserved_by, taken_by, IsOut, IsTaken, IsSound};
@@ -279,6 +280,20 @@ impl FramePool {
         ensures others { (q : ℕ) → IsOut self.old f q → KeepsOthers q self.old self.new }
     {
         self.arena.set_tag(f, g, tag);
+    }
+
+    /// Sets the tags of the `count` granules from `first` on of the frame `f`, which is out. The
+    /// frame's bytes, its other tags and all other frames stay as they are.
+    pub fn set_tags(&mut self, f: usize, first: usize, count: usize, tag: u8)
+        requires out { IsTaken self.old f }
+        requires granules { first + count ≤ FRAME_GRANULES }
+        requires tag { tag < 16 }
+        ensures pool { self.new
+            ≡ make_pool (retagged_run self.old.frames f first count tag) self.old.owners
+            self.old.reserved self.old.taken }
+        ensures others { (q : ℕ) → IsOut self.old f q → KeepsOthers q self.old self.new }
+    {
+        self.arena.set_tags(f, first, count, tag);
     }
 }
 
