@@ -25,7 +25,7 @@ no_some : (k : ℕ) → ◌≡◌ {A = Option ℕ} None (Some k) → ⊥
 no_some k e = cc
 
 -- the counts of q alone change
-pub keeps_counts : (q r t : ℕ) (p : Pool) → KeepsOthers q p (make_pool p.frames p.owners (slice_set p.reserved q r) (slice_set p.taken q t))
+pub keeps_counts : (q r t : ℕ) (p : Pool) → KeepsOthers q p (make_pool p.capacities p.frames p.owners (slice_set p.reserved q r) (slice_set p.taken q t))
 keeps_counts q r t p = record {
   count = refl;
   counts = λ k n. (get_or-set_other p.reserved q k r 0 n, get_or-set_other p.taken q k t 0 n);
@@ -34,7 +34,7 @@ keeps_counts q r t p = record {
 }
 
 -- a frame that is out under q is written
-pub keeps_written : (q f : ℕ) (c : Option Frame) (p : Pool) → IsOut p f q → KeepsOthers q p (make_pool (slice_set p.frames f c) p.owners p.reserved p.taken)
+pub keeps_written : (q f : ℕ) (c : Option Frame) (p : Pool) → IsOut p f q → KeepsOthers q p (make_pool p.capacities (slice_set p.frames f c) p.owners p.reserved p.taken)
 keeps_written q f c p out = record {
   count = length-set p.frames f c;
   counts = λ k n. (refl, refl);
@@ -45,7 +45,7 @@ keeps_written q f c p out = record {
 -- the frame f, which is out under no other quota than q before and after, changes its owner and its content
 pub keeps_owner : (q f t : ℕ) (c : Option Frame) (old new : Option ℕ) (p : Pool) → f < length p.owners → get_or p.owners f None ≡ old
     → ((k : ℕ) → k ≢ q → (old ≡ Some k → ⊥) × (new ≡ Some k → ⊥)) → (fs : List (Option Frame)) → length fs ≡ length p.frames → ((g : ℕ) → g ≢ f → get_or fs g None ≡ get_or p.frames g None)
-    → KeepsOthers q p (make_pool fs (slice_set p.owners f new) p.reserved (slice_set p.taken q t))
+    → KeepsOthers q p (make_pool p.capacities fs (slice_set p.owners f new) p.reserved (slice_set p.taken q t))
 keeps_owner q f t c old new p within was apart fs long same = record {
   count = long;
   counts = λ k n. (refl, get_or-set_other p.taken q k t 0 n);
@@ -64,7 +64,7 @@ keeps_owner q f t c old new p within was apart fs long same = record {
 
 -- the frame f, which is out under no quota, is taken under q
 pub keeps_taken : (q f t : ℕ) (c : Option Frame) (p : Pool) → f < length p.owners → get_or p.owners f (Some 0) ≡ None
-    → KeepsOthers q p (make_pool (slice_set p.frames f c) (slice_set p.owners f (Some q)) p.reserved (slice_set p.taken q t))
+    → KeepsOthers q p (make_pool p.capacities (slice_set p.frames f c) (slice_set p.owners f (Some q)) p.reserved (slice_set p.taken q t))
 keeps_taken q f t c p within was = keeps_owner q f t c None (Some q) p within (any_default p.owners f None (Some 0) within ∙ was)
     (λ k n. (no_some k, λ e. n (sym (some_same q k e)))) (slice_set p.frames f c) (length-set p.frames f c) (λ g d. get_or-set_other p.frames f g c None d)
 

@@ -19,17 +19,22 @@ pub record Pool : Type 0 where
   pub owners : List (Option ℕ)
   pub reserved : List ℕ
   pub taken : List ℕ
+  -- for how many elements each of the pool's lists has memory
+  pub capacities : List ℕ
 
-abbrev pub make_pool : List (Option Frame) → List (Option ℕ) → List ℕ → List ℕ → Pool
-make_pool fs os rs ts = record { frames = fs; owners = os; reserved = rs; taken = ts }
+abbrev pub make_pool : List ℕ → List (Option Frame) → List (Option ℕ) → List ℕ → List ℕ → Pool
+make_pool cs fs os rs ts =
+    record { frames = fs; owners = os; reserved = rs; taken = ts; capacities = cs }
 
 -- the frame f with the bytes ws, and all else as it was
 abbrev pub with_bytes_at : Pool → ℕ → List ℕ → Pool
-with_bytes_at p f ws = make_pool (with_bytes p.frames f ws) p.owners p.reserved p.taken
+with_bytes_at p f ws =
+    make_pool p.capacities (with_bytes p.frames f ws) p.owners p.reserved p.taken
 
 -- the frame f with the bytes and tags of the block ws
 abbrev pub with_block_at : Pool → ℕ → List ℕ → Pool
-with_block_at p f ws = make_pool (with_block p.frames f ws) p.owners p.reserved p.taken
+with_block_at p f ws =
+    make_pool p.capacities (with_block p.frames f ws) p.owners p.reserved p.taken
 
 abbrev pub unreserved : Pool → ℕ
 unreserved p = length p.frames - sum p.reserved

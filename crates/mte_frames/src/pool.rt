@@ -40,7 +40,8 @@ impl Model for Quota {
     ghost view = { λ q. q.number };
 }
 
-/// An arena's frames, each out under one quota or under none. After `new` nothing allocates.
+/// An arena's frames, each out under one quota or under none. After `new` nothing allocates: no
+/// call changes for how many elements the pool's lists have memory.
 #[derive(Drop)]
 pub struct FramePool {
     arena: Arena,
@@ -71,8 +72,8 @@ impl FramePool {
     pub fn new(alloc: Global, arena: Arena) -> Result<FramePool, OutOfMemory>
         ensures ok { IfOk result
             (λ p. p
-            ≡ make_pool arena (replicate (length arena) None) (replicate (length arena) 0)
-            (replicate (length arena) 0)) }
+            ≡ make_pool p.capacities arena (replicate (length arena) None)
+            (replicate (length arena) 0) (replicate (length arena) 0)) }
         ensures err { IfErr result (λ e. e.arena ≡ arena) }
     {
         let frames = arena.frames();
@@ -145,8 +146,8 @@ impl FramePool {
             × (reserved_by self.old q ≡ 0) × (taken_by self.old q ≡ 0)) }
         ensures pool { IfOk result
             (λ q. self.new
-            ≡ make_pool self.old.frames self.old.owners (slice_set self.old.reserved q count)
-            self.old.taken) }
+            ≡ make_pool self.old.capacities self.old.frames self.old.owners
+            (slice_set self.old.reserved q count) self.old.taken) }
         ensures others { IfOk result (λ q. KeepsOthers q self.old self.new) }
     {
         if count > self.unreserved {
@@ -165,8 +166,8 @@ impl FramePool {
         requires reserved { 0 < reserved_by self.old quota }
         requires nothing_out { taken_by self.old quota ≡ 0 }
         ensures pool { self.new
-            ≡ make_pool self.old.frames self.old.owners (slice_set self.old.reserved quota 0)
-            self.old.taken }
+            ≡ make_pool self.old.capacities self.old.frames self.old.owners
+            (slice_set self.old.reserved quota 0) self.old.taken }
         ensures others { KeepsOthers quota self.old self.new }
     {
         let Quota { number } = quota;
@@ -182,7 +183,7 @@ impl FramePool {
         ensures vacant { get_or self.old.owners result (Some 0) ≡ None }
         ensures within { result < length self.old.frames }
         ensures pool { self.new
-            ≡ make_pool (slice_set self.old.frames result (Some zero_frame))
+            ≡ make_pool self.old.capacities (slice_set self.old.frames result (Some zero_frame))
             (slice_set self.old.owners result (Some quota.old)) self.old.reserved
             (slice_set self.old.taken quota.old (taken_by self.old quota.old + 1)) }
         ensures out { IsOut self.new result quota.old }
@@ -203,8 +204,8 @@ impl FramePool {
         requires { IsOut self.old f quota.old }
         ensures same { quota.new ≡ quota.old }
         ensures pool { self.new
-            ≡ make_pool self.old.frames (slice_set self.old.owners f None) self.old.reserved
-            (slice_set self.old.taken quota.old (taken_by self.old quota.old - 1)) }
+            ≡ make_pool self.old.capacities self.old.frames (slice_set self.old.owners f None)
+            self.old.reserved (slice_set self.old.taken quota.old (taken_by self.old quota.old - 1)) }
         ensures still_out { (g k : ℕ) → g ≢ f → IsOut self.old g k → IsOut self.new g k }
         ensures others { KeepsOthers quota.old self.old self.new }
     {
@@ -275,8 +276,8 @@ impl FramePool {
         requires granule { g < FRAME_GRANULES }
         requires tag { tag < 16 }
         ensures pool { self.new
-            ≡ make_pool (retagged self.old.frames f g tag) self.old.owners self.old.reserved
-            self.old.taken }
+            ≡ make_pool self.old.capacities (retagged self.old.frames f g tag) self.old.owners
+            self.old.reserved self.old.taken }
         ensures others { (q : ℕ) → IsOut self.old f q → KeepsOthers q self.old self.new }
     {
         self.arena.set_tag(f, g, tag);
@@ -289,8 +290,8 @@ impl FramePool {
         requires granules { first + count ≤ FRAME_GRANULES }
         requires tag { tag < 16 }
         ensures pool { self.new
-            ≡ make_pool (retagged_run self.old.frames f first count tag) self.old.owners
-            self.old.reserved self.old.taken }
+            ≡ make_pool self.old.capacities (retagged_run self.old.frames f first count tag)
+            self.old.owners self.old.reserved self.old.taken }
         ensures others { (q : ℕ) → IsOut self.old f q → KeepsOthers q self.old self.new }
     {
         self.arena.set_tags(f, first, count, tag);

@@ -27,7 +27,7 @@ invariant_of-self c =
     let within = give_numbered p h.sound q f out in let push = c.push_reserved.ensures in
     let same : c.index_mut-2.result.now ≡ get_or a.taken.items q 0 = c.index_mut-2.ensures.value ∙ any_default a.taken.items q c.index_mut-2.result.now 0 within in
     record {
-      sound = rw same (give_sound p h.sound q f out);
+      sound = rw (same, push.capacity) (give_sound p h.sound q f out);
       free_are = rw push.items (give_free a.free.items a.owners.items f q h.free_are (owner_within a.owners.items f q out) (held_is p h.sound q f out));
       free_count = omega (arith, h.free_count, ap length push.items, length-append a.free.items (f ∷ []), same, one_taken p h.sound q f out, sum-set a.taken.items q (c.index_mut-2.result.now - 1) within);
       unreserved_count = h.unreserved_count;

@@ -34,7 +34,7 @@ invariant_of-self c =
     let same : c.index_mut-2.result.now ≡ get_or a.taken.items q 0 = c.index_mut-2.ensures.value ∙ any_default a.taken.items q c.index_mut-2.result.now 0 within in
     let long = ap length c.scrub.ensures ∙ length-set a.arena f (Some zero_frame) in
     record {
-      sound = rw (c.scrub.ensures, same) (take_sound (pool_of a) h.sound q f was left);
+      sound = rw (c.scrub.ensures, same, c.pop.ensures.capacity) (take_sound (pool_of a) h.sound q f was left);
       free_are = take_free a.free.items rest a.owners.items f q h.free_are e was;
       free_count = omega (arith, h.free_count, ap length e, length-append rest (f ∷ []), long, same, sum-set a.taken.items q (c.index_mut-2.result.now + 1) within);
       unreserved_count = h.unreserved_count ∙ sym long;
@@ -44,7 +44,7 @@ invariant_of-self c =
 pub returns-clause-others : goal.returns-clause-others
 returns-clause-others c =
     let a = c.self.inside in let f = c.in-Some.f in let was = popped_vacant a.free.items c.pop.new.self.items a.owners.items f c.self.invariant.free_are c.in-Some.ensures.items in
-    rw (← c.self.view_is, ← c.quota.view_is, c.scrub.ensures) (keeps_taken c.quota.inside.number f (c.index_mut-2.result.now + 1) (Some zero_frame) (pool_of a) (vacant_within a.owners.items f was) was)
+    rw (← c.self.view_is, ← c.quota.view_is, c.scrub.ensures, c.pop.ensures.capacity) (keeps_taken c.quota.inside.number f (c.index_mut-2.result.now + 1) (Some zero_frame) (pool_of a) (vacant_within a.owners.items f was) was)
 
 pub returns-clause-within : goal.returns-clause-within
 returns-clause-within c = let a = c.self.inside in let f = c.in-Some.f in let was = popped_vacant a.free.items c.pop.new.self.items a.owners.items f c.self.invariant.free_are c.in-Some.ensures.items in
