@@ -205,7 +205,8 @@ impl FramePool {
         ensures same { quota.new ≡ quota.old }
         ensures pool { self.new
             ≡ make_pool self.old.capacities self.old.frames (slice_set self.old.owners f None)
-            self.old.reserved (slice_set self.old.taken quota.old (taken_by self.old quota.old - 1)) }
+            self.old.reserved
+            (slice_set self.old.taken quota.old (taken_by self.old quota.old - 1)) }
         ensures still_out { (g k : ℕ) → g ≢ f → IsOut self.old g k → IsOut self.new g k }
         ensures others { KeepsOthers quota.old self.old self.new }
     {
