@@ -1,6 +1,7 @@
 pub mod Frames
 pub mod Memory
 pub mod Parts
+pub mod Runs
 pub mod Sharing
 pub mod Steps
 pub mod Tags

@@ -29,6 +29,7 @@ still_arena a f i n ws h there within =
       right_alloc = h.right_alloc;
       live = h.live ∙ sym (presence-written cs f there.0 new there.1);
       sized = written_sized cs f new h.sized (length-with_part (block_at cs f) i n ws (omega (arith, within, whole)) ∙ whole);
+      few = omega (arith, h.few, long);
     }
 
 nothing_left : (xs : List ℕ) → length xs ≡ 0 → xs ≡ []

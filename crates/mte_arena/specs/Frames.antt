@@ -5,9 +5,10 @@
 --     zero_frame        4096 zero bytes and 256 tags 0
 --     with_bytes fs f ws        fs with other bytes in the frame f
 --     retagged fs f g t         fs with another tag there
+--     retagged_run fs f g n t   fs with another tag at the n granules from g on
 --     AreFrames fs      each frame that is present has 4096 bytes and 256 tags, each below 16
-use Rattle.std.specs.Prelude.{◌≡◌, ℕ, ◌<◌, List, length, replicate, get_or, slice_set, Option, Some}
-use Rattle.std.specs.Prelude.{None}
+use Rattle.std.specs.Prelude.{◌≡◌, ℕ, ◌+◌, ◌<◌, List, ◌++◌, length, take, drop, replicate, get_or}
+use Rattle.std.specs.Prelude.{slice_set, Option, Some, None}
 use Rattle.std.specs.List.{refill}
 
 -- a frame's bytes, and the allocation tags of its granules of 16 bytes
@@ -48,3 +49,13 @@ with_bytes fs f ws =
 abbrev pub retagged : List (Option Frame) → ℕ → ℕ → ℕ → List (Option Frame)
 retagged fs f g t =
     slice_set fs f (Some (make_frame (frame_at fs f).bytes (slice_set (frame_at fs f).tags g t)))
+
+-- the list with t in the place of its n elements from g on
+abbrev pub with_run : List ℕ → ℕ → ℕ → ℕ → List ℕ
+with_run ts g n t = take g ts ++ (replicate n t ++ drop (g + n) ts)
+
+-- the n granules from g on of the frame f have the tag t, and all else is as it was
+abbrev pub retagged_run : List (Option Frame) → ℕ → ℕ → ℕ → ℕ → List (Option Frame)
+retagged_run fs f g n t =
+    let tags = with_run (frame_at fs f).tags g n t in
+    slice_set fs f (Some (make_frame (frame_at fs f).bytes tags))

@@ -1,5 +1,6 @@
 -- What holds of the fields of an arena.
-use Rattle.std.specs.Prelude.{◌≡◌, length}
+use Rattle.std.specs.Prelude.{◌≡◌, ◌≤◌, length}
+use Rattle.address_map.specs.declared.limits.TheConstants.{MAX_FRAMES}
 use Rattle.mte_arena.specs.Blocks.{presence, AreBlocks}
 use Rattle.mte_arena.specs.declared.arena.Arena.TheInside.{Inside}
 
@@ -10,3 +11,4 @@ pub record IsArena (a : Inside) : Type 0 where
   pub right_alloc : a.right.alloc ≡ a.alloc
   pub live : a.live.items ≡ presence a.region.blocks
   pub sized : AreBlocks a.region.blocks
+  pub few : length a.region.blocks ≤ MAX_FRAMES

@@ -3,9 +3,11 @@
 ghost use Rattle.std.specs.Prelude.{◌≡◌, ◌↔◌, ℕ, ◌+◌, ◌<◌, ◌≤◌, List, Option, Some, None, length};
 ghost use Rattle.std.specs.Prelude.{replicate, get_or, slice_set, slice_index, IfOk, IsTrue};
 ghost use Rattle.std.specs.Borrow.{sem};
-ghost use Rattle.mte_arena.specs.Frames.{Frame, IsLive, AreFrames, frame_at, retagged, zero_frame};
-ghost use Rattle.mte_arena.specs.Blocks.{half, unpacked, frame_of};
+ghost use Rattle.mte_arena.specs.Frames.{Frame, IsLive, AreFrames, frame_at, retagged};
+ghost use Rattle.mte_arena.specs.Frames.{retagged_run, zero_frame};
+ghost use Rattle.mte_arena.specs.Blocks.{unpacked, frame_of};
 
+use crate::packed::{half_of, set_half, set_run};
 use crate::region::{FreeingRight, Region, RegionStart, allocate, deallocate};
 use address_map::{MAX_FRAMES, PAGE_SIZE};
 use std::alloc::Global;
@@ -87,10 +89,11 @@ impl Arena {
         }
     }
 
-    /// How many frames there are, present or not.
+    /// How many frames there are, present or not: at most 65536.
     pub fn frames(&self) -> usize
         ensures count { result ≡ length self.now }
         ensures sized { AreFrames self.now }
+        ensures few { length self.now ≤ MAX_FRAMES }
     {
         self.live.len()
     }
@@ -175,7 +178,19 @@ impl Arena {
         ensures { self.new ≡ retagged self.old f g tag }
     {
         let packed = self.region.part_mut(self.start, f, FRAME_BYTES, TAG_BYTES);
-        packed[g / 2] = with_half(packed[g / 2], g, tag);
+        set_half(packed, g, tag);
+    }
+
+    /// Sets the tags of the `count` granules from `first` on of the frame `f`, which is present.
+    /// The frame's bytes, its other tags and all other frames stay as they are.
+    pub fn set_tags(&mut self, f: usize, first: usize, count: usize, tag: u8)
+        requires live { IsLive self.old f }
+        requires granules { first + count ≤ FRAME_GRANULES }
+        requires tag { tag < 16 }
+        ensures { self.new ≡ retagged_run self.old f first count tag }
+    {
+        let packed = self.region.part_mut(self.start, f, FRAME_BYTES, TAG_BYTES);
+        set_run(packed, first, count, tag);
     }
 }
 
@@ -189,24 +204,5 @@ impl Drop for Arena {
             alloc,
         } = self;
         deallocate(&alloc, start, live.len(), region, right);
-    }
-}
-
-/// An even granule's tag is the low half of its byte, an odd one's the high half.
-fn half_of(byte: u8, g: usize) -> u8
-    ensures { result ≡ half byte g }
-{
-    if g % 2 == 0 { byte % 16 } else { byte / 16 }
-}
-
-fn with_half(byte: u8, g: usize, tag: u8) -> u8
-    requires { tag < 16 }
-    ensures own { half result g ≡ tag }
-    ensures other { half result (g + 1) ≡ half byte (g + 1) }
-{
-    if g % 2 == 0 {
-        byte / 16 * 16 + tag
-    } else {
-        tag * 16 + byte % 16
     }
 }

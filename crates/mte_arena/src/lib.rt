@@ -3,6 +3,7 @@
 #![tactic(auto)]
 
 mod arena;
+mod packed;
 mod region;
 
 pub use arena::{Arena, ArenaError, BLOCK_BYTES, FRAME_BYTES, FRAME_GRANULES};

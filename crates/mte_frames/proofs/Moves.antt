@@ -2,6 +2,7 @@
 use Rattle.std.proofs.lemmas.List.{length-set, length-replicate}
 use Rattle.std.specs.Prelude.{◌≢◌, sum, get_or, slice_set}
 use Rattle.std.proofs.Common.{◌≡◌, ℕ, zero, suc, ◌+◌, ◌-◌, ◌<◌, ◌≤◌, List, [], ◌∷◌, ◌++◌, length, replicate, Option, Some, None, refl, sym, ap, ◌∙◌, subst, arith, inl, inr, get_or-set_same, get_or-set_other}
+use Rattle.address_map.specs.declared.limits.TheConstants.{MAX_FRAMES}
 use Rattle.mte_arena.specs.Frames.{Frame, IsLive, zero_frame}
 use Rattle.mte_frames.specs.Pool.{Pool, make_pool, unreserved, reserved_by, taken_by, IsOut, IsSound, is_owned, owned_by}
 use Rattle.mte_frames.specs.Whole.{times, vacant, pool_of, IsPool}
@@ -43,8 +44,9 @@ other_owned : (k q : ℕ) → k ≢ q → is_owned k None ≡ is_owned k (Some q
 other_owned k q d = sym (never k q d)
 
 module _ (p : Pool) (h : IsSound p) (q : ℕ) where
-  pub reserve_sound : (count : ℕ) → q < length p.reserved → reserved_by p q ≡ 0 → count ≤ unreserved p → IsSound (make_pool p.frames p.owners (slice_set p.reserved q count) p.taken)
+  pub reserve_sound : (count : ℕ) → q < length p.reserved → reserved_by p q ≡ 0 → count ≤ unreserved p → IsSound (make_pool p.capacities p.frames p.owners (slice_set p.reserved q count) p.taken)
   reserve_sound count within unused fits = record {
+    few = h.few;
     owners_len = h.owners_len;
     reserved_len = length-set p.reserved q count ∙ h.reserved_len;
     taken_len = h.taken_len;
@@ -54,8 +56,9 @@ module _ (p : Pool) (h : IsSound p) (q : ℕ) where
     live = h.live;
   }
 
-  pub release_sound : q < length p.reserved → taken_by p q ≡ 0 → IsSound (make_pool p.frames p.owners (slice_set p.reserved q 0) p.taken)
+  pub release_sound : q < length p.reserved → taken_by p q ≡ 0 → IsSound (make_pool p.capacities p.frames p.owners (slice_set p.reserved q 0) p.taken)
   release_sound within none = record {
+    few = h.few;
     owners_len = h.owners_len;
     reserved_len = length-set p.reserved q 0 ∙ h.reserved_len;
     taken_len = h.taken_len;
@@ -70,10 +73,11 @@ module _ (p : Pool) (h : IsSound p) (q : ℕ) where
   numbered left = omega (arith, within_of p.reserved q (omega (arith, left)), h.taken_len, h.reserved_len)
 
   pub take_sound : (f : ℕ) → get_or p.owners f (Some 0) ≡ None → taken_by p q < reserved_by p q
-      → IsSound (make_pool (slice_set p.frames f (Some zero_frame)) (slice_set p.owners f (Some q)) p.reserved (slice_set p.taken q (taken_by p q + 1)))
+      → IsSound (make_pool p.capacities (slice_set p.frames f (Some zero_frame)) (slice_set p.owners f (Some q)) p.reserved (slice_set p.taken q (taken_by p q + 1)))
   take_sound f was left =
       let within = numbered left in let inside = vacant_within p.owners f was in let long = length-set p.frames f (Some zero_frame) in
       record {
+        few = omega (arith, h.few, long);
         owners_len = length-set p.owners f (Some q) ∙ h.owners_len ∙ sym long;
         reserved_len = h.reserved_len ∙ sym long;
         taken_len = length-set p.taken q (taken_by p q + 1) ∙ h.taken_len ∙ sym long;
@@ -99,8 +103,9 @@ module _ (p : Pool) (h : IsSound p) (q : ℕ) where
     pub give_numbered : q < length p.taken
     give_numbered = within_of p.taken q one_taken
 
-    pub give_sound : IsSound (make_pool p.frames (slice_set p.owners f None) p.reserved (slice_set p.taken q (taken_by p q - 1)))
+    pub give_sound : IsSound (make_pool p.capacities p.frames (slice_set p.owners f None) p.reserved (slice_set p.taken q (taken_by p q - 1)))
     give_sound = record {
+      few = h.few;
       owners_len = length-set p.owners f None ∙ h.owners_len;
       reserved_len = h.reserved_len;
       taken_len = length-set p.taken q (taken_by p q - 1) ∙ h.taken_len;
@@ -114,8 +119,9 @@ module _ (p : Pool) (h : IsSound p) (q : ℕ) where
     }
 
 -- a frame is written
-pub written_sound : (p : Pool) (f : ℕ) (c : Frame) → IsSound p → IsSound (make_pool (slice_set p.frames f (Some c)) p.owners p.reserved p.taken)
+pub written_sound : (p : Pool) (f : ℕ) (c : Frame) → IsSound p → IsSound (make_pool p.capacities (slice_set p.frames f (Some c)) p.owners p.reserved p.taken)
 written_sound p f c h = let long = length-set p.frames f (Some c) in record {
+  few = omega (arith, h.few, long);
   owners_len = h.owners_len ∙ sym long;
   reserved_len = h.reserved_len ∙ sym long;
   taken_len = h.taken_len ∙ sym long;
@@ -180,8 +186,9 @@ written_pool a f c h = let long = length-set a.arena f (Some c) in record {
 pub of_fields : (P : Pool → ℕ → Type 0) (a : Inside) (p : Pool) (q k : ℕ) → pool_of a ≡ p → k ≡ q → P p q → P (pool_of a) k
 of_fields P a p q k e d h = subst (λ j. P (pool_of a) j) (sym d) (subst (λ x. P x q) (sym e) h)
 
-pub fresh_sound : (fs : List (Option Frame)) → let n : ℕ = length fs in IsSound (make_pool fs (replicate n None) (replicate n 0) (replicate n 0))
-fresh_sound fs = let n = length fs in record {
+pub fresh_sound : (cs : List ℕ) (fs : List (Option Frame)) → length fs ≤ MAX_FRAMES → let n : ℕ = length fs in IsSound (make_pool cs fs (replicate n None) (replicate n 0) (replicate n 0))
+fresh_sound cs fs few = let n = length fs in record {
+  few = few;
   owners_len = length-replicate n None;
   reserved_len = length-replicate {A = ℕ} n 0;
   taken_len = length-replicate {A = ℕ} n 0;

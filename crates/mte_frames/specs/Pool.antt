@@ -10,6 +10,7 @@
 --     KeepsOthers q p n     from p to n all other quotas, and the frames out under them, stay
 use Rattle.std.specs.Prelude.{◌≡◌, ◌≢◌, ◌↔◌, ℕ, ◌+◌, ◌-◌, ◌≤◌, if◌then◌else◌, nat_eq, List, [], ◌∷◌}
 use Rattle.std.specs.Prelude.{length, sum, get_or, Option, Some, None}
+use Rattle.address_map.specs.declared.limits.TheConstants.{MAX_FRAMES}
 use Rattle.mte_arena.specs.Blocks.{with_block}
 use Rattle.mte_arena.specs.Frames.{Frame, IsLive, with_bytes}
 
@@ -18,17 +19,22 @@ pub record Pool : Type 0 where
   pub owners : List (Option ℕ)
   pub reserved : List ℕ
   pub taken : List ℕ
+  -- for how many elements each of the pool's lists has memory
+  pub capacities : List ℕ
 
-abbrev pub make_pool : List (Option Frame) → List (Option ℕ) → List ℕ → List ℕ → Pool
-make_pool fs os rs ts = record { frames = fs; owners = os; reserved = rs; taken = ts }
+abbrev pub make_pool : List ℕ → List (Option Frame) → List (Option ℕ) → List ℕ → List ℕ → Pool
+make_pool cs fs os rs ts =
+    record { frames = fs; owners = os; reserved = rs; taken = ts; capacities = cs }
 
 -- the frame f with the bytes ws, and all else as it was
 abbrev pub with_bytes_at : Pool → ℕ → List ℕ → Pool
-with_bytes_at p f ws = make_pool (with_bytes p.frames f ws) p.owners p.reserved p.taken
+with_bytes_at p f ws =
+    make_pool p.capacities (with_bytes p.frames f ws) p.owners p.reserved p.taken
 
 -- the frame f with the bytes and tags of the block ws
 abbrev pub with_block_at : Pool → ℕ → List ℕ → Pool
-with_block_at p f ws = make_pool (with_block p.frames f ws) p.owners p.reserved p.taken
+with_block_at p f ws =
+    make_pool p.capacities (with_block p.frames f ws) p.owners p.reserved p.taken
 
 abbrev pub unreserved : Pool → ℕ
 unreserved p = length p.frames - sum p.reserved
@@ -56,6 +62,7 @@ owned_by q [] = 0
 owned_by q (c ∷ cs) = is_owned q c + owned_by q cs
 
 pub record IsSound (p : Pool) : Type 0 where
+  pub few : length p.frames ≤ MAX_FRAMES
   -- there is a place for each frame and for each number of a quota, of which there are as many
   pub owners_len : length p.owners ≡ length p.frames
   pub reserved_len : length p.reserved ≡ length p.frames
@@ -68,6 +75,8 @@ pub record IsSound (p : Pool) : Type 0 where
   pub live : (f q : ℕ) → IsOut p f q → IsLive p.frames f
 
 pub record KeepsOthers (q : ℕ) (p n : Pool) : Type 0 where
+  -- how many frames there are
+  pub count : length n.frames ≡ length p.frames
   -- their counts
   pub counts : (k : ℕ) → k ≢ q → (reserved_by n k ≡ reserved_by p k) × (taken_by n k ≡ taken_by p k)
   -- which frames are out under them

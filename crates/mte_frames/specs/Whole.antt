@@ -15,7 +15,10 @@ vacant None = 1
 vacant (Some k) = 0
 
 abbrev pub pool_of : Inside → Pool
-pool_of a = make_pool a.arena a.owners.items a.reserved.items a.taken.items
+pool_of a =
+    let counts = vec_capacity a.reserved ∷ vec_capacity a.taken ∷ [] in
+    let capacities = vec_capacity a.free ∷ vec_capacity a.owners ∷ counts in
+    make_pool capacities a.arena a.owners.items a.reserved.items a.taken.items
 
 pub record IsPool (a : Inside) : Type 0 where
   pub sound : IsSound (pool_of a)

@@ -1,10 +1,11 @@
 //! Frames are reserved for quotas, and taken and given back under them.
 
-ghost use Rattle.std.specs.Prelude.{◌≡◌, ◌↔◌, ℕ, ◌+◌, ◌-◌, ◌<◌, ◌≤◌, List, Option, Some, None};
+ghost use Rattle.std.specs.Prelude.{◌≡◌, ◌≢◌, ◌↔◌, ℕ, ◌+◌, ◌-◌, ◌<◌, ◌≤◌, List, Option, Some, None};
 ghost use Rattle.std.specs.Prelude.{length, replicate, get_or, slice_set, sum, IfOk, IfErr, IsErr};
 ghost use Rattle.std.specs.Prelude.{OnErr, IfSome, IsTrue, vec_capacity};
 ghost use Rattle.std.specs.Borrow.{sem};
-ghost use Rattle.mte_arena.specs.Frames.{frame_at, AreFrames, retagged, zero_frame};
+ghost use Rattle.mte_arena.specs.Frames.{frame_at, AreFrames, retagged, retagged_run};
+ghost use Rattle.mte_arena.specs.Frames.{zero_frame};
 ghost use Rattle.mte_arena.specs.Blocks.{frame_of, unpacked};
 ghost use Rattle.mte_frames.specs.Pool.{Pool, make_pool, with_bytes_at, with_block_at, unreserved};
 ghost use Rattle.mte_frames.specs.Pool.{reserved_by, taken_by, IsOut, IsTaken, IsSound};
@@ -39,7 +40,8 @@ impl Model for Quota {
     ghost view = { λ q. q.number };
 }
 
-/// An arena's frames, each out under one quota or under none. After `new` nothing allocates.
+/// An arena's frames, each out under one quota or under none. After `new` nothing allocates: no
+/// call changes for how many elements the pool's lists have memory.
 #[derive(Drop)]
 pub struct FramePool {
     arena: Arena,
@@ -70,8 +72,8 @@ impl FramePool {
     pub fn new(alloc: Global, arena: Arena) -> Result<FramePool, OutOfMemory>
         ensures ok { IfOk result
             (λ p. p
-            ≡ make_pool arena (replicate (length arena) None) (replicate (length arena) 0)
-            (replicate (length arena) 0)) }
+            ≡ make_pool p.capacities arena (replicate (length arena) None)
+            (replicate (length arena) 0) (replicate (length arena) 0)) }
         ensures err { IfErr result (λ e. e.arena ≡ arena) }
     {
         let frames = arena.frames();
@@ -94,7 +96,7 @@ impl FramePool {
         })
     }
 
-    /// How many frames there are.
+    /// How many frames there are: at most 65536.
     pub fn frames(&self) -> usize
         ensures count { result ≡ length self.now.frames }
         ensures sized { AreFrames self.now.frames }
@@ -144,8 +146,8 @@ impl FramePool {
             × (reserved_by self.old q ≡ 0) × (taken_by self.old q ≡ 0)) }
         ensures pool { IfOk result
             (λ q. self.new
-            ≡ make_pool self.old.frames self.old.owners (slice_set self.old.reserved q count)
-            self.old.taken) }
+            ≡ make_pool self.old.capacities self.old.frames self.old.owners
+            (slice_set self.old.reserved q count) self.old.taken) }
         ensures others { IfOk result (λ q. KeepsOthers q self.old self.new) }
     {
         if count > self.unreserved {
@@ -164,8 +166,8 @@ impl FramePool {
         requires reserved { 0 < reserved_by self.old quota }
         requires nothing_out { taken_by self.old quota ≡ 0 }
         ensures pool { self.new
-            ≡ make_pool self.old.frames self.old.owners (slice_set self.old.reserved quota 0)
-            self.old.taken }
+            ≡ make_pool self.old.capacities self.old.frames self.old.owners
+            (slice_set self.old.reserved quota 0) self.old.taken }
         ensures others { KeepsOthers quota self.old self.new }
     {
         let Quota { number } = quota;
@@ -174,15 +176,18 @@ impl FramePool {
     }
 
     /// Takes a frame that is out under no quota, and makes its bytes and tags zero. While the quota
-    /// has something left there is one.
+    /// has something left there is one. What was out stays out.
     pub fn take(&mut self, quota: &mut Quota) -> usize
         requires { taken_by self.old quota.old < reserved_by self.old quota.old }
         ensures same { quota.new ≡ quota.old }
         ensures vacant { get_or self.old.owners result (Some 0) ≡ None }
+        ensures within { result < length self.old.frames }
         ensures pool { self.new
-            ≡ make_pool (slice_set self.old.frames result (Some zero_frame))
+            ≡ make_pool self.old.capacities (slice_set self.old.frames result (Some zero_frame))
             (slice_set self.old.owners result (Some quota.old)) self.old.reserved
             (slice_set self.old.taken quota.old (taken_by self.old quota.old + 1)) }
+        ensures out { IsOut self.new result quota.old }
+        ensures still_out { (f k : ℕ) → IsOut self.old f k → IsOut self.new f k }
         ensures others { KeepsOthers quota.old self.old self.new }
     {
         let Some(f) = self.free.pop() else {
@@ -194,13 +199,15 @@ impl FramePool {
         f
     }
 
-    /// Gives back the frame `f`, which is out under the quota.
+    /// Gives back the frame `f`, which is out under the quota. What else was out stays out.
     pub fn give(&mut self, quota: &mut Quota, f: usize)
         requires { IsOut self.old f quota.old }
         ensures same { quota.new ≡ quota.old }
         ensures pool { self.new
-            ≡ make_pool self.old.frames (slice_set self.old.owners f None) self.old.reserved
+            ≡ make_pool self.old.capacities self.old.frames (slice_set self.old.owners f None)
+            self.old.reserved
             (slice_set self.old.taken quota.old (taken_by self.old quota.old - 1)) }
+        ensures still_out { (g k : ℕ) → g ≢ f → IsOut self.old g k → IsOut self.new g k }
         ensures others { KeepsOthers quota.old self.old self.new }
     {
         self.owners[f] = None;
@@ -221,6 +228,8 @@ impl FramePool {
     pub fn data_mut(&mut self, f: usize) -> &mut [u8]
         requires { IsTaken self.old f }
         ensures* writes_back { sem 𝓛 (lends_bytes self.entry f result) }
+        ensures others { (q : ℕ) (ws : List ℕ)
+            → IsOut self.old f q → KeepsOthers q self.old (with_bytes_at self.old f ws) }
         ensures value { result.now ≡ (frame_at self.old.frames f).bytes }
         ensures len { length result.now ≡ FRAME_BYTES }
     {
@@ -232,6 +241,8 @@ impl FramePool {
     pub fn block_mut(&mut self, f: usize) -> &mut [u8]
         requires { IsTaken self.old f }
         ensures* writes_back { sem 𝓛 (lends_block self.entry f result) }
+        ensures others { (q : ℕ) (ws : List ℕ)
+            → IsOut self.old f q → KeepsOthers q self.old (with_block_at self.old f ws) }
         ensures value { frame_of result.now ≡ frame_at self.old.frames f }
         ensures len { length result.now ≡ BLOCK_BYTES }
     {
@@ -266,11 +277,25 @@ impl FramePool {
         requires granule { g < FRAME_GRANULES }
         requires tag { tag < 16 }
         ensures pool { self.new
-            ≡ make_pool (retagged self.old.frames f g tag) self.old.owners self.old.reserved
-            self.old.taken }
+            ≡ make_pool self.old.capacities (retagged self.old.frames f g tag) self.old.owners
+            self.old.reserved self.old.taken }
         ensures others { (q : ℕ) → IsOut self.old f q → KeepsOthers q self.old self.new }
     {
         self.arena.set_tag(f, g, tag);
+    }
+
+    /// Sets the tags of the `count` granules from `first` on of the frame `f`, which is out. The
+    /// frame's bytes, its other tags and all other frames stay as they are.
+    pub fn set_tags(&mut self, f: usize, first: usize, count: usize, tag: u8)
+        requires out { IsTaken self.old f }
+        requires granules { first + count ≤ FRAME_GRANULES }
+        requires tag { tag < 16 }
+        ensures pool { self.new
+            ≡ make_pool self.old.capacities (retagged_run self.old.frames f first count tag)
+            self.old.owners self.old.reserved self.old.taken }
+        ensures others { (q : ℕ) → IsOut self.old f q → KeepsOthers q self.old self.new }
+    {
+        self.arena.set_tags(f, first, count, tag);
     }
 }
 

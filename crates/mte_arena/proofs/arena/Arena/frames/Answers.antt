@@ -1,4 +1,4 @@
-use Rattle.std.proofs.Common.{ap, ◌∙◌, sym, length}
+use Rattle.std.proofs.Common.{ap, ◌∙◌, sym, arith, length}
 use Rattle.std.proofs.lemmas.List.{length-map}
 use Rattle.mte_arena.specs.Blocks.{frame_if, is_there}
 use Rattle.mte_arena.proofs.Frames.{are_frames}
@@ -10,3 +10,6 @@ returns-clause-count c = let cs = c.self.inside.region.blocks in
 
 pub returns-clause-sized : goal.returns-clause-sized
 returns-clause-sized c = rw (← c.self.view_is) (are_frames c.self.inside.region.blocks c.self.invariant.sized)
+
+pub returns-clause-few : goal.returns-clause-few
+returns-clause-few c = let cs = c.self.inside.region.blocks in omega (arith, c.self.invariant.few, length-map cs frame_if, ap length c.self.view_is)

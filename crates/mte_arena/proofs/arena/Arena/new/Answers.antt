@@ -1,4 +1,4 @@
-use Rattle.std.proofs.Common.{sym, ap, ◌∙◌, length, None}
+use Rattle.std.proofs.Common.{sym, ap, ◌∙◌, arith, length, None}
 use Rattle.std.proofs.lemmas.List.{length-replicate}
 use Rattle.mte_arena.specs.Blocks.{frame_if, frames_of, is_there, presence}
 use Rattle.mte_arena.proofs.Frames.{map-replicate, none_sized}
@@ -13,6 +13,7 @@ invariant_of-result c = let e = c.in-Ok-allocate.ensures in let n = c.args.frame
       right_alloc = e.4;
       live = c.in-Ok.ensures.items_if_clones_equal (λ y e. e) ∙ sym (ap presence e.1 ∙ map-replicate is_there n None);
       sized = rw e.1 (none_sized n);
+      few = omega (arith, long, c.if-frames-gt-MAX_FRAMES.false);
     }
 
 pub returns-in-Ok-allocate-clause-ok : goal.returns-in-Ok-allocate-clause-ok

@@ -22,6 +22,7 @@ invariant_of-self c = let i = c.self.invariant in let cs = c.self.inside.region.
       right_alloc = i.right_alloc;
       live = ap (λ l. slice_set l f true) i.live ∙ sym (ap presence e.1 ∙ map-set is_there cs f (Some zero_block));
       sized = rw e.1 (written_sized cs f zero_block i.sized (length-replicate {A = ℕ} 4224 0));
+      few = omega (arith, i.few, long);
     }
 
 pub returns : goal.returns

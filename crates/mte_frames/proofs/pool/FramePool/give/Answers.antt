@@ -1,4 +1,4 @@
-use Rattle.std.proofs.Common.{◌≡◌, ◌-◌, [], ◌∷◌, length, get_or, ap, ◌∙◌, arith, length-append}
+use Rattle.std.proofs.Common.{◌≡◌, ◌-◌, [], ◌∷◌, length, get_or, get_or-set_other, None, ap, ◌∙◌, arith, length-append}
 use Rattle.mte_frames.specs.Pool.{IsOut}
 use Rattle.mte_frames.specs.Whole.{pool_of}
 use Rattle.mte_frames.proofs.Counts.{any_default, owner_within, some_sum, sum-set}
@@ -27,9 +27,12 @@ invariant_of-self c =
     let within = give_numbered p h.sound q f out in let push = c.push_reserved.ensures in
     let same : c.index_mut-2.result.now ≡ get_or a.taken.items q 0 = c.index_mut-2.ensures.value ∙ any_default a.taken.items q c.index_mut-2.result.now 0 within in
     record {
-      sound = rw same (give_sound p h.sound q f out);
+      sound = rw (same, push.capacity) (give_sound p h.sound q f out);
       free_are = rw push.items (give_free a.free.items a.owners.items f q h.free_are (owner_within a.owners.items f q out) (held_is p h.sound q f out));
       free_count = omega (arith, h.free_count, ap length push.items, length-append a.free.items (f ∷ []), same, one_taken p h.sound q f out, sum-set a.taken.items q (c.index_mut-2.result.now - 1) within);
       unreserved_count = h.unreserved_count;
       room = omega (arith, h.room, push.capacity);
     }
+
+pub returns-clause-still_out : goal.returns-clause-still_out
+returns-clause-still_out c = rw (← c.self.view_is) (λ g k d o. get_or-set_other c.self.inside.owners.items c.args.f g None None d ∙ o)

@@ -1,0 +1,76 @@
+//! Tags of granules, two a byte: an even granule's in the low half, an odd one's in the high half.
+
+ghost use Rattle.std.specs.Prelude.{◌≡◌, ◌+◌, ◌*◌, ◌%◌, ◌<◌, ◌≤◌, length, slice_set};
+ghost use Rattle.mte_arena.specs.Blocks.{half, unpacked};
+ghost use Rattle.mte_arena.specs.Frames.{with_run};
+
+pub(crate) fn half_of(byte: u8, g: usize) -> u8
+    ensures { result ≡ half byte g }
+{
+    if g % 2 == 0 { byte % 16 } else { byte / 16 }
+}
+
+/// The byte with another tag for the granule `g`.
+fn with_half(byte: u8, g: usize, tag: u8) -> u8
+    requires { tag < 16 }
+    ensures own { half result g ≡ tag }
+    ensures other { half result (g + 1) ≡ half byte (g + 1) }
+{
+    if g % 2 == 0 {
+        byte / 16 * 16 + tag
+    } else {
+        tag * 16 + byte % 16
+    }
+}
+
+/// Sets the tag of the granule `g`.
+pub(crate) fn set_half(packed: &mut [u8], g: usize, tag: u8)
+    requires granule { g < length packed.old * 2 }
+    requires tag { tag < 16 }
+    ensures tags { unpacked packed.new ≡ slice_set (unpacked packed.old) g tag }
+    ensures len { length packed.new ≡ length packed.old }
+{
+    packed[g / 2] = with_half(packed[g / 2], g, tag);
+}
+
+/// Sets the tags of the `count` granules from `first` on, in whole bytes but for the ends.
+pub(crate) fn set_run(packed: &mut [u8], first: usize, count: usize, tag: u8)
+    requires granules { first + count ≤ length packed.old * 2 }
+    requires tag { tag < 16 }
+    ensures tags { unpacked packed.new ≡ with_run (unpacked packed.old) first count tag }
+    ensures len { length packed.new ≡ length packed.old }
+{
+    if count == 0 {
+        return;
+    }
+    if first % 2 == 0 {
+        set_even_run(packed, first, count, tag);
+    } else {
+        set_half(packed, first, tag);
+        set_even_run(packed, first + 1, count - 1, tag);
+    }
+}
+
+/// The same for a run that begins at an even granule.
+fn set_even_run(packed: &mut [u8], first: usize, count: usize, tag: u8)
+    requires granules { first + count ≤ length packed.old * 2 }
+    requires even { first % 2 ≡ 0 }
+    requires tag { tag < 16 }
+    ensures tags { unpacked packed.new ≡ with_run (unpacked packed.old) first count tag }
+    ensures len { length packed.new ≡ length packed.old }
+{
+    set_pairs(packed, first / 2, count / 2, tag);
+    if count % 2 == 1 {
+        set_half(packed, first + count - 1, tag);
+    }
+}
+
+/// Sets both tags of each of the `count` bytes from `from` on.
+fn set_pairs(packed: &mut [u8], from: usize, count: usize, tag: u8)
+    requires bytes { from + count ≤ length packed.old }
+    requires tag { tag < 16 }
+    ensures tags { unpacked packed.new ≡ with_run (unpacked packed.old) (from * 2) (count * 2) tag }
+    ensures len { length packed.new ≡ length packed.old }
+{
+    packed[from..from + count].fill(tag * 17);
+}
