@@ -54,6 +54,12 @@ fn mark(pool: &mut FramePool, quota: &Quota, f: usize, g: usize, tag: u8) {
     }
 }
 
+fn mark_run(pool: &mut FramePool, quota: &Quota, f: usize, first: usize, count: usize, tag: u8) {
+    if pool.is_out(quota, f) && first < 256 && count <= 256 - first && tag < 16 {
+        pool.set_tags(f, first, count, tag);
+    }
+}
+
 fn write_block(pool: &mut FramePool, quota: &Quota, f: usize) {
     if pool.is_out(quota, f) {
         let block = pool.block_mut(f);
@@ -176,5 +182,38 @@ fn both_planes_at_once(rt: HostRuntime) -> Result<(), Fail> {
         assert_eq!(rt; tag_at(&pool, &quota, f, at), Some(tag), "granule {at}");
     }
     assert!(rt; is_all(&pool, &quota, g, 0, 0));
+    Ok(())
+}
+
+/// Runs with odd ends, within one byte, and none at all.
+#[test]
+fn runs_of_tags(rt: HostRuntime) -> Result<(), Fail> {
+    let mut pool = pool_of(rt.alloc(), 1)?;
+    let Ok(mut quota) = reserve(&mut pool, 1) else {
+        return Err(Fail::new("a quota is refused"));
+    };
+    let Some(f) = take(&mut pool, &mut quota) else {
+        return Err(Fail::new("a frame is missing"));
+    };
+    for (first, count, tag) in [(3, 6, 5), (10, 1, 6), (11, 1, 7), (253, 3, 8), (0, 0, 9)] {
+        mark_run(&mut pool, &quota, f, first, count, tag);
+    }
+    let tags = [
+        (0, 0),
+        (2, 0),
+        (3, 5),
+        (4, 5),
+        (8, 5),
+        (9, 0),
+        (10, 6),
+        (11, 7),
+        (12, 0),
+        (252, 0),
+        (253, 8),
+        (255, 8),
+    ];
+    for (at, tag) in tags {
+        assert_eq!(rt; tag_at(&pool, &quota, f, at), Some(tag), "granule {at}");
+    }
     Ok(())
 }
