@@ -8,6 +8,7 @@ const HINTS: usize = 256;
 
 /// By a hash of ASID and page, the place among the translations, the oldest first. A hint may be
 /// wrong, so whoever uses it compares ASID and page.
+#[derive(Drop)]
 pub(crate) struct Hints {
     /// Counted from the first translation that ever stood, modulo 256, so that the other hints stay
     /// right where the oldest translation is dropped.

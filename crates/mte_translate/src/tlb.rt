@@ -11,6 +11,7 @@ use mte_tags::Attrs;
 use std::marker::Model;
 
 /// At most 64 translations, the oldest first, and at most one of each page of an address space.
+#[derive(Drop)]
 pub struct Tlb {
     translations: ArrayVec<Translation, TLB_ENTRIES>,
     hints: Hints,
@@ -52,7 +53,7 @@ impl Tlb {
         None
     }
 
-    /// The same by one look, or `None`, also where `lookup` would find one.
+    /// The same in constant time, by one comparison; or `None`, perhaps also where one stands.
     #[inline]
     pub fn quick_lookup(&self, asid: usize, page: u64) -> Option<(usize, Attrs)>
         ensures { IfSome result (λ found. lookup asid page self.now ≡ Some found) }
@@ -61,9 +62,9 @@ impl Tlb {
         if place >= self.translations.len() {
             return None;
         }
-        let translation = self.translations[place];
-        if translation.is_for(asid, page) {
-            Some((translation.frame, translation.attrs))
+        let hinted = self.translations[place];
+        if hinted.is_for(asid, page) {
+            Some((hinted.frame, hinted.attrs))
         } else {
             None
         }
