@@ -25,6 +25,7 @@ fn the_oldest_translation_is_dropped(rt: HostRuntime) -> Result<(), Fail> {
     }
     assert!(rt; fill(&mut tlb, 7, 2, 2));
     assert!(rt; fill(&mut tlb, 7, 66, frame));
+    assert_eq!(rt; tlb.len(), 64);
     assert!(rt; tlb.lookup(7, 1).is_none());
     assert!(rt; tlb.lookup(7, 3).is_none());
     assert!(rt; stands(&tlb, 7, 2, 2));

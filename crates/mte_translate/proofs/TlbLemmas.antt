@@ -106,10 +106,10 @@ without-first (t ∷ ts) full =
 pub room-oldest : (asid page : ℕ) (ts : List Translation) → is_some (lookup asid page ts) ≡ false → length ts ≡ 64 → remove ts 0 ≡ newest 63 (without asid page ts)
 room-oldest asid page ts gone full = without-first ts full ∙ sym (ap (newest 63) (others-all asid page ts gone))
 
-same-left : (a b c d : ℕ) → ((a == b) && (c == d)) ≡ true → a ≡ b
+pub same-left : (a b c d : ℕ) → ((a == b) && (c == d)) ≡ true → a ≡ b
 same-left a b c d e = grind arith
 
-same-right : (a b c d : ℕ) → ((a == b) && (c == d)) ≡ true → c ≡ d
+pub same-right : (a b c d : ℕ) → ((a == b) && (c == d)) ≡ true → c ≡ d
 same-right a b c d e = grind arith
 
 -- a translation put after those of other pages

@@ -3,8 +3,10 @@
 #![tactic(auto)]
 
 mod hints;
+mod laws;
 mod tlb;
 mod translation;
 
+pub use laws::{fill_adds_its_own, forget_drops_its_own, lookup_returns_what_stands};
 pub use tlb::Tlb;
 pub use translation::{TLB_ENTRIES, Translation};

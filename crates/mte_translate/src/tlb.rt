@@ -1,8 +1,8 @@
 //! The translation lookaside buffer.
 
-ghost use Rattle.std.specs.Prelude.{◌≡◌, ◌<◌, [], length, IfSome, Some};
+ghost use Rattle.std.specs.Prelude.{◌≡◌, ◌<◌, ◌≤◌, [], length, IfSome, Some};
 ghost use Rattle.mte_translate.specs.Translations.{lookup, filled, without, without_asid};
-ghost use Rattle.mte_translate.specs.Translations.{newest};
+ghost use Rattle.mte_translate.specs.Translations.{newest, IsOneEach};
 
 use crate::hints::Hints;
 use crate::translation::{TLB_ENTRIES, Translation};
@@ -38,6 +38,15 @@ impl Tlb {
             translations: ArrayVec::new(),
             hints: Hints::new(),
         }
+    }
+
+    /// How many translations stand: at most 64, and at most one of each page of an address space.
+    pub fn len(&self) -> usize
+        ensures count { result ≡ length self.now }
+        ensures most { result ≤ 64 }
+        ensures one_each { IsOneEach self.now }
+    {
+        self.translations.len()
     }
 
     /// The frame and the attributes of a page of an address space, or `None` where no translation
