@@ -1,5 +1,5 @@
-//! Tests of the tagged memory, the loader, the arena and the frames, in one crate at the top: a
-//! crate with tests of its own would be proved twice.
+//! Tests of the tagged memory, the loader, the arena, the frames and the translation lookaside
+//! buffer, in one crate at the top: a crate with tests of its own would be proved twice.
 #![tactic(auto)]
 
 #[cfg(test)]
@@ -10,3 +10,5 @@ mod elf;
 mod frames;
 #[cfg(test)]
 mod tags;
+#[cfg(test)]
+mod tlb;

@@ -1,0 +1,2 @@
+pub mod TlbLemmas
+pub mod StandingLaws

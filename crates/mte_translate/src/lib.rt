@@ -1,0 +1,12 @@
+//! Address translation: the translation lookaside buffer (Arm ARM DDI 0487, D8), which remembers
+//! the frame and the attributes of some pages of each address space.
+#![tactic(auto)]
+
+mod hints;
+mod laws;
+mod tlb;
+mod translation;
+
+pub use laws::{fill_adds_its_own, forget_drops_its_own, lookup_returns_what_stands};
+pub use tlb::Tlb;
+pub use translation::{TLB_ENTRIES, Translation};

@@ -1,0 +1,130 @@
+//! The translation lookaside buffer.
+
+ghost use Rattle.std.specs.Prelude.{◌≡◌, ◌<◌, ◌≤◌, [], length, IfSome, Some};
+ghost use Rattle.mte_translate.specs.Translations.{lookup, filled, without, without_asid};
+ghost use Rattle.mte_translate.specs.Translations.{newest, IsOneEach};
+
+use crate::hints::Hints;
+use crate::translation::{TLB_ENTRIES, Translation};
+use arrayvec::ArrayVec;
+use mte_tags::Attrs;
+use std::marker::Model;
+
+/// At most 64 translations, the oldest first, and at most one of each page of an address space.
+#[derive(Drop)]
+pub struct Tlb {
+    translations: ArrayVec<Translation, TLB_ENTRIES>,
+    hints: Hints,
+}
+
+impl Model for Tlb {
+    ghost use Rattle.std.specs.Prelude.{List};
+    ghost use Rattle.mte_translate.specs.declared.translation.Translation.{Translation};
+    ghost use Rattle.mte_translate.specs.Whole.{IsTlb, translations_of};
+
+    ghost Value = { List Translation };
+
+    ghost view = { translations_of };
+
+    ghost invariant = { IsTlb };
+}
+
+impl Tlb {
+    /// A buffer in which no translation stands. It takes no memory.
+    pub fn new() -> Tlb
+        ensures { result ≡ [] }
+    {
+        Tlb {
+            translations: ArrayVec::new(),
+            hints: Hints::new(),
+        }
+    }
+
+    /// How many translations stand: at most 64, and at most one of each page of an address space.
+    pub fn len(&self) -> usize
+        ensures count { result ≡ length self.now }
+        ensures most { result ≤ 64 }
+        ensures one_each { IsOneEach self.now }
+    {
+        self.translations.len()
+    }
+
+    /// The frame and the attributes of a page of an address space, or `None` where no translation
+    /// stands for them. It looks at up to 64 translations.
+    pub fn lookup(&self, asid: usize, page: u64) -> Option<(usize, Attrs)>
+        ensures { result ≡ lookup asid page self.now }
+    {
+        for translation in self.translations.as_slice() {
+            if translation.is_for(asid, page) {
+                return Some((translation.frame, translation.attrs));
+            }
+        }
+        None
+    }
+
+    /// The same in constant time, by one comparison; or `None`, perhaps also where one stands.
+    #[inline]
+    pub fn quick_lookup(&self, asid: usize, page: u64) -> Option<(usize, Attrs)>
+        ensures { IfSome result (λ found. lookup asid page self.now ≡ Some found) }
+    {
+        let place = self.hints.place(asid, page);
+        if place >= self.translations.len() {
+            return None;
+        }
+        let hinted = self.translations[place];
+        if hinted.is_for(asid, page) {
+            Some((hinted.frame, hinted.attrs))
+        } else {
+            None
+        }
+    }
+
+    /// Puts a translation last. An older one of its page and ASID is dropped, or else, where 64
+    /// stand, the oldest.
+    pub fn fill(&mut self, asid: usize, page: u64, frame: usize, attrs: Attrs)
+        ensures { self.new
+            ≡ filled (record { asid = asid; page = page; frame = frame; attrs = attrs }) self.old }
+    {
+        self.make_room(asid, page);
+        self.hints.note(asid, page, self.translations.len());
+        self.translations.push(Translation {
+            asid,
+            page,
+            frame,
+            attrs,
+        });
+    }
+
+    /// Drops the translation of a page of an address space, if one stands. The others keep their
+    /// order.
+    pub fn forget(&mut self, asid: usize, page: u64)
+        ensures { self.new ≡ without asid page self.old }
+    {
+        self.translations
+            .retain(|translation| !translation.is_for(asid, page));
+        self.hints.note_all(self.translations.as_slice());
+    }
+
+    /// Drops all translations of an address space. The others keep their order.
+    pub fn forget_all(&mut self, asid: usize)
+        ensures { self.new ≡ without_asid asid self.old }
+    {
+        self.translations
+            .retain(|translation| translation.asid != asid);
+        self.hints.note_all(self.translations.as_slice());
+    }
+
+    /// Drops an older translation of a page, or else, where 64 stand, the oldest.
+    fn make_room(&mut self, asid: usize, page: u64)
+        ensures rest { self.new ≡ newest 63 (without asid page self.old) }
+        ensures room { length self.new < 64 }
+    {
+        let full = self.translations.is_full();
+        if self.lookup(asid, page).is_some() {
+            self.forget(asid, page);
+        } else if full {
+            self.translations.remove(0);
+            self.hints.oldest_dropped();
+        }
+    }
+}
