@@ -1,7 +1,7 @@
 //! Which translations a lookaside buffer of 64 holds.
 
 use mte_tags::Attrs;
-use mte_translate::Tlb;
+use mte_translate::{Tlb, fill_adds_its_own, forget_drops_its_own, lookup_returns_what_stands};
 use std::test::Fail;
 
 /// Fills a page's translation, and tests that it is then returned at once.
@@ -18,22 +18,21 @@ fn stands(tlb: &Tlb, asid: usize, page: u64, frame: usize) -> bool {
 fn the_oldest_translation_is_dropped(rt: HostRuntime) -> Result<(), Fail> {
     let mut tlb = Tlb::new();
     assert!(rt; tlb.lookup(0, 0).is_none());
-    let mut frame = 1000;
     for page in 1..66 {
-        assert!(rt; fill(&mut tlb, 7, page, frame), "page {page}");
-        frame += 1;
+        assert!(rt;
+            fill(&mut tlb, 7, page, 1000 + page as usize),
+            "page {page}"
+        );
     }
     assert!(rt; fill(&mut tlb, 7, 2, 2));
-    assert!(rt; fill(&mut tlb, 7, 66, frame));
+    assert!(rt; fill(&mut tlb, 7, 66, 1066));
     assert_eq!(rt; tlb.len(), 64);
     assert!(rt; tlb.lookup(7, 1).is_none());
     assert!(rt; tlb.lookup(7, 3).is_none());
     assert!(rt; stands(&tlb, 7, 2, 2));
-    frame = 1003;
     for page in 4..67 {
-        assert!(rt; stands(&tlb, 7, page, frame), "page {page}");
+        assert!(rt; stands(&tlb, 7, page, 1000 + page as usize), "page {page}");
         assert!(rt; tlb.quick_lookup(7, page).is_some(), "page {page}");
-        frame += 1;
     }
     Ok(())
 }
@@ -57,5 +56,8 @@ fn each_address_space_has_its_own(rt: HostRuntime) -> Result<(), Fail> {
     for page in 0..8 {
         assert!(rt; tlb.lookup(2, page).is_none() && tlb.lookup(1, page).is_some() == (page != 3));
     }
+    fill_adds_its_own();
+    forget_drops_its_own();
+    lookup_returns_what_stands();
     Ok(())
 }
