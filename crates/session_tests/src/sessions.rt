@@ -64,7 +64,8 @@ fn one_tenant_alone(rt: HostRuntime) -> Result<(), Fail> {
         (
             &PAIR_WITH_TAG,
             ADMIT,
-            b"tenant 1\nstatus fault TagCheck read addr 0x000000003fffc010 ptr 0 mem 1 pc 0x0000000000010018\nsteps 7\noutput 0\nheap 0\nend\n",
+            b"tenant 1\nstatus fault TagCheck read addr 0x000000003fffc010 ptr 0 mem 1 pc \
+              0x0000000000010018\nsteps 7\noutput 0\nheap 0\nend\n",
         ),
         (
             &PRE_INDEXED,
