@@ -29,5 +29,6 @@ pub fn words_mean()
 
 /// No two instructions have the same word.
 pub fn words_are_unique()
-    ensures { (i j : Instr) → IsAllowed i → IsAllowed j → word_of i ≡ word_of j → i ≡ j }
+    ensures { (i j : Instr)
+        → IsAllowed i → IsAllowed j → word_of i ≡ word_of j → i ≡ j }
 {}

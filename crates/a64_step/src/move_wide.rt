@@ -27,7 +27,8 @@ fn placed_half(imm16: u16, hw: u8) -> u64
 #[inline(always)]
 fn with_half(old: u64, imm16: u16, hw: u8) -> u64
     requires { hw < 4 }
-    ensures { result ≡ old - old / 2 ^ (16 * hw) % 2 ^ 16 * 2 ^ (16 * hw) + imm16 * 2 ^ (16 * hw) }
+    ensures { result
+        ≡ old - old / 2 ^ (16 * hw) % 2 ^ 16 * 2 ^ (16 * hw) + imm16 * 2 ^ (16 * hw) }
 {
     let half = u64::from(imm16);
     match hw {

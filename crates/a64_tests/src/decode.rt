@@ -1,7 +1,7 @@
 //! Words of the assembler, one for each row, the words of the sample programs, and refused words.
 
 use a64_asm::{Instr, encode};
-use a64_decode::{Decoder, decode};
+use a64_decode::{Decoder, decode, words_are_unique, words_mean};
 
 /// A word as the assembler gives it for each row, and its instruction.
 #[rattlefmt::skip]
@@ -145,6 +145,8 @@ fn refused_words(rt: HostRuntime) {
     for word in REFUSED {
         assert_eq!(rt; decode(word), None, "decode {word:#x}");
     }
+    words_mean();
+    words_are_unique();
 }
 
 #[rattlefmt::skip]

@@ -11,7 +11,8 @@ use mte_tags::{Attrs, FaultKind, Paged, Tagged};
 
 /// Whether the page that holds an address is mapped.
 fn is_mapped<M: Tagged>(memory: &mut M, address: u64) -> bool
-    ensures value { IsTrue result ↔ IsSome (page_at (M.memory memory.old) (plain address / 4096)) }
+    ensures value { IsTrue result
+        ↔ IsSome (page_at (M.memory memory.old) (plain address / 4096)) }
     ensures memory { M.memory memory.new ≡ M.memory memory.old }
 {
     match memory.load_tag(address) {

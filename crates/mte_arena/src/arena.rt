@@ -69,7 +69,8 @@ impl Arena {
     /// taken; `OutOfMemory` comes only where an allocation was refused.
     pub fn new(alloc: Global, frames: usize) -> Result<Arena, ArenaError>
         ensures ok { IfOk result (λ a. a ≡ replicate frames None) }
-        ensures bad_count { (result ≡ Err BadCount) ↔ ((frames ≡ 0) ⊎ (MAX_FRAMES < frames)) }
+        ensures bad_count { (result ≡ Err BadCount)
+            ↔ ((frames ≡ 0) ⊎ (MAX_FRAMES < frames)) }
     {
         if frames == 0 || frames > MAX_FRAMES {
             return Err(ArenaError::BadCount);

@@ -69,7 +69,8 @@ fn set_even_run(packed: &mut [u8], first: usize, count: usize, tag: u8)
 fn set_pairs(packed: &mut [u8], from: usize, count: usize, tag: u8)
     requires bytes { from + count ≤ length packed.old }
     requires tag { tag < 16 }
-    ensures tags { unpacked packed.new ≡ with_run (unpacked packed.old) (from * 2) (count * 2) tag }
+    ensures tags { unpacked packed.new
+        ≡ with_run (unpacked packed.old) (from * 2) (count * 2) tag }
     ensures len { length packed.new ≡ length packed.old }
 {
     packed[from..from + count].fill(tag * 17);

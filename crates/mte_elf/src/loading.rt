@@ -17,7 +17,8 @@ use mte_tags::{Attrs, Paged};
 pub fn load<M: Paged>(plan: &Plan, file: &[u8], memory: &mut M)
     requires image { refusal_of file.now ≡ None }
     requires plan { plan.now.segments.items ≡ segments_of file.now }
-    requires free { (page : ℕ) → page < 65536 → page_at (M.Tagged.memory memory.old) page ≡ None }
+    requires free { (page : ℕ)
+        → page < 65536 → page_at (M.Tagged.memory memory.old) page ≡ None }
     requires room { pages_of file.now ≤ pages_left (M.Tagged.memory memory.old) }
     ensures memory { M.Tagged.memory memory.new
         ≡ with_segments file.now (M.Tagged.memory memory.old) (segments_of file.now) }

@@ -352,7 +352,8 @@ impl PoolLists {
 
 /// A number that no quota has.
 fn unused_number(reserved: &[usize]) -> Option<usize>
-    ensures some { IfSome result (λ i. (i < length reserved.now) × (get_or reserved.now i 0 ≡ 0)) }
+    ensures some { IfSome result
+        (λ i. (i < length reserved.now) × (get_or reserved.now i 0 ≡ 0)) }
     ensures none { result ≡ None → length reserved.now ≤ sum reserved.now }
 {
     for i in 0..reserved.len() {

@@ -130,7 +130,8 @@ fn is_out_of_memory(refusal: &Refusal) -> bool
     unfolding(mte_sched::specs::Events::event_refusal, mte_sched::specs::Events::after_event)
 )]
 fn play(alloc: Global, host: &mut Host, event: &Event, files: &[Vec<u8>]) -> Result<(), Refusal>
-    ensures accepted { OnOk result (event_refusal (contents files.now) host.old event.now ≡ None) }
+    ensures accepted { OnOk result
+        (event_refusal (contents files.now) host.old event.now ≡ None) }
     ensures ok { OnOk result (host.new ≡ after_event (contents files.now) host.old event.now) }
     ensures refused { IfErr result (λ r. (r ≡ Refusal.Admit AdmitError.OutOfMemory)
         ⊎ (event_refusal (contents files.now) host.old event.now ≡ Some r)) }

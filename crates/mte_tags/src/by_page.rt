@@ -56,7 +56,7 @@ fn check_bytes<S: PageStore>(
 
 /// The fault of an access in the memory's mode, if any. One that has none, and a byte whose tag
 /// differs, sets the flag.
-fn compare_tags<S: PageStore>(
+fn check_in_mode<S: PageStore>(
     store: &mut S,
     at: u64,
     count: usize,
@@ -90,7 +90,8 @@ fn compare_tags<S: PageStore>(
 fn copy_out<S: PageStore>(store: &mut S, at: u64, buffer: &mut [u8])
     requires plain { at < 2 ^ 56 }
     requires mapped { AreMapped (S.memory store.old) (addresses at (length buffer.old)) }
-    ensures bytes { buffer.new ≡ bytes_at (S.memory store.old) (addresses at (length buffer.old)) }
+    ensures bytes { buffer.new
+        ≡ bytes_at (S.memory store.old) (addresses at (length buffer.old)) }
     ensures memory { S.memory store.new ≡ S.memory store.old }
     ensures kept { S.kept store.old store.new }
 {
@@ -150,7 +151,7 @@ fn read_across_pages<S: PageStore>(
         else S.memory store.old) }
     ensures kept { S.kept store.old store.new }
 {
-    compare_tags(store, at, buffer.len(), access)?;
+    check_in_mode(store, at, buffer.len(), access)?;
     copy_out(store, at, buffer);
     Ok(())
 }
@@ -238,7 +239,7 @@ fn write_across_pages<S: PageStore>(
         else S.memory store.old) }
     ensures kept { S.kept store.old store.new }
 {
-    compare_tags(store, at, bytes.len(), access)?;
+    check_in_mode(store, at, bytes.len(), access)?;
     replace_bytes(store, at, bytes);
     Ok(())
 }

@@ -44,5 +44,6 @@ pub fn mode_stays()
     ensures map { (m : Memory) (page n : ℕ) (attrs : Attrs)
         → (with_new_pages m page n attrs).state ≡ m.state }
     ensures unmap { (m : Memory) (page n : ℕ) → (without_pages m page n).state ≡ m.state }
-    ensures load { (m : Memory) (a : ℕ) (bytes : List ℕ) → (written m a bytes).state ≡ m.state }
+    ensures load { (m : Memory) (a : ℕ) (bytes : List ℕ)
+        → (written m a bytes).state ≡ m.state }
 {}

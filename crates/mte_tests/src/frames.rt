@@ -4,7 +4,7 @@ ghost use Rattle.std.specs.Prelude.{IsTrue};
 ghost use Rattle.mte_frames.specs.Pool.{IsOut};
 
 use mte_arena::Arena;
-use mte_frames::{FramePool, NoFrames, Quota};
+use mte_frames::{FramePool, NoFrames, Quota, others_are_kept};
 use std::alloc::Global;
 use std::test::Fail;
 
@@ -146,6 +146,7 @@ fn a_frame_comes_back_zero(rt: HostRuntime) -> Result<(), Fail> {
     let Some(f) = take(&mut pool, &mut first) else {
         return Err(Fail::new("the first take"));
     };
+    others_are_kept();
     fill(&mut pool, &first, f, 0xFF);
     for g in 0..256 {
         mark(&mut pool, &first, f, g, 15);

@@ -236,7 +236,8 @@ pub(crate) fn number_pages(numbers: &mut [u16], class: u8, from: u64, pages: u64
     requires class { IsClass class }
     requires slots { CLASSES * (from + pages) ≤ length numbers.old }
     requires numbers { first + pages < 2 ^ 16 }
-    ensures numbered { (i : ℕ) → i < pages → page_number numbers.new class (from + i) ≡ first + i }
+    ensures numbered { (i : ℕ)
+        → i < pages → page_number numbers.new class (from + i) ≡ first + i }
     ensures before { (i : ℕ)
         → i < from → page_number numbers.new class i ≡ page_number numbers.old class i }
     ensures others { (other i : ℕ)

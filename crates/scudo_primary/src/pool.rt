@@ -183,7 +183,8 @@ impl Pool {
         requires high { class ≤ CLASSES }
         requires carved { IsBlock class (pages_of self.old class) block }
         ensures pool { self.new ≡ with_mark self.old class block true }
-        ensures cached { is_marked self.old class block ≡ false → IsCached self.new class block }
+        ensures cached { is_marked self.old class block ≡ false
+            → IsCached self.new class block }
     {
         set_mark(&mut self.entries, &self.numbers, class, block, true);
     }

@@ -52,7 +52,8 @@ pub(crate) fn holds(slots: &[Slot], s: usize, page: u64) -> bool
 pub(crate) fn find(slots: &[Slot], finder: &mut Finder, page: u64) -> Option<usize>
     ensures some { IfSome result
         (λ s. (s < length slots.now) × ((d : _) → (slice_index_or slots.now s d).page ≡ page)) }
-    ensures none { IsNone result → (m : Memory) → page_at (slots_memory m slots.now) page ≡ None }
+    ensures none { IsNone result
+        → (m : Memory) → page_at (slots_memory m slots.now) page ≡ None }
 {
     let s = finder.last(page);
     if holds(slots, s, page) {
@@ -67,7 +68,8 @@ pub(crate) fn find(slots: &[Slot], finder: &mut Finder, page: u64) -> Option<usi
 fn find_again(slots: &[Slot], finder: &mut Finder, page: u64) -> Option<usize>
     ensures some { IfSome result
         (λ s. (s < length slots.now) × ((d : _) → (slice_index_or slots.now s d).page ≡ page)) }
-    ensures none { IsNone result → (m : Memory) → page_at (slots_memory m slots.now) page ≡ None }
+    ensures none { IsNone result
+        → (m : Memory) → page_at (slots_memory m slots.now) page ≡ None }
 {
     if let Some(s) = finder.place(page) {
         if holds(slots, s, page) {
@@ -82,7 +84,8 @@ fn find_again(slots: &[Slot], finder: &mut Finder, page: u64) -> Option<usize>
 fn search(slots: &[Slot], page: u64) -> Option<usize>
     ensures some { IfSome result
         (λ s. (s < length slots.now) × ((d : _) → (slice_index_or slots.now s d).page ≡ page)) }
-    ensures none { IsNone result → (m : Memory) → page_at (slots_memory m slots.now) page ≡ None }
+    ensures none { IsNone result
+        → (m : Memory) → page_at (slots_memory m slots.now) page ≡ None }
 {
     for (s, slot) in slots.iter().enumerate() {
         if slot.page == page {
@@ -99,7 +102,8 @@ impl Slot {
         requires some { 0 < count }
         requires inside { at % 4096 + count ≤ 4096 }
         requires plain { at < 2 ^ 56 }
-        ensures { result ≡ first_in access.now (Some (page_of self.now)) (range_with_len at count) }
+        ensures { result
+            ≡ first_in access.now (Some (page_of self.now)) (range_with_len at count) }
     {
         if self.attrs.0 & access.need != access.need {
             return Some(access.fault(FaultKind::Permission, at, 0));
@@ -165,7 +169,8 @@ impl Slot {
         requires plain { at < 2 ^ 56 }
         requires permitted { has self.now.attrs.0 access.now.need ≡ true }
         requires checked { (access.now.checked && has self.now.attrs.0 8) ≡ true }
-        ensures { result ≡ first_in access.now (Some (page_of self.now)) (range_with_len at count) }
+        ensures { result
+            ≡ first_in access.now (Some (page_of self.now)) (range_with_len at count) }
     {
         let mut place = at;
         let mut left = count;

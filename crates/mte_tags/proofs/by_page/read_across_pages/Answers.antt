@@ -8,9 +8,9 @@ use Rattle.mte_tags.proofs.by_page.read_across_pages.Goals as goal
 pub copy_out-requires-clause-mapped : goal.copy_out-requires-clause-mapped
 copy_out-requires-clause-mapped g c =
     let places = addresses c.args.at (length c.args.buffer.now) in
-    subst (λ (m : Memory). AreMapped m places) (sym c.in_ok-compare_tags.ensures.memory) (AreMapped-from_access _ _ places (none_from_ok _ _ c.in_ok-compare_tags.ensures.answer))
+    subst (λ (m : Memory). AreMapped m places) (sym c.in_ok-check_in_mode.ensures.memory) (AreMapped-from_access _ _ places (none_from_ok _ _ c.in_ok-check_in_mode.ensures.answer))
 
 pub returns-clause-bytes : goal.returns-clause-bytes
 returns-clause-bytes g c =
     let places = addresses c.args.at (length c.args.buffer.now) in
-    c.copy_out.ensures.bytes ∙ ap (λ m. bytes_at m places) c.in_ok-compare_tags.ensures.memory ∙ bytes_at-after_access _ _ places places
+    c.copy_out.ensures.bytes ∙ ap (λ m. bytes_at m places) c.in_ok-check_in_mode.ensures.memory ∙ bytes_at-after_access _ _ places places

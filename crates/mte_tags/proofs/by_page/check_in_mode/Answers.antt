@@ -4,7 +4,7 @@ use Rattle.mte_tags.specs.Accesses.{outcome, addresses, first_fault, unchecked}
 use Rattle.mte_tags.specs.declared.state.TagState.{TagState}
 use Rattle.mte_tags.proofs.AddressLists.{none_from_ok, some_from_err}
 use Rattle.mte_tags.proofs.ModeLaws.{access_fault-none, after_access-none, access_fault-sync, async_answer, after_access-some}
-use Rattle.mte_tags.proofs.by_page.compare_tags.Goals as goal
+use Rattle.mte_tags.proofs.by_page.check_in_mode.Goals as goal
 
 pub returns-in_default-clause-answer : goal.returns-in_default-clause-answer
 returns-in_default-clause-answer g c = ap outcome (sym (access_fault-none _ _ _ (none_from_ok _ _ c.in_default.ensures.answer)))
