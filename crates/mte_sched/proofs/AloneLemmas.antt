@@ -1,7 +1,6 @@
 -- A host with a tenant admits no other, so its tenant goes by its own events.
 use Rattle.std.proofs.Common.{◌≡◌, ℕ, ◌+◌, ◌-◌, nat_lt, List, [], ◌∷◌, ◌++◌, Option, Some, None}
 use Rattle.std.proofs.Common.{false, option_map, refl, ap, sym}
-use Rattle.mte_sched.specs.declared.machine.Machine.{Machine}
 use Rattle.mte_sched.specs.declared.host.Host.{Host}
 use Rattle.mte_sched.specs.declared.host.Tenant.{Tenant}
 use Rattle.mte_script.specs.declared.event.Event.{Event}
@@ -14,7 +13,8 @@ use Rattle.mte_sched.specs.declared.admission.AdmitError.TheVariants.{Duplicate,
 use Rattle.mte_sched.specs.declared.admission.AdmitError.TheVariants.{Image, ReservationTooSmall}
 use Rattle.mte_sched.specs.declared.admission.AdmitError.TheVariants.{NoFrames, TooManyLive}
 use Rattle.mte_elf.specs.Images.{refusal_of, pages_of}
-use Rattle.mte_sched.specs.Machines.{advance, halted}
+use Rattle.mte_sched.specs.Machines.{Machine, advance, halted}
+use Rattle.mte_sched.specs.Hosts.{machine_in, with_machine}
 use Rattle.mte_sched.specs.Hosts.{admission_refusal, first_of, when, has_id, is_bad, charged_for}
 use Rattle.mte_sched.specs.Hosts.{charge_of, sliced, stopped, tenant_sliced, tenant_stopped}
 use Rattle.mte_sched.specs.Events.{event_refusal, after_event, played, played_on, played_by}
@@ -48,15 +48,15 @@ mapped_none (Some x) h = cc
 pub record Has (h : Host) (m : Machine) : Type 0 where
   pub tenant : Tenant
   pub there : h.tenant ≡ Some tenant
-  pub machine : tenant.machine ≡ m
+  pub machine : machine_in tenant ≡ m
 
 pub after_one : (files : List (List ℕ)) (h : Host) (t : Tenant) (e : Event) (r : Option Refusal) → event_refusal files h e ≡ r → h.tenant ≡ Some t
-    → Has (next_host r files h e) (alone t.machine (own_by r e))
+    → Has (next_host r files h e) (alone (machine_in t) (own_by r e))
 unfolding alone after_event event_refusal sliced stopped
 after_one files h t e (Some r) same there = record { tenant = t; there = there; machine = refl }
 after_one files h t (event.Admit id image input seed frames room mode) None same there = absurd (admits_no_other h t id _ frames room there (mapped_none _ same))
-after_one files h t (event.Slice id n) None same there = record { tenant = record t { machine = advance n t.machine }; there = ap (tenant_sliced n) there; machine = refl }
-after_one files h t (event.Stop id) None same there = record { tenant = record t { machine = halted t.machine; live = false }; there = ap tenant_stopped there; machine = refl }
+after_one files h t (event.Slice id n) None same there = record { tenant = with_machine t (advance n (machine_in t)); there = ap (tenant_sliced n) there; machine = refl }
+after_one files h t (event.Stop id) None same there = record { tenant = record (with_machine t (halted (machine_in t))) { live = false }; there = ap tenant_stopped there; machine = refl }
 
 pub alone-append : (m : Machine) (xs ys : List Own) → alone m (xs ++ ys) ≡ alone (alone m xs) ys
 unfolding alone
@@ -66,13 +66,13 @@ alone-append m (Halted ∷ xs) ys = alone-append (halted m) xs ys
 
 -- The first event of a session, before the others.
 pub next_is_alone : (files : List (List ℕ)) (more : List Event) (h : Host) (t : Tenant) (e : Event) (refused : List Refused) (n : ℕ) (r : Option Refusal)
-    → Has (next_host r files h e) (alone t.machine (own_by r e))
+    → Has (next_host r files h e) (alone (machine_in t) (own_by r e))
     → ((t2 : Tenant) (refused2 : List Refused) → (next_host r files h e).tenant ≡ Some t2
-    → HasMachine (played files (record { host = next_host r files h e; refused = refused2 }) more (n + 1)).host.tenant (alone t2.machine (own_events files (next_host r files h e) more)))
+    → HasMachine (played files (record { host = next_host r files h e; refused = refused2 }) more (n + 1)).host.tenant (alone (machine_in t2) (own_events files (next_host r files h e) more)))
     → HasMachine (played files (played_by r files (record { host = h; refused = refused }) e n) more (n + 1)).host.tenant
-    (alone t.machine (own_by r e ++ own_events files (next_host r files h e) more))
-next_is_alone files more h t e refused n (Some x) one rest = rw (alone-append t.machine (own_by (Some x) e) (own_events files h more)) (rw (sym one.machine) (rest one.tenant _ one.there))
-next_is_alone files more h t e refused n None one rest = rw (alone-append t.machine (own_by None e) (own_events files (after_event files h e) more)) (rw (sym one.machine) (rest one.tenant _ one.there))
+    (alone (machine_in t) (own_by r e ++ own_events files (next_host r files h e) more))
+next_is_alone files more h t e refused n (Some x) one rest = rw (alone-append (machine_in t) (own_by (Some x) e) (own_events files h more)) (rw (sym one.machine) (rest one.tenant _ one.there))
+next_is_alone files more h t e refused n None one rest = rw (alone-append (machine_in t) (own_by None e) (own_events files (after_event files h e) more)) (rw (sym one.machine) (rest one.tenant _ one.there))
 
 pub tenant_is_alone : TenantIsAlone
 unfolding played played_on own_events alone

@@ -6,16 +6,15 @@ use Rattle.mte_tags.specs.declared.state.TagState.{TagState}
 use Rattle.mte_tags.proofs.StateLaws.{state-with_new_pages, state-written}
 use Rattle.mte_elf.specs.declared.image.Segment.{Segment}
 use Rattle.mte_elf.specs.Loading.{with_segment, with_segments}
-use Rattle.mte_sched.specs.declared.machine.Machine.{Machine}
 use Rattle.mte_sched.specs.declared.host.Host.{Host}
 use Rattle.mte_sched.specs.declared.host.Tenant.{Tenant}
 use Rattle.mte_sched.specs.declared.refusal.Refusal.{Refusal}
 use Rattle.mte_sched.specs.declared.refusal.Refused.{Refused}
 use Rattle.mte_script.specs.declared.event.Event.{Event}
 use Rattle.mte_script.specs.declared.event.Event.TheVariants as event
-use Rattle.mte_sched.specs.declared.record.Status.TheVariants.{Stopped}
-use Rattle.mte_sched.specs.Machines.{is_running, first_memory, start_of, attempts, settled, advance, halted, with_status, ended_by_tag}
-use Rattle.mte_sched.specs.Hosts.{with_admitted, sliced, stopped, tenant_sliced, tenant_stopped}
+use Rattle.mte_svc.specs.declared.record.Status.TheVariants.{Stopped}
+use Rattle.mte_sched.specs.Machines.{Machine, runs, first_memory, start_of, attempts, settled, advance, halted, with_status, ended_by_tag}
+use Rattle.mte_sched.specs.Hosts.{machine_in, with_admitted, sliced, stopped, tenant_sliced, tenant_stopped}
 use Rattle.mte_sched.specs.Events.{event_refusal, after_event, played, played_on, played_by}
 use Rattle.mte_sched.specs.Flags.{HasClearFlag, IsClear, FlagIsClear}
 
@@ -30,31 +29,33 @@ unfolding first_memory no_pages
 start-clear image pages mode =
     ap (λ (s : TagState). s.pending) (state-with_new_pages _ _ _ _ ∙ state-with_segments image (no_pages pages mode) _)
 
-settled_by : (m : Machine) (r p : Bool) → is_running m.account.status ≡ r → m.memory.state.pending ≡ p → HasClearFlag (cond (r && p) (ended_by_tag m) m)
+settled_by : (m : Machine) (r p : Bool) → runs m ≡ r → m.memory.state.pending ≡ p → HasClearFlag (cond (r && p) (ended_by_tag m) m)
 settled_by m true true e f = λ h. cc
 settled_by m true false e f = λ h. f
 settled_by m false p e f = λ h. cc
 
 settled-clear : (m : Machine) → HasClearFlag (settled m)
 unfolding settled
-settled-clear m = settled_by m (is_running m.account.status) m.memory.state.pending refl refl
+settled-clear m =
+    let z : Machine = record m { parts = record m.parts { left = 0 } } in
+    settled_by z (runs z) z.memory.state.pending refl refl
 
-halted_by : (m : Machine) (r : Bool) → is_running m.account.status ≡ r → HasClearFlag m → HasClearFlag (cond r (with_status m Stopped) m)
+halted_by : (m : Machine) (r : Bool) → runs m ≡ r → HasClearFlag m → HasClearFlag (cond r (with_status m Stopped) m)
 halted_by m true e h = λ k. cc
 halted_by m false e h = h
 
 halted-clear : (m : Machine) → HasClearFlag m → HasClearFlag (halted m)
 unfolding halted
-halted-clear m h = halted_by m (is_running m.account.status) refl h
+halted-clear m h = halted_by m (runs m) refl h
 
 sliced-clear : (n : ℕ) (t : Option Tenant) → IsClear t → IsClear (tenant_sliced n t)
 unfolding advance
 sliced-clear n None h = h
-sliced-clear n (Some t) h = settled-clear (attempts n t.machine)
+sliced-clear n (Some t) h = settled-clear (attempts n (machine_in t))
 
 stopped-clear : (t : Option Tenant) → IsClear t → IsClear (tenant_stopped t)
 stopped-clear None h = h
-stopped-clear (Some t) h = halted-clear t.machine h
+stopped-clear (Some t) h = halted-clear (machine_in t) h
 
 event-clear : (files : List (List ℕ)) (h : Host) (e : Event) → IsClear h.tenant → IsClear (after_event files h e).tenant
 unfolding after_event with_admitted sliced stopped start_of

@@ -1,9 +1,9 @@
 -- A run of instructions between two services is as many attempted instructions.
-use Rattle.std.proofs.Common.{◌≡◌, ℕ, zero, suc, ◌+◌, ◌-◌, ◌<◌, ◌≤◌, min, true, false, Option, List}
-use Rattle.std.proofs.Common.{Some, None, refl, ap, arith}
+use Rattle.std.proofs.Common.{◌≡◌, ℕ, zero, suc, ◌+◌, ◌-◌, ◌<◌, ◌≤◌, min, Bool, true, false, Option, List, if◌then◌else◌}
+use Rattle.std.proofs.Common.{Some, None, refl, ap, sym, ◌∙◌, arith}
 use Rattle.std.specs.FinMap as finite
 use Rattle.std.specs.Ordering.{nat_cmp}
-use Rattle.mte_tags.specs.Memory.{Memory, Page, pages_left, no_pages, with_new_pages}
+use Rattle.mte_tags.specs.Memory.{Memory, Page, page_at, pages_left, no_pages, with_new_pages}
 use Rattle.mte_tags.specs.declared.state.TagMode.{TagMode}
 use Rattle.mte_elf.specs.Headers.{segments_of}
 use Rattle.mte_elf.specs.Loading.{with_segments}
@@ -12,8 +12,9 @@ use Rattle.a64_step.specs.declared.outcome.Outcome.{Outcome}
 use Rattle.a64_step.specs.declared.outcome.Outcome.TheVariants as outcome
 use Rattle.a64_step.specs.declared.outcome.Stop.{Stop}
 use Rattle.a64_step.specs.Steps.{step_of, run_of, Ran, goes_on}
-use Rattle.mte_sched.specs.declared.machine.Machine.{Machine}
-use Rattle.mte_sched.specs.Machines.{is_running, met, counted_on, attempted, attempts, first_memory}
+use Rattle.mte_svc.specs.declared.parts.TenantParts.{TenantParts}
+use Rattle.mte_sched.specs.Machines.{Machine, machine_of, runs, Attempted, on, met, counted, with_regs}
+use Rattle.mte_sched.specs.Machines.{attempted, attempts, first_memory}
 
 pub left_goes : (o : Outcome) (n : ℕ) (more stopped : Ran) → more.stop.left ≤ n → stopped.stop.left ≡ n → (goes_on o more stopped).stop.left ≤ n
 left_goes outcome.Next n more stopped h e = h
@@ -38,71 +39,85 @@ left_lt (suc n) r m some =
     omega arith
 
 -- What stopped a run, if anything did, is met.
-abbrev pub met_if : Option Outcome → Machine → Machine
-met_if None m = m
+abbrev pub met_if : Option Outcome → Machine → Attempted
+met_if None m = on m
 met_if (Some o) m = met o m
 
 -- The machine after a run of at most n steps.
-abbrev pub after_run : ℕ → Ran → Machine → Machine
-after_run n ran m = met_if ran.stop.outcome (counted_on (n - ran.stop.left) (record m { regs = ran.regs; memory = ran.memory }))
+abbrev pub after_run : ℕ → Ran → Machine → Attempted
+after_run n ran m = met_if ran.stop.outcome (machine_of (counted (n - ran.stop.left) ran.stop.left (with_regs m.parts ran.regs)) ran.memory)
+
+-- So many more steps, where the slice goes on.
+abbrev pub rest_of : ℕ → Attempted → Machine
+rest_of n a = if a.goes_on then attempts n a.machine else a.machine
 
 abbrev pub RunAdvances : ℕ → Machine → Type 0
-RunAdvances n m = attempts (run_of n m.regs m.memory).stop.left (after_run n (run_of n m.regs m.memory) m) ≡ attempts n m
+RunAdvances n m = rest_of (run_of n m.parts.regs m.memory).stop.left (after_run n (run_of n m.parts.regs m.memory) m) ≡ attempts n m
 
-pub step_advances : (n : ℕ) (m : Machine) (o : Outcome) → (step_of m.regs m.memory).outcome ≡ o → is_running m.account.status ≡ true → m.account.steps ≤ 18446744073709551615
-    → ((k : Machine) → is_running k.account.status ≡ true → k.account.steps ≤ 18446744073709551615 → RunAdvances n k)
+-- Before a run of no steps none is left.
+abbrev pub HasLeft : ℕ → Machine → Type 0
+HasLeft n m = n ≡ 0 → m.parts.left ≡ 0
+
+pub step_advances : (n : ℕ) (m : Machine) (o : Outcome) → (step_of m.parts.regs m.memory).outcome ≡ o → runs m ≡ true → m.parts.account.steps ≤ 18446744073709551615
+    → ((k : Machine) → runs k ≡ true → k.parts.account.steps ≤ 18446744073709551615 → HasLeft n k → RunAdvances n k)
     → RunAdvances (suc n) m
 unfolding run_of attempts attempted met
 step_advances n m outcome.Next e running few rest =
-    let s = step_of m.regs m.memory in
-    let next : Machine = counted_on 1 (record m { regs = s.regs; memory = s.memory }) in
+    let s = step_of m.parts.regs m.memory in
+    let next : Machine = machine_of (counted 1 n (with_regs m.parts s.regs)) s.memory in
     let ran = run_of n s.regs s.memory in
     let below : ran.stop.left ≤ n = left_le n s.regs s.memory in
-    let same : min (m.account.steps + (suc n - ran.stop.left)) 18446744073709551615 ≡ min (min (m.account.steps + 1) 18446744073709551615 + (n - ran.stop.left)) 18446744073709551615 = omega arith in
-    let rest_of_it = rest next running (omega arith) in
+    let same : min (m.parts.account.steps + (suc n - ran.stop.left)) 18446744073709551615 ≡ min (min (m.parts.account.steps + 1) 18446744073709551615 + (n - ran.stop.left)) 18446744073709551615 = omega arith in
+    let rest_of_it = rest next running (omega arith) (λ z. z) in
     rw (e, running, same) rest_of_it
 step_advances n m outcome.Svc e running few rest = let one : suc n - n ≡ 1 = omega arith in rw (e, running, one) refl
 step_advances n m (outcome.Fault f) e running few rest = let one : suc n - n ≡ 1 = omega arith in rw (e, running, one) refl
 step_advances n m (outcome.Illegal w) e running few rest = let one : suc n - n ≡ 1 = omega arith in rw (e, running, one) refl
 step_advances n m (outcome.Breakpoint k) e running few rest = let one : suc n - n ≡ 1 = omega arith in rw (e, running, one) refl
 
-pub run_advances : (n : ℕ) (m : Machine) → is_running m.account.status ≡ true → m.account.steps ≤ 18446744073709551615 → RunAdvances n m
+pub run_advances : (n : ℕ) (m : Machine) → runs m ≡ true → m.parts.account.steps ≤ 18446744073709551615 → HasLeft n m → RunAdvances n m
 unfolding run_of attempts
-run_advances zero m running few =
-    let same : min (m.account.steps + (0 - 0)) 18446744073709551615 ≡ m.account.steps = omega arith in
-    ap (λ (k : ℕ). let z : Machine = record m { account = record m.account { steps = k } } in z) same
-run_advances (suc n) m running few =
-    step_advances n m (step_of m.regs m.memory).outcome refl running few (λ k r f. run_advances n k r f)
+run_advances zero m running few none =
+    let same : min (m.parts.account.steps + (0 - 0)) 18446744073709551615 ≡ m.parts.account.steps = omega arith in
+    let left : 0 ≡ m.parts.left = sym (none refl) in
+    ap (λ (k : ℕ). let z : Machine = record m { parts = record m.parts { account = record m.parts.account { steps = k }; left = 0 } } in z) same
+    ∙ ap (λ (k : ℕ). let z : Machine = record m { parts = record m.parts { left = k } } in z) left
+run_advances (suc n) m running few none =
+    step_advances n m (step_of m.parts.regs m.memory).outcome refl running few (λ k r f l. run_advances n k r f l)
 
 -- A machine that is not running stays as it is.
-pub attempts-ended : (n : ℕ) (m : Machine) → is_running m.account.status ≡ false → attempts n m ≡ m
+pub attempts-ended : (n : ℕ) (m : Machine) → runs m ≡ false → attempts n m ≡ m
 unfolding attempts
 attempts-ended zero m ended = refl
 attempts-ended (suc n) m ended = rw ended refl
 
 -- The same, of what the code has in hand.
-pub after_some : (n : ℕ) (m new : Machine) (stop : Stop) (r : Regs) (mem : Memory) (o : Outcome) (steps : ℕ)
-    → stop ≡ (run_of n m.regs m.memory).stop → r ≡ (run_of n m.regs m.memory).regs → mem ≡ (run_of n m.regs m.memory).memory
-    → stop.outcome ≡ Some o → steps ≡ min (m.account.steps + (n - stop.left)) 18446744073709551615
-    → new ≡ met o (record m { account = record m.account { steps = steps }; regs = r; memory = mem })
-    → is_running m.account.status ≡ true → m.account.steps ≤ 18446744073709551615 → attempts stop.left new ≡ attempts n m
-after_some n m new stop r mem o steps e_stop e_regs e_memory e_some e_steps e_new running few =
-    let h = run_advances n m running few in
+pub after_some : (n : ℕ) (m : Machine) (a : Attempted) (stop : Stop) (r : Regs) (mem : Memory) (o : Outcome) (steps : ℕ)
+    → stop ≡ (run_of n m.parts.regs m.memory).stop → r ≡ (run_of n m.parts.regs m.memory).regs → mem ≡ (run_of n m.parts.regs m.memory).memory
+    → stop.outcome ≡ Some o → steps ≡ min (m.parts.account.steps + (n - stop.left)) 18446744073709551615
+    → a ≡ met o (machine_of (record m.parts { account = record m.parts.account { steps = steps }; regs = r; left = stop.left }) mem)
+    → runs m ≡ true → m.parts.account.steps ≤ 18446744073709551615 → 0 < n → rest_of stop.left a ≡ attempts n m
+after_some n m a stop r mem o steps e_stop e_regs e_memory e_some e_steps e_new running few some =
+    let h = run_advances n m running few (λ z. absurd (omega arith)) in
     let k = rw (← e_stop, ← e_regs, ← e_memory, e_some, ← e_steps) at h in
     rw e_new k
 
 pub after_none : (n : ℕ) (m : Machine) (stop : Stop) (r : Regs) (mem : Memory) (steps : ℕ)
-    → stop ≡ (run_of n m.regs m.memory).stop → r ≡ (run_of n m.regs m.memory).regs → mem ≡ (run_of n m.regs m.memory).memory
-    → stop.outcome ≡ None → steps ≡ min (m.account.steps + (n - stop.left)) 18446744073709551615
-    → is_running m.account.status ≡ true → m.account.steps ≤ 18446744073709551615
-    → attempts stop.left (record m { account = record m.account { steps = steps }; regs = r; memory = mem }) ≡ attempts n m
-after_none n m stop r mem steps e_stop e_regs e_memory e_none e_steps running few =
-    let h = run_advances n m running few in
+    → stop ≡ (run_of n m.parts.regs m.memory).stop → r ≡ (run_of n m.parts.regs m.memory).regs → mem ≡ (run_of n m.parts.regs m.memory).memory
+    → stop.outcome ≡ None → steps ≡ min (m.parts.account.steps + (n - stop.left)) 18446744073709551615
+    → runs m ≡ true → m.parts.account.steps ≤ 18446744073709551615 → 0 < n
+    → attempts stop.left (machine_of (record m.parts { account = record m.parts.account { steps = steps }; regs = r; left = stop.left }) mem) ≡ attempts n m
+after_none n m stop r mem steps e_stop e_regs e_memory e_none e_steps running few some =
+    let h = run_advances n m running few (λ z. absurd (omega arith)) in
     rw (← e_stop, ← e_regs, ← e_memory, e_none, ← e_steps) at h
 
 pub attempts_none : (n : ℕ) (m : Machine) → n ≡ 0 → attempts n m ≡ m
 unfolding attempts
 attempts_none n m none = rw none refl
+
+pub none-no_pages : (n : ℕ) (mode : TagMode) (q : ℕ) → page_at (no_pages n mode) q ≡ None
+unfolding page_at no_pages
+none-no_pages n mode q = finite.get-empty nat_cmp q
 
 pub left-no_pages : (n : ℕ) (mode : TagMode) → pages_left (no_pages n mode) ≡ n
 unfolding pages_left no_pages

@@ -1,14 +1,14 @@
 -- One tenant of a session is its program alone: its machine is its first machine after its own
 -- events, and nothing else.
 use Rattle.std.specs.Prelude.{◌≡◌, ℕ, List, [], ◌∷◌, ◌++◌, Option, Some, None}
-use Rattle.mte_sched.specs.declared.machine.Machine.{Machine}
 use Rattle.mte_sched.specs.declared.host.Host.{Host}
 use Rattle.mte_sched.specs.declared.host.Tenant.{Tenant}
 use Rattle.mte_script.specs.declared.event.Event.{Event}
 use Rattle.mte_script.specs.declared.event.Event.TheVariants as event
 use Rattle.mte_sched.specs.declared.refusal.Refusal.{Refusal}
 use Rattle.mte_sched.specs.declared.refusal.Refused.{Refused}
-use Rattle.mte_sched.specs.Machines.{advance, halted}
+use Rattle.mte_sched.specs.Machines.{Machine, advance, halted}
+use Rattle.mte_sched.specs.Hosts.{machine_in}
 use Rattle.mte_sched.specs.Events.{event_refusal, after_event, played}
 
 -- What may happen to a machine.
@@ -41,7 +41,7 @@ own_events files h (e ∷ more) = own_by (event_refusal files h e) e
 
 abbrev pub HasMachine : Option Tenant → Machine → Type 0
 HasMachine None m = ⊥
-HasMachine (Some t) m = t.machine ≡ m
+HasMachine (Some t) m = machine_in t ≡ m
 
 -- Whatever the events are, the tenant that a host has is its machine alone after its own events.
 abbrev pub TenantIsAlone : Type 0
@@ -50,4 +50,4 @@ TenantIsAlone =
     (refused : List Refused) (n : ℕ)
     → h.tenant ≡ Some t
     → HasMachine (played files (record { host = h; refused = refused }) events n).host.tenant
-    (alone t.machine (own_events files h events))
+    (alone (machine_in t) (own_events files h events))

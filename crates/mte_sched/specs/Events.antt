@@ -27,7 +27,7 @@ event_refusal files h (event.Stop id) = unless_live (is_live h id)
 -- The host after an event that is not refused.
 unfoldable pub after_event : List (List ℕ) → Host → Event → Host
 after_event files h (event.Admit id image input seed pages room mode) =
-    with_admitted h id (file_at files image) seed pages room mode
+    with_admitted h id (file_at files image) (file_at files input) seed pages room mode
 after_event files h (event.Slice id steps) = sliced h steps
 after_event files h (event.Stop id) = stopped h
 

@@ -11,7 +11,13 @@ use Rattle.mte_sched.specs.declared.admission.AdmitError.TheVariants.{Image, Res
 use Rattle.mte_sched.specs.declared.admission.AdmitError.TheVariants.{NoFrames, TooManyLive}
 use Rattle.mte_sched.specs.declared.host.Host.{Host}
 use Rattle.mte_sched.specs.declared.host.Tenant.{Tenant}
-use Rattle.mte_sched.specs.Machines.{start_of, advance, halted}
+use Rattle.mte_sched.specs.Machines.{Machine, machine_of, start_of, advance, halted}
+
+abbrev pub machine_in : Tenant → Machine
+machine_in t = machine_of t.parts t.memory
+
+abbrev pub with_machine : Tenant → Machine → Tenant
+with_machine t m = record t { parts = m.parts; memory = m.memory }
 
 -- A reservation's pages, and one more than them for its tables.
 abbrev pub charge_of : ℕ → ℕ
@@ -27,11 +33,11 @@ charged h = charged_for h.tenant
 
 abbrev pub has_id : Option Tenant → ℕ → Bool
 has_id None id = false
-has_id (Some t) id = t.machine.account.id == id
+has_id (Some t) id = t.parts.account.id == id
 
 abbrev pub has_live_id : Option Tenant → ℕ → Bool
 has_live_id None id = false
-has_live_id (Some t) id = t.live && (t.machine.account.id == id)
+has_live_id (Some t) id = t.live && (t.parts.account.id == id)
 
 abbrev pub is_live : Host → ℕ → Bool
 is_live h id = has_live_id h.tenant id
@@ -60,18 +66,18 @@ admission_refusal h id image pages room = first_of (
     ∷ when (is_some h.tenant) TooManyLive
     ∷ [])
 
-unfoldable pub with_admitted : Host → ℕ → List ℕ → ℕ → ℕ → ℕ → TagMode → Host
-with_admitted h id image seed pages room mode = record h {
-  tenant = Some (record {
-    machine = start_of id image seed pages room mode;
-    pages = pages;
-    live = true;
-  });
+abbrev pub new_tenant : ℕ → Machine → Tenant
+new_tenant pages m =
+    record { parts = m.parts; memory = m.memory; pages = pages; live = true }
+
+unfoldable pub with_admitted : Host → ℕ → List ℕ → List ℕ → ℕ → ℕ → ℕ → TagMode → Host
+with_admitted h id image input seed pages room mode = record h {
+  tenant = Some (new_tenant pages (start_of id image input seed pages room mode));
 }
 
 abbrev pub tenant_sliced : ℕ → Option Tenant → Option Tenant
 tenant_sliced steps None = None
-tenant_sliced steps (Some t) = Some (record t { machine = advance steps t.machine })
+tenant_sliced steps (Some t) = Some (with_machine t (advance steps (machine_in t)))
 
 -- Its tenant has attempted at most `steps` more instructions.
 unfoldable pub sliced : Host → ℕ → Host
@@ -79,7 +85,8 @@ sliced h steps = record h { tenant = tenant_sliced steps h.tenant }
 
 abbrev pub tenant_stopped : Option Tenant → Option Tenant
 tenant_stopped None = None
-tenant_stopped (Some t) = Some (record t { machine = halted t.machine; live = false })
+tenant_stopped (Some t) = 
+    Some (record (with_machine t (halted (machine_in t))) { live = false })
 
 unfoldable pub stopped : Host → Host
 stopped h = record h { tenant = tenant_stopped h.tenant }

@@ -1,4 +1,3 @@
-pub mod Outputs
 pub mod Machines
 pub mod Hosts
 pub mod Names

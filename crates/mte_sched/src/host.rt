@@ -9,16 +9,20 @@ ghost use Rattle.mte_sched.specs.Hosts.{has_id, is_bad, admission_refusal, with_
 ghost use Rattle.mte_sched.specs.Hosts.{sliced, stopped, charge_of, charged};
 
 use crate::admission::{Admission, AdmitError, NotLive};
-use crate::machine::Machine;
+use crate::machine::{fill, halt, slice, start_parts};
 use address_map::{MAX_OUTPUT, MAX_PAGES, STACK_PAGES};
 use mte_elf::{ElfError, Plan, plan};
+use mte_svc::TenantParts;
+use mte_tags::Flat;
 use std::alloc::Global;
 
 /// An admitted tenant.
 #[derive(Drop)]
 pub struct Tenant {
-    /// Its machine; its record stays when it is stopped.
-    pub machine: Machine,
+    /// Its machine but for its memory; its record stays when it is stopped.
+    pub parts: TenantParts,
+    /// Its memory.
+    pub memory: Flat,
     /// Its reservation.
     pub pages: u32,
     /// Whether it is still admitted, and was not stopped.
@@ -50,14 +54,15 @@ impl Host {
     #[rattlefmt::skip]
     #[tactic(
         auto,
-        unfolding(crate::specs::Hosts::admission_refusal, crate::specs::Hosts::with_admitted)
+        unfolding(crate::specs::Hosts::admission_refusal, crate::specs::Hosts::with_admitted,
+            crate::specs::Machines::start_of)
     )]
     pub fn admit(&mut self, alloc: Global, admission: &Admission<'_>) -> Result<(), AdmitError>
         ensures accepted { OnOk result (admission_refusal self.old admission.now.id
             admission.now.image.now admission.now.pages admission.now.room ≡ None) }
         ensures ok { OnOk result (self.new ≡ with_admitted self.old admission.now.id
-            admission.now.image.now admission.now.seed admission.now.pages admission.now.room
-            admission.now.mode) }
+            admission.now.image.now admission.now.input.now admission.now.seed admission.now.pages
+            admission.now.room admission.now.mode) }
         ensures refused { IfErr result (λ e. (e ≡ AdmitError.OutOfMemory)
             ⊎ (admission_refusal self.old admission.now.id
             admission.now.image.now admission.now.pages admission.now.room ≡ Some e)) }
@@ -82,9 +87,12 @@ impl Host {
         if self.tenant.is_some() {
             return Err(AdmitError::TooManyLive);
         }
-        let machine = Machine::start(alloc, admission, &plan)?;
+        let mut memory = Flat::new(alloc, admission.pages as usize, admission.mode)?;
+        let parts = start_parts(alloc, admission, &plan)?;
+        fill(&plan, admission.image, admission.pages, admission.mode, &mut memory);
         self.tenant = Some(Tenant {
-            machine,
+            parts,
+            memory,
             pages: admission.pages,
             live: true,
         });
@@ -100,8 +108,8 @@ impl Host {
         ensures err { OnErr result (self.new ≡ self.old) }
     {
         match &mut self.tenant {
-            Some(tenant) if tenant.live && tenant.machine.account.id == id => {
-                tenant.machine.slice(steps);
+            Some(tenant) if tenant.live && tenant.parts.account.id == id => {
+                slice(&mut tenant.parts, &mut tenant.memory, steps);
                 Ok(())
             }
             _ => Err(NotLive),
@@ -117,8 +125,8 @@ impl Host {
         ensures err { OnErr result (self.new ≡ self.old) }
     {
         match &mut self.tenant {
-            Some(tenant) if tenant.live && tenant.machine.account.id == id => {
-                tenant.machine.halt();
+            Some(tenant) if tenant.live && tenant.parts.account.id == id => {
+                halt(&mut tenant.parts);
                 tenant.live = false;
                 Ok(())
             }
@@ -131,7 +139,7 @@ impl Host {
         ensures { result ≡ has_id self.now.tenant id }
     {
         match &self.tenant {
-            Some(tenant) => tenant.machine.account.id == id,
+            Some(tenant) => tenant.parts.account.id == id,
             None => false,
         }
     }

@@ -1,202 +1,188 @@
-//! A tenant's machine: its first state, its slices, its services.
+//! A tenant's machine: its first state and its slices, over any memory with pages.
 
 ghost use Rattle.std.specs.Prelude.{◌≡◌, ℕ, ◌+◌, ◌*◌, ◌^◌, ◌<◌, ◌≤◌, IfOk, IfErr, IsOkUnless, true};
 ghost use Rattle.std.specs.Prelude.{None, ◌/◌};
-ghost use Rattle.mte_tags.specs.Memory.{page_at, pages_left, with_new_pages};
+ghost use Rattle.mte_tags.specs.Memory.{Memory, page_at, pages_left, no_pages, with_new_pages};
 ghost use Rattle.mte_elf.specs.Headers.{segments_of, entry_of};
 ghost use Rattle.mte_elf.specs.Images.{refusal_of, pages_of};
-ghost use Rattle.mte_sched.specs.Machines.{start_of, advance, is_running, halted, served, met};
-ghost use Rattle.mte_sched.specs.Machines.{answered, wrote, with_status, first_registers};
-ghost use Rattle.mte_sched.specs.Machines.{attempts, settled};
+ghost use Rattle.mte_svc.specs.Services.{is_running, served};
+ghost use Rattle.mte_sched.specs.Machines.{machine_of, first_parts, first_memory, first_registers};
+ghost use Rattle.mte_sched.specs.Machines.{advance, attempts, settled, met, halted, with_service};
 
 use crate::admission::Admission;
-use crate::output::Output;
-use crate::record::{Record, Status};
 use a64_step::{Decoder, Outcome, Regs, run};
 use address_map::{PAGE_SIZE, STACK_END, STACK_PAGES, STACK_START};
 use mte_elf::{Plan, load};
-use mte_tags::{Attrs, Flat, Paged, Rgsr, Tagged};
+use mte_svc::{Input, Output, Record, Status, SvcEnd, TenantParts, svc};
+use mte_tags::{Attrs, Paged, Rgsr, TagMode, Tagged};
 use std::alloc::{AllocError, Global};
 
-/// A tenant's machine.
-#[derive(Drop)]
-pub struct Machine {
-    /// Its record.
-    pub account: Record,
-    /// Its registers.
-    pub regs: Regs,
-    /// Its memory.
-    pub memory: Flat,
+/// All of a machine but its memory, at its first instruction. `plan` is the image's plan.
+#[tactic(auto, unfolding(crate::specs::Machines::first_parts))]
+pub(crate) fn start_parts(
+    alloc: Global,
+    admission: &Admission<'_>,
+    plan: &Plan,
+) -> Result<TenantParts, AllocError>
+    requires { plan.now.entry ≡ entry_of admission.now.image.now }
+    ensures { IfOk result (λ parts. parts ≡ first_parts admission.now.id admission.now.image.now
+        admission.now.input.now admission.now.seed admission.now.room) }
+{
+    let output = Output::new(alloc, admission.room)?;
+    let input = Input::new(alloc, admission.input)?;
+    let account = Record {
+        id: admission.id,
+        status: Status::Running,
+        steps: 0,
+        output,
+        heap_calls: 0,
+    };
+    Ok(TenantParts {
+        account,
+        regs: registers_at(plan.entry, admission.seed),
+        input,
+        left: 0,
+    })
 }
 
-/// The services' numbers, in x8.
-const EXIT: u64 = 0;
+/// Maps and loads the image's pages and a stack of four pages, in a memory that has none. `plan` is
+/// the image's plan, and the memory may have its pages and the stack's.
+pub(crate) fn fill<M: Paged>(plan: &Plan, image: &[u8], pages: u32, mode: TagMode, memory: &mut M)
+    requires image { refusal_of image.now ≡ None }
+    requires segments { plan.now.segments.items ≡ segments_of image.now }
+    requires room { pages_of image.now + STACK_PAGES ≤ pages }
+    requires empty { M.Tagged.memory memory.old ≡ no_pages pages mode }
+    ensures memory { M.Tagged.memory memory.new ≡ first_memory image.now pages mode }
+    ensures kept { M.Tagged.kept memory.old memory.new }
+{
+    load(plan, image, memory);
+    map_stack(memory);
+}
 
-const WRITE: u64 = 1;
-
-impl Machine {
-    /// The machine at its first instruction: the image's pages, a stack of four pages, all
-    /// registers 0 but SP and PC. `plan` is the image's plan, and the reservation holds its pages
-    /// and the stack's.
-    #[tactic(auto, unfolding(crate::specs::Machines::start_of))]
-    pub(crate) fn start(
-        alloc: Global,
-        admission: &Admission<'_>,
-        plan: &Plan,
-    ) -> Result<Machine, AllocError>
-        requires image { refusal_of admission.now.image.now ≡ None }
-        requires segments { plan.now.segments.items ≡ segments_of admission.now.image.now }
-        requires entry { plan.now.entry ≡ entry_of admission.now.image.now }
-        requires room { pages_of admission.now.image.now + STACK_PAGES ≤ admission.now.pages }
-        ensures { IfOk result (λ machine. machine ≡ start_of admission.now.id
-            admission.now.image.now admission.now.seed admission.now.pages admission.now.room
-            admission.now.mode) }
-    {
-        let mut memory = Flat::new(alloc, admission.pages as usize, admission.mode)?;
-        let output = Output::new(alloc, admission.room)?;
-        load(plan, admission.image, &mut memory);
-        map_stack(&mut memory);
-        let account = Record {
-            id: admission.id,
-            status: Status::Running,
-            steps: 0,
-            output,
-            heap_calls: 0,
-        };
-        Ok(Machine {
-            account,
-            regs: registers_at(plan.entry, admission.seed),
-            memory,
-        })
+/// Lets a tenant attempt at most `steps` instructions while it is running and does not yield. It
+/// ends where its flag is set then.
+pub fn slice<M: Paged>(parts: &mut TenantParts, memory: &mut M, steps: u32)
+    ensures machine { machine_of parts.new (M.Tagged.memory memory.new)
+        ≡ advance steps (machine_of parts.old (M.Tagged.memory memory.old)) }
+    ensures kept { M.Tagged.kept memory.old memory.new }
+{
+    let mut decoder = Decoder::new();
+    let mut left = u64::from(steps);
+    while left > 0 && parts.is_running() {
+        left = run_on(&mut decoder, parts, memory, left);
     }
+    settle(parts, memory);
+}
 
-    /// Whether it is running.
-    pub fn is_running(&self) -> bool
-        ensures { result ≡ is_running self.now.account.status }
-    {
-        match self.account.status {
-            Status::Running => true,
-            _ => false,
-        }
-    }
-
-    /// Lets it attempt at most `steps` instructions while it is running. It ends where its flag is
-    /// set then.
-    pub(crate) fn slice(&mut self, steps: u32)
-        ensures { self.new ≡ advance steps self.old }
-    {
-        let mut decoder = Decoder::new();
-        let mut left = u64::from(steps);
-        while left > 0 && self.is_running() {
-            left = self.run_on(&mut decoder, left);
-        }
-        self.settle();
-    }
-
-    /// Runs to the next service, fault or end, or for `left` instructions; returns how many are
-    /// left.
-    fn run_on(&mut self, decoder: &mut Decoder, left: u64) -> u64
-        requires some { 0 < left }
-        requires running { is_running self.old.account.status ≡ true }
-        ensures rest { attempts result self.new ≡ attempts left self.old }
-        ensures fewer { result < left }
-    {
-        let stop = run(decoder, &mut self.regs, &mut self.memory, left);
-        self.account.steps = self.account.steps.saturating_add(left - stop.left);
-        match stop.outcome {
-            Some(outcome) => self.handle(outcome),
-            None => {}
-        }
-        stop.left
-    }
-
-    /// Ends the tenant where it is running and its flag is set.
-    #[tactic(auto, unfolding(crate::specs::Machines::settled))]
-    fn settle(&mut self)
-        ensures { self.new ≡ settled self.old }
-    {
-        if self.is_running() && self.memory.pending() {
-            self.account.status = Status::AsyncTag(self.regs.pc);
-        }
-    }
-
-    /// Handles an outcome: serves an SVC where the flag is clear, and ends the tenant at anything
-    /// else.
-    #[tactic(auto, unfolding(crate::specs::Machines::met))]
-    fn handle(&mut self, outcome: Outcome)
-        ensures { self.new ≡ met outcome self.old }
-    {
-        let pc = self.regs.pc;
-        match outcome {
-            Outcome::Next => {}
-            Outcome::Svc => {
-                if self.memory.pending() {
-                    self.account.status = Status::AsyncTag(pc);
-                } else {
-                    self.serve();
-                }
+/// Runs to the next service, fault or end, or for `left` instructions; returns how many the slice
+/// has left, 0 after a yield.
+fn run_on<M: Paged>(
+    decoder: &mut Decoder,
+    parts: &mut TenantParts,
+    memory: &mut M,
+    left: u64,
+) -> u64
+    requires some { 0 < left }
+    requires running { is_running parts.old.account.status ≡ true }
+    ensures rest { attempts result (machine_of parts.new (M.Tagged.memory memory.new))
+        ≡ attempts left (machine_of parts.old (M.Tagged.memory memory.old)) }
+    ensures fewer { result < left }
+    ensures kept { M.Tagged.kept memory.old memory.new }
+{
+    let stop = run(decoder, &mut parts.regs, memory, left);
+    parts.account.steps = parts.account.steps.saturating_add(left - stop.left);
+    parts.left = stop.left;
+    match stop.outcome {
+        Some(outcome) => {
+            if handle(outcome, parts, memory) {
+                stop.left
+            } else {
+                0
             }
-            Outcome::Fault(fault) => self.account.status = Status::Faulted(fault, pc),
-            Outcome::Illegal(word) => self.account.status = Status::Illegal(word, pc),
-            Outcome::Breakpoint(number) => self.account.status = Status::Breakpoint(number, pc),
         }
+        None => stop.left,
     }
+}
 
-    /// The service of an SVC, by x8.
-    #[tactic(auto, unfolding(crate::specs::Machines::served))]
-    fn serve(&mut self)
-        ensures { self.new ≡ served self.old }
-    {
-        match self.regs.x[8] {
-            EXIT => self.account.status = Status::Exited((self.regs.x[0] % 256) as u8),
-            WRITE => self.write(),
-            _ => self.answer(u64::MAX),
+/// Ends the slice, and the tenant where it is running and its flag is set.
+#[tactic(auto, unfolding(crate::specs::Machines::settled))]
+fn settle<M: Tagged>(parts: &mut TenantParts, memory: &mut M)
+    ensures machine { machine_of parts.new (M.memory memory.new)
+        ≡ settled (machine_of parts.old (M.memory memory.old)) }
+    ensures kept { M.kept memory.old memory.new }
+{
+    parts.left = 0;
+    if parts.is_running() && memory.pending() {
+        parts.account.status = Status::AsyncTag(parts.regs.pc);
+    }
+}
+
+/// Handles an outcome: serves an SVC where the flag is clear, and ends the tenant at anything else.
+/// Returns whether the slice goes on.
+#[tactic(auto, unfolding(crate::specs::Machines::met))]
+fn handle<M: Paged>(outcome: Outcome, parts: &mut TenantParts, memory: &mut M) -> bool
+    ensures machine {
+        record {
+          machine = machine_of parts.new (M.Tagged.memory memory.new);
+          goes_on = result;
         }
-    }
-
-    /// Appends the x1 bytes at x0, or as many as there is room for, to the output.
-    #[tactic(auto, unfolding(crate::specs::Machines::wrote))]
-    fn write(&mut self)
-        ensures { self.new ≡ wrote self.old }
-    {
-        let count = self.regs.x[1].min(self.account.output.left());
-        let addr = self.regs.x[0];
-        match self
-            .account
-            .output
-            .append_from(&mut self.memory, addr, count)
-        {
-            Ok(()) => self.answer(count),
-            Err(fault) => self.account.status = Status::Faulted(fault, self.regs.pc),
+        ≡ met outcome (machine_of parts.old (M.Tagged.memory memory.old)) }
+    ensures kept { M.Tagged.kept memory.old memory.new }
+{
+    let pc = parts.regs.pc;
+    match outcome {
+        Outcome::Next => {}
+        Outcome::Svc => {
+            if memory.pending() {
+                parts.account.status = Status::AsyncTag(pc);
+            } else {
+                return serve(parts, memory);
+            }
         }
+        Outcome::Fault(fault) => parts.account.status = Status::Faulted(fault, pc),
+        Outcome::Illegal(word) => parts.account.status = Status::Illegal(word, pc),
+        Outcome::Breakpoint(number) => parts.account.status = Status::Breakpoint(number, pc),
     }
+    true
+}
 
-    /// Returns a service's result in x0, and resumes after the SVC.
-    #[tactic(auto, unfolding(crate::specs::Machines::answered))]
-    fn answer(&mut self, value: u64)
-        ensures { self.new ≡ answered self.old value }
-    {
-        self.regs.x[0] = value;
-        self.regs.pc = self.regs.pc.wrapping_add(4) % (1 << 56);
-    }
-
-    /// Stops it where it is running.
-    #[tactic(auto, unfolding(crate::specs::Machines::halted))]
-    pub(crate) fn halt(&mut self)
-        ensures { self.new ≡ halted self.old }
-    {
-        if self.is_running() {
-            self.account.status = Status::Stopped;
+/// Serves an SVC; returns whether the slice goes on.
+fn serve<M: Paged>(parts: &mut TenantParts, memory: &mut M) -> bool
+    ensures machine {
+        record {
+          machine = machine_of parts.new (M.Tagged.memory memory.new);
+          goes_on = result;
         }
+        ≡ with_service (served parts.old (M.Tagged.memory memory.old)) }
+    ensures kept { M.Tagged.kept memory.old memory.new }
+{
+    match svc(parts, memory) {
+        SvcEnd::Go => {}
+        SvcEnd::EndSlice => return false,
+        SvcEnd::Exit(code) => parts.account.status = Status::Exited(code),
+        SvcEnd::Fault(fault) => parts.account.status = Status::Faulted(fault, parts.regs.pc),
+    }
+    true
+}
+
+/// Stops a tenant where it is running.
+#[tactic(auto, unfolding(crate::specs::Machines::halted))]
+pub(crate) fn halt(parts: &mut TenantParts)
+    ensures { (m : Memory) → machine_of parts.new m ≡ halted (machine_of parts.old m) }
+{
+    if parts.is_running() {
+        parts.account.status = Status::Stopped;
     }
 }
 
 /// Maps the four pages of a stack.
-fn map_stack(memory: &mut Flat)
-    requires free { (page : ℕ) → 65536 ≤ page → page_at memory.old page ≡ None }
-    requires room { STACK_PAGES ≤ pages_left memory.old }
-    ensures { memory.new
-        ≡ with_new_pages memory.old (STACK_START / 4096) STACK_PAGES (record { 0 = 11 }) }
+fn map_stack<M: Paged>(memory: &mut M)
+    requires free { (page : ℕ) → 65536 ≤ page → page_at (M.Tagged.memory memory.old) page ≡ None }
+    requires room { STACK_PAGES ≤ pages_left (M.Tagged.memory memory.old) }
+    ensures memory { M.Tagged.memory memory.new
+        ≡ with_new_pages (M.Tagged.memory memory.old) (STACK_START / PAGE_SIZE) STACK_PAGES
+        (record { 0 = 11 }) }
+    ensures kept { M.Tagged.kept memory.old memory.new }
 {
     match memory.map_pages(STACK_START / PAGE_SIZE, STACK_PAGES as usize, Attrs::DATA) {
         Ok(()) => {}

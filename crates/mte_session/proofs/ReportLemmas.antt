@@ -3,7 +3,7 @@ use Rattle.std.proofs.Common.{◌≡◌, ℕ, ◌+◌, ◌<◌, List, [], ◌∷
 use Rattle.std.proofs.Common.{map, Result, Ok, Err, refl, ap, sym, ◌∙◌, arith, append_assoc}
 use Rattle.std.proofs.Common.{slice_index, ◌/◌, ◌%◌, codes}
 use Rattle.mte_session.specs.Report.{line, number_line, status_line, output_line, long_output_line}
-use Rattle.mte_sched.specs.declared.record.Record.{Record}
+use Rattle.mte_svc.specs.declared.record.Record.{Record}
 use Rattle.std.specs.List.{concat}
 use Rattle.std.proofs.lemmas.List.{append-nil, take-append-drop, take_more, map-append}
 use Rattle.mte_streams.specs.declared.writing.WriteFault.{WriteFault}

@@ -7,10 +7,10 @@ use Rattle.mte_tags.specs.declared.fault.FaultKind.{FaultKind}
 use Rattle.mte_tags.specs.declared.fault.FaultKind.TheVariants.{Translation, Permission, TagCheck}
 use Rattle.mte_tags.specs.declared.fault.FaultKind.TheVariants.{Alignment, SpAlignment}
 use Rattle.mte_tags.specs.declared.fault.FaultKind.TheVariants.{PcAlignment}
-use Rattle.mte_sched.specs.declared.record.Status.{Status}
-use Rattle.mte_sched.specs.declared.record.Status.TheVariants.{Running, Exited, Faulted, Illegal}
-use Rattle.mte_sched.specs.declared.record.Status.TheVariants.{Breakpoint, AsyncTag, Stopped}
-use Rattle.mte_sched.specs.declared.record.Record.{Record}
+use Rattle.mte_svc.specs.declared.record.Status.{Status}
+use Rattle.mte_svc.specs.declared.record.Status.TheVariants.{Running, Exited, Faulted, Illegal}
+use Rattle.mte_svc.specs.declared.record.Status.TheVariants.{Breakpoint, AsyncTag, Stopped}
+use Rattle.mte_svc.specs.declared.record.Record.{Record}
 
 -- Parts in a row, and the end of the line.
 abbrev pub line : List (List ℕ) → List ℕ

@@ -29,7 +29,7 @@ refused_texts refused = concat (map refused_text refused)
 
 abbrev pub tenant_text : Option Tenant → List ℕ
 tenant_text None = []
-tenant_text (Some t) = record_text t.machine.account
+tenant_text (Some t) = record_text t.parts.account
 
 -- A line for each refused event, then the admitted tenant's lines.
 abbrev pub session_report : Host → List Refused → List ℕ

@@ -69,7 +69,7 @@ fn write_session<W: Sink>(host: &Host, refused: &[Refused], out: &mut W) -> Resu
 {
     write_refusals(refused, out)?;
     match &host.tenant {
-        Some(tenant) => write_report(&tenant.machine.account, out),
+        Some(tenant) => write_report(&tenant.parts.account, out),
         None => Ok(()),
     }
 }

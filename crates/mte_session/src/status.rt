@@ -1,8 +1,8 @@
 //! The line of a tenant's status.
 
 ghost use Rattle.std.specs.Prelude.{◌≡◌};
-ghost use Rattle.mte_sched.specs.declared.record.Status.TheVariants.{Exited, Faulted, Illegal};
-ghost use Rattle.mte_sched.specs.declared.record.Status.TheVariants.{Breakpoint, AsyncTag};
+ghost use Rattle.mte_svc.specs.declared.record.Status.TheVariants.{Exited, Faulted, Illegal};
+ghost use Rattle.mte_svc.specs.declared.record.Status.TheVariants.{Breakpoint, AsyncTag};
 ghost use Rattle.mte_streams.specs.Writing.{Writes};
 ghost use Rattle.mte_session.specs.Report.{kind_name, access_name, status_line};
 

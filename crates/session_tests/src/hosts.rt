@@ -31,9 +31,9 @@ fn one_host(rt: HostRuntime) -> Result<(), Fail> {
     let Some(tenant) = &host.tenant else {
         return Err(Fail::from(NotLive));
     };
-    let account = &tenant.machine.account;
+    let account = &tenant.parts.account;
     assert!(rt; account.status == Status::Stopped);
-    assert!(rt; !tenant.machine.is_running());
+    assert!(rt; !tenant.parts.is_running());
     assert_eq!(rt; (account.steps, account.output.left()), (3, 16));
     let mut out = MemorySink::new(rt.alloc());
     write_report(account, &mut out)?;

@@ -10,6 +10,8 @@ mod images;
 #[cfg(test)]
 mod scripts;
 #[cfg(test)]
+mod services;
+#[cfg(test)]
 mod sessions;
 #[cfg(test)]
 mod streams;

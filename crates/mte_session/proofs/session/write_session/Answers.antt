@@ -11,4 +11,4 @@ returns-in_err-write_refusals g c =
 pub returns-in-Some : goal.returns-in-Some
 returns-in-Some g c =
     rw c.in-Some.is
-    (then_writes _ _ _ c.write_report.result (refused_texts c.args.refused.now) (record_text c.in-Some.tenant.machine.account) c.in_ok-write_refusals.ensures c.write_report.ensures)
+    (then_writes _ _ _ c.write_report.result (refused_texts c.args.refused.now) (record_text c.in-Some.tenant.parts.account) c.in_ok-write_refusals.ensures c.write_report.ensures)

@@ -16,7 +16,7 @@ pub struct Output {
 }
 
 impl Model for Output {
-    ghost use Rattle.mte_sched.specs.Outputs.{Written, coded_written, written_of, IsWithin};
+    ghost use Rattle.mte_svc.specs.Outputs.{Written, coded_written, written_of, IsWithin};
 
     ghost Value = { Written };
 
@@ -29,7 +29,7 @@ impl Model for Output {
 
 impl Output {
     /// An empty output with room for `room` bytes.
-    pub(crate) fn new(alloc: Global, room: u32) -> Result<Output, AllocError>
+    pub fn new(alloc: Global, room: u32) -> Result<Output, AllocError>
         ensures { IfOk result (λ output. output ≡ record { bytes = []; left = room }) }
     {
         let bytes = vec![in alloc; 0; room as usize]?;

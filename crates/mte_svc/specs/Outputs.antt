@@ -1,7 +1,7 @@
 -- What a tenant has written, and how much more it may write.
 use Rattle.std.specs.Prelude.{ℕ, ◌-◌, ◌≤◌, List, take, length, refl}
 use Rattle.std.specs.Coded.{Coded, code_by, coded×, coded_ℕ, coded_list}
-use Rattle.mte_sched.specs.declared.output.Output.TheInside.{Inside}
+use Rattle.mte_svc.specs.declared.output.Output.TheInside.{Inside}
 
 pub record Written : Type 0 where
   pub bytes : List ℕ

@@ -1,0 +1,36 @@
+use Rattle.std.proofs.Common.{◌≡◌, ◌∙◌, sym, true, false, if◌then◌else◌, arith, cond, ap, refl}
+use Rattle.mte_sched.specs.Machines.{Machine, Attempted, machine_of, attempts}
+use Rattle.mte_sched.proofs.MachineLemmas.{left_le, left_lt, rest_of, after_some, after_none}
+use Rattle.mte_sched.proofs.machine.run_on.Goals as goal
+
+pub overflow_sub-left : goal.overflow_sub-left
+overflow_sub-left g c = let h = left_le c.args.left c.args.parts.now.regs (g.M.Tagged.memory c.args.memory.now) in rw (c.run-stop.ensures.stop) h
+
+pub returns-then-handle-clause-rest : goal.returns-then-handle-clause-rest
+returns-then-handle-clause-rest g c =
+    let a : Attempted = record { machine = machine_of c.handle.new.parts (g.M.Tagged.memory c.handle.new.memory); goes_on = c.handle.result } in
+    let all : rest_of c.run-stop.result.left a ≡ attempts c.args.left (machine_of c.args.parts.now (g.M.Tagged.memory c.args.memory.now)) =
+        after_some c.args.left (machine_of c.args.parts.now (g.M.Tagged.memory c.args.memory.now)) a c.run-stop.result c.run-stop.new.regs (g.M.Tagged.memory c.run-stop.new.memory) c.in-Some.outcome _
+        c.run-stop.ensures.stop c.run-stop.ensures.regs c.run-stop.ensures.memory c.in-Some.is c.saturating_add-parts.ensures c.handle.ensures.machine c.requires.running (omega arith) c.requires.some in
+    rw (c.if-handle.true) at all
+
+pub returns-then-handle-clause-fewer : goal.returns-then-handle-clause-fewer
+returns-then-handle-clause-fewer g c = let h = left_lt c.args.left c.args.parts.now.regs (g.M.Tagged.memory c.args.memory.now) c.requires.some in rw (c.run-stop.ensures.stop) h
+
+pub returns-else-handle-clause-rest : goal.returns-else-handle-clause-rest
+unfolding attempts
+returns-else-handle-clause-rest g c =
+    let a : Attempted = record { machine = machine_of c.handle.new.parts (g.M.Tagged.memory c.handle.new.memory); goes_on = c.handle.result } in
+    let all : rest_of c.run-stop.result.left a ≡ attempts c.args.left (machine_of c.args.parts.now (g.M.Tagged.memory c.args.memory.now)) =
+        after_some c.args.left (machine_of c.args.parts.now (g.M.Tagged.memory c.args.memory.now)) a c.run-stop.result c.run-stop.new.regs (g.M.Tagged.memory c.run-stop.new.memory) c.in-Some.outcome _
+        c.run-stop.ensures.stop c.run-stop.ensures.regs c.run-stop.ensures.memory c.in-Some.is c.saturating_add-parts.ensures c.handle.ensures.machine c.requires.running (omega arith) c.requires.some in
+    rw (c.if-handle.false) at all
+
+pub returns-in-None-clause-rest : goal.returns-in-None-clause-rest
+returns-in-None-clause-rest g c =
+    after_none c.args.left (machine_of c.args.parts.now (g.M.Tagged.memory c.args.memory.now)) c.run-stop.result c.run-stop.new.regs (g.M.Tagged.memory c.run-stop.new.memory) _
+    c.run-stop.ensures.stop c.run-stop.ensures.regs c.run-stop.ensures.memory c.in-None.is c.saturating_add-parts.ensures
+    c.requires.running (omega arith) c.requires.some
+
+pub returns-in-None-clause-fewer : goal.returns-in-None-clause-fewer
+returns-in-None-clause-fewer g c = let h = left_lt c.args.left c.args.parts.now.regs (g.M.Tagged.memory c.args.memory.now) c.requires.some in rw (c.run-stop.ensures.stop) h

@@ -1,0 +1,14 @@
+//! What a tenant reaches by SVC: its services, and the parts of its machine that they use.
+#![tactic(auto)]
+
+mod input;
+mod output;
+mod parts;
+mod record;
+mod services;
+
+pub use input::Input;
+pub use output::Output;
+pub use parts::TenantParts;
+pub use record::{Record, Status};
+pub use services::{SvcEnd, svc};

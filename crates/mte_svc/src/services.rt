@@ -1,0 +1,105 @@
+//! The services, by x8.
+
+ghost use Rattle.std.specs.Prelude.{◌≡◌};
+ghost use Rattle.mte_svc.specs.Services.{served, wrote, read_in};
+
+use crate::parts::TenantParts;
+use mte_tags::{MemFault, Paged, Tagged};
+
+/// How a service ends.
+#[derive(Clone, Copy, Debug, PartialEq, Eq)]
+pub enum SvcEnd {
+    /// The tenant resumes after the SVC.
+    Go,
+    /// So it does, with its next slice.
+    EndSlice,
+    /// It ended itself, with a code.
+    Exit(u8),
+    /// An access of the service failed.
+    Fault(MemFault),
+}
+
+/// The services' numbers, in x8.
+pub(crate) const EXIT: u64 = 0;
+
+pub(crate) const WRITE: u64 = 1;
+
+pub(crate) const READ: u64 = 2;
+
+pub(crate) const YIELD: u64 = 9;
+
+pub(crate) const STEPS_LEFT: u64 = 10;
+
+pub(crate) const PAGES_LEFT: u64 = 11;
+
+/// The service of an SVC: its number is x8, its arguments are x0 and x1, its result is x0. A number
+/// that no service has returns 2^64 - 1. Where it ends the tenant, PC stays at the SVC.
+#[tactic(auto, unfolding(crate::specs::Services::served))]
+pub fn svc<M: Paged>(parts: &mut TenantParts, memory: &mut M) -> SvcEnd
+    ensures served {
+        record { parts = parts.new; memory = M.Tagged.memory memory.new; end = result }
+        ≡ served parts.old (M.Tagged.memory memory.old) }
+    ensures kept { M.Tagged.kept memory.old memory.new }
+{
+    match parts.regs.x[8] {
+        EXIT => SvcEnd::Exit((parts.regs.x[0] % 256) as u8),
+        WRITE => write(parts, memory),
+        READ => read(parts, memory),
+        YIELD => {
+            parts.answer(0);
+            SvcEnd::EndSlice
+        }
+        STEPS_LEFT => {
+            let left = parts.left;
+            parts.answer(left);
+            SvcEnd::Go
+        }
+        PAGES_LEFT => {
+            let left = memory.pages_left() as u64;
+            parts.answer(left);
+            SvcEnd::Go
+        }
+        _ => {
+            parts.answer(u64::MAX);
+            SvcEnd::Go
+        }
+    }
+}
+
+/// Appends the x1 bytes at x0, or as many as there is room for, to the output.
+#[tactic(auto, unfolding(crate::specs::Services::wrote))]
+fn write<M: Tagged>(parts: &mut TenantParts, memory: &mut M) -> SvcEnd
+    ensures served {
+        record { parts = parts.new; memory = M.memory memory.new; end = result }
+        ≡ wrote parts.old (M.memory memory.old) }
+    ensures kept { M.kept memory.old memory.new }
+{
+    let count = parts.regs.x[1].min(parts.account.output.left());
+    let addr = parts.regs.x[0];
+    match parts.account.output.append_from(memory, addr, count) {
+        Ok(()) => {
+            parts.answer(count);
+            SvcEnd::Go
+        }
+        Err(fault) => SvcEnd::Fault(fault),
+    }
+}
+
+/// Reads the next x1 bytes of the input, or as many as are left, to x0.
+#[tactic(auto, unfolding(crate::specs::Services::read_in))]
+fn read<M: Tagged>(parts: &mut TenantParts, memory: &mut M) -> SvcEnd
+    ensures served {
+        record { parts = parts.new; memory = M.memory memory.new; end = result }
+        ≡ read_in parts.old (M.memory memory.old) }
+    ensures kept { M.kept memory.old memory.new }
+{
+    let count = parts.regs.x[1].min(parts.input.left());
+    let addr = parts.regs.x[0];
+    match parts.input.copy_to(memory, addr, count) {
+        Ok(()) => {
+            parts.answer(count);
+            SvcEnd::Go
+        }
+        Err(fault) => SvcEnd::Fault(fault),
+    }
+}
