@@ -58,7 +58,7 @@ first_parts id image input seed room = record {
     status = Running;
     steps = 0;
     output = record { bytes = []; left = room };
-    heap_calls = 0;
+    calls = record { last = []; count = 0 };
   };
   regs = first_registers (entry_of image) seed;
   input = input;

@@ -13,7 +13,7 @@ use crate::admission::Admission;
 use a64_step::{Decoder, Outcome, Regs, run};
 use address_map::{PAGE_SIZE, STACK_END, STACK_PAGES, STACK_START};
 use mte_elf::{Plan, load};
-use mte_svc::{Input, Output, Record, Status, SvcEnd, TenantParts, svc};
+use mte_svc::{HeapCalls, Input, Output, Record, Status, SvcEnd, TenantParts, svc};
 use mte_tags::{Attrs, Paged, Rgsr, TagMode, Tagged};
 use std::alloc::{AllocError, Global};
 
@@ -30,12 +30,13 @@ pub(crate) fn start_parts(
 {
     let output = Output::new(alloc, admission.room)?;
     let input = Input::new(alloc, admission.input)?;
+    let calls = HeapCalls::new(alloc)?;
     let account = Record {
         id: admission.id,
         status: Status::Running,
         steps: 0,
         output,
-        heap_calls: 0,
+        calls,
     };
     Ok(TenantParts {
         account,

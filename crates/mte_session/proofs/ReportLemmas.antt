@@ -2,7 +2,7 @@
 use Rattle.std.proofs.Common.{◌≡◌, ℕ, ◌+◌, ◌<◌, List, [], ◌∷◌, ◌++◌, length, take, drop, get_or}
 use Rattle.std.proofs.Common.{map, Result, Ok, Err, refl, ap, sym, ◌∙◌, arith, append_assoc}
 use Rattle.std.proofs.Common.{slice_index, ◌/◌, ◌%◌, codes}
-use Rattle.mte_session.specs.Report.{line, number_line, status_line, output_line, long_output_line}
+use Rattle.mte_session.specs.Report.{line, number_line, status_line, output_line, long_output_line, calls_text}
 use Rattle.mte_svc.specs.declared.record.Record.{Record}
 use Rattle.std.specs.List.{concat}
 use Rattle.std.proofs.lemmas.List.{append-nil, take-append-drop, take_more, map-append}
@@ -123,7 +123,7 @@ abbrev pub line_4 : Record → List ℕ
 line_4 r = output_line r.output.bytes
 
 abbrev pub line_5 : Record → List ℕ
-line_5 r = number_line (codes "heap ") r.heap_calls
+line_5 r = calls_text r.calls
 
 abbrev pub line_6 : Record → List ℕ
 line_6 r = line (codes "end" ∷ [])

@@ -1,5 +1,6 @@
 -- A tenant's lines in the report.
-use Rattle.std.specs.Prelude.{ℕ, Bool, true, false, List, [], ◌∷◌, ◌++◌, length, codes, decimal}
+use Rattle.std.specs.Prelude.{ℕ, Bool, true, false, List, [], ◌∷◌, ◌++◌, length, map}
+use Rattle.std.specs.Prelude.{codes, decimal}
 use Rattle.std.specs.List.{concat}
 use Rattle.std.specs.Int.{to_be_bytes, w32, w64}
 use Rattle.hex.specs.Hex.{encode_lower}
@@ -11,6 +12,11 @@ use Rattle.mte_svc.specs.declared.record.Status.{Status}
 use Rattle.mte_svc.specs.declared.record.Status.TheVariants.{Running, Exited, Faulted, Illegal}
 use Rattle.mte_svc.specs.declared.record.Status.TheVariants.{Breakpoint, AsyncTag, Stopped}
 use Rattle.mte_svc.specs.declared.record.Record.{Record}
+use Rattle.mte_svc.specs.declared.calls.HeapCall.{HeapCall}
+use Rattle.mte_svc.specs.declared.calls.HeapService.{HeapService}
+use Rattle.mte_svc.specs.declared.calls.HeapService.TheVariants.{Malloc, Free, Calloc, Realloc}
+use Rattle.mte_svc.specs.declared.calls.HeapService.TheVariants.{Memalign, UsableSize}
+use Rattle.mte_svc.specs.Calls.{Calls}
 
 -- Parts in a row, and the end of the line.
 abbrev pub line : List (List ℕ) → List ℕ
@@ -72,6 +78,26 @@ long_output_line bytes =
     concat (codes "output " ∷ decimal (length bytes) ∷ codes " " ∷ [])
     ++ encode_lower bytes ++ concat (codes "\n" ∷ [])
 
+abbrev pub service_name : HeapService → List ℕ
+service_name Malloc = codes "malloc"
+service_name Free = codes "free"
+service_name Calloc = codes "calloc"
+service_name Realloc = codes "realloc"
+service_name Memalign = codes "memalign"
+service_name UsableSize = codes "usable_size"
+
+-- A heap call: its service, its two arguments, its result.
+unfoldable pub call_line : HeapCall → List ℕ
+call_line c =
+    line (codes "call " ∷ service_name c.service
+    ∷ codes " 0x" ∷ sixteen_digits c.first
+    ∷ codes " 0x" ∷ sixteen_digits c.second
+    ∷ codes " = 0x" ∷ sixteen_digits c.answer ∷ [])
+
+-- How many calls there were, and those that are kept.
+abbrev pub calls_text : Calls → List ℕ
+calls_text c = number_line (codes "heap ") c.count ++ concat (map call_line c.last)
+
 -- A tenant's lines, from `tenant` to `end`.
 unfoldable pub record_text : Record → List ℕ
 record_text r =
@@ -79,5 +105,5 @@ record_text r =
     ++ status_line r.status
     ++ number_line (codes "steps ") r.steps
     ++ output_line r.output.bytes
-    ++ number_line (codes "heap ") r.heap_calls
+    ++ calls_text r.calls
     ++ line (codes "end" ∷ [])

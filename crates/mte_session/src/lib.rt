@@ -1,6 +1,7 @@
 //! Sessions: a script and its files in, the report out.
 #![tactic(auto)]
 
+mod calls;
 mod ending;
 mod refusals;
 mod report;

@@ -4,6 +4,7 @@ ghost use Rattle.std.specs.Prelude.{◌≡◌, length};
 ghost use Rattle.mte_streams.specs.Writing.{Writes};
 ghost use Rattle.mte_session.specs.Report.{record_text, number_line, output_line, long_output_line};
 
+use crate::calls::write_calls;
 use crate::status::write_status_line;
 use crate::text::{write_hex, write_parts};
 use itoa::Buffer;
@@ -20,12 +21,12 @@ pub fn write_report<W: Sink>(tenant: &Record, out: &mut W) -> Result<(), WriteFa
     write_status_line(out, &tenant.status)?;
     write_number_line(out, b"steps ", tenant.steps)?;
     write_output_line(out, tenant.output.as_slice())?;
-    write_number_line(out, b"heap ", tenant.heap_calls)?;
+    write_calls(out, &tenant.calls)?;
     write_parts(out, &[b"end", b"\n"])
 }
 
 /// Writes a line of a label and a number.
-fn write_number_line<W: Sink>(out: &mut W, label: &[u8], number: u64) -> Result<(), WriteFault>
+pub(crate) fn write_number_line<W: Sink>(out: &mut W, label: &[u8], number: u64) -> Result<(), WriteFault>
     ensures { Writes (W.log out.old) (W.log out.new) result (number_line label.now number) }
 {
     let mut digits = Buffer::new();

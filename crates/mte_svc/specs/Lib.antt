@@ -1,3 +1,4 @@
 pub mod Outputs
+pub mod Calls
 pub mod Inputs
 pub mod Services

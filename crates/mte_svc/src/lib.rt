@@ -1,12 +1,14 @@
 //! What a tenant reaches by SVC: its services, and the parts of its machine that they use.
 #![tactic(auto)]
 
+mod calls;
 mod input;
 mod output;
 mod parts;
 mod record;
 mod services;
 
+pub use calls::{HeapCall, HeapCalls, HeapService, KEPT_CALLS};
 pub use input::Input;
 pub use output::Output;
 pub use parts::TenantParts;

@@ -1,5 +1,6 @@
 //! A tenant's record, from its admission on.
 
+use crate::calls::HeapCalls;
 use crate::output::Output;
 use mte_tags::MemFault;
 
@@ -34,6 +35,6 @@ pub struct Record {
     pub steps: u64,
     /// What it has written.
     pub output: Output,
-    /// How many heap calls it has made; the count stops at 2^64 - 1.
-    pub heap_calls: u64,
+    /// The heap calls that it has made.
+    pub calls: HeapCalls,
 }

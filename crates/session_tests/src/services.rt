@@ -1,7 +1,7 @@
 //! The services, called by themselves.
 
 use a64_step::Regs;
-use mte_svc::{Input, Output, Record, Status, SvcEnd, TenantParts, svc};
+use mte_svc::{HeapCalls, Input, Output, Record, Status, SvcEnd, TenantParts, svc};
 use mte_tags::{Attrs, FaultKind, Flat, MemFault, Paged, TagMode, Tagged};
 use std::alloc::Global;
 use std::test::Fail;
@@ -18,7 +18,7 @@ fn tenant(alloc: Global) -> Result<TenantParts, Fail> {
         status: Status::Running,
         steps: 0,
         output: Output::new(alloc, 2)?,
-        heap_calls: 0,
+        calls: HeapCalls::new(alloc)?,
     };
     Ok(TenantParts {
         account,

@@ -42,9 +42,9 @@ returns-in_err-write_output_line g c =
     let part : WrotePart (g.W.Sink.log c.write_number_line-2.new.out) (g.W.Sink.log c.write_output_line.new.out) (line_4 c.args.tenant.now) = rw (← c.as_slice.ensures) c.in_err-write_output_line.ensures in
     err_writes _ _ c.from_residual-in_err-write_output_line.result _ _ (search rules) (part_more _ _ (lines_5 c.args.tenant.now) (line_6 c.args.tenant.now) (part_more _ _ (lines_4 c.args.tenant.now) (line_5 c.args.tenant.now) (then_part _ _ _ (lines_3 c.args.tenant.now) (line_4 c.args.tenant.now) all_3 part)))
 
-pub returns-in_err-write_number_line-3 : goal.returns-in_err-write_number_line-3
+pub returns-in_err-write_calls : goal.returns-in_err-write_calls
 unfolding record_text
-returns-in_err-write_number_line-3 g c =
+returns-in_err-write_calls g c =
     let wrote_1 : WroteAll (g.W.Sink.log c.args.out.now) (g.W.Sink.log c.write_number_line.new.out) (line_1 c.args.tenant.now) = rw (← c.from.ensures) c.in_ok-write_number_line.ensures in
     let all_1 = wrote_1 in
     let wrote_2 : WroteAll (g.W.Sink.log c.write_number_line.new.out) (g.W.Sink.log c.write_status_line.new.out) (line_2 c.args.tenant.now) = c.in_ok-write_status_line.ensures in
@@ -53,8 +53,8 @@ returns-in_err-write_number_line-3 g c =
     let all_3 = then_all _ _ _ (lines_2 c.args.tenant.now) (line_3 c.args.tenant.now) all_2 wrote_3 in
     let wrote_4 : WroteAll (g.W.Sink.log c.write_number_line-2.new.out) (g.W.Sink.log c.write_output_line.new.out) (line_4 c.args.tenant.now) = rw (← c.as_slice.ensures) c.in_ok-write_output_line.ensures in
     let all_4 = then_all _ _ _ (lines_3 c.args.tenant.now) (line_4 c.args.tenant.now) all_3 wrote_4 in
-    let part : WrotePart (g.W.Sink.log c.write_output_line.new.out) (g.W.Sink.log c.write_number_line-3.new.out) (line_5 c.args.tenant.now) = c.in_err-write_number_line-3.ensures in
-    err_writes _ _ c.from_residual-in_err-write_number_line-3.result _ _ (search rules) (part_more _ _ (lines_5 c.args.tenant.now) (line_6 c.args.tenant.now) (then_part _ _ _ (lines_4 c.args.tenant.now) (line_5 c.args.tenant.now) all_4 part))
+    let part : WrotePart (g.W.Sink.log c.write_output_line.new.out) (g.W.Sink.log c.write_calls.new.out) (line_5 c.args.tenant.now) = c.in_err-write_calls.ensures in
+    err_writes _ _ c.from_residual-in_err-write_calls.result _ _ (search rules) (part_more _ _ (lines_5 c.args.tenant.now) (line_6 c.args.tenant.now) (then_part _ _ _ (lines_4 c.args.tenant.now) (line_5 c.args.tenant.now) all_4 part))
 
 pub returns : goal.returns
 unfolding record_text
@@ -67,6 +67,6 @@ returns g c =
     let all_3 = then_all _ _ _ (lines_2 c.args.tenant.now) (line_3 c.args.tenant.now) all_2 wrote_3 in
     let wrote_4 : WroteAll (g.W.Sink.log c.write_number_line-2.new.out) (g.W.Sink.log c.write_output_line.new.out) (line_4 c.args.tenant.now) = rw (← c.as_slice.ensures) c.in_ok-write_output_line.ensures in
     let all_4 = then_all _ _ _ (lines_3 c.args.tenant.now) (line_4 c.args.tenant.now) all_3 wrote_4 in
-    let wrote_5 : WroteAll (g.W.Sink.log c.write_output_line.new.out) (g.W.Sink.log c.write_number_line-3.new.out) (line_5 c.args.tenant.now) = c.in_ok-write_number_line-3.ensures in
+    let wrote_5 : WroteAll (g.W.Sink.log c.write_output_line.new.out) (g.W.Sink.log c.write_calls.new.out) (line_5 c.args.tenant.now) = c.in_ok-write_calls.ensures in
     let all_5 = then_all _ _ _ (lines_4 c.args.tenant.now) (line_5 c.args.tenant.now) all_4 wrote_5 in
     then_writes _ _ _ c.write_parts.result (lines_5 c.args.tenant.now) (line_6 c.args.tenant.now) all_5 c.write_parts.ensures
