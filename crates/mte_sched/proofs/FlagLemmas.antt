@@ -1,22 +1,21 @@
--- The flag of a tenant that is running is clear between events: a slice ends where it is set.
-use Rattle.std.proofs.Common.{◌≡◌, ℕ, ◌+◌, ◌&&◌, Bool, true, false, List, [], ◌∷◌, Option, Some, None, cond, refl, ap, ◌∙◌}
+-- The flag of a tenant that is running is clear between calls: a slice ends where it is set.
+use Rattle.std.proofs.Common.{◌≡◌, ℕ, ◌+◌, ◌&&◌, ◌==◌, Bool, true, false, List, [], ◌∷◌, ◌++◌, map}
+use Rattle.std.proofs.Common.{Option, Some, None, if◌then◌else◌, cond, refl, ap, ◌∙◌}
 use Rattle.mte_tags.specs.Memory.{Memory, no_pages}
 use Rattle.mte_tags.specs.declared.state.TagMode.{TagMode}
 use Rattle.mte_tags.specs.declared.state.TagState.{TagState}
 use Rattle.mte_tags.proofs.StateLaws.{state-with_new_pages, state-written}
 use Rattle.mte_elf.specs.declared.image.Segment.{Segment}
 use Rattle.mte_elf.specs.Loading.{with_segment, with_segments}
-use Rattle.mte_sched.specs.declared.host.Host.{Host}
-use Rattle.mte_sched.specs.declared.host.Tenant.{Tenant}
-use Rattle.mte_sched.specs.declared.refusal.Refusal.{Refusal}
-use Rattle.mte_sched.specs.declared.refusal.Refused.{Refused}
-use Rattle.mte_script.specs.declared.event.Event.{Event}
-use Rattle.mte_script.specs.declared.event.Event.TheVariants as event
 use Rattle.mte_svc.specs.declared.record.Status.TheVariants.{Stopped}
-use Rattle.mte_sched.specs.Machines.{Machine, runs, first_memory, start_of, attempts, settled, advance, halted, with_status, ended_by_tag}
-use Rattle.mte_sched.specs.Hosts.{machine_in, with_admitted, sliced, stopped, tenant_sliced, tenant_stopped}
-use Rattle.mte_sched.specs.Events.{event_refusal, after_event, played, played_on, played_by}
-use Rattle.mte_sched.specs.Flags.{HasClearFlag, IsClear, FlagIsClear}
+use Rattle.mte_sched.specs.declared.refusal.Refusal.{Refusal}
+use Rattle.mte_sched.specs.Machines.{Machine, Terms, runs, first_memory, start_of, attempts, settled}
+use Rattle.mte_sched.specs.Machines.{advance, with_status, ended_by_tag}
+use Rattle.mte_sched.specs.Ledger.{Call, Admit, Slice, Stop, call_refusal}
+use Rattle.mte_sched.specs.Contents.{Held, Live, Gone, held_sliced, held_stopped, Tenant, Content}
+use Rattle.mte_sched.specs.Contents.{ledger_of, tenant_sliced, tenant_stopped, admitted, sliced, stopped}
+use Rattle.mte_sched.specs.Contents.{after_call, after_by, played, empty, new_tenant}
+use Rattle.mte_sched.specs.Flags.{HasClearFlag, IsClear, AreClear, FlagIsClear}
 
 state-with_segments : (file : List ℕ) (m : Memory) (ss : List Segment) → (with_segments file m ss).state ≡ m.state
 unfolding with_segments with_segment
@@ -40,41 +39,55 @@ settled-clear m =
     let z : Machine = record m { parts = record m.parts { left = 0 } } in
     settled_by z (runs z) z.memory.state.pending refl refl
 
-halted_by : (m : Machine) (r : Bool) → runs m ≡ r → HasClearFlag m → HasClearFlag (cond r (with_status m Stopped) m)
-halted_by m true e h = λ k. cc
-halted_by m false e h = h
+-- ---- of one tenant
 
-halted-clear : (m : Machine) → HasClearFlag m → HasClearFlag (halted m)
-unfolding halted
-halted-clear m h = halted_by m (runs m) refl h
+abbrev pub Clear : Tenant → Type 0
+Clear t = IsClear t.held
 
-sliced-clear : (n : ℕ) (t : Option Tenant) → IsClear t → IsClear (tenant_sliced n t)
+sliced-clear : (b : Bool) (n : ℕ) (h : Held) → IsClear h → IsClear (if b then held_sliced n h else h)
 unfolding advance
-sliced-clear n None h = h
-sliced-clear n (Some t) h = settled-clear (attempts n (machine_in t))
+sliced-clear true n (Live m) c = settled-clear (attempts n m)
+sliced-clear true n (Gone r) c = c
+sliced-clear false n h c = c
 
-stopped-clear : (t : Option Tenant) → IsClear t → IsClear (tenant_stopped t)
-stopped-clear None h = h
-stopped-clear (Some t) h = halted-clear (machine_in t) h
+stopped-clear : (b : Bool) (h : Held) → IsClear h → IsClear (if b then held_stopped h else h)
+stopped-clear true (Live m) c = tt
+stopped-clear true (Gone r) c = c
+stopped-clear false h c = c
 
-event-clear : (files : List (List ℕ)) (h : Host) (e : Event) → IsClear h.tenant → IsClear (after_event files h e).tenant
-unfolding after_event with_admitted sliced stopped start_of
-event-clear files h (event.Admit id image input seed pages room mode) c = λ k. start-clear _ pages mode
-event-clear files h (event.Slice id n) c = sliced-clear n h.tenant c
-event-clear files h (event.Stop id) c = stopped-clear h.tenant c
+new-clear : (id : ℕ) (terms : Terms) → Clear (new_tenant id terms)
+unfolding start_of
+new-clear id terms = λ k. start-clear terms.image terms.pages terms.mode
 
-played_by-clear : (r : Option Refusal) (files : List (List ℕ)) (h : Host) (refused : List Refused) (e : Event) (n : ℕ) → IsClear h.tenant
-    → IsClear (played_by r files (record { host = h; refused = refused }) e n).host.tenant
-played_by-clear None files h refused e n c = event-clear files h e c
-played_by-clear (Some r) files h refused e n c = c
+-- ---- of all
 
-played-clear : (files : List (List ℕ)) (events : List Event) (h : Host) (refused : List Refused) (n : ℕ) → IsClear h.tenant
-    → IsClear (played files (record { host = h; refused = refused }) events n).host.tenant
-unfolding played played_on
-played-clear files [] h refused n c = c
-played-clear files (e ∷ more) h refused n c =
-    let p = played_by (event_refusal files h e) files (record { host = h; refused = refused }) e n in
-    played-clear files more p.host p.refused (n + 1) (played_by-clear (event_refusal files h e) files h refused e n c)
+all-sliced : (id n : ℕ) (ts : List Tenant) → AreClear ts → AreClear (map (tenant_sliced id n) ts)
+all-sliced id n [] c = c
+all-sliced id n (t ∷ ts) c = (sliced-clear (t.id == id) n t.held c.0, all-sliced id n ts c.1)
+
+all-stopped : (id : ℕ) (ts : List Tenant) → AreClear ts → AreClear (map (tenant_stopped id) ts)
+all-stopped id [] c = c
+all-stopped id (t ∷ ts) c = (stopped-clear (t.id == id) t.held c.0, all-stopped id ts c.1)
+
+all-more : (ts : List Tenant) (t : Tenant) → AreClear ts → Clear t → AreClear (ts ++ t ∷ [])
+all-more [] t c d = (d, tt)
+all-more (u ∷ ts) t c d = (c.0, all-more ts t c.1 d)
+
+call-clear : (c : Content) (e : Call) → AreClear c.tenants → AreClear (after_call c e).tenants
+unfolding after_call admitted sliced stopped
+call-clear c (Admit id terms) h = all-more c.tenants (new_tenant id terms) h (new-clear id terms)
+call-clear c (Slice id n) h = all-sliced id n c.tenants h
+call-clear c (Stop id) h = all-stopped id c.tenants h
+
+by-clear : (r : Option Refusal) (c : Content) (e : Call) → AreClear c.tenants → AreClear (after_by r c e).tenants
+by-clear (Some r) c e h = h
+by-clear None c e h = call-clear c e h
+
+played-clear : (calls : List Call) (c : Content) → AreClear c.tenants → AreClear (played c calls).tenants
+unfolding played
+played-clear [] c h = h
+played-clear (e ∷ more) c h =
+    played-clear more (after_by (call_refusal c.frames (ledger_of c) e) c e) (by-clear (call_refusal c.frames (ledger_of c) e) c e h)
 
 pub flag_is_clear : FlagIsClear
-flag_is_clear files events h refused n none = played-clear files events h refused n (rw none tt)
+flag_is_clear s = played-clear s.calls (empty s.frames) tt

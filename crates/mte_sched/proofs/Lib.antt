@@ -1,3 +1,5 @@
 pub mod MachineLemmas
-pub mod AloneLemmas
+pub mod IsolationLemmas
+pub mod TenantLemmas
+mod EachLemmas
 mod FlagLemmas

@@ -1,25 +1,22 @@
--- Between the events of a session the flag of a tenant that is running is clear: no tag differed
--- in what it did so far.
-use Rattle.std.specs.Prelude.{◌≡◌, ℕ, true, false, List, Option, Some, None}
-use Rattle.mte_sched.specs.declared.host.Host.{Host}
-use Rattle.mte_sched.specs.declared.host.Tenant.{Tenant}
-use Rattle.mte_sched.specs.declared.refusal.Refused.{Refused}
-use Rattle.mte_script.specs.declared.event.Event.{Event}
+-- Between the calls of a session the flag of a tenant that is running is clear: no tag differed in
+-- what it did so far.
+use Rattle.std.specs.Prelude.{◌≡◌, true, false, List, [], ◌∷◌}
 use Rattle.mte_sched.specs.Machines.{Machine, runs}
-use Rattle.mte_sched.specs.Hosts.{machine_in}
-use Rattle.mte_sched.specs.Events.{played}
+use Rattle.mte_sched.specs.Lives.{Session}
+use Rattle.mte_sched.specs.Contents.{Held, Live, Gone, Tenant}
+use Rattle.mte_sched.specs.Isolation.{content_after}
 
 abbrev pub HasClearFlag : Machine → Type 0
 HasClearFlag m = runs m ≡ true → m.memory.state.pending ≡ false
 
--- Of the tenant, if there is one.
-abbrev pub IsClear : Option Tenant → Type 0
-IsClear None = Unit {0}
-IsClear (Some t) = HasClearFlag (machine_in t)
+-- Of a tenant that was not stopped.
+abbrev pub IsClear : Held → Type 0
+IsClear (Gone r) = Unit {0}
+IsClear (Live m) = HasClearFlag m
 
--- Whatever the events of a session are, which begins without a tenant.
+abbrev pub AreClear : List Tenant → Type 0
+AreClear [] = Unit {0}
+AreClear (t ∷ more) = IsClear t.held × AreClear more
+
 abbrev pub FlagIsClear : Type 0
-FlagIsClear =
-    (files : List (List ℕ)) (events : List Event) (h : Host) (refused : List Refused) (n : ℕ)
-    → h.tenant ≡ None
-    → IsClear (played files (record { host = h; refused = refused }) events n).host.tenant
+FlagIsClear = (s : Session) → AreClear (content_after s).tenants

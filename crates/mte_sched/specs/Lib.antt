@@ -1,6 +1,8 @@
 pub mod Machines
+pub mod Ledger
+pub mod Lives
+pub mod Contents
 pub mod Hosts
 pub mod Names
-pub mod Events
-pub mod Alone
+pub mod Isolation
 pub mod Flags

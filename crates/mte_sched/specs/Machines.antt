@@ -38,6 +38,16 @@ with_status m s =
 
 -- ---- the first machine
 
+-- What a tenant is admitted with: its image and its input, the seed, its reservation in pages, the
+-- room for its output, and what a tag that differs does.
+pub record Terms : Type 0 where
+  pub image : List ℕ
+  pub input : List ℕ
+  pub seed : ℕ
+  pub pages : ℕ
+  pub room : ℕ
+  pub mode : TagMode
+
 -- All registers are 0 but SP and PC; the seed's low 16 bits are RGSR_EL1.SEED, the next four
 -- RGSR_EL1.TAG.
 unfoldable pub first_registers : ℕ → ℕ → Regs
@@ -51,23 +61,23 @@ first_memory image pages mode =
     with_new_pages (with_segments image (no_pages pages mode) (segments_of image))
     (STACK_START / PAGE_SIZE) STACK_PAGES (record { 0 = 11 })
 
-unfoldable pub first_parts : ℕ → List ℕ → List ℕ → ℕ → ℕ → TenantParts
-first_parts id image input seed room = record {
+unfoldable pub first_parts : ℕ → Terms → TenantParts
+first_parts id terms = record {
   account = record {
     id = id;
     status = Running;
     steps = 0;
-    output = record { bytes = []; left = room };
+    output = record { bytes = []; left = terms.room };
     calls = record { last = []; count = 0 };
   };
-  regs = first_registers (entry_of image) seed;
-  input = input;
+  regs = first_registers (entry_of terms.image) terms.seed;
+  input = terms.input;
   left = 0;
 }
 
-unfoldable pub start_of : ℕ → List ℕ → List ℕ → ℕ → ℕ → ℕ → TagMode → Machine
-start_of id image input seed pages room mode =
-    machine_of (first_parts id image input seed room) (first_memory image pages mode)
+unfoldable pub start_of : ℕ → Terms → Machine
+start_of id terms =
+    machine_of (first_parts id terms) (first_memory terms.image terms.pages terms.mode)
 
 -- ---- an attempted instruction
 

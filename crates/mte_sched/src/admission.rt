@@ -1,6 +1,7 @@
 //! What a tenant is admitted with, and why it is refused.
 
 ghost use Rattle.std.specs.Prelude.{◌≡◌, Some};
+ghost use Rattle.mte_sched.specs.Ledger.{charge_of};
 ghost use Rattle.mte_sched.specs.Names.{admit_name, image_name, not_live_name};
 ghost use Rattle.mte_sched.specs.declared.admission.AdmitError.TheVariants.{OutOfMemory};
 
@@ -10,6 +11,9 @@ use mte_tags::TagMode;
 use std::alloc::{AllocError, AllocFailed};
 use std::error::Error;
 use std::fmt;
+
+/// The most tenants that are live at once.
+pub const MAX_LIVE: usize = 255;
 
 /// What a tenant is admitted with.
 #[derive(Clone, Copy, Debug)]
@@ -123,4 +127,11 @@ impl<T: Drop> From<AllocFailed<T>> for AdmitError {
     fn from(_error: AllocFailed<T>) -> AdmitError {
         AdmitError::OutOfMemory
     }
+}
+
+/// How many frames a reservation is charged: its pages, and one more than them for its tables.
+pub(crate) fn charge(pages: u32) -> u64
+    ensures { result ≡ charge_of pages }
+{
+    2 * u64::from(pages) + 1
 }

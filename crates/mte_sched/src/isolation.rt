@@ -1,15 +1,27 @@
-//! What holds of a session's tenant, whatever the events are.
+//! What a tenant of a session is, and what it is in two sessions.
 
-ghost use Rattle.mte_sched.specs.Alone.{TenantIsAlone};
+ghost use Rattle.mte_sched.specs.Isolation.{LedgerFollows, TenantsAreAlone, TenantsAreIsolated};
 ghost use Rattle.mte_sched.specs.Flags.{FlagIsClear};
 
-/// Whatever the events of a session are, the tenant that a host has is its machine after its own
-/// accepted slices and its own stop, and nothing else.
-pub fn tenant_is_alone()
-    ensures { TenantIsAlone }
+/// What a tenant does cannot change who is admitted: a call changes a host's ledger as the ledger
+/// says.
+pub fn ledger_follows()
+    ensures { LedgerFollows }
 {}
 
-/// Between the events of a session the flag of a tenant that is running is clear.
+/// After every list of calls a host's tenants are the accepted admissions, each of them its machine
+/// alone after its own slices and its own stop.
+pub fn tenants_are_alone()
+    ensures { TenantsAreAlone }
+{}
+
+/// Two sessions that agree for a tenant have the same of it, whatever other tenants there are and
+/// whatever they do.
+pub fn tenants_are_isolated()
+    ensures { TenantsAreIsolated }
+{}
+
+/// Between the calls of a session the flag of a tenant that is running is clear.
 pub fn flag_is_clear()
     ensures { FlagIsClear }
 {}

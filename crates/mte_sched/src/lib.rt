@@ -1,4 +1,4 @@
-//! The host of one tenant: admission, slices, stop, and what the tenant's machine does.
+//! The host: admission, slices and stops of tenants, and what a tenant's machine does.
 #![tactic(auto)]
 
 mod admission;
@@ -6,10 +6,12 @@ mod host;
 mod isolation;
 mod machine;
 mod refusal;
+mod tenant;
 
-pub use admission::{Admission, AdmitError, NotLive};
-pub use host::{Host, Tenant};
-pub use isolation::{flag_is_clear, tenant_is_alone};
+pub use admission::{Admission, AdmitError, MAX_LIVE, NotLive};
+pub use host::Host;
+pub use isolation::{flag_is_clear, ledger_follows, tenants_are_alone, tenants_are_isolated};
 pub use machine::slice;
 pub use mte_svc::{Output, Record, Status, TenantParts};
 pub use refusal::{Refusal, Refused};
+pub use tenant::Tenant;

@@ -7,6 +7,7 @@ ghost use Rattle.mte_elf.specs.Headers.{segments_of, entry_of};
 ghost use Rattle.mte_elf.specs.Images.{refusal_of, pages_of};
 ghost use Rattle.mte_svc.specs.Services.{is_running, served};
 ghost use Rattle.mte_sched.specs.Machines.{machine_of, first_parts, first_memory, first_registers};
+ghost use Rattle.mte_sched.specs.Hosts.{terms_of};
 ghost use Rattle.mte_sched.specs.Machines.{advance, attempts, settled, met, halted, with_service};
 
 use crate::admission::Admission;
@@ -25,8 +26,8 @@ pub(crate) fn start_parts(
     plan: &Plan,
 ) -> Result<TenantParts, AllocError>
     requires { plan.now.entry ≡ entry_of admission.now.image.now }
-    ensures { IfOk result (λ parts. parts ≡ first_parts admission.now.id admission.now.image.now
-        admission.now.input.now admission.now.seed admission.now.room) }
+    ensures { IfOk result
+        (λ parts. parts ≡ first_parts admission.now.id (terms_of admission.now)) }
 {
     let output = Output::new(alloc, admission.room)?;
     let input = Input::new(alloc, admission.input)?;

@@ -1,47 +1,56 @@
--- Events one after another.
-use Rattle.std.proofs.Common.{◌≡◌, ◌⊎◌, ℕ, ◌+◌, ◌<◌, ◌≤◌, List, [], ◌∷◌, ◌++◌, length, drop, get_or}
-use Rattle.std.proofs.Common.{Some, None, refl, sym, ◌∙◌, arith, inl, inr}
-use Rattle.std.proofs.lemmas.List.{drop_more, nil_from_length}
-use Rattle.std.proofs.Common.{length-drop}
-use Rattle.mte_sched.specs.declared.host.Host.{Host}
+-- Calls one after another.
+use Rattle.std.proofs.Common.{◌≡◌, ◌⊎◌, ℕ, ◌+◌, ◌<◌, ◌≤◌, List, [], ◌∷◌, ◌++◌, length, map, drop, get_or}
+use Rattle.std.proofs.Common.{Option, Some, None, refl, ap, sym, ◌∙◌, arith, inl, inr, length-drop}
+use Rattle.std.proofs.Common.{append_assoc}
+use Rattle.std.specs.List.{concat}
+use Rattle.std.proofs.lemmas.List.{drop_more, nil_from_length, append-nil}
 use Rattle.mte_script.specs.declared.event.Event.{Event}
+use Rattle.mte_svc.specs.declared.parts.TenantParts.{TenantParts}
+use Rattle.mte_tags.specs.Memory.{Memory}
 use Rattle.mte_sched.specs.declared.refusal.Refusal.{Refusal}
 use Rattle.mte_sched.specs.declared.refusal.Refused.{Refused}
-use Rattle.mte_sched.specs.Events.{played, played_on, Played, event_refusal, after_event}
-use Rattle.mte_session.specs.Sessions.{session_text, session_report, new_host}
+use Rattle.mte_sched.specs.declared.tenant.Tenant as code
+use Rattle.mte_sched.specs.Ledger.{Call, Admit, Slice, Stop, Entry, call_refusal, entered_by}
+use Rattle.mte_sched.specs.Lives.{Session, Life, lives, refused, refused_from, refused_by}
+use Rattle.mte_sched.specs.Contents.{Content, Tenant, ledger_of, admitted, sliced, stopped, after_call, after_by, played, empty, record_of, tenant_of}
+use Rattle.mte_sched.specs.Hosts.{held_by, tenant_in}
+use Rattle.mte_sched.specs.Isolation.{LedgerFollows, TenantsAreAlone, content_after}
+use Rattle.mte_session.specs.Sessions.{call_of, calls_of, session_of, session_text, tenant_text, tenant_texts, life_text, life_texts, refused_texts}
+use Rattle.mte_session.specs.Progress.{Progress, refusal_in, run_by, run_on, run_all, progress_text}
+use Rattle.mte_session.specs.Report.{record_text}
 
-abbrev pub at : Host → List Refused → Played
-at host refused = record { host = host; refused = refused }
+abbrev pub at : Content → List Refused → Progress
+at c refused = record { content = c; refused = refused }
 
-pub played_step : (files : List (List ℕ)) (p : Played) (events : List Event) (i : ℕ) (d : Event) → i < length events
-    → played files p (drop i events) (i + 1) ≡ played files (played_on files p (get_or events i d) (i + 1)) (drop (i + 1) events) (i + 1 + 1)
-unfolding played
-played_step files p events i d below = rw (drop_more events i d below) refl
+pub run_step : (files : List (List ℕ)) (p : Progress) (events : List Event) (i : ℕ) (d : Event) → i < length events
+    → run_all p (calls_of files (drop i events)) (i + 1) ≡ run_all (run_on p (call_of files (get_or events i d)) (i + 1)) (calls_of files (drop (i + 1) events)) (i + 1 + 1)
+unfolding run_all
+run_step files p events i d below = rw (drop_more events i d below) refl
 
--- An event that is not refused.
-pub played_accepted : (files : List (List ℕ)) (host new : Host) (refused : List Refused) (events : List Event) (i : ℕ) (d : Event) (all : Played) → i < length events
-    → event_refusal files host (get_or events i d) ≡ None → new ≡ after_event files host (get_or events i d)
-    → played files (at host refused) (drop i events) (i + 1) ≡ all → played files (at new refused) (drop (i + 1) events) (i + 1 + 1) ≡ all
-unfolding played_on
-played_accepted files host new refused events i d all below e_none e_new h =
-    let step = sym (played_step files (at host refused) events i d below) ∙ h in
+-- A call that is not refused.
+pub run_accepted : (files : List (List ℕ)) (c new : Content) (refused : List Refused) (events : List Event) (i : ℕ) (d : Event) (all : Progress) → i < length events
+    → refusal_in c (call_of files (get_or events i d)) ≡ None → new ≡ after_call c (call_of files (get_or events i d))
+    → run_all (at c refused) (calls_of files (drop i events)) (i + 1) ≡ all → run_all (at new refused) (calls_of files (drop (i + 1) events)) (i + 1 + 1) ≡ all
+unfolding run_on
+run_accepted files c new refused events i d all below e_none e_new h =
+    let step = sym (run_step files (at c refused) events i d below) ∙ h in
     let k = rw e_none at step in
     rw e_new k
 
 -- And one that is.
-pub played_refused : (files : List (List ℕ)) (host new : Host) (refused : List Refused) (r : Refusal) (events : List Event) (i : ℕ) (d : Event) (all : Played) → i < length events
-    → event_refusal files host (get_or events i d) ≡ Some r → new ≡ host
-    → played files (at host refused) (drop i events) (i + 1) ≡ all
-    → played files (at new (refused ++ (record { event = i + 1; refusal = r }) ∷ [])) (drop (i + 1) events) (i + 1 + 1) ≡ all
-unfolding played_on
-played_refused files host new refused r events i d all below e_some e_new h =
-    let step = sym (played_step files (at host refused) events i d below) ∙ h in
+pub run_refused : (files : List (List ℕ)) (c new : Content) (refused : List Refused) (r : Refusal) (events : List Event) (i : ℕ) (d : Event) (all : Progress) → i < length events
+    → refusal_in c (call_of files (get_or events i d)) ≡ Some r → new ≡ c
+    → run_all (at c refused) (calls_of files (drop i events)) (i + 1) ≡ all
+    → run_all (at new (refused ++ (record { event = i + 1; refusal = r }) ∷ [])) (calls_of files (drop (i + 1) events)) (i + 1 + 1) ≡ all
+unfolding run_on
+run_refused files c new refused r events i d all below e_some e_new h =
+    let step = sym (run_step files (at c refused) events i d below) ∙ h in
     let k = rw e_some at step in
     rw e_new k
 
-pub played_end : (files : List (List ℕ)) (p all : Played) (events : List Event) (i n : ℕ) → length events ≤ i → played files p (drop i events) n ≡ all → p ≡ all
-unfolding played
-played_end files p all events i n over h =
+pub run_end : (files : List (List ℕ)) (p all : Progress) (events : List Event) (i n : ℕ) → length events ≤ i → run_all p (calls_of files (drop i events)) n ≡ all → p ≡ all
+unfolding run_all
+run_end files p all events i n over h =
     let none : drop i events ≡ [] = nil_from_length (drop i events) (simp length-drop (omega arith)) in
     rw none at h
 
@@ -49,9 +58,67 @@ pub not_first : {A B : Type 0} → A ⊎ B → (A → ⊥) → B
 not_first (inl a) f = absurd (f a)
 not_first (inr b) f = b
 
--- The report, by what the events left.
-pub session_text_is : (frames : ℕ) (files : List (List ℕ)) (events : List Event) (first host : Host) (refused : List Refused)
-    → first ≡ new_host frames → played files (at first []) events 1 ≡ at host refused
-    → session_text frames files events ≡ session_report host refused
+-- ---- what the calls leave, by the definitions of a session
+
+abbrev pub Ends : LedgerFollows → Content → List Refused → List Call → ℕ → Type 0
+Ends law c done calls n =
+    run_all (at c done) calls n ≡ at (played c calls) (done ++ refused_from c.frames (ledger_of c) calls n)
+
+kept_frames : (c : Content) (e : Call) → (after_call c e).frames ≡ c.frames
+unfolding after_call admitted sliced stopped
+kept_frames c (Admit id terms) = refl
+kept_frames c (Slice id n) = refl
+kept_frames c (Stop id) = refl
+
+ends_next : (law : LedgerFollows) (r : Option Refusal) (e : Call) (more : List Call) (c : Content) (done : List Refused) (n : ℕ)
+    → ((d : Content) (l : List Refused) → Ends law d l more (n + 1))
+    → run_all (run_by r (at c done) e n) more (n + 1)
+    ≡ at (played (after_by r c e) more) (done ++ (refused_by r n ++ refused_from c.frames (entered_by r (ledger_of c) e) more (n + 1)))
+ends_next law (Some r) e more c done n rest =
+    rest c (done ++ (record { event = n; refusal = r }) ∷ [])
+    ∙ ap (λ l. at (played c more) l) (append_assoc done ((record { event = n; refusal = r }) ∷ []) (refused_from c.frames (ledger_of c) more (n + 1)))
+ends_next law None e more c done n rest =
+    let follows = law c e in
+    let frames : (after_call c e).frames ≡ c.frames = kept_frames c e in
+    rest (after_call c e) done
+    ∙ ap (λ (f : ℕ). at (played (after_call c e) more) (done ++ refused_from f (ledger_of (after_call c e)) more (n + 1))) frames
+    ∙ ap (λ (l : List Entry). at (played (after_call c e) more) (done ++ refused_from c.frames l more (n + 1))) follows
+
+pub ends : (law : LedgerFollows) (calls : List Call) (c : Content) (done : List Refused) (n : ℕ) → Ends law c done calls n
+unfolding run_all run_on played refused_from
+ends law [] c done n = ap (λ l. at c l) (sym (append-nil done))
+ends law (e ∷ more) c done n =
+    ends_next law (call_refusal c.frames (ledger_of c) e) e more c done n (λ d l. ends law more d l (n + 1))
+
+texts_of : (ls : List Life) → tenant_texts (map tenant_of ls) ≡ life_texts ls
+texts_of [] = refl
+texts_of (l ∷ ls) = ap (λ t. life_text l ++ t) (texts_of ls)
+
+pub concat_lives : (s : Session) (alone : TenantsAreAlone) → tenant_texts (content_after s).tenants ≡ life_texts (lives s)
+concat_lives s alone = ap tenant_texts (alone s) ∙ texts_of (lives s)
+
+-- The report, by what the calls left.
+pub session_text_is : (law : LedgerFollows) (alone : TenantsAreAlone) (frames : ℕ) (files : List (List ℕ)) (events : List Event) (c : Content) (done : List Refused)
+    → run_all (at (empty frames) []) (calls_of files events) 1 ≡ at c done
+    → session_text (session_of frames files events) ≡ progress_text (at c done)
 unfolding session_text
-session_text_is frames files events first host refused e h = let k = rw e at h in rw k refl
+session_text_is law alone frames files events c done h =
+    let s = session_of frames files events in
+    let whole : at (content_after s) (refused s) ≡ at c done = sym (ends law s.calls (empty frames) [] 1) ∙ h in
+    ap (λ t. refused_texts (refused s) ++ t) (sym (concat_lives s alone)) ∙ ap progress_text whole
+
+-- ---- a tenant's record
+
+pub record_in : (p : TenantParts) (o : Option Memory) → record_of (held_by p o) ≡ p.account
+record_in p None = refl
+record_in p (Some m) = refl
+
+pub text_in : (t : code.Tenant) → tenant_text (tenant_in t) ≡ record_text t.parts.account
+text_in t = ap record_text (record_in t.parts t.memory)
+
+abbrev pub code_text : code.Tenant → List ℕ
+code_text t = tenant_text (tenant_in t)
+
+pub code_texts : (ts : List code.Tenant) → concat (map code_text ts) ≡ tenant_texts (map tenant_in ts)
+code_texts [] = refl
+code_texts (t ∷ ts) = ap (λ l. code_text t ++ l) (code_texts ts)

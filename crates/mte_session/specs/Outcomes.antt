@@ -7,7 +7,7 @@ use Rattle.mte_script.specs.declared.error.ScriptError.TheVariants as script
 use Rattle.mte_script.specs.Scripts.{script_events}
 use Rattle.mte_session.specs.declared.session.SessionError.{SessionError}
 use Rattle.mte_session.specs.declared.session.SessionError.TheVariants.{Script, OutOfMemory, Write}
-use Rattle.mte_session.specs.Sessions.{session_text}
+use Rattle.mte_session.specs.Sessions.{session_of, session_text}
 
 abbrev pub session_error : ScriptError → SessionError
 session_error (script.Script line fault) = Script line fault
@@ -23,13 +23,13 @@ pub record Input : Type 0 where
 pub record Reported (input : Input) (old new : WriteLog) : Type 0 where
   pub events : List Event
   pub read : script_events (length input.files) input.script ≡ Ok events
-  pub wrote : WroteAll old new (session_text input.frames input.files events)
+  pub wrote : WroteAll old new (session_text (session_of input.frames input.files events))
 
 -- The script has no faulty line, and a write failed after a prefix of the report.
 pub record CutShort (input : Input) (old new : WriteLog) : Type 0 where
   pub events : List Event
   pub read : script_events (length input.files) input.script ≡ Ok events
-  pub wrote : WrotePart old new (session_text input.frames input.files events)
+  pub wrote : WrotePart old new (session_text (session_of input.frames input.files events))
 
 -- No write was made.
 abbrev pub Unwritten : WriteLog → WriteLog → Type 0

@@ -1,16 +1,45 @@
--- The report of a session.
-use Rattle.std.specs.Prelude.{ℕ, List, [], ◌∷◌, ◌++◌, map, codes, decimal, Option, Some, None}
+-- The report of a session: by the ledger and the tenants alone. No host stands in it.
+use Rattle.std.specs.Prelude.{ℕ, ◌-◌, ◌==◌, List, [], ◌∷◌, ◌++◌, map, codes, decimal, slice_get}
+use Rattle.std.specs.Prelude.{unwrap_or, if◌then◌else◌}
 use Rattle.std.specs.List.{concat}
 use Rattle.mte_script.specs.declared.event.Event.{Event}
+use Rattle.mte_script.specs.declared.event.Event.TheVariants as event
 use Rattle.mte_sched.specs.declared.admission.AdmitError.TheVariants.{Image}
 use Rattle.mte_sched.specs.declared.refusal.Refusal.{Refusal}
 use Rattle.mte_sched.specs.declared.refusal.Refusal.TheVariants as refusal
 use Rattle.mte_sched.specs.declared.refusal.Refused.{Refused}
-use Rattle.mte_sched.specs.declared.host.Host.{Host}
-use Rattle.mte_sched.specs.declared.host.Tenant.{Tenant}
 use Rattle.mte_sched.specs.Names.{refusal_name}
-use Rattle.mte_sched.specs.Events.{played, Played}
+use Rattle.mte_sched.specs.Ledger.{Call, Admit, Slice, Stop}
+use Rattle.mte_sched.specs.Lives.{Session, Life, lives, refused}
+use Rattle.mte_sched.specs.Contents.{Tenant, record_of, tenant_of}
 use Rattle.mte_session.specs.Report.{line, record_text}
+
+-- ---- the calls of a script
+
+-- The bytes of a file by its number from 1; none for 0.
+abbrev pub file_at : List (List ℕ) → ℕ → List ℕ
+file_at files n = if n == 0 then [] else unwrap_or (slice_get files (n - 1)) []
+
+-- What an event requests of a host.
+abbrev pub call_of : List (List ℕ) → Event → Call
+call_of files (event.Admit id image input seed pages room mode) = Admit id (record {
+  image = file_at files image;
+  input = file_at files input;
+  seed = seed;
+  pages = pages;
+  room = room;
+  mode = mode;
+})
+call_of files (event.Slice id steps) = Slice id steps
+call_of files (event.Stop id) = Stop id
+
+abbrev pub calls_of : List (List ℕ) → List Event → List Call
+calls_of files events = map (call_of files) events
+
+abbrev pub session_of : ℕ → List (List ℕ) → List Event → Session
+session_of frames files events = record { frames = frames; calls = calls_of files events }
+
+-- ---- the report
 
 -- `Image ` stands before the name of an image's refusal.
 abbrev pub prefix_of : Refusal → List ℕ
@@ -27,21 +56,19 @@ refused_text r =
 abbrev pub refused_texts : List Refused → List ℕ
 refused_texts refused = concat (map refused_text refused)
 
-abbrev pub tenant_text : Option Tenant → List ℕ
-tenant_text None = []
-tenant_text (Some t) = record_text t.parts.account
+abbrev pub tenant_text : Tenant → List ℕ
+tenant_text t = record_text (record_of t.held)
 
--- A line for each refused event, then the admitted tenant's lines.
-abbrev pub session_report : Host → List Refused → List ℕ
-session_report h refused = refused_texts refused ++ tenant_text h.tenant
+abbrev pub tenant_texts : List Tenant → List ℕ
+tenant_texts ts = concat (map tenant_text ts)
 
-abbrev pub played_text : Played → List ℕ
-played_text p = session_report p.host p.refused
+-- A tenant's lines, by its admission and its own events.
+abbrev pub life_text : Life → List ℕ
+life_text life = tenant_text (tenant_of life)
 
-abbrev pub new_host : ℕ → Host
-new_host frames = record { frames = frames; tenant = None }
+abbrev pub life_texts : List Life → List ℕ
+life_texts all = concat (map life_text all)
 
--- The report of events on a new host of `frames` frames.
-unfoldable pub session_text : ℕ → List (List ℕ) → List Event → List ℕ
-session_text frames files events =
-    played_text (played files (record { host = new_host frames; refused = [] }) events 1)
+-- A line for each refused call, then the lines of each admitted tenant.
+unfoldable pub session_text : Session → List ℕ
+session_text s = refused_texts (refused s) ++ life_texts (lives s)

@@ -3,15 +3,20 @@
 ghost use Rattle.std.specs.Prelude.{◌≡◌, ◌⊎◌, [], ◌≤◌, map, OnOk, OnErr, IfOk, IfErr, Err, Some};
 ghost use Rattle.std.specs.Prelude.{None, IsTrue, ◌↔◌};
 ghost use Rattle.mte_streams.specs.Writing.{Writes};
-ghost use Rattle.mte_sched.specs.Events.{file_at, event_refusal, after_event, played, NeedsMemory};
+ghost use Rattle.mte_sched.specs.Contents.{after_call};
+ghost use Rattle.mte_sched.specs.Hosts.{content_of, tenant_in};
 ghost use Rattle.mte_session.specs.declared.session.SessionError.TheVariants.{OutOfMemory};
 ghost use Rattle.mte_session.specs.Files.{contents};
-ghost use Rattle.mte_session.specs.Sessions.{refused_texts, session_report};
+ghost use Rattle.mte_session.specs.Sessions.{file_at, call_of, calls_of, refused_texts};
+ghost use Rattle.mte_session.specs.Sessions.{tenant_texts};
+ghost use Rattle.mte_session.specs.Progress.{progress_text, refusal_in, run_all};
 ghost use Rattle.mte_session.specs.Outcomes.{session_error, Reported, Failed};
 
 use crate::refusals::write_refusal;
 use crate::report::write_report;
-use mte_sched::{Admission, AdmitError, Host, Refusal, Refused};
+use mte_sched::{
+    Admission, AdmitError, Host, Refusal, Refused, Tenant, ledger_follows, tenants_are_alone,
+};
 use mte_script::{Event, ScriptError, ScriptFault, parse_script};
 use mte_streams::{Sink, WriteFault};
 use std::alloc::{AllocFailed, Global};
@@ -55,8 +60,10 @@ pub fn run_session<W: Sink>(
         (W.log out.old) (W.log out.new)) }
 {
     let events = parse_script(alloc, script, files)?;
-    let mut host = Host::new(frames);
+    let mut host = Host::new(alloc, frames);
     let refused = run_events(alloc, &mut host, events.as_slice(), files)?;
+    ledger_follows();
+    tenants_are_alone();
     match write_session(&host, refused.as_slice(), out) {
         Ok(()) => Ok(()),
         Err(_) => Err(SessionError::Write),
@@ -65,13 +72,22 @@ pub fn run_session<W: Sink>(
 
 /// Writes the report of what became of a host.
 fn write_session<W: Sink>(host: &Host, refused: &[Refused], out: &mut W) -> Result<(), WriteFault>
-    ensures { Writes (W.log out.old) (W.log out.new) result (session_report host.now refused.now) }
+    ensures { Writes (W.log out.old) (W.log out.new) result
+        (progress_text (record { content = content_of host.now; refused = refused.now })) }
 {
     write_refusals(refused, out)?;
-    match &host.tenant {
-        Some(tenant) => write_report(&tenant.parts.account, out),
-        None => Ok(()),
+    write_tenants(host.tenants.as_slice(), out)
+}
+
+/// Writes the lines of each tenant.
+fn write_tenants<W: Sink>(tenants: &[Tenant], out: &mut W) -> Result<(), WriteFault>
+    ensures { Writes (W.log out.old) (W.log out.new) result
+        (tenant_texts (map tenant_in tenants.now)) }
+{
+    for tenant in tenants {
+        write_report(&tenant.parts.account, out)?;
     }
+    Ok(())
 }
 
 /// Writes a line for each refused event.
@@ -92,8 +108,9 @@ fn run_events(
     files: &[Vec<u8>],
 ) -> Result<Vec<Refused>, SessionError>
     ensures played { IfOk result (λ refused.
-        played (contents files.now) (record { host = host.old; refused = [] }) events.now 1
-        ≡ record { host = host.new; refused = refused.items }) }
+        run_all (record { content = content_of host.old; refused = [] })
+        (calls_of (contents files.now) events.now) 1
+        ≡ record { content = content_of host.new; refused = refused.items }) }
     ensures memory { IfErr result (λ e. e ≡ SessionError.OutOfMemory) }
 {
     let mut refused = Vec::new(alloc);
@@ -127,17 +144,16 @@ fn is_out_of_memory(refusal: &Refusal) -> bool
 #[rattlefmt::skip]
 #[tactic(
     auto,
-    unfolding(mte_sched::specs::Events::event_refusal, mte_sched::specs::Events::after_event)
+    unfolding(mte_sched::specs::Ledger::call_refusal, mte_sched::specs::Contents::after_call)
 )]
 fn play(alloc: Global, host: &mut Host, event: &Event, files: &[Vec<u8>]) -> Result<(), Refusal>
     ensures accepted { OnOk result
-        (event_refusal (contents files.now) host.old event.now ≡ None) }
-    ensures ok { OnOk result (host.new ≡ after_event (contents files.now) host.old event.now) }
+        (refusal_in (content_of host.old) (call_of (contents files.now) event.now) ≡ None) }
+    ensures ok { OnOk result (content_of host.new
+        ≡ after_call (content_of host.old) (call_of (contents files.now) event.now)) }
     ensures refused { IfErr result (λ r. (r ≡ Refusal.Admit AdmitError.OutOfMemory)
-        ⊎ (event_refusal (contents files.now) host.old event.now ≡ Some r)) }
-    ensures memory { (result ≡ Err (Refusal.Admit AdmitError.OutOfMemory))
-        → NeedsMemory host.old event.now }
-    ensures err { OnErr result (host.new ≡ host.old) }
+        ⊎ (refusal_in (content_of host.old) (call_of (contents files.now) event.now) ≡ Some r)) }
+    ensures err { OnErr result (content_of host.new ≡ content_of host.old) }
 {
     match *event {
         Event::Admit {

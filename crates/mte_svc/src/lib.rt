@@ -13,4 +13,4 @@ pub use input::Input;
 pub use output::Output;
 pub use parts::TenantParts;
 pub use record::{Record, Status};
-pub use services::{SvcEnd, svc};
+pub use services::{EXIT, PAGES_LEFT, READ, STEPS_LEFT, SvcEnd, WRITE, YIELD, svc};

@@ -19,18 +19,23 @@ pub enum SvcEnd {
     Fault(MemFault),
 }
 
-/// The services' numbers, in x8.
-pub(crate) const EXIT: u64 = 0;
+/// Ends the tenant, with x0 modulo 256.
+pub const EXIT: u64 = 0;
 
-pub(crate) const WRITE: u64 = 1;
+/// Appends the x1 bytes at x0 to the output.
+pub const WRITE: u64 = 1;
 
-pub(crate) const READ: u64 = 2;
+/// Reads the next x1 bytes of the input to x0.
+pub const READ: u64 = 2;
 
-pub(crate) const YIELD: u64 = 9;
+/// Ends the slice.
+pub const YIELD: u64 = 9;
 
-pub(crate) const STEPS_LEFT: u64 = 10;
+/// Returns the steps of the slice that are left.
+pub const STEPS_LEFT: u64 = 10;
 
-pub(crate) const PAGES_LEFT: u64 = 11;
+/// Returns how many more pages may be mapped.
+pub const PAGES_LEFT: u64 = 11;
 
 /// The service of an SVC: its number is x8, its arguments are x0 and x1, its result is x0. A number
 /// that no service has returns 2^64 - 1. Where it ends the tenant, PC stays at the SVC.

@@ -1,12 +1,13 @@
-use Rattle.std.proofs.Common.{map}
+use Rattle.std.proofs.Common.{map, ◌≡◌}
 use Rattle.std.proofs.lemmas.List.{length-map}
+use Rattle.mte_sched.specs.Hosts.{content_of}
 use Rattle.mte_session.proofs.SessionLemmas.{session_text_is}
 use Rattle.mte_session.proofs.session.run_session.Goals as goal
 
 pub returns-clause-failed : goal.returns-clause-failed
 returns-clause-failed g c =
-    let text = session_text_is c.args.frames (map (λ f. f.items) c.args.files.now) c.in_ok-events.events.items c.new-host.result c.run_events.new.host c.in_ok-refused.refused.items c.new-host.ensures
-    (rw c.as_slice.ensures.value at c.in_ok-refused.ensures.played) in
+    let text = session_text_is c.ledger_follows.ensures c.tenants_are_alone.ensures c.args.frames (map (λ f. f.items) c.args.files.now) c.in_ok-events.events.items (content_of c.run_events.new.host) c.in_ok-refused.refused.items
+    (rw (← c.new-host.ensures) (rw c.as_slice.ensures.value at c.in_ok-refused.ensures.played)) in
     record {
       events = c.in_ok-events.events.items;
       read = rw (length-map c.args.files.now (λ f. f.items)) c.in_ok-events.ensures.events;
@@ -15,8 +16,8 @@ returns-clause-failed g c =
 
 pub returns-in-Ok-clause-done : goal.returns-in-Ok-clause-done
 returns-in-Ok-clause-done g c =
-    let text = session_text_is c.args.frames (map (λ f. f.items) c.args.files.now) c.in_ok-events.events.items c.new-host.result c.run_events.new.host c.in_ok-refused.refused.items c.new-host.ensures
-    (rw c.as_slice.ensures.value at c.in_ok-refused.ensures.played) in
+    let text = session_text_is c.ledger_follows.ensures c.tenants_are_alone.ensures c.args.frames (map (λ f. f.items) c.args.files.now) c.in_ok-events.events.items (content_of c.run_events.new.host) c.in_ok-refused.refused.items
+    (rw (← c.new-host.ensures) (rw c.as_slice.ensures.value at c.in_ok-refused.ensures.played)) in
     record {
       events = c.in_ok-events.events.items;
       read = rw (length-map c.args.files.now (λ f. f.items)) c.in_ok-events.ensures.events;

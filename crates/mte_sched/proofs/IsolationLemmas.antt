@@ -1,0 +1,147 @@
+-- A host's content after calls is its tenants alone, and those that the calls admit.
+use Rattle.std.proofs.Common.{◌≡◌, ℕ, ◌+◌, ◌==◌, Bool, true, false, List, [], ◌∷◌, ◌++◌, map}
+use Rattle.std.proofs.Common.{Option, Some, None, if◌then◌else◌, refl, ap, sym, ◌∙◌}
+use Rattle.mte_sched.specs.Machines.{Terms, start_of}
+use Rattle.mte_sched.specs.Ledger.{Call, Admit, Slice, Stop, Entry, call_refusal, ended, entered_by}
+use Rattle.mte_sched.specs.Lives.{Own, Sliced, Halted, Life, Session, Agree, own_in, own_by, own_events}
+use Rattle.mte_sched.specs.Lives.{life_in, life_by, lives_from, lives, life_among}
+use Rattle.mte_sched.specs.Contents.{Held, Live, Gone, lives_on, held_sliced, held_stopped, alone}
+use Rattle.mte_sched.specs.Contents.{Tenant, Content, entry_of, ledger_of, tenant_sliced}
+use Rattle.mte_sched.specs.Contents.{tenant_stopped, admitted, sliced, stopped, after_call, after_by, played}
+use Rattle.mte_sched.specs.Contents.{empty, tenant_of, new_tenant}
+use Rattle.mte_sched.specs.Isolation.{LedgerFollows, TenantsAreAlone, TenantsAreIsolated, tenant_among}
+use Rattle.mte_sched.specs.declared.refusal.Refusal.{Refusal}
+
+-- a tenant after its own events among more
+abbrev pub grown : ℕ → List Entry → List Call → Tenant → Tenant
+grown frames ledger events t = record t { held = alone t.held (own_events frames ledger events t.id) }
+
+pub sliced_is_live : (n : ℕ) (h : Held) → lives_on (held_sliced n h) ≡ lives_on h
+sliced_is_live n (Live m) = refl
+sliced_is_live n (Gone r) = refl
+
+pub entry_sliced : (id n : ℕ) (b : Bool) (t : Tenant) → (let u : Tenant = record t { held = if b then held_sliced n t.held else t.held } in entry_of u) ≡ entry_of t
+entry_sliced id n true t = ap (λ (l : Bool). let e : Entry = record { id = t.id; pages = t.pages; live = l } in e) (sliced_is_live n t.held)
+entry_sliced id n false t = refl
+
+pub ledger_sliced : (id n : ℕ) (ts : List Tenant) → map entry_of (map (tenant_sliced id n) ts) ≡ map entry_of ts
+ledger_sliced id n [] = refl
+ledger_sliced id n (t ∷ ts) = rw (entry_sliced id n (t.id == id) t, ledger_sliced id n ts) refl
+
+pub stopped_is_live : (h : Held) → lives_on (held_stopped h) ≡ false
+stopped_is_live (Live m) = refl
+stopped_is_live (Gone r) = refl
+
+pub entry_stopped : (b : Bool) (t : Tenant)
+    → (let u : Tenant = record t { held = if b then held_stopped t.held else t.held } in entry_of u)
+    ≡ (if b then (let e : Entry = record { id = t.id; pages = t.pages; live = false } in e) else entry_of t)
+entry_stopped true t = ap (λ (l : Bool). let e : Entry = record { id = t.id; pages = t.pages; live = l } in e) (stopped_is_live t.held)
+entry_stopped false t = refl
+
+pub ledger_stopped : (id : ℕ) (ts : List Tenant) → map entry_of (map (tenant_stopped id) ts) ≡ map (ended id) (map entry_of ts)
+ledger_stopped id [] = refl
+ledger_stopped id (t ∷ ts) = rw (entry_stopped (t.id == id) t, ledger_stopped id ts) refl
+
+pub map_append : {A B : Type 0} (f : A → B) (xs ys : List A) → map f (xs ++ ys) ≡ map f xs ++ map f ys
+map_append f [] ys = refl
+map_append f (x ∷ xs) ys = ap (λ l. f x ∷ l) (map_append f xs ys)
+
+pub fused : {A : Type 0} (f g h : A → A) → ((t : A) → f (g t) ≡ h t) → (ts : List A) → map f (map g ts) ≡ map h ts
+fused f g h same [] = refl
+fused f g h same (t ∷ ts) = rw (same t, fused f g h same ts) refl
+
+pub map_same : {A : Type 0} (f : A → A) → ((t : A) → f t ≡ t) → (ts : List A) → map f ts ≡ ts
+map_same f same [] = refl
+map_same f same (t ∷ ts) = rw (same t, map_same f same ts) refl
+
+pub append_none : {A : Type 0} (xs : List A) → xs ++ [] ≡ xs
+append_none [] = refl
+append_none (x ∷ xs) = ap (λ l. x ∷ l) (append_none xs)
+
+pub append_one : {A : Type 0} (xs : List A) (y : A) (zs : List A) → (xs ++ y ∷ []) ++ zs ≡ xs ++ y ∷ zs
+append_one [] y zs = refl
+append_one (x ∷ xs) y zs = ap (λ l. x ∷ l) (append_one xs y zs)
+
+pub append_twice : {A : Type 0} (xs ys zs : List A) → (xs ++ ys) ++ zs ≡ xs ++ (ys ++ zs)
+append_twice [] ys zs = refl
+append_twice (x ∷ xs) ys zs = ap (λ l. x ∷ l) (append_twice xs ys zs)
+
+-- an own event, or another's
+pub sliced_own : (b : Bool) (n : ℕ) (h : Held) (own : List Own) → alone (if b then held_sliced n h else h) own ≡ alone h ((if b then Sliced n ∷ [] else []) ++ own)
+unfolding alone
+sliced_own true n h own = refl
+sliced_own false n h own = refl
+
+pub stopped_own : (b : Bool) (h : Held) (own : List Own) → alone (if b then held_stopped h else h) own ≡ alone h ((if b then Halted ∷ [] else []) ++ own)
+unfolding alone
+stopped_own true h own = refl
+stopped_own false h own = refl
+
+abbrev pub Grown : List Call → Content → Type 0
+Grown events c = (played c events).tenants ≡ map (grown c.frames (ledger_of c) events) c.tenants ++ map tenant_of (lives_from c.frames (ledger_of c) events)
+
+-- what an event and others make of a tenant
+abbrev pub grown_on : Option Refusal → ℕ → List Entry → Call → List Call → Tenant → Tenant
+grown_on r frames ledger e more t = record t { held = alone t.held (own_by r t.id e ++ own_events frames (entered_by r ledger e) more t.id) }
+
+abbrev pub GrownOn : Option Refusal → Call → List Call → Content → Type 0
+GrownOn r e more c = (played (after_by r c e) more).tenants
+    ≡ map (grown_on r c.frames (ledger_of c) e more) c.tenants
+    ++ map tenant_of (life_by r e (own_events c.frames (entered_by r (ledger_of c) e) more) ++ lives_from c.frames (entered_by r (ledger_of c) e) more)
+
+pub next_grown : (r : Option Refusal) (e : Call) (more : List Call) (c : Content) → ((d : Content) → Grown more d) → GrownOn r e more c
+unfolding sliced stopped admitted after_call
+next_grown (Some r) e more c rest = rest c
+next_grown None (Slice id n) more c rest =
+    let ledger : ledger_of (sliced c id n) ≡ ledger_of c = ledger_sliced id n c.tenants in
+    let step = rw ledger at (rest (sliced c id n)) in
+    let own = fused (grown c.frames (ledger_of c) more) (tenant_sliced id n) (grown_on None c.frames (ledger_of c) (Slice id n) more)
+    (λ t. ap (λ (h : Held). let u : Tenant = record t { held = h } in u) (sliced_own (t.id == id) n t.held (own_events c.frames (ledger_of c) more t.id))) c.tenants in
+    step ∙ ap (λ ts. ts ++ map tenant_of (lives_from c.frames (ledger_of c) more)) own
+next_grown None (Stop id) more c rest =
+    let ledger : ledger_of (stopped c id) ≡ map (ended id) (ledger_of c) = ledger_stopped id c.tenants in
+    let step = rw ledger at (rest (stopped c id)) in
+    let own = fused (grown c.frames (map (ended id) (ledger_of c)) more) (tenant_stopped id) (grown_on None c.frames (ledger_of c) (Stop id) more)
+    (λ t. ap (λ (h : Held). let u : Tenant = record t { held = h } in u) (stopped_own (t.id == id) t.held (own_events c.frames (map (ended id) (ledger_of c)) more t.id))) c.tenants in
+    step ∙ ap (λ ts. ts ++ map tenant_of (lives_from c.frames (map (ended id) (ledger_of c)) more)) own
+next_grown None (Admit id terms) more c rest =
+    let new : Tenant = new_tenant id terms in
+    let after = ledger_of c ++ (entry_of new) ∷ [] in
+    let ledger : ledger_of (admitted c id terms) ≡ after = map_append entry_of c.tenants (new ∷ []) in
+    let step = rw ledger at (rest (admitted c id terms)) in
+    let f = grown c.frames after more in
+    step ∙ ap (λ ts. ts ++ map tenant_of (lives_from c.frames after more)) (map_append f c.tenants (new ∷ []))
+    ∙ append_one (map f c.tenants) (f new) (map tenant_of (lives_from c.frames after more))
+
+pub all_grown : (events : List Call) (c : Content) → Grown events c
+unfolding played own_events lives_from alone
+all_grown [] c = sym (append_none (map (grown c.frames (ledger_of c) []) c.tenants) ∙ map_same (grown c.frames (ledger_of c) []) (λ t. refl) c.tenants)
+all_grown (e ∷ more) c = next_grown (call_refusal c.frames (ledger_of c) e) e more c (λ d. all_grown more d)
+
+pub ledger_follows : LedgerFollows
+unfolding after_call admitted sliced stopped
+ledger_follows c (Admit id terms) = map_append entry_of c.tenants (new_tenant id terms ∷ [])
+ledger_follows c (Slice id n) = ledger_sliced id n c.tenants
+ledger_follows c (Stop id) = ledger_stopped id c.tenants
+
+pub tenants_are_alone : TenantsAreAlone
+tenants_are_alone s = all_grown s.calls (empty s.frames)
+
+pub some_same : {A : Type 0} (x y : A) → Some x ≡ Some y → x ≡ y
+some_same x y h = cc
+
+pub among_next : (b : Bool) (l : Life) (found : Option Life) (t : Option Tenant) (life : Life) → (if b then Some l else found) ≡ Some life
+    → (found ≡ Some life → t ≡ Some (tenant_of life)) → (if b then Some (tenant_of l) else t) ≡ Some (tenant_of life)
+among_next true l found t life h rest = ap (λ k. Some (tenant_of k)) (some_same l life h)
+among_next false l found t life h rest = rest h
+
+pub among_tenants : (id : ℕ) (ls : List Life) (life : Life) → life_among id ls ≡ Some life → tenant_among id (map tenant_of ls) ≡ Some (tenant_of life)
+among_tenants id [] life h = cc
+among_tenants id (l ∷ ls) life h = among_next (l.id == id) l (life_among id ls) (tenant_among id (map tenant_of ls)) life h (λ k. among_tenants id ls life k)
+
+pub tenants_are_isolated : TenantsAreIsolated
+tenants_are_isolated id s t h = record {
+  tenant = tenant_of h.life;
+  one = rw (tenants_are_alone s) (among_tenants id (lives s) h.life h.one);
+  other = rw (tenants_are_alone t) (among_tenants id (lives t) h.life h.other);
+}

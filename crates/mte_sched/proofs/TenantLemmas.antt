@@ -1,0 +1,127 @@
+-- A tenant's number stays, and what its machine becomes is what the tenant becomes.
+use Rattle.std.proofs.Common.{◌≡◌, ℕ, zero, suc, ◌+◌, ◌-◌, ◌==◌, ◌&&◌, ◌∙◌, Bool, true, false, Option, Some, None}
+use Rattle.std.proofs.Common.{if◌then◌else◌, refl, ap, sym}
+use Rattle.a64_step.specs.declared.outcome.Outcome.{Outcome}
+use Rattle.a64_step.specs.declared.outcome.Outcome.TheVariants as outcome
+use Rattle.a64_step.specs.Steps.{step_of}
+use Rattle.mte_tags.specs.Memory.{Memory, pages_left}
+use Rattle.mte_tags.specs.Accesses.{read_fault, write_fault}
+use Rattle.mte_tags.specs.declared.fault.MemFault.{MemFault}
+use Rattle.mte_svc.specs.Services.{Served, served, by_number, wrote, wrote_by, write_count, read_in, read_by, read_count, answered, ends, goes_on, x_of, none_such}
+use Rattle.mte_svc.specs.declared.parts.TenantParts.{TenantParts}
+use Rattle.mte_svc.specs.declared.record.Record.{Record}
+use Rattle.mte_svc.specs.declared.services.SvcEnd.{SvcEnd}
+use Rattle.mte_svc.specs.declared.services.SvcEnd.TheVariants as end
+use Rattle.mte_svc.specs.declared.services.TheConstants.{EXIT, WRITE, READ, YIELD, STEPS_LEFT, PAGES_LEFT}
+use Rattle.mte_sched.specs.declared.tenant.Tenant as code
+use Rattle.mte_sched.specs.Machines.{Machine, machine_of, runs, Attempted, on, after_service, with_service, ended_by_tag, met, counted, with_regs}
+use Rattle.mte_sched.specs.Machines.{attempted, attempts, ended_where_set, settled, advance, halted, with_status}
+use Rattle.mte_sched.specs.Ledger.{has_id, has_live_id}
+use Rattle.mte_sched.specs.Contents.{Held, Live, Gone, entry_of, tenant_sliced, tenant_stopped}
+use Rattle.mte_sched.specs.Hosts.{held_by, tenant_in}
+
+abbrev pub number_in : Machine → ℕ
+number_in m = m.parts.account.id
+
+-- ---- no service, no instruction and no slice changes it
+
+served_if : (b : Bool) (s t : Served) (n : ℕ) → s.parts.account.id ≡ n → t.parts.account.id ≡ n → (if b then s else t).parts.account.id ≡ n
+served_if true s t n h k = h
+served_if false s t n h k = k
+
+wrote-id : (f : Option MemFault) (p : TenantParts) (m : Memory) (n : ℕ) → (wrote_by f p m n).parts.account.id ≡ p.account.id
+unfolding answered
+wrote-id (Some f) p m n = refl
+wrote-id None p m n = refl
+
+read-id : (f : Option MemFault) (p : TenantParts) (m : Memory) (n : ℕ) → (read_by f p m n).parts.account.id ≡ p.account.id
+unfolding answered
+read-id (Some f) p m n = refl
+read-id None p m n = refl
+
+number-id : (n : ℕ) (p : TenantParts) (m : Memory) → (by_number n p m).parts.account.id ≡ p.account.id
+unfolding wrote read_in answered
+number-id n p m =
+    served_if (n == EXIT) _ _ p.account.id refl
+    (served_if (n == WRITE) _ _ p.account.id (wrote-id (read_fault m (x_of p 0) (write_count p) true) p m (write_count p))
+    (served_if (n == READ) _ _ p.account.id (read-id (write_fault m (x_of p 0) (read_count p) true) p m (read_count p))
+    (served_if (n == YIELD) _ _ p.account.id refl
+    (served_if (n == STEPS_LEFT) _ _ p.account.id refl
+    (served_if (n == PAGES_LEFT) (goes_on p m (pages_left m)) (goes_on p m none_such) p.account.id refl refl)))))
+
+served-id : (p : TenantParts) (m : Memory) → (served p m).parts.account.id ≡ p.account.id
+unfolding served
+served-id p m = number-id (x_of p 8) p m
+
+service-id : (e : SvcEnd) (m : Machine) → number_in (after_service e m).machine ≡ number_in m
+service-id end.Go m = refl
+service-id end.EndSlice m = refl
+service-id (end.Exit code) m = refl
+service-id (end.Fault f) m = refl
+
+attempted_if : (b : Bool) (s t : Attempted) (n : ℕ) → number_in s.machine ≡ n → number_in t.machine ≡ n → number_in (if b then s else t).machine ≡ n
+attempted_if true s t n h k = h
+attempted_if false s t n h k = k
+
+met-id : (o : Outcome) (m : Machine) → number_in (met o m).machine ≡ number_in m
+unfolding met
+met-id outcome.Next m = refl
+met-id outcome.Svc m =
+    let s = served m.parts m.memory in
+    attempted_if m.memory.state.pending (on (ended_by_tag m)) (with_service s) (number_in m) refl (service-id s.end (machine_of s.parts s.memory) ∙ served-id m.parts m.memory)
+met-id (outcome.Fault f) m = refl
+met-id (outcome.Illegal w) m = refl
+met-id (outcome.Breakpoint k) m = refl
+
+attempted-id : (n : ℕ) (m : Machine) → number_in (attempted n m).machine ≡ number_in m
+unfolding attempted
+attempted-id n m =
+    met-id (step_of m.parts.regs m.memory).outcome
+    (machine_of (counted 1 n (with_regs m.parts (step_of m.parts.regs m.memory).regs)) (step_of m.parts.regs m.memory).memory)
+
+machine_if : (b : Bool) (s t : Machine) (n : ℕ) → number_in s ≡ n → number_in t ≡ n → number_in (if b then s else t) ≡ n
+machine_if true s t n h k = h
+machine_if false s t n h k = k
+
+attempts-id : (n : ℕ) (m : Machine) → number_in (attempts n m) ≡ number_in m
+unfolding attempts
+attempts-id zero m = refl
+attempts-id (suc n) m =
+    let next = (attempted n m).machine in
+    let one : number_in next ≡ number_in m = attempted-id n m in
+    machine_if (runs m) (if (attempted n m).goes_on then attempts n next else next) m (number_in m)
+    (machine_if (attempted n m).goes_on (attempts n next) next (number_in m) (attempts-id n next ∙ one) one) refl
+
+settled-id : (m : Machine) → number_in (settled m) ≡ number_in m
+unfolding settled
+settled-id m =
+    let z : Machine = record m { parts = record m.parts { left = 0 } } in
+    machine_if (runs z && z.memory.state.pending) (ended_by_tag z) z (number_in m) refl refl
+
+pub advance-id : (n : ℕ) (m : Machine) → number_in (advance n m) ≡ number_in m
+unfolding advance
+advance-id n m = settled-id (attempts n m) ∙ attempts-id n m
+
+pub halted-id : (m : Machine) → number_in (halted m) ≡ number_in m
+unfolding halted
+halted-id m = machine_if (runs m) _ m (number_in m) refl refl
+
+-- ---- the tenant
+
+abbrev pub tenant_by : TenantParts → Option Memory → ℕ → code.Tenant
+tenant_by p o pages = record { parts = p; memory = o; pages = pages }
+
+pub sliced_tenant : (id steps pages : ℕ) (p p' : TenantParts) (m m' : Memory) → (p.account.id == id) ≡ true
+    → machine_of p' m' ≡ advance steps (machine_of p m)
+    → tenant_in (tenant_by p' (Some m') pages) ≡ tenant_sliced id steps (tenant_in (tenant_by p (Some m) pages))
+sliced_tenant id steps pages p p' m m' same step =
+    let number : p'.account.id ≡ p.account.id = ap number_in step ∙ advance-id steps (machine_of p m) in
+    rw (same, ← step, number) refl
+
+pub stopped_tenant : (id pages : ℕ) (p p' : TenantParts) (o : Option Memory) → has_live_id id (entry_of (tenant_in (tenant_by p o pages))) ≡ true
+    → ((m : Memory) → machine_of p' m ≡ halted (machine_of p m))
+    → tenant_in (tenant_by p' None pages) ≡ tenant_stopped id (tenant_in (tenant_by p o pages))
+stopped_tenant id pages p p' None live step = cc
+stopped_tenant id pages p p' (Some m) live step =
+    let number : p'.account.id ≡ p.account.id = ap number_in (step m) ∙ halted-id (machine_of p m) in
+    rw (live, ← step m, number) refl

@@ -1,0 +1,5 @@
+use Rattle.mte_sched.proofs.IsolationLemmas.{tenants_are_isolated}
+use Rattle.mte_sched.proofs.isolation.tenants_are_isolated.Goals as goal
+
+pub returns : goal.returns
+returns c = tenants_are_isolated

@@ -1,0 +1,33 @@
+-- What several tenants are to each other: nothing.
+use Rattle.std.specs.Prelude.{◌≡◌, ℕ, ◌==◌, List, [], ◌∷◌, map, Option, Some, None}
+use Rattle.std.specs.Prelude.{if◌then◌else◌}
+use Rattle.mte_sched.specs.Lives.{Session, Agree, lives}
+use Rattle.mte_sched.specs.Ledger.{Call, entered}
+use Rattle.mte_sched.specs.Contents.{Tenant, Content, ledger_of, after_call, played, empty}
+use Rattle.mte_sched.specs.Contents.{tenant_of}
+
+-- What a session's host has after all its calls.
+abbrev pub content_after : Session → Content
+content_after s = played (empty s.frames) s.calls
+
+-- What a tenant does cannot change who is admitted: a call changes the ledger as the ledger says.
+abbrev pub LedgerFollows : Type 0
+LedgerFollows = (c : Content) (e : Call) → ledger_of (after_call c e) ≡ entered (ledger_of c) e
+
+-- After every list of calls the tenants are the accepted admissions, each alone.
+abbrev pub TenantsAreAlone : Type 0
+TenantsAreAlone = (s : Session) → (content_after s).tenants ≡ map tenant_of (lives s)
+
+abbrev pub tenant_among : ℕ → List Tenant → Option Tenant
+tenant_among id [] = None
+tenant_among id (t ∷ more) = if t.id == id then Some t else tenant_among id more
+
+-- Two sessions have the same tenant: its machine, or its record once it was stopped.
+pub record HaveTheSame (id : ℕ) (s t : Session) : Type 0 where
+  pub tenant : Tenant
+  pub one : tenant_among id (content_after s).tenants ≡ Some tenant
+  pub other : tenant_among id (content_after t).tenants ≡ Some tenant
+
+-- Whatever other tenants there are, and whatever they do.
+abbrev pub TenantsAreIsolated : Type 0
+TenantsAreIsolated = (id : ℕ) (s t : Session) → Agree id s t → HaveTheSame id s t
