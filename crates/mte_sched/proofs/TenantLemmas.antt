@@ -1,5 +1,5 @@
 -- A tenant's number stays, and what its machine becomes is what the tenant becomes.
-use Rattle.std.proofs.Common.{◌≡◌, ℕ, zero, suc, ◌+◌, ◌-◌, ◌==◌, ◌&&◌, ◌∙◌, Bool, true, false, Option, Some, None}
+use Rattle.std.proofs.Common.{◌≡◌, ℕ, zero, suc, ◌+◌, ◌-◌, ◌==◌, ◌&&◌, ◌∙◌, Bool, true, false, List, [], ◌∷◌, Option, Some, None}
 use Rattle.std.proofs.Common.{if◌then◌else◌, refl, ap, sym}
 use Rattle.a64_step.specs.declared.outcome.Outcome.{Outcome}
 use Rattle.a64_step.specs.declared.outcome.Outcome.TheVariants as outcome
@@ -17,7 +17,10 @@ use Rattle.mte_sched.specs.declared.tenant.Tenant as code
 use Rattle.mte_sched.specs.Machines.{Machine, machine_of, runs, Attempted, on, after_service, with_service, ended_by_tag, met, counted, with_regs}
 use Rattle.mte_sched.specs.Machines.{attempted, attempts, ended_where_set, settled, advance, halted, with_status}
 use Rattle.mte_sched.specs.Ledger.{has_id, has_live_id}
-use Rattle.mte_sched.specs.Contents.{Held, Live, Gone, entry_of, tenant_sliced, tenant_stopped}
+use Rattle.mte_sched.specs.Machines.{start_of, first_parts}
+use Rattle.mte_sched.specs.Lives.{Own, Sliced, Halted, Life}
+use Rattle.mte_sched.specs.Isolation.{NumbersStay}
+use Rattle.mte_sched.specs.Contents.{Held, Live, Gone, record_of, held_sliced, held_stopped, alone, entry_of, tenant_sliced, tenant_stopped}
 use Rattle.mte_sched.specs.Hosts.{held_by, tenant_in}
 
 abbrev pub number_in : Machine → ℕ
@@ -125,3 +128,23 @@ stopped_tenant id pages p p' None live step = cc
 stopped_tenant id pages p p' (Some m) live step =
     let number : p'.account.id ≡ p.account.id = ap number_in (step m) ∙ halted-id (machine_of p m) in
     rw (live, ← step m, number) refl
+
+-- ---- a tenant alone
+
+sliced_number : (n : ℕ) (h : Held) → (record_of (held_sliced n h)).id ≡ (record_of h).id
+sliced_number n (Live m) = advance-id n m
+sliced_number n (Gone r) = refl
+
+stopped_number : (h : Held) → (record_of (held_stopped h)).id ≡ (record_of h).id
+stopped_number (Live m) = halted-id m
+stopped_number (Gone r) = refl
+
+alone_number : (h : Held) (own : List Own) → (record_of (alone h own)).id ≡ (record_of h).id
+unfolding alone
+alone_number h [] = refl
+alone_number h (Sliced n ∷ own) = alone_number (held_sliced n h) own ∙ sliced_number n h
+alone_number h (Halted ∷ own) = alone_number (held_stopped h) own ∙ stopped_number h
+
+pub numbers_stay : NumbersStay
+unfolding start_of first_parts
+numbers_stay life = alone_number (Live (start_of life.id life.terms)) life.own

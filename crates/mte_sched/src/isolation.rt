@@ -1,12 +1,18 @@
 //! What a tenant of a session is, and what it is in two sessions.
 
-ghost use Rattle.mte_sched.specs.Isolation.{LedgerFollows, TenantsAreAlone, TenantsAreIsolated};
+ghost use Rattle.mte_sched.specs.Isolation.{LedgerFollows, NumbersStay, TenantsAreAlone};
+ghost use Rattle.mte_sched.specs.Isolation.{TenantsAreIsolated};
 ghost use Rattle.mte_sched.specs.Flags.{FlagIsClear};
 
 /// What a tenant does cannot change who is admitted: a call changes a host's ledger as the ledger
 /// says.
 pub fn ledger_follows()
     ensures { LedgerFollows }
+{}
+
+/// Nothing changes the number in a tenant's record.
+pub fn numbers_stay()
+    ensures { NumbersStay }
 {}
 
 /// After every list of calls a host's tenants are the accepted admissions, each of them its machine

@@ -10,7 +10,9 @@ mod tenant;
 
 pub use admission::{Admission, AdmitError, MAX_LIVE, NotLive};
 pub use host::Host;
-pub use isolation::{flag_is_clear, ledger_follows, tenants_are_alone, tenants_are_isolated};
+pub use isolation::{
+    flag_is_clear, ledger_follows, numbers_stay, tenants_are_alone, tenants_are_isolated,
+};
 pub use machine::slice;
 pub use mte_svc::{Output, Record, Status, TenantParts};
 pub use refusal::{Refusal, Refused};

@@ -5,3 +5,4 @@ pub mod Sessions
 pub mod Progress
 pub mod Outcomes
 pub mod Endings
+pub mod Headline

@@ -1,9 +1,10 @@
-//! The host of one tenant, called by itself.
+//! The host, called by itself.
 
 use crate::doubles::MemorySink;
-use crate::images::{HI, image};
+use crate::images::{HI, ILLEGAL, image};
 use mte_sched::{
-    Admission, AdmitError, Host, NotLive, Refusal, Status, flag_is_clear, tenant_is_alone,
+    Admission, AdmitError, Host, NotLive, Refusal, Status, flag_is_clear, ledger_follows,
+    tenants_are_alone, tenants_are_isolated,
 };
 use mte_session::{ScriptFault, write_report};
 use mte_tags::TagMode;
@@ -12,7 +13,7 @@ use std::test::Fail;
 #[test]
 fn one_host(rt: HostRuntime) -> Result<(), Fail> {
     let file = image(rt.alloc(), &HI)?;
-    let mut host = Host::new(11);
+    let mut host = Host::new(rt.alloc(), 11);
     let admission = Admission {
         id: 7,
         image: file.as_slice(),
@@ -28,12 +29,13 @@ fn one_host(rt: HostRuntime) -> Result<(), Fail> {
     host.slice(7, 3)?;
     host.stop(7)?;
     assert!(rt; host.stop(7) == Err(NotLive));
-    let Some(tenant) = &host.tenant else {
+    let Some(tenant) = host.tenants.as_slice().first() else {
         return Err(Fail::from(NotLive));
     };
     let account = &tenant.parts.account;
     assert!(rt; account.status == Status::Stopped);
     assert!(rt; !tenant.parts.is_running());
+    assert!(rt; !tenant.is_live());
     assert_eq!(rt; (account.steps, account.output.left()), (3, 16));
     let mut out = MemorySink::new(rt.alloc());
     write_report(account, &mut out)?;
@@ -41,8 +43,37 @@ fn one_host(rt: HostRuntime) -> Result<(), Fail> {
         out.held.as_slice(),
         b"tenant 7\nstatus stopped\nsteps 3\noutput 0\nheap 0\nend\n".as_slice()
     );
-    tenant_is_alone();
+    ledger_follows();
+    tenants_are_alone();
+    tenants_are_isolated();
     flag_is_clear();
+    Ok(())
+}
+
+/// 255 tenants may be live at once.
+#[test]
+fn too_many_live(rt: HostRuntime) -> Result<(), Fail> {
+    let file = image(rt.alloc(), &ILLEGAL)?;
+    let mut host = Host::new(rt.alloc(), 4000);
+    for id in 0..256u16 {
+        let admission = Admission {
+            id,
+            image: file.as_slice(),
+            input: &[],
+            seed: 1,
+            pages: 5,
+            room: 16,
+            mode: TagMode::Sync,
+        };
+        let result = host.admit(rt.alloc(), &admission);
+        if id == 255 {
+            assert!(rt; result == Err(AdmitError::TooManyLive));
+            host.stop(7)?;
+            host.admit(rt.alloc(), &admission)?;
+        } else {
+            assert!(rt; result == Ok(()));
+        }
+    }
     Ok(())
 }
 

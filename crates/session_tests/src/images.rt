@@ -57,6 +57,12 @@ pub const PRE_INDEXED: [u32; 5] = [0xD10083FF, 0x9ADF13E1, 0xD9200BE1, 0xF94003E
 /// Loads eight bytes across the end of a tagged granule.
 pub const ACROSS: [u32; 5] = [0xD2A7FFE0, 0x91403000, 0x9ADF1001, 0xD9200821, 0xF840C022];
 
+/// Writes the tag and the sixteen bytes of the stack's first granule: it exits with the tag.
+pub const LEFT_ON_THE_STACK: [u32; 9] = [
+    0xD2A7FFE0, 0x91403000, 0xD9600003, 0xD2800201, 0xD2800028, 0xD4000001, 0xD378FC60, 0xD2800008,
+    0xD4000001,
+];
+
 /// The word 0.
 pub const ILLEGAL: [u32; 1] = [0];
 

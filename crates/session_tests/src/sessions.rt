@@ -2,7 +2,7 @@
 
 use crate::doubles::MemorySink;
 use crate::images::{
-    ACROSS, HI, ILLEGAL, PAIR_WITH_TAG, PRE_INDEXED, UNALIGNED, UNTAGGED, UNTAGGED_EXIT,
+    ACROSS, HI, ILLEGAL, LEFT_ON_THE_STACK, PAIR_WITH_TAG, PRE_INDEXED, UNALIGNED, UNTAGGED, UNTAGGED_EXIT,
     UNTAGGED_WRITE, image,
 };
 use mte_session::{ScriptFault, SessionError, run_session};
@@ -218,16 +218,18 @@ fn refused_events(rt: HostRuntime) -> Result<(), Fail> {
             b"admit 1 image 1 input 0 seed 0000000000000001 frames 5 out 16\n\
               admit 1 image 1 input 0 seed 0000000000000001 frames 5 out 16\n\
               admit 2 image 1 input 0 seed 0000000000000001 frames 5 out 16\nstop 1\nslice 1 5\n",
-            b"refused 2 Duplicate\nrefused 3 TooManyLive\nrefused 5 NotLive\ntenant 1\n\
-              status stopped\nsteps 0\noutput 0\nheap 0\nend\n",
+            b"refused 2 Duplicate\nrefused 5 NotLive\ntenant 1\n\
+              status stopped\nsteps 0\noutput 0\nheap 0\nend\ntenant 2\n\
+              status running\nsteps 0\noutput 0\nheap 0\nend\n",
         ),
         (
             21,
             b"admit 1 image 1 input 0 seed 0000000000000001 frames 5 out 16\nslice 1 100\n\
               slice 1 100\nadmit 2 image 1 input 0 seed 0000000000000001 frames 5 out 16\nstop 1\n\
-              admit 2 image 1 input 0 seed 0000000000000001 frames 5 out 16\n",
-            b"refused 4 NoFrames\nrefused 6 TooManyLive\ntenant 1\nstatus exit 0\nsteps 8\n\
-              output 2 4869\nheap 0\nend\n",
+              admit 2 image 1 input 0 seed 0000000000000001 frames 5 out 16\nslice 1 5\n",
+            b"refused 4 NoFrames\nrefused 7 NotLive\ntenant 1\nstatus exit 0\nsteps 8\n\
+              output 2 4869\nheap 0\nend\ntenant 2\nstatus running\nsteps 0\noutput 0\n\
+              heap 0\nend\n",
         ),
     ];
     for (frames, script, want) in cases {
@@ -240,6 +242,25 @@ fn refused_events(rt: HostRuntime) -> Result<(), Fail> {
         run_session(rt.alloc(), frames, script, files.as_slice(), &mut out)?;
         assert_eq!(rt; out.held.as_slice(), want);
     }
+    Ok(())
+}
+
+/// A tenant that leaves a tag and bytes on its stack, and after its stop another that looks for
+/// them there.
+#[test]
+fn nothing_is_left_of_a_stopped_tenant(rt: HostRuntime) -> Result<(), Fail> {
+    let text = report(
+        rt.alloc(),
+        11,
+        b"admit 1 image 1 input 0 seed 0000000000000001 frames 5 out 16\nslice 1 100\nstop 1\n\
+          admit 2 image 2 input 0 seed 0000000000000001 frames 5 out 16\nslice 2 100\n",
+        &[&UNTAGGED, &LEFT_ON_THE_STACK],
+    )?;
+    let want = b"tenant 1\nstatus fault TagCheck read addr 0x000000003fffc000 ptr 0 mem 1 \
+          pc 0x0000000000010018\nsteps 7\noutput 0\nheap 0\nend\n\
+          tenant 2\nstatus exit 0\nsteps 9\noutput 16 00000000000000000000000000000000\n\
+          heap 0\nend\n";
+    assert_eq!(rt; text.as_slice(), want.as_slice());
     Ok(())
 }
 
