@@ -21,7 +21,8 @@ use std::alloc::{AllocError, Global};
 use std::marker::Model;
 
 /// For each size class the pages of its region that are carved into blocks, one stack of free
-/// blocks, and a mark for each carved block that says whether it is free.
+/// blocks, and a mark for each carved block that says whether it is free. After `new` nothing
+/// allocates: no call changes for how many elements the pool's lists have memory.
 #[derive(Drop)]
 pub struct Pool {
     /// 128 for each page, one for each 32 bytes.
@@ -52,7 +53,7 @@ impl Pool {
     pub fn new(alloc: Global, pages: u64) -> Result<Pool, AllocError>
         requires low { 0 < pages }
         requires high { pages ≤ MAX_PAGES }
-        ensures { IfOk result (λ pool. pool ≡ empty_pool pages) }
+        ensures { IfOk result (λ pool. pool ≡ empty_pool pages pool.capacities) }
     {
         let no_entry = Entry {
             next: 0,
