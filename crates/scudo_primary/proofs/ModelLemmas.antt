@@ -26,20 +26,20 @@ use Rattle.scudo_primary.proofs.LinkLemmas.{used_entry, marked}
 
 -- ---- maps by class
 
-tied-same : (q : ℕ) → eq_by_cmp nat_cmp q q ≡ true
+pub tied-same : (q : ℕ) → eq_by_cmp nat_cmp q q ≡ true
 tied-same q = unsigned_tied q q ∙ eq-eqb q q refl
 
-tied-other : (q r : ℕ) → q ≢ r → eq_by_cmp nat_cmp q r ≡ false
+pub tied-other : (q r : ℕ) → q ≢ r → eq_by_cmp nat_cmp q r ≡ false
 tied-other q r n = unsigned_tied q r ∙ grind arith
 
-entries-in : {X : Type 0} (f : ℕ → X) (n a q : ℕ) → a ≤ q → q < a + n → find nat_cmp q (map (λ c. (c, f c)) (range_with_len a n)) ≡ Some (f q)
+pub entries-in : {X : Type 0} (f : ℕ → X) (n a q : ℕ) → a ≤ q → q < a + n → find nat_cmp q (map (λ c. (c, f c)) (range_with_len a n)) ≡ Some (f q)
 entries-in f zero a q l h = absurd (omega arith)
 entries-in f (suc n) a q l h = elim (cases_eq q a) [
   | inl s ↦ ap (λ t. find nat_cmp t (map (λ c. (c, f c)) (range_with_len a (suc n)))) s ∙ cond-true _ _ _ (tied-same a) ∙ ap (λ t. Some (f t)) (sym s)
   | inr o ↦ cond-false _ _ _ (tied-other q a o) ∙ entries-in f n (a + 1) q (omega arith) (omega arith)
 ]
 
-entries-out : {X : Type 0} (f : ℕ → X) (n a q : ℕ) → ((a ≤ q) × (q < a + n) → ⊥) → find nat_cmp q (map (λ c. (c, f c)) (range_with_len a n)) ≡ None
+pub entries-out : {X : Type 0} (f : ℕ → X) (n a q : ℕ) → ((a ≤ q) × (q < a + n) → ⊥) → find nat_cmp q (map (λ c. (c, f c)) (range_with_len a n)) ≡ None
 entries-out f zero a q h = refl
 entries-out f (suc n) a q h =
     let o : q ≢ a = λ e. h (omega arith, omega arith) in
@@ -56,7 +56,7 @@ pub class_at-pool_by : (left : ℕ) (cs : List ℕ) (f : ℕ → ClassState) (c 
 unfolding class_at
 class_at-pool_by left cs f c h = ap (λ o. unwrap_or o empty_class) (get-in left cs f c h)
 
-is-class : (c : ℕ) → IsClass c ⊎ (IsClass c → ⊥)
+pub is-class : (c : ℕ) → IsClass c ⊎ (IsClass c → ⊥)
 is-class c = elim (cases_lt 0 c) [
   | inl p ↦ elim (cases_lt CLASSES c) [
     | inl q ↦ inr (λ h. let b = h.high in omega arith)

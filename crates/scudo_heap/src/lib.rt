@@ -1,0 +1,11 @@
+//! The calls of a tenant's heap over its tagged memory (Scudo, `combined.h`), with a tag for each
+//! chunk of a size class.
+#![tactic(auto)]
+
+mod abort;
+mod chunk;
+mod limits;
+mod stacks;
+
+pub use abort::HeapAbort;
+pub use limits::{MAX_ALIGNMENT, MAX_REQUEST};
