@@ -1,1 +1,3 @@
 pub mod StackLemmas
+pub mod OpenLemmas
+pub mod CheckLemmas

@@ -134,8 +134,8 @@ view-carved f q v c n e h z eq =
     ∙ ap (λ t. carved_class c t n) (sym at) in
     ap (λ t. stacks_in (record { pool = t; cache = f.cache })) eq
     ∙ ap (λ (t : StackState). record { left = (with_pages f.pool c n).left; capacities = f.cache.capacity ∷ (with_pages f.pool c n).capacities; classes = t.classes })
-      (stacks_by-with_class f.pool.left (f.cache.capacity ∷ f.pool.capacities) (class_in f) (class_in g) c (carved_class c (class_at v c) n) h own
-      (λ d hd o. same-class _ _ _ _ (ap (λ (t : ClassState). t.pages) (class_at-with_pages_other f.pool c n d o)) (ap (λ (t : ClassState). reverse (entries_of f.cache d) ++ t.stack) (class_at-with_pages_other f.pool c n d o))))
+    (stacks_by-with_class f.pool.left (f.cache.capacity ∷ f.pool.capacities) (class_in f) (class_in g) c (carved_class c (class_at v c) n) h own
+    (λ d hd o. same-class _ _ _ _ (ap (λ (t : ClassState). t.pages) (class_at-with_pages_other f.pool c n d o)) (ap (λ (t : ClassState). reverse (entries_of f.cache d) ++ t.stack) (class_at-with_pages_other f.pool c n d o))))
     ∙ ap (λ (t : StackState). record { left = (with_pages f.pool c n).left; capacities = f.cache.capacity ∷ (with_pages f.pool c n).capacities; classes = (with_class t c (carved_class c (class_at v c) n)).classes }) e
     ∙ ap (λ m. record { left = m; capacities = f.cache.capacity ∷ (with_pages f.pool c n).capacities; classes = (with_class v c (carved_class c (class_at v c) n)).classes }) (left-with_pages f.pool c n ∙ ap (λ m. m - n) (sym left))
     ∙ ap (λ cs. record { left = v.left - n; capacities = f.cache.capacity ∷ cs; classes = (with_class v c (carved_class c (class_at v c) n)).classes }) (caps-with_pages f.pool c n)
@@ -149,8 +149,8 @@ view-new f n cs e v =
     stacks_by-agree f.pool.left n (f.cache.capacity ∷ f.pool.capacities) (f.cache.capacity ∷ f.pool.capacities) (class_in f) (λ _. empty_class)
     (ap (λ (p : PoolState). p.left) e ∙ left-empty_pool n cs) refl
     (λ c h.
-      let a = h.low in
-      let b = h.high in
-      let at = ap (λ p. primary.class_at p c) e ∙ class_at-empty_pool n cs c h in
-      let none : entries_of f.cache c ≡ [] = ap (λ t. get_or t (c - 1) []) v ∙ get_or-replicate CLASSES (c - 1) [] [] (omega arith) in
-      same-class _ _ _ _ (ap (λ (t : ClassState). t.pages) at) (ap (λ (t : ClassState). reverse (entries_of f.cache c) ++ t.stack) at ∙ ap (λ xs. reverse xs ++ []) none))
+    let a = h.low in
+    let b = h.high in
+    let at = ap (λ p. primary.class_at p c) e ∙ class_at-empty_pool n cs c h in
+    let none : entries_of f.cache c ≡ [] = ap (λ t. get_or t (c - 1) []) v ∙ get_or-replicate CLASSES (c - 1) [] [] (omega arith) in
+    same-class _ _ _ _ (ap (λ (t : ClassState). t.pages) at) (ap (λ (t : ClassState). reverse (entries_of f.cache c) ++ t.stack) at ∙ ap (λ xs. reverse xs ++ []) none))

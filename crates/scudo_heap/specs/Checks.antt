@@ -1,7 +1,7 @@
 -- The six checks of a pointer, in their order (Scudo, combined.h, Allocator::deallocate). The tag
 -- of the pointer is not compared.
 use Rattle.std.specs.Prelude.{ℕ, ◌+◌, ◌-◌, ◌*◌, ◌/◌, ◌%◌, ◌==◌, ◌&&◌, nat_lt, nat_le, Bool}
-use Rattle.std.specs.Prelude.{true, false, Option, Some, None, Result, Ok, Err, if◌then◌else◌}
+use Rattle.std.specs.Prelude.{true, false, List, Option, Some, None, Result, Ok, Err, if◌then◌else◌}
 use Rattle.std.specs.Int.{from_le_bytes, w64}
 use Rattle.mte_tags.specs.Memory.{Memory, page_has}
 use Rattle.mte_tags.specs.Accesses.{read_bytes}
@@ -86,17 +86,18 @@ found_mapping header (Some m) =
     then Ok (InPages m header)
     else Err NotABlock
 
-abbrev pub found_chunk : HeapState → ℕ → Header → Result Found HeapAbort
-found_chunk h user header = if header.class_id == 0
-    then found_mapping header (secondary.mapping_of h.maps.mappings user)
+unfoldable pub found_chunk : StackState → List Mapping → ℕ → Header → Result Found HeapAbort
+found_chunk s ms user header = if header.class_id == 0
+    then found_mapping header (secondary.mapping_of ms user)
     else (if nat_le (16 + 16 * header.offset) user
-    then found_block h.stacks (place_by user header) header
+    then found_block s (place_by user header) header
     else Err NotABlock)
 
 abbrev pub found_by : HeapState → ℕ → Option Header → Result Found HeapAbort
 found_by h user None = Err HeaderCorrupt
-found_by h user (Some header) =
-    if is_allocated header.state then found_chunk h user header else Err InvalidState
+found_by h user (Some header) = if is_allocated header.state
+    then found_chunk h.stacks h.maps.mappings user header
+    else Err InvalidState
 
 -- ---- all six
 

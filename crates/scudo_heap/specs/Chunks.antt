@@ -59,10 +59,10 @@ opened m p = with_granules m (p.user - 16) 1 0 false
 unfoldable pub refitted : Memory → Place → ℕ → Memory
 refitted m p size = if nat_lt (granules_of p.size) (granules_of size)
     then closed
-        (with_granules m (end_of p) (granules_of size - granules_of p.size) (tag_at m p.user) true)
-        (with_size p size)
+    (with_granules m (end_of p) (granules_of size - granules_of p.size) (tag_at m p.user) true)
+    (with_size p size)
     else with_granules m (end_of (with_size p size))
-        (granules_of p.size - granules_of size) 0 false
+    (granules_of p.size - granules_of size) 0 false
 
 -- The header's eight bytes, in the granule before the user address.
 unfoldable pub headed : Memory → ℕ → ℕ → Header → Memory

@@ -3,7 +3,9 @@
 #![tactic(auto)]
 
 mod abort;
+mod checks;
 mod chunk;
+mod granules;
 mod limits;
 mod stacks;
 
