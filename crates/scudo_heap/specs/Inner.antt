@@ -1,8 +1,18 @@
--- What the parts of the stacks of free blocks are.
-use Rattle.std.specs.Prelude.{ℕ, List, ◌∷◌}
+-- What the parts of the stacks of free blocks are, and what a chunk is that the checks found.
+use Rattle.std.specs.Prelude.{◌≡◌, ℕ, ◌+◌, ◌%◌, ◌^◌, ◌<◌, ◌≤◌, List, ◌∷◌, Some, false}
+use Rattle.scudo_header.specs.declared.classes.TheConstants.{CLASSES}
+use Rattle.scudo_header.specs.declared.headers.Header.{Header}
+use Rattle.scudo_primary.specs.Blocks.{IsBlock}
 use Rattle.scudo_primary.specs.Pools as primary
+use Rattle.scudo_primary.specs.Pools.{is_member}
 use Rattle.scudo_cache.specs.Caches.{one_stack, IsAbove, AreStacks}
-use Rattle.scudo_heap.specs.Stacks.{ClassHeap, StackState, stacks_by}
+use Rattle.scudo_secondary.specs.Mappings.{mapping_of}
+use Rattle.scudo_heap.specs.declared.chunk.Place.{Place}
+use Rattle.scudo_heap.specs.declared.chunk.Found.{Found}
+use Rattle.scudo_heap.specs.declared.chunk.Found.TheVariants.{InBlock, InPages}
+use Rattle.scudo_heap.specs.Stacks.{ClassHeap, StackState, stacks_by, pages_of, stack_of}
+use Rattle.scudo_heap.specs.Heaps.{HeapState}
+use Rattle.scudo_heap.specs.Chunks.{end_of, block_end}
 use Rattle.scudo_heap.specs.declared.stacks.Stacks.TheInside.{Inside}
 
 abbrev pub class_in : Inside → ℕ → ClassHeap
@@ -15,3 +25,24 @@ stacks_in f = stacks_by f.pool.left (f.cache.capacity ∷ f.pool.capacities) (cl
 pub record AreParts (f : Inside) : Type 0 where
   pub above : IsAbove f.cache f.pool
   pub stacks : AreStacks f.cache f.pool
+
+-- where a chunk may lie in a block of a size class
+pub record IsPlaced (s : StackState) (p : Place) : Type 0 where
+  pub low : 0 < p.class
+  pub high : p.class ≤ CLASSES
+  pub carved : IsBlock p.class (pages_of s p.class) p.block
+  pub aligned : p.user % 16 ≡ 0
+  pub above : p.block + 16 ≤ p.user
+  pub some : 0 < p.size
+  pub small : p.size < 2 ^ 20
+  pub within : end_of p ≤ block_end p
+
+pub record IsFoundBlock (s : StackState) (p : Place) (header : Header) : Type 0 where
+  pub place : IsPlaced s p
+  pub used : is_member (stack_of s p.class) p.block ≡ false
+  pub size : header.size_or_unused_bytes ≡ p.size
+
+-- a chunk that the checks found, as long as it is not freed
+abbrev pub IsFound : HeapState → Found → Type 0
+IsFound h (InBlock p header) = IsFoundBlock h.stacks p header
+IsFound h (InPages m header) = Some m ≡ mapping_of h.maps.mappings m.user

@@ -1,5 +1,4 @@
 pub mod Stacks
-pub mod Inner
 pub mod Heaps
 pub mod Chunks
 pub mod Placing
@@ -9,3 +8,4 @@ pub mod Checks
 pub mod Freeing
 pub mod Realloc
 pub mod Served
+pub mod Inner

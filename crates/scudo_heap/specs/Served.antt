@@ -24,12 +24,15 @@ is_inside a m = nat_le m.start a && nat_lt a (secondary.end_of m)
 
 -- room: the heap has room for all pages that are left in the memory; it is so from the start where
 -- the memory may have at most the pages that the heap was made for
+-- few: a class's pages lie in its region
 -- none: no page of the range before the first class's region is mapped
 -- regions: of a class's region exactly its pages are mapped
 -- mappings: of the range of chunks with pages of their own exactly theirs are mapped
 pub record IsServed (m : Memory) (h : HeapState) : Type 0 where
   pub room : pages_left m + secondary.pages_of h.maps.mappings ≤ h.stacks.left
   pub limit : h.stacks.left ≤ h.maps.limit
+  pub few :
+      (class : ℕ) → 0 < class → class ≤ CLASSES → pages_of h.stacks class ≤ REGION_SIZE / PAGE_SIZE
   pub none :
       (i : ℕ) → i < REGION_SIZE / PAGE_SIZE → attrs_at m (REGIONS_START / PAGE_SIZE + i) ≡ None
   pub regions :

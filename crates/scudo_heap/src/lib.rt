@@ -5,9 +5,11 @@
 mod abort;
 mod checks;
 mod chunk;
+mod freeing;
 mod granules;
 mod limits;
 mod stacks;
+mod tagging;
 
 pub use abort::HeapAbort;
 pub use limits::{MAX_ALIGNMENT, MAX_REQUEST};
