@@ -1,11 +1,11 @@
 //! The six checks of a pointer (Scudo, `combined.h`).
 
-ghost use Rattle.std.specs.Prelude.{◌≡◌, ◌+◌, ◌*◌, ◌<◌, ◌≤◌, ◌^◌};
+ghost use Rattle.std.specs.Prelude.{◌≡◌, ◌+◌, ◌*◌, ◌<◌, ◌≤◌, ◌^◌, IfOk};
 ghost use Rattle.scudo_secondary.specs.Mappings.{mapping_of};
 ghost use Rattle.scudo_heap.specs.Chunks.{end_of, block_end};
 ghost use Rattle.scudo_heap.specs.Heaps.{heap_of};
 ghost use Rattle.scudo_heap.specs.Checks.{is_allocated, is_place, place_by, size_found, is_mapped, found};
-ghost use Rattle.scudo_heap.specs.Checks.{found_block, found_mapping, found_chunk};
+ghost use Rattle.scudo_heap.specs.Checks.{found_block, found_mapping, found_chunk, HasEnd};
 
 use crate::abort::HeapAbort;
 use crate::chunk::{Found, Place};
@@ -47,7 +47,8 @@ fn in_block(stacks: &Stacks, place: Place, header: &Header) -> Result<Found, Hea
     requires user { place.user < 2 ^ 56 }
     requires size { place.size < 2 ^ 20 }
     requires block { place.block < 2 ^ 56 }
-    ensures { result ≡ found_block stacks.now place header.now }
+    ensures found { result ≡ found_block stacks.now place header.now }
+    ensures end { IfOk result HasEnd }
 {
     if !lies_in_block(stacks, place) {
         return Err(HeapAbort::NotABlock);
@@ -60,7 +61,8 @@ fn in_block(stacks: &Stacks, place: Place, header: &Header) -> Result<Found, Hea
 
 /// The chunk of a mapping that is there.
 fn in_pages(maps: &Maps, user: u64, header: &Header) -> Result<Found, HeapAbort>
-    ensures { result ≡ found_mapping header.now (mapping_of maps.now.mappings user) }
+    ensures found { result ≡ found_mapping header.now (mapping_of maps.now.mappings user) }
+    ensures end { IfOk result HasEnd }
 {
     let Some(mapping) = maps.find(user) else {
         return Err(HeapAbort::NotABlock);
@@ -77,7 +79,8 @@ fn in_pages(maps: &Maps, user: u64, header: &Header) -> Result<Found, HeapAbort>
 fn by_header(stacks: &Stacks, maps: &Maps, user: u64, header: &Header) -> Result<Found, HeapAbort>
     requires user { user < 2 ^ 56 }
     requires size { header.now.size_or_unused_bytes < 2 ^ 20 }
-    ensures { result ≡ found_chunk stacks.now maps.now.mappings user header.now }
+    ensures found { result ≡ found_chunk stacks.now maps.now.mappings user header.now }
+    ensures end { IfOk result HasEnd }
 {
     if header.class_id == 0 {
         return in_pages(maps, user, header);
@@ -119,6 +122,7 @@ pub(crate) fn find_chunk<M: Paged>(
     requires { user < 2 ^ 56 }
     ensures answer { result
         ≡ found (M.memory memory.old) (heap_of cookie stacks.now maps.now) user }
+    ensures end { IfOk result HasEnd }
     ensures memory { M.memory memory.new ≡ M.memory memory.old }
     ensures kept { M.kept memory.old memory.new }
 {

@@ -1,5 +1,9 @@
 //! Where a chunk lies.
 
+ghost use Rattle.std.specs.Prelude.{◌≡◌, ◌≤◌, ◌^◌};
+ghost use Rattle.scudo_heap.specs.Checks.{size_found, HasEnd};
+
+use address_map::PAGE_SIZE;
 use scudo_header::Header;
 use scudo_secondary::Mapping;
 
@@ -32,4 +36,20 @@ pub(crate) enum Found {
     InBlock(Place, Header),
     /// With pages of its own.
     InPages(Mapping, Header),
+}
+
+impl Found {
+    /// The bytes that its user may use.
+    pub(crate) fn size(&self) -> u64
+        requires { HasEnd self.now }
+        ensures { result ≡ size_found self.now }
+    {
+        match self {
+            Found::InBlock(place, _) => place.size,
+            Found::InPages(mapping, header) => {
+                let end = mapping.start + PAGE_SIZE * mapping.pages;
+                end - mapping.user - u64::from(header.size_or_unused_bytes)
+            }
+        }
+    }
 }

@@ -53,3 +53,47 @@ fn free_block<M: Paged>(
     put_header(memory, cookie, place.user, &freed);
     stacks.put(place.class, place.block);
 }
+
+/// Takes the mapping of a chunk away, and unmaps its pages.
+fn free_pages<M: Paged>(maps: &mut Maps, memory: &mut M, mapping: Mapping)
+    requires there { Some mapping ≡ secondary.mapping_of maps.old.mappings mapping.user }
+    requires open { secondary.AreMappings maps.old.mappings
+        → IsOpen (M.memory memory.old) mapping.start (secondary.end_of mapping) }
+    ensures memory { M.memory memory.new
+        ≡ without_pages (M.memory memory.old) (mapping.start / PAGE_SIZE) mapping.pages }
+    ensures maps { maps.new ≡ with_less maps.old mapping }
+    ensures mappings { secondary.AreMappings maps.old.mappings }
+    ensures kept { M.kept memory.old memory.new }
+{
+    maps.remove(mapping.user);
+    memory.unmap_pages(mapping.start / PAGE_SIZE, mapping.pages as usize);
+}
+
+/// Frees a chunk that the checks found.
+#[tactic(auto, unfolding(crate::specs::Freeing::without_chunk))]
+pub(crate) fn free_found<M: Paged>(
+    cookie: u32,
+    stacks: &mut Stacks,
+    maps: &mut Maps,
+    rgsr: &mut Rgsr,
+    memory: &mut M,
+    found: Found,
+)
+    requires drawn { rgsr.old.tag < 16 }
+    requires served { IsServed (M.memory memory.old) (heap_of cookie stacks.old maps.old) }
+    requires found { IsFound (heap_of cookie stacks.old maps.old) found }
+    ensures world { world_of (M.memory memory.new) (heap_of cookie stacks.new maps.new) rgsr.new
+        ≡ without_chunk
+        (world_of (M.memory memory.old) (heap_of cookie stacks.old maps.old) rgsr.old)
+        found }
+    ensures served { IsServed (M.memory memory.new) (heap_of cookie stacks.new maps.new) }
+    ensures tag { rgsr.new.tag < 16 }
+    ensures kept { M.kept memory.old memory.new }
+{
+    match found {
+        Found::InBlock(place, header) => {
+            free_block(cookie, stacks, rgsr, memory, place, &header);
+        }
+        Found::InPages(mapping, _) => free_pages(maps, memory, mapping),
+    }
+}

@@ -7,9 +7,11 @@ mod checks;
 mod chunk;
 mod freeing;
 mod granules;
+mod heap;
 mod limits;
 mod stacks;
 mod tagging;
 
 pub use abort::HeapAbort;
+pub use heap::Heap;
 pub use limits::{MAX_ALIGNMENT, MAX_REQUEST};

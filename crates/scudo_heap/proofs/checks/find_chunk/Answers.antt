@@ -29,7 +29,7 @@ pub returns-clause-answer : goal.returns-clause-answer
 returns-clause-answer g c =
     let m = g.M.Tagged.memory c.args.memory.now in
     let h = heap_of c.args.cookie c.args.stacks.now c.args.maps.now in
-    c.by_header.ensures
+    c.by_header.ensures.found
     ∙ found-chunk h c.args.user c.in-Some.header (sym c.is_handed_out.ensures ∙ c.if-not-is_handed_out.false)
     ∙ found-header m h c.args.user (Some c.in-Some.header) c.if-user-ne0.false (sym c.has_granule.ensures.answer ∙ c.if-not-has_granule.false)
     (c.in-Some.ensures.header ∙ ap (λ t. header_at t c.args.cookie c.args.user) c.has_granule.ensures.memory)
