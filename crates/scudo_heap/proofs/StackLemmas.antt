@@ -1,8 +1,9 @@
 -- The stacks, by class: one of them changes, and the others stay.
-use Rattle.std.proofs.Common.{◌≡◌, ◌≢◌, ℕ, ◌+◌, ◌-◌, ◌<◌, ◌≤◌, List, [], ◌∷◌, ◌++◌, length, drop, map, reverse, replicate, Some, None, refl, sym, ap, subst, ◌∙◌, inl, inr, arith, unwrap_or, get_or}
+use Rattle.std.proofs.Common.{◌≡◌, ◌≢◌, ℕ, ◌+◌, ◌-◌, ◌<◌, ◌≤◌, List, [], ◌∷◌, ◌++◌, length, drop, map, reverse, replicate, slice_get, Option, Some, None, refl, sym, ap, subst, ◌∙◌, inl, inr, arith, unwrap_or, get_or}
 use Rattle.std.proofs.lemmas.Bool.{cases_eq, cond-true, cond-false}
 use Rattle.std.proofs.lemmas.List.{get_or-replicate, length-append, length-reverse}
 use Rattle.std.specs.List.{range_with_len}
+use Rattle.std.specs.Option.{IsNone}
 use Rattle.std.specs.Ordering.{nat_cmp, eq_by_cmp}
 use Rattle.std.specs.Cmp.{nat_cmp_total}
 use Rattle.std.specs.FinMap as finite
@@ -154,3 +155,19 @@ view-new f n cs e v =
     let at = ap (λ p. primary.class_at p c) e ∙ class_at-empty_pool n cs c h in
     let none : entries_of f.cache c ≡ [] = ap (λ t. get_or t (c - 1) []) v ∙ get_or-replicate CLASSES (c - 1) [] [] (omega arith) in
     same-class _ _ _ _ (ap (λ (t : ClassState). t.pages) at) (ap (λ (t : ClassState). reverse (entries_of f.cache c) ++ t.stack) at ∙ ap (λ xs. reverse xs ++ []) none))
+
+-- a pop of an empty stack
+drop-none : (xs : List ℕ) → slice_get xs 0 ≡ None → drop 1 xs ≡ xs
+drop-none [] e = refl
+drop-none (x ∷ xs) e = cc
+
+pub none-is : (o : Option ℕ) → IsNone o → o ≡ None
+none-is None h = refl
+none-is (Some x) h = cc
+
+pub popped-none : (f : Inside) (v : StackState) (c : ℕ) → stacks_in f ≡ v → IsClass c → slice_get (stack_of v c) 0 ≡ None → popped v c ≡ v
+unfolding popped
+popped-none f v c e h z =
+    ap (λ s. with_class v c (class_with (pages_of v c) s)) (drop-none (stack_of v c) z)
+    ∙ ap (with_class v c) (at-inside f v c e h) ∙ ap (λ t. with_class t c (class_in f c)) (sym e)
+    ∙ sym (stacks_by-with_class f.pool.left (f.cache.capacity ∷ f.pool.capacities) (class_in f) (class_in f) c (class_in f c) h refl (λ d hd n. refl)) ∙ e

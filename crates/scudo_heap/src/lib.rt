@@ -9,6 +9,7 @@ mod freeing;
 mod granules;
 mod heap;
 mod limits;
+mod placing;
 mod stacks;
 mod tagging;
 

@@ -1,7 +1,7 @@
 //! The free blocks of the size classes: a local cache above a pool, which are one stack a class.
 
 ghost use Rattle.std.specs.Prelude.{◌≡◌, ◌≤◌, ◌<◌, ◌+◌, ◌↔◌, [], false, slice_get, IfOk, IfSome};
-ghost use Rattle.std.specs.Prelude.{IsTrue};
+ghost use Rattle.std.specs.Prelude.{IsTrue, IsNone};
 ghost use Rattle.scudo_primary.specs.Blocks.{IsBlock};
 ghost use Rattle.scudo_primary.specs.Pools.{is_member};
 ghost use Rattle.scudo_heap.specs.Stacks.{pages_of, stack_of, empty_stacks, popped, pushed, carved};
@@ -53,6 +53,7 @@ impl Stacks {
         ensures answer { result ≡ slice_get (stack_of self.old class) 0 }
         ensures stacks { self.new ≡ popped self.old class }
         ensures block { IfSome result (IsBlock class (pages_of self.old class)) }
+        ensures none { IsNone result → self.new ≡ self.old }
     {
         self.cache.take(class, &mut self.pool)
     }

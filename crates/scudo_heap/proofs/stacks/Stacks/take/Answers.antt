@@ -4,7 +4,7 @@ use Rattle.scudo_primary.specs.Pools as primary
 use Rattle.scudo_primary.specs.Pools.{is_member}
 use Rattle.scudo_cache.specs.Caches.{CacheState}
 use Rattle.scudo_heap.specs.Stacks.{ClassHeap}
-use Rattle.scudo_heap.proofs.StackLemmas.{at-inside, view-popped, view-pushed, view-carved, no-entries, view-new}
+use Rattle.scudo_heap.proofs.StackLemmas.{at-inside, view-popped, popped-none, none-is, view-pushed, view-carved, no-entries, view-new}
 use Rattle.scudo_heap.proofs.stacks.Stacks.take.Goals as goal
 
 pub returns-clause-answer : goal.returns-clause-answer
@@ -18,3 +18,9 @@ returns-clause-stacks c =
 pub returns-clause-block : goal.returns-clause-block
 returns-clause-block c =
     subst (λ n. IfSome c.take.result (IsBlock c.args.class n)) (c.take.ensures.pages c.args.class ∙ ap (λ (k : ClassHeap). k.pages) (sym (at-inside c.self.inside c.args.self.now c.args.class c.self.view_is (record { low = c.requires.low; high = c.requires.high })))) c.take.ensures.block
+
+pub returns-clause-none : goal.returns-clause-none
+returns-clause-none c = λ n.
+    returns-clause-stacks c
+    ∙ popped-none c.self.inside c.args.self.now c.args.class c.self.view_is (record { low = c.requires.low; high = c.requires.high })
+    (sym (returns-clause-answer c) ∙ none-is c.take.result n)
