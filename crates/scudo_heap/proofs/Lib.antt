@@ -5,3 +5,4 @@ pub mod MapLemmas
 pub mod ServedLemmas
 pub mod FoundLemmas
 pub mod FreeLemmas
+pub mod ClassLemmas

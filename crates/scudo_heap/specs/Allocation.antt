@@ -24,6 +24,9 @@ pub record Made : Type 0 where
   pub world : World
   pub chunk : Option Chunk
 
+abbrev pub made_of : World → Option Chunk → Made
+made_of w chunk = record { world = w; chunk = chunk }
+
 abbrev pub nothing : World → Made
 nothing w = record { world = w; chunk = None }
 

@@ -46,3 +46,9 @@ pub record IsFoundBlock (s : StackState) (p : Place) (header : Header) : Type 0 
 abbrev pub IsFound : HeapState → Found → Type 0
 IsFound h (InBlock p header) = IsFoundBlock h.stacks p header
 IsFound h (InPages m header) = Some m ≡ mapping_of h.maps.mappings m.user
+
+-- an alignment as the calls take it: at least that of a granule, at most a page
+pub record IsAlign (align : ℕ) : Type 0 where
+  pub least : 16 ≤ align
+  pub most : align ≤ 4096
+  pub multiple : align % 16 ≡ 0

@@ -11,8 +11,9 @@ use Rattle.scudo_secondary.specs.declared.mappings.Mapping.{Mapping}
 use Rattle.address_map.specs.declared.limits.TheConstants.{PAGE_SIZE}
 use Rattle.address_map.specs.declared.ranges.TheConstants.{REGIONS_START, REGION_SIZE}
 use Rattle.address_map.specs.declared.ranges.TheConstants.{SECONDARY_START, SECONDARY_END}
-use Rattle.scudo_heap.specs.Stacks.{pages_of}
-use Rattle.scudo_heap.specs.Heaps.{HeapState}
+use Rattle.scudo_secondary.specs.Mappings.{MapsState}
+use Rattle.scudo_heap.specs.Stacks.{StackState, pages_of}
+use Rattle.scudo_heap.specs.Heaps.{HeapState, heap_of}
 
 -- READ, WRITE and TAGGED where a page is the heap's, else no page.
 abbrev pub heap_page : Bool → Option ℕ
@@ -46,3 +47,18 @@ pub record IsServed (m : Memory) (h : HeapState) : Type 0 where
 pub record IsOpen (m : Memory) (from to : ℕ) : Type 0 where
   pub pages : (a : ℕ) → from ≤ a → a < to → attrs_at m (a / PAGE_SIZE) ≡ Some 11
   pub below : to ≤ 2 ^ 30
+
+-- what of the condition the size classes need
+pub record AreRegions (m : Memory) (s : StackState) : Type 0 where
+  pub room : pages_left m ≤ s.left
+  pub few :
+      (class : ℕ) → 0 < class → class ≤ CLASSES → pages_of s class ≤ REGION_SIZE / PAGE_SIZE
+  pub regions :
+      (class i : ℕ) → 0 < class → class ≤ CLASSES → i < REGION_SIZE / PAGE_SIZE
+      → attrs_at m (region_of class / PAGE_SIZE + i) ≡ heap_page (nat_lt i (pages_of s class))
+
+-- a change of memory and stacks keeps the condition, whatever the rest of the heap
+abbrev pub KeepsServed : Memory → StackState → Memory → StackState → Type 0
+KeepsServed m s m' s' =
+    (cookie : ℕ) (ms : MapsState) → IsServed m (heap_of cookie s ms)
+    → IsServed m' (heap_of cookie s' ms)

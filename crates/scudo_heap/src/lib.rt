@@ -5,6 +5,7 @@
 mod abort;
 mod checks;
 mod chunk;
+mod classes;
 mod freeing;
 mod granules;
 mod heap;
