@@ -12,19 +12,17 @@ use Rattle.scudo_heap.proofs.ServedLemmas.{block-open-in, same-popped, served-on
 use Rattle.scudo_heap.proofs.ClassLemmas.{FitsIn, fits-in, none-top, taken-some}
 use Rattle.scudo_heap.proofs.classes.take_top.Goals as goal
 
-fits : {g : _} (c : goal.After-place-place g) → FitsIn c.place-place.result
-fits c =
-    subst FitsIn (sym c.place-place.ensures)
-    (fits-in c.args.class _ c.in-Some.block c.args.align c.args.size (record { low = c.requires.low; high = c.requires.high }) c.in-Some.ensures.block c.requires.align c.requires.fits)
-
 pub make_chunk-tag-requires-clause-aligned : goal.make_chunk-tag-requires-clause-aligned
-make_chunk-tag-requires-clause-aligned g c = (fits c).aligned
+make_chunk-tag-requires-clause-aligned g c = (subst FitsIn (sym c.place-place.ensures)
+    (fits-in c.args.class _ c.in-Some.block c.args.align c.args.size (record { low = c.requires.low; high = c.requires.high }) c.in-Some.ensures.block c.requires.align c.requires.fits)).aligned
 
 pub make_chunk-tag-requires-clause-whole : goal.make_chunk-tag-requires-clause-whole
-make_chunk-tag-requires-clause-whole g c = (fits c).whole
+make_chunk-tag-requires-clause-whole g c = (subst FitsIn (sym c.place-place.ensures)
+    (fits-in c.args.class _ c.in-Some.block c.args.align c.args.size (record { low = c.requires.low; high = c.requires.high }) c.in-Some.ensures.block c.requires.align c.requires.fits)).whole
 
 pub make_chunk-tag-requires-clause-within : goal.make_chunk-tag-requires-clause-within
-make_chunk-tag-requires-clause-within g c = (fits c).within
+make_chunk-tag-requires-clause-within g c = (subst FitsIn (sym c.place-place.ensures)
+    (fits-in c.args.class _ c.in-Some.block c.args.align c.args.size (record { low = c.requires.low; high = c.requires.high }) c.in-Some.ensures.block c.requires.align c.requires.fits)).within
 
 pub make_chunk-tag-requires-clause-open : goal.make_chunk-tag-requires-clause-open
 make_chunk-tag-requires-clause-open g c =
