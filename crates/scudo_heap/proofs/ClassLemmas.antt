@@ -20,7 +20,7 @@ use Rattle.scudo_heap.specs.Inner.{IsAlign}
 
 -- ---- where a chunk lies in a block
 
-divides : (x s : ℕ) → 0 < s → s % 16 ≡ 0 → x % s ≡ 0 → x % 16 ≡ 0
+pub divides : (x s : ℕ) → 0 < s → s % 16 ≡ 0 → x % s ≡ 0 → x % 16 ≡ 0
 divides x s p h e =
     let a : x ≡ s * (x / s) = omega arith in
     let b : s ≡ 16 * (s / 16) = omega arith in

@@ -6,3 +6,4 @@ pub mod ServedLemmas
 pub mod FoundLemmas
 pub mod FreeLemmas
 pub mod ClassLemmas
+pub mod LargeLemmas

@@ -2,9 +2,10 @@
 use Rattle.std.proofs.Common.{◌≡◌, ◌≢◌, ℕ, ◌+◌, ◌-◌, ◌*◌, ◌/◌, ◌%◌, ◌<◌, ◌≤◌, ◌==◌, ◌&&◌, ◌||◌, not, nat_lt, nat_le, Bool, true, false, cond, List, [], ◌∷◌, filter, Option, Some, None, refl, sym, ap, subst, ◌∙◌, inl, inr, arith, eq-eqb}
 use Rattle.std.proofs.lemmas.Bool.{cases_eq, cond-true, cond-false, eqb-true}
 use Rattle.std.proofs.lemmas.Bool.Decides.{nat_tests}
-use Rattle.std.specs.List.{find, list_any}
+use Rattle.std.specs.List.{find, list_any, list_all}
+use Rattle.scudo_secondary.proofs.PlaceLemmas.{apart_true, IsPlace, place-facts}
 use Rattle.std.proofs.lemmas.List.Sums.{sum_by-cons}
-use Rattle.scudo_secondary.specs.Mappings.{IsMapping, AreFrom, AreMappings, mapping_of, end_of, pages_of}
+use Rattle.scudo_secondary.specs.Mappings.{IsMapping, AreFrom, AreMappings, mapping_of, end_of, pages_of, with_mapping, is_apart, is_place}
 use Rattle.scudo_secondary.specs.declared.mappings.Mapping.{Mapping}
 use Rattle.address_map.specs.declared.limits.TheConstants.{PAGE_SIZE}
 use Rattle.address_map.specs.declared.ranges.TheConstants.{SECONDARY_START, SECONDARY_END}
@@ -130,3 +131,48 @@ without-from (m ∷ ms) least n h e =
 pub without : (ms : List Mapping) (n : Mapping) → AreMappings ms → Some n ≡ mapping_of ms n.user → IsWithout ms (SECONDARY_START + PAGE_SIZE) n
 unfolding AreMappings
 without ms n h e = without-from ms (SECONDARY_START + PAGE_SIZE) n h e
+
+-- ---- one more of them
+
+or-swap : (x y z : Bool) → (x || (y || z)) ≡ (y || (x || z))
+or-swap true true z = refl
+or-swap true false z = refl
+or-swap false true z = refl
+or-swap false false z = refl
+
+pub inside-more : (ms : List Mapping) (n : Mapping) (a : ℕ) → list_any (is_inside a) (with_mapping ms n) ≡ (is_inside a n || list_any (is_inside a) ms)
+unfolding with_mapping
+inside-more [] n a = refl
+inside-more (m ∷ ms) n a = elim (nat_lt m.start n.start) as (λ b. list_any (is_inside a) (cond b (m ∷ with_mapping ms n) (n ∷ (m ∷ ms))) ≡ (is_inside a n || (is_inside a m || list_any (is_inside a) ms))) [
+  | true ↦ ap (λ t. is_inside a m || t) (inside-more ms n a) ∙ or-swap (is_inside a m) (is_inside a n) (list_any (is_inside a) ms)
+  | false ↦ refl
+]
+
+all-apart : (ms : List Mapping) (pages start : ℕ) → is_place ms pages start ≡ true → list_all (is_apart pages start) ms ≡ true
+unfolding is_place
+all-apart ms pages start h =
+    (and-both ((start % PAGE_SIZE == 0) && nat_le (SECONDARY_START + PAGE_SIZE) start && nat_le (start + PAGE_SIZE * pages + PAGE_SIZE) SECONDARY_END) (list_all (is_apart pages start) ms) h).1
+
+apart-out : (pages start a : ℕ) (m : Mapping) → is_apart pages start m ≡ true → start ≤ a → a < start + PAGE_SIZE * pages → is_inside a m ≡ false
+apart-out pages start a m h l u = elim (apart_true pages start m h) [
+  | inl e ↦ inside-high a m (omega arith)
+  | inr e ↦ inside-low a m (omega arith)
+]
+
+-- an address in a place is in no mapping
+pub place-out : (ms : List Mapping) (pages start a : ℕ) → list_all (is_apart pages start) ms ≡ true → start ≤ a → a < start + PAGE_SIZE * pages → list_any (is_inside a) ms ≡ false
+place-out [] pages start a h l u = refl
+place-out (m ∷ ms) pages start a h l u =
+    let x = and-both (is_apart pages start m) (list_all (is_apart pages start) ms) h in
+    ap (λ b. b || list_any (is_inside a) ms) (apart-out pages start a m x.0 l u) ∙ place-out ms pages start a x.1 l u
+
+pub record IsAt (ms : List Mapping) (pages start : ℕ) : Type 0 where
+  pub aligned : start % PAGE_SIZE ≡ 0
+  pub above : SECONDARY_START + PAGE_SIZE ≤ start
+  pub below : start + PAGE_SIZE * pages + PAGE_SIZE ≤ SECONDARY_END
+  pub out : (a : ℕ) → start ≤ a → a < start + PAGE_SIZE * pages → list_any (is_inside a) ms ≡ false
+
+pub is-at : (ms : List Mapping) (pages start : ℕ) → is_place ms pages start ≡ true → IsAt ms pages start
+is-at ms pages start h =
+    let f = place-facts ms pages start h in
+    record { aligned = f.aligned; above = f.above; below = f.fits.below; out = λ a l u. place-out ms pages start a (all-apart ms pages start h) l u }

@@ -1,5 +1,5 @@
 -- What the condition of the calls gives, and what keeps it.
-use Rattle.std.proofs.Common.{◌≡◌, ◌≢◌, ℕ, ◌+◌, ◌-◌, ◌*◌, ◌/◌, ◌%◌, ◌^◌, ◌<◌, ◌≤◌, nat_lt, nat_le, Bool, true, false, cond, List, [], ◌∷◌, ◌++◌, zero, suc, drop, Option, Some, None, refl, sym, ap, subst, ◌∙◌, inl, inr, arith}
+use Rattle.std.proofs.Common.{◌≡◌, ◌≢◌, ℕ, ◌+◌, ◌-◌, ◌*◌, ◌/◌, ◌%◌, ◌^◌, ◌<◌, ◌≤◌, ◌||◌, nat_lt, nat_le, Bool, true, false, cond, List, [], ◌∷◌, ◌++◌, zero, suc, drop, Option, Some, None, refl, sym, ap, subst, ◌∙◌, inl, inr, arith}
 use Rattle.std.proofs.lemmas.Bool.{cases_eq, cases_lt, cond-true, cond-false}
 use Rattle.std.proofs.lemmas.Bool.Decides.{nat_tests}
 use Rattle.std.specs.List.{list_any}
@@ -20,14 +20,15 @@ use Rattle.address_map.specs.declared.limits.TheConstants.{PAGE_SIZE}
 use Rattle.address_map.specs.declared.ranges.TheConstants.{REGIONS_START, REGION_SIZE}
 use Rattle.scudo_heap.specs.Stacks.{ClassHeap, StackState, class_at, with_class, pages_of, stack_of, popped, pushed, carved_class, carved}
 use Rattle.scudo_heap.specs.Heaps.{HeapState, heap_of}
-use Rattle.scudo_heap.specs.Served.{IsServed, IsOpen, AreRegions, heap_page, is_inside}
+use Rattle.scudo_heap.specs.Served.{IsServed, IsOpen, AreRegions, ArePlaces, heap_page, is_inside}
 use Rattle.scudo_secondary.specs.declared.mappings.Mapping.{Mapping}
 use Rattle.mte_tags.specs.Memory.{IsFree, with_new_pages, without_pages}
 use Rattle.mte_tags.proofs.PageLaws.{page_at-no_attrs, attrs_at-with_new_pages_in, attrs_at-with_new_pages_out, pages_left-with_new_pages, attrs_at-without_pages_in, attrs_at-without_pages_out}
 use Rattle.mte_tags.proofs.Whole.{pages_left-without_pages}
 use Rattle.address_map.specs.declared.ranges.TheConstants.{SECONDARY_START, SECONDARY_END}
-use Rattle.scudo_heap.specs.Heaps.{with_less}
-use Rattle.scudo_heap.proofs.MapLemmas.{inside-in, inside-low, inside-high, others_of, IsWithout, without}
+use Rattle.scudo_heap.specs.Heaps.{with_less, with_more}
+use Rattle.scudo_secondary.proofs.MappingLemmas.{pages_of-with_mapping}
+use Rattle.scudo_heap.proofs.MapLemmas.{IsAt, inside-more, inside-in, inside-low, inside-high, others_of, IsWithout, without}
 use Rattle.scudo_heap.proofs.StackLemmas.{class_at-with_class, class_at-with_class_other}
 
 pub lt-true : (a b : ℕ) → a < b → nat_lt a b ≡ true
@@ -272,3 +273,67 @@ grown-some s c n k l e =
     let count = ap (λ t. t / size_of c) sum in
     some-append c (carved_count c (pages_of s c)) (carved_count c (pages_of s c + n) - carved_count c (pages_of s c)) (stack_of s c) (omega arith)
     (ap (λ (t : ClassHeap). t.stack) (sym (class-carved s c n)) ∙ e)
+
+-- ---- a mapping and its pages come
+
+pub places-of : (m : Memory) (h : HeapState) → IsServed m h → ArePlaces m h.maps
+places-of m h v = let room = v.room in let limit = v.limit in record { room = omega arith; mappings = v.mappings }
+
+pub pages-free : (m : Memory) (ms : MapsState) (pages start : ℕ) → ArePlaces m ms → IsAt ms.mappings pages start → IsFree m (start / PAGE_SIZE) pages
+pages-free m ms pages start v w = λ i l.
+    let above = w.above in
+    let below = w.below in
+    let aligned = w.aligned in
+    let q : start / PAGE_SIZE + i ≡ (start + PAGE_SIZE * i) / PAGE_SIZE = omega arith in
+    page_at-no_attrs m (start / PAGE_SIZE + i)
+    (ap (attrs_at m) q ∙ v.mappings (start + PAGE_SIZE * i) (omega arith) (omega arith) ∙ ap heap_page (w.out (start + PAGE_SIZE * i) (omega arith) (omega arith)))
+
+pub pages-open : (m : Memory) (pages start lo hi : ℕ) → start % PAGE_SIZE ≡ 0 → start + PAGE_SIZE * pages ≤ 2 ^ 30 → start ≤ lo → hi ≤ start + PAGE_SIZE * pages → IsOpen (with_new_pages m (start / PAGE_SIZE) pages heap_attrs) lo hi
+pages-open m pages start lo hi e b l h = record {
+  pages = λ a x y. attrs_at-with_new_pages_in pages m (start / PAGE_SIZE) heap_attrs (a / PAGE_SIZE) (omega arith) (omega arith);
+  below = omega arith;
+}
+
+more-mappings : (ms : MapsState) (n : Mapping) → (with_more ms n).mappings ≡ secondary.with_mapping ms.mappings n
+unfolding with_more
+more-mappings ms n = refl
+
+more-limit : (ms : MapsState) (n : Mapping) → (with_more ms n).limit ≡ ms.limit
+unfolding with_more
+more-limit ms n = refl
+
+pub served-more : (m : Memory) (s : StackState) (ms : MapsState) (n : Mapping) (cookie : ℕ) → IsAt ms.mappings n.pages n.start → n.pages ≤ pages_left m → IsServed m (heap_of cookie s ms)
+    → IsServed (with_new_pages m (n.start / PAGE_SIZE) n.pages heap_attrs) (heap_of cookie s (with_more ms n))
+served-more m s ms n cookie w enough v =
+    let above = w.above in
+    let below = w.below in
+    let aligned = w.aligned in
+    let room = v.room in
+    let limit = v.limit in
+    let list = more-mappings ms n in
+    let same = more-limit ms n in
+    let pages = ap secondary.pages_of list ∙ pages_of-with_mapping ms.mappings n in
+    let left = pages_left-with_new_pages n.pages m (n.start / PAGE_SIZE) heap_attrs (pages-free m ms n.pages n.start (places-of m (heap_of cookie s ms) v) w) in
+    let out = λ (q : ℕ) (o : n.start / PAGE_SIZE ≤ q → q < n.start / PAGE_SIZE + n.pages → ⊥). attrs_at-with_new_pages_out n.pages m (n.start / PAGE_SIZE) heap_attrs q o in
+    record {
+      room = omega arith;
+      limit = omega arith;
+      few = v.few;
+      none = λ i l. out _ (λ x y. omega arith) ∙ v.none i l;
+      regions = λ c i lo hi l. out _ (λ x y. omega arith) ∙ v.regions c i lo hi l;
+      mappings = λ a lo hi. elim (is_inside a n) as (λ b. is_inside a n ≡ b → attrs_at (with_new_pages m (n.start / PAGE_SIZE) n.pages heap_attrs) (a / PAGE_SIZE) ≡ heap_page (list_any (is_inside a) (with_more ms n).mappings)) [
+        | true ↦ λ t. (elim (cases_lt a n.start) [
+            | inl l ↦ (let f = inside-low a n l in cc)
+            | inr l ↦ (elim (cases_lt a (secondary.end_of n)) [
+                | inl u ↦ attrs_at-with_new_pages_in n.pages m (n.start / PAGE_SIZE) heap_attrs (a / PAGE_SIZE) (omega arith) (omega arith)
+                    ∙ sym (ap heap_page (ap (list_any (is_inside a)) list ∙ inside-more ms.mappings n a ∙ ap (λ b. b || list_any (is_inside a) ms.mappings) t))
+                | inr u ↦ (let f = inside-high a n u in cc)
+              ])
+          ])
+        | false ↦ λ t. (out (a / PAGE_SIZE) (λ x y. (let f : is_inside a n ≡ true = inside-in a n (omega arith) (omega arith) in cc))
+            ∙ v.mappings a lo hi ∙ sym (ap heap_page (ap (list_any (is_inside a)) list ∙ inside-more ms.mappings n a ∙ ap (λ b. b || list_any (is_inside a) ms.mappings) t)))
+      ] refl;
+    }
+
+pub same-pages : (s : StackState) → SamePages s s
+same-pages s = record { left = refl; pages = λ d. refl }

@@ -10,7 +10,7 @@ use Rattle.scudo_header.specs.declared.headers.Origin.{Origin}
 use Rattle.scudo_header.specs.declared.headers.Origin.TheVariants.{Malloc, Memalign}
 use Rattle.scudo_secondary.specs.Mappings.{place_of}
 use Rattle.scudo_secondary.specs.declared.mappings.Mapping.{Mapping}
-use Rattle.scudo_heap.specs.declared.limits.TheConstants.{MAX_REQUEST, MAX_ALIGNMENT}
+use Rattle.scudo_heap.specs.declared.limits.TheConstants.{MAX_REQUEST}
 use Rattle.scudo_heap.specs.declared.chunk.Place.{Place}
 use Rattle.scudo_heap.specs.declared.chunk.Chunk.{Chunk}
 use Rattle.scudo_heap.specs.declared.chunk.Chunk.TheVariants.{Small, Large}
@@ -118,9 +118,9 @@ malloc_of w size = allocated w Malloc 16 size
 unfoldable pub calloc_of : World → ℕ → ℕ → Made
 calloc_of w count size = allocated w Malloc 16 (count * size)
 
--- A power of two up to the largest alignment.
+-- A power of two up to the largest alignment, which is the twelfth.
 abbrev pub is_alignment : ℕ → Bool
-is_alignment n = nat_le n MAX_ALIGNMENT && list_any (λ k. n == 2 ^ k) (range_with_len 0 64)
+is_alignment n = list_any (λ k. n == 2 ^ k) (range_with_len 0 13)
 
 unfoldable pub memalign_of : World → ℕ → ℕ → Made
 memalign_of w align size =

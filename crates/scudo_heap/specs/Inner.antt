@@ -1,5 +1,5 @@
 -- What the parts of the stacks of free blocks are, and what a chunk is that the checks found.
-use Rattle.std.specs.Prelude.{◌≡◌, ℕ, ◌+◌, ◌%◌, ◌^◌, ◌<◌, ◌≤◌, List, ◌∷◌, Some, false}
+use Rattle.std.specs.Prelude.{◌≡◌, ℕ, ◌+◌, ◌-◌, ◌%◌, ◌^◌, ◌<◌, ◌≤◌, List, ◌∷◌, Some, false}
 use Rattle.scudo_header.specs.declared.classes.TheConstants.{CLASSES}
 use Rattle.scudo_header.specs.declared.headers.Header.{Header}
 use Rattle.scudo_primary.specs.Blocks.{IsBlock}
@@ -7,6 +7,9 @@ use Rattle.scudo_primary.specs.Pools as primary
 use Rattle.scudo_primary.specs.Pools.{is_member}
 use Rattle.scudo_cache.specs.Caches.{one_stack, IsAbove, AreStacks}
 use Rattle.scudo_secondary.specs.Mappings.{mapping_of}
+use Rattle.scudo_secondary.specs.Mappings as secondary
+use Rattle.scudo_secondary.specs.declared.mappings.Mapping.{Mapping}
+use Rattle.address_map.specs.declared.limits.TheConstants.{PAGE_SIZE}
 use Rattle.scudo_heap.specs.declared.chunk.Place.{Place}
 use Rattle.scudo_heap.specs.declared.chunk.Found.{Found}
 use Rattle.scudo_heap.specs.declared.chunk.Found.TheVariants.{InBlock, InPages}
@@ -52,3 +55,14 @@ pub record IsAlign (align : ℕ) : Type 0 where
   pub least : 16 ≤ align
   pub most : align ≤ 4096
   pub multiple : align % 16 ≡ 0
+
+-- a chunk of a size lies with its header in a mapping, of which a page at most is left
+pub record IsLarge (m : Mapping) (size : ℕ) : Type 0 where
+  pub some : 0 < m.pages
+  pub few : m.pages ≤ 4096
+  pub start : m.start < 2 ^ 32
+  pub aligned : m.start % PAGE_SIZE ≡ 0
+  pub above : m.start + 16 ≤ m.user
+  pub within : m.user + size ≤ secondary.end_of m
+  pub below : m.user < secondary.end_of m
+  pub unused : secondary.end_of m - m.user - size < 2 ^ 20

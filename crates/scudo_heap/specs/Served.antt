@@ -62,3 +62,16 @@ abbrev pub KeepsServed : Memory → StackState → Memory → StackState → Typ
 KeepsServed m s m' s' =
     (cookie : ℕ) (ms : MapsState) → IsServed m (heap_of cookie s ms)
     → IsServed m' (heap_of cookie s' ms)
+
+-- what of the condition the chunks with pages of their own need
+pub record ArePlaces (m : Memory) (ms : MapsState) : Type 0 where
+  pub room : pages_left m + secondary.pages_of ms.mappings ≤ ms.limit
+  pub mappings :
+      (a : ℕ) → SECONDARY_START ≤ a → a < SECONDARY_END
+      → attrs_at m (a / PAGE_SIZE) ≡ heap_page (list_any (is_inside a) ms.mappings)
+
+-- a change of memory and mappings keeps the condition, whatever the rest of the heap
+abbrev pub KeepsMapped : Memory → MapsState → Memory → MapsState → Type 0
+KeepsMapped m ms m' ms' =
+    (cookie : ℕ) (s : StackState) → IsServed m (heap_of cookie s ms)
+    → IsServed m' (heap_of cookie s ms')

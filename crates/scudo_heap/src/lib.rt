@@ -3,6 +3,7 @@
 #![tactic(auto)]
 
 mod abort;
+mod allocation;
 mod checks;
 mod chunk;
 mod classes;
@@ -10,6 +11,7 @@ mod freeing;
 mod granules;
 mod heap;
 mod limits;
+mod pages;
 mod placing;
 mod stacks;
 mod tagging;
