@@ -1,9 +1,9 @@
 -- A fault depends on attributes and tags alone.
-use Rattle.std.proofs.Common.{◌≡◌, ℕ, ◌/◌, ◌%◌, ◌==◌, ◌&&◌, Bool, true, false, cond, Option, Some, None, List, [], ◌∷◌, refl, sym, ap, ◌∙◌, eq-eqb}
+use Rattle.std.proofs.Common.{◌≡◌, ℕ, ◌/◌, ◌%◌, ◌==◌, ◌&&◌, Bool, true, false, cond, Option, Some, None, is_none, List, [], ◌∷◌, refl, sym, ap, ◌∙◌, eq-eqb}
 use Rattle.std.proofs.lemmas.Bool.{cond-true}
 use Rattle.a64_bits.specs.Addresses.{plain}
-use Rattle.mte_tags.specs.Memory.{Memory, Page, page_at, has, attrs_at, attrs_in, tag_at, tag_in}
-use Rattle.mte_tags.specs.Accesses.{granules, byte_fault, first_fault, or_else, fault, fault_in, granule_tag, unchecked, ending_in, access_fault, read_fault, write_fault, tags_fault, store_access, written}
+use Rattle.mte_tags.specs.Memory.{Memory, Page, page_at, has, has_in, attrs_at, attrs_in, page_has, tag_at, tag_in}
+use Rattle.mte_tags.specs.Accesses.{addresses, granules, byte_fault, first_fault, or_else, fault, fault_in, granule_tag, unchecked, ending_in, access_fault, read_fault, write_fault, tags_fault, store_access, written}
 use Rattle.mte_tags.specs.declared.fault.MemFault.{MemFault}
 use Rattle.mte_tags.specs.declared.access.Access.{Access}
 use Rattle.mte_tags.specs.declared.fault.FaultKind.TheVariants.{Translation, Permission, TagCheck, Alignment}
@@ -91,3 +91,16 @@ first_fault-none m x [] attrs e h = refl
 first_fault-none m x (a ∷ xs) attrs e h =
     ap (λ g. or_else g (first_fault m x xs)) (byte_fault-by m x a ∙ ap (λ k. fault_by x a k (tag_at m a)) h.0 ∙ fits x a attrs (tag_at m a) e h.1)
     ∙ first_fault-none m x xs attrs e h.2
+
+-- an access that needs attributes alone has no fault exactly where its page has them
+needing : ℕ → Access
+needing need = record { need = need; write = false; checked = false; tag = 0 }
+
+needing_fault : (need a : ℕ) (o : Option Page) → is_none (or_else (fault_in (needing need) o a) None) ≡ has_in (attrs_in o) need
+unfolding needing
+needing_fault need a None = refl
+needing_fault need a (Some p) = elim (has p.attrs need) as (λ b. is_none (or_else (cond b None (Some (fault Permission (needing need) a 0))) None) ≡ b) [ true ↦ refl | false ↦ refl ]
+
+pub first_fault-needing : (m : Memory) (need a : ℕ) → is_none (first_fault m (record { need = need; write = false; checked = false; tag = 0 }) (addresses a 1)) ≡ page_has m (a / 4096) need
+unfolding first_fault addresses byte_fault page_has attrs_at needing
+first_fault-needing m need a = needing_fault need a (page_at m (a / 4096))

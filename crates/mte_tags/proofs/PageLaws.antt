@@ -99,6 +99,14 @@ pub attrs_at-with_new_pages_out : (n : ℕ) (m : Memory) (q : ℕ) (x : Attrs) (
 unfolding attrs_at
 attrs_at-with_new_pages_out n m q x r o = ap attrs_in (page_at-with_new_pages_out n m q x r o)
 
+pub attrs_at-without_pages_in : (n : ℕ) (m : Memory) (q r : ℕ) → q ≤ r → r < q + n → attrs_at (without_pages m q n) r ≡ None
+unfolding attrs_at
+attrs_at-without_pages_in n m q r a b = ap attrs_in (page_at-without_pages_in n m q r a b)
+
+pub attrs_at-without_pages_out : (n : ℕ) (m : Memory) (q r : ℕ) → (q ≤ r → r < q + n → ⊥) → attrs_at (without_pages m q n) r ≡ attrs_at m r
+unfolding attrs_at
+attrs_at-without_pages_out n m q r o = ap attrs_in (page_at-without_pages_out n m q r o)
+
 none_of : (p : Option Page) → attrs_in p ≡ None → p ≡ None
 none_of None e = refl
 none_of (Some p) e = cc

@@ -1,5 +1,5 @@
 -- A whole memory: no more pages than its limit, each with 4096 bytes and 256 tags. Each change keeps it whole.
-use Rattle.std.proofs.Common.{◌≡◌, ℕ, suc, zero, ◌+◌, ◌/◌, ◌%◌, ◌^◌, ◌<◌, ◌≤◌, Bool, true, false, cond, Option, Some, None, IsSome, is_some, List, [], ◌∷◌, length, set, refl, sym, ap, subst, ◌∙◌, inl, inr, arith}
+use Rattle.std.proofs.Common.{◌≡◌, ℕ, suc, zero, ◌+◌, ◌-◌, ◌/◌, ◌%◌, ◌^◌, ◌<◌, ◌≤◌, Bool, true, false, cond, Option, Some, None, IsSome, is_some, List, [], ◌∷◌, length, set, refl, sym, ap, subst, ◌∙◌, inl, inr, arith}
 use Rattle.std.proofs.lemmas.Bool.{cases_eq, cond-true, cond-false}
 use Rattle.std.proofs.lemmas.List.{length-set, length-replicate}
 use Rattle.std.specs.Ordering.{nat_cmp}
@@ -121,6 +121,28 @@ unmapped (suc n) m q f h =
     let both = unmapped n (without_page m q) (q + 1) rest (whole-without_page m q old.0 old.1 h) in
     let one = pages_left-without_page m q old.0 old.1 h in
     (both.0, omega (arith, both.1))
+
+without_none : (m : Memory) (q : ℕ) → page_at m q ≡ None → without_page m q ≡ m
+without_none m q e =
+    same_memory _ _ (rest-without_page m q)
+    (λ r. elim (cases_eq r q) [
+      | inl f ↦ rw f (page_at-without_page_same m q ∙ sym e)
+      | inr n ↦ page_at-without_page_other m q r n
+    ])
+
+left_without : (m : Memory) (q : ℕ) (o : Option Page) → page_at m q ≡ o → pages_left (without_page m q) ≤ pages_left m + 1
+unfolding pages_left
+left_without m q None e = let s = ap (λ (k : Memory). k.limit - map.len k.pages) (without_none m q e) in omega arith
+left_without m q (Some old) e = let l = one_less m q old e in omega (arith, limit-without_page m q)
+
+-- pages that are unmapped add no more to the pages left
+pub pages_left-without_pages : (n : ℕ) (m : Memory) (q : ℕ) → pages_left (without_pages m q n) ≤ pages_left m + n
+unfolding without_pages
+pages_left-without_pages zero m q = omega arith
+pages_left-without_pages (suc n) m q =
+    let one = left_without m q (page_at m q) refl in
+    let more = pages_left-without_pages n (without_page m q) (q + 1) in
+    omega arith
 
 -- bytes
 whole-with_byte_in : (m : Memory) (q o b : ℕ) (p : Option Page) → page_at m q ≡ p → IsWhole m → IsWhole (with_byte_in m q o b p)

@@ -5,6 +5,7 @@
 --     pages_left m          how many more pages may be mapped
 --     byte_at m a           the byte at a plain address
 --     tag_at m a            the allocation tag of the granule at a plain address
+--     page_has m q need     whether the page q is mapped with the attributes need
 --     with_pending m        m with its flag set
 -- A page has 4096 bytes and 256 granules of 16 bytes. The page of a plain address a is a / 4096.
 use Rattle.std.specs.Prelude.{◌≡◌, ℕ, zero, suc, ◌+◌, ◌-◌, ◌*◌, ◌<◌, ◌/◌, ◌%◌, ◌^◌, ◌==◌, Bool}
@@ -120,6 +121,14 @@ attrs_in (Some p) = Some p.attrs
 -- the attributes of a page, if it is mapped
 unfoldable pub attrs_at : Memory → ℕ → Option ℕ
 attrs_at m q = attrs_in (page_at m q)
+
+abbrev pub has_in : Option ℕ → ℕ → Bool
+has_in None need = false
+has_in (Some attrs) need = has attrs need
+
+-- whether a page is mapped and has all the attributes of need
+unfoldable pub page_has : Memory → ℕ → ℕ → Bool
+page_has m q need = has_in (attrs_at m q) need
 
 abbrev pub byte_in : Option Page → ℕ → ℕ
 byte_in None o = 0

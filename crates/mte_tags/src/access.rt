@@ -67,6 +67,19 @@ impl Access {
         other
     }
 
+    /// One that requires attributes alone.
+    pub(crate) fn needing(attrs: Attrs) -> Access
+        ensures { result
+            ≡ record { need = attrs.0; write = false; checked = false; tag = 0 } }
+    {
+        Access {
+            need: attrs.0,
+            write: false,
+            checked: false,
+            tag: 0,
+        }
+    }
+
     /// One that requires nothing but a mapped page.
     pub(crate) fn mapped() -> Access
         ensures { result ≡ record { need = 0; write = false; checked = false; tag = 0 } }

@@ -3,7 +3,7 @@
 ghost use Rattle.std.specs.Prelude.{◌≡◌, ℕ, ◌<◌, ◌≤◌, ◌+◌, ◌-◌, ◌*◌, ◌%◌, ◌/◌, ◌^◌, ◌↔◌, false};
 ghost use Rattle.std.specs.Prelude.{IsTrue, IfOk, is_ok, length, if◌then◌else◌};
 ghost use Rattle.a64_bits.specs.Addresses.{plain};
-ghost use Rattle.mte_tags.specs.Memory.{Memory, tag_at, with_granules};
+ghost use Rattle.mte_tags.specs.Memory.{Memory, tag_at, page_has, with_granules};
 ghost use Rattle.mte_tags.specs.Accesses.{outcome, loaded, addresses, granules, first_fault};
 ghost use Rattle.mte_tags.specs.Accesses.{access_fault, after_access, bytes_at, with_bytes};
 ghost use Rattle.mte_tags.specs.Accesses.{AreMapped};
@@ -12,6 +12,7 @@ ghost use Rattle.mte_tags.specs.Accesses.{written, after_write, tags_fault};
 ghost use Rattle.mte_tags.specs.Accesses.{tag_load_fault, fault, fetch_access};
 
 use crate::access::Access;
+use crate::attrs::Attrs;
 use crate::fault::{FaultKind, MemFault, by_fields};
 use crate::page_store::PageStore;
 use crate::state::TagMode;
@@ -336,6 +337,16 @@ fn load_granule_tag<S: PageStore>(store: &mut S, addr: u64) -> Result<u8, MemFau
     store.granule_tag(plain(addr) / 16 * 16, &access)
 }
 
+/// Whether the page of an address is mapped and has these attributes.
+fn page_has_attrs<S: PageStore>(store: &mut S, addr: u64, attrs: Attrs) -> bool
+    ensures answer { result ≡ page_has (S.memory store.old) (plain addr / 4096) attrs.0 }
+    ensures memory { S.memory store.new ≡ S.memory store.old }
+    ensures kept { S.kept store.old store.new }
+{
+    let access = Access::needing(attrs);
+    store.run_fault(plain(addr), 1, &access).is_none()
+}
+
 /// The fault of the first granule that fails of an access without a tag check, if any.
 fn check_granules<S: PageStore>(
     store: &mut S,
@@ -434,6 +445,11 @@ impl<S: PageStore> Tagged for S {
     #[inline(always)]
     fn write(&mut self, addr: u64, bytes: &[u8], check: bool) -> Result<(), MemFault> {
         write_at(self, addr, bytes, check)
+    }
+
+    #[inline]
+    fn has_attrs(&mut self, addr: u64, attrs: Attrs) -> bool {
+        page_has_attrs(self, addr, attrs)
     }
 
     #[inline]

@@ -1,7 +1,8 @@
 //! What holds of every memory in each tag mode, whatever the calls.
 
-ghost use Rattle.std.specs.Prelude.{◌≡◌, ◌≢◌, ℕ, Bool, List, Some};
+ghost use Rattle.std.specs.Prelude.{◌≡◌, ◌≢◌, ◌≤◌, ◌<◌, ◌+◌, ◌-◌, ℕ, Bool, List, Some, None};
 ghost use Rattle.mte_tags.specs.Memory.{Memory, with_new_pages, without_pages, with_granules};
+ghost use Rattle.mte_tags.specs.Memory.{attrs_at, pages_left, IsFree};
 ghost use Rattle.mte_tags.specs.Accesses.{read_fault, write_fault, after_read, after_write};
 ghost use Rattle.mte_tags.specs.Accesses.{written};
 ghost use Rattle.mte_tags.specs.declared.fault.MemFault.{MemFault};
@@ -46,4 +47,33 @@ pub fn mode_stays()
     ensures unmap { (m : Memory) (page n : ℕ) → (without_pages m page n).state ≡ m.state }
     ensures load { (m : Memory) (a : ℕ) (bytes : List ℕ)
         → (written m a bytes).state ≡ m.state }
+{}
+
+/// The attributes of a page after each call, and how many pages are left then.
+pub fn pages_after_calls()
+    ensures store_tags { (m : Memory) (a n tag page : ℕ) (zero : Bool)
+        → attrs_at (with_granules m a n tag zero) page ≡ attrs_at m page }
+    ensures load { (m : Memory) (a page : ℕ) (bytes : List ℕ)
+        → attrs_at (written m a bytes) page ≡ attrs_at m page }
+    ensures map { (m : Memory) (first n page : ℕ) (attrs : Attrs)
+        → first ≤ page
+        → page < first + n
+        → attrs_at (with_new_pages m first n attrs) page ≡ Some attrs.0 }
+    ensures map_others { (m : Memory) (first n page : ℕ) (attrs : Attrs)
+        → (first ≤ page → page < first + n → ⊥)
+        → attrs_at (with_new_pages m first n attrs) page ≡ attrs_at m page }
+    ensures unmap { (m : Memory) (first n page : ℕ)
+        → first ≤ page → page < first + n → attrs_at (without_pages m first n) page ≡ None }
+    ensures unmap_others { (m : Memory) (first n page : ℕ)
+        → (first ≤ page → page < first + n → ⊥)
+        → attrs_at (without_pages m first n) page ≡ attrs_at m page }
+    ensures store_tags_left { (m : Memory) (a n tag : ℕ) (zero : Bool)
+        → pages_left (with_granules m a n tag zero) ≡ pages_left m }
+    ensures load_left { (m : Memory) (a : ℕ) (bytes : List ℕ)
+        → pages_left (written m a bytes) ≡ pages_left m }
+    ensures map_left { (m : Memory) (first n : ℕ) (attrs : Attrs)
+        → IsFree m first n
+        → pages_left (with_new_pages m first n attrs) ≡ pages_left m - n }
+    ensures unmap_left { (m : Memory) (first n : ℕ)
+        → pages_left (without_pages m first n) ≤ pages_left m + n }
 {}

@@ -20,7 +20,7 @@ pub use by_page::replace_bytes;
 pub use fault::{FaultKind, MemFault};
 pub use flat::Flat;
 pub use generator::Rgsr;
-pub use laws::{flag_stays_in_sync, mode_stays, no_tag_check_in_async};
+pub use laws::{flag_stays_in_sync, mode_stays, no_tag_check_in_async, pages_after_calls};
 pub use page_store::PageStore;
 pub use state::{TagMode, TagState};
 pub use tagged::{NoQuota, Paged, Tagged};

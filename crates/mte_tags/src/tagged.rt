@@ -1,10 +1,10 @@
 //! The traits of a tagged memory.
 
-ghost use Rattle.std.specs.Prelude.{◌≡◌, ◌<◌, ◌≤◌, ◌+◌, ◌↔◌, ◌^◌, IsOk, OnErr, OnOk, IfOk, is_ok};
+ghost use Rattle.std.specs.Prelude.{◌≡◌, ◌<◌, ◌≤◌, ◌+◌, ◌/◌, ◌↔◌, ◌^◌, IsOk, OnErr, OnOk, IfOk, is_ok};
 ghost use Rattle.std.specs.Prelude.{length, if◌then◌else◌, Bool};
 ghost use Rattle.a64_bits.specs.Addresses.{plain};
 ghost use Rattle.mte_tags.specs.Memory.{Memory, pages_left, with_new_pages, without_pages, IsFree};
-ghost use Rattle.mte_tags.specs.Memory.{ArePages, tag_at, with_granules};
+ghost use Rattle.mte_tags.specs.Memory.{ArePages, tag_at, page_has, with_granules};
 ghost use Rattle.mte_tags.specs.Accesses.{fetched, outcome, read_fault, read_bytes, after_read};
 ghost use Rattle.mte_tags.specs.Accesses.{write_fault, after_write, written, tags_fault};
 ghost use Rattle.mte_tags.specs.Accesses.{IsMapped, IsPageAttrs};
@@ -79,6 +79,12 @@ pub trait Tagged {
             ≡ (if is_ok result
             then with_granules (memory self.old) (plain addr) granules tag zero
             else memory self.old) }
+        ensures kept { kept self.old self.new };
+
+    /// Whether the page of an address is mapped and has these attributes.
+    fn has_attrs(&mut self, addr: u64, attrs: Attrs) -> bool
+        ensures answer { result ≡ page_has (memory self.old) (plain addr / 4096) attrs.0 }
+        ensures memory { memory self.new ≡ memory self.old }
         ensures kept { kept self.old self.new };
 
     /// Whether an access has set the flag.

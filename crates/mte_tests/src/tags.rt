@@ -4,7 +4,8 @@ ghost use Rattle.std.specs.Prelude.{◌≡◌, ◌+◌, ◌<◌, None};
 
 use mte_tags::{
     Attrs, FaultKind, Flat, MemFault, NoQuota, PageStore, Paged, Rgsr, TagMode, TagState, Tagged,
-    choose_non_excluded, flag_stays_in_sync, mode_stays, no_tag_check_in_async, tag_of, with_tag,
+    choose_non_excluded, flag_stays_in_sync, mode_stays, no_tag_check_in_async, pages_after_calls,
+    tag_of, with_tag,
 };
 use std::test::Fail;
 
@@ -114,6 +115,18 @@ fn flag_set_by_hand(rt: HostRuntime) -> Result<(), Fail> {
     flag_stays_in_sync();
     no_tag_check_in_async();
     mode_stays();
+    pages_after_calls();
+    Ok(())
+}
+
+/// Each page has its own attributes, whatever the tag of the address.
+#[test]
+fn attributes_of_a_page(rt: HostRuntime) -> Result<(), Fail> {
+    let mut memory = Flat::new(rt.alloc(), 1, TagMode::Sync)?;
+    assert!(rt; memory.map_pages(0x10, 1, Attrs::TEXT).is_ok());
+    assert!(rt; memory.has_attrs(0x0100_0000_0001_0FFF, Attrs::READ));
+    assert!(rt; !memory.has_attrs(0x10000, Attrs::DATA));
+    assert!(rt; !memory.has_attrs(0x11000, Attrs::NONE));
     Ok(())
 }
 

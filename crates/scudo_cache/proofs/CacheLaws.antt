@@ -1,5 +1,5 @@
 -- What a caller needs beside the contracts: where a cache stands above a pool, at the start and after the pool's own calls, and which pages a pool has left.
-use Rattle.std.proofs.Common.{◌≡◌, ◌≢◌, ℕ, zero, suc, ◌+◌, ◌-◌, ◌/◌, ◌<◌, ◌≤◌, true, false, List, [], ◌∷◌, length, take, replicate, eqb, cond, slice_get, slice_index_or, Option, Some, None, refl, sym, ap, subst, ◌∙◌, inl, inr, arith}
+use Rattle.std.proofs.Common.{◌≡◌, ◌≢◌, ℕ, zero, suc, ◌+◌, ◌-◌, ◌/◌, ◌<◌, ◌≤◌, true, false, List, [], ◌∷◌, length, take, replicate, get_or, eqb, cond, slice_get, slice_index_or, Option, Some, None, refl, sym, ap, subst, ◌∙◌, inl, inr, arith}
 use Rattle.std.proofs.lemmas.Bool.{cases_eq, cases_lt}
 use Rattle.std.proofs.lemmas.List.{get_or-replicate, get_or_append_left, get_or_past}
 use Rattle.std.proofs.lemmas.List.Elements.{All-weaker, All-nil}
@@ -13,13 +13,13 @@ use Rattle.scudo_primary.specs.Lists.{IsClass}
 use Rattle.scudo_primary.proofs.BlockLemmas.{number_of-block_at, IsBlock-more}
 use Rattle.scudo_primary.proofs.ListLemmas.{member-other, member-first}
 use Rattle.scudo_primary.proofs.PoolLaws.{class_at-with_pages, class_at-with_pages_other, class_at-pushed, class_at-pushed_other, class_at-popped, class_at-popped_other, left-pushed, left-with_mark, left-without_batch, left-with_batch, left-with_pages}
-use Rattle.scudo_cache.specs.Caches.{class_with, entries_of, IsAbove, refilled, newest, handed_out, after_take, with_room, after_put}
+use Rattle.scudo_cache.specs.Caches.{CacheState, class_with, entries_of, IsAbove, refilled, newest, handed_out, after_take, with_room, after_put}
 use Rattle.scudo_cache.proofs.EntryLemmas.{member-both, loose-mark}
 use Rattle.scudo_cache.proofs.ClassLemmas.{halved_class}
 
-pub above-new : (v : List (List ℕ)) (p : PoolState) → v ≡ replicate CLASSES [] → IsAbove v p
+pub above-new : (v : CacheState) (p : PoolState) → v.lists ≡ replicate CLASSES [] → IsAbove v p
 above-new v p e = record {
-  cached = λ d a b. subst (All (IsLoose (class_at p d) d)) (sym (ap (λ t. entries_of t d) e ∙ get_or-replicate CLASSES (d - 1) [] [] (omega arith))) (All-nil (IsLoose (class_at p d) d));
+  cached = λ d a b. subst (All (IsLoose (class_at p d) d)) (sym (ap (λ t. get_or t (d - 1) []) e ∙ get_or-replicate CLASSES (d - 1) [] [] (omega arith))) (All-nil (IsLoose (class_at p d) d));
 }
 
 -- blocks with higher numbers
@@ -43,7 +43,7 @@ loose-carve k c pages n b h l =
     }
 
 -- the entries of the class that a call changes stay loose
-above-changed : (v : List (List ℕ)) (p p' : PoolState) (c : ℕ) → IsClass c → ((b : ℕ) → IsLoose (class_at p c) c b → IsLoose (class_at p' c) c b) → ((d : ℕ) → d ≢ c → class_at p' d ≡ class_at p d) → IsAbove v p → IsAbove v p'
+above-changed : (v : CacheState) (p p' : PoolState) (c : ℕ) → IsClass c → ((b : ℕ) → IsLoose (class_at p c) c b → IsLoose (class_at p' c) c b) → ((d : ℕ) → d ≢ c → class_at p' d ≡ class_at p d) → IsAbove v p → IsAbove v p'
 above-changed v p p' c hc loose same h = record {
   cached = λ d a b. elim (cases_eq d c) [
     | inl s ↦ subst (λ t. All (IsLoose (class_at p' t) t) (entries_of v t)) (sym s)
@@ -52,7 +52,7 @@ above-changed v p p' c hc loose same h = record {
   ];
 }
 
-pub above-with_pages : (v : List (List ℕ)) (p : PoolState) (c pages : ℕ) → 0 < c → c ≤ CLASSES → IsAbove v p → IsAbove v (with_pages p c pages)
+pub above-with_pages : (v : CacheState) (p : PoolState) (c pages : ℕ) → 0 < c → c ≤ CLASSES → IsAbove v p → IsAbove v (with_pages p c pages)
 above-with_pages v p c pages low high h =
     let hc : IsClass c = record { low = low; high = high } in
     let k = class_at p c in
@@ -68,7 +68,7 @@ loose-push k c b d block used l =
     let m = loose-mark k c b true d block n l in
     record { carved = l.carved; marked = m.marked; unlisted = member-other b k.stack d n ∙ l.unlisted }
 
-pub above-pushed : (v : List (List ℕ)) (p : PoolState) (c b : ℕ) → 0 < c → c ≤ CLASSES → IsBlock c (pages_of p c) b → is_marked p c b ≡ false → IsAbove v p → IsAbove v (pushed p c b)
+pub above-pushed : (v : CacheState) (p : PoolState) (c b : ℕ) → 0 < c → c ≤ CLASSES → IsBlock c (pages_of p c) b → is_marked p c b ≡ false → IsAbove v p → IsAbove v (pushed p c b)
 above-pushed v p c b low high block used h =
     let hc : IsClass c = record { low = low; high = high } in
     above-changed v p (pushed p c b) c hc
@@ -87,7 +87,7 @@ loose-pop k c (b ∷ more) d block other l =
     record { carved = l.carved; marked = m.marked; unlisted = sym (member-other b more d n) ∙ other }
 
 -- by the clauses of `pop`
-pub above-popped : (v : List (List ℕ)) (p p' : PoolState) (c : ℕ) (r : Option ℕ) → 0 < c → c ≤ CLASSES → r ≡ slice_get (stack_of p c) 0 → p' ≡ popped p c → IfSome r (IsBlock c (pages_of p' c)) → IsAbove v p → IsAbove v p'
+pub above-popped : (v : CacheState) (p p' : PoolState) (c : ℕ) (r : Option ℕ) → 0 < c → c ≤ CLASSES → r ≡ slice_get (stack_of p c) 0 → p' ≡ popped p c → IfSome r (IsBlock c (pages_of p' c)) → IsAbove v p → IsAbove v p'
 above-popped v p p' c r low high er ep block h =
     let hc : IsClass c = record { low = low; high = high } in
     let k = class_at p c in

@@ -3,44 +3,47 @@ use Rattle.std.proofs.Common.{◌≡◌, ◌≢◌, ℕ, ◌-◌, ◌<◌, ◌�
 use Rattle.std.proofs.lemmas.Bool.{cases_eq}
 use Rattle.std.proofs.lemmas.List.{get_or-set_same, get_or-set_other, get_or-map, get_or-replicate, map-set, length-set, length-map}
 use Rattle.std.specs.List.{All, IsDistinct}
+use Rattle.std.specs.Prelude.{vec_capacity}
 use Rattle.std.specs.Vec.{with_item}
 use Rattle.arrayvec.specs.ArrayVec.{ArrayVec}
 use Rattle.scudo_header.specs.declared.classes.TheConstants.{CLASSES}
 use Rattle.scudo_primary.specs.Batches.{max_count_of}
 use Rattle.scudo_primary.specs.Pools.{ClassState, PoolState, IsLoose, class_at}
 use Rattle.scudo_primary.specs.Lists.{IsClass}
-use Rattle.scudo_cache.specs.Caches.{entries_of, with_entries, IsAbove}
+use Rattle.scudo_cache.specs.Caches.{CacheState, entries_of, with_entries, empty_cache, IsAbove}
 use Rattle.scudo_cache.specs.Whole.{cache_of, IsCache}
 use Rattle.scudo_cache.specs.declared.cache.Cache.TheInside.{Inside}
 
-pub entries-same : (v : List (List ℕ)) (c : ℕ) (ys : List ℕ) → length v ≡ CLASSES → IsClass c → entries_of (with_entries v c ys) c ≡ ys
-entries-same v c ys l h = let a = h.low in let b = h.high in get_or-set_same v (c - 1) ys [] (omega arith)
+pub entries-same : (v : CacheState) (c : ℕ) (ys : List ℕ) → length v.lists ≡ CLASSES → IsClass c → entries_of (with_entries v c ys) c ≡ ys
+entries-same v c ys l h = let a = h.low in let b = h.high in get_or-set_same v.lists (c - 1) ys [] (omega arith)
 
-entries-other : (v : List (List ℕ)) (c d : ℕ) (ys : List ℕ) → 0 < c → 0 < d → d ≢ c → entries_of (with_entries v c ys) d ≡ entries_of v d
-entries-other v c d ys a b n = get_or-set_other v (c - 1) (d - 1) ys [] (λ e. n (omega arith))
+pub entries-other : (v : CacheState) (c d : ℕ) (ys : List ℕ) → 0 < c → 0 < d → d ≢ c → entries_of (with_entries v c ys) d ≡ entries_of v d
+entries-other v c d ys a b n = get_or-set_other v.lists (c - 1) (d - 1) ys [] (λ e. n (omega arith))
 
-pub all-classes : (f : Inside) (v : List (List ℕ)) → IsCache f → cache_of f ≡ v → length v ≡ CLASSES
-all-classes f v h e = ap length (sym e) ∙ length-map f.entries.items (λ (t : ArrayVec ℕ). t.items) ∙ h.all
+pub all-classes : (f : Inside) (v : CacheState) → IsCache f → cache_of f ≡ v → length v.lists ≡ CLASSES
+all-classes f v h e = ap (λ (t : CacheState). length t.lists) (sym e) ∙ length-map f.entries.items (λ (t : ArrayVec ℕ). t.items) ∙ h.all
 
 -- the list of a class that is read
-pub at-class : (f : Inside) (v : List (List ℕ)) (c : ℕ) (r : ArrayVec ℕ) → IsCache f → cache_of f ≡ v → IsClass c → r ≡ get_or f.entries.items (c - 1) r → r.items ≡ entries_of v c
+pub at-class : (f : Inside) (v : CacheState) (c : ℕ) (r : ArrayVec ℕ) → IsCache f → cache_of f ≡ v → IsClass c → r ≡ get_or f.entries.items (c - 1) r → r.items ≡ entries_of v c
 at-class f v c r h e hc er =
     let a = hc.low in
     let b = hc.high in
     let l = h.all in
-    ap (λ (t : ArrayVec ℕ). t.items) er ∙ sym (get_or-map (λ (t : ArrayVec ℕ). t.items) f.entries.items (c - 1) r [] (omega arith)) ∙ ap (λ t. get_or t (c - 1) []) e
+    ap (λ (t : ArrayVec ℕ). t.items) er ∙ sym (get_or-map (λ (t : ArrayVec ℕ). t.items) f.entries.items (c - 1) r [] (omega arith)) ∙ ap (λ t. entries_of t c) e
 
 -- the list of a class that is written back
 abbrev pub inside_with : Inside → ℕ → ArrayVec ℕ → Inside
 inside_with f c x = record { entries = with_item f.entries (c - 1) x }
 
-pub view-with : (f : Inside) (v : List (List ℕ)) (c : ℕ) (x : ArrayVec ℕ) → cache_of f ≡ v → cache_of (inside_with f c x) ≡ with_entries v c x.items
-view-with f v c x e = map-set (λ (t : ArrayVec ℕ). t.items) f.entries.items (c - 1) x ∙ ap (λ t. set t (c - 1) x.items) e
+pub view-with : (f : Inside) (v : CacheState) (c : ℕ) (x : ArrayVec ℕ) → cache_of f ≡ v → cache_of (inside_with f c x) ≡ with_entries v c x.items
+view-with f v c x e =
+    ap (λ t. record { lists = t; capacity = vec_capacity f.entries }) (map-set (λ (t : ArrayVec ℕ). t.items) f.entries.items (c - 1) x)
+    ∙ ap (λ t. with_entries t c x.items) e
 
-pub entries-with : (f : Inside) (v : List (List ℕ)) (c : ℕ) (x : ArrayVec ℕ) → IsCache f → cache_of f ≡ v → IsClass c → entries_of (cache_of (inside_with f c x)) c ≡ x.items
+pub entries-with : (f : Inside) (v : CacheState) (c : ℕ) (x : ArrayVec ℕ) → IsCache f → cache_of f ≡ v → IsClass c → entries_of (cache_of (inside_with f c x)) c ≡ x.items
 entries-with f v c x h e hc = ap (λ t. entries_of t c) (view-with f v c x e) ∙ entries-same v c x.items (all-classes f v h e) hc
 
-pub put-back : (f : Inside) (v : List (List ℕ)) (c : ℕ) (x : ArrayVec ℕ) → IsCache f → cache_of f ≡ v → IsClass c → length x.items ≤ max_count_of c → IsDistinct nat_eq x.items → IsCache (inside_with f c x)
+pub put-back : (f : Inside) (v : CacheState) (c : ℕ) (x : ArrayVec ℕ) → IsCache f → cache_of f ≡ v → IsClass c → length x.items ≤ max_count_of c → IsDistinct nat_eq x.items → IsCache (inside_with f c x)
 put-back f v c x h e hc m u =
     let w = cache_of (inside_with f c x) in
     let own : entries_of w c ≡ x.items = entries-with f v c x h e hc in
@@ -58,7 +61,7 @@ put-back f v c x h e hc m u =
       ];
     }
 
-pub above-kept : (v w : List (List ℕ)) (p p' : PoolState) (c : ℕ) (ys : List ℕ) → length v ≡ CLASSES → w ≡ with_entries v c ys → IsClass c → IsAbove v p → All (IsLoose (class_at p' c) c) ys
+pub above-kept : (v w : CacheState) (p p' : PoolState) (c : ℕ) (ys : List ℕ) → length v.lists ≡ CLASSES → w ≡ with_entries v c ys → IsClass c → IsAbove v p → All (IsLoose (class_at p' c) c) ys
     → ((d : ℕ) → d ≢ c → class_at p' d ≡ class_at p d) → IsAbove w p'
 above-kept v w p p' c ys l ew hc h loose same = record {
   cached = λ d a b. elim (cases_eq d c) [
@@ -68,13 +71,13 @@ above-kept v w p p' c ys l ew hc h loose same = record {
   ];
 }
 
-none-yet : (d : ℕ) → 0 < d → d ≤ CLASSES → entries_of (replicate CLASSES []) d ≡ []
-none-yet d a b = get_or-replicate CLASSES (d - 1) [] [] (omega arith)
+none-yet : (n d : ℕ) → 0 < d → d ≤ CLASSES → entries_of (empty_cache n) d ≡ []
+none-yet n d a b = get_or-replicate CLASSES (d - 1) [] [] (omega arith)
 
-pub new-cache : (f : Inside) → cache_of f ≡ replicate CLASSES [] → IsCache f
+pub new-cache : (f : Inside) (n : ℕ) → cache_of f ≡ empty_cache n → IsCache f
 unfolding IsDistinct
-new-cache f e = record {
-  all = sym (length-map f.entries.items (λ (t : ArrayVec ℕ). t.items)) ∙ ap length e;
-  most = λ d a b. subst (λ (t : List ℕ). length t ≤ max_count_of d) (sym (ap (λ t. entries_of t d) e ∙ none-yet d a b)) (omega arith);
-  distinct = λ d a b. subst (IsDistinct nat_eq) (sym (ap (λ t. entries_of t d) e ∙ none-yet d a b)) tt;
+new-cache f n e = record {
+  all = sym (length-map f.entries.items (λ (t : ArrayVec ℕ). t.items)) ∙ ap (λ (t : CacheState). length t.lists) e;
+  most = λ d a b. subst (λ (t : List ℕ). length t ≤ max_count_of d) (sym (ap (λ t. entries_of t d) e ∙ none-yet n d a b)) (omega arith);
+  distinct = λ d a b. subst (IsDistinct nat_eq) (sym (ap (λ t. entries_of t d) e ∙ none-yet n d a b)) tt;
 }

@@ -129,7 +129,7 @@ room-left c xs p h =
     let t : eqb (length xs) (max_count_of c) ≡ false = grind (arith, nat_tests) in
     sym (cond-false _ _ _ t)
 
-room-class : (c : ℕ) (xs : List ℕ) (p : PoolState) → ((class_at (with_room c xs p).pool c).pages ≡ (class_at p c).pages) × ((class_at (with_room c xs p).pool c).marks ≡ (class_at p c).marks)
+pub room-class : (c : ℕ) (xs : List ℕ) (p : PoolState) → ((class_at (with_room c xs p).pool c).pages ≡ (class_at p c).pages) × ((class_at (with_room c xs p).pool c).marks ≡ (class_at p c).marks)
 unfolding with_room
 room-class c xs p =
     elim (eqb (length xs) (max_count_of c)) as (λ t.

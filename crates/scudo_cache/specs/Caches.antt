@@ -5,32 +5,67 @@
 --                               blocks, the newest on top, and then the pool's
 --     IsAbove c p               what the cache holds is carved, marked free and in no list of the
 --                               pool
-use Rattle.std.specs.Prelude.{ℕ, ◌-◌, ◌/◌, ◌<◌, ◌≤◌, ◌≡◌, ◌==◌, true, false, List, [], ◌∷◌, ◌++◌}
-use Rattle.std.specs.Prelude.{length, take, drop, reverse, get_or, slice_get, slice_set, nat_eq}
-use Rattle.std.specs.Prelude.{Option, Some, None, IfSome, if◌then◌else◌}
+--     AreStacks c p             each stack has carved blocks, none twice: those that are marked free
+use Rattle.std.specs.Prelude.{ℕ, ◌-◌, ◌/◌, ◌<◌, ◌≤◌, ◌≡◌, ◌==◌, Bool, true, false, List, [], ◌∷◌}
+use Rattle.std.specs.Prelude.{◌++◌, length, take, drop, reverse, replicate, get_or, slice_get}
+use Rattle.std.specs.Prelude.{slice_set, slice_index_or, nat_eq, Option, Some, None, IfSome}
+use Rattle.std.specs.Prelude.{if◌then◌else◌, refl}
+use Rattle.std.specs.Coded.{Coded, code_by, coded×, coded_ℕ, coded_list}
 use Rattle.std.specs.List.{All, IsDistinct}
 use Rattle.scudo_header.specs.declared.classes.TheConstants.{CLASSES}
 use Rattle.scudo_primary.specs.Batches.{max_count_of}
-use Rattle.scudo_primary.specs.Blocks.{IsBlock}
-use Rattle.scudo_primary.specs.Pools.{PoolState, stack_of, pages_of, IsCached, is_marked}
+use Rattle.scudo_primary.specs.Blocks.{carved_count, number_of, IsBlock}
+use Rattle.scudo_primary.specs.Pools.{PoolState, class_at, stack_of, pages_of, IsCached}
+use Rattle.scudo_primary.specs.Pools.{is_marked, is_member}
 use Rattle.scudo_primary.specs.Pools.{top_batch, without_batch, with_batch, with_mark}
 
-abbrev pub entries_of : List (List ℕ) → ℕ → List ℕ
-entries_of c class = get_or c (class - 1) []
+-- lists: the blocks of each class
+-- capacity: for how many classes there is memory
+pub record CacheState : Type 0 where
+  pub lists : List (List ℕ)
+  pub capacity : ℕ
 
-abbrev pub with_entries : List (List ℕ) → ℕ → List ℕ → List (List ℕ)
-with_entries c class entries = slice_set c (class - 1) entries
+abbrev pub coded_cache : Coded CacheState
+coded_cache =
+    code_by (List (List ℕ) × ℕ) (coded× (coded_list (coded_list coded_ℕ)) coded_ℕ)
+    (λ c. (c.lists, c.capacity))
+    (λ t. record { lists = t.0; capacity = t.1 })
+    (λ _. refl)
+
+-- a cache that holds no block
+abbrev pub empty_cache : ℕ → CacheState
+empty_cache capacity = record { lists = replicate CLASSES []; capacity = capacity }
+
+abbrev pub entries_of : CacheState → ℕ → List ℕ
+entries_of c class = get_or c.lists (class - 1) []
+
+abbrev pub with_entries : CacheState → ℕ → List ℕ → CacheState
+with_entries c class entries = record c { lists = slice_set c.lists (class - 1) entries }
 
 -- a class's blocks, the oldest first, on the pool's
 abbrev pub stack_over : List ℕ → PoolState → ℕ → List ℕ
 stack_over entries p class = reverse entries ++ stack_of p class
 
-abbrev pub one_stack : List (List ℕ) → PoolState → ℕ → List ℕ
+abbrev pub one_stack : CacheState → PoolState → ℕ → List ℕ
 one_stack c p class = stack_over (entries_of c class) p class
 
-pub record IsAbove (c : List (List ℕ)) (p : PoolState) : Type 0 where
+pub record IsAbove (c : CacheState) (p : PoolState) : Type 0 where
   pub cached :
       (class : ℕ) → 0 < class → class ≤ CLASSES → All (IsCached p class) (entries_of c class)
+
+-- A class's stack: carved blocks, none of them twice, and just those that are marked free.
+pub record IsStack (class pages : ℕ) (marks : List Bool) (stack : List ℕ) : Type 0 where
+  pub blocks : (b : ℕ) → is_member stack b ≡ true → IsBlock class pages b
+  pub distinct : IsDistinct nat_eq stack
+  pub marked :
+      (b : ℕ) → IsBlock class pages b
+      → slice_index_or marks (number_of class b) false ≡ is_member stack b
+  pub counted : length marks ≡ carved_count class pages
+
+pub record AreStacks (c : CacheState) (p : PoolState) : Type 0 where
+  pub each :
+      (class : ℕ) → 0 < class → class ≤ CLASSES
+      → IsStack class (pages_of p class) (class_at p class).marks (one_stack c p class)
 
 -- ---- one class: the blocks that the cache holds of it, and the pool
 

@@ -1,12 +1,13 @@
 //! The blocks of each class that are at hand.
 
-ghost use Rattle.std.specs.Prelude.{◌≡◌, ◌≢◌, ◌<◌, ◌≤◌, ◌∷◌, [], ℕ, List, length};
-ghost use Rattle.std.specs.Prelude.{drop, slice_get, replicate, false, IfSome, IfOk};
+ghost use Rattle.std.specs.Prelude.{◌≡◌, ◌≢◌, ◌<◌, ◌≤◌, ◌∷◌, [], ℕ, length};
+ghost use Rattle.std.specs.Prelude.{drop, slice_get, false, IfSome, IfOk};
 ghost use Rattle.arrayvec.specs.ArrayVec.{array_vec_len};
 ghost use Rattle.scudo_primary.specs.Batches.{max_count_of};
 ghost use Rattle.scudo_primary.specs.Blocks.{IsBlock};
-ghost use Rattle.scudo_primary.specs.Pools.{pages_of, stack_of, sizes_of, is_marked};
+ghost use Rattle.scudo_primary.specs.Pools.{pages_of, stack_of, sizes_of, is_marked, is_member};
 ghost use Rattle.scudo_cache.specs.Caches.{entries_of, with_entries, one_stack, stack_over};
+ghost use Rattle.scudo_cache.specs.Caches.{empty_cache, AreStacks};
 ghost use Rattle.scudo_cache.specs.Caches.{IsAbove, IsHeld, Took, class_with, refilled, newest};
 ghost use Rattle.scudo_cache.specs.Caches.{after_take, with_room, after_put};
 
@@ -17,17 +18,20 @@ use std::alloc::{AllocError, Global};
 use std::marker::Model;
 
 /// For each size class the free blocks that are at hand, the oldest first: at most 28 of the
-/// classes up to 512 bytes, and 8 of the others.
+/// classes up to 512 bytes, and 8 of the others. After `new` nothing allocates: no call changes for
+/// how many classes there is memory.
 #[derive(Drop)]
 pub struct Cache {
     entries: Vec<ArrayVec<u64, MAX_COUNT>>,
 }
 
 impl Model for Cache {
-    ghost use Rattle.std.specs.Prelude.{List, ℕ};
+    ghost use Rattle.scudo_cache.specs.Caches.{CacheState, coded_cache};
     ghost use Rattle.scudo_cache.specs.Whole.{cache_of, IsCache};
 
-    ghost Value = { List (List ℕ) };
+    ghost Value = { CacheState };
+
+    ghost coded = { coded_cache };
 
     ghost view = { cache_of };
 
@@ -38,7 +42,7 @@ impl Cache {
     /// A cache that holds no block. It is refused only where its memory is; no later call takes
     /// any.
     pub fn new(alloc: Global) -> Result<Cache, AllocError>
-        ensures { IfOk result (λ cache. cache ≡ replicate CLASSES []) }
+        ensures { IfOk result (λ cache. cache ≡ empty_cache cache.capacity) }
     {
         let entries = vec![in alloc; ArrayVec::new(); CLASSES as usize]?;
         Ok(Cache { entries })
@@ -66,6 +70,14 @@ impl Cache {
             ≡ drop 1 (one_stack self.old pool.old class) }
         ensures block { IfSome result (IsBlock class (pages_of pool.new class)) }
         ensures used { IfSome result (λ block. is_marked pool.new class block ≡ false) }
+        ensures stacks { AreStacks self.old pool.old → AreStacks self.new pool.new }
+        ensures others { (other : ℕ)
+            → 0 < other
+            → other ≢ class
+            → one_stack self.new pool.new other ≡ one_stack self.old pool.old other }
+        ensures pages { (other : ℕ) → pages_of pool.new other ≡ pages_of pool.old other }
+        ensures left { pool.new.left ≡ pool.old.left }
+        ensures capacities { pool.new.capacities ≡ pool.old.capacities }
         ensures lists { entries_of self.old class ≢ []
             → (stack_of pool.new class ≡ stack_of pool.old class) }
         ensures batches { entries_of self.old class ≢ []
@@ -93,12 +105,33 @@ impl Cache {
         // are.
         ensures stack { one_stack self.new pool.new class
             ≡ block ∷ one_stack self.old pool.old class }
+        ensures stacks { AreStacks self.old pool.old → AreStacks self.new pool.new }
+        ensures others { (other : ℕ)
+            → 0 < other
+            → other ≢ class
+            → one_stack self.new pool.new other ≡ one_stack self.old pool.old other }
+        ensures pages { (other : ℕ) → pages_of pool.new other ≡ pages_of pool.old other }
+        ensures left { pool.new.left ≡ pool.old.left }
+        ensures capacities { pool.new.capacities ≡ pool.old.capacities }
         ensures lists { length (entries_of self.old class) < max_count_of class
             → (stack_of pool.new class ≡ stack_of pool.old class) }
         ensures batches { length (entries_of self.old class) < max_count_of class
             → (sizes_of pool.new class ≡ sizes_of pool.old class) }
     {
         put_into(&mut self.entries[class as usize - 1], class, block, pool);
+    }
+
+    /// Whether a carved block of a class is in its stack.
+    #[inline]
+    pub fn is_free(&self, class: u8, block: u64, pool: &Pool) -> bool
+        requires low { 0 < class }
+        requires high { class ≤ CLASSES }
+        requires stacks { AreStacks self.now pool.now }
+        requires carved { IsBlock class (pages_of pool.now class) block }
+        ensures answer { result ≡ is_member (one_stack self.now pool.now class) block }
+        ensures mark { result ≡ is_marked pool.now class block }
+    {
+        pool.is_free(class, block)
     }
 }
 

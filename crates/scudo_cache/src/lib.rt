@@ -3,5 +3,7 @@
 #![tactic(auto)]
 
 mod cache;
+mod laws;
 
 pub use cache::Cache;
+pub use laws::stacks_of_parts;

@@ -14,7 +14,7 @@ use Rattle.address_map.specs.declared.limits.TheConstants.{PAGE_SIZE}
 use Rattle.scudo_header.specs.declared.classes.TheConstants.{CLASSES}
 use Rattle.scudo_primary.specs.Blocks.{number_of, IsBlock}
 use Rattle.scudo_primary.specs.Pools.{ClassState, PoolState, empty_class, pool_by, class_at, with_class, popped, pop_in, mark_in, is_marked, is_member}
-use Rattle.scudo_primary.specs.Lists.{IsClass, list_at, class_in, state_of, pool_in, follow, free_in, stack_from, marks_in, slot_of, place_of, no_entry, entry_at, IsLinked, IsTable, IsPool, Became}
+use Rattle.scudo_primary.specs.Lists.{IsClass, list_at, class_in, state_of, capacities_in, pool_in, follow, free_in, stack_from, marks_in, slot_of, place_of, no_entry, entry_at, IsLinked, IsTable, IsPool, Became}
 use Rattle.address_map.specs.declared.limits.TheConstants.{MAX_PAGES}
 use Rattle.scudo_primary.specs.declared.lists.Entry.{Entry}
 use Rattle.scudo_primary.specs.declared.lists.ClassList.{ClassList}
@@ -26,37 +26,37 @@ use Rattle.scudo_primary.proofs.LinkLemmas.{used_entry, marked}
 
 -- ---- maps by class
 
-tied-same : (q : ℕ) → eq_by_cmp nat_cmp q q ≡ true
+pub tied-same : (q : ℕ) → eq_by_cmp nat_cmp q q ≡ true
 tied-same q = unsigned_tied q q ∙ eq-eqb q q refl
 
-tied-other : (q r : ℕ) → q ≢ r → eq_by_cmp nat_cmp q r ≡ false
+pub tied-other : (q r : ℕ) → q ≢ r → eq_by_cmp nat_cmp q r ≡ false
 tied-other q r n = unsigned_tied q r ∙ grind arith
 
-entries-in : {X : Type 0} (f : ℕ → X) (n a q : ℕ) → a ≤ q → q < a + n → find nat_cmp q (map (λ c. (c, f c)) (range_with_len a n)) ≡ Some (f q)
+pub entries-in : {X : Type 0} (f : ℕ → X) (n a q : ℕ) → a ≤ q → q < a + n → find nat_cmp q (map (λ c. (c, f c)) (range_with_len a n)) ≡ Some (f q)
 entries-in f zero a q l h = absurd (omega arith)
 entries-in f (suc n) a q l h = elim (cases_eq q a) [
   | inl s ↦ ap (λ t. find nat_cmp t (map (λ c. (c, f c)) (range_with_len a (suc n)))) s ∙ cond-true _ _ _ (tied-same a) ∙ ap (λ t. Some (f t)) (sym s)
   | inr o ↦ cond-false _ _ _ (tied-other q a o) ∙ entries-in f n (a + 1) q (omega arith) (omega arith)
 ]
 
-entries-out : {X : Type 0} (f : ℕ → X) (n a q : ℕ) → ((a ≤ q) × (q < a + n) → ⊥) → find nat_cmp q (map (λ c. (c, f c)) (range_with_len a n)) ≡ None
+pub entries-out : {X : Type 0} (f : ℕ → X) (n a q : ℕ) → ((a ≤ q) × (q < a + n) → ⊥) → find nat_cmp q (map (λ c. (c, f c)) (range_with_len a n)) ≡ None
 entries-out f zero a q h = refl
 entries-out f (suc n) a q h =
     let o : q ≢ a = λ e. h (omega arith, omega arith) in
     cond-false _ _ _ (tied-other q a o) ∙ entries-out f n (a + 1) q (λ t. let l = t.0 in let u = t.1 in h (omega arith, omega arith))
 
-get-in : (left : ℕ) (f : ℕ → ClassState) (c : ℕ) → IsClass c → finite.get (pool_by left f).classes c ≡ Some (f c)
-get-in left f c h = let a = h.low in let b = h.high in get-from_entries nat_cmp_total (map (λ d. (d, f d)) (range_with_len 1 CLASSES)) c ∙ entries-in f CLASSES 1 c (omega arith) (omega arith)
+get-in : (left : ℕ) (cs : List ℕ) (f : ℕ → ClassState) (c : ℕ) → IsClass c → finite.get (pool_by left cs f).classes c ≡ Some (f c)
+get-in left cs f c h = let a = h.low in let b = h.high in get-from_entries nat_cmp_total (map (λ d. (d, f d)) (range_with_len 1 CLASSES)) c ∙ entries-in f CLASSES 1 c (omega arith) (omega arith)
 
-get-out : (left : ℕ) (f : ℕ → ClassState) (c : ℕ) → (IsClass c → ⊥) → finite.get (pool_by left f).classes c ≡ None
-get-out left f c h =
+get-out : (left : ℕ) (cs : List ℕ) (f : ℕ → ClassState) (c : ℕ) → (IsClass c → ⊥) → finite.get (pool_by left cs f).classes c ≡ None
+get-out left cs f c h =
     get-from_entries nat_cmp_total (map (λ d. (d, f d)) (range_with_len 1 CLASSES)) c ∙ entries-out f CLASSES 1 c (λ t. let l = t.0 in let u = t.1 in h (record { low = omega arith; high = omega arith }))
 
-pub class_at-pool_by : (left : ℕ) (f : ℕ → ClassState) (c : ℕ) → IsClass c → class_at (pool_by left f) c ≡ f c
+pub class_at-pool_by : (left : ℕ) (cs : List ℕ) (f : ℕ → ClassState) (c : ℕ) → IsClass c → class_at (pool_by left cs f) c ≡ f c
 unfolding class_at
-class_at-pool_by left f c h = ap (λ o. unwrap_or o empty_class) (get-in left f c h)
+class_at-pool_by left cs f c h = ap (λ o. unwrap_or o empty_class) (get-in left cs f c h)
 
-is-class : (c : ℕ) → IsClass c ⊎ (IsClass c → ⊥)
+pub is-class : (c : ℕ) → IsClass c ⊎ (IsClass c → ⊥)
 is-class c = elim (cases_lt 0 c) [
   | inl p ↦ elim (cases_lt CLASSES c) [
     | inl q ↦ inr (λ h. let b = h.high in omega arith)
@@ -66,41 +66,41 @@ is-class c = elim (cases_lt 0 c) [
 ]
 
 -- two pools whose classes agree
-pub pool_by-agree : (m n : ℕ) (f g : ℕ → ClassState) → m ≡ n → ((c : ℕ) → IsClass c → f c ≡ g c) → pool_by m f ≡ pool_by n g
-pool_by-agree m n f g e h =
-    let same : (q : ℕ) → finite.get (pool_by m f).classes q ≡ finite.get (pool_by m g).classes q = λ q.
+pub pool_by-agree : (m n : ℕ) (cs : List ℕ) (f g : ℕ → ClassState) → m ≡ n → ((c : ℕ) → IsClass c → f c ≡ g c) → pool_by m cs f ≡ pool_by n cs g
+pool_by-agree m n cs f g e h =
+    let same : (q : ℕ) → finite.get (pool_by m cs f).classes q ≡ finite.get (pool_by m cs g).classes q = λ q.
     elim (is-class q) [
-      | inl hq ↦ get-in m f q hq ∙ ap Some (h q hq) ∙ sym (get-in m g q hq)
-      | inr o ↦ get-out m f q o ∙ sym (get-out m g q o)
+      | inl hq ↦ get-in m cs f q hq ∙ ap Some (h q hq) ∙ sym (get-in m cs g q hq)
+      | inr o ↦ get-out m cs f q o ∙ sym (get-out m cs g q o)
     ] in
-    ap (λ t. record { left = m; classes = t }) (same_map nat_cmp_total nat_cmp-IsAntisymmetric _ _ same) ∙ ap (λ t. pool_by t g) e
+    ap (λ t. record { left = m; capacities = cs; classes = t }) (same_map nat_cmp_total nat_cmp-IsAntisymmetric _ _ same) ∙ ap (λ t. pool_by t cs g) e
 
 -- one class of a pool by classes
-pub pool_by-with_class : (left : ℕ) (f g : ℕ → ClassState) (c : ℕ) (k : ClassState) → IsClass c → g c ≡ k → ((d : ℕ) → IsClass d → d ≢ c → g d ≡ f d) → pool_by left g ≡ with_class (pool_by left f) c k
+pub pool_by-with_class : (left : ℕ) (cs : List ℕ) (f g : ℕ → ClassState) (c : ℕ) (k : ClassState) → IsClass c → g c ≡ k → ((d : ℕ) → IsClass d → d ≢ c → g d ≡ f d) → pool_by left cs g ≡ with_class (pool_by left cs f) c k
 unfolding with_class
-pool_by-with_class left f g c k h own other =
-    let same : (q : ℕ) → finite.get (pool_by left g).classes q ≡ finite.get (finite.insert (pool_by left f).classes c k) q = λ q.
+pool_by-with_class left cs f g c k h own other =
+    let same : (q : ℕ) → finite.get (pool_by left cs g).classes q ≡ finite.get (finite.insert (pool_by left cs f).classes c k) q = λ q.
     (elim (is-class q) [
-      | inl hq ↦ get-in left g q hq ∙ elim (cases_eq q c) [
+      | inl hq ↦ get-in left cs g q hq ∙ elim (cases_eq q c) [
         | inl s ↦ ap Some (ap g s ∙ own) ∙ sym (cond-true _ _ _ (ap (λ t. eq_by_cmp nat_cmp t c) s ∙ tied-same c))
-        | inr n ↦ ap Some (other q hq n) ∙ sym (get-in left f q hq) ∙ sym (cond-false _ _ _ (tied-other q c n))
+        | inr n ↦ ap Some (other q hq n) ∙ sym (get-in left cs f q hq) ∙ sym (cond-false _ _ _ (tied-other q c n))
       ]
-      | inr o ↦ get-out left g q o ∙ sym (get-out left f q o) ∙ sym (cond-false _ _ _ (tied-other q c (λ e. o (subst IsClass (sym e) h))))
-    ]) ∙ sym (get-insert nat_cmp_total (pool_by left f).classes c k q) in
-    ap (λ m. record { left = left; classes = m }) (same_map nat_cmp_total nat_cmp-IsAntisymmetric _ _ same)
+      | inr o ↦ get-out left cs g q o ∙ sym (get-out left cs f q o) ∙ sym (cond-false _ _ _ (tied-other q c (λ e. o (subst IsClass (sym e) h))))
+    ]) ∙ sym (get-insert nat_cmp_total (pool_by left cs f).classes c k q) in
+    ap (λ m. record { left = left; capacities = cs; classes = m }) (same_map nat_cmp_total nat_cmp-IsAntisymmetric _ _ same)
 
 -- ---- a pool's value
 
-pub class_at-state : (left : ℕ) (es : List Entry) (ns : List ℕ) (ks : List ClassList) (c : ℕ) → IsClass c → class_at (state_of left es ns ks) c ≡ class_in es ns c (list_at ks c)
-class_at-state left es ns ks c h = class_at-pool_by left (λ d. class_in es ns d (list_at ks d)) c h
+pub class_at-state : (left : ℕ) (cs : List ℕ) (es : List Entry) (ns : List ℕ) (ks : List ClassList) (c : ℕ) → IsClass c → class_at (state_of left cs es ns ks) c ≡ class_in es ns c (list_at ks c)
+class_at-state left cs es ns ks c h = class_at-pool_by left cs (λ d. class_in es ns d (list_at ks d)) c h
 
 pub class_at-value : (f : Inside) (v : PoolState) (c : ℕ) → pool_in f ≡ v → IsClass c → class_at v c ≡ class_in f.entries.items f.numbers.items c (list_at f.lists c)
-class_at-value f v c e h = ap (λ p. class_at p c) (sym e) ∙ class_at-state (f.limit - f.used) f.entries.items f.numbers.items f.lists c h
+class_at-value f v c e h = ap (λ p. class_at p c) (sym e) ∙ class_at-state (f.limit - f.used) (capacities_in f) f.entries.items f.numbers.items f.lists c h
 
-pub became-state : (left : ℕ) (es es' : List Entry) (ns : List ℕ) (ks ks' : List ClassList) (c : ℕ) (k : ClassState) → IsClass c → Became es ns ks es' ks' c k
-    → state_of left es' ns ks' ≡ with_class (state_of left es ns ks) c k
-became-state left es es' ns ks ks' c k h b =
-    pool_by-with_class left (λ d. class_in es ns d (list_at ks d)) (λ d. class_in es' ns d (list_at ks' d)) c k h b.class b.others
+pub became-state : (left : ℕ) (cs : List ℕ) (es es' : List Entry) (ns : List ℕ) (ks ks' : List ClassList) (c : ℕ) (k : ClassState) → IsClass c → Became es ns ks es' ks' c k
+    → state_of left cs es' ns ks' ≡ with_class (state_of left cs es ns ks) c k
+became-state left cs es es' ns ks ks' c k h b =
+    pool_by-with_class left cs (λ d. class_in es ns d (list_at ks d)) (λ d. class_in es' ns d (list_at ks' d)) c k h b.class b.others
 
 abbrev pub inside_with : Inside → List Entry → List ClassList → Inside
 inside_with f es ks = record { entries = with_items f.entries es; numbers = f.numbers; lists = ks; used = f.used; limit = f.limit }
@@ -132,11 +132,11 @@ pool-done f v es ns es' ks' c F e h hc ee le en b =
         room = h.room;
         slots = h.slots;
       };
-      view = ap (λ t. state_of (f.limit - f.used) t ys ks') items
-          ∙ became-state (f.limit - f.used) xs es' ys f.lists ks' c _ hc old
+      view = ap (λ t. state_of (f.limit - f.used) (capacities_in f) t ys ks') items
+          ∙ became-state (f.limit - f.used) (capacities_in f) xs es' ys f.lists ks' c _ hc old
           ∙ ap (λ t. with_class t c (F (class_in xs ys c (list_at f.lists c)))) e
           ∙ ap (λ t. with_class v c (F t)) (sym (class_at-value f v c e hc));
-      now = class_at-state (f.limit - f.used) (with_items f.entries es').items ys ks' c hc ∙ ap (λ t. class_in t ys c (list_at ks' c)) items ∙ ap (λ t. class_in es' t c (list_at ks' c)) (sym en);
+      now = class_at-state (f.limit - f.used) (capacities_in f) (with_items f.entries es').items ys ks' c hc ∙ ap (λ t. class_in t ys c (list_at ks' c)) items ∙ ap (λ t. class_in es' t c (list_at ks' c)) (sym en);
       pages = old.pages c hc;
     }
 
@@ -152,7 +152,7 @@ class_at-with_class_other p c d k n = ap (λ o. unwrap_or o empty_class) (get-in
 pub with_class-kept : (f : Inside) (v : PoolState) (c : ℕ) → pool_in f ≡ v → IsClass c → v ≡ with_class v c (class_at v c)
 with_class-kept f v c e h =
     let own : ℕ → ClassState = λ d. class_in f.entries.items f.numbers.items d (list_at f.lists d) in
-    sym e ∙ pool_by-with_class (f.limit - f.used) own own c (own c) h refl (λ d hd n. refl) ∙ ap (λ t. with_class t c (own c)) e ∙ ap (with_class v c) (sym (class_at-value f v c e h))
+    sym e ∙ pool_by-with_class (f.limit - f.used) (capacities_in f) own own c (own c) h refl (λ d hd n. refl) ∙ ap (λ t. with_class t c (own c)) e ∙ ap (with_class v c) (sym (class_at-value f v c e h))
 
 pub empty-stack : (f : Inside) (v : PoolState) (c : ℕ) → pool_in f ≡ v → IsClass c → (list_at f.lists c).count ≡ 0 → (class_at v c).stack ≡ []
 unfolding stack_from follow

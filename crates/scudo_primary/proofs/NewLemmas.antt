@@ -8,7 +8,7 @@ use Rattle.scudo_header.specs.Classes.{size_of}
 use Rattle.scudo_header.specs.declared.classes.TheConstants.{CLASSES}
 use Rattle.scudo_primary.specs.Blocks.{carved_count, block_at}
 use Rattle.scudo_primary.specs.Pools.{empty_class, empty_pool}
-use Rattle.scudo_primary.specs.Lists.{IsClass, follow, sizes_by, no_list, list_at, free_in, stack_from, sizes_from, marks_in, class_in, pool_in, IsLinked, IsPool}
+use Rattle.scudo_primary.specs.Lists.{capacities_in, IsClass, follow, sizes_by, no_list, list_at, free_in, stack_from, sizes_from, marks_in, class_in, pool_in, IsLinked, IsPool}
 use Rattle.address_map.specs.declared.limits.TheConstants.{MAX_PAGES}
 use Rattle.scudo_primary.specs.declared.lists.Entry.{Entry}
 use Rattle.scudo_primary.specs.declared.lists.ClassList.{ClassList}
@@ -52,8 +52,8 @@ new-invariant f n e u l m le ln =
       slots = ln ∙ ap (λ t. CLASSES * t) (sym l);
     }
 
-pub new-view : (f : Inside) (n : ℕ) → f.lists ≡ replicate CLASSES no_list → f.used ≡ 0 → f.limit ≡ n → pool_in f ≡ empty_pool n
+pub new-view : (f : Inside) (n : ℕ) → f.lists ≡ replicate CLASSES no_list → f.used ≡ 0 → f.limit ≡ n → pool_in f ≡ empty_pool n (capacities_in f)
 unfolding empty_pool
 new-view f n e u l =
     let left : f.limit - f.used ≡ n = omega arith in
-    pool_by-agree (f.limit - f.used) n _ _ left (λ c h. ap (class_in f.entries.items f.numbers.items c) (list-empty f.lists c e h) ∙ class-empty f.entries.items f.numbers.items c)
+    pool_by-agree (f.limit - f.used) n (capacities_in f) _ _ left (λ c h. ap (class_in f.entries.items f.numbers.items c) (list-empty f.lists c e h) ∙ class-empty f.entries.items f.numbers.items c)

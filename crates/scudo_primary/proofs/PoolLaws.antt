@@ -6,9 +6,9 @@ use Rattle.scudo_primary.proofs.ModelLemmas.{class_at-pool_by, class_at-with_cla
 
 -- ---- pages left
 
-pub left-empty_pool : (pages : ℕ) → (empty_pool pages).left ≡ pages
+pub left-empty_pool : (pages : ℕ) (cs : List ℕ) → (empty_pool pages cs).left ≡ pages
 unfolding empty_pool
-left-empty_pool pages = refl
+left-empty_pool pages cs = refl
 
 pub left-popped : (p : PoolState) (c : ℕ) → (popped p c).left ≡ p.left
 unfolding popped with_class
@@ -38,9 +38,9 @@ pub ruleset left_laws = (left-empty_pool, left-popped, left-pushed, left-with_ma
 
 -- ---- the class that a call is about
 
-pub class_at-empty_pool : (pages c : ℕ) → IsClass c → class_at (empty_pool pages) c ≡ empty_class
+pub class_at-empty_pool : (pages : ℕ) (cs : List ℕ) (c : ℕ) → IsClass c → class_at (empty_pool pages cs) c ≡ empty_class
 unfolding empty_pool
-class_at-empty_pool pages c h = class_at-pool_by pages (λ _. empty_class) c h
+class_at-empty_pool pages cs c h = class_at-pool_by pages cs (λ _. empty_class) c h
 
 pub class_at-popped : (p : PoolState) (c : ℕ) → class_at (popped p c) c ≡ pop_in c (class_at p c) (class_at p c).stack
 unfolding popped

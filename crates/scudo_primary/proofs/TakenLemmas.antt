@@ -9,7 +9,7 @@ use Rattle.std.specs.List.{All, IsDistinct}
 use Rattle.scudo_primary.specs.Blocks.{IsBlock}
 use Rattle.scudo_primary.specs.Batches.{max_count_of, first_size}
 use Rattle.scudo_primary.specs.Pools.{ClassState, PoolState, IsLoose, is_member, batch_in, pop_batch_in, class_at, with_class, without_batch, top_batch}
-use Rattle.scudo_primary.specs.Lists.{IsClass, Each, sizes_by, list_at, free_in, last_in, stack_from, sizes_from, class_in, state_of, pool_in, IsLinked, IsTable, IsPool, Became}
+use Rattle.scudo_primary.specs.Lists.{IsClass, Each, sizes_by, list_at, free_in, last_in, stack_from, sizes_from, class_in, state_of, capacities_in, pool_in, IsLinked, IsTable, IsPool, Became}
 use Rattle.scudo_primary.specs.declared.lists.Entry.{Entry}
 use Rattle.scudo_primary.specs.declared.lists.ClassList.{ClassList}
 use Rattle.scudo_primary.specs.declared.pool.Pool.TheInside.{Inside}
@@ -121,9 +121,9 @@ batch-done f v es ns ks' c n buffer buffer' e h hc ee en count blocks b =
     let batch = batch-of es ns c (list_at f.lists c) (t.linked c hc) in
     let taken : take n buffer' ≡ batch_in K = ap (take n) blocks ∙ take_at (batch_in K) (drop n buffer) n (batch.len ∙ sym count) in
     let view : pool_in (inside_lists f ks') ≡ with_class v c (pop_batch_in (class_at v c)) =
-    ap (λ t. state_of (f.limit - f.used) t f.numbers.items ks') (sym ee) ∙ ap (λ t. state_of (f.limit - f.used) es t ks') (sym en)
-    ∙ became-state (f.limit - f.used) es es ns f.lists ks' c (pop_batch_in K) hc b
-    ∙ ap (λ t. with_class (state_of (f.limit - f.used) t ns f.lists) c (pop_batch_in K)) ee ∙ ap (λ t. with_class (state_of (f.limit - f.used) f.entries.items t f.lists) c (pop_batch_in K)) en
+    ap (λ t. state_of (f.limit - f.used) (capacities_in f) t f.numbers.items ks') (sym ee) ∙ ap (λ t. state_of (f.limit - f.used) (capacities_in f) es t ks') (sym en)
+    ∙ became-state (f.limit - f.used) (capacities_in f) es es ns f.lists ks' c (pop_batch_in K) hc b
+    ∙ ap (λ t. with_class (state_of (f.limit - f.used) (capacities_in f) t ns f.lists) c (pop_batch_in K)) ee ∙ ap (λ t. with_class (state_of (f.limit - f.used) (capacities_in f) f.entries.items t f.lists) c (pop_batch_in K)) en
     ∙ ap (λ t. with_class t c (pop_batch_in K)) e ∙ ap (λ (t : ClassState). with_class v c (pop_batch_in t)) (sym at) in
     let now : class_at (pool_in (inside_lists f ks')) c ≡ pop_batch_in K = ap (λ t. class_at t c) view ∙ class_at-with_class v c (pop_batch_in (class_at v c)) ∙ ap (λ (t : ClassState). pop_batch_in t) at in
     record {

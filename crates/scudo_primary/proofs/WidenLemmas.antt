@@ -12,7 +12,7 @@ use Rattle.address_map.specs.declared.limits.TheConstants.{PAGE_SIZE, MAX_PAGES}
 use Rattle.scudo_primary.specs.Blocks.{carved_count, block_at, number_of, blocks_from, IsBlock}
 use Rattle.scudo_primary.specs.Batches.{batch_sizes}
 use Rattle.scudo_primary.specs.Pools.{ClassState, PoolState, class_at, with_class, with_pages, carve_in, new_count}
-use Rattle.scudo_primary.specs.Lists.{IsClass, Each, page_number, no_entry, entry_at, list_at, free_in, marks_in, class_in, link_new_in, state_of, pool_in, IsNumbered, IsLinked, IsTable, IsPool, Became}
+use Rattle.scudo_primary.specs.Lists.{IsClass, Each, page_number, no_entry, entry_at, list_at, free_in, marks_in, class_in, link_new_in, state_of, capacities_in, pool_in, IsNumbered, IsLinked, IsTable, IsPool, Became}
 use Rattle.scudo_primary.specs.declared.lists.Entry.{Entry}
 use Rattle.scudo_primary.specs.declared.lists.ClassList.{ClassList}
 use Rattle.scudo_primary.specs.declared.pool.Pool.TheInside.{Inside}
@@ -187,7 +187,7 @@ roomy f v es ns c pages e h hc l le en ln =
 pub record IsReady (f : Inside) (v : PoolState) (es : List Entry) (ns ns' ns2 : List ℕ) (c pages : ℕ) : Type 0 where
   pub roomy : IsRoomy ns f.lists (length es) c pages f.used f.limit
   pub table : IsTable es ns f.lists
-  pub state : state_of (f.limit - f.used) es ns f.lists ≡ v
+  pub state : state_of (f.limit - f.used) (capacities_in f) es ns f.lists ≡ v
   pub numbered : IsNumberedOn ns ns2 c (list_at f.lists c).pages pages f.used
   pub same : (with_items f.numbers ns').items ≡ ns2
   pub entries : length es ≡ vec_len f.entries
@@ -199,7 +199,7 @@ ready f v es ns ns' ns2 c pages e h hc l ee le en ln e2 m =
     record {
       roomy = roomy f v es ns c pages e h hc l le en ln;
       table = table-same f es ns h ee en;
-      state = ap (λ t. state_of (f.limit - f.used) t ns f.lists) ee ∙ ap (λ t. state_of (f.limit - f.used) f.entries.items t f.lists) en ∙ e;
+      state = ap (λ t. state_of (f.limit - f.used) (capacities_in f) t ns f.lists) ee ∙ ap (λ t. state_of (f.limit - f.used) (capacities_in f) f.entries.items t f.lists) en ∙ e;
       numbered = subst (λ t. IsNumberedOn ns t c (list_at f.lists c).pages pages f.used) (sym is) m;
       same = sym e2;
       entries = le;
@@ -248,6 +248,10 @@ carve-invariant f v es es' ns ns' ns2 ks'' c pages k r h b =
       slots = h.slots;
     }
 
+same-capacities : (v : PoolState) (c : ℕ) (k : ClassState) (n : ℕ) → record { left = n; capacities = v.capacities; classes = (with_class v c k).classes } ≡ record (with_class v c k) { left = n }
+unfolding with_class
+same-capacities v c k n = λ i. record { left = n; capacities = v.capacities; classes = (with_class v c k).classes }
+
 pub carve-view : (f : Inside) (v : PoolState) (es es' : List Entry) (ns ns' ns2 : List ℕ) (ks'' : List ClassList) (c pages : ℕ) → IsReady f v es ns ns' ns2 c pages
     → Became es ns2 (set f.lists (c - 1) (wide (list_at f.lists c) pages)) es' ks'' c
     (link_new_in c (class_in es ns2 c (list_at (set f.lists (c - 1) (wide (list_at f.lists c) pages)) c)) (carved_count c (list_at f.lists c).pages) (new_count c (list_at f.lists c).pages pages))
@@ -266,13 +270,14 @@ carve-view f v es es' ns ns' ns2 ks'' c pages r b =
     let new : ℕ → ClassState = λ d. class_in es' ns2 d (list_at ks'' d) in
     let own : new c ≡ K = b.class ∙ carved-class es ns ns2 f.lists c pages hc w in
     let others : (d : ℕ) → IsClass d → d ≢ c → new d ≡ old d = λ d hd n. b.others d hd n ∙ w.others d hd n in
-    let at : class_at v c ≡ class_in es ns c k = ap (λ t. class_at t c) (sym r.state) ∙ class_at-state left es ns f.lists c hc in
+    let at : class_at v c ≡ class_in es ns c k = ap (λ t. class_at t c) (sym r.state) ∙ class_at-state left (capacities_in f) es ns f.lists c hc in
     let less : left' ≡ v.left - pages = let q = ap (λ (p : PoolState). p.left) r.state in omega arith in
-    ap (λ t. state_of left' t (with_items f.numbers ns').items ks'') items ∙ ap (λ t. state_of left' es' t ks'') r.same
-    ∙ ap (λ (p : PoolState). record { left = left'; classes = p.classes }) (pool_by-with_class left old new c K hc own others)
-    ∙ ap (λ t. record { left = left'; classes = (with_class t c K).classes }) r.state
-    ∙ ap (λ (t : ClassState). record { left = left'; classes = (with_class v c (carve_in c t pages (new_count c t.pages pages))).classes }) (sym at)
-    ∙ ap (λ t. record { left = t; classes = (with_class v c (carve_in c (class_at v c) pages (new_count c (class_at v c).pages pages))).classes }) less
+    ap (λ t. state_of left' (capacities_in f) t (with_items f.numbers ns').items ks'') items ∙ ap (λ t. state_of left' (capacities_in f) es' t ks'') r.same
+    ∙ ap (λ (p : PoolState). record { left = left'; capacities = capacities_in f; classes = p.classes }) (pool_by-with_class left (capacities_in f) old new c K hc own others)
+    ∙ ap (λ (t : PoolState). record { left = left'; capacities = t.capacities; classes = (with_class t c K).classes }) r.state
+    ∙ ap (λ (t : ClassState). record { left = left'; capacities = v.capacities; classes = (with_class v c (carve_in c t pages (new_count c t.pages pages))).classes }) (sym at)
+    ∙ ap (λ t. record { left = t; capacities = v.capacities; classes = (with_class v c (carve_in c (class_at v c) pages (new_count c (class_at v c).pages pages))).classes }) less
+    ∙ same-capacities v c (carve_in c (class_at v c) pages (new_count c (class_at v c).pages pages)) (v.left - pages)
 
 -- ---- as the code has it
 

@@ -3,7 +3,7 @@
 -- that number on, one for each 32 bytes.
 use Rattle.std.specs.Prelude.{◌≡◌, ◌≢◌, ℕ, zero, suc, ◌==◌, ◌||◌, ◌+◌, ◌-◌, ◌*◌, ◌/◌, ◌%◌, ◌<◌, ◌≤◌}
 use Rattle.std.specs.Prelude.{Bool, true, false, nat_eq, List, [], ◌∷◌, ◌++◌, length, map, take}
-use Rattle.std.specs.Prelude.{replicate, slice_index, slice_index_or, slice_set, vec_len}
+use Rattle.std.specs.Prelude.{replicate, slice_index, slice_index_or, slice_set, vec_len, vec_capacity}
 use Rattle.std.specs.List.{range_with_len, IsDistinct}
 use Rattle.scudo_header.specs.Regions.{region_of}
 use Rattle.scudo_header.specs.declared.classes.TheConstants.{CLASSES}
@@ -109,11 +109,15 @@ class_in es ns class k = record {
 abbrev pub state_in : List Entry → List ℕ → List ClassList → ℕ → ClassState
 state_in es ns ks class = class_in es ns class (list_at ks class)
 
-abbrev pub state_of : ℕ → List Entry → List ℕ → List ClassList → PoolState
-state_of left es ns ks = pool_by left (state_in es ns ks)
+abbrev pub state_of : ℕ → List ℕ → List Entry → List ℕ → List ClassList → PoolState
+state_of left capacities es ns ks = pool_by left capacities (state_in es ns ks)
+
+abbrev pub capacities_in : Inside → List ℕ
+capacities_in f = vec_capacity f.entries ∷ vec_capacity f.numbers ∷ []
 
 abbrev pub pool_in : Inside → PoolState
-pool_in f = state_of (f.limit - f.used) f.entries.items f.numbers.items f.lists
+pool_in f =
+    state_of (f.limit - f.used) (capacities_in f) f.entries.items f.numbers.items f.lists
 
 -- the class with one block more on top, which begins a batch or joins the first, marked free
 abbrev pub link_in : ℕ → ClassState → ℕ → Bool → ClassState

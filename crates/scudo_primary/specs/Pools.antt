@@ -31,8 +31,10 @@ pub record ClassState : Type 0 where
   pub marks : List Bool
 
 -- left: the pages that may still be carved
+-- capacities: for how many elements each of the pool's lists has memory
 pub record PoolState : Type 0 where
   pub left : ℕ
+  pub capacities : List ℕ
   pub classes : FinMap nat_cmp ClassState
 
 abbrev pub coded_class : Coded ClassState
@@ -46,31 +48,33 @@ coded_class =
 
 abbrev pub coded_pool : Coded PoolState
 coded_pool =
-    code_by (ℕ × FinMap nat_cmp ClassState) (coded× coded_ℕ (finite.code coded_ℕ coded_class))
-    (λ p. (p.left, p.classes))
-    (λ c. record { left = c.0; classes = c.1 })
+    code_by (ℕ × (List ℕ × FinMap nat_cmp ClassState))
+    (coded× coded_ℕ (coded× (coded_list coded_ℕ) (finite.code coded_ℕ coded_class)))
+    (λ p. (p.left, (p.capacities, p.classes)))
+    (λ c. record { left = c.0; capacities = c.1.0; classes = c.1.1 })
     (λ _. refl)
 
 abbrev pub empty_class : ClassState
 empty_class = record { pages = 0; stack = []; sizes = []; marks = [] }
 
 -- a pool by what each class has
-abbrev pub pool_by : ℕ → (ℕ → ClassState) → PoolState
-pool_by left f =
+abbrev pub pool_by : ℕ → List ℕ → (ℕ → ClassState) → PoolState
+pool_by left capacities f =
     record {
       left = left;
+      capacities = capacities;
       classes = finite.from_entries (map (λ class. (class, f class)) (range_with_len 1 CLASSES));
     }
 
 -- A pool for so many pages, none of them carved.
-unfoldable pub empty_pool : ℕ → PoolState
-empty_pool pages = pool_by pages (λ _. empty_class)
+unfoldable pub empty_pool : ℕ → List ℕ → PoolState
+empty_pool pages capacities = pool_by pages capacities (λ _. empty_class)
 
 unfoldable pub class_at : PoolState → ℕ → ClassState
 class_at p class = unwrap_or (finite.get p.classes class) empty_class
 
 unfoldable pub with_class : PoolState → ℕ → ClassState → PoolState
-with_class p class k = record { left = p.left; classes = finite.insert p.classes class k }
+with_class p class k = record p { classes = finite.insert p.classes class k }
 
 abbrev pub pages_of : PoolState → ℕ → ℕ
 pages_of p class = (class_at p class).pages

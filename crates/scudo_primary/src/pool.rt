@@ -1,6 +1,6 @@
 //! The pool of free blocks.
 
-ghost use Rattle.std.specs.Prelude.{◌≡◌, ◌≤◌, ◌<◌, ◌++◌, ◌↔◌, [], true, false, length, take, drop};
+ghost use Rattle.std.specs.Prelude.{◌≡◌, ◌≤◌, ◌<◌, ◌+◌, ◌++◌, ◌↔◌, [], true, false, length, take, drop};
 ghost use Rattle.std.specs.Prelude.{reverse, slice_get, nat_eq, IfSome, IfOk, IsTrue};
 ghost use Rattle.std.specs.List.{All, IsDistinct};
 ghost use Rattle.scudo_primary.specs.Blocks.{IsBlock, carved_count};
@@ -21,7 +21,8 @@ use std::alloc::{AllocError, Global};
 use std::marker::Model;
 
 /// For each size class the pages of its region that are carved into blocks, one stack of free
-/// blocks, and a mark for each carved block that says whether it is free.
+/// blocks, and a mark for each carved block that says whether it is free. After `new` nothing
+/// allocates: no call changes for how many elements the pool's lists have memory.
 #[derive(Drop)]
 pub struct Pool {
     /// 128 for each page, one for each 32 bytes.
@@ -52,7 +53,7 @@ impl Pool {
     pub fn new(alloc: Global, pages: u64) -> Result<Pool, AllocError>
         requires low { 0 < pages }
         requires high { pages ≤ MAX_PAGES }
-        ensures { IfOk result (λ pool. pool ≡ empty_pool pages) }
+        ensures { IfOk result (λ pool. pool ≡ empty_pool pages pool.capacities) }
     {
         let no_entry = Entry {
             next: 0,
@@ -226,6 +227,18 @@ impl Pool {
             → result ≡ is_marked self.now class block }
     {
         self.is_block(class, block) && self.entries[place(&self.numbers, class, block)].free
+    }
+
+    /// How many pages of a class's region are carved. With those that still may be, no more than
+    /// the region has.
+    pub fn pages(&self, class: u8) -> u64
+        requires low { 0 < class }
+        requires high { class ≤ CLASSES }
+        ensures pages { result ≡ pages_of self.now class }
+        ensures most { result + self.now.left ≤ MAX_PAGES }
+    {
+        let own = self.lists[class as usize - 1];
+        own.pages
     }
 
     /// How many blocks of a class are carved.

@@ -23,7 +23,7 @@ both : (a b : Bool) → a ≡ true → b ≡ true → (a && b) ≡ true
 both true b h k = k
 both false b h k = h
 
-apart_true : (pages start : ℕ) (m : Mapping) → is_apart pages start m ≡ true → (end_of m + PAGE_SIZE ≤ start) ⊎ (start + PAGE_SIZE * pages + PAGE_SIZE ≤ m.start)
+pub apart_true : (pages start : ℕ) (m : Mapping) → is_apart pages start m ≡ true → (end_of m + PAGE_SIZE ≤ start) ⊎ (start + PAGE_SIZE * pages + PAGE_SIZE ≤ m.start)
 apart_true pages start m h = elim (cases_lt start (end_of m + PAGE_SIZE)) [
   | inl b ↦
       let f : nat_le (end_of m + PAGE_SIZE) start ≡ false = grind (arith, nat_tests) in

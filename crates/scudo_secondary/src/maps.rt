@@ -86,9 +86,10 @@ impl Maps {
     /// Takes away the mapping with a user address, which is there.
     pub fn remove(&mut self, user: u64)
         requires { IsSome (mapping_of self.old.mappings user) }
-        ensures { self.new
+        ensures maps { self.new
             ≡ record self.old
             { mappings = filter (λ m. not (m.user == user)) self.old.mappings } }
+        ensures mappings { AreMappings self.old.mappings }
     {
         remove_user(&mut self.mappings, user);
     }

@@ -1,10 +1,15 @@
-use Rattle.std.proofs.Common.{◌≡◌, ◌≢◌, ◌<◌, ◌∙◌, ◌∷◌, ◌++◌, ℕ, length, reverse, sym, ap, subst}
+use Rattle.std.proofs.Common.{◌≡◌, ◌≢◌, ◌<◌, ◌∙◌, ◌∷◌, ◌++◌, ℕ, true, length, reverse, set, sym, ap, subst, inl, inr}
+use Rattle.std.proofs.lemmas.Bool.{cases_eq}
 use Rattle.scudo_primary.specs.Batches.{max_count_of}
-use Rattle.scudo_primary.specs.Pools.{PoolState, class_at}
+use Rattle.scudo_primary.specs.Blocks.{number_of}
+use Rattle.scudo_primary.specs.Pools.{ClassState, PoolState, class_at, pages_of}
 use Rattle.scudo_primary.specs.Lists.{IsClass}
-use Rattle.scudo_cache.specs.Caches.{Class, entries_of, with_entries, with_room, after_put}
+use Rattle.scudo_cache.specs.Caches.{Class, entries_of, with_entries, one_stack, AreStacks, with_room, after_put}
 use Rattle.scudo_cache.proofs.ClassLemmas.{room-left, room-other, put-other, put-lists}
-use Rattle.scudo_cache.proofs.CacheLemmas.{all-classes, at-class, view-with, entries-with, put-back, above-kept}
+use Rattle.scudo_cache.specs.Whole.{cache_of}
+use Rattle.scudo_cache.proofs.CacheLemmas.{all-classes, at-class, inside_with, view-with, entries-with, entries-other, put-back, above-kept}
+use Rattle.scudo_cache.proofs.CacheLaws.{left-put}
+use Rattle.scudo_cache.proofs.StackLemmas.{IsAfter, put-after, stack-put, stack-is, stacks-kept, caps-put}
 use Rattle.scudo_cache.proofs.cache.Cache.put.Goals as goal
 
 is-class : (c : goal.After-self-1) → IsClass c.args.class
@@ -33,6 +38,35 @@ returns-clause-above c =
     (view-with c.self.inside c.args.self.now c.args.class c.put_into.new.entries c.self.view_is)
     (is-class c) c.requires.above c.put_into.ensures.held.cached (others c)
 
+over : (c : goal.After-self-1) (d : ℕ) → 0 < d → d ≢ c.args.class → entries_of (cache_of (inside_with c.self.inside c.args.class c.put_into.new.entries)) d ≡ entries_of c.args.self.now d
+over c d a n =
+    ap (λ t. entries_of t d) (view-with c.self.inside c.args.self.now c.args.class c.put_into.new.entries c.self.view_is)
+    ∙ entries-other c.args.self.now c.args.class d c.put_into.new.entries.items c.requires.low a n
+
+pub returns-clause-others : goal.returns-clause-others
+returns-clause-others c = λ d a n.
+    ap (λ xs. reverse xs ++ (class_at c.put_into.new.pool d).stack) (over c d a n)
+    ∙ ap (λ (k : ClassState). reverse (entries_of c.args.self.now d) ++ k.stack) (others c d n)
+
+after : (c : goal.After-self-1) → IsAfter c.args.class (set (class_at c.args.pool.now c.args.class).marks (number_of c.args.class c.args.block) true) (class_at c.args.pool.now c.args.class).pages (class_at c.put_into.new.pool c.args.class)
+after c =
+    let xs = c.index_mut.result.now.items in
+    let p = c.args.pool.now in
+    subst (λ t. IsAfter c.args.class (set (class_at p c.args.class).marks (number_of c.args.class c.args.block) true) (class_at p c.args.class).pages (class_at t c.args.class))
+    (sym (ap (λ (k : Class). k.pool) c.put_into.ensures.state)) (put-after c.args.class c.args.block xs p)
+
+pub returns-clause-pages : goal.returns-clause-pages
+returns-clause-pages c = λ d. elim (cases_eq d c.args.class) [
+  | inl e ↦ subst (λ t. pages_of c.put_into.new.pool t ≡ pages_of c.args.pool.now t) (sym e) (after c).pages_same
+  | inr n ↦ ap (λ (k : ClassState). k.pages) (others c d n)
+]
+
+pub returns-clause-left : goal.returns-clause-left
+returns-clause-left c = ap (λ (k : Class). k.pool.left) c.put_into.ensures.state ∙ left-put c.args.class c.args.block c.index_mut.result.now.items c.args.pool.now
+
+pub returns-clause-capacities : goal.returns-clause-capacities
+returns-clause-capacities c = ap (λ (k : Class). k.pool.capacities) c.put_into.ensures.state ∙ caps-put c.args.class c.args.block c.index_mut.result.now.items c.args.pool.now
+
 pub returns-clause-stack : goal.returns-clause-stack
 returns-clause-stack c =
     ap (λ xs. reverse xs ++ (class_at c.put_into.new.pool c.args.class).stack) (entries-with c.self.inside c.args.self.now c.args.class c.put_into.new.entries c.self.invariant c.self.view_is (is-class c))
@@ -53,3 +87,13 @@ returns-clause-batches c l =
     ap (λ (k : Class). (class_at k.pool c.args.class).sizes) c.put_into.ensures.state
     ∙ (put-lists c.args.class c.args.block (with_room c.args.class c.index_mut.result.now.items c.args.pool.now)).1
     ∙ ap (λ (p : PoolState). (class_at p c.args.class).sizes) (kept c l)
+
+pub returns-clause-stacks : goal.returns-clause-stacks
+returns-clause-stacks c = λ h.
+    let v = c.args.self.now in
+    let p = c.args.pool.now in
+    let k = c.args.class in
+    let a = after c in
+    stacks-kept v _ p c.put_into.new.pool k
+    (stack-is k _ _ _ _ _ _ a.marks a.pages_same (returns-clause-stack c) (stack-put k (pages_of p k) (class_at p k).marks c.args.block (one_stack v p k) c.requires.carved c.requires.used (h.each k c.requires.low c.requires.high)))
+    (others c) (returns-clause-others c) h

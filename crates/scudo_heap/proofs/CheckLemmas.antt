@@ -1,0 +1,76 @@
+-- What the checks of a pointer find.
+use Rattle.std.proofs.Common.{◌≡◌, ◌≢◌, ℕ, ◌+◌, ◌-◌, ◌*◌, ◌/◌, ◌%◌, ◌^◌, ◌<◌, ◌≤◌, ◌==◌, Bool, true, false, cond, List, [], ◌∷◌, Option, Some, None, Result, Ok, Err, refl, sym, ap, subst, ◌∙◌, inl, inr, arith, eq-eqb}
+use Rattle.std.proofs.lemmas.Bool.{cases_eq, cond-true, cond-false}
+use Rattle.std.proofs.lemmas.Bool.Decides.{nat_tests}
+use Rattle.std.specs.Option.{IfSome}
+use Rattle.std.specs.List.{find}
+use Rattle.a64_bits.specs.Fields.{field_of}
+use Rattle.mte_tags.specs.Memory.{Memory}
+use Rattle.scudo_header.specs.Headers.{header_of, checksum_of, unpacked}
+use Rattle.scudo_header.specs.declared.headers.Header.{Header}
+use Rattle.scudo_secondary.specs.Mappings.{IsMapping, AreFrom, AreMappings, mapping_of, end_of}
+use Rattle.scudo_secondary.specs.declared.mappings.Mapping.{Mapping}
+use Rattle.scudo_secondary.proofs.MappingLemmas.{end_below}
+use Rattle.address_map.specs.declared.limits.TheConstants.{PAGE_SIZE}
+use Rattle.address_map.specs.declared.ranges.TheConstants.{SECONDARY_START, SECONDARY_END}
+use Rattle.scudo_heap.specs.declared.chunk.Found.{Found}
+use Rattle.scudo_heap.specs.declared.abort.HeapAbort.{HeapAbort}
+use Rattle.scudo_heap.specs.declared.abort.HeapAbort.TheVariants.{Misaligned, Unmapped, HeaderCorrupt, InvalidState, NotABlock, AlreadyFree}
+use Rattle.scudo_heap.specs.Heaps.{HeapState}
+use Rattle.scudo_heap.specs.Checks.{is_mapped, is_allocated, header_at, found_chunk, found_by, found}
+
+-- ---- headers
+
+pub unpacked-small : (cookie pointer word : ℕ) → IfSome (unpacked cookie pointer word) (λ h. h.size_or_unused_bytes < 2 ^ 20)
+unfolding unpacked
+unpacked-small cookie pointer word =
+    elim (field_of 48 16 word == checksum_of cookie pointer word) as (λ b. IfSome (cond b (Some (header_of word)) None) (λ h. h.size_or_unused_bytes < 2 ^ 20)) [
+      | true ↦ (let t : field_of 12 20 word < 2 ^ 20 = omega arith in t)
+      | false ↦ tt
+    ]
+
+-- ---- mappings
+
+pub record IsFit (m : Mapping) : Type 0 where
+  pub above : SECONDARY_START + PAGE_SIZE ≤ m.start
+  pub aligned : m.start % PAGE_SIZE ≡ 0
+  pub some : 0 < m.pages
+  pub first : m.start ≤ m.user
+  pub below : m.user < end_of m
+  pub last : end_of m + PAGE_SIZE ≤ SECONDARY_END
+
+bounds-from : (ms : List Mapping) (least user : ℕ) (m : Mapping) → SECONDARY_START + PAGE_SIZE ≤ least → AreFrom least ms → Some m ≡ mapping_of ms user → IsFit m
+bounds-from [] least user m l h e = cc
+bounds-from (n ∷ ms) least user m l h e =
+    let k = h.0 in
+    let above = k.above in
+    let some = k.some in
+    let rest = end_below ms (end_of n + PAGE_SIZE) h.1 in
+    elim (n.user == user) as (λ b. Some m ≡ cond b (Some n) (find (λ x. x.user == user) ms) → IsFit m) [
+      | true ↦ λ f. (let same : n ≡ m = cc in subst IsFit same (record { above = omega arith; aligned = k.aligned; some = some; first = k.first; below = k.last; last = rest }))
+      | false ↦ λ f. bounds-from ms (end_of n + PAGE_SIZE) user m (omega arith) h.1 f
+    ] e
+
+pub mapping-bounds : (ms : List Mapping) (user : ℕ) (m : Mapping) → AreMappings ms → Some m ≡ mapping_of ms user → IsFit m
+unfolding AreMappings
+mapping-bounds ms user m h e = bounds-from ms (SECONDARY_START + PAGE_SIZE) user m (omega arith) h e
+
+-- ---- in their order
+
+pub found-misaligned : (m : Memory) (h : HeapState) (user : ℕ) → user % 16 ≢ 0 → Err Misaligned ≡ found m h user
+unfolding found
+found-misaligned m h user n = let t : (user % 16 == 0) ≡ false = grind (arith, nat_tests) in sym (cond-false _ _ _ t)
+
+pub found-unmapped : (m : Memory) (h : HeapState) (user : ℕ) → user % 16 ≡ 0 → is_mapped m user ≡ false → Err Unmapped ≡ found m h user
+unfolding found
+found-unmapped m h user e n = sym (cond-true _ _ _ (eq-eqb _ _ e) ∙ cond-false _ _ _ n)
+
+pub found-header : (m : Memory) (h : HeapState) (user : ℕ) (o : Option Header) → user % 16 ≡ 0 → is_mapped m user ≡ true → o ≡ header_at m h.cookie user → found_by h user o ≡ found m h user
+unfolding found
+found-header m h user o e n f = ap (found_by h user) f ∙ sym (cond-true _ _ _ (eq-eqb _ _ e) ∙ cond-true _ _ _ n)
+
+pub found-state : (h : HeapState) (user : ℕ) (header : Header) → is_allocated header.state ≡ false → Err InvalidState ≡ found_by h user (Some header)
+found-state h user header e = sym (cond-false _ _ _ e)
+
+pub found-chunk : (h : HeapState) (user : ℕ) (header : Header) → is_allocated header.state ≡ true → found_chunk h.stacks h.maps.mappings user header ≡ found_by h user (Some header)
+found-chunk h user header e = sym (cond-true _ _ _ e)

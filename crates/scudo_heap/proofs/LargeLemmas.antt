@@ -1,0 +1,44 @@
+-- Allocation with pages of their own, step by step.
+use Rattle.std.proofs.Common.{◌≡◌, ◌≢◌, ℕ, ◌+◌, ◌-◌, ◌*◌, ◌/◌, ◌%◌, ◌^◌, ◌<◌, ◌≤◌, nat_le, Bool, true, false, cond, Option, Some, None, refl, sym, ap, subst, ◌∙◌, arith}
+use Rattle.std.proofs.lemmas.Bool.{cond-true, cond-false}
+use Rattle.std.proofs.lemmas.Bool.Decides.{nat_tests}
+use Rattle.std.proofs.Math.Nat.{mul-mod_left, div-mul-le_self, lt-div-mul-add}
+use Rattle.address_map.specs.declared.limits.TheConstants.{PAGE_SIZE}
+use Rattle.address_map.specs.declared.ranges.TheConstants.{SECONDARY_START, SECONDARY_END}
+use Rattle.mte_tags.specs.Memory.{pages_left}
+use Rattle.scudo_header.specs.declared.headers.Origin.{Origin}
+use Rattle.scudo_secondary.specs.Mappings.{place_of, end_of}
+use Rattle.scudo_secondary.specs.declared.mappings.Mapping.{Mapping}
+use Rattle.scudo_heap.specs.Placing.{World}
+use Rattle.scudo_heap.specs.Large.{mapping_for}
+use Rattle.scudo_heap.specs.Allocation.{Made, nothing, made_large, mapped_at, in_mapping, need_of}
+use Rattle.scudo_heap.specs.Inner.{IsAlign, IsLarge}
+use Rattle.scudo_heap.proofs.ClassLemmas.{divides}
+
+pub is-large : (start pages align size : ℕ) → start % PAGE_SIZE ≡ 0 → SECONDARY_START + PAGE_SIZE ≤ start → start + PAGE_SIZE * pages + PAGE_SIZE ≤ SECONDARY_END → pages ≤ 4096 → IsAlign align → 0 < size → size ≤ 2 ^ 20
+    → need_of align size ≤ PAGE_SIZE * pages → IsLarge (mapping_for start pages align size) size
+is-large start pages align size e above below few al some small need =
+    let x = start + PAGE_SIZE * pages - size in
+    let least = al.least in
+    let most = al.most in
+    let part = al.multiple in
+    let low : x / align * align ≤ x = div-mul-le_self x align in
+    let near : x < x / align * align + align = lt-div-mul-add (omega arith) in
+    let even : x / align * align % 16 ≡ 0 = divides (x / align * align) align (omega arith) part (mul-mod_left (x / align) align) in
+    record { some = omega arith; few = few; start = omega arith; aligned = e; above = omega arith; within = omega arith; below = omega arith; unused = omega arith }
+
+pub in_mapping-none : (w : World) (o : Origin) (a z n : ℕ) → None ≡ place_of w.heap.maps.mappings n → nothing w ≡ in_mapping w o a z n
+unfolding in_mapping
+in_mapping-none w o a z n e = ap (mapped_at w o a z n) e
+
+pub in_mapping-refused : (w : World) (o : Origin) (a z n start : ℕ) → Some start ≡ place_of w.heap.maps.mappings n → pages_left w.memory < n → nothing w ≡ in_mapping w o a z n
+unfolding in_mapping
+in_mapping-refused w o a z n start e l =
+    let t : nat_le n (pages_left w.memory) ≡ false = grind (arith, nat_tests) in
+    sym (cond-false _ _ _ t) ∙ ap (mapped_at w o a z n) e
+
+pub in_mapping-made : (w : World) (o : Origin) (a z n start : ℕ) → Some start ≡ place_of w.heap.maps.mappings n → n ≤ pages_left w.memory → made_large w o z (mapping_for start n a z) ≡ in_mapping w o a z n
+unfolding in_mapping
+in_mapping-made w o a z n start e l =
+    let t : nat_le n (pages_left w.memory) ≡ true = grind (arith, nat_tests) in
+    sym (cond-true _ _ _ t) ∙ ap (mapped_at w o a z n) e

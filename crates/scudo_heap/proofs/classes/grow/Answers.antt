@@ -1,0 +1,79 @@
+use Rattle.std.proofs.Common.{◌≡◌, Result, Ok, Err, ◌+◌, ◌-◌, ◌*◌, ◌/◌, ◌≤◌, ◌<◌, ◌∙◌, ℕ, sym, ap, subst, refl, arith}
+use Rattle.std.specs.Result.{IsOk, OnOk}
+use Rattle.mte_tags.specs.declared.tagged.NoQuota.{NoQuota}
+use Rattle.mte_tags.specs.Memory.{page_at, pages_left, with_new_pages}
+use Rattle.address_map.specs.declared.limits.TheConstants.{PAGE_SIZE}
+use Rattle.scudo_header.specs.Classes.{size_of}
+use Rattle.scudo_header.specs.Regions.{region_of}
+use Rattle.scudo_heap.specs.Stacks.{StackState, pages_of, stack_of, carved}
+use Rattle.scudo_heap.specs.Heaps.{heap_of}
+use Rattle.scudo_heap.specs.Placing.{next_page, heap_attrs}
+use Rattle.scudo_heap.specs.Served.{IsServed, AreRegions}
+use Rattle.scudo_heap.proofs.ServedLemmas.{MayGrow, next-free, regions-grown, served-grown, grown-some}
+use Rattle.scudo_heap.proofs.classes.grow.Goals as goal
+
+on-ok : (r : Result (Unit {0}) NoQuota) (P : Type 0) → IsOk r → OnOk r P → P
+on-ok (Ok u) P h f = f
+on-ok (Err e) P h f = absurd (cc)
+
+pub map_pages-requires-clause-free : goal.map_pages-requires-clause-free
+map_pages-requires-clause-free g c = λ i l.
+    let m = g.M.Tagged.memory c.args.memory.now in
+    let s = c.args.stacks.now in
+    let k = c.args.class in
+    let n = (c.size_of_class.result + 4095) / 4096 in
+    let left = c.pages_left.ensures.answer in
+    let most = c.pages.ensures.most in
+    let same = c.pages.ensures.pages in
+    let enough = c.if-pages-pages_left.false in
+    let may : MayGrow m s k n = record { class = record { low = c.requires.low; high = c.requires.high }; enough = omega arith; most = omega arith } in
+    let first : (268435456 + c.from.result * 16777216) / 4096 + c.pages.result + i ≡ next_page s k + i = omega arith in
+    ap (λ t. page_at t ((268435456 + c.from.result * 16777216) / 4096 + c.pages.result + i)) c.pages_left.ensures.memory ∙ ap (page_at m) first
+    ∙ next-free m s k n c.requires.regions may i l
+
+pub returns-clause-some : goal.returns-clause-some
+returns-clause-some g c = λ _ e.
+    let s = c.args.stacks.now in
+    let k = c.args.class in
+    let n = (c.size_of_class.result + 4095) / 4096 in
+    let own = c.size_of_class.ensures.size in
+    grown-some s k n (record { low = c.requires.low; high = c.requires.high }) (omega arith) (ap (λ (t : StackState). stack_of t k) (sym c.carve.ensures) ∙ e)
+
+pub returns-clause-regions : goal.returns-clause-regions
+returns-clause-regions g c =
+    let m = g.M.Tagged.memory c.args.memory.now in
+    let s = c.args.stacks.now in
+    let k = c.args.class in
+    let n = (c.size_of_class.result + 4095) / 4096 in
+    let left = c.pages_left.ensures.answer in
+    let most = c.pages.ensures.most in
+    let same = c.pages.ensures.pages in
+    let enough = c.if-pages-pages_left.false in
+    let may : MayGrow m s k n = record { class = record { low = c.requires.low; high = c.requires.high }; enough = omega arith; most = omega arith } in
+    let own = c.size_of_class.ensures.size in
+    let first : (268435456 + c.from.result * 16777216) / 4096 + c.pages.result ≡ next_page s k = omega arith in
+    let ok : IsOk c.map_pages.result = c.map_pages.ensures.answer.1 (let e = ap pages_left c.pages_left.ensures.memory in omega arith) in
+    let memory : g.M.Tagged.memory c.map_pages.new.self ≡ with_new_pages m (next_page s k) n heap_attrs =
+    on-ok c.map_pages.result _ ok c.map_pages.ensures.ok ∙ (λ i. with_new_pages (c.pages_left.ensures.memory i) (first i) n heap_attrs) in
+    let stacks : c.carve.new.self ≡ carved s k n = c.carve.ensures in
+    subst (λ t. AreRegions t c.carve.new.self) (sym memory) (subst (AreRegions (with_new_pages m (next_page s k) n heap_attrs)) (sym stacks) (regions-grown m s k n c.requires.regions may))
+
+pub returns-clause-served : goal.returns-clause-served
+returns-clause-served g c = λ cookie ms v.
+    let m = g.M.Tagged.memory c.args.memory.now in
+    let s = c.args.stacks.now in
+    let k = c.args.class in
+    let n = (c.size_of_class.result + 4095) / 4096 in
+    let left = c.pages_left.ensures.answer in
+    let most = c.pages.ensures.most in
+    let same = c.pages.ensures.pages in
+    let enough = c.if-pages-pages_left.false in
+    let may : MayGrow m s k n = record { class = record { low = c.requires.low; high = c.requires.high }; enough = omega arith; most = omega arith } in
+    let own = c.size_of_class.ensures.size in
+    let first : (268435456 + c.from.result * 16777216) / 4096 + c.pages.result ≡ next_page s k = omega arith in
+    let ok : IsOk c.map_pages.result = c.map_pages.ensures.answer.1 (let e = ap pages_left c.pages_left.ensures.memory in omega arith) in
+    let memory : g.M.Tagged.memory c.map_pages.new.self ≡ with_new_pages m (next_page s k) n heap_attrs =
+    on-ok c.map_pages.result _ ok c.map_pages.ensures.ok ∙ (λ i. with_new_pages (c.pages_left.ensures.memory i) (first i) n heap_attrs) in
+    let stacks : c.carve.new.self ≡ carved s k n = c.carve.ensures in
+    subst (λ t. IsServed t (heap_of cookie c.carve.new.self ms)) (sym memory)
+    (subst (λ t. IsServed (with_new_pages m (next_page s k) n heap_attrs) (heap_of cookie t ms)) (sym stacks) (served-grown m s k n cookie ms may v))

@@ -1,0 +1,65 @@
+use Rattle.std.proofs.Common.{◌≡◌, ◌+◌, ◌-◌, ◌*◌, ◌/◌, ◌≤◌, ◌<◌, ◌^◌, ◌∙◌, ℕ, Some, None, sym, ap, subst, refl, arith}
+use Rattle.mte_tags.specs.Memory.{pages_left}
+use Rattle.scudo_secondary.specs.declared.mappings.Mapping.{Mapping}
+use Rattle.scudo_heap.specs.declared.chunk.Chunk.{Chunk}
+use Rattle.scudo_heap.specs.declared.chunk.Chunk.TheVariants.{Large}
+use Rattle.scudo_heap.specs.Heaps.{heap_of, with_more}
+use Rattle.scudo_heap.specs.Placing.{World, world_of}
+use Rattle.scudo_heap.specs.Large.{mapping_for, large_placed}
+use Rattle.scudo_heap.specs.Allocation.{Made, made_of, nothing, made_large}
+use Rattle.scudo_heap.specs.Served.{KeepsMapped}
+use Rattle.scudo_heap.specs.Inner.{IsLarge}
+use Rattle.scudo_heap.proofs.MapLemmas.{IsAt, is-at}
+use Rattle.scudo_heap.proofs.LargeLemmas.{is-large, in_mapping-none, in_mapping-refused, in_mapping-made}
+use Rattle.scudo_heap.proofs.pages.take_pages.Goals as goal
+
+pub returns-in_default-clause-made : goal.returns-in_default-clause-made
+returns-in_default-clause-made g c = λ s r.
+    in_mapping-none (world_of (g.M.Tagged.memory c.args.memory.now) (heap_of c.args.cookie s c.args.maps.now) r) c.args.origin c.args.align c.args.size c.args.pages c.in_default.ensures.place
+
+pub returns-then-pages-pages_left-clause-made : goal.returns-then-pages-pages_left-clause-made
+returns-then-pages-pages_left-clause-made g c = λ s r.
+    let m = g.M.Tagged.memory c.args.memory.now in
+    let left = c.pages_left.ensures.answer in
+    let more = c.if-pages-pages_left.true in
+    ap (λ t. nothing (world_of t (heap_of c.args.cookie s c.args.maps.now) r)) c.pages_left.ensures.memory
+    ∙ in_mapping-refused (world_of m (heap_of c.args.cookie s c.args.maps.now) r) c.args.origin c.args.align c.args.size c.args.pages c.in-Some.start c.in-Some.ensures.place (omega arith)
+
+pub mapping_at-mapping-requires-clause-start : goal.mapping_at-mapping-requires-clause-start
+mapping_at-mapping-requires-clause-start g c =
+    let w = is-at c.args.maps.now.mappings c.args.pages c.in-Some.start c.in-Some.ensures.fits in
+    let below = w.below in
+    omega arith
+
+pub mapping_at-mapping-requires-clause-size : goal.mapping_at-mapping-requires-clause-size
+mapping_at-mapping-requires-clause-size g c =
+    let w = is-at c.args.maps.now.mappings c.args.pages c.in-Some.start c.in-Some.ensures.fits in
+    let above = w.above in
+    let small = c.requires.small in
+    omega arith
+
+pub map_chunk-requires-clause-large : goal.map_chunk-requires-clause-large
+map_chunk-requires-clause-large g c =
+    let w = is-at c.args.maps.now.mappings c.args.pages c.in-Some.start c.in-Some.ensures.fits in
+    subst (λ (n : Mapping). IsLarge n c.args.size) (sym c.mapping_at-mapping.ensures)
+    (is-large c.in-Some.start c.args.pages c.args.align c.args.size w.aligned w.above w.below c.requires.pages c.requires.align c.requires.some c.requires.small c.requires.fits)
+
+pub returns-clause-made : goal.returns-clause-made
+unfolding large_placed
+returns-clause-made g c = λ s r.
+    let m = g.M.Tagged.memory c.args.memory.now in
+    let left = c.pages_left.ensures.answer in
+    let enough = c.if-pages-pages_left.false in
+    let w = world_of m (heap_of c.args.cookie s c.args.maps.now) r in
+    let v = world_of (g.M.Tagged.memory c.pages_left.new.self) (heap_of c.args.cookie s c.args.maps.now) r in
+    let n = c.mapping_at-mapping.result in
+    let e = c.map_chunk.ensures in
+    let done : made_of (world_of (g.M.Tagged.memory c.map_chunk.new.memory) (heap_of c.args.cookie s c.map_chunk.new.maps) r) (Some (Large n c.args.size)) ≡ made_large v c.args.origin c.args.size n =
+    λ i. made_of (world_of (e.memory i) (heap_of c.args.cookie s (e.maps i)) r) (Some (Large n c.args.size)) in
+    done ∙ ap (λ t. made_large (world_of t (heap_of c.args.cookie s c.args.maps.now) r) c.args.origin c.args.size n) c.pages_left.ensures.memory
+    ∙ ap (made_large w c.args.origin c.args.size) c.mapping_at-mapping.ensures
+    ∙ in_mapping-made w c.args.origin c.args.align c.args.size c.args.pages c.in-Some.start c.in-Some.ensures.place (omega arith)
+
+pub returns-clause-served : goal.returns-clause-served
+returns-clause-served g c =
+    subst (λ t. KeepsMapped t c.args.maps.now (g.M.Tagged.memory c.map_chunk.new.memory) c.map_chunk.new.maps) c.pages_left.ensures.memory c.map_chunk.ensures.served

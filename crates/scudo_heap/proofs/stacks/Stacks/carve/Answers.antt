@@ -1,0 +1,23 @@
+use Rattle.std.proofs.Common.{◌≡◌, ◌∙◌, ℕ, List, slice_get, drop, false, IfSome, sym, ap, subst, refl}
+use Rattle.scudo_primary.specs.Blocks.{IsBlock}
+use Rattle.scudo_primary.specs.Pools as primary
+use Rattle.scudo_primary.specs.Pools.{is_member}
+use Rattle.scudo_cache.specs.Caches.{CacheState}
+use Rattle.scudo_heap.specs.Stacks.{ClassHeap}
+use Rattle.scudo_heap.proofs.StackLemmas.{at-inside, view-popped, view-pushed, view-carved, no-entries, view-new}
+use Rattle.scudo_cache.specs.Caches.{IsAbove, AreStacks}
+use Rattle.scudo_cache.proofs.CacheLaws.{above-with_pages}
+use Rattle.scudo_cache.proofs.StackLemmas.{stacks-with_pages}
+use Rattle.scudo_heap.proofs.stacks.Stacks.carve.Goals as goal
+
+pub invariant_of-self : goal.invariant_of-self
+invariant_of-self c =
+    let f = c.self.inside in
+    let e = c.carve.ensures in
+    record {
+      above = subst (IsAbove f.cache) (sym e) (above-with_pages f.cache f.pool c.args.class c.args.pages c.requires.low c.requires.high c.self.invariant.above);
+      stacks = subst (AreStacks f.cache) (sym e) (stacks-with_pages f.cache f.pool c.args.class c.args.pages c.requires.low c.requires.high (no-entries f c.args.self.now c.args.class c.self.view_is (record { low = c.requires.low; high = c.requires.high }) c.requires.empty) c.self.invariant.stacks);
+    }
+
+pub returns : goal.returns
+returns c = view-carved c.self.inside c.carve.new.self c.args.self.now c.args.class c.args.pages c.self.view_is (record { low = c.requires.low; high = c.requires.high }) c.requires.empty c.carve.ensures

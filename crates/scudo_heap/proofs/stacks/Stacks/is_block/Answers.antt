@@ -1,0 +1,15 @@
+use Rattle.std.proofs.Common.{◌≡◌, ◌∙◌, ℕ, List, slice_get, drop, false, IfSome, sym, ap, subst, refl}
+use Rattle.scudo_primary.specs.Blocks.{IsBlock}
+use Rattle.scudo_primary.specs.Pools as primary
+use Rattle.scudo_primary.specs.Pools.{is_member}
+use Rattle.scudo_cache.specs.Caches.{CacheState}
+use Rattle.scudo_heap.specs.Stacks.{ClassHeap}
+use Rattle.scudo_heap.proofs.StackLemmas.{at-inside, view-popped, view-pushed, view-carved, no-entries, view-new}
+use Rattle.scudo_heap.proofs.stacks.Stacks.is_block.Goals as goal
+
+pub returns : goal.returns
+returns c =
+    let at = (at-inside c.self.inside c.args.self.now c.args.class c.self.view_is (record { low = c.requires.low; high = c.requires.high })) in (
+      λ t. subst (λ (k : ClassHeap). IsBlock c.args.class k.pages c.args.block) (sym at) (c.is_block.ensures.0 t),
+      λ b. c.is_block.ensures.1 (subst (λ (k : ClassHeap). IsBlock c.args.class k.pages c.args.block) at b),
+    )

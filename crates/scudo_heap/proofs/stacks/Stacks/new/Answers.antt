@@ -1,0 +1,22 @@
+use Rattle.std.proofs.Common.{◌≡◌, ◌∙◌, ℕ, List, slice_get, drop, false, IfSome, sym, ap, subst, refl}
+use Rattle.scudo_primary.specs.Blocks.{IsBlock}
+use Rattle.scudo_primary.specs.Pools as primary
+use Rattle.scudo_primary.specs.Pools.{is_member}
+use Rattle.scudo_cache.specs.Caches.{CacheState}
+use Rattle.scudo_heap.specs.Stacks.{ClassHeap}
+use Rattle.scudo_heap.proofs.StackLemmas.{at-inside, view-popped, view-pushed, view-carved, no-entries, view-new}
+use Rattle.scudo_cache.specs.Caches.{IsAbove, AreStacks}
+use Rattle.scudo_cache.proofs.CacheLaws.{above-new}
+use Rattle.scudo_cache.proofs.StackLemmas.{stacks-new}
+use Rattle.scudo_heap.proofs.stacks.Stacks.new.Goals as goal
+
+pub invariant_of-result : goal.invariant_of-result
+invariant_of-result c =
+    let lists = ap (λ (t : CacheState). t.lists) c.in_ok-cache.ensures in
+    record {
+      above = above-new c.in_ok-cache.cache c.in_ok-pool.pool lists;
+      stacks = stacks-new c.in_ok-cache.cache c.in_ok-pool.pool c.args.pages _ lists c.in_ok-pool.ensures;
+    }
+
+pub returns : goal.returns
+returns c = view-new (record { pool = c.in_ok-pool.pool; cache = c.in_ok-cache.cache }) c.args.pages _ c.in_ok-pool.ensures (ap (λ (t : CacheState). t.lists) c.in_ok-cache.ensures)

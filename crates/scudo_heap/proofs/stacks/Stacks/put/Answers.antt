@@ -1,0 +1,22 @@
+use Rattle.std.proofs.Common.{◌≡◌, ◌∙◌, ℕ, List, slice_get, drop, false, IfSome, sym, ap, subst, refl}
+use Rattle.scudo_primary.specs.Blocks.{IsBlock}
+use Rattle.scudo_primary.specs.Pools as primary
+use Rattle.scudo_primary.specs.Pools.{is_member}
+use Rattle.scudo_cache.specs.Caches.{CacheState}
+use Rattle.scudo_heap.specs.Stacks.{ClassHeap}
+use Rattle.scudo_heap.proofs.StackLemmas.{at-inside, view-popped, view-pushed, view-carved, no-entries, view-new}
+use Rattle.scudo_heap.proofs.stacks.Stacks.put.Goals as goal
+
+pub put-requires-clause-carved : goal.put-requires-clause-carved
+put-requires-clause-carved c = subst (λ (k : ClassHeap). IsBlock c.args.class k.pages c.args.block) (at-inside c.self.inside c.args.self.now c.args.class c.self.view_is (record { low = c.requires.low; high = c.requires.high })) c.requires.carved
+
+pub put-requires-clause-used : goal.put-requires-clause-used
+put-requires-clause-used c =
+    let at = (at-inside c.self.inside c.args.self.now c.args.class c.self.view_is (record { low = c.requires.low; high = c.requires.high })) in
+    (c.self.invariant.stacks.each c.args.class c.requires.low c.requires.high).marked c.args.block (subst (λ (k : ClassHeap). IsBlock c.args.class k.pages c.args.block) at c.requires.carved)
+    ∙ ap (λ (k : ClassHeap). is_member k.stack c.args.block) (sym at) ∙ c.requires.used
+
+pub returns : goal.returns
+returns c =
+    view-pushed c.self.inside _ c.args.self.now c.args.class c.args.block c.self.view_is (record { low = c.requires.low; high = c.requires.high })
+    c.put.ensures.left (ap (λ (t : CacheState). t.capacity) c.put.ensures.cache) c.put.ensures.capacities c.put.ensures.pages c.put.ensures.stack c.put.ensures.others

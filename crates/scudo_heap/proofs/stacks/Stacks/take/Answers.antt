@@ -1,0 +1,26 @@
+use Rattle.std.proofs.Common.{◌≡◌, ◌∙◌, ℕ, List, slice_get, drop, false, IfSome, sym, ap, subst, refl}
+use Rattle.scudo_primary.specs.Blocks.{IsBlock}
+use Rattle.scudo_primary.specs.Pools as primary
+use Rattle.scudo_primary.specs.Pools.{is_member}
+use Rattle.scudo_cache.specs.Caches.{CacheState}
+use Rattle.scudo_heap.specs.Stacks.{ClassHeap}
+use Rattle.scudo_heap.proofs.StackLemmas.{at-inside, view-popped, popped-none, none-is, view-pushed, view-carved, no-entries, view-new}
+use Rattle.scudo_heap.proofs.stacks.Stacks.take.Goals as goal
+
+pub returns-clause-answer : goal.returns-clause-answer
+returns-clause-answer c = c.take.ensures.top ∙ ap (λ (k : ClassHeap). slice_get k.stack 0) (sym (at-inside c.self.inside c.args.self.now c.args.class c.self.view_is (record { low = c.requires.low; high = c.requires.high })))
+
+pub returns-clause-stacks : goal.returns-clause-stacks
+returns-clause-stacks c =
+    view-popped c.self.inside _ c.args.self.now c.args.class c.self.view_is (record { low = c.requires.low; high = c.requires.high })
+    c.take.ensures.left (ap (λ (t : CacheState). t.capacity) c.take.ensures.cache) c.take.ensures.capacities c.take.ensures.pages c.take.ensures.rest c.take.ensures.others
+
+pub returns-clause-block : goal.returns-clause-block
+returns-clause-block c =
+    subst (λ n. IfSome c.take.result (IsBlock c.args.class n)) (c.take.ensures.pages c.args.class ∙ ap (λ (k : ClassHeap). k.pages) (sym (at-inside c.self.inside c.args.self.now c.args.class c.self.view_is (record { low = c.requires.low; high = c.requires.high })))) c.take.ensures.block
+
+pub returns-clause-none : goal.returns-clause-none
+returns-clause-none c = λ n.
+    returns-clause-stacks c
+    ∙ popped-none c.self.inside c.args.self.now c.args.class c.self.view_is (record { low = c.requires.low; high = c.requires.high })
+    (sym (returns-clause-answer c) ∙ none-is c.take.result n)

@@ -1,0 +1,127 @@
+-- malloc, calloc and memalign (Scudo, combined.h, Allocator::allocate). Each is one equation of the
+-- world that it leaves and of the chunk that it makes; where it makes none, the world is as it was.
+use Rattle.std.specs.Prelude.{ℕ, ◌+◌, ◌-◌, ◌*◌, ◌/◌, ◌^◌, ◌==◌, ◌&&◌, ◌||◌, Bool, true, false}
+use Rattle.std.specs.Prelude.{nat_lt, nat_le, max, List, [], ◌∷◌, Option, Some, None}
+use Rattle.std.specs.Prelude.{if◌then◌else◌}
+use Rattle.std.specs.List.{range_with_len, list_any}
+use Rattle.mte_tags.specs.Memory.{pages_left}
+use Rattle.scudo_header.specs.Classes.{size_of, class_for}
+use Rattle.scudo_header.specs.declared.headers.Origin.{Origin}
+use Rattle.scudo_header.specs.declared.headers.Origin.TheVariants.{Malloc, Memalign}
+use Rattle.scudo_secondary.specs.Mappings.{place_of}
+use Rattle.scudo_secondary.specs.declared.mappings.Mapping.{Mapping}
+use Rattle.scudo_heap.specs.declared.limits.TheConstants.{MAX_REQUEST}
+use Rattle.scudo_heap.specs.declared.chunk.Place.{Place}
+use Rattle.scudo_heap.specs.declared.chunk.Chunk.{Chunk}
+use Rattle.scudo_heap.specs.declared.chunk.Chunk.TheVariants.{Small, Large}
+use Rattle.scudo_heap.specs.Stacks.{stack_of}
+use Rattle.scudo_heap.specs.Chunks.{granules_of}
+use Rattle.scudo_heap.specs.Placing.{World, more_pages, pages_for, grown, placed}
+use Rattle.scudo_heap.specs.Large.{mapping_for, large_placed}
+
+-- What an allocation leaves: the world, and the chunk that it made, if it made one.
+pub record Made : Type 0 where
+  pub world : World
+  pub chunk : Option Chunk
+
+abbrev pub made_of : World → Option Chunk → Made
+made_of w chunk = record { world = w; chunk = chunk }
+
+abbrev pub nothing : World → Made
+nothing w = record { world = w; chunk = None }
+
+-- What the caller is given: the user address with the tag in its bits 59:56, or 0.
+abbrev pub answer_of : Option Chunk → ℕ
+answer_of None = 0
+answer_of (Some (Small p tag)) = p.user + 2 ^ 56 * tag
+answer_of (Some (Large m size)) = m.user
+
+-- ---- a chunk of a size class
+
+-- After the header, at the first multiple of the alignment.
+abbrev pub place_in : ℕ → ℕ → ℕ → ℕ → Place
+place_in class block align size = record {
+  class = class;
+  block = block;
+  user = (block + 16 + (align - 1)) / align * align;
+  size = size;
+}
+
+abbrev pub is_empty : List ℕ → Bool
+is_empty [] = true
+is_empty (b ∷ more) = false
+
+-- A class without free blocks gets pages, where so many are left.
+unfoldable pub ready : World → ℕ → World
+ready w class =
+    if is_empty (stack_of w.heap.stacks class) && nat_le (more_pages class) (pages_left w.memory)
+    then grown w class
+    else w
+
+abbrev pub made_at : Place → World → Made
+made_at p w = record { world = w; chunk = Some (Small p w.rgsr.tag) }
+
+-- The top of the stack is taken; where there is none, nothing is made.
+abbrev pub taken : World → World → Origin → ℕ → ℕ → ℕ → List ℕ → Made
+taken before w origin align size class [] = nothing before
+taken before w origin align size class (b ∷ more) =
+    made_at (place_in class b align size) (placed w origin (place_in class b align size))
+
+unfoldable pub in_class : World → Origin → ℕ → ℕ → ℕ → Made
+in_class w origin align size class =
+    taken w (ready w class) origin align size class (stack_of (ready w class).heap.stacks class)
+
+-- ---- a chunk with pages of its own
+
+abbrev pub made_large : World → Origin → ℕ → Mapping → Made
+made_large w origin size m =
+    record { world = large_placed w origin m size; chunk = Some (Large m size) }
+
+-- At the least place that fits, where one does and so many pages are left.
+abbrev pub mapped_at : World → Origin → ℕ → ℕ → ℕ → Option ℕ → Made
+mapped_at w origin align size pages None = nothing w
+mapped_at w origin align size pages (Some start) =
+    if nat_le pages (pages_left w.memory)
+    then made_large w origin size (mapping_for start pages align size)
+    else nothing w
+
+unfoldable pub in_mapping : World → Origin → ℕ → ℕ → ℕ → Made
+in_mapping w origin align size pages =
+    mapped_at w origin align size pages (place_of w.heap.maps.mappings pages)
+
+-- ---- the calls
+
+-- A request for no bytes is one for one byte.
+abbrev pub asked : ℕ → ℕ
+asked size = if size == 0 then 1 else size
+
+-- The bytes that a block must have: the chunk's granules, and the alignment, in which the header
+-- finds room.
+abbrev pub need_of : ℕ → ℕ → ℕ
+need_of align size = 16 * granules_of size + align
+
+abbrev pub made_in : World → Origin → ℕ → ℕ → Option ℕ → Made
+made_in w origin align size None =
+    in_mapping w origin align size (pages_for (need_of align size))
+made_in w origin align size (Some class) = in_class w origin align size class
+
+-- The least class whose blocks hold the need, else pages of its own. The alignment is 16 at least.
+unfoldable pub allocated : World → Origin → ℕ → ℕ → Made
+allocated w origin align size =
+    if nat_le size MAX_REQUEST
+    then made_in w origin align (asked size) (class_for (need_of align (asked size)))
+    else nothing w
+
+unfoldable pub malloc_of : World → ℕ → Made
+malloc_of w size = allocated w Malloc 16 size
+
+unfoldable pub calloc_of : World → ℕ → ℕ → Made
+calloc_of w count size = allocated w Malloc 16 (count * size)
+
+-- A power of two up to the largest alignment, which is the twelfth.
+abbrev pub is_alignment : ℕ → Bool
+is_alignment n = list_any (λ k. n == 2 ^ k) (range_with_len 0 13)
+
+unfoldable pub memalign_of : World → ℕ → ℕ → Made
+memalign_of w align size =
+    if is_alignment align then allocated w Memalign (max 16 align) size else nothing w

@@ -1,0 +1,69 @@
+-- Where a chunk of a size class lies in its block, its tag, and the granules around it (Scudo,
+-- memtag.h and combined.h).
+use Rattle.std.specs.Prelude.{ℕ, ◌+◌, ◌-◌, ◌*◌, ◌/◌, ◌%◌, ◌^◌, nat_lt, true, false}
+use Rattle.std.specs.Prelude.{if◌then◌else◌}
+use Rattle.std.specs.Int.{to_le_bytes, w32, w64, trailing_zeros}
+use Rattle.std.specs.Int.RustNames.{bit_or}
+use Rattle.mte_tags.specs.Memory.{Memory, tag_at, with_granules}
+use Rattle.mte_tags.specs.Accesses.{written}
+use Rattle.scudo_header.specs.Classes.{size_of}
+use Rattle.scudo_header.specs.Headers.{packed}
+use Rattle.scudo_header.specs.declared.headers.Header.{Header}
+use Rattle.scudo_heap.specs.declared.chunk.Place.{Place}
+
+-- The granules of 16 bytes that hold so many bytes.
+abbrev pub granules_of : ℕ → ℕ
+granules_of size = (size + 15) / 16
+
+-- The address after a place's granules, and the one after its block.
+abbrev pub end_of : Place → ℕ
+end_of p = p.user + 16 * granules_of p.size
+
+abbrev pub block_end : Place → ℕ
+block_end p = p.block + size_of p.class
+
+abbrev pub with_size : Place → ℕ → Place
+with_size p size = record p { size = size }
+
+-- ---- the tag
+
+-- 0 or 1, in turn from block to block of a class.
+abbrev pub half_of : ℕ → ℕ → ℕ
+half_of class block = block / 2 ^ trailing_zeros w32 (size_of class) % 2
+
+-- The even tags for half 0, the odd ones for half 1.
+abbrev pub half_mask : ℕ → ℕ → ℕ
+half_mask class block = 0x5555 * 2 ^ half_of class block
+
+-- What a draw excludes: tag 0, the tags of one half, and the tag of the granule at the user
+-- address.
+unfoldable pub excluded : Memory → Place → ℕ
+excluded m p = bit_or (bit_or 1 (half_mask p.class p.block)) (2 ^ tag_at m p.user)
+
+-- ---- the granules
+
+-- A tag and zero bytes on the granules of the place.
+unfoldable pub tagged : Memory → Place → ℕ → Memory
+tagged m p tag = with_granules m p.user (granules_of p.size) tag true
+
+-- Tag 0 on the granule after the place, where the block goes on.
+unfoldable pub closed : Memory → Place → Memory
+closed m p = if nat_lt (end_of p) (block_end p) then with_granules m (end_of p) 1 0 false else m
+
+-- Tag 0 on the granule of the header.
+unfoldable pub opened : Memory → Place → Memory
+opened m p = with_granules m (p.user - 16) 1 0 false
+
+-- The granules that come to the place get its tag, and those that it gives up get tag 0 and keep
+-- their bytes.
+unfoldable pub refitted : Memory → Place → ℕ → Memory
+refitted m p size = if nat_lt (granules_of p.size) (granules_of size)
+    then closed
+    (with_granules m (end_of p) (granules_of size - granules_of p.size) (tag_at m p.user) true)
+    (with_size p size)
+    else with_granules m (end_of (with_size p size))
+    (granules_of p.size - granules_of size) 0 false
+
+-- The header's eight bytes, in the granule before the user address.
+unfoldable pub headed : Memory → ℕ → ℕ → Header → Memory
+headed m cookie user header = written m (user - 16) (to_le_bytes w64 (packed cookie user header))

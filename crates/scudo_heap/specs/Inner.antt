@@ -1,0 +1,68 @@
+-- What the parts of the stacks of free blocks are, and what a chunk is that the checks found.
+use Rattle.std.specs.Prelude.{◌≡◌, ℕ, ◌+◌, ◌-◌, ◌%◌, ◌^◌, ◌<◌, ◌≤◌, List, ◌∷◌, Some, false}
+use Rattle.scudo_header.specs.declared.classes.TheConstants.{CLASSES}
+use Rattle.scudo_header.specs.declared.headers.Header.{Header}
+use Rattle.scudo_primary.specs.Blocks.{IsBlock}
+use Rattle.scudo_primary.specs.Pools as primary
+use Rattle.scudo_primary.specs.Pools.{is_member}
+use Rattle.scudo_cache.specs.Caches.{one_stack, IsAbove, AreStacks}
+use Rattle.scudo_secondary.specs.Mappings.{mapping_of}
+use Rattle.scudo_secondary.specs.Mappings as secondary
+use Rattle.scudo_secondary.specs.declared.mappings.Mapping.{Mapping}
+use Rattle.address_map.specs.declared.limits.TheConstants.{PAGE_SIZE}
+use Rattle.scudo_heap.specs.declared.chunk.Place.{Place}
+use Rattle.scudo_heap.specs.declared.chunk.Found.{Found}
+use Rattle.scudo_heap.specs.declared.chunk.Found.TheVariants.{InBlock, InPages}
+use Rattle.scudo_heap.specs.Stacks.{ClassHeap, StackState, stacks_by, pages_of, stack_of}
+use Rattle.scudo_heap.specs.Heaps.{HeapState}
+use Rattle.scudo_heap.specs.Chunks.{end_of, block_end}
+use Rattle.scudo_heap.specs.declared.stacks.Stacks.TheInside.{Inside}
+
+abbrev pub class_in : Inside → ℕ → ClassHeap
+class_in f class =
+    record { pages = primary.pages_of f.pool class; stack = one_stack f.cache f.pool class }
+
+abbrev pub stacks_in : Inside → StackState
+stacks_in f = stacks_by f.pool.left (f.cache.capacity ∷ f.pool.capacities) (class_in f)
+
+pub record AreParts (f : Inside) : Type 0 where
+  pub above : IsAbove f.cache f.pool
+  pub stacks : AreStacks f.cache f.pool
+
+-- where a chunk may lie in a block of a size class
+pub record IsPlaced (s : StackState) (p : Place) : Type 0 where
+  pub low : 0 < p.class
+  pub high : p.class ≤ CLASSES
+  pub carved : IsBlock p.class (pages_of s p.class) p.block
+  pub aligned : p.user % 16 ≡ 0
+  pub above : p.block + 16 ≤ p.user
+  pub some : 0 < p.size
+  pub small : p.size < 2 ^ 20
+  pub within : end_of p ≤ block_end p
+
+pub record IsFoundBlock (s : StackState) (p : Place) (header : Header) : Type 0 where
+  pub place : IsPlaced s p
+  pub used : is_member (stack_of s p.class) p.block ≡ false
+  pub size : header.size_or_unused_bytes ≡ p.size
+
+-- a chunk that the checks found, as long as it is not freed
+abbrev pub IsFound : HeapState → Found → Type 0
+IsFound h (InBlock p header) = IsFoundBlock h.stacks p header
+IsFound h (InPages m header) = Some m ≡ mapping_of h.maps.mappings m.user
+
+-- an alignment as the calls take it: at least that of a granule, at most a page
+pub record IsAlign (align : ℕ) : Type 0 where
+  pub least : 16 ≤ align
+  pub most : align ≤ 4096
+  pub multiple : align % 16 ≡ 0
+
+-- a chunk of a size lies with its header in a mapping, of which a page at most is left
+pub record IsLarge (m : Mapping) (size : ℕ) : Type 0 where
+  pub some : 0 < m.pages
+  pub few : m.pages ≤ 4096
+  pub start : m.start < 2 ^ 32
+  pub aligned : m.start % PAGE_SIZE ≡ 0
+  pub above : m.start + 16 ≤ m.user
+  pub within : m.user + size ≤ secondary.end_of m
+  pub below : m.user < secondary.end_of m
+  pub unused : secondary.end_of m - m.user - size < 2 ^ 20

@@ -1,0 +1,11 @@
+pub mod Stacks
+pub mod Heaps
+pub mod Chunks
+pub mod Placing
+pub mod Large
+pub mod Allocation
+pub mod Checks
+pub mod Freeing
+pub mod Realloc
+pub mod Served
+pub mod Inner

@@ -1,0 +1,77 @@
+-- When a memory is one that a heap may be used with: the condition of the heap calls, which each of
+-- them keeps.
+use Rattle.std.specs.Prelude.{◌≡◌, ℕ, ◌+◌, ◌*◌, ◌/◌, ◌^◌, ◌<◌, ◌≤◌, ◌&&◌, nat_lt, nat_le, Bool}
+use Rattle.std.specs.Prelude.{Option, Some, None, if◌then◌else◌}
+use Rattle.std.specs.List.{list_any}
+use Rattle.mte_tags.specs.Memory.{Memory, attrs_at, pages_left}
+use Rattle.scudo_header.specs.Regions.{region_of}
+use Rattle.scudo_header.specs.declared.classes.TheConstants.{CLASSES}
+use Rattle.scudo_secondary.specs.Mappings as secondary
+use Rattle.scudo_secondary.specs.declared.mappings.Mapping.{Mapping}
+use Rattle.address_map.specs.declared.limits.TheConstants.{PAGE_SIZE}
+use Rattle.address_map.specs.declared.ranges.TheConstants.{REGIONS_START, REGION_SIZE}
+use Rattle.address_map.specs.declared.ranges.TheConstants.{SECONDARY_START, SECONDARY_END}
+use Rattle.scudo_secondary.specs.Mappings.{MapsState}
+use Rattle.scudo_heap.specs.Stacks.{StackState, pages_of}
+use Rattle.scudo_heap.specs.Heaps.{HeapState, heap_of}
+
+-- READ, WRITE and TAGGED where a page is the heap's, else no page.
+abbrev pub heap_page : Bool → Option ℕ
+heap_page mine = if mine then Some 11 else None
+
+-- Whether an address lies in a mapping.
+abbrev pub is_inside : ℕ → Mapping → Bool
+is_inside a m = nat_le m.start a && nat_lt a (secondary.end_of m)
+
+-- room: the heap has room for all pages that are left in the memory; it is so from the start where
+-- the memory may have at most the pages that the heap was made for
+-- few: a class's pages lie in its region
+-- none: no page of the range before the first class's region is mapped
+-- regions: of a class's region exactly its pages are mapped
+-- mappings: of the range of chunks with pages of their own exactly theirs are mapped
+pub record IsServed (m : Memory) (h : HeapState) : Type 0 where
+  pub room : pages_left m + secondary.pages_of h.maps.mappings ≤ h.stacks.left
+  pub limit : h.stacks.left ≤ h.maps.limit
+  pub few :
+      (class : ℕ) → 0 < class → class ≤ CLASSES → pages_of h.stacks class ≤ REGION_SIZE / PAGE_SIZE
+  pub none :
+      (i : ℕ) → i < REGION_SIZE / PAGE_SIZE → attrs_at m (REGIONS_START / PAGE_SIZE + i) ≡ None
+  pub regions :
+      (class i : ℕ) → 0 < class → class ≤ CLASSES → i < REGION_SIZE / PAGE_SIZE
+      → attrs_at m (region_of class / PAGE_SIZE + i) ≡ heap_page (nat_lt i (pages_of h.stacks class))
+  pub mappings :
+      (a : ℕ) → SECONDARY_START ≤ a → a < SECONDARY_END
+      → attrs_at m (a / PAGE_SIZE) ≡ heap_page (list_any (is_inside a) h.maps.mappings)
+
+-- Each page from an address up to another has READ, WRITE and TAGGED.
+pub record IsOpen (m : Memory) (from to : ℕ) : Type 0 where
+  pub pages : (a : ℕ) → from ≤ a → a < to → attrs_at m (a / PAGE_SIZE) ≡ Some 11
+  pub below : to ≤ 2 ^ 30
+
+-- what of the condition the size classes need
+pub record AreRegions (m : Memory) (s : StackState) : Type 0 where
+  pub room : pages_left m ≤ s.left
+  pub few :
+      (class : ℕ) → 0 < class → class ≤ CLASSES → pages_of s class ≤ REGION_SIZE / PAGE_SIZE
+  pub regions :
+      (class i : ℕ) → 0 < class → class ≤ CLASSES → i < REGION_SIZE / PAGE_SIZE
+      → attrs_at m (region_of class / PAGE_SIZE + i) ≡ heap_page (nat_lt i (pages_of s class))
+
+-- a change of memory and stacks keeps the condition, whatever the rest of the heap
+abbrev pub KeepsServed : Memory → StackState → Memory → StackState → Type 0
+KeepsServed m s m' s' =
+    (cookie : ℕ) (ms : MapsState) → IsServed m (heap_of cookie s ms)
+    → IsServed m' (heap_of cookie s' ms)
+
+-- what of the condition the chunks with pages of their own need
+pub record ArePlaces (m : Memory) (ms : MapsState) : Type 0 where
+  pub room : pages_left m + secondary.pages_of ms.mappings ≤ ms.limit
+  pub mappings :
+      (a : ℕ) → SECONDARY_START ≤ a → a < SECONDARY_END
+      → attrs_at m (a / PAGE_SIZE) ≡ heap_page (list_any (is_inside a) ms.mappings)
+
+-- a change of memory and mappings keeps the condition, whatever the rest of the heap
+abbrev pub KeepsMapped : Memory → MapsState → Memory → MapsState → Type 0
+KeepsMapped m ms m' ms' =
+    (cookie : ℕ) (s : StackState) → IsServed m (heap_of cookie s ms)
+    → IsServed m' (heap_of cookie s ms')

@@ -1,0 +1,97 @@
+-- The size classes of a heap: for each the pages of its region and ONE stack of free blocks.
+--     class_at s class              what a class has
+--     popped s class                s without the top block of a class's stack
+--     pushed s class block          s with a block more on top
+--     carved s class pages          s with pages more for a class, and the new blocks on top, the
+--                                   lowest first
+use Rattle.std.specs.Prelude.{ℕ, ◌+◌, ◌-◌, List, [], ◌∷◌, ◌++◌, drop, map, refl, unwrap_or}
+use Rattle.std.specs.List.{range_with_len}
+use Rattle.std.specs.Ordering.{nat_cmp}
+use Rattle.std.specs.FinMap as finite
+use Rattle.std.specs.FinMap.{FinMap}
+use Rattle.std.specs.Coded.{Coded, code_by, coded×, coded_ℕ, coded_list}
+use Rattle.scudo_header.specs.declared.classes.TheConstants.{CLASSES}
+use Rattle.scudo_primary.specs.Blocks.{carved_count, blocks_from}
+
+-- pages: the pages of the class's region that are mapped; the blocks that lie whole in them are
+-- carved
+-- stack: the free blocks, the top first
+pub record ClassHeap : Type 0 where
+  pub pages : ℕ
+  pub stack : List ℕ
+
+-- left: how many pages more the classes may get
+-- capacities: for how many elements each of the heap's lists has memory
+pub record StackState : Type 0 where
+  pub left : ℕ
+  pub capacities : List ℕ
+  pub classes : FinMap nat_cmp ClassHeap
+
+abbrev pub coded_class : Coded ClassHeap
+coded_class =
+    code_by (ℕ × List ℕ) (coded× coded_ℕ (coded_list coded_ℕ))
+    (λ k. (k.pages, k.stack))
+    (λ c. record { pages = c.0; stack = c.1 })
+    (λ _. refl)
+
+abbrev pub coded_stacks : Coded StackState
+coded_stacks =
+    code_by (ℕ × (List ℕ × FinMap nat_cmp ClassHeap))
+    (coded× coded_ℕ (coded× (coded_list coded_ℕ) (finite.code coded_ℕ coded_class)))
+    (λ s. (s.left, (s.capacities, s.classes)))
+    (λ c. record { left = c.0; capacities = c.1.0; classes = c.1.1 })
+    (λ _. refl)
+
+abbrev pub empty_class : ClassHeap
+empty_class = record { pages = 0; stack = [] }
+
+-- the classes, by what each has
+abbrev pub stacks_by : ℕ → List ℕ → (ℕ → ClassHeap) → StackState
+stacks_by left capacities f = record {
+  left = left;
+  capacities = capacities;
+  classes = finite.from_entries (map (λ class. (class, f class)) (range_with_len 1 CLASSES));
+}
+
+-- No blocks, and no pages.
+unfoldable pub empty_stacks : ℕ → List ℕ → StackState
+empty_stacks left capacities = stacks_by left capacities (λ _. empty_class)
+
+unfoldable pub class_at : StackState → ℕ → ClassHeap
+class_at s class = unwrap_or (finite.get s.classes class) empty_class
+
+abbrev pub pages_of : StackState → ℕ → ℕ
+pages_of s class = (class_at s class).pages
+
+abbrev pub stack_of : StackState → ℕ → List ℕ
+stack_of s class = (class_at s class).stack
+
+unfoldable pub with_class : StackState → ℕ → ClassHeap → StackState
+with_class s class k = record s { classes = finite.insert s.classes class k }
+
+abbrev pub with_stack : StackState → ℕ → List ℕ → StackState
+with_stack s class stack = with_class s class (record { pages = pages_of s class; stack = stack })
+
+unfoldable pub popped : StackState → ℕ → StackState
+popped s class = with_stack s class (drop 1 (stack_of s class))
+
+unfoldable pub pushed : StackState → ℕ → ℕ → StackState
+pushed s class block = with_stack s class (block ∷ stack_of s class)
+
+-- The blocks that become whole with so many more pages, in ascending order.
+abbrev pub new_blocks : ℕ → ℕ → ℕ → List ℕ
+new_blocks class before more =
+    blocks_from class (carved_count class before)
+    (carved_count class (before + more) - carved_count class before)
+
+abbrev pub carved_class : ℕ → ClassHeap → ℕ → ClassHeap
+carved_class class k more = record {
+  pages = k.pages + more;
+  stack = new_blocks class k.pages more ++ k.stack;
+}
+
+unfoldable pub carved : StackState → ℕ → ℕ → StackState
+carved s class more =
+    record (with_class s class (carved_class class (class_at s class) more)) {
+      left = s.left - more;
+    }

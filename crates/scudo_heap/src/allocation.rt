@@ -1,0 +1,97 @@
+//! Allocation (Scudo, `combined.h`, `Allocator::allocate`).
+
+ghost use Rattle.std.specs.Prelude.{◌≡◌, ◌+◌, ◌*◌, ◌<◌, ◌≤◌, ◌^◌, IfSome};
+ghost use Rattle.scudo_header.specs.Classes.{class_for};
+ghost use Rattle.scudo_heap.specs.Chunks.{granules_of};
+ghost use Rattle.scudo_heap.specs.Heaps.{heap_of};
+ghost use Rattle.scudo_heap.specs.Placing.{world_of, pages_for};
+ghost use Rattle.scudo_heap.specs.Allocation.{made_of, made_in, need_of, asked, allocated};
+ghost use Rattle.scudo_heap.specs.Allocation.{is_alignment};
+ghost use Rattle.scudo_heap.specs.Served.{IsServed};
+ghost use Rattle.scudo_heap.specs.Inner.{IsAlign};
+
+use crate::chunk::Chunk;
+use crate::classes::take_block;
+use crate::limits::MAX_REQUEST;
+use crate::pages::take_pages;
+use crate::stacks::Stacks;
+use crate::tagging::granules;
+use address_map::PAGE_SIZE;
+use mte_tags::{Paged, Rgsr};
+use scudo_header::{Origin, class_of};
+use scudo_secondary::Maps;
+
+/// Whether an alignment is a power of two up to `MAX_ALIGNMENT`.
+pub(crate) fn is_power(alignment: u64) -> bool
+    ensures { result ≡ is_alignment alignment }
+{
+    matches!(
+        alignment,
+        1 | 2 | 4 | 8 | 16 | 32 | 64 | 128 | 256 | 512 | 1024 | 2048 | 4096
+    )
+}
+
+/// A chunk of some bytes: in a block of the least class that holds them, else with pages of its
+/// own.
+fn make_some<M: Paged>(
+    cookie: u32,
+    stacks: &mut Stacks,
+    maps: &mut Maps,
+    rgsr: &mut Rgsr,
+    memory: &mut M,
+    origin: Origin,
+    align: u64,
+    size: u64,
+) -> Option<Chunk>
+    requires drawn { rgsr.old.tag < 16 }
+    requires align { IsAlign align }
+    requires some { 0 < size }
+    requires most { size ≤ MAX_REQUEST }
+    requires served { IsServed (M.memory memory.old) (heap_of cookie stacks.old maps.old) }
+    ensures made { made_of
+        (world_of (M.memory memory.new) (heap_of cookie stacks.new maps.new) rgsr.new) result
+        ≡ made_in (world_of (M.memory memory.old) (heap_of cookie stacks.old maps.old) rgsr.old)
+        origin align size (class_for (need_of align size)) }
+    ensures tag { rgsr.new.tag < 16 }
+    ensures served { IsServed (M.memory memory.new) (heap_of cookie stacks.new maps.new) }
+    ensures kept { M.kept memory.old memory.new }
+{
+    let need = 16 * granules(size) + align;
+    match class_of(need) {
+        Some(class) => take_block(cookie, stacks, rgsr, memory, origin, align, size, class),
+        None => {
+            let pages = (need + (PAGE_SIZE - 1)) / PAGE_SIZE;
+            take_pages(cookie, maps, memory, origin, align, size, pages)
+        }
+    }
+}
+
+/// A chunk of so many bytes, or of one where none is requested.
+#[tactic(auto, unfolding(crate::specs::Allocation::allocated))]
+pub(crate) fn allocate<M: Paged>(
+    cookie: u32,
+    stacks: &mut Stacks,
+    maps: &mut Maps,
+    rgsr: &mut Rgsr,
+    memory: &mut M,
+    origin: Origin,
+    align: u64,
+    size: u64,
+) -> Option<Chunk>
+    requires drawn { rgsr.old.tag < 16 }
+    requires align { IsAlign align }
+    requires served { IsServed (M.memory memory.old) (heap_of cookie stacks.old maps.old) }
+    ensures made { made_of
+        (world_of (M.memory memory.new) (heap_of cookie stacks.new maps.new) rgsr.new) result
+        ≡ allocated (world_of (M.memory memory.old) (heap_of cookie stacks.old maps.old) rgsr.old)
+        origin align size }
+    ensures tag { rgsr.new.tag < 16 }
+    ensures served { IsServed (M.memory memory.new) (heap_of cookie stacks.new maps.new) }
+    ensures kept { M.kept memory.old memory.new }
+{
+    if size > MAX_REQUEST {
+        return None;
+    }
+    let some = if size == 0 { 1 } else { size };
+    make_some(cookie, stacks, maps, rgsr, memory, origin, align, some)
+}

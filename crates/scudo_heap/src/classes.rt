@@ -1,0 +1,147 @@
+//! Allocation in the size classes.
+
+ghost use Rattle.std.specs.Prelude.{◌≡◌, ◌≢◌, ◌+◌, ◌<◌, ◌≤◌, ◌^◌, [], nat_le, IsNone, IsTrue};
+ghost use Rattle.std.specs.Prelude.{if◌then◌else◌};
+ghost use Rattle.mte_tags.specs.Memory.{pages_left, with_new_pages};
+ghost use Rattle.scudo_header.specs.Classes.{size_of};
+ghost use Rattle.scudo_header.specs.Regions.{region_of};
+ghost use Rattle.scudo_secondary.specs.Mappings.{MapsState};
+ghost use Rattle.scudo_heap.specs.Stacks.{stack_of, carved};
+ghost use Rattle.scudo_heap.specs.Heaps.{heap_of};
+ghost use Rattle.scudo_heap.specs.Placing.{world_of, more_pages, next_page, heap_attrs};
+ghost use Rattle.scudo_heap.specs.Allocation.{made_of, place_in, taken, need_of, in_class};
+ghost use Rattle.scudo_heap.specs.Served.{AreRegions, KeepsServed};
+ghost use Rattle.scudo_heap.specs.Inner.{IsAlign};
+
+use crate::chunk::{Chunk, Place};
+use crate::placing::make_chunk;
+use crate::stacks::Stacks;
+use address_map::{PAGE_SIZE, REGION_SIZE, REGIONS_START};
+use mte_tags::{Attrs, Paged, Rgsr, Tagged};
+use scudo_header::{CLASSES, Origin, size_of_class};
+
+/// Where a chunk lies in a block: after the header, at the first multiple of the alignment.
+fn place(class: u8, block: u64, align: u64, size: u64) -> Place
+    requires block { block < 2 ^ 32 }
+    requires align { IsAlign align }
+    ensures { result ≡ place_in class block align size }
+{
+    Place {
+        class,
+        block,
+        user: (block + 16 + (align - 1)) / align * align,
+        size,
+    }
+}
+
+/// Makes a chunk in the top of a class's stack, where there is one.
+fn take_top<M: Paged>(
+    cookie: u32,
+    stacks: &mut Stacks,
+    rgsr: &mut Rgsr,
+    memory: &mut M,
+    origin: Origin,
+    align: u64,
+    size: u64,
+    class: u8,
+) -> Option<Chunk>
+    requires low { 0 < class }
+    requires high { class ≤ CLASSES }
+    requires drawn { rgsr.old.tag < 16 }
+    requires align { IsAlign align }
+    requires some { 0 < size }
+    requires small { size < 2 ^ 20 }
+    requires fits { need_of align size ≤ size_of class }
+    requires regions { AreRegions (M.memory memory.old) stacks.old }
+    ensures made { (ms : MapsState)
+        → made_of (world_of (M.memory memory.new) (heap_of cookie stacks.new ms) rgsr.new) result
+        ≡ taken (world_of (M.memory memory.old) (heap_of cookie stacks.old ms) rgsr.old)
+        (world_of (M.memory memory.old) (heap_of cookie stacks.old ms) rgsr.old)
+        origin align size class (stack_of stacks.old class) }
+    ensures empty { IsNone result → stack_of stacks.old class ≡ [] }
+    ensures stacks { IsNone result → stacks.new ≡ stacks.old }
+    ensures memory { IsNone result → M.memory memory.new ≡ M.memory memory.old }
+    ensures rgsr { IsNone result → rgsr.new ≡ rgsr.old }
+    ensures tag { rgsr.new.tag < 16 }
+    ensures served { KeepsServed (M.memory memory.old) stacks.old (M.memory memory.new)
+        stacks.new }
+    ensures kept { M.kept memory.old memory.new }
+{
+    match stacks.take(class) {
+        None => None,
+        Some(block) => {
+            let place = place(class, block, align, size);
+            let tag = make_chunk(cookie, rgsr, memory, origin, place);
+            Some(Chunk::Small(place, tag))
+        }
+    }
+}
+
+/// Gives a class without free blocks pages, where so many are left.
+fn grow<M: Paged>(stacks: &mut Stacks, memory: &mut M, class: u8) -> bool
+    requires low { 0 < class }
+    requires high { class ≤ CLASSES }
+    requires empty { stack_of stacks.old class ≡ [] }
+    requires regions { AreRegions (M.memory memory.old) stacks.old }
+    ensures answer { result ≡ nat_le (more_pages class) (pages_left (M.memory memory.old)) }
+    ensures memory { M.memory memory.new
+        ≡ (if result
+        then with_new_pages (M.memory memory.old) (next_page stacks.old class) (more_pages class)
+        heap_attrs
+        else M.memory memory.old) }
+    ensures stacks { stacks.new
+        ≡ (if result then carved stacks.old class (more_pages class) else stacks.old) }
+    ensures some { IsTrue result → stack_of stacks.new class ≢ [] }
+    ensures regions { AreRegions (M.memory memory.new) stacks.new }
+    ensures served { KeepsServed (M.memory memory.old) stacks.old (M.memory memory.new)
+        stacks.new }
+    ensures kept { M.kept memory.old memory.new }
+{
+    let pages = (size_of_class(class) + (PAGE_SIZE - 1)) / PAGE_SIZE;
+    if pages > memory.pages_left() as u64 {
+        return false;
+    }
+    let region = (REGIONS_START + u64::from(class) * REGION_SIZE) / PAGE_SIZE;
+    let first = region + stacks.pages(class);
+    // So many pages are left.
+    let _ = memory.map_pages(first, pages as usize, Attrs::DATA);
+    stacks.carve(class, pages);
+    true
+}
+
+/// A chunk in a block of a class, where there is a block or pages for one.
+pub(crate) fn take_block<M: Paged>(
+    cookie: u32,
+    stacks: &mut Stacks,
+    rgsr: &mut Rgsr,
+    memory: &mut M,
+    origin: Origin,
+    align: u64,
+    size: u64,
+    class: u8,
+) -> Option<Chunk>
+    requires low { 0 < class }
+    requires high { class ≤ CLASSES }
+    requires drawn { rgsr.old.tag < 16 }
+    requires align { IsAlign align }
+    requires some { 0 < size }
+    requires small { size < 2 ^ 20 }
+    requires fits { need_of align size ≤ size_of class }
+    requires regions { AreRegions (M.memory memory.old) stacks.old }
+    ensures made { (ms : MapsState)
+        → made_of (world_of (M.memory memory.new) (heap_of cookie stacks.new ms) rgsr.new) result
+        ≡ in_class (world_of (M.memory memory.old) (heap_of cookie stacks.old ms) rgsr.old)
+        origin align size class }
+    ensures tag { rgsr.new.tag < 16 }
+    ensures served { KeepsServed (M.memory memory.old) stacks.old (M.memory memory.new)
+        stacks.new }
+    ensures kept { M.kept memory.old memory.new }
+{
+    if let Some(chunk) = take_top(cookie, stacks, rgsr, memory, origin, align, size, class) {
+        return Some(chunk);
+    }
+    if !grow(stacks, memory, class) {
+        return None;
+    }
+    take_top(cookie, stacks, rgsr, memory, origin, align, size, class)
+}

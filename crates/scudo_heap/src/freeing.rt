@@ -1,0 +1,99 @@
+//! What is left after a chunk is freed.
+
+ghost use Rattle.std.specs.Prelude.{◌≡◌, ◌<◌, ◌/◌, ℕ, Some};
+ghost use Rattle.mte_tags.specs.Memory.{attrs_at, pages_left, without_pages};
+ghost use Rattle.mte_tags.specs.RandomTags.{drawn};
+ghost use Rattle.scudo_header.specs.declared.headers.State.TheVariants.{Available};
+ghost use Rattle.scudo_secondary.specs.Mappings as secondary;
+ghost use Rattle.scudo_heap.specs.Stacks.{pushed};
+ghost use Rattle.scudo_heap.specs.Heaps.{heap_of, with_less};
+ghost use Rattle.scudo_heap.specs.Chunks.{block_end, excluded, tagged, headed};
+ghost use Rattle.scudo_heap.specs.Placing.{world_of};
+ghost use Rattle.scudo_heap.specs.Freeing.{without_chunk};
+ghost use Rattle.scudo_heap.specs.Served.{IsServed, IsOpen};
+ghost use Rattle.scudo_heap.specs.Inner.{IsFoundBlock, IsFound};
+
+use crate::chunk::{Found, Place};
+use crate::granules::put_header;
+use crate::stacks::Stacks;
+use crate::tagging::draw_tag;
+use address_map::PAGE_SIZE;
+use mte_tags::{Paged, Rgsr, Tagged};
+use scudo_header::{Header, State};
+use scudo_secondary::{Mapping, Maps};
+
+/// Gives the granules of a chunk another tag, marks its header, and puts its block back.
+fn free_block<M: Paged>(
+    cookie: u32,
+    stacks: &mut Stacks,
+    rgsr: &mut Rgsr,
+    memory: &mut M,
+    place: Place,
+    header: &Header,
+)
+    requires drawn { rgsr.old.tag < 16 }
+    requires found { IsFoundBlock stacks.old place header.now }
+    requires open { IsOpen (M.memory memory.old) place.block (block_end place) }
+    ensures memory { M.memory memory.new
+        ≡ headed
+        (tagged (M.memory memory.old) place
+        (drawn rgsr.old (excluded (M.memory memory.old) place)).tag)
+        cookie place.user (record header.now { state = Available }) }
+    ensures stacks { stacks.new ≡ pushed stacks.old place.class place.block }
+    ensures rgsr { rgsr.new ≡ (drawn rgsr.old (excluded (M.memory memory.old) place)).rgsr }
+    ensures tag { rgsr.new.tag < 16 }
+    ensures attrs { (q : ℕ)
+        → attrs_at (M.memory memory.new) q ≡ attrs_at (M.memory memory.old) q }
+    ensures left { pages_left (M.memory memory.new) ≡ pages_left (M.memory memory.old) }
+    ensures kept { M.kept memory.old memory.new }
+{
+    draw_tag(rgsr, memory, place);
+    let mut freed = *header;
+    freed.state = State::Available;
+    put_header(memory, cookie, place.user, &freed);
+    stacks.put(place.class, place.block);
+}
+
+/// Takes the mapping of a chunk away, and unmaps its pages.
+fn free_pages<M: Paged>(maps: &mut Maps, memory: &mut M, mapping: Mapping)
+    requires there { Some mapping ≡ secondary.mapping_of maps.old.mappings mapping.user }
+    requires open { secondary.AreMappings maps.old.mappings
+        → IsOpen (M.memory memory.old) mapping.start (secondary.end_of mapping) }
+    ensures memory { M.memory memory.new
+        ≡ without_pages (M.memory memory.old) (mapping.start / PAGE_SIZE) mapping.pages }
+    ensures maps { maps.new ≡ with_less maps.old mapping }
+    ensures mappings { secondary.AreMappings maps.old.mappings }
+    ensures kept { M.kept memory.old memory.new }
+{
+    maps.remove(mapping.user);
+    memory.unmap_pages(mapping.start / PAGE_SIZE, mapping.pages as usize);
+}
+
+/// Frees a chunk that the checks found.
+#[tactic(auto, unfolding(crate::specs::Freeing::without_chunk))]
+pub(crate) fn free_found<M: Paged>(
+    cookie: u32,
+    stacks: &mut Stacks,
+    maps: &mut Maps,
+    rgsr: &mut Rgsr,
+    memory: &mut M,
+    found: Found,
+)
+    requires drawn { rgsr.old.tag < 16 }
+    requires served { IsServed (M.memory memory.old) (heap_of cookie stacks.old maps.old) }
+    requires found { IsFound (heap_of cookie stacks.old maps.old) found }
+    ensures world { world_of (M.memory memory.new) (heap_of cookie stacks.new maps.new) rgsr.new
+        ≡ without_chunk
+        (world_of (M.memory memory.old) (heap_of cookie stacks.old maps.old) rgsr.old)
+        found }
+    ensures served { IsServed (M.memory memory.new) (heap_of cookie stacks.new maps.new) }
+    ensures tag { rgsr.new.tag < 16 }
+    ensures kept { M.kept memory.old memory.new }
+{
+    match found {
+        Found::InBlock(place, header) => {
+            free_block(cookie, stacks, rgsr, memory, place, &header);
+        }
+        Found::InPages(mapping, _) => free_pages(maps, memory, mapping),
+    }
+}

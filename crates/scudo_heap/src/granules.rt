@@ -1,0 +1,76 @@
+//! What the heap does to its pages of the tenant's memory. No access of the heap's own compares
+//! tags, so none sets the flag of the asynchronous mode.
+
+ghost use Rattle.std.specs.Prelude.{◌≡◌, ◌+◌, ◌-◌, ◌*◌, ◌/◌, ◌%◌, ◌^◌, ◌<◌, ◌≤◌, ℕ, true, IfSome};
+ghost use Rattle.mte_tags.specs.Memory.{attrs_at, pages_left, page_has, tag_at, with_granules};
+ghost use Rattle.scudo_heap.specs.Chunks.{headed};
+ghost use Rattle.scudo_heap.specs.Checks.{header_at};
+ghost use Rattle.scudo_heap.specs.Served.{IsOpen};
+
+use mte_tags::{Paged, Tagged};
+use scudo_header::{Header, pack, unpack};
+
+/// Gives granules of the heap's pages a tag, and makes their bytes zero where `zero` is set.
+pub(crate) fn set_tags<M: Paged>(memory: &mut M, addr: u64, granules: u64, tag: u8, zero: bool)
+    requires aligned { addr % 16 ≡ 0 }
+    requires tag { tag < 16 }
+    requires open { IsOpen (M.memory memory.old) addr (addr + 16 * granules) }
+    ensures memory { M.memory memory.new
+        ≡ with_granules (M.memory memory.old) addr granules tag zero }
+    ensures attrs { (q : ℕ)
+        → attrs_at (M.memory memory.new) q ≡ attrs_at (M.memory memory.old) q }
+    ensures left { pages_left (M.memory memory.new) ≡ pages_left (M.memory memory.old) }
+    ensures kept { M.kept memory.old memory.new }
+{
+    // The heap's pages lack nothing that it requires.
+    let _ = memory.store_tags(addr, granules, tag, zero);
+}
+
+/// The tag of a granule of the heap's pages.
+pub(crate) fn tag_there<M: Paged>(memory: &mut M, addr: u64) -> u8
+    requires open { IsOpen (M.memory memory.old) addr (addr + 1) }
+    ensures tag { result ≡ tag_at (M.memory memory.old) addr }
+    ensures small { result < 16 }
+    ensures memory { M.memory memory.new ≡ M.memory memory.old }
+    ensures kept { M.kept memory.old memory.new }
+{
+    match memory.load_tag(addr) {
+        Ok(tag) => tag,
+        // The heap's pages lack nothing that it requires.
+        Err(_) => 0,
+    }
+}
+
+/// Writes the header of a chunk.
+#[tactic(auto, unfolding(crate::specs::Chunks::headed))]
+pub(crate) fn put_header<M: Paged>(memory: &mut M, cookie: u32, user: u64, header: &Header)
+    requires fields { header.now.size_or_unused_bytes < 2 ^ 20 }
+    requires above { 16 ≤ user }
+    requires open { IsOpen (M.memory memory.old) (user - 16) user }
+    ensures memory { M.memory memory.new
+        ≡ headed (M.memory memory.old) cookie user header.now }
+    ensures attrs { (q : ℕ)
+        → attrs_at (M.memory memory.new) q ≡ attrs_at (M.memory memory.old) q }
+    ensures left { pages_left (M.memory memory.new) ≡ pages_left (M.memory memory.old) }
+    ensures kept { M.kept memory.old memory.new }
+{
+    let word = pack(cookie, user, header);
+    memory.load_bytes(user - 16, &word.to_le_bytes());
+}
+
+/// The header of the chunk at a user address, if its checksum is right.
+pub(crate) fn read_header<M: Paged>(memory: &mut M, cookie: u32, user: u64) -> Option<Header>
+    requires aligned { user % 16 ≡ 0 }
+    requires above { 16 ≤ user }
+    requires plain { user < 2 ^ 56 }
+    requires mapped { page_has (M.memory memory.old) ((user - 16) / 4096) 3 ≡ true }
+    ensures header { result ≡ header_at (M.memory memory.old) cookie user }
+    ensures small { IfSome result (λ header. header.size_or_unused_bytes < 2 ^ 20) }
+    ensures memory { M.memory memory.new ≡ M.memory memory.old }
+    ensures kept { M.kept memory.old memory.new }
+{
+    let mut bytes = [0; 8];
+    // The page can be read.
+    let _ = memory.read(user - 16, &mut bytes, false);
+    unpack(cookie, user, u64::from_le_bytes(bytes))
+}

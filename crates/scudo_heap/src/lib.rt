@@ -1,0 +1,21 @@
+//! The calls of a tenant's heap over its tagged memory (Scudo, `combined.h`), with a tag for each
+//! chunk of a size class.
+#![tactic(auto)]
+
+mod abort;
+mod allocation;
+mod checks;
+mod chunk;
+mod classes;
+mod freeing;
+mod granules;
+mod heap;
+mod limits;
+mod pages;
+mod placing;
+mod stacks;
+mod tagging;
+
+pub use abort::HeapAbort;
+pub use heap::Heap;
+pub use limits::{MAX_ALIGNMENT, MAX_REQUEST};

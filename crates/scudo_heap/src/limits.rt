@@ -1,0 +1,7 @@
+//! What may be requested of a heap.
+
+/// The most bytes of a request.
+pub const MAX_REQUEST: u64 = 1_048_576;
+
+/// The largest alignment of a request.
+pub const MAX_ALIGNMENT: u64 = 4096;

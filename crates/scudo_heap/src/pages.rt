@@ -1,0 +1,107 @@
+//! Allocation with pages of their own.
+
+ghost use Rattle.std.specs.Prelude.{◌≡◌, ◌+◌, ◌-◌, ◌*◌, ◌/◌, ◌<◌, ◌≤◌, ◌^◌, ◌%◌, ℕ, IsTrue, Some};
+ghost use Rattle.mte_tags.specs.Memory.{pages_left, with_new_pages};
+ghost use Rattle.mte_tags.specs.declared.generator.Rgsr.{Rgsr};
+ghost use Rattle.scudo_secondary.specs.Mappings as secondary;
+ghost use Rattle.scudo_heap.specs.Stacks.{StackState};
+ghost use Rattle.scudo_heap.specs.Heaps.{heap_of, with_more};
+ghost use Rattle.scudo_heap.specs.Chunks.{headed};
+ghost use Rattle.scudo_heap.specs.Placing.{world_of, heap_attrs};
+ghost use Rattle.scudo_heap.specs.Large.{mapping_for, large_header};
+ghost use Rattle.scudo_heap.specs.Allocation.{made_of, need_of, in_mapping};
+ghost use Rattle.scudo_heap.specs.Served.{ArePlaces, KeepsMapped};
+ghost use Rattle.scudo_heap.specs.Inner.{IsAlign, IsLarge};
+
+use crate::chunk::Chunk;
+use crate::granules::put_header;
+use address_map::PAGE_SIZE;
+use mte_tags::{Attrs, Paged, Tagged};
+use scudo_header::{Header, Origin, State};
+use scudo_secondary::{Mapping, Maps};
+
+/// The mapping of a chunk at so many pages from an address on: it ends as near to their end as its
+/// alignment allows.
+fn mapping_at(start: u64, pages: u64, align: u64, size: u64) -> Mapping
+    requires start { start < 2 ^ 32 }
+    requires pages { pages ≤ 4096 }
+    requires align { IsAlign align }
+    requires size { size ≤ start }
+    ensures { result ≡ mapping_for start pages align size }
+{
+    Mapping {
+        start,
+        pages,
+        user: (start + PAGE_SIZE * pages - size) / align * align,
+    }
+}
+
+/// Maps the pages of a chunk and writes its header.
+fn map_chunk<M: Paged>(
+    cookie: u32,
+    maps: &mut Maps,
+    memory: &mut M,
+    origin: Origin,
+    mapping: Mapping,
+    size: u64,
+)
+    requires places { ArePlaces (M.memory memory.old) maps.old }
+    requires place { IsTrue
+        (secondary.is_place maps.old.mappings mapping.pages mapping.start) }
+    requires left { mapping.pages ≤ pages_left (M.memory memory.old) }
+    requires large { IsLarge mapping size }
+    ensures memory { M.memory memory.new
+        ≡ headed
+        (with_new_pages (M.memory memory.old) (mapping.start / PAGE_SIZE) mapping.pages heap_attrs)
+        cookie mapping.user (large_header origin mapping size) }
+    ensures maps { maps.new ≡ with_more maps.old mapping }
+    ensures served { KeepsMapped (M.memory memory.old) maps.old (M.memory memory.new) maps.new }
+    ensures kept { M.kept memory.old memory.new }
+{
+    // So many pages are left.
+    let _ = memory.map_pages(mapping.start / PAGE_SIZE, mapping.pages as usize, Attrs::DATA);
+    let end = mapping.start + PAGE_SIZE * mapping.pages;
+    let header = Header {
+        class_id: 0,
+        state: State::Allocated,
+        origin,
+        size_or_unused_bytes: (end - mapping.user - size) as u32,
+        offset: 0,
+    };
+    put_header(memory, cookie, mapping.user, &header);
+    maps.add(mapping.start, mapping.pages, mapping.user);
+}
+
+/// A chunk with pages of its own, where they fit and so many are left.
+pub(crate) fn take_pages<M: Paged>(
+    cookie: u32,
+    maps: &mut Maps,
+    memory: &mut M,
+    origin: Origin,
+    align: u64,
+    size: u64,
+    pages: u64,
+) -> Option<Chunk>
+    requires places { ArePlaces (M.memory memory.old) maps.old }
+    requires align { IsAlign align }
+    requires some { 0 < size }
+    requires small { size ≤ 2 ^ 20 }
+    requires pages { pages ≤ 4096 }
+    requires fits { need_of align size ≤ PAGE_SIZE * pages }
+    ensures made { (s : StackState) (r : Rgsr)
+        → made_of (world_of (M.memory memory.new) (heap_of cookie s maps.new) r) result
+        ≡ in_mapping (world_of (M.memory memory.old) (heap_of cookie s maps.old) r)
+        origin align size pages }
+    ensures served { KeepsMapped (M.memory memory.old) maps.old (M.memory memory.new) maps.new }
+    ensures kept { M.kept memory.old memory.new }
+{
+    let Some(start) = maps.place(pages) else {
+        return None;
+    };
+    if pages > memory.pages_left() as u64 {
+        return None;
+    }
+    let mapping = mapping_at(start, pages, align, size);
+    map_chunk(cookie, maps, memory, origin, mapping, size);
+    Some(Chunk::Large(mapping, size))
+}

@@ -1,0 +1,102 @@
+//! A chunk is made in a block of a size class.
+
+ghost use Rattle.std.specs.Prelude.{◌≡◌, ◌+◌, ◌-◌, ◌*◌, ◌/◌, ◌%◌, ◌^◌, ◌<◌, ◌≤◌, ℕ};
+ghost use Rattle.mte_tags.specs.Memory.{attrs_at, pages_left};
+ghost use Rattle.mte_tags.specs.RandomTags.{drawn};
+ghost use Rattle.scudo_heap.specs.Chunks.{end_of, block_end, excluded, tagged, closed, opened};
+ghost use Rattle.scudo_heap.specs.Chunks.{headed};
+ghost use Rattle.scudo_heap.specs.Placing.{new_header};
+ghost use Rattle.scudo_heap.specs.Served.{IsOpen};
+
+use crate::chunk::Place;
+use crate::granules::{put_header, set_tags};
+use crate::tagging::{draw_tag, granules};
+use mte_tags::{Paged, Rgsr, Tagged};
+use scudo_header::{CLASSES, Header, Origin, State, size_of_class};
+
+/// Tag 0 on the granule after a chunk, where its block goes on.
+#[tactic(auto, unfolding(crate::specs::Chunks::closed))]
+pub(crate) fn close<M: Paged>(memory: &mut M, place: Place)
+    requires low { 0 < place.class }
+    requires high { place.class ≤ CLASSES }
+    requires user { place.user < 2 ^ 32 }
+    requires block { place.block < 2 ^ 32 }
+    requires small { place.size < 2 ^ 20 }
+    requires aligned { place.user % 16 ≡ 0 }
+    requires whole { block_end place % 16 ≡ 0 }
+    requires open { IsOpen (M.memory memory.old) place.user (block_end place) }
+    ensures memory { M.memory memory.new ≡ closed (M.memory memory.old) place }
+    ensures attrs { (q : ℕ)
+        → attrs_at (M.memory memory.new) q ≡ attrs_at (M.memory memory.old) q }
+    ensures left { pages_left (M.memory memory.new) ≡ pages_left (M.memory memory.old) }
+    ensures kept { M.kept memory.old memory.new }
+{
+    let end = place.user + 16 * granules(place.size);
+    if end < place.block + size_of_class(place.class) {
+        set_tags(memory, end, 1, 0, false);
+    }
+}
+
+/// Tag 0 on the granule of a chunk's header.
+#[tactic(auto, unfolding(crate::specs::Chunks::opened))]
+fn open<M: Paged>(memory: &mut M, place: Place)
+    requires above { 16 ≤ place.user }
+    requires aligned { place.user % 16 ≡ 0 }
+    requires open { IsOpen (M.memory memory.old) (place.user - 16) place.user }
+    ensures memory { M.memory memory.new ≡ opened (M.memory memory.old) place }
+    ensures attrs { (q : ℕ)
+        → attrs_at (M.memory memory.new) q ≡ attrs_at (M.memory memory.old) q }
+    ensures left { pages_left (M.memory memory.new) ≡ pages_left (M.memory memory.old) }
+    ensures kept { M.kept memory.old memory.new }
+{
+    set_tags(memory, place.user - 16, 1, 0, false);
+}
+
+/// Makes a chunk in its block, and returns its tag.
+pub(crate) fn make_chunk<M: Paged>(
+    cookie: u32,
+    rgsr: &mut Rgsr,
+    memory: &mut M,
+    origin: Origin,
+    place: Place,
+) -> u8
+    requires low { 0 < place.class }
+    requires high { place.class ≤ CLASSES }
+    requires drawn { rgsr.old.tag < 16 }
+    requires aligned { place.user % 16 ≡ 0 }
+    requires whole { block_end place % 16 ≡ 0 }
+    requires above { place.block + 16 ≤ place.user }
+    requires near { place.user < place.block + 2 ^ 20 }
+    requires some { 0 < place.size }
+    requires small { place.size < 2 ^ 20 }
+    requires within { end_of place ≤ block_end place }
+    requires open { IsOpen (M.memory memory.old) place.block (block_end place) }
+    ensures tag { result
+        ≡ (drawn rgsr.old (excluded (M.memory memory.old) place)).rgsr.tag }
+    ensures rgsr { rgsr.new ≡ (drawn rgsr.old (excluded (M.memory memory.old) place)).rgsr }
+    ensures below { rgsr.new.tag < 16 }
+    ensures memory { M.memory memory.new
+        ≡ headed
+        (closed
+        (opened
+        (tagged (M.memory memory.old) place
+        (drawn rgsr.old (excluded (M.memory memory.old) place)).tag) place) place)
+        cookie place.user (new_header origin place) }
+    ensures attrs { (q : ℕ)
+        → attrs_at (M.memory memory.new) q ≡ attrs_at (M.memory memory.old) q }
+    ensures left { pages_left (M.memory memory.new) ≡ pages_left (M.memory memory.old) }
+    ensures kept { M.kept memory.old memory.new }
+{
+    let tag = draw_tag(rgsr, memory, place);
+    open(memory, place);
+    close(memory, place);
+    let header = Header {
+        class_id: place.class,
+        state: State::Allocated,
+        origin,
+        size_or_unused_bytes: place.size as u32,
+        offset: ((place.user - place.block - 16) / 16) as u16,
+    };
+    put_header(memory, cookie, place.user, &header);
+    tag
+}

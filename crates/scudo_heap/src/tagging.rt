@@ -1,0 +1,66 @@
+//! The tags of chunks of size classes (Scudo, `memtag.h`).
+
+ghost use Rattle.std.specs.Prelude.{◌≡◌, ◌+◌, ◌-◌, ◌*◌, ◌%◌, ◌^◌, ◌<◌, ◌≤◌, ℕ};
+ghost use Rattle.std.specs.Int.RustNames.{bit_or};
+ghost use Rattle.mte_tags.specs.Memory.{attrs_at, pages_left};
+ghost use Rattle.mte_tags.specs.RandomTags.{drawn};
+ghost use Rattle.scudo_heap.specs.Chunks.{granules_of, end_of, half_mask, excluded};
+ghost use Rattle.scudo_heap.specs.Chunks.{tagged};
+ghost use Rattle.scudo_heap.specs.Served.{IsOpen};
+
+use crate::chunk::Place;
+use crate::granules::{set_tags, tag_there};
+use mte_tags::{Paged, Rgsr, Tagged};
+use scudo_header::{CLASSES, size_of_class};
+
+/// The tags that a chunk may not get: 0, those of the other half, and the one that is there.
+fn exclude(place: Place, present: u8) -> u16
+    requires low { 0 < place.class }
+    requires high { place.class ≤ CLASSES }
+    requires present { present < 16 }
+    ensures { result ≡ bit_or (bit_or 1 (half_mask place.class place.block)) (2 ^ present) }
+{
+    let unit = (size_of_class(place.class) as u32).trailing_zeros();
+    let half = (place.block >> unit) % 2;
+    let mask: u16 = if half == 0 { 0x5555 } else { 0xAAAA };
+    1 | mask | (1 << present)
+}
+
+/// How many granules hold so many bytes.
+pub(crate) fn granules(size: u64) -> u64
+    requires { size < 2 ^ 32 }
+    ensures { result ≡ granules_of size }
+{
+    (size + 15) / 16
+}
+
+/// Draws a tag for a chunk and gives it to its granules, whose bytes become zero.
+#[rattlefmt::skip]
+#[tactic(auto, unfolding(
+    crate::specs::Chunks::excluded,
+    crate::specs::Chunks::tagged
+))]
+pub(crate) fn draw_tag<M: Paged>(rgsr: &mut Rgsr, memory: &mut M, place: Place) -> u8
+    requires low { 0 < place.class }
+    requires high { place.class ≤ CLASSES }
+    requires drawn { rgsr.old.tag < 16 }
+    requires aligned { place.user % 16 ≡ 0 }
+    requires some { 0 < place.size }
+    requires small { place.size < 2 ^ 20 }
+    requires open { IsOpen (M.memory memory.old) place.user (end_of place) }
+    ensures tag { result
+        ≡ (drawn rgsr.old (excluded (M.memory memory.old) place)).tag }
+    ensures rgsr { rgsr.new ≡ (drawn rgsr.old (excluded (M.memory memory.old) place)).rgsr }
+    ensures last { rgsr.new.tag ≡ result }
+    ensures below { result < 16 }
+    ensures memory { M.memory memory.new ≡ tagged (M.memory memory.old) place result }
+    ensures attrs { (q : ℕ)
+        → attrs_at (M.memory memory.new) q ≡ attrs_at (M.memory memory.old) q }
+    ensures left { pages_left (M.memory memory.new) ≡ pages_left (M.memory memory.old) }
+    ensures kept { M.kept memory.old memory.new }
+{
+    let present = tag_there(memory, place.user);
+    let tag = rgsr.draw(exclude(place, present));
+    set_tags(memory, place.user, granules(place.size), tag, true);
+    tag
+}
