@@ -2,11 +2,16 @@
 //! the frame and the attributes of some pages of each address space.
 #![tactic(auto)]
 
+mod entries;
 mod hints;
 mod laws;
+mod table;
 mod tlb;
 mod translation;
+mod tree;
 
+pub use entries::TABLE_PAGES;
 pub use laws::{fill_adds_its_own, forget_drops_its_own, lookup_returns_what_stands};
+pub use table::Table;
 pub use tlb::Tlb;
 pub use translation::{TLB_ENTRIES, Translation};
