@@ -5,3 +5,4 @@ pub mod TreeLemmas
 pub mod StepLemmas
 pub mod PageLemmas
 pub mod TableLemmas
+pub mod KeptTables

@@ -1,5 +1,6 @@
 -- The pages of a table as a finite map, and how many there are.
 use Rattle.std.proofs.Common.{◌≡◌, ◌≢◌, ℕ, zero, suc, ◌+◌, ◌-◌, ◌*◌, ◌/◌, ◌%◌, ◌<◌, ◌≤◌, true, false, List, [], ◌∷◌, length, Option, Some, None, cond, refl, sym, ap, subst, ◌∙◌, inl, inr, arith, is_some}
+use Rattle.std.proofs.lemmas.Option.{none-some}
 use Rattle.std.proofs.lemmas.Bool.{cases_eq, cases_lt, cond-true, cond-false}
 use Rattle.std.specs.Ordering.{nat_cmp}
 use Rattle.std.specs.Cmp.{nat_cmp_total}
@@ -9,7 +10,7 @@ use Rattle.mte_tags.specs.declared.attrs.Attrs.{Attrs}
 use Rattle.mte_tags.proofs.Pages.{tied_same, tied_other}
 use Rattle.mte_frames.specs.Pool.{Pool}
 use Rattle.mte_translate.specs.Tables.{entry_at, walk_at, is_valid, leaf_in, count_in, attrs_in, frame_in, valid_in, has_leaf, translation_in, translation_at, before, entries_from, map_below, pages_of}
-use Rattle.mte_translate.proofs.EntryLemmas.{valid-or-not, valid-odd, odd-valid, count-some}
+use Rattle.mte_translate.proofs.EntryLemmas.{valid-or-not, valid-odd, invalid-even}
 use Rattle.mte_translate.proofs.TreeLemmas.{walk-leaf}
 
 -- ---- the finite map that is g below n
@@ -106,6 +107,13 @@ pub len-most : {X : Type 0} (n : ℕ) (g : ℕ → Option X) → finite.len (map
 len-most n g = rw (len-below n g) (some-most g 0 n)
 
 -- ---- the pages of a table
+abbrev frame-of : Option (ℕ × Attrs) → ℕ
+frame-of None = 0
+frame-of (Some x) = x.0
+
+pub same-frame : (x y : ℕ × Attrs) → Some x ≡ Some y → x.0 ≡ y.0
+same-frame x y e = ap frame-of e
+
 pub get-page : (p : Pool) (root q : ℕ) → q < 262144 → finite.get (pages_of p root) q ≡ translation_in (walk_at p root q)
 get-page p root q l = get-below 262144 (translation_at p root) q l
 
@@ -115,11 +123,8 @@ get-page_past p root q l = get-past 262144 (translation_at p root) q l
 pub page-low : (p : Pool) (root q : ℕ) (x : ℕ × Attrs) → finite.get (pages_of p root) q ≡ Some x → q < 262144
 page-low p root q x e = elim (cases_lt q 262144) [
   | inl b ↦ b
-  | inr b ↦ let s = sym e ∙ get-page_past p root q b in absurd (none-some s)
+  | inr b ↦ absurd (none-some x (sym (get-page_past p root q b) ∙ e))
 ]
-  where
-    none-some : ◌≡◌ {A = Option (ℕ × Attrs)} (Some x) None → ⊥
-    none-some s = cc
 
 pub page-valid : (p : Pool) (root q : ℕ) → q < 262144 → finite.get (pages_of p root) q ≢ None → is_valid (walk_at p root q) ≡ true
 page-valid p root q low h = elim (valid-or-not (walk_at p root q)) [
@@ -129,12 +134,9 @@ page-valid p root q low h = elim (valid-or-not (walk_at p root q)) [
 
 pub page-invalid : (p : Pool) (root q : ℕ) → q < 262144 → finite.get (pages_of p root) q ≡ None → is_valid (walk_at p root q) ≡ false
 page-invalid p root q low h = elim (valid-or-not (walk_at p root q)) [
-  | inl t ↦ let s = sym h ∙ get-page p root q low ∙ cond-true _ _ _ t in absurd (some-none _ s)
+  | inl t ↦ absurd (none-some _ (sym h ∙ get-page p root q low ∙ cond-true _ _ _ t))
   | inr b ↦ b
 ]
-  where
-    some-none : (x : ℕ × Attrs) → ◌≡◌ {A = Option (ℕ × Attrs)} None (Some x) → ⊥
-    some-none x s = cc
 
 pub page-there : (p : Pool) (root q : ℕ) → q < 262144 → is_valid (walk_at p root q) ≡ true → finite.get (pages_of p root) q ≡ Some (frame_in (walk_at p root q), attrs_in (walk_at p root q))
 page-there p root q low t = get-page p root q low ∙ cond-true _ _ _ t
@@ -167,3 +169,28 @@ pages-removed p n root page low z h = same_map nat_cmp_total nat_cmp-IsAntisymme
     | inr b ↦ get-page_past n root q b ∙ sym (get-remove nat_cmp_total (pages_of p root) page q ∙ cond-false _ _ _ (tied_other q page d) ∙ get-page_past p root q b)
   ]
 ])
+
+-- ---- no more leaves than pages
+leaves-below : (p : Pool) (root m : ℕ) → m ≤ 512 → ((s : ℕ) → s < m → is_valid (entry_at p root s) ≡ true → (q : ℕ) × ((q < 262144) × (q / 512 ≡ s) × (is_valid (walk_at p root q) ≡ true)))
+    → valid_in p root m ≤ some-from (translation_at p root) 0 (512 * m)
+unfolding valid_in
+leaves-below p root zero l h = omega arith
+leaves-below p root (suc m) l h =
+    let rest = leaves-below p root m (omega arith) (λ s b. h s (omega arith)) in
+    let e : 512 * suc m ≡ 512 * m + 512 = omega arith in
+    let f : some-from (translation_at p root) 0 (512 * suc m) ≡ some-from (translation_at p root) 0 (512 * m + 512) = ap (some-from (translation_at p root) 0) e in
+    let split = some-split (translation_at p root) 0 (512 * m) 512 in
+    elim (valid-or-not (entry_at p root m)) [
+      | inl v ↦
+        let found = h m (omega arith) v in
+        let q = found.0 in
+        let d : q / 512 ≡ m = found.1.1 in
+        let one = some-there (translation_at p root) (0 + 512 * m) 512 q (omega (arith, d)) (omega (arith, d)) (ap is_some (cond-true _ _ _ found.1.2)) in
+        let odd = valid-odd _ v in
+        omega (arith, rest, f, split, one, odd)
+      | inr b ↦ let even = invalid-even _ b in omega (arith, rest, f, split, even)
+    ]
+
+pub leaves-less : (p : Pool) (root : ℕ) → ((s : ℕ) → s < 512 → is_valid (entry_at p root s) ≡ true → (q : ℕ) × ((q < 262144) × (q / 512 ≡ s) × (is_valid (walk_at p root q) ≡ true)))
+    → valid_in p root 512 ≤ finite.len (pages_of p root)
+leaves-less p root h = let less = leaves-below p root 512 (omega arith) h in rw (len-below 262144 (translation_at p root)) less

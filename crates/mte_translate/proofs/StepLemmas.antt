@@ -1,5 +1,6 @@
 -- The four steps of a table: a page is put in or taken out, a leaf is hung in or taken out.
 use Rattle.std.proofs.Common.{List, ◌≡◌, ◌≢◌, ℕ, zero, suc, ◌+◌, ◌-◌, ◌*◌, ◌/◌, ◌%◌, ◌<◌, ◌≤◌, nat_eq, true, false, length, get_or, slice_set, Option, Some, None, cond, refl, sym, ap, subst, ◌∙◌, inl, inr, arith, eq-eqb, get_or-set_same, get_or-set_other}
+use Rattle.std.proofs.lemmas.Option.{none-some}
 use Rattle.std.proofs.lemmas.Bool.{cases_eq, cond-true, cond-false}
 use Rattle.mte_arena.specs.Frames.{Frame, frame_at, zero_frame}
 use Rattle.mte_frames.specs.Pool.{Pool, make_pool, IsOut, IsSound, KeepsOthers, taken_by, reserved_by}
@@ -24,9 +25,6 @@ used-still : (p n : Pool) (k f u g v : ℕ) (use_of : ℕ → ℕ) → n.owners 
 used-still p n k f u g v use_of os d x = record { out = ap (λ o. get_or o g None) os ∙ x.out; use_is = with-other use_of f u g d ∙ x.use_is }
 
 -- ---- a frame is taken or given back
-no-none : (k : ℕ) → ◌≡◌ {A = Option ℕ} None (Some k) → ⊥
-no-none k e = cc
-
 -- the frame f was taken under k
 pub record Took (p n : Pool) (k f : ℕ) : Type 0 where
   pub fresh : frame_at n.frames f ≡ zero_frame
@@ -47,7 +45,7 @@ took p n k f ts within free mine out new =
       frames = λ g a. ap (λ t. get_or t g None) fs ∙ get_or-set_other p.frames f g (Some zero_frame) None a;
       mine = mine;
       out = λ g o. out g k o;
-      vacant = λ g o s. no-none k (sym none ∙ ap (λ j. get_or p.owners j None) (sym s) ∙ o);
+      vacant = λ g o s. none-some k (sym none ∙ ap (λ j. get_or p.owners j None) (sym s) ∙ o);
       reserved = ap (λ (t : Pool). t.reserved) new;
       capacities = ap (λ (t : Pool). t.capacities) new;
     }

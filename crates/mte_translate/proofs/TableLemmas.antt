@@ -1,5 +1,6 @@
 -- What the calls of a table make of it.
 use Rattle.std.proofs.Common.{◌≡◌, ◌≢◌, ℕ, zero, suc, ◌+◌, ◌-◌, ◌*◌, ◌/◌, ◌%◌, ◌<◌, ◌≤◌, true, false, get_or, slice_set, length, Option, Some, None, List, cond, refl, sym, ap, subst, ◌∙◌, inl, inr, arith, is_some, get_or-set_same}
+use Rattle.std.proofs.lemmas.Option.{none-some}
 use Rattle.std.proofs.lemmas.Bool.{cases_eq, cases_lt, cond-true, cond-false}
 use Rattle.std.specs.Ordering.{nat_cmp}
 use Rattle.std.specs.Cmp.{nat_cmp_total}
@@ -15,7 +16,7 @@ use Rattle.mte_translate.specs.TableSteps.{KeepsRest, KeepsWalks, KeepsWalksBut}
 use Rattle.mte_translate.proofs.EntryLemmas.{entry-zero, valid-or-not, valid-odd, invalid-even, odd-valid, even-invalid, count-set, count-zero, count-some, count-most}
 use Rattle.mte_translate.proofs.TreeLemmas.{walk-leaf, walk-none, mapped-leaf}
 use Rattle.mte_translate.proofs.StepLemmas.{Took, leaf-counts}
-use Rattle.mte_translate.proofs.PageLemmas.{get-page, get-page_past, page-valid, page-invalid, page-there, page-gone, page-low, pages-same, pages-put, pages-removed, len-most}
+use Rattle.mte_translate.proofs.PageLemmas.{same-frame, get-page, get-page_past, page-valid, page-invalid, page-there, page-gone, page-low, pages-same, pages-put, pages-removed, len-most, leaves-less}
 
 abbrev pub root_of : ℕ → ℕ → ℕ → Root
 root_of root len leaves = record { frame = root; len = len; leaves = leaves }
@@ -55,9 +56,6 @@ module _ (p n : Pool) (k f : ℕ) (tk : Took p n k f) where
   }
 
 -- ---- leaves and pages that are counted
-none-some : (x : ℕ × Attrs) → ◌≡◌ {A = Option (ℕ × Attrs)} None (Some x) → ⊥
-none-some x e = cc
-
 missing-is : (p : Pool) (root q : ℕ) → missing_leaf p root q + entry_at p root (q / 512) % 2 ≡ 1
 missing-is p root q = elim (valid-or-not (entry_at p root (q / 512))) [
   | inl t ↦ omega (arith, cond-true {A = ℕ} _ 0 1 t, valid-odd _ t)
@@ -158,25 +156,18 @@ pages-none p root page none = same_map nat_cmp_total nat_cmp-IsAntisymmetric _ _
 ])
 
 -- ---- each frame for one page
-some-frame : (f g : ℕ) (a b : Attrs) → ◌≡◌ {A = Option (ℕ × Attrs)} (Some (f, a)) (Some (g, b)) → f ≡ g
-some-frame f g a b e = ap frame_of e
-  where
-    frame_of : Option (ℕ × Attrs) → ℕ
-    frame_of None = 0
-    frame_of (Some x) = x.0
-
 pub once-insert : (m n : Pages) (page f : ℕ) (a : Attrs) → n ≡ finite.insert m page (f, a) → MapsNever m f → MapsOnce m → MapsOnce n
 once-insert m n page f a new never once q r g b c eq er =
     elim (cases_eq q page) [
       | inl sq ↦ elim (cases_eq r page) [
         | inl sr ↦ sq ∙ sym sr
         | inr dr ↦
-          let same : f ≡ g = some-frame f g a b (sym (at_page q sq) ∙ eq) in
+          let same : f ≡ g = same-frame _ _ (sym (at_page q sq) ∙ eq) in
           absurd (never r c (sym (at_other r dr) ∙ er ∙ ap (λ x. Some (x, c)) (sym same)))
       ]
       | inr dq ↦ elim (cases_eq r page) [
         | inl sr ↦
-          let same : f ≡ g = some-frame f g a c (sym (at_page r sr) ∙ er) in
+          let same : f ≡ g = same-frame _ _ (sym (at_page r sr) ∙ er) in
           absurd (never q b (sym (at_other q dq) ∙ eq ∙ ap (λ x. Some (x, b)) (sym same)))
         | inr dr ↦ once q r g b c (sym (at_other q dq) ∙ eq) (sym (at_other r dr) ∙ er)
       ]
@@ -215,12 +206,9 @@ no-leaf p k t h zero_len s low v =
 
 pub apart-closed : (p : Pool) (k : ℕ) (t : Root) (os : List (Option ℕ)) (f : ℕ) → IsTable p k t → t.len ≡ 0 → os ≡ slice_set p.owners t.frame None → get_or os f None ≡ Some k → IsApart p t.frame f
 apart-closed p k t os f h zero_len new out = record {
-  no_root = λ e. none-some-number k (sym (ap (λ o. get_or o f None) new ∙ ap (λ g. get_or (slice_set p.owners t.frame None) g None) e ∙ get_or-set_same p.owners t.frame None None (owner_within p.owners t.frame k h.tree.tree.own_root.out)) ∙ out);
+  no_root = λ e. none-some k (sym (ap (λ o. get_or o f None) new ∙ ap (λ g. get_or (slice_set p.owners t.frame None) g None) e ∙ get_or-set_same p.owners t.frame None None (owner_within p.owners t.frame k h.tree.tree.own_root.out)) ∙ out);
   no_leaf = λ s b v e. no-leaf p k t h zero_len s b v;
 }
-  where
-    none-some-number : (j : ℕ) → ◌≡◌ {A = Option ℕ} None (Some j) → ⊥
-    none-some-number j e = cc
 
 -- ---- the least page
 pub first-found : (p : Pool) (root s l i : ℕ) → s < 512 → is_valid (entry_at p root s) ≡ true → l ≡ leaf_in (entry_at p root s) → i < 512 → is_valid (entry_at p l i) ≡ true
@@ -258,3 +246,6 @@ leaf-used p k t s l h low v leaf none =
     let odd = valid-odd _ found.1.1 in
     let even = invalid-even _ (none found.0 found.1.0) in
     omega (arith, odd, even)
+
+pub leaves-len : (p : Pool) (k : ℕ) (t : Root) → IsTable p k t → t.leaves ≤ t.len
+leaves-len p k t h = let less = leaves-less p t.frame (λ s b v. leaf-page p k t.frame s h.tree.use_of h.tree.tree b v (h.tight s b v)) in omega (arith, less, h.leaves_are, h.len_is)

@@ -10,6 +10,7 @@
 --     IsApart p root f           f is no frame of the table's own
 --     IsTable p k t              what holds of every table t under the quota k
 --     KeepsData k root p n       what a call leaves of the quota's frames that aren't the table's
+--     Stays k t p n              from p to n the table t stays as it is
 --     MapsOnce m                 each frame is that of one page at most
 --     MapsNever m f              no page is mapped to the frame f
 --     IsCached m asid ts         the translations ts of the ASID are those of the pages m
@@ -145,6 +146,12 @@ pub record KeepsData (k root : ℕ) (p n : Pool) : Type 0 where
   pub same : (f : ℕ) → IsOut p f k → IsApart p root f
     → get_or n.frames f None ≡ get_or p.frames f None
   pub apart : (f : ℕ) → IsOut p f k → IsApart p root f → IsApart n root f
+
+-- from p to n the table stays, maps what it mapped, and has no other frames of its own
+pub record Stays (k : ℕ) (t : Root) (p n : Pool) : Type 0 where
+  pub table : IsTable n k t
+  pub pages : pages_of n t.frame ≡ pages_of p t.frame
+  pub apart : (f : ℕ) → IsApart p t.frame f → IsApart n t.frame f
 
 abbrev pub MapsOnce : Pages → Type 0
 MapsOnce m =
