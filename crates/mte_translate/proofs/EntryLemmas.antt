@@ -1,10 +1,10 @@
 -- Entries of frames: what a write of one does, zero frames, and how many are valid.
-use Rattle.std.proofs.Common.{◌≡◌, ◌≢◌, ◌∷◌, ℕ, zero, suc, ◌+◌, ◌-◌, ◌*◌, ◌/◌, ◌%◌, ◌^◌, ◌<◌, ◌≤◌, ◌⊎◌, true, false, List, length, take, drop, set, replicate, get_or, Option, Some, None, refl, sym, ap, subst, ◌∙◌, inl, inr, arith, get_or-set_same, get_or-set_other, ◌++◌, length-append, length-take, length-drop, eq-eqb}
+use Rattle.std.proofs.Common.{◌≡◌, ◌≢◌, ◌∷◌, ℕ, zero, suc, ◌+◌, ◌-◌, ◌*◌, ◌%◌, ◌^◌, ◌<◌, ◌≤◌, ◌⊎◌, true, false, List, length, take, drop, set, replicate, get_or, Option, Some, None, refl, sym, ap, subst, ◌∙◌, inl, inr, arith, get_or-set_same, get_or-set_other, ◌++◌, length-append, length-take, length-drop, eq-eqb}
 use Rattle.std.proofs.lemmas.Bool.{cases_eq, cases_lt}
 use Rattle.std.proofs.lemmas.Slice.{between-put_mid, drop-put_mid, take-put_mid_below, between_is}
 use Rattle.std.proofs.lemmas.Nat.{from_le_bytes-to_le_bytes_8}
 use Rattle.std.specs.Int.{from_le_bytes, to_le_bytes, w64}
-use Rattle.std.specs.List.{slice_range, refill}
+use Rattle.std.specs.List.{slice_range}
 use borrow.Rule.Slice.PartMut.{put_mid}
 use Rattle.mte_arena.specs.Frames.{Frame, frame_at, frame_or, zero_frame, AreFrames}
 use Rattle.mte_arena.proofs.Frames.{within_of}
@@ -30,7 +30,7 @@ out-few p f k sound out = let few : length p.frames ≤ 65536 = sound.few in ome
 
 -- ---- a write
 words-apart : (r i : ℕ) → r ≢ i → (8 * r + 8 ≤ 8 * i) ⊎ (8 * i + 8 ≤ 8 * r)
-words-apart r i d = elim (cases_lt r i) [ | inl a ↦ inl (omega arith) | inr b ↦ inr (omega (arith, d)) ]
+words-apart r i d = elim (cases_lt r i) [ inl a ↦ inl (omega arith) | inr b ↦ inr (omega (arith, d)) ]
 
 mid-length : (i : ℕ) (xs ys : List ℕ) → length ys ≡ 8 → length xs ≡ 4096 → i ≤ 4088 → length (put_mid i (i + 8 - i) xs ys) ≡ 4096
 mid-length i xs ys l x t = omega (arith, l, x, length-append (take i xs) (ys ++ drop (i + 8 - i) (drop i xs)), length-append ys (drop (i + 8 - i) (drop i xs)), length-take i xs, length-drop (i + 8 - i) (drop i xs), length-drop i xs)
@@ -88,7 +88,7 @@ entry-zero p f i l e = ap (λ (y : Frame). from_le_bytes w64 (slice_range y.byte
 
 -- ---- valid or not
 pub valid-or-not : (e : ℕ) → (is_valid e ≡ true) ⊎ (is_valid e ≡ false)
-valid-or-not e = elim (cases_eq (e % 2) 1) [ | inl t ↦ inl (eq-eqb _ _ t) | inr d ↦ inr (grind arith) ]
+valid-or-not e = elim (cases_eq (e % 2) 1) [ inl t ↦ inl (eq-eqb _ _ t) | inr d ↦ inr (grind arith) ]
 
 pub valid-odd : (e : ℕ) → is_valid e ≡ true → e % 2 ≡ 1
 valid-odd e h = grind arith

@@ -1,22 +1,21 @@
 -- Tables and cached translations that stay as they are.
-use Rattle.std.proofs.Common.{◌≡◌, ◌≢◌, ◌⊎◌, ℕ, zero, suc, ◌+◌, ◌-◌, ◌*◌, ◌/◌, ◌%◌, ◌<◌, ◌≤◌, true, false, get_or, slice_set, length, Option, Some, None, List, cond, refl, sym, ap, subst, ◌∙◌, inl, inr, arith, is_some, get_or-set_same, get_or-set_other}
-use Rattle.std.specs.Prelude.{◌↔◌, All, Contains}
-use Rattle.std.proofs.lemmas.Bool.{cases_eq, cases_lt, cond-true, cond-false}
+use Rattle.std.proofs.Common.{◌≡◌, ◌≢◌, ◌⊎◌, ℕ, ◌/◌, ◌%◌, ◌<◌, true, false, get_or, slice_set, Option, Some, None, List, refl, sym, ap, subst, ◌∙◌, inl, inr, arith, get_or-set_other}
+use Rattle.std.specs.Prelude.{◌↔◌, Contains}
+use Rattle.std.proofs.lemmas.Bool.{cond-false}
 use Rattle.std.proofs.lemmas.Option.{none-some}
 use Rattle.std.proofs.lemmas.List.Elements.{All-contains, All-weaker}
-use Rattle.std.specs.Ordering.{nat_cmp}
 use Rattle.std.specs.Cmp.{nat_cmp_total}
 use Rattle.std.specs.FinMap as finite
 use Rattle.std.specs.FinMap.{get-insert, get-remove}
 use Rattle.mte_arena.specs.Frames.{Frame}
 use Rattle.mte_tags.specs.declared.attrs.Attrs.{Attrs}
-use Rattle.mte_tags.proofs.Pages.{tied_same, tied_other}
+use Rattle.mte_tags.proofs.Pages.{tied_other}
 use Rattle.mte_frames.specs.Pool.{Pool, make_pool, IsOut, KeepsOthers}
 use Rattle.mte_frames.proofs.Counts.{any_default, vacant_within}
 use Rattle.mte_translate.specs.declared.translation.Translation.{Translation}
 use Rattle.mte_translate.specs.Translations.{is_for, lookup, filled, without, without_asid}
-use Rattle.mte_translate.specs.Tables.{entry_at, walk_at, is_valid, leaf_in, count_in, attrs_in, frame_in, valid_in, has_leaf, translation_in, pages_of, IsApart, IsUsed, IsTree, IsTreeOf, Root, IsTable, Pages, MapsNever, Agrees, IsCached, Stays}
-use Rattle.mte_translate.proofs.EntryLemmas.{entry-kept, count-same, count-most}
+use Rattle.mte_translate.specs.Tables.{entry_at, walk_at, is_valid, leaf_in, count_in, attrs_in, frame_in, valid_in, has_leaf, pages_of, IsApart, Root, IsTable, Pages, MapsNever, Agrees, IsCached, Stays}
+use Rattle.mte_translate.proofs.EntryLemmas.{entry-kept, count-same}
 use Rattle.mte_translate.proofs.TreeLemmas.{walk-same, mapped-leaf, page-apart}
 use Rattle.mte_translate.proofs.PageLemmas.{same-frame, page-low, page-there, page-valid, pages-same}
 use Rattle.mte_translate.proofs.TableLemmas.{page-mapped, leaf-page}
@@ -49,12 +48,12 @@ module _ (p n : Pool) (k : ℕ) (t : Root) (h : IsTable p k t)
             tree = record {
               own_root = record { out = root_out; use_is = tree.own_root.use_is };
               leaves = λ s b v. let was = ap is_valid (sym (kept-entry s)) ∙ v in let o = tree.leaves s b was in
-                record { out = rw (kept-entry s) (leaf_out s b was); use_is = rw (kept-entry s) o.use_is };
+                  record { out = rw (kept-entry s) (leaf_out s b was); use_is = rw (kept-entry s) o.use_is };
               pages = λ q b v. let was = ap is_valid (sym (kept-walk q b)) ∙ v in let o = tree.pages q b was in
-                record { out = rw (kept-walk q b) (page_out q b was); use_is = rw (kept-walk q b) o.use_is };
+                  record { out = rw (kept-walk q b) (page_out q b was); use_is = rw (kept-walk q b) o.use_is };
               clean = λ q b v. kept-walk q b ∙ tree.clean q b (ap is_valid (sym (kept-walk q b)) ∙ v);
               counted = λ s b v. let was = ap is_valid (sym (kept-entry s)) ∙ v in
-                ap count_in (kept-entry s) ∙ tree.counted s b was
+                  ap count_in (kept-entry s) ∙ tree.counted s b was
                   ∙ sym (ap (λ y. valid_in n (leaf_in y) 512) (kept-entry s) ∙ count-same p n _ 512 (λ i c. entry-kept n p _ i (leaf_same s b was)));
             };
           };
@@ -75,13 +74,13 @@ kept-others p n j k t d kept h =
     let out : (f : ℕ) → IsOut p f k → IsOut n f k = λ f. (kept.out f k d).0 in
     let same : (f : ℕ) → IsOut p f k → get_or n.frames f None ≡ get_or p.frames f None = λ f. kept.frames f k d in
     kept-table p n k t h (same _ tree.own_root.out) (λ s b v. let o = tree.leaves s b v in same _ o.out)
-      (out _ tree.own_root.out) (λ s b v. let o = tree.leaves s b v in out _ o.out) (λ q b v. let o = tree.pages q b v in out _ o.out)
+    (out _ tree.own_root.out) (λ s b v. let o = tree.leaves s b v in out _ o.out) (λ q b v. let o = tree.pages q b v in out _ o.out)
 
 pub kept-written : (p : Pool) (k f : ℕ) (c : Option Frame) (t : Root) → IsApart p t.frame f → IsTable p k t → Stays k t p (make_pool p.capacities (slice_set p.frames f c) p.owners p.reserved p.taken)
 kept-written p k f c t a h =
     let tree = h.tree.tree in
     kept-table p _ k t h (get_or-set_other p.frames f t.frame c None (λ e. a.no_root (sym e))) (λ s b v. get_or-set_other p.frames f _ c None (λ e. a.no_leaf s b v (sym e)))
-      tree.own_root.out (λ s b v. let o = tree.leaves s b v in o.out) (λ q b v. let o = tree.pages q b v in o.out)
+    tree.own_root.out (λ s b v. let o = tree.leaves s b v in o.out) (λ q b v. let o = tree.pages q b v in o.out)
 
 vacant-other : (p : Pool) (k f g : ℕ) → get_or p.owners f (Some 0) ≡ None → IsOut p g k → g ≢ f
 vacant-other p k f g free o s =
@@ -93,13 +92,12 @@ pub kept-taken : (p : Pool) (k f : ℕ) (c : Option Frame) (ts : List ℕ) (t : 
 kept-taken p k f c ts t free h =
     let tree = h.tree.tree in
     let other : (g : ℕ) → IsOut p g k → g ≢ f = λ g o. vacant-other p k f g free o in
-    let out : (g : ℕ) → IsOut p g k → get_or (slice_set p.owners f (Some k)) g None ≡ Some k = λ g o. get_or-set_other p.owners f g (Some k) None (other g o) ∙ o in
-    (
+    let out : (g : ℕ) → IsOut p g k → get_or (slice_set p.owners f (Some k)) g None ≡ Some k = λ g o. get_or-set_other p.owners f g (Some k) None (other g o) ∙ o in (
       kept-table p _ k t h (get_or-set_other p.frames f t.frame c None (other _ tree.own_root.out)) (λ s b v. let o = tree.leaves s b v in get_or-set_other p.frames f _ c None (other _ o.out))
-        (out _ tree.own_root.out) (λ s b v. let o = tree.leaves s b v in out _ o.out) (λ q b v. let o = tree.pages q b v in out _ o.out),
+          (out _ tree.own_root.out) (λ s b v. let o = tree.leaves s b v in out _ o.out) (λ q b v. let o = tree.pages q b v in out _ o.out),
       record { no_root = λ e. other _ tree.own_root.out (sym e); no_leaf = λ s b v e. let o = tree.leaves s b v in other _ o.out (sym e) },
       λ q a e. let low = page-low p t.frame q _ e in let v = page-mapped p t.frame q _ e in let o = tree.pages q low v in
-        other _ o.out (same-frame _ _ (sym (page-there p t.frame q low v) ∙ e))
+          other _ o.out (same-frame _ _ (sym (page-there p t.frame q low v) ∙ e)),
     )
 
 pub kept-given : (p : Pool) (k f : ℕ) (ts : List ℕ) (t : Root) → IsApart p t.frame f → MapsNever (pages_of p t.frame) f → IsTable p k t
@@ -108,8 +106,8 @@ kept-given p k f ts t a never h =
     let tree = h.tree.tree in
     let out : (g : ℕ) → g ≢ f → IsOut p g k → get_or (slice_set p.owners f None) g None ≡ Some k = λ g d o. get_or-set_other p.owners f g None None d ∙ o in
     kept-table p _ k t h refl (λ s b v. refl)
-      (out _ (λ e. a.no_root (sym e)) tree.own_root.out) (λ s b v. let o = tree.leaves s b v in out _ (λ e. a.no_leaf s b v (sym e)) o.out)
-      (λ q b v. let o = tree.pages q b v in out _ (λ e. never q _ (page-there p t.frame q b v ∙ ap (λ g. Some (g, attrs_in (walk_at p t.frame q))) e)) o.out)
+    (out _ (λ e. a.no_root (sym e)) tree.own_root.out) (λ s b v. let o = tree.leaves s b v in out _ (λ e. a.no_leaf s b v (sym e)) o.out)
+    (λ q b v. let o = tree.pages q b v in out _ (λ e. never q _ (page-there p t.frame q b v ∙ ap (λ g. Some (g, attrs_in (walk_at p t.frame q))) e)) o.out)
 
 -- ---- frames of tables
 pub page-frame : (p : Pool) (k q f : ℕ) (a : Attrs) (t : Root) → IsTable p k t → finite.get (pages_of p t.frame) q ≡ Some (f, a) → (q < 262144) × IsOut p f k × IsApart p t.frame f
@@ -124,13 +122,13 @@ page-frame p k q f a t h e =
 pub leaf-where : (p : Pool) (k q : ℕ) (t : Root) → IsTable p k t → q < 262144 → (has_leaf p t.frame q ≡ true) ↔ ((r : ℕ) × (r / 512 ≡ q / 512) × (finite.get (pages_of p t.frame) r ≢ None))
 leaf-where p k q t h low = (
   λ v.
-    let slot : q / 512 < 512 = omega arith in
-    let found = leaf-page p k t.frame (q / 512) h.tree.use_of h.tree.tree slot v (h.tight (q / 512) slot v) in
-    (found.0, found.1.1, λ none. none-some _ (sym none ∙ page-there p t.frame found.0 found.1.0 found.1.2)),
+      let slot : q / 512 < 512 = omega arith in
+      let found = leaf-page p k t.frame (q / 512) h.tree.use_of h.tree.tree slot v (h.tight (q / 512) slot v) in
+      (found.0, found.1.1, λ none. none-some _ (sym none ∙ page-there p t.frame found.0 found.1.0 found.1.2)),
   λ s.
-    let same : s.0 / 512 ≡ q / 512 = s.1 in
-    let inside : s.0 < 262144 = omega (arith, same, low) in
-    ap (λ j. is_valid (entry_at p t.frame j)) (sym same) ∙ mapped-leaf p t.frame s.0 (page-valid p t.frame s.0 inside s.2),
+      let same : s.0 / 512 ≡ q / 512 = s.1 in
+      let inside : s.0 < 262144 = omega (arith, same, low) in
+      ap (λ j. is_valid (entry_at p t.frame j)) (sym same) ∙ mapped-leaf p t.frame s.0 (page-valid p t.frame s.0 inside s.2),
 )
 
 -- ---- cached translations

@@ -1,17 +1,16 @@
 -- The pages of a table as a finite map, and how many there are.
-use Rattle.std.proofs.Common.{◌≡◌, ◌≢◌, ℕ, zero, suc, ◌+◌, ◌-◌, ◌*◌, ◌/◌, ◌%◌, ◌<◌, ◌≤◌, true, false, List, [], ◌∷◌, length, Option, Some, None, cond, refl, sym, ap, subst, ◌∙◌, inl, inr, arith, is_some}
+use Rattle.std.proofs.Common.{◌≡◌, ◌≢◌, ℕ, zero, suc, ◌+◌, ◌*◌, ◌/◌, ◌<◌, ◌≤◌, true, false, List, Option, Some, None, refl, sym, ap, ◌∙◌, inl, inr, arith, is_some}
 use Rattle.std.proofs.lemmas.Option.{none-some}
 use Rattle.std.proofs.lemmas.Bool.{cases_eq, cases_lt, cond-true, cond-false}
 use Rattle.std.specs.Ordering.{nat_cmp}
 use Rattle.std.specs.Cmp.{nat_cmp_total}
 use Rattle.std.specs.FinMap as finite
-use Rattle.std.specs.FinMap.{find, get-from_entries, get-insert, get-remove, len-insert, len-remove, len-empty, same_map, nat_cmp-IsAntisymmetric}
+use Rattle.std.specs.FinMap.{find, get-from_entries, get-insert, get-remove, len-insert, len-empty, same_map, nat_cmp-IsAntisymmetric}
 use Rattle.mte_tags.specs.declared.attrs.Attrs.{Attrs}
 use Rattle.mte_tags.proofs.Pages.{tied_same, tied_other}
 use Rattle.mte_frames.specs.Pool.{Pool}
-use Rattle.mte_translate.specs.Tables.{entry_at, walk_at, is_valid, leaf_in, count_in, attrs_in, frame_in, valid_in, has_leaf, translation_in, translation_at, before, entries_from, map_below, pages_of}
+use Rattle.mte_translate.specs.Tables.{entry_at, walk_at, is_valid, attrs_in, frame_in, valid_in, translation_in, translation_at, before, entries_from, map_below, pages_of}
 use Rattle.mte_translate.proofs.EntryLemmas.{valid-or-not, valid-odd, invalid-even}
-use Rattle.mte_translate.proofs.TreeLemmas.{walk-leaf}
 
 -- ---- the finite map that is g below n
 before-same : {X : Type 0} (q : ℕ) (o : Option X) (more : List (ℕ × X)) → find nat_cmp q more ≡ None → find nat_cmp q (before q o more) ≡ o
@@ -182,12 +181,12 @@ leaves-below p root (suc m) l h =
     let split = some-split (translation_at p root) 0 (512 * m) 512 in
     elim (valid-or-not (entry_at p root m)) [
       | inl v ↦
-        let found = h m (omega arith) v in
-        let q = found.0 in
-        let d : q / 512 ≡ m = found.1.1 in
-        let one = some-there (translation_at p root) (0 + 512 * m) 512 q (omega (arith, d)) (omega (arith, d)) (ap is_some (cond-true _ _ _ found.1.2)) in
-        let odd = valid-odd _ v in
-        omega (arith, rest, f, split, one, odd)
+          let found = h m (omega arith) v in
+          let q = found.0 in
+          let d : q / 512 ≡ m = found.1.1 in
+          let one = some-there (translation_at p root) (0 + 512 * m) 512 q (omega (arith, d)) (omega (arith, d)) (ap is_some (cond-true _ _ _ found.1.2)) in
+          let odd = valid-odd _ v in
+          omega (arith, rest, f, split, one, odd)
       | inr b ↦ let even = invalid-even _ b in omega (arith, rest, f, split, even)
     ]
 

@@ -1,15 +1,14 @@
 -- The four steps of a table: a page is put in or taken out, a leaf is hung in or taken out.
-use Rattle.std.proofs.Common.{List, ◌≡◌, ◌≢◌, ℕ, zero, suc, ◌+◌, ◌-◌, ◌*◌, ◌/◌, ◌%◌, ◌<◌, ◌≤◌, nat_eq, true, false, length, get_or, slice_set, Option, Some, None, cond, refl, sym, ap, subst, ◌∙◌, inl, inr, arith, eq-eqb, get_or-set_same, get_or-set_other}
+use Rattle.std.proofs.Common.{List, ◌≡◌, ◌≢◌, ℕ, ◌+◌, ◌-◌, ◌*◌, ◌/◌, ◌%◌, ◌<◌, ◌≤◌, nat_eq, true, false, length, get_or, slice_set, Option, Some, None, cond, refl, sym, ap, ◌∙◌, inl, inr, arith, eq-eqb, get_or-set_same, get_or-set_other}
 use Rattle.std.proofs.lemmas.Option.{none-some}
 use Rattle.std.proofs.lemmas.Bool.{cases_eq, cond-true, cond-false}
 use Rattle.mte_arena.specs.Frames.{Frame, frame_at, zero_frame}
-use Rattle.mte_frames.specs.Pool.{Pool, make_pool, IsOut, IsSound, KeepsOthers, taken_by, reserved_by}
-use Rattle.mte_frames.proofs.Keeps.{keeps_on}
+use Rattle.mte_frames.specs.Pool.{Pool, make_pool, IsOut, IsSound, taken_by, reserved_by}
 use Rattle.mte_frames.proofs.Counts.{any_default, vacant_within, owned_by-some, within_of as within_count}
-use Rattle.mte_translate.specs.Tables.{entry_at, walk_at, is_valid, leaf_in, count_in, frame_in, valid_in, has_leaf, IsApart, IsUsed, IsTree, IsTreeOf, KeepsData}
-use Rattle.mte_translate.specs.TableSteps.{Wrote, KeepsRest}
+use Rattle.mte_translate.specs.Tables.{entry_at, walk_at, is_valid, leaf_in, count_in, frame_in, valid_in, has_leaf, IsApart, IsUsed, IsTree}
+use Rattle.mte_translate.specs.TableSteps.{Wrote}
 use Rattle.mte_translate.proofs.EntryLemmas.{frame-same, entry-kept, entry-zero, valid-odd, invalid-even, odd-valid, even-invalid, count-less, count-zero, count-none, out-few}
-use Rattle.mte_translate.proofs.TreeLemmas.{walk-leaf, walk-none, other-use, leaf-root, mapped-leaf, Edit, Hang}
+use Rattle.mte_translate.proofs.TreeLemmas.{walk-leaf, walk-none, other-use, mapped-leaf, Edit, Hang}
 
 -- ---- uses
 abbrev pub use_with : (ℕ → ℕ) → ℕ → ℕ → ℕ → ℕ
@@ -118,8 +117,10 @@ page-put p n m k root q f a e re use_of h low is leaf gone out apart w1 w2 ee sm
   where
     room_leaf : (r : ℕ) → r % 2 ≡ 1 → r / 2 % 1024 < 512 → (r + 2) / 2048 ≡ r / 2048
     room_leaf r a b = omega arith
+
     room_count : (r w e : ℕ) → r % 2 ≡ 1 → r / 2 % 1024 < 512 → w % 2 ≡ 0 → e % 2 ≡ 1 → (r + 2) / 2 % 1024 + w % 2 ≡ r / 2 % 1024 + e % 2
     room_count r w e a b c d = omega arith
+
     any_use : (g : ℕ) → IsUsed p k use_of g 513 → m.owners ≡ p.owners → IsUsed m k (use_with use_of f 513) g 513
     any_use g x os = elim (cases_eq g f) [
       | inl y ↦ record { out = ap (λ o. get_or o g None) os ∙ x.out; use_is = rw y (with-same use_of f 513) }
@@ -167,8 +168,10 @@ page-taken p n m k root q re use_of h low is mapped w1 w2 =
   where
     less_odd : (r : ℕ) → r % 2 ≡ 1 → r / 2 % 1024 ≢ 0 → (r - 2) % 2 ≡ 1
     less_odd r a b = omega arith
+
     less_leaf : (r : ℕ) → r % 2 ≡ 1 → r / 2 % 1024 ≢ 0 → (r - 2) / 2048 ≡ r / 2048
     less_leaf r a b = omega arith
+
     less_count : (r w : ℕ) → r % 2 ≡ 1 → r / 2 % 1024 ≢ 0 → w % 2 ≡ 1 → (r - 2) / 2 % 1024 + w % 2 ≡ r / 2 % 1024 + 0 % 2
     less_count r w a b c = omega arith
 
@@ -195,8 +198,8 @@ leaf-hung p n m k root s l re use_of h low gone tk w ee =
       out = λ f d o. out f (tk.out f o);
       none = λ q e. walk-none p root q (ap (λ j. is_valid (entry_at p root j)) e ∙ gone);
       still = λ q e.
-        let now : entry_at m root (q / 512) ≡ re = ap (entry_at m root) e ∙ w.here in
-        walk-leaf m root q (ap is_valid now ∙ odd) ∙ ap (λ x. entry_at m (leaf_in x) (q % 512)) now ∙ ap (λ x. entry_at m x (q % 512)) is ∙ blank (q % 512) (omega arith);
+          let now : entry_at m root (q / 512) ≡ re = ap (entry_at m root) e ∙ w.here in
+          walk-leaf m root q (ap is_valid now ∙ odd) ∙ ap (λ x. entry_at m (leaf_in x) (q % 512)) now ∙ ap (λ x. entry_at m x (q % 512)) is ∙ blank (q % 512) (omega arith);
       mine = λ t. rw is (record { out = out l tk.mine; use_is = with-same use_of l (1 + s) });
       leaf_is = λ t. is;
       count = λ t. (let z : count_in re ≡ 0 = omega arith in z) ∙ sym (ap (λ x. valid_in m x 512) is ∙ count-zero m l 512 blank);
@@ -225,9 +228,9 @@ leaf-dropped p n m k root s l re use_of h low is there zero_count ls w gv =
       others = λ f o a x. a.no_leaf s low there (x ∙ ls ∙ ap leaf_in is);
       out = out;
       none = λ q e.
-        let was : entry_at p root (q / 512) ≡ re = ap (entry_at p root) e ∙ sym is in
-        let walk : walk_at p root q ≡ entry_at p (leaf_in re) (q % 512) = walk-leaf p root q (ap (λ j. is_valid (entry_at p root j)) e ∙ there) ∙ ap (λ x. entry_at p (leaf_in x) (q % 512)) was in
-        h.clean q (omega (arith, e, low)) (even-invalid _ (ap (λ x. x % 2) walk ∙ count-none p (leaf_in re) 512 (q % 512) (omega arith) empty));
+          let was : entry_at p root (q / 512) ≡ re = ap (entry_at p root) e ∙ sym is in
+          let walk : walk_at p root q ≡ entry_at p (leaf_in re) (q % 512) = walk-leaf p root q (ap (λ j. is_valid (entry_at p root j)) e ∙ there) ∙ ap (λ x. entry_at p (leaf_in x) (q % 512)) was in
+          h.clean q (omega (arith, e, low)) (even-invalid _ (ap (λ x. x % 2) walk ∙ count-none p (leaf_in re) 512 (q % 512) (omega arith) empty));
       still = λ q e. walk-none m root q (ap is_valid (ap (entry_at m root) e ∙ here));
       mine = λ t. absurd (omega (arith, valid-odd 0 t));
       leaf_is = λ t. absurd (omega (arith, valid-odd 0 t));

@@ -1,22 +1,22 @@
 -- What the calls of a table make of it.
-use Rattle.std.proofs.Common.{◌≡◌, ◌≢◌, ℕ, zero, suc, ◌+◌, ◌-◌, ◌*◌, ◌/◌, ◌%◌, ◌<◌, ◌≤◌, true, false, get_or, slice_set, length, Option, Some, None, List, cond, refl, sym, ap, subst, ◌∙◌, inl, inr, arith, is_some, get_or-set_same}
+use Rattle.std.proofs.Common.{◌≡◌, ◌≢◌, ℕ, ◌+◌, ◌-◌, ◌*◌, ◌/◌, ◌%◌, ◌<◌, ◌≤◌, true, false, get_or, slice_set, Option, Some, None, List, refl, sym, ap, subst, ◌∙◌, inl, inr, arith, is_some, get_or-set_same}
 use Rattle.std.proofs.lemmas.Option.{none-some}
 use Rattle.std.proofs.lemmas.Bool.{cases_eq, cases_lt, cond-true, cond-false}
 use Rattle.std.specs.Ordering.{nat_cmp}
 use Rattle.std.specs.Cmp.{nat_cmp_total}
 use Rattle.std.specs.FinMap as finite
-use Rattle.std.specs.FinMap.{FinMap, get-empty, get-insert, get-remove, len-insert, len-remove, len-empty, empty_of_len, same_map, nat_cmp-IsAntisymmetric}
+use Rattle.std.specs.FinMap.{get-empty, get-insert, get-remove, len-insert, len-remove, len-empty, empty_of_len, same_map, nat_cmp-IsAntisymmetric}
 use Rattle.mte_tags.specs.declared.attrs.Attrs.{Attrs}
 use Rattle.mte_tags.proofs.Pages.{tied_same, tied_other}
-use Rattle.mte_frames.specs.Pool.{Pool, make_pool, IsOut, KeepsOthers}
+use Rattle.mte_frames.specs.Pool.{Pool, KeepsOthers}
 use Rattle.mte_frames.proofs.Keeps.{keeps_on}
 use Rattle.mte_frames.proofs.Counts.{owner_within}
-use Rattle.mte_translate.specs.Tables.{entry_at, walk_at, is_valid, leaf_in, count_in, attrs_in, frame_in, valid_in, has_leaf, missing_leaf, translation_in, pages_of, IsApart, IsUsed, IsTree, IsTreeOf, IsTight, Root, IsTable, IsFirst, KeepsData, Pages, MapsOnce, MapsNever}
-use Rattle.mte_translate.specs.TableSteps.{KeepsRest, KeepsWalks, KeepsWalksBut}
-use Rattle.mte_translate.proofs.EntryLemmas.{entry-zero, valid-or-not, valid-odd, invalid-even, odd-valid, even-invalid, count-set, count-zero, count-some, count-most}
+use Rattle.mte_translate.specs.Tables.{entry_at, walk_at, is_valid, leaf_in, count_in, attrs_in, frame_in, valid_in, has_leaf, missing_leaf, translation_in, pages_of, IsApart, IsTree, IsTreeOf, Root, IsTable, IsFirst, Pages, MapsOnce, MapsNever}
+use Rattle.mte_translate.specs.TableSteps.{KeepsWalks, KeepsWalksBut}
+use Rattle.mte_translate.proofs.EntryLemmas.{entry-zero, valid-or-not, valid-odd, invalid-even, odd-valid, count-set, count-zero, count-some, count-most}
 use Rattle.mte_translate.proofs.TreeLemmas.{walk-leaf, walk-none, mapped-leaf}
 use Rattle.mte_translate.proofs.StepLemmas.{Took, leaf-counts}
-use Rattle.mte_translate.proofs.PageLemmas.{same-frame, get-page, get-page_past, page-valid, page-invalid, page-there, page-gone, page-low, pages-same, pages-put, pages-removed, len-most, leaves-less}
+use Rattle.mte_translate.proofs.PageLemmas.{same-frame, get-page, get-page_past, page-valid, page-there, page-gone, page-low, pages-put, pages-removed, len-most, leaves-less}
 
 abbrev pub root_of : ℕ → ℕ → ℕ → Root
 root_of root len leaves = record { frame = root; len = len; leaves = leaves }
@@ -162,19 +162,20 @@ once-insert m n page f a new never once q r g b c eq er =
       | inl sq ↦ elim (cases_eq r page) [
         | inl sr ↦ sq ∙ sym sr
         | inr dr ↦
-          let same : f ≡ g = same-frame _ _ (sym (at_page q sq) ∙ eq) in
-          absurd (never r c (sym (at_other r dr) ∙ er ∙ ap (λ x. Some (x, c)) (sym same)))
+            let same : f ≡ g = same-frame _ _ (sym (at_page q sq) ∙ eq) in
+            absurd (never r c (sym (at_other r dr) ∙ er ∙ ap (λ x. Some (x, c)) (sym same)))
       ]
       | inr dq ↦ elim (cases_eq r page) [
         | inl sr ↦
-          let same : f ≡ g = same-frame _ _ (sym (at_page r sr) ∙ er) in
-          absurd (never q b (sym (at_other q dq) ∙ eq ∙ ap (λ x. Some (x, b)) (sym same)))
+            let same : f ≡ g = same-frame _ _ (sym (at_page r sr) ∙ er) in
+            absurd (never q b (sym (at_other q dq) ∙ eq ∙ ap (λ x. Some (x, b)) (sym same)))
         | inr dr ↦ once q r g b c (sym (at_other q dq) ∙ eq) (sym (at_other r dr) ∙ er)
       ]
     ]
   where
     at_page : (s : ℕ) → s ≡ page → finite.get n s ≡ Some (f, a)
     at_page s e = subst (λ x. finite.get n x ≡ Some (f, a)) (sym e) (ap (λ x. finite.get x page) new ∙ get-insert nat_cmp_total m page (f, a) page ∙ cond-true _ _ _ (tied_same page))
+
     at_other : (s : ℕ) → s ≢ page → finite.get n s ≡ finite.get m s
     at_other s d = ap (λ x. finite.get x s) new ∙ get-insert nat_cmp_total m page (f, a) s ∙ cond-false _ _ _ (tied_other s page d)
 
@@ -196,6 +197,13 @@ walk-read p root page re l e is v leaf here = walk-leaf p root page (ap is_valid
 
 pub page-read : (p : Pool) (root page e f : ℕ) (a : Attrs) → page < 262144 → walk_at p root page ≡ e → is_valid e ≡ true → f ≡ frame_in e → a ≡ attrs_in e → Some (f, a) ≡ finite.get (pages_of p root) page
 page-read p root page e f a low w v fs as_ = (λ i. Some (fs i, as_ i)) ∙ sym (get-page p root page low ∙ ap translation_in w ∙ cond-true _ _ _ v)
+
+-- a page's frame is mapped no more after the page
+pub never-after : (m n : Pages) (page f : ℕ) (a : Attrs) → n ≡ finite.remove m page → finite.get m page ≡ Some (f, a) → MapsOnce m → MapsNever n f
+never-after m n page f a new was once q b e = elim (cases_eq q page) [
+  | inl s ↦ none-some _ (sym (ap (λ y. finite.get y page) new ∙ get-remove nat_cmp_total m page page ∙ cond-true _ _ _ (tied_same page)) ∙ ap (finite.get n) (sym s) ∙ e)
+  | inr d ↦ d (once q page f b a (sym (ap (λ y. finite.get y q) new ∙ get-remove nat_cmp_total m page q ∙ cond-false _ _ _ (tied_other q page d)) ∙ e) was)
+]
 
 -- ---- a table that maps nothing
 pub no-leaf : (p : Pool) (k : ℕ) (t : Root) → IsTable p k t → t.len ≡ 0 → (s : ℕ) → s < 512 → is_valid (entry_at p t.frame s) ≡ true → ⊥
@@ -225,6 +233,7 @@ first-found p root s l i low v leaf inside w before_s before_i =
   where
     walk_here : (q : ℕ) → q / 512 ≡ s → {j : ℕ} → q % 512 ≡ j → walk_at p root q ≡ entry_at p l j
     walk_here q d {j} r = walk-leaf p root q (ap (λ x. is_valid (entry_at p root x)) d ∙ v) ∙ (λ x. entry_at p (leaf_in (entry_at p root (d x))) (r x)) ∙ ap (λ x. entry_at p x j) (sym leaf)
+
     not-valid : (t : ℕ) → t < 512 * s + i → is_valid (walk_at p root t) ≡ false
     not-valid t b = elim (cases_eq (t / 512) s) [
       | inl e ↦ ap is_valid (walk_here t e refl) ∙ before_i (t % 512) (omega (arith, b, e))

@@ -1,13 +1,10 @@
 -- What a write of a page's entry and of its root entry, and of a root entry alone, makes of a tree.
-use Rattle.std.proofs.Common.{◌≡◌, ◌≢◌, ℕ, zero, suc, ◌+◌, ◌-◌, ◌*◌, ◌/◌, ◌%◌, ◌<◌, ◌≤◌, ◌⊎◌, nat_eq, true, false, length, get_or, slice_set, Option, Some, None, cond, refl, sym, ap, subst, ◌∙◌, inl, inr, arith, eq-eqb, get_or-set_same, get_or-set_other}
-use Rattle.std.proofs.lemmas.Bool.{cases_eq, cases_lt, cond-true, cond-false}
-use Rattle.mte_arena.specs.Frames.{Frame, frame_at, frame_or, zero_frame}
-use Rattle.mte_frames.specs.Pool.{Pool, make_pool, IsOut, IsSound, KeepsOthers, taken_by, reserved_by}
-use Rattle.mte_frames.proofs.Keeps.{keeps_on}
-use Rattle.mte_frames.proofs.Counts.{any_default, owned_by-some, within_of as within_count}
-use Rattle.mte_translate.specs.Tables.{entry_at, walk_at, is_valid, leaf_in, count_in, frame_in, valid_in, has_leaf, IsApart, IsUsed, IsTree, IsTreeOf, KeepsData}
-use Rattle.mte_translate.specs.TableSteps.{Wrote, KeepsRest}
-use Rattle.mte_translate.proofs.EntryLemmas.{frame-same, entry-kept, entry-zero, valid-or-not, valid-odd, invalid-even, odd-valid, even-invalid, count-same, count-set, count-less, count-zero, count-none, out-few}
+use Rattle.std.proofs.Common.{◌≡◌, ◌≢◌, ℕ, ◌+◌, ◌/◌, ◌%◌, ◌<◌, true, false, get_or, None, sym, ap, ◌∙◌, inl, inr, arith}
+use Rattle.std.proofs.lemmas.Bool.{cases_eq, cond-true, cond-false}
+use Rattle.mte_frames.specs.Pool.{Pool, IsOut, KeepsOthers}
+use Rattle.mte_translate.specs.Tables.{entry_at, walk_at, is_valid, leaf_in, count_in, frame_in, valid_in, has_leaf, IsApart, IsUsed, IsTree, KeepsData}
+use Rattle.mte_translate.specs.TableSteps.{KeepsRest}
+use Rattle.mte_translate.proofs.EntryLemmas.{entry-kept, valid-or-not, valid-odd, count-same, count-set}
 
 -- ---- walks
 pub walk-leaf : (p : Pool) (root q : ℕ) → has_leaf p root q ≡ true → walk_at p root q ≡ entry_at p (leaf_in (entry_at p root (q / 512))) (q % 512)
@@ -90,20 +87,20 @@ module _ (p n : Pool) (k root q re e : ℕ) (use_of now_use : ℕ → ℕ) (h : 
       let low = h.low in
       let o = h.tree.leaves s l t in
       h.frames _ (leaf-root p k root s use_of h.tree l t)
-          (other-use p k use_of _ _ _ _ o (h.tree.leaves (q / 512) (omega arith) h.leaf) (λ x. d (omega (arith, x))))
+      (other-use p k use_of _ _ _ _ o (h.tree.leaves (q / 512) (omega arith) h.leaf) (λ x. d (omega (arith, x))))
 
   pub edit-other : (r : ℕ) → r < 262144 → r ≢ q → walk_at n root r ≡ walk_at p root r
   edit-other r l d = elim (cases_eq (r / 512) (q / 512)) [
     | inl s ↦
-      let was : has_leaf p root r ≡ true = ap (λ j. is_valid (entry_at p root j)) s ∙ h.leaf in
-      let now : entry_at n root (r / 512) ≡ re = ap (entry_at n root) s ∙ h.root_here in
-      let low : r % 512 < 512 = omega arith in
-      let other : r % 512 ≢ q % 512 = λ x. d (omega (arith, x, s)) in
-      walk-leaf n root r (ap is_valid now ∙ h.still) ∙ ap (λ x. entry_at n (leaf_in x) (r % 512)) now ∙ ap (λ y. entry_at n y (r % 512)) h.same_leaf
+        let was : has_leaf p root r ≡ true = ap (λ j. is_valid (entry_at p root j)) s ∙ h.leaf in
+        let now : entry_at n root (r / 512) ≡ re = ap (entry_at n root) s ∙ h.root_here in
+        let low : r % 512 < 512 = omega arith in
+        let other : r % 512 ≢ q % 512 = λ x. d (omega (arith, x, s)) in
+        walk-leaf n root r (ap is_valid now ∙ h.still) ∙ ap (λ x. entry_at n (leaf_in x) (r % 512)) now ∙ ap (λ y. entry_at n y (r % 512)) h.same_leaf
         ∙ h.leaf_slots (r % 512) low other ∙ ap (λ j. entry_at p (leaf_in (entry_at p root j)) (r % 512)) (sym s) ∙ sym (walk-leaf p root r was)
     | inr n2 ↦
-      let low : r / 512 < 512 = omega arith in
-      walk-same p n root r (h.root_slots (r / 512) low n2)
+        let low : r / 512 < 512 = omega arith in
+        walk-same p n root r (h.root_slots (r / 512) low n2)
         (λ t. entry-kept n p _ (r % 512) (other-leaf (r / 512) low n2 t))
   ]
 
@@ -116,14 +113,14 @@ module _ (p n : Pool) (k root q re e : ℕ) (use_of now_use : ℕ → ℕ) (h : 
         own_root = h.root_use;
         leaves = λ s b t. elim (cases_eq s (q / 512)) [
           | inl x ↦
-            let is : leaf_in (entry_at n root s) ≡ l = ap (λ j. leaf_in (entry_at n root j)) x ∙ ap leaf_in h.root_here ∙ h.same_leaf in
-            rw is (rw x (h.leaf_use (q / 512) (omega arith) h.leaf))
+              let is : leaf_in (entry_at n root s) ≡ l = ap (λ j. leaf_in (entry_at n root j)) x ∙ ap leaf_in h.root_here ∙ h.same_leaf in
+              rw is (rw x (h.leaf_use (q / 512) (omega arith) h.leaf))
           | inr x ↦ rw (kept s b x) (h.leaf_use s b (ap is_valid (sym (kept s b x)) ∙ t))
         ];
         pages = λ r b t. elim (cases_eq r q) [
           | inl x ↦
-            let is : walk_at n root r ≡ e = ap (walk_at n root) x ∙ edit-here in
-            rw is (h.mine (ap is_valid (sym is) ∙ t))
+              let is : walk_at n root r ≡ e = ap (walk_at n root) x ∙ edit-here in
+              rw is (h.mine (ap is_valid (sym is) ∙ t))
           | inr x ↦ rw (edit-other r b x) (h.page_use r b (ap is_valid (sym (edit-other r b x)) ∙ t))
         ];
         clean = λ r b t. elim (cases_eq r q) [
@@ -132,16 +129,16 @@ module _ (p n : Pool) (k root q re e : ℕ) (use_of now_use : ℕ → ℕ) (h : 
         ];
         counted = λ s b t. elim (cases_eq s (q / 512)) [
           | inl x ↦
-            let is : entry_at n root s ≡ re = ap (entry_at n root) x ∙ h.root_here in
-            let was = h.tree.counted (q / 512) (omega arith) h.leaf in
-            let set = count-set p n l 512 (q % 512) (omega arith) h.leaf_slots in
-            let old : entry_at p l (q % 512) % 2 ≡ walk_at p root q % 2 = ap (λ y. y % 2) (sym (walk-leaf p root q h.leaf)) in
-            let new : entry_at n l (q % 512) % 2 ≡ e % 2 = ap (λ y. y % 2) h.leaf_here in
-            let sums : count_in re ≡ valid_in n l 512 = balance _ _ _ _ _ _ _ _ h.count was set old new in
-            ap count_in is ∙ sums ∙ sym (ap (λ y. valid_in n (leaf_in y) 512) is ∙ ap (λ y. valid_in n y 512) h.same_leaf)
+              let is : entry_at n root s ≡ re = ap (entry_at n root) x ∙ h.root_here in
+              let was = h.tree.counted (q / 512) (omega arith) h.leaf in
+              let set = count-set p n l 512 (q % 512) (omega arith) h.leaf_slots in
+              let old : entry_at p l (q % 512) % 2 ≡ walk_at p root q % 2 = ap (λ y. y % 2) (sym (walk-leaf p root q h.leaf)) in
+              let new : entry_at n l (q % 512) % 2 ≡ e % 2 = ap (λ y. y % 2) h.leaf_here in
+              let sums : count_in re ≡ valid_in n l 512 = balance _ _ _ _ _ _ _ _ h.count was set old new in
+              ap count_in is ∙ sums ∙ sym (ap (λ y. valid_in n (leaf_in y) 512) is ∙ ap (λ y. valid_in n y 512) h.same_leaf)
           | inr x ↦
-            let there = ap is_valid (sym (kept s b x)) ∙ t in
-            ap count_in (kept s b x) ∙ h.tree.counted s b there
+              let there = ap is_valid (sym (kept s b x)) ∙ t in
+              ap count_in (kept s b x) ∙ h.tree.counted s b there
               ∙ sym (ap (λ y. valid_in n (leaf_in y) 512) (kept s b x) ∙ count-same p n _ 512 (λ j c. entry-kept n p _ j (other-leaf s b x there)))
         ];
       }
@@ -201,8 +198,8 @@ module _ (p n : Pool) (k root s l re : ℕ) (use_of now_use : ℕ → ℕ) (h : 
   hang-walk q b = elim (cases_eq (q / 512) s) [
     | inl x ↦ h.still q x ∙ sym (h.none q x)
     | inr x ↦
-      let low : q / 512 < 512 = omega arith in
-      walk-same p n root q (h.slots (q / 512) low x) (λ t. entry-kept n p _ (q % 512) (kept-leaf (q / 512) low x t))
+        let low : q / 512 < 512 = omega arith in
+        walk-same p n root q (h.slots (q / 512) low x) (λ t. entry-kept n p _ (q % 512) (kept-leaf (q / 512) low x t))
   ]
 
   pub hang-tree : IsTree n k root now_use
@@ -218,11 +215,11 @@ module _ (p n : Pool) (k root s l re : ℕ) (use_of now_use : ℕ → ℕ) (h : 
         clean = λ q b t. hang-walk q b ∙ h.tree.clean q b (ap is_valid (sym (hang-walk q b)) ∙ t);
         counted = λ j b t. elim (cases_eq j s) [
           | inl x ↦
-            let is : entry_at n root j ≡ re = ap (entry_at n root) x ∙ h.here in
-            ap count_in is ∙ h.count (ap is_valid (sym is) ∙ t) ∙ sym (ap (λ y. valid_in n (leaf_in y) 512) is)
+              let is : entry_at n root j ≡ re = ap (entry_at n root) x ∙ h.here in
+              ap count_in is ∙ h.count (ap is_valid (sym is) ∙ t) ∙ sym (ap (λ y. valid_in n (leaf_in y) 512) is)
           | inr x ↦
-            let there = ap is_valid (sym (h.slots j b x)) ∙ t in
-            ap count_in (h.slots j b x) ∙ h.tree.counted j b there
+              let there = ap is_valid (sym (h.slots j b x)) ∙ t in
+              ap count_in (h.slots j b x) ∙ h.tree.counted j b there
               ∙ sym (ap (λ y. valid_in n (leaf_in y) 512) (h.slots j b x) ∙ count-same p n _ 512 (λ i c. entry-kept n p _ i (kept-leaf j b x there)))
         ];
       }

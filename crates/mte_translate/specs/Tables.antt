@@ -93,7 +93,7 @@ valid_in p f (suc n) = valid_in p f n + entry_at p f n % 2
 pub record IsApart (p : Pool) (root f : ℕ) : Type 0 where
   pub no_root : f ≢ root
   pub no_leaf : (s : ℕ) → s < 512 → is_valid (entry_at p root s) ≡ true
-    → f ≢ leaf_in (entry_at p root s)
+      → f ≢ leaf_in (entry_at p root s)
 
 -- the frame f is out under the quota k, and its use is the n-th
 pub record IsUsed (p : Pool) (k : ℕ) (use_of : ℕ → ℕ) (f n : ℕ) : Type 0 where
@@ -106,13 +106,13 @@ pub record IsUsed (p : Pool) (k : ℕ) (use_of : ℕ → ℕ) (f n : ℕ) : Type
 pub record IsTree (p : Pool) (k root : ℕ) (use_of : ℕ → ℕ) : Type 0 where
   pub own_root : IsUsed p k use_of root 0
   pub leaves : (s : ℕ) → s < 512 → is_valid (entry_at p root s) ≡ true
-    → IsUsed p k use_of (leaf_in (entry_at p root s)) (1 + s)
+      → IsUsed p k use_of (leaf_in (entry_at p root s)) (1 + s)
   pub pages : (q : ℕ) → q < TABLE_PAGES → is_valid (walk_at p root q) ≡ true
-    → IsUsed p k use_of (frame_in (walk_at p root q)) 513
+      → IsUsed p k use_of (frame_in (walk_at p root q)) 513
   -- an entry of a leaf that isn't valid is 0
   pub clean : (q : ℕ) → q < TABLE_PAGES → is_valid (walk_at p root q) ≡ false → walk_at p root q ≡ 0
   pub counted : (s : ℕ) → s < 512 → is_valid (entry_at p root s) ≡ true
-    → count_in (entry_at p root s) ≡ valid_in p (leaf_in (entry_at p root s)) 512
+      → count_in (entry_at p root s) ≡ valid_in p (leaf_in (entry_at p root s)) 512
 
 pub record IsTreeOf (p : Pool) (k root : ℕ) : Type 0 where
   pub use_of : ℕ → ℕ
@@ -144,7 +144,7 @@ IsSomeTable p t = (k : ℕ) × IsTable p k t
 pub record KeepsData (k root : ℕ) (p n : Pool) : Type 0 where
   pub out : (f : ℕ) → IsOut p f k → IsApart p root f → IsOut n f k
   pub same : (f : ℕ) → IsOut p f k → IsApart p root f
-    → get_or n.frames f None ≡ get_or p.frames f None
+      → get_or n.frames f None ≡ get_or p.frames f None
   pub apart : (f : ℕ) → IsOut p f k → IsApart p root f → IsApart n root f
 
 -- from p to n the table stays, maps what it mapped, and has no other frames of its own

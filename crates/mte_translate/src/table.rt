@@ -126,9 +126,9 @@ impl Table {
             ≡ insert (pages_of pool.old self.old.frame) page (frame, attrs) }
         ensures counts { self.new
             ≡ record {
-                frame = self.old.frame;
-                len = self.old.len + 1;
-                leaves = self.old.leaves + missing_leaf pool.old self.old.frame page;
+              frame = self.old.frame;
+              len = self.old.len + 1;
+              leaves = self.old.leaves + missing_leaf pool.old self.old.frame page;
             } }
         ensures once { MapsNever (pages_of pool.old self.old.frame) frame
             → MapsOnce (pages_of pool.old self.old.frame)
@@ -157,12 +157,17 @@ impl Table {
         ensures pages { pages_of pool.new self.new.frame
             ≡ remove (pages_of pool.old self.old.frame) page }
         ensures none { result ≡ None → (pool.new ≡ pool.old) × (self.new ≡ self.old) }
+        ensures free { IfSome result
+            (λ f. IsOut pool.new f quota.old × IsApart pool.new self.new.frame f) }
+        ensures never { IfSome result
+            (λ f. MapsOnce (pages_of pool.old self.old.frame)
+            → MapsNever (pages_of pool.new self.new.frame) f) }
         ensures counts { OnSome result
             (self.new
             ≡ record {
-                frame = self.old.frame;
-                len = self.old.len - 1;
-                leaves = self.old.leaves - missing_leaf pool.new self.old.frame page;
+              frame = self.old.frame;
+              len = self.old.len - 1;
+              leaves = self.old.leaves - missing_leaf pool.new self.old.frame page;
             }) }
         ensures once { MapsOnce (pages_of pool.old self.old.frame)
             → MapsOnce (pages_of pool.new self.new.frame) }

@@ -1,4 +1,4 @@
-use Rattle.std.proofs.Common.{◌≡◌, ◌∙◌, ◌*◌, ◌+◌, ap}
+use Rattle.std.proofs.Common.{◌∙◌, ◌*◌, ◌+◌, ap}
 use Rattle.std.specs.Int.{from_le_bytes, w64}
 use Rattle.std.specs.List.{slice_range}
 use Rattle.mte_translate.specs.Tables.{entry_at}

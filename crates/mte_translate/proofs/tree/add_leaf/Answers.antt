@@ -1,6 +1,5 @@
-use Rattle.std.proofs.Common.{◌+◌, ◌≡◌}
+use Rattle.std.proofs.Common.{◌+◌}
 use Rattle.mte_frames.proofs.Keeps.{keeps_on}
-use Rattle.mte_translate.specs.Tables.{IsTreeOf}
 use Rattle.mte_translate.proofs.TreeLemmas.{Hang, hang-walk, hang-tree, hang-rest}
 use Rattle.mte_translate.proofs.StepLemmas.{use_with, took, leaf-hung}
 use Rattle.mte_translate.proofs.tree.add_leaf.Goals as goal

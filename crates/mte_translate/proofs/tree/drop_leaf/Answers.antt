@@ -1,7 +1,7 @@
-use Rattle.std.proofs.Common.{◌+◌, ◌≡◌, ◌∙◌, ap, get_or, None}
+use Rattle.std.proofs.Common.{◌+◌, ◌∙◌, ap, get_or, None}
 use Rattle.mte_frames.proofs.Keeps.{keeps_on}
-use Rattle.mte_frames.specs.Pool.{IsOut, taken_by}
-use Rattle.mte_translate.specs.Tables.{IsTreeOf, is_valid, leaf_in, IsUsed}
+use Rattle.mte_frames.specs.Pool.{IsOut}
+use Rattle.mte_translate.specs.Tables.{is_valid, leaf_in, IsUsed}
 use Rattle.mte_translate.proofs.TreeLemmas.{Hang, hang-walk, hang-tree, hang-rest}
 use Rattle.mte_translate.proofs.StepLemmas.{gave, taken-gave, leaf-dropped}
 use Rattle.mte_translate.proofs.tree.drop_leaf.Goals as goal

@@ -1,8 +1,6 @@
-use Rattle.std.proofs.Common.{◌≡◌, ◌∙◌, ◌-◌, ◌+◌, ◌/◌, ap, sym, get_or, None, arith}
-use Rattle.mte_frames.specs.Pool.{IsOut}
+use Rattle.std.proofs.Common.{◌∙◌, ◌+◌}
 use Rattle.mte_frames.proofs.Keeps.{keeps_on}
-use Rattle.mte_translate.specs.Tables.{count_in, IsTreeOf}
-use Rattle.mte_translate.proofs.TreeLemmas.{Edit, edit-here, edit-leaf, edit-other, edit-tree, edit-rest, leaf-out}
+use Rattle.mte_translate.proofs.TreeLemmas.{Edit, edit-here, edit-other, edit-tree, edit-rest, leaf-out}
 use Rattle.mte_translate.proofs.StepLemmas.{root-out, use_with, page-put}
 use Rattle.mte_translate.proofs.tree.put_page.Goals as goal
 use Rattle.mte_translate.proofs.tree.put_page.Goals.{After-set_entry-2}

@@ -1,7 +1,6 @@
-use Rattle.std.proofs.Common.{◌≡◌, ◌∙◌, ◌-◌, ◌+◌, ◌/◌, ap, sym, get_or, None, arith}
-use Rattle.mte_frames.specs.Pool.{IsOut}
+use Rattle.std.proofs.Common.{◌∙◌, ◌-◌, ap, sym}
 use Rattle.mte_frames.proofs.Keeps.{keeps_on}
-use Rattle.mte_translate.specs.Tables.{count_in, IsTreeOf}
+use Rattle.mte_translate.specs.Tables.{count_in}
 use Rattle.mte_translate.proofs.TreeLemmas.{Edit, edit-here, edit-leaf, edit-other, edit-tree, edit-rest, mapped-leaf, leaf-out}
 use Rattle.mte_translate.proofs.StepLemmas.{root-out, page-taken, leaf-counts, count-much}
 use Rattle.mte_translate.proofs.tree.take_page.Goals as goal

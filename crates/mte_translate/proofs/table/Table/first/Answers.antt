@@ -1,4 +1,4 @@
-use Rattle.std.proofs.Common.{◌≡◌, ◌∙◌, ◌+◌, ◌*◌, ◌<◌, ℕ, ap, sym, subst, refl, true, false}
+use Rattle.std.proofs.Common.{◌≡◌, ◌∙◌, ◌+◌, ◌*◌, ◌<◌, ℕ, ap, sym, subst, refl, false}
 use Rattle.mte_translate.specs.Tables.{entry_at, is_valid, leaf_in, pages_of, IsTable, IsFirst}
 use Rattle.mte_translate.proofs.TableLemmas.{len-none, leaf-used, first-found}
 use Rattle.mte_translate.proofs.table.Table.first.Goals as goal
@@ -18,4 +18,4 @@ returns-clause-some c =
     let slot = c.in_ok-slot.ensures in
     let index = c.in_ok-index.ensures in
     subst (λ t. IsFirst (pages_of c.args.pool.now t.frame) (512 * c.in_ok-slot.slot + c.in_ok-index.index)) c.self.view_is
-      (first-found c.args.pool.now c.self.inside.root c.in_ok-slot.slot c.leaf-leaf.result c.in_ok-index.index slot.some.0 slot.some.1 (c.leaf-leaf.ensures ∙ ap leaf_in c.entry.ensures) index.some.0 index.some.1 slot.least index.least)
+    (first-found c.args.pool.now c.self.inside.root c.in_ok-slot.slot c.leaf-leaf.result c.in_ok-index.index slot.some.0 slot.some.1 (c.leaf-leaf.ensures ∙ ap leaf_in c.entry.ensures) index.some.0 index.some.1 slot.least index.least)

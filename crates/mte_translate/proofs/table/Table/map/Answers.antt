@@ -1,8 +1,8 @@
-use Rattle.std.proofs.Common.{◌≡◌, ◌∙◌, ◌/◌, ap, sym, subst, true, false, None, Some, arith}
+use Rattle.std.proofs.Common.{◌≡◌, ◌∙◌, ap, sym, subst, None, arith}
 use Rattle.std.specs.FinMap.{get, insert}
 use Rattle.mte_translate.specs.Tables.{is_valid, pages_of, IsTable}
 use Rattle.mte_translate.proofs.PageLemmas.{page-invalid}
-use Rattle.mte_translate.proofs.TableLemmas.{root_of, keeps-then, missing-one, leaves-few, len-few, pages-mapped, table-mapped, once-insert}
+use Rattle.mte_translate.proofs.TableLemmas.{keeps-then, missing-one, leaves-few, len-few, pages-mapped, table-mapped, once-insert}
 use Rattle.mte_translate.proofs.table.Table.map.Goals as goal
 
 pub overflow_add-self : goal.overflow_add-self
@@ -18,7 +18,7 @@ overflow_add-self-2 c =
 pub put_page-requires-clause-absent : goal.put_page-requires-clause-absent
 put_page-requires-clause-absent c =
     ap is_valid (c.want_leaf.ensures.walks c.args.page c.requires.low)
-      ∙ page-invalid _ _ _ c.requires.low (subst (λ t. get (pages_of c.args.pool.now t.frame) c.args.page ≡ None) (sym c.self.view_is) c.requires.unmapped)
+    ∙ page-invalid _ _ _ c.requires.low (subst (λ t. get (pages_of c.args.pool.now t.frame) c.args.page ≡ None) (sym c.self.view_is) c.requires.unmapped)
 
 pub returns-clause-table : goal.returns-clause-table
 returns-clause-table c =
@@ -26,7 +26,7 @@ returns-clause-table c =
     let want = c.want_leaf.ensures in
     let put = c.put_page.ensures in
     table-mapped _ c.want_leaf.new.pool _ _ _ _ _ _ _ _ _ _ h c.requires.low (subst (λ t. get (pages_of c.args.pool.now t.frame) c.args.page ≡ None) (sym c.self.view_is) c.requires.unmapped) put.attrs
-      want.walks want.rest.slots want.added put.tree put.walk put.walks put.rest.slots
+    want.walks want.rest.slots want.added put.tree put.walk put.walks put.rest.slots
 
 pub returns-clause-pages : goal.returns-clause-pages
 returns-clause-pages c =
@@ -34,7 +34,7 @@ returns-clause-pages c =
     let want = c.want_leaf.ensures in
     let put = c.put_page.ensures in
     let pages = pages-mapped _ c.want_leaf.new.pool _ _ _ _ _ _ _ _ _ _ h c.requires.low (subst (λ t. get (pages_of c.args.pool.now t.frame) c.args.page ≡ None) (sym c.self.view_is) c.requires.unmapped) put.attrs
-      want.walks want.rest.slots want.added put.tree put.walk put.walks put.rest.slots in
+    want.walks want.rest.slots want.added put.tree put.walk put.walks put.rest.slots in
     let all = pages ∙ ap (λ t. insert (pages_of c.args.pool.now t.frame) c.args.page (c.args.frame, c.args.attrs)) c.self.view_is in
     all
 
@@ -44,7 +44,7 @@ returns-clause-once c =
     let want = c.want_leaf.ensures in
     let put = c.put_page.ensures in
     let pages = pages-mapped _ c.want_leaf.new.pool _ _ _ _ _ _ _ _ _ _ h c.requires.low (subst (λ t. get (pages_of c.args.pool.now t.frame) c.args.page ≡ None) (sym c.self.view_is) c.requires.unmapped) put.attrs
-      want.walks want.rest.slots want.added put.tree put.walk put.walks put.rest.slots in
+    want.walks want.rest.slots want.added put.tree put.walk put.walks put.rest.slots in
     let all = pages ∙ ap (λ t. insert (pages_of c.args.pool.now t.frame) c.args.page (c.args.frame, c.args.attrs)) c.self.view_is in
     λ never once. once-insert _ _ _ _ _ all never once
 

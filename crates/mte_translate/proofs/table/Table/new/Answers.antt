@@ -1,4 +1,3 @@
-use Rattle.std.proofs.Common.{◌≡◌}
 use Rattle.mte_translate.proofs.StepLemmas.{took}
 use Rattle.mte_translate.proofs.TableLemmas.{table-new, pages-new}
 use Rattle.mte_translate.proofs.table.Table.new.Goals as goal

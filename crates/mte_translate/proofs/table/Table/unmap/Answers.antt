@@ -1,10 +1,10 @@
-use Rattle.std.proofs.Common.{◌≡◌, ◌≢◌, ◌∙◌, ◌+◌, ◌<◌, ◌/◌, ℕ, ap, sym, subst, true, false, None, Some, Option, arith}
-use Rattle.std.specs.FinMap.{get, remove}
-use Rattle.mte_tags.specs.declared.attrs.Attrs.{Attrs}
+use Rattle.std.proofs.Common.{◌≡◌, ◌∙◌, ap, sym, subst, true, arith}
+use Rattle.std.specs.FinMap.{remove}
 use Rattle.mte_frames.proofs.Keeps.{keeps_on}
-use Rattle.mte_translate.specs.Tables.{is_valid, walk_at, valid_in, pages_of, IsTable, Root}
-use Rattle.mte_translate.proofs.PageLemmas.{page-low, page-valid}
-use Rattle.mte_translate.proofs.TableLemmas.{page-mapped, root_of, len-some, pages-none, pages-unmapped, leaves-unmapped, table-unmapped, once-remove}
+use Rattle.mte_translate.specs.Tables.{is_valid, walk_at, pages_of, IsApart, IsTable, Root}
+use Rattle.mte_translate.proofs.PageLemmas.{page-low}
+use Rattle.mte_translate.proofs.TableLemmas.{page-mapped, len-some, pages-none, pages-unmapped, leaves-unmapped, table-unmapped, once-remove, never-after}
+use Rattle.mte_translate.proofs.KeptTables.{page-frame}
 use Rattle.mte_translate.proofs.table.Table.unmap.Goals as goal
 
 pub returns-in_err-frame-clause-pages : goal.returns-in_err-frame-clause-pages
@@ -63,6 +63,27 @@ returns-clause-once c =
     let trim = c.trim_leaf.ensures in
     let pages = pages-unmapped _ c.take_page.new.pool c.trim_leaf.new.pool _ _ _ _ _ _ _ h low mapped take.walk take.walks take.rest.slots trim.tree trim.tight trim.walks trim.rest.slots trim.dropped in
     λ once. once-remove _ _ _ (pages ∙ ap (λ t. remove (pages_of c.args.pool.now t.frame) c.args.page) c.self.view_is) once
+
+pub returns-clause-never : goal.returns-clause-never
+returns-clause-never c =
+    let h = subst (IsTable c.args.pool.now c.args.quota.now) (sym c.self.view_is) c.requires in
+    let found = sym c.walk.ensures ∙ c.in_ok-frame.was in
+    let low = page-low _ _ _ _ found in
+    let mapped = subst (λ t. is_valid (walk_at c.args.pool.now t.frame c.args.page) ≡ true) (sym c.self.view_is) (page-mapped _ _ _ _ found) in
+    let take = c.take_page.ensures in
+    let trim = c.trim_leaf.ensures in
+    let pages = pages-unmapped _ c.take_page.new.pool c.trim_leaf.new.pool _ _ _ _ _ _ _ h low mapped take.walk take.walks take.rest.slots trim.tree trim.tight trim.walks trim.rest.slots trim.dropped in
+    λ once. never-after _ _ _ _ _ (pages ∙ ap (λ t. remove (pages_of c.args.pool.now t.frame) c.args.page) c.self.view_is) found once
+
+pub returns-clause-free : goal.returns-clause-free
+returns-clause-free c =
+    let frame = page-frame _ _ _ _ _ _ c.requires (sym c.walk.ensures ∙ c.in_ok-frame.was) in
+    let apart = subst (λ t. IsApart c.args.pool.now t.frame c.in_ok-frame.frame) (sym c.self.view_is) frame.2 in
+    let take = c.take_page.ensures.rest.kept in
+    let trim = c.trim_leaf.ensures.rest.kept in
+    let apart_2 = take.apart _ frame.1 apart in
+    let out_2 = take.out _ frame.1 apart in
+    (trim.out _ out_2 apart_2, trim.apart _ out_2 apart_2)
 
 pub returns-clause-others : goal.returns-clause-others
 returns-clause-others c = keeps_on _ _ _ _ c.take_page.ensures.rest.others c.trim_leaf.ensures.rest.others

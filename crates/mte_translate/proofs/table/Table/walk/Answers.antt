@@ -1,4 +1,4 @@
-use Rattle.std.proofs.Common.{◌≡◌, ◌∙◌, ◌/◌, ap, sym, subst, true, false, None, Some}
+use Rattle.std.proofs.Common.{◌≡◌, ◌∙◌, ap, sym, subst, false, None, Some}
 use Rattle.std.specs.FinMap.{get}
 use Rattle.mte_translate.specs.Tables.{is_valid, has_leaf, pages_of}
 use Rattle.mte_translate.proofs.TreeLemmas.{walk-none}
@@ -23,4 +23,4 @@ pub returns : goal.returns
 returns c =
     let walk = walk-read c.args.pool.now c.self.inside.root c.args.page c.entry.result c.leaf.result c.entry-2.result c.entry.ensures (sym c.is_valid.ensures ∙ c.if-not-is_valid.false) c.leaf.ensures c.entry-2.ensures in
     subst (λ t. Some (c.frame.result, c.attrs.result) ≡ get (pages_of c.args.pool.now t.frame) c.args.page) c.self.view_is
-      (page-read c.args.pool.now c.self.inside.root c.args.page c.entry-2.result c.frame.result c.attrs.result c.if-page-ge-TABLE_PAGES.false walk (sym c.is_valid-2.ensures ∙ c.if-not-is_valid-2.false) c.frame.ensures c.attrs.ensures)
+    (page-read c.args.pool.now c.self.inside.root c.args.page c.entry-2.result c.frame.result c.attrs.result c.if-page-ge-TABLE_PAGES.false walk (sym c.is_valid-2.ensures ∙ c.if-not-is_valid-2.false) c.frame.ensures c.attrs.ensures)
