@@ -17,6 +17,7 @@ use Rattle.mte_translate.specs.Translations.{is_for, lookup, filled, without, wi
 use Rattle.mte_translate.specs.Tables.{entry_at, walk_at, is_valid, leaf_in, count_in, attrs_in, frame_in, valid_in, has_leaf, pages_of, IsApart, Root, IsTable, Pages, MapsNever, Agrees, IsCached, Stays}
 use Rattle.mte_translate.proofs.EntryLemmas.{entry-kept, count-same}
 use Rattle.mte_translate.proofs.TreeLemmas.{walk-same, mapped-leaf, page-apart}
+use Rattle.mte_translate.proofs.TreeUses.{tree-of, sound-tree}
 use Rattle.mte_translate.proofs.PageLemmas.{same-frame, page-low, page-there, page-valid, pages-same}
 use Rattle.mte_translate.proofs.TableLemmas.{page-mapped, leaf-page}
 use Rattle.mte_translate.proofs.StandingLaws.{fill-stands, forget-page, forget-asid, lookup-stands}
@@ -39,11 +40,12 @@ module _ (p n : Pool) (k : ℕ) (t : Root) (h : IsTable p k t)
 
   pub kept-table : Stays k t p n
   kept-table =
-      let use_of = h.tree.use_of in
-      let tree = h.tree.tree in
+      let uses = tree-of p k t.frame h.tree in
+      let use_of = uses.use_of in
+      let tree = uses.tree in
       record {
         table = record {
-          tree = record {
+          tree = sound-tree n k t.frame (record {
             use_of = use_of;
             tree = record {
               own_root = record { out = root_out; use_is = tree.own_root.use_is };
@@ -56,7 +58,7 @@ module _ (p n : Pool) (k : ℕ) (t : Root) (h : IsTable p k t)
                   ap count_in (kept-entry s) ∙ tree.counted s b was
                   ∙ sym (ap (λ y. valid_in n (leaf_in y) 512) (kept-entry s) ∙ count-same p n _ 512 (λ i c. entry-kept n p _ i (leaf_same s b was)));
             };
-          };
+          });
           tight = λ s b v. rw (kept-entry s) (h.tight s b (ap is_valid (sym (kept-entry s)) ∙ v));
           len_is = h.len_is ∙ sym (ap finite.len kept-pages);
           leaves_are = h.leaves_are ∙ sym (count-same p n t.frame 512 (λ i c. kept-entry i));
@@ -70,7 +72,7 @@ module _ (p n : Pool) (k : ℕ) (t : Root) (h : IsTable p k t)
 
 pub kept-others : (p n : Pool) (j k : ℕ) (t : Root) → k ≢ j → KeepsOthers j p n → IsTable p k t → Stays k t p n
 kept-others p n j k t d kept h =
-    let tree = h.tree.tree in
+    let tree = (tree-of p k t.frame h.tree).tree in
     let out : (f : ℕ) → IsOut p f k → IsOut n f k = λ f. (kept.out f k d).0 in
     let same : (f : ℕ) → IsOut p f k → get_or n.frames f None ≡ get_or p.frames f None = λ f. kept.frames f k d in
     kept-table p n k t h (same _ tree.own_root.out) (λ s b v. let o = tree.leaves s b v in same _ o.out)
@@ -78,7 +80,7 @@ kept-others p n j k t d kept h =
 
 pub kept-written : (p : Pool) (k f : ℕ) (c : Option Frame) (t : Root) → IsApart p t.frame f → IsTable p k t → Stays k t p (make_pool p.capacities (slice_set p.frames f c) p.owners p.reserved p.taken)
 kept-written p k f c t a h =
-    let tree = h.tree.tree in
+    let tree = (tree-of p k t.frame h.tree).tree in
     kept-table p _ k t h (get_or-set_other p.frames f t.frame c None (λ e. a.no_root (sym e))) (λ s b v. get_or-set_other p.frames f _ c None (λ e. a.no_leaf s b v (sym e)))
     tree.own_root.out (λ s b v. let o = tree.leaves s b v in o.out) (λ q b v. let o = tree.pages q b v in o.out)
 
@@ -90,7 +92,7 @@ vacant-other p k f g free o s =
 pub kept-taken : (p : Pool) (k f : ℕ) (c : Option Frame) (ts : List ℕ) (t : Root) → get_or p.owners f (Some 0) ≡ None → IsTable p k t
     → Stays k t p (make_pool p.capacities (slice_set p.frames f c) (slice_set p.owners f (Some k)) p.reserved ts) × IsApart p t.frame f × MapsNever (pages_of p t.frame) f
 kept-taken p k f c ts t free h =
-    let tree = h.tree.tree in
+    let tree = (tree-of p k t.frame h.tree).tree in
     let other : (g : ℕ) → IsOut p g k → g ≢ f = λ g o. vacant-other p k f g free o in
     let out : (g : ℕ) → IsOut p g k → get_or (slice_set p.owners f (Some k)) g None ≡ Some k = λ g o. get_or-set_other p.owners f g (Some k) None (other g o) ∙ o in (
       kept-table p _ k t h (get_or-set_other p.frames f t.frame c None (other _ tree.own_root.out)) (λ s b v. let o = tree.leaves s b v in get_or-set_other p.frames f _ c None (other _ o.out))
@@ -103,7 +105,7 @@ kept-taken p k f c ts t free h =
 pub kept-given : (p : Pool) (k f : ℕ) (ts : List ℕ) (t : Root) → IsApart p t.frame f → MapsNever (pages_of p t.frame) f → IsTable p k t
     → Stays k t p (make_pool p.capacities p.frames (slice_set p.owners f None) p.reserved ts)
 kept-given p k f ts t a never h =
-    let tree = h.tree.tree in
+    let tree = (tree-of p k t.frame h.tree).tree in
     let out : (g : ℕ) → g ≢ f → IsOut p g k → get_or (slice_set p.owners f None) g None ≡ Some k = λ g d o. get_or-set_other p.owners f g None None d ∙ o in
     kept-table p _ k t h refl (λ s b v. refl)
     (out _ (λ e. a.no_root (sym e)) tree.own_root.out) (λ s b v. let o = tree.leaves s b v in out _ (λ e. a.no_leaf s b v (sym e)) o.out)
@@ -112,18 +114,18 @@ kept-given p k f ts t a never h =
 -- ---- frames of tables
 pub page-frame : (p : Pool) (k q f : ℕ) (a : Attrs) (t : Root) → IsTable p k t → finite.get (pages_of p t.frame) q ≡ Some (f, a) → (q < 262144) × IsOut p f k × IsApart p t.frame f
 page-frame p k q f a t h e =
-    let tree = h.tree.tree in
+    let tree = (tree-of p k t.frame h.tree).tree in
     let low = page-low p t.frame q _ e in
     let v = page-mapped p t.frame q _ e in
     let o = tree.pages q low v in
     let is : frame_in (walk_at p t.frame q) ≡ f = same-frame _ _ (sym (page-there p t.frame q low v) ∙ e) in
-    (low, subst (λ g. IsOut p g k) is o.out, subst (IsApart p t.frame) is (page-apart p k t.frame q h.tree.use_of tree low v))
+    (low, subst (λ g. IsOut p g k) is o.out, subst (IsApart p t.frame) is (page-apart p k t.frame q (tree-of p k t.frame h.tree).use_of tree low v))
 
 pub leaf-where : (p : Pool) (k q : ℕ) (t : Root) → IsTable p k t → q < 262144 → (has_leaf p t.frame q ≡ true) ↔ ((r : ℕ) × (r / 512 ≡ q / 512) × (finite.get (pages_of p t.frame) r ≢ None))
 leaf-where p k q t h low = (
   λ v.
       let slot : q / 512 < 512 = omega arith in
-      let found = leaf-page p k t.frame (q / 512) h.tree.use_of h.tree.tree slot v (h.tight (q / 512) slot v) in
+      let found = leaf-page p k t.frame (q / 512) (tree-of p k t.frame h.tree).use_of (tree-of p k t.frame h.tree).tree slot v (h.tight (q / 512) slot v) in
       (found.0, found.1.1, λ none. none-some _ (sym none ∙ page-there p t.frame found.0 found.1.0 found.1.2)),
   λ s.
       let same : s.0 / 512 ≡ q / 512 = s.1 in

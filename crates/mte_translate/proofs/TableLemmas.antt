@@ -15,6 +15,7 @@ use Rattle.mte_translate.specs.Tables.{entry_at, walk_at, is_valid, leaf_in, cou
 use Rattle.mte_translate.specs.TableSteps.{KeepsWalks, KeepsWalksBut}
 use Rattle.mte_translate.proofs.EntryLemmas.{entry-zero, valid-or-not, valid-odd, invalid-even, odd-valid, count-set, count-zero, count-some, count-most}
 use Rattle.mte_translate.proofs.TreeLemmas.{walk-leaf, walk-none, mapped-leaf}
+use Rattle.mte_translate.proofs.TreeUses.{tree-of, sound-tree}
 use Rattle.mte_translate.proofs.StepLemmas.{Took, leaf-counts}
 use Rattle.mte_translate.proofs.PageLemmas.{same-frame, get-page, get-page_past, page-valid, page-there, page-gone, page-low, pages-put, pages-removed, len-most, leaves-less}
 
@@ -40,7 +41,7 @@ module _ (p n : Pool) (k f : ℕ) (tk : Took p n k f) where
 
   pub table-new : IsTable n k (root_of f 0 0)
   table-new = record {
-    tree = record {
+    tree = sound-tree n k f (record {
       use_of = λ g. 0;
       tree = record {
         own_root = record { out = tk.mine; use_is = refl };
@@ -49,7 +50,7 @@ module _ (p n : Pool) (k f : ℕ) (tk : Took p n k f) where
         clean = λ q b t. no-walk q b;
         counted = λ s b t. absurd (omega (arith, valid-odd _ t, ap (λ x. x % 2) (blank s b)));
       };
-    };
+    });
     tight = λ s b t. absurd (omega (arith, valid-odd _ t, ap (λ x. x % 2) (blank s b)));
     len_is = sym (ap finite.len pages-new ∙ len-empty nat_cmp (ℕ × Attrs));
     leaves_are = sym (count-zero n f 512 blank);
@@ -114,7 +115,7 @@ module _ (p n m : Pool) (k k2 root page f len leaves added : ℕ) (a : Attrs) (h
       let there : entry_at m root (page / 512) % 2 ≡ 1 = valid-odd _ (mapped-leaf m root page mapped) in
       let set = count-set p m root 512 (page / 512) (omega arith) slots in
       record {
-        tree = tree;
+        tree = sound-tree m k2 root tree;
         tight = λ s b t. elim (cases_eq s (page / 512)) [
           | inl e ↦ rw e (leaf-counts m k2 root page tree.use_of tree.tree low mapped)
           | inr d ↦ rw (slots s b d) (h.tight s b (ap is_valid (sym (slots s b d)) ∙ t))
@@ -140,7 +141,7 @@ module _ (p n m : Pool) (k k2 root page len leaves dropped : ℕ) (h : IsTable p
 
   pub table-unmapped : IsTable m k2 (root_of root (len - 1) (leaves - dropped))
   table-unmapped = record {
-    tree = tree;
+    tree = sound-tree m k2 root tree;
     tight = λ s b t. elim (cases_eq s (page / 512)) [
       | inl e ↦ rw e (tight (ap (λ j. is_valid (entry_at m root j)) (sym e) ∙ t))
       | inr d ↦ rw (slots-unmapped s b d) (h.tight s b (ap is_valid (sym (slots-unmapped s b d)) ∙ t))
@@ -208,13 +209,13 @@ never-after m n page f a new was once q b e = elim (cases_eq q page) [
 -- ---- a table that maps nothing
 pub no-leaf : (p : Pool) (k : ℕ) (t : Root) → IsTable p k t → t.len ≡ 0 → (s : ℕ) → s < 512 → is_valid (entry_at p t.frame s) ≡ true → ⊥
 no-leaf p k t h zero_len s low v =
-    let found = leaf-page p k t.frame s h.tree.use_of h.tree.tree low v (h.tight s low v) in
+    let found = leaf-page p k t.frame s (tree-of p k t.frame h.tree).use_of (tree-of p k t.frame h.tree).tree low v (h.tight s low v) in
     let some = len-some p k t found.0 _ h (page-there p t.frame found.0 found.1.0 found.1.2) in
     omega (arith, some, zero_len)
 
 pub apart-closed : (p : Pool) (k : ℕ) (t : Root) (os : List (Option ℕ)) (f : ℕ) → IsTable p k t → t.len ≡ 0 → os ≡ slice_set p.owners t.frame None → get_or os f None ≡ Some k → IsApart p t.frame f
 apart-closed p k t os f h zero_len new out = record {
-  no_root = λ e. none-some k (sym (ap (λ o. get_or o f None) new ∙ ap (λ g. get_or (slice_set p.owners t.frame None) g None) e ∙ get_or-set_same p.owners t.frame None None (owner_within p.owners t.frame k h.tree.tree.own_root.out)) ∙ out);
+  no_root = λ e. none-some k (sym (ap (λ o. get_or o f None) new ∙ ap (λ g. get_or (slice_set p.owners t.frame None) g None) e ∙ get_or-set_same p.owners t.frame None None (owner_within p.owners t.frame k h.tree.root_out)) ∙ out);
   no_leaf = λ s b v e. no-leaf p k t h zero_len s b v;
 }
 
@@ -251,10 +252,10 @@ len-none p k t h none =
 -- a leaf that is there has a valid entry
 pub leaf-used : (p : Pool) (k : ℕ) (t : Root) (s l : ℕ) → IsTable p k t → s < 512 → is_valid (entry_at p t.frame s) ≡ true → l ≡ leaf_in (entry_at p t.frame s) → ((j : ℕ) → j < 512 → is_valid (entry_at p l j) ≡ false) → ⊥
 leaf-used p k t s l h low v leaf none =
-    let found = count-some p l 512 (λ z. h.tight s low v (h.tree.tree.counted s low v ∙ ap (λ x. valid_in p x 512) (sym leaf) ∙ z)) in
+    let found = count-some p l 512 (λ z. h.tight s low v (h.tree.counted s low v ∙ ap (λ x. valid_in p x 512) (sym leaf) ∙ z)) in
     let odd = valid-odd _ found.1.1 in
     let even = invalid-even _ (none found.0 found.1.0) in
     omega (arith, odd, even)
 
 pub leaves-len : (p : Pool) (k : ℕ) (t : Root) → IsTable p k t → t.leaves ≤ t.len
-leaves-len p k t h = let less = leaves-less p t.frame (λ s b v. leaf-page p k t.frame s h.tree.use_of h.tree.tree b v (h.tight s b v)) in omega (arith, less, h.leaves_are, h.len_is)
+leaves-len p k t h = let less = leaves-less p t.frame (λ s b v. leaf-page p k t.frame s (tree-of p k t.frame h.tree).use_of (tree-of p k t.frame h.tree).tree b v (h.tight s b v)) in omega (arith, less, h.leaves_are, h.len_is)

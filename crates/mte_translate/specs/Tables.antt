@@ -118,6 +118,26 @@ pub record IsTreeOf (p : Pool) (k root : ℕ) : Type 0 where
   pub use_of : ℕ → ℕ
   pub tree : IsTree p k root use_of
 
+-- The same without such a function: root and leaves are out under the quota and all different, and
+-- the frames of pages are out under it and none of these.
+pub record IsSoundTree (p : Pool) (k root : ℕ) : Type 0 where
+  pub root_out : IsOut p root k
+  pub leaves_out : (s : ℕ) → s < 512 → is_valid (entry_at p root s) ≡ true
+      → IsOut p (leaf_in (entry_at p root s)) k
+  pub no_root : (s : ℕ) → s < 512 → is_valid (entry_at p root s) ≡ true
+      → leaf_in (entry_at p root s) ≢ root
+  pub differ : (s r : ℕ) → s < 512 → r < 512 → is_valid (entry_at p root s) ≡ true
+      → is_valid (entry_at p root r) ≡ true
+      → leaf_in (entry_at p root s) ≡ leaf_in (entry_at p root r) → s ≡ r
+  pub pages_out : (q : ℕ) → q < TABLE_PAGES → is_valid (walk_at p root q) ≡ true
+      → IsOut p (frame_in (walk_at p root q)) k
+  pub pages_apart : (q : ℕ) → q < TABLE_PAGES → is_valid (walk_at p root q) ≡ true
+      → IsApart p root (frame_in (walk_at p root q))
+  -- an entry of a leaf that isn't valid is 0
+  pub clean : (q : ℕ) → q < TABLE_PAGES → is_valid (walk_at p root q) ≡ false → walk_at p root q ≡ 0
+  pub counted : (s : ℕ) → s < 512 → is_valid (entry_at p root s) ≡ true
+      → count_in (entry_at p root s) ≡ valid_in p (leaf_in (entry_at p root s)) 512
+
 -- no leaf is empty
 abbrev pub IsTight : Pool → ℕ → Type 0
 IsTight p root =
@@ -130,7 +150,7 @@ pub record Root : Type 0 where
   pub leaves : ℕ
 
 pub record IsTable (p : Pool) (k : ℕ) (t : Root) : Type 0 where
-  pub tree : IsTreeOf p k t.frame
+  pub tree : IsSoundTree p k t.frame
   pub tight : IsTight p t.frame
   pub len_is : t.len ≡ map.len (pages_of p t.frame)
   pub leaves_are : t.leaves ≡ valid_in p t.frame 512

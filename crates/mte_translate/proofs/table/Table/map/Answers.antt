@@ -3,6 +3,7 @@ use Rattle.std.specs.FinMap.{get, insert}
 use Rattle.mte_translate.specs.Tables.{is_valid, pages_of, IsTable}
 use Rattle.mte_translate.proofs.PageLemmas.{page-invalid}
 use Rattle.mte_translate.proofs.TableLemmas.{keeps-then, missing-one, leaves-few, len-few, pages-mapped, table-mapped, once-insert}
+use Rattle.mte_translate.proofs.TreeUses.{tree-of}
 use Rattle.mte_translate.proofs.table.Table.map.Goals as goal
 
 pub overflow_add-self : goal.overflow_add-self
@@ -50,3 +51,8 @@ returns-clause-once c =
 
 pub returns-clause-others : goal.returns-clause-others
 returns-clause-others c = let want = c.want_leaf.ensures in let put = c.put_page.ensures in keeps-then _ _ _ _ _ want.quota want.rest.others put.rest.others
+
+pub want_leaf-requires-clause-tree : goal.want_leaf-requires-clause-tree
+want_leaf-requires-clause-tree c =
+    let h = subst (IsTable c.args.pool.now c.args.quota.now) (sym c.self.view_is) c.requires.table in
+    tree-of c.args.pool.now c.args.quota.now c.self.inside.root h.tree

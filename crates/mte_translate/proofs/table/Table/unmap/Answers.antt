@@ -5,6 +5,7 @@ use Rattle.mte_translate.specs.Tables.{is_valid, walk_at, pages_of, IsApart, IsT
 use Rattle.mte_translate.proofs.PageLemmas.{page-low}
 use Rattle.mte_translate.proofs.TableLemmas.{page-mapped, len-some, pages-none, pages-unmapped, leaves-unmapped, table-unmapped, once-remove, never-after}
 use Rattle.mte_translate.proofs.KeptTables.{page-frame}
+use Rattle.mte_translate.proofs.TreeUses.{tree-of}
 use Rattle.mte_translate.proofs.table.Table.unmap.Goals as goal
 
 pub returns-in_err-frame-clause-pages : goal.returns-in_err-frame-clause-pages
@@ -87,3 +88,8 @@ returns-clause-free c =
 
 pub returns-clause-others : goal.returns-clause-others
 returns-clause-others c = keeps_on _ _ _ _ c.take_page.ensures.rest.others c.trim_leaf.ensures.rest.others
+
+pub take_page-requires-clause-tree : goal.take_page-requires-clause-tree
+take_page-requires-clause-tree c =
+    let h = subst (IsTable c.args.pool.now c.args.quota.now) (sym c.self.view_is) c.requires in
+    tree-of c.args.pool.now c.args.quota.now c.self.inside.root h.tree
