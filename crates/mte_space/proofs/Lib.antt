@@ -1,0 +1,5 @@
+pub mod Values
+pub mod Memories
+pub mod Taken
+pub mod Zeroing
+pub mod SpaceSteps
