@@ -3,3 +3,4 @@ pub mod Memories
 pub mod Taken
 pub mod Zeroing
 pub mod SpaceSteps
+pub mod MapSteps

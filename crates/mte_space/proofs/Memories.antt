@@ -1,5 +1,5 @@
 -- A tenant's memory where its table or the frame of one of its pages has changed.
-use Rattle.std.proofs.Common.{◌≡◌, ◌≢◌, ℕ, ◌-◌, replicate, Option, Some, None, refl, sym, ap, ◌∙◌, inl, inr}
+use Rattle.std.proofs.Common.{◌≡◌, ◌≢◌, ℕ, ◌-◌, replicate, Option, Some, None, is_some, true, refl, sym, ap, ◌∙◌, inl, inr}
 use Rattle.std.proofs.lemmas.Bool.{cases_eq, cond-true, cond-false}
 use Rattle.std.specs.Prelude.{option_map}
 use Rattle.std.specs.FinMap as finite
@@ -83,3 +83,18 @@ space_removed p n t u l s q e others =
       | inl same ↦ rw same (ap (option_map (page_of n)) (cond-true _ _ _ (tied_same q)) ∙ sym (page_at-without_page_same m q))
       | inr d ↦ ap (option_map (page_of n)) (cond-false _ _ _ (tied_other r q d)) ∙ same_value p n (finite.get (pages_of p t.frame) r) (λ g b. others r g b d) ∙ sym (page_at-without_page_other m q r d ∙ page_at-space p t l s r)
     ])
+
+-- where no page is, none is mapped
+none_of : {X Y : Type 0} (g : X → Y) (o : Option X) → option_map g o ≡ None → o ≡ None
+none_of g None e = refl
+none_of g (Some x) e = cc
+
+pub unmapped_there : (p : Pool) (t : Root) (n : ℕ) (s : TagState) (q : ℕ) → page_at (space_memory p t n s) q ≡ None → finite.get (pages_of p t.frame) q ≡ None
+unmapped_there p t n s q e = none_of (page_of p) (finite.get (pages_of p t.frame) q) (sym (page_at-space p t n s q) ∙ e)
+
+pub mapped_there : (p : Pool) (t : Root) (n : ℕ) (s : TagState) (q : ℕ) → is_some (page_at (space_memory p t n s) q) ≡ true → is_some (finite.get (pages_of p t.frame) q) ≡ true
+mapped_there p t n s q e = some_of (page_of p) (finite.get (pages_of p t.frame) q) (ap is_some (sym (page_at-space p t n s q)) ∙ e)
+  where
+    some_of : {X Y : Type 0} (g : X → Y) (o : Option X) → is_some (option_map g o) ≡ true → is_some o ≡ true
+    some_of g None e = e
+    some_of g (Some x) e = refl

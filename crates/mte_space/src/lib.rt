@@ -3,6 +3,7 @@
 
 mod accesses;
 mod frame_page;
+mod mapping;
 mod space;
 mod translation;
 mod writing;
