@@ -4,3 +4,4 @@ pub mod Taken
 pub mod Zeroing
 pub mod SpaceSteps
 pub mod MapSteps
+pub mod OtherSpaces

@@ -98,3 +98,10 @@ mapped_there p t n s q e = some_of (page_of p) (finite.get (pages_of p t.frame) 
     some_of : {X Y : Type 0} (g : X → Y) (o : Option X) → is_some (option_map g o) ≡ true → is_some o ≡ true
     some_of g None e = e
     some_of g (Some x) e = refl
+
+pub page_there : (p : Pool) (t : Root) (n : ℕ) (s : TagState) (q : ℕ) → is_some (finite.get (pages_of p t.frame) q) ≡ true → is_some (page_at (space_memory p t n s) q) ≡ true
+page_there p t n s q e = ap is_some (page_at-space p t n s q) ∙ some_map (page_of p) (finite.get (pages_of p t.frame) q) e
+  where
+    some_map : {X Y : Type 0} (g : X → Y) (o : Option X) → is_some o ≡ true → is_some (option_map g o) ≡ true
+    some_map g None e = e
+    some_map g (Some x) e = refl

@@ -8,6 +8,12 @@ use Rattle.mte_frames.proofs.Keeps.{keeps_self, keeps_on}
 use Rattle.mte_translate.specs.Tables.{Root}
 use Rattle.mte_translate.specs.declared.translation.Translation.{Translation}
 use Rattle.mte_space.specs.Spaces.{space_memory, KeepsRest, NoneEnters}
+use Rattle.std.specs.Borrow.{MutBor}
+use Rattle.mte_frames.specs.declared.pool.FramePool.{FramePool}
+use Rattle.mte_frames.specs.declared.pool.Quota.{Quota}
+use Rattle.mte_translate.specs.declared.table.Table.{Table}
+use Rattle.mte_translate.specs.declared.tlb.Tlb.{Tlb}
+use Rattle.mte_tags.specs.declared.state.TagState.{TagState}
 use Rattle.mte_space.specs.declared.space.Space.{Space}
 
 abbrev pub memory_of : Space → Memory
@@ -24,6 +30,17 @@ pub record IsKept (a b : Space) : Type 0 where
   pub quota : b.quota.now ≡ a.quota.now
   pub rest : KeepsRest a.quota.now a.pool.now b.pool.now a.table.now b.table.now
   pub entries : NoneEnters a.asid a.tlb.now b.tlb.now
+
+-- a space over these borrows
+pub record IsOver (s : Space) (pool : MutBor FramePool) (table : MutBor Table) (quota : MutBor Quota)
+    (tlb : MutBor Tlb) (state : MutBor TagState) (asid limit : ℕ) : Type 0 where
+  pub pool_is : s.pool ≡ pool
+  pub table_is : s.table ≡ table
+  pub quota_is : s.quota ≡ quota
+  pub tlb_is : s.tlb ≡ tlb
+  pub state_is : s.state ≡ state
+  pub asid_is : s.asid ≡ asid
+  pub limit_is : s.limit ≡ limit
 
 pub rest_same : (k : ℕ) (p : Pool) (t : Root) → KeepsRest k p p t t
 rest_same k p t = record { others = keeps_self k p; reserved = refl; capacities = refl; root = refl; taken = refl }

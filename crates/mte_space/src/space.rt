@@ -7,10 +7,11 @@ ghost use Rattle.mte_space.specs.Spaces.{IsSpace};
 
 use crate::accesses::{fault_of_run, fetch_word, read_run, retag_run, tag_of_granule};
 use crate::accesses::{try_read, try_write, write_run};
+use crate::mapping::{map_range, unmap_range};
 use crate::translation::translate;
 use a64_bits::plain;
 use mte_frames::{FramePool, Quota};
-use mte_tags::{Access, MemFault, PageStore, TagState};
+use mte_tags::{Access, Attrs, MemFault, NoQuota, PageStore, Paged, TagState, replace_bytes};
 use mte_translate::{Table, Tlb};
 
 /// A tenant's memory: the pages that its table maps, in frames of a pool that it shares with other
@@ -27,6 +28,44 @@ pub struct Space<'a> {
     limit: usize,
     ghost space: { IsSpace pool.now quota.now table.now limit },
     ghost cached: { IsCached (pages_of pool.now table.now.frame) asid tlb.now },
+}
+
+impl<'a> Space<'a> {
+    ghost use Rattle.mte_space.specs.SpaceMemory.{IsOver};
+
+    /// A tenant's memory of at most `pages` pages, over its table, its quota and its tag state. The
+    /// table maps no more, each in a frame of its own; the quota has a frame left for each page and
+    /// each leaf that may come; what the lookaside buffer remembers of the ASID is what the table
+    /// maps.
+    pub fn new(
+        pool: &'a mut FramePool,
+        table: &'a mut Table,
+        quota: &'a mut Quota,
+        tlb: &'a mut Tlb,
+        state: &'a mut TagState,
+        asid: usize,
+        pages: usize,
+    ) -> Space<'a>
+        requires table { IsTable pool.old quota.old table.old }
+        requires most { table.old.len ≤ pages }
+        requires once { MapsOnce (pages_of pool.old table.old.frame) }
+        requires room { taken_by pool.old quota.old
+            + (2 * pages - table.old.len - table.old.leaves)
+            ≤ reserved_by pool.old quota.old }
+        requires cached { IsCached (pages_of pool.old table.old.frame) asid tlb.old }
+        ensures { IsOver result pool.entry table.entry quota.entry tlb.entry state.entry asid
+            pages }
+    {
+        Space {
+            pool,
+            table,
+            quota,
+            tlb,
+            state,
+            asid,
+            limit: pages,
+        }
+    }
 }
 
 impl PageStore for Space<'_> {
@@ -106,4 +145,43 @@ impl PageStore for Space<'_> {
     ghost kept_same = { kept_same };
 
     ghost kept_on = { kept_on };
+}
+
+impl Paged for Space<'_> {
+    fn pages_left(&mut self) -> usize {
+        self.limit - self.table.len()
+    }
+
+    fn map_pages(&mut self, page: u64, count: usize, attrs: Attrs) -> Result<(), NoQuota> {
+        if count > self.limit - self.table.len() {
+            return Err(NoQuota);
+        }
+        map_range(
+            self.pool,
+            self.table,
+            self.quota,
+            self.limit,
+            page,
+            count,
+            attrs,
+        );
+        Ok(())
+    }
+
+    fn unmap_pages(&mut self, page: u64, count: usize) {
+        unmap_range(
+            self.pool,
+            self.table,
+            self.quota,
+            self.tlb,
+            self.asid,
+            self.limit,
+            page,
+            count,
+        );
+    }
+
+    fn load_bytes(&mut self, addr: u64, bytes: &[u8]) {
+        replace_bytes(self, plain(addr), bytes);
+    }
 }
