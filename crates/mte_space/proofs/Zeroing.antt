@@ -14,8 +14,14 @@ length-zeros : (xs : List ℕ) (g n : ℕ) → 16 * g + 16 * n ≤ length xs →
 unfolding zeros
 length-zeros xs g n h =
     let rest = drop (16 * g + 16 * n) xs in
-    omega (arith, length-append (take (16 * g) xs) (replicate (16 * n) 0 ++ rest), length-append (replicate (16 * n) 0) rest,
-    length-take-le (16 * g) xs (omega arith), length-replicate {A = ℕ} (16 * n) 0, length-drop (16 * g + 16 * n) xs)
+    omega (
+      arith,
+      length-append (take (16 * g) xs) (replicate (16 * n) 0 ++ rest),
+      length-append (replicate (16 * n) 0) rest,
+      length-take-le (16 * g) xs (omega arith),
+      length-replicate {A = ℕ} (16 * n) 0,
+      length-drop (16 * g + 16 * n) xs,
+    )
 
 pub zeroed_after : (p mid : Pool) (f g n t : ℕ) (ws : List ℕ) → f < length p.frames → 16 * g + 16 * n ≤ length (frame_at p.frames f).bytes → length (frame_at p.frames f).bytes ≡ 4096
     → mid ≡ with_frame p f (make_frame (frame_at p.frames f).bytes (with_run (frame_at p.frames f).tags g n t))

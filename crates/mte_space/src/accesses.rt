@@ -14,8 +14,10 @@ use crate::frame_page::FramePage;
 use crate::writing::{retag_frame, write_frame};
 use a64_bits::plain;
 use mte_frames::FramePool;
-use mte_tags::{Access, Attrs, FaultKind, MemFault};
-use mte_tags::{copy_out, fits_one_page, run_fault, run_passes, tag_in_page, word_in_page};
+use mte_tags::{
+    Access, Attrs, FaultKind, MemFault, copy_out, fits_one_page, run_fault, run_passes,
+    tag_in_page, word_in_page,
+};
 
 /// The fault of the first byte of a run that fails, if any.
 #[inline(always)]
@@ -267,13 +269,6 @@ pub(crate) fn retag_run(
     if let Some(fault) = run_fault(&FramePage::new(pool, frame, attrs), at, 1, access) {
         return Err(fault);
     }
-    retag_frame(
-        pool,
-        frame,
-        (at % 4096 / 16) as usize,
-        count,
-        tag,
-        zero,
-    );
+    retag_frame(pool, frame, (at % 4096 / 16) as usize, count, tag, zero);
     Ok(())
 }

@@ -80,13 +80,7 @@ pub(crate) fn map_range(
 }
 
 /// Ends the mapping of a page, if it has one, and gives its frame back.
-fn unmap_page(
-    pool: &mut FramePool,
-    table: &mut Table,
-    quota: &mut Quota,
-    limit: usize,
-    page: u64,
-)
+fn unmap_page(pool: &mut FramePool, table: &mut Table, quota: &mut Quota, limit: usize, page: u64)
     requires space { IsSpace pool.old quota.old table.old limit }
     ensures space { IsSpace pool.new quota.new table.new limit }
     ensures memory { (s : TagState)

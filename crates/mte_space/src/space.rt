@@ -5,8 +5,9 @@ ghost use Rattle.mte_frames.specs.Pool.{taken_by, reserved_by};
 ghost use Rattle.mte_translate.specs.Tables.{pages_of, IsTable, MapsOnce, IsCached};
 ghost use Rattle.mte_space.specs.Spaces.{IsSpace};
 
-use crate::accesses::{fault_of_run, fetch_word, read_run, retag_run, tag_of_granule};
-use crate::accesses::{try_read, try_write, write_run};
+use crate::accesses::{
+    fault_of_run, fetch_word, read_run, retag_run, tag_of_granule, try_read, try_write, write_run,
+};
 use crate::mapping::{map_range, unmap_range};
 use crate::translation::translate;
 use a64_bits::plain;
@@ -149,7 +150,8 @@ impl PageStore for Space<'_> {
 
 impl Paged for Space<'_> {
     fn pages_left(&mut self) -> usize {
-        self.limit - self.table.len()
+        let mapped = self.table.len();
+        self.limit - mapped
     }
 
     fn map_pages(&mut self, page: u64, count: usize, attrs: Attrs) -> Result<(), NoQuota> {
@@ -157,27 +159,14 @@ impl Paged for Space<'_> {
             return Err(NoQuota);
         }
         map_range(
-            self.pool,
-            self.table,
-            self.quota,
-            self.limit,
-            page,
-            count,
-            attrs,
+            self.pool, self.table, self.quota, self.limit, page, count, attrs,
         );
         Ok(())
     }
 
     fn unmap_pages(&mut self, page: u64, count: usize) {
         unmap_range(
-            self.pool,
-            self.table,
-            self.quota,
-            self.tlb,
-            self.asid,
-            self.limit,
-            page,
-            count,
+            self.pool, self.table, self.quota, self.tlb, self.asid, self.limit, page, count,
         );
     }
 

@@ -7,8 +7,7 @@ ghost use Rattle.mte_space.specs.Spaces.{NoneEnters};
 
 use mte_frames::FramePool;
 use mte_tags::Attrs;
-use mte_translate::{Table, Tlb};
-use mte_translate::{fill_adds_its_own, lookup_returns_what_stands};
+use mte_translate::{Table, Tlb, fill_adds_its_own, lookup_returns_what_stands};
 
 /// The frame and the attributes of a page, if it is mapped. Where the lookaside buffer does not
 /// give them at once, the table is walked, and the buffer remembers what is mapped there.

@@ -7,5 +7,5 @@ use Rattle.mte_space.proofs.space.SpacePaged.pages_left.Goals as goal
 pub returns-clause-answer : goal.returns-clause-answer
 returns-clause-answer c =
     let s = c.args.self.now in
-    let left : pages_left (memory_of s) ≡ s.limit - c.len.result = pages_left-space s.pool.now s.table.now s.limit s.state.now s.space.table.len_is ∙ sym (ap (λ k. s.limit - k) c.len.ensures) in
+    let left : pages_left (memory_of s) ≡ s.limit - c.len-mapped.result = pages_left-space s.pool.now s.table.now s.limit s.state.now s.space.table.len_is ∙ sym (ap (λ k. s.limit - k) c.len-mapped.ensures) in
     sym left
