@@ -157,6 +157,9 @@ pages-none p root page none = same_map nat_cmp_total nat_cmp-IsAntisymmetric _ _
 ])
 
 -- ---- each frame for one page
+pub once-empty : (m : Pages) → m ≡ finite.empty → MapsOnce m
+once-empty m is q r f a b e _ = absurd (none-some _ (sym (ap (λ n. finite.get n q) is ∙ get-empty nat_cmp q) ∙ e))
+
 pub once-insert : (m n : Pages) (page f : ℕ) (a : Attrs) → n ≡ finite.insert m page (f, a) → MapsNever m f → MapsOnce m → MapsOnce n
 once-insert m n page f a new never once q r g b c eq er =
     elim (cases_eq q page) [

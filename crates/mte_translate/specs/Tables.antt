@@ -110,7 +110,8 @@ pub record IsTree (p : Pool) (k root : ℕ) (use_of : ℕ → ℕ) : Type 0 wher
   pub pages : (q : ℕ) → q < TABLE_PAGES → is_valid (walk_at p root q) ≡ true
       → IsUsed p k use_of (frame_in (walk_at p root q)) 513
   -- an entry of a leaf that isn't valid is 0
-  pub clean : (q : ℕ) → q < TABLE_PAGES → is_valid (walk_at p root q) ≡ false → walk_at p root q ≡ 0
+  pub clean : (q : ℕ) → q < TABLE_PAGES → is_valid (walk_at p root q) ≡ false
+      → walk_at p root q ≡ 0
   pub counted : (s : ℕ) → s < 512 → is_valid (entry_at p root s) ≡ true
       → count_in (entry_at p root s) ≡ valid_in p (leaf_in (entry_at p root s)) 512
 

@@ -1,5 +1,6 @@
-//! Address translation: the translation lookaside buffer (Arm ARM DDI 0487, D8), which remembers
-//! the frame and the attributes of some pages of each address space.
+//! Address translation (Arm ARM DDI 0487, D8): page tables of two levels in frames, and the
+//! translation lookaside buffer, which remembers the frame and the attributes of some pages of each
+//! address space.
 #![tactic(auto)]
 
 mod entries;

@@ -42,6 +42,7 @@ impl Table {
         ensures table { IsTable pool.new quota.new result }
         ensures counts { (result.len ≡ 0) × (result.leaves ≡ 0) }
         ensures pages { pages_of pool.new result.frame ≡ empty }
+        ensures once { MapsOnce (pages_of pool.new result.frame) }
         ensures same { quota.new ≡ quota.old }
         ensures vacant { get_or pool.old.owners result.frame (Some 0) ≡ None }
         ensures pool { pool.new
