@@ -13,5 +13,6 @@ pub mod RunSteps
 pub mod GranuleLists
 pub mod PageRuns
 pub mod TagRuns
+pub mod FoundPages
 mod Places
 mod Found

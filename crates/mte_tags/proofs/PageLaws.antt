@@ -170,3 +170,14 @@ mapped_bytes (suc n) m a u h = (
 -- bytes lie in mapped pages where each one's page is mapped
 pub IsMapped-from_pages : (m : Memory) (a n : ℕ) → ((i : ℕ) → i < n → IsSome (page_at m ((plain a + i) % 2 ^ 56 / 4096))) → IsMapped m a n
 IsMapped-from_pages m a n h = mapped_bytes n m (plain a) (omega arith) h
+
+-- one of several pages, and then the others
+pub with_new_pages-step : (m : Memory) (q n : ℕ) (attrs : Attrs) → 0 < n → with_new_pages m q n attrs ≡ with_new_pages (with_page m q (new_page attrs.0)) (q + 1) (n - 1) attrs
+unfolding with_new_pages
+with_new_pages-step m q zero attrs h = absurd (omega arith)
+with_new_pages-step m q (suc n) attrs h = let e : suc n - 1 ≡ n = omega arith in ap (λ k. with_new_pages (with_page m q (new_page attrs.0)) (q + 1) k attrs) (sym e)
+
+pub without_pages-step : (m : Memory) (q n : ℕ) → 0 < n → without_pages m q n ≡ without_pages (without_page m q) (q + 1) (n - 1)
+unfolding without_pages
+without_pages-step m q zero h = absurd (omega arith)
+without_pages-step m q (suc n) h = let e : suc n - 1 ≡ n = omega arith in ap (λ k. without_pages (without_page m q) (q + 1) k) (sym e)

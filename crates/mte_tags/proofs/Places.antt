@@ -149,12 +149,6 @@ pub pages_left-slots : (n : Memory) (slots : List Slot) → AreSlots slots → p
 unfolding pages_left slots_memory
 pages_left-slots n slots h = ap (λ k. n.limit - k) (len-slots n slots h)
 
--- one of several new pages
-pub with_new_pages-step : (m : Memory) (q n : ℕ) (attrs : Attrs) → 0 < n → with_new_pages m q n attrs ≡ with_new_pages (with_page m q (new_page attrs.0)) (q + 1) (n - 1) attrs
-unfolding with_new_pages
-with_new_pages-step m q zero attrs h = absurd (omega arith)
-with_new_pages-step m q (suc n) attrs h = let e : suc n - 1 ≡ n = omega arith in ap (λ k. with_new_pages (with_page m q (new_page attrs.0)) (q + 1) k attrs) (sym e)
-
 none_later : (s : Slot) (ss : List Slot) (q : ℕ) → s.page ≢ q → ((j : ℕ) (d : Slot) → j < length ss → (get_or ss j d).page ≢ q) → (j : ℕ) (d : Slot) → j < length (s ∷ ss) → (get_or (s ∷ ss) j d).page ≢ q
 none_later s ss q n h zero d l = n
 none_later s ss q n h (suc j) d l = h j d (omega arith)
@@ -278,9 +272,3 @@ slots_memory-swap_remove n slots s q d h l p =
             ∙ sym (page_at-without_page_other (slots_memory n slots) q r f)
       ]
     ])
-
--- one of several pages
-pub without_pages-step : (m : Memory) (q n : ℕ) → 0 < n → without_pages m q n ≡ without_pages (without_page m q) (q + 1) (n - 1)
-unfolding without_pages
-without_pages-step m q zero h = absurd (omega arith)
-without_pages-step m q (suc n) h = let e : suc n - 1 ≡ n = omega arith in ap (λ k. without_pages (without_page m q) (q + 1) k) (sym e)

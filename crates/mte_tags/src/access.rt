@@ -47,7 +47,7 @@ impl Access {
     }
 
     /// That of a fetch at an address, which needs EXEC.
-    pub(crate) fn fetching(pc: u64) -> Access
+    pub fn fetching(pc: u64) -> Access
         ensures { result ≡ fetch_access pc }
     {
         Access {

@@ -21,14 +21,6 @@ use a64_bits::plain;
 
 const ADDRESSES: u64 = 1 << 56;
 
-/// Whether some bytes are wanted, and one page holds them.
-#[inline]
-pub(crate) fn fits_one_page(at: u64, count: u64) -> bool
-    ensures { IsTrue result ↔ ((0 < count) × (at % 4096 + count ≤ 4096)) }
-{
-    count > 0 && count <= 4096 - at % 4096
-}
-
 /// The fault of the first byte of an access that fails, if any.
 fn check_bytes<S: PageStore>(
     store: &mut S,

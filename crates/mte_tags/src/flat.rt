@@ -13,10 +13,11 @@ mod slot;
 
 use crate::access::Access;
 use crate::attrs::Attrs;
-use crate::by_page::{fits_one_page, replace_bytes};
+use crate::by_page::replace_bytes;
 use crate::fault::{FaultKind, MemFault};
 use crate::flat::finder::Finder;
 use crate::flat::slot::{Slot, find, holds, new_slot};
+use crate::page::{copy_out, fits_one_page, run_fault, run_passes, tag_in_page, word_in_page};
 use crate::page_store::PageStore;
 use crate::state::{TagMode, TagState};
 use crate::tagged::{NoQuota, Paged};
@@ -88,7 +89,7 @@ fn slots_fault(
 {
     match find(slots, finder, at / 4096) {
         None => Some(access.fault(FaultKind::Translation, at, 0)),
-        Some(s) => slots[s].run_fault(at, count, access),
+        Some(s) => run_fault(&slots[s], at, count, access),
     }
 }
 
@@ -104,7 +105,7 @@ fn fetch_slots(slots: &[Slot], finder: &mut Finder, pc: u64) -> Result<u32, MemF
     if holds(slots, code, pc / 4096) {
         let slot = &slots[code];
         if slot.attrs.contains(Attrs::EXEC) {
-            return Ok(slot.word(pc));
+            return Ok(word_in_page(slot, pc));
         }
     }
     fetch_again(slots, finder, pc)
@@ -125,10 +126,10 @@ fn fetch_again(slots: &[Slot], finder: &mut Finder, pc: u64) -> Result<u32, MemF
     };
     finder.code = s;
     let slot = &slots[s];
-    if let Some(fault) = slot.run_fault(at, 4, &access) {
+    if let Some(fault) = run_fault(slot, at, 4, &access) {
         return Err(fault);
     }
-    Ok(slot.word(at))
+    Ok(word_in_page(slot, at))
 }
 
 /// Copies bytes out that lie on the page which was found last and do not fail, and returns whether
@@ -155,10 +156,10 @@ fn read_found(slots: &[Slot], finder: &Finder, at: u64, buffer: &mut [u8], acces
         return false;
     }
     let slot = &slots[s];
-    if !slot.passes(at, buffer.len(), access) {
+    if !run_passes(slot, at, buffer.len(), access) {
         return false;
     }
-    slot.copy_out(at, buffer);
+    copy_out(slot, at, buffer);
     true
 }
 
@@ -189,10 +190,10 @@ fn read_slots(
         return Err(access.fault(FaultKind::Translation, at, 0));
     };
     let slot = &slots[s];
-    if let Some(fault) = slot.run_fault(at, buffer.len(), access) {
+    if let Some(fault) = run_fault(slot, at, buffer.len(), access) {
         return Err(fault);
     }
-    slot.copy_out(at, buffer);
+    copy_out(slot, at, buffer);
     Ok(())
 }
 
@@ -222,7 +223,7 @@ fn write_found(slots: &mut [Slot], finder: &Finder, at: u64, bytes: &[u8], acces
         return false;
     }
     let slot = &mut slots[s];
-    if !slot.passes(at, bytes.len(), access) {
+    if !run_passes(slot, at, bytes.len(), access) {
         return false;
     }
     slot.copy_in(at, bytes);
@@ -257,7 +258,7 @@ fn write_slots(
         return Err(access.fault(FaultKind::Translation, at, 0));
     };
     let slot = &mut slots[s];
-    if let Some(fault) = slot.run_fault(at, bytes.len(), access) {
+    if let Some(fault) = run_fault(slot, at, bytes.len(), access) {
         return Err(fault);
     }
     slot.copy_in(at, bytes);
@@ -284,10 +285,10 @@ fn tag_in_slots(
         return Err(access.fault(FaultKind::Translation, at, 0));
     };
     let slot = &slots[s];
-    if let Some(fault) = slot.run_fault(at, 1, access) {
+    if let Some(fault) = run_fault(slot, at, 1, access) {
         return Err(fault);
     }
-    Ok(slot.tag(at))
+    Ok(tag_in_page(slot, at))
 }
 
 /// Replaces the tags of a run of granules, or returns the fault of the first that fails.
@@ -322,7 +323,7 @@ fn retag_slots(
         return Err(access.fault(FaultKind::Translation, at, 0));
     };
     let slot = &mut slots[s];
-    if let Some(fault) = slot.run_fault(at, 1, access) {
+    if let Some(fault) = run_fault(slot, at, 1, access) {
         return Err(fault);
     }
     slot.retag((at % 4096 / 16) as usize, count, tag, zero);

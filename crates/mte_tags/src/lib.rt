@@ -9,6 +9,7 @@ mod fault;
 mod flat;
 mod generator;
 mod laws;
+mod page;
 mod page_store;
 mod state;
 mod tagged;
@@ -21,6 +22,9 @@ pub use fault::{FaultKind, MemFault};
 pub use flat::Flat;
 pub use generator::Rgsr;
 pub use laws::{flag_stays_in_sync, mode_stays, no_tag_check_in_async, pages_after_calls};
+pub use page::{
+    MappedPage, copy_in, copy_out, fits_one_page, run_fault, run_passes, tag_in_page, word_in_page,
+};
 pub use page_store::PageStore;
 pub use state::{TagMode, TagState};
 pub use tagged::{NoQuota, Paged, Tagged};

@@ -1,5 +1,6 @@
-//! Tests of the tagged memory, the loader, the arena, the frames and the translation lookaside
-//! buffer, in one crate at the top: a crate with tests of its own would be proved twice.
+//! Tests of the tagged memory, the loader, the arena, the frames, the translation lookaside buffer
+//! and the page tables, in one crate at the top: a crate with tests of its own would be proved
+//! twice.
 #![tactic(auto)]
 
 #[cfg(test)]
@@ -8,6 +9,8 @@ mod arena;
 mod elf;
 #[cfg(test)]
 mod frames;
+#[cfg(test)]
+mod table;
 #[cfg(test)]
 mod tags;
 #[cfg(test)]

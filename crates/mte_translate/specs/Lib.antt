@@ -1,2 +1,4 @@
+pub mod Tables
+pub mod TableSteps
 pub mod Translations
 pub mod Whole

@@ -1,18 +1,15 @@
-//! The pages of the plain memory, and what is done within one of them.
+//! The pages of the plain memory.
 
-ghost use Rattle.std.specs.Prelude.{◌≡◌, ◌≢◌, ℕ, ◌<◌, ◌≤◌, ◌+◌, ◌*◌, ◌%◌, ◌/◌, ◌^◌, ◌&&◌, ◌↔◌};
-ghost use Rattle.std.specs.Prelude.{true, false, Some, None, IfSome, IsNone, IsSome, IsTrue};
-ghost use Rattle.std.specs.Prelude.{is_none, length, slice_index_or, slice_range};
-ghost use Rattle.std.specs.List.{All, range_with_len};
-ghost use Rattle.std.specs.Int.{from_le_bytes, w32};
-ghost use Rattle.mte_tags.specs.Memory.{Memory, page_at, new_page, has, tag_in};
-ghost use Rattle.mte_tags.specs.Slots.{page_of, slots_memory, first_in, spliced, retagged};
+ghost use Rattle.std.specs.Prelude.{◌≡◌, ◌≢◌, ℕ, ◌<◌, ◌≤◌, ◌+◌, ◌*◌, ◌%◌, ◌/◌, ◌^◌, ◌↔◌};
+ghost use Rattle.std.specs.Prelude.{Some, None, IfSome, IsNone, IsSome, IsTrue};
+ghost use Rattle.std.specs.Prelude.{length, slice_index_or};
+ghost use Rattle.std.specs.List.{All};
+ghost use Rattle.mte_tags.specs.Memory.{Memory, page_at, new_page};
+ghost use Rattle.mte_tags.specs.Slots.{page_of, slots_memory, spliced, retagged};
 
-use crate::access::Access;
 use crate::attrs::Attrs;
-use crate::fault::{FaultKind, MemFault};
 use crate::flat::finder::Finder;
-use bitflags::Flags;
+use crate::page::{MappedPage, copy_in};
 
 /// A mapped page: its number, its bytes, a tag for each granule, and its attributes. The bytes
 /// stand where an aligned access stays aligned.
@@ -95,161 +92,34 @@ fn search(slots: &[Slot], page: u64) -> Option<usize>
     None
 }
 
+impl MappedPage for Slot {
+    ghost page = { page_of };
+
+    #[inline(always)]
+    fn attrs(&self) -> Attrs {
+        self.attrs
+    }
+
+    #[inline(always)]
+    fn bytes(&self) -> &[u8] {
+        &self.bytes
+    }
+
+    #[inline(always)]
+    fn granule_tag(&self, granule: usize) -> u8 {
+        self.tags[granule]
+    }
+}
+
 impl Slot {
-    /// The fault of the first byte of a run that fails, if any.
-    #[inline(always)]
-    pub(crate) fn run_fault(&self, at: u64, count: usize, access: &Access) -> Option<MemFault>
-        requires some { 0 < count }
-        requires inside { at % 4096 + count ≤ 4096 }
-        requires plain { at < 2 ^ 56 }
-        ensures { result
-            ≡ first_in access.now (Some (page_of self.now)) (range_with_len at count) }
-    {
-        if self.attrs.0 & access.need != access.need {
-            return Some(access.fault(FaultKind::Permission, at, 0));
-        }
-        if !access.checked {
-            return None;
-        }
-        if !self.attrs.contains(Attrs::TAGGED) {
-            return None;
-        }
-        self.tag_fault(at, count, access)
-    }
-
-    /// Whether the whole run is permitted: the common case, which builds no fault.
-    #[inline(always)]
-    pub(crate) fn passes(&self, at: u64, count: usize, access: &Access) -> bool
-        requires some { 0 < count }
-        requires inside { at % 4096 + count ≤ 4096 }
-        requires plain { at < 2 ^ 56 }
-        ensures { result
-            ≡ is_none (first_in access.now (Some (page_of self.now)) (range_with_len at count)) }
-    {
-        let permitted = self.attrs.0 & access.need == access.need;
-        if !permitted {
-            return false;
-        }
-        let compared = access.checked && self.attrs.contains(Attrs::TAGGED);
-        if !compared {
-            return true;
-        }
-        if self.tags[(at % 4096 / 16) as usize] != access.tag {
-            return false;
-        }
-        if at % 16 + count as u64 <= 16 {
-            return true;
-        }
-        if count <= 16 {
-            let last = at + count as u64 - 1;
-            return self.tags[(last % 4096 / 16) as usize] == access.tag;
-        }
-        self.tags_pass(at, count, access)
-    }
-
-    /// Whether no byte of a run fails where tags are compared.
-    #[inline(never)]
-    fn tags_pass(&self, at: u64, count: usize, access: &Access) -> bool
-        requires some { 0 < count }
-        requires inside { at % 4096 + count ≤ 4096 }
-        requires plain { at < 2 ^ 56 }
-        requires permitted { has self.now.attrs.0 access.now.need ≡ true }
-        requires checked { (access.now.checked && has self.now.attrs.0 8) ≡ true }
-        ensures { result
-            ≡ is_none (first_in access.now (Some (page_of self.now)) (range_with_len at count)) }
-    {
-        self.tag_fault(at, count, access).is_none()
-    }
-
-    /// How the first byte of a run fails where tags are compared.
-    #[inline]
-    fn tag_fault(&self, at: u64, count: usize, access: &Access) -> Option<MemFault>
-        requires some { 0 < count }
-        requires inside { at % 4096 + count ≤ 4096 }
-        requires plain { at < 2 ^ 56 }
-        requires permitted { has self.now.attrs.0 access.now.need ≡ true }
-        requires checked { (access.now.checked && has self.now.attrs.0 8) ≡ true }
-        ensures { result
-            ≡ first_in access.now (Some (page_of self.now)) (range_with_len at count) }
-    {
-        let mut place = at;
-        let mut left = count;
-        while left > 0 {
-            let tag = self.tags[(place % 4096 / 16) as usize];
-            if tag != access.tag {
-                return Some(access.fault(FaultKind::TagCheck, place, tag));
-            }
-            let run = left.min((16 - place % 16) as usize);
-            place += run as u64;
-            left -= run;
-        }
-        None
-    }
-
-    /// Copies a run of bytes out. Runs of one register have a copy of their own, of a known length.
-    #[inline(always)]
-    pub(crate) fn copy_out(&self, at: u64, buffer: &mut [u8])
-        requires { at % 4096 + length buffer.old ≤ 4096 }
-        ensures { buffer.new
-            ≡ slice_range self.now.bytes (at % 4096) (at % 4096 + length buffer.old) }
-    {
-        let from = (at % 4096) as usize;
-        if buffer.len() == 8 {
-            buffer.copy_from_slice(&self.bytes[from..from + 8]);
-        } else if buffer.len() == 4 {
-            buffer.copy_from_slice(&self.bytes[from..from + 4]);
-        } else {
-            buffer.copy_from_slice(&self.bytes[from..from + buffer.len()]);
-        }
-    }
-
-    /// The instruction word at an address.
-    #[inline(always)]
-    pub(crate) fn word(&self, at: u64) -> u32
-        requires { at % 4096 + 4 ≤ 4096 }
-        ensures long { length self.now.bytes ≡ 4096 }
-        ensures word { result
-            ≡ from_le_bytes w32 (slice_range self.now.bytes (at % 4096) (at % 4096 + 4)) }
-    {
-        let mut word = [0; 4];
-        self.copy_out(at, &mut word);
-        u32::from_le_bytes(word)
-    }
-
-    /// Replaces a run of bytes. Runs of one register go through a copy, which lies apart from the
-    /// page.
+    /// Replaces a run of bytes.
     #[inline]
     pub(crate) fn copy_in(&mut self, at: u64, bytes: &[u8])
         requires { at % 4096 + length bytes.now ≤ 4096 }
         ensures { self.new
             ≡ record self.old { bytes = spliced self.old.bytes (at % 4096) bytes.now } }
     {
-        let from = (at % 4096) as usize;
-        if bytes.len() == 8 {
-            let mut number = [0; 8];
-            number.copy_from_slice(bytes);
-            self.bytes[from..from + 8].copy_from_slice(&number);
-        } else if bytes.len() == 4 {
-            let mut number = [0; 4];
-            number.copy_from_slice(bytes);
-            self.bytes[from..from + 4].copy_from_slice(&number);
-        } else {
-            self.bytes[from..from + bytes.len()].copy_from_slice(bytes);
-        }
-    }
-
-    /// The tag of the granule at a plain address, 0 on a page without TAGGED.
-    #[inline]
-    pub(crate) fn tag(&self, at: u64) -> u8
-        requires { All (λ t. t < 16) self.now.tags }
-        ensures small { result < 16 }
-        ensures tag { result ≡ tag_in (Some (page_of self.now)) (at % 4096 / 16) }
-    {
-        let tagged = self.attrs.contains(Attrs::TAGGED);
-        if !tagged {
-            return 0;
-        }
-        self.tags[(at % 4096 / 16) as usize]
+        copy_in(&mut self.bytes, at, bytes);
     }
 
     /// Replaces the tags of `count` granules from granule `first` on, and makes their bytes zero

@@ -2,7 +2,8 @@ use Rattle.std.proofs.Common.{◌≡◌, ◌∙◌, ◌<◌, ◌^◌, ◌+◌, �
 use Rattle.mte_tags.specs.Memory.{Memory, page_at, with_page, with_new_pages, new_page}
 use Rattle.mte_tags.specs.Slots.{slots_memory, page_of, AreSlots}
 use Rattle.mte_tags.proofs.Pages.{page_at-with_page_other}
-use Rattle.mte_tags.proofs.Places.{AreSlots-push, slots_memory-push, any_memory, with_new_pages-step}
+use Rattle.mte_tags.proofs.PageLaws.{with_new_pages-step}
+use Rattle.mte_tags.proofs.Places.{AreSlots-push, slots_memory-push, any_memory}
 use Rattle.mte_tags.proofs.flat.map_slots.Goals as goal
 
 pub loop-i-preserved : goal.loop-i-preserved

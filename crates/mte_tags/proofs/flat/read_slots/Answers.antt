@@ -1,7 +1,8 @@
-use Rattle.std.proofs.Common.{◌∙◌, sym, ap, length, Err, refl}
+use Rattle.std.proofs.Common.{◌/◌, ◌∙◌, sym, ap, length, Err, refl}
 use Rattle.mte_tags.specs.Accesses.{outcome}
 use Rattle.mte_tags.specs.Slots.{slots_memory}
-use Rattle.mte_tags.proofs.Found.{fault_found, fault_missing, piece_read}
+use Rattle.mte_tags.proofs.Found.{found_page}
+use Rattle.mte_tags.proofs.FoundPages.{page_run, page_read, fault_missing}
 use Rattle.mte_tags.proofs.flat.read_slots.Goals as goal
 
 pub returns-in_default-clause-answer : goal.returns-in_default-clause-answer
@@ -12,14 +13,14 @@ returns-in_default-clause-answer c = λ n.
 pub returns-in-Some-run_fault-clause-answer : goal.returns-in-Some-run_fault-clause-answer
 returns-in-Some-run_fault-clause-answer c = λ n.
     let found = c.in-Some.ensures.some in
-    ap outcome (c.in-Some-run_fault.ensures ∙ fault_found n c.args.slots.now c.in-Some.s c.args.at (length c.args.buffer.now) _ c.args.access.now c.requires.slots found.0 found.1 c.requires.inside c.requires.plain)
+    ap outcome (c.in-Some-run_fault.ensures ∙ page_run (slots_memory n c.args.slots.now) _ c.args.at (length c.args.buffer.now) c.args.access.now (found_page n c.args.slots.now c.in-Some.s (c.args.at / 4096) _ c.requires.slots found.0 found.1) c.requires.inside c.requires.plain)
 
 pub returns-clause-answer : goal.returns-clause-answer
 returns-clause-answer c = λ n.
     let found = c.in-Some.ensures.some in
-    ap outcome (sym c.in_default-run_fault.is ∙ c.run_fault.ensures ∙ fault_found n c.args.slots.now c.in-Some.s c.args.at (length c.args.buffer.now) _ c.args.access.now c.requires.slots found.0 found.1 c.requires.inside c.requires.plain)
+    ap outcome (sym c.in_default-run_fault.is ∙ c.run_fault.ensures ∙ page_run (slots_memory n c.args.slots.now) _ c.args.at (length c.args.buffer.now) c.args.access.now (found_page n c.args.slots.now c.in-Some.s (c.args.at / 4096) _ c.requires.slots found.0 found.1) c.requires.inside c.requires.plain)
 
 pub returns-clause-bytes : goal.returns-clause-bytes
 returns-clause-bytes c = λ n.
     let found = c.in-Some.ensures.some in
-    piece_read n c.args.slots.now c.in-Some.s c.args.at (length c.args.buffer.now) _ _ c.copy_out.new.buffer c.requires.slots found.0 found.1 c.requires.inside c.requires.plain c.copy_out.auto.buffer refl c.copy_out.ensures
+    page_read (slots_memory n c.args.slots.now) _ c.args.at (length c.args.buffer.now) _ c.copy_out.new.buffer (found_page n c.args.slots.now c.in-Some.s (c.args.at / 4096) _ c.requires.slots found.0 found.1) c.requires.inside c.requires.plain c.copy_out.auto.buffer refl c.copy_out.ensures.bytes

@@ -1,7 +1,8 @@
-use Rattle.std.proofs.Common.{◌∙◌, sym, ap, Err, refl}
+use Rattle.std.proofs.Common.{◌/◌, ◌∙◌, sym, ap, Err, refl}
 use Rattle.mte_tags.specs.Accesses.{outcome}
 use Rattle.mte_tags.specs.Slots.{slots_memory}
-use Rattle.mte_tags.proofs.Found.{granules_fault_found, granules_fault_missing, slot_retagged}
+use Rattle.mte_tags.proofs.Found.{found_page, slot_retagged}
+use Rattle.mte_tags.proofs.FoundPages.{page_granules, granules_fault_missing}
 use Rattle.mte_tags.proofs.flat.retag_slots.Goals as goal
 
 pub returns-in_default-clause-answer : goal.returns-in_default-clause-answer
@@ -14,13 +15,13 @@ pub returns-in-Some-run_fault-clause-answer : goal.returns-in-Some-run_fault-cla
 returns-in-Some-run_fault-clause-answer c = λ n.
     let found = c.in-Some.ensures.some in
     ap outcome (c.in-Some-run_fault.ensures
-    ∙ granules_fault_found n c.args.slots.now c.in-Some.s c.args.at c.args.count _ c.args.access.now c.requires.slots found.0 found.1 c.requires.unchecked c.requires.some c.requires.aligned c.requires.inside c.requires.plain)
+    ∙ page_granules (slots_memory n c.args.slots.now) _ c.args.at c.args.count c.args.access.now (found_page n c.args.slots.now c.in-Some.s (c.args.at / 4096) _ c.requires.slots found.0 found.1) c.requires.unchecked c.requires.some c.requires.aligned c.requires.inside c.requires.plain)
 
 pub returns-clause-answer : goal.returns-clause-answer
 returns-clause-answer c = λ n.
     let found = c.in-Some.ensures.some in
     ap outcome (sym c.in_default-run_fault.is ∙ c.run_fault.ensures
-    ∙ granules_fault_found n c.args.slots.now c.in-Some.s c.args.at c.args.count _ c.args.access.now c.requires.slots found.0 found.1 c.requires.unchecked c.requires.some c.requires.aligned c.requires.inside c.requires.plain)
+    ∙ page_granules (slots_memory n c.args.slots.now) _ c.args.at c.args.count c.args.access.now (found_page n c.args.slots.now c.in-Some.s (c.args.at / 4096) _ c.requires.slots found.0 found.1) c.requires.unchecked c.requires.some c.requires.aligned c.requires.inside c.requires.plain)
 
 pub returns-clause-memory : goal.returns-clause-memory
 returns-clause-memory c = λ n.

@@ -3,7 +3,8 @@ use Rattle.mte_tags.specs.Memory.{Memory, page_at, without_page, without_pages}
 use Rattle.mte_tags.specs.Slots.{slots_memory, AreSlots}
 use Rattle.mte_tags.specs.declared.flat.slot.Slot.{Slot}
 use Rattle.mte_tags.proofs.Pages.{page_at-without_page_other}
-use Rattle.mte_tags.proofs.Places.{any_memory, mapped_low, some_is_not_none, AreSlots-swap_remove, slots_memory-swap_remove, without_pages-step}
+use Rattle.mte_tags.proofs.PageLaws.{without_pages-step}
+use Rattle.mte_tags.proofs.Places.{any_memory, mapped_low, some_is_not_none, AreSlots-swap_remove, slots_memory-swap_remove}
 use Rattle.mte_tags.proofs.flat.unmap_slots.Goals as goal
 
 pub overflow_add-gone : goal.overflow_add-gone

@@ -1,8 +1,9 @@
-use Rattle.std.proofs.Common.{◌<◌, ◌∙◌, sym, ap, length, Err, refl}
+use Rattle.std.proofs.Common.{◌/◌, ◌<◌, ◌∙◌, sym, ap, length, Err, refl}
 use Rattle.std.specs.List.{All}
 use Rattle.mte_tags.specs.Accesses.{outcome}
 use Rattle.mte_tags.specs.Slots.{slots_memory}
-use Rattle.mte_tags.proofs.Found.{fault_found, fault_missing, slot_written}
+use Rattle.mte_tags.proofs.Found.{found_page, slot_written}
+use Rattle.mte_tags.proofs.FoundPages.{page_run, fault_missing}
 use Rattle.mte_tags.proofs.Places.{AreSlots-set}
 use Rattle.mte_tags.specs.declared.flat.slot.Slot.{Slot}
 use Rattle.mte_tags.proofs.flat.write_slots.Goals as goal
@@ -15,12 +16,12 @@ returns-in_default-clause-answer c = λ n.
 pub returns-in-Some-run_fault-clause-answer : goal.returns-in-Some-run_fault-clause-answer
 returns-in-Some-run_fault-clause-answer c = λ n.
     let found = c.in-Some.ensures.some in
-    ap outcome (c.in-Some-run_fault.ensures ∙ fault_found n c.args.slots.now c.in-Some.s c.args.at (length c.args.bytes.now) _ c.args.access.now c.requires.slots found.0 found.1 c.requires.inside c.requires.plain)
+    ap outcome (c.in-Some-run_fault.ensures ∙ page_run (slots_memory n c.args.slots.now) _ c.args.at (length c.args.bytes.now) c.args.access.now (found_page n c.args.slots.now c.in-Some.s (c.args.at / 4096) _ c.requires.slots found.0 found.1) c.requires.inside c.requires.plain)
 
 pub returns-clause-answer : goal.returns-clause-answer
 returns-clause-answer c = λ n.
     let found = c.in-Some.ensures.some in
-    ap outcome (sym c.in_default-run_fault.is ∙ c.run_fault.ensures ∙ fault_found n c.args.slots.now c.in-Some.s c.args.at (length c.args.bytes.now) _ c.args.access.now c.requires.slots found.0 found.1 c.requires.inside c.requires.plain)
+    ap outcome (sym c.in_default-run_fault.is ∙ c.run_fault.ensures ∙ page_run (slots_memory n c.args.slots.now) _ c.args.at (length c.args.bytes.now) c.args.access.now (found_page n c.args.slots.now c.in-Some.s (c.args.at / 4096) _ c.requires.slots found.0 found.1) c.requires.inside c.requires.plain)
 
 pub returns-clause-memory : goal.returns-clause-memory
 returns-clause-memory c = λ n.

@@ -1,0 +1,108 @@
+-- A space whose page that was found is written.
+use Rattle.std.proofs.Common.{◌≡◌, ◌≢◌, ℕ, ◌+◌, ◌*◌, ◌/◌, ◌%◌, ◌^◌, ◌++◌, ◌<◌, ◌≤◌, take, drop, replicate, Bool, true, false, cond, List, length, Option, Some, None, is_some, get_or, slice_set, refl, sym, ap, subst, ◌∙◌, arith, get_or-set_other}
+use Rattle.std.proofs.lemmas.List.Elements.{All-weaker, All-contains}
+use Rattle.std.specs.Prelude.{option_map, IfSome}
+use Rattle.std.specs.FinMap as finite
+use Rattle.std.proofs.lemmas.List.{length-replicate}
+use Rattle.mte_tags.specs.Memory.{Memory, Page, page_at, with_page, with_granules}
+use Rattle.mte_tags.specs.Slots.{spliced}
+use Rattle.mte_tags.proofs.PageRuns.{spliced_is}
+use Rattle.mte_tags.proofs.FoundPages.{page_retagged}
+use Rattle.mte_tags.specs.declared.attrs.Attrs.{Attrs}
+use Rattle.mte_tags.specs.declared.state.TagState.{TagState}
+use Rattle.mte_arena.specs.Frames.{Frame, AreFrames, frame_at, frame_or, with_run}
+use Rattle.mte_frames.specs.Pool.{Pool, IsOut, IsTaken, IsSound, KeepsOthers}
+use Rattle.mte_translate.specs.Tables.{Root, pages_of, IsCached, Agrees, Stays}
+use Rattle.mte_translate.specs.Translations.{lookup}
+use Rattle.mte_translate.specs.declared.translation.Translation.{Translation}
+use Rattle.mte_space.specs.Spaces.{page_of, space_memory, IsSpace, KeepsRest}
+use Rattle.mte_space.specs.Writes.{with_frame, changed, retagged_frame}
+use Rattle.mte_space.proofs.Memories.{page_at-space, space_written}
+pub use Rattle.mte_space.proofs.Memories.{page_found}
+use Rattle.mte_translate.proofs.KeptTables.{kept-written, page-frame, cached-found}
+use Rattle.mte_space.proofs.Taken.{within_frames, frame_at-set, is_frame}
+
+pub found_out : (p : Pool) (k : ℕ) (t : Root) (l q : ℕ) (o : Option (ℕ × Attrs)) → IsSpace p k t l → o ≡ finite.get (pages_of p t.frame) q → IfSome o (λ x. IsOut p x.0 k)
+found_out p k t l q None h e = tt
+found_out p k t l q (Some (f, a)) h e = (page-frame p k q f a t h.table (sym e)).1
+
+pub found_taken : (p : Pool) (k : ℕ) (t : Root) (l q : ℕ) (o : Option (ℕ × Attrs)) → IsSpace p k t l → o ≡ finite.get (pages_of p t.frame) q → IfSome o (λ x. IsTaken p x.0)
+found_taken p k t l q None h e = tt
+found_taken p k t l q (Some (f, a)) h e = (k, (page-frame p k q f a t h.table (sym e)).1)
+
+pub page_is : (p : Pool) (t : Root) (l : ℕ) (s : TagState) (q : ℕ) (o : Option (ℕ × Attrs)) → o ≡ finite.get (pages_of p t.frame) q → page_at (space_memory p t l s) q ≡ option_map (page_of p) o
+page_is p t l s q o e = page_at-space p t l s q ∙ ap (option_map (page_of p)) (sym e)
+
+pub cached_hit : (p : Pool) (root asid page frame : ℕ) (attrs : Attrs) (ts : List Translation) → IsCached (pages_of p root) asid ts → lookup asid page ts ≡ Some (frame, attrs) → finite.get (pages_of p root) page ≡ Some (frame, attrs)
+cached_hit p root asid page frame attrs ts c e = cached-found (pages_of p root) asid page frame attrs ts c e
+
+module _ (p : Pool) (k : ℕ) (t : Root) (l q f : ℕ) (a : Attrs) (x : Frame) (h : IsSpace p k t l) (found : finite.get (pages_of p t.frame) q ≡ Some (f, a)) where
+  n : Pool
+  n = with_frame p f x
+
+  stays : Stays k t p n
+  unfolding n
+  stays = kept-written p k f (Some x) t (page-frame p k q f a t h.table found).2 h.table
+
+  pages : pages_of n t.frame ≡ pages_of p t.frame
+  pages = stays.pages
+
+  pub space_framed : IsSpace (with_frame p f x) k t l
+  unfolding n
+  space_framed = record {
+    table = stays.table;
+    once = λ r s g b c e d. h.once r s g b c (ap (λ m. finite.get m r) (sym pages) ∙ e) (ap (λ m. finite.get m s) (sym pages) ∙ d);
+    below = h.below;
+    room = h.room;
+  }
+
+  pub cached_framed : (asid : ℕ) (ts : List Translation) → IsCached (pages_of p t.frame) asid ts → IsCached (pages_of (with_frame p f x) t.frame) asid ts
+  unfolding n
+  cached_framed asid ts c = All-weaker (Agrees (pages_of p t.frame) asid) (Agrees (pages_of n t.frame) asid) (λ u agrees same. ap (λ m. finite.get m u.page) pages ∙ agrees same) ts c
+
+  pub memory_framed : (s : TagState) → IsSound p → space_memory (with_frame p f x) t l s ≡ with_page (space_memory p t l s) q (record { attrs = a.0; bytes = x.bytes; tags = x.tags })
+  unfolding n
+  memory_framed s sound =
+      let out = (page-frame p k q f a t h.table found).1 in
+      space_written p n t t l s q f a x found pages (frame_at-set p.frames f x (within_frames p f k sound out))
+      (λ r g b d e. ap frame_or (get_or-set_other p.frames f g (Some x) None (λ same. d (h.once r q g b a e (found ∙ ap (λ j. Some (j, a)) (sym same))))))
+
+-- the frame that was found is changed, or nothing is
+module _ (p : Pool) (k : ℕ) (t : Root) (l q : ℕ) (g : Frame → Frame) (h : IsSpace p k t l) where
+  pub space_changed : (b : Bool) (o : Option (ℕ × Attrs)) → o ≡ finite.get (pages_of p t.frame) q → IsSpace (cond b (changed g p o) p) k t l
+  space_changed false o e = h
+  space_changed true None e = h
+  space_changed true (Some (f, a)) e = space_framed p k t l q f a (g (frame_at p.frames f)) h (sym e)
+
+  pub cached_changed : (b : Bool) (o : Option (ℕ × Attrs)) → o ≡ finite.get (pages_of p t.frame) q → (asid : ℕ) (ts : List Translation) → IsCached (pages_of p t.frame) asid ts → IsCached (pages_of (cond b (changed g p o) p) t.frame) asid ts
+  cached_changed false o e asid ts c = c
+  cached_changed true None e asid ts c = c
+  cached_changed true (Some (f, a)) e asid ts c = cached_framed p k t l q f a (g (frame_at p.frames f)) h (sym e) asid ts c
+
+  pub rest_changed : (b : Bool) (o : Option (ℕ × Attrs)) → KeepsOthers k p (cond b (changed g p o) p) → KeepsRest k p (cond b (changed g p o) p) t t
+  rest_changed false o others = record { others = others; reserved = refl; capacities = refl; root = refl; taken = refl }
+  rest_changed true None others = record { others = others; reserved = refl; capacities = refl; root = refl; taken = refl }
+  rest_changed true (Some (f, a)) others = record { others = others; reserved = refl; capacities = refl; root = refl; taken = refl }
+
+  pub memory_changed : (b : Bool) (o : Option (ℕ × Attrs)) → o ≡ finite.get (pages_of p t.frame) q → (s : TagState) → IsSound p → (b ≡ true → is_some o ≡ true) → (new : Memory)
+      → ((f : ℕ) (a : Attrs) → o ≡ Some (f, a) → b ≡ true → with_page (space_memory p t l s) q (record { attrs = a.0; bytes = (g (frame_at p.frames f)).bytes; tags = (g (frame_at p.frames f)).tags }) ≡ new)
+      → space_memory (cond b (changed g p o) p) t l s ≡ cond b new (space_memory p t l s)
+  memory_changed false o e s sound there new is = refl
+  memory_changed true None e s sound there new is = absurd (let no = there refl in cc)
+  memory_changed true (Some (f, a)) e s sound there new is = memory_framed p k t l q f a (g (frame_at p.frames f)) h (sym e) s sound ∙ is f a refl refl
+
+-- a run of granules that was retagged
+pub retagged_is : (p : Pool) (k : ℕ) (t : Root) (l f : ℕ) (a : Attrs) (s : TagState) (at count tag : ℕ) (z : Bool) → IsSpace p k t l → IsSound p → AreFrames p.frames → finite.get (pages_of p t.frame) (at / 4096) ≡ Some (f, a)
+    → at % 16 ≡ 0 → at % 4096 + 16 * count ≤ 4096 → at < 2 ^ 56
+    → with_page (space_memory p t l s) (at / 4096)
+    (record { attrs = a.0; bytes = (retagged_frame (frame_at p.frames f) (at % 4096 / 16) count tag z).bytes; tags = (retagged_frame (frame_at p.frames f) (at % 4096 / 16) count tag z).tags })
+    ≡ with_granules (space_memory p t l s) at count tag z
+retagged_is p k t l f a s at count tag z h sound sized found g r u =
+    let x = frame_at p.frames f in
+    let frame = is_frame p f (k, (page-frame p k (at / 4096) f a t h.table found).1) sound sized in
+    let first = at % 4096 / 16 in
+    let room : first + length (replicate count tag) ≤ length x.tags = omega (arith, frame.tags, length-replicate count tag, g, r) in
+    let end : first + length (replicate count tag) ≡ first + count = omega (arith, length-replicate count tag) in
+    let tags : with_run x.tags first count tag ≡ spliced x.tags first (replicate count tag) = sym (spliced_is (replicate count tag) x.tags first room ∙ ap (λ i. take first x.tags ++ (replicate count tag ++ drop i x.tags)) end) in
+    ap (λ ts. with_page (space_memory p t l s) (at / 4096) (record { attrs = a.0; bytes = (retagged_frame x first count tag z).bytes; tags = ts })) tags
+    ∙ page_retagged (space_memory p t l s) (page_of p (f, a)) at count tag z (page_found p t l s (at / 4096) f a found) g r u frame.bytes

@@ -1,0 +1,24 @@
+use Rattle.std.proofs.Common.{◌≡◌, ◌∙◌, ◌/◌, ◌%◌, ◌<◌, ◌+◌, ◌*◌, sym, ap, subst, Some, length, refl, cond, is_ok, arith}
+use Rattle.mte_frames.specs.Pool.{Pool}
+use Rattle.mte_translate.specs.Tables.{IsCached, pages_of}
+use Rattle.mte_space.specs.Spaces.{space_memory, IsSpace, KeepsRest}
+use Rattle.mte_space.specs.SpaceMemory.{memory_of, none_enters_same}
+use Rattle.mte_space.proofs.SpaceSteps.{found_taken, found_out, page_is, page_found, cached_hit, space_framed, space_changed, cached_changed, rest_changed, memory_changed}
+use Rattle.mte_tags.specs.Memory.{Page}
+use Rattle.mte_arena.specs.Frames.{Frame, frame_at, make_frame}
+use Rattle.mte_space.specs.Writes.{changed, retagged_frame}
+use Rattle.mte_tags.specs.Slots.{spliced}
+use Rattle.mte_tags.specs.Accesses.{addresses, with_bytes, bytes_at}
+use Rattle.mte_tags.specs.Memory.{page_at}
+use Rattle.mte_space.proofs.space.SpacePageStore.fetch_aligned.Goals as goal
+
+pub fetch_word-requires-clause-out : goal.fetch_word-requires-clause-out
+fetch_word-requires-clause-out c =
+    let s = c.args.self.now in
+    found_taken s.pool.now s.quota.now s.table.now s.limit (c.plain-page.result / 4096) c.translate-found.result s.space c.translate-found.ensures.found
+
+pub returns-clause-answer : goal.returns-clause-answer
+returns-clause-answer c =
+    let s = c.args.self.now in
+    let page = page_is s.pool.now s.table.now s.limit s.state.now (c.plain-page.result / 4096) c.translate-found.result c.translate-found.ensures.found in
+    c.fetch_word.ensures (memory_of s) (ap (λ a. page_at (memory_of s) (a / 4096)) (sym c.plain-page.ensures) ∙ page)

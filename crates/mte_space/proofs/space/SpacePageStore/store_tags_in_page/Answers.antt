@@ -1,0 +1,65 @@
+use Rattle.std.proofs.Common.{◌≡◌, ◌∙◌, ◌/◌, ◌%◌, ◌<◌, ◌+◌, ◌*◌, sym, ap, subst, Some, length, refl, option_map, cond, is_ok, arith}
+use Rattle.mte_frames.specs.Pool.{Pool}
+use Rattle.mte_translate.specs.Tables.{IsCached, pages_of}
+use Rattle.mte_space.specs.Spaces.{page_of, space_memory, IsSpace, KeepsRest}
+use Rattle.mte_space.specs.SpaceMemory.{memory_of, none_enters_same}
+use Rattle.mte_space.proofs.SpaceSteps.{retagged_is, found_taken, found_out, page_is, page_found, cached_hit, space_framed, space_changed, cached_changed, rest_changed, memory_changed}
+use Rattle.mte_tags.specs.Memory.{Page}
+use Rattle.mte_arena.specs.Frames.{Frame, frame_at, make_frame}
+use Rattle.mte_space.specs.Writes.{changed, retagged_frame}
+use Rattle.mte_tags.specs.Slots.{spliced}
+use Rattle.mte_tags.specs.Accesses.{addresses, with_bytes, bytes_at}
+use Rattle.mte_frames.specs.Pool.{KeepsOthers}
+use Rattle.mte_tags.proofs.FoundPages.{page_written, page_retagged}
+use Rattle.mte_space.proofs.space.SpacePageStore.store_tags_in_page.Goals as goal
+
+pub retag_run-requires-clause-out : goal.retag_run-requires-clause-out
+retag_run-requires-clause-out c =
+    let s = c.args.self.now in
+    found_taken s.pool.now s.quota.now s.table.now s.limit (c.args.at / 4096) c.translate-found.result s.space c.translate-found.ensures.found
+
+pub invariant_of-self : goal.invariant_of-self
+invariant_of-self c =
+    let s = c.args.self.now in
+    let page = page_is s.pool.now s.table.now s.limit s.state.now (c.args.at / 4096) c.translate-found.result c.translate-found.ensures.found in
+    let g = λ (x : Frame). retagged_frame x (c.args.at % 4096 / 16) c.args.count c.args.tag c.args.zero in
+    record {
+      space = subst (λ n. IsSpace n s.quota.now s.table.now s.limit) (sym c.retag_run.ensures.pool) (space_changed s.pool.now s.quota.now s.table.now s.limit (c.args.at / 4096) g s.space (is_ok c.retag_run.result) c.translate-found.result c.translate-found.ensures.found);
+      cached = subst (λ n. IsCached (pages_of n s.table.now.frame) s.asid c.translate-found.new.tlb) (sym c.retag_run.ensures.pool)
+          (cached_changed s.pool.now s.quota.now s.table.now s.limit (c.args.at / 4096) g s.space (is_ok c.retag_run.result) c.translate-found.result c.translate-found.ensures.found s.asid c.translate-found.new.tlb c.translate-found.ensures.cached);
+    }
+
+pub returns-clause-answer : goal.returns-clause-answer
+returns-clause-answer c =
+    let s = c.args.self.now in
+    let page = page_is s.pool.now s.table.now s.limit s.state.now (c.args.at / 4096) c.translate-found.result c.translate-found.ensures.found in
+    c.retag_run.ensures.answer (memory_of s) page
+
+pub returns-clause-memory : goal.returns-clause-memory
+returns-clause-memory c =
+    let s = c.args.self.now in
+    let page = page_is s.pool.now s.table.now s.limit s.state.now (c.args.at / 4096) c.translate-found.result c.translate-found.ensures.found in
+    let g = λ (x : Frame). retagged_frame x (c.args.at % 4096 / 16) c.args.count c.args.tag c.args.zero in
+    ap (λ n. space_memory n s.table.now s.limit s.state.now) c.retag_run.ensures.pool
+    ∙ memory_changed s.pool.now s.quota.now s.table.now s.limit (c.args.at / 4096) g s.space (is_ok c.retag_run.result) c.translate-found.result c.translate-found.ensures.found s.state.now c.retag_run.ensures.sound c.retag_run.ensures.found _
+    (λ f a is t. retagged_is s.pool.now s.quota.now s.table.now s.limit f a s.state.now c.args.at c.args.count c.args.tag c.args.zero s.space c.retag_run.ensures.sound c.retag_run.ensures.sized (sym c.translate-found.ensures.found ∙ is) c.requires.aligned c.requires.inside c.requires.plain)
+
+pub returns-clause-kept : goal.returns-clause-kept
+returns-clause-kept c =
+    let s = c.args.self.now in
+    let page = page_is s.pool.now s.table.now s.limit s.state.now (c.args.at / 4096) c.translate-found.result c.translate-found.ensures.found in
+    let g = λ (x : Frame). retagged_frame x (c.args.at % 4096 / 16) c.args.count c.args.tag c.args.zero in
+    let others = subst (λ n. KeepsOthers s.quota.now s.pool.now n) c.retag_run.ensures.pool (c.retag_run.ensures.others s.quota.now (found_out s.pool.now s.quota.now s.table.now s.limit (c.args.at / 4096) c.translate-found.result s.space c.translate-found.ensures.found)) in
+    record {
+      same_pool = refl;
+      same_table = refl;
+      same_quota = refl;
+      same_tlb = refl;
+      same_state = refl;
+      asid = refl;
+      limit = refl;
+      quota = refl;
+      rest = subst (λ n. KeepsRest s.quota.now s.pool.now n s.table.now s.table.now) (sym c.retag_run.ensures.pool)
+          (rest_changed s.pool.now s.quota.now s.table.now s.limit (c.args.at / 4096) g s.space (is_ok c.retag_run.result) c.translate-found.result others);
+      entries = c.translate-found.ensures.entries;
+    }

@@ -1,0 +1,32 @@
+use Rattle.std.proofs.Common.{◌≡◌, ◌∙◌, ◌/◌, ◌%◌, ◌<◌, ◌+◌, ◌*◌, sym, ap, subst, Some, length, refl, cond, is_ok, arith}
+use Rattle.mte_frames.specs.Pool.{Pool}
+use Rattle.mte_translate.specs.Tables.{IsCached, pages_of}
+use Rattle.mte_space.specs.Spaces.{space_memory, IsSpace, KeepsRest}
+use Rattle.mte_space.specs.SpaceMemory.{memory_of, none_enters_same}
+use Rattle.mte_space.proofs.SpaceSteps.{found_taken, found_out, page_is, page_found, cached_hit, space_framed, space_changed, cached_changed, rest_changed, memory_changed}
+use Rattle.mte_tags.specs.Memory.{Page}
+use Rattle.mte_arena.specs.Frames.{Frame, frame_at, make_frame}
+use Rattle.mte_space.specs.Writes.{changed, retagged_frame}
+use Rattle.mte_tags.specs.Slots.{spliced}
+use Rattle.mte_tags.specs.Accesses.{addresses, with_bytes, bytes_at}
+use Rattle.mte_space.proofs.space.SpacePageStore.try_read.Goals as goal
+
+pub try_read-requires-clause-out : goal.try_read-requires-clause-out
+try_read-requires-clause-out c =
+    let s = c.args.self.now in
+    let found = cached_hit s.pool.now s.table.now.frame s.asid (c.args.at / 4096) c.in-Some.frame c.in-Some.attrs s.tlb.now s.cached c.in-Some.ensures in
+    found_taken s.pool.now s.quota.now s.table.now s.limit (c.args.at / 4096) (Some (c.in-Some.frame, c.in-Some.attrs)) s.space (sym found)
+
+pub returns-in-Some-clause-passed : goal.returns-in-Some-clause-passed
+returns-in-Some-clause-passed c = λ t.
+    let s = c.args.self.now in
+    let found = cached_hit s.pool.now s.table.now.frame s.asid (c.args.at / 4096) c.in-Some.frame c.in-Some.attrs s.tlb.now s.cached c.in-Some.ensures in
+    let page = page_found s.pool.now s.table.now s.limit s.state.now (c.args.at / 4096) c.in-Some.frame c.in-Some.attrs found in
+    c.try_read.ensures.passed t (memory_of s) page
+
+pub returns-in-Some-clause-bytes : goal.returns-in-Some-clause-bytes
+returns-in-Some-clause-bytes c =
+    let s = c.args.self.now in
+    let found = cached_hit s.pool.now s.table.now.frame s.asid (c.args.at / 4096) c.in-Some.frame c.in-Some.attrs s.tlb.now s.cached c.in-Some.ensures in
+    let page = page_found s.pool.now s.table.now s.limit s.state.now (c.args.at / 4096) c.in-Some.frame c.in-Some.attrs found in
+    c.try_read.ensures.bytes (memory_of s) page

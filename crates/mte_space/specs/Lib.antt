@@ -1,0 +1,3 @@
+pub mod Spaces
+pub mod Writes
+pub mod SpaceMemory

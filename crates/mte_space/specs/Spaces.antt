@@ -1,0 +1,54 @@
+-- A tenant's memory over shared frames: each page that its table maps, with the bytes and the tags
+-- of its frame. It is a function of pool, table, limit of pages and tag state alone.
+--     page_of p (f, a)            the page with the attributes a that the frame f holds
+--     with_values g m             the finite map m with g of each value in its place
+--     space_memory p t n state    the tenant's memory
+--     IsSpace p k t n             the table t is whole, has n pages at most, each in a frame of its
+--                                 own, and the quota k has frames left for the others
+--     KeepsRest k p n t u         what a call leaves of pool and table beside the memory
+--     NoneEnters asid ts us       of other ASIDs no translation has come
+use Rattle.std.specs.Prelude.{◌≡◌, ◌≢◌, ℕ, ◌+◌, ◌*◌, ◌≤◌, List, map, All, Contains}
+use Rattle.std.specs.Ordering.{nat_cmp}
+use Rattle.std.specs.FinMap as finite
+use Rattle.std.specs.FinMap.{FinMap}
+use Rattle.mte_tags.specs.Memory.{Memory, Page}
+use Rattle.mte_tags.specs.declared.attrs.Attrs.{Attrs}
+use Rattle.mte_tags.specs.declared.state.TagState.{TagState}
+use Rattle.mte_arena.specs.Frames.{frame_at}
+use Rattle.mte_frames.specs.Pool.{Pool, KeepsOthers, taken_by, reserved_by}
+use Rattle.mte_translate.specs.Tables.{Root, pages_of, IsTable, MapsOnce}
+use Rattle.mte_translate.specs.declared.translation.Translation.{Translation}
+
+abbrev pub page_of : Pool → ℕ × Attrs → Page
+page_of p t =
+    record {
+      attrs = t.1.0;
+      bytes = (frame_at p.frames t.0).bytes;
+      tags = (frame_at p.frames t.0).tags;
+    }
+
+unfoldable pub with_values : {X Y : Type 0} → (X → Y) → FinMap nat_cmp X → FinMap nat_cmp Y
+with_values g m = finite.from_sorted (map (λ e. (e.0, g e.1)) (finite.entries m))
+
+unfoldable pub space_memory : Pool → Root → ℕ → TagState → Memory
+space_memory p t limit state =
+    record { limit = limit; pages = with_values (page_of p) (pages_of p t.frame); state = state }
+
+pub record IsSpace (p : Pool) (k : ℕ) (t : Root) (limit : ℕ) : Type 0 where
+  pub table : IsTable p k t
+  pub once : MapsOnce (pages_of p t.frame)
+  pub below : t.len ≤ limit
+  -- a page takes two frames at most: its own, and one for its leaf
+  pub room : taken_by p k + 2 * limit ≤ reserved_by p k + t.len + t.leaves
+
+pub record KeepsRest (k : ℕ) (p n : Pool) (t u : Root) : Type 0 where
+  pub others : KeepsOthers k p n
+  pub reserved : reserved_by n k ≡ reserved_by p k
+  -- nothing allocates
+  pub capacities : n.capacities ≡ p.capacities
+  pub root : u.frame ≡ t.frame
+  -- each frame that was taken is a page's or a leaf's
+  pub taken : taken_by n k + t.len + t.leaves ≡ taken_by p k + u.len + u.leaves
+
+abbrev pub NoneEnters : ℕ → List Translation → List Translation → Type 0
+NoneEnters asid ts us = All (λ u. u.asid ≢ asid → Contains ts u) us

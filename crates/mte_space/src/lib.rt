@@ -1,0 +1,13 @@
+//! A tenant's memory over frames that it shares with others.
+#![tactic(auto)]
+
+mod accesses;
+mod frame_page;
+mod laws;
+mod mapping;
+mod space;
+mod translation;
+mod writing;
+
+pub use laws::{other_tenants_stay, pages_of_a_space, written_frames_are_pages};
+pub use space::Space;

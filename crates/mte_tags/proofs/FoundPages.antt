@@ -1,0 +1,105 @@
+-- What an access is in the page that was found for it, in whatever memory that has this page.
+use Rattle.std.proofs.Common.{◌≡◌, ℕ, ◌+◌, ◌-◌, ◌*◌, ◌/◌, ◌%◌, ◌^◌, ◌<◌, ◌≤◌, Bool, Option, Some, None, is_none, Ok, Err, List, length, take, drop, true, false, refl, sym, ap, ◌∙◌, arith, eq-eqb}
+use Rattle.std.proofs.lemmas.Bool.{cond-true}
+use Rattle.std.proofs.lemmas.List.{length-take}
+use Rattle.std.specs.Int.{from_le_bytes, w32}
+use Rattle.a64_bits.specs.Addresses.{plain}
+use Rattle.std.specs.List.{range_with_len, slice_range}
+use Rattle.mte_tags.specs.Memory.{Memory, Page, page_at, with_page, tag_at, tag_in, with_granules}
+use Rattle.mte_tags.specs.declared.fault.FaultKind.TheVariants.{Translation}
+use Rattle.mte_tags.specs.Accesses.{addresses, granules, byte_fault, first_fault, fault, fault_in, bytes_at, with_bytes, fetched, fetched_by, fetch_access, word_at, read_bytes}
+use Rattle.mte_tags.specs.Slots.{spliced, first_in, retagged}
+use Rattle.mte_tags.specs.declared.access.Access.{Access}
+use Rattle.mte_tags.specs.declared.fault.MemFault.{MemFault}
+use Rattle.mte_tags.proofs.AddressLists.{addresses_in_page}
+use Rattle.mte_tags.proofs.GranuleLists.{first_fault_in_run, first_fault_one}
+use Rattle.mte_tags.proofs.PageRuns.{first_fault_in, first_in-none, bytes_at-run, with_bytes-run}
+use Rattle.mte_tags.proofs.RunSteps.{length_range}
+use Rattle.mte_tags.proofs.TagRuns.{with_granules-run}
+
+-- how a run fails in the page that was found, and where none was
+pub page_run : (m : Memory) (p : Page) (at count : ℕ) (x : Access) → page_at m (at / 4096) ≡ Some p → at % 4096 + count ≤ 4096 → at < 2 ^ 56
+    → first_in x (Some p) (range_with_len at count) ≡ first_fault m x (addresses at count)
+page_run m p at count x e h u =
+    sym (ap (first_fault m x) (addresses_in_page at count u h) ∙ first_fault_in m x at count h ∙ ap (λ q. first_in x q (range_with_len at count)) e)
+
+passed : (o : Option MemFault) → is_none o ≡ true → o ≡ None
+passed None h = refl
+passed (Some f) h = cc
+
+pub page_run_passed : (m : Memory) (p : Page) (at count : ℕ) (x : Access) → page_at m (at / 4096) ≡ Some p → at % 4096 + count ≤ 4096 → at < 2 ^ 56
+    → is_none (first_in x (Some p) (range_with_len at count)) ≡ true → first_fault m x (addresses at count) ≡ None
+page_run_passed m p at count x e h u n = sym (page_run m p at count x e h u) ∙ passed _ n
+
+pub fault_missing : (m : Memory) (at count : ℕ) (x : Access) → 0 < count → at % 4096 + count ≤ 4096 → at < 2 ^ 56 → page_at m (at / 4096) ≡ None
+    → first_fault m x (addresses at count) ≡ Some (fault Translation x at 0)
+fault_missing m at count x h p u e =
+    ap (first_fault m x) (addresses_in_page at count u p) ∙ first_fault_in m x at count p ∙ ap (λ q. first_in x q (range_with_len at count)) e ∙ first_in-none x at count h
+
+pub page_byte : (m : Memory) (p : Page) (at : ℕ) (x : Access) → page_at m (at / 4096) ≡ Some p → at < 2 ^ 56 → first_in x (Some p) (range_with_len at 1) ≡ byte_fault m x at
+page_byte m p at x e u = page_run m p at 1 x e (omega arith) u ∙ first_fault_one m x at
+
+pub byte_fault_missing : (m : Memory) (at : ℕ) (x : Access) → page_at m (at / 4096) ≡ None → byte_fault m x at ≡ Some (fault Translation x at 0)
+unfolding byte_fault
+byte_fault_missing m at x e = ap (λ p. fault_in x p at) e
+
+pub page_granules : (m : Memory) (p : Page) (at count : ℕ) (x : Access) → page_at m (at / 4096) ≡ Some p
+    → x.checked ≡ false → 0 < count → at % 16 ≡ 0 → at % 4096 + 16 * count ≤ 4096 → at < 2 ^ 56
+    → first_in x (Some p) (range_with_len at 1) ≡ first_fault m x (granules at count)
+page_granules m p at count x e c h g r u = page_byte m p at x e u ∙ sym (first_fault_in_run m x at count c h g r u)
+
+pub granules_fault_missing : (m : Memory) (at count : ℕ) (x : Access) → x.checked ≡ false → 0 < count → at % 16 ≡ 0 → at % 4096 + 16 * count ≤ 4096 → at < 2 ^ 56 → page_at m (at / 4096) ≡ None
+    → first_fault m x (granules at count) ≡ Some (fault Translation x at 0)
+granules_fault_missing m at count x c p g r u e = first_fault_in_run m x at count c p g r u ∙ byte_fault_missing m at x e
+
+-- a run that was read is what the memory holds there
+pub page_read : (m : Memory) (p : Page) (place k l : ℕ) (piece : List ℕ) → page_at m (place / 4096) ≡ Some p → place % 4096 + k ≤ 4096 → place < 2 ^ 56
+    → length piece ≡ k → l ≡ k → piece ≡ slice_range p.bytes (place % 4096) (place % 4096 + l) → piece ≡ bytes_at m (addresses place k)
+page_read m p place k l piece found h u long q was =
+    let bs = p.bytes in
+    let e : piece ≡ slice_range bs (place % 4096) (place % 4096 + k) = was ∙ ap (λ i. slice_range bs (place % 4096) (place % 4096 + i)) q in
+    let j : place % 4096 + k - place % 4096 ≡ k = omega arith in
+    let taken : piece ≡ take k (drop (place % 4096) bs) = e ∙ ap (λ i. take i (drop (place % 4096) bs)) j in
+    let room : k ≤ length (drop (place % 4096) bs) = omega (arith, length-take k (drop (place % 4096) bs), ap length taken) in
+    e ∙ sym (ap (bytes_at m) (addresses_in_page place k u h) ∙ bytes_at-run m p place k found room h)
+
+-- a run that was written
+pub page_written : (m : Memory) (p : Page) (place : ℕ) (piece : List ℕ) → page_at m (place / 4096) ≡ Some p → place % 4096 + length piece ≤ 4096 → place < 2 ^ 56
+    → with_page m (place / 4096) (record p { bytes = spliced p.bytes (place % 4096) piece }) ≡ with_bytes m (addresses place (length piece)) piece
+page_written m p place piece found h u =
+    sym (ap (λ xs. with_bytes m xs piece) (addresses_in_page place (length piece) u h) ∙ with_bytes-run piece m p place found h)
+
+-- a run that was retagged
+pub page_retagged : (m : Memory) (p : Page) (at count t : ℕ) (z : Bool) → page_at m (at / 4096) ≡ Some p → at % 16 ≡ 0 → at % 4096 + 16 * count ≤ 4096 → at < 2 ^ 56 → length p.bytes ≡ 4096
+    → with_page m (at / 4096) (retagged p (at % 4096 / 16) count t z) ≡ with_granules m at count t z
+page_retagged m p at count t z found g r u long = sym (with_granules-run count m p at t z found g (omega arith) long u)
+
+-- the fetch of an aligned word
+fetched_aligned : (m : Memory) (pc at : ℕ) (x : Access) → pc % 4 ≡ 0 → at ≡ plain pc → x ≡ fetch_access pc → fetched m pc ≡ fetched_by m pc (first_fault m x (addresses at 4))
+unfolding fetched
+fetched_aligned m pc at x g p e =
+    cond-true _ _ _ (eq-eqb _ _ g)
+    ∙ ap (λ a. fetched_by m pc (first_fault m (fetch_access pc) (addresses a 4))) (sym p)
+    ∙ ap (λ y. fetched_by m pc (first_fault m y (addresses at 4))) (sym e)
+
+pub fetch_missing : (m : Memory) (pc at : ℕ) (x : Access) → pc % 4 ≡ 0 → at ≡ plain pc → x ≡ fetch_access pc → page_at m (at / 4096) ≡ None → Err (fault Translation x at 0) ≡ fetched m pc
+fetch_missing m pc at x g p e away =
+    sym (fetched_aligned m pc at x g p e ∙ ap (fetched_by m pc) (fault_missing m at 4 x (omega arith) (omega arith) (omega arith) away))
+
+pub page_fetched : (m : Memory) (p : Page) (pc at : ℕ) (x : Access) → page_at m (at / 4096) ≡ Some p → pc % 4 ≡ 0 → at ≡ plain pc → x ≡ fetch_access pc
+    → fetched_by m pc (first_in x (Some p) (range_with_len at 4)) ≡ fetched m pc
+page_fetched m p pc at x found g e f =
+    ap (fetched_by m pc) (page_run m p at 4 x found (omega arith) (omega arith)) ∙ sym (fetched_aligned m pc at x g e f)
+
+pub page_word : (m : Memory) (p : Page) (pc at : ℕ) → page_at m (at / 4096) ≡ Some p → pc % 4 ≡ 0 → at ≡ plain pc → length p.bytes ≡ 4096
+    → from_le_bytes w32 (slice_range p.bytes (at % 4096) (at % 4096 + 4)) ≡ word_at m pc
+unfolding word_at read_bytes
+page_word m p pc at found g e long =
+    let bs = p.bytes in
+    let size : length (slice_range bs (at % 4096) (at % 4096 + 4)) ≡ 4 = length_range bs (at % 4096) 4 (omega arith) in
+    ap (from_le_bytes w32) (page_read m p at 4 4 (slice_range bs (at % 4096) (at % 4096 + 4)) found (omega arith) (omega arith) size refl refl)
+    ∙ ap (λ a. from_le_bytes w32 (bytes_at m (addresses a 4))) e
+
+pub page_tag : (m : Memory) (p : Page) (at : ℕ) → page_at m (at / 4096) ≡ Some p → tag_at m at ≡ tag_in (Some p) (at % 4096 / 16)
+unfolding tag_at
+page_tag m p at e = ap (λ q. tag_in q (at % 4096 / 16)) e
