@@ -7,3 +7,4 @@ pub mod FoundLemmas
 pub mod FreeLemmas
 pub mod ClassLemmas
 pub mod LargeLemmas
+pub mod AllocationLemmas
