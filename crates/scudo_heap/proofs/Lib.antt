@@ -8,3 +8,4 @@ pub mod FreeLemmas
 pub mod ClassLemmas
 pub mod LargeLemmas
 pub mod AllocationLemmas
+pub mod FirstLemmas
