@@ -55,9 +55,9 @@ block-open-in m s c b v k block =
     let high = k.high in
     record {
       pages = λ a lo hi.
-        let i : (a - region_of c) / PAGE_SIZE < pages_of s c = omega arith in
-        let q : a / PAGE_SIZE ≡ region_of c / PAGE_SIZE + (a - region_of c) / PAGE_SIZE = omega arith in
-        ap (attrs_at m) q ∙ page_there m s c ((a - region_of c) / PAGE_SIZE) v k i;
+          let i : (a - region_of c) / PAGE_SIZE < pages_of s c = omega arith in
+          let q : a / PAGE_SIZE ≡ region_of c / PAGE_SIZE + (a - region_of c) / PAGE_SIZE = omega arith in
+          ap (attrs_at m) q ∙ page_there m s c ((a - region_of c) / PAGE_SIZE) v k i;
       below = omega arith;
     }
 
@@ -148,12 +148,12 @@ served-less m h n cookie v k e =
       regions = λ c i lo hi l. out _ (λ x y. omega arith) ∙ v.regions c i lo hi l;
       mappings = λ a lo hi. elim (is_inside a n) as (λ b. is_inside a n ≡ b → attrs_at (without_pages m (n.start / PAGE_SIZE) n.pages) (a / PAGE_SIZE) ≡ heap_page (list_any (is_inside a) (with_less h.maps n).mappings)) [
         | true ↦ λ t. (elim (cases_lt a n.start) [
-            | inl l ↦ (let f = inside-low a n l in cc)
-            | inr l ↦ (elim (cases_lt a (secondary.end_of n)) [
-                | inl u ↦ attrs_at-without_pages_in n.pages m (n.start / PAGE_SIZE) (a / PAGE_SIZE) (omega arith) (omega arith) ∙ ap heap_page (sym (ap (list_any (is_inside a)) list ∙ w.in_it a t))
-                | inr u ↦ (let f = inside-high a n u in cc)
-              ])
+          | inl l ↦ (let f = inside-low a n l in cc)
+          | inr l ↦ (elim (cases_lt a (secondary.end_of n)) [
+            | inl u ↦ attrs_at-without_pages_in n.pages m (n.start / PAGE_SIZE) (a / PAGE_SIZE) (omega arith) (omega arith) ∙ ap heap_page (sym (ap (list_any (is_inside a)) list ∙ w.in_it a t))
+            | inr u ↦ (let f = inside-high a n u in cc)
           ])
+        ])
         | false ↦ λ t. (out (a / PAGE_SIZE) (λ x y. (let f : is_inside a n ≡ true = inside-in a n (omega arith) (omega arith) in cc))
             ∙ v.mappings a lo hi ∙ ap heap_page (sym (ap (list_any (is_inside a)) list ∙ w.out_of_it a t)))
       ] refl;
@@ -323,13 +323,13 @@ served-more m s ms n cookie w enough v =
       regions = λ c i lo hi l. out _ (λ x y. omega arith) ∙ v.regions c i lo hi l;
       mappings = λ a lo hi. elim (is_inside a n) as (λ b. is_inside a n ≡ b → attrs_at (with_new_pages m (n.start / PAGE_SIZE) n.pages heap_attrs) (a / PAGE_SIZE) ≡ heap_page (list_any (is_inside a) (with_more ms n).mappings)) [
         | true ↦ λ t. (elim (cases_lt a n.start) [
-            | inl l ↦ (let f = inside-low a n l in cc)
-            | inr l ↦ (elim (cases_lt a (secondary.end_of n)) [
-                | inl u ↦ attrs_at-with_new_pages_in n.pages m (n.start / PAGE_SIZE) heap_attrs (a / PAGE_SIZE) (omega arith) (omega arith)
-                    ∙ sym (ap heap_page (ap (list_any (is_inside a)) list ∙ inside-more ms.mappings n a ∙ ap (λ b. b || list_any (is_inside a) ms.mappings) t))
-                | inr u ↦ (let f = inside-high a n u in cc)
-              ])
+          | inl l ↦ (let f = inside-low a n l in cc)
+          | inr l ↦ (elim (cases_lt a (secondary.end_of n)) [
+            | inl u ↦ attrs_at-with_new_pages_in n.pages m (n.start / PAGE_SIZE) heap_attrs (a / PAGE_SIZE) (omega arith) (omega arith)
+                ∙ sym (ap heap_page (ap (list_any (is_inside a)) list ∙ inside-more ms.mappings n a ∙ ap (λ b. b || list_any (is_inside a) ms.mappings) t))
+            | inr u ↦ (let f = inside-high a n u in cc)
           ])
+        ])
         | false ↦ λ t. (out (a / PAGE_SIZE) (λ x y. (let f : is_inside a n ≡ true = inside-in a n (omega arith) (omega arith) in cc))
             ∙ v.mappings a lo hi ∙ sym (ap heap_page (ap (list_any (is_inside a)) list ∙ inside-more ms.mappings n a ∙ ap (λ b. b || list_any (is_inside a) ms.mappings) t)))
       ] refl;

@@ -124,4 +124,4 @@ is_alignment n = list_any (λ k. n == 2 ^ k) (range_with_len 0 13)
 
 unfoldable pub memalign_of : World → ℕ → ℕ → Made
 memalign_of w align size =
-    if is_alignment align then allocated w Memalign (max 16 align) size else nothing w
+    if is_alignment align then allocated w Memalign (max align 16) size else nothing w

@@ -48,6 +48,13 @@ pub record IsOpen (m : Memory) (from to : ℕ) : Type 0 where
   pub pages : (a : ℕ) → from ≤ a → a < to → attrs_at m (a / PAGE_SIZE) ≡ Some 11
   pub below : to ≤ 2 ^ 30
 
+-- no page lies where those of a heap do: from the range before the first class's region to the end
+-- of the range of chunks with pages of their own
+abbrev pub IsUntouched : Memory → Type 0
+IsUntouched m =
+    (page : ℕ) → REGIONS_START / PAGE_SIZE ≤ page → page < SECONDARY_END / PAGE_SIZE
+    → attrs_at m page ≡ None
+
 -- what of the condition the size classes need
 pub record AreRegions (m : Memory) (s : StackState) : Type 0 where
   pub room : pages_left m ≤ s.left

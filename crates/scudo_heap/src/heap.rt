@@ -3,16 +3,20 @@
 ghost use Rattle.std.specs.Prelude.{◌≡◌, ◌<◌, ◌≤◌, IfOk};
 ghost use Rattle.scudo_heap.specs.Heaps.{HeapState, heap_of, empty_heap};
 ghost use Rattle.scudo_heap.specs.Placing.{world_of};
+ghost use Rattle.scudo_heap.specs.Allocation.{answer_of, malloc_of, calloc_of, memalign_of};
 ghost use Rattle.scudo_heap.specs.Freeing.{free_of, usable_size_of};
 ghost use Rattle.scudo_heap.specs.Served.{IsServed};
 
 use crate::abort::HeapAbort;
+use crate::allocation::{allocate, is_power};
 use crate::checks::find_chunk;
+use crate::chunk::address_or_null;
 use crate::freeing::free_found;
 use crate::stacks::Stacks;
 use a64_bits::plain;
 use address_map::MAX_PAGES;
 use mte_tags::{Paged, Rgsr};
+use scudo_header::Origin;
 use scudo_secondary::Maps;
 use std::alloc::{AllocError, Global};
 use std::marker::Model;
@@ -55,6 +59,100 @@ impl Heap {
         })
     }
 
+    /// The address of a new chunk of `size` bytes, one where that is 0, with its tag in bits 59:56.
+    /// The bytes of a chunk of a size class are zero, up to the end of its last granule, and so are
+    /// those of its pages where it has its own. It is 0, with nothing changed, where `size` is over
+    /// `MAX_REQUEST`, or no block is free and fewer pages are left than are needed, or pages of its
+    /// own fit nowhere.
+    pub fn malloc<M: Paged>(&mut self, rgsr: &mut Rgsr, memory: &mut M, size: u64) -> u64
+        requires served { IsServed (M.memory memory.old) self.old }
+        requires tag { rgsr.old.tag < 16 }
+        ensures answer { result
+            ≡ answer_of (malloc_of (world_of (M.memory memory.old) self.old rgsr.old) size).chunk }
+        ensures world { world_of (M.memory memory.new) self.new rgsr.new
+            ≡ (malloc_of (world_of (M.memory memory.old) self.old rgsr.old) size).world }
+        ensures served { IsServed (M.memory memory.new) self.new }
+        ensures tag { rgsr.new.tag < 16 }
+        ensures kept { M.kept memory.old memory.new }
+    {
+        let (stacks, maps) = (&mut self.stacks, &mut self.maps);
+        let chunk = allocate(
+            self.cookie,
+            stacks,
+            maps,
+            rgsr,
+            memory,
+            Origin::Malloc,
+            16,
+            size,
+        );
+        address_or_null(&chunk)
+    }
+
+    /// A chunk for `count` elements of `size` bytes: as `malloc` of the product, which is 0 where
+    /// the product is over `MAX_REQUEST`.
+    pub fn calloc<M: Paged>(
+        &mut self,
+        rgsr: &mut Rgsr,
+        memory: &mut M,
+        count: u64,
+        size: u64,
+    ) -> u64
+        requires served { IsServed (M.memory memory.old) self.old }
+        requires tag { rgsr.old.tag < 16 }
+        ensures answer { result
+            ≡ answer_of
+            (calloc_of (world_of (M.memory memory.old) self.old rgsr.old) count size).chunk }
+        ensures world { world_of (M.memory memory.new) self.new rgsr.new
+            ≡ (calloc_of (world_of (M.memory memory.old) self.old rgsr.old) count size).world }
+        ensures served { IsServed (M.memory memory.new) self.new }
+        ensures tag { rgsr.new.tag < 16 }
+        ensures kept { M.kept memory.old memory.new }
+    {
+        match count.checked_mul(size) {
+            None => 0,
+            Some(all) => self.malloc(rgsr, memory, all),
+        }
+    }
+
+    /// A chunk at a multiple of an alignment: as `malloc`, and 0 as well where the alignment is not
+    /// a power of two up to `MAX_ALIGNMENT`.
+    pub fn memalign<M: Paged>(
+        &mut self,
+        rgsr: &mut Rgsr,
+        memory: &mut M,
+        alignment: u64,
+        size: u64,
+    ) -> u64
+        requires served { IsServed (M.memory memory.old) self.old }
+        requires tag { rgsr.old.tag < 16 }
+        ensures answer { let w = world_of (M.memory memory.old) self.old rgsr.old in
+            result ≡ answer_of (memalign_of w alignment size).chunk }
+        ensures world { let w = world_of (M.memory memory.old) self.old rgsr.old in
+            world_of (M.memory memory.new) self.new rgsr.new
+            ≡ (memalign_of w alignment size).world }
+        ensures served { IsServed (M.memory memory.new) self.new }
+        ensures tag { rgsr.new.tag < 16 }
+        ensures kept { M.kept memory.old memory.new }
+    {
+        if !is_power(alignment) {
+            return 0;
+        }
+        let align = alignment.max(16);
+        let (stacks, maps) = (&mut self.stacks, &mut self.maps);
+        let chunk = allocate(
+            self.cookie,
+            stacks,
+            maps,
+            rgsr,
+            memory,
+            Origin::Memalign,
+            align,
+            size,
+        );
+        address_or_null(&chunk)
+    }
+
     /// Frees a chunk. The null pointer is ignored.
     pub fn free<M: Paged>(
         &mut self,
@@ -75,7 +173,13 @@ impl Heap {
         if pointer == 0 {
             return Ok(());
         }
-        match find_chunk(self.cookie, &self.stacks, &self.maps, memory, plain(pointer)) {
+        match find_chunk(
+            self.cookie,
+            &self.stacks,
+            &self.maps,
+            memory,
+            plain(pointer),
+        ) {
             Err(abort) => Err(abort),
             Ok(found) => {
                 free_found(
@@ -100,7 +204,13 @@ impl Heap {
         if pointer == 0 {
             return Ok(0);
         }
-        match find_chunk(self.cookie, &self.stacks, &self.maps, memory, plain(pointer)) {
+        match find_chunk(
+            self.cookie,
+            &self.stacks,
+            &self.maps,
+            memory,
+            plain(pointer),
+        ) {
             Err(abort) => Err(abort),
             Ok(found) => Ok(found.size()),
         }

@@ -1,4 +1,5 @@
 use Rattle.std.proofs.Common.{◌≡◌, ◌+◌, ◌-◌, ◌*◌, ◌/◌, ◌≤◌, ◌<◌, ◌^◌, ◌∙◌, ℕ, Some, None, sym, ap, subst, refl, arith}
+use Rattle.address_map.specs.declared.limits.TheConstants.{PAGE_SIZE}
 use Rattle.mte_tags.specs.Memory.{pages_left}
 use Rattle.scudo_secondary.specs.declared.mappings.Mapping.{Mapping}
 use Rattle.scudo_heap.specs.declared.chunk.Chunk.{Chunk}
@@ -63,3 +64,13 @@ returns-clause-made g c = λ s r.
 pub returns-clause-served : goal.returns-clause-served
 returns-clause-served g c =
     subst (λ t. KeepsMapped t c.args.maps.now (g.M.Tagged.memory c.map_chunk.new.memory) c.map_chunk.new.maps) c.pages_left.ensures.memory c.map_chunk.ensures.served
+
+pub returns-clause-low_chunk : goal.returns-clause-low_chunk
+returns-clause-low_chunk g c =
+    let w = is-at c.args.maps.now.mappings c.args.pages c.in-Some.start c.in-Some.ensures.fits in
+    let last = w.below in
+    let large = subst (λ (n : Mapping). IsLarge n c.args.size) (sym c.mapping_at-mapping.ensures)
+    (is-large c.in-Some.start c.args.pages c.args.align c.args.size w.aligned w.above w.below c.requires.pages c.requires.align c.requires.some c.requires.small c.requires.fits) in
+    let below = large.below in
+    let start = ap (λ (n : Mapping). n.start + PAGE_SIZE * n.pages) c.mapping_at-mapping.ensures in
+    omega arith
