@@ -23,7 +23,7 @@ mod registers;
 mod steps;
 
 pub use a64_decode::Decoder;
-pub use laws::{steps_keep_tag_mode, steps_keep_tags};
+pub use laws::{steps_keep_pages, steps_keep_tag_mode, steps_keep_tags};
 pub use outcome::{Outcome, Stop};
 pub use registers::Regs;
 pub use steps::{run, step};

@@ -1,5 +1,5 @@
 -- A tenant's number stays, and what its machine becomes is what the tenant becomes.
-use Rattle.std.proofs.Common.{◌≡◌, ℕ, zero, suc, ◌+◌, ◌-◌, ◌==◌, ◌&&◌, ◌∙◌, Bool, true, false, List, [], ◌∷◌, Option, Some, None}
+use Rattle.std.proofs.Common.{◌≡◌, ℕ, zero, suc, ◌+◌, ◌-◌, ◌==◌, ◌&&◌, ◌∙◌, Bool, true, false, List, [], ◌∷◌, Option, Some, None, Result, Ok, Err}
 use Rattle.std.proofs.Common.{if◌then◌else◌, refl, ap, sym}
 use Rattle.a64_step.specs.declared.outcome.Outcome.{Outcome}
 use Rattle.a64_step.specs.declared.outcome.Outcome.TheVariants as outcome
@@ -7,12 +7,18 @@ use Rattle.a64_step.specs.Steps.{step_of}
 use Rattle.mte_tags.specs.Memory.{Memory, pages_left}
 use Rattle.mte_tags.specs.Accesses.{read_fault, write_fault}
 use Rattle.mte_tags.specs.declared.fault.MemFault.{MemFault}
-use Rattle.mte_svc.specs.Services.{Served, served, by_number, wrote, wrote_by, write_count, read_in, read_by, read_count, answered, ends, goes_on, x_of, none_such}
+use Rattle.mte_svc.specs.Results.{Served, answered, entered, ends, goes_on, x_of}
+use Rattle.mte_svc.specs.HeapServices.{malloc_by, free_by, calloc_by, realloc_by, memalign_by, usable_size_by, freed_by, found_by, made_by}
+use Rattle.mte_svc.specs.declared.calls.HeapService.{HeapService}
+use Rattle.scudo_heap.specs.Allocation.{Made}
+use Rattle.scudo_heap.specs.Placing.{World}
+use Rattle.scudo_heap.specs.declared.abort.HeapAbort.{HeapAbort}
+use Rattle.mte_svc.specs.Services.{served, by_number, wrote, wrote_by, write_count, read_in, read_by, read_count, none_such}
 use Rattle.mte_svc.specs.declared.parts.TenantParts.{TenantParts}
 use Rattle.mte_svc.specs.declared.record.Record.{Record}
 use Rattle.mte_svc.specs.declared.services.SvcEnd.{SvcEnd}
 use Rattle.mte_svc.specs.declared.services.SvcEnd.TheVariants as end
-use Rattle.mte_svc.specs.declared.services.TheConstants.{EXIT, WRITE, READ, YIELD, STEPS_LEFT, PAGES_LEFT}
+use Rattle.mte_svc.specs.declared.services.TheConstants.{EXIT, WRITE, READ, MALLOC, FREE, CALLOC, REALLOC, MEMALIGN, USABLE_SIZE, YIELD, STEPS_LEFT, PAGES_LEFT}
 use Rattle.mte_sched.specs.declared.tenant.Tenant as code
 use Rattle.mte_sched.specs.Machines.{Machine, machine_of, runs, Attempted, on, after_service, with_service, ended_by_tag, met, counted, with_regs}
 use Rattle.mte_sched.specs.Machines.{attempted, attempts, ended_where_set, settled, advance, halted, with_status}
@@ -42,15 +48,59 @@ unfolding answered
 read-id (Some f) p m n = refl
 read-id None p m n = refl
 
+made-id : (p : TenantParts) (s : HeapService) (n : ℕ) (made : Made) → (made_by p s n made).parts.account.id ≡ p.account.id
+unfolding answered entered
+made-id p s n made = refl
+
+found-id : (p : TenantParts) (m : Memory) (s : HeapService) (n : ℕ) (w : World) (r : Result ℕ HeapAbort) → (found_by p m s n w r).parts.account.id ≡ p.account.id
+unfolding answered entered
+found-id p m s n w (Ok a) = refl
+found-id p m s n w (Err e) = refl
+
+freed-id : (p : TenantParts) (m : Memory) (w : World) (r : Result (Unit {0}) HeapAbort) → (freed_by p m w r).parts.account.id ≡ p.account.id
+unfolding answered entered
+freed-id p m w (Ok a) = refl
+freed-id p m w (Err e) = refl
+
+malloc-id : (p : TenantParts) (m : Memory) → (malloc_by p m).parts.account.id ≡ p.account.id
+unfolding malloc_by
+malloc-id p m = made-id p _ _ _
+
+calloc-id : (p : TenantParts) (m : Memory) → (calloc_by p m).parts.account.id ≡ p.account.id
+unfolding calloc_by
+calloc-id p m = made-id p _ _ _
+
+memalign-id : (p : TenantParts) (m : Memory) → (memalign_by p m).parts.account.id ≡ p.account.id
+unfolding memalign_by
+memalign-id p m = made-id p _ _ _
+
+free-id : (p : TenantParts) (m : Memory) → (free_by p m).parts.account.id ≡ p.account.id
+unfolding free_by
+free-id p m = freed-id p m _ _
+
+realloc-id : (p : TenantParts) (m : Memory) → (realloc_by p m).parts.account.id ≡ p.account.id
+unfolding realloc_by
+realloc-id p m = found-id p m _ _ _ _
+
+usable-id : (p : TenantParts) (m : Memory) → (usable_size_by p m).parts.account.id ≡ p.account.id
+unfolding usable_size_by
+usable-id p m = found-id p m _ _ _ _
+
 number-id : (n : ℕ) (p : TenantParts) (m : Memory) → (by_number n p m).parts.account.id ≡ p.account.id
 unfolding wrote read_in answered
 number-id n p m =
     served_if (n == EXIT) _ _ p.account.id refl
     (served_if (n == WRITE) _ _ p.account.id (wrote-id (read_fault m (x_of p 0) (write_count p) true) p m (write_count p))
     (served_if (n == READ) _ _ p.account.id (read-id (write_fault m (x_of p 0) (read_count p) true) p m (read_count p))
+    (served_if (n == MALLOC) _ _ p.account.id (malloc-id p m)
+    (served_if (n == FREE) _ _ p.account.id (free-id p m)
+    (served_if (n == CALLOC) _ _ p.account.id (calloc-id p m)
+    (served_if (n == REALLOC) _ _ p.account.id (realloc-id p m)
+    (served_if (n == MEMALIGN) _ _ p.account.id (memalign-id p m)
+    (served_if (n == USABLE_SIZE) _ _ p.account.id (usable-id p m)
     (served_if (n == YIELD) _ _ p.account.id refl
     (served_if (n == STEPS_LEFT) _ _ p.account.id refl
-    (served_if (n == PAGES_LEFT) (goes_on p m (pages_left m)) (goes_on p m none_such) p.account.id refl refl)))))
+    (served_if (n == PAGES_LEFT) (goes_on p m (pages_left m)) (goes_on p m none_such) p.account.id refl refl)))))))))))
 
 served-id : (p : TenantParts) (m : Memory) → (served p m).parts.account.id ≡ p.account.id
 unfolding served
@@ -61,6 +111,7 @@ service-id end.Go m = refl
 service-id end.EndSlice m = refl
 service-id (end.Exit code) m = refl
 service-id (end.Fault f) m = refl
+service-id (end.Abort a p) m = refl
 
 attempted_if : (b : Bool) (s t : Attempted) (n : ℕ) → number_in s.machine ≡ n → number_in t.machine ≡ n → number_in (if b then s else t).machine ≡ n
 attempted_if true s t n h k = h

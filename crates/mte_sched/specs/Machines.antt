@@ -1,6 +1,6 @@
 -- A tenant alone on a tagged memory: its first machine, what an attempted instruction and a service
 -- make of it.
-use Rattle.std.specs.Prelude.{ℕ, zero, suc, ◌+◌, ◌-◌, ◌/◌, ◌%◌, ◌==◌, min, Bool, true, false}
+use Rattle.std.specs.Prelude.{ℕ, zero, suc, ◌+◌, ◌-◌, ◌/◌, ◌%◌, ◌^◌, ◌==◌, min, Bool, true, false}
 use Rattle.std.specs.Prelude.{List, [], Option, Some, None, if◌then◌else◌, ◌&&◌}
 use Rattle.address_map.specs.declared.limits.TheConstants.{PAGE_SIZE}
 use Rattle.address_map.specs.declared.ranges.TheConstants.{STACK_START, STACK_END, STACK_PAGES}
@@ -13,11 +13,13 @@ use Rattle.mte_tags.specs.declared.state.TagMode.{TagMode}
 use Rattle.mte_tags.specs.Memory.{Memory, no_pages, with_new_pages}
 use Rattle.mte_elf.specs.Headers.{segments_of, entry_of}
 use Rattle.mte_elf.specs.Loading.{with_segments}
-use Rattle.mte_svc.specs.Services.{Served, served, is_running}
+use Rattle.scudo_heap.specs.Heaps.{empty_heap}
+use Rattle.mte_svc.specs.Results.{Served, is_running}
+use Rattle.mte_svc.specs.Services.{served}
 use Rattle.mte_svc.specs.declared.parts.TenantParts.{TenantParts}
 use Rattle.mte_svc.specs.declared.record.Status.{Status}
 use Rattle.mte_svc.specs.declared.record.Status.TheVariants.{Running, Exited, Faulted, Illegal}
-use Rattle.mte_svc.specs.declared.record.Status.TheVariants.{Breakpoint, AsyncTag, Stopped}
+use Rattle.mte_svc.specs.declared.record.Status.TheVariants.{Breakpoint, AsyncTag, Aborted, Stopped}
 use Rattle.mte_svc.specs.declared.services.SvcEnd.{SvcEnd}
 use Rattle.mte_svc.specs.declared.services.SvcEnd.TheVariants as end
 
@@ -49,7 +51,7 @@ pub record Terms : Type 0 where
   pub mode : TagMode
 
 -- All registers are 0 but SP and PC; the seed's low 16 bits are RGSR_EL1.SEED, the next four
--- RGSR_EL1.TAG.
+-- RGSR_EL1.TAG, and its high 32 bits the cookie of the heap.
 unfoldable pub first_registers : ℕ → ℕ → Regs
 first_registers entry seed = record (fresh entry STACK_END) {
   rgsr = record { tag = seed / 65536 % 16; seed = seed % 65536 };
@@ -71,6 +73,7 @@ first_parts id terms = record {
     calls = record { last = []; count = 0 };
   };
   regs = first_registers (entry_of terms.image) terms.seed;
+  heap = empty_heap (terms.seed / 2 ^ 32) terms.pages;
   input = terms.input;
   left = 0;
 }
@@ -95,6 +98,8 @@ after_service end.Go m = on m
 after_service end.EndSlice m = record { machine = m; goes_on = false }
 after_service (end.Exit code) m = on (with_status m (Exited code))
 after_service (end.Fault fault) m = on (with_status m (Faulted fault m.parts.regs.pc))
+after_service (end.Abort abort pointer) m =
+    on (with_status m (Aborted abort pointer m.parts.regs.pc))
 
 abbrev pub with_service : Served → Attempted
 with_service s = after_service s.end (machine_of s.parts s.memory)

@@ -5,17 +5,20 @@ ghost use Rattle.std.specs.Prelude.{None, ◌/◌};
 ghost use Rattle.mte_tags.specs.Memory.{Memory, page_at, pages_left, no_pages, with_new_pages};
 ghost use Rattle.mte_elf.specs.Headers.{segments_of, entry_of};
 ghost use Rattle.mte_elf.specs.Images.{refusal_of, pages_of};
-ghost use Rattle.mte_svc.specs.Services.{is_running, served};
+ghost use Rattle.scudo_heap.specs.Served.{IsServed};
+ghost use Rattle.mte_svc.specs.Results.{is_running};
+ghost use Rattle.mte_svc.specs.Services.{served};
 ghost use Rattle.mte_sched.specs.Machines.{machine_of, first_parts, first_memory, first_registers};
 ghost use Rattle.mte_sched.specs.Hosts.{terms_of};
 ghost use Rattle.mte_sched.specs.Machines.{advance, attempts, settled, met, halted, with_service};
 
 use crate::admission::Admission;
-use a64_step::{Decoder, Outcome, Regs, run};
+use a64_step::{Decoder, Outcome, Regs, run, steps_keep_pages};
 use address_map::{PAGE_SIZE, STACK_END, STACK_PAGES, STACK_START};
 use mte_elf::{Plan, load};
 use mte_svc::{HeapCalls, Input, Output, Record, Status, SvcEnd, TenantParts, svc};
 use mte_tags::{Attrs, Paged, Rgsr, TagMode, Tagged};
+use scudo_heap::{Heap, condition_of_calls};
 use std::alloc::{AllocError, Global};
 
 /// All of a machine but its memory, at its first instruction. `plan` is the image's plan.
@@ -25,12 +28,15 @@ pub(crate) fn start_parts(
     admission: &Admission<'_>,
     plan: &Plan,
 ) -> Result<TenantParts, AllocError>
-    requires { plan.now.entry ≡ entry_of admission.now.image.now }
+    requires entry { plan.now.entry ≡ entry_of admission.now.image.now }
+    requires some { 0 < admission.now.pages }
+    requires most { admission.now.pages ≤ MAX_PAGES }
     ensures { IfOk result
         (λ parts. parts ≡ first_parts admission.now.id (terms_of admission.now)) }
 {
     let output = Output::new(alloc, admission.room)?;
     let input = Input::new(alloc, admission.input)?;
+    let heap = Heap::new(alloc, (admission.seed >> 32) as u32, u64::from(admission.pages))?;
     let calls = HeapCalls::new(alloc)?;
     let account = Record {
         id: admission.id,
@@ -42,6 +48,7 @@ pub(crate) fn start_parts(
     Ok(TenantParts {
         account,
         regs: registers_at(plan.entry, admission.seed),
+        heap,
         input,
         left: 0,
     })
@@ -64,8 +71,12 @@ pub(crate) fn fill<M: Paged>(plan: &Plan, image: &[u8], pages: u32, mode: TagMod
 /// Lets a tenant attempt at most `steps` instructions while it is running and does not yield. It
 /// ends where its flag is set then.
 pub fn slice<M: Paged>(parts: &mut TenantParts, memory: &mut M, steps: u32)
+    requires heap { IsServed (M.Tagged.memory memory.old) parts.old.heap }
+    requires tag { parts.old.regs.rgsr.tag < 16 }
     ensures machine { machine_of parts.new (M.Tagged.memory memory.new)
         ≡ advance steps (machine_of parts.old (M.Tagged.memory memory.old)) }
+    ensures heap { IsServed (M.Tagged.memory memory.new) parts.new.heap }
+    ensures tag { parts.new.regs.rgsr.tag < 16 }
     ensures kept { M.Tagged.kept memory.old memory.new }
 {
     let mut decoder = Decoder::new();
@@ -86,11 +97,17 @@ fn run_on<M: Paged>(
 ) -> u64
     requires some { 0 < left }
     requires running { is_running parts.old.account.status ≡ true }
+    requires heap { IsServed (M.Tagged.memory memory.old) parts.old.heap }
+    requires tag { parts.old.regs.rgsr.tag < 16 }
     ensures rest { attempts result (machine_of parts.new (M.Tagged.memory memory.new))
         ≡ attempts left (machine_of parts.old (M.Tagged.memory memory.old)) }
     ensures fewer { result < left }
+    ensures heap { IsServed (M.Tagged.memory memory.new) parts.new.heap }
+    ensures tag { parts.new.regs.rgsr.tag < 16 }
     ensures kept { M.Tagged.kept memory.old memory.new }
 {
+    steps_keep_pages();
+    condition_of_calls();
     let stop = run(decoder, &mut parts.regs, memory, left);
     parts.account.steps = parts.account.steps.saturating_add(left - stop.left);
     parts.left = stop.left;
@@ -111,6 +128,9 @@ fn run_on<M: Paged>(
 fn settle<M: Tagged>(parts: &mut TenantParts, memory: &mut M)
     ensures machine { machine_of parts.new (M.memory memory.new)
         ≡ settled (machine_of parts.old (M.memory memory.old)) }
+    ensures heap { parts.new.heap ≡ parts.old.heap }
+    ensures tag { parts.new.regs ≡ parts.old.regs }
+    ensures memory { M.memory memory.new ≡ M.memory memory.old }
     ensures kept { M.kept memory.old memory.new }
 {
     parts.left = 0;
@@ -123,12 +143,16 @@ fn settle<M: Tagged>(parts: &mut TenantParts, memory: &mut M)
 /// Returns whether the slice goes on.
 #[tactic(auto, unfolding(crate::specs::Machines::met))]
 fn handle<M: Paged>(outcome: Outcome, parts: &mut TenantParts, memory: &mut M) -> bool
+    requires heap { IsServed (M.Tagged.memory memory.old) parts.old.heap }
+    requires tag { parts.old.regs.rgsr.tag < 16 }
     ensures machine {
         record {
           machine = machine_of parts.new (M.Tagged.memory memory.new);
           goes_on = result;
         }
         ≡ met outcome (machine_of parts.old (M.Tagged.memory memory.old)) }
+    ensures heap { IsServed (M.Tagged.memory memory.new) parts.new.heap }
+    ensures tag { parts.new.regs.rgsr.tag < 16 }
     ensures kept { M.Tagged.kept memory.old memory.new }
 {
     let pc = parts.regs.pc;
@@ -150,12 +174,16 @@ fn handle<M: Paged>(outcome: Outcome, parts: &mut TenantParts, memory: &mut M) -
 
 /// Serves an SVC; returns whether the slice goes on.
 fn serve<M: Paged>(parts: &mut TenantParts, memory: &mut M) -> bool
+    requires heap { IsServed (M.Tagged.memory memory.old) parts.old.heap }
+    requires tag { parts.old.regs.rgsr.tag < 16 }
     ensures machine {
         record {
           machine = machine_of parts.new (M.Tagged.memory memory.new);
           goes_on = result;
         }
         ≡ with_service (served parts.old (M.Tagged.memory memory.old)) }
+    ensures heap { IsServed (M.Tagged.memory memory.new) parts.new.heap }
+    ensures tag { parts.new.regs.rgsr.tag < 16 }
     ensures kept { M.Tagged.kept memory.old memory.new }
 {
     match svc(parts, memory) {
@@ -163,6 +191,9 @@ fn serve<M: Paged>(parts: &mut TenantParts, memory: &mut M) -> bool
         SvcEnd::EndSlice => return false,
         SvcEnd::Exit(code) => parts.account.status = Status::Exited(code),
         SvcEnd::Fault(fault) => parts.account.status = Status::Faulted(fault, parts.regs.pc),
+        SvcEnd::Abort(abort, pointer) => {
+            parts.account.status = Status::Aborted(abort, pointer, parts.regs.pc);
+        }
     }
     true
 }
@@ -170,7 +201,9 @@ fn serve<M: Paged>(parts: &mut TenantParts, memory: &mut M) -> bool
 /// Stops a tenant where it is running.
 #[tactic(auto, unfolding(crate::specs::Machines::halted))]
 pub(crate) fn halt(parts: &mut TenantParts)
-    ensures { (m : Memory) → machine_of parts.new m ≡ halted (machine_of parts.old m) }
+    ensures machine { (m : Memory) → machine_of parts.new m ≡ halted (machine_of parts.old m) }
+    ensures heap { parts.new.heap ≡ parts.old.heap }
+    ensures regs { parts.new.regs ≡ parts.old.regs }
 {
     if parts.is_running() {
         parts.account.status = Status::Stopped;

@@ -3,7 +3,7 @@
 ghost use Rattle.std.specs.Prelude.{◌≡◌, ◌==◌, ◌&&◌};
 ghost use Rattle.mte_sched.specs.Contents.{tenant_sliced, tenant_stopped, entry_of};
 ghost use Rattle.mte_sched.specs.Ledger.{has_id, has_live_id, charge_in};
-ghost use Rattle.mte_sched.specs.Hosts.{tenant_in};
+ghost use Rattle.mte_sched.specs.Hosts.{IsReady, tenant_in};
 
 use crate::admission::charge;
 use crate::machine::{halt, slice};
@@ -19,6 +19,7 @@ pub struct Tenant {
     pub memory: Option<Flat>,
     /// Its reservation.
     pub pages: u32,
+    ghost ready: { IsReady parts memory },
 }
 
 impl Tenant {

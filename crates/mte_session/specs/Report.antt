@@ -10,7 +10,11 @@ use Rattle.mte_tags.specs.declared.fault.FaultKind.TheVariants.{Alignment, SpAli
 use Rattle.mte_tags.specs.declared.fault.FaultKind.TheVariants.{PcAlignment}
 use Rattle.mte_svc.specs.declared.record.Status.{Status}
 use Rattle.mte_svc.specs.declared.record.Status.TheVariants.{Running, Exited, Faulted, Illegal}
-use Rattle.mte_svc.specs.declared.record.Status.TheVariants.{Breakpoint, AsyncTag, Stopped}
+use Rattle.mte_svc.specs.declared.record.Status.TheVariants.{Breakpoint, AsyncTag, Aborted, Stopped}
+use Rattle.scudo_heap.specs.declared.abort.HeapAbort.{HeapAbort}
+use Rattle.scudo_heap.specs.declared.abort.HeapAbort.TheVariants.{Misaligned, Unmapped}
+use Rattle.scudo_heap.specs.declared.abort.HeapAbort.TheVariants.{HeaderCorrupt, InvalidState}
+use Rattle.scudo_heap.specs.declared.abort.HeapAbort.TheVariants.{NotABlock, AlreadyFree}
 use Rattle.mte_svc.specs.declared.record.Record.{Record}
 use Rattle.mte_svc.specs.declared.calls.HeapCall.{HeapCall}
 use Rattle.mte_svc.specs.declared.calls.HeapService.{HeapService}
@@ -41,6 +45,14 @@ abbrev pub access_name : Bool → List ℕ
 access_name true = codes "write"
 access_name false = codes "read"
 
+abbrev pub abort_name : HeapAbort → List ℕ
+abort_name Misaligned = codes "Misaligned"
+abort_name Unmapped = codes "Unmapped"
+abort_name HeaderCorrupt = codes "HeaderCorrupt"
+abort_name InvalidState = codes "InvalidState"
+abort_name NotABlock = codes "NotABlock"
+abort_name AlreadyFree = codes "AlreadyFree"
+
 -- A tenant's status, in parts.
 abbrev pub status_parts : Status → List (List ℕ)
 status_parts Running = codes "running" ∷ []
@@ -56,6 +68,9 @@ status_parts (Illegal w pc) =
 status_parts (Breakpoint n pc) =
     codes "break " ∷ decimal n ∷ codes " pc 0x" ∷ sixteen_digits pc ∷ []
 status_parts (AsyncTag pc) = codes "async pc 0x" ∷ sixteen_digits pc ∷ []
+status_parts (Aborted abort pointer pc) =
+    codes "abort " ∷ abort_name abort
+    ∷ codes " ptr 0x" ∷ sixteen_digits pointer ∷ codes " pc 0x" ∷ sixteen_digits pc ∷ []
 
 -- How many bytes were written, and which, if any.
 abbrev pub output_parts : List ℕ → List (List ℕ)

@@ -2,15 +2,16 @@
 
 ghost use Rattle.std.specs.Prelude.{◌≡◌};
 ghost use Rattle.mte_svc.specs.declared.record.Status.TheVariants.{Exited, Faulted, Illegal};
-ghost use Rattle.mte_svc.specs.declared.record.Status.TheVariants.{Breakpoint, AsyncTag};
+ghost use Rattle.mte_svc.specs.declared.record.Status.TheVariants.{Breakpoint, AsyncTag, Aborted};
 ghost use Rattle.mte_streams.specs.Writing.{Writes};
-ghost use Rattle.mte_session.specs.Report.{kind_name, access_name, status_line};
+ghost use Rattle.mte_session.specs.Report.{kind_name, access_name, abort_name, status_line};
 
 use crate::text::{eight_hex, sixteen_hex, write_parts};
 use itoa::Buffer;
 use mte_sched::Status;
 use mte_streams::{Sink, WriteFault};
 use mte_tags::{FaultKind, MemFault};
+use scudo_heap::HeapAbort;
 
 /// Writes the line of a status.
 pub fn write_status_line<W: Sink>(out: &mut W, status: &Status) -> Result<(), WriteFault>
@@ -24,6 +25,7 @@ pub fn write_status_line<W: Sink>(out: &mut W, status: &Status) -> Result<(), Wr
         Status::Illegal(word, pc) => write_illegal_line(out, *word, *pc),
         Status::Breakpoint(number, pc) => write_break_line(out, *number, *pc),
         Status::AsyncTag(pc) => write_async_line(out, *pc),
+        Status::Aborted(abort, pointer, pc) => write_abort_line(out, *abort, *pointer, *pc),
     }
 }
 
@@ -106,6 +108,45 @@ fn write_async_line<W: Sink>(out: &mut W, pc: u64) -> Result<(), WriteFault>
     ensures { Writes (W.log out.old) (W.log out.new) result (status_line (AsyncTag pc)) }
 {
     write_parts(out, &[b"status ", b"async pc 0x", &sixteen_hex(pc), b"\n"])
+}
+
+/// Writes the line of a heap call that aborted.
+fn write_abort_line<W: Sink>(
+    out: &mut W,
+    abort: HeapAbort,
+    pointer: u64,
+    pc: u64,
+) -> Result<(), WriteFault>
+    ensures { Writes (W.log out.old) (W.log out.new) result
+        (status_line (Aborted abort pointer pc)) }
+{
+    write_parts(
+        out,
+        &[
+            b"status ",
+            b"abort ",
+            abort_text(abort),
+            b" ptr 0x",
+            &sixteen_hex(pointer),
+            b" pc 0x",
+            &sixteen_hex(pc),
+            b"\n",
+        ],
+    )
+}
+
+/// The name of a check of a pointer.
+fn abort_text(abort: HeapAbort) -> &'static [u8]
+    ensures { result.now ≡ abort_name abort }
+{
+    match abort {
+        HeapAbort::Misaligned => b"Misaligned",
+        HeapAbort::Unmapped => b"Unmapped",
+        HeapAbort::HeaderCorrupt => b"HeaderCorrupt",
+        HeapAbort::InvalidState => b"InvalidState",
+        HeapAbort::NotABlock => b"NotABlock",
+        HeapAbort::AlreadyFree => b"AlreadyFree",
+    }
 }
 
 /// The name of a kind of fault.

@@ -1,44 +1,17 @@
--- What a service makes of a tenant's parts and memory, by x8. Its arguments are x0 and x1, its result
--- is x0.
-use Rattle.std.specs.Prelude.{ℕ, ◌+◌, ◌-◌, ◌%◌, ◌^◌, ◌==◌, min, Bool, true, false}
-use Rattle.std.specs.Prelude.{List, ◌++◌, length, take, drop, slice_index, slice_set, Option, Some}
-use Rattle.std.specs.Prelude.{None, if◌then◌else◌}
+-- The services, by x8.
+use Rattle.std.specs.Prelude.{ℕ, ◌+◌, ◌-◌, ◌%◌, ◌^◌, ◌==◌, min, List, ◌++◌, length, take, drop}
+use Rattle.std.specs.Prelude.{Option, Some, None, if◌then◌else◌}
 use Rattle.mte_tags.specs.declared.fault.MemFault.{MemFault}
 use Rattle.mte_tags.specs.Memory.{Memory, pages_left}
 use Rattle.mte_tags.specs.Accesses.{read_fault, read_bytes, after_read, write_fault, after_write}
 use Rattle.mte_svc.specs.declared.parts.TenantParts.{TenantParts}
-use Rattle.mte_svc.specs.declared.record.Status.{Status}
-use Rattle.mte_svc.specs.declared.record.Status.TheVariants.{Running}
-use Rattle.mte_svc.specs.declared.services.SvcEnd.{SvcEnd}
-use Rattle.mte_svc.specs.declared.services.SvcEnd.TheVariants.{Go, EndSlice, Exit, Fault}
-use Rattle.mte_svc.specs.declared.services.TheConstants.{EXIT, WRITE, READ, YIELD, STEPS_LEFT}
-use Rattle.mte_svc.specs.declared.services.TheConstants.{PAGES_LEFT}
-
-abbrev pub is_running : Status → Bool
-is_running Running = true
-is_running other = false
-
--- What a service leaves, and how it ends.
-pub record Served : Type 0 where
-  pub parts : TenantParts
-  pub memory : Memory
-  pub end : SvcEnd
-
-abbrev pub x_of : TenantParts → ℕ → ℕ
-x_of p n = slice_index p.regs.x n
-
--- The result in x0; the tenant resumes after the SVC.
-unfoldable pub answered : TenantParts → ℕ → TenantParts
-answered p value = record p {
-  regs = record p.regs { x = slice_set p.regs.x 0 value; pc = (p.regs.pc + 4) % 2 ^ 56 };
-}
-
-abbrev pub goes_on : TenantParts → Memory → ℕ → Served
-goes_on p m value = record { parts = answered p value; memory = m; end = Go }
-
--- A service that ends the tenant changes nothing.
-abbrev pub ends : TenantParts → Memory → SvcEnd → Served
-ends p m end = record { parts = p; memory = m; end = end }
+use Rattle.mte_svc.specs.declared.services.SvcEnd.TheVariants.{EndSlice, Exit, Fault}
+use Rattle.mte_svc.specs.declared.services.TheConstants.{EXIT, WRITE, READ, MALLOC, FREE, CALLOC}
+use Rattle.mte_svc.specs.declared.services.TheConstants.{REALLOC, MEMALIGN, USABLE_SIZE, YIELD}
+use Rattle.mte_svc.specs.declared.services.TheConstants.{STEPS_LEFT, PAGES_LEFT}
+use Rattle.mte_svc.specs.Results.{Served, x_of, answered, goes_on, ends}
+use Rattle.mte_svc.specs.HeapServices.{malloc_by, free_by, calloc_by, realloc_by, memalign_by}
+use Rattle.mte_svc.specs.HeapServices.{usable_size_by}
 
 -- ---- write: the x1 bytes at x0, or as many as there is room for, by one checked read
 
@@ -88,10 +61,16 @@ by_number n p m =
     if n == EXIT then ends p m (Exit (x_of p 0 % 256))
     else (if n == WRITE then wrote p m
     else (if n == READ then read_in p m
+    else (if n == MALLOC then malloc_by p m
+    else (if n == FREE then free_by p m
+    else (if n == CALLOC then calloc_by p m
+    else (if n == REALLOC then realloc_by p m
+    else (if n == MEMALIGN then memalign_by p m
+    else (if n == USABLE_SIZE then usable_size_by p m
     else (if n == YIELD then record { parts = answered p 0; memory = m; end = EndSlice }
     else (if n == STEPS_LEFT then goes_on p m p.left
     else (if n == PAGES_LEFT then goes_on p m (pages_left m)
-    else goes_on p m none_such)))))
+    else goes_on p m none_such)))))))))))
 
 unfoldable pub served : TenantParts → Memory → Served
 served p m = by_number (x_of p 8) p m

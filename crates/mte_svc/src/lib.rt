@@ -2,6 +2,7 @@
 #![tactic(auto)]
 
 mod calls;
+mod heap_services;
 mod input;
 mod output;
 mod parts;
@@ -13,4 +14,7 @@ pub use input::Input;
 pub use output::Output;
 pub use parts::TenantParts;
 pub use record::{Record, Status};
-pub use services::{EXIT, PAGES_LEFT, READ, STEPS_LEFT, SvcEnd, WRITE, YIELD, svc};
+pub use services::{
+    CALLOC, EXIT, FREE, MALLOC, MEMALIGN, PAGES_LEFT, READ, REALLOC, STEPS_LEFT, SvcEnd,
+    USABLE_SIZE, WRITE, YIELD, svc,
+};

@@ -1,11 +1,13 @@
 //! The parts of a tenant's machine beside its memory.
 
 ghost use Rattle.std.specs.Prelude.{◌≡◌};
-ghost use Rattle.mte_svc.specs.Services.{answered, is_running};
+ghost use Rattle.mte_svc.specs.Results.{answered, entered, is_running};
 
+use crate::calls::HeapCall;
 use crate::input::Input;
 use crate::record::{Record, Status};
 use a64_step::Regs;
+use scudo_heap::Heap;
 
 /// All of a tenant's machine but its memory.
 #[derive(Drop)]
@@ -14,6 +16,8 @@ pub struct TenantParts {
     pub account: Record,
     /// Its registers.
     pub regs: Regs,
+    /// Its heap.
+    pub heap: Heap,
     /// What it has not yet read.
     pub input: Input,
     /// The steps of its slice that are left; 0 between slices.
@@ -31,8 +35,17 @@ impl TenantParts {
         }
     }
 
+    /// Enters a heap call that was answered, and returns its result.
+    #[tactic(auto, unfolding(crate::specs::Results::entered))]
+    pub(crate) fn enter(&mut self, call: HeapCall)
+        ensures { self.new ≡ answered (entered self.old call) call.answer }
+    {
+        self.account.calls.note(call);
+        self.answer(call.answer);
+    }
+
     /// Returns a service's result in x0, and resumes after the SVC.
-    #[tactic(auto, unfolding(crate::specs::Services::answered))]
+    #[tactic(auto, unfolding(crate::specs::Results::answered))]
     pub(crate) fn answer(&mut self, value: u64)
         ensures { self.new ≡ answered self.old value }
     {

@@ -3,6 +3,7 @@
 use crate::calls::HeapCalls;
 use crate::output::Output;
 use mte_tags::MemFault;
+use scudo_heap::HeapAbort;
 
 /// A tenant's status. Addresses are those of instructions.
 #[derive(Clone, Copy, Debug, PartialEq, Eq)]
@@ -20,6 +21,8 @@ pub enum Status {
     /// In the asynchronous mode a tag differed in an access: it ended at its next SVC, which had no
     /// effect, or with its slice. The address is that of the SVC, or of the next instruction.
     AsyncTag(u64),
+    /// A heap call's check of a pointer failed: the check, the pointer, and the SVC's address.
+    Aborted(HeapAbort, u64, u64),
     /// It was stopped while it was running.
     Stopped,
 }

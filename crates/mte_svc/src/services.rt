@@ -1,10 +1,13 @@
 //! The services, by x8.
 
-ghost use Rattle.std.specs.Prelude.{◌≡◌};
+ghost use Rattle.std.specs.Prelude.{◌≡◌, ◌<◌};
+ghost use Rattle.scudo_heap.specs.Served.{IsServed};
 ghost use Rattle.mte_svc.specs.Services.{served, wrote, read_in};
 
+use crate::heap_services::{calloc, free, malloc, memalign, realloc, usable_size};
 use crate::parts::TenantParts;
 use mte_tags::{MemFault, Paged, Tagged};
+use scudo_heap::HeapAbort;
 
 /// How a service ends.
 #[derive(Clone, Copy, Debug, PartialEq, Eq)]
@@ -17,6 +20,8 @@ pub enum SvcEnd {
     Exit(u8),
     /// An access of the service failed.
     Fault(MemFault),
+    /// A check of a pointer that was handed to the heap failed.
+    Abort(HeapAbort, u64),
 }
 
 /// Ends the tenant, with x0 modulo 256.
@@ -27,6 +32,24 @@ pub const WRITE: u64 = 1;
 
 /// Reads the next x1 bytes of the input to x0.
 pub const READ: u64 = 2;
+
+/// Returns a chunk of x0 bytes.
+pub const MALLOC: u64 = 3;
+
+/// Frees the chunk at x0.
+pub const FREE: u64 = 4;
+
+/// Returns a chunk for x0 elements of x1 bytes.
+pub const CALLOC: u64 = 5;
+
+/// Gives the chunk at x0 a size of x1 bytes.
+pub const REALLOC: u64 = 6;
+
+/// Returns a chunk of x1 bytes at a multiple of x0.
+pub const MEMALIGN: u64 = 7;
+
+/// Returns the size of the chunk at x0.
+pub const USABLE_SIZE: u64 = 8;
 
 /// Ends the slice.
 pub const YIELD: u64 = 9;
@@ -41,15 +64,25 @@ pub const PAGES_LEFT: u64 = 11;
 /// that no service has returns 2^64 - 1. Where it ends the tenant, PC stays at the SVC.
 #[tactic(auto, unfolding(crate::specs::Services::served))]
 pub fn svc<M: Paged>(parts: &mut TenantParts, memory: &mut M) -> SvcEnd
+    requires heap { IsServed (M.Tagged.memory memory.old) parts.old.heap }
+    requires tag { parts.old.regs.rgsr.tag < 16 }
     ensures served {
         record { parts = parts.new; memory = M.Tagged.memory memory.new; end = result }
         ≡ served parts.old (M.Tagged.memory memory.old) }
+    ensures heap { IsServed (M.Tagged.memory memory.new) parts.new.heap }
+    ensures tag { parts.new.regs.rgsr.tag < 16 }
     ensures kept { M.Tagged.kept memory.old memory.new }
 {
     match parts.regs.x[8] {
         EXIT => SvcEnd::Exit((parts.regs.x[0] % 256) as u8),
         WRITE => write(parts, memory),
         READ => read(parts, memory),
+        MALLOC => malloc(parts, memory),
+        FREE => free(parts, memory),
+        CALLOC => calloc(parts, memory),
+        REALLOC => realloc(parts, memory),
+        MEMALIGN => memalign(parts, memory),
+        USABLE_SIZE => usable_size(parts, memory),
         YIELD => {
             parts.answer(0);
             SvcEnd::EndSlice

@@ -17,25 +17,25 @@ left-most : (m : Memory) → pages_left m ≤ m.limit
 unfolding pages_left
 left-most m = omega arith
 
-left-empty : (n : ℕ) (cs : List ℕ) → (empty_stacks n cs).left ≡ n
+left-empty : (n : ℕ) → (empty_stacks n).left ≡ n
 unfolding empty_stacks
-left-empty n cs = refl
+left-empty n = refl
 
-class-empty : (n : ℕ) (cs : List ℕ) (c : ℕ) → IsClass c → class_at (empty_stacks n cs) c ≡ empty_class
+class-empty : (n : ℕ) (c : ℕ) → IsClass c → class_at (empty_stacks n) c ≡ empty_class
 unfolding empty_stacks
-class-empty n cs c h = class_at-stacks_by n cs (λ _. empty_class) c h
+class-empty n c h = class_at-stacks_by n (λ _. empty_class) c h
 
-pub served-first : (m : Memory) (cookie pages : ℕ) (cs : List ℕ) → m.limit ≤ pages → IsUntouched m → IsServed m (empty_heap cookie pages cs)
-served-first m cookie pages cs l u =
+pub served-first : (m : Memory) (cookie pages : ℕ) → m.limit ≤ pages → IsUntouched m → IsServed m (empty_heap cookie pages)
+served-first m cookie pages l u =
     let most = left-most m in
-    let left = left-empty pages cs in
+    let left = left-empty pages in
     record {
       room = omega arith;
       limit = omega arith;
-      few = λ c lo hi. let e = ap (λ (k : ClassHeap). k.pages) (class-empty pages cs c (record { low = lo; high = hi })) in omega arith;
+      few = λ c lo hi. let e = ap (λ (k : ClassHeap). k.pages) (class-empty pages c (record { low = lo; high = hi })) in omega arith;
       none = λ i k. u _ (omega arith) (omega arith);
       regions = λ c i lo hi k. u _ (omega arith) (omega arith)
-          ∙ sym (cond-false _ _ _ (ap (λ (t : ClassHeap). nat_lt i t.pages) (class-empty pages cs c (record { low = lo; high = hi })) ∙ lt-false i 0 (omega arith)));
+          ∙ sym (cond-false _ _ _ (ap (λ (t : ClassHeap). nat_lt i t.pages) (class-empty pages c (record { low = lo; high = hi })) ∙ lt-false i 0 (omega arith)));
       mappings = λ a lo hi. u _ (omega arith) (omega arith);
     }
 
@@ -48,10 +48,10 @@ unfolding attrs_at
 attrs-no_pages n mode q = ap attrs_in (page_at-no_pages n mode q)
 
 -- a heap and a memory that are new
-pub served-new : (m : Memory) (h : HeapState) (cookie pages n : ℕ) (cs : List ℕ) (mode : TagMode) → m ≡ no_pages n mode → h ≡ empty_heap cookie pages cs → n ≤ pages → IsServed m h
-served-new m h cookie pages n cs mode em eh l =
+pub served-new : (m : Memory) (h : HeapState) (cookie pages n : ℕ) (mode : TagMode) → m ≡ no_pages n mode → h ≡ empty_heap cookie pages → n ≤ pages → IsServed m h
+served-new m h cookie pages n mode em eh l =
     let limit = limit-no_pages n mode in
-    subst (λ t. IsServed t h) (sym em) (subst (IsServed (no_pages n mode)) (sym eh) (served-first (no_pages n mode) cookie pages cs (omega arith) (λ q lo hi. attrs-no_pages n mode q)))
+    subst (λ t. IsServed t h) (sym em) (subst (IsServed (no_pages n mode)) (sym eh) (served-first (no_pages n mode) cookie pages (omega arith) (λ q lo hi. attrs-no_pages n mode q)))
 
 pub ruleset served_laws = (served-new)
 

@@ -20,38 +20,38 @@ use Rattle.scudo_heap.specs.Stacks.{ClassHeap, StackState, empty_class, empty_st
 use Rattle.scudo_heap.specs.Inner.{class_in, stacks_in, AreParts}
 use Rattle.scudo_heap.specs.declared.stacks.Stacks.TheInside.{Inside}
 
-get-in : (l : ℕ) (cs : List ℕ) (f : ℕ → ClassHeap) (c : ℕ) → IsClass c → finite.get (stacks_by l cs f).classes c ≡ Some (f c)
-get-in l cs f c h = let a = h.low in let b = h.high in get-from_entries nat_cmp_total (map (λ d. (d, f d)) (range_with_len 1 CLASSES)) c ∙ entries-in f CLASSES 1 c (omega arith) (omega arith)
+get-in : (l : ℕ) (f : ℕ → ClassHeap) (c : ℕ) → IsClass c → finite.get (stacks_by l f).classes c ≡ Some (f c)
+get-in l f c h = let a = h.low in let b = h.high in get-from_entries nat_cmp_total (map (λ d. (d, f d)) (range_with_len 1 CLASSES)) c ∙ entries-in f CLASSES 1 c (omega arith) (omega arith)
 
-get-out : (l : ℕ) (cs : List ℕ) (f : ℕ → ClassHeap) (c : ℕ) → (IsClass c → ⊥) → finite.get (stacks_by l cs f).classes c ≡ None
-get-out l cs f c h =
+get-out : (l : ℕ) (f : ℕ → ClassHeap) (c : ℕ) → (IsClass c → ⊥) → finite.get (stacks_by l f).classes c ≡ None
+get-out l f c h =
     get-from_entries nat_cmp_total (map (λ d. (d, f d)) (range_with_len 1 CLASSES)) c ∙ entries-out f CLASSES 1 c (λ t. let l = t.0 in let u = t.1 in h (record { low = omega arith; high = omega arith }))
 
-pub class_at-stacks_by : (l : ℕ) (cs : List ℕ) (f : ℕ → ClassHeap) (c : ℕ) → IsClass c → class_at (stacks_by l cs f) c ≡ f c
+pub class_at-stacks_by : (l : ℕ) (f : ℕ → ClassHeap) (c : ℕ) → IsClass c → class_at (stacks_by l f) c ≡ f c
 unfolding class_at
-class_at-stacks_by l cs f c h = ap (λ o. unwrap_or o empty_class) (get-in l cs f c h)
+class_at-stacks_by l f c h = ap (λ o. unwrap_or o empty_class) (get-in l f c h)
 
-pub stacks_by-agree : (l l' : ℕ) (cs cs' : List ℕ) (f g : ℕ → ClassHeap) → l ≡ l' → cs ≡ cs' → ((c : ℕ) → IsClass c → f c ≡ g c) → stacks_by l cs f ≡ stacks_by l' cs' g
-stacks_by-agree l l' cs cs' f g e ec h =
-    let same : (q : ℕ) → finite.get (stacks_by l cs f).classes q ≡ finite.get (stacks_by l cs g).classes q = λ q.
+pub stacks_by-agree : (l l' : ℕ) (f g : ℕ → ClassHeap) → l ≡ l' → ((c : ℕ) → IsClass c → f c ≡ g c) → stacks_by l f ≡ stacks_by l' g
+stacks_by-agree l l' f g e h =
+    let same : (q : ℕ) → finite.get (stacks_by l f).classes q ≡ finite.get (stacks_by l g).classes q = λ q.
     elim (is-class q) [
-      | inl hq ↦ get-in l cs f q hq ∙ ap Some (h q hq) ∙ sym (get-in l cs g q hq)
-      | inr o ↦ get-out l cs f q o ∙ sym (get-out l cs g q o)
+      | inl hq ↦ get-in l f q hq ∙ ap Some (h q hq) ∙ sym (get-in l g q hq)
+      | inr o ↦ get-out l f q o ∙ sym (get-out l g q o)
     ] in
-    ap (λ t. record { left = l; capacities = cs; classes = t }) (same_map nat_cmp_total nat_cmp-IsAntisymmetric _ _ same) ∙ ap (λ t. stacks_by t cs g) e ∙ ap (λ t. stacks_by l' t g) ec
+    ap (λ t. record { left = l; classes = t }) (same_map nat_cmp_total nat_cmp-IsAntisymmetric _ _ same) ∙ ap (λ t. stacks_by t g) e
 
-pub stacks_by-with_class : (l : ℕ) (cs : List ℕ) (f g : ℕ → ClassHeap) (c : ℕ) (k : ClassHeap) → IsClass c → g c ≡ k → ((d : ℕ) → IsClass d → d ≢ c → g d ≡ f d) → stacks_by l cs g ≡ with_class (stacks_by l cs f) c k
+pub stacks_by-with_class : (l : ℕ) (f g : ℕ → ClassHeap) (c : ℕ) (k : ClassHeap) → IsClass c → g c ≡ k → ((d : ℕ) → IsClass d → d ≢ c → g d ≡ f d) → stacks_by l g ≡ with_class (stacks_by l f) c k
 unfolding with_class
-stacks_by-with_class l cs f g c k h own other =
-    let same : (q : ℕ) → finite.get (stacks_by l cs g).classes q ≡ finite.get (finite.insert (stacks_by l cs f).classes c k) q = λ q.
+stacks_by-with_class l f g c k h own other =
+    let same : (q : ℕ) → finite.get (stacks_by l g).classes q ≡ finite.get (finite.insert (stacks_by l f).classes c k) q = λ q.
     (elim (is-class q) [
-      | inl hq ↦ get-in l cs g q hq ∙ elim (cases_eq q c) [
+      | inl hq ↦ get-in l g q hq ∙ elim (cases_eq q c) [
         | inl s ↦ ap Some (ap g s ∙ own) ∙ sym (cond-true _ _ _ (ap (λ t. eq_by_cmp nat_cmp t c) s ∙ tied-same c))
-        | inr n ↦ ap Some (other q hq n) ∙ sym (get-in l cs f q hq) ∙ sym (cond-false _ _ _ (tied-other q c n))
+        | inr n ↦ ap Some (other q hq n) ∙ sym (get-in l f q hq) ∙ sym (cond-false _ _ _ (tied-other q c n))
       ]
-      | inr o ↦ get-out l cs g q o ∙ sym (get-out l cs f q o) ∙ sym (cond-false _ _ _ (tied-other q c (λ e. o (subst IsClass (sym e) h))))
-    ]) ∙ sym (get-insert nat_cmp_total (stacks_by l cs f).classes c k q) in
-    ap (λ m. record { left = l; capacities = cs; classes = m }) (same_map nat_cmp_total nat_cmp-IsAntisymmetric _ _ same)
+      | inr o ↦ get-out l g q o ∙ sym (get-out l f q o) ∙ sym (cond-false _ _ _ (tied-other q c (λ e. o (subst IsClass (sym e) h))))
+    ]) ∙ sym (get-insert nat_cmp_total (stacks_by l f).classes c k q) in
+    ap (λ m. record { left = l; classes = m }) (same_map nat_cmp_total nat_cmp-IsAntisymmetric _ _ same)
 
 pub class_at-with_class : (s : StackState) (c : ℕ) (k : ClassHeap) → class_at (with_class s c k) c ≡ k
 unfolding class_at with_class
@@ -61,17 +61,17 @@ pub class_at-with_class_other : (s : StackState) (c d : ℕ) (k : ClassHeap) →
 unfolding class_at with_class
 class_at-with_class_other s c d k n = ap (λ o. unwrap_or o empty_class) (get-insert nat_cmp_total s.classes c k d ∙ cond-false _ _ _ (tied-other d c n))
 
-abbrev stacks_with : ℕ → List ℕ → FinMap nat_cmp ClassHeap → StackState
-stacks_with n cs m = record { left = n; capacities = cs; classes = m }
+abbrev stacks_with : ℕ → FinMap nat_cmp ClassHeap → StackState
+stacks_with n m = record { left = n; classes = m }
 
-same-left : (v : StackState) (c : ℕ) (k : ClassHeap) (n : ℕ) → stacks_with n v.capacities (with_class v c k).classes ≡ record (with_class v c k) { left = n }
+same-left : (v : StackState) (c : ℕ) (k : ClassHeap) (n : ℕ) → stacks_with n (with_class v c k).classes ≡ record (with_class v c k) { left = n }
 unfolding with_class
-same-left v c k n = λ i. record { left = n; capacities = v.capacities; classes = (with_class v c k).classes }
+same-left v c k n = λ i. record { left = n; classes = (with_class v c k).classes }
 
 -- ---- the parts
 
 pub at-inside : (f : Inside) (v : StackState) (c : ℕ) → stacks_in f ≡ v → IsClass c → class_at v c ≡ class_in f c
-at-inside f v c e h = ap (λ t. class_at t c) (sym e) ∙ class_at-stacks_by _ _ (class_in f) c h
+at-inside f v c e h = ap (λ t. class_at t c) (sym e) ∙ class_at-stacks_by _ (class_in f) c h
 
 abbrev class_with : ℕ → List ℕ → ClassHeap
 class_with n s = record { pages = n; stack = s }
@@ -79,32 +79,31 @@ class_with n s = record { pages = n; stack = s }
 same-class : (n m : ℕ) (s t : List ℕ) → n ≡ m → s ≡ t → class_with n s ≡ class_with m t
 same-class n m s t e f = λ i. record { pages = e i; stack = f i }
 
-pub view-changed : (f g : Inside) (v : StackState) (c : ℕ) (k : ClassHeap) → stacks_in f ≡ v → IsClass c → g.pool.left ≡ f.pool.left → g.cache.capacity ≡ f.cache.capacity → g.pool.capacities ≡ f.pool.capacities
+pub view-changed : (f g : Inside) (v : StackState) (c : ℕ) (k : ClassHeap) → stacks_in f ≡ v → IsClass c → g.pool.left ≡ f.pool.left
     → class_in g c ≡ k → ((d : ℕ) → IsClass d → d ≢ c → class_in g d ≡ class_in f d) → stacks_in g ≡ with_class v c k
-view-changed f g v c k e h l a b own others =
-    ap (λ n. stacks_by n (g.cache.capacity ∷ g.pool.capacities) (class_in g)) l
-    ∙ ap (λ n. stacks_by f.pool.left (n ∷ g.pool.capacities) (class_in g)) a ∙ ap (λ t. stacks_by f.pool.left (f.cache.capacity ∷ t) (class_in g)) b
-    ∙ stacks_by-with_class f.pool.left (f.cache.capacity ∷ f.pool.capacities) (class_in f) (class_in g) c k h own others
+view-changed f g v c k e h l own others =
+    ap (λ n. stacks_by n (class_in g)) l
+    ∙ stacks_by-with_class f.pool.left (class_in f) (class_in g) c k h own others
     ∙ ap (λ t. with_class t c k) e
 
 -- a pop and a push
-pub view-popped : (f g : Inside) (v : StackState) (c : ℕ) → stacks_in f ≡ v → IsClass c → g.pool.left ≡ f.pool.left → g.cache.capacity ≡ f.cache.capacity → g.pool.capacities ≡ f.pool.capacities
+pub view-popped : (f g : Inside) (v : StackState) (c : ℕ) → stacks_in f ≡ v → IsClass c → g.pool.left ≡ f.pool.left
     → ((d : ℕ) → primary.pages_of g.pool d ≡ primary.pages_of f.pool d) → one_stack g.cache g.pool c ≡ drop 1 (one_stack f.cache f.pool c)
     → ((d : ℕ) → 0 < d → d ≢ c → one_stack g.cache g.pool d ≡ one_stack f.cache f.pool d) → stacks_in g ≡ popped v c
 unfolding popped
-view-popped f g v c e h l a b pages rest others =
+view-popped f g v c e h l pages rest others =
     let at = at-inside f v c e h in
-    view-changed f g v c _ e h l a b
+    view-changed f g v c _ e h l
     (same-class _ _ _ _ (pages c ∙ ap (λ (k : ClassHeap). k.pages) (sym at)) (rest ∙ ap (λ (k : ClassHeap). drop 1 k.stack) (sym at)))
     (λ d hd n. same-class _ _ _ _ (pages d) (others d hd.low n))
 
-pub view-pushed : (f g : Inside) (v : StackState) (c block : ℕ) → stacks_in f ≡ v → IsClass c → g.pool.left ≡ f.pool.left → g.cache.capacity ≡ f.cache.capacity → g.pool.capacities ≡ f.pool.capacities
+pub view-pushed : (f g : Inside) (v : StackState) (c block : ℕ) → stacks_in f ≡ v → IsClass c → g.pool.left ≡ f.pool.left
     → ((d : ℕ) → primary.pages_of g.pool d ≡ primary.pages_of f.pool d) → one_stack g.cache g.pool c ≡ block ∷ one_stack f.cache f.pool c
     → ((d : ℕ) → 0 < d → d ≢ c → one_stack g.cache g.pool d ≡ one_stack f.cache f.pool d) → stacks_in g ≡ pushed v c block
 unfolding pushed
-view-pushed f g v c block e h l a b pages rest others =
+view-pushed f g v c block e h l pages rest others =
     let at = at-inside f v c e h in
-    view-changed f g v c _ e h l a b
+    view-changed f g v c _ e h l
     (same-class _ _ _ _ (pages c ∙ ap (λ (k : ClassHeap). k.pages) (sym at)) (rest ∙ ap (λ (k : ClassHeap). block ∷ k.stack) (sym at)))
     (λ d hd n. same-class _ _ _ _ (pages d) (others d hd.low n))
 
@@ -115,10 +114,6 @@ none-cached (x ∷ xs) ys e = let l = ap length e ∙ refl in let m = length-app
 
 pub no-entries : (f : Inside) (v : StackState) (c : ℕ) → stacks_in f ≡ v → IsClass c → stack_of v c ≡ [] → entries_of f.cache c ≡ []
 no-entries f v c e h z = none-cached (entries_of f.cache c) (primary.stack_of f.pool c) (ap (λ (k : ClassHeap). k.stack) (sym (at-inside f v c e h)) ∙ z)
-
-caps-with_pages : (p : PoolState) (c n : ℕ) → (with_pages p c n).capacities ≡ p.capacities
-unfolding with_pages primary.with_class
-caps-with_pages p c n = refl
 
 pub view-carved : (f : Inside) (q : PoolState) (v : StackState) (c n : ℕ) → stacks_in f ≡ v → IsClass c → stack_of v c ≡ [] → q ≡ with_pages f.pool c n → stacks_in (record { pool = q; cache = f.cache }) ≡ carved v c n
 unfolding carved
@@ -134,21 +129,19 @@ view-carved f q v c n e h z eq =
     same-class _ _ _ _ (ap (λ (t : ClassState). t.pages) new) (ap (λ (t : ClassState). reverse (entries_of f.cache c) ++ t.stack) new ∙ ap (λ xs. reverse xs ++ (blocks ++ k.stack)) none ∙ ap (λ xs. blocks ++ (reverse xs ++ k.stack)) (sym none))
     ∙ ap (λ t. carved_class c t n) (sym at) in
     ap (λ t. stacks_in (record { pool = t; cache = f.cache })) eq
-    ∙ ap (λ (t : StackState). record { left = (with_pages f.pool c n).left; capacities = f.cache.capacity ∷ (with_pages f.pool c n).capacities; classes = t.classes })
-    (stacks_by-with_class f.pool.left (f.cache.capacity ∷ f.pool.capacities) (class_in f) (class_in g) c (carved_class c (class_at v c) n) h own
+    ∙ ap (λ (t : StackState). record { left = (with_pages f.pool c n).left; classes = t.classes })
+    (stacks_by-with_class f.pool.left (class_in f) (class_in g) c (carved_class c (class_at v c) n) h own
     (λ d hd o. same-class _ _ _ _ (ap (λ (t : ClassState). t.pages) (class_at-with_pages_other f.pool c n d o)) (ap (λ (t : ClassState). reverse (entries_of f.cache d) ++ t.stack) (class_at-with_pages_other f.pool c n d o))))
-    ∙ ap (λ (t : StackState). record { left = (with_pages f.pool c n).left; capacities = f.cache.capacity ∷ (with_pages f.pool c n).capacities; classes = (with_class t c (carved_class c (class_at v c) n)).classes }) e
-    ∙ ap (λ m. record { left = m; capacities = f.cache.capacity ∷ (with_pages f.pool c n).capacities; classes = (with_class v c (carved_class c (class_at v c) n)).classes }) (left-with_pages f.pool c n ∙ ap (λ m. m - n) (sym left))
-    ∙ ap (λ cs. record { left = v.left - n; capacities = f.cache.capacity ∷ cs; classes = (with_class v c (carved_class c (class_at v c) n)).classes }) (caps-with_pages f.pool c n)
-    ∙ ap (λ cs. record { left = v.left - n; capacities = cs; classes = (with_class v c (carved_class c (class_at v c) n)).classes }) (ap (λ (t : StackState). t.capacities) e)
+    ∙ ap (λ (t : StackState). record { left = (with_pages f.pool c n).left; classes = (with_class t c (carved_class c (class_at v c) n)).classes }) e
+    ∙ ap (λ m. record { left = m; classes = (with_class v c (carved_class c (class_at v c) n)).classes }) (left-with_pages f.pool c n ∙ ap (λ m. m - n) (sym left))
     ∙ same-left v c (carved_class c (class_at v c) n) (v.left - n)
 
 -- at the start
-pub view-new : (f : Inside) (n : ℕ) (cs : List ℕ) → f.pool ≡ empty_pool n cs → f.cache.lists ≡ replicate CLASSES [] → stacks_in f ≡ empty_stacks n (f.cache.capacity ∷ f.pool.capacities)
+pub view-new : (f : Inside) (n : ℕ) (cs : List ℕ) → f.pool ≡ empty_pool n cs → f.cache.lists ≡ replicate CLASSES [] → stacks_in f ≡ empty_stacks n
 unfolding empty_stacks
 view-new f n cs e v =
-    stacks_by-agree f.pool.left n (f.cache.capacity ∷ f.pool.capacities) (f.cache.capacity ∷ f.pool.capacities) (class_in f) (λ _. empty_class)
-    (ap (λ (p : PoolState). p.left) e ∙ left-empty_pool n cs) refl
+    stacks_by-agree f.pool.left n (class_in f) (λ _. empty_class)
+    (ap (λ (p : PoolState). p.left) e ∙ left-empty_pool n cs)
     (λ c h.
     let a = h.low in
     let b = h.high in
@@ -170,4 +163,4 @@ unfolding popped
 popped-none f v c e h z =
     ap (λ s. with_class v c (class_with (pages_of v c) s)) (drop-none (stack_of v c) z)
     ∙ ap (with_class v c) (at-inside f v c e h) ∙ ap (λ t. with_class t c (class_in f c)) (sym e)
-    ∙ sym (stacks_by-with_class f.pool.left (f.cache.capacity ∷ f.pool.capacities) (class_in f) (class_in f) c (class_in f c) h refl (λ d hd n. refl)) ∙ e
+    ∙ sym (stacks_by-with_class f.pool.left (class_in f) (class_in f) c (class_in f c) h refl (λ d hd n. refl)) ∙ e

@@ -22,9 +22,9 @@ coded_heap =
     (λ _. refl)
 
 -- A heap for so many pages, without blocks and mappings.
-abbrev pub empty_heap : ℕ → ℕ → List ℕ → HeapState
-empty_heap cookie pages capacities =
-    heap_of cookie (empty_stacks pages capacities) (record { limit = pages; mappings = [] })
+abbrev pub empty_heap : ℕ → ℕ → HeapState
+empty_heap cookie pages =
+    heap_of cookie (empty_stacks pages) (record { limit = pages; mappings = [] })
 
 -- the list of mappings with one more, and without one
 unfoldable pub with_more : MapsState → Mapping → MapsState

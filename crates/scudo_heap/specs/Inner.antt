@@ -25,7 +25,7 @@ class_in f class =
     record { pages = primary.pages_of f.pool class; stack = one_stack f.cache f.pool class }
 
 abbrev pub stacks_in : Inside → StackState
-stacks_in f = stacks_by f.pool.left (f.cache.capacity ∷ f.pool.capacities) (class_in f)
+stacks_in f = stacks_by f.pool.left (class_in f)
 
 pub record AreParts (f : Inside) : Type 0 where
   pub above : IsAbove f.cache f.pool

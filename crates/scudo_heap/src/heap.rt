@@ -23,7 +23,7 @@ use std::marker::Model;
 
 /// The heap of one tenant. Its chunks lie in the tenant's memory, which each call borrows; here
 /// stand the free blocks of the size classes and the mappings of larger chunks. After `new`
-/// nothing allocates: no call changes for how many elements the heap's lists have memory.
+/// nothing allocates.
 #[derive(Drop)]
 pub struct Heap {
     cookie: u32,
@@ -48,7 +48,7 @@ impl Heap {
     pub fn new(alloc: Global, cookie: u32, pages: u64) -> Result<Heap, AllocError>
         requires some { 0 < pages }
         requires most { pages ≤ MAX_PAGES }
-        ensures { IfOk result (λ heap. heap ≡ empty_heap cookie pages heap.stacks.capacities) }
+        ensures { IfOk result (λ heap. heap ≡ empty_heap cookie pages) }
     {
         let stacks = Stacks::new(alloc, pages)?;
         let maps = Maps::new(alloc, pages)?;

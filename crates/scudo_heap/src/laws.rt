@@ -1,6 +1,6 @@
 //! When the condition of the calls holds.
 
-ghost use Rattle.std.specs.Prelude.{◌≡◌, ◌≤◌, ℕ, List};
+ghost use Rattle.std.specs.Prelude.{◌≡◌, ◌≤◌, ℕ};
 ghost use Rattle.mte_tags.specs.Memory.{Memory, attrs_at, pages_left};
 ghost use Rattle.scudo_heap.specs.Heaps.{HeapState, empty_heap};
 ghost use Rattle.scudo_heap.specs.Served.{IsServed, IsUntouched};
@@ -9,9 +9,8 @@ ghost use Rattle.scudo_heap.specs.Served.{IsServed, IsUntouched};
 /// where a heap's pages lie; and what changes neither the attributes of a page nor how many are
 /// left, as every access, keeps the condition.
 pub fn condition_of_calls()
-    ensures first { (m : Memory) (cookie pages : ℕ) (capacities : List ℕ)
-        → m.limit
-        ≤ pages → IsUntouched m → IsServed m (empty_heap cookie pages capacities) }
+    ensures first { (m : Memory) (cookie pages : ℕ)
+        → m.limit ≤ pages → IsUntouched m → IsServed m (empty_heap cookie pages) }
     ensures same { (before after : Memory) (h : HeapState)
         → IsServed before h
         → ((page : ℕ) → attrs_at after page ≡ attrs_at before page)

@@ -38,7 +38,7 @@ impl Stacks {
     pub(crate) fn new(alloc: Global, pages: u64) -> Result<Stacks, AllocError>
         requires low { 0 < pages }
         requires high { pages ≤ MAX_PAGES }
-        ensures { IfOk result (λ stacks. stacks ≡ empty_stacks pages stacks.capacities) }
+        ensures { IfOk result (λ stacks. stacks ≡ empty_stacks pages) }
     {
         let pool = Pool::new(alloc, pages)?;
         let cache = Cache::new(alloc)?;

@@ -1,4 +1,6 @@
 use Rattle.std.proofs.Common.{◌≡◌, ◌∙◌, sym, true, false, if◌then◌else◌, arith, cond, ap, refl}
+use Rattle.mte_tags.specs.Memory.{attrs_at, pages_left}
+use Rattle.scudo_heap.specs.Served.{IsServed}
 use Rattle.mte_sched.specs.Machines.{Machine, Attempted, machine_of, attempts}
 use Rattle.mte_sched.proofs.MachineLemmas.{left_le, left_lt, rest_of, after_some, after_none}
 use Rattle.mte_sched.proofs.machine.run_on.Goals as goal
@@ -34,3 +36,15 @@ returns-in-None-clause-rest g c =
 
 pub returns-in-None-clause-fewer : goal.returns-in-None-clause-fewer
 returns-in-None-clause-fewer g c = let h = left_lt c.args.left c.args.parts.now.regs (g.M.Tagged.memory c.args.memory.now) c.requires.some in rw (c.run-stop.ensures.stop) h
+
+pub handle-requires-clause-heap : goal.handle-requires-clause-heap
+handle-requires-clause-heap g c =
+    c.condition_of_calls.ensures.same (g.M.Tagged.memory c.args.memory.now) (g.M.Tagged.memory c.run-stop.new.memory) c.args.parts.now.heap c.requires.heap
+    (λ q. ap (λ m. attrs_at m q) c.run-stop.ensures.memory ∙ c.steps_keep_pages.ensures.run_attrs c.args.left c.args.parts.now.regs (g.M.Tagged.memory c.args.memory.now) q)
+    (ap pages_left c.run-stop.ensures.memory ∙ c.steps_keep_pages.ensures.run_left c.args.left c.args.parts.now.regs (g.M.Tagged.memory c.args.memory.now))
+
+pub returns-in-None-clause-heap : goal.returns-in-None-clause-heap
+returns-in-None-clause-heap g c =
+    c.condition_of_calls.ensures.same (g.M.Tagged.memory c.args.memory.now) (g.M.Tagged.memory c.run-stop.new.memory) c.args.parts.now.heap c.requires.heap
+    (λ q. ap (λ m. attrs_at m q) c.run-stop.ensures.memory ∙ c.steps_keep_pages.ensures.run_attrs c.args.left c.args.parts.now.regs (g.M.Tagged.memory c.args.memory.now) q)
+    (ap pages_left c.run-stop.ensures.memory ∙ c.steps_keep_pages.ensures.run_left c.args.left c.args.parts.now.regs (g.M.Tagged.memory c.args.memory.now))

@@ -11,3 +11,6 @@ returns-in-Breakpoint g c = rw c.in-Breakpoint.is c.write_break_line.ensures
 
 pub returns-in-AsyncTag : goal.returns-in-AsyncTag
 returns-in-AsyncTag g c = rw c.in-AsyncTag.is c.write_async_line.ensures
+
+pub returns-in-Aborted : goal.returns-in-Aborted
+returns-in-Aborted g c = rw c.in-Aborted.is c.write_abort_line.ensures

@@ -18,5 +18,5 @@ put-requires-clause-used c =
 
 pub returns : goal.returns
 returns c =
-    view-pushed c.self.inside _ c.args.self.now c.args.class c.args.block c.self.view_is (record { low = c.requires.low; high = c.requires.high })
-    c.put.ensures.left (ap (λ (t : CacheState). t.capacity) c.put.ensures.cache) c.put.ensures.capacities c.put.ensures.pages c.put.ensures.stack c.put.ensures.others
+    view-pushed c.self.inside (record { pool = c.put.new.pool; cache = c.put.new.self }) c.args.self.now c.args.class c.args.block c.self.view_is (record { low = c.requires.low; high = c.requires.high })
+    c.put.ensures.left c.put.ensures.pages c.put.ensures.stack c.put.ensures.others

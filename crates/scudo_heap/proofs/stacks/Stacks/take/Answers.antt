@@ -12,8 +12,8 @@ returns-clause-answer c = c.take.ensures.top ∙ ap (λ (k : ClassHeap). slice_g
 
 pub returns-clause-stacks : goal.returns-clause-stacks
 returns-clause-stacks c =
-    view-popped c.self.inside _ c.args.self.now c.args.class c.self.view_is (record { low = c.requires.low; high = c.requires.high })
-    c.take.ensures.left (ap (λ (t : CacheState). t.capacity) c.take.ensures.cache) c.take.ensures.capacities c.take.ensures.pages c.take.ensures.rest c.take.ensures.others
+    view-popped c.self.inside (record { pool = c.take.new.pool; cache = c.take.new.self }) c.args.self.now c.args.class c.self.view_is (record { low = c.requires.low; high = c.requires.high })
+    c.take.ensures.left c.take.ensures.pages c.take.ensures.rest c.take.ensures.others
 
 pub returns-clause-block : goal.returns-clause-block
 returns-clause-block c =

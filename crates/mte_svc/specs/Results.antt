@@ -1,0 +1,40 @@
+-- What a service leaves, and how it ends. Its arguments are x0 and x1, its result is x0.
+use Rattle.std.specs.Prelude.{ℕ, ◌+◌, ◌%◌, ◌^◌, Bool, true, false, slice_index, slice_set}
+use Rattle.mte_tags.specs.Memory.{Memory}
+use Rattle.mte_svc.specs.declared.calls.HeapCall.{HeapCall}
+use Rattle.mte_svc.specs.declared.parts.TenantParts.{TenantParts}
+use Rattle.mte_svc.specs.declared.record.Status.{Status}
+use Rattle.mte_svc.specs.declared.record.Status.TheVariants.{Running}
+use Rattle.mte_svc.specs.declared.services.SvcEnd.{SvcEnd}
+use Rattle.mte_svc.specs.declared.services.SvcEnd.TheVariants.{Go}
+use Rattle.mte_svc.specs.Calls.{noted}
+
+abbrev pub is_running : Status → Bool
+is_running Running = true
+is_running other = false
+
+pub record Served : Type 0 where
+  pub parts : TenantParts
+  pub memory : Memory
+  pub end : SvcEnd
+
+abbrev pub x_of : TenantParts → ℕ → ℕ
+x_of p n = slice_index p.regs.x n
+
+-- The result in x0; the tenant resumes after the SVC.
+unfoldable pub answered : TenantParts → ℕ → TenantParts
+answered p value = record p {
+  regs = record p.regs { x = slice_set p.regs.x 0 value; pc = (p.regs.pc + 4) % 2 ^ 56 };
+}
+
+abbrev pub goes_on : TenantParts → Memory → ℕ → Served
+goes_on p m value = record { parts = answered p value; memory = m; end = Go }
+
+-- A service that ends the tenant changes nothing.
+abbrev pub ends : TenantParts → Memory → SvcEnd → Served
+ends p m end = record { parts = p; memory = m; end = end }
+
+-- A heap call that was answered is entered.
+unfoldable pub entered : TenantParts → HeapCall → TenantParts
+entered p call =
+    record p { account = record p.account { calls = noted p.account.calls call } }
