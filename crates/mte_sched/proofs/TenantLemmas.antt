@@ -8,7 +8,7 @@ use Rattle.mte_tags.specs.Memory.{Memory, pages_left}
 use Rattle.mte_tags.specs.Accesses.{read_fault, write_fault}
 use Rattle.mte_tags.specs.declared.fault.MemFault.{MemFault}
 use Rattle.mte_svc.specs.Results.{Served, answered, entered, ends, goes_on, x_of}
-use Rattle.mte_svc.specs.HeapServices.{malloc_by, free_by, calloc_by, realloc_by, memalign_by, usable_size_by, freed_by, found_by, made_by}
+use Rattle.mte_svc.specs.HeapServices.{malloc_by, free_by, calloc_by, memalign_by, usable_size_by, freed_by, found_by, made_by}
 use Rattle.mte_svc.specs.declared.calls.HeapService.{HeapService}
 use Rattle.scudo_heap.specs.Allocation.{Made}
 use Rattle.scudo_heap.specs.Placing.{World}
@@ -18,7 +18,7 @@ use Rattle.mte_svc.specs.declared.parts.TenantParts.{TenantParts}
 use Rattle.mte_svc.specs.declared.record.Record.{Record}
 use Rattle.mte_svc.specs.declared.services.SvcEnd.{SvcEnd}
 use Rattle.mte_svc.specs.declared.services.SvcEnd.TheVariants as end
-use Rattle.mte_svc.specs.declared.services.TheConstants.{EXIT, WRITE, READ, MALLOC, FREE, CALLOC, REALLOC, MEMALIGN, USABLE_SIZE, YIELD, STEPS_LEFT, PAGES_LEFT}
+use Rattle.mte_svc.specs.declared.services.TheConstants.{EXIT, WRITE, READ, MALLOC, FREE, CALLOC, MEMALIGN, USABLE_SIZE, YIELD, STEPS_LEFT, PAGES_LEFT}
 use Rattle.mte_sched.specs.declared.tenant.Tenant as code
 use Rattle.mte_sched.specs.Machines.{Machine, machine_of, runs, Attempted, on, after_service, with_service, ended_by_tag, met, counted, with_regs}
 use Rattle.mte_sched.specs.Machines.{attempted, attempts, ended_where_set, settled, advance, halted, with_status}
@@ -78,10 +78,6 @@ free-id : (p : TenantParts) (m : Memory) → (free_by p m).parts.account.id ≡ 
 unfolding free_by
 free-id p m = freed-id p m _ _
 
-realloc-id : (p : TenantParts) (m : Memory) → (realloc_by p m).parts.account.id ≡ p.account.id
-unfolding realloc_by
-realloc-id p m = found-id p m _ _ _ _
-
 usable-id : (p : TenantParts) (m : Memory) → (usable_size_by p m).parts.account.id ≡ p.account.id
 unfolding usable_size_by
 usable-id p m = found-id p m _ _ _ _
@@ -95,12 +91,11 @@ number-id n p m =
     (served_if (n == MALLOC) _ _ p.account.id (malloc-id p m)
     (served_if (n == FREE) _ _ p.account.id (free-id p m)
     (served_if (n == CALLOC) _ _ p.account.id (calloc-id p m)
-    (served_if (n == REALLOC) _ _ p.account.id (realloc-id p m)
     (served_if (n == MEMALIGN) _ _ p.account.id (memalign-id p m)
     (served_if (n == USABLE_SIZE) _ _ p.account.id (usable-id p m)
     (served_if (n == YIELD) _ _ p.account.id refl
     (served_if (n == STEPS_LEFT) _ _ p.account.id refl
-    (served_if (n == PAGES_LEFT) (goes_on p m (pages_left m)) (goes_on p m none_such) p.account.id refl refl)))))))))))
+    (served_if (n == PAGES_LEFT) (goes_on p m (pages_left m)) (goes_on p m none_such) p.account.id refl refl))))))))))
 
 served-id : (p : TenantParts) (m : Memory) → (served p m).parts.account.id ≡ p.account.id
 unfolding served

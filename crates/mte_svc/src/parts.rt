@@ -38,7 +38,9 @@ impl TenantParts {
     /// Enters a heap call that was answered, and returns its result.
     #[tactic(auto, unfolding(crate::specs::Results::entered))]
     pub(crate) fn enter(&mut self, call: HeapCall)
-        ensures { self.new ≡ answered (entered self.old call) call.answer }
+        ensures parts { self.new ≡ answered (entered self.old call) call.answer }
+        ensures heap { self.new.heap ≡ self.old.heap }
+        ensures rgsr { self.new.regs.rgsr ≡ self.old.regs.rgsr }
     {
         self.account.calls.note(call);
         self.answer(call.answer);
@@ -47,7 +49,9 @@ impl TenantParts {
     /// Returns a service's result in x0, and resumes after the SVC.
     #[tactic(auto, unfolding(crate::specs::Results::answered))]
     pub(crate) fn answer(&mut self, value: u64)
-        ensures { self.new ≡ answered self.old value }
+        ensures parts { self.new ≡ answered self.old value }
+        ensures heap { self.new.heap ≡ self.old.heap }
+        ensures rgsr { self.new.regs.rgsr ≡ self.old.regs.rgsr }
     {
         self.regs.x[0] = value;
         self.regs.pc = self.regs.pc.wrapping_add(4) % (1 << 56);

@@ -4,10 +4,10 @@ ghost use Rattle.std.specs.Prelude.{◌≡◌, ◌<◌};
 ghost use Rattle.scudo_heap.specs.Served.{IsServed};
 ghost use Rattle.mte_svc.specs.Services.{served, wrote, read_in};
 
-use crate::heap_services::{calloc, free, malloc, memalign, realloc, usable_size};
+use crate::heap_services::{calloc, free, malloc, memalign, usable_size};
 use crate::parts::TenantParts;
 use mte_tags::{MemFault, Paged, Tagged};
-use scudo_heap::HeapAbort;
+use scudo_heap::{HeapAbort, condition_of_calls};
 
 /// How a service ends.
 #[derive(Clone, Copy, Debug, PartialEq, Eq)]
@@ -80,7 +80,6 @@ pub fn svc<M: Paged>(parts: &mut TenantParts, memory: &mut M) -> SvcEnd
         MALLOC => malloc(parts, memory),
         FREE => free(parts, memory),
         CALLOC => calloc(parts, memory),
-        REALLOC => realloc(parts, memory),
         MEMALIGN => memalign(parts, memory),
         USABLE_SIZE => usable_size(parts, memory),
         YIELD => {
@@ -107,11 +106,16 @@ pub fn svc<M: Paged>(parts: &mut TenantParts, memory: &mut M) -> SvcEnd
 /// Appends the x1 bytes at x0, or as many as there is room for, to the output.
 #[tactic(auto, unfolding(crate::specs::Services::wrote))]
 fn write<M: Tagged>(parts: &mut TenantParts, memory: &mut M) -> SvcEnd
+    requires heap { IsServed (M.memory memory.old) parts.old.heap }
+    requires tag { parts.old.regs.rgsr.tag < 16 }
     ensures served {
         record { parts = parts.new; memory = M.memory memory.new; end = result }
         ≡ wrote parts.old (M.memory memory.old) }
+    ensures heap { IsServed (M.memory memory.new) parts.new.heap }
+    ensures tag { parts.new.regs.rgsr.tag < 16 }
     ensures kept { M.kept memory.old memory.new }
 {
+    condition_of_calls();
     let count = parts.regs.x[1].min(parts.account.output.left());
     let addr = parts.regs.x[0];
     match parts.account.output.append_from(memory, addr, count) {
@@ -126,11 +130,16 @@ fn write<M: Tagged>(parts: &mut TenantParts, memory: &mut M) -> SvcEnd
 /// Reads the next x1 bytes of the input, or as many as are left, to x0.
 #[tactic(auto, unfolding(crate::specs::Services::read_in))]
 fn read<M: Tagged>(parts: &mut TenantParts, memory: &mut M) -> SvcEnd
+    requires heap { IsServed (M.memory memory.old) parts.old.heap }
+    requires tag { parts.old.regs.rgsr.tag < 16 }
     ensures served {
         record { parts = parts.new; memory = M.memory memory.new; end = result }
         ≡ read_in parts.old (M.memory memory.old) }
+    ensures heap { IsServed (M.memory memory.new) parts.new.heap }
+    ensures tag { parts.new.regs.rgsr.tag < 16 }
     ensures kept { M.kept memory.old memory.new }
 {
+    condition_of_calls();
     let count = parts.regs.x[1].min(parts.input.left());
     let addr = parts.regs.x[0];
     match parts.input.copy_to(memory, addr, count) {

@@ -1,0 +1,27 @@
+use Rattle.std.proofs.Common.{◌≡◌, ◌∙◌, sym, ap, subst, Ok, Err, rules, arith}
+use Rattle.scudo_heap.specs.Placing.{world_of}
+use Rattle.scudo_heap.specs.Allocation.{malloc_of, calloc_of, memalign_of}
+use Rattle.scudo_heap.specs.Freeing.{free_of, usable_size_of}
+use Rattle.mte_svc.specs.declared.calls.HeapService.TheVariants.{Malloc, Free, Calloc, Memalign, UsableSize}
+use Rattle.mte_svc.specs.declared.services.SvcEnd.TheVariants.{Abort}
+use Rattle.mte_svc.specs.Results.{x_of}
+use Rattle.mte_svc.specs.HeapServices.{world_in, malloc_by, calloc_by, memalign_by, free_by, freed_by, usable_size_by, found_by}
+use Rattle.mte_svc.proofs.CallLemmas.{made_from, called_from, free_stays, aborted_from}
+use Rattle.mte_svc.proofs.heap_services.free.Goals as goal
+
+pub returns-in-Ok-clause-served : goal.returns-in-Ok-clause-served
+unfolding free_by
+returns-in-Ok-clause-served g c =
+    let w = world_in c.args.parts.now (g.M.Tagged.memory c.args.memory.now) in
+    called_from c.args.parts.now c.enter.new.self Free 0 0 (free_of w (x_of c.args.parts.now 0)).world
+    (g.M.Tagged.memory c.free.new.memory) c.free.new.self c.free.new.rgsr c.free.ensures.world c.enter.ensures.parts
+    ∙ ap (λ r. freed_by c.args.parts.now (g.M.Tagged.memory c.args.memory.now) (free_of w (x_of c.args.parts.now 0)).world r) (sym c.in-Ok.is ∙ c.free.ensures.answer)
+
+pub returns-in-Err-clause-served : goal.returns-in-Err-clause-served
+unfolding free_by
+returns-in-Err-clause-served g c =
+    let w = world_in c.args.parts.now (g.M.Tagged.memory c.args.memory.now) in
+    let err : (free_of w (x_of c.args.parts.now 0)).result ≡ Err c.in-Err.abort = sym c.free.ensures.answer ∙ c.in-Err.is in
+    aborted_from c.args.parts.now (g.M.Tagged.memory c.args.memory.now) (g.M.Tagged.memory c.free.new.memory) c.free.new.self c.free.new.rgsr (Abort c.in-Err.abort (x_of c.args.parts.now 0))
+    (c.free.ensures.world ∙ free_stays w (x_of c.args.parts.now 0) c.in-Err.abort err)
+    ∙ ap (λ r. freed_by c.args.parts.now (g.M.Tagged.memory c.args.memory.now) (free_of w (x_of c.args.parts.now 0)).world r) (sym err)
