@@ -1,12 +1,16 @@
 -- A run of instructions between two services is as many attempted instructions.
-use Rattle.std.proofs.Common.{◌≡◌, ℕ, zero, suc, ◌+◌, ◌-◌, ◌<◌, ◌≤◌, min, Bool, true, false, Option, List, if◌then◌else◌}
+use Rattle.std.proofs.Common.{◌≡◌, ℕ, zero, suc, ◌+◌, ◌-◌, ◌<◌, ◌≤◌, ◌/◌, ◌%◌, min, Bool, true, false, Option, List, [], ◌∷◌, if◌then◌else◌}
 use Rattle.std.proofs.Common.{Some, None, refl, ap, sym, ◌∙◌, arith}
 use Rattle.std.specs.FinMap as finite
 use Rattle.std.specs.Ordering.{nat_cmp}
-use Rattle.mte_tags.specs.Memory.{Memory, Page, page_at, pages_left, no_pages, with_new_pages}
+use Rattle.mte_tags.specs.Memory.{Memory, Page, page_at, attrs_in, attrs_at, pages_left, no_pages, with_new_pages}
+use Rattle.mte_tags.specs.Memory.{with_page, new_page, with_byte, with_byte_in}
+use Rattle.mte_tags.specs.Accesses.{with_bytes, written}
+use Rattle.mte_tags.specs.declared.attrs.Attrs.{Attrs}
+use Rattle.mte_elf.specs.declared.image.Segment.{Segment}
 use Rattle.mte_tags.specs.declared.state.TagMode.{TagMode}
 use Rattle.mte_elf.specs.Headers.{segments_of}
-use Rattle.mte_elf.specs.Loading.{with_segments}
+use Rattle.mte_elf.specs.Loading.{with_segment, with_segments}
 use Rattle.a64_step.specs.declared.registers.Regs.{Regs}
 use Rattle.a64_step.specs.declared.outcome.Outcome.{Outcome}
 use Rattle.a64_step.specs.declared.outcome.Outcome.TheVariants as outcome
@@ -128,3 +132,39 @@ pub first_memory_by : (image : List ℕ) (pages : ℕ) (mode : TagMode) (empty l
     → loaded ≡ with_segments image empty (segments_of image) → stacked ≡ with_new_pages loaded 0x3FFFC 4 (record { 0 = 11 }) → stacked ≡ first_memory image pages mode
 unfolding first_memory
 first_memory_by image pages mode empty loaded stacked e_empty e_loaded e_stacked = rw (e_stacked, e_loaded, e_empty) refl
+
+-- ---- no page of a heap's ranges is mapped at first, and the memory has its reservation
+
+limit-with_byte_in : (m : Memory) (q o b : ℕ) (p : Option Page) → (with_byte_in m q o b p).limit ≡ m.limit
+unfolding with_page
+limit-with_byte_in m q o b None = refl
+limit-with_byte_in m q o b (Some p) = refl
+
+limit-with_bytes : (xs bs : List ℕ) (m : Memory) → (with_bytes m xs bs).limit ≡ m.limit
+unfolding with_bytes with_byte
+limit-with_bytes (a ∷ more) (b ∷ bs) m = limit-with_bytes more bs (with_byte m a b) ∙ limit-with_byte_in m (a / 4096) (a % 4096) b (page_at m (a / 4096))
+limit-with_bytes [] bs m = refl
+limit-with_bytes (a ∷ more) [] m = refl
+
+limit-written : (m : Memory) (a : ℕ) (bs : List ℕ) → (written m a bs).limit ≡ m.limit
+unfolding written
+limit-written m a bs = limit-with_bytes _ bs m
+
+pub limit-with_new_pages : (n : ℕ) (m : Memory) (q : ℕ) (x : Attrs) → (with_new_pages m q n x).limit ≡ m.limit
+unfolding with_new_pages with_page
+limit-with_new_pages zero m q x = refl
+limit-with_new_pages (suc n) m q x = limit-with_new_pages n (with_page m q (new_page x.0)) (q + 1) x
+
+pub limit-with_segments : (file : List ℕ) (m : Memory) (ss : List Segment) → (with_segments file m ss).limit ≡ m.limit
+unfolding with_segments with_segment
+limit-with_segments file m [] = refl
+limit-with_segments file m (s ∷ more) =
+    limit-with_segments file (with_segment file m s) more ∙ limit-written _ s.vaddr _ ∙ limit-with_new_pages _ m _ _
+
+pub limit-no_pages : (n : ℕ) (mode : TagMode) → (no_pages n mode).limit ≡ n
+unfolding no_pages
+limit-no_pages n mode = refl
+
+pub attrs-none : (m : Memory) (q : ℕ) → page_at m q ≡ None → attrs_at m q ≡ None
+unfolding attrs_at
+attrs-none m q e = ap attrs_in e

@@ -1,6 +1,6 @@
 -- A tenant's number stays, and what its machine becomes is what the tenant becomes.
-use Rattle.std.proofs.Common.{◌≡◌, ℕ, zero, suc, ◌+◌, ◌-◌, ◌==◌, ◌&&◌, ◌∙◌, Bool, true, false, List, [], ◌∷◌, Option, Some, None, Result, Ok, Err}
-use Rattle.std.proofs.Common.{if◌then◌else◌, refl, ap, sym}
+use Rattle.std.proofs.Common.{◌≡◌, ℕ, zero, suc, ◌+◌, ◌-◌, ◌/◌, ◌%◌, ◌^◌, ◌<◌, ◌==◌, ◌&&◌, ◌∙◌, Bool, true, false, List, [], ◌∷◌, Option, Some, None, Result, Ok, Err}
+use Rattle.std.proofs.Common.{if◌then◌else◌, refl, ap, sym, subst, arith}
 use Rattle.a64_step.specs.declared.outcome.Outcome.{Outcome}
 use Rattle.a64_step.specs.declared.outcome.Outcome.TheVariants as outcome
 use Rattle.a64_step.specs.Steps.{step_of}
@@ -8,9 +8,11 @@ use Rattle.mte_tags.specs.Memory.{Memory, pages_left}
 use Rattle.mte_tags.specs.Accesses.{read_fault, write_fault}
 use Rattle.mte_tags.specs.declared.fault.MemFault.{MemFault}
 use Rattle.mte_svc.specs.Results.{Served, answered, entered, ends, goes_on, x_of}
-use Rattle.mte_svc.specs.HeapServices.{malloc_by, free_by, calloc_by, memalign_by, usable_size_by, freed_by, found_by, made_by}
+use Rattle.mte_svc.specs.HeapServices.{malloc_by, free_by, calloc_by, memalign_by, usable_size_by, freed_by, found_by, made_by, world_in}
+use Rattle.mte_svc.specs.declared.calls.HeapService.TheVariants.{Malloc, Free, Calloc, Memalign, UsableSize}
 use Rattle.mte_svc.specs.declared.calls.HeapService.{HeapService}
-use Rattle.scudo_heap.specs.Allocation.{Made}
+use Rattle.scudo_heap.specs.Allocation.{Made, malloc_of, calloc_of, memalign_of}
+use Rattle.scudo_heap.specs.Freeing.{free_of, usable_size_of}
 use Rattle.scudo_heap.specs.Placing.{World}
 use Rattle.scudo_heap.specs.declared.abort.HeapAbort.{HeapAbort}
 use Rattle.mte_svc.specs.Services.{served, by_number, wrote, wrote_by, write_count, read_in, read_by, read_count, none_such}
@@ -19,15 +21,16 @@ use Rattle.mte_svc.specs.declared.record.Record.{Record}
 use Rattle.mte_svc.specs.declared.services.SvcEnd.{SvcEnd}
 use Rattle.mte_svc.specs.declared.services.SvcEnd.TheVariants as end
 use Rattle.mte_svc.specs.declared.services.TheConstants.{EXIT, WRITE, READ, MALLOC, FREE, CALLOC, MEMALIGN, USABLE_SIZE, YIELD, STEPS_LEFT, PAGES_LEFT}
-use Rattle.mte_sched.specs.declared.tenant.Tenant as code
 use Rattle.mte_sched.specs.Machines.{Machine, machine_of, runs, Attempted, on, after_service, with_service, ended_by_tag, met, counted, with_regs}
 use Rattle.mte_sched.specs.Machines.{attempted, attempts, ended_where_set, settled, advance, halted, with_status}
 use Rattle.mte_sched.specs.Ledger.{has_id, has_live_id}
-use Rattle.mte_sched.specs.Machines.{start_of, first_parts}
+use Rattle.scudo_heap.specs.Heaps.{HeapState, empty_heap}
+use Rattle.scudo_heap.specs.Served.{IsServed}
+use Rattle.mte_sched.specs.Machines.{Terms, start_of, first_parts, first_registers}
 use Rattle.mte_sched.specs.Lives.{Own, Sliced, Halted, Life}
 use Rattle.mte_sched.specs.Isolation.{NumbersStay}
-use Rattle.mte_sched.specs.Contents.{Held, Live, Gone, record_of, held_sliced, held_stopped, alone, entry_of, tenant_sliced, tenant_stopped}
-use Rattle.mte_sched.specs.Hosts.{held_by, tenant_in}
+use Rattle.mte_sched.specs.Contents.{Held, Live, Gone, record_of, held_sliced, held_stopped, alone, entry_of, Tenant, tenant_sliced, tenant_stopped}
+use Rattle.mte_sched.specs.Hosts.{held_by}
 
 abbrev pub number_in : Machine → ℕ
 number_in m = m.parts.account.id
@@ -64,23 +67,23 @@ freed-id p m w (Err e) = refl
 
 malloc-id : (p : TenantParts) (m : Memory) → (malloc_by p m).parts.account.id ≡ p.account.id
 unfolding malloc_by
-malloc-id p m = made-id p _ _ _
+malloc-id p m = made-id p Malloc 0 (malloc_of (world_in p m) (x_of p 0))
 
 calloc-id : (p : TenantParts) (m : Memory) → (calloc_by p m).parts.account.id ≡ p.account.id
 unfolding calloc_by
-calloc-id p m = made-id p _ _ _
+calloc-id p m = made-id p Calloc (x_of p 1) (calloc_of (world_in p m) (x_of p 0) (x_of p 1))
 
 memalign-id : (p : TenantParts) (m : Memory) → (memalign_by p m).parts.account.id ≡ p.account.id
 unfolding memalign_by
-memalign-id p m = made-id p _ _ _
+memalign-id p m = made-id p Memalign (x_of p 1) (memalign_of (world_in p m) (x_of p 0) (x_of p 1))
 
 free-id : (p : TenantParts) (m : Memory) → (free_by p m).parts.account.id ≡ p.account.id
 unfolding free_by
-free-id p m = freed-id p m _ _
+free-id p m = freed-id p m (free_of (world_in p m) (x_of p 0)).world (free_of (world_in p m) (x_of p 0)).result
 
 usable-id : (p : TenantParts) (m : Memory) → (usable_size_by p m).parts.account.id ≡ p.account.id
 unfolding usable_size_by
-usable-id p m = found-id p m _ _ _ _
+usable-id p m = found-id p m UsableSize 0 (world_in p m) (usable_size_of m p.heap (x_of p 0))
 
 number-id : (n : ℕ) (p : TenantParts) (m : Memory) → (by_number n p m).parts.account.id ≡ p.account.id
 unfolding wrote read_in answered
@@ -157,19 +160,19 @@ halted-id m = machine_if (runs m) _ m (number_in m) refl refl
 
 -- ---- the tenant
 
-abbrev pub tenant_by : TenantParts → Option Memory → ℕ → code.Tenant
-tenant_by p o pages = record { parts = p; memory = o; pages = pages }
+abbrev pub tenant_by : TenantParts → Option Memory → ℕ → Tenant
+tenant_by p o pages = record { id = p.account.id; pages = pages; held = held_by p o }
 
 pub sliced_tenant : (id steps pages : ℕ) (p p' : TenantParts) (m m' : Memory) → (p.account.id == id) ≡ true
     → machine_of p' m' ≡ advance steps (machine_of p m)
-    → tenant_in (tenant_by p' (Some m') pages) ≡ tenant_sliced id steps (tenant_in (tenant_by p (Some m) pages))
+    → (tenant_by p' (Some m') pages) ≡ tenant_sliced id steps ((tenant_by p (Some m) pages))
 sliced_tenant id steps pages p p' m m' same step =
     let number : p'.account.id ≡ p.account.id = ap number_in step ∙ advance-id steps (machine_of p m) in
     rw (same, ← step, number) refl
 
-pub stopped_tenant : (id pages : ℕ) (p p' : TenantParts) (o : Option Memory) → has_live_id id (entry_of (tenant_in (tenant_by p o pages))) ≡ true
+pub stopped_tenant : (id pages : ℕ) (p p' : TenantParts) (o : Option Memory) → has_live_id id (entry_of ((tenant_by p o pages))) ≡ true
     → ((m : Memory) → machine_of p' m ≡ halted (machine_of p m))
-    → tenant_in (tenant_by p' None pages) ≡ tenant_stopped id (tenant_in (tenant_by p o pages))
+    → (tenant_by p' None pages) ≡ tenant_stopped id ((tenant_by p o pages))
 stopped_tenant id pages p p' None live step = cc
 stopped_tenant id pages p p' (Some m) live step =
     let number : p'.account.id ≡ p.account.id = ap number_in (step m) ∙ halted-id (machine_of p m) in
@@ -194,3 +197,19 @@ alone_number h (Halted ∷ own) = alone_number (held_stopped h) own ∙ stopped_
 pub numbers_stay : NumbersStay
 unfolding start_of first_parts
 numbers_stay life = alone_number (Live (start_of life.id life.terms)) life.own
+
+-- ---- the condition of the heap's calls, at first
+
+some_same : (a b : Memory) → Some a ≡ Some b → a ≡ b
+some_same a b h = cc
+
+pub served_some : (a b : Memory) (h : HeapState) → IsServed a h → Some a ≡ Some b → IsServed b h
+served_some a b h served e = subst (λ m. IsServed m h) (some_same a b e) served
+
+pub heap_at_first : (id : ℕ) (terms : Terms) → (first_parts id terms).heap ≡ empty_heap (terms.seed / 2 ^ 32) terms.pages
+unfolding first_parts
+heap_at_first id terms = refl
+
+pub tag_at_first : (id : ℕ) (terms : Terms) → (first_parts id terms).regs.rgsr.tag < 16
+unfolding first_parts first_registers
+tag_at_first id terms = omega arith

@@ -1,6 +1,5 @@
 -- The content of the host.
-use Rattle.std.specs.Prelude.{ℕ, ◌<◌, List, map, Option, Some, None}
-use Rattle.scudo_heap.specs.Served.{IsServed}
+use Rattle.std.specs.Prelude.{ℕ, List, map, Option, Some, None}
 use Rattle.mte_svc.specs.declared.parts.TenantParts.{TenantParts}
 use Rattle.mte_tags.specs.Memory.{Memory}
 use Rattle.mte_sched.specs.declared.admission.Admission.{Admission}
@@ -14,16 +13,6 @@ use Rattle.mte_sched.specs.Contents.{Held, Live, Gone, Tenant, Content, ledger_o
 abbrev pub held_by : TenantParts → Option Memory → Held
 held_by parts None = Gone parts.account
 held_by parts (Some m) = Live (machine_of parts m)
-
--- What holds of a tenant's heap and generator beside its memory, as long as it has one: the condition
--- of the heap's calls.
-pub record IsReadyWith (p : TenantParts) (m : Memory) : Type 0 where
-  pub heap : IsServed m p.heap
-  pub tag : p.regs.rgsr.tag < 16
-
-abbrev pub IsReady : TenantParts → Option Memory → Type 0
-IsReady p None = Unit {0}
-IsReady p (Some m) = IsReadyWith p m
 
 abbrev pub tenant_in : code.Tenant → Tenant
 tenant_in t = record {

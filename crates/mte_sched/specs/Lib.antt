@@ -2,6 +2,7 @@ pub mod Machines
 pub mod Ledger
 pub mod Lives
 pub mod Contents
+pub mod Ready
 pub mod Hosts
 pub mod Names
 pub mod Isolation

@@ -1,7 +1,7 @@
 //! The host: admission, slices, stops.
 
 ghost use Rattle.std.specs.Prelude.{◌≡◌, ℕ, ◌⊎◌, ◌-◌, ◌↔◌, IfOk, IfErr, Err, OnOk, OnErr, IsOk, Some};
-ghost use Rattle.std.specs.Prelude.{None, Bool, true, false, IsTrue, ◌+◌, ◌≤◌, map, sum_by, count_by};
+ghost use Rattle.std.specs.Prelude.{None, Bool, true, false, IsTrue, ◌+◌, ◌<◌, ◌≤◌, map, sum_by, count_by};
 ghost use Rattle.std.specs.Prelude.{option_map, []};
 ghost use Rattle.std.specs.List.{list_any};
 ghost use Rattle.mte_elf.specs.Headers.{entry_of, segments_of};
@@ -20,6 +20,7 @@ use crate::tenant::Tenant;
 use address_map::{MAX_OUTPUT, MAX_PAGES, STACK_PAGES};
 use mte_elf::{ElfError, Plan, plan};
 use mte_tags::Flat;
+use scudo_heap::condition_of_calls;
 use std::alloc::Global;
 
 /// A host of tenants.
@@ -78,6 +79,8 @@ impl Host {
         ensures fresh { IfOk result
             (λ p. list_any (has_id admission.now.id) (ledger_in self.now) ≡ false) }
         ensures good { IfOk result (λ p. is_bad (terms_of admission.now) ≡ false) }
+        ensures some { IfOk result (λ p. 0 < admission.now.pages) }
+        ensures most { IfOk result (λ p. admission.now.pages ≤ MAX_PAGES) }
         ensures refused { IfErr result (λ e. (e ≡ AdmitError.OutOfMemory)
             ⊎ (admission_refusal self.now.frames (ledger_in self.now)
             admission.now.id (terms_of admission.now) ≡ Some e)) }
@@ -214,10 +217,13 @@ fn start(
     requires segments { plan.now.segments.items ≡ segments_of admission.now.image.now }
     requires entry { plan.now.entry ≡ entry_of admission.now.image.now }
     requires room { pages_of admission.now.image.now + STACK_PAGES ≤ admission.now.pages }
+    requires some { 0 < admission.now.pages }
+    requires most { admission.now.pages ≤ MAX_PAGES }
     ensures tenant { IfOk result (λ tenant. tenant_in tenant
         ≡ new_tenant admission.now.id (terms_of admission.now)) }
     ensures memory { IfErr result (λ e. e ≡ AdmitError.OutOfMemory) }
 {
+    condition_of_calls();
     let mut memory = Flat::new(alloc, admission.pages as usize, admission.mode)?;
     let parts = start_parts(alloc, admission, plan)?;
     fill(plan, admission.image, admission.pages, admission.mode, &mut memory);
@@ -230,7 +236,9 @@ fn start(
 
 /// Whether a reservation or a room is out of its limits.
 fn is_bad_reservation(admission: &Admission<'_>) -> bool
-    ensures { result ≡ is_bad (terms_of admission.now) }
+    ensures bad { result ≡ is_bad (terms_of admission.now) }
+    ensures some { result ≡ false → 0 < admission.now.pages }
+    ensures most { result ≡ false → admission.now.pages ≤ MAX_PAGES }
 {
     let (pages, room) = (u64::from(admission.pages), u64::from(admission.room));
     pages == 0 || pages > MAX_PAGES || room > MAX_OUTPUT

@@ -7,6 +7,7 @@ mod isolation;
 mod machine;
 mod refusal;
 mod tenant;
+mod tenant_calls;
 
 pub use admission::{Admission, AdmitError, MAX_LIVE, NotLive};
 pub use host::Host;

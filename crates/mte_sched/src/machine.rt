@@ -5,7 +5,7 @@ ghost use Rattle.std.specs.Prelude.{None, ◌/◌};
 ghost use Rattle.mte_tags.specs.Memory.{Memory, page_at, pages_left, no_pages, with_new_pages};
 ghost use Rattle.mte_elf.specs.Headers.{segments_of, entry_of};
 ghost use Rattle.mte_elf.specs.Images.{refusal_of, pages_of};
-ghost use Rattle.scudo_heap.specs.Served.{IsServed};
+ghost use Rattle.scudo_heap.specs.Served.{IsServed, IsUntouched};
 ghost use Rattle.mte_svc.specs.Results.{is_running};
 ghost use Rattle.mte_svc.specs.Services.{served};
 ghost use Rattle.mte_sched.specs.Machines.{machine_of, first_parts, first_memory, first_registers};
@@ -14,7 +14,7 @@ ghost use Rattle.mte_sched.specs.Machines.{advance, attempts, settled, met, halt
 
 use crate::admission::Admission;
 use a64_step::{Decoder, Outcome, Regs, run, steps_keep_pages};
-use address_map::{PAGE_SIZE, STACK_END, STACK_PAGES, STACK_START};
+use address_map::{MAX_PAGES, PAGE_SIZE, STACK_END, STACK_PAGES, STACK_START};
 use mte_elf::{Plan, load};
 use mte_svc::{HeapCalls, Input, Output, Record, Status, SvcEnd, TenantParts, svc};
 use mte_tags::{Attrs, Paged, Rgsr, TagMode, Tagged};
@@ -62,6 +62,8 @@ pub(crate) fn fill<M: Paged>(plan: &Plan, image: &[u8], pages: u32, mode: TagMod
     requires room { pages_of image.now + STACK_PAGES ≤ pages }
     requires empty { M.Tagged.memory memory.old ≡ no_pages pages mode }
     ensures memory { M.Tagged.memory memory.new ≡ first_memory image.now pages mode }
+    ensures limit { (M.Tagged.memory memory.new).limit ≡ pages }
+    ensures untouched { IsUntouched (M.Tagged.memory memory.new) }
     ensures kept { M.Tagged.kept memory.old memory.new }
 {
     load(plan, image, memory);

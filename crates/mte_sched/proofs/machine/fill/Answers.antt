@@ -1,7 +1,10 @@
 use Rattle.std.proofs.Common.{◌≡◌, ◌∙◌, ap, arith, None, ◌-◌}
-use Rattle.mte_tags.specs.Memory.{page_at, pages_left}
+use Rattle.mte_tags.specs.Memory.{Memory, page_at, attrs_at, pages_left}
+use Rattle.mte_tags.proofs.PageLaws.{attrs_at-with_new_pages_out}
+use Rattle.mte_elf.specs.Headers.{segments_of}
 use Rattle.mte_elf.specs.Images.{pages_of}
 use Rattle.mte_sched.proofs.MachineLemmas.{none-no_pages, left-no_pages, first_memory_by}
+use Rattle.mte_sched.proofs.MachineLemmas.{limit-with_new_pages, limit-with_segments, limit-no_pages, attrs-none}
 use Rattle.mte_sched.proofs.machine.fill.Goals as goal
 
 pub load-requires-clause-free : goal.load-requires-clause-free
@@ -23,3 +26,19 @@ map_stack-requires-clause-room g c =
 
 pub returns-clause-memory : goal.returns-clause-memory
 returns-clause-memory g c = first_memory_by _ _ _ _ _ _ c.requires.empty c.load.ensures.memory c.map_stack.ensures.memory
+
+pub returns-clause-limit : goal.returns-clause-limit
+returns-clause-limit g c =
+    ap (λ (m : Memory). m.limit) c.map_stack.ensures.memory
+    ∙ limit-with_new_pages _ (g.M.Tagged.memory c.load.new.memory) _ _
+    ∙ ap (λ (m : Memory). m.limit) c.load.ensures.memory
+    ∙ limit-with_segments c.args.image.now (g.M.Tagged.memory c.args.memory.now) (segments_of c.args.image.now)
+    ∙ ap (λ (m : Memory). m.limit) c.requires.empty
+    ∙ limit-no_pages c.args.pages c.args.mode
+
+pub returns-clause-untouched : goal.returns-clause-untouched
+returns-clause-untouched g c = λ q lo hi.
+    ap (λ m. attrs_at m q) c.map_stack.ensures.memory
+    ∙ attrs_at-with_new_pages_out _ (g.M.Tagged.memory c.load.new.memory) _ _ q (λ l h. absurd (omega arith))
+    ∙ attrs-none (g.M.Tagged.memory c.load.new.memory) q
+    (c.load.ensures.above q (omega arith) (ap (λ m. page_at m q) c.requires.empty ∙ none-no_pages c.args.pages c.args.mode q))

@@ -7,3 +7,6 @@ returns-in-Some c =
     let same : (c.args.self.now.parts.account.id == c.args.id) ≡ true = sym c.has_id.ensures ∙ c.if-not-has_id.false in
     let all = sliced_tenant c.args.id c.args.steps c.args.self.now.pages c.args.self.now.parts c.slice.new.parts c.in-Some.memory c.slice.new.memory same c.slice.ensures.machine in
     rw (c.in-Some.is) all
+
+pub slice-requires-clause-heap : goal.slice-requires-clause-heap
+slice-requires-clause-heap c = c.args.self.now.ready.heap c.in-Some.memory c.in-Some.is
