@@ -12,6 +12,7 @@ use crate::allocation::{allocate, is_power};
 use crate::checks::find_chunk;
 use crate::chunk::address_or_null;
 use crate::freeing::free_found;
+use crate::limits::MIN_ALIGNMENT;
 use crate::stacks::Stacks;
 use a64_bits::plain;
 use address_map::MAX_PAGES;
@@ -75,6 +76,7 @@ impl Heap {
         ensures tag { rgsr.new.tag < 16 }
         ensures kept { M.kept memory.old memory.new }
     {
+        let align = MIN_ALIGNMENT;
         let (stacks, maps) = (&mut self.stacks, &mut self.maps);
         let chunk = allocate(
             self.cookie,
@@ -83,7 +85,7 @@ impl Heap {
             rgsr,
             memory,
             Origin::Malloc,
-            16,
+            align,
             size,
         );
         address_or_null(&chunk)
@@ -138,7 +140,7 @@ impl Heap {
         if !is_power(alignment) {
             return 0;
         }
-        let align = alignment.max(16);
+        let align = alignment.max(MIN_ALIGNMENT);
         let (stacks, maps) = (&mut self.stacks, &mut self.maps);
         let chunk = allocate(
             self.cookie,
