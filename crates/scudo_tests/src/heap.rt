@@ -30,6 +30,7 @@ fn a_block_is_used_again(rt: HostRuntime) -> Result<(), Fail> {
         0x0500_0000_1200_0010
     );
     condition_of_calls();
+    heap.stacks_are_sound();
     Ok(())
 }
 
