@@ -1,7 +1,8 @@
 //! Worked numbers of the heap's calls: a heap of 512 pages with the cookie 0, over a plain memory,
 //! whose generator begins with the seed 1 and the tag 0.
 
-ghost use Rattle.std.specs.Prelude.{◌<◌, ◌≤◌, ◌^◌};
+ghost use Rattle.std.specs.Prelude.{◌<◌, ◌≤◌, ◌^◌, IfOk};
+ghost use Rattle.scudo_heap.specs.Served.{IsServed};
 
 use mte_tags::{Flat, Rgsr, TagMode, Tagged};
 use scudo_header::{Header, Origin, State, pack, unpack};
@@ -10,12 +11,29 @@ use std::alloc::Global;
 use std::process::Abort;
 use std::test::Fail;
 
+/// A heap of 512 pages over a memory of so many.
+fn fresh(alloc: Global, pages: usize, mode: TagMode) -> Result<(Heap, Flat), Fail>
+    requires some { 0 < pages }
+    requires most { pages ≤ 512 }
+    ensures { IfOk result (λ both. IsServed both.1 both.0) }
+{
+    let memory = Flat::new(alloc, pages, mode)?;
+    let heap = Heap::new(alloc, 0, 512)?;
+    Ok((heap, memory))
+}
+
+/// Writes a header by hand, as a tenant may.
+fn write_header(memory: &mut Flat, heap: &Heap, at: u64, word: &[u8; 8]) -> bool
+    requires { IsServed memory.old heap.now }
+    ensures { IsServed memory.new heap.now }
+{
+    memory.write(at, word, false).is_ok()
+}
+
 /// A freed chunk's granules get another tag, and so does the chunk that takes its block.
 #[test]
-#[tactic(auto, using(scudo_heap::proofs::FirstLemmas::served_laws))]
 fn a_block_is_used_again(rt: HostRuntime) -> Result<(), Fail> {
-    let mut memory = Flat::new(rt.alloc(), 512, TagMode::Sync)?;
-    let mut heap = Heap::new(rt.alloc(), 0, 512)?;
+    let (mut heap, mut memory) = fresh(rt.alloc(), 512, TagMode::Sync)?;
     let mut rgsr = Rgsr { tag: 0, seed: 1 };
     assert_eq!(rt;
         heap.malloc(&mut rgsr, &mut memory, 24),
@@ -35,10 +53,8 @@ fn a_block_is_used_again(rt: HostRuntime) -> Result<(), Fail> {
 }
 
 #[test]
-#[tactic(auto, using(scudo_heap::proofs::FirstLemmas::served_laws))]
 fn a_freed_granule_has_another_tag(rt: HostRuntime) -> Result<(), Fail> {
-    let mut memory = Flat::new(rt.alloc(), 512, TagMode::Sync)?;
-    let mut heap = Heap::new(rt.alloc(), 0, 512)?;
+    let (mut heap, mut memory) = fresh(rt.alloc(), 512, TagMode::Sync)?;
     let mut rgsr = Rgsr { tag: 0, seed: 1 };
     assert_eq!(rt;
         heap.malloc(&mut rgsr, &mut memory, 24),
@@ -51,10 +67,8 @@ fn a_freed_granule_has_another_tag(rt: HostRuntime) -> Result<(), Fail> {
 
 /// Neighbours' tags are odd and even in turn.
 #[test]
-#[tactic(auto, using(scudo_heap::proofs::FirstLemmas::served_laws))]
 fn neighbours_have_different_tags(rt: HostRuntime) -> Result<(), Fail> {
-    let mut memory = Flat::new(rt.alloc(), 512, TagMode::Sync)?;
-    let mut heap = Heap::new(rt.alloc(), 0, 512)?;
+    let (mut heap, mut memory) = fresh(rt.alloc(), 512, TagMode::Sync)?;
     let mut rgsr = Rgsr { tag: 0, seed: 1 };
     assert_eq!(rt;
         heap.malloc(&mut rgsr, &mut memory, 24),
@@ -69,10 +83,8 @@ fn neighbours_have_different_tags(rt: HostRuntime) -> Result<(), Fail> {
 
 /// A shorter chunk leaves tag 0 on the granule after it, where the block had another.
 #[test]
-#[tactic(auto, using(scudo_heap::proofs::FirstLemmas::served_laws))]
 fn the_granule_after_a_chunk_has_tag_0(rt: HostRuntime) -> Result<(), Fail> {
-    let mut memory = Flat::new(rt.alloc(), 512, TagMode::Sync)?;
-    let mut heap = Heap::new(rt.alloc(), 0, 512)?;
+    let (mut heap, mut memory) = fresh(rt.alloc(), 512, TagMode::Sync)?;
     let mut rgsr = Rgsr { tag: 0, seed: 1 };
     let chunk = heap.malloc(&mut rgsr, &mut memory, 40);
     assert_eq!(rt; heap.free(&mut rgsr, &mut memory, chunk), Ok(()));
@@ -86,10 +98,8 @@ fn the_granule_after_a_chunk_has_tag_0(rt: HostRuntime) -> Result<(), Fail> {
 
 /// The largest class holds 131056 bytes; one more gets pages of its own.
 #[test]
-#[tactic(auto, using(scudo_heap::proofs::FirstLemmas::served_laws))]
 fn the_largest_class(rt: HostRuntime) -> Result<(), Fail> {
-    let mut memory = Flat::new(rt.alloc(), 512, TagMode::Sync)?;
-    let mut heap = Heap::new(rt.alloc(), 0, 512)?;
+    let (mut heap, mut memory) = fresh(rt.alloc(), 512, TagMode::Sync)?;
     let mut rgsr = Rgsr { tag: 0, seed: 1 };
     assert_eq!(rt;
         heap.malloc(&mut rgsr, &mut memory, 131_056),
@@ -115,10 +125,8 @@ fn the_largest_class(rt: HostRuntime) -> Result<(), Fail> {
 
 /// The pages of a large chunk are unmapped at once.
 #[test]
-#[tactic(auto, using(scudo_heap::proofs::FirstLemmas::served_laws))]
 fn a_large_chunk_is_freed(rt: HostRuntime) -> Result<(), Fail> {
-    let mut memory = Flat::new(rt.alloc(), 512, TagMode::Sync)?;
-    let mut heap = Heap::new(rt.alloc(), 0, 512)?;
+    let (mut heap, mut memory) = fresh(rt.alloc(), 512, TagMode::Sync)?;
     let mut rgsr = Rgsr { tag: 0, seed: 1 };
     assert_eq!(rt; heap.malloc(&mut rgsr, &mut memory, 131_057), 0x3D00_2000);
     assert_eq!(rt; heap.free(&mut rgsr, &mut memory, 0x3D00_2000), Ok(()));
@@ -131,10 +139,8 @@ fn a_large_chunk_is_freed(rt: HostRuntime) -> Result<(), Fail> {
 }
 
 #[test]
-#[tactic(auto, using(scudo_heap::proofs::FirstLemmas::served_laws))]
 fn requests_over_the_limit(rt: HostRuntime) -> Result<(), Fail> {
-    let mut memory = Flat::new(rt.alloc(), 512, TagMode::Sync)?;
-    let mut heap = Heap::new(rt.alloc(), 0, 512)?;
+    let (mut heap, mut memory) = fresh(rt.alloc(), 512, TagMode::Sync)?;
     let mut rgsr = Rgsr { tag: 0, seed: 1 };
     assert_eq!(rt; heap.malloc(&mut rgsr, &mut memory, 1_048_577), 0);
     assert_eq!(rt; heap.calloc(&mut rgsr, &mut memory, 1 << 63, 2), 0);
@@ -146,10 +152,8 @@ fn requests_over_the_limit(rt: HostRuntime) -> Result<(), Fail> {
 }
 
 #[test]
-#[tactic(auto, using(scudo_heap::proofs::FirstLemmas::served_laws))]
 fn alignments(rt: HostRuntime) -> Result<(), Fail> {
-    let mut memory = Flat::new(rt.alloc(), 512, TagMode::Sync)?;
-    let mut heap = Heap::new(rt.alloc(), 0, 512)?;
+    let (mut heap, mut memory) = fresh(rt.alloc(), 512, TagMode::Sync)?;
     let mut rgsr = Rgsr { tag: 0, seed: 1 };
     assert_eq!(rt; heap.memalign(&mut rgsr, &mut memory, 0, 100), 0);
     assert_eq!(rt; heap.memalign(&mut rgsr, &mut memory, 24, 100), 0);
@@ -176,10 +180,8 @@ fn alignments(rt: HostRuntime) -> Result<(), Fail> {
 
 /// No bytes are one byte, and the null pointer is none.
 #[test]
-#[tactic(auto, using(scudo_heap::proofs::FirstLemmas::served_laws))]
 fn nothing_requested(rt: HostRuntime) -> Result<(), Fail> {
-    let mut memory = Flat::new(rt.alloc(), 512, TagMode::Sync)?;
-    let mut heap = Heap::new(rt.alloc(), 0, 512)?;
+    let (mut heap, mut memory) = fresh(rt.alloc(), 512, TagMode::Sync)?;
     let mut rgsr = Rgsr { tag: 0, seed: 1 };
     let chunk = heap.malloc(&mut rgsr, &mut memory, 0);
     assert_eq!(rt; heap.free(&mut rgsr, &mut memory, 0), Ok(()));
@@ -190,10 +192,8 @@ fn nothing_requested(rt: HostRuntime) -> Result<(), Fail> {
 
 /// A memory of one page has none for a second class.
 #[test]
-#[tactic(auto, using(scudo_heap::proofs::FirstLemmas::served_laws))]
 fn no_page_is_left(rt: HostRuntime) -> Result<(), Fail> {
-    let mut memory = Flat::new(rt.alloc(), 1, TagMode::Async)?;
-    let mut heap = Heap::new(rt.alloc(), 0, 512)?;
+    let (mut heap, mut memory) = fresh(rt.alloc(), 1, TagMode::Async)?;
     let mut rgsr = Rgsr { tag: 0, seed: 1 };
     assert_eq!(rt;
         heap.malloc(&mut rgsr, &mut memory, 24),
@@ -211,10 +211,8 @@ fn no_page_is_left(rt: HostRuntime) -> Result<(), Fail> {
 
 /// The first check that fails, in its order.
 #[test]
-#[tactic(auto, using(scudo_heap::proofs::FirstLemmas::served_laws))]
 fn wild_pointers(rt: HostRuntime) -> Result<(), Fail> {
-    let mut memory = Flat::new(rt.alloc(), 512, TagMode::Sync)?;
-    let mut heap = Heap::new(rt.alloc(), 0, 512)?;
+    let (mut heap, mut memory) = fresh(rt.alloc(), 512, TagMode::Sync)?;
     let mut rgsr = Rgsr { tag: 0, seed: 1 };
     let chunk = heap.malloc(&mut rgsr, &mut memory, 24);
     assert_eq!(rt;
@@ -250,7 +248,6 @@ fn wild_pointers(rt: HostRuntime) -> Result<(), Fail> {
 }
 
 /// What becomes of a free of a user address whose header was written by hand, after malloc(24).
-#[tactic(auto, using(scudo_heap::proofs::FirstLemmas::served_laws))]
 fn free_of_forged(
     rt: &impl Abort,
     alloc: Global,
@@ -263,8 +260,7 @@ fn free_of_forged(
     requires size { size < 2 ^ 20 }
     requires user { 16 ≤ user }
 {
-    let mut memory = Flat::new(alloc, 512, TagMode::Sync)?;
-    let mut heap = Heap::new(alloc, 0, 512)?;
+    let (mut heap, mut memory) = fresh(alloc, 512, TagMode::Sync)?;
     let mut rgsr = Rgsr { tag: 0, seed: 1 };
     assert_eq!(rt;
         heap.malloc(&mut rgsr, &mut memory, 24),
@@ -278,7 +274,7 @@ fn free_of_forged(
         offset,
     };
     let word = pack(0, user, &header).to_le_bytes();
-    assert_eq!(rt; memory.write(user - 16, &word, false), Ok(()));
+    assert!(rt; write_header(&mut memory, &heap, user - 16, &word));
     Ok(heap.free(&mut rgsr, &mut memory, user))
 }
 
