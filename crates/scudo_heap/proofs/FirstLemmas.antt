@@ -1,7 +1,7 @@
 -- The condition of the calls, at the start and after what others do.
-use Rattle.std.proofs.Common.{◌≡◌, ℕ, ◌+◌, ◌-◌, ◌*◌, ◌/◌, ◌<◌, ◌≤◌, nat_lt, Bool, true, false, Result, is_ok, length, List, [], Option, Some, None, refl, sym, ap, subst, ◌∙◌, arith}
+use Rattle.std.proofs.Common.{◌≡◌, ℕ, ◌≤◌, nat_lt, Bool, true, false, Result, is_ok, length, List, None, refl, sym, ap, subst, ◌∙◌, arith}
 use Rattle.std.proofs.lemmas.Bool.{cond-false}
-use Rattle.mte_tags.specs.Memory.{Memory, attrs_at, attrs_in, page_at, pages_left, no_pages}
+use Rattle.mte_tags.specs.Memory.{Memory, attrs_at, attrs_in, pages_left, no_pages}
 use Rattle.mte_tags.specs.declared.state.TagMode.{TagMode}
 use Rattle.std.specs.Prelude.{if◌then◌else◌}
 use Rattle.a64_bits.specs.Addresses.{plain}
@@ -10,12 +10,10 @@ use Rattle.mte_tags.specs.declared.fault.MemFault.{MemFault}
 use Rattle.mte_tags.proofs.ModeLaws.{after_access-unchecked}
 use Rattle.mte_tags.proofs.PageLaws.{attrs_at-written, pages_left-written}
 use Rattle.mte_tags.proofs.Pages.{page_at-no_pages}
-use Rattle.address_map.specs.declared.limits.TheConstants.{PAGE_SIZE}
-use Rattle.address_map.specs.declared.ranges.TheConstants.{REGIONS_START, SECONDARY_END}
 use Rattle.scudo_primary.specs.Lists.{IsClass}
-use Rattle.scudo_heap.specs.Stacks.{ClassHeap, StackState, empty_class, empty_stacks, class_at, pages_of}
-use Rattle.scudo_heap.specs.Heaps.{HeapState, heap_of, empty_heap}
-use Rattle.scudo_heap.specs.Served.{IsServed, IsUntouched, heap_page}
+use Rattle.scudo_heap.specs.Stacks.{ClassHeap, empty_class, empty_stacks, class_at}
+use Rattle.scudo_heap.specs.Heaps.{HeapState, empty_heap}
+use Rattle.scudo_heap.specs.Served.{IsServed, IsUntouched}
 use Rattle.scudo_heap.proofs.StackLemmas.{class_at-stacks_by}
 use Rattle.scudo_heap.proofs.ServedLemmas.{served-on, same-pages, lt-false}
 

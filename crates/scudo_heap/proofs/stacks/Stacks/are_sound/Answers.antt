@@ -1,9 +1,8 @@
-use Rattle.std.proofs.Common.{◌≡◌, ◌<◌, ◌≤◌, ℕ, true, nat_eq, sym, subst}
+use Rattle.std.proofs.Common.{◌≡◌, true, nat_eq, sym, subst}
 use Rattle.std.specs.List.{IsDistinct}
 use Rattle.scudo_primary.specs.Blocks.{IsBlock}
 use Rattle.scudo_primary.specs.Pools.{is_member}
-use Rattle.scudo_primary.specs.Lists.{IsClass}
-use Rattle.scudo_heap.specs.Stacks.{ClassHeap, AreSound}
+use Rattle.scudo_heap.specs.Stacks.{ClassHeap}
 use Rattle.scudo_heap.proofs.StackLemmas.{at-inside}
 use Rattle.scudo_heap.proofs.stacks.Stacks.are_sound.Goals as goal
 
