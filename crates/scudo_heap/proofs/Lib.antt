@@ -7,3 +7,5 @@ pub mod FoundLemmas
 pub mod FreeLemmas
 pub mod ClassLemmas
 pub mod LargeLemmas
+pub mod AllocationLemmas
+pub mod FirstLemmas

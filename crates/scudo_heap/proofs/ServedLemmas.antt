@@ -1,12 +1,11 @@
 -- What the condition of the calls gives, and what keeps it.
-use Rattle.std.proofs.Common.{◌≡◌, ◌≢◌, ℕ, ◌+◌, ◌-◌, ◌*◌, ◌/◌, ◌%◌, ◌^◌, ◌<◌, ◌≤◌, ◌||◌, nat_lt, nat_le, Bool, true, false, cond, List, [], ◌∷◌, ◌++◌, zero, suc, drop, Option, Some, None, refl, sym, ap, subst, ◌∙◌, inl, inr, arith}
+use Rattle.std.proofs.Common.{◌≡◌, ◌≢◌, ℕ, ◌+◌, ◌-◌, ◌*◌, ◌/◌, ◌%◌, ◌^◌, ◌<◌, ◌≤◌, ◌||◌, nat_lt, true, false, List, [], ◌∷◌, ◌++◌, zero, suc, drop, Some, refl, sym, ap, subst, ◌∙◌, inl, inr, arith}
 use Rattle.std.proofs.lemmas.Bool.{cases_eq, cases_lt, cond-true, cond-false}
 use Rattle.std.proofs.lemmas.Bool.Decides.{nat_tests}
 use Rattle.std.specs.List.{list_any}
 use Rattle.mte_tags.specs.Memory.{Memory, attrs_at, pages_left}
 use Rattle.scudo_header.specs.Classes.{size_of}
 use Rattle.scudo_header.specs.Regions.{region_of}
-use Rattle.scudo_header.specs.declared.classes.TheConstants.{CLASSES}
 use Rattle.scudo_primary.specs.Blocks.{IsBlock}
 use Rattle.scudo_primary.specs.Lists.{IsClass}
 use Rattle.scudo_primary.proofs.BlockLemmas.{size-pos, block-whole}
@@ -17,7 +16,7 @@ use Rattle.scudo_heap.specs.Placing.{heap_attrs, next_page}
 use Rattle.scudo_secondary.specs.Mappings as secondary
 use Rattle.scudo_secondary.specs.Mappings.{MapsState}
 use Rattle.address_map.specs.declared.limits.TheConstants.{PAGE_SIZE}
-use Rattle.address_map.specs.declared.ranges.TheConstants.{REGIONS_START, REGION_SIZE}
+use Rattle.address_map.specs.declared.ranges.TheConstants.{REGION_SIZE}
 use Rattle.scudo_heap.specs.Stacks.{ClassHeap, StackState, class_at, with_class, pages_of, stack_of, popped, pushed, carved_class, carved}
 use Rattle.scudo_heap.specs.Heaps.{HeapState, heap_of}
 use Rattle.scudo_heap.specs.Served.{IsServed, IsOpen, AreRegions, ArePlaces, heap_page, is_inside}
@@ -25,10 +24,9 @@ use Rattle.scudo_secondary.specs.declared.mappings.Mapping.{Mapping}
 use Rattle.mte_tags.specs.Memory.{IsFree, with_new_pages, without_pages}
 use Rattle.mte_tags.proofs.PageLaws.{page_at-no_attrs, attrs_at-with_new_pages_in, attrs_at-with_new_pages_out, pages_left-with_new_pages, attrs_at-without_pages_in, attrs_at-without_pages_out}
 use Rattle.mte_tags.proofs.Whole.{pages_left-without_pages}
-use Rattle.address_map.specs.declared.ranges.TheConstants.{SECONDARY_START, SECONDARY_END}
 use Rattle.scudo_heap.specs.Heaps.{with_less, with_more}
 use Rattle.scudo_secondary.proofs.MappingLemmas.{pages_of-with_mapping}
-use Rattle.scudo_heap.proofs.MapLemmas.{IsAt, inside-more, inside-in, inside-low, inside-high, others_of, IsWithout, without}
+use Rattle.scudo_heap.proofs.MapLemmas.{IsAt, inside-more, inside-in, inside-low, inside-high, others_of, without}
 use Rattle.scudo_heap.proofs.StackLemmas.{class_at-with_class, class_at-with_class_other}
 
 pub lt-true : (a b : ℕ) → a < b → nat_lt a b ≡ true
@@ -55,9 +53,9 @@ block-open-in m s c b v k block =
     let high = k.high in
     record {
       pages = λ a lo hi.
-        let i : (a - region_of c) / PAGE_SIZE < pages_of s c = omega arith in
-        let q : a / PAGE_SIZE ≡ region_of c / PAGE_SIZE + (a - region_of c) / PAGE_SIZE = omega arith in
-        ap (attrs_at m) q ∙ page_there m s c ((a - region_of c) / PAGE_SIZE) v k i;
+          let i : (a - region_of c) / PAGE_SIZE < pages_of s c = omega arith in
+          let q : a / PAGE_SIZE ≡ region_of c / PAGE_SIZE + (a - region_of c) / PAGE_SIZE = omega arith in
+          ap (attrs_at m) q ∙ page_there m s c ((a - region_of c) / PAGE_SIZE) v k i;
       below = omega arith;
     }
 
@@ -148,12 +146,12 @@ served-less m h n cookie v k e =
       regions = λ c i lo hi l. out _ (λ x y. omega arith) ∙ v.regions c i lo hi l;
       mappings = λ a lo hi. elim (is_inside a n) as (λ b. is_inside a n ≡ b → attrs_at (without_pages m (n.start / PAGE_SIZE) n.pages) (a / PAGE_SIZE) ≡ heap_page (list_any (is_inside a) (with_less h.maps n).mappings)) [
         | true ↦ λ t. (elim (cases_lt a n.start) [
-            | inl l ↦ (let f = inside-low a n l in cc)
-            | inr l ↦ (elim (cases_lt a (secondary.end_of n)) [
-                | inl u ↦ attrs_at-without_pages_in n.pages m (n.start / PAGE_SIZE) (a / PAGE_SIZE) (omega arith) (omega arith) ∙ ap heap_page (sym (ap (list_any (is_inside a)) list ∙ w.in_it a t))
-                | inr u ↦ (let f = inside-high a n u in cc)
-              ])
+          | inl l ↦ (let f = inside-low a n l in cc)
+          | inr l ↦ (elim (cases_lt a (secondary.end_of n)) [
+            | inl u ↦ attrs_at-without_pages_in n.pages m (n.start / PAGE_SIZE) (a / PAGE_SIZE) (omega arith) (omega arith) ∙ ap heap_page (sym (ap (list_any (is_inside a)) list ∙ w.in_it a t))
+            | inr u ↦ (let f = inside-high a n u in cc)
           ])
+        ])
         | false ↦ λ t. (out (a / PAGE_SIZE) (λ x y. (let f : is_inside a n ≡ true = inside-in a n (omega arith) (omega arith) in cc))
             ∙ v.mappings a lo hi ∙ ap heap_page (sym (ap (list_any (is_inside a)) list ∙ w.out_of_it a t)))
       ] refl;
@@ -323,13 +321,13 @@ served-more m s ms n cookie w enough v =
       regions = λ c i lo hi l. out _ (λ x y. omega arith) ∙ v.regions c i lo hi l;
       mappings = λ a lo hi. elim (is_inside a n) as (λ b. is_inside a n ≡ b → attrs_at (with_new_pages m (n.start / PAGE_SIZE) n.pages heap_attrs) (a / PAGE_SIZE) ≡ heap_page (list_any (is_inside a) (with_more ms n).mappings)) [
         | true ↦ λ t. (elim (cases_lt a n.start) [
-            | inl l ↦ (let f = inside-low a n l in cc)
-            | inr l ↦ (elim (cases_lt a (secondary.end_of n)) [
-                | inl u ↦ attrs_at-with_new_pages_in n.pages m (n.start / PAGE_SIZE) heap_attrs (a / PAGE_SIZE) (omega arith) (omega arith)
-                    ∙ sym (ap heap_page (ap (list_any (is_inside a)) list ∙ inside-more ms.mappings n a ∙ ap (λ b. b || list_any (is_inside a) ms.mappings) t))
-                | inr u ↦ (let f = inside-high a n u in cc)
-              ])
+          | inl l ↦ (let f = inside-low a n l in cc)
+          | inr l ↦ (elim (cases_lt a (secondary.end_of n)) [
+            | inl u ↦ attrs_at-with_new_pages_in n.pages m (n.start / PAGE_SIZE) heap_attrs (a / PAGE_SIZE) (omega arith) (omega arith)
+                ∙ sym (ap heap_page (ap (list_any (is_inside a)) list ∙ inside-more ms.mappings n a ∙ ap (λ b. b || list_any (is_inside a) ms.mappings) t))
+            | inr u ↦ (let f = inside-high a n u in cc)
           ])
+        ])
         | false ↦ λ t. (out (a / PAGE_SIZE) (λ x y. (let f : is_inside a n ≡ true = inside-in a n (omega arith) (omega arith) in cc))
             ∙ v.mappings a lo hi ∙ sym (ap heap_page (ap (list_any (is_inside a)) list ∙ inside-more ms.mappings n a ∙ ap (λ b. b || list_any (is_inside a) ms.mappings) t)))
       ] refl;

@@ -1,5 +1,5 @@
 -- What the parts of the stacks of free blocks are, and what a chunk is that the checks found.
-use Rattle.std.specs.Prelude.{◌≡◌, ℕ, ◌+◌, ◌-◌, ◌%◌, ◌^◌, ◌<◌, ◌≤◌, List, ◌∷◌, Some, false}
+use Rattle.std.specs.Prelude.{◌≡◌, ℕ, ◌+◌, ◌-◌, ◌%◌, ◌^◌, ◌<◌, ◌≤◌, ◌∷◌, Some, false}
 use Rattle.scudo_header.specs.declared.classes.TheConstants.{CLASSES}
 use Rattle.scudo_header.specs.declared.headers.Header.{Header}
 use Rattle.scudo_primary.specs.Blocks.{IsBlock}
@@ -11,6 +11,8 @@ use Rattle.scudo_secondary.specs.Mappings as secondary
 use Rattle.scudo_secondary.specs.declared.mappings.Mapping.{Mapping}
 use Rattle.address_map.specs.declared.limits.TheConstants.{PAGE_SIZE}
 use Rattle.scudo_heap.specs.declared.chunk.Place.{Place}
+use Rattle.scudo_heap.specs.declared.chunk.Chunk.{Chunk}
+use Rattle.scudo_heap.specs.declared.chunk.Chunk.TheVariants.{Small, Large}
 use Rattle.scudo_heap.specs.declared.chunk.Found.{Found}
 use Rattle.scudo_heap.specs.declared.chunk.Found.TheVariants.{InBlock, InPages}
 use Rattle.scudo_heap.specs.Stacks.{ClassHeap, StackState, stacks_by, pages_of, stack_of}
@@ -66,3 +68,8 @@ pub record IsLarge (m : Mapping) (size : ℕ) : Type 0 where
   pub within : m.user + size ≤ secondary.end_of m
   pub below : m.user < secondary.end_of m
   pub unused : secondary.end_of m - m.user - size < 2 ^ 20
+
+-- a chunk that was handed out lies where every chunk does
+abbrev pub IsLow : Chunk → Type 0
+IsLow (Small p tag) = (p.user < 2 ^ 32) × (tag < 16)
+IsLow (Large m size) = m.user < 2 ^ 32

@@ -1,6 +1,6 @@
 -- When a memory is one that a heap may be used with: the condition of the heap calls, which each of
 -- them keeps.
-use Rattle.std.specs.Prelude.{◌≡◌, ℕ, ◌+◌, ◌*◌, ◌/◌, ◌^◌, ◌<◌, ◌≤◌, ◌&&◌, nat_lt, nat_le, Bool}
+use Rattle.std.specs.Prelude.{◌≡◌, ℕ, ◌+◌, ◌/◌, ◌^◌, ◌<◌, ◌≤◌, ◌&&◌, nat_lt, nat_le, Bool}
 use Rattle.std.specs.Prelude.{Option, Some, None, if◌then◌else◌}
 use Rattle.std.specs.List.{list_any}
 use Rattle.mte_tags.specs.Memory.{Memory, attrs_at, pages_left}
@@ -47,6 +47,13 @@ pub record IsServed (m : Memory) (h : HeapState) : Type 0 where
 pub record IsOpen (m : Memory) (from to : ℕ) : Type 0 where
   pub pages : (a : ℕ) → from ≤ a → a < to → attrs_at m (a / PAGE_SIZE) ≡ Some 11
   pub below : to ≤ 2 ^ 30
+
+-- no page lies where those of a heap do: from the range before the first class's region to the end
+-- of the range of chunks with pages of their own
+abbrev pub IsUntouched : Memory → Type 0
+IsUntouched m =
+    (page : ℕ) → REGIONS_START / PAGE_SIZE ≤ page → page < SECONDARY_END / PAGE_SIZE
+    → attrs_at m page ≡ None
 
 -- what of the condition the size classes need
 pub record AreRegions (m : Memory) (s : StackState) : Type 0 where

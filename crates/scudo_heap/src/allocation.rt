@@ -8,7 +8,7 @@ ghost use Rattle.scudo_heap.specs.Placing.{world_of, pages_for};
 ghost use Rattle.scudo_heap.specs.Allocation.{made_of, made_in, need_of, asked, allocated};
 ghost use Rattle.scudo_heap.specs.Allocation.{is_alignment};
 ghost use Rattle.scudo_heap.specs.Served.{IsServed};
-ghost use Rattle.scudo_heap.specs.Inner.{IsAlign};
+ghost use Rattle.scudo_heap.specs.Inner.{IsAlign, IsLow};
 
 use crate::chunk::Chunk;
 use crate::classes::take_block;
@@ -52,6 +52,7 @@ fn make_some<M: Paged>(
         (world_of (M.memory memory.new) (heap_of cookie stacks.new maps.new) rgsr.new) result
         ≡ made_in (world_of (M.memory memory.old) (heap_of cookie stacks.old maps.old) rgsr.old)
         origin align size (class_for (need_of align size)) }
+    ensures low_chunk { IfSome result IsLow }
     ensures tag { rgsr.new.tag < 16 }
     ensures served { IsServed (M.memory memory.new) (heap_of cookie stacks.new maps.new) }
     ensures kept { M.kept memory.old memory.new }
@@ -85,6 +86,7 @@ pub(crate) fn allocate<M: Paged>(
         (world_of (M.memory memory.new) (heap_of cookie stacks.new maps.new) rgsr.new) result
         ≡ allocated (world_of (M.memory memory.old) (heap_of cookie stacks.old maps.old) rgsr.old)
         origin align size }
+    ensures low_chunk { IfSome result IsLow }
     ensures tag { rgsr.new.tag < 16 }
     ensures served { IsServed (M.memory memory.new) (heap_of cookie stacks.new maps.new) }
     ensures kept { M.kept memory.old memory.new }

@@ -1,6 +1,8 @@
 //! Where a chunk lies.
 
-ghost use Rattle.std.specs.Prelude.{◌≡◌, ◌≤◌, ◌^◌};
+ghost use Rattle.std.specs.Prelude.{◌≡◌, ◌≤◌, ◌^◌, Some, IfSome};
+ghost use Rattle.scudo_heap.specs.Allocation.{answer_of};
+ghost use Rattle.scudo_heap.specs.Inner.{IsLow};
 ghost use Rattle.scudo_heap.specs.Checks.{size_found, HasEnd};
 
 use address_map::PAGE_SIZE;
@@ -38,6 +40,19 @@ pub(crate) enum Found {
     InPages(Mapping, Header),
 }
 
+impl Chunk {
+    /// The address that its user is given, with its tag in bits 59:56.
+    pub(crate) fn address(&self) -> u64
+        requires { IsLow self.now }
+        ensures { result ≡ answer_of (Some self.now) }
+    {
+        match self {
+            Chunk::Small(place, tag) => place.user + (u64::from(*tag) << 56),
+            Chunk::Large(mapping, _) => mapping.user,
+        }
+    }
+}
+
 impl Found {
     /// The bytes that its user may use.
     pub(crate) fn size(&self) -> u64
@@ -51,5 +66,16 @@ impl Found {
                 end - mapping.user - u64::from(header.size_or_unused_bytes)
             }
         }
+    }
+}
+
+/// The address of a chunk, or 0 where there is none.
+pub(crate) fn address_or_null(chunk: &Option<Chunk>) -> u64
+    requires { IfSome chunk.now IsLow }
+    ensures { result ≡ answer_of chunk.now }
+{
+    match chunk {
+        Some(chunk) => chunk.address(),
+        None => 0,
     }
 }

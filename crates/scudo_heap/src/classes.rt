@@ -1,6 +1,6 @@
 //! Allocation in the size classes.
 
-ghost use Rattle.std.specs.Prelude.{◌≡◌, ◌≢◌, ◌+◌, ◌<◌, ◌≤◌, ◌^◌, [], nat_le, IsNone, IsTrue};
+ghost use Rattle.std.specs.Prelude.{◌≡◌, ◌≢◌, ◌+◌, ◌<◌, ◌≤◌, ◌^◌, [], nat_le, IsNone, IsTrue, IfSome};
 ghost use Rattle.std.specs.Prelude.{if◌then◌else◌};
 ghost use Rattle.mte_tags.specs.Memory.{pages_left, with_new_pages};
 ghost use Rattle.scudo_header.specs.Classes.{size_of};
@@ -11,7 +11,7 @@ ghost use Rattle.scudo_heap.specs.Heaps.{heap_of};
 ghost use Rattle.scudo_heap.specs.Placing.{world_of, more_pages, next_page, heap_attrs};
 ghost use Rattle.scudo_heap.specs.Allocation.{made_of, place_in, taken, need_of, in_class};
 ghost use Rattle.scudo_heap.specs.Served.{AreRegions, KeepsServed};
-ghost use Rattle.scudo_heap.specs.Inner.{IsAlign};
+ghost use Rattle.scudo_heap.specs.Inner.{IsAlign, IsLow};
 
 use crate::chunk::{Chunk, Place};
 use crate::placing::make_chunk;
@@ -62,6 +62,7 @@ fn take_top<M: Paged>(
     ensures stacks { IsNone result → stacks.new ≡ stacks.old }
     ensures memory { IsNone result → M.memory memory.new ≡ M.memory memory.old }
     ensures rgsr { IsNone result → rgsr.new ≡ rgsr.old }
+    ensures low_chunk { IfSome result IsLow }
     ensures tag { rgsr.new.tag < 16 }
     ensures served { KeepsServed (M.memory memory.old) stacks.old (M.memory memory.new)
         stacks.new }
@@ -132,6 +133,7 @@ pub(crate) fn take_block<M: Paged>(
         → made_of (world_of (M.memory memory.new) (heap_of cookie stacks.new ms) rgsr.new) result
         ≡ in_class (world_of (M.memory memory.old) (heap_of cookie stacks.old ms) rgsr.old)
         origin align size class }
+    ensures low_chunk { IfSome result IsLow }
     ensures tag { rgsr.new.tag < 16 }
     ensures served { KeepsServed (M.memory memory.old) stacks.old (M.memory memory.new)
         stacks.new }

@@ -1,18 +1,24 @@
 //! The heap's calls.
 
 ghost use Rattle.std.specs.Prelude.{◌≡◌, ◌<◌, ◌≤◌, IfOk};
+ghost use Rattle.scudo_heap.specs.Stacks.{AreSound};
 ghost use Rattle.scudo_heap.specs.Heaps.{HeapState, heap_of, empty_heap};
 ghost use Rattle.scudo_heap.specs.Placing.{world_of};
+ghost use Rattle.scudo_heap.specs.Allocation.{answer_of, malloc_of, calloc_of, memalign_of};
 ghost use Rattle.scudo_heap.specs.Freeing.{free_of, usable_size_of};
 ghost use Rattle.scudo_heap.specs.Served.{IsServed};
 
 use crate::abort::HeapAbort;
+use crate::allocation::{allocate, is_power};
 use crate::checks::find_chunk;
+use crate::chunk::address_or_null;
 use crate::freeing::free_found;
+use crate::limits::MIN_ALIGNMENT;
 use crate::stacks::Stacks;
 use a64_bits::plain;
 use address_map::MAX_PAGES;
 use mte_tags::{Paged, Rgsr};
+use scudo_header::Origin;
 use scudo_secondary::Maps;
 use std::alloc::{AllocError, Global};
 use std::marker::Model;
@@ -55,6 +61,100 @@ impl Heap {
         })
     }
 
+    /// The address of a new chunk of `size` bytes, one where that is 0, with its tag in bits 59:56.
+    /// The bytes of a chunk of a size class are zero, up to the end of its last granule, and so are
+    /// those of its pages where it has its own. It is 0, with nothing changed, where `size` is over
+    /// `MAX_REQUEST`, or no block is free and fewer pages are left than are needed, or pages of its
+    /// own fit nowhere.
+    pub fn malloc<M: Paged>(&mut self, rgsr: &mut Rgsr, memory: &mut M, size: u64) -> u64
+        requires served { IsServed (M.memory memory.old) self.old }
+        requires tag { rgsr.old.tag < 16 }
+        ensures answer { let w = world_of (M.memory memory.old) self.old rgsr.old in
+            result ≡ answer_of (malloc_of w size).chunk }
+        ensures world { let w = world_of (M.memory memory.old) self.old rgsr.old in
+            world_of (M.memory memory.new) self.new rgsr.new ≡ (malloc_of w size).world }
+        ensures served { IsServed (M.memory memory.new) self.new }
+        ensures tag { rgsr.new.tag < 16 }
+        ensures kept { M.kept memory.old memory.new }
+    {
+        let align = MIN_ALIGNMENT;
+        let (stacks, maps) = (&mut self.stacks, &mut self.maps);
+        let chunk = allocate(
+            self.cookie,
+            stacks,
+            maps,
+            rgsr,
+            memory,
+            Origin::Malloc,
+            align,
+            size,
+        );
+        address_or_null(&chunk)
+    }
+
+    /// A chunk for `count` elements of `size` bytes: as `malloc` of the product, which is 0 where
+    /// the product is over `MAX_REQUEST`.
+    pub fn calloc<M: Paged>(
+        &mut self,
+        rgsr: &mut Rgsr,
+        memory: &mut M,
+        count: u64,
+        size: u64,
+    ) -> u64
+        requires served { IsServed (M.memory memory.old) self.old }
+        requires tag { rgsr.old.tag < 16 }
+        ensures answer { let w = world_of (M.memory memory.old) self.old rgsr.old in
+            result ≡ answer_of (calloc_of w count size).chunk }
+        ensures world { let w = world_of (M.memory memory.old) self.old rgsr.old in
+            world_of (M.memory memory.new) self.new rgsr.new ≡ (calloc_of w count size).world }
+        ensures served { IsServed (M.memory memory.new) self.new }
+        ensures tag { rgsr.new.tag < 16 }
+        ensures kept { M.kept memory.old memory.new }
+    {
+        match count.checked_mul(size) {
+            None => 0,
+            Some(all) => self.malloc(rgsr, memory, all),
+        }
+    }
+
+    /// A chunk at a multiple of an alignment: as `malloc`, and 0 as well where the alignment is not
+    /// a power of two up to `MAX_ALIGNMENT`.
+    pub fn memalign<M: Paged>(
+        &mut self,
+        rgsr: &mut Rgsr,
+        memory: &mut M,
+        alignment: u64,
+        size: u64,
+    ) -> u64
+        requires served { IsServed (M.memory memory.old) self.old }
+        requires tag { rgsr.old.tag < 16 }
+        ensures answer { let w = world_of (M.memory memory.old) self.old rgsr.old in
+            result ≡ answer_of (memalign_of w alignment size).chunk }
+        ensures world { let w = world_of (M.memory memory.old) self.old rgsr.old in
+            world_of (M.memory memory.new) self.new rgsr.new
+            ≡ (memalign_of w alignment size).world }
+        ensures served { IsServed (M.memory memory.new) self.new }
+        ensures tag { rgsr.new.tag < 16 }
+        ensures kept { M.kept memory.old memory.new }
+    {
+        if !is_power(alignment) {
+            return 0;
+        }
+        let align = alignment.max(MIN_ALIGNMENT);
+        let (stacks, maps) = (&mut self.stacks, &mut self.maps);
+        let chunk = allocate(
+            self.cookie,
+            stacks,
+            maps,
+            rgsr,
+            memory,
+            Origin::Memalign,
+            align,
+            size,
+        );
+        address_or_null(&chunk)
+    }
+
     /// Frees a chunk. The null pointer is ignored.
     pub fn free<M: Paged>(
         &mut self,
@@ -64,10 +164,10 @@ impl Heap {
     ) -> Result<(), HeapAbort>
         requires served { IsServed (M.memory memory.old) self.old }
         requires tag { rgsr.old.tag < 16 }
-        ensures answer { result
-            ≡ (free_of (world_of (M.memory memory.old) self.old rgsr.old) pointer).result }
-        ensures world { world_of (M.memory memory.new) self.new rgsr.new
-            ≡ (free_of (world_of (M.memory memory.old) self.old rgsr.old) pointer).world }
+        ensures answer { let w = world_of (M.memory memory.old) self.old rgsr.old in
+            result ≡ (free_of w pointer).result }
+        ensures world { let w = world_of (M.memory memory.old) self.old rgsr.old in
+            world_of (M.memory memory.new) self.new rgsr.new ≡ (free_of w pointer).world }
         ensures served { IsServed (M.memory memory.new) self.new }
         ensures tag { rgsr.new.tag < 16 }
         ensures kept { M.kept memory.old memory.new }
@@ -75,7 +175,13 @@ impl Heap {
         if pointer == 0 {
             return Ok(());
         }
-        match find_chunk(self.cookie, &self.stacks, &self.maps, memory, plain(pointer)) {
+        match find_chunk(
+            self.cookie,
+            &self.stacks,
+            &self.maps,
+            memory,
+            plain(pointer),
+        ) {
             Err(abort) => Err(abort),
             Ok(found) => {
                 free_found(
@@ -91,6 +197,14 @@ impl Heap {
         }
     }
 
+    /// In each stack of free blocks there are carved blocks, none of them twice, whatever the calls
+    /// were.
+    pub fn stacks_are_sound(&self)
+        ensures { AreSound self.now.stacks }
+    {
+        self.stacks.are_sound();
+    }
+
     /// How many bytes of a chunk its user may use: 0 for the null pointer.
     pub fn usable_size<M: Paged>(&self, memory: &mut M, pointer: u64) -> Result<u64, HeapAbort>
         ensures answer { result ≡ usable_size_of (M.memory memory.old) self.now pointer }
@@ -100,7 +214,13 @@ impl Heap {
         if pointer == 0 {
             return Ok(0);
         }
-        match find_chunk(self.cookie, &self.stacks, &self.maps, memory, plain(pointer)) {
+        match find_chunk(
+            self.cookie,
+            &self.stacks,
+            &self.maps,
+            memory,
+            plain(pointer),
+        ) {
             Err(abort) => Err(abort),
             Ok(found) => Ok(found.size()),
         }

@@ -10,6 +10,7 @@ mod classes;
 mod freeing;
 mod granules;
 mod heap;
+mod laws;
 mod limits;
 mod pages;
 mod placing;
@@ -18,4 +19,5 @@ mod tagging;
 
 pub use abort::HeapAbort;
 pub use heap::Heap;
+pub use laws::condition_of_calls;
 pub use limits::{MAX_ALIGNMENT, MAX_REQUEST};

@@ -1,6 +1,6 @@
 //! Allocation with pages of their own.
 
-ghost use Rattle.std.specs.Prelude.{◌≡◌, ◌+◌, ◌-◌, ◌*◌, ◌/◌, ◌<◌, ◌≤◌, ◌^◌, ◌%◌, ℕ, IsTrue, Some};
+ghost use Rattle.std.specs.Prelude.{◌≡◌, ◌+◌, ◌-◌, ◌*◌, ◌/◌, ◌<◌, ◌≤◌, ◌^◌, ◌%◌, ℕ, IsTrue, Some, IfSome};
 ghost use Rattle.mte_tags.specs.Memory.{pages_left, with_new_pages};
 ghost use Rattle.mte_tags.specs.declared.generator.Rgsr.{Rgsr};
 ghost use Rattle.scudo_secondary.specs.Mappings as secondary;
@@ -11,7 +11,7 @@ ghost use Rattle.scudo_heap.specs.Placing.{world_of, heap_attrs};
 ghost use Rattle.scudo_heap.specs.Large.{mapping_for, large_header};
 ghost use Rattle.scudo_heap.specs.Allocation.{made_of, need_of, in_mapping};
 ghost use Rattle.scudo_heap.specs.Served.{ArePlaces, KeepsMapped};
-ghost use Rattle.scudo_heap.specs.Inner.{IsAlign, IsLarge};
+ghost use Rattle.scudo_heap.specs.Inner.{IsAlign, IsLarge, IsLow};
 
 use crate::chunk::Chunk;
 use crate::granules::put_header;
@@ -59,7 +59,11 @@ fn map_chunk<M: Paged>(
     ensures kept { M.kept memory.old memory.new }
 {
     // So many pages are left.
-    let _ = memory.map_pages(mapping.start / PAGE_SIZE, mapping.pages as usize, Attrs::DATA);
+    let _ = memory.map_pages(
+        mapping.start / PAGE_SIZE,
+        mapping.pages as usize,
+        Attrs::DATA,
+    );
     let end = mapping.start + PAGE_SIZE * mapping.pages;
     let header = Header {
         class_id: 0,
@@ -92,6 +96,7 @@ pub(crate) fn take_pages<M: Paged>(
         → made_of (world_of (M.memory memory.new) (heap_of cookie s maps.new) r) result
         ≡ in_mapping (world_of (M.memory memory.old) (heap_of cookie s maps.old) r)
         origin align size pages }
+    ensures low_chunk { IfSome result IsLow }
     ensures served { KeepsMapped (M.memory memory.old) maps.old (M.memory memory.new) maps.new }
     ensures kept { M.kept memory.old memory.new }
 {

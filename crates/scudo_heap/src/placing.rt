@@ -75,6 +75,7 @@ pub(crate) fn make_chunk<M: Paged>(
         ≡ (drawn rgsr.old (excluded (M.memory memory.old) place)).rgsr.tag }
     ensures rgsr { rgsr.new ≡ (drawn rgsr.old (excluded (M.memory memory.old) place)).rgsr }
     ensures below { rgsr.new.tag < 16 }
+    ensures small { result < 16 }
     ensures memory { M.memory memory.new
         ≡ headed
         (closed

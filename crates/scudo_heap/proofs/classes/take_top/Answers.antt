@@ -1,12 +1,11 @@
-use Rattle.std.proofs.Common.{◌≡◌, ◌+◌, ◌∙◌, Some, None, sym, ap, subst, refl}
+use Rattle.std.proofs.Common.{◌≡◌, ◌+◌, arith, ◌∙◌, Some, sym, ap, subst}
 use Rattle.scudo_header.specs.Classes.{size_of}
 use Rattle.scudo_heap.specs.declared.chunk.Place.{Place}
-use Rattle.scudo_heap.specs.declared.chunk.Chunk.{Chunk}
 use Rattle.scudo_heap.specs.declared.chunk.Chunk.TheVariants.{Small}
 use Rattle.scudo_heap.specs.Stacks.{StackState, stack_of}
 use Rattle.scudo_heap.specs.Heaps.{heap_of}
-use Rattle.scudo_heap.specs.Placing.{World, world_of, placed}
-use Rattle.scudo_heap.specs.Allocation.{Made, made_of, made_at, place_in}
+use Rattle.scudo_heap.specs.Placing.{world_of, placed}
+use Rattle.scudo_heap.specs.Allocation.{made_of, made_at}
 use Rattle.scudo_heap.specs.Served.{IsOpen}
 use Rattle.scudo_heap.proofs.ServedLemmas.{block-open-in, same-popped, served-on, SamePages}
 use Rattle.scudo_heap.proofs.ClassLemmas.{FitsIn, fits-in, none-top, taken-some}
@@ -50,3 +49,14 @@ returns-in-Some-clause-served g c = λ k ms v.
     let e = c.make_chunk-tag.ensures in
     served-on _ _ (heap_of k c.args.stacks.now ms) c.take.new.self k v e.attrs e.left
     (subst (SamePages c.args.stacks.now) (sym c.take.ensures.stacks) (same-popped c.args.stacks.now c.args.class))
+
+pub returns-in-Some-clause-low_chunk : goal.returns-in-Some-clause-low_chunk
+returns-in-Some-clause-low_chunk g c =
+    let f = subst FitsIn (sym c.place-place.ensures)
+    (fits-in c.args.class _ c.in-Some.block c.args.align c.args.size (record { low = c.requires.low; high = c.requires.high }) c.in-Some.ensures.block c.requires.align c.requires.fits) in
+    let within = f.within in
+    let m = g.M.Tagged.memory c.args.memory.now in
+    let o = subst (λ (p : Place). IsOpen m p.block (p.block + size_of p.class)) (sym c.place-place.ensures)
+    (block-open-in m c.args.stacks.now c.args.class c.in-Some.block c.requires.regions (record { low = c.requires.low; high = c.requires.high }) c.in-Some.ensures.block) in
+    let below = o.below in
+    (omega arith, c.make_chunk-tag.ensures.small)

@@ -1,15 +1,14 @@
-use Rattle.std.proofs.Common.{◌≡◌, ◌+◌, ◌-◌, ◌*◌, ◌/◌, ◌≤◌, ◌<◌, ◌^◌, ◌∙◌, ℕ, Some, None, sym, ap, subst, refl, arith}
-use Rattle.mte_tags.specs.Memory.{pages_left}
+use Rattle.std.proofs.Common.{◌≡◌, ◌+◌, ◌*◌, ◌∙◌, Some, sym, ap, subst, arith}
+use Rattle.address_map.specs.declared.limits.TheConstants.{PAGE_SIZE}
 use Rattle.scudo_secondary.specs.declared.mappings.Mapping.{Mapping}
-use Rattle.scudo_heap.specs.declared.chunk.Chunk.{Chunk}
 use Rattle.scudo_heap.specs.declared.chunk.Chunk.TheVariants.{Large}
-use Rattle.scudo_heap.specs.Heaps.{heap_of, with_more}
-use Rattle.scudo_heap.specs.Placing.{World, world_of}
-use Rattle.scudo_heap.specs.Large.{mapping_for, large_placed}
-use Rattle.scudo_heap.specs.Allocation.{Made, made_of, nothing, made_large}
+use Rattle.scudo_heap.specs.Heaps.{heap_of}
+use Rattle.scudo_heap.specs.Placing.{world_of}
+use Rattle.scudo_heap.specs.Large.{large_placed}
+use Rattle.scudo_heap.specs.Allocation.{made_of, nothing, made_large}
 use Rattle.scudo_heap.specs.Served.{KeepsMapped}
 use Rattle.scudo_heap.specs.Inner.{IsLarge}
-use Rattle.scudo_heap.proofs.MapLemmas.{IsAt, is-at}
+use Rattle.scudo_heap.proofs.MapLemmas.{is-at}
 use Rattle.scudo_heap.proofs.LargeLemmas.{is-large, in_mapping-none, in_mapping-refused, in_mapping-made}
 use Rattle.scudo_heap.proofs.pages.take_pages.Goals as goal
 
@@ -63,3 +62,13 @@ returns-clause-made g c = λ s r.
 pub returns-clause-served : goal.returns-clause-served
 returns-clause-served g c =
     subst (λ t. KeepsMapped t c.args.maps.now (g.M.Tagged.memory c.map_chunk.new.memory) c.map_chunk.new.maps) c.pages_left.ensures.memory c.map_chunk.ensures.served
+
+pub returns-clause-low_chunk : goal.returns-clause-low_chunk
+returns-clause-low_chunk g c =
+    let w = is-at c.args.maps.now.mappings c.args.pages c.in-Some.start c.in-Some.ensures.fits in
+    let last = w.below in
+    let large = subst (λ (n : Mapping). IsLarge n c.args.size) (sym c.mapping_at-mapping.ensures)
+    (is-large c.in-Some.start c.args.pages c.args.align c.args.size w.aligned w.above w.below c.requires.pages c.requires.align c.requires.some c.requires.small c.requires.fits) in
+    let below = large.below in
+    let start = ap (λ (n : Mapping). n.start + PAGE_SIZE * n.pages) c.mapping_at-mapping.ensures in
+    omega arith

@@ -1,0 +1,74 @@
+-- The condition of the calls, at the start and after what others do.
+use Rattle.std.proofs.Common.{◌≡◌, ℕ, ◌≤◌, nat_lt, Bool, true, false, Result, is_ok, length, List, None, refl, sym, ap, subst, ◌∙◌, arith}
+use Rattle.std.proofs.lemmas.Bool.{cond-false}
+use Rattle.mte_tags.specs.Memory.{Memory, attrs_at, attrs_in, pages_left, no_pages}
+use Rattle.mte_tags.specs.declared.state.TagMode.{TagMode}
+use Rattle.std.specs.Prelude.{if◌then◌else◌}
+use Rattle.a64_bits.specs.Addresses.{plain}
+use Rattle.mte_tags.specs.Accesses.{addresses, write_access, after_write, written}
+use Rattle.mte_tags.specs.declared.fault.MemFault.{MemFault}
+use Rattle.mte_tags.proofs.ModeLaws.{after_access-unchecked}
+use Rattle.mte_tags.proofs.PageLaws.{attrs_at-written, pages_left-written}
+use Rattle.mte_tags.proofs.Pages.{page_at-no_pages}
+use Rattle.scudo_primary.specs.Lists.{IsClass}
+use Rattle.scudo_heap.specs.Stacks.{ClassHeap, empty_class, empty_stacks, class_at}
+use Rattle.scudo_heap.specs.Heaps.{HeapState, empty_heap}
+use Rattle.scudo_heap.specs.Served.{IsServed, IsUntouched}
+use Rattle.scudo_heap.proofs.StackLemmas.{class_at-stacks_by}
+use Rattle.scudo_heap.proofs.ServedLemmas.{served-on, same-pages, lt-false}
+
+left-most : (m : Memory) → pages_left m ≤ m.limit
+unfolding pages_left
+left-most m = omega arith
+
+left-empty : (n : ℕ) (cs : List ℕ) → (empty_stacks n cs).left ≡ n
+unfolding empty_stacks
+left-empty n cs = refl
+
+class-empty : (n : ℕ) (cs : List ℕ) (c : ℕ) → IsClass c → class_at (empty_stacks n cs) c ≡ empty_class
+unfolding empty_stacks
+class-empty n cs c h = class_at-stacks_by n cs (λ _. empty_class) c h
+
+pub served-first : (m : Memory) (cookie pages : ℕ) (cs : List ℕ) → m.limit ≤ pages → IsUntouched m → IsServed m (empty_heap cookie pages cs)
+served-first m cookie pages cs l u =
+    let most = left-most m in
+    let left = left-empty pages cs in
+    record {
+      room = omega arith;
+      limit = omega arith;
+      few = λ c lo hi. let e = ap (λ (k : ClassHeap). k.pages) (class-empty pages cs c (record { low = lo; high = hi })) in omega arith;
+      none = λ i k. u _ (omega arith) (omega arith);
+      regions = λ c i lo hi k. u _ (omega arith) (omega arith)
+          ∙ sym (cond-false _ _ _ (ap (λ (t : ClassHeap). nat_lt i t.pages) (class-empty pages cs c (record { low = lo; high = hi })) ∙ lt-false i 0 (omega arith)));
+      mappings = λ a lo hi. u _ (omega arith) (omega arith);
+    }
+
+limit-no_pages : (n : ℕ) (mode : TagMode) → (no_pages n mode).limit ≡ n
+unfolding no_pages
+limit-no_pages n mode = refl
+
+attrs-no_pages : (n : ℕ) (mode : TagMode) (q : ℕ) → attrs_at (no_pages n mode) q ≡ None
+unfolding attrs_at
+attrs-no_pages n mode q = ap attrs_in (page_at-no_pages n mode q)
+
+-- a heap and a memory that are new
+pub served-new : (m : Memory) (h : HeapState) (cookie pages n : ℕ) (cs : List ℕ) (mode : TagMode) → m ≡ no_pages n mode → h ≡ empty_heap cookie pages cs → n ≤ pages → IsServed m h
+served-new m h cookie pages n cs mode em eh l =
+    let limit = limit-no_pages n mode in
+    subst (λ t. IsServed t h) (sym em) (subst (IsServed (no_pages n mode)) (sym eh) (served-first (no_pages n mode) cookie pages cs (omega arith) (λ q lo hi. attrs-no_pages n mode q)))
+
+pub served-same : (m m' : Memory) (h : HeapState) → IsServed m h → ((q : ℕ) → attrs_at m' q ≡ attrs_at m q) → pages_left m' ≡ pages_left m → IsServed m' h
+served-same m m' h v a l = served-on m m' h h.stacks h.cookie v a l (same-pages h.stacks)
+
+-- a write that compares no tags
+written-pages : (b : Bool) (m : Memory) (a : ℕ) (bs : List ℕ) (h : HeapState) → IsServed m h → IsServed (if b then after_write m a bs false else m) h
+unfolding after_write
+written-pages false m a bs h v = v
+written-pages true m a bs h v =
+    subst (λ t. IsServed (written t a bs) h) (sym (after_access-unchecked m (write_access a false) (addresses (plain a) (length bs)) refl))
+    (served-same m (written m a bs) h v (λ q. attrs_at-written m a bs q) (pages_left-written m a bs))
+
+pub served-written : (m m' : Memory) (a : ℕ) (bs : List ℕ) (h : HeapState) (r : Result (Unit {0}) MemFault) → IsServed m h → m' ≡ (if is_ok r then after_write m a bs false else m) → IsServed m' h
+served-written m m' a bs h r v e = subst (λ t. IsServed t h) (sym e) (written-pages (is_ok r) m a bs h v)
+
+pub ruleset served_laws = (served-new, served-written)
