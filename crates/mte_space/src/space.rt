@@ -3,7 +3,7 @@
 ghost use Rattle.std.specs.Prelude.{◌≡◌, ◌≤◌, ◌+◌, ◌-◌, ◌*◌};
 ghost use Rattle.mte_frames.specs.Pool.{taken_by, reserved_by};
 ghost use Rattle.mte_translate.specs.Tables.{pages_of, IsTable, MapsOnce, IsCached};
-ghost use Rattle.mte_space.specs.Spaces.{IsSpace};
+ghost use Rattle.mte_space.specs.Spaces.{space_memory, IsSpace};
 
 use crate::accesses::{
     fault_of_run, fetch_word, read_run, retag_run, tag_of_granule, try_read, try_write, write_run,
@@ -32,7 +32,7 @@ pub struct Space<'a> {
 }
 
 impl<'a> Space<'a> {
-    ghost use Rattle.mte_space.specs.SpaceMemory.{IsOver};
+    ghost use Rattle.mte_space.specs.SpaceMemory.{memory_of, IsOver};
 
     /// A tenant's memory of at most `pages` pages, over its table, its quota and its tag state. The
     /// table maps no more, each in a frame of its own; the quota has a frame left for each page and
@@ -54,7 +54,9 @@ impl<'a> Space<'a> {
             + (2 * pages - table.old.len - table.old.leaves)
             ≤ reserved_by pool.old quota.old }
         requires cached { IsCached (pages_of pool.old table.old.frame) asid tlb.old }
-        ensures { IsOver result pool.entry table.entry quota.entry tlb.entry state.entry asid
+        ensures memory { memory_of result
+            ≡ space_memory pool.old table.old pages state.old }
+        ensures over { IsOver result pool.entry table.entry quota.entry tlb.entry state.entry asid
             pages }
     {
         Space {
