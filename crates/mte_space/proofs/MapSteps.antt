@@ -25,7 +25,7 @@ use Rattle.mte_translate.proofs.TableLemmas.{leaves-len, len-some, missing-one, 
 use Rattle.mte_translate.proofs.PageLemmas.{page-low}
 use Rattle.mte_translate.proofs.StepLemmas.{taken-gave}
 use Rattle.mte_space.specs.Spaces.{space_memory, IsSpace, KeepsRest, NoneEnters}
-use Rattle.mte_space.specs.SpaceMemory.{rest_same}
+use Rattle.mte_space.specs.KeptSpaces.{rest_same}
 use Rattle.mte_space.proofs.Memories.{space_mapped, space_removed}
 
 pub room_for_two : (p : Pool) (k : ℕ) (t : Root) (l : ℕ) → IsSpace p k t l → t.len < l → taken_by p k + 2 ≤ reserved_by p k
@@ -124,7 +124,7 @@ module _ (p n : Pool) (k f q l : ℕ) (t : Root) (h : IsSpace p k t l) (sound : 
       reserved = reserved ∙ reserved_same;
       capacities = same ∙ ap (λ (x : Pool). x.capacities) took;
       root = ap (λ (x : Root). x.frame) counts;
-      taken = omega (arith, taken, taken_one, ap (λ (x : Root). x.len) counts, ap (λ (x : Root). x.leaves) counts);
+      taken = λ x e. omega (arith, e, taken, taken_one, ap (λ (x : Root). x.len) counts, ap (λ (x : Root). x.leaves) counts);
     }
 
     pub mapped : KeepsOthers k p n → KeepsOthers k n m → m.capacities ≡ n.capacities → Mapped p m k q l a t u
@@ -189,7 +189,7 @@ module _ (p m n : Pool) (k f q l : ℕ) (a : Attrs) (t u : Root) (h : IsSpace p 
     reserved = given_reserved;
     capacities = ap (λ (x : Pool). x.capacities) gave ∙ same;
     root = ap (λ (x : Root). x.frame) counts;
-    taken = balance;
+    taken = λ x e. omega (arith, e, balance);
   }
 
   pub unmapped : KeepsOthers k p m → KeepsOthers k m n → m.capacities ≡ p.capacities → Unmapped p n k q l t u

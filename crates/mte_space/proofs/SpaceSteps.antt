@@ -80,9 +80,9 @@ module _ (p : Pool) (k : ℕ) (t : Root) (l q : ℕ) (g : Frame → Frame) (h : 
   cached_changed true (Some (f, a)) e asid ts c = cached_framed p k t l q f a (g (frame_at p.frames f)) h (sym e) asid ts c
 
   pub rest_changed : (b : Bool) (o : Option (ℕ × Attrs)) → KeepsOthers k p (cond b (changed g p o) p) → KeepsRest k p (cond b (changed g p o) p) t t
-  rest_changed false o others = record { others = others; reserved = refl; capacities = refl; root = refl; taken = refl }
-  rest_changed true None others = record { others = others; reserved = refl; capacities = refl; root = refl; taken = refl }
-  rest_changed true (Some (f, a)) others = record { others = others; reserved = refl; capacities = refl; root = refl; taken = refl }
+  rest_changed false o others = record { others = others; reserved = refl; capacities = refl; root = refl; taken = λ x e. e }
+  rest_changed true None others = record { others = others; reserved = refl; capacities = refl; root = refl; taken = λ x e. e }
+  rest_changed true (Some (f, a)) others = record { others = others; reserved = refl; capacities = refl; root = refl; taken = λ x e. e }
 
   pub memory_changed : (b : Bool) (o : Option (ℕ × Attrs)) → o ≡ finite.get (pages_of p t.frame) q → (s : TagState) → IsSound p → (b ≡ true → is_some o ≡ true) → (new : Memory)
       → ((f : ℕ) (a : Attrs) → o ≡ Some (f, a) → b ≡ true → with_page (space_memory p t l s) q (record { attrs = a.0; bytes = (g (frame_at p.frames f)).bytes; tags = (g (frame_at p.frames f)).tags }) ≡ new)

@@ -16,8 +16,8 @@ use mte_tags::{Access, Attrs, MemFault, NoQuota, PageStore, Paged, TagState, rep
 use mte_translate::{Table, Tlb};
 
 /// A tenant's memory: the pages that its table maps, in frames of a pool that it shares with other
-/// tenants, under its quota. Translations of its ASID are remembered in a lookaside buffer, which it
-/// shares too. Nothing allocates.
+/// tenants, under its quota. Translations of its ASID are remembered in a translation lookaside
+/// buffer, which it shares too. Nothing allocates.
 #[derive(Drop)]
 pub struct Space<'a> {
     pool: &'a mut FramePool,
@@ -72,7 +72,8 @@ impl<'a> Space<'a> {
 }
 
 impl PageStore for Space<'_> {
-    ghost use Rattle.mte_space.specs.SpaceMemory.{memory_of, IsKept, kept_same, kept_on};
+    ghost use Rattle.mte_space.specs.SpaceMemory.{memory_of, IsKept};
+    ghost use Rattle.mte_space.specs.KeptSpaces.{kept_same, kept_on};
 
     ghost memory = { memory_of };
 
@@ -86,11 +87,13 @@ impl PageStore for Space<'_> {
         self.state.pending = true;
     }
 
+    #[inline]
     fn run_fault(&mut self, at: u64, count: usize, access: &Access) -> Option<MemFault> {
         let found = translate(self.pool, self.table, self.tlb, self.asid, at / 4096);
         fault_of_run(self.pool, found, at, count, access)
     }
 
+    #[inline]
     fn fetch_aligned(&mut self, pc: u64) -> Result<u32, MemFault> {
         let page = plain(pc) / 4096;
         let found = translate(self.pool, self.table, self.tlb, self.asid, page);
@@ -128,11 +131,13 @@ impl PageStore for Space<'_> {
         write_run(self.pool, found, at, bytes, access)
     }
 
+    #[inline]
     fn granule_tag(&mut self, at: u64, access: &Access) -> Result<u8, MemFault> {
         let found = translate(self.pool, self.table, self.tlb, self.asid, at / 4096);
         tag_of_granule(self.pool, found, at, access)
     }
 
+    #[inline]
     fn store_tags_in_page(
         &mut self,
         at: u64,
