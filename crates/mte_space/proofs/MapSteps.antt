@@ -1,5 +1,5 @@
 -- A page is mapped to a frame that was taken for it, or unmapped and its frame given back.
-use Rattle.std.proofs.Common.{◌≡◌, ◌≢◌, ℕ, ◌+◌, ◌-◌, ◌*◌, ◌/◌, ◌<◌, ◌≤◌, Bool, true, false, List, length, Option, Some, None, is_some, get_or, slice_set, refl, sym, ap, subst, ◌∙◌, inl, inr, arith, get_or-set_same, get_or-set_other}
+use Rattle.std.proofs.Common.{◌≡◌, ◌≢◌, ℕ, ◌+◌, ◌-◌, ◌/◌, ◌<◌, ◌≤◌, true, false, List, length, Option, Some, None, is_some, get_or, slice_set, refl, sym, ap, subst, ◌∙◌, inl, inr, arith, get_or-set_same, get_or-set_other}
 use Rattle.std.proofs.lemmas.Bool.{cases_eq, cond-false}
 use Rattle.std.specs.FinMap as finite
 use Rattle.std.specs.FinMap.{get-insert, get-remove}
@@ -8,11 +8,11 @@ use Rattle.mte_tags.specs.Memory.{with_page, without_page, new_page}
 use Rattle.mte_tags.specs.declared.attrs.Attrs.{Attrs}
 use Rattle.mte_tags.specs.declared.state.TagState.{TagState}
 use Rattle.mte_tags.proofs.Pages.{tied_other}
-use Rattle.mte_arena.specs.Frames.{Frame, frame_at, frame_or, zero_frame}
+use Rattle.mte_arena.specs.Frames.{frame_at, frame_or, zero_frame}
 use Rattle.mte_frames.specs.Pool.{Pool, make_pool, IsOut, IsSound, KeepsOthers, taken_by, reserved_by}
 use Rattle.mte_frames.proofs.Counts.{within_of}
 use Rattle.mte_frames.proofs.Keeps.{keeps_on}
-use Rattle.mte_translate.specs.Tables.{Root, Pages, entry_at, valid_in, pages_of, missing_leaf, IsApart, IsTable, MapsOnce, MapsNever, KeepsData, Stays, IsCached}
+use Rattle.mte_translate.specs.Tables.{Root, valid_in, pages_of, missing_leaf, IsApart, IsTable, MapsOnce, MapsNever, KeepsData, Stays, IsCached}
 use Rattle.mte_translate.specs.Translations.{without, is_for}
 use Rattle.mte_translate.proofs.StandingLaws.{forget-page}
 use Rattle.std.specs.Prelude.{Contains}

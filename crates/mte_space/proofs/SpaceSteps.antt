@@ -1,10 +1,10 @@
 -- A space whose page that was found is written.
-use Rattle.std.proofs.Common.{◌≡◌, ◌≢◌, ℕ, ◌+◌, ◌*◌, ◌/◌, ◌%◌, ◌^◌, ◌++◌, ◌<◌, ◌≤◌, take, drop, replicate, Bool, true, false, cond, List, length, Option, Some, None, is_some, get_or, slice_set, refl, sym, ap, subst, ◌∙◌, arith, get_or-set_other}
-use Rattle.std.proofs.lemmas.List.Elements.{All-weaker, All-contains}
+use Rattle.std.proofs.Common.{◌≡◌, ℕ, ◌+◌, ◌*◌, ◌/◌, ◌%◌, ◌^◌, ◌++◌, ◌<◌, ◌≤◌, take, drop, replicate, Bool, true, false, cond, List, length, Option, Some, None, is_some, refl, sym, ap, ◌∙◌, arith, get_or-set_other}
+use Rattle.std.proofs.lemmas.List.Elements.{All-weaker}
 use Rattle.std.specs.Prelude.{option_map, IfSome}
 use Rattle.std.specs.FinMap as finite
 use Rattle.std.proofs.lemmas.List.{length-replicate}
-use Rattle.mte_tags.specs.Memory.{Memory, Page, page_at, with_page, with_granules}
+use Rattle.mte_tags.specs.Memory.{Memory, page_at, with_page, with_granules}
 use Rattle.mte_tags.specs.Slots.{spliced}
 use Rattle.mte_tags.proofs.PageRuns.{spliced_is}
 use Rattle.mte_tags.proofs.FoundPages.{page_retagged}

@@ -1,6 +1,6 @@
 -- What a call leaves beside the memory: nothing is a call, and one call after another is one.
 use Rattle.std.specs.Prelude.{Contains}
-use Rattle.std.proofs.Common.{◌≡◌, ◌≢◌, ◌∙◌, ◌+◌, ℕ, List, subst, refl}
+use Rattle.std.proofs.Common.{◌≢◌, ◌∙◌, ℕ, List, subst, refl}
 use Rattle.std.proofs.lemmas.List.Elements.{All-weaker, All-contains, All-contains_itself}
 use Rattle.mte_frames.specs.Pool.{Pool}
 use Rattle.mte_frames.proofs.Keeps.{keeps_self, keeps_on}
