@@ -1,5 +1,5 @@
 -- A page is mapped to a frame that was taken for it, or unmapped and its frame given back.
-use Rattle.std.proofs.Common.{◌≡◌, ◌≢◌, ℕ, ◌+◌, ◌-◌, ◌*◌, ◌/◌, ◌<◌, ◌≤◌, Bool, true, false, List, length, Option, Some, None, is_some, get_or, slice_set, refl, sym, ap, subst, ◌∙◌, inl, inr, arith, get_or-set_same, get_or-set_other}
+use Rattle.std.proofs.Common.{◌≡◌, ◌≢◌, ℕ, ◌+◌, ◌-◌, ◌/◌, ◌<◌, ◌≤◌, true, false, List, length, Option, Some, None, is_some, get_or, slice_set, refl, sym, ap, subst, ◌∙◌, inl, inr, arith, get_or-set_same, get_or-set_other}
 use Rattle.std.proofs.lemmas.Bool.{cases_eq, cond-false}
 use Rattle.std.specs.FinMap as finite
 use Rattle.std.specs.FinMap.{get-insert, get-remove}
@@ -8,11 +8,11 @@ use Rattle.mte_tags.specs.Memory.{with_page, without_page, new_page}
 use Rattle.mte_tags.specs.declared.attrs.Attrs.{Attrs}
 use Rattle.mte_tags.specs.declared.state.TagState.{TagState}
 use Rattle.mte_tags.proofs.Pages.{tied_other}
-use Rattle.mte_arena.specs.Frames.{Frame, frame_at, frame_or, zero_frame}
+use Rattle.mte_arena.specs.Frames.{frame_at, frame_or, zero_frame}
 use Rattle.mte_frames.specs.Pool.{Pool, make_pool, IsOut, IsSound, KeepsOthers, taken_by, reserved_by}
 use Rattle.mte_frames.proofs.Counts.{within_of}
 use Rattle.mte_frames.proofs.Keeps.{keeps_on}
-use Rattle.mte_translate.specs.Tables.{Root, Pages, entry_at, valid_in, pages_of, missing_leaf, IsApart, IsTable, MapsOnce, MapsNever, KeepsData, Stays, IsCached}
+use Rattle.mte_translate.specs.Tables.{Root, valid_in, pages_of, missing_leaf, IsApart, IsTable, MapsOnce, MapsNever, KeepsData, Stays, IsCached}
 use Rattle.mte_translate.specs.Translations.{without, is_for}
 use Rattle.mte_translate.proofs.StandingLaws.{forget-page}
 use Rattle.std.specs.Prelude.{Contains}
@@ -25,7 +25,7 @@ use Rattle.mte_translate.proofs.TableLemmas.{leaves-len, len-some, missing-one, 
 use Rattle.mte_translate.proofs.PageLemmas.{page-low}
 use Rattle.mte_translate.proofs.StepLemmas.{taken-gave}
 use Rattle.mte_space.specs.Spaces.{space_memory, IsSpace, KeepsRest, NoneEnters}
-use Rattle.mte_space.specs.SpaceMemory.{rest_same}
+use Rattle.mte_space.specs.KeptSpaces.{rest_same}
 use Rattle.mte_space.proofs.Memories.{space_mapped, space_removed}
 
 pub room_for_two : (p : Pool) (k : ℕ) (t : Root) (l : ℕ) → IsSpace p k t l → t.len < l → taken_by p k + 2 ≤ reserved_by p k
@@ -124,7 +124,7 @@ module _ (p n : Pool) (k f q l : ℕ) (t : Root) (h : IsSpace p k t l) (sound : 
       reserved = reserved ∙ reserved_same;
       capacities = same ∙ ap (λ (x : Pool). x.capacities) took;
       root = ap (λ (x : Root). x.frame) counts;
-      taken = omega (arith, taken, taken_one, ap (λ (x : Root). x.len) counts, ap (λ (x : Root). x.leaves) counts);
+      taken = λ x e. omega (arith, e, taken, taken_one, ap (λ (x : Root). x.len) counts, ap (λ (x : Root). x.leaves) counts);
     }
 
     pub mapped : KeepsOthers k p n → KeepsOthers k n m → m.capacities ≡ n.capacities → Mapped p m k q l a t u
@@ -189,7 +189,7 @@ module _ (p m n : Pool) (k f q l : ℕ) (a : Attrs) (t u : Root) (h : IsSpace p 
     reserved = given_reserved;
     capacities = ap (λ (x : Pool). x.capacities) gave ∙ same;
     root = ap (λ (x : Root). x.frame) counts;
-    taken = balance;
+    taken = λ x e. omega (arith, e, balance);
   }
 
   pub unmapped : KeepsOthers k p m → KeepsOthers k m n → m.capacities ≡ p.capacities → Unmapped p n k q l t u

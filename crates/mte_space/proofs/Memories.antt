@@ -1,11 +1,11 @@
 -- A tenant's memory where its table or the frame of one of its pages has changed.
-use Rattle.std.proofs.Common.{◌≡◌, ◌≢◌, ℕ, ◌-◌, replicate, Option, Some, None, is_some, true, refl, sym, ap, ◌∙◌, inl, inr}
+use Rattle.std.proofs.Common.{◌≡◌, ◌≢◌, ℕ, ◌-◌, Option, Some, None, is_some, true, refl, sym, ap, ◌∙◌, inl, inr}
 use Rattle.std.proofs.lemmas.Bool.{cases_eq, cond-true, cond-false}
 use Rattle.std.specs.Prelude.{option_map}
 use Rattle.std.specs.FinMap as finite
 use Rattle.std.specs.FinMap.{get-insert, get-remove}
 use Rattle.std.specs.Cmp.{nat_cmp_total}
-use Rattle.mte_tags.specs.Memory.{Memory, Page, page_at, with_page, without_page, new_page, pages_left}
+use Rattle.mte_tags.specs.Memory.{Page, page_at, with_page, without_page, new_page, pages_left}
 use Rattle.mte_tags.specs.declared.attrs.Attrs.{Attrs}
 use Rattle.mte_tags.specs.declared.state.TagState.{TagState}
 use Rattle.mte_tags.proofs.Pages.{tied_same, tied_other, rest_of, same_memory, rest-with_page, rest-without_page, page_at-with_page_same, page_at-with_page_other, page_at-without_page_same, page_at-without_page_other}

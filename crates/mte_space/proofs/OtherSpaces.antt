@@ -1,18 +1,17 @@
 -- A space beside another tenant's step.
-use Rattle.std.proofs.Common.{◌≡◌, ◌≢◌, ℕ, ◌+◌, ◌*◌, ◌≤◌, List, Option, Some, None, refl, sym, ap, subst, ◌∙◌, arith}
+use Rattle.std.proofs.Common.{◌≡◌, ◌≢◌, ℕ, List, refl, sym, ap, ◌∙◌, arith}
 use Rattle.std.specs.Prelude.{Contains}
 use Rattle.std.proofs.lemmas.List.Elements.{All-weaker, All-contains}
 use Rattle.std.specs.Ordering.{nat_cmp}
 use Rattle.std.specs.FinMap as finite
 use Rattle.std.specs.FinMap.{get-empty}
 use Rattle.mte_tags.specs.Memory.{no_pages}
-use Rattle.mte_tags.specs.declared.attrs.Attrs.{Attrs}
 use Rattle.mte_tags.specs.declared.state.TagMode.{TagMode}
 use Rattle.mte_tags.specs.declared.state.TagState.{TagState}
 use Rattle.std.specs.Prelude.{false}
 use Rattle.mte_tags.proofs.Pages.{rest_of, same_memory, page_at-no_pages}
-use Rattle.mte_arena.specs.Frames.{frame_at, frame_or}
-use Rattle.mte_frames.specs.Pool.{Pool, KeepsOthers, taken_by, reserved_by}
+use Rattle.mte_arena.specs.Frames.{frame_or}
+use Rattle.mte_frames.specs.Pool.{Pool, KeepsOthers}
 use Rattle.mte_translate.specs.Tables.{Root, pages_of, IsTable, IsCached, Agrees}
 use Rattle.mte_translate.specs.declared.translation.Translation.{Translation}
 use Rattle.mte_translate.proofs.KeptTables.{kept-others, page-frame}

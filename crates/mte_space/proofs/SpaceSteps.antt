@@ -1,10 +1,10 @@
 -- A space whose page that was found is written.
-use Rattle.std.proofs.Common.{◌≡◌, ◌≢◌, ℕ, ◌+◌, ◌*◌, ◌/◌, ◌%◌, ◌^◌, ◌++◌, ◌<◌, ◌≤◌, take, drop, replicate, Bool, true, false, cond, List, length, Option, Some, None, is_some, get_or, slice_set, refl, sym, ap, subst, ◌∙◌, arith, get_or-set_other}
-use Rattle.std.proofs.lemmas.List.Elements.{All-weaker, All-contains}
+use Rattle.std.proofs.Common.{◌≡◌, ℕ, ◌+◌, ◌*◌, ◌/◌, ◌%◌, ◌^◌, ◌++◌, ◌<◌, ◌≤◌, take, drop, replicate, Bool, true, false, cond, List, length, Option, Some, None, is_some, refl, sym, ap, ◌∙◌, arith, get_or-set_other}
+use Rattle.std.proofs.lemmas.List.Elements.{All-weaker}
 use Rattle.std.specs.Prelude.{option_map, IfSome}
 use Rattle.std.specs.FinMap as finite
 use Rattle.std.proofs.lemmas.List.{length-replicate}
-use Rattle.mte_tags.specs.Memory.{Memory, Page, page_at, with_page, with_granules}
+use Rattle.mte_tags.specs.Memory.{Memory, page_at, with_page, with_granules}
 use Rattle.mte_tags.specs.Slots.{spliced}
 use Rattle.mte_tags.proofs.PageRuns.{spliced_is}
 use Rattle.mte_tags.proofs.FoundPages.{page_retagged}
@@ -80,9 +80,9 @@ module _ (p : Pool) (k : ℕ) (t : Root) (l q : ℕ) (g : Frame → Frame) (h : 
   cached_changed true (Some (f, a)) e asid ts c = cached_framed p k t l q f a (g (frame_at p.frames f)) h (sym e) asid ts c
 
   pub rest_changed : (b : Bool) (o : Option (ℕ × Attrs)) → KeepsOthers k p (cond b (changed g p o) p) → KeepsRest k p (cond b (changed g p o) p) t t
-  rest_changed false o others = record { others = others; reserved = refl; capacities = refl; root = refl; taken = refl }
-  rest_changed true None others = record { others = others; reserved = refl; capacities = refl; root = refl; taken = refl }
-  rest_changed true (Some (f, a)) others = record { others = others; reserved = refl; capacities = refl; root = refl; taken = refl }
+  rest_changed false o others = record { others = others; reserved = refl; capacities = refl; root = refl; taken = λ x e. e }
+  rest_changed true None others = record { others = others; reserved = refl; capacities = refl; root = refl; taken = λ x e. e }
+  rest_changed true (Some (f, a)) others = record { others = others; reserved = refl; capacities = refl; root = refl; taken = λ x e. e }
 
   pub memory_changed : (b : Bool) (o : Option (ℕ × Attrs)) → o ≡ finite.get (pages_of p t.frame) q → (s : TagState) → IsSound p → (b ≡ true → is_some o ≡ true) → (new : Memory)
       → ((f : ℕ) (a : Attrs) → o ≡ Some (f, a) → b ≡ true → with_page (space_memory p t l s) q (record { attrs = a.0; bytes = (g (frame_at p.frames f)).bytes; tags = (g (frame_at p.frames f)).tags }) ≡ new)

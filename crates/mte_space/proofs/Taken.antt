@@ -1,6 +1,6 @@
 -- A frame that is out under some quota.
 use Rattle.std.specs.Prelude.{All}
-use Rattle.std.proofs.Common.{◌≡◌, ℕ, ◌∙◌, subst, sym, ◌<◌, List, length, Option, Some, None, get_or, slice_set, refl, ap, is_some, true, get_or-set_same}
+use Rattle.std.proofs.Common.{◌≡◌, ℕ, subst, sym, ◌<◌, List, length, Option, Some, None, get_or, slice_set, refl, ap, is_some, true, get_or-set_same}
 use Rattle.mte_arena.specs.Frames.{Frame, AreFrames, IsFrame, frame_at, frame_or}
 use Rattle.mte_arena.proofs.Frames.{within_of}
 use Rattle.mte_frames.specs.Pool.{Pool, IsTaken, IsOut, IsSound}

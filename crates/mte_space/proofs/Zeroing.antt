@@ -1,7 +1,7 @@
 -- The bytes of granules made zero after their tags were set.
-use Rattle.std.proofs.Common.{◌≡◌, ℕ, ◌+◌, ◌*◌, ◌<◌, ◌≤◌, true, List, ◌++◌, length, take, drop, replicate, slice_set, Some, refl, sym, ap, ◌∙◌, arith}
+use Rattle.std.proofs.Common.{◌≡◌, ℕ, ◌+◌, ◌*◌, ◌<◌, ◌≤◌, true, List, ◌++◌, length, take, drop, replicate, slice_set, Some, ap, ◌∙◌, arith}
 use Rattle.std.proofs.lemmas.List.{set-set, length-append, length-take-le, length-replicate, length-drop}
-use Rattle.mte_arena.specs.Frames.{Frame, frame_at, make_frame, with_run}
+use Rattle.mte_arena.specs.Frames.{frame_at, make_frame, with_run}
 use Rattle.mte_arena.proofs.Parts.{refill-same}
 use Rattle.mte_frames.specs.Pool.{Pool, make_pool, with_bytes_at}
 use Rattle.mte_space.specs.Writes.{with_frame, retagged_frame}

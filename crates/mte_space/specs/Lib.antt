@@ -1,3 +1,4 @@
 pub mod Spaces
 pub mod Writes
 pub mod SpaceMemory
+pub mod KeptSpaces

@@ -47,8 +47,8 @@ pub record KeepsRest (k : ℕ) (p n : Pool) (t u : Root) : Type 0 where
   -- nothing allocates
   pub capacities : n.capacities ≡ p.capacities
   pub root : u.frame ≡ t.frame
-  -- each frame that was taken is a page's or a leaf's
-  pub taken : taken_by n k + t.len + t.leaves ≡ taken_by p k + u.len + u.leaves
+  -- as many frames as before are out beside those of pages and leaves
+  pub taken : (x : ℕ) → taken_by p k ≡ x + t.len + t.leaves → taken_by n k ≡ x + u.len + u.leaves
 
 abbrev pub NoneEnters : ℕ → List Translation → List Translation → Type 0
 NoneEnters asid ts us = All (λ u. u.asid ≢ asid → Contains ts u) us

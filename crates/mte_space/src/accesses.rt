@@ -1,7 +1,8 @@
 //! The accesses to a page, given the frame and the attributes that its translation found, if any.
 
-ghost use Rattle.std.specs.Prelude.{◌≡◌, ℕ, ◌<◌, ◌≤◌, ◌+◌, ◌*◌, ◌/◌, ◌%◌, ◌^◌, false, None, Some, IfOk};
-ghost use Rattle.std.specs.Prelude.{IfSome, IsTrue, is_ok, length, if◌then◌else◌, option_map, is_some, true};
+ghost use Rattle.std.specs.Prelude.{◌≡◌, ℕ, ◌<◌, ◌≤◌, ◌+◌, ◌*◌, ◌/◌, ◌%◌, ◌^◌, true, false, None};
+ghost use Rattle.std.specs.Prelude.{Some, IfOk, IfSome, IsTrue, is_ok, is_some, length};
+ghost use Rattle.std.specs.Prelude.{if◌then◌else◌, option_map};
 ghost use Rattle.mte_tags.specs.Memory.{Memory, page_at, tag_at};
 ghost use Rattle.mte_tags.specs.Accesses.{outcome, loaded, addresses, granules, byte_fault};
 ghost use Rattle.mte_tags.specs.Accesses.{first_fault, bytes_at, fetched};

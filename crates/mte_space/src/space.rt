@@ -3,7 +3,7 @@
 ghost use Rattle.std.specs.Prelude.{◌≡◌, ◌≤◌, ◌+◌, ◌-◌, ◌*◌};
 ghost use Rattle.mte_frames.specs.Pool.{taken_by, reserved_by};
 ghost use Rattle.mte_translate.specs.Tables.{pages_of, IsTable, MapsOnce, IsCached};
-ghost use Rattle.mte_space.specs.Spaces.{IsSpace};
+ghost use Rattle.mte_space.specs.Spaces.{space_memory, IsSpace};
 
 use crate::accesses::{
     fault_of_run, fetch_word, read_run, retag_run, tag_of_granule, try_read, try_write, write_run,
@@ -16,8 +16,8 @@ use mte_tags::{Access, Attrs, MemFault, NoQuota, PageStore, Paged, TagState, rep
 use mte_translate::{Table, Tlb};
 
 /// A tenant's memory: the pages that its table maps, in frames of a pool that it shares with other
-/// tenants, under its quota. Translations of its ASID are remembered in a lookaside buffer, which it
-/// shares too. Nothing allocates.
+/// tenants, under its quota. Translations of its ASID are remembered in a translation lookaside
+/// buffer, which it shares too. Nothing allocates.
 #[derive(Drop)]
 pub struct Space<'a> {
     pool: &'a mut FramePool,
@@ -32,7 +32,7 @@ pub struct Space<'a> {
 }
 
 impl<'a> Space<'a> {
-    ghost use Rattle.mte_space.specs.SpaceMemory.{IsOver};
+    ghost use Rattle.mte_space.specs.SpaceMemory.{memory_of, IsOver};
 
     /// A tenant's memory of at most `pages` pages, over its table, its quota and its tag state. The
     /// table maps no more, each in a frame of its own; the quota has a frame left for each page and
@@ -54,7 +54,9 @@ impl<'a> Space<'a> {
             + (2 * pages - table.old.len - table.old.leaves)
             ≤ reserved_by pool.old quota.old }
         requires cached { IsCached (pages_of pool.old table.old.frame) asid tlb.old }
-        ensures { IsOver result pool.entry table.entry quota.entry tlb.entry state.entry asid
+        ensures memory { memory_of result
+            ≡ space_memory pool.old table.old pages state.old }
+        ensures over { IsOver result pool.entry table.entry quota.entry tlb.entry state.entry asid
             pages }
     {
         Space {
@@ -70,7 +72,8 @@ impl<'a> Space<'a> {
 }
 
 impl PageStore for Space<'_> {
-    ghost use Rattle.mte_space.specs.SpaceMemory.{memory_of, IsKept, kept_same, kept_on};
+    ghost use Rattle.mte_space.specs.SpaceMemory.{memory_of, IsKept};
+    ghost use Rattle.mte_space.specs.KeptSpaces.{kept_same, kept_on};
 
     ghost memory = { memory_of };
 
@@ -84,11 +87,13 @@ impl PageStore for Space<'_> {
         self.state.pending = true;
     }
 
+    #[inline]
     fn run_fault(&mut self, at: u64, count: usize, access: &Access) -> Option<MemFault> {
         let found = translate(self.pool, self.table, self.tlb, self.asid, at / 4096);
         fault_of_run(self.pool, found, at, count, access)
     }
 
+    #[inline]
     fn fetch_aligned(&mut self, pc: u64) -> Result<u32, MemFault> {
         let page = plain(pc) / 4096;
         let found = translate(self.pool, self.table, self.tlb, self.asid, page);
@@ -126,11 +131,13 @@ impl PageStore for Space<'_> {
         write_run(self.pool, found, at, bytes, access)
     }
 
+    #[inline]
     fn granule_tag(&mut self, at: u64, access: &Access) -> Result<u8, MemFault> {
         let found = translate(self.pool, self.table, self.tlb, self.asid, at / 4096);
         tag_of_granule(self.pool, found, at, access)
     }
 
+    #[inline]
     fn store_tags_in_page(
         &mut self,
         at: u64,

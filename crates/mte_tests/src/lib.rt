@@ -1,5 +1,5 @@
-//! Tests of the tagged memory, the loader, the arena, the frames, the translation lookaside buffer
-//! and the page tables, in one crate at the top: a crate with tests of its own would be proved
+//! Tests of the tagged memory, the loader, the arena, the frames, the translation lookaside buffer,
+//! the page tables and the memories over them, in one crate at the top: a crate with tests of its own would be proved
 //! twice.
 #![tactic(auto)]
 
@@ -9,6 +9,8 @@ mod arena;
 mod elf;
 #[cfg(test)]
 mod frames;
+#[cfg(test)]
+mod space;
 #[cfg(test)]
 mod table;
 #[cfg(test)]

@@ -8,7 +8,8 @@ use mte_arena::Arena;
 use mte_frames::{FramePool, Quota};
 use mte_tags::Attrs;
 use mte_translate::{
-    TABLE_PAGES, Table, cached_translations_stay, frames_of_tables, leaves_are_used, tables_stay,
+    TABLE_PAGES, Table, cached_translations_stay, frames_of_tables, leaves_are_used,
+    pages_are_walks, tables_stay,
 };
 use std::alloc::Global;
 use std::test::Fail;
@@ -180,6 +181,7 @@ fn a_life(rt: HostRuntime) -> Result<(), Fail> {
     );
     assert!(rt; close(&mut pool, &mut quota, table));
     assert_eq!(rt; pool.taken(&quota), 0);
+    pages_are_walks();
     frames_of_tables();
     leaves_are_used();
     cached_translations_stay();

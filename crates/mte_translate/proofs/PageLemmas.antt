@@ -102,10 +102,14 @@ some-there g q (suc n) r a b s = elim (cases_eq r q) [
     one-some None e = absurd (grind (arith, e))
     one-some (Some x) e = refl
 
-pub len-most : {X : Type 0} (n : ℕ) (g : ℕ → Option X) → finite.len (map_below n g) ≤ n
+len-most : {X : Type 0} (n : ℕ) (g : ℕ → Option X) → finite.len (map_below n g) ≤ n
 len-most n g = rw (len-below n g) (some-most g 0 n)
 
 -- ---- the pages of a table
+pub pages-most : (p : Pool) (root : ℕ) → finite.len (pages_of p root) ≤ 262144
+unfolding pages_of
+pages-most p root = len-most 262144 (translation_at p root)
+
 abbrev frame-of : Option (ℕ × Attrs) → ℕ
 frame-of None = 0
 frame-of (Some x) = x.0
@@ -114,9 +118,11 @@ pub same-frame : (x y : ℕ × Attrs) → Some x ≡ Some y → x.0 ≡ y.0
 same-frame x y e = ap frame-of e
 
 pub get-page : (p : Pool) (root q : ℕ) → q < 262144 → finite.get (pages_of p root) q ≡ translation_in (walk_at p root q)
+unfolding pages_of
 get-page p root q l = get-below 262144 (translation_at p root) q l
 
 pub get-page_past : (p : Pool) (root q : ℕ) → 262144 ≤ q → finite.get (pages_of p root) q ≡ None
+unfolding pages_of
 get-page_past p root q l = get-past 262144 (translation_at p root) q l
 
 pub page-low : (p : Pool) (root q : ℕ) (x : ℕ × Attrs) → finite.get (pages_of p root) q ≡ Some x → q < 262144
@@ -192,4 +198,5 @@ leaves-below p root (suc m) l h =
 
 pub leaves-less : (p : Pool) (root : ℕ) → ((s : ℕ) → s < 512 → is_valid (entry_at p root s) ≡ true → (q : ℕ) × ((q < 262144) × (q / 512 ≡ s) × (is_valid (walk_at p root q) ≡ true)))
     → valid_in p root 512 ≤ finite.len (pages_of p root)
+unfolding pages_of
 leaves-less p root h = let less = leaves-below p root 512 (omega arith) h in rw (len-below 262144 (translation_at p root)) less

@@ -17,7 +17,7 @@ use Rattle.mte_translate.proofs.EntryLemmas.{entry-zero, valid-or-not, valid-odd
 use Rattle.mte_translate.proofs.TreeLemmas.{walk-leaf, walk-none, mapped-leaf}
 use Rattle.mte_translate.proofs.TreeUses.{tree-of, sound-tree}
 use Rattle.mte_translate.proofs.StepLemmas.{Took, leaf-counts}
-use Rattle.mte_translate.proofs.PageLemmas.{same-frame, get-page, get-page_past, page-valid, page-there, page-gone, page-low, pages-put, pages-removed, len-most, leaves-less}
+use Rattle.mte_translate.proofs.PageLemmas.{same-frame, get-page, get-page_past, page-valid, page-there, page-gone, page-low, pages-put, pages-removed, pages-most, leaves-less}
 
 abbrev pub root_of : ℕ → ℕ → ℕ → Root
 root_of root len leaves = record { frame = root; len = len; leaves = leaves }
@@ -70,7 +70,7 @@ pub leaves-few : (p : Pool) (k : ℕ) (t : Root) → IsTable p k t → t.leaves 
 leaves-few p k t h = omega (arith, h.leaves_are, count-most p t.frame 512)
 
 pub len-few : (p : Pool) (k : ℕ) (t : Root) → IsTable p k t → t.len ≤ 262144
-len-few p k t h = rw h.len_is (len-most 262144 _)
+len-few p k t h = rw h.len_is (pages-most p t.frame)
 
 pub len-some : (p : Pool) (k : ℕ) (t : Root) (q : ℕ) (x : ℕ × Attrs) → IsTable p k t → finite.get (pages_of p t.frame) q ≡ Some x → 1 ≤ t.len
 len-some p k t q x h e = elim (cases_eq t.len 0) [

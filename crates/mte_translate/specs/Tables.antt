@@ -81,7 +81,7 @@ map_below n g = map.from_entries (entries_from g 0 n)
 abbrev pub Pages : Type 0
 Pages = FinMap nat_cmp (ℕ × Attrs)
 
-abbrev pub pages_of : Pool → ℕ → Pages
+unfoldable pub pages_of : Pool → ℕ → Pages
 pages_of p root = map_below TABLE_PAGES (translation_at p root)
 
 -- how many of the first n entries of a frame are valid

@@ -7,11 +7,18 @@ ghost use Rattle.mte_arena.specs.Frames.{Frame};
 ghost use Rattle.mte_frames.specs.Pool.{Pool, make_pool, IsOut, KeepsOthers};
 ghost use Rattle.mte_tags.specs.declared.attrs.Attrs.{Attrs};
 ghost use Rattle.mte_translate.specs.Tables.{Pages, Root, pages_of, has_leaf, IsApart, IsTable};
-ghost use Rattle.mte_translate.specs.Tables.{MapsNever, IsCached, Stays};
+ghost use Rattle.mte_translate.specs.Tables.{MapsNever, IsCached, Stays, translation_at};
 ghost use Rattle.mte_translate.specs.Translations.{lookup, filled, without, without_asid};
 ghost use Rattle.mte_translate.specs.declared.translation.Translation.{Translation};
 
 use crate::entries::TABLE_PAGES;
+
+/// The map of a table's pages has what two loads find: the entry of the root, and the leaf's.
+pub fn pages_are_walks()
+    ensures below { (p : Pool) (root q : ℕ)
+        → q < TABLE_PAGES → get (pages_of p root) q ≡ translation_at p root q }
+    ensures past { (p : Pool) (root q : ℕ) → TABLE_PAGES ≤ q → get (pages_of p root) q ≡ None }
+{}
 
 /// A table's root and the frames of its pages are out under its quota, and the frames of pages
 /// aren't the table's own.

@@ -1,14 +1,13 @@
 -- What is asked of an allocation.
-use Rattle.std.proofs.Common.{◌≡◌, ◌≢◌, ℕ, zero, suc, ◌+◌, ◌*◌, ◌%◌, ◌^◌, ◌<◌, ◌≤◌, ◌==◌, ◌&&◌, ◌||◌, nat_le, max, Bool, true, false, cond, refl, sym, ap, subst, ◌∙◌, inl, inr, arith}
-use Rattle.std.proofs.lemmas.Bool.{cond-true, cond-false, eqb-true}
+use Rattle.std.proofs.Common.{◌≡◌, ℕ, zero, suc, ◌+◌, ◌%◌, ◌^◌, ◌<◌, ◌≤◌, ◌==◌, ◌&&◌, ◌||◌, nat_le, max, Bool, true, false, refl, sym, ap, ◌∙◌, arith}
+use Rattle.std.proofs.lemmas.Bool.{cond-false, eqb-true}
 use Rattle.std.proofs.lemmas.Bool.Decides.{nat_tests}
 use Rattle.std.specs.List.{range_with_len, list_any}
 use Rattle.scudo_header.specs.declared.headers.Origin.{Origin}
-use Rattle.scudo_header.specs.declared.headers.Origin.TheVariants.{Memalign}
-use Rattle.scudo_header.proofs.ClassLemmas.{all_below, below-true}
+use Rattle.scudo_header.proofs.ClassLemmas.{below-true}
 use Rattle.scudo_heap.specs.declared.limits.TheConstants.{MAX_REQUEST}
 use Rattle.scudo_heap.specs.Placing.{World}
-use Rattle.scudo_heap.specs.Allocation.{Made, nothing, is_alignment, allocated, memalign_of}
+use Rattle.scudo_heap.specs.Allocation.{nothing, is_alignment, allocated}
 use Rattle.scudo_heap.specs.Inner.{IsAlign}
 
 pub allocated-over : (w : World) (o : Origin) (a n : ℕ) → MAX_REQUEST < n → nothing w ≡ allocated w o a n

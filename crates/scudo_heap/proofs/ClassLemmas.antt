@@ -1,19 +1,17 @@
 -- Allocation in a class, step by step.
-use Rattle.std.proofs.Common.{◌≡◌, ◌≢◌, ℕ, ◌+◌, ◌-◌, ◌*◌, ◌/◌, ◌%◌, ◌<◌, ◌≤◌, ◌&&◌, nat_le, Bool, true, false, cond, List, [], ◌∷◌, slice_get, Option, Some, None, refl, sym, ap, subst, ◌∙◌, arith}
+use Rattle.std.proofs.Common.{◌≡◌, ◌≢◌, ℕ, ◌+◌, ◌-◌, ◌*◌, ◌/◌, ◌%◌, ◌<◌, ◌≤◌, ◌&&◌, nat_le, true, false, List, [], ◌∷◌, slice_get, Some, None, refl, sym, ap, ◌∙◌, arith}
 use Rattle.std.proofs.lemmas.Bool.{cond-true, cond-false}
 use Rattle.std.proofs.Math.Nat.{mul-mod_left, mul-mod_right, div-mul-le_self}
 use Rattle.mte_tags.specs.Memory.{pages_left}
 use Rattle.scudo_header.specs.Classes.{size_of}
-use Rattle.scudo_header.specs.Regions.{region_of}
 use Rattle.scudo_header.specs.declared.headers.Origin.{Origin}
-use Rattle.scudo_header.proofs.ClassLemmas.{IsSize}
 use Rattle.scudo_primary.specs.Blocks.{IsBlock}
 use Rattle.scudo_primary.specs.Lists.{IsClass}
 use Rattle.scudo_primary.proofs.BlockLemmas.{size-IsSize, block-IsCell}
 use Rattle.scudo_heap.specs.declared.chunk.Place.{Place}
 use Rattle.scudo_heap.specs.declared.chunk.Chunk.{Chunk}
 use Rattle.scudo_heap.specs.Stacks.{stack_of}
-use Rattle.scudo_heap.specs.Chunks.{end_of, block_end, granules_of}
+use Rattle.scudo_heap.specs.Chunks.{end_of, block_end}
 use Rattle.scudo_heap.specs.Placing.{World, more_pages, grown, placed}
 use Rattle.scudo_heap.specs.Allocation.{Made, made_of, nothing, place_in, is_empty, made_at, taken, ready, in_class, need_of}
 use Rattle.scudo_heap.specs.Inner.{IsAlign}

@@ -1,15 +1,19 @@
 -- The condition of the calls, at the start and after what others do.
-use Rattle.std.proofs.Common.{◌≡◌, ℕ, ◌+◌, ◌-◌, ◌*◌, ◌/◌, ◌<◌, ◌≤◌, nat_lt, List, [], Option, Some, None, refl, sym, ap, subst, ◌∙◌, arith}
+use Rattle.std.proofs.Common.{◌≡◌, ℕ, ◌≤◌, nat_lt, Bool, true, false, Result, is_ok, length, List, None, refl, sym, ap, subst, ◌∙◌, arith}
 use Rattle.std.proofs.lemmas.Bool.{cond-false}
-use Rattle.mte_tags.specs.Memory.{Memory, attrs_at, attrs_in, page_at, pages_left, no_pages}
+use Rattle.mte_tags.specs.Memory.{Memory, attrs_at, attrs_in, pages_left, no_pages}
 use Rattle.mte_tags.specs.declared.state.TagMode.{TagMode}
+use Rattle.std.specs.Prelude.{if◌then◌else◌}
+use Rattle.a64_bits.specs.Addresses.{plain}
+use Rattle.mte_tags.specs.Accesses.{addresses, write_access, after_write, written}
+use Rattle.mte_tags.specs.declared.fault.MemFault.{MemFault}
+use Rattle.mte_tags.proofs.ModeLaws.{after_access-unchecked}
+use Rattle.mte_tags.proofs.PageLaws.{attrs_at-written, pages_left-written}
 use Rattle.mte_tags.proofs.Pages.{page_at-no_pages}
-use Rattle.address_map.specs.declared.limits.TheConstants.{PAGE_SIZE}
-use Rattle.address_map.specs.declared.ranges.TheConstants.{REGIONS_START, SECONDARY_END}
 use Rattle.scudo_primary.specs.Lists.{IsClass}
-use Rattle.scudo_heap.specs.Stacks.{ClassHeap, StackState, empty_class, empty_stacks, class_at, pages_of}
-use Rattle.scudo_heap.specs.Heaps.{HeapState, heap_of, empty_heap}
-use Rattle.scudo_heap.specs.Served.{IsServed, IsUntouched, heap_page}
+use Rattle.scudo_heap.specs.Stacks.{ClassHeap, empty_class, empty_stacks, class_at}
+use Rattle.scudo_heap.specs.Heaps.{HeapState, empty_heap}
+use Rattle.scudo_heap.specs.Served.{IsServed, IsUntouched}
 use Rattle.scudo_heap.proofs.StackLemmas.{class_at-stacks_by}
 use Rattle.scudo_heap.proofs.ServedLemmas.{served-on, same-pages, lt-false}
 
@@ -53,7 +57,18 @@ served-new m h cookie pages n mode em eh l =
     let limit = limit-no_pages n mode in
     subst (λ t. IsServed t h) (sym em) (subst (IsServed (no_pages n mode)) (sym eh) (served-first (no_pages n mode) cookie pages (omega arith) (λ q lo hi. attrs-no_pages n mode q)))
 
-pub ruleset served_laws = (served-new)
-
 pub served-same : (m m' : Memory) (h : HeapState) → IsServed m h → ((q : ℕ) → attrs_at m' q ≡ attrs_at m q) → pages_left m' ≡ pages_left m → IsServed m' h
 served-same m m' h v a l = served-on m m' h h.stacks h.cookie v a l (same-pages h.stacks)
+
+-- a write that compares no tags
+written-pages : (b : Bool) (m : Memory) (a : ℕ) (bs : List ℕ) (h : HeapState) → IsServed m h → IsServed (if b then after_write m a bs false else m) h
+unfolding after_write
+written-pages false m a bs h v = v
+written-pages true m a bs h v =
+    subst (λ t. IsServed (written t a bs) h) (sym (after_access-unchecked m (write_access a false) (addresses (plain a) (length bs)) refl))
+    (served-same m (written m a bs) h v (λ q. attrs_at-written m a bs q) (pages_left-written m a bs))
+
+pub served-written : (m m' : Memory) (a : ℕ) (bs : List ℕ) (h : HeapState) (r : Result (Unit {0}) MemFault) → IsServed m h → m' ≡ (if is_ok r then after_write m a bs false else m) → IsServed m' h
+served-written m m' a bs h r v e = subst (λ t. IsServed t h) (sym e) (written-pages (is_ok r) m a bs h v)
+
+pub ruleset served_laws = (served-new, served-written)

@@ -1,18 +1,14 @@
 -- What a chunk is that the checks found.
-use Rattle.std.proofs.Common.{◌≡◌, ◌≢◌, ℕ, ◌+◌, ◌-◌, ◌*◌, ◌/◌, ◌%◌, ◌^◌, ◌<◌, ◌≤◌, ◌==◌, ◌&&◌, nat_lt, nat_le, Bool, true, false, cond, List, [], ◌∷◌, Option, Some, None, Result, Ok, Err, refl, sym, ap, subst, ◌∙◌, inl, inr, arith, eq-eqb}
-use Rattle.std.proofs.lemmas.Bool.{cond-true, cond-false, eqb-true}
+use Rattle.std.proofs.Common.{◌≡◌, ℕ, ◌+◌, ◌-◌, ◌*◌, ◌%◌, ◌^◌, ◌<◌, ◌≤◌, ◌==◌, ◌&&◌, nat_lt, nat_le, Bool, true, false, cond, List, [], ◌∷◌, Option, Some, None, Result, Ok, Err, refl, sym, ap, subst, ◌∙◌, arith}
+use Rattle.std.proofs.lemmas.Bool.{eqb-true}
 use Rattle.std.proofs.lemmas.Bool.Decides.{nat_tests}
 use Rattle.std.specs.Option.{IfSome}
 use Rattle.std.specs.List.{find}
 use Rattle.std.specs.Int.{from_le_bytes, w64}
 use Rattle.mte_tags.specs.Memory.{Memory}
 use Rattle.mte_tags.specs.Accesses.{read_bytes}
-use Rattle.scudo_header.specs.declared.classes.TheConstants.{CLASSES}
-use Rattle.scudo_header.specs.Classes.{size_of}
-use Rattle.scudo_header.specs.Regions.{region_of}
-use Rattle.scudo_header.specs.Headers.{unpacked}
 use Rattle.scudo_header.specs.declared.headers.Header.{Header}
-use Rattle.scudo_primary.specs.Blocks.{number_of, carved_count, IsBlock}
+use Rattle.scudo_primary.specs.Blocks.{IsBlock}
 use Rattle.scudo_primary.specs.Pools.{is_member}
 use Rattle.scudo_secondary.specs.Mappings.{mapping_of, end_of}
 use Rattle.scudo_secondary.specs.declared.mappings.Mapping.{Mapping}
@@ -20,11 +16,10 @@ use Rattle.scudo_heap.specs.declared.chunk.Place.{Place}
 use Rattle.scudo_heap.specs.declared.chunk.Found.{Found}
 use Rattle.scudo_heap.specs.declared.chunk.Found.TheVariants.{InBlock, InPages}
 use Rattle.scudo_heap.specs.declared.abort.HeapAbort.{HeapAbort}
-use Rattle.scudo_heap.specs.declared.abort.HeapAbort.TheVariants.{Misaligned, Unmapped, HeaderCorrupt, InvalidState, NotABlock, AlreadyFree}
+use Rattle.scudo_heap.specs.declared.abort.HeapAbort.TheVariants.{NotABlock, AlreadyFree}
 use Rattle.scudo_heap.specs.Stacks.{StackState, pages_of, stack_of}
 use Rattle.scudo_heap.specs.Heaps.{HeapState}
-use Rattle.scudo_heap.specs.Chunks as chunks
-use Rattle.scudo_heap.specs.Checks.{is_mapped, is_allocated, is_block, is_place, place_by, header_at, found_block, found_mapping, found_chunk, found_by, found}
+use Rattle.scudo_heap.specs.Checks.{is_block, is_place, place_by, header_at, found_block, found_mapping, found_chunk, found_by, found}
 use Rattle.scudo_heap.specs.Inner.{IsPlaced, IsFoundBlock, IsFound}
 use Rattle.scudo_heap.proofs.CheckLemmas.{unpacked-small}
 

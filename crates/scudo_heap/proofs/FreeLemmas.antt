@@ -1,5 +1,5 @@
 -- free and usable_size by what the checks find.
-use Rattle.std.proofs.Common.{◌≡◌, ◌≢◌, ℕ, ◌==◌, true, false, cond, Result, Ok, Err, refl, sym, ap, ◌∙◌, eq-eqb, arith}
+use Rattle.std.proofs.Common.{◌≡◌, ◌≢◌, ℕ, ◌==◌, false, Result, Ok, sym, ap, ◌∙◌, eq-eqb, arith}
 use Rattle.std.proofs.lemmas.Bool.{cond-true, cond-false}
 use Rattle.std.proofs.lemmas.Bool.Decides.{nat_tests}
 use Rattle.a64_bits.specs.Addresses.{plain}
@@ -9,7 +9,7 @@ use Rattle.scudo_heap.specs.declared.abort.HeapAbort.{HeapAbort}
 use Rattle.scudo_heap.specs.Heaps.{HeapState}
 use Rattle.scudo_heap.specs.Placing.{World}
 use Rattle.scudo_heap.specs.Checks.{found, usable_size_by}
-use Rattle.scudo_heap.specs.Freeing.{Freed, freed_by, free_of, usable_size_of}
+use Rattle.scudo_heap.specs.Freeing.{freed_by, free_of, usable_size_of}
 
 pub free-null : (w : World) (p : ℕ) → p ≡ 0 → record { world = w; result = Ok tt } ≡ free_of w p
 unfolding free_of

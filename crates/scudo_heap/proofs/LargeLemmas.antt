@@ -1,5 +1,5 @@
 -- Allocation with pages of their own, step by step.
-use Rattle.std.proofs.Common.{◌≡◌, ◌≢◌, ℕ, ◌+◌, ◌-◌, ◌*◌, ◌/◌, ◌%◌, ◌^◌, ◌<◌, ◌≤◌, nat_le, Bool, true, false, cond, Option, Some, None, refl, sym, ap, subst, ◌∙◌, arith}
+use Rattle.std.proofs.Common.{◌≡◌, ℕ, ◌+◌, ◌-◌, ◌*◌, ◌/◌, ◌%◌, ◌^◌, ◌<◌, ◌≤◌, nat_le, true, false, Some, None, sym, ap, ◌∙◌, arith}
 use Rattle.std.proofs.lemmas.Bool.{cond-true, cond-false}
 use Rattle.std.proofs.lemmas.Bool.Decides.{nat_tests}
 use Rattle.std.proofs.Math.Nat.{mul-mod_left, div-mul-le_self, lt-div-mul-add}
@@ -7,11 +7,10 @@ use Rattle.address_map.specs.declared.limits.TheConstants.{PAGE_SIZE}
 use Rattle.address_map.specs.declared.ranges.TheConstants.{SECONDARY_START, SECONDARY_END}
 use Rattle.mte_tags.specs.Memory.{pages_left}
 use Rattle.scudo_header.specs.declared.headers.Origin.{Origin}
-use Rattle.scudo_secondary.specs.Mappings.{place_of, end_of}
-use Rattle.scudo_secondary.specs.declared.mappings.Mapping.{Mapping}
+use Rattle.scudo_secondary.specs.Mappings.{place_of}
 use Rattle.scudo_heap.specs.Placing.{World}
 use Rattle.scudo_heap.specs.Large.{mapping_for}
-use Rattle.scudo_heap.specs.Allocation.{Made, nothing, made_large, mapped_at, in_mapping, need_of}
+use Rattle.scudo_heap.specs.Allocation.{nothing, made_large, mapped_at, in_mapping, need_of}
 use Rattle.scudo_heap.specs.Inner.{IsAlign, IsLarge}
 use Rattle.scudo_heap.proofs.ClassLemmas.{divides}
 

@@ -1,11 +1,10 @@
 -- The mappings by address: which of them an address lies in, after one goes.
-use Rattle.std.proofs.Common.{◌≡◌, ◌≢◌, ℕ, ◌+◌, ◌-◌, ◌*◌, ◌/◌, ◌%◌, ◌<◌, ◌≤◌, ◌==◌, ◌&&◌, ◌||◌, not, nat_lt, nat_le, Bool, true, false, cond, List, [], ◌∷◌, filter, Option, Some, None, refl, sym, ap, subst, ◌∙◌, inl, inr, arith, eq-eqb}
-use Rattle.std.proofs.lemmas.Bool.{cases_eq, cond-true, cond-false, eqb-true}
+use Rattle.std.proofs.Common.{◌≡◌, ℕ, ◌+◌, ◌*◌, ◌%◌, ◌<◌, ◌≤◌, ◌==◌, ◌&&◌, ◌||◌, not, nat_lt, nat_le, Bool, true, false, cond, List, [], ◌∷◌, filter, Some, refl, sym, ap, subst, ◌∙◌, inl, inr, arith, eq-eqb}
 use Rattle.std.proofs.lemmas.Bool.Decides.{nat_tests}
 use Rattle.std.specs.List.{find, list_any, list_all}
-use Rattle.scudo_secondary.proofs.PlaceLemmas.{apart_true, IsPlace, place-facts}
+use Rattle.scudo_secondary.proofs.PlaceLemmas.{apart_true, place-facts}
 use Rattle.std.proofs.lemmas.List.Sums.{sum_by-cons}
-use Rattle.scudo_secondary.specs.Mappings.{IsMapping, AreFrom, AreMappings, mapping_of, end_of, pages_of, with_mapping, is_apart, is_place}
+use Rattle.scudo_secondary.specs.Mappings.{AreFrom, AreMappings, mapping_of, end_of, pages_of, with_mapping, is_apart, is_place}
 use Rattle.scudo_secondary.specs.declared.mappings.Mapping.{Mapping}
 use Rattle.address_map.specs.declared.limits.TheConstants.{PAGE_SIZE}
 use Rattle.address_map.specs.declared.ranges.TheConstants.{SECONDARY_START, SECONDARY_END}

@@ -1,12 +1,11 @@
 -- What the condition of the calls gives, and what keeps it.
-use Rattle.std.proofs.Common.{◌≡◌, ◌≢◌, ℕ, ◌+◌, ◌-◌, ◌*◌, ◌/◌, ◌%◌, ◌^◌, ◌<◌, ◌≤◌, ◌||◌, nat_lt, nat_le, Bool, true, false, cond, List, [], ◌∷◌, ◌++◌, zero, suc, drop, Option, Some, None, refl, sym, ap, subst, ◌∙◌, inl, inr, arith}
+use Rattle.std.proofs.Common.{◌≡◌, ◌≢◌, ℕ, ◌+◌, ◌-◌, ◌*◌, ◌/◌, ◌%◌, ◌^◌, ◌<◌, ◌≤◌, ◌||◌, nat_lt, true, false, List, [], ◌∷◌, ◌++◌, zero, suc, drop, Some, refl, sym, ap, subst, ◌∙◌, inl, inr, arith}
 use Rattle.std.proofs.lemmas.Bool.{cases_eq, cases_lt, cond-true, cond-false}
 use Rattle.std.proofs.lemmas.Bool.Decides.{nat_tests}
 use Rattle.std.specs.List.{list_any}
 use Rattle.mte_tags.specs.Memory.{Memory, attrs_at, pages_left}
 use Rattle.scudo_header.specs.Classes.{size_of}
 use Rattle.scudo_header.specs.Regions.{region_of}
-use Rattle.scudo_header.specs.declared.classes.TheConstants.{CLASSES}
 use Rattle.scudo_primary.specs.Blocks.{IsBlock}
 use Rattle.scudo_primary.specs.Lists.{IsClass}
 use Rattle.scudo_primary.proofs.BlockLemmas.{size-pos, block-whole}
@@ -17,7 +16,7 @@ use Rattle.scudo_heap.specs.Placing.{heap_attrs, next_page}
 use Rattle.scudo_secondary.specs.Mappings as secondary
 use Rattle.scudo_secondary.specs.Mappings.{MapsState}
 use Rattle.address_map.specs.declared.limits.TheConstants.{PAGE_SIZE}
-use Rattle.address_map.specs.declared.ranges.TheConstants.{REGIONS_START, REGION_SIZE}
+use Rattle.address_map.specs.declared.ranges.TheConstants.{REGION_SIZE}
 use Rattle.scudo_heap.specs.Stacks.{ClassHeap, StackState, class_at, with_class, pages_of, stack_of, popped, pushed, carved_class, carved}
 use Rattle.scudo_heap.specs.Heaps.{HeapState, heap_of}
 use Rattle.scudo_heap.specs.Served.{IsServed, IsOpen, AreRegions, ArePlaces, heap_page, is_inside}
@@ -25,10 +24,9 @@ use Rattle.scudo_secondary.specs.declared.mappings.Mapping.{Mapping}
 use Rattle.mte_tags.specs.Memory.{IsFree, with_new_pages, without_pages}
 use Rattle.mte_tags.proofs.PageLaws.{page_at-no_attrs, attrs_at-with_new_pages_in, attrs_at-with_new_pages_out, pages_left-with_new_pages, attrs_at-without_pages_in, attrs_at-without_pages_out}
 use Rattle.mte_tags.proofs.Whole.{pages_left-without_pages}
-use Rattle.address_map.specs.declared.ranges.TheConstants.{SECONDARY_START, SECONDARY_END}
 use Rattle.scudo_heap.specs.Heaps.{with_less, with_more}
 use Rattle.scudo_secondary.proofs.MappingLemmas.{pages_of-with_mapping}
-use Rattle.scudo_heap.proofs.MapLemmas.{IsAt, inside-more, inside-in, inside-low, inside-high, others_of, IsWithout, without}
+use Rattle.scudo_heap.proofs.MapLemmas.{IsAt, inside-more, inside-in, inside-low, inside-high, others_of, without}
 use Rattle.scudo_heap.proofs.StackLemmas.{class_at-with_class, class_at-with_class_other}
 
 pub lt-true : (a b : ℕ) → a < b → nat_lt a b ≡ true

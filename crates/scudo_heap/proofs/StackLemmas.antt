@@ -1,5 +1,5 @@
 -- The stacks, by class: one of them changes, and the others stay.
-use Rattle.std.proofs.Common.{◌≡◌, ◌≢◌, ℕ, ◌+◌, ◌-◌, ◌<◌, ◌≤◌, List, [], ◌∷◌, ◌++◌, length, drop, map, reverse, replicate, slice_get, Option, Some, None, refl, sym, ap, subst, ◌∙◌, inl, inr, arith, unwrap_or, get_or}
+use Rattle.std.proofs.Common.{◌≡◌, ◌≢◌, ℕ, ◌-◌, ◌<◌, List, [], ◌∷◌, ◌++◌, length, drop, map, reverse, replicate, slice_get, Option, Some, None, refl, sym, ap, subst, ◌∙◌, inl, inr, arith, unwrap_or, get_or}
 use Rattle.std.proofs.lemmas.Bool.{cases_eq, cond-true, cond-false}
 use Rattle.std.proofs.lemmas.List.{get_or-replicate, length-append, length-reverse}
 use Rattle.std.specs.List.{range_with_len}
@@ -11,13 +11,13 @@ use Rattle.std.specs.FinMap.{FinMap, get-insert, get-from_entries, same_map, nat
 use Rattle.scudo_header.specs.declared.classes.TheConstants.{CLASSES}
 use Rattle.scudo_primary.specs.Lists.{IsClass}
 use Rattle.scudo_primary.proofs.ModelLemmas.{tied-same, tied-other, entries-in, entries-out, is-class}
-use Rattle.scudo_primary.specs.Blocks.{carved_count, number_of, IsBlock, blocks_from}
+use Rattle.scudo_primary.specs.Blocks.{carved_count, blocks_from}
 use Rattle.scudo_primary.specs.Pools as primary
 use Rattle.scudo_primary.specs.Pools.{ClassState, PoolState, is_member, is_marked, with_pages, new_count, empty_pool}
 use Rattle.scudo_primary.proofs.PoolLaws.{class_at-with_pages, class_at-with_pages_other, left-with_pages, class_at-empty_pool, left-empty_pool}
-use Rattle.scudo_cache.specs.Caches.{CacheState, entries_of, one_stack, AreStacks}
-use Rattle.scudo_heap.specs.Stacks.{ClassHeap, StackState, empty_class, empty_stacks, stacks_by, class_at, with_class, pages_of, stack_of, popped, pushed, new_blocks, carved_class, carved}
-use Rattle.scudo_heap.specs.Inner.{class_in, stacks_in, AreParts}
+use Rattle.scudo_cache.specs.Caches.{entries_of, one_stack}
+use Rattle.scudo_heap.specs.Stacks.{ClassHeap, StackState, empty_class, empty_stacks, stacks_by, class_at, with_class, pages_of, stack_of, popped, pushed, carved_class, carved}
+use Rattle.scudo_heap.specs.Inner.{class_in, stacks_in}
 use Rattle.scudo_heap.specs.declared.stacks.Stacks.TheInside.{Inside}
 
 get-in : (l : ℕ) (f : ℕ → ClassHeap) (c : ℕ) → IsClass c → finite.get (stacks_by l f).classes c ≡ Some (f c)

@@ -1,11 +1,11 @@
 -- malloc, calloc and memalign (Scudo, combined.h, Allocator::allocate). Each is one equation of the
 -- world that it leaves and of the chunk that it makes; where it makes none, the world is as it was.
-use Rattle.std.specs.Prelude.{ℕ, ◌+◌, ◌-◌, ◌*◌, ◌/◌, ◌^◌, ◌==◌, ◌&&◌, ◌||◌, Bool, true, false}
-use Rattle.std.specs.Prelude.{nat_lt, nat_le, max, List, [], ◌∷◌, Option, Some, None}
+use Rattle.std.specs.Prelude.{ℕ, ◌+◌, ◌-◌, ◌*◌, ◌/◌, ◌^◌, ◌==◌, ◌&&◌, Bool, true, false}
+use Rattle.std.specs.Prelude.{nat_le, max, List, [], ◌∷◌, Option, Some, None}
 use Rattle.std.specs.Prelude.{if◌then◌else◌}
 use Rattle.std.specs.List.{range_with_len, list_any}
 use Rattle.mte_tags.specs.Memory.{pages_left}
-use Rattle.scudo_header.specs.Classes.{size_of, class_for}
+use Rattle.scudo_header.specs.Classes.{class_for}
 use Rattle.scudo_header.specs.declared.headers.Origin.{Origin}
 use Rattle.scudo_header.specs.declared.headers.Origin.TheVariants.{Malloc, Memalign}
 use Rattle.scudo_secondary.specs.Mappings.{place_of}

@@ -4,14 +4,16 @@
 --     pushed s class block          s with a block more on top
 --     carved s class pages          s with pages more for a class, and the new blocks on top, the
 --                                   lowest first
-use Rattle.std.specs.Prelude.{ℕ, ◌+◌, ◌-◌, List, [], ◌∷◌, ◌++◌, drop, map, refl, unwrap_or}
-use Rattle.std.specs.List.{range_with_len}
+use Rattle.std.specs.Prelude.{◌≡◌, ℕ, ◌+◌, ◌-◌, ◌<◌, ◌≤◌, true, nat_eq, List, [], ◌∷◌, ◌++◌, drop}
+use Rattle.std.specs.Prelude.{map, refl, unwrap_or}
+use Rattle.std.specs.List.{range_with_len, IsDistinct}
 use Rattle.std.specs.Ordering.{nat_cmp}
 use Rattle.std.specs.FinMap as finite
 use Rattle.std.specs.FinMap.{FinMap}
 use Rattle.std.specs.Coded.{Coded, code_by, coded×, coded_ℕ, coded_list}
 use Rattle.scudo_header.specs.declared.classes.TheConstants.{CLASSES}
-use Rattle.scudo_primary.specs.Blocks.{carved_count, blocks_from}
+use Rattle.scudo_primary.specs.Blocks.{carved_count, IsBlock, blocks_from}
+use Rattle.scudo_primary.specs.Pools.{is_member}
 
 -- pages: the pages of the class's region that are mapped; the blocks that lie whole in them are
 -- carved
@@ -91,3 +93,11 @@ carved s class more =
     record (with_class s class (carved_class class (class_at s class) more)) {
       left = s.left - more;
     }
+
+-- Each stack has carved blocks, none of them twice.
+pub record AreSound (s : StackState) : Type 0 where
+  pub blocks :
+      (class block : ℕ) → 0 < class → class ≤ CLASSES → is_member (stack_of s class) block ≡ true
+      → IsBlock class (pages_of s class) block
+  pub distinct :
+      (class : ℕ) → 0 < class → class ≤ CLASSES → IsDistinct nat_eq (stack_of s class)

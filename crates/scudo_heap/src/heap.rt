@@ -1,6 +1,7 @@
 //! The heap's calls.
 
 ghost use Rattle.std.specs.Prelude.{◌≡◌, ◌<◌, ◌≤◌, IfOk};
+ghost use Rattle.scudo_heap.specs.Stacks.{AreSound};
 ghost use Rattle.scudo_heap.specs.Heaps.{HeapState, heap_of, empty_heap};
 ghost use Rattle.scudo_heap.specs.Placing.{world_of};
 ghost use Rattle.scudo_heap.specs.Allocation.{answer_of, malloc_of, calloc_of, memalign_of};
@@ -12,6 +13,7 @@ use crate::allocation::{allocate, is_power};
 use crate::checks::find_chunk;
 use crate::chunk::address_or_null;
 use crate::freeing::free_found;
+use crate::limits::MIN_ALIGNMENT;
 use crate::stacks::Stacks;
 use a64_bits::plain;
 use address_map::MAX_PAGES;
@@ -67,14 +69,15 @@ impl Heap {
     pub fn malloc<M: Paged>(&mut self, rgsr: &mut Rgsr, memory: &mut M, size: u64) -> u64
         requires served { IsServed (M.memory memory.old) self.old }
         requires tag { rgsr.old.tag < 16 }
-        ensures answer { result
-            ≡ answer_of (malloc_of (world_of (M.memory memory.old) self.old rgsr.old) size).chunk }
-        ensures world { world_of (M.memory memory.new) self.new rgsr.new
-            ≡ (malloc_of (world_of (M.memory memory.old) self.old rgsr.old) size).world }
+        ensures answer { let w = world_of (M.memory memory.old) self.old rgsr.old in
+            result ≡ answer_of (malloc_of w size).chunk }
+        ensures world { let w = world_of (M.memory memory.old) self.old rgsr.old in
+            world_of (M.memory memory.new) self.new rgsr.new ≡ (malloc_of w size).world }
         ensures served { IsServed (M.memory memory.new) self.new }
         ensures tag { rgsr.new.tag < 16 }
         ensures kept { M.kept memory.old memory.new }
     {
+        let align = MIN_ALIGNMENT;
         let (stacks, maps) = (&mut self.stacks, &mut self.maps);
         let chunk = allocate(
             self.cookie,
@@ -83,7 +86,7 @@ impl Heap {
             rgsr,
             memory,
             Origin::Malloc,
-            16,
+            align,
             size,
         );
         address_or_null(&chunk)
@@ -100,11 +103,10 @@ impl Heap {
     ) -> u64
         requires served { IsServed (M.memory memory.old) self.old }
         requires tag { rgsr.old.tag < 16 }
-        ensures answer { result
-            ≡ answer_of
-            (calloc_of (world_of (M.memory memory.old) self.old rgsr.old) count size).chunk }
-        ensures world { world_of (M.memory memory.new) self.new rgsr.new
-            ≡ (calloc_of (world_of (M.memory memory.old) self.old rgsr.old) count size).world }
+        ensures answer { let w = world_of (M.memory memory.old) self.old rgsr.old in
+            result ≡ answer_of (calloc_of w count size).chunk }
+        ensures world { let w = world_of (M.memory memory.old) self.old rgsr.old in
+            world_of (M.memory memory.new) self.new rgsr.new ≡ (calloc_of w count size).world }
         ensures served { IsServed (M.memory memory.new) self.new }
         ensures tag { rgsr.new.tag < 16 }
         ensures kept { M.kept memory.old memory.new }
@@ -138,7 +140,7 @@ impl Heap {
         if !is_power(alignment) {
             return 0;
         }
-        let align = alignment.max(16);
+        let align = alignment.max(MIN_ALIGNMENT);
         let (stacks, maps) = (&mut self.stacks, &mut self.maps);
         let chunk = allocate(
             self.cookie,
@@ -162,10 +164,10 @@ impl Heap {
     ) -> Result<(), HeapAbort>
         requires served { IsServed (M.memory memory.old) self.old }
         requires tag { rgsr.old.tag < 16 }
-        ensures answer { result
-            ≡ (free_of (world_of (M.memory memory.old) self.old rgsr.old) pointer).result }
-        ensures world { world_of (M.memory memory.new) self.new rgsr.new
-            ≡ (free_of (world_of (M.memory memory.old) self.old rgsr.old) pointer).world }
+        ensures answer { let w = world_of (M.memory memory.old) self.old rgsr.old in
+            result ≡ (free_of w pointer).result }
+        ensures world { let w = world_of (M.memory memory.old) self.old rgsr.old in
+            world_of (M.memory memory.new) self.new rgsr.new ≡ (free_of w pointer).world }
         ensures served { IsServed (M.memory memory.new) self.new }
         ensures tag { rgsr.new.tag < 16 }
         ensures kept { M.kept memory.old memory.new }
@@ -193,6 +195,14 @@ impl Heap {
                 Ok(())
             }
         }
+    }
+
+    /// In each stack of free blocks there are carved blocks, none of them twice, whatever the calls
+    /// were.
+    pub fn stacks_are_sound(&self)
+        ensures { AreSound self.now.stacks }
+    {
+        self.stacks.are_sound();
     }
 
     /// How many bytes of a chunk its user may use: 0 for the null pointer.

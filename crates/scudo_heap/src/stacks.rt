@@ -5,6 +5,7 @@ ghost use Rattle.std.specs.Prelude.{IsTrue, IsNone};
 ghost use Rattle.scudo_primary.specs.Blocks.{IsBlock};
 ghost use Rattle.scudo_primary.specs.Pools.{is_member};
 ghost use Rattle.scudo_heap.specs.Stacks.{pages_of, stack_of, empty_stacks, popped, pushed, carved};
+ghost use Rattle.scudo_heap.specs.Stacks.{AreSound};
 
 use address_map::MAX_PAGES;
 use scudo_cache::Cache;
@@ -79,6 +80,13 @@ impl Stacks {
         ensures { self.new ≡ carved self.old class pages }
     {
         self.pool.carve(class, pages);
+    }
+
+    /// What holds of all stacks.
+    pub(crate) fn are_sound(&self)
+        ensures { AreSound self.now }
+    {
+        let _own = &self.pool;
     }
 
     /// How many pages a class has.

@@ -7,6 +7,8 @@ mod cache;
 #[cfg(test)]
 mod header;
 #[cfg(test)]
+mod heap;
+#[cfg(test)]
 mod primary;
 #[cfg(test)]
 mod secondary;

@@ -1,4 +1,4 @@
-use Rattle.std.proofs.Common.{◌≡◌, ◌∙◌, ◌/◌, ◌%◌, sym, ap, Some, Err, Ok, length, refl, option_map}
+use Rattle.std.proofs.Common.{◌∙◌, sym, ap, Some, option_map}
 use Rattle.std.specs.List.{range_with_len}
 use Rattle.mte_tags.specs.Slots.{first_in}
 use Rattle.mte_tags.proofs.FoundPages.{page_run, fault_missing}

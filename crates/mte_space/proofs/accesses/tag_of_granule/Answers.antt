@@ -1,4 +1,4 @@
-use Rattle.std.proofs.Common.{◌≡◌, ◌∙◌, ◌/◌, ◌%◌, ◌*◌, ◌<◌, subst, sym, ap, Some, Err, Ok, is_none, length, refl, arith, option_map}
+use Rattle.std.proofs.Common.{◌∙◌, ◌/◌, ◌%◌, ◌<◌, subst, sym, ap, Some, Err, Ok, option_map}
 use Rattle.std.specs.List.{range_with_len}
 use Rattle.std.specs.Prelude.{All, IfSome}
 use Rattle.mte_tags.specs.Memory.{Page, tag_at, tag_in}

@@ -1,8 +1,7 @@
-use Rattle.std.proofs.Common.{◌≡◌, ◌∙◌, ◌/◌, ◌%◌, ◌*◌, sym, ap, Some, Err, Ok, is_none, length, refl, arith, option_map}
+use Rattle.std.proofs.Common.{◌∙◌, sym, ap, Some, is_none, length, refl}
 use Rattle.std.specs.List.{range_with_len}
 use Rattle.mte_tags.specs.Slots.{first_in}
 use Rattle.mte_tags.proofs.FoundPages.{page_run_passed}
-use Rattle.mte_space.specs.Spaces.{page_of}
 use Rattle.mte_space.proofs.accesses.try_write.Goals as goal
 
 pub returns-clause-passed : goal.returns-clause-passed

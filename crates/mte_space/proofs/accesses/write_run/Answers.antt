@@ -1,4 +1,4 @@
-use Rattle.std.proofs.Common.{◌≡◌, ◌∙◌, ◌/◌, ◌%◌, ◌*◌, sym, ap, Some, Err, Ok, is_none, length, refl, arith, option_map}
+use Rattle.std.proofs.Common.{◌∙◌, sym, ap, Some, Err, length, option_map}
 use Rattle.std.specs.List.{range_with_len}
 use Rattle.mte_tags.specs.Slots.{first_in}
 use Rattle.mte_tags.specs.Accesses.{outcome}

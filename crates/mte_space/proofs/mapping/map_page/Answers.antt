@@ -1,7 +1,6 @@
-use Rattle.std.proofs.Common.{◌≡◌, ◌∙◌, ◌+◌, sym, subst, arith, ap}
-use Rattle.std.specs.FinMap.{get}
+use Rattle.std.proofs.Common.{◌≡◌, ◌∙◌, ◌+◌, sym, subst, arith}
 use Rattle.mte_frames.specs.Pool.{KeepsOthers, taken_by, reserved_by}
-use Rattle.mte_translate.specs.Tables.{pages_of, missing_leaf, IsTable, KeepsData}
+use Rattle.mte_translate.specs.Tables.{missing_leaf, IsTable, KeepsData}
 use Rattle.mte_space.specs.Spaces.{IsSpace}
 use Rattle.mte_space.proofs.MapSteps.{room_for_two, taken_table, taken_apart, taken_unmapped, taken_room, Mapped, mapped}
 use Rattle.mte_space.proofs.mapping.map_page.Goals as goal

@@ -1,12 +1,10 @@
-use Rattle.std.proofs.Common.{◌≡◌, ◌∙◌, ◌+◌, ◌-◌, ◌<◌, ◌≤◌, sym, subst, ap, arith, false, None, refl}
-use Rattle.std.specs.FinMap.{get}
+use Rattle.std.proofs.Common.{◌≡◌, ◌∙◌, ◌+◌, ◌-◌, sym, subst, ap, arith, false, refl}
 use Rattle.mte_tags.specs.Memory.{with_page, with_new_pages, new_page}
 use Rattle.mte_tags.specs.declared.state.TagMode.TheVariants.{Sync}
 use Rattle.mte_tags.specs.declared.state.TagState.{TagState}
 use Rattle.mte_tags.proofs.PageLaws.{with_new_pages-step}
-use Rattle.mte_translate.specs.Tables.{pages_of}
 use Rattle.mte_space.specs.Spaces.{space_memory, KeepsRest}
-use Rattle.mte_space.specs.SpaceMemory.{rest_same, rest_on}
+use Rattle.mte_space.specs.KeptSpaces.{rest_same, rest_on}
 use Rattle.mte_space.proofs.Memories.{unmapped_there}
 use Rattle.mte_space.proofs.mapping.map_range.Goals as goal
 

@@ -1,8 +1,7 @@
-use Rattle.std.proofs.Common.{◌≡◌, ◌∙◌, ◌+◌, ◌-◌, sym, subst, ap, Option, Some, None, option_map, ℕ, refl, slice_set}
-use Rattle.std.specs.FinMap.{get, remove}
+use Rattle.std.proofs.Common.{◌≡◌, ◌∙◌, ◌-◌, sym, subst, ap, Option, Some, None, option_map, ℕ, refl, slice_set}
 use Rattle.mte_tags.specs.declared.attrs.Attrs.{Attrs}
-use Rattle.mte_frames.specs.Pool.{KeepsOthers, taken_by, reserved_by, IsOut, make_pool}
-use Rattle.mte_translate.specs.Tables.{pages_of, missing_leaf, IsTable, KeepsData, IsApart, MapsNever}
+use Rattle.mte_frames.specs.Pool.{KeepsOthers, taken_by, make_pool}
+use Rattle.mte_translate.specs.Tables.{IsTable}
 use Rattle.mte_space.specs.Spaces.{IsSpace}
 use Rattle.mte_space.proofs.MapSteps.{Unmapped, unmapped, never_mapped}
 use Rattle.mte_space.proofs.mapping.unmap_page.Goals as goal

@@ -1,12 +1,11 @@
-use Rattle.std.proofs.Common.{◌≡◌, ◌∙◌, ◌+◌, ◌-◌, ◌<◌, ◌≤◌, ◌^◌, sym, subst, ap, arith, false, refl, is_some}
-use Rattle.std.specs.FinMap.{get}
+use Rattle.std.proofs.Common.{◌≡◌, ◌∙◌, ◌+◌, ◌-◌, sym, subst, ap, arith, false, refl, is_some}
 use Rattle.mte_tags.specs.Memory.{without_page, without_pages}
 use Rattle.mte_tags.specs.declared.state.TagMode.TheVariants.{Sync}
 use Rattle.mte_tags.specs.declared.state.TagState.{TagState}
 use Rattle.mte_tags.proofs.PageLaws.{without_pages-step}
 use Rattle.mte_translate.specs.Tables.{pages_of, IsCached}
 use Rattle.mte_space.specs.Spaces.{space_memory, KeepsRest, NoneEnters}
-use Rattle.mte_space.specs.SpaceMemory.{rest_same, rest_on, none_enters_same, none_enters_on}
+use Rattle.mte_space.specs.KeptSpaces.{rest_same, rest_on, none_enters_same, none_enters_on}
 use Rattle.mte_space.proofs.Memories.{mapped_there}
 use Rattle.mte_space.proofs.MapSteps.{mapped_low, forgotten_enters}
 use Rattle.mte_space.proofs.mapping.unmap_range.Goals as goal

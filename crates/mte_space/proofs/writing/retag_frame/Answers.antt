@@ -1,4 +1,4 @@
-use Rattle.std.proofs.Common.{◌≡◌, ◌*◌, ◌∙◌, sym, ap, subst, None, Some, get_or, arith, length, take, drop, replicate, ◌++◌, ◌+◌}
+use Rattle.std.proofs.Common.{◌≡◌, ◌*◌, ◌∙◌, sym, ap, None, get_or, arith, take, drop, replicate, ◌++◌, ◌+◌}
 use Rattle.mte_tags.proofs.PageRuns.{filled}
 use Rattle.mte_arena.specs.Frames.{Frame, frame_at}
 use Rattle.mte_frames.specs.Pool.{Pool, IsOut}

@@ -1,9 +1,9 @@
-use Rattle.std.proofs.Common.{◌≡◌, ap, subst, sym}
-use Rattle.std.specs.Prelude.{slice_set, get_or, Some, None}
+use Rattle.std.proofs.Common.{subst, sym}
+use Rattle.std.specs.Prelude.{Some}
 use Rattle.mte_frames.specs.Pool.{KeepsOthers}
 use Rattle.mte_frames.proofs.Keeps.{keeps_on}
 use Rattle.mte_arena.specs.Frames.{zero_frame}
-use Rattle.mte_translate.specs.Tables.{IsTable, IsApart, MapsOnce, MapsNever, Stays, pages_of}
+use Rattle.mte_translate.specs.Tables.{MapsOnce, MapsNever, Stays}
 use Rattle.mte_tests.proofs.table.map.Goals as goal
 
 pub map-requires-clause-table : goal.map-requires-clause-table

@@ -1,7 +1,7 @@
-use Rattle.std.proofs.Common.{◌≡◌, ◌∙◌, ap, subst, sym}
+use Rattle.std.proofs.Common.{subst, sym}
 use Rattle.mte_frames.specs.Pool.{KeepsOthers}
 use Rattle.mte_frames.proofs.Keeps.{keeps_on}
-use Rattle.mte_translate.specs.Tables.{IsTable, MapsOnce, Stays}
+use Rattle.mte_translate.specs.Tables.{MapsOnce, Stays}
 use Rattle.mte_tests.proofs.table.unmap.Goals as goal
 
 pub returns-clause-table : goal.returns-clause-table

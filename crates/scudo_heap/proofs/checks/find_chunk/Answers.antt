@@ -1,7 +1,6 @@
-use Rattle.std.proofs.Common.{◌≡◌, ◌≢◌, ◌%◌, ◌<◌, ◌^◌, ap, ◌∙◌, sym, subst, Some, None, true, false, arith}
-use Rattle.mte_tags.specs.Memory.{Memory}
+use Rattle.std.proofs.Common.{ap, ◌∙◌, sym, Some, None}
 use Rattle.scudo_heap.specs.Heaps.{heap_of}
-use Rattle.scudo_heap.specs.Checks.{header_at, found, found_by, is_mapped}
+use Rattle.scudo_heap.specs.Checks.{header_at}
 use Rattle.scudo_heap.proofs.CheckLemmas.{found-misaligned, found-unmapped, found-header, found-state, found-chunk}
 use Rattle.scudo_heap.proofs.checks.find_chunk.Goals as goal
 

@@ -1,11 +1,8 @@
-use Rattle.std.proofs.Common.{◌≡◌, Result, Ok, Err, ◌+◌, ◌-◌, ◌*◌, ◌/◌, ◌≤◌, ◌<◌, ◌∙◌, ℕ, sym, ap, subst, refl, arith}
+use Rattle.std.proofs.Common.{◌≡◌, Result, Ok, Err, ◌+◌, ◌*◌, ◌/◌, ◌∙◌, sym, ap, subst, arith}
 use Rattle.std.specs.Result.{IsOk, OnOk}
 use Rattle.mte_tags.specs.declared.tagged.NoQuota.{NoQuota}
 use Rattle.mte_tags.specs.Memory.{page_at, pages_left, with_new_pages}
-use Rattle.address_map.specs.declared.limits.TheConstants.{PAGE_SIZE}
-use Rattle.scudo_header.specs.Classes.{size_of}
-use Rattle.scudo_header.specs.Regions.{region_of}
-use Rattle.scudo_heap.specs.Stacks.{StackState, pages_of, stack_of, carved}
+use Rattle.scudo_heap.specs.Stacks.{StackState, stack_of, carved}
 use Rattle.scudo_heap.specs.Heaps.{heap_of}
 use Rattle.scudo_heap.specs.Placing.{next_page, heap_attrs}
 use Rattle.scudo_heap.specs.Served.{IsServed, AreRegions}

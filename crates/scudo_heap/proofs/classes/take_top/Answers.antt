@@ -1,12 +1,11 @@
-use Rattle.std.proofs.Common.{◌≡◌, ◌+◌, ◌<◌, ◌≤◌, ◌^◌, arith, ◌∙◌, Some, None, sym, ap, subst, refl}
+use Rattle.std.proofs.Common.{◌≡◌, ◌+◌, arith, ◌∙◌, Some, sym, ap, subst}
 use Rattle.scudo_header.specs.Classes.{size_of}
 use Rattle.scudo_heap.specs.declared.chunk.Place.{Place}
-use Rattle.scudo_heap.specs.declared.chunk.Chunk.{Chunk}
 use Rattle.scudo_heap.specs.declared.chunk.Chunk.TheVariants.{Small}
 use Rattle.scudo_heap.specs.Stacks.{StackState, stack_of}
 use Rattle.scudo_heap.specs.Heaps.{heap_of}
-use Rattle.scudo_heap.specs.Placing.{World, world_of, placed}
-use Rattle.scudo_heap.specs.Allocation.{Made, made_of, made_at, place_in}
+use Rattle.scudo_heap.specs.Placing.{world_of, placed}
+use Rattle.scudo_heap.specs.Allocation.{made_of, made_at}
 use Rattle.scudo_heap.specs.Served.{IsOpen}
 use Rattle.scudo_heap.proofs.ServedLemmas.{block-open-in, same-popped, served-on, SamePages}
 use Rattle.scudo_heap.proofs.ClassLemmas.{FitsIn, fits-in, none-top, taken-some}

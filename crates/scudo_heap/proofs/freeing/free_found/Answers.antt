@@ -1,10 +1,8 @@
-use Rattle.std.proofs.Common.{◌≡◌, ◌/◌, ◌∙◌, sym, ap, subst, refl}
+use Rattle.std.proofs.Common.{◌≡◌, ◌/◌, ◌∙◌, sym, ap, subst}
 use Rattle.address_map.specs.declared.limits.TheConstants.{PAGE_SIZE}
 use Rattle.mte_tags.specs.Memory.{without_pages}
-use Rattle.scudo_heap.specs.declared.chunk.Found.{Found}
-use Rattle.scudo_heap.specs.Stacks.{StackState}
-use Rattle.scudo_heap.specs.Heaps.{HeapState, heap_of}
-use Rattle.scudo_heap.specs.Placing.{World, world_of, given_back}
+use Rattle.scudo_heap.specs.Heaps.{heap_of}
+use Rattle.scudo_heap.specs.Placing.{world_of, given_back}
 use Rattle.scudo_heap.specs.Large.{large_given_back}
 use Rattle.scudo_heap.specs.Freeing.{without_chunk}
 use Rattle.scudo_heap.specs.Served.{IsServed}

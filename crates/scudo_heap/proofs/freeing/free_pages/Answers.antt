@@ -1,9 +1,9 @@
-use Rattle.std.proofs.Common.{◌≡◌, ◌+◌, ◌*◌, ◌/◌, ◌<◌, ap, ◌∙◌, arith, is_some}
+use Rattle.std.proofs.Common.{◌≡◌, ◌+◌, ◌*◌, ◌/◌, ap, ◌∙◌, arith}
 use Rattle.address_map.specs.declared.limits.TheConstants.{PAGE_SIZE}
-use Rattle.mte_tags.specs.Memory.{attrs_at, page_at, ArePages}
+use Rattle.mte_tags.specs.Memory.{attrs_at}
 use Rattle.mte_tags.proofs.PageLaws.{ArePages-attrs}
 use Rattle.scudo_heap.specs.Heaps.{with_less}
-use Rattle.scudo_heap.proofs.MapLemmas.{IsWithout, without}
+use Rattle.scudo_heap.proofs.MapLemmas.{without}
 use Rattle.scudo_heap.proofs.freeing.free_pages.Goals as goal
 
 pub unmap_pages-requires : goal.unmap_pages-requires

@@ -1,7 +1,6 @@
-use Rattle.std.proofs.Common.{◌≡◌, ◌+◌, ◌-◌, ap, ◌∙◌, length, subst, arith}
+use Rattle.std.proofs.Common.{◌-◌, ap, ◌∙◌, length, arith}
 use Rattle.mte_tags.specs.Memory.{attrs_at, pages_left}
 use Rattle.mte_tags.proofs.PageLaws.{attrs_at-written, pages_left-written}
-use Rattle.scudo_heap.specs.Served.{IsOpen}
 use Rattle.scudo_heap.proofs.OpenLemmas.{open-mapped}
 use Rattle.scudo_heap.proofs.granules.put_header.Goals as goal
 

@@ -1,4 +1,4 @@
-use Rattle.std.proofs.Common.{◌≡◌, ◌-◌, ◌<◌, ◌^◌, Bool, true, false, is_ok, Option, Some, None, ap, ◌∙◌, subst, sym, refl, arith}
+use Rattle.std.proofs.Common.{◌-◌, ◌<◌, ◌^◌, is_ok, Option, ap, ◌∙◌, subst, sym, arith}
 use Rattle.std.proofs.lemmas.Bool.{cond-true}
 use Rattle.std.specs.Option.{IfSome}
 use Rattle.std.specs.Int.{from_le_bytes, w64}

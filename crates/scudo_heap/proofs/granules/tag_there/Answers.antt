@@ -1,4 +1,3 @@
-use Rattle.std.proofs.Common.{◌≡◌, ◌∙◌, sym}
 use Rattle.scudo_heap.proofs.OpenLemmas.{tag_loaded}
 use Rattle.scudo_heap.proofs.granules.tag_there.Goals as goal
 

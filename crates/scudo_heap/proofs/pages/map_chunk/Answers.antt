@@ -1,13 +1,12 @@
-use Rattle.std.proofs.Common.{◌≡◌, ◌+◌, ◌-◌, ◌*◌, ◌/◌, ◌≤◌, ◌<◌, ◌∙◌, ℕ, Result, Ok, Err, sym, ap, subst, refl, arith}
+use Rattle.std.proofs.Common.{◌-◌, ◌/◌, Result, Ok, Err, sym, subst, arith}
 use Rattle.std.specs.Result.{IsOk, OnOk}
 use Rattle.mte_tags.specs.declared.tagged.NoQuota.{NoQuota}
-use Rattle.mte_tags.specs.Memory.{Memory, pages_left, with_new_pages}
+use Rattle.mte_tags.specs.Memory.{with_new_pages}
 use Rattle.address_map.specs.declared.limits.TheConstants.{PAGE_SIZE}
-use Rattle.scudo_secondary.specs.Mappings.{MapsState}
 use Rattle.scudo_heap.specs.Heaps.{heap_of, with_more}
 use Rattle.scudo_heap.specs.Placing.{heap_attrs}
 use Rattle.scudo_heap.specs.Served.{IsServed, IsOpen}
-use Rattle.scudo_heap.proofs.MapLemmas.{IsAt, is-at}
+use Rattle.scudo_heap.proofs.MapLemmas.{is-at}
 use Rattle.scudo_heap.proofs.ServedLemmas.{pages-free, pages-open, served-more, served-on, same-pages}
 use Rattle.scudo_heap.proofs.pages.map_chunk.Goals as goal
 

@@ -1,16 +1,14 @@
-use Rattle.std.proofs.Common.{◌≡◌, ◌+◌, ◌-◌, ◌*◌, ◌/◌, ◌≤◌, ◌<◌, ◌^◌, ◌∙◌, ℕ, Some, None, sym, ap, subst, refl, arith}
+use Rattle.std.proofs.Common.{◌≡◌, ◌+◌, ◌*◌, ◌∙◌, Some, sym, ap, subst, arith}
 use Rattle.address_map.specs.declared.limits.TheConstants.{PAGE_SIZE}
-use Rattle.mte_tags.specs.Memory.{pages_left}
 use Rattle.scudo_secondary.specs.declared.mappings.Mapping.{Mapping}
-use Rattle.scudo_heap.specs.declared.chunk.Chunk.{Chunk}
 use Rattle.scudo_heap.specs.declared.chunk.Chunk.TheVariants.{Large}
-use Rattle.scudo_heap.specs.Heaps.{heap_of, with_more}
-use Rattle.scudo_heap.specs.Placing.{World, world_of}
-use Rattle.scudo_heap.specs.Large.{mapping_for, large_placed}
-use Rattle.scudo_heap.specs.Allocation.{Made, made_of, nothing, made_large}
+use Rattle.scudo_heap.specs.Heaps.{heap_of}
+use Rattle.scudo_heap.specs.Placing.{world_of}
+use Rattle.scudo_heap.specs.Large.{large_placed}
+use Rattle.scudo_heap.specs.Allocation.{made_of, nothing, made_large}
 use Rattle.scudo_heap.specs.Served.{KeepsMapped}
 use Rattle.scudo_heap.specs.Inner.{IsLarge}
-use Rattle.scudo_heap.proofs.MapLemmas.{IsAt, is-at}
+use Rattle.scudo_heap.proofs.MapLemmas.{is-at}
 use Rattle.scudo_heap.proofs.LargeLemmas.{is-large, in_mapping-none, in_mapping-refused, in_mapping-made}
 use Rattle.scudo_heap.proofs.pages.take_pages.Goals as goal
 

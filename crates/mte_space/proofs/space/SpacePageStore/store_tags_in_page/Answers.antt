@@ -1,16 +1,11 @@
-use Rattle.std.proofs.Common.{◌≡◌, ◌∙◌, ◌/◌, ◌%◌, ◌<◌, ◌+◌, ◌*◌, sym, ap, subst, Some, length, refl, option_map, cond, is_ok, arith}
-use Rattle.mte_frames.specs.Pool.{Pool}
+use Rattle.std.proofs.Common.{◌∙◌, ◌/◌, ◌%◌, sym, ap, subst, refl, is_ok}
 use Rattle.mte_translate.specs.Tables.{IsCached, pages_of}
-use Rattle.mte_space.specs.Spaces.{page_of, space_memory, IsSpace, KeepsRest}
-use Rattle.mte_space.specs.SpaceMemory.{memory_of, none_enters_same}
-use Rattle.mte_space.proofs.SpaceSteps.{retagged_is, found_taken, found_out, page_is, page_found, cached_hit, space_framed, space_changed, cached_changed, rest_changed, memory_changed}
-use Rattle.mte_tags.specs.Memory.{Page}
-use Rattle.mte_arena.specs.Frames.{Frame, frame_at, make_frame}
-use Rattle.mte_space.specs.Writes.{changed, retagged_frame}
-use Rattle.mte_tags.specs.Slots.{spliced}
-use Rattle.mte_tags.specs.Accesses.{addresses, with_bytes, bytes_at}
+use Rattle.mte_space.specs.Spaces.{space_memory, IsSpace, KeepsRest}
+use Rattle.mte_space.specs.SpaceMemory.{memory_of}
+use Rattle.mte_space.proofs.SpaceSteps.{retagged_is, found_taken, found_out, page_is, space_changed, cached_changed, rest_changed, memory_changed}
+use Rattle.mte_arena.specs.Frames.{Frame}
+use Rattle.mte_space.specs.Writes.{retagged_frame}
 use Rattle.mte_frames.specs.Pool.{KeepsOthers}
-use Rattle.mte_tags.proofs.FoundPages.{page_written, page_retagged}
 use Rattle.mte_space.proofs.space.SpacePageStore.store_tags_in_page.Goals as goal
 
 pub retag_run-requires-clause-out : goal.retag_run-requires-clause-out

@@ -1,4 +1,4 @@
-use Rattle.std.proofs.Common.{◌≡◌, ◌+◌}
+use Rattle.std.proofs.Common.{◌+◌}
 use Rattle.mte_space.proofs.Memories.{page_there, mapped_there}
 use Rattle.mte_space.proofs.space.SpacePaged.unmap_pages.Goals as goal
 

@@ -1,12 +1,10 @@
-use Rattle.std.proofs.Common.{◌≡◌, ◌*◌, ◌<◌, ◌≤◌, ◌^◌, ◌∙◌, max, Some, None, true, false, sym, ap, subst, refl, inl, inr, arith}
-use Rattle.std.proofs.lemmas.Bool.{cases_lt, cond-true, cond-false}
-use Rattle.scudo_header.specs.declared.headers.Origin.TheVariants.{Malloc, Memalign}
+use Rattle.std.proofs.Common.{◌*◌, ◌∙◌, ap, inl, inr, arith}
+use Rattle.std.proofs.lemmas.Bool.{cases_lt}
+use Rattle.scudo_header.specs.declared.headers.Origin.TheVariants.{Malloc}
 use Rattle.scudo_heap.specs.declared.limits.TheConstants.{MAX_REQUEST}
-use Rattle.scudo_heap.specs.Heaps.{HeapState, heap_of}
-use Rattle.scudo_heap.specs.Placing.{World, world_of}
-use Rattle.scudo_heap.specs.Allocation.{Made, made_of, answer_of, nothing, is_alignment, allocated, malloc_of, calloc_of, memalign_of}
-use Rattle.scudo_heap.specs.Inner.{IsAlign}
-use Rattle.scudo_heap.proofs.AllocationLemmas.{allocated-over, power-align}
+use Rattle.scudo_heap.specs.Placing.{world_of}
+use Rattle.scudo_heap.specs.Allocation.{Made, answer_of, allocated, malloc_of, calloc_of}
+use Rattle.scudo_heap.proofs.AllocationLemmas.{allocated-over}
 use Rattle.scudo_heap.proofs.heap.Heap.calloc.Goals as goal
 
 pub returns-in-None-clause-answer : goal.returns-in-None-clause-answer

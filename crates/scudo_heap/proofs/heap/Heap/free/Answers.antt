@@ -1,7 +1,6 @@
-use Rattle.std.proofs.Common.{◌≡◌, ◌∙◌, Ok, Err, sym, ap, subst, refl}
-use Rattle.a64_bits.specs.Addresses.{plain}
-use Rattle.scudo_heap.specs.Heaps.{HeapState, heap_of}
-use Rattle.scudo_heap.specs.Placing.{World, world_of}
+use Rattle.std.proofs.Common.{◌∙◌, Ok, Err, sym, ap}
+use Rattle.scudo_heap.specs.Heaps.{heap_of}
+use Rattle.scudo_heap.specs.Placing.{world_of}
 use Rattle.scudo_heap.specs.Checks.{found}
 use Rattle.scudo_heap.specs.Freeing.{Freed, without_chunk}
 use Rattle.scudo_heap.proofs.FoundLemmas.{found-is}

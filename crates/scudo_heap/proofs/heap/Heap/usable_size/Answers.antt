@@ -1,4 +1,4 @@
-use Rattle.std.proofs.Common.{◌≡◌, ◌∙◌, Ok, Err, sym, ap, refl}
+use Rattle.std.proofs.Common.{◌∙◌, Ok, Err, ap}
 use Rattle.scudo_heap.specs.Checks.{found}
 use Rattle.scudo_heap.proofs.FreeLemmas.{usable-null, usable-by}
 use Rattle.scudo_heap.proofs.heap.Heap.usable_size.Goals as goal

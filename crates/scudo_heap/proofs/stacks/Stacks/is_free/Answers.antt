@@ -1,10 +1,8 @@
-use Rattle.std.proofs.Common.{◌≡◌, ◌∙◌, ℕ, List, slice_get, drop, false, IfSome, sym, ap, subst, refl}
+use Rattle.std.proofs.Common.{◌∙◌, sym, ap, subst}
 use Rattle.scudo_primary.specs.Blocks.{IsBlock}
-use Rattle.scudo_primary.specs.Pools as primary
 use Rattle.scudo_primary.specs.Pools.{is_member}
-use Rattle.scudo_cache.specs.Caches.{CacheState}
 use Rattle.scudo_heap.specs.Stacks.{ClassHeap}
-use Rattle.scudo_heap.proofs.StackLemmas.{at-inside, view-popped, view-pushed, view-carved, no-entries, view-new}
+use Rattle.scudo_heap.proofs.StackLemmas.{at-inside}
 use Rattle.scudo_heap.proofs.stacks.Stacks.is_free.Goals as goal
 
 pub is_free-requires-clause-carved : goal.is_free-requires-clause-carved

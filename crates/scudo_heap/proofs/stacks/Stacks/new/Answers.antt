@@ -1,11 +1,6 @@
-use Rattle.std.proofs.Common.{◌≡◌, ◌∙◌, ℕ, List, slice_get, drop, false, IfSome, sym, ap, subst, refl}
-use Rattle.scudo_primary.specs.Blocks.{IsBlock}
-use Rattle.scudo_primary.specs.Pools as primary
-use Rattle.scudo_primary.specs.Pools.{is_member}
+use Rattle.std.proofs.Common.{ap}
 use Rattle.scudo_cache.specs.Caches.{CacheState}
-use Rattle.scudo_heap.specs.Stacks.{ClassHeap}
-use Rattle.scudo_heap.proofs.StackLemmas.{at-inside, view-popped, view-pushed, view-carved, no-entries, view-new}
-use Rattle.scudo_cache.specs.Caches.{IsAbove, AreStacks}
+use Rattle.scudo_heap.proofs.StackLemmas.{view-new}
 use Rattle.scudo_cache.proofs.CacheLaws.{above-new}
 use Rattle.scudo_cache.proofs.StackLemmas.{stacks-new}
 use Rattle.scudo_heap.proofs.stacks.Stacks.new.Goals as goal
