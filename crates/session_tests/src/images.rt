@@ -63,6 +63,42 @@ pub const LEFT_ON_THE_STACK: [u32; 9] = [
     0xD4000001,
 ];
 
+/// Reads ten bytes of input to the stack, writes as many as it got, and exits with their number.
+pub const READS: [u32; 12] = [
+    0xD2A7FFE0, 0x91403000, 0xD2800141, 0xD2800048, 0xD4000001, 0xAA0003E1, 0xD2A7FFE0, 0x91403000,
+    0xD2800028, 0xD4000001, 0xD2800008, 0xD4000001,
+];
+
+/// Exits with the steps that its slice has left after its first service.
+pub const COUNTS: [u32; 4] = [0xD2800148, 0xD4000001, 0xD2800008, 0xD4000001];
+
+/// Allocates 24 bytes, frees them, and loads through the old pointer.
+pub const USED_AFTER_FREE: [u32; 7] = [
+    0xD2800300, 0xD2800068, 0xD4000001, 0xAA0003F3, 0xD2800088, 0xD4000001, 0xF9400261,
+];
+
+/// Allocates 24 bytes, writes a byte of their header through an untagged pointer, and frees them.
+pub const CORRUPTS: [u32; 8] = [
+    0xD2800300, 0xD2800068, 0xD4000001, 0xD2A24001, 0xD2800062, 0x39000022, 0xD2800088, 0xD4000001,
+];
+
+/// The same, with a checksum that is right for the class that it writes.
+pub const FORGES_A_CLASS: [u32; 10] = [
+    0xD2800300, 0xD2800068, 0xD4000001, 0xD2A24001, 0xD2800062, 0x39000022, 0xD2800262, 0x39001C22,
+    0xD2800088, 0xD4000001,
+];
+
+/// Allocates 24 bytes, and exits with the pages that are left.
+pub const PAGES_AFTER_ONE: [u32; 7] = [
+    0xD2800300, 0xD2800068, 0xD4000001, 0xD2800168, 0xD4000001, 0xD2800008, 0xD4000001,
+];
+
+/// Allocates 200000 bytes, stores there, frees them, yields, and loads from there.
+pub const LARGE_FREED: [u32; 11] = [
+    0xD281A800, 0xF2A00060, 0xD2800068, 0xD4000001, 0xAA0003F3, 0xF9000273, 0xD2800088, 0xD4000001,
+    0xD2800128, 0xD4000001, 0xF9400261,
+];
+
 /// The word 0.
 pub const ILLEGAL: [u32; 1] = [0];
 

@@ -10,7 +10,7 @@ use std::alloc::Global;
 use std::test::Fail;
 
 /// The report of a script on `frames` frames, over the images of some programs as files 1 and on.
-fn report(alloc: Global, frames: u32, script: &[u8], programs: &[&[u32]]) -> Result<Vec<u8>, Fail> {
+pub fn report(alloc: Global, frames: u32, script: &[u8], programs: &[&[u32]]) -> Result<Vec<u8>, Fail> {
     let mut files = Vec::new(alloc);
     for words in programs {
         files.push(image(alloc, words)?)?;
