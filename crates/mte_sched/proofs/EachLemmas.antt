@@ -28,17 +28,17 @@ pub changed_more : (f : Tenant → Tenant) (olds items : List code.Tenant) (i : 
 changed_more f olds items i t d h below one =
     let within : i < length olds = rw (← h.count) below in
     let same : get_or items i d ≡ get_or olds i d =
-        sym (ap (λ k. get_or items k d) (let e : i + 0 ≡ i = omega arith in e))
-        ∙ sym (get_or-drop i items 0 d) ∙ ap (λ l. get_or l 0 d) h.after ∙ get_or-drop i olds 0 d
-        ∙ ap (λ k. get_or olds k d) (let e : i + 0 ≡ i = omega arith in e) in
+    sym (ap (λ k. get_or items k d) (let e : i + 0 ≡ i = omega arith in e))
+    ∙ sym (get_or-drop i items 0 d) ∙ ap (λ l. get_or l 0 d) h.after ∙ get_or-drop i olds 0 d
+    ∙ ap (λ k. get_or olds k d) (let e : i + 0 ≡ i = omega arith in e) in
     let news : map tenant_in (take (i + 1) (slice_set items i t)) ≡ map tenant_in (take i items) ++ tenant_in t ∷ [] =
-        ap (map tenant_in) (take_more_set items i t below) ∙ map-append tenant_in (take i items) (t ∷ []) in
+    ap (map tenant_in) (take_more_set items i t below) ∙ map-append tenant_in (take i items) (t ∷ []) in
     let were : map f (map tenant_in (take (i + 1) olds)) ≡ map f (map tenant_in (take i olds)) ++ f (tenant_in (get_or olds i d)) ∷ [] =
-        ap (λ l. map f (map tenant_in l)) (take_more olds i d within)
-        ∙ ap (map f) (map-append tenant_in (take i olds) (get_or olds i d ∷ []))
-        ∙ map-append f (map tenant_in (take i olds)) (tenant_in (get_or olds i d) ∷ []) in
+    ap (λ l. map f (map tenant_in l)) (take_more olds i d within)
+    ∙ ap (map f) (map-append tenant_in (take i olds) (get_or olds i d ∷ []))
+    ∙ map-append f (map tenant_in (take i olds)) (tenant_in (get_or olds i d) ∷ []) in
     let tails : drop (i + 1) items ≡ drop (i + 1) olds =
-        ap (drop 1) (sym (drop_more items i d below) ∙ h.after ∙ drop_more olds i d within) in
+    ap (drop 1) (sym (drop_more items i d below) ∙ h.after ∙ drop_more olds i d within) in
     record {
       before = news ∙ ap (λ l. l ++ tenant_in t ∷ []) h.before ∙ ap (λ k. map f (map tenant_in (take i olds)) ++ k ∷ []) (one ∙ ap (λ k. f (tenant_in k)) same) ∙ sym were;
       after = drop-set-lt (i + 1) items i t (omega arith) ∙ tails;

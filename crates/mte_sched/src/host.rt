@@ -208,11 +208,7 @@ fn stop_each(tenants: &mut Vec<Tenant>, id: u16)
 
 /// A tenant at its first instruction.
 #[tactic(auto, unfolding(crate::specs::Machines::start_of))]
-fn start(
-    alloc: Global,
-    admission: &Admission<'_>,
-    plan: &Plan,
-) -> Result<Tenant, AdmitError>
+fn start(alloc: Global, admission: &Admission<'_>, plan: &Plan) -> Result<Tenant, AdmitError>
     requires image { refusal_of admission.now.image.now ≡ None }
     requires segments { plan.now.segments.items ≡ segments_of admission.now.image.now }
     requires entry { plan.now.entry ≡ entry_of admission.now.image.now }
@@ -226,7 +222,13 @@ fn start(
     condition_of_calls();
     let mut memory = Flat::new(alloc, admission.pages as usize, admission.mode)?;
     let parts = start_parts(alloc, admission, plan)?;
-    fill(plan, admission.image, admission.pages, admission.mode, &mut memory);
+    fill(
+        plan,
+        admission.image,
+        admission.pages,
+        admission.mode,
+        &mut memory,
+    );
     Ok(Tenant {
         parts,
         memory: Some(memory),

@@ -36,7 +36,11 @@ pub(crate) fn start_parts(
 {
     let output = Output::new(alloc, admission.room)?;
     let input = Input::new(alloc, admission.input)?;
-    let heap = Heap::new(alloc, (admission.seed >> 32) as u32, u64::from(admission.pages))?;
+    let heap = Heap::new(
+        alloc,
+        (admission.seed >> 32) as u32,
+        u64::from(admission.pages),
+    )?;
     let calls = HeapCalls::new(alloc)?;
     let account = Record {
         id: admission.id,
@@ -147,11 +151,10 @@ fn settle<M: Tagged>(parts: &mut TenantParts, memory: &mut M)
 fn handle<M: Paged>(outcome: Outcome, parts: &mut TenantParts, memory: &mut M) -> bool
     requires heap { IsServed (M.Tagged.memory memory.old) parts.old.heap }
     requires tag { parts.old.regs.rgsr.tag < 16 }
-    ensures machine {
-        record {
-          machine = machine_of parts.new (M.Tagged.memory memory.new);
-          goes_on = result;
-        }
+    ensures machine { record {
+      machine = machine_of parts.new (M.Tagged.memory memory.new);
+      goes_on = result;
+    }
         ≡ met outcome (machine_of parts.old (M.Tagged.memory memory.old)) }
     ensures heap { IsServed (M.Tagged.memory memory.new) parts.new.heap }
     ensures tag { parts.new.regs.rgsr.tag < 16 }
@@ -178,11 +181,10 @@ fn handle<M: Paged>(outcome: Outcome, parts: &mut TenantParts, memory: &mut M) -
 fn serve<M: Paged>(parts: &mut TenantParts, memory: &mut M) -> bool
     requires heap { IsServed (M.Tagged.memory memory.old) parts.old.heap }
     requires tag { parts.old.regs.rgsr.tag < 16 }
-    ensures machine {
-        record {
-          machine = machine_of parts.new (M.Tagged.memory memory.new);
-          goes_on = result;
-        }
+    ensures machine { record {
+      machine = machine_of parts.new (M.Tagged.memory memory.new);
+      goes_on = result;
+    }
         ≡ with_service (served parts.old (M.Tagged.memory memory.old)) }
     ensures heap { IsServed (M.Tagged.memory memory.new) parts.new.heap }
     ensures tag { parts.new.regs.rgsr.tag < 16 }

@@ -26,7 +26,11 @@ pub fn write_report<W: Sink>(tenant: &Record, out: &mut W) -> Result<(), WriteFa
 }
 
 /// Writes a line of a label and a number.
-pub(crate) fn write_number_line<W: Sink>(out: &mut W, label: &[u8], number: u64) -> Result<(), WriteFault>
+pub(crate) fn write_number_line<W: Sink>(
+    out: &mut W,
+    label: &[u8],
+    number: u64,
+) -> Result<(), WriteFault>
     ensures { Writes (W.log out.old) (W.log out.new) result (number_line label.now number) }
 {
     let mut digits = Buffer::new();

@@ -14,8 +14,7 @@ use mte_tags::{Paged, Tagged};
 pub(crate) fn malloc<M: Paged>(parts: &mut TenantParts, memory: &mut M) -> SvcEnd
     requires heap { IsServed (M.Tagged.memory memory.old) parts.old.heap }
     requires tag { parts.old.regs.rgsr.tag < 16 }
-    ensures served {
-        record { parts = parts.new; memory = M.Tagged.memory memory.new; end = result }
+    ensures served { record { parts = parts.new; memory = M.Tagged.memory memory.new; end = result }
         ≡ malloc_by parts.old (M.Tagged.memory memory.old) }
     ensures heap { IsServed (M.Tagged.memory memory.new) parts.new.heap }
     ensures tag { parts.new.regs.rgsr.tag < 16 }
@@ -36,8 +35,7 @@ pub(crate) fn malloc<M: Paged>(parts: &mut TenantParts, memory: &mut M) -> SvcEn
 pub(crate) fn free<M: Paged>(parts: &mut TenantParts, memory: &mut M) -> SvcEnd
     requires heap { IsServed (M.Tagged.memory memory.old) parts.old.heap }
     requires tag { parts.old.regs.rgsr.tag < 16 }
-    ensures served {
-        record { parts = parts.new; memory = M.Tagged.memory memory.new; end = result }
+    ensures served { record { parts = parts.new; memory = M.Tagged.memory memory.new; end = result }
         ≡ free_by parts.old (M.Tagged.memory memory.old) }
     ensures heap { IsServed (M.Tagged.memory memory.new) parts.new.heap }
     ensures tag { parts.new.regs.rgsr.tag < 16 }
@@ -62,8 +60,7 @@ pub(crate) fn free<M: Paged>(parts: &mut TenantParts, memory: &mut M) -> SvcEnd
 pub(crate) fn calloc<M: Paged>(parts: &mut TenantParts, memory: &mut M) -> SvcEnd
     requires heap { IsServed (M.Tagged.memory memory.old) parts.old.heap }
     requires tag { parts.old.regs.rgsr.tag < 16 }
-    ensures served {
-        record { parts = parts.new; memory = M.Tagged.memory memory.new; end = result }
+    ensures served { record { parts = parts.new; memory = M.Tagged.memory memory.new; end = result }
         ≡ calloc_by parts.old (M.Tagged.memory memory.old) }
     ensures heap { IsServed (M.Tagged.memory memory.new) parts.new.heap }
     ensures tag { parts.new.regs.rgsr.tag < 16 }
@@ -86,8 +83,7 @@ pub(crate) fn calloc<M: Paged>(parts: &mut TenantParts, memory: &mut M) -> SvcEn
 pub(crate) fn memalign<M: Paged>(parts: &mut TenantParts, memory: &mut M) -> SvcEnd
     requires heap { IsServed (M.Tagged.memory memory.old) parts.old.heap }
     requires tag { parts.old.regs.rgsr.tag < 16 }
-    ensures served {
-        record { parts = parts.new; memory = M.Tagged.memory memory.new; end = result }
+    ensures served { record { parts = parts.new; memory = M.Tagged.memory memory.new; end = result }
         ≡ memalign_by parts.old (M.Tagged.memory memory.old) }
     ensures heap { IsServed (M.Tagged.memory memory.new) parts.new.heap }
     ensures tag { parts.new.regs.rgsr.tag < 16 }
@@ -110,8 +106,7 @@ pub(crate) fn memalign<M: Paged>(parts: &mut TenantParts, memory: &mut M) -> Svc
 pub(crate) fn usable_size<M: Paged>(parts: &mut TenantParts, memory: &mut M) -> SvcEnd
     requires heap { IsServed (M.Tagged.memory memory.old) parts.old.heap }
     requires tag { parts.old.regs.rgsr.tag < 16 }
-    ensures served {
-        record { parts = parts.new; memory = M.Tagged.memory memory.new; end = result }
+    ensures served { record { parts = parts.new; memory = M.Tagged.memory memory.new; end = result }
         ≡ usable_size_by parts.old (M.Tagged.memory memory.old) }
     ensures heap { IsServed (M.Tagged.memory memory.new) parts.new.heap }
     ensures tag { parts.new.regs.rgsr.tag < 16 }

@@ -66,8 +66,7 @@ pub const PAGES_LEFT: u64 = 11;
 pub fn svc<M: Paged>(parts: &mut TenantParts, memory: &mut M) -> SvcEnd
     requires heap { IsServed (M.Tagged.memory memory.old) parts.old.heap }
     requires tag { parts.old.regs.rgsr.tag < 16 }
-    ensures served {
-        record { parts = parts.new; memory = M.Tagged.memory memory.new; end = result }
+    ensures served { record { parts = parts.new; memory = M.Tagged.memory memory.new; end = result }
         ≡ served parts.old (M.Tagged.memory memory.old) }
     ensures heap { IsServed (M.Tagged.memory memory.new) parts.new.heap }
     ensures tag { parts.new.regs.rgsr.tag < 16 }
@@ -108,8 +107,7 @@ pub fn svc<M: Paged>(parts: &mut TenantParts, memory: &mut M) -> SvcEnd
 fn write<M: Tagged>(parts: &mut TenantParts, memory: &mut M) -> SvcEnd
     requires heap { IsServed (M.memory memory.old) parts.old.heap }
     requires tag { parts.old.regs.rgsr.tag < 16 }
-    ensures served {
-        record { parts = parts.new; memory = M.memory memory.new; end = result }
+    ensures served { record { parts = parts.new; memory = M.memory memory.new; end = result }
         ≡ wrote parts.old (M.memory memory.old) }
     ensures heap { IsServed (M.memory memory.new) parts.new.heap }
     ensures tag { parts.new.regs.rgsr.tag < 16 }
@@ -132,8 +130,7 @@ fn write<M: Tagged>(parts: &mut TenantParts, memory: &mut M) -> SvcEnd
 fn read<M: Tagged>(parts: &mut TenantParts, memory: &mut M) -> SvcEnd
     requires heap { IsServed (M.memory memory.old) parts.old.heap }
     requires tag { parts.old.regs.rgsr.tag < 16 }
-    ensures served {
-        record { parts = parts.new; memory = M.memory memory.new; end = result }
+    ensures served { record { parts = parts.new; memory = M.memory memory.new; end = result }
         ≡ read_in parts.old (M.memory memory.old) }
     ensures heap { IsServed (M.memory memory.new) parts.new.heap }
     ensures tag { parts.new.regs.rgsr.tag < 16 }

@@ -35,16 +35,16 @@ module _ (p : Pool) (k root : ℕ) (h : IsSoundTree p k root) where
       let f = leaf_in (entry_at p root s) in
       bool_cases (is_leaf p root f n)
       (λ t.
-        let is = both _ _ t in
-        let e : n ≡ s = h.differ n s (omega (arith, few)) (omega (arith, few, l)) is.0 v (same _ _ is.1) in
-        cond-true _ _ _ t ∙ ap (λ i. 1 + i) e)
+      let is = both _ _ t in
+      let e : n ≡ s = h.differ n s (omega (arith, few)) (omega (arith, few, l)) is.0 v (same _ _ is.1) in
+      cond-true _ _ _ t ∙ ap (λ i. 1 + i) e)
       (λ b. cond-false _ _ _ b ∙ slot-leaf n s (omega (arith, few)) (earlier b) v)
     where
       earlier : is_leaf p root (leaf_in (entry_at p root s)) n ≡ false → s < n
       earlier b = elim (cases_eq s n) [
         | inl e ↦
-          let yes : is_leaf p root (leaf_in (entry_at p root s)) n ≡ true = subst (λ i. is_leaf p root (leaf_in (entry_at p root s)) i ≡ true) e (ap (λ x. x && (leaf_in (entry_at p root s) == leaf_in (entry_at p root s))) v ∙ eq-eqb _ _ refl) in
-          absurd (let no = sym b ∙ yes in cc)
+            let yes : is_leaf p root (leaf_in (entry_at p root s)) n ≡ true = subst (λ i. is_leaf p root (leaf_in (entry_at p root s)) i ≡ true) e (ap (λ x. x && (leaf_in (entry_at p root s) == leaf_in (entry_at p root s))) v ∙ eq-eqb _ _ refl) in
+            absurd (let no = sym b ∙ yes in cc)
         | inr d ↦ omega (arith, l, d)
       ]
 

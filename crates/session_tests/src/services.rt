@@ -1,7 +1,7 @@
 //! Worked examples of the services.
 
 use crate::images::{
-    COUNTS, CORRUPTS, FORGES_A_CLASS, LARGE_FREED, PAGES_AFTER_ONE, READS, USED_AFTER_FREE,
+    CORRUPTS, COUNTS, FORGES_A_CLASS, LARGE_FREED, PAGES_AFTER_ONE, READS, USED_AFTER_FREE,
 };
 use crate::sessions::report;
 use std::test::Fail;

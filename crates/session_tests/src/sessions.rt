@@ -2,15 +2,20 @@
 
 use crate::doubles::MemorySink;
 use crate::images::{
-    ACROSS, HI, ILLEGAL, LEFT_ON_THE_STACK, PAIR_WITH_TAG, PRE_INDEXED, UNALIGNED, UNTAGGED, UNTAGGED_EXIT,
-    UNTAGGED_WRITE, image,
+    ACROSS, HI, ILLEGAL, LEFT_ON_THE_STACK, PAIR_WITH_TAG, PRE_INDEXED, UNALIGNED, UNTAGGED,
+    UNTAGGED_EXIT, UNTAGGED_WRITE, image,
 };
 use mte_session::{ScriptFault, SessionError, run_session};
 use std::alloc::Global;
 use std::test::Fail;
 
 /// The report of a script on `frames` frames, over the images of some programs as files 1 and on.
-pub fn report(alloc: Global, frames: u32, script: &[u8], programs: &[&[u32]]) -> Result<Vec<u8>, Fail> {
+pub fn report(
+    alloc: Global,
+    frames: u32,
+    script: &[u8],
+    programs: &[&[u32]],
+) -> Result<Vec<u8>, Fail> {
     let mut files = Vec::new(alloc);
     for words in programs {
         files.push(image(alloc, words)?)?;

@@ -17,9 +17,9 @@ pub invariant_of-result : goal.invariant_of-result
 invariant_of-result c =
     let terms = terms_of c.args.admission.now in
     let heap : c.in_ok-parts.parts.heap ≡ empty_heap (c.args.admission.now.seed / 2 ^ 32) c.args.admission.now.pages =
-        ap (λ (p : TenantParts). p.heap) c.in_ok-parts.ensures ∙ heap_at_first c.args.admission.now.id terms in
+    ap (λ (p : TenantParts). p.heap) c.in_ok-parts.ensures ∙ heap_at_first c.args.admission.now.id terms in
     let served : IsServed c.fill.new.memory (empty_heap (c.args.admission.now.seed / 2 ^ 32) c.args.admission.now.pages) =
-        c.condition_of_calls.ensures.first c.fill.new.memory (c.args.admission.now.seed / 2 ^ 32) c.args.admission.now.pages (omega arith) c.fill.ensures.untouched in
+    c.condition_of_calls.ensures.first c.fill.new.memory (c.args.admission.now.seed / 2 ^ 32) c.args.admission.now.pages (omega arith) c.fill.ensures.untouched in
     let tag : c.in_ok-parts.parts.regs.rgsr.tag < 16 = subst (λ (p : TenantParts). p.regs.rgsr.tag < 16) (sym c.in_ok-parts.ensures) (tag_at_first c.args.admission.now.id terms) in
     record {
       ready = record {

@@ -12,8 +12,8 @@ pub returns-then-handle-clause-rest : goal.returns-then-handle-clause-rest
 returns-then-handle-clause-rest g c =
     let a : Attempted = record { machine = machine_of c.handle.new.parts (g.M.Tagged.memory c.handle.new.memory); goes_on = c.handle.result } in
     let all : rest_of c.run-stop.result.left a ≡ attempts c.args.left (machine_of c.args.parts.now (g.M.Tagged.memory c.args.memory.now)) =
-        after_some c.args.left (machine_of c.args.parts.now (g.M.Tagged.memory c.args.memory.now)) a c.run-stop.result c.run-stop.new.regs (g.M.Tagged.memory c.run-stop.new.memory) c.in-Some.outcome _
-        c.run-stop.ensures.stop c.run-stop.ensures.regs c.run-stop.ensures.memory c.in-Some.is c.saturating_add-parts.ensures c.handle.ensures.machine c.requires.running (omega arith) c.requires.some in
+    after_some c.args.left (machine_of c.args.parts.now (g.M.Tagged.memory c.args.memory.now)) a c.run-stop.result c.run-stop.new.regs (g.M.Tagged.memory c.run-stop.new.memory) c.in-Some.outcome _
+    c.run-stop.ensures.stop c.run-stop.ensures.regs c.run-stop.ensures.memory c.in-Some.is c.saturating_add-parts.ensures c.handle.ensures.machine c.requires.running (omega arith) c.requires.some in
     rw (c.if-handle.true) at all
 
 pub returns-then-handle-clause-fewer : goal.returns-then-handle-clause-fewer
@@ -24,8 +24,8 @@ unfolding attempts
 returns-else-handle-clause-rest g c =
     let a : Attempted = record { machine = machine_of c.handle.new.parts (g.M.Tagged.memory c.handle.new.memory); goes_on = c.handle.result } in
     let all : rest_of c.run-stop.result.left a ≡ attempts c.args.left (machine_of c.args.parts.now (g.M.Tagged.memory c.args.memory.now)) =
-        after_some c.args.left (machine_of c.args.parts.now (g.M.Tagged.memory c.args.memory.now)) a c.run-stop.result c.run-stop.new.regs (g.M.Tagged.memory c.run-stop.new.memory) c.in-Some.outcome _
-        c.run-stop.ensures.stop c.run-stop.ensures.regs c.run-stop.ensures.memory c.in-Some.is c.saturating_add-parts.ensures c.handle.ensures.machine c.requires.running (omega arith) c.requires.some in
+    after_some c.args.left (machine_of c.args.parts.now (g.M.Tagged.memory c.args.memory.now)) a c.run-stop.result c.run-stop.new.regs (g.M.Tagged.memory c.run-stop.new.memory) c.in-Some.outcome _
+    c.run-stop.ensures.stop c.run-stop.ensures.regs c.run-stop.ensures.memory c.in-Some.is c.saturating_add-parts.ensures c.handle.ensures.machine c.requires.running (omega arith) c.requires.some in
     rw (c.if-handle.false) at all
 
 pub returns-in-None-clause-rest : goal.returns-in-None-clause-rest
