@@ -11,4 +11,6 @@ mod heap;
 #[cfg(test)]
 mod primary;
 #[cfg(test)]
+mod realloc;
+#[cfg(test)]
 mod secondary;
