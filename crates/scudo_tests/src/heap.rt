@@ -22,6 +22,15 @@ pub(crate) fn fresh(alloc: Global, pages: usize, mode: TagMode) -> Result<(Heap,
     Ok((heap, memory))
 }
 
+/// A heap and a memory of 4096 pages.
+pub(crate) fn large(alloc: Global, mode: TagMode) -> Result<(Heap, Flat), Fail>
+    ensures { IfOk result (λ both. IsServed both.1 both.0) }
+{
+    let memory = Flat::new(alloc, 4096, mode)?;
+    let heap = Heap::new(alloc, 0, 4096)?;
+    Ok((heap, memory))
+}
+
 /// Writes bytes, also those of a header, as a tenant may.
 pub(crate) fn write_bytes(memory: &mut Flat, heap: &Heap, at: u64, bytes: &[u8]) -> bool
     requires { IsServed memory.old heap.now }

@@ -13,4 +13,6 @@ mod primary;
 #[cfg(test)]
 mod realloc;
 #[cfg(test)]
+mod rows;
+#[cfg(test)]
 mod secondary;
