@@ -1,5 +1,5 @@
 -- A heap call that was answered, and one that aborted.
-use Rattle.std.proofs.Common.{◌≡◌, ℕ, ◌==◌, ◌∙◌, Bool, true, false, Result, Ok, Err, Option, refl, sym, ap}
+use Rattle.std.proofs.Common.{◌≡◌, ℕ, ◌==◌, ◌∙◌, Bool, true, false, Ok, Err, refl, ap}
 use Rattle.std.proofs.Common.{if◌then◌else◌}
 use Rattle.a64_bits.specs.Addresses.{plain}
 use Rattle.mte_tags.specs.Memory.{Memory}
@@ -17,10 +17,9 @@ use Rattle.mte_svc.specs.declared.calls.HeapCall.{HeapCall}
 use Rattle.mte_svc.specs.declared.calls.HeapService.{HeapService}
 use Rattle.mte_svc.specs.declared.parts.TenantParts.{TenantParts}
 use Rattle.mte_svc.specs.declared.services.SvcEnd.{SvcEnd}
-use Rattle.mte_svc.specs.declared.services.SvcEnd.TheVariants.{Go, Abort}
+use Rattle.mte_svc.specs.declared.services.SvcEnd.TheVariants.{Go}
 use Rattle.mte_svc.specs.Results.{Served, x_of, answered, entered, ends}
-use Rattle.mte_svc.specs.HeapServices.{world_in, called, made_by, found_by}
-use Rattle.mte_svc.specs.HeapServices as services
+use Rattle.mte_svc.specs.HeapServices.{world_in, called, made_by}
 
 -- a tenant's parts with a heap and a generator
 abbrev pub with_both : TenantParts → HeapState → Rgsr → TenantParts
