@@ -8,11 +8,13 @@ use Rattle.mte_tags.specs.Memory.{Memory, pages_left}
 use Rattle.mte_tags.specs.Accesses.{read_fault, write_fault}
 use Rattle.mte_tags.specs.declared.fault.MemFault.{MemFault}
 use Rattle.mte_svc.specs.Results.{Served, answered, entered, ends, goes_on, x_of}
-use Rattle.mte_svc.specs.HeapServices.{malloc_by, free_by, calloc_by, memalign_by, usable_size_by, freed_by, found_by, made_by, world_in}
-use Rattle.mte_svc.specs.declared.calls.HeapService.TheVariants.{Malloc, Free, Calloc, Memalign, UsableSize}
+use Rattle.mte_svc.specs.HeapServices.{malloc_by, free_by, calloc_by, realloc_by, memalign_by, usable_size_by, freed_by, found_by, made_by, world_in}
+use Rattle.mte_svc.specs.declared.calls.HeapService.TheVariants.{Malloc, Free, Calloc, Realloc, Memalign, UsableSize}
 use Rattle.mte_svc.specs.declared.calls.HeapService.{HeapService}
 use Rattle.scudo_heap.specs.Allocation.{Made, malloc_of, calloc_of, memalign_of}
 use Rattle.scudo_heap.specs.Freeing.{free_of, usable_size_of}
+use Rattle.scudo_heap.specs.Realloc as realloc
+use Rattle.scudo_heap.specs.Realloc.{Reallocated, realloc_of}
 use Rattle.scudo_heap.specs.Placing.{World}
 use Rattle.scudo_heap.specs.declared.abort.HeapAbort.{HeapAbort}
 use Rattle.mte_svc.specs.Services.{served, by_number, wrote, wrote_by, write_count, read_in, read_by, read_count, none_such}
@@ -20,7 +22,7 @@ use Rattle.mte_svc.specs.declared.parts.TenantParts.{TenantParts}
 use Rattle.mte_svc.specs.declared.record.Record.{Record}
 use Rattle.mte_svc.specs.declared.services.SvcEnd.{SvcEnd}
 use Rattle.mte_svc.specs.declared.services.SvcEnd.TheVariants as end
-use Rattle.mte_svc.specs.declared.services.TheConstants.{EXIT, WRITE, READ, MALLOC, FREE, CALLOC, MEMALIGN, USABLE_SIZE, YIELD, STEPS_LEFT, PAGES_LEFT}
+use Rattle.mte_svc.specs.declared.services.TheConstants.{EXIT, WRITE, READ, MALLOC, FREE, CALLOC, REALLOC, MEMALIGN, USABLE_SIZE, YIELD, STEPS_LEFT, PAGES_LEFT}
 use Rattle.mte_sched.specs.Machines.{Machine, machine_of, runs, Attempted, on, after_service, with_service, ended_by_tag, met, counted, with_regs}
 use Rattle.mte_sched.specs.Machines.{attempted, attempts, ended_where_set, settled, advance, halted, with_status}
 use Rattle.mte_sched.specs.Ledger.{has_id, has_live_id}
@@ -85,6 +87,13 @@ usable-id : (p : TenantParts) (m : Memory) → (usable_size_by p m).parts.accoun
 unfolding usable_size_by
 usable-id p m = found-id p m UsableSize 0 (world_in p m) (usable_size_of m p.heap (x_of p 0))
 
+reallocated-id : (p : TenantParts) (m : Memory) (r : Reallocated) → (found_by p m Realloc (x_of p 1) r.world (realloc.answered r.result)).parts.account.id ≡ p.account.id
+reallocated-id p m r = found-id p m Realloc (x_of p 1) r.world (realloc.answered r.result)
+
+realloc-id : (p : TenantParts) (m : Memory) → (realloc_by p m).parts.account.id ≡ p.account.id
+unfolding realloc_by
+realloc-id p m = reallocated-id p m (realloc_of (world_in p m) (x_of p 0) (x_of p 1))
+
 number-id : (n : ℕ) (p : TenantParts) (m : Memory) → (by_number n p m).parts.account.id ≡ p.account.id
 unfolding wrote read_in answered
 number-id n p m =
@@ -94,11 +103,12 @@ number-id n p m =
     (served_if (n == MALLOC) _ _ p.account.id (malloc-id p m)
     (served_if (n == FREE) _ _ p.account.id (free-id p m)
     (served_if (n == CALLOC) _ _ p.account.id (calloc-id p m)
+    (served_if (n == REALLOC) _ _ p.account.id (realloc-id p m)
     (served_if (n == MEMALIGN) _ _ p.account.id (memalign-id p m)
     (served_if (n == USABLE_SIZE) _ _ p.account.id (usable-id p m)
     (served_if (n == YIELD) _ _ p.account.id refl
     (served_if (n == STEPS_LEFT) _ _ p.account.id refl
-    (served_if (n == PAGES_LEFT) (goes_on p m (pages_left m)) (goes_on p m none_such) p.account.id refl refl))))))))))
+    (served_if (n == PAGES_LEFT) (goes_on p m (pages_left m)) (goes_on p m none_such) p.account.id refl refl)))))))))))
 
 served-id : (p : TenantParts) (m : Memory) → (served p m).parts.account.id ≡ p.account.id
 unfolding served

@@ -1,5 +1,5 @@
 -- A heap call that was answered, and one that aborted.
-use Rattle.std.proofs.Common.{◌≡◌, ℕ, ◌==◌, ◌∙◌, Bool, true, false, Result, Ok, Err, Option, refl, sym, ap}
+use Rattle.std.proofs.Common.{◌≡◌, ℕ, ◌==◌, ◌∙◌, Bool, true, false, Ok, Err, refl, ap}
 use Rattle.std.proofs.Common.{if◌then◌else◌}
 use Rattle.a64_bits.specs.Addresses.{plain}
 use Rattle.mte_tags.specs.Memory.{Memory}
@@ -7,18 +7,19 @@ use Rattle.mte_tags.specs.declared.generator.Rgsr.{Rgsr}
 use Rattle.scudo_heap.specs.Heaps.{HeapState}
 use Rattle.scudo_heap.specs.declared.abort.HeapAbort.{HeapAbort}
 use Rattle.scudo_heap.specs.Placing.{World, world_of}
-use Rattle.scudo_heap.specs.Allocation.{Made, answer_of}
+use Rattle.scudo_heap.specs.Allocation.{Made, answer_of, malloc_of}
 use Rattle.scudo_heap.specs.Freeing as freeing
 use Rattle.scudo_heap.specs.Freeing.{free_of, Freed}
 use Rattle.scudo_heap.specs.Checks.{found}
+use Rattle.scudo_heap.specs.Realloc as realloc
+use Rattle.scudo_heap.specs.Realloc.{ended, reallocated_by, realloc_of}
 use Rattle.mte_svc.specs.declared.calls.HeapCall.{HeapCall}
 use Rattle.mte_svc.specs.declared.calls.HeapService.{HeapService}
 use Rattle.mte_svc.specs.declared.parts.TenantParts.{TenantParts}
 use Rattle.mte_svc.specs.declared.services.SvcEnd.{SvcEnd}
-use Rattle.mte_svc.specs.declared.services.SvcEnd.TheVariants.{Go, Abort}
+use Rattle.mte_svc.specs.declared.services.SvcEnd.TheVariants.{Go}
 use Rattle.mte_svc.specs.Results.{Served, x_of, answered, entered, ends}
-use Rattle.mte_svc.specs.HeapServices.{world_in, called, made_by, found_by}
-use Rattle.mte_svc.specs.HeapServices as services
+use Rattle.mte_svc.specs.HeapServices.{world_in, called, made_by}
 
 -- a tenant's parts with a heap and a generator
 abbrev pub with_both : TenantParts → HeapState → Rgsr → TenantParts
@@ -53,6 +54,20 @@ free_if false w f e h = freed_stays w f e h
 pub free_stays : (w : World) (pointer : ℕ) (e : HeapAbort) → (free_of w pointer).result ≡ Err e → (free_of w pointer).world ≡ w
 unfolding free_of
 free_stays w pointer e h = free_if (pointer == 0) w (found w.memory w.heap (plain pointer)) e h
+
+reallocated_stays : (w : World) (n : ℕ) (r : _) (e : HeapAbort) → realloc.answered (reallocated_by w n r).result ≡ Err e → (reallocated_by w n r).world ≡ w
+reallocated_stays w n (Err d) e h = refl
+reallocated_stays w n (Ok f) e h = cc
+
+realloc_if : (b : Bool) (w : World) (n : ℕ) (r : _) (e : HeapAbort)
+    → realloc.answered (if b then ended (malloc_of w n) else reallocated_by w n r).result ≡ Err e
+    → (if b then ended (malloc_of w n) else reallocated_by w n r).world ≡ w
+realloc_if true w n r e h = cc
+realloc_if false w n r e h = reallocated_stays w n r e h
+
+pub realloc_stays : (w : World) (pointer n : ℕ) (e : HeapAbort) → realloc.answered (realloc_of w pointer n).result ≡ Err e → (realloc_of w pointer n).world ≡ w
+unfolding realloc_of
+realloc_stays w pointer n e h = realloc_if (pointer == 0) w n (found w.memory w.heap (plain pointer)) e h
 
 -- the same tenant and memory
 pub aborted_from : (p : TenantParts) (m m' : Memory) (h' : HeapState) (r' : Rgsr) (end : SvcEnd)

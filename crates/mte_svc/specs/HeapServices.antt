@@ -6,6 +6,7 @@ use Rattle.scudo_heap.specs.declared.abort.HeapAbort.{HeapAbort}
 use Rattle.scudo_heap.specs.Placing.{World, world_of}
 use Rattle.scudo_heap.specs.Allocation.{Made, answer_of, malloc_of, calloc_of, memalign_of}
 use Rattle.scudo_heap.specs.Freeing.{Freed, free_of, usable_size_of}
+use Rattle.scudo_heap.specs.Realloc.{Reallocated, realloc_of, answered}
 use Rattle.mte_svc.specs.declared.calls.HeapService.{HeapService}
 use Rattle.mte_svc.specs.declared.calls.HeapService.TheVariants.{Malloc, Free, Calloc, Realloc}
 use Rattle.mte_svc.specs.declared.calls.HeapService.TheVariants.{Memalign, UsableSize}
@@ -57,6 +58,12 @@ abbrev pub found_by :
     TenantParts → Memory → HeapService → ℕ → World → Result ℕ HeapAbort → Served
 found_by p m service second w (Err abort) = ends p m (Abort abort (x_of p 0))
 found_by p m service second w (Ok answer) = called p service second w answer
+
+abbrev pub reallocated_by : TenantParts → Memory → Reallocated → Served
+reallocated_by p m r = found_by p m Realloc (x_of p 1) r.world (answered r.result)
+
+unfoldable pub realloc_by : TenantParts → Memory → Served
+realloc_by p m = reallocated_by p m (realloc_of (world_in p m) (x_of p 0) (x_of p 1))
 
 unfoldable pub usable_size_by : TenantParts → Memory → Served
 usable_size_by p m =

@@ -7,10 +7,10 @@ use Rattle.mte_tags.specs.Accesses.{read_fault, read_bytes, after_read, write_fa
 use Rattle.mte_svc.specs.declared.parts.TenantParts.{TenantParts}
 use Rattle.mte_svc.specs.declared.services.SvcEnd.TheVariants.{EndSlice, Exit, Fault}
 use Rattle.mte_svc.specs.declared.services.TheConstants.{EXIT, WRITE, READ, MALLOC, FREE, CALLOC}
-use Rattle.mte_svc.specs.declared.services.TheConstants.{MEMALIGN, USABLE_SIZE, YIELD}
+use Rattle.mte_svc.specs.declared.services.TheConstants.{REALLOC, MEMALIGN, USABLE_SIZE, YIELD}
 use Rattle.mte_svc.specs.declared.services.TheConstants.{STEPS_LEFT, PAGES_LEFT}
 use Rattle.mte_svc.specs.Results.{Served, x_of, answered, goes_on, ends}
-use Rattle.mte_svc.specs.HeapServices.{malloc_by, free_by, calloc_by, memalign_by}
+use Rattle.mte_svc.specs.HeapServices.{malloc_by, free_by, calloc_by, realloc_by, memalign_by}
 use Rattle.mte_svc.specs.HeapServices.{usable_size_by}
 
 -- ---- write: the x1 bytes at x0, or as many as there is room for, by one checked read
@@ -64,12 +64,13 @@ by_number n p m =
     else (if n == MALLOC then malloc_by p m
     else (if n == FREE then free_by p m
     else (if n == CALLOC then calloc_by p m
+    else (if n == REALLOC then realloc_by p m
     else (if n == MEMALIGN then memalign_by p m
     else (if n == USABLE_SIZE then usable_size_by p m
     else (if n == YIELD then record { parts = answered p 0; memory = m; end = EndSlice }
     else (if n == STEPS_LEFT then goes_on p m p.left
     else (if n == PAGES_LEFT then goes_on p m (pages_left m)
-    else goes_on p m none_such))))))))))
+    else goes_on p m none_such)))))))))))
 
 unfoldable pub served : TenantParts → Memory → Served
 served p m = by_number (x_of p 8) p m

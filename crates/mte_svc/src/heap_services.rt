@@ -2,7 +2,7 @@
 
 ghost use Rattle.std.specs.Prelude.{◌≡◌, ◌<◌};
 ghost use Rattle.scudo_heap.specs.Served.{IsServed};
-ghost use Rattle.mte_svc.specs.HeapServices.{malloc_by, free_by, calloc_by};
+ghost use Rattle.mte_svc.specs.HeapServices.{malloc_by, free_by, calloc_by, realloc_by};
 ghost use Rattle.mte_svc.specs.HeapServices.{memalign_by, usable_size_by};
 
 use crate::calls::{HeapCall, HeapService};
@@ -77,6 +77,34 @@ pub(crate) fn calloc<M: Paged>(parts: &mut TenantParts, memory: &mut M) -> SvcEn
         answer,
     });
     SvcEnd::Go
+}
+
+/// Gives the chunk at x0 a size of x1 bytes.
+pub(crate) fn realloc<M: Paged>(parts: &mut TenantParts, memory: &mut M) -> SvcEnd
+    requires heap { IsServed (M.Tagged.memory memory.old) parts.old.heap }
+    requires tag { parts.old.regs.rgsr.tag < 16 }
+    ensures served { record { parts = parts.new; memory = M.Tagged.memory memory.new; end = result }
+        ≡ realloc_by parts.old (M.Tagged.memory memory.old) }
+    ensures heap { IsServed (M.Tagged.memory memory.new) parts.new.heap }
+    ensures tag { parts.new.regs.rgsr.tag < 16 }
+    ensures kept { M.Tagged.kept memory.old memory.new }
+{
+    let (first, second) = (parts.regs.x[0], parts.regs.x[1]);
+    match parts
+        .heap
+        .realloc(&mut parts.regs.rgsr, memory, first, second)
+    {
+        Ok(answer) => {
+            parts.enter(HeapCall {
+                service: HeapService::Realloc,
+                first,
+                second,
+                answer,
+            });
+            SvcEnd::Go
+        }
+        Err(abort) => SvcEnd::Abort(abort, first),
+    }
 }
 
 /// A chunk of x1 bytes at a multiple of x0.

@@ -4,7 +4,7 @@ ghost use Rattle.std.specs.Prelude.{◌≡◌, ◌<◌};
 ghost use Rattle.scudo_heap.specs.Served.{IsServed};
 ghost use Rattle.mte_svc.specs.Services.{served, wrote, read_in};
 
-use crate::heap_services::{calloc, free, malloc, memalign, usable_size};
+use crate::heap_services::{calloc, free, malloc, memalign, realloc, usable_size};
 use crate::parts::TenantParts;
 use mte_tags::{MemFault, Paged, Tagged};
 use scudo_heap::{HeapAbort, condition_of_calls};
@@ -79,6 +79,7 @@ pub fn svc<M: Paged>(parts: &mut TenantParts, memory: &mut M) -> SvcEnd
         MALLOC => malloc(parts, memory),
         FREE => free(parts, memory),
         CALLOC => calloc(parts, memory),
+        REALLOC => realloc(parts, memory),
         MEMALIGN => memalign(parts, memory),
         USABLE_SIZE => usable_size(parts, memory),
         YIELD => {

@@ -9,3 +9,7 @@ pub mod ClassLemmas
 pub mod LargeLemmas
 pub mod AllocationLemmas
 pub mod FirstLemmas
+pub mod CopyLemmas
+pub mod KeptLemmas
+pub mod BesideLemmas
+pub mod ReallocLemmas

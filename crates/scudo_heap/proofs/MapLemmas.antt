@@ -147,7 +147,7 @@ inside-more (m ∷ ms) n a = elim (nat_lt m.start n.start) as (λ b. list_any (i
   | false ↦ refl
 ]
 
-all-apart : (ms : List Mapping) (pages start : ℕ) → is_place ms pages start ≡ true → list_all (is_apart pages start) ms ≡ true
+pub all-apart : (ms : List Mapping) (pages start : ℕ) → is_place ms pages start ≡ true → list_all (is_apart pages start) ms ≡ true
 unfolding is_place
 all-apart ms pages start h =
     (and-both ((start % PAGE_SIZE == 0) && nat_le (SECONDARY_START + PAGE_SIZE) start && nat_le (start + PAGE_SIZE * pages + PAGE_SIZE) SECONDARY_END) (list_all (is_apart pages start) ms) h).1

@@ -163,11 +163,11 @@ left-carved : (s : StackState) (c n : ℕ) → (carved s c n).left ≡ s.left - 
 unfolding carved
 left-carved s c n = refl
 
-class-carved : (s : StackState) (c n : ℕ) → class_at (carved s c n) c ≡ carved_class c (class_at s c) n
+pub class-carved : (s : StackState) (c n : ℕ) → class_at (carved s c n) c ≡ carved_class c (class_at s c) n
 unfolding carved class_at with_class
 class-carved s c n = class_at-with_class s c (carved_class c (class_at s c) n)
 
-class-carved_other : (s : StackState) (c n d : ℕ) → d ≢ c → class_at (carved s c n) d ≡ class_at s d
+pub class-carved_other : (s : StackState) (c n d : ℕ) → d ≢ c → class_at (carved s c n) d ≡ class_at s d
 unfolding carved class_at with_class
 class-carved_other s c n d o = class_at-with_class_other s c d (carved_class c (class_at s c) n) o
 

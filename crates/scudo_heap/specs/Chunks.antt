@@ -22,6 +22,9 @@ end_of p = p.user + 16 * granules_of p.size
 abbrev pub block_end : Place → ℕ
 block_end p = p.block + size_of p.class
 
+abbrev pub with_size : Place → ℕ → Place
+with_size p size = record p { size = size }
+
 -- ---- the tag
 
 -- 0 or 1, in turn from block to block of a class.
@@ -50,6 +53,15 @@ closed m p = if nat_lt (end_of p) (block_end p) then with_granules m (end_of p) 
 -- Tag 0 on the granule of the header.
 unfoldable pub opened : Memory → Place → Memory
 opened m p = with_granules m (p.user - 16) 1 0 false
+
+-- The granules that come to the place get its tag and zero bytes, and the one after them tag 0
+-- where the block goes on; those that it gives up get tag 0 and keep their bytes.
+unfoldable pub refitted : Memory → Place → ℕ → Memory
+refitted m p size = if nat_lt (granules_of p.size) (granules_of size)
+    then closed
+    (with_granules m (end_of p) (granules_of size - granules_of p.size) (tag_at m p.user) true)
+    (with_size p size)
+    else with_granules m (end_of (with_size p size)) (granules_of p.size - granules_of size) 0 false
 
 -- The header's eight bytes, in the granule before the user address.
 unfoldable pub headed : Memory → ℕ → ℕ → Header → Memory

@@ -1,5 +1,5 @@
 -- The heap of a tenant: its size classes, and the mappings of the chunks with pages of their own.
-use Rattle.std.specs.Prelude.{ℕ, ◌==◌, List, [], filter, not, refl}
+use Rattle.std.specs.Prelude.{ℕ, ◌==◌, [], filter, not, refl}
 use Rattle.std.specs.Coded.{Coded, code_by, coded×, coded_ℕ}
 use Rattle.scudo_secondary.specs.Mappings.{MapsState, coded_maps, with_mapping}
 use Rattle.scudo_secondary.specs.declared.mappings.Mapping.{Mapping}

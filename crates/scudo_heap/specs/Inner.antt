@@ -1,5 +1,5 @@
 -- What the parts of the stacks of free blocks are, and what a chunk is that the checks found.
-use Rattle.std.specs.Prelude.{◌≡◌, ℕ, ◌+◌, ◌-◌, ◌%◌, ◌^◌, ◌<◌, ◌≤◌, ◌∷◌, Some, false}
+use Rattle.std.specs.Prelude.{◌≡◌, ℕ, ◌+◌, ◌-◌, ◌%◌, ◌^◌, ◌<◌, ◌≤◌, ◌⊎◌, Some, false}
 use Rattle.scudo_header.specs.declared.classes.TheConstants.{CLASSES}
 use Rattle.scudo_header.specs.declared.headers.Header.{Header}
 use Rattle.scudo_primary.specs.Blocks.{IsBlock}
@@ -51,6 +51,10 @@ pub record IsFoundBlock (s : StackState) (p : Place) (header : Header) : Type 0 
 abbrev pub IsFound : HeapState → Found → Type 0
 IsFound h (InBlock p header) = IsFoundBlock h.stacks p header
 IsFound h (InPages m header) = Some m ≡ mapping_of h.maps.mappings m.user
+
+-- two places of n bytes have none in common
+abbrev pub AreApart : ℕ → ℕ → ℕ → Type 0
+AreApart a b n = (a + n ≤ b) ⊎ (b + n ≤ a)
 
 -- an alignment as the calls take it: at least that of a granule, at most a page
 pub record IsAlign (align : ℕ) : Type 0 where

@@ -6,5 +6,6 @@ pub mod Large
 pub mod Allocation
 pub mod Checks
 pub mod Freeing
+pub mod Realloc
 pub mod Served
 pub mod Inner

@@ -2,6 +2,7 @@
 --     grown w class                   a class without free blocks gets pages
 --     placed w origin p               the chunk is made in the block on top of its class's stack
 --     given_back w p header           the chunk is freed
+--     resized w p header size         it gets another size in its block
 use Rattle.std.specs.Prelude.{ℕ, ◌+◌, ◌-◌, ◌/◌}
 use Rattle.mte_tags.specs.Memory.{Memory, with_new_pages}
 use Rattle.mte_tags.specs.RandomTags.{Drawn, drawn}
@@ -16,7 +17,7 @@ use Rattle.address_map.specs.declared.limits.TheConstants.{PAGE_SIZE}
 use Rattle.scudo_heap.specs.declared.chunk.Place.{Place}
 use Rattle.scudo_heap.specs.Stacks.{StackState, pages_of, popped, pushed, carved}
 use Rattle.scudo_heap.specs.Heaps.{HeapState}
-use Rattle.scudo_heap.specs.Chunks.{tagged, closed, opened, headed, excluded}
+use Rattle.scudo_heap.specs.Chunks.{tagged, closed, opened, headed, excluded, refitted}
 
 -- What a heap call changes: the tenant's memory, its heap, and its generator of random tags.
 pub record World : Type 0 where
@@ -85,3 +86,12 @@ given_back_by w p header d = record {
 
 unfoldable pub given_back : World → Place → Header → World
 given_back w p header = given_back_by w p header (drawn w.rgsr (excluded w.memory p))
+
+-- ---- a chunk that gets another size in its block
+
+unfoldable pub resized : World → Place → Header → ℕ → World
+resized w p header size = record w {
+  memory =
+      headed (refitted w.memory p size) w.heap.cookie p.user
+      (record header { size_or_unused_bytes = size });
+}

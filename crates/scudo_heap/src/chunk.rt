@@ -2,6 +2,7 @@
 
 ghost use Rattle.std.specs.Prelude.{◌≡◌, ◌≤◌, ◌^◌, Some, IfSome};
 ghost use Rattle.scudo_heap.specs.Allocation.{answer_of};
+ghost use Rattle.scudo_heap.specs.Realloc.{user_in, user_of};
 ghost use Rattle.scudo_heap.specs.Inner.{IsLow};
 ghost use Rattle.scudo_heap.specs.Checks.{size_found, HasEnd};
 
@@ -41,6 +42,16 @@ pub(crate) enum Found {
 }
 
 impl Chunk {
+    /// The address that its user is given, without the tag.
+    pub(crate) fn user(&self) -> u64
+        ensures { result ≡ user_in self.now }
+    {
+        match self {
+            Chunk::Small(place, _) => place.user,
+            Chunk::Large(mapping, _) => mapping.user,
+        }
+    }
+
     /// The address that its user is given, with its tag in bits 59:56.
     pub(crate) fn address(&self) -> u64
         requires { IsLow self.now }
@@ -54,6 +65,16 @@ impl Chunk {
 }
 
 impl Found {
+    /// The address that its user was given, without the tag.
+    pub(crate) fn user(&self) -> u64
+        ensures { result ≡ user_of self.now }
+    {
+        match self {
+            Found::InBlock(place, _) => place.user,
+            Found::InPages(mapping, _) => mapping.user,
+        }
+    }
+
     /// The bytes that its user may use.
     pub(crate) fn size(&self) -> u64
         requires { HasEnd self.now }

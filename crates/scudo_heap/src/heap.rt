@@ -6,6 +6,7 @@ ghost use Rattle.scudo_heap.specs.Heaps.{HeapState, heap_of, empty_heap};
 ghost use Rattle.scudo_heap.specs.Placing.{world_of};
 ghost use Rattle.scudo_heap.specs.Allocation.{answer_of, malloc_of, calloc_of, memalign_of};
 ghost use Rattle.scudo_heap.specs.Freeing.{free_of, usable_size_of};
+ghost use Rattle.scudo_heap.specs.Realloc.{answered, realloc_of};
 ghost use Rattle.scudo_heap.specs.Served.{IsServed};
 
 use crate::abort::HeapAbort;
@@ -14,6 +15,7 @@ use crate::checks::find_chunk;
 use crate::chunk::address_or_null;
 use crate::freeing::free_found;
 use crate::limits::MIN_ALIGNMENT;
+use crate::resizing::reallocate;
 use crate::stacks::Stacks;
 use a64_bits::plain;
 use address_map::MAX_PAGES;
@@ -193,6 +195,54 @@ impl Heap {
                     found,
                 );
                 Ok(())
+            }
+        }
+    }
+
+    /// Gives a chunk another size. Where its block holds that, it stays there: the granules that
+    /// come to it are zero and get its tag, and those that it gives up get tag 0. Else a new chunk,
+    /// as of `malloc`, gets the bytes that both sizes have, and the old one is freed. Returns the
+    /// address with the tag, or 0, with nothing changed, where `size` is over `MAX_REQUEST` or no
+    /// new chunk is made. Size 0 frees the chunk and returns 0; the null pointer is as `malloc`.
+    pub fn realloc<M: Paged>(
+        &mut self,
+        rgsr: &mut Rgsr,
+        memory: &mut M,
+        pointer: u64,
+        size: u64,
+    ) -> Result<u64, HeapAbort>
+        requires served { IsServed (M.memory memory.old) self.old }
+        requires tag { rgsr.old.tag < 16 }
+        ensures answer { let w = world_of (M.memory memory.old) self.old rgsr.old in
+            result ≡ answered (realloc_of w pointer size).result }
+        ensures world { let w = world_of (M.memory memory.old) self.old rgsr.old in
+            world_of (M.memory memory.new) self.new rgsr.new ≡ (realloc_of w pointer size).world }
+        ensures served { IsServed (M.memory memory.new) self.new }
+        ensures tag { rgsr.new.tag < 16 }
+        ensures kept { M.kept memory.old memory.new }
+    {
+        if pointer == 0 {
+            return Ok(self.malloc(rgsr, memory, size));
+        }
+        match find_chunk(
+            self.cookie,
+            &self.stacks,
+            &self.maps,
+            memory,
+            plain(pointer),
+        ) {
+            Err(abort) => Err(abort),
+            Ok(found) => {
+                let chunk = reallocate(
+                    self.cookie,
+                    &mut self.stacks,
+                    &mut self.maps,
+                    rgsr,
+                    memory,
+                    found,
+                    size,
+                );
+                Ok(address_or_null(&chunk))
             }
         }
     }

@@ -7,6 +7,7 @@ mod allocation;
 mod checks;
 mod chunk;
 mod classes;
+mod copying;
 mod freeing;
 mod granules;
 mod heap;
@@ -14,6 +15,7 @@ mod laws;
 mod limits;
 mod pages;
 mod placing;
+mod resizing;
 mod stacks;
 mod tagging;
 

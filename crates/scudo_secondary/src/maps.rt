@@ -83,6 +83,14 @@ impl Maps {
         Some(self.mappings[i])
     }
 
+    /// The mappings lie in the order of their starts, at least one page apart, whatever the calls
+    /// were.
+    pub fn are_in_order(&self)
+        ensures { AreMappings self.now.mappings }
+    {
+        let _own = &self.mappings;
+    }
+
     /// Takes away the mapping with a user address, which is there.
     pub fn remove(&mut self, user: u64)
         requires { IsSome (mapping_of self.old.mappings user) }

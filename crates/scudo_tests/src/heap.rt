@@ -12,7 +12,7 @@ use std::process::Abort;
 use std::test::Fail;
 
 /// A heap of 512 pages over a memory of so many.
-fn fresh(alloc: Global, pages: usize, mode: TagMode) -> Result<(Heap, Flat), Fail>
+pub(crate) fn fresh(alloc: Global, pages: usize, mode: TagMode) -> Result<(Heap, Flat), Fail>
     requires some { 0 < pages }
     requires most { pages ≤ 512 }
     ensures { IfOk result (λ both. IsServed both.1 both.0) }
@@ -22,12 +22,21 @@ fn fresh(alloc: Global, pages: usize, mode: TagMode) -> Result<(Heap, Flat), Fai
     Ok((heap, memory))
 }
 
-/// Writes a header by hand, as a tenant may.
-fn write_header(memory: &mut Flat, heap: &Heap, at: u64, word: &[u8; 8]) -> bool
+/// A heap and a memory of 4096 pages.
+pub(crate) fn large(alloc: Global, mode: TagMode) -> Result<(Heap, Flat), Fail>
+    ensures { IfOk result (λ both. IsServed both.1 both.0) }
+{
+    let memory = Flat::new(alloc, 4096, mode)?;
+    let heap = Heap::new(alloc, 0, 4096)?;
+    Ok((heap, memory))
+}
+
+/// Writes bytes, also those of a header, as a tenant may.
+pub(crate) fn write_bytes(memory: &mut Flat, heap: &Heap, at: u64, bytes: &[u8]) -> bool
     requires { IsServed memory.old heap.now }
     ensures { IsServed memory.new heap.now }
 {
-    memory.write(at, word, false).is_ok()
+    memory.write(at, bytes, false).is_ok()
 }
 
 /// A freed chunk's granules get another tag, and so does the chunk that takes its block.
@@ -247,8 +256,18 @@ fn wild_pointers(rt: HostRuntime) -> Result<(), Fail> {
     Ok(())
 }
 
-/// What becomes of a free of a user address whose header was written by hand, after malloc(24).
-fn free_of_forged(
+/// Reads eight bytes, as a tenant may that has no tag for them.
+pub(crate) fn word_at(memory: &mut Flat, heap: &Heap, at: u64) -> u64
+    requires { IsServed memory.old heap.now }
+    ensures { IsServed memory.new heap.now }
+{
+    let mut word = [0; 8];
+    let _ = memory.read(at, &mut word, false);
+    u64::from_le_bytes(word)
+}
+
+/// A heap after malloc(24), with a header written by hand before a user address.
+pub(crate) fn forged(
     rt: &impl Abort,
     alloc: Global,
     user: u64,
@@ -256,9 +275,10 @@ fn free_of_forged(
     state: State,
     size: u32,
     offset: u16,
-) -> Result<Result<(), HeapAbort>, Fail>
+) -> Result<(Heap, Flat), Fail>
     requires size { size < 2 ^ 20 }
     requires user { 16 ≤ user }
+    ensures { IfOk result (λ both. IsServed both.1 both.0) }
 {
     let (mut heap, mut memory) = fresh(alloc, 512, TagMode::Sync)?;
     let mut rgsr = Rgsr { tag: 0, seed: 1 };
@@ -274,7 +294,25 @@ fn free_of_forged(
         offset,
     };
     let word = pack(0, user, &header).to_le_bytes();
-    assert!(rt; write_header(&mut memory, &heap, user - 16, &word));
+    assert!(rt; write_bytes(&mut memory, &heap, user - 16, &word));
+    Ok((heap, memory))
+}
+
+/// What becomes of a free of a user address whose header was written by hand, after malloc(24).
+fn free_of_forged(
+    rt: &impl Abort,
+    alloc: Global,
+    user: u64,
+    class_id: u8,
+    state: State,
+    size: u32,
+    offset: u16,
+) -> Result<Result<(), HeapAbort>, Fail>
+    requires size { size < 2 ^ 20 }
+    requires user { 16 ≤ user }
+{
+    let (mut heap, mut memory) = forged(rt, alloc, user, class_id, state, size, offset)?;
+    let mut rgsr = Rgsr { tag: 0, seed: 1 };
     Ok(heap.free(&mut rgsr, &mut memory, user))
 }
 

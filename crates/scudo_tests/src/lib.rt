@@ -11,4 +11,8 @@ mod heap;
 #[cfg(test)]
 mod primary;
 #[cfg(test)]
+mod realloc;
+#[cfg(test)]
+mod rows;
+#[cfg(test)]
 mod secondary;

@@ -105,5 +105,6 @@ fn one_page_at_a_time(rt: HostRuntime) -> Result<(), Fail> {
     assert!(rt; take(&mut maps, 0x3D00_5010));
     assert!(rt; take(&mut maps, 0x3D00_1010));
     assert_eq!(rt; maps.place(2), Some(0x3D00_5000));
+    maps.are_in_order();
     Ok(())
 }

@@ -88,6 +88,24 @@ pub const FORGES_A_CLASS: [u32; 10] = [
     0xD2800088, 0xD4000001,
 ];
 
+/// Allocates 24 bytes, makes them 48, then 49, and exits with 0.
+pub const GROWS: [u32; 11] = [
+    0xD2800300, 0xD2800068, 0xD4000001, 0xD2800601, 0xD28000C8, 0xD4000001, 0xD2800621, 0xD4000001,
+    0xD2800000, 0xD2800008, 0xD4000001,
+];
+
+/// Allocates 24 bytes, makes them none, and once more through the old pointer.
+pub const SHRINKS_TWICE: [u32; 9] = [
+    0xD2800300, 0xD2800068, 0xD4000001, 0xAA0003F3, 0xD2800001, 0xD28000C8, 0xD4000001, 0xAA1303E0,
+    0xD4000001,
+];
+
+/// Frees the null pointer, requests its size 64 times, and exits with 0.
+pub const CALLS_65_TIMES: [u32; 10] = [
+    0xD2800813, 0xD2800000, 0xD2800088, 0xD4000001, 0xD2800108, 0xD4000001, 0xD1000673, 0xB5FFFFD3,
+    0xD2800008, 0xD4000001,
+];
+
 /// Allocates 24 bytes, and exits with the pages that are left.
 pub const PAGES_AFTER_ONE: [u32; 7] = [
     0xD2800300, 0xD2800068, 0xD4000001, 0xD2800168, 0xD4000001, 0xD2800008, 0xD4000001,

@@ -1,7 +1,8 @@
 //! Worked examples of the services.
 
 use crate::images::{
-    CORRUPTS, COUNTS, FORGES_A_CLASS, LARGE_FREED, PAGES_AFTER_ONE, READS, USED_AFTER_FREE,
+    CALLS_65_TIMES, CORRUPTS, COUNTS, FORGES_A_CLASS, GROWS, LARGE_FREED, PAGES_AFTER_ONE, READS,
+    SHRINKS_TWICE, USED_AFTER_FREE,
 };
 use crate::sessions::report;
 use std::test::Fail;
@@ -9,7 +10,7 @@ use std::test::Fail;
 /// Programs, with what follows `admit 1 image 1 input `, and with the lines after `tenant 1`.
 #[test]
 fn services(rt: HostRuntime) -> Result<(), Fail> {
-    let cases: [(&[u32], &[u8], &[u8]); 9] = [
+    let cases: [(&[u32], &[u8], &[u8]); 11] = [
         (
             &READS,
             b"1 seed 0000000000000001 frames 5 out 16\nslice 1 100\n",
@@ -60,6 +61,22 @@ fn services(rt: HostRuntime) -> Result<(), Fail> {
               call malloc 0x0000000000000018 0x0000000000000000 = 0x0100000012000010\n",
         ),
         (
+            &GROWS,
+            b"0 seed 0000000000000001 frames 7 out 16\nslice 1 100\n",
+            b"status exit 0\nsteps 11\noutput 0\nheap 3\n\
+              call malloc 0x0000000000000018 0x0000000000000000 = 0x0100000012000010\n\
+              call realloc 0x0100000012000010 0x0000000000000030 = 0x0100000012000010\n\
+              call realloc 0x0100000012000010 0x0000000000000031 = 0x0100000013000010\n",
+        ),
+        (
+            &SHRINKS_TWICE,
+            b"0 seed 0000000000000001 frames 7 out 16\nslice 1 100\n",
+            b"status abort InvalidState ptr 0x0100000012000010 pc 0x0000000000010020\nsteps 9\n\
+              output 0\nheap 2\n\
+              call malloc 0x0000000000000018 0x0000000000000000 = 0x0100000012000010\n\
+              call realloc 0x0100000012000010 0x0000000000000000 = 0x0000000000000000\n",
+        ),
+        (
             &LARGE_FREED,
             b"0 seed 0000000000000001 frames 60 out 16\nslice 1 100\nslice 1 100\n",
             b"status fault Translation read addr 0x000000003d0012c0 ptr 0 mem 0 \
@@ -79,5 +96,21 @@ fn services(rt: HostRuntime) -> Result<(), Fail> {
         let text = report(rt.alloc(), 300, script.as_slice(), &[words])?;
         assert_eq!(rt; text.as_slice(), want.as_slice());
     }
+    Ok(())
+}
+
+/// The report has the last 64 heap calls, and counts all of them.
+#[test]
+fn the_65th_heap_call(rt: HostRuntime) -> Result<(), Fail> {
+    let script = b"admit 1 image 1 input 0 seed 0000000000000001 frames 5 out 16\nslice 1 200\n";
+    let mut want = Vec::new(rt.alloc());
+    want.extend_from_slice(b"tenant 1\nstatus exit 0\nsteps 199\noutput 0\nheap 65\n")?;
+    for _ in 0..64 {
+        want.extend_from_slice(b"call usable_size 0x0000000000000000 0x0000000000000000")?;
+        want.extend_from_slice(b" = 0x0000000000000000\n")?;
+    }
+    want.extend_from_slice(b"end\n")?;
+    let text = report(rt.alloc(), 300, script, &[&CALLS_65_TIMES])?;
+    assert_eq!(rt; text.as_slice(), want.as_slice());
     Ok(())
 }

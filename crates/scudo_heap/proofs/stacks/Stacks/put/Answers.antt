@@ -1,7 +1,6 @@
 use Rattle.std.proofs.Common.{◌∙◌, sym, ap, subst}
 use Rattle.scudo_primary.specs.Blocks.{IsBlock}
 use Rattle.scudo_primary.specs.Pools.{is_member}
-use Rattle.scudo_cache.specs.Caches.{CacheState}
 use Rattle.scudo_heap.specs.Stacks.{ClassHeap}
 use Rattle.scudo_heap.proofs.StackLemmas.{at-inside, view-pushed}
 use Rattle.scudo_heap.proofs.stacks.Stacks.put.Goals as goal

@@ -1,6 +1,5 @@
 use Rattle.std.proofs.Common.{◌∙◌, slice_get, IfSome, sym, ap, subst}
 use Rattle.scudo_primary.specs.Blocks.{IsBlock}
-use Rattle.scudo_cache.specs.Caches.{CacheState}
 use Rattle.scudo_heap.specs.Stacks.{ClassHeap}
 use Rattle.scudo_heap.proofs.StackLemmas.{at-inside, view-popped, popped-none, none-is}
 use Rattle.scudo_heap.proofs.stacks.Stacks.take.Goals as goal

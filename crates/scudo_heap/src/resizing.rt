@@ -1,0 +1,181 @@
+//! Another size for a chunk (Scudo, `combined.h`, `Allocator::reallocate`).
+
+ghost use Rattle.std.specs.Prelude.{◌≡◌, ◌+◌, ◌-◌, ◌%◌, ◌^◌, ◌<◌, ◌≤◌, ℕ, IfSome, nat_le};
+ghost use Rattle.mte_tags.specs.Memory.{attrs_at, pages_left, tag_at};
+ghost use Rattle.scudo_heap.specs.Heaps.{heap_of};
+ghost use Rattle.scudo_heap.specs.Chunks.{block_end, end_of, with_size, refitted, headed};
+ghost use Rattle.scudo_heap.specs.Placing.{world_of};
+ghost use Rattle.scudo_heap.specs.Allocation.{made_of};
+ghost use Rattle.scudo_heap.specs.Checks.{HasEnd};
+ghost use Rattle.scudo_heap.specs.Realloc.{moved, refound};
+ghost use Rattle.scudo_heap.specs.Served.{IsServed, IsOpen};
+ghost use Rattle.scudo_heap.specs.Inner.{IsPlaced, IsFound, IsLow};
+
+use crate::allocation::allocate;
+use crate::chunk::{Chunk, Found, Place};
+use crate::copying::copy_bytes;
+use crate::freeing::free_found;
+use crate::granules::{put_header, set_tags, tag_there};
+use crate::limits::{MAX_REQUEST, MIN_ALIGNMENT};
+use crate::placing::close;
+use crate::stacks::Stacks;
+use crate::tagging::granules;
+use mte_tags::{Paged, Rgsr, Tagged};
+use scudo_header::{CLASSES, Header, Origin, size_of_class};
+use scudo_secondary::Maps;
+
+/// Whether a chunk's block holds another size of it.
+fn fits(place: Place, size: u64) -> bool
+    requires low { 0 < place.class }
+    requires high { place.class ≤ CLASSES }
+    requires user { place.user < 2 ^ 32 }
+    requires block { place.block < 2 ^ 32 }
+    requires size { size ≤ MAX_REQUEST }
+    ensures { result ≡ nat_le (end_of (with_size place size)) (block_end place) }
+{
+    place.user + 16 * granules(size) <= place.block + size_of_class(place.class)
+}
+
+/// Gives the granules that come to a chunk its tag `tag` and zero bytes, or those that it gives up
+/// tag 0.
+#[tactic(auto, unfolding(crate::specs::Chunks::refitted))]
+fn refit<M: Paged>(memory: &mut M, place: Place, size: u64, tag: u8)
+    requires low { 0 < place.class }
+    requires high { place.class ≤ CLASSES }
+    requires user { place.user < 2 ^ 32 }
+    requires block { place.block < 2 ^ 32 }
+    requires above { place.block ≤ place.user }
+    requires old { place.size < 2 ^ 20 }
+    requires small { size < 2 ^ 20 }
+    requires aligned { place.user % 16 ≡ 0 }
+    requires whole { block_end place % 16 ≡ 0 }
+    requires within { end_of place ≤ block_end place }
+    requires holds { end_of (with_size place size) ≤ block_end place }
+    requires open { IsOpen (M.memory memory.old) place.block (block_end place) }
+    requires tag { tag ≡ tag_at (M.memory memory.old) place.user }
+    requires tag_small { tag < 16 }
+    ensures memory { M.memory memory.new ≡ refitted (M.memory memory.old) place size }
+    ensures attrs { (q : ℕ)
+        → attrs_at (M.memory memory.new) q ≡ attrs_at (M.memory memory.old) q }
+    ensures left { pages_left (M.memory memory.new) ≡ pages_left (M.memory memory.old) }
+    ensures kept { M.kept memory.old memory.new }
+{
+    let (before, after) = (granules(place.size), granules(size));
+    if before < after {
+        set_tags(memory, place.user + 16 * before, after - before, tag, true);
+        close(memory, Place { size, ..place });
+    } else {
+        set_tags(memory, place.user + 16 * after, before - after, 0, false);
+    }
+}
+
+/// Gives a chunk another size in its block, which holds it, and returns its tag.
+fn resize<M: Paged>(
+    cookie: u32,
+    stacks: &Stacks,
+    memory: &mut M,
+    place: Place,
+    header: &Header,
+    size: u64,
+) -> u8
+    requires placed { IsPlaced stacks.now place }
+    requires small { size < 2 ^ 20 }
+    requires holds { end_of (with_size place size) ≤ block_end place }
+    requires open { IsOpen (M.memory memory.old) place.block (block_end place) }
+    ensures tag { result ≡ tag_at (M.memory memory.old) place.user }
+    ensures tag_small { result < 16 }
+    ensures memory { M.memory memory.new
+        ≡ headed (refitted (M.memory memory.old) place size) cookie place.user
+        (record header.now { size_or_unused_bytes = size }) }
+    ensures attrs { (q : ℕ)
+        → attrs_at (M.memory memory.new) q ≡ attrs_at (M.memory memory.old) q }
+    ensures left { pages_left (M.memory memory.new) ≡ pages_left (M.memory memory.old) }
+    ensures kept { M.kept memory.old memory.new }
+{
+    let tag = tag_there(memory, place.user);
+    refit(memory, place, size, tag);
+    let mut resized = *header;
+    resized.size_or_unused_bytes = size as u32;
+    put_header(memory, cookie, place.user, &resized);
+    tag
+}
+
+/// Makes a new chunk of another size, copies the bytes there, and frees the old one; nothing
+/// changes where no chunk is made.
+fn move_chunk<M: Paged>(
+    cookie: u32,
+    stacks: &mut Stacks,
+    maps: &mut Maps,
+    rgsr: &mut Rgsr,
+    memory: &mut M,
+    found: Found,
+    size: u64,
+) -> Option<Chunk>
+    requires drawn { rgsr.old.tag < 16 }
+    requires some { 0 < size }
+    requires most { size ≤ MAX_REQUEST }
+    requires served { IsServed (M.memory memory.old) (heap_of cookie stacks.old maps.old) }
+    requires found { IsFound (heap_of cookie stacks.old maps.old) found }
+    requires end { HasEnd found }
+    ensures made { made_of
+        (world_of (M.memory memory.new) (heap_of cookie stacks.new maps.new) rgsr.new) result
+        ≡ moved (world_of (M.memory memory.old) (heap_of cookie stacks.old maps.old) rgsr.old)
+        found size }
+    ensures low_chunk { IfSome result IsLow }
+    ensures tag { rgsr.new.tag < 16 }
+    ensures served { IsServed (M.memory memory.new) (heap_of cookie stacks.new maps.new) }
+    ensures kept { M.kept memory.old memory.new }
+{
+    stacks.are_sound();
+    maps.are_in_order();
+    let origin = Origin::Malloc;
+    let align = MIN_ALIGNMENT;
+    let Some(chunk) = allocate(cookie, stacks, maps, rgsr, memory, origin, align, size) else {
+        return None;
+    };
+    maps.are_in_order();
+    let count = found.size().min(size);
+    copy_bytes(memory, found.user(), chunk.user(), count);
+    free_found(cookie, stacks, maps, rgsr, memory, found);
+    Some(chunk)
+}
+
+/// Gives a chunk that the checks found another size, or frees it where that is 0. A size over
+/// `MAX_REQUEST` changes nothing.
+pub(crate) fn reallocate<M: Paged>(
+    cookie: u32,
+    stacks: &mut Stacks,
+    maps: &mut Maps,
+    rgsr: &mut Rgsr,
+    memory: &mut M,
+    found: Found,
+    size: u64,
+) -> Option<Chunk>
+    requires drawn { rgsr.old.tag < 16 }
+    requires served { IsServed (M.memory memory.old) (heap_of cookie stacks.old maps.old) }
+    requires found { IsFound (heap_of cookie stacks.old maps.old) found }
+    requires end { HasEnd found }
+    ensures made { made_of
+        (world_of (M.memory memory.new) (heap_of cookie stacks.new maps.new) rgsr.new) result
+        ≡ refound (world_of (M.memory memory.old) (heap_of cookie stacks.old maps.old) rgsr.old)
+        found size }
+    ensures low_chunk { IfSome result IsLow }
+    ensures tag { rgsr.new.tag < 16 }
+    ensures served { IsServed (M.memory memory.new) (heap_of cookie stacks.new maps.new) }
+    ensures kept { M.kept memory.old memory.new }
+{
+    if size == 0 {
+        free_found(cookie, stacks, maps, rgsr, memory, found);
+        return None;
+    }
+    if size > MAX_REQUEST {
+        return None;
+    }
+    match found {
+        Found::InBlock(place, header) if fits(place, size) => {
+            let tag = resize(cookie, stacks, memory, place, &header, size);
+            Some(Chunk::Small(Place { size, ..place }, tag))
+        }
+        _ => move_chunk(cookie, stacks, maps, rgsr, memory, found, size),
+    }
+}
