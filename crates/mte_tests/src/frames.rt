@@ -68,6 +68,22 @@ fn write_block(pool: &mut FramePool, quota: &Quota, f: usize) {
     }
 }
 
+/// Fills the bytes of a frame, if any, and returns whether there were any.
+fn fill_if(pool: &mut FramePool, quota: &Quota, found: Option<usize>, value: u8) -> bool {
+    if let Some(f) = found {
+        if !pool.is_out(quota, f) {
+            return false;
+        }
+    }
+    match pool.data_mut_if(found) {
+        Some(bytes) => {
+            bytes.fill(value);
+            true
+        }
+        None => false,
+    }
+}
+
 fn write_planes(pool: &mut FramePool, quota: &Quota, f: usize) {
     if pool.is_out(quota, f) {
         let (bytes, tags) = pool.planes_mut(f);
@@ -183,6 +199,24 @@ fn both_planes_at_once(rt: HostRuntime) -> Result<(), Fail> {
         assert_eq!(rt; tag_at(&pool, &quota, f, at), Some(tag), "granule {at}");
     }
     assert!(rt; is_all(&pool, &quota, g, 0, 0));
+    Ok(())
+}
+
+#[test]
+fn bytes_of_an_optional_frame(rt: HostRuntime) -> Result<(), Fail> {
+    let mut pool = pool_of(rt.alloc(), 2)?;
+    let Ok(mut quota) = reserve(&mut pool, 2) else {
+        return Err(Fail::new("a quota is refused"));
+    };
+    let (Some(f), Some(g)) = (take(&mut pool, &mut quota), take(&mut pool, &mut quota)) else {
+        return Err(Fail::new("a frame is missing"));
+    };
+    mark(&mut pool, &quota, f, 255, 9);
+    assert!(rt; !fill_if(&mut pool, &quota, None, 5));
+    assert!(rt; is_all(&pool, &quota, g, 0, 0) && byte_at(&pool, &quota, f, 0) == Some(0));
+    assert!(rt; fill_if(&mut pool, &quota, Some(f), 6));
+    assert!(rt; is_all(&pool, &quota, g, 0, 0) && byte_at(&pool, &quota, f, 4095) == Some(6));
+    assert_eq!(rt; tag_at(&pool, &quota, f, 255), Some(9));
     Ok(())
 }
 
