@@ -7,7 +7,7 @@ ghost use Rattle.std.specs.Option.{option_copied_mut};
 ghost use Rattle.std.specs.Borrow.{sem};
 ghost use Rattle.mte_arena.specs.Frames.{Frame, IsLive, AreFrames, frame_at, retagged};
 ghost use Rattle.mte_arena.specs.Frames.{retagged_run, zero_frame};
-ghost use Rattle.mte_arena.specs.Blocks.{unpacked, frame_of};
+ghost use Rattle.mte_arena.specs.Blocks.{frame_of};
 
 use crate::packed::{half_of, set_half, set_run};
 use crate::region::{FreeingRight, Region, RegionStart, allocate, deallocate};
@@ -162,17 +162,6 @@ impl Arena {
         ensures len { length result.now ≡ BLOCK_BYTES }
     {
         self.region.part_mut(self.start, f, 0, BLOCK_BYTES)
-    }
-
-    /// The same in two. What the arena holds after such a loan is said by no clause; `block_mut`,
-    /// `data_mut` and `set_tag` are for callers that have to know.
-    pub fn planes_mut(&mut self, f: usize) -> (&mut [u8], &mut [u8])
-        requires { IsLive self.old f }
-        ensures bytes { result.0.now ≡ (frame_at self.old f).bytes }
-        ensures tags { unpacked result.1.now ≡ (frame_at self.old f).tags }
-        ensures len { (length result.0.now ≡ FRAME_BYTES) × (length result.1.now ≡ 128) }
-    {
-        self.block_mut(f).split_at_mut(FRAME_BYTES)
     }
 
     /// The tag of the granule `g` of the frame `f`, which is present.

@@ -7,7 +7,7 @@ ghost use Rattle.std.specs.Option.{option_copied_mut};
 ghost use Rattle.std.specs.Borrow.{sem};
 ghost use Rattle.mte_arena.specs.Frames.{frame_at, AreFrames, retagged, retagged_run};
 ghost use Rattle.mte_arena.specs.Frames.{zero_frame};
-ghost use Rattle.mte_arena.specs.Blocks.{frame_of, unpacked};
+ghost use Rattle.mte_arena.specs.Blocks.{frame_of};
 ghost use Rattle.mte_frames.specs.Pool.{Pool, make_pool, with_bytes_at, with_block_at, unreserved};
 ghost use Rattle.mte_frames.specs.Pool.{with_bytes_at_if};
 ghost use Rattle.mte_frames.specs.Pool.{reserved_by, taken_by, IsOut, IsTaken, IsSound};
@@ -263,17 +263,6 @@ impl FramePool {
         ensures len { length result.now ≡ BLOCK_BYTES }
     {
         self.arena.block_mut(f)
-    }
-
-    /// The same in two. What the pool holds after such a loan is said by no clause; `block_mut`,
-    /// `data_mut` and `set_tag` are for callers that have to know.
-    pub fn planes_mut(&mut self, f: usize) -> (&mut [u8], &mut [u8])
-        requires { IsTaken self.old f }
-        ensures bytes { result.0.now ≡ (frame_at self.old.frames f).bytes }
-        ensures tags { unpacked result.1.now ≡ (frame_at self.old.frames f).tags }
-        ensures len { (length result.0.now ≡ FRAME_BYTES) × (length result.1.now ≡ 128) }
-    {
-        self.block_mut(f).split_at_mut(FRAME_BYTES)
     }
 
     /// The tag of the granule `g` of the frame `f`, which is out.

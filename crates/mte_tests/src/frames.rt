@@ -3,7 +3,7 @@
 ghost use Rattle.std.specs.Prelude.{IsTrue};
 ghost use Rattle.mte_frames.specs.Pool.{IsOut};
 
-use mte_arena::Arena;
+use mte_arena::{Arena, FRAME_BYTES};
 use mte_frames::{FramePool, NoFrames, Quota, others_are_kept};
 use std::alloc::Global;
 use std::test::Fail;
@@ -63,8 +63,11 @@ fn mark_run(pool: &mut FramePool, quota: &Quota, f: usize, first: usize, count: 
 fn write_block(pool: &mut FramePool, quota: &Quota, f: usize) {
     if pool.is_out(quota, f) {
         let block = pool.block_mut(f);
-        block[0] = 7;
-        block[4096] = 0x21;
+        let (bytes, tags) = block.split_at_mut(FRAME_BYTES);
+        bytes[0] = 7;
+        bytes[4095] = 8;
+        tags[0] = 0x21;
+        tags[127] = 0x43;
     }
 }
 
@@ -81,14 +84,6 @@ fn fill_if(pool: &mut FramePool, quota: &Quota, found: Option<usize>, value: u8)
             true
         }
         None => false,
-    }
-}
-
-fn write_planes(pool: &mut FramePool, quota: &Quota, f: usize) {
-    if pool.is_out(quota, f) {
-        let (bytes, tags) = pool.planes_mut(f);
-        bytes[4095] = 8;
-        tags[127] = 0x43;
     }
 }
 
@@ -191,7 +186,6 @@ fn both_planes_at_once(rt: HostRuntime) -> Result<(), Fail> {
         return Err(Fail::new("a frame is missing"));
     };
     write_block(&mut pool, &quota, f);
-    write_planes(&mut pool, &quota, f);
     for (at, byte) in [(0, 7), (1, 0), (4094, 0), (4095, 8)] {
         assert_eq!(rt; byte_at(&pool, &quota, f, at), Some(byte), "byte {at}");
     }
