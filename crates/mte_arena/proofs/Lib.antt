@@ -1,5 +1,6 @@
 pub mod Frames
-pub mod Memory
+pub mod LentParts
+mod Memory
 pub mod Parts
 pub mod Runs
 pub mod Sharing

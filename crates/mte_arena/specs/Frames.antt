@@ -4,6 +4,7 @@
 --     frame_at fs f     the frame f, where it is present
 --     zero_frame        4096 zero bytes and 256 tags 0
 --     with_bytes fs f ws        fs with other bytes in the frame f
+--     with_bytes_if fs f ws     the same where f is an `Option`, and fs at `None`
 --     retagged fs f g t         fs with another tag there
 --     retagged_run fs f g n t   fs with another tag at the n granules from g on
 --     AreFrames fs      each frame that is present has 4096 bytes and 256 tags, each below 16
@@ -44,6 +45,11 @@ AreFrames fs = (f : ℕ) (p : Frame) → get_or fs f None ≡ Some p → IsFrame
 abbrev pub with_bytes : List (Option Frame) → ℕ → List ℕ → List (Option Frame)
 with_bytes fs f ws =
     slice_set fs f (Some (make_frame (refill 4096 (frame_at fs f).bytes ws) (frame_at fs f).tags))
+
+-- the same of the frame in f, if any
+abbrev pub with_bytes_if : List (Option Frame) → Option ℕ → List ℕ → List (Option Frame)
+with_bytes_if fs None ws = fs
+with_bytes_if fs (Some f) ws = with_bytes fs f ws
 
 -- the granule g of the frame f has the tag t, and all else is as it was
 abbrev pub retagged : List (Option Frame) → ℕ → ℕ → ℕ → List (Option Frame)

@@ -2,10 +2,12 @@
 
 ghost use Rattle.std.specs.Prelude.{◌≡◌, ◌↔◌, ℕ, ◌+◌, ◌<◌, ◌≤◌, List, Option, Some, None, length};
 ghost use Rattle.std.specs.Prelude.{replicate, get_or, slice_set, slice_index, IfOk, IsTrue};
+ghost use Rattle.std.specs.Prelude.{IfSome, option_map};
+ghost use Rattle.std.specs.Option.{option_copied_mut};
 ghost use Rattle.std.specs.Borrow.{sem};
 ghost use Rattle.mte_arena.specs.Frames.{Frame, IsLive, AreFrames, frame_at, retagged};
 ghost use Rattle.mte_arena.specs.Frames.{retagged_run, zero_frame};
-ghost use Rattle.mte_arena.specs.Blocks.{unpacked, frame_of};
+ghost use Rattle.mte_arena.specs.Blocks.{frame_of};
 
 use crate::packed::{half_of, set_half, set_run};
 use crate::region::{FreeingRight, Region, RegionStart, allocate, deallocate};
@@ -61,7 +63,7 @@ impl Model for Arena {
 }
 
 impl Arena {
-    ghost use Rattle.mte_arena.specs.FrameLends.{lends_bytes, lends_block};
+    ghost use Rattle.mte_arena.specs.FrameLends.{lends_bytes, lends_bytes_if, lends_block};
     ghost use Rattle.mte_arena.specs.declared.arena.ArenaError.TheVariants.{OutOfMemory, BadCount};
     ghost use Rattle.std.specs.Prelude.{Err, ◌⊎◌};
 
@@ -136,6 +138,20 @@ impl Arena {
         self.region.part_mut(self.start, f, 0, FRAME_BYTES)
     }
 
+    /// The same of the frame in `f`, which is present. Where `f` is `None` nothing is lent, and all
+    /// frames stay as they are.
+    pub fn data_mut_if(&mut self, f: Option<usize>) -> Option<&mut [u8; FRAME_BYTES]>
+        requires { IfSome f (λ g. IsLive self.old g) }
+        ensures* writes_back { sem 𝓛 (lends_bytes_if self.entry f result) }
+        ensures value { option_copied_mut result
+            ≡ option_map (λ g. (frame_at self.old g).bytes) f }
+    {
+        match f {
+            Some(f) => Some(self.region.data_mut(self.start, f)),
+            None => None,
+        }
+    }
+
     /// Both planes of the frame `f`, which is present, in one loan: its 4096 bytes, and then 128
     /// bytes with two tags each, the even granule's in the low half. All other frames stay as they
     /// are.
@@ -146,17 +162,6 @@ impl Arena {
         ensures len { length result.now ≡ BLOCK_BYTES }
     {
         self.region.part_mut(self.start, f, 0, BLOCK_BYTES)
-    }
-
-    /// The same in two. What the arena holds after such a loan is said by no clause; `block_mut`,
-    /// `data_mut` and `set_tag` are for callers that have to know.
-    pub fn planes_mut(&mut self, f: usize) -> (&mut [u8], &mut [u8])
-        requires { IsLive self.old f }
-        ensures bytes { result.0.now ≡ (frame_at self.old f).bytes }
-        ensures tags { unpacked result.1.now ≡ (frame_at self.old f).tags }
-        ensures len { (length result.0.now ≡ FRAME_BYTES) × (length result.1.now ≡ 128) }
-    {
-        self.block_mut(f).split_at_mut(FRAME_BYTES)
     }
 
     /// The tag of the granule `g` of the frame `f`, which is present.

@@ -10,6 +10,7 @@ ghost use denote.RawPtr.{Ptr};
 ghost use Rattle.mte_arena.specs.Blocks.{IsPresent, block_at, zero_block};
 ghost use Rattle.mte_arena.specs.Ownership.{region_owned, region_shown, may_free};
 
+use crate::arena::FRAME_BYTES;
 use std::alloc::{AllocError, Allocator};
 use std::marker::{Model, PhantomData};
 use std::slice;
@@ -137,5 +138,14 @@ impl Region {
         ensures len { length result.now ≡ count }
     {
         unsafe { slice::from_raw_parts_mut(start.pointer.add(f * STRIDE + from), count) }
+    }
+
+    /// The 4096 bytes of data of the frame `f`, which is present.
+    pub(crate) fn data_mut(&mut self, start: RegionStart, f: usize) -> &mut [u8; FRAME_BYTES]
+        requires { (start.pointer ≡ self.old.start) × IsPresent self.old.blocks f }
+        ensures* writes_back { sem 𝓛 (lends_part self.entry f 0 4096 result) }
+        ensures value { result.now ≡ take 4096 (block_at self.old.blocks f) }
+    {
+        unsafe { &mut *(start.pointer.add(f * STRIDE) as *mut [u8; FRAME_BYTES]) }
     }
 }

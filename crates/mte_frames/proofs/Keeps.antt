@@ -1,10 +1,11 @@
 -- The laws of `KeepsOthers`: a pool keeps all quotas of itself, one step after another keeps what both keep,
 -- and a write of one frame, of one owner or of one quota's counts is such a step.
 use Rattle.std.proofs.lemmas.List.{length-set}
-use Rattle.std.specs.Prelude.{◌≢◌}
+use Rattle.std.specs.List.{refill}
+use Rattle.std.specs.Prelude.{◌≢◌, IfSome}
 use Rattle.std.proofs.Common.{◌≡◌, ℕ, ◌<◌, List, length, get_or, slice_set, Option, Some, None, refl, sym, ap, ◌∙◌, inl, inr, get_or-set_same, get_or-set_other}
-use Rattle.mte_arena.specs.Frames.{Frame}
-use Rattle.mte_frames.specs.Pool.{Pool, make_pool, IsOut, KeepsOthers}
+use Rattle.mte_arena.specs.Frames.{Frame, make_frame, frame_at}
+use Rattle.mte_frames.specs.Pool.{Pool, make_pool, with_bytes_at_if, IsOut, KeepsOthers}
 use Rattle.mte_frames.proofs.Counts.{same_or_not, any_default}
 
 pub keeps_self : (q : ℕ) (p : Pool) → KeepsOthers q p p
@@ -41,6 +42,11 @@ keeps_written q f c p out = record {
   out = λ g k n. (λ o. o, λ o. o);
   frames = λ g k n o. get_or-set_other p.frames f g c None (λ e. n (sym (some_same q k (sym out ∙ ap (λ j. get_or p.owners j None) (sym e) ∙ o))));
 }
+
+-- the same where the bytes of the frame in f are written, if any
+pub keeps_written_if : (q : ℕ) (f : Option ℕ) (w : List ℕ) (p : Pool) → IfSome f (λ g. IsOut p g q) → KeepsOthers q p (with_bytes_at_if p f w)
+keeps_written_if q None w p out = keeps_self q p
+keeps_written_if q (Some f) w p out = keeps_written q f (Some (make_frame (refill 4096 (frame_at p.frames f).bytes w) (frame_at p.frames f).tags)) p out
 
 -- the frame f, which is out under no other quota than q before and after, changes its owner and its content
 pub keeps_owner : (q f t : ℕ) (c : Option Frame) (old new : Option ℕ) (p : Pool) → f < length p.owners → get_or p.owners f None ≡ old

@@ -1,9 +1,10 @@
 -- A pool stays sound where a quota comes or goes, and where a frame is taken, given back or written.
 use Rattle.std.proofs.lemmas.List.{length-set, length-replicate}
+use Rattle.std.specs.List.{refill}
 use Rattle.std.specs.Prelude.{◌≢◌, sum, get_or, slice_set}
 use Rattle.std.proofs.Common.{◌≡◌, ℕ, zero, suc, ◌+◌, ◌-◌, ◌<◌, ◌≤◌, List, [], ◌∷◌, ◌++◌, length, replicate, Option, Some, None, refl, sym, ap, ◌∙◌, subst, arith, inl, inr, get_or-set_same, get_or-set_other}
 use Rattle.address_map.specs.declared.limits.TheConstants.{MAX_FRAMES}
-use Rattle.mte_arena.specs.Frames.{Frame, IsLive, zero_frame}
+use Rattle.mte_arena.specs.Frames.{Frame, IsLive, zero_frame, make_frame, frame_at, with_bytes_if}
 use Rattle.mte_frames.specs.Pool.{Pool, make_pool, unreserved, reserved_by, taken_by, IsOut, IsSound, is_owned, owned_by}
 use Rattle.mte_frames.specs.Whole.{times, vacant, pool_of, IsPool}
 use Rattle.mte_frames.specs.declared.pool.FramePool.TheInside.{Inside}
@@ -181,6 +182,11 @@ written_pool a f c h = let long = length-set a.arena f (Some c) in record {
   unreserved_count = h.unreserved_count ∙ sym long;
   room = omega (arith, h.room, long);
 }
+
+-- the same where the bytes of the frame in f are written, if any
+pub written_pool_if : (a : Inside) (f : Option ℕ) (w : List ℕ) → IsPool a → IsPool (record a { arena = with_bytes_if a.arena f w })
+written_pool_if a None w h = h
+written_pool_if a (Some f) w h = written_pool a f (make_frame (refill 4096 (frame_at a.arena f).bytes w) (frame_at a.arena f).tags) h
 
 -- a condition on a pool and a quota's number, as one on the fields
 pub of_fields : (P : Pool → ℕ → Type 0) (a : Inside) (p : Pool) (q k : ℕ) → pool_of a ≡ p → k ≡ q → P p q → P (pool_of a) k

@@ -3,6 +3,7 @@
 -- nothing is reserved is no quota's.
 --     unreserved p          how many frames no quota has reserved
 --     with_bytes_at p f ws  p with other bytes in the frame f
+--     with_bytes_at_if p f ws  the same where f is an `Option`, and p at `None`
 --     with_block_at p f ws  p with other bytes and tags in the frame f
 --     IsOut p f q           the frame f is out under the quota q
 --     IsTaken p f           the frame f is out under some quota
@@ -12,7 +13,7 @@ use Rattle.std.specs.Prelude.{◌≡◌, ◌≢◌, ◌↔◌, ℕ, ◌+◌, ◌
 use Rattle.std.specs.Prelude.{length, sum, get_or, Option, Some, None}
 use Rattle.address_map.specs.declared.limits.TheConstants.{MAX_FRAMES}
 use Rattle.mte_arena.specs.Blocks.{with_block}
-use Rattle.mte_arena.specs.Frames.{Frame, IsLive, with_bytes}
+use Rattle.mte_arena.specs.Frames.{Frame, IsLive, with_bytes, with_bytes_if}
 
 pub record Pool : Type 0 where
   pub frames : List (Option Frame)
@@ -30,6 +31,11 @@ make_pool cs fs os rs ts =
 abbrev pub with_bytes_at : Pool → ℕ → List ℕ → Pool
 with_bytes_at p f ws =
     make_pool p.capacities (with_bytes p.frames f ws) p.owners p.reserved p.taken
+
+-- the same of the frame in f, if any
+abbrev pub with_bytes_at_if : Pool → Option ℕ → List ℕ → Pool
+with_bytes_at_if p f ws =
+    make_pool p.capacities (with_bytes_if p.frames f ws) p.owners p.reserved p.taken
 
 -- the frame f with the bytes and tags of the block ws
 abbrev pub with_block_at : Pool → ℕ → List ℕ → Pool

@@ -2,12 +2,14 @@
 
 ghost use Rattle.std.specs.Prelude.{◌≡◌, ◌≢◌, ◌↔◌, ℕ, ◌+◌, ◌-◌, ◌<◌, ◌≤◌, List, Option, Some, None};
 ghost use Rattle.std.specs.Prelude.{length, replicate, get_or, slice_set, sum, IfOk, IfErr, IsErr};
-ghost use Rattle.std.specs.Prelude.{OnErr, IfSome, IsTrue, vec_capacity};
+ghost use Rattle.std.specs.Prelude.{OnErr, IfSome, IsTrue, vec_capacity, option_map};
+ghost use Rattle.std.specs.Option.{option_copied_mut};
 ghost use Rattle.std.specs.Borrow.{sem};
 ghost use Rattle.mte_arena.specs.Frames.{frame_at, AreFrames, retagged, retagged_run};
 ghost use Rattle.mte_arena.specs.Frames.{zero_frame};
-ghost use Rattle.mte_arena.specs.Blocks.{frame_of, unpacked};
+ghost use Rattle.mte_arena.specs.Blocks.{frame_of};
 ghost use Rattle.mte_frames.specs.Pool.{Pool, make_pool, with_bytes_at, with_block_at, unreserved};
+ghost use Rattle.mte_frames.specs.Pool.{with_bytes_at_if};
 ghost use Rattle.mte_frames.specs.Pool.{reserved_by, taken_by, IsOut, IsTaken, IsSound};
 ghost use Rattle.mte_frames.specs.Pool.{KeepsOthers};
 
@@ -65,7 +67,7 @@ impl Model for FramePool {
 }
 
 impl FramePool {
-    ghost use Rattle.mte_frames.specs.Lends.{lends_bytes, lends_block};
+    ghost use Rattle.mte_frames.specs.Lends.{lends_bytes, lends_bytes_if, lends_block};
 
     /// A pool of the arena's frames, of which none is reserved. Where memory is refused the arena
     /// is handed back as it was.
@@ -236,6 +238,20 @@ impl FramePool {
         self.arena.data_mut(f)
     }
 
+    /// The same of the frame in `f`, which is out. Where `f` is `None` nothing is lent, and the pool
+    /// stays as it is.
+    pub fn data_mut_if(&mut self, f: Option<usize>) -> Option<&mut [u8; FRAME_BYTES]>
+        requires { IfSome f (λ g. IsTaken self.old g) }
+        ensures* writes_back { sem 𝓛 (lends_bytes_if self.entry f result) }
+        ensures others { (q : ℕ) (ws : List ℕ)
+            → IfSome f (λ g. IsOut self.old g q)
+            → KeepsOthers q self.old (with_bytes_at_if self.old f ws) }
+        ensures value { option_copied_mut result
+            ≡ option_map (λ g. (frame_at self.old.frames g).bytes) f }
+    {
+        self.arena.data_mut_if(f)
+    }
+
     /// Both planes of the frame `f`, which is out, in one loan: its 4096 bytes, and then 128 bytes
     /// with two tags each, the even granule's in the low half. All other frames stay as they are.
     pub fn block_mut(&mut self, f: usize) -> &mut [u8]
@@ -247,17 +263,6 @@ impl FramePool {
         ensures len { length result.now ≡ BLOCK_BYTES }
     {
         self.arena.block_mut(f)
-    }
-
-    /// The same in two. What the pool holds after such a loan is said by no clause; `block_mut`,
-    /// `data_mut` and `set_tag` are for callers that have to know.
-    pub fn planes_mut(&mut self, f: usize) -> (&mut [u8], &mut [u8])
-        requires { IsTaken self.old f }
-        ensures bytes { result.0.now ≡ (frame_at self.old.frames f).bytes }
-        ensures tags { unpacked result.1.now ≡ (frame_at self.old.frames f).tags }
-        ensures len { (length result.0.now ≡ FRAME_BYTES) × (length result.1.now ≡ 128) }
-    {
-        self.block_mut(f).split_at_mut(FRAME_BYTES)
     }
 
     /// The tag of the granule `g` of the frame `f`, which is out.

@@ -3,7 +3,7 @@
 ghost use Rattle.std.specs.Prelude.{IsTrue};
 ghost use Rattle.mte_frames.specs.Pool.{IsOut};
 
-use mte_arena::Arena;
+use mte_arena::{Arena, FRAME_BYTES};
 use mte_frames::{FramePool, NoFrames, Quota, others_are_kept};
 use std::alloc::Global;
 use std::test::Fail;
@@ -63,16 +63,27 @@ fn mark_run(pool: &mut FramePool, quota: &Quota, f: usize, first: usize, count: 
 fn write_block(pool: &mut FramePool, quota: &Quota, f: usize) {
     if pool.is_out(quota, f) {
         let block = pool.block_mut(f);
-        block[0] = 7;
-        block[4096] = 0x21;
+        let (bytes, tags) = block.split_at_mut(FRAME_BYTES);
+        bytes[0] = 7;
+        bytes[4095] = 8;
+        tags[0] = 0x21;
+        tags[127] = 0x43;
     }
 }
 
-fn write_planes(pool: &mut FramePool, quota: &Quota, f: usize) {
-    if pool.is_out(quota, f) {
-        let (bytes, tags) = pool.planes_mut(f);
-        bytes[4095] = 8;
-        tags[127] = 0x43;
+/// Fills the bytes of a frame, if any, and returns whether there were any.
+fn fill_if(pool: &mut FramePool, quota: &Quota, found: Option<usize>, value: u8) -> bool {
+    if let Some(f) = found {
+        if !pool.is_out(quota, f) {
+            return false;
+        }
+    }
+    match pool.data_mut_if(found) {
+        Some(bytes) => {
+            bytes.fill(value);
+            true
+        }
+        None => false,
     }
 }
 
@@ -175,7 +186,6 @@ fn both_planes_at_once(rt: HostRuntime) -> Result<(), Fail> {
         return Err(Fail::new("a frame is missing"));
     };
     write_block(&mut pool, &quota, f);
-    write_planes(&mut pool, &quota, f);
     for (at, byte) in [(0, 7), (1, 0), (4094, 0), (4095, 8)] {
         assert_eq!(rt; byte_at(&pool, &quota, f, at), Some(byte), "byte {at}");
     }
@@ -183,6 +193,24 @@ fn both_planes_at_once(rt: HostRuntime) -> Result<(), Fail> {
         assert_eq!(rt; tag_at(&pool, &quota, f, at), Some(tag), "granule {at}");
     }
     assert!(rt; is_all(&pool, &quota, g, 0, 0));
+    Ok(())
+}
+
+#[test]
+fn bytes_of_an_optional_frame(rt: HostRuntime) -> Result<(), Fail> {
+    let mut pool = pool_of(rt.alloc(), 2)?;
+    let Ok(mut quota) = reserve(&mut pool, 2) else {
+        return Err(Fail::new("a quota is refused"));
+    };
+    let (Some(f), Some(g)) = (take(&mut pool, &mut quota), take(&mut pool, &mut quota)) else {
+        return Err(Fail::new("a frame is missing"));
+    };
+    mark(&mut pool, &quota, f, 255, 9);
+    assert!(rt; !fill_if(&mut pool, &quota, None, 5));
+    assert!(rt; is_all(&pool, &quota, g, 0, 0) && byte_at(&pool, &quota, f, 0) == Some(0));
+    assert!(rt; fill_if(&mut pool, &quota, Some(f), 6));
+    assert!(rt; is_all(&pool, &quota, g, 0, 0) && byte_at(&pool, &quota, f, 4095) == Some(6));
+    assert_eq!(rt; tag_at(&pool, &quota, f, 255), Some(9));
     Ok(())
 }
 

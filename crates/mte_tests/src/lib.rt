@@ -6,6 +6,8 @@
 #[cfg(test)]
 mod arena;
 #[cfg(test)]
+mod calls;
+#[cfg(test)]
 mod elf;
 #[cfg(test)]
 mod frames;

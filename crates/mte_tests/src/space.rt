@@ -5,10 +5,11 @@ ghost use Rattle.mte_frames.specs.Pool.{KeepsOthers, taken_by, reserved_by};
 ghost use Rattle.mte_translate.specs.Tables.{IsTable, IsCached, MapsOnce, pages_of};
 ghost use Rattle.mte_space.specs.Spaces.{NoneEnters};
 
+use crate::calls::{Answer, CALLS, Call, call_at, reply};
 use mte_arena::Arena;
 use mte_frames::{FramePool, Quota};
 use mte_space::{Space, other_tenants_stay, pages_of_a_space, written_frames_are_pages};
-use mte_tags::{Attrs, FaultKind, MemFault, Paged, TagMode, TagState, Tagged};
+use mte_tags::{Attrs, FaultKind, Flat, MemFault, Paged, TagMode, TagState, Tagged};
 use mte_translate::{TABLE_PAGES, Table, Tlb, tables_stay};
 use std::alloc::Global;
 use std::test::Fail;
@@ -135,9 +136,11 @@ enum Question {
     Fill(u8, u8),
     /// Whether a page holds these in its bytes, and in its first and its last granule.
     Holds(u8, u8),
+    /// Whether the answer to a call is this one.
+    Answers(Call, Answer),
 }
 
-fn ask<M: Tagged>(memory: &mut M, at: u64, ask: Question) -> bool
+fn ask<M: Paged>(memory: &mut M, at: u64, ask: Question) -> bool
     ensures { M.kept memory.old memory.new }
 {
     match ask {
@@ -153,6 +156,7 @@ fn ask<M: Tagged>(memory: &mut M, at: u64, ask: Question) -> bool
                 && memory.load_tag(at) == Ok(tag)
                 && memory.load_tag(at | 0xFF0) == Ok(tag)
         }
+        Question::Answers(call, expected) => reply(memory, call) == expected,
     }
 }
 
@@ -339,6 +343,132 @@ fn two_tenants_over_one_pool(rt: HostRuntime) -> Result<(), Fail> {
     assert!(rt; tlb.lookup(2, 0x100) == u.walk(&pool, 0x100));
     assert!(rt; !act(&mut pool, &mut u, &mut r, &mut tlb, 2, Step::Map, &t, &q, 1));
     written_frames_are_pages();
+    Ok(())
+}
+
+/// One call of each tenant and of a plain memory beside it. Whether the answers are alike.
+fn call_both(
+    pool: &mut FramePool,
+    t: &mut Table,
+    q: &mut Quota,
+    u: &mut Table,
+    r: &mut Quota,
+    tlb: &mut Tlb,
+    plain: (&mut Flat, &mut Flat),
+    calls: (Call, Call),
+) -> bool
+    requires apart { r.old ≢ q.old }
+    requires first { IsTable pool.old q.old t.old }
+    requires first_once { MapsOnce (pages_of pool.old t.old.frame) }
+    requires first_cached { IsCached (pages_of pool.old t.old.frame) 1 tlb.old }
+    requires second { IsTable pool.old r.old u.old }
+    requires second_once { MapsOnce (pages_of pool.old u.old.frame) }
+    requires second_cached { IsCached (pages_of pool.old u.old.frame) 2 tlb.old }
+    ensures same { (q.new ≡ q.old) × (r.new ≡ r.old) }
+    ensures first { IsTable pool.new q.new t.new }
+    ensures first_once { MapsOnce (pages_of pool.new t.new.frame) }
+    ensures first_cached { IsCached (pages_of pool.new t.new.frame) 1 tlb.new }
+    ensures second { IsTable pool.new r.new u.new }
+    ensures second_once { MapsOnce (pages_of pool.new u.new.frame) }
+    ensures second_cached { IsCached (pages_of pool.new u.new.frame) 2 tlb.new }
+{
+    let (a, b) = plain;
+    let first = Question::Answers(calls.0, reply(a, calls.0));
+    let second = Question::Answers(calls.1, reply(b, calls.1));
+    let alike = act(pool, t, q, tlb, 1, Step::Ask(first), u, r, 2);
+    act(pool, u, r, tlb, 2, Step::Ask(second), t, q, 1) && alike
+}
+
+/// All calls of both tenants in turns.
+fn call_all(
+    pool: &mut FramePool,
+    t: &mut Table,
+    q: &mut Quota,
+    u: &mut Table,
+    r: &mut Quota,
+    tlb: &mut Tlb,
+    a: &mut Flat,
+    b: &mut Flat,
+) -> bool
+    requires apart { r.old ≢ q.old }
+    requires first { IsTable pool.old q.old t.old }
+    requires first_once { MapsOnce (pages_of pool.old t.old.frame) }
+    requires first_cached { IsCached (pages_of pool.old t.old.frame) 1 tlb.old }
+    requires second { IsTable pool.old r.old u.old }
+    requires second_once { MapsOnce (pages_of pool.old u.old.frame) }
+    requires second_cached { IsCached (pages_of pool.old u.old.frame) 2 tlb.old }
+{
+    let mut draw: u64 = 7;
+    for i in 0..CALLS {
+        draw = draw
+            .wrapping_mul(6_364_136_223_846_793_005)
+            .wrapping_add(1_442_695_040_888_963_407);
+        let calls = (call_at(i, draw >> 16), call_at(i, draw >> 8));
+        if !call_both(pool, t, q, u, r, tlb, (a, b), calls) {
+            return false;
+        }
+    }
+    true
+}
+
+/// After a read of one byte of a page the buffer has what the table has.
+fn one_byte_is_remembered(pool: &mut FramePool, table: &mut Table, quota: &mut Quota) -> bool
+    requires table { IsTable pool.old quota.old table.old }
+    requires once { MapsOnce (pages_of pool.old table.old.frame) }
+{
+    let Some(page) = table.first(pool) else {
+        return false;
+    };
+    if page >= TABLE_PAGES || !has_room(pool, table, quota) {
+        return false;
+    }
+    let walked = table.walk(pool, page);
+    let mut tlb = Tlb::new();
+    let mut state = SYNC;
+    let mut memory = Space::new(pool, table, quota, &mut tlb, &mut state, 7, PAGES);
+    let read = memory.read(page * 4096 + 4095, &mut [0], true).is_ok();
+    read && walked.is_some() && tlb.len() == 1 && tlb.lookup(7, page) == walked
+}
+
+#[test]
+fn one_byte_fills_the_buffer(rt: HostRuntime) -> Result<(), Fail> {
+    let mut pool = pool_of(rt.alloc(), 22)?;
+    let Some((mut quota, _)) = two_quotas(&mut pool) else {
+        return Err(Fail::new("a quota is refused"));
+    };
+    let Some(mut table) = new_table(&mut pool, &mut quota) else {
+        return Err(Fail::new("no root"));
+    };
+    let mut tlb = Tlb::new();
+    assert!(rt; map(&mut pool, &mut table, &mut quota, &mut tlb, 3, 0x3FFFC));
+    assert!(rt; one_byte_is_remembered(&mut pool, &mut table, &mut quota));
+    Ok(())
+}
+
+/// A thousand calls of two tenants, each beside a plain memory that answers alike, and then all
+/// bytes and tags. Frames go from one to the other as pages are unmapped and mapped.
+#[test]
+fn two_tenants_beside_plain_memories(rt: HostRuntime) -> Result<(), Fail> {
+    let mut pool = pool_of(rt.alloc(), 22)?;
+    let Some((mut q, mut r)) = two_quotas(&mut pool) else {
+        return Err(Fail::new("a quota is refused"));
+    };
+    let Some(mut t) = new_table(&mut pool, &mut q) else {
+        return Err(Fail::new("no root"));
+    };
+    tables_stay();
+    let Some(mut u) = new_table(&mut pool, &mut r) else {
+        return Err(Fail::new("no second root"));
+    };
+    let mut tlb = Tlb::new();
+    let mut a = Flat::new(rt.alloc(), PAGES, TagMode::Sync)?;
+    let mut b = Flat::new(rt.alloc(), PAGES, TagMode::Sync)?;
+    assert!(rt;
+        call_all(
+            &mut pool, &mut t, &mut q, &mut u, &mut r, &mut tlb, &mut a, &mut b
+        )
+    );
+    assert_eq!(rt; (t.len(), u.len()), (3, 4));
     Ok(())
 }
 

@@ -50,10 +50,13 @@ impl Tlb {
     }
 
     /// The frame and the attributes of a page of an address space, or `None` where no translation
-    /// stands for them. It looks at up to 64 translations.
+    /// stands for them. It looks at one translation first, and at up to 64 where that is another's.
     pub fn lookup(&self, asid: usize, page: u64) -> Option<(usize, Attrs)>
         ensures { result ≡ lookup asid page self.now }
     {
+        if let Some(found) = self.quick_lookup(asid, page) {
+            return Some(found);
+        }
         for translation in self.translations.as_slice() {
             if translation.is_for(asid, page) {
                 return Some((translation.frame, translation.attrs));

@@ -1,0 +1,132 @@
+//! Calls of any memory, and what they answer.
+
+ghost use Rattle.std.specs.Prelude.{◌≡◌, ◌<◌, ◌^◌, IsSome, IsTrue, None, false};
+ghost use Rattle.mte_tags.specs.Memory.{page_at};
+
+use mte_tags::{Attrs, MemFault, Paged, Tagged};
+
+/// Six pages over two leaves of a table, of which a tenant may map five.
+const PAGES: [u64; 6] = [0x100, 0x101, 0x1FF, 0x200, 0x201, 0x3FF];
+
+/// A call at an address.
+#[derive(Clone, Copy, PartialEq, Eq, Debug)]
+pub enum Call {
+    /// Unmaps a page that is mapped, or maps one that isn't.
+    Turn(u64),
+    Read(u64, bool),
+    Write(u64, u64, bool),
+    LoadTag(u64),
+    StoreTags(u64, u64, u8),
+    Fetch(u64),
+    PagesLeft,
+}
+
+#[derive(Clone, Copy, PartialEq, Eq, Debug)]
+pub enum Answer {
+    Number(u64),
+    Refused(MemFault),
+}
+
+/// Whether a page is mapped.
+fn is_mapped<M: Tagged>(memory: &mut M, page: u64) -> bool
+    requires { page < 2 ^ 18 }
+    ensures mapped { IsTrue result → IsSome (page_at (M.memory memory.old) page) }
+    ensures free { result ≡ false → page_at (M.memory memory.old) page ≡ None }
+    ensures memory { M.memory memory.new ≡ M.memory memory.old }
+    ensures kept { M.kept memory.old memory.new }
+{
+    memory.has_attrs(page * 4096, Attrs::NONE)
+}
+
+/// Unmaps a page that is mapped, or maps one that isn't.
+fn turn<M: Paged>(memory: &mut M, page: u64) -> u64
+    requires { page < 2 ^ 18 }
+    ensures { M.kept memory.old memory.new }
+{
+    if is_mapped(memory, page) {
+        memory.unmap_pages(page, 1);
+        0
+    } else if memory.map_pages(page, 1, Attrs::DATA).is_ok() {
+        1
+    } else {
+        2
+    }
+}
+
+fn of_number(answer: Result<u64, MemFault>) -> Answer {
+    match answer {
+        Ok(number) => Answer::Number(number),
+        Err(fault) => Answer::Refused(fault),
+    }
+}
+
+fn read<M: Tagged>(memory: &mut M, at: u64, check: bool) -> Result<u64, MemFault>
+    ensures { M.kept memory.old memory.new }
+{
+    let mut bytes = [0; 8];
+    memory.read(at, &mut bytes, check)?;
+    Ok(u64::from_le_bytes(bytes))
+}
+
+/// The answer to a call.
+pub fn reply<M: Paged>(memory: &mut M, call: Call) -> Answer
+    ensures { M.kept memory.old memory.new }
+{
+    of_number(match call {
+        Call::Turn(page) => Ok(turn(memory, page % 0x4_0000)),
+        Call::Read(at, check) => read(memory, at, check),
+        Call::Write(at, value, check) => {
+            memory.write(at, &value.to_le_bytes(), check).map(|_| 0)
+        }
+        Call::LoadTag(at) => memory.load_tag(at).map(u64::from),
+        Call::StoreTags(at, count, tag) => memory.store_tags(at, count, tag % 16, true).map(|_| 0),
+        Call::Fetch(at) => memory.fetch(at).map(u64::from),
+        Call::PagesLeft => Ok(memory.pages_left() as u64),
+    })
+}
+
+/// How many calls are drawn.
+const DRAWN: u64 = 1000;
+
+/// How many words and granules the six pages have.
+const WORDS: u64 = 6 * 512;
+
+const GRANULES: u64 = 6 * 256;
+
+/// How many calls there are.
+pub const CALLS: u64 = DRAWN + WORDS + GRANULES;
+
+/// The calls in their order: those that are drawn, then a read of each word, then of each tag.
+pub fn call_at(i: u64, draw: u64) -> Call {
+    if i < DRAWN {
+        call_of(draw)
+    } else if i < DRAWN + WORDS {
+        let word = i - DRAWN;
+        Call::Read(
+            PAGES[(word / 512) as usize % 6] * 4096 + word % 512 * 8,
+            false,
+        )
+    } else {
+        let granule = i - DRAWN - WORDS;
+        Call::LoadTag(PAGES[(granule / 256) as usize % 6] * 4096 + granule % 256 * 16)
+    }
+}
+
+/// A call by a number: mostly near the end of a page, with the tags 0 to 3.
+fn call_of(draw: u64) -> Call {
+    let page = PAGES[(draw >> 8) as usize % 6];
+    let tag = (draw >> 16) % 4;
+    let at = (tag << 56) + page * 4096 + (draw >> 20) % 4096;
+    let near = (tag << 56) + page * 4096 + 4088 + (draw >> 20) % 8;
+    match draw % 16 {
+        0..3 => Call::Turn(page),
+        3..6 => Call::Read(at, draw & 0x80 == 0),
+        6..8 => Call::Read(near, true),
+        8..10 => Call::Write(at, draw, draw & 0x80 == 0),
+        10 => Call::Write(near, draw, true),
+        11..13 => Call::StoreTags(page * 4096 + at % 256 * 16, (draw >> 40) % 8, tag as u8),
+        13 => Call::LoadTag(at),
+        14 => Call::Fetch(at & !3),
+        _ => Call::PagesLeft,
+    }
+}
