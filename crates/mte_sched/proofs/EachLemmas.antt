@@ -1,46 +1,63 @@
--- Loops over the tenants of a host.
-use Rattle.std.proofs.Common.{◌≡◌, ℕ, ◌+◌, ◌-◌, ◌<◌, ◌≤◌, ◌∙◌, ◌||◌, Bool, true, false, List, [], ◌∷◌, ◌++◌, map, take, drop, length}
-use Rattle.std.proofs.Common.{get_or, slice_set, sum_by, count_by, if◌then◌else◌, suc, refl, ap, sym, arith}
+-- Loops over the tenants of a host, and their entries in the ledger.
+use Rattle.std.proofs.Common.{◌≡◌, ℕ, ◌+◌, ◌<◌, ◌≤◌, ◌∙◌, ◌||◌, ◌==◌, Bool, true, false, List, [], ◌∷◌, map, drop, length, zero, suc}
+use Rattle.std.proofs.Common.{get_or, Option, Some, None, option_map, is_some, if◌then◌else◌, refl, ap, arith, length-drop}
 use Rattle.std.specs.List.{list_any}
-use Rattle.std.proofs.lemmas.List.{take_more, drop_more, map-append}
-use Rattle.std.proofs.lemmas.List.{take_more_set, get_or-drop, drop-set-lt, length-set}
+use Rattle.std.proofs.lemmas.List.{drop_more, nil_from_length}
+use Rattle.mte_svc.specs.declared.parts.TenantParts.{TenantParts}
+use Rattle.mte_frames.specs.Pool.{Pool}
+use Rattle.mte_sched.specs.declared.place.Place.{Place}
 use Rattle.mte_sched.specs.declared.tenant.Tenant as code
-use Rattle.mte_sched.specs.Ledger.{Entry}
-use Rattle.mte_sched.specs.Contents.{Tenant, entry_of}
-use Rattle.mte_sched.specs.Hosts.{tenant_in}
-
-abbrev pub entries : List code.Tenant → List Entry
-entries ts = map entry_of (map tenant_in ts)
+use Rattle.mte_sched.specs.Ledger.{Entry, has_live_id}
+use Rattle.mte_tags.specs.Memory.{Memory}
+use Rattle.mte_svc.specs.declared.record.Record.{Record}
+use Rattle.mte_sched.specs.Contents.{Tenant, entry_of, lives_on, record_of}
+use Rattle.mte_sched.specs.Isolation.{tenant_among}
+use Rattle.mte_sched.specs.Views.{record_among}
+use Rattle.mte_sched.specs.Places.{memory_at}
+use Rattle.mte_sched.specs.Tenants.{held_by, memory_in, tenant_in, tenants_in, entry_in, entries_in}
+use Rattle.mte_sched.specs.Sharing.{HasLiveAt}
 
 -- The entries from the i-th on, the first of them apart.
 pub entries_at : (ts : List code.Tenant) (i : ℕ) (d : code.Tenant) → i < length ts
-    → entries (drop i ts) ≡ entry_of (tenant_in (get_or ts i d)) ∷ entries (drop (i + 1) ts)
-entries_at ts i d below = ap entries (drop_more ts i d below)
+    → entries_in (drop i ts) ≡ entry_in (get_or ts i d) ∷ entries_in (drop (i + 1) ts)
+entries_at ts i d below = ap entries_in (drop_more ts i d below)
 
--- What each call of a loop over the tenants does: those before the i-th are changed, the others stay.
-pub record Changed (f : Tenant → Tenant) (olds items : List code.Tenant) (i : ℕ) : Type 0 where
-  pub before : map tenant_in (take i items) ≡ map f (map tenant_in (take i olds))
-  pub after : drop i items ≡ drop i olds
-  pub count : length items ≡ length olds
+tenant_record : (parts : TenantParts) (o : Option Memory) → record_of (held_by parts o) ≡ parts.account
+tenant_record parts None = refl
+tenant_record parts (Some m) = refl
 
-pub changed_more : (f : Tenant → Tenant) (olds items : List code.Tenant) (i : ℕ) (t d : code.Tenant) → Changed f olds items i → i < length items
-    → tenant_in t ≡ f (tenant_in (get_or items i d)) → Changed f olds (slice_set items i t) (i + 1)
-changed_more f olds items i t d h below one =
-    let within : i < length olds = rw (← h.count) below in
-    let same : get_or items i d ≡ get_or olds i d =
-    sym (ap (λ k. get_or items k d) (let e : i + 0 ≡ i = omega arith in e))
-    ∙ sym (get_or-drop i items 0 d) ∙ ap (λ l. get_or l 0 d) h.after ∙ get_or-drop i olds 0 d
-    ∙ ap (λ k. get_or olds k d) (let e : i + 0 ≡ i = omega arith in e) in
-    let news : map tenant_in (take (i + 1) (slice_set items i t)) ≡ map tenant_in (take i items) ++ tenant_in t ∷ [] =
-    ap (map tenant_in) (take_more_set items i t below) ∙ map-append tenant_in (take i items) (t ∷ []) in
-    let were : map f (map tenant_in (take (i + 1) olds)) ≡ map f (map tenant_in (take i olds)) ++ f (tenant_in (get_or olds i d)) ∷ [] =
-    ap (λ l. map f (map tenant_in l)) (take_more olds i d within)
-    ∙ ap (map f) (map-append tenant_in (take i olds) (get_or olds i d ∷ []))
-    ∙ map-append f (map tenant_in (take i olds)) (tenant_in (get_or olds i d) ∷ []) in
-    let tails : drop (i + 1) items ≡ drop (i + 1) olds =
-    ap (drop 1) (sym (drop_more items i d below) ∙ h.after ∙ drop_more olds i d within) in
-    record {
-      before = news ∙ ap (λ l. l ++ tenant_in t ∷ []) h.before ∙ ap (λ k. map f (map tenant_in (take i olds)) ++ k ∷ []) (one ∙ ap (λ k. f (tenant_in k)) same) ∙ sym were;
-      after = drop-set-lt (i + 1) items i t (omega arith) ∙ tails;
-      count = length-set items i t ∙ h.count;
-    }
+record_if : (b : Bool) (t : code.Tenant) (p : Pool) (more : Option Record) (others : Option Tenant) → option_map (λ u. record_of u.held) others ≡ more
+    → option_map (λ u. record_of u.held) (if b then Some (tenant_in p t) else others) ≡ (if b then Some t.parts.account else more)
+record_if true t p more others e = ap (λ r. Some r) (tenant_record t.parts (memory_in p t))
+record_if false t p more others e = e
+
+-- The record with a number among the tenants from the i-th on.
+pub record_at : (p : Pool) (id : ℕ) (ts : List code.Tenant) (i : ℕ) (d : code.Tenant) → i < length ts
+    → record_among id (tenants_in p (drop i ts)) ≡ (if (get_or ts i d).parts.account.id == id then Some (get_or ts i d).parts.account else record_among id (tenants_in p (drop (i + 1) ts)))
+record_at p id ts i d below =
+    ap (λ l. record_among id (tenants_in p l)) (drop_more ts i d below)
+    ∙ record_if ((get_or ts i d).parts.account.id == id) (get_or ts i d) p (record_among id (tenants_in p (drop (i + 1) ts))) (tenant_among id (tenants_in p (drop (i + 1) ts))) refl
+
+pub record_none : (p : Pool) (id : ℕ) (ts : List code.Tenant) (i : ℕ) → length ts ≤ i → record_among id (tenants_in p (drop i ts)) ≡ None
+record_none p id ts i over = ap (λ l. record_among id (tenants_in p l)) (nil_from_length (drop i ts) (simp length-drop (omega arith)))
+
+lives_by : (parts : TenantParts) (p : Pool) (pages : ℕ) (o : Option Place) → lives_on (held_by parts (option_map (λ a. memory_at p a pages) o)) ≡ is_some o
+lives_by parts p pages None = refl
+lives_by parts p pages (Some a) = refl
+
+-- The ledger of the content is that of the entries.
+pub ledger_is : (p : Pool) (ts : List code.Tenant) → map entry_of (tenants_in p ts) ≡ entries_in ts
+ledger_is p [] = refl
+ledger_is p (t ∷ ts) =
+    ap (λ b. (let e : Entry = record { id = t.parts.account.id; pages = t.pages; live = b } in e) ∷ map entry_of (tenants_in p ts)) (lives_by t.parts p t.pages t.place)
+    ∙ ap (λ l. entry_in t ∷ l) (ledger_is p ts)
+
+-- A live tenant with a number stands in the ledger.
+pub live_there : (id : ℕ) (ts : List code.Tenant) (i : ℕ) → HasLiveAt ts i id → list_any (has_live_id id) (entries_in ts) ≡ true
+live_there id [] i h = absurd cc
+live_there id (t ∷ ts) zero h = rw h refl
+live_there id (t ∷ ts) (suc i) h = or_true (has_live_id id (entry_in t)) _ (live_there id ts i h)
+  where
+    or_true : (a b : Bool) → b ≡ true → (a || b) ≡ true
+    or_true true b e = refl
+    or_true false b e = e

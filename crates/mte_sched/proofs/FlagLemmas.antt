@@ -1,5 +1,5 @@
 -- The flag of a tenant that is running is clear between calls: a slice ends where it is set.
-use Rattle.std.proofs.Common.{◌≡◌, ℕ, ◌+◌, ◌&&◌, ◌==◌, Bool, true, false, List, [], ◌∷◌, ◌++◌, map}
+use Rattle.std.proofs.Common.{◌≡◌, ℕ, ◌&&◌, ◌==◌, Bool, true, false, List, [], ◌∷◌, ◌++◌, map}
 use Rattle.std.proofs.Common.{Option, Some, None, if◌then◌else◌, cond, refl, ap, ◌∙◌}
 use Rattle.mte_tags.specs.Memory.{Memory, no_pages}
 use Rattle.mte_tags.specs.declared.state.TagMode.{TagMode}
@@ -7,10 +7,9 @@ use Rattle.mte_tags.specs.declared.state.TagState.{TagState}
 use Rattle.mte_tags.proofs.StateLaws.{state-with_new_pages, state-written}
 use Rattle.mte_elf.specs.declared.image.Segment.{Segment}
 use Rattle.mte_elf.specs.Loading.{with_segment, with_segments}
-use Rattle.mte_svc.specs.declared.record.Status.TheVariants.{Stopped}
 use Rattle.mte_sched.specs.declared.refusal.Refusal.{Refusal}
 use Rattle.mte_sched.specs.Machines.{Machine, Terms, runs, first_memory, start_of, attempts, settled}
-use Rattle.mte_sched.specs.Machines.{advance, with_status, ended_by_tag}
+use Rattle.mte_sched.specs.Machines.{advance, ended_by_tag}
 use Rattle.mte_sched.specs.Ledger.{Call, Admit, Slice, Stop, call_refusal}
 use Rattle.mte_sched.specs.Contents.{Held, Live, Gone, held_sliced, held_stopped, Tenant, Content}
 use Rattle.mte_sched.specs.Contents.{ledger_of, tenant_sliced, tenant_stopped, admitted, sliced, stopped}

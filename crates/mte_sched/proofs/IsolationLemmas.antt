@@ -1,10 +1,9 @@
 -- A host's content after calls is its tenants alone, and those that the calls admit.
-use Rattle.std.proofs.Common.{◌≡◌, ℕ, ◌+◌, ◌==◌, Bool, true, false, List, [], ◌∷◌, ◌++◌, map}
+use Rattle.std.proofs.Common.{◌≡◌, ℕ, ◌==◌, Bool, true, false, List, [], ◌∷◌, ◌++◌, map}
 use Rattle.std.proofs.Common.{Option, Some, None, if◌then◌else◌, refl, ap, sym, ◌∙◌}
-use Rattle.mte_sched.specs.Machines.{Terms, start_of}
 use Rattle.mte_sched.specs.Ledger.{Call, Admit, Slice, Stop, Entry, call_refusal, ended, entered_by}
-use Rattle.mte_sched.specs.Lives.{Own, Sliced, Halted, Life, Session, Agree, own_in, own_by, own_events}
-use Rattle.mte_sched.specs.Lives.{life_in, life_by, lives_from, lives, life_among}
+use Rattle.mte_sched.specs.Lives.{Own, Sliced, Halted, Life, own_by, own_events}
+use Rattle.mte_sched.specs.Lives.{life_by, lives_from, lives, life_among}
 use Rattle.mte_sched.specs.Contents.{Held, Live, Gone, lives_on, held_sliced, held_stopped, alone}
 use Rattle.mte_sched.specs.Contents.{Tenant, Content, entry_of, ledger_of, tenant_sliced}
 use Rattle.mte_sched.specs.Contents.{tenant_stopped, admitted, sliced, stopped, after_call, after_by, played}

@@ -1,5 +1,11 @@
 pub mod MachineLemmas
 pub mod IsolationLemmas
 pub mod TenantLemmas
+mod PlaceLists
+mod PlaceLemmas
+mod SharingLemmas
+mod TurnLemmas
+mod AdmitLemmas
+mod FrameLemmas
 mod EachLemmas
 mod FlagLemmas

@@ -1,5 +1,5 @@
 -- A run of instructions between two services is as many attempted instructions.
-use Rattle.std.proofs.Common.{◌≡◌, ℕ, zero, suc, ◌+◌, ◌-◌, ◌<◌, ◌≤◌, ◌/◌, ◌%◌, min, Bool, true, false, Option, List, [], ◌∷◌, if◌then◌else◌}
+use Rattle.std.proofs.Common.{◌≡◌, ℕ, zero, suc, ◌+◌, ◌-◌, ◌<◌, ◌≤◌, ◌/◌, ◌%◌, min, true, false, Option, List, [], ◌∷◌, if◌then◌else◌}
 use Rattle.std.proofs.Common.{Some, None, refl, ap, sym, ◌∙◌, arith}
 use Rattle.std.specs.FinMap as finite
 use Rattle.std.specs.Ordering.{nat_cmp}
@@ -16,7 +16,6 @@ use Rattle.a64_step.specs.declared.outcome.Outcome.{Outcome}
 use Rattle.a64_step.specs.declared.outcome.Outcome.TheVariants as outcome
 use Rattle.a64_step.specs.declared.outcome.Stop.{Stop}
 use Rattle.a64_step.specs.Steps.{step_of, run_of, Ran, goes_on}
-use Rattle.mte_svc.specs.declared.parts.TenantParts.{TenantParts}
 use Rattle.mte_sched.specs.Machines.{Machine, machine_of, runs, Attempted, on, met, counted, with_regs}
 use Rattle.mte_sched.specs.Machines.{attempted, attempts, first_memory}
 

@@ -1,15 +1,15 @@
 -- A tenant's number stays, and what its machine becomes is what the tenant becomes.
-use Rattle.std.proofs.Common.{◌≡◌, ℕ, zero, suc, ◌+◌, ◌-◌, ◌/◌, ◌%◌, ◌^◌, ◌<◌, ◌==◌, ◌&&◌, ◌∙◌, Bool, true, false, List, [], ◌∷◌, Option, Some, None, Result, Ok, Err}
-use Rattle.std.proofs.Common.{if◌then◌else◌, refl, ap, sym, subst, arith}
+use Rattle.std.proofs.Common.{◌≡◌, ℕ, zero, suc, ◌/◌, ◌^◌, ◌<◌, ◌==◌, ◌&&◌, ◌∙◌, Bool, true, false, List, [], ◌∷◌, Option, Some, None, Result, Ok, Err}
+use Rattle.std.proofs.Common.{if◌then◌else◌, refl, ap, arith}
 use Rattle.a64_step.specs.declared.outcome.Outcome.{Outcome}
 use Rattle.a64_step.specs.declared.outcome.Outcome.TheVariants as outcome
 use Rattle.a64_step.specs.Steps.{step_of}
 use Rattle.mte_tags.specs.Memory.{Memory, pages_left}
 use Rattle.mte_tags.specs.Accesses.{read_fault, write_fault}
 use Rattle.mte_tags.specs.declared.fault.MemFault.{MemFault}
-use Rattle.mte_svc.specs.Results.{Served, answered, entered, ends, goes_on, x_of}
+use Rattle.mte_svc.specs.Results.{Served, answered, entered, goes_on, x_of}
 use Rattle.mte_svc.specs.HeapServices.{malloc_by, free_by, calloc_by, realloc_by, memalign_by, usable_size_by, freed_by, found_by, made_by, world_in}
-use Rattle.mte_svc.specs.declared.calls.HeapService.TheVariants.{Malloc, Free, Calloc, Realloc, Memalign, UsableSize}
+use Rattle.mte_svc.specs.declared.calls.HeapService.TheVariants.{Malloc, Calloc, Realloc, Memalign, UsableSize}
 use Rattle.mte_svc.specs.declared.calls.HeapService.{HeapService}
 use Rattle.scudo_heap.specs.Allocation.{Made, malloc_of, calloc_of, memalign_of}
 use Rattle.scudo_heap.specs.Freeing.{free_of, usable_size_of}
@@ -19,20 +19,18 @@ use Rattle.scudo_heap.specs.Placing.{World}
 use Rattle.scudo_heap.specs.declared.abort.HeapAbort.{HeapAbort}
 use Rattle.mte_svc.specs.Services.{served, by_number, wrote, wrote_by, write_count, read_in, read_by, read_count, none_such}
 use Rattle.mte_svc.specs.declared.parts.TenantParts.{TenantParts}
-use Rattle.mte_svc.specs.declared.record.Record.{Record}
 use Rattle.mte_svc.specs.declared.services.SvcEnd.{SvcEnd}
 use Rattle.mte_svc.specs.declared.services.SvcEnd.TheVariants as end
 use Rattle.mte_svc.specs.declared.services.TheConstants.{EXIT, WRITE, READ, MALLOC, FREE, CALLOC, REALLOC, MEMALIGN, USABLE_SIZE, YIELD, STEPS_LEFT, PAGES_LEFT}
 use Rattle.mte_sched.specs.Machines.{Machine, machine_of, runs, Attempted, on, after_service, with_service, ended_by_tag, met, counted, with_regs}
-use Rattle.mte_sched.specs.Machines.{attempted, attempts, ended_where_set, settled, advance, halted, with_status}
-use Rattle.mte_sched.specs.Ledger.{has_id, has_live_id}
-use Rattle.scudo_heap.specs.Heaps.{HeapState, empty_heap}
-use Rattle.scudo_heap.specs.Served.{IsServed}
+use Rattle.mte_sched.specs.Machines.{attempted, attempts, settled, advance, halted}
+use Rattle.mte_sched.specs.Ledger.{has_live_id}
+use Rattle.scudo_heap.specs.Heaps.{empty_heap}
 use Rattle.mte_sched.specs.Machines.{Terms, start_of, first_parts, first_registers}
-use Rattle.mte_sched.specs.Lives.{Own, Sliced, Halted, Life}
+use Rattle.mte_sched.specs.Lives.{Own, Sliced, Halted}
 use Rattle.mte_sched.specs.Isolation.{NumbersStay}
 use Rattle.mte_sched.specs.Contents.{Held, Live, Gone, record_of, held_sliced, held_stopped, alone, entry_of, Tenant, tenant_sliced, tenant_stopped}
-use Rattle.mte_sched.specs.Hosts.{held_by}
+use Rattle.mte_sched.specs.Tenants.{held_by}
 
 abbrev pub number_in : Machine → ℕ
 number_in m = m.parts.account.id
@@ -209,12 +207,6 @@ unfolding start_of first_parts
 numbers_stay life = alone_number (Live (start_of life.id life.terms)) life.own
 
 -- ---- the condition of the heap's calls, at first
-
-some_same : (a b : Memory) → Some a ≡ Some b → a ≡ b
-some_same a b h = cc
-
-pub served_some : (a b : Memory) (h : HeapState) → IsServed a h → Some a ≡ Some b → IsServed b h
-served_some a b h served e = subst (λ m. IsServed m h) (some_same a b e) served
 
 pub heap_at_first : (id : ℕ) (terms : Terms) → (first_parts id terms).heap ≡ empty_heap (terms.seed / 2 ^ 32) terms.pages
 unfolding first_parts

@@ -1,38 +1,23 @@
 -- The content of the host.
-use Rattle.std.specs.Prelude.{ℕ, List, map, Option, Some, None}
-use Rattle.mte_svc.specs.declared.parts.TenantParts.{TenantParts}
-use Rattle.mte_tags.specs.Memory.{Memory}
-use Rattle.mte_sched.specs.declared.admission.Admission.{Admission}
+use Rattle.std.specs.Prelude.{ℕ, Option, option_map, List, length}
+use Rattle.mte_frames.specs.Pool.{Pool}
 use Rattle.mte_sched.specs.declared.host.Host.{Host}
-use Rattle.mte_sched.specs.declared.tenant.Tenant as code
-use Rattle.mte_sched.specs.Machines.{Terms, machine_of}
 use Rattle.mte_sched.specs.Ledger.{Entry}
-use Rattle.mte_sched.specs.Contents.{Held, Live, Gone, Tenant, Content, ledger_of}
+use Rattle.mte_sched.specs.Contents.{Content, ledger_of}
+use Rattle.mte_sched.specs.Tenants.{tenants_in}
+use Rattle.mte_sched.specs.Views.{found_among}
 
--- A tenant that was stopped has no memory.
-abbrev pub held_by : TenantParts → Option Memory → Held
-held_by parts None = Gone parts.account
-held_by parts (Some m) = Live (machine_of parts m)
-
-abbrev pub tenant_in : code.Tenant → Tenant
-tenant_in t = record {
-  id = t.parts.account.id;
-  pages = t.pages;
-  held = held_by t.parts t.memory;
-}
+-- The frames that its tenants share.
+abbrev pub pool_of : Host → Pool
+pool_of h = h.pool
 
 abbrev pub content_of : Host → Content
-content_of h = record { frames = h.frames; tenants = map tenant_in h.tenants.items }
+content_of h =
+    record { frames = length (pool_of h).frames; tenants = tenants_in (pool_of h) h.tenants.items }
+
+-- The frame that holds the page q of the live tenant with a number.
+abbrev pub frame_in : Host → ℕ → ℕ → Option ℕ
+frame_in h id q = option_map (λ x. x.0) (found_among (pool_of h) id q h.tenants.items)
 
 abbrev pub ledger_in : Host → List Entry
 ledger_in h = ledger_of (content_of h)
-
-abbrev pub terms_of : Admission → Terms
-terms_of a = record {
-  image = a.image.now;
-  input = a.input.now;
-  seed = a.seed;
-  pages = a.pages;
-  room = a.room;
-  mode = a.mode;
-}

@@ -3,7 +3,11 @@ pub mod Ledger
 pub mod Lives
 pub mod Contents
 pub mod Ready
+pub mod Places
+pub mod Tenants
+pub mod Sharing
+pub mod Isolation
+pub mod Views
 pub mod Hosts
 pub mod Names
-pub mod Isolation
 pub mod Flags

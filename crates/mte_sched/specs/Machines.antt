@@ -1,7 +1,7 @@
 -- A tenant alone on a tagged memory: its first machine, what an attempted instruction and a service
 -- make of it.
-use Rattle.std.specs.Prelude.{ℕ, zero, suc, ◌+◌, ◌-◌, ◌/◌, ◌%◌, ◌^◌, ◌==◌, min, Bool, true, false}
-use Rattle.std.specs.Prelude.{List, [], Option, Some, None, if◌then◌else◌, ◌&&◌}
+use Rattle.std.specs.Prelude.{ℕ, zero, suc, ◌+◌, ◌/◌, ◌%◌, ◌^◌, min, Bool, true, false}
+use Rattle.std.specs.Prelude.{List, [], if◌then◌else◌, ◌&&◌}
 use Rattle.address_map.specs.declared.limits.TheConstants.{PAGE_SIZE}
 use Rattle.address_map.specs.declared.ranges.TheConstants.{STACK_START, STACK_END, STACK_PAGES}
 use Rattle.a64_step.specs.declared.registers.Regs.{Regs}

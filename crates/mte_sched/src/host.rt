@@ -1,75 +1,99 @@
 //! The host: admission, slices, stops.
 
-ghost use Rattle.std.specs.Prelude.{◌≡◌, ℕ, ◌⊎◌, ◌-◌, ◌↔◌, IfOk, IfErr, Err, OnOk, OnErr, IsOk, Some};
-ghost use Rattle.std.specs.Prelude.{None, Bool, true, false, IsTrue, ◌+◌, ◌<◌, ◌≤◌, map, sum_by, count_by};
-ghost use Rattle.std.specs.Prelude.{option_map, []};
+ghost use Rattle.std.specs.Prelude.{◌≡◌, ℕ, ◌⊎◌, ◌-◌, ◌+◌, ◌<◌, ◌≤◌, ◌↔◌, IfOk, IfErr, Err, OnOk};
+ghost use Rattle.std.specs.Prelude.{OnErr, IsOk, IfSome, Some, None, true, false, length, sum_by};
+ghost use Rattle.std.specs.Prelude.{count_by, option_copied};
 ghost use Rattle.std.specs.List.{list_any};
 ghost use Rattle.mte_elf.specs.Headers.{entry_of, segments_of};
 ghost use Rattle.mte_elf.specs.Images.{refusal_of, pages_of};
-ghost use Rattle.mte_sched.specs.declared.admission.AdmitError.TheVariants.{Image};
-ghost use Rattle.mte_sched.specs.Machines.{start_of, machine_of};
 ghost use Rattle.mte_sched.specs.Ledger.{admission_refusal, has_id, has_live_id, is_bad, charge_in};
 ghost use Rattle.mte_sched.specs.Ledger.{is_live, charge_of};
-ghost use Rattle.mte_sched.specs.Contents.{admitted, sliced, stopped, tenant_sliced, tenant_stopped};
-ghost use Rattle.mte_sched.specs.Contents.{new_tenant};
-ghost use Rattle.mte_sched.specs.Hosts.{content_of, ledger_in, terms_of, tenant_in};
+ghost use Rattle.mte_sched.specs.Tenants.{entries_in, tenants_in, terms_of};
+ghost use Rattle.mte_sched.specs.Sharing.{IsSharing, HasLiveAt};
 
+use crate::accepting::{holds_image, is_bad_reservation, plan_of};
 use crate::admission::{Admission, AdmitError, MAX_LIVE, NotLive, charge};
-use crate::machine::{fill, start_parts};
+use crate::machine::start_parts;
+use crate::place::start_place;
 use crate::tenant::Tenant;
-use address_map::{MAX_OUTPUT, MAX_PAGES, STACK_PAGES};
-use mte_elf::{ElfError, Plan, plan};
-use mte_tags::Flat;
+use crate::turns::{slice_at, stop_at};
+use address_map::{MAX_FRAMES, MAX_PAGES, STACK_PAGES};
+use mte_arena::{Arena, ArenaError};
+use mte_elf::Plan;
+use mte_frames::FramePool;
+use mte_svc::Record;
+use mte_translate::Tlb;
 use scudo_heap::condition_of_calls;
 use std::alloc::Global;
 
-/// A host of tenants.
+/// A host of tenants, whose memories lie in the frames of one pool.
 #[derive(Drop)]
 pub struct Host {
-    /// The frames that tenants are charged against, 1 to 65536.
-    pub frames: u32,
-    /// The tenants, in the order of their admissions.
-    pub tenants: Vec<Tenant>,
+    pool: FramePool,
+    tlb: Tlb,
+    tenants: Vec<Tenant>,
+    ghost sharing: { IsSharing pool tlb tenants.items },
 }
 
 impl Host {
-    /// A host of `frames` frames, without tenants.
-    pub fn new(alloc: Global, frames: u32) -> Host
-        ensures { content_of result ≡ record { frames = frames; tenants = [] } }
+    ghost use Rattle.mte_arena.specs.declared.arena.ArenaError.TheVariants.{BadCount};
+    ghost use Rattle.mte_sched.specs.Contents.{admitted, sliced, stopped, empty};
+    ghost use Rattle.mte_sched.specs.Views.{record_among, page_among, Holds};
+    ghost use Rattle.mte_sched.specs.Hosts.{pool_of, content_of, frame_in, ledger_in};
+
+    /// A host of `frames` frames, without tenants. The number is tested before any memory is taken;
+    /// `OutOfMemory` comes only where an allocation was refused.
+    pub fn new(alloc: Global, frames: u32) -> Result<Host, ArenaError>
+        ensures ok { IfOk result (λ h. content_of h ≡ empty frames) }
+        ensures bad_count { (result ≡ Err BadCount) ↔ ((frames ≡ 0) ⊎ (MAX_FRAMES < frames)) }
     {
-        Host {
-            frames,
+        let arena = Arena::new(alloc, frames as usize)?;
+        let Ok(pool) = FramePool::new(alloc, arena) else {
+            return Err(ArenaError::OutOfMemory);
+        };
+        Ok(Host {
+            pool,
+            tlb: Tlb::new(),
             tenants: Vec::new(alloc),
-        }
+        })
     }
 
     /// Admits a tenant, or returns the first refusal that applies. Only `OutOfMemory`, where an
     /// allocation failed, can come in place of the refusals from `Image` on.
     #[tactic(auto, unfolding(crate::specs::Contents::admitted))]
     pub fn admit(&mut self, alloc: Global, admission: &Admission<'_>) -> Result<(), AdmitError>
-        ensures accepted { OnOk result (admission_refusal self.old.frames (ledger_in self.old)
-            admission.now.id (terms_of admission.now) ≡ None) }
+        ensures accepted { OnOk result (admission_refusal (content_of self.old).frames
+            (ledger_in self.old) admission.now.id (terms_of admission.now) ≡ None) }
         ensures ok { OnOk result (content_of self.new
             ≡ admitted (content_of self.old) admission.now.id (terms_of admission.now)) }
         ensures refused { IfErr result (λ e. (e ≡ AdmitError.OutOfMemory)
-            ⊎ (admission_refusal self.old.frames (ledger_in self.old)
+            ⊎ (admission_refusal (content_of self.old).frames (ledger_in self.old)
             admission.now.id (terms_of admission.now) ≡ Some e)) }
         ensures memory { (result ≡ Err AdmitError.OutOfMemory)
             → (list_any (has_id admission.now.id) (ledger_in self.old) ≡ false)
             × (is_bad (terms_of admission.now) ≡ false) }
         ensures err { OnErr result (content_of self.new ≡ content_of self.old) }
     {
+        condition_of_calls();
         let plan = self.accept(alloc, admission)?;
-        let tenant = start(alloc, admission, &plan)?;
-        self.tenants.push(tenant)?;
+        let parts = start_parts(alloc, admission, &plan)?;
+        self.tenants.reserve(1)?;
+        let asid = self.tenants.len();
+        let place = start_place(&mut self.pool, &mut self.tlb, asid, admission, &plan);
+        self.tenants.push_reserved(Tenant {
+            parts,
+            place: Some(place),
+            pages: admission.pages,
+        });
         Ok(())
     }
 
     /// The plan of an admission's image, or the first refusal that applies.
     #[tactic(auto, unfolding(crate::specs::Ledger::admission_refusal))]
     fn accept(&self, alloc: Global, admission: &Admission<'_>) -> Result<Plan, AdmitError>
-        ensures accepted { OnOk result (admission_refusal self.now.frames (ledger_in self.now)
-            admission.now.id (terms_of admission.now) ≡ None) }
+        ensures accepted { OnOk result (admission_refusal (length self.now.pool.frames)
+            (entries_in self.now.tenants.items) admission.now.id (terms_of admission.now)
+            ≡ None) }
         ensures image { IfOk result (λ p. refusal_of admission.now.image.now ≡ None) }
         ensures entry { IfOk result (λ p. p.entry ≡ entry_of admission.now.image.now) }
         ensures segments { IfOk result
@@ -77,15 +101,19 @@ impl Host {
         ensures room { IfOk result
             (λ p. pages_of admission.now.image.now + STACK_PAGES ≤ admission.now.pages) }
         ensures fresh { IfOk result
-            (λ p. list_any (has_id admission.now.id) (ledger_in self.now) ≡ false) }
+            (λ p. list_any (has_id admission.now.id) (entries_in self.now.tenants.items)
+            ≡ false) }
         ensures good { IfOk result (λ p. is_bad (terms_of admission.now) ≡ false) }
         ensures some { IfOk result (λ p. 0 < admission.now.pages) }
         ensures most { IfOk result (λ p. admission.now.pages ≤ MAX_PAGES) }
+        ensures frames { IfOk result (λ p. charge_of admission.now.pages
+            ≤ length self.now.pool.frames - sum_by charge_in (entries_in self.now.tenants.items)) }
         ensures refused { IfErr result (λ e. (e ≡ AdmitError.OutOfMemory)
-            ⊎ (admission_refusal self.now.frames (ledger_in self.now)
-            admission.now.id (terms_of admission.now) ≡ Some e)) }
+            ⊎ (admission_refusal (length self.now.pool.frames)
+            (entries_in self.now.tenants.items) admission.now.id (terms_of admission.now)
+            ≡ Some e)) }
         ensures memory { (result ≡ Err AdmitError.OutOfMemory)
-            → (list_any (has_id admission.now.id) (ledger_in self.now) ≡ false)
+            → (list_any (has_id admission.now.id) (entries_in self.now.tenants.items) ≡ false)
             × (is_bad (terms_of admission.now) ≡ false) }
     {
         if self.knows(admission.id) {
@@ -115,10 +143,11 @@ impl Host {
         ensures ok { OnOk result (content_of self.new ≡ sliced (content_of self.old) id steps) }
         ensures err { OnErr result (content_of self.new ≡ content_of self.old) }
     {
-        if !self.has_live(id) {
+        let Some(asid) = self.find_live(id) else {
             return Err(NotLive);
-        }
-        slice_each(&mut self.tenants, id, steps);
+        };
+        let tenants = self.tenants.as_mut_slice();
+        slice_at(&mut self.pool, &mut self.tlb, tenants, asid, id, steps);
         Ok(())
     }
 
@@ -130,16 +159,59 @@ impl Host {
         ensures ok { OnOk result (content_of self.new ≡ stopped (content_of self.old) id) }
         ensures err { OnErr result (content_of self.new ≡ content_of self.old) }
     {
-        if !self.has_live(id) {
+        let Some(asid) = self.find_live(id) else {
             return Err(NotLive);
-        }
-        stop_each(&mut self.tenants, id);
+        };
+        let tenants = self.tenants.as_mut_slice();
+        stop_at(&mut self.pool, &mut self.tlb, tenants, asid, id);
         Ok(())
+    }
+
+    /// The record of the tenant that was admitted with the number, stopped or not; `None` where none
+    /// was.
+    pub fn view(&self, id: u16) -> Option<&Record>
+        ensures { option_copied result ≡ record_among id (content_of self.now).tenants }
+    {
+        for tenant in &self.tenants {
+            if tenant.has_id(id) {
+                return Some(tenant.record());
+            }
+        }
+        None
+    }
+
+    /// The frame that holds a page of the live tenant with the number; `None` where there is no such
+    /// page. It is out, and the page's bytes and tags are the frame's. No frame holds two pages, of
+    /// one tenant or of two.
+    pub fn frame_of(&self, id: u16, page: u64) -> Option<usize>
+        ensures frame { result ≡ frame_in self.now id page }
+        ensures holds { IfSome result (λ f.
+            Holds (pool_of self.now) f (page_among id page (content_of self.now).tenants)) }
+        ensures none { result ≡ None → page_among id page (content_of self.now).tenants ≡ None }
+        ensures apart { IfSome result (λ f. (other r : ℕ)
+            → frame_in self.now other r ≡ Some f → (other ≡ id) × (r ≡ page)) }
+    {
+        self.find_frame(id, page)
+    }
+
+    /// The tenants, in the order of their admissions.
+    pub fn tenants(&self) -> &[Tenant]
+        ensures { (content_of self.now).tenants ≡ tenants_in (pool_of self.now) result.now }
+    {
+        self.tenants.as_slice()
+    }
+
+    /// The frames that all tenants share.
+    pub fn pool(&self) -> &FramePool
+        ensures value { result.now ≡ pool_of self.now }
+        ensures count { length result.now.frames ≡ (content_of self.now).frames }
+    {
+        &self.pool
     }
 
     /// Whether a tenant with the number was admitted.
     fn knows(&self, id: u16) -> bool
-        ensures { result ≡ list_any (has_id id) (ledger_in self.now) }
+        ensures { result ≡ list_any (has_id id) (entries_in self.now.tenants.items) }
     {
         for tenant in &self.tenants {
             if tenant.has_id(id) {
@@ -149,23 +221,38 @@ impl Host {
         false
     }
 
-    /// Whether a live tenant has the number.
-    fn has_live(&self, id: u16) -> bool
-        ensures { result ≡ list_any (has_live_id id) (ledger_in self.now) }
+    /// Which tenant is live and has the number.
+    fn find_live(&self, id: u16) -> Option<usize>
+        ensures some { IfSome result (λ i. HasLiveAt self.now.tenants.items i id) }
+        ensures none { result ≡ None
+            → list_any (has_live_id id) (entries_in self.now.tenants.items) ≡ false }
     {
-        for tenant in &self.tenants {
-            if tenant.has_live_id(id) {
-                return true;
+        for i in 0..self.tenants.len() {
+            if self.tenants[i].has_live_id(id) {
+                return Some(i);
             }
         }
-        false
+        None
+    }
+
+    /// The frame of a page, by the table of the tenant with the number.
+    fn find_frame(&self, id: u16, page: u64) -> Option<usize>
+        ensures { result ≡ frame_in self.now id page }
+    {
+        for tenant in &self.tenants {
+            if tenant.has_id(id) {
+                return tenant.find_frame(&self.pool, page);
+            }
+        }
+        None
     }
 
     /// How many frames live tenants leave.
     fn unreserved(&self) -> u64
-        ensures { result ≡ self.now.frames - sum_by charge_in (ledger_in self.now) }
+        ensures { result ≡ length self.now.pool.frames
+            - sum_by charge_in (entries_in self.now.tenants.items) }
     {
-        let mut left = u64::from(self.frames);
+        let mut left = self.pool.frames() as u64;
         for tenant in &self.tenants {
             left = left.saturating_sub(tenant.charge());
         }
@@ -174,7 +261,7 @@ impl Host {
 
     /// How many tenants are live.
     fn live(&self) -> usize
-        ensures { result ≡ count_by is_live (ledger_in self.now) }
+        ensures { result ≡ count_by is_live (entries_in self.now.tenants.items) }
     {
         let mut count = 0;
         for tenant in &self.tenants {
@@ -184,87 +271,4 @@ impl Host {
         }
         count
     }
-}
-
-/// A slice of each tenant with a number.
-fn slice_each(tenants: &mut Vec<Tenant>, id: u16, steps: u32)
-    ensures { map tenant_in tenants.new.items
-        ≡ map (tenant_sliced id steps) (map tenant_in tenants.old.items) }
-{
-    for i in 0..tenants.len() {
-        tenants[i].slice(id, steps);
-    }
-}
-
-/// A stop of each tenant with a number.
-fn stop_each(tenants: &mut Vec<Tenant>, id: u16)
-    ensures { map tenant_in tenants.new.items
-        ≡ map (tenant_stopped id) (map tenant_in tenants.old.items) }
-{
-    for i in 0..tenants.len() {
-        tenants[i].stop(id);
-    }
-}
-
-/// A tenant at its first instruction.
-#[tactic(auto, unfolding(crate::specs::Machines::start_of))]
-fn start(alloc: Global, admission: &Admission<'_>, plan: &Plan) -> Result<Tenant, AdmitError>
-    requires image { refusal_of admission.now.image.now ≡ None }
-    requires segments { plan.now.segments.items ≡ segments_of admission.now.image.now }
-    requires entry { plan.now.entry ≡ entry_of admission.now.image.now }
-    requires room { pages_of admission.now.image.now + STACK_PAGES ≤ admission.now.pages }
-    requires some { 0 < admission.now.pages }
-    requires most { admission.now.pages ≤ MAX_PAGES }
-    ensures tenant { IfOk result (λ tenant. tenant_in tenant
-        ≡ new_tenant admission.now.id (terms_of admission.now)) }
-    ensures memory { IfErr result (λ e. e ≡ AdmitError.OutOfMemory) }
-{
-    condition_of_calls();
-    let mut memory = Flat::new(alloc, admission.pages as usize, admission.mode)?;
-    let parts = start_parts(alloc, admission, plan)?;
-    fill(
-        plan,
-        admission.image,
-        admission.pages,
-        admission.mode,
-        &mut memory,
-    );
-    Ok(Tenant {
-        parts,
-        memory: Some(memory),
-        pages: admission.pages,
-    })
-}
-
-/// Whether a reservation or a room is out of its limits.
-fn is_bad_reservation(admission: &Admission<'_>) -> bool
-    ensures bad { result ≡ is_bad (terms_of admission.now) }
-    ensures some { result ≡ false → 0 < admission.now.pages }
-    ensures most { result ≡ false → admission.now.pages ≤ MAX_PAGES }
-{
-    let (pages, room) = (u64::from(admission.pages), u64::from(admission.room));
-    pages == 0 || pages > MAX_PAGES || room > MAX_OUTPUT
-}
-
-/// An image's plan, or its refusal as an admission's error.
-fn plan_of(alloc: Global, image: &[u8]) -> Result<Plan, AdmitError>
-    ensures image { IfOk result (λ p. refusal_of image.now ≡ None) }
-    ensures entry { IfOk result (λ p. p.entry ≡ entry_of image.now) }
-    ensures pages { IfOk result (λ p. p.pages ≡ pages_of image.now) }
-    ensures segments { IfOk result (λ p. p.segments.items ≡ segments_of image.now) }
-    ensures refused { IfErr result (λ e.
-        (e ≡ AdmitError.OutOfMemory) ⊎ (option_map Image (refusal_of image.now) ≡ Some e)) }
-{
-    match plan(alloc, image) {
-        Ok(plan) => Ok(plan),
-        Err(ElfError::OutOfMemory) => Err(AdmitError::OutOfMemory),
-        Err(error) => Err(AdmitError::Image(error)),
-    }
-}
-
-/// Whether a reservation holds an image's pages and a stack's.
-fn holds_image(reservation: u32, pages: u64) -> bool
-    ensures { IsTrue result ↔ (pages + STACK_PAGES ≤ reservation) }
-{
-    u128::from(pages) + u128::from(STACK_PAGES) <= u128::from(reservation)
 }

@@ -1,13 +1,16 @@
 //! The host: admission, slices and stops of tenants, and what a tenant's machine does.
 #![tactic(auto)]
 
+mod accepting;
 mod admission;
 mod host;
 mod isolation;
 mod machine;
+mod place;
 mod refusal;
 mod tenant;
 mod tenant_calls;
+mod turns;
 
 pub use admission::{Admission, AdmitError, MAX_LIVE, NotLive};
 pub use host::Host;
@@ -15,6 +18,7 @@ pub use isolation::{
     flag_is_clear, ledger_follows, numbers_stay, tenants_are_alone, tenants_are_isolated,
 };
 pub use machine::slice;
+pub use mte_arena::ArenaError;
 pub use mte_svc::{Output, Record, Status, TenantParts};
 pub use refusal::{Refusal, Refused};
 pub use tenant::Tenant;

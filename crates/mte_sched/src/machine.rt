@@ -9,7 +9,7 @@ ghost use Rattle.scudo_heap.specs.Served.{IsServed, IsUntouched};
 ghost use Rattle.mte_svc.specs.Results.{is_running};
 ghost use Rattle.mte_svc.specs.Services.{served};
 ghost use Rattle.mte_sched.specs.Machines.{machine_of, first_parts, first_memory, first_registers};
-ghost use Rattle.mte_sched.specs.Hosts.{terms_of};
+ghost use Rattle.mte_sched.specs.Tenants.{terms_of};
 ghost use Rattle.mte_sched.specs.Machines.{advance, attempts, settled, met, halted, with_service};
 
 use crate::admission::Admission;

@@ -1,18 +1,15 @@
 //! An admitted tenant.
 
-ghost use Rattle.mte_sched.specs.Ready.{IsReady};
-
+use crate::place::Place;
 use mte_svc::TenantParts;
-use mte_tags::Flat;
 
 /// An admitted tenant.
 #[derive(Drop)]
 pub struct Tenant {
     /// Its machine but for its memory; its record stays when it is stopped.
-    pub parts: TenantParts,
-    /// Its memory, until it is stopped.
-    pub memory: Option<Flat>,
+    pub(crate) parts: TenantParts,
+    /// Where its memory lies, until it is stopped.
+    pub(crate) place: Option<Place>,
     /// Its reservation.
-    pub pages: u32,
-    ghost ready: { IsReady parts memory },
+    pub(crate) pages: u32,
 }

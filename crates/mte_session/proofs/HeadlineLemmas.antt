@@ -1,14 +1,13 @@
 -- From the law of two sessions to what two calls wrote.
-use Rattle.std.proofs.Common.{◌≡◌, ℕ, ◌==◌, Bool, true, false, List, [], ◌∷◌, ◌++◌, map, Option, Some, None}
+use Rattle.std.proofs.Common.{◌≡◌, ℕ, ◌==◌, Bool, true, false, List, [], ◌∷◌, ◌++◌, Option, Some}
 use Rattle.std.proofs.Common.{Result, Ok, Err, OnOk, if◌then◌else◌, refl, ap, sym, ◌∙◌, append_assoc}
-use Rattle.std.specs.List.{concat}
 use Rattle.std.proofs.lemmas.Bool.{eqb-true}
 use Rattle.mte_streams.specs.Writing.{WriteLog, WroteAll}
 use Rattle.mte_script.specs.declared.event.Event.{Event}
-use Rattle.mte_sched.specs.Lives.{Life, Session, Agree, lives, life_among}
+use Rattle.mte_sched.specs.Lives.{Life, Session, lives, life_among}
 use Rattle.mte_sched.specs.Contents.{record_of, tenant_of}
 use Rattle.mte_sched.specs.Isolation.{NumbersStay}
-use Rattle.mte_session.specs.Sessions.{session_of, session_text, life_text, life_texts, refused_texts}
+use Rattle.mte_session.specs.Sessions.{session_of, session_text, life_text, life_texts}
 use Rattle.mte_session.specs.Outcomes.{Input, Reported}
 use Rattle.mte_session.specs.Headline.{AgreeFor, Shows, WroteAlike}
 

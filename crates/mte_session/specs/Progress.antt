@@ -1,10 +1,14 @@
 -- How far a session has come: what its host has, and the events that were refused. Only the function
 -- that makes the calls cites it.
-use Rattle.std.specs.Prelude.{ℕ, ◌+◌, List, [], ◌∷◌, ◌++◌, Option, Some, None}
+use Rattle.std.specs.Prelude.{ℕ, ◌+◌, List, [], ◌∷◌, ◌++◌, map, Option, Some, None}
+use Rattle.std.specs.List.{concat}
 use Rattle.mte_sched.specs.declared.refusal.Refusal.{Refusal}
 use Rattle.mte_sched.specs.declared.refusal.Refused.{Refused}
+use Rattle.mte_sched.specs.declared.tenant.Tenant as code
 use Rattle.mte_sched.specs.Ledger.{Call, call_refusal}
 use Rattle.mte_sched.specs.Contents.{Content, ledger_of, after_call}
+use Rattle.mte_sched.specs.Tenants.{record_in}
+use Rattle.mte_session.specs.Report.{record_text}
 use Rattle.mte_session.specs.Sessions.{refused_texts, tenant_texts}
 
 pub record Progress : Type 0 where
@@ -30,3 +34,7 @@ run_all p (e ∷ more) n = run_all (run_on p e n) more (n + 1)
 
 abbrev pub progress_text : Progress → List ℕ
 progress_text p = refused_texts p.refused ++ tenant_texts p.content.tenants
+
+-- The lines of a host's tenants.
+abbrev pub record_texts : List code.Tenant → List ℕ
+record_texts ts = concat (map (λ t. record_text (record_in t)) ts)

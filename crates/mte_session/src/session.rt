@@ -4,11 +4,11 @@ ghost use Rattle.std.specs.Prelude.{◌≡◌, ◌⊎◌, [], ◌≤◌, map, On
 ghost use Rattle.std.specs.Prelude.{None, IsTrue, ◌↔◌};
 ghost use Rattle.mte_streams.specs.Writing.{Writes};
 ghost use Rattle.mte_sched.specs.Contents.{after_call};
-ghost use Rattle.mte_sched.specs.Hosts.{content_of, tenant_in};
+ghost use Rattle.mte_sched.specs.Hosts.{content_of};
 ghost use Rattle.mte_session.specs.declared.session.SessionError.TheVariants.{OutOfMemory};
 ghost use Rattle.mte_session.specs.Files.{contents};
 ghost use Rattle.mte_session.specs.Sessions.{file_at, call_of, calls_of, refused_texts};
-ghost use Rattle.mte_session.specs.Sessions.{tenant_texts};
+ghost use Rattle.mte_session.specs.Progress.{record_texts};
 ghost use Rattle.mte_session.specs.Progress.{progress_text, refusal_in, run_all};
 ghost use Rattle.mte_session.specs.Outcomes.{session_error, Reported, Failed};
 
@@ -60,7 +60,9 @@ pub fn run_session<W: Sink>(
         (W.log out.old) (W.log out.new)) }
 {
     let events = parse_script(alloc, script, files)?;
-    let mut host = Host::new(alloc, frames);
+    let Ok(mut host) = Host::new(alloc, frames) else {
+        return Err(SessionError::OutOfMemory);
+    };
     let refused = run_events(alloc, &mut host, events.as_slice(), files)?;
     ledger_follows();
     tenants_are_alone();
@@ -76,16 +78,16 @@ fn write_session<W: Sink>(host: &Host, refused: &[Refused], out: &mut W) -> Resu
         (progress_text (record { content = content_of host.now; refused = refused.now })) }
 {
     write_refusals(refused, out)?;
-    write_tenants(host.tenants.as_slice(), out)
+    write_tenants(host.tenants(), out)
 }
 
 /// Writes the lines of each tenant.
 fn write_tenants<W: Sink>(tenants: &[Tenant], out: &mut W) -> Result<(), WriteFault>
     ensures { Writes (W.log out.old) (W.log out.new) result
-        (tenant_texts (map tenant_in tenants.now)) }
+        (record_texts tenants.now) }
 {
     for tenant in tenants {
-        write_report(&tenant.parts.account, out)?;
+        write_report(tenant.record(), out)?;
     }
     Ok(())
 }

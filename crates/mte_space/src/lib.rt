@@ -2,6 +2,7 @@
 #![tactic(auto)]
 
 mod accesses;
+mod clearing;
 mod frame_page;
 mod laws;
 mod mapping;
@@ -9,5 +10,6 @@ mod space;
 mod translation;
 mod writing;
 
+pub use clearing::unmap_all;
 pub use laws::{other_tenants_stay, pages_of_a_space, written_frames_are_pages};
 pub use space::Space;

@@ -80,7 +80,13 @@ pub(crate) fn map_range(
 }
 
 /// Ends the mapping of a page, if it has one, and gives its frame back.
-fn unmap_page(pool: &mut FramePool, table: &mut Table, quota: &mut Quota, limit: usize, page: u64)
+pub(crate) fn unmap_page(
+    pool: &mut FramePool,
+    table: &mut Table,
+    quota: &mut Quota,
+    limit: usize,
+    page: u64,
+)
     requires space { IsSpace pool.old quota.old table.old limit }
     ensures space { IsSpace pool.new quota.new table.new limit }
     ensures memory { (s : TagState)
@@ -93,6 +99,8 @@ fn unmap_page(pool: &mut FramePool, table: &mut Table, quota: &mut Quota, limit:
     ensures cached { (asid : ℕ) (ts : List Translation)
         → IsCached (pages_of pool.old table.old.frame) asid ts
         → IsCached (pages_of pool.new table.new.frame) asid (without asid page ts) }
+    ensures fewer { get (pages_of pool.old table.old.frame) page ≢ None
+        → table.new.len < table.old.len }
     ensures rest { KeepsRest quota.old pool.old pool.new table.old table.new }
     ensures same { quota.new ≡ quota.old }
 {

@@ -2,6 +2,7 @@
 
 use crate::doubles::MemorySink;
 use crate::images::{HI, ILLEGAL, image};
+use address_map::{PAGE_SIZE, STACK_START};
 use mte_sched::{
     Admission, AdmitError, Host, NotLive, Refusal, Status, flag_is_clear, ledger_follows,
     tenants_are_alone, tenants_are_isolated,
@@ -13,7 +14,7 @@ use std::test::Fail;
 #[test]
 fn one_host(rt: HostRuntime) -> Result<(), Fail> {
     let file = image(rt.alloc(), &HI)?;
-    let mut host = Host::new(rt.alloc(), 11);
+    let mut host = Host::new(rt.alloc(), 11)?;
     let admission = Admission {
         id: 7,
         image: file.as_slice(),
@@ -27,14 +28,20 @@ fn one_host(rt: HostRuntime) -> Result<(), Fail> {
     host.admit(rt.alloc(), &admission)?;
     assert!(rt; host.admit(rt.alloc(), &admission) == Err(AdmitError::Duplicate));
     host.slice(7, 3)?;
+    let stack = STACK_START / PAGE_SIZE;
+    let frames = (host.frame_of(7, stack), host.frame_of(7, stack + 1));
+    assert!(rt; frames.0.is_some() && frames.0 != frames.1);
+    assert!(rt; host.frame_of(7, 0).is_none() && host.frame_of(8, stack).is_none());
     host.stop(7)?;
     assert!(rt; host.stop(7) == Err(NotLive));
-    let Some(tenant) = host.tenants.as_slice().first() else {
+    assert!(rt; host.frame_of(7, stack).is_none());
+    assert!(rt; host.pool().frames() == 11);
+    assert!(rt; host.view(7).is_some() && host.view(8).is_none());
+    let Some(tenant) = host.tenants().first() else {
         return Err(Fail::from(NotLive));
     };
-    let account = &tenant.parts.account;
+    let account = tenant.record();
     assert!(rt; account.status == Status::Stopped);
-    assert!(rt; !tenant.parts.is_running());
     assert!(rt; !tenant.is_live());
     assert_eq!(rt; (account.steps, account.output.left()), (3, 16));
     let mut out = MemorySink::new(rt.alloc());
@@ -54,7 +61,7 @@ fn one_host(rt: HostRuntime) -> Result<(), Fail> {
 #[test]
 fn too_many_live(rt: HostRuntime) -> Result<(), Fail> {
     let file = image(rt.alloc(), &ILLEGAL)?;
-    let mut host = Host::new(rt.alloc(), 4000);
+    let mut host = Host::new(rt.alloc(), 4000)?;
     for id in 0..256u16 {
         let admission = Admission {
             id,

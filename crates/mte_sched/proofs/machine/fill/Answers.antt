@@ -1,4 +1,4 @@
-use Rattle.std.proofs.Common.{◌≡◌, ◌∙◌, ap, arith, None, ◌-◌}
+use Rattle.std.proofs.Common.{◌≡◌, ◌∙◌, ap, arith, ◌-◌}
 use Rattle.mte_tags.specs.Memory.{Memory, page_at, attrs_at, pages_left}
 use Rattle.mte_tags.proofs.PageLaws.{attrs_at-with_new_pages_out}
 use Rattle.mte_elf.specs.Headers.{segments_of}

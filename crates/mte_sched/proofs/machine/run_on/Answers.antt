@@ -1,7 +1,6 @@
-use Rattle.std.proofs.Common.{◌≡◌, ◌∙◌, sym, true, false, if◌then◌else◌, arith, cond, ap, refl}
+use Rattle.std.proofs.Common.{◌≡◌, ◌∙◌, arith, ap}
 use Rattle.mte_tags.specs.Memory.{attrs_at, pages_left}
-use Rattle.scudo_heap.specs.Served.{IsServed}
-use Rattle.mte_sched.specs.Machines.{Machine, Attempted, machine_of, attempts}
+use Rattle.mte_sched.specs.Machines.{Attempted, machine_of, attempts}
 use Rattle.mte_sched.proofs.MachineLemmas.{left_le, left_lt, rest_of, after_some, after_none}
 use Rattle.mte_sched.proofs.machine.run_on.Goals as goal
 

@@ -1,4 +1,3 @@
-use Rattle.std.proofs.Common.{◌≡◌}
 use Rattle.mte_session.specs.Headline.{input_of}
 use Rattle.mte_session.proofs.HeadlineLemmas.{wrote_alike, on_ok}
 use Rattle.mte_session.proofs.headline.run_both.Goals as goal

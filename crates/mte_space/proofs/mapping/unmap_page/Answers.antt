@@ -1,7 +1,9 @@
-use Rattle.std.proofs.Common.{◌≡◌, ◌∙◌, ◌-◌, sym, subst, ap, Option, Some, None, option_map, ℕ, refl, slice_set}
+use Rattle.std.proofs.Common.{◌≡◌, ◌∙◌, ◌-◌, ◌≤◌, arith, sym, subst, ap, Option, Some, None, option_map, ℕ, refl, slice_set}
+use Rattle.std.specs.FinMap.{get}
 use Rattle.mte_tags.specs.declared.attrs.Attrs.{Attrs}
 use Rattle.mte_frames.specs.Pool.{KeepsOthers, taken_by, make_pool}
-use Rattle.mte_translate.specs.Tables.{IsTable}
+use Rattle.mte_translate.specs.Tables.{Root, pages_of, IsTable}
+use Rattle.mte_translate.proofs.TableLemmas.{len-some}
 use Rattle.mte_space.specs.Spaces.{IsSpace}
 use Rattle.mte_space.proofs.MapSteps.{Unmapped, unmapped, never_mapped}
 use Rattle.mte_space.proofs.mapping.unmap_page.Goals as goal
@@ -25,6 +27,9 @@ returns-in_default-clause-cached c =
     let none = c.unmap.ensures.none c.in_default.is in
     let nothing = never_mapped c.args.pool.now c.unmap.new.pool c.args.quota.now c.args.page c.args.limit c.args.table.now c.unmap.new.self c.requires.space (away _ (sym c.unmap.ensures.frame ∙ c.in_default.is)) none.0 none.1 c.unmap.ensures.pages in
     nothing.cached
+
+pub returns-in_default-clause-fewer : goal.returns-in_default-clause-fewer
+returns-in_default-clause-fewer c = λ d. absurd (d (away _ (sym c.unmap.ensures.frame ∙ c.in_default.is)))
 
 done : (c : goal.After-give) → Unmapped c.args.pool.now c.give.new.self c.args.quota.now c.args.page c.args.limit c.args.table.now c.unmap.new.self
 done c =
@@ -53,3 +58,9 @@ returns-clause-cached c = (done c).cached
 
 pub returns-clause-rest : goal.returns-clause-rest
 returns-clause-rest c = (done c).rest
+
+pub returns-clause-fewer : goal.returns-clause-fewer
+returns-clause-fewer c = λ d.
+    let found : (a : Attrs) × (get (pages_of c.args.pool.now c.args.table.now.frame) c.args.page ≡ Some (c.in-Some.frame, a)) = there _ c.in-Some.frame (sym c.unmap.ensures.frame ∙ c.in-Some.is) in
+    let some : 1 ≤ c.args.table.now.len = len-some c.args.pool.now c.args.quota.now c.args.table.now c.args.page _ c.requires.space.table found.1 in
+    omega (arith, ap (λ (x : Root). x.len) c.in-Some.ensures.counts, some)

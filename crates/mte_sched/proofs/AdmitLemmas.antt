@@ -1,0 +1,112 @@
+-- An admission beside the tenants that are there.
+use Rattle.std.proofs.Common.{◌≡◌, ◌≢◌, ℕ, zero, suc, ◌+◌, ◌<◌, ◌/◌, ◌^◌, ◌==◌, ◌||◌, Bool, true, false, List, [], ◌∷◌, ◌++◌, length, sum, sum_by}
+use Rattle.std.proofs.Common.{Some, None, refl, ap, sym, subst, ◌∙◌, arith}
+use Rattle.std.specs.Prelude.{All}
+use Rattle.std.specs.List.{list_any, slice_get}
+use Rattle.std.proofs.lemmas.Option.{slice_get_past}
+use Rattle.std.proofs.lemmas.Bool.{eq-eqb}
+use Rattle.std.proofs.lemmas.List.{map-append}
+use Rattle.std.proofs.lemmas.List.Sums.{sum_by-append, sum_by-cons}
+use Rattle.std.proofs.lemmas.List.Elements.{All-weaker}
+use Rattle.mte_tags.specs.Memory.{Memory}
+use Rattle.mte_frames.specs.Pool.{Pool, KeepsOthers, reserved_by}
+use Rattle.mte_translate.specs.declared.translation.Translation.{Translation}
+use Rattle.mte_space.specs.Spaces.{NoneEnters}
+use Rattle.scudo_heap.specs.Heaps.{empty_heap}
+use Rattle.scudo_heap.specs.Served.{IsServed}
+use Rattle.mte_svc.specs.declared.parts.TenantParts.{TenantParts}
+use Rattle.mte_sched.specs.declared.place.Place.{Place}
+use Rattle.mte_sched.specs.declared.tenant.Tenant as code
+use Rattle.mte_sched.specs.Machines.{Terms, first_parts, first_memory, start_of}
+use Rattle.mte_sched.specs.Ledger.{charge_in, charge_of, has_id}
+use Rattle.mte_sched.specs.Contents.{new_tenant}
+use Rattle.mte_sched.specs.Places.{memory_at, IsPlaced}
+use Rattle.mte_sched.specs.Ready.{IsReady}
+use Rattle.mte_sched.specs.Tenants.{tenant_in, tenants_in, entry_in, entries_in}
+use Rattle.mte_sched.specs.Sharing.{is_placed, LiesAt, IsSharing}
+use Rattle.mte_sched.proofs.TenantLemmas.{heap_at_first, tag_at_first}
+use Rattle.mte_sched.proofs.PlaceLists.{has_more, some_same, map_same}
+use Rattle.mte_sched.proofs.SharingLemmas.{Turn, tenant_stays, cached_after, sharing_after}
+
+-- No translation is of an ASID that no tenant has.
+pub fresh_asid : (p : Pool) (us : List Translation) (ts : List code.Tenant) → IsSharing p us ts → All (λ u. u.asid ≢ length ts) us
+fresh_asid p us ts h =
+    All-weaker (λ u. is_placed (slice_get ts u.asid) ≡ true) (λ u. u.asid ≢ length ts)
+    (λ u placed e. let none : slice_get ts u.asid ≡ None = slice_get_past ts u.asid (omega (arith, e)) in let no : is_placed (slice_get ts u.asid) ≡ false = ap is_placed none in let z : true ≡ false = sym placed ∙ no in cc)
+    us h.cached
+
+or_left : (a b : Bool) → (a || b) ≡ false → a ≡ false
+or_left true b e = e
+or_left false b e = refl
+
+or_right : (a b : Bool) → (a || b) ≡ false → b ≡ false
+or_right true b e = absurd cc
+or_right false b e = e
+
+-- A number that was never admitted is no tenant's.
+pub fresh_number : (id : ℕ) (ts : List code.Tenant) (j : ℕ) (u : code.Tenant) → list_any (has_id id) (entries_in ts) ≡ false → slice_get ts j ≡ Some u → u.parts.account.id ≢ id
+fresh_number id [] j u none at = absurd cc
+fresh_number id (t ∷ ts) zero u none at = λ e.
+    let no : (t.parts.account.id == id) ≡ false = or_left (t.parts.account.id == id) _ none in
+    let yes : (t.parts.account.id == id) ≡ true = eq-eqb t.parts.account.id id (ap (λ (w : code.Tenant). w.parts.account.id) (some_same t u at) ∙ e) in
+    let z : true ≡ false = sym yes ∙ no in cc
+fresh_number id (t ∷ ts) (suc j) u none at = fresh_number id ts j u (or_right (t.parts.account.id == id) _ none) at
+
+module _ (p n : Pool) (us vs : List Translation) (ts : List code.Tenant) (id : ℕ) (b : Place) (parts : TenantParts) (pages : ℕ)
+    (sharing : IsSharing p us ts) (placed : IsPlaced n vs (length ts) pages b) (unused : reserved_by p b.quota ≡ 0)
+    (others : KeepsOthers b.quota p n) (entries : NoneEnters (length ts) us vs) where
+  abbrev pub entered : code.Tenant
+  entered = record { parts = parts; place = Some b; pages = pages }
+
+  turn : Turn p n us vs b.quota (length ts)
+  turn = record { others = others; entries = entries }
+
+  differs : (j : ℕ) (u : code.Tenant) (a : Place) → LiesAt ts j u a → a.quota ≢ b.quota
+  differs j u a h = λ e.
+      let charged : reserved_by p a.quota ≡ charge_of u.pages = (sharing.placed j u a h).charged in
+      let same : reserved_by p a.quota ≡ reserved_by p b.quota = ap (reserved_by p) e in
+      absurd (omega (arith, charged, same, unused))
+
+  pub entered_tenants : tenants_in n (ts ++ entered ∷ []) ≡ tenants_in p ts ++ tenant_in n entered ∷ []
+  entered_tenants =
+      map-append (tenant_in n) ts (entered ∷ [])
+      ∙ ap (λ l. l ++ tenant_in n entered ∷ []) (map_same (tenant_in n) (tenant_in p) ts (λ j u at. tenant_stays p n us vs ts b.quota (length ts) j u turn sharing (λ a h. differs j u a h) at))
+
+  module _ (ready : IsReady parts (memory_at n b pages)) (reserved : sum n.reserved ≡ sum p.reserved + charge_of pages) (number : parts.account.id ≡ id)
+      (fresh : list_any (has_id id) (entries_in ts) ≡ false) where
+    own : (c : Place) → entered.place ≡ Some c → (c.quota ≡ b.quota) × IsPlaced n vs (length ts) entered.pages c × IsReady entered.parts (memory_at n c entered.pages)
+    own c e =
+        subst (λ (z : Place). (z.quota ≡ b.quota) × IsPlaced n vs (length ts) pages z × IsReady parts (memory_at n z pages)) (some_same b c e) (refl, placed, ready)
+
+    sums : sum_by charge_in (entries_in (ts ++ entered ∷ [])) ≡ sum_by charge_in (entries_in ts) + charge_of pages
+    sums =
+        let more : sum_by charge_in (entries_in (ts ++ entered ∷ [])) ≡ sum_by charge_in (entries_in ts) + sum_by charge_in (entry_in entered ∷ []) =
+        ap (sum_by charge_in) (map-append entry_in ts (entered ∷ [])) ∙ sum_by-append charge_in (entries_in ts) (entry_in entered ∷ []) in
+        let one : sum_by charge_in (entry_in entered ∷ []) ≡ charge_of pages + sum_by charge_in [] = sum_by-cons charge_in (entry_in entered) [] in
+        let none : sum_by charge_in [] ≡ 0 = refl in
+        omega (arith, more, one, none)
+
+    pub entered_sharing : IsSharing n vs (ts ++ entered ∷ [])
+    entered_sharing =
+        let has = has_more ts entered in
+        sharing_after p n us vs ts (ts ++ entered ∷ []) b.quota (length ts) entered turn sharing has (λ j u a d h. differs j u a h) own
+        (λ j u d at e. fresh_number id ts j u fresh at (e ∙ number))
+        (cached_after p n us vs ts (ts ++ entered ∷ []) b.quota (length ts) entered turn sharing has (λ j u a d h. differs j u a h) entries refl)
+        (omega (arith, reserved, sharing.reserved, sums))
+
+-- ---- the first machine
+
+pub first_ready : (id : ℕ) (terms : Terms) (parts : TenantParts) (m : Memory) → parts ≡ first_parts id terms → IsServed m (empty_heap (terms.seed / 2 ^ 32) terms.pages) → IsReady parts m
+first_ready id terms parts m e served = record {
+  heap = subst (λ h. IsServed m h) (sym (ap (λ (q : TenantParts). q.heap) e ∙ heap_at_first id terms)) served;
+  tag = subst (λ (q : TenantParts). q.regs.rgsr.tag < 16) (sym e) (tag_at_first id terms);
+}
+
+pub first_number : (id : ℕ) (terms : Terms) (parts : TenantParts) → parts ≡ first_parts id terms → parts.account.id ≡ id
+unfolding first_parts
+first_number id terms parts e = ap (λ (q : TenantParts). q.account.id) e
+
+pub first_tenant : (n : Pool) (id : ℕ) (terms : Terms) (parts : TenantParts) (b : Place) → parts ≡ first_parts id terms → memory_at n b terms.pages ≡ first_memory terms.image terms.pages terms.mode
+    → tenant_in n (record { parts = parts; place = Some b; pages = terms.pages }) ≡ new_tenant id terms
+unfolding start_of first_parts
+first_tenant n id terms parts b e memory = rw (e, memory) refl

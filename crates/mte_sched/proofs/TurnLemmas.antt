@@ -1,0 +1,150 @@
+-- A slice and a stop of one tenant, beside the others.
+use Rattle.std.proofs.Common.{◌≡◌, ◌≢◌, ℕ, zero, suc, ◌+◌, ◌<◌, ◌==◌, ◌&&◌, Bool, true, false, List, [], ◌∷◌, map, length, get_or, slice_set, sum, sum_by}
+use Rattle.std.proofs.Common.{Option, Some, None, option_map, is_some, if◌then◌else◌, refl, ap, sym, subst, ◌∙◌, arith}
+use Rattle.std.specs.List.{slice_get}
+use Rattle.std.proofs.lemmas.Bool.{ne_eqb, eqb-true}
+use Rattle.std.proofs.lemmas.List.Elements.{All-weaker}
+use Rattle.std.specs.Prelude.{Contains}
+use Rattle.mte_tags.specs.Memory.{Memory}
+use Rattle.mte_frames.specs.Pool.{Pool, IsSound, KeepsOthers}
+use Rattle.mte_translate.specs.Tables.{pages_of, IsCached}
+use Rattle.mte_translate.specs.Translations.{without_asid}
+use Rattle.mte_translate.specs.declared.translation.Translation.{Translation}
+use Rattle.mte_translate.proofs.StandingLaws.{forget-asid}
+use Rattle.mte_space.specs.Spaces.{IsSpace, KeepsRest, NoneEnters}
+use Rattle.mte_svc.specs.declared.parts.TenantParts.{TenantParts}
+use Rattle.mte_sched.specs.declared.place.Place.{Place}
+use Rattle.mte_sched.specs.declared.tenant.Tenant as code
+use Rattle.mte_sched.specs.Machines.{machine_of, advance, halted}
+use Rattle.mte_sched.specs.Ledger.{Entry, charge_in, charge_of, has_live_id}
+use Rattle.mte_sched.specs.Contents.{Held, held_sliced, held_stopped, Tenant, tenant_sliced, tenant_stopped}
+use Rattle.mte_sched.specs.Places.{memory_at, IsPlaced}
+use Rattle.mte_sched.specs.Ready.{IsReady}
+use Rattle.mte_sched.specs.Tenants.{tenant_in, tenants_in, entry_in}
+use Rattle.mte_sched.specs.Sharing.{HasLiveAt, LiesAt, IsSharing}
+use Rattle.mte_sched.proofs.TenantLemmas.{number_in, tenant_by, sliced_tenant, stopped_tenant, advance-id, halted-id}
+use Rattle.mte_sched.proofs.PlaceLists.{has_set, some_same, map_turn, map-set_same, sum_turn}
+use Rattle.mte_sched.proofs.PlaceLemmas.{placed_after, reserved_stays}
+use Rattle.mte_sched.proofs.SharingLemmas.{Turn, tenant_stays, cached_after, cached_without, sharing_after}
+
+-- ---- the tenant whose turn it is
+
+pub live_within : (ts : List code.Tenant) (i id : ℕ) → HasLiveAt ts i id → i < length ts
+live_within [] i id h = absurd cc
+live_within (t ∷ ts) zero id h = omega arith
+live_within (t ∷ ts) (suc i) id h = omega (arith, live_within ts i id h)
+
+pub live_at : (ts : List code.Tenant) (i id : ℕ) (d : code.Tenant) → HasLiveAt ts i id → slice_get ts i ≡ Some (get_or ts i d)
+live_at [] i id d h = absurd cc
+live_at (t ∷ ts) zero id d h = refl
+live_at (t ∷ ts) (suc i) id d h = live_at ts i id d h
+
+pub live_id : (ts : List code.Tenant) (i id : ℕ) (d : code.Tenant) → HasLiveAt ts i id → has_live_id id (entry_in (get_or ts i d)) ≡ true
+live_id [] i id d h = absurd cc
+live_id (t ∷ ts) zero id d h = h
+live_id (t ∷ ts) (suc i) id d h = live_id ts i id d h
+
+pub both_left : (a b : Bool) → (a && b) ≡ true → a ≡ true
+both_left true b e = refl
+both_left false b e = e
+
+pub both_right : (a b : Bool) → (a && b) ≡ true → b ≡ true
+both_right true b e = e
+both_right false b e = absurd cc
+
+pub not_none : (o : Option Place) → is_some o ≡ true → o ≢ None
+not_none None e = absurd cc
+not_none (Some a) e = λ f. absurd cc
+
+-- A tenant with another number is no tenant that the turn names.
+held_if : (b : Bool) (t : Tenant) (h : Held) → b ≡ false → (let u : Tenant = record t { held = if b then h else t.held } in u) ≡ t
+held_if true t h e = absurd cc
+held_if false t h e = refl
+
+by_place : (p : Pool) (t : code.Tenant) (o : Option Place) → t.place ≡ o → tenant_in p t ≡ tenant_by t.parts (option_map (λ a. memory_at p a t.pages) o) t.pages
+by_place p t o e = ap (λ z. tenant_by t.parts (option_map (λ a. memory_at p a t.pages) z) t.pages) e
+
+module _ (p n : Pool) (us vs : List Translation) (ts : List code.Tenant) (i id : ℕ) (t : code.Tenant) (a : Place)
+    (sharing : IsSharing p us ts) (lies : LiesAt ts i t a) (same : (t.parts.account.id == id) ≡ true) (within : i < length ts)
+    (others : KeepsOthers a.quota p n) (entries : NoneEnters i us vs) where
+  turn : Turn p n us vs a.quota i
+  turn = record { others = others; entries = entries }
+
+  differs : (j : ℕ) (u : code.Tenant) (b : Place) → j ≢ i → LiesAt ts j u b → b.quota ≢ a.quota
+  differs j u b d h = λ e. d (sharing.quotas j i u t b a h lies e)
+
+  number : (z : code.Tenant) → z.parts.account.id ≡ t.parts.account.id → (j : ℕ) (u : code.Tenant) → j ≢ i → slice_get ts j ≡ Some u → u.parts.account.id ≢ z.parts.account.id
+  number z k j u d at = λ e. d (sharing.numbers j i u t at lies.tenant (e ∙ k))
+
+  other_id : (j : ℕ) (u : code.Tenant) → j ≢ i → slice_get ts j ≡ Some u → (u.parts.account.id == id) ≡ false
+  other_id j u d at = ne_eqb u.parts.account.id id (λ e. d (sharing.numbers j i u t at lies.tenant (e ∙ sym (eqb-true t.parts.account.id id same))))
+
+  stays : (j : ℕ) (u : code.Tenant) → j ≢ i → slice_get ts j ≡ Some u → tenant_in n u ≡ tenant_in p u
+  stays j u d at = tenant_stays p n us vs ts a.quota i j u turn sharing (λ b h. differs j u b d h) at
+
+  -- ---- a slice
+
+  module _ (steps : ℕ) (b : Place) (parts : TenantParts) (rest : KeepsRest a.quota p n a.table b.table) (quota : b.quota ≡ a.quota) (space : IsSpace n b.quota b.table t.pages)
+      (cached : IsCached (pages_of n b.table.frame) i vs) (ready : IsReady parts (memory_at n b t.pages))
+      (step : machine_of parts (memory_at n b t.pages) ≡ advance steps (machine_of t.parts (memory_at p a t.pages))) (was : IsSound p) (is : IsSound n) where
+    abbrev pub after : code.Tenant
+    after = record { parts = parts; place = Some b; pages = t.pages }
+
+    same_number : parts.account.id ≡ t.parts.account.id
+    same_number = ap number_in step ∙ advance-id steps (machine_of t.parts (memory_at p a t.pages))
+
+    same_entry : entry_in after ≡ entry_in t
+    same_entry =
+        ap (λ k. let e : Entry = record { id = k; pages = t.pages; live = true } in e) same_number
+        ∙ ap (λ (o : Option Place). let e : Entry = record { id = t.parts.account.id; pages = t.pages; live = is_some o } in e) (sym lies.place)
+
+    own : (c : Place) → after.place ≡ Some c → (c.quota ≡ a.quota) × IsPlaced n vs i after.pages c × IsReady after.parts (memory_at n c after.pages)
+    own c e =
+        subst (λ (z : Place). (z.quota ≡ a.quota) × IsPlaced n vs i t.pages z × IsReady parts (memory_at n z t.pages)) (some_same b c e)
+        (quota, placed_after p n us vs i t.pages a b (sharing.placed i t a lies) rest quota space cached, ready)
+
+    pub sliced_sharing : IsSharing n vs (slice_set ts i after)
+    sliced_sharing =
+        let has = has_set ts i after within in
+        sharing_after p n us vs ts (slice_set ts i after) a.quota i after turn sharing has differs own (number after same_number)
+        (cached_after p n us vs ts (slice_set ts i after) a.quota i after turn sharing has differs entries refl)
+        (ap sum (reserved_stays p n a.quota was is others rest.reserved) ∙ sharing.reserved
+        ∙ ap (sum_by charge_in) (sym (map-set_same entry_in ts i after (λ u e. same_entry ∙ ap entry_in (some_same t u (sym lies.tenant ∙ e))))))
+
+    pub sliced_tenants : tenants_in n (slice_set ts i after) ≡ map (tenant_sliced id steps) (tenants_in p ts)
+    sliced_tenants =
+        map_turn (tenant_in n) (tenant_in p) (tenant_sliced id steps) ts i after
+        (λ j u d at. stays j u d at ∙ sym (held_if (u.parts.account.id == id) (tenant_in p u) (held_sliced steps (tenant_in p u).held) (other_id j u d at)))
+        (λ u e. sliced_tenant id steps t.pages t.parts parts (memory_at p a t.pages) (memory_at n b t.pages) same step
+        ∙ ap (tenant_sliced id steps) (sym (by_place p t (Some a) lies.place) ∙ ap (tenant_in p) (some_same t u (sym lies.tenant ∙ e))))
+
+  -- ---- a stop
+
+  module _ (parts : TenantParts) (gone : vs ≡ without_asid i us) (charge : sum n.reserved + charge_of t.pages ≡ sum p.reserved)
+      (step : (m : Memory) → machine_of parts m ≡ halted (machine_of t.parts m)) where
+    abbrev pub left : code.Tenant
+    left = record { parts = parts; place = None; pages = t.pages }
+
+    left_number : parts.account.id ≡ t.parts.account.id
+    left_number = ap number_in (step (memory_at p a t.pages)) ∙ halted-id (machine_of t.parts (memory_at p a t.pages))
+
+    was_charged : charge_in (entry_in t) ≡ charge_of t.pages
+    was_charged = ap (λ (o : Option Place). if is_some o then charge_of t.pages else 0) lies.place
+
+    pub stopped_sharing : IsSharing n vs (slice_set ts i left)
+    stopped_sharing =
+        let has = has_set ts i left within in
+        sharing_after p n us vs ts (slice_set ts i left) a.quota i left turn sharing has differs (λ c e. absurd cc) (number left left_number)
+        (cached_without p n us vs ts (slice_set ts i left) a.quota i left turn sharing has differs (rw gone (forget-asid i us)))
+        (omega (arith, charge, sharing.reserved, was_charged, sum_turn charge_in entry_in ts i left t lies.tenant))
+
+    pub stopped_tenants : tenants_in n (slice_set ts i left) ≡ map (tenant_stopped id) (tenants_in p ts)
+    stopped_tenants =
+        map_turn (tenant_in n) (tenant_in p) (tenant_stopped id) ts i left
+        (λ j u d at. stays j u d at ∙ sym (held_if (u.parts.account.id == id) (tenant_in p u) (held_stopped (tenant_in p u).held) (other_id j u d at)))
+        (λ u e. stopped_tenant id t.pages t.parts parts (Some (memory_at p a t.pages)) same step
+        ∙ ap (tenant_stopped id) (sym (by_place p t (Some a) lies.place) ∙ ap (tenant_in p) (some_same t u (sym lies.tenant ∙ e))))
+
+pub gone_enters : (i : ℕ) (us vs : List Translation) → vs ≡ without_asid i us → NoneEnters i us vs
+gone_enters i us vs e =
+    rw e (All-weaker (λ u. Contains us u × (u.asid ≢ i)) (λ u. u.asid ≢ i → Contains us u) (λ u h d. h.0) (without_asid i us) (forget-asid i us))

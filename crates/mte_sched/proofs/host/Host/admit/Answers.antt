@@ -1,0 +1,82 @@
+use Rattle.std.proofs.Common.{◌≡◌, ◌≢◌, ◌∙◌, ◌/◌, ◌^◌, ◌++◌, ◌∷◌, [], ℕ, List, length, Some, ap, sym, subst, rules, arith}
+use Rattle.std.specs.Prelude.{All}
+use Rattle.mte_frames.specs.Pool.{Pool}
+use Rattle.mte_translate.specs.declared.translation.Translation.{Translation}
+use Rattle.mte_space.specs.Spaces.{NoneEnters}
+use Rattle.scudo_heap.specs.Heaps.{empty_heap}
+use Rattle.scudo_heap.specs.Served.{IsServed}
+use Rattle.mte_sched.specs.declared.place.Place.{Place}
+use Rattle.mte_sched.specs.declared.tenant.Tenant as code
+use Rattle.mte_sched.specs.Contents.{Tenant, Content, admitted, new_tenant}
+use Rattle.mte_sched.specs.Places.{memory_at, IsPlaced}
+use Rattle.mte_sched.specs.Tenants.{tenants_in, terms_of}
+use Rattle.mte_sched.specs.Sharing.{IsSharing}
+use Rattle.mte_sched.proofs.EachLemmas.{ledger_is}
+use Rattle.mte_sched.proofs.AdmitLemmas.{fresh_asid, entered_sharing, entered_tenants, first_ready, first_number, first_tenant}
+use Rattle.mte_sched.proofs.host.Host.admit.Goals as goal
+
+pub returns-in_err-plan-clause-refused : goal.returns-in_err-plan-clause-refused
+returns-in_err-plan-clause-refused c = rw (ledger_is c.args.self.now.pool c.args.self.now.tenants.items) (search rules)
+
+pub returns-in_err-plan-clause-memory : goal.returns-in_err-plan-clause-memory
+returns-in_err-plan-clause-memory c = rw (ledger_is c.args.self.now.pool c.args.self.now.tenants.items) (search rules)
+
+pub returns-in_err-parts-clause-memory : goal.returns-in_err-parts-clause-memory
+returns-in_err-parts-clause-memory c = rw (ledger_is c.args.self.now.pool c.args.self.now.tenants.items) (search rules)
+
+pub returns-in_err-reserve-clause-memory : goal.returns-in_err-reserve-clause-memory
+returns-in_err-reserve-clause-memory c = rw (ledger_is c.args.self.now.pool c.args.self.now.tenants.items) (search rules)
+
+pub start_place-place-requires-clause-fresh : goal.start_place-place-requires-clause-fresh
+start_place-place-requires-clause-fresh c =
+    let asid : c.len-asid.result ≡ length c.args.self.now.tenants.items = search rules in
+    subst (λ k. All (λ u. u.asid ≢ k) c.args.self.now.tlb) (sym asid) (fresh_asid c.args.self.now.pool c.args.self.now.tlb c.args.self.now.tenants.items c.args.self.now.sharing)
+
+pub invariant_of-self-2 : goal.invariant_of-self-2
+invariant_of-self-2 c =
+    let h = c.args.self.now in
+    let ts : List code.Tenant = c.args.self.now.tenants.items in
+    let terms = terms_of c.args.admission.now in
+    let pages : ℕ = c.args.admission.now.pages in
+    let n : Pool = c.start_place-place.new.pool in
+    let vs : List Translation = c.start_place-place.new.tlb in
+    let b : Place = c.start_place-place.result in
+    let start = c.start_place-place.ensures in
+    let asid : c.len-asid.result ≡ length ts = search rules in
+    let placed : IsPlaced n vs (length ts) pages b = subst (λ k. IsPlaced n vs k pages b) asid start.placed in
+    let entries : NoneEnters (length ts) h.tlb vs = subst (λ k. NoneEnters k h.tlb vs) asid start.entries in
+    let limit : (memory_at n b pages).limit ≡ pages = start.limit in
+    let served : IsServed (memory_at n b pages) (empty_heap (c.args.admission.now.seed / 2 ^ 32) pages) =
+    c.condition_of_calls.ensures.first (memory_at n b pages) (c.args.admission.now.seed / 2 ^ 32) pages (omega (arith, limit)) start.untouched in
+    let ready = first_ready c.args.admission.now.id terms c.in_ok-parts.parts (memory_at n b pages) c.in_ok-parts.ensures served in
+    let number = first_number c.args.admission.now.id terms c.in_ok-parts.parts c.in_ok-parts.ensures in
+    let all = entered_sharing h.pool n h.tlb vs ts c.args.admission.now.id b c.in_ok-parts.parts pages h.sharing placed start.unused start.others entries ready start.reserved number c.in_ok-plan.ensures.fresh in
+    let t : code.Tenant = record { parts = c.in_ok-parts.parts; place = Some b; pages = pages } in
+    let pushed : c.push_reserved.new.self.items ≡ ts ++ t ∷ [] = c.push_reserved.ensures.items ∙ ap (λ l. l ++ t ∷ []) c.in_ok-reserve.ensures.items in
+    record { sharing = subst (IsSharing n vs) (sym pushed) all }
+
+pub returns-clause-accepted : goal.returns-clause-accepted
+returns-clause-accepted c = rw (ledger_is c.args.self.now.pool c.args.self.now.tenants.items) (search rules)
+
+pub returns-clause-ok : goal.returns-clause-ok
+unfolding admitted
+returns-clause-ok c =
+    let h = c.args.self.now in
+    let ts : List code.Tenant = c.args.self.now.tenants.items in
+    let terms = terms_of c.args.admission.now in
+    let pages : ℕ = c.args.admission.now.pages in
+    let n : Pool = c.start_place-place.new.pool in
+    let vs : List Translation = c.start_place-place.new.tlb in
+    let b : Place = c.start_place-place.result in
+    let start = c.start_place-place.ensures in
+    let asid : c.len-asid.result ≡ length ts = search rules in
+    let placed : IsPlaced n vs (length ts) pages b = subst (λ k. IsPlaced n vs k pages b) asid start.placed in
+    let entries : NoneEnters (length ts) h.tlb vs = subst (λ k. NoneEnters k h.tlb vs) asid start.entries in
+    let t : code.Tenant = record { parts = c.in_ok-parts.parts; place = Some b; pages = pages } in
+    let pushed : c.push_reserved.new.self.items ≡ ts ++ t ∷ [] = c.push_reserved.ensures.items ∙ ap (λ l. l ++ t ∷ []) c.in_ok-reserve.ensures.items in
+    let tenants : tenants_in n c.push_reserved.new.self.items ≡ tenants_in h.pool ts ++ new_tenant c.args.admission.now.id terms ∷ [] =
+    ap (tenants_in n) pushed
+    ∙ entered_tenants h.pool n h.tlb vs ts c.args.admission.now.id b c.in_ok-parts.parts pages h.sharing placed start.unused start.others entries
+    ∙ ap (λ u. tenants_in h.pool ts ++ u ∷ []) (first_tenant n c.args.admission.now.id terms c.in_ok-parts.parts b c.in_ok-parts.ensures start.memory) in
+    ap (λ (k : ℕ). let z : Content = record { frames = k; tenants = tenants_in n c.push_reserved.new.self.items } in z) start.others.count
+    ∙ ap (λ (l : List Tenant). let z : Content = record { frames = length h.pool.frames; tenants = l } in z) tenants

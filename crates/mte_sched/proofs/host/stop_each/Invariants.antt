@@ -1,6 +1,0 @@
-use Rattle.mte_sched.specs.Contents.{tenant_sliced, tenant_stopped}
-use Rattle.mte_sched.proofs.EachLemmas.{Changed}
-use Rattle.mte_sched.proofs.host.stop_each.Given as goal
-
-abbrev pub invariant-loop-i : goal.invariant-loop-i
-invariant-loop-i l = Changed (tenant_stopped l.fn.id) l.fn.tenants.items l.tenants.items l.i

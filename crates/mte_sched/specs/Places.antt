@@ -1,0 +1,25 @@
+-- Where a live tenant's memory lies, and what holds of it in a pool and a translation lookaside
+-- buffer that all tenants share.
+use Rattle.std.specs.Prelude.{◌≡◌, ℕ, ◌+◌, ◌<◌, ◌≤◌, List}
+use Rattle.address_map.specs.declared.limits.TheConstants.{MAX_PAGES}
+use Rattle.mte_tags.specs.Memory.{Memory}
+use Rattle.mte_frames.specs.Pool.{Pool, taken_by, reserved_by}
+use Rattle.mte_translate.specs.Tables.{pages_of, IsCached}
+use Rattle.mte_translate.specs.declared.translation.Translation.{Translation}
+use Rattle.mte_space.specs.Spaces.{space_memory, IsSpace}
+use Rattle.mte_sched.specs.declared.place.Place.{Place}
+use Rattle.mte_sched.specs.Ledger.{charge_of}
+
+-- The memory, of a reservation of so many pages.
+abbrev pub memory_at : Pool → Place → ℕ → Memory
+memory_at p a pages = space_memory p a.table pages a.state
+
+pub record IsPlaced (p : Pool) (ts : List Translation) (asid pages : ℕ) (a : Place) : Type 0 where
+  pub space : IsSpace p a.quota a.table pages
+  -- the charge is reserved, and what is taken of it is the table's frames and those of its pages
+  pub charged : reserved_by p a.quota ≡ charge_of pages
+  pub counted : taken_by p a.quota ≡ 1 + a.table.len + a.table.leaves
+  -- the translations of the ASID are those of the table
+  pub cached : IsCached (pages_of p a.table.frame) asid ts
+  pub some : 0 < pages
+  pub most : pages ≤ MAX_PAGES

@@ -1,0 +1,45 @@
+-- What a host shows of a tenant: its record, its pages, and the frames that hold them.
+use Rattle.std.specs.Prelude.{◌≡◌, ℕ, ◌==◌, List, [], ◌∷◌, Option, Some, None, option_map}
+use Rattle.std.specs.Prelude.{if◌then◌else◌}
+use Rattle.std.specs.FinMap.{get}
+use Rattle.mte_svc.specs.declared.record.Record.{Record}
+use Rattle.mte_tags.specs.Memory.{Page, page_at}
+use Rattle.mte_tags.specs.declared.attrs.Attrs.{Attrs}
+use Rattle.mte_frames.specs.Pool.{Pool, IsTaken}
+use Rattle.mte_translate.specs.Tables.{pages_of}
+use Rattle.mte_space.specs.Spaces.{page_of}
+use Rattle.mte_sched.specs.declared.place.Place.{Place}
+use Rattle.mte_sched.specs.declared.tenant.Tenant as code
+use Rattle.mte_sched.specs.Contents.{Held, Live, Gone, Tenant, record_of}
+use Rattle.mte_sched.specs.Isolation.{tenant_among}
+
+-- The record of the tenant that was admitted with a number.
+abbrev pub record_among : ℕ → List Tenant → Option Record
+record_among id ts = option_map (λ t. record_of t.held) (tenant_among id ts)
+
+-- A page of a tenant's machine; one that was stopped has none.
+abbrev pub page_held : ℕ → Held → Option Page
+page_held q (Live m) = page_at m.memory q
+page_held q (Gone r) = None
+
+-- The page q of the tenant that was admitted with a number.
+abbrev pub page_among : ℕ → ℕ → List Tenant → Option Page
+page_among id q [] = None
+page_among id q (t ∷ more) = if t.id == id then page_held q t.held else page_among id q more
+
+-- The frame and the attributes of a page that lies at a place.
+abbrev pub found_by : Pool → ℕ → Option Place → Option (ℕ × Attrs)
+found_by p q None = None
+found_by p q (Some a) = get (pages_of p a.table.frame) q
+
+-- And of the page q of the tenant that was admitted with a number.
+abbrev pub found_among : Pool → ℕ → ℕ → List code.Tenant → Option (ℕ × Attrs)
+found_among p id q [] = None
+found_among p id q (t ∷ more) =
+    if t.parts.account.id == id then found_by p q t.place else found_among p id q more
+
+-- The frame f is out, and a page is what it holds.
+pub record Holds (p : Pool) (f : ℕ) (page : Option Page) : Type 0 where
+  pub out : IsTaken p f
+  pub attrs : Attrs
+  pub page_is : page ≡ Some (page_of p (f, attrs))

@@ -1,0 +1,208 @@
+//! Where a live tenant's memory lies: its table, its quota and its tag state, over the frames and
+//! the translation lookaside buffer that all tenants share.
+
+ghost use Rattle.std.specs.Prelude.{◌≡◌, ◌≢◌, ◌+◌, ◌-◌, ◌*◌, ◌<◌, ◌≤◌, None, All, sum, false};
+ghost use Rattle.std.specs.FinMap.{empty};
+ghost use Rattle.mte_elf.specs.Headers.{segments_of};
+ghost use Rattle.mte_elf.specs.Images.{refusal_of, pages_of as image_pages};
+ghost use Rattle.mte_frames.specs.Pool.{unreserved, reserved_by, taken_by, KeepsOthers};
+ghost use Rattle.mte_space.specs.Spaces.{IsSpace, KeepsRest, NoneEnters};
+ghost use Rattle.mte_tags.specs.Memory.{no_pages};
+ghost use Rattle.mte_translate.specs.Tables.{pages_of, IsTable, MapsOnce, IsCached};
+ghost use Rattle.mte_translate.specs.Translations.{without_asid};
+ghost use Rattle.scudo_heap.specs.Served.{IsUntouched};
+ghost use Rattle.mte_sched.specs.Ledger.{charge_of};
+ghost use Rattle.mte_sched.specs.Machines.{machine_of, first_memory, advance};
+ghost use Rattle.mte_sched.specs.Places.{memory_at, IsPlaced};
+ghost use Rattle.mte_sched.specs.Ready.{IsReady};
+
+use crate::admission::{Admission, charge};
+use crate::machine::{fill, slice};
+use address_map::{MAX_PAGES, STACK_PAGES};
+use mte_elf::Plan;
+use mte_frames::{FramePool, Quota};
+use mte_space::{Space, pages_of_a_space, unmap_all};
+use mte_svc::TenantParts;
+use mte_tags::{TagMode, TagState};
+use mte_translate::{Table, Tlb};
+
+/// A live tenant's table, its quota and its tag state.
+#[derive(Drop)]
+pub struct Place {
+    pub(crate) table: Table,
+    pub(crate) quota: Quota,
+    pub(crate) state: TagState,
+}
+
+/// Reserves a new tenant's charge, and maps and loads its image and its stack.
+pub(crate) fn start_place(
+    pool: &mut FramePool,
+    tlb: &mut Tlb,
+    asid: usize,
+    admission: &Admission<'_>,
+    plan: &Plan,
+) -> Place
+    requires image { refusal_of admission.now.image.now ≡ None }
+    requires segments { plan.now.segments.items ≡ segments_of admission.now.image.now }
+    requires room { image_pages admission.now.image.now + STACK_PAGES ≤ admission.now.pages }
+    requires some { 0 < admission.now.pages }
+    requires most { admission.now.pages ≤ MAX_PAGES }
+    requires frames { charge_of admission.now.pages ≤ unreserved pool.old }
+    requires fresh { All (λ u. u.asid ≢ asid) tlb.old }
+    ensures placed { IsPlaced pool.new tlb.new asid admission.now.pages result }
+    ensures memory { memory_at pool.new result admission.now.pages
+        ≡ first_memory admission.now.image.now admission.now.pages admission.now.mode }
+    ensures untouched { IsUntouched (memory_at pool.new result admission.now.pages) }
+    ensures limit { (memory_at pool.new result admission.now.pages).limit
+        ≡ admission.now.pages }
+    ensures unused { reserved_by pool.old result.quota ≡ 0 }
+    ensures reserved { sum pool.new.reserved
+        ≡ sum pool.old.reserved + charge_of admission.now.pages }
+    ensures others { KeepsOthers result.quota pool.old pool.new }
+    ensures entries { NoneEnters asid tlb.old tlb.new }
+{
+    pages_of_a_space();
+    let mut place = reserve_place(pool, admission.pages, admission.mode);
+    // what holds of every pool is in its contract
+    let _ = pool.frames();
+    fill_place(pool, tlb, asid, admission, plan, &mut place);
+    let _ = pool.frames();
+    place
+}
+
+/// Reserves a new tenant's charge, and makes a table that maps nothing.
+fn reserve_place(pool: &mut FramePool, pages: u32, mode: TagMode) -> Place
+    requires frames { charge_of pages ≤ unreserved pool.old }
+    ensures table { IsTable pool.new result.quota result.table }
+    ensures none { pages_of pool.new result.table.frame ≡ empty }
+    ensures once { MapsOnce (pages_of pool.new result.table.frame) }
+    ensures len { result.table.len ≡ 0 }
+    ensures leaves { result.table.leaves ≡ 0 }
+    ensures state { result.state ≡ record { mode = mode; pending = false } }
+    ensures taken { taken_by pool.new result.quota ≡ 1 }
+    ensures charged { reserved_by pool.new result.quota ≡ charge_of pages }
+    ensures unused { reserved_by pool.old result.quota ≡ 0 }
+    ensures reserved { sum pool.new.reserved ≡ sum pool.old.reserved + charge_of pages }
+    ensures others { KeepsOthers result.quota pool.old pool.new }
+{
+    // what holds of every pool is in its contract
+    let _ = pool.frames();
+    let mut quota = match pool.reserve(charge(pages) as usize) {
+        Ok(quota) => quota,
+        Err(_) => unreachable!(),
+    };
+    let table = Table::new(pool, &mut quota);
+    let state = TagState {
+        mode,
+        pending: false,
+    };
+    Place {
+        table,
+        quota,
+        state,
+    }
+}
+
+/// Maps and loads an image and a stack at a place where nothing is mapped.
+fn fill_place(
+    pool: &mut FramePool,
+    tlb: &mut Tlb,
+    asid: usize,
+    admission: &Admission<'_>,
+    plan: &Plan,
+    place: &mut Place,
+)
+    requires image { refusal_of admission.now.image.now ≡ None }
+    requires segments { plan.now.segments.items ≡ segments_of admission.now.image.now }
+    requires room { image_pages admission.now.image.now + STACK_PAGES ≤ admission.now.pages }
+    requires empty { memory_at pool.old place.old admission.now.pages
+        ≡ no_pages admission.now.pages admission.now.mode }
+    requires table { IsTable pool.old place.old.quota place.old.table }
+    requires few { place.old.table.len ≤ admission.now.pages }
+    requires once { MapsOnce (pages_of pool.old place.old.table.frame) }
+    requires left { taken_by pool.old place.old.quota
+        + (2 * admission.now.pages - place.old.table.len - place.old.table.leaves)
+        ≤ reserved_by pool.old place.old.quota }
+    requires cached { IsCached (pages_of pool.old place.old.table.frame) asid tlb.old }
+    ensures memory { memory_at pool.new place.new admission.now.pages
+        ≡ first_memory admission.now.image.now admission.now.pages admission.now.mode }
+    ensures limit { (memory_at pool.new place.new admission.now.pages).limit
+        ≡ admission.now.pages }
+    ensures untouched { IsUntouched (memory_at pool.new place.new admission.now.pages) }
+    ensures space { IsSpace pool.new place.new.quota place.new.table admission.now.pages }
+    ensures cached { IsCached (pages_of pool.new place.new.table.frame) asid tlb.new }
+    ensures rest { KeepsRest place.old.quota pool.old pool.new place.old.table place.new.table }
+    ensures same { place.new.quota ≡ place.old.quota }
+    ensures entries { NoneEnters asid tlb.old tlb.new }
+{
+    let mut memory = Space::new(
+        pool,
+        &mut place.table,
+        &mut place.quota,
+        tlb,
+        &mut place.state,
+        asid,
+        admission.pages as usize,
+    );
+    fill(
+        plan,
+        admission.image,
+        admission.pages,
+        admission.mode,
+        &mut memory,
+    );
+}
+
+/// Lets a tenant attempt at most `steps` instructions over its place.
+pub(crate) fn slice_place(
+    pool: &mut FramePool,
+    tlb: &mut Tlb,
+    asid: usize,
+    pages: u32,
+    parts: &mut TenantParts,
+    place: &mut Place,
+    steps: u32,
+)
+    requires placed { IsPlaced pool.old tlb.old asid pages place.old }
+    requires ready { IsReady parts.old (memory_at pool.old place.old pages) }
+    ensures ready { IsReady parts.new (memory_at pool.new place.new pages) }
+    ensures machine { machine_of parts.new (memory_at pool.new place.new pages)
+        ≡ advance steps (machine_of parts.old (memory_at pool.old place.old pages)) }
+    ensures space { IsSpace pool.new place.new.quota place.new.table pages }
+    ensures cached { IsCached (pages_of pool.new place.new.table.frame) asid tlb.new }
+    ensures rest { KeepsRest place.old.quota pool.old pool.new place.old.table place.new.table }
+    ensures same { place.new.quota ≡ place.old.quota }
+    ensures entries { NoneEnters asid tlb.old tlb.new }
+{
+    let mut memory = Space::new(
+        pool,
+        &mut place.table,
+        &mut place.quota,
+        tlb,
+        &mut place.state,
+        asid,
+        pages as usize,
+    );
+    slice(parts, &mut memory, steps);
+}
+
+/// Gives all frames of a place back, ends its quota, and forgets its translations.
+pub(crate) fn stop_place(pool: &mut FramePool, tlb: &mut Tlb, asid: usize, pages: u32, place: Place)
+    requires { IsPlaced pool.old tlb.old asid pages place }
+    ensures others { KeepsOthers place.quota pool.old pool.new }
+    ensures reserved { sum pool.new.reserved + charge_of pages ≡ sum pool.old.reserved }
+    ensures entries { tlb.new ≡ without_asid asid tlb.old }
+{
+    let Place {
+        mut table,
+        mut quota,
+        ..
+    } = place;
+    // what holds of every pool is in its contract
+    let _ = pool.frames();
+    unmap_all(pool, &mut table, &mut quota, pages as usize);
+    let _ = pool.frames();
+    tlb.forget_all(asid);
+    table.close(pool, &mut quota);
+    pool.release(quota);
+}

@@ -1,0 +1,67 @@
+//! One tenant's turn, beside the others: a slice, a stop.
+
+ghost use Rattle.std.specs.Prelude.{◌≡◌, map, length};
+ghost use Rattle.mte_sched.specs.Contents.{tenant_sliced, tenant_stopped};
+ghost use Rattle.mte_sched.specs.Tenants.{tenants_in};
+ghost use Rattle.mte_sched.specs.Sharing.{IsSharing, HasLiveAt};
+
+use crate::machine::halt;
+use crate::place::{slice_place, stop_place};
+use crate::tenant::Tenant;
+use mte_frames::FramePool;
+use mte_translate::Tlb;
+
+/// A slice of the tenant that has the number, and of no other.
+pub(crate) fn slice_at(
+    pool: &mut FramePool,
+    tlb: &mut Tlb,
+    tenants: &mut [Tenant],
+    asid: usize,
+    id: u16,
+    steps: u32,
+)
+    requires sharing { IsSharing pool.old tlb.old tenants.old }
+    requires live { HasLiveAt tenants.old asid id }
+    ensures sharing { IsSharing pool.new tlb.new tenants.new }
+    ensures frames { length pool.new.frames ≡ length pool.old.frames }
+    ensures tenants { tenants_in pool.new tenants.new
+        ≡ map (tenant_sliced id steps) (tenants_in pool.old tenants.old) }
+{
+    let tenant = &mut tenants[asid];
+    if let Some(place) = &mut tenant.place {
+        // what holds of every pool is in its contract
+        let _ = pool.frames();
+        slice_place(
+            pool,
+            tlb,
+            asid,
+            tenant.pages,
+            &mut tenant.parts,
+            place,
+            steps,
+        );
+        let _ = pool.frames();
+    }
+}
+
+/// A stop of the tenant that has the number, and of no other.
+pub(crate) fn stop_at(
+    pool: &mut FramePool,
+    tlb: &mut Tlb,
+    tenants: &mut [Tenant],
+    asid: usize,
+    id: u16,
+)
+    requires sharing { IsSharing pool.old tlb.old tenants.old }
+    requires live { HasLiveAt tenants.old asid id }
+    ensures sharing { IsSharing pool.new tlb.new tenants.new }
+    ensures frames { length pool.new.frames ≡ length pool.old.frames }
+    ensures tenants { tenants_in pool.new tenants.new
+        ≡ map (tenant_stopped id) (tenants_in pool.old tenants.old) }
+{
+    let tenant = &mut tenants[asid];
+    if let Some(place) = tenant.place.take() {
+        halt(&mut tenant.parts);
+        stop_place(pool, tlb, asid, tenant.pages, place);
+    }
+}
