@@ -6,7 +6,8 @@ use Rattle.a64_bits.specs.Addresses.{plain}
 use Rattle.mte_tags.specs.Memory.{Memory, Page, page_at, with_page, byte_in, byte_at, with_byte_in, with_byte, tag_in, tag_at}
 use Rattle.mte_tags.specs.Accesses.{addresses, bytes_at, read_bytes, with_bytes, written, AreMapped, IsMapped}
 use Rattle.mte_tags.proofs.Pages.{page_at-with_page_same, page_at-with_page_other}
-use Rattle.mte_tags.proofs.Whole.{IsWhole, whole-with_byte}
+use Rattle.mte_tags.specs.Whole.{IsWhole}
+use Rattle.mte_tags.proofs.Whole.{whole-with_byte}
 
 -- one byte
 byte_other_in : (m : Memory) (a b c : ℕ) (p : Option Page) → page_at m (a / 4096) ≡ p → c ≢ a → byte_in (page_at (with_byte_in m (a / 4096) (a % 4096) b p) (c / 4096)) (c % 4096) ≡ byte_in (page_at m (c / 4096)) (c % 4096)

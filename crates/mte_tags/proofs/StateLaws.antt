@@ -5,6 +5,9 @@ use Rattle.mte_tags.specs.Accesses.{with_bytes, written, ending_in, after_access
 use Rattle.mte_tags.specs.declared.access.Access.{Access}
 use Rattle.mte_tags.specs.declared.attrs.Attrs.{Attrs}
 use Rattle.mte_tags.specs.declared.state.TagState.{TagState}
+use Rattle.mte_tags.specs.Whole.{IsWhole}
+use Rattle.mte_tags.proofs.Pages.{limit-with_page}
+use Rattle.mte_tags.proofs.Whole.{whole-written}
 use Rattle.mte_tags.proofs.ByteLaws.{tag_at-written}
 
 state-with_byte_in : (m : Memory) (q o b : ℕ) (p : Option Page) → (with_byte_in m q o b p).state ≡ m.state
@@ -77,3 +80,62 @@ tag_at-after_read m a n check c = tag_at-after_access m _ _ c
 pub tag_at-after_write : (m : Memory) (a : ℕ) (bs : List ℕ) (check : Bool) (c : ℕ) → tag_at (after_write m a bs check) c ≡ tag_at m c
 unfolding after_write
 tag_at-after_write m a bs check c = tag_at-written (after_access m (write_access a check) _) a bs c ∙ tag_at-after_access m (write_access a check) _ c
+
+-- ---- how many pages there may be, and that a memory is whole
+
+limit-granule_in : (m : Memory) (q g t : ℕ) (z : Bool) (p : Option Page) → (with_granule_in m q g t z p).limit ≡ m.limit
+limit-granule_in m q g t z None = refl
+limit-granule_in m q g t z (Some p) = limit-with_page m q _
+
+pub limit-with_granules : (n : ℕ) (m : Memory) (a t : ℕ) (z : Bool) → (with_granules m a n t z).limit ≡ m.limit
+unfolding with_granules with_granule
+limit-with_granules zero m a t z = refl
+limit-with_granules (suc n) m a t z = limit-with_granules n (with_granule m a t z) ((a + 16) % 2 ^ 56) t z ∙ limit-granule_in m (a / 4096) (a % 4096 / 16) t z (page_at m (a / 4096))
+
+limit-byte_in : (m : Memory) (q o b : ℕ) (p : Option Page) → (with_byte_in m q o b p).limit ≡ m.limit
+limit-byte_in m q o b None = refl
+limit-byte_in m q o b (Some p) = limit-with_page m q _
+
+limit-with_bytes : (xs bs : List ℕ) (m : Memory) → (with_bytes m xs bs).limit ≡ m.limit
+unfolding with_bytes with_byte
+limit-with_bytes (a ∷ more) (b ∷ bs) m = limit-with_bytes more bs (with_byte m a b) ∙ limit-byte_in m (a / 4096) (a % 4096) b (page_at m (a / 4096))
+limit-with_bytes [] bs m = refl
+limit-with_bytes (a ∷ more) [] m = refl
+
+pub limit-written : (m : Memory) (a : ℕ) (bs : List ℕ) → (written m a bs).limit ≡ m.limit
+unfolding written
+limit-written m a bs = limit-with_bytes _ bs m
+
+limit-if : (b : Bool) (m : Memory) → (cond b (with_pending m) m).limit ≡ m.limit
+unfolding with_pending
+limit-if true m = refl
+limit-if false m = refl
+
+pub limit-after_access : (m : Memory) (x : Access) (xs : List ℕ) → (after_access m x xs).limit ≡ m.limit
+unfolding after_access with_pending
+limit-after_access m x xs = limit-if (ending_in m.state.mode m x xs).pending m
+
+whole-pending : (b : Bool) (m : Memory) → IsWhole m → IsWhole (cond b (with_pending m) m)
+unfolding page_at with_pending
+whole-pending true m w = record { within = w.within; pages = w.pages }
+whole-pending false m w = w
+
+pub whole-after_access : (m : Memory) (x : Access) (xs : List ℕ) → IsWhole m → IsWhole (after_access m x xs)
+unfolding after_access
+whole-after_access m x xs w = whole-pending (ending_in m.state.mode m x xs).pending m w
+
+pub limit-after_read : (m : Memory) (a n : ℕ) (check : Bool) → (after_read m a n check).limit ≡ m.limit
+unfolding after_read
+limit-after_read m a n check = limit-after_access m _ _
+
+pub whole-after_read : (m : Memory) (a n : ℕ) (check : Bool) → IsWhole m → IsWhole (after_read m a n check)
+unfolding after_read
+whole-after_read m a n check w = whole-after_access m _ _ w
+
+pub limit-after_write : (m : Memory) (a : ℕ) (bs : List ℕ) (check : Bool) → (after_write m a bs check).limit ≡ m.limit
+unfolding after_write
+limit-after_write m a bs check = limit-written _ a bs ∙ limit-after_access m _ _
+
+pub whole-after_write : (m : Memory) (a : ℕ) (bs : List ℕ) (check : Bool) → IsWhole m → IsWhole (after_write m a bs check)
+unfolding after_write
+whole-after_write m a bs check w = whole-written _ a bs (whole-after_access m _ _ w)

@@ -5,7 +5,8 @@ use Rattle.std.proofs.lemmas.List.{get_or_append_left, get_or-append_right, get_
 use Rattle.mte_tags.specs.Memory.{Memory, Page, page_at, with_page, byte_in, byte_at, tag_in, tag_at, has, attrs_at, zeroed, with_granule_in, with_granule, with_granules}
 use Rattle.mte_tags.proofs.Pages.{page_at-with_page_same, page_at-with_page_other}
 use Rattle.mte_tags.proofs.PageLaws.{attrs_at-with_granules, page_at-attrs}
-use Rattle.mte_tags.proofs.Whole.{IsWhole, whole-with_granule}
+use Rattle.mte_tags.specs.Whole.{IsWhole}
+use Rattle.mte_tags.proofs.Whole.{whole-with_granule}
 
 new_of : Page → ℕ → ℕ → Bool → Page
 new_of p g t z = record { attrs = p.attrs; bytes = cond z (zeroed p.bytes g) p.bytes; tags = set p.tags g t }

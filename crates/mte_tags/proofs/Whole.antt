@@ -1,4 +1,4 @@
--- A whole memory: no more pages than its limit, each with 4096 bytes and 256 tags. Each change keeps it whole.
+-- Each change of a whole memory keeps it whole.
 use Rattle.std.proofs.Common.{◌≡◌, ℕ, suc, zero, ◌+◌, ◌-◌, ◌/◌, ◌%◌, ◌^◌, ◌<◌, ◌≤◌, Bool, true, false, cond, Option, Some, None, IsSome, is_some, List, [], ◌∷◌, length, set, refl, sym, ap, subst, ◌∙◌, inl, inr, arith}
 use Rattle.std.proofs.lemmas.Bool.{cases_eq, cond-true, cond-false}
 use Rattle.std.proofs.lemmas.List.{length-set, length-replicate}
@@ -7,19 +7,12 @@ use Rattle.std.specs.Cmp.{nat_cmp_total}
 use Rattle.std.specs.FinMap as map
 use Rattle.std.specs.FinMap.{len-insert, len-empty}
 use Rattle.mte_tags.specs.Memory.{Memory, Page, page_at, with_page, without_page, pages_left, no_pages, new_page, with_new_pages, without_pages, IsFree, ArePages, with_byte_in, with_byte, zeroed, with_granule_in, with_granule, with_granules}
+use Rattle.mte_tags.specs.Whole.{IsWholePage, IsWhole}
 use Rattle.mte_tags.specs.declared.attrs.Attrs.{Attrs}
 use Rattle.mte_tags.specs.declared.state.TagMode.{TagMode}
 use Rattle.mte_tags.specs.Accesses.{with_bytes, written}
 use Rattle.mte_tags.proofs.Pages.{page_at-with_page_same, page_at-with_page_other, page_at-without_page_same, page_at-without_page_other, page_at-no_pages, same_memory, limit-without_page, rest-with_page, rest-without_page, pages_left-with_new}
 use Rattle.mte_tags.proofs.TagRuns.{length-zeroed}
-
-pub record IsWholePage (p : Page) : Type 0 where
-  pub bytes : length p.bytes ≡ 4096
-  pub tags : length p.tags ≡ 256
-
-pub record IsWhole (m : Memory) : Type 0 where
-  pub within : map.len m.pages ≤ m.limit
-  pub pages : (q : ℕ) (p : Page) → page_at m q ≡ Some p → IsWholePage p
 
 none_whole : (o : Option Page) (p : Page) → o ≡ None → o ≡ Some p → IsWholePage p
 none_whole o p e f = cc

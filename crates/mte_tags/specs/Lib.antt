@@ -1,4 +1,5 @@
 pub mod Memory
+pub mod Whole
 pub mod Accesses
 pub mod TagChoice
 pub mod RandomTags

@@ -8,6 +8,12 @@ returns-clause-attrs c = λ r m q. (step_orderly r m).state.attrs q
 pub returns-clause-left : goal.returns-clause-left
 returns-clause-left c = λ r m. (step_orderly r m).state.left
 
+pub returns-clause-limit : goal.returns-clause-limit
+returns-clause-limit c = λ r m. (step_orderly r m).state.limit
+
+pub returns-clause-whole : goal.returns-clause-whole
+returns-clause-whole c = λ r m. (step_orderly r m).state.whole
+
 pub returns-clause-run_attrs : goal.returns-clause-run_attrs
 returns-clause-run_attrs c = λ n r m q. (run_keeps_state n r m).attrs q
 
