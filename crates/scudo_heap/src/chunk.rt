@@ -12,20 +12,20 @@ use scudo_secondary::Mapping;
 
 /// Where a chunk of a size class lies in its block.
 #[derive(Clone, Copy, Debug, PartialEq, Eq)]
-pub(crate) struct Place {
+pub struct Place {
     /// Its size class.
-    pub(crate) class: u8,
+    pub class: u8,
     /// The address of its block.
-    pub(crate) block: u64,
+    pub block: u64,
     /// The address that its user is given, without the tag.
-    pub(crate) user: u64,
+    pub user: u64,
     /// The bytes that were requested.
-    pub(crate) size: u64,
+    pub size: u64,
 }
 
 /// A chunk that a call handed out.
 #[derive(Clone, Copy, Debug, PartialEq, Eq)]
-pub(crate) enum Chunk {
+pub enum Chunk {
     /// In a block, with its tag.
     Small(Place, u8),
     /// With pages of its own, for so many bytes.
@@ -34,7 +34,7 @@ pub(crate) enum Chunk {
 
 /// A chunk that the checks of a pointer found, with its header.
 #[derive(Clone, Copy, Debug, PartialEq, Eq)]
-pub(crate) enum Found {
+pub enum Found {
     /// In a block.
     InBlock(Place, Header),
     /// With pages of its own.

@@ -20,6 +20,7 @@ mod stacks;
 mod tagging;
 
 pub use abort::HeapAbort;
+pub use chunk::{Chunk, Found, Place};
 pub use heap::Heap;
 pub use laws::condition_of_calls;
 pub use limits::{MAX_ALIGNMENT, MAX_REQUEST};
