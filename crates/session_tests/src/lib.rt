@@ -2,6 +2,8 @@
 #![tactic(auto)]
 
 #[cfg(test)]
+mod discipline;
+#[cfg(test)]
 mod doubles;
 #[cfg(test)]
 mod hosts;

@@ -1,0 +1,16 @@
+//! The laws of careful runs. They have no code: a call brings what they say to its caller.
+
+use tag_discipline::{
+    careful_runs_are_sound, chunks_are_apart, chunks_are_guarded, freed_chunks_are_refused,
+    neighbours_differ, new_tags_differ,
+};
+
+#[test]
+fn laws_of_careful_runs() {
+    careful_runs_are_sound();
+    freed_chunks_are_refused();
+    new_tags_differ();
+    neighbours_differ();
+    chunks_are_apart();
+    chunks_are_guarded();
+}

@@ -1,0 +1,242 @@
+-- Each heap call keeps the live chunks Sound.
+use Rattle.std.proofs.Common.{◌≡◌, ◌≢◌, ℕ, ◌-◌, ◌<◌, true, false, Some, List, ◌∷◌, refl, sym, ap, subst, ◌∙◌, inl, inr, arith}
+use Rattle.std.proofs.lemmas.Bool.{cases_eq}
+use Rattle.std.specs.Prelude.{nat_eq}
+use Rattle.std.specs.List.{IsDistinct}
+use Rattle.std.specs.Int.{to_le_bytes, w64}
+use Rattle.mte_tags.specs.Memory.{Memory, tag_at}
+use Rattle.scudo_header.specs.Headers.{packed}
+use Rattle.scudo_header.specs.declared.headers.Origin.{Origin}
+use Rattle.scudo_header.specs.declared.headers.Header.{Header}
+use Rattle.scudo_primary.specs.Blocks.{IsBlock}
+use Rattle.scudo_primary.specs.Pools.{is_member}
+use Rattle.scudo_primary.specs.Lists.{IsClass}
+use Rattle.scudo_primary.proofs.ListLemmas.{member-other, member-first, distinct-head, distinct-tail, distinct-cons}
+use Rattle.scudo_heap.specs.Stacks.{StackState, pages_of, stack_of, with_stack}
+use Rattle.tag_discipline.specs.LiveChunks.{IsCarved, IsPlace, IsHalfTag, BlockChunk, LiveBlocks, chunk_at, with_chunk, without_chunk, new_chunk, resized_chunk, IsHeaderOf, ArePlaced, IsTagged}
+use Rattle.scudo_heap.specs.declared.chunk.Place.{Place}
+use Rattle.scudo_heap.specs.Chunks.{with_size, tagged, refitted, headed}
+use Rattle.tag_discipline.proofs.BlockCalls.{fenced}
+use Rattle.scudo_heap.specs.Placing.{new_header}
+use Rattle.tag_discipline.proofs.Views.{IsStacked, SoundBlocks}
+use Rattle.tag_discipline.proofs.Draws.{IsFresh}
+use Rattle.tag_discipline.proofs.Blocks.{same-class}
+use Rattle.tag_discipline.proofs.Keeps.{IsCallOn, IsSamePages, IsStep, keeps-tagged}
+use Rattle.tag_discipline.proofs.BlockCalls.{fenced-both, tagged-call, written-call, written-tagged}
+use Rattle.tag_discipline.proofs.Refits.{refitted-fits}
+use Rattle.tag_discipline.proofs.ListLaws.{stack-own, stack-other, same-pages, stacked-with, served-same, place-on, chunk_at-with, chunk_at-without}
+
+member_on : (d b : ℕ) (more : List ℕ) → is_member more d ≡ true → is_member (b ∷ more) d ≡ true
+member_on d b more e = elim (cases_eq d b) [
+  | inl q ↦ subst (λ t. is_member (t ∷ more) d ≡ true) q (member-first d more)
+  | inr n ↦ member-other b more d n ∙ e
+]
+
+module _ (m : Memory) (h : StackState) (l : LiveBlocks) (s : SoundBlocks m h l) where
+  -- the tag at a place's user address is below 16
+  pub present : (p : Place) → IsPlace h p → tag_at m p.user < 16
+  present p i =
+      let above = i.above in
+      let within = i.within in
+      let some = i.some in
+      elim (s.tagged.halves p.class p.block p.user i.carved (omega arith) (omega arith)) [ inl e ↦ omega arith | inr k ↦ k.below ]
+
+  -- a live chunk's block is not the top of a stack
+  pub not-top : (c b : ℕ) (more : List ℕ) → stack_of h c ≡ b ∷ more → IsCarved h c b → (u : ℕ) (x : BlockChunk) → chunk_at l u ≡ Some x → x.place.block ≢ b
+  not-top c b more e d u x g = λ q.
+      let i = s.placed.place u x g in
+      let same : x.place.class ≡ c = same-class h x.place.class c b s.stacked (subst (IsCarved h x.place.class) q i.carved) d in
+      let off : is_member (stack_of h c) b ≡ false = ap (λ t. is_member (stack_of h t) b) (sym same) ∙ ap (is_member (stack_of h x.place.class)) (sym q) ∙ s.placed.unstacked u x g in
+      let on : is_member (stack_of h c) b ≡ true = ap (λ t. is_member t b) e ∙ member-first b more in
+      cc
+
+  -- the live chunks with one more, or with another at its user address, in a block that no other has
+  pub live-with : (h' : StackState) (x : BlockChunk) → IsSamePages h h' → IsPlace h x.place → IsHeaderOf x.header x.place → is_member (stack_of h' x.place.class) x.place.block ≡ false
+      → ((u : ℕ) (y : BlockChunk) → chunk_at l u ≡ Some y → u ≢ x.place.user → (y.place.block ≢ x.place.block) × (is_member (stack_of h' y.place.class) y.place.block ≡ false))
+      → ArePlaced h' (with_chunk l x)
+  live-with h' x pages i header off others = record {
+    place = λ u y e. elim (chunk_at-with l x u y e) [
+      | inl a ↦ subst (λ (z : BlockChunk). IsPlace h' z.place) a.1 (place-on h h' x.place pages i)
+      | inr a ↦ place-on h h' y.place pages (s.placed.place u y a.1)
+    ];
+    user = λ u y e. elim (chunk_at-with l x u y e) [
+      | inl a ↦ sym (ap (λ (z : BlockChunk). z.place.user) a.1) ∙ sym a.0
+      | inr a ↦ s.placed.user u y a.1
+    ];
+    header = λ u y e. elim (chunk_at-with l x u y e) [
+      | inl a ↦ subst (λ (z : BlockChunk). IsHeaderOf z.header z.place) a.1 header
+      | inr a ↦ s.placed.header u y a.1
+    ];
+    apart = λ u v y z e f g. elim (chunk_at-with l x u y e) [
+      | inl a ↦ elim (chunk_at-with l x v z f) [
+        | inl b ↦ a.0 ∙ sym b.0
+        | inr b ↦ absurd ((others v z b.1 b.0).0 (sym g ∙ sym (ap (λ (k : BlockChunk). k.place.block) a.1)))
+      ]
+      | inr a ↦ elim (chunk_at-with l x v z f) [
+        | inl b ↦ absurd ((others u y a.1 a.0).0 (g ∙ sym (ap (λ (k : BlockChunk). k.place.block) b.1)))
+        | inr b ↦ s.placed.apart u v y z a.1 b.1 g
+      ]
+    ];
+    unstacked = λ u y e. elim (chunk_at-with l x u y e) [
+      | inl a ↦ subst (λ (z : BlockChunk). is_member (stack_of h' z.place.class) z.place.block ≡ false) a.1 off
+      | inr a ↦ (others u y a.1 a.0).1
+    ];
+  }
+
+  -- a block that is in no stack, after one stack became another list
+  off-stack : (c : ℕ) (xs : List ℕ) (d b : ℕ) → is_member (stack_of h d) b ≡ false → (d ≡ c → is_member xs b ≡ false) → is_member (stack_of (with_stack h c xs) d) b ≡ false
+  off-stack c xs d b old new = elim (cases_eq d c) [
+    | inl q ↦ ap (λ t. is_member t b) (ap (stack_of (with_stack h c xs)) q ∙ stack-own h c xs) ∙ new q
+    | inr n ↦ ap (λ t. is_member t b) (stack-other h c d xs n) ∙ old
+  ]
+
+  placed_live : (x : BlockChunk) (more : List ℕ) → IsHeaderOf x.header x.place → stack_of h x.place.class ≡ x.place.block ∷ more → IsPlace h x.place → ArePlaced (with_stack h x.place.class more) (with_chunk l x)
+  placed_live x more header top i =
+      let c = x.place.class in
+      let distinct : IsDistinct nat_eq (x.place.block ∷ more) = subst (IsDistinct nat_eq) top (s.stacked.distinct c i.carved.class) in
+      live-with (with_stack h c more) x (same-pages h c more) i header
+      (ap (λ t. is_member t x.place.block) (stack-own h c more) ∙ distinct-head x.place.block more distinct)
+      (λ u y e n.
+      let other = not-top c x.place.block more top i.carved u y e in
+      let off = s.placed.unstacked u y e in
+      (other, off-stack c more y.place.class y.place.block off (λ q. sym (member-other x.place.block more y.place.block other) ∙ sym (ap (λ t. is_member t y.place.block) (ap (stack_of h) q ∙ top)) ∙ off)))
+
+  placed_stacked : (c b : ℕ) (more : List ℕ) → IsClass c → stack_of h c ≡ b ∷ more → IsStacked (with_stack h c more)
+  placed_stacked c b more hc top =
+      let distinct : IsDistinct nat_eq (b ∷ more) = subst (IsDistinct nat_eq) top (s.stacked.distinct c hc) in
+      stacked-with h c more s.stacked (λ d e. s.stacked.blocks c d hc (ap (λ t. is_member t d) top ∙ member_on d b more e)) (distinct-tail b more distinct)
+
+  -- what the first call leaves of the tags
+  pub placed_call : (cookie : ℕ) (p : Place) (origin : Origin) (t : ℕ) → IsFresh m p t → IsPlace h p → IsCallOn m (headed (fenced m p t) cookie p.user (new_header origin p)) p t
+  unfolding headed
+  placed_call cookie p origin t fresh i =
+      written-call m (fenced m p t) p t (p.user - 16) (to_le_bytes w64 (packed cookie p.user (new_header origin p))) (fenced-both m h p t s.stacked s.served i fresh.some s.tagged.outside).0
+
+  -- the first call: a chunk is made
+  pub placed_sound : (cookie : ℕ) (p : Place) (origin : Origin) (more : List ℕ) (t : ℕ) → IsFresh m p t → stack_of h p.class ≡ p.block ∷ more → IsPlace h p
+      → SoundBlocks (headed (fenced m p t) cookie p.user (new_header origin p)) (with_stack h p.class more) (with_chunk l (new_chunk origin p t))
+  unfolding headed
+  placed_sound cookie p origin more t fresh top i =
+      let x = new_chunk origin p t in
+      let h' = with_stack h p.class more in
+      let pages = same-pages h p.class more in
+      let both = fenced-both m h p t s.stacked s.served i fresh.some s.tagged.outside in
+      let bytes = to_le_bytes w64 (packed cookie p.user (new_header origin p)) in
+      let m' = headed (fenced m p t) cookie p.user (new_header origin p) in
+      let call : IsCallOn m m' p t = written-call m (fenced m p t) p t (p.user - 16) bytes both.0 in
+      let own : IsTagged m' p t = written-tagged (fenced m p t) p t (p.user - 16) bytes both.1 in
+      let step : IsStep m' l (with_chunk l x) p.block = record {
+        chunk = λ u y e. elim (chunk_at-with l x u y e) [
+          | inl a ↦ inr (subst (λ (z : BlockChunk). IsTagged m' z.place z.tag) a.1 own)
+          | inr a ↦ inl (a.1, not-top p.class p.block more top i.carved u y a.1)
+        ];
+      } in
+      record {
+        stacked = placed_stacked p.class p.block more i.carved.class top;
+        served = served-same m m' h h' call.limit call.attrs call.whole pages s.served;
+        placed = placed_live x more (record { class = refl; state = refl; size = refl; offset = refl }) top i;
+        tagged = keeps-tagged m m' h h' l (with_chunk l x) p t s.stacked s.placed s.tagged i fresh.half call pages step;
+      }
+
+  -- ---- the second call: a chunk is freed
+
+  live-without : (h' : StackState) (u : ℕ) → IsSamePages h h' → ((v : ℕ) (y : BlockChunk) → chunk_at l v ≡ Some y → v ≢ u → is_member (stack_of h' y.place.class) y.place.block ≡ false) → ArePlaced h' (without_chunk l u)
+  live-without h' u pages off = record {
+    place = λ v y e. place-on h h' y.place pages (s.placed.place v y (chunk_at-without l u v y e).1);
+    user = λ v y e. s.placed.user v y (chunk_at-without l u v y e).1;
+    header = λ v y e. s.placed.header v y (chunk_at-without l u v y e).1;
+    apart = λ v w y z e f g. s.placed.apart v w y z (chunk_at-without l u v y e).1 (chunk_at-without l u w z f).1 g;
+    unstacked = λ v y e. let k = chunk_at-without l u v y e in off v y k.1 k.0;
+  }
+
+  given_back_stacked : (p : Place) → IsPlace h p → is_member (stack_of h p.class) p.block ≡ false → IsStacked (with_stack h p.class (p.block ∷ stack_of h p.class))
+  given_back_stacked p i off =
+      stacked-with h p.class (p.block ∷ stack_of h p.class) s.stacked
+      (λ d e. elim (cases_eq d p.block) [
+        | inl q ↦ subst (IsBlock p.class (pages_of h p.class)) (sym q) i.carved.block
+        | inr n ↦ s.stacked.blocks p.class d i.carved.class (sym (member-other p.block (stack_of h p.class) d n) ∙ e)
+      ])
+      (distinct-cons p.block (stack_of h p.class) off (s.stacked.distinct p.class i.carved.class))
+
+  pub given_back_call : (cookie : ℕ) (p : Place) (header : Header) (t : ℕ) → IsPlace h p → IsCallOn m (headed (tagged m p t) cookie p.user header) p t
+  unfolding headed
+  given_back_call cookie p header t i = written-call m (tagged m p t) p t (p.user - 16) (to_le_bytes w64 (packed cookie p.user header)) (tagged-call m h p t s.stacked s.served i)
+
+  pub given_back_sound : (cookie u : ℕ) (x : BlockChunk) (header : Header) (t : ℕ) → chunk_at l u ≡ Some x → IsFresh m x.place t
+      → SoundBlocks (headed (tagged m x.place t) cookie x.place.user header) (with_stack h x.place.class (x.place.block ∷ stack_of h x.place.class)) (without_chunk l u)
+  unfolding headed
+  given_back_sound cookie u x header t at fresh =
+      let p = x.place in
+      let i : IsPlace h p = s.placed.place u x at in
+      let h' = with_stack h p.class (p.block ∷ stack_of h p.class) in
+      let pages = same-pages h p.class (p.block ∷ stack_of h p.class) in
+      let m' = headed (tagged m p t) cookie p.user header in
+      let call : IsCallOn m m' p t = written-call m (tagged m p t) p t (p.user - 16) (to_le_bytes w64 (packed cookie p.user header)) (tagged-call m h p t s.stacked s.served i) in
+      let other : (v : ℕ) (y : BlockChunk) → chunk_at l v ≡ Some y → v ≢ u → y.place.block ≢ p.block = λ v y e n q. n (s.placed.apart v u y x e at q) in
+      let step : IsStep m' l (without_chunk l u) p.block = record {
+        chunk = λ v y e. let k = chunk_at-without l u v y e in inl (k.1, other v y k.1 k.0);
+      } in
+      let off : (v : ℕ) (y : BlockChunk) → chunk_at l v ≡ Some y → v ≢ u → is_member (stack_of h' y.place.class) y.place.block ≡ false = λ v y e n.
+      off-stack p.class (p.block ∷ stack_of h p.class) y.place.class y.place.block (s.placed.unstacked v y e)
+      (λ q. member-other p.block (stack_of h p.class) y.place.block (other v y e n) ∙ sym (ap (λ c. is_member (stack_of h c) y.place.block) q) ∙ s.placed.unstacked v y e) in
+      record {
+        stacked = given_back_stacked p i (s.placed.unstacked u x at);
+        served = served-same m m' h h' call.limit call.attrs call.whole pages s.served;
+        placed = live-without h' u pages off;
+        tagged = keeps-tagged m m' h h' l (without_chunk l u) p t s.stacked s.placed s.tagged i fresh.half call pages step;
+      }
+
+  -- ---- the third call: a chunk gets another size in its block
+
+  pub present-tag : (u : ℕ) (x : BlockChunk) → chunk_at l u ≡ Some x → tag_at m x.place.user ≡ x.tag
+  present-tag u x at = let i = s.placed.place u x at in let some = i.some in (s.tagged.chunks u x at).inside x.place.user (omega arith) (omega arith)
+
+  pub live_half : (u : ℕ) (x : BlockChunk) → chunk_at l u ≡ Some x → IsHalfTag x.place.class x.place.block x.tag
+  live_half u x at =
+      let i = s.placed.place u x at in
+      let above = i.above in
+      let within = i.within in
+      let some = i.some in
+      let e = present-tag u x at in
+      elim (s.tagged.halves x.place.class x.place.block x.place.user i.carved (omega arith) (omega arith)) [
+        | inl z ↦ absurd ((s.tagged.chunks u x at).some (sym e ∙ z))
+        | inr k ↦ subst (IsHalfTag x.place.class x.place.block) e k
+      ]
+
+  pub resized_call : (cookie u size : ℕ) (x : BlockChunk) (header : Header) → chunk_at l u ≡ Some x → IsPlace h (with_size x.place size) → IsCallOn m (headed (refitted m x.place size) cookie x.place.user header) (with_size x.place size) x.tag
+  unfolding headed
+  resized_call cookie u size x header at j =
+      written-call m (refitted m x.place size) (with_size x.place size) x.tag (x.place.user - 16) (to_le_bytes w64 (packed cookie x.place.user header))
+      (refitted-fits m h x.place size x.tag s.stacked s.served (s.placed.place u x at) j (s.tagged.chunks u x at) s.tagged.outside (present-tag u x at)).call
+
+  pub resized_sound : (cookie u size : ℕ) (x : BlockChunk) → chunk_at l u ≡ Some x → IsPlace h (with_size x.place size)
+      → SoundBlocks (headed (refitted m x.place size) cookie x.place.user (record (x.header) { size_or_unused_bytes = size })) h (with_chunk l (resized_chunk x size))
+  unfolding headed
+  resized_sound cookie u size x at j =
+      let p = x.place in
+      let x' = resized_chunk x size in
+      let header = x'.header in
+      let i : IsPlace h p = s.placed.place u x at in
+      let fit = refitted-fits m h p size x.tag s.stacked s.served i j (s.tagged.chunks u x at) s.tagged.outside (present-tag u x at) in
+      let m1 = refitted m p size in
+      let m' = headed m1 cookie p.user header in
+      let bytes = to_le_bytes w64 (packed cookie p.user header) in
+      let call : IsCallOn m m' (with_size p size) x.tag = written-call m m1 (with_size p size) x.tag (p.user - 16) bytes fit.call in
+      let own : IsTagged m' (with_size p size) x.tag = written-tagged m1 (with_size p size) x.tag (p.user - 16) bytes fit.tags in
+      let here : p.user ≡ u = s.placed.user u x at in
+      let pages : IsSamePages h h = record { pages = λ c hc. refl } in
+      let others : (v : ℕ) (y : BlockChunk) → chunk_at l v ≡ Some y → v ≢ p.user → (y.place.block ≢ p.block) × (is_member (stack_of h y.place.class) y.place.block ≡ false) = λ v y e n.
+      ((λ q. n (s.placed.apart v u y x e at q ∙ sym here)), s.placed.unstacked v y e) in
+      let step : IsStep m' l (with_chunk l x') p.block = record {
+        chunk = λ v y e. elim (chunk_at-with l x' v y e) [
+          | inl a ↦ inr (subst (λ (z : BlockChunk). IsTagged m' z.place z.tag) a.1 own)
+          | inr a ↦ inl (a.1, (others v y a.1 a.0).0)
+        ];
+      } in
+      let old = s.placed.header u x at in
+      record {
+        stacked = s.stacked;
+        served = served-same m m' h h call.limit call.attrs call.whole pages s.served;
+        placed = live-with h x' pages j (record { class = old.class; state = old.state; size = refl; offset = old.offset }) (s.placed.unstacked u x at) others;
+        tagged = keeps-tagged m m' h h l (with_chunk l x') (with_size p size) x.tag s.stacked s.placed s.tagged j (live_half u x at) call pages step;
+      }

@@ -1,0 +1,244 @@
+-- The laws of careful runs.
+use Rattle.std.proofs.Common.{◌≡◌, ◌≢◌, ℕ, ◌/◌, ◌%◌, ◌<◌, ◌≤◌, true, false, Some, None, IsSome, Ok, [], refl, sym, ap, subst, ◌∙◌, inl, inr, arith}
+use Rattle.std.specs.Prelude.{nat_eq}
+use Rattle.std.specs.List.{IsDistinct}
+use Rattle.std.specs.Ordering.{nat_cmp}
+use Rattle.std.specs.FinMap as finite
+use Rattle.std.specs.FinMap.{get-empty}
+use Rattle.a64_bits.specs.Addresses.{plain}
+use Rattle.mte_tags.specs.Memory.{Memory, tag_in, tag_at, attrs_at}
+use Rattle.mte_tags.specs.Accesses.{byte_fault, fault_in, addresses, read_access, write_access, read_fault, write_fault}
+use Rattle.mte_tags.specs.declared.access.Access.{Access}
+use Rattle.mte_tags.specs.declared.state.TagMode.TheVariants.{Sync}
+use Rattle.mte_tags.proofs.PageLaws.{page_at-no_attrs, attrs_at-without_pages_in}
+use Rattle.scudo_primary.specs.Pools.{is_member}
+use Rattle.scudo_primary.specs.Lists.{IsClass}
+use Rattle.scudo_header.specs.declared.headers.Header.{Header}
+use Rattle.scudo_secondary.proofs.MappingLemmas.{none_ordered}
+use Rattle.scudo_heap.proofs.StackLemmas.{class_at-stacks_by}
+use Rattle.scudo_heap.proofs.FirstLemmas.{served-first}
+use Rattle.tag_discipline.proofs.Grows.{none_distinct}
+use Rattle.tag_discipline.proofs.FoundStates.{large-named}
+use Rattle.scudo_primary.proofs.BlockLemmas.{block-whole, size-IsSize}
+use Rattle.scudo_secondary.specs.Mappings as secondary
+use Rattle.scudo_secondary.specs.declared.mappings.Mapping.{Mapping}
+use Rattle.address_map.specs.declared.limits.TheConstants.{PAGE_SIZE}
+use Rattle.scudo_heap.specs.declared.chunk.Place.{Place}
+use Rattle.scudo_heap.specs.declared.chunk.Chunk.TheVariants.{Small}
+use Rattle.scudo_heap.specs.declared.chunk.Found.{Found}
+use Rattle.scudo_heap.specs.declared.chunk.Found.TheVariants.{InPages}
+use Rattle.scudo_heap.specs.Stacks.{ClassHeap, class_at, empty_class, empty_stacks, pages_of, stack_of}
+use Rattle.scudo_heap.specs.Placing.{World}
+use Rattle.scudo_heap.specs.Large.{large_given_back}
+use Rattle.scudo_heap.specs.Allocation.{Made}
+use Rattle.scudo_heap.specs.Freeing.{without_chunk as freed_world}
+use Rattle.tag_discipline.specs.LiveChunks.{BlockChunk, chunk_at, IsCarved}
+use Rattle.tag_discipline.specs.LivePages.{PageChunk, large_at}
+use Rattle.tag_discipline.specs.Laws.{Freed, IsStale}
+use Rattle.tag_discipline.specs.CarefulRuns.{State, HeapRequest, Free, found_at, after_call, IsLiveBlock, IsCareful, HasFree}
+use Rattle.tag_discipline.specs.SoundHeaps.{Sound}
+use Rattle.tag_discipline.specs.Discipline.{StartsSound, StaysSound, MayFree, FreedBlocksAreRefused, IsUnmapped, FreedPagesAreUnmapped, IsFreshIn, NewTagsDiffer, NeighboursDiffer, ChunksAreApart, ChunksAreGuarded, SlicesStaySound, FreedBlocksStayRefused}
+use Rattle.tag_discipline.specs.CarefulTenants.{state_of, stepped}
+use Rattle.tag_discipline.proofs.Tenants.{step-quiet, attempted-kept, attempted-done, advance-sound, steps-sound, steps-stale}
+use Rattle.tag_discipline.proofs.Serving.{blocks-of}
+use Rattle.tag_discipline.proofs.BlockCalls.{room}
+use Rattle.tag_discipline.proofs.Faults.{AreKept, are-kept, in-sync, touching}
+use Rattle.tag_discipline.proofs.Larges.{found-of, large-apart}
+use Rattle.tag_discipline.proofs.MadeCalls.{malloc-made, calloc-made, memalign-made}
+use Rattle.tag_discipline.proofs.Freeings.{IsStaleAfter, free-world, free-stale, realloc-stale}
+use Rattle.tag_discipline.proofs.Runs.{call-kept, run-sound, run-stale}
+
+-- ---- live chunks
+
+kept-in : (s : State) → Sound s → AreKept s.world.memory s.world.heap.stacks s.live.blocks
+kept-in s k = are-kept s.world.memory s.world.heap.stacks s.live.blocks k.sync (blocks-of s k)
+
+pub neighbours : NeighboursDiffer
+neighbours = λ s u v x y k e f n.
+    let h = λ (a : ℕ). (kept-in s k).neighbours u v a x y e f n in
+    ((h 0).0, λ a l r. (h a).1 l r)
+
+pub guarded : ChunksAreGuarded
+guarded = record {
+  before = λ s u a x k e l r. (kept-in s k).before u a x e l r;
+  after = λ s u a x k e l r. (kept-in s k).after u a x e l r;
+}
+
+pub apart : ChunksAreApart
+apart = record {
+  blocks = λ s u v x y k e f n. (kept-in s k).apart u v x y e f n;
+  pages = λ s u v x y k e f n. large-apart s.world.heap.maps.mappings s.live.pages u v x y k.large e f n;
+  both = λ s u v x y k e f.
+      let b = blocks-of s k in
+      let r = room s.world.heap.stacks x.place b.stacked (k.placed.place u x e) in
+      let i = r.block in
+      let within = i.within in
+      let few = i.few in
+      let high = i.high in
+      let end = r.within in
+      let m = found-of s.world.heap.maps.mappings v y.mapping k.large.ordered (k.large.place v y f) in
+      let above = m.above in
+      let start = k.large.above v y f in
+      omega arith;
+}
+
+-- ---- new chunks
+
+fresh-in : (s : State) (r : Made) → Sound s → ((p : Place) (t : ℕ) → r.chunk ≡ Some (Small p t) → (t ≢ 0) × (t ≢ tag_at s.world.memory p.user)) → IsFreshIn s r
+fresh-in s r k h = record {
+  some = λ p t e. (h p t e).0;
+  other = λ p t e. (h p t e).1;
+  reused = λ p t f e st at.
+      let some = st.place.some in
+      let there : tag_at s.world.memory p.user ≡ f.given = st.inside p.user (omega arith) (omega arith) in
+      λ q. (h p t e).1 (q ∙ sym there);
+}
+
+pub fresh : NewTagsDiffer
+fresh = record {
+  malloc = λ s size k. fresh-in s _ k (malloc-made s size k).fresh;
+  calloc = λ s count size k. fresh-in s _ k (calloc-made s count size k).fresh;
+  memalign = λ s align size k. fresh-in s _ k (memalign-made s align size k).fresh;
+}
+
+-- ---- freed chunks
+
+-- a call that names a live chunk of a size class is careful
+block-careful : (s : State) (pointer : ℕ) (c : HeapRequest) (x : BlockChunk) → IsLiveBlock s (plain pointer) x → MayFree pointer c → IsCareful s c
+block-careful s pointer c x l (inl e) = subst (IsCareful s) (sym e) (λ n f g. inl (x, l))
+block-careful s pointer c x l (inr e) = subst (IsCareful s) (sym e.1) (λ n f g. inl (x, l))
+
+stale-by : (s : State) (pointer : ℕ) (c : HeapRequest) (x : BlockChunk) → Sound s → pointer ≢ 0 → IsLiveBlock s (plain pointer) x → MayFree pointer c → HasFree x.place.class x.place.block (after_call c s) → IsStaleAfter (after_call c s).world x
+stale-by s pointer c x k n l (inl e) on = subst (λ d. IsStaleAfter (after_call d s).world x) (sym e) (free-stale s pointer x k n l)
+stale-by s pointer c x k n l (inr e) on =
+    let on' = subst (λ d. HasFree x.place.class x.place.block (after_call d s)) e.1 on in
+    subst (λ d. IsStaleAfter (after_call d s).world x) (sym e.1) (realloc-stale s pointer e.0 x k n l on')
+
+pub freed-blocks : FreedBlocksAreRefused
+freed-blocks = λ a b pointer addr c x k n l m on run low high.
+    let f : Freed = record { place = x.place; tag = x.tag; given = (after_call c a).world.rgsr.tag } in
+    let t = call-kept a c k (block-careful a pointer c x l m) in
+    let st = stale-by a pointer c x k n l m on in
+    let last = run-stale f run t.sound st in
+    (kept-in b (run-sound run t.sound)).freed f addr last low high
+
+-- an access to a page that is not mapped faults
+no_page : (m : Memory) (x : Access) (a : ℕ) → attrs_at m (a / 4096) ≡ None → IsSome (byte_fault m x a)
+unfolding byte_fault
+no_page m x a e = subst (λ o. IsSome (fault_in x o a)) (sym (page_at-no_attrs m (a / 4096) e)) refl
+
+pub unmapped-refused : (m : Memory) (a : ℕ) → m.state.mode ≡ Sync → attrs_at m (a / 4096) ≡ None → IsUnmapped m a
+unfolding read_fault write_fault
+unmapped-refused m a sync e = λ pointer n i check l at. (
+  in-sync m (read_access pointer check) (addresses (plain pointer) n) sync (touching n m (read_access pointer check) (plain pointer) i a (omega arith) l at (no_page m (read_access pointer check) a e)),
+  in-sync m (write_access pointer check) (addresses (plain pointer) n) sync (touching n m (write_access pointer check) (plain pointer) i a (omega arith) l at (no_page m (write_access pointer check) a e)),
+)
+
+free-pages-world : (s : State) (pointer : ℕ) (f : Found) → pointer ≢ 0 → found_at s.world pointer ≡ Ok f → freed_world s.world f ≡ (after_call (Free pointer) s).world
+unfolding after_call
+free-pages-world s pointer f n e = free-world s pointer f n e
+
+pages-gone : (w : World) (n : Mapping) (header : Header) (a : ℕ) → n.start % PAGE_SIZE ≡ 0 → n.start ≤ a → a < secondary.end_of n → attrs_at (freed_world w (InPages n header)).memory (a / 4096) ≡ None
+unfolding freed_world large_given_back
+pages-gone w n header a al l u = attrs_at-without_pages_in n.pages w.memory (n.start / PAGE_SIZE) (a / 4096) (omega arith) (omega arith)
+
+pub freed-pages : FreedPagesAreUnmapped
+freed-pages = record {
+  gone = λ s pointer a x k n l low high.
+      let there = k.large.place (plain pointer) x l.live in
+      let f = found-of s.world.heap.maps.mappings (plain pointer) x.mapping k.large.ordered there in
+      let e = large-named s pointer x k l in
+      subst (λ (w : World). attrs_at w.memory (a / 4096) ≡ None) (free-pages-world s pointer (InPages x.mapping x.header) n e) (pages-gone s.world x.mapping x.header a f.aligned low high);
+  refused = unmapped-refused;
+}
+
+-- ---- a new heap
+
+class-new : (left c : ℕ) → IsClass c → class_at (empty_stacks left) c ≡ empty_class
+unfolding empty_stacks
+class-new left c k = class_at-stacks_by left (λ d. empty_class) c k
+
+chunk-new : (u : ℕ) (x : BlockChunk) → chunk_at finite.empty u ≡ Some x → ⊥
+unfolding chunk_at
+chunk-new u x e = let f : None ≡ Some x = sym (get-empty nat_cmp u) ∙ e in cc
+
+large-new : (u : ℕ) (x : PageChunk) → large_at finite.empty u ≡ Some x → ⊥
+unfolding large_at
+large-new u x e = let f : None ≡ Some x = sym (get-empty nat_cmp u) ∙ e in cc
+
+pages-new : (left c : ℕ) → IsClass c → pages_of (empty_stacks left) c ≡ 0
+pages-new left c k = ap (λ (t : ClassHeap). t.pages) (class-new left c k)
+
+no-block : (left c b : ℕ) → IsCarved (empty_stacks left) c b → ⊥
+no-block left c b k =
+    let e = pages-new left c k.class in
+    let w = block-whole c (pages_of (empty_stacks left) c) b k.class k.block in
+    let s = size-IsSize c k.class in
+    let least = s.least in
+    omega arith
+
+no-member : (left c b : ℕ) → IsClass c → is_member (stack_of (empty_stacks left) c) b ≡ true → ⊥
+no-member left c b k e = let f : false ≡ true = sym (ap (λ (t : ClassHeap). is_member t.stack b) (class-new left c k)) ∙ e in cc
+
+left-new : (left : ℕ) → (empty_stacks left).left ≡ left
+unfolding empty_stacks
+left-new left = refl
+
+no_tag : (m : Memory) (a : ℕ) → attrs_at m (a / 4096) ≡ None → tag_at m a ≡ 0
+unfolding tag_at
+no_tag m a e = ap (λ o. tag_in o (a % 4096 / 16)) (page_at-no_attrs m (a / 4096) e)
+
+pub starts : StartsSound
+starts = λ m cookie pages r n.
+    let most = n.most in
+    let limit = n.limit in
+    record {
+      whole = n.whole;
+      limit = omega arith;
+      sync = n.sync;
+      served = served-first m cookie pages n.limit n.untouched;
+      most = λ c lo hi. let k : IsClass c = record { low = lo; high = hi } in let e = pages-new pages c k in let f = left-new pages in omega arith;
+      stacks = record {
+        blocks = λ c b lo hi e. absurd (no-member pages c b (record { low = lo; high = hi }) e);
+        distinct = λ c lo hi. subst (λ (t : ClassHeap). IsDistinct nat_eq t.stack) (sym (class-new pages c (record { low = lo; high = hi }))) none_distinct;
+      };
+      placed = record {
+        place = λ u x e. absurd (chunk-new u x e);
+        user = λ u x e. absurd (chunk-new u x e);
+        header = λ u x e. absurd (chunk-new u x e);
+        apart = λ u v x y e f g. absurd (chunk-new u x e);
+        unstacked = λ u x e. absurd (chunk-new u x e);
+      };
+      tagged = record {
+        chunks = λ u x e. absurd (chunk-new u x e);
+        halves = λ c b a k x y. absurd (no-block pages c b k);
+        outside = λ a x y o. no_tag m a (n.untouched (a / 4096) (omega arith) (omega arith));
+      };
+      large = record {
+        ordered = none_ordered [] refl;
+        place = λ u x e. absurd (large-new u x e);
+        aligned = λ u x e. absurd (large-new u x e);
+        above = λ u x e. absurd (large-new u x e);
+        within = λ u x e. absurd (large-new u x e);
+        header = λ u x e. absurd (large-new u x e);
+      };
+    }
+
+pub stays : StaysSound
+stays = λ a b r k. run-sound r k
+
+-- ---- runs of a machine
+
+pub slices : SlicesStaySound
+slices = λ n m l k c. advance-sound n m l k c
+
+pub freed-stay : FreedBlocksStayRefused
+freed-stay = λ m k l j n pointer addr c x sound careful e may some live on run low high.
+    let first = step-quiet m l careful.tags sound in
+    let is = attempted-done n m l c e in
+    let on' : HasFree x.place.class x.place.block (after_call c (state_of (stepped m) l)) = subst (HasFree x.place.class x.place.block) is on in
+    let st = stale-by (state_of (stepped m) l) pointer c x first.sound some live may on' in
+    let f : Freed = record { place = x.place; tag = x.tag; given = (after_call c (state_of (stepped m) l)).world.rgsr.tag } in
+    let after = (attempted-kept n m l sound careful).sound in
+    let last = steps-stale f run after (subst (λ (s : State). IsStale s.world.memory s.world.heap.stacks f) (sym is) st) in
+    (kept-in (state_of k j) (steps-sound run after)).freed f addr last low high

@@ -1,0 +1,45 @@
+-- An allocation keeps the live chunks Sound, whether its chunk lies in a block or has pages of its own.
+use Rattle.std.proofs.Common.{◌≡◌, ◌≢◌, ℕ, Some, refl}
+use Rattle.scudo_header.specs.declared.headers.Origin.{Origin}
+use Rattle.scudo_secondary.specs.declared.mappings.Mapping.{Mapping}
+use Rattle.scudo_heap.specs.declared.chunk.Place.{Place}
+use Rattle.scudo_heap.specs.declared.chunk.Chunk.TheVariants.{Small, Large}
+use Rattle.scudo_heap.specs.Placing.{World}
+use Rattle.scudo_heap.specs.Allocation.{Made, nothing}
+use Rattle.tag_discipline.specs.LiveChunks.{BlockChunk, chunk_at}
+use Rattle.tag_discipline.specs.LivePages.{PageChunk, large_at, AreLarge}
+use Rattle.tag_discipline.specs.CarefulRuns.{State, made, HasFree}
+use Rattle.tag_discipline.specs.SoundHeaps.{Sound}
+use Rattle.tag_discipline.specs.Laws.{Freed, IsStale}
+use Rattle.mte_tags.specs.Memory.{tag_at}
+use Rattle.tag_discipline.proofs.Views.{SoundBlocks}
+use Rattle.tag_discipline.proofs.Serving.{sound-of}
+use Rattle.tag_discipline.proofs.WorldRests.{IsRest}
+
+pub rest-of : (s : State) → Sound s → IsRest s.world s.world
+rest-of s k = record { served = k.served; sync = k.sync; most = k.most; maps = refl }
+
+-- a state from what holds of its blocks, of its mappings, and of the rest
+pub state-sound : (v : World) (t : State) → SoundBlocks t.world.memory t.world.heap.stacks t.live.blocks → IsRest v t.world → AreLarge t.world.heap.maps.mappings t.live.pages → Sound t
+state-sound v t b r g = record {
+  whole = b.served.whole;
+  limit = b.served.limit;
+  sync = r.sync;
+  served = r.served;
+  most = r.most;
+  stacks = sound-of t.world.heap.stacks b.stacked;
+  placed = b.placed;
+  tagged = b.tagged;
+  large = g;
+}
+
+-- what an allocation leaves
+pub record IsMade (o : Origin) (s : State) (r : Made) : Type 0 where
+  pub sound : Sound (made o s.live r)
+  pub stale : (f : Freed) → IsStale s.world.memory s.world.heap.stacks f → HasFree f.place.class f.place.block (made o s.live r) → IsStale r.world.memory r.world.heap.stacks f
+  pub apart : (p : Place) (t : ℕ) → r.chunk ≡ Some (Small p t) → (u : ℕ) (x : BlockChunk) → chunk_at s.live.blocks u ≡ Some x → p.user ≢ u
+  pub apart_large : (m : Mapping) (n : ℕ) → r.chunk ≡ Some (Large m n) → (u : ℕ) (x : PageChunk) → large_at s.live.pages u ≡ Some x → m.user ≢ u
+  pub fresh : (p : Place) (t : ℕ) → r.chunk ≡ Some (Small p t) → (t ≢ 0) × (t ≢ tag_at s.world.memory p.user)
+
+pub nothing-made : (o : Origin) (s : State) → Sound s → IsMade o s (nothing s.world)
+nothing-made o s k = record { sound = k; stale = λ f st on. st; apart = λ p t e. cc; apart_large = λ m n e. cc; fresh = λ p t e. cc }

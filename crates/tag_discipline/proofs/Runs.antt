@@ -1,0 +1,103 @@
+-- Careful runs keep the live chunks Sound, and what is freed as it is until an allocation takes its block.
+use Rattle.std.proofs.Common.{◌≡◌, ◌≢◌, ℕ, ◌/◌, ◌==◌, Bool, true, false, cond, Result, Ok, Err, refl, sym, subst, ◌∙◌, arith}
+use Rattle.std.proofs.lemmas.Bool.{cond-false}
+use Rattle.std.proofs.lemmas.Bool.Decides.{nat_tests}
+use Rattle.scudo_heap.specs.declared.abort.HeapAbort.{HeapAbort}
+use Rattle.scudo_heap.specs.declared.chunk.Found.{Found}
+use Rattle.scudo_heap.specs.Freeing.{Freed as Outcome, freed_by, free_of}
+use Rattle.scudo_heap.specs.Realloc.{Reallocated, reallocated_by, realloc_of}
+use Rattle.scudo_heap.specs.Allocation.{malloc_of}
+use Rattle.scudo_heap.proofs.ServedLemmas.{served-on, same-pages}
+use Rattle.scudo_header.specs.declared.headers.Origin.TheVariants as origin
+use Rattle.tag_discipline.specs.CarefulRuns.{State, Live, HeapRequest, Malloc, Calloc, Memalign, Realloc, Free, delisted_by, relisted_by, found_at, after_realloc, after_free, after_call, IsPointerTo, IsCareful, IsQuiet, Step, quiet, call, Run, stop, next, HasFree}
+use Rattle.tag_discipline.specs.SoundHeaps.{Sound}
+use Rattle.tag_discipline.specs.Laws.{Freed, IsStale}
+use Rattle.tag_discipline.proofs.Serving.{blocks-of}
+use Rattle.tag_discipline.proofs.WorldRests.{IsRest}
+use Rattle.tag_discipline.proofs.BlockSteps.{IsSameTags, same-tags_sound, same-tags_stale}
+use Rattle.tag_discipline.proofs.MadeStates.{state-sound}
+use Rattle.tag_discipline.proofs.MadeCalls.{malloc-made, calloc-made, memalign-made}
+use Rattle.tag_discipline.proofs.FoundStates.{listed}
+use Rattle.tag_discipline.proofs.FreeStates.{IsKeptOn, kept-same, free-kept}
+use Rattle.tag_discipline.proofs.ReallocStates.{made-kept, refound-kept}
+
+-- ---- calls
+
+free_by-kept : (s : State) (pointer : ℕ) (r : Result Found HeapAbort) → Sound s → IsPointerTo s pointer → pointer ≢ 0 → found_at s.world pointer ≡ r → IsKeptOn s (record { world = (freed_by s.world r).world; live = delisted_by s.live r })
+free_by-kept s pointer (Err e) k c n f = kept-same s k
+free_by-kept s pointer (Ok g) k c n f = free-kept s k (listed s pointer g k c n f)
+
+branch-free : (s : State) (b : Bool) (x y : Outcome) (l m : Live) → (b ≡ true → IsKeptOn s (record { world = x.world; live = l })) → (b ≡ false → IsKeptOn s (record { world = y.world; live = m }))
+    → IsKeptOn s (record { world = (cond b x y).world; live = cond b l m })
+branch-free s true x y l m f g = f refl
+branch-free s false x y l m f g = g refl
+
+after_free-kept : (s : State) (pointer : ℕ) → Sound s → IsPointerTo s pointer → IsKeptOn s (after_free s pointer)
+unfolding free_of
+after_free-kept s pointer k c =
+    branch-free s (pointer == 0) (record { world = s.world; result = Ok tt }) (freed_by s.world (found_at s.world pointer)) s.live (delisted_by s.live (found_at s.world pointer))
+    (λ t. kept-same s k)
+    (λ t. free_by-kept s pointer (found_at s.world pointer) k c (grind (arith, nat_tests)) refl)
+
+realloc_by-kept : (s : State) (pointer size : ℕ) (r : Result Found HeapAbort) → Sound s → IsPointerTo s pointer → pointer ≢ 0 → found_at s.world pointer ≡ r
+    → IsKeptOn s (record { world = (reallocated_by s.world size r).world; live = relisted_by s.world s.live size r })
+realloc_by-kept s pointer size (Err e) k c n f = kept-same s k
+realloc_by-kept s pointer size (Ok g) k c n f = refound-kept s size k (listed s pointer g k c n f)
+
+elsewhere : (s : State) (pointer size : ℕ) → (pointer == 0) ≡ false → IsKeptOn s (record { world = (reallocated_by s.world size (found_at s.world pointer)).world; live = relisted_by s.world s.live size (found_at s.world pointer) })
+    → IsKeptOn s (record { world = (realloc_of s.world pointer size).world; live = relisted_by s.world s.live size (found_at s.world pointer) })
+unfolding realloc_of
+elsewhere s pointer size e k =
+    subst (λ (r : Reallocated). IsKeptOn s (record { world = r.world; live = relisted_by s.world s.live size (found_at s.world pointer) })) (sym (cond-false _ _ _ e)) k
+
+branch-state : (s : State) (b : Bool) (x y : State) → (b ≡ true → IsKeptOn s x) → (b ≡ false → IsKeptOn s y) → IsKeptOn s (cond b x y)
+branch-state s true x y f g = f refl
+branch-state s false x y f g = g refl
+
+after_realloc-kept : (s : State) (pointer size : ℕ) → Sound s → IsPointerTo s pointer → IsKeptOn s (after_realloc s pointer size)
+after_realloc-kept s pointer size k c = branch-state s (pointer == 0) _ _
+    (λ t. made-kept origin.Malloc s (malloc_of s.world size) (malloc-made s size k))
+    (λ t. elsewhere s pointer size t (realloc_by-kept s pointer size (found_at s.world pointer) k c (grind (arith, nat_tests)) refl))
+
+pub call-kept : (s : State) (c : HeapRequest) → Sound s → IsCareful s c → IsKeptOn s (after_call c s)
+unfolding after_call
+call-kept s (Malloc size) k c = made-kept origin.Malloc s _ (malloc-made s size k)
+call-kept s (Calloc count size) k c = made-kept origin.Malloc s _ (calloc-made s count size k)
+call-kept s (Memalign align size) k c = made-kept origin.Memalign s _ (memalign-made s align size k)
+call-kept s (Realloc pointer size) k c = after_realloc-kept s pointer size k c
+call-kept s (Free pointer) k c = after_free-kept s pointer k c
+
+-- ---- steps and runs
+
+pub quiet-kept : (s t : State) → Sound s → IsQuiet s t → IsKeptOn s t
+quiet-kept s t k q =
+    let b = blocks-of s k in
+    let m = s.world.memory in
+    let m' = t.world.memory in
+    let same : IsSameTags m m' = record { limit = q.limit; attrs = λ a l. q.attrs (a / 4096); tags = λ a l. q.tags a; whole = q.whole } in
+    let u : State = record { world = record s.world { memory = m'; rgsr = t.world.rgsr }; live = s.live } in
+    let is : u ≡ t = λ i. record { world = record { memory = m'; heap = sym q.heap i; rgsr = t.world.rgsr }; live = sym q.live i } in
+    let rest : IsRest u.world u.world = record {
+      served = served-on m m' s.world.heap s.world.heap.stacks s.world.heap.cookie k.served q.attrs q.left (same-pages s.world.heap.stacks);
+      sync = q.mode ∙ k.sync;
+      most = k.most;
+      maps = refl;
+    } in
+    let kept : IsKeptOn s u = record {
+      sound = state-sound u.world u (same-tags_sound m m' s.world.heap.stacks s.live.blocks same b) rest k.large;
+      stale = λ f st on. same-tags_stale m m' s.world.heap.stacks f b.stacked same st;
+    } in
+    subst (IsKeptOn s) is kept
+
+pub step-kept : (s t : State) → Sound s → Step s t → IsKeptOn s t
+step-kept s t k (quiet q) = quiet-kept s t k q
+step-kept s t k (call c careful e) = subst (IsKeptOn s) (sym e) (call-kept s c k careful)
+
+pub run-sound : {P : State → Type 0} {a b : State} → Run P a b → Sound a → Sound b
+run-sound stop k = k
+run-sound {P} (next {a = x} {b = y} {c = z} t p r) k = run-sound r (step-kept x y k t).sound
+
+-- what was freed stays as it is while its block is free
+pub run-stale : (f : Freed) {a b : State} → Run (HasFree f.place.class f.place.block) a b → Sound a → IsStale a.world.memory a.world.heap.stacks f → IsStale b.world.memory b.world.heap.stacks f
+run-stale f stop k st = st
+run-stale f (next {a = x} {b = y} {c = z} t p r) k st = let h = step-kept x y k t in run-stale f r h.sound (h.stale f st p)

@@ -1,0 +1,79 @@
+-- What the tags of the size classes need, of the heap's condition; and the condition after each change.
+use Rattle.std.proofs.Common.{◌≡◌, ℕ, ◌+◌, ◌-◌, ◌/◌, ◌<◌, ◌≤◌, ◌⊎◌, Bool, true, false, Option, Some, None, nat_lt, refl, ap, ◌∙◌, inl, inr, arith}
+use Rattle.std.proofs.lemmas.Bool.{cases_lt, cond-true, cond-false}
+use Rattle.mte_tags.specs.Memory.{Memory, attrs_at}
+use Rattle.scudo_header.specs.Regions.{region_of}
+use Rattle.address_map.specs.declared.limits.TheConstants.{PAGE_SIZE}
+use Rattle.address_map.specs.declared.ranges.TheConstants.{REGIONS_START, REGION_SIZE, SECONDARY_START}
+use Rattle.scudo_primary.specs.Lists.{IsClass}
+use Rattle.scudo_secondary.specs.Mappings.{AreMappings}
+use Rattle.scudo_heap.specs.Stacks.{StackState, pages_of, AreSound}
+use Rattle.scudo_heap.specs.Heaps.{HeapState}
+use Rattle.scudo_heap.specs.Served.{IsServed, heap_page}
+use Rattle.scudo_heap.proofs.MapLemmas.{none-below}
+use Rattle.scudo_heap.proofs.ServedLemmas.{lt-true, lt-false}
+use Rattle.tag_discipline.specs.CarefulRuns.{State}
+use Rattle.tag_discipline.specs.SoundHeaps.{Sound}
+use Rattle.tag_discipline.proofs.Views.{IsStacked, SoundBlocks}
+
+heap_page_is : (b : Bool) → (heap_page b ≡ None) ⊎ (heap_page b ≡ Some 11)
+heap_page_is true = inr refl
+heap_page_is false = inl refl
+
+of_heap_page : (o : Option ℕ) (b : Bool) → o ≡ heap_page b → (o ≡ None) ⊎ (o ≡ Some 11)
+of_heap_page o b e = elim (heap_page_is b) [ inl f ↦ inl (e ∙ f) | inr f ↦ inr (e ∙ f) ]
+
+-- before the first mapping nothing is mapped
+pub before-mappings : (m : Memory) (h : HeapState) (a : ℕ) → IsServed m h → AreMappings h.maps.mappings → SECONDARY_START ≤ a → a < SECONDARY_START + PAGE_SIZE → attrs_at m (a / PAGE_SIZE) ≡ None
+unfolding AreMappings
+before-mappings m h a v k l u = v.mappings a l (omega arith) ∙ ap heap_page (none-below h.maps.mappings (SECONDARY_START + PAGE_SIZE) a k u)
+
+in-region : (m : Memory) (h : HeapState) (c a : ℕ) → IsServed m h → IsClass c → region_of c ≤ a → a < region_of c + REGION_SIZE → attrs_at m (a / PAGE_SIZE) ≡ heap_page (nat_lt ((a - region_of c) / PAGE_SIZE) (pages_of h.stacks c))
+in-region m h c a v k l u =
+    let e : a / PAGE_SIZE ≡ region_of c / PAGE_SIZE + (a - region_of c) / PAGE_SIZE = omega arith in
+    ap (attrs_at m) e ∙ v.regions c ((a - region_of c) / PAGE_SIZE) k.low k.high (omega arith)
+
+others : (m : Memory) (h : HeapState) (a : ℕ) → IsServed m h → AreMappings h.maps.mappings → REGIONS_START ≤ a → a < SECONDARY_START + 16 → (attrs_at m (a / 4096) ≡ None) ⊎ (attrs_at m (a / 4096) ≡ Some 11)
+others m h a v k l u = elim (cases_lt a (REGIONS_START + REGION_SIZE)) [
+  | inl x ↦
+      let e : a / PAGE_SIZE ≡ REGIONS_START / PAGE_SIZE + (a - REGIONS_START) / PAGE_SIZE = omega arith in
+      inl (ap (attrs_at m) e ∙ v.none ((a - REGIONS_START) / PAGE_SIZE) (omega arith))
+  | inr x ↦ elim (cases_lt a SECONDARY_START) [
+    | inl y ↦
+        let c = (a - REGIONS_START) / REGION_SIZE in
+        let class : IsClass c = record { low = omega arith; high = omega arith } in
+        of_heap_page (attrs_at m (a / 4096)) _ (in-region m h c a v class (omega arith) (omega arith))
+    | inr y ↦ inl (before-mappings m h a v k y (omega arith))
+  ]
+]
+
+pub stacked-of : (m : Memory) (h : HeapState) → IsServed m h → AreSound h.stacks → IsStacked h.stacks
+stacked-of m h v s = record {
+  few = λ c k. let few = v.few c k.low k.high in omega arith;
+  blocks = λ c b k e. s.blocks c b k.low k.high e;
+  distinct = λ c k. s.distinct c k.low k.high;
+}
+
+pub sound-of : (h : StackState) → IsStacked h → AreSound h
+sound-of h k = record {
+  blocks = λ c b low high e. k.blocks c b (record { low = low; high = high }) e;
+  distinct = λ c low high. k.distinct c (record { low = low; high = high });
+}
+
+pub blocks-of : (s : State) → Sound s → SoundBlocks s.world.memory s.world.heap.stacks s.live.blocks
+blocks-of s k =
+    let m = s.world.memory in
+    let h = s.world.heap in
+    let v = k.served in
+    record {
+      stacked = stacked-of m h v k.stacks;
+      served = record {
+        whole = k.whole;
+        limit = k.limit;
+        mapped = λ c a hc l u. let few = v.few c hc.low hc.high in in-region m h c a v hc l (omega arith) ∙ cond-true _ _ _ (lt-true ((a - region_of c) / PAGE_SIZE) (pages_of h.stacks c) (omega arith));
+        others = λ a l u. others m h a v k.large.ordered l u;
+        free = λ c a hc l u. in-region m h c a v hc (omega arith) (omega arith) ∙ cond-false _ _ _ (lt-false ((a - region_of c) / PAGE_SIZE) (pages_of h.stacks c) (omega arith));
+      };
+      placed = k.placed;
+      tagged = k.tagged;
+    }

@@ -1,0 +1,483 @@
+-- A machine's careful instructions keep its live chunks Sound.
+use Rattle.std.proofs.Common.{◌≡◌, ◌≢◌, ℕ, zero, suc, ◌==◌, ◌&&◌, Bool, true, false, cond, Option, Some, None, List, Result, Ok, Err, refl, sym, ap, subst, ◌∙◌, inl, inr, arith}
+use Rattle.std.proofs.lemmas.Bool.{cases_eq, cond-false, eqb-true}
+use Rattle.std.proofs.lemmas.Bool.Decides.{nat_tests}
+use Rattle.mte_tags.specs.Memory.{Memory, page_at, attrs_at, pages_left, with_pending}
+use Rattle.mte_tags.specs.Accesses.{read_fault, write_fault, ending_in, after_access, after_read, after_write}
+use Rattle.mte_tags.specs.declared.access.Access.{Access}
+use Rattle.mte_tags.specs.declared.fault.MemFault.{MemFault}
+use Rattle.mte_tags.proofs.PageLaws.{attrs_at-written, pages_left-written}
+use Rattle.mte_tags.proofs.StateLaws.{mode-after_read, mode-after_write, tag_at-after_read, tag_at-after_write, limit-after_read, limit-after_write, whole-after_read, whole-after_write}
+use Rattle.a64_step.specs.declared.outcome.Outcome.{Outcome}
+use Rattle.a64_step.specs.declared.outcome.Outcome.TheVariants as outcome
+use Rattle.a64_step.specs.Steps.{step_of, next_stores_tags}
+use Rattle.a64_step.proofs.Effects.{step_orderly}
+use Rattle.scudo_heap.specs.declared.abort.HeapAbort.{HeapAbort}
+use Rattle.scudo_heap.specs.declared.chunk.Found.{Found}
+use Rattle.scudo_heap.specs.Placing.{World, world_of}
+use Rattle.scudo_heap.specs.Freeing as freeing
+use Rattle.scudo_heap.specs.Freeing.{free_of}
+use Rattle.scudo_heap.specs.Realloc as reallocation
+use Rattle.scudo_heap.specs.Allocation.{malloc_of}
+use Rattle.scudo_header.specs.declared.headers.Origin.TheVariants as origin
+use Rattle.mte_svc.specs.declared.calls.HeapService.{HeapService}
+use Rattle.mte_svc.specs.declared.calls.HeapService.TheVariants as calls
+use Rattle.scudo_heap.specs.Realloc.{realloc_of}
+use Rattle.mte_svc.specs.declared.parts.TenantParts.{TenantParts}
+use Rattle.mte_svc.specs.declared.services.SvcEnd.{SvcEnd}
+use Rattle.mte_svc.specs.declared.services.SvcEnd.TheVariants as end
+use Rattle.mte_svc.specs.Results.{Served, x_of, answered, entered}
+use Rattle.mte_svc.specs.Services.{write_count, wrote_by, wrote, read_count, read_by, read_in, by_number, served}
+use Rattle.mte_svc.specs.HeapServices.{malloc_by, calloc_by, memalign_by, freed_by, free_by, found_by, realloc_by, usable_size_by}
+use Rattle.mte_sched.specs.Machines.{Machine, machine_of, with_regs, counted, runs, on, ended_by_tag, after_service, with_service, met, attempted, attempts, settled, advance}
+use Rattle.tag_discipline.specs.CarefulRuns.{State, Live, HeapRequest, Malloc, Calloc, Memalign, Realloc, Free, after_call, IsQuiet, HasFree}
+use Rattle.tag_discipline.specs.CarefulRuns as heap
+use Rattle.tag_discipline.specs.CarefulTenants.{state_of, stepped, request_by, request_at, next_request, live_by, live_after, IsCarefulNext, live_through, IsCareful, Steps, stop, next}
+use Rattle.tag_discipline.specs.SoundHeaps.{Sound}
+use Rattle.tag_discipline.specs.Laws.{Freed, IsStale}
+use Rattle.tag_discipline.proofs.FreeStates.{IsKeptOn, kept-same}
+use Rattle.tag_discipline.proofs.Runs.{call-kept, quiet-kept}
+
+-- ---- accesses of services
+
+attrs-if : (b : Bool) (m : Memory) (q : ℕ) → attrs_at (cond b (with_pending m) m) q ≡ attrs_at m q
+unfolding attrs_at page_at with_pending
+attrs-if true m q = refl
+attrs-if false m q = refl
+
+left-if : (b : Bool) (m : Memory) → pages_left (cond b (with_pending m) m) ≡ pages_left m
+unfolding pages_left with_pending
+left-if true m = refl
+left-if false m = refl
+
+attrs-after_access : (m : Memory) (x : Access) (xs : List ℕ) (q : ℕ) → attrs_at (after_access m x xs) q ≡ attrs_at m q
+unfolding after_access
+attrs-after_access m x xs q = attrs-if (ending_in m.state.mode m x xs).pending m q
+
+left-after_access : (m : Memory) (x : Access) (xs : List ℕ) → pages_left (after_access m x xs) ≡ pages_left m
+unfolding after_access
+left-after_access m x xs = left-if (ending_in m.state.mode m x xs).pending m
+
+attrs-after_read : (m : Memory) (a n : ℕ) (check : Bool) (q : ℕ) → attrs_at (after_read m a n check) q ≡ attrs_at m q
+unfolding after_read
+attrs-after_read m a n check q = attrs-after_access m _ _ q
+
+left-after_read : (m : Memory) (a n : ℕ) (check : Bool) → pages_left (after_read m a n check) ≡ pages_left m
+unfolding after_read
+left-after_read m a n check = left-after_access m _ _
+
+attrs-after_write : (m : Memory) (a : ℕ) (bs : List ℕ) (check : Bool) (q : ℕ) → attrs_at (after_write m a bs check) q ≡ attrs_at m q
+unfolding after_write
+attrs-after_write m a bs check q = attrs_at-written _ a bs q ∙ attrs-after_access m _ _ q
+
+left-after_write : (m : Memory) (a : ℕ) (bs : List ℕ) (check : Bool) → pages_left (after_write m a bs check) ≡ pages_left m
+unfolding after_write
+left-after_write m a bs check = pages_left-written _ a bs ∙ left-after_access m _ _
+
+-- ---- services
+
+abbrev after : Served → Live → State
+after s l = record { world = world_of s.memory s.parts.heap s.parts.regs.rgsr; live = l }
+
+abbrev before : TenantParts → Memory → Live → State
+before p m l = record { world = world_of m p.heap p.regs.rgsr; live = l }
+
+wrote-kept : (p : TenantParts) (m : Memory) (l : Live) (n : ℕ) (f : Option MemFault) → Sound (before p m l) → IsKeptOn (before p m l) (after (wrote_by f p m n) l)
+unfolding answered
+wrote-kept p m l n (Some f) k = kept-same (before p m l) k
+wrote-kept p m l n None k = quiet-kept (before p m l) _ k (record {
+  heap = refl;
+  live = refl;
+  limit = limit-after_read m (x_of p 0) n true;
+  mode = mode-after_read m (x_of p 0) n true;
+  attrs = attrs-after_read m (x_of p 0) n true;
+  left = left-after_read m (x_of p 0) n true;
+  tags = tag_at-after_read m (x_of p 0) n true;
+  whole = whole-after_read m (x_of p 0) n true k.whole;
+})
+
+read-kept : (p : TenantParts) (m : Memory) (l : Live) (n : ℕ) (f : Option MemFault) → Sound (before p m l) → IsKeptOn (before p m l) (after (read_by f p m n) l)
+unfolding answered
+read-kept p m l n (Some f) k = kept-same (before p m l) k
+read-kept p m l n None k = quiet-kept (before p m l) _ k (record {
+  heap = refl;
+  live = refl;
+  limit = limit-after_write m (x_of p 0) _ true;
+  mode = mode-after_write m (x_of p 0) _ true;
+  attrs = attrs-after_write m (x_of p 0) _ true;
+  left = left-after_write m (x_of p 0) _ true;
+  tags = tag_at-after_write m (x_of p 0) _ true;
+  whole = whole-after_write m (x_of p 0) _ true k.whole;
+})
+
+quiet-same : (p : TenantParts) (m : Memory) (l : Live) (s : Served) → s.memory ≡ m → s.parts.heap ≡ p.heap → s.parts.regs.rgsr ≡ p.regs.rgsr → Sound (before p m l) → IsKeptOn (before p m l) (after s l)
+quiet-same p m l s e f g k =
+    subst (IsKeptOn (before p m l)) (λ i. record { world = record { memory = sym e i; heap = sym f i; rgsr = sym g i }; live = l }) (kept-same (before p m l) k)
+
+-- ---- a free or realloc that aborts leaves the world as it was
+
+freed-error : (w : World) (r : Result Found HeapAbort) (e : HeapAbort) → (freeing.freed_by w r).result ≡ Err e → (freeing.freed_by w r).world ≡ w
+freed-error w (Err a) e h = refl
+freed-error w (Ok f) e h = cc
+
+free-either : (b : Bool) (w : World) (x y : freeing.Freed) (e : HeapAbort) → (x.result ≡ Err e → x.world ≡ w) → (y.result ≡ Err e → y.world ≡ w) → (cond b x y).result ≡ Err e → (cond b x y).world ≡ w
+free-either true w x y e f g h = f h
+free-either false w x y e f g h = g h
+
+free-error : (w : World) (pointer : ℕ) (e : HeapAbort) → (free_of w pointer).result ≡ Err e → (free_of w pointer).world ≡ w
+unfolding free_of
+free-error w pointer e = free-either (pointer == 0) w _ (freeing.freed_by w (heap.found_at w pointer)) e (λ h. refl) (freed-error w (heap.found_at w pointer) e)
+
+reallocated-error : (w : World) (size : ℕ) (r : Result Found HeapAbort) (e : HeapAbort) → reallocation.answered (reallocation.reallocated_by w size r).result ≡ Err e → (reallocation.reallocated_by w size r).world ≡ w
+reallocated-error w size (Err a) e h = refl
+reallocated-error w size (Ok f) e h = cc
+
+realloc-either : (b : Bool) (w : World) (x y : reallocation.Reallocated) (e : HeapAbort) → (reallocation.answered x.result ≡ Err e → x.world ≡ w) → (reallocation.answered y.result ≡ Err e → y.world ≡ w)
+    → reallocation.answered (cond b x y).result ≡ Err e → (cond b x y).world ≡ w
+realloc-either true w x y e f g h = f h
+realloc-either false w x y e f g h = g h
+
+realloc-error : (w : World) (pointer size : ℕ) (e : HeapAbort) → reallocation.answered (realloc_of w pointer size).result ≡ Err e → (realloc_of w pointer size).world ≡ w
+unfolding realloc_of
+realloc-error w pointer size e = realloc-either (pointer == 0) w (reallocation.ended (malloc_of w size)) (reallocation.reallocated_by w size (heap.found_at w pointer)) e (λ h. cc) (reallocated-error w size (heap.found_at w pointer) e)
+
+abbrev of_world : World → Live → State
+of_world w l = record { world = w; live = l }
+
+freed-service : (p : TenantParts) (m : Memory) (l j : Live) (w : World) (r : Result (Unit {0}) HeapAbort) → ((e : HeapAbort) → r ≡ Err e → w ≡ world_of m p.heap p.regs.rgsr) → IsKeptOn (before p m l) (of_world w j) → IsKeptOn (before p m l) (after (freed_by p m w r) j)
+unfolding answered entered
+freed-service p m l j w (Err e) h k = subst (λ v. IsKeptOn (before p m l) (of_world v j)) (h e refl) k
+freed-service p m l j w (Ok done) h k = k
+
+found-service : (p : TenantParts) (m : Memory) (l j : Live) (service : HeapService) (second : ℕ) (w : World) (r : Result ℕ HeapAbort) → ((e : HeapAbort) → r ≡ Err e → w ≡ world_of m p.heap p.regs.rgsr) → IsKeptOn (before p m l) (of_world w j)
+    → IsKeptOn (before p m l) (after (found_by p m service second w r) j)
+unfolding answered entered
+found-service p m l j service second w (Err e) h k = subst (λ v. IsKeptOn (before p m l) (of_world v j)) (h e refl) k
+found-service p m l j service second w (Ok value) h k = k
+
+-- ---- the services, by number
+
+abbrev IsServiceKept : ℕ → TenantParts → Memory → Live → Type 0
+IsServiceKept n p m l = IsKeptOn (before p m l) (after (by_number n p m) (live_by (request_by n p) (before p m l)))
+
+malloc-service : (p : TenantParts) (m : Memory) (l : Live) → Sound (before p m l) → IsServiceKept 3 p m l
+unfolding malloc_by answered entered after_call
+malloc-service p m l k = call-kept (before p m l) (Malloc (x_of p 0)) k tt
+
+free-service : (p : TenantParts) (m : Memory) (l : Live) → Sound (before p m l) → heap.IsCareful (before p m l) (Free (x_of p 0)) → IsServiceKept 4 p m l
+unfolding free_by after_call
+free-service p m l k c =
+    let w = world_of m p.heap p.regs.rgsr in
+    let pointer = x_of p 0 in
+    freed-service p m l (heap.after_free (before p m l) pointer).live (free_of w pointer).world (free_of w pointer).result (free-error w pointer) (call-kept (before p m l) (Free pointer) k c)
+
+calloc-service : (p : TenantParts) (m : Memory) (l : Live) → Sound (before p m l) → IsServiceKept 5 p m l
+unfolding calloc_by answered entered after_call
+calloc-service p m l k = call-kept (before p m l) (Calloc (x_of p 0) (x_of p 1)) k tt
+
+memalign-service : (p : TenantParts) (m : Memory) (l : Live) → Sound (before p m l) → IsServiceKept 7 p m l
+unfolding memalign_by answered entered after_call
+memalign-service p m l k = call-kept (before p m l) (Memalign (x_of p 0) (x_of p 1)) k tt
+
+-- the world after a realloc is that of the call
+realloc-both : (b : Bool) (u v : State) (x y : reallocation.Reallocated) → u.world ≡ x.world → (b ≡ false → v.world ≡ y.world) → (cond b u v).world ≡ (cond b x y).world
+realloc-both true u v x y e f = e
+realloc-both false u v x y e f = f refl
+
+realloc-world-is : (s : State) (pointer size : ℕ) → (heap.after_realloc s pointer size).world ≡ (realloc_of s.world pointer size).world
+unfolding realloc_of
+realloc-world-is s pointer size =
+    realloc-both (pointer == 0) (heap.made origin.Malloc s.live (malloc_of s.world size)) _ (reallocation.ended (malloc_of s.world size)) (reallocation.reallocated_by s.world size (heap.found_at s.world pointer)) refl
+    (λ e. ap (λ (r : reallocation.Reallocated). r.world) (cond-false (pointer == 0) (reallocation.ended (malloc_of s.world size)) (reallocation.reallocated_by s.world size (heap.found_at s.world pointer)) e))
+
+realloc-state : (s : State) (pointer size : ℕ) → IsKeptOn s (heap.after_realloc s pointer size) → IsKeptOn s (of_world (realloc_of s.world pointer size).world (heap.after_realloc s pointer size).live)
+unfolding realloc_of
+realloc-state s pointer size k = subst (λ v. IsKeptOn s (of_world v (heap.after_realloc s pointer size).live)) (realloc-world-is s pointer size) k
+
+realloc-service : (p : TenantParts) (m : Memory) (l : Live) → Sound (before p m l) → heap.IsCareful (before p m l) (Realloc (x_of p 0) (x_of p 1)) → IsServiceKept 6 p m l
+unfolding realloc_by after_call
+realloc-service p m l k c =
+    let w = world_of m p.heap p.regs.rgsr in
+    let pointer = x_of p 0 in
+    let size = x_of p 1 in
+    let r = realloc_of w pointer size in
+    found-service p m l (heap.after_realloc (before p m l) pointer size).live calls.Realloc size r.world (reallocation.answered r.result) (realloc-error w pointer size)
+    (realloc-state (before p m l) pointer size (call-kept (before p m l) (Realloc pointer size) k c))
+
+-- ---- all services
+
+pick : (p : TenantParts) (m : Memory) (l : Live) (b : Bool) (x y : Served) → (b ≡ true → IsKeptOn (before p m l) (after x l)) → (b ≡ false → IsKeptOn (before p m l) (after y l)) → IsKeptOn (before p m l) (after (cond b x y) l)
+pick p m l true x y f g = f refl
+pick p m l false x y f g = g refl
+
+-- what a service that asks nothing of the heap leaves
+record IsOther (n : ℕ) : Type 0 where
+  malloc : n ≢ 3
+  free : n ≢ 4
+  calloc : n ≢ 5
+  realloc : n ≢ 6
+  memalign : n ≢ 7
+
+usable-kept : (p : TenantParts) (m : Memory) (l : Live) → Sound (before p m l) → IsKeptOn (before p m l) (after (usable_size_by p m) l)
+unfolding usable_size_by
+usable-kept p m l k = found-service p m l l calls.UsableSize 0 (world_of m p.heap p.regs.rgsr) (freeing.usable_size_of m p.heap (x_of p 0)) (λ e h. refl) (kept-same (before p m l) k)
+
+other-service : (n : ℕ) (p : TenantParts) (m : Memory) (l : Live) → IsOther n → Sound (before p m l) → IsKeptOn (before p m l) (after (by_number n p m) l)
+unfolding wrote read_in answered
+other-service n p m l o k =
+    let same = kept-same (before p m l) k in
+    pick p m l (n == 0) _ _ (λ e. same)
+    (λ e. pick p m l (n == 1) _ _ (λ f. wrote-kept p m l (write_count p) (read_fault m (x_of p 0) (write_count p) true) k)
+    (λ f. pick p m l (n == 2) _ _ (λ g. read-kept p m l (read_count p) (write_fault m (x_of p 0) (read_count p) true) k)
+    (λ g. pick p m l (n == 3) _ _ (λ h. absurd (o.malloc (eqb-true n 3 h)))
+    (λ h. pick p m l (n == 4) _ _ (λ i. absurd (o.free (eqb-true n 4 i)))
+    (λ i. pick p m l (n == 5) _ _ (λ j. absurd (o.calloc (eqb-true n 5 j)))
+    (λ j. pick p m l (n == 6) _ _ (λ q. absurd (o.realloc (eqb-true n 6 q)))
+    (λ q. pick p m l (n == 7) _ _ (λ r. absurd (o.memalign (eqb-true n 7 r)))
+    (λ r. pick p m l (n == 8) _ _ (λ s. usable-kept p m l k)
+    (λ s. pick p m l (n == 9) _ _ (λ t. same)
+    (λ t. pick p m l (n == 10) _ _ (λ u. same)
+    (λ u. pick p m l (n == 11) _ _ (λ v. same) (λ v. same))))))))))))
+
+off : (n k : ℕ) → n ≢ k → (n == k) ≡ false
+off n k h = grind (arith, nat_tests)
+
+no-request : (n : ℕ) (p : TenantParts) → IsOther n → request_by n p ≡ None
+no-request n p o =
+    let a : (n == 3) ≡ false = off n 3 o.malloc in
+    let b : (n == 4) ≡ false = off n 4 o.free in
+    let c : (n == 5) ≡ false = off n 5 o.calloc in
+    let d : (n == 6) ≡ false = off n 6 o.realloc in
+    let e : (n == 7) ≡ false = off n 7 o.memalign in
+    cond-false _ _ _ a ∙ cond-false _ _ _ b ∙ cond-false _ _ _ c ∙ cond-false _ _ _ d ∙ cond-false _ _ _ e
+
+abbrev MayServe : ℕ → TenantParts → Memory → Live → Type 0
+MayServe n p m l = (c : HeapRequest) → request_by n p ≡ Some c → heap.IsCareful (before p m l) c
+
+by-number : (n : ℕ) (p : TenantParts) (m : Memory) (l : Live) → Sound (before p m l) → MayServe n p m l → IsServiceKept n p m l
+by-number n p m l k = elim (cases_eq n 3) [
+  | inl e ↦ λ c. subst (λ t. IsServiceKept t p m l) (sym e) (malloc-service p m l k)
+  | inr a ↦ elim (cases_eq n 4) [
+    | inl e ↦ λ c. subst (λ t. IsServiceKept t p m l) (sym e) (free-service p m l k (subst (λ t. MayServe t p m l) e c (Free (x_of p 0)) refl))
+    | inr b ↦ elim (cases_eq n 5) [
+      | inl e ↦ λ c. subst (λ t. IsServiceKept t p m l) (sym e) (calloc-service p m l k)
+      | inr d ↦ elim (cases_eq n 6) [
+        | inl e ↦ λ c. subst (λ t. IsServiceKept t p m l) (sym e) (realloc-service p m l k (subst (λ t. MayServe t p m l) e c (Realloc (x_of p 0) (x_of p 1)) refl))
+        | inr f ↦ elim (cases_eq n 7) [
+          | inl e ↦ λ c. subst (λ t. IsServiceKept t p m l) (sym e) (memalign-service p m l k)
+          | inr g ↦ λ c.
+              let o : IsOther n = record { malloc = a; free = b; calloc = d; realloc = f; memalign = g } in
+              subst (λ r. IsKeptOn (before p m l) (after (by_number n p m) (live_by r (before p m l)))) (sym (no-request n p o)) (other-service n p m l o k)
+        ]
+      ]
+    ]
+  ]
+]
+
+-- ---- an attempted instruction
+
+-- the flag, the status and the counts are no part of the state
+ended-state : (e : SvcEnd) (k : Machine) (l : Live) → state_of k l ≡ state_of (after_service e k).machine l
+ended-state end.Go k l = refl
+ended-state end.EndSlice k l = refl
+ended-state (end.Exit code) k l = refl
+ended-state (end.Fault f) k l = refl
+ended-state (end.Abort a pointer) k l = refl
+
+served-kept : (p : TenantParts) (m : Memory) (l : Live) → Sound (before p m l) → MayServe (x_of p 8) p m l → IsKeptOn (before p m l) (state_of (with_service (served p m)).machine (live_by (request_by (x_of p 8) p) (before p m l)))
+unfolding served
+served-kept p m l k c =
+    let s = by_number (x_of p 8) p m in
+    let j = live_by (request_by (x_of p 8) p) (before p m l) in
+    subst (IsKeptOn (before p m l)) (ended-state s.end (machine_of s.parts s.memory) j) (by-number (x_of p 8) p m l k c)
+
+flag-kept : (b : Bool) (p : TenantParts) (m : Memory) (l : Live) → Sound (before p m l) → ((c : HeapRequest) → cond b None (request_by (x_of p 8) p) ≡ Some c → heap.IsCareful (before p m l) c)
+    → IsKeptOn (before p m l) (state_of (cond b (on (ended_by_tag (machine_of p m))) (with_service (served p m))).machine (live_by (cond b None (request_by (x_of p 8) p)) (before p m l)))
+flag-kept true p m l k c = kept-same (before p m l) k
+flag-kept false p m l k c = served-kept p m l k c
+
+met-kept : (o : Outcome) (p : TenantParts) (m : Memory) (l : Live) → Sound (before p m l) → ((c : HeapRequest) → request_at o (machine_of p m) ≡ Some c → heap.IsCareful (before p m l) c)
+    → IsKeptOn (before p m l) (state_of (met o (machine_of p m)).machine (live_by (request_at o (machine_of p m)) (before p m l)))
+unfolding met
+met-kept outcome.Next p m l k c = kept-same (before p m l) k
+met-kept outcome.Svc p m l k c = flag-kept m.state.pending p m l k c
+met-kept (outcome.Fault f) p m l k c = kept-same (before p m l) k
+met-kept (outcome.Illegal w) p m l k c = kept-same (before p m l) k
+met-kept (outcome.Breakpoint i) p m l k c = kept-same (before p m l) k
+
+-- an instruction that stores no tags
+pub step-quiet : (m : Machine) (l : Live) → next_stores_tags m.parts.regs m.memory ≡ false → Sound (state_of m l) → IsKeptOn (state_of m l) (state_of (stepped m) l)
+step-quiet m l tagless k =
+    let o = step_orderly m.parts.regs m.memory in
+    quiet-kept (state_of m l) (state_of (stepped m) l) k (record {
+      heap = refl;
+      live = refl;
+      limit = o.state.limit;
+      mode = o.state.mode;
+      attrs = o.state.attrs;
+      left = o.state.left;
+      tags = o.tags tagless;
+      whole = o.state.whole k.whole;
+    })
+
+-- the counts are no part of what is asked
+request-counted : (o : Outcome) (n : ℕ) (p : TenantParts) (m : Memory) → request_at o (machine_of p m) ≡ request_at o (machine_of (counted 1 n p) m)
+request-counted outcome.Next n p m = refl
+request-counted outcome.Svc n p m = refl
+request-counted (outcome.Fault f) n p m = refl
+request-counted (outcome.Illegal w) n p m = refl
+request-counted (outcome.Breakpoint i) n p m = refl
+
+pub attempted-kept : (n : ℕ) (m : Machine) (l : Live) → Sound (state_of m l) → IsCarefulNext m l → IsKeptOn (state_of m l) (state_of (attempted n m).machine (live_after m l))
+unfolding attempted live_after next_request
+attempted-kept n m l k c =
+    let o = (step_of m.parts.regs m.memory).outcome in
+    let memory = (step_of m.parts.regs m.memory).memory in
+    let q = with_regs m.parts (step_of m.parts.regs m.memory).regs in
+    let p = counted 1 n q in
+    let e : request_at o (machine_of q memory) ≡ request_at o (machine_of p memory) = request-counted o n q memory in
+    let first = step-quiet m l c.tags k in
+    let last = met-kept o p memory l first.sound (λ d f. c.request d (e ∙ f)) in
+    let then = subst (λ r. IsKeptOn (before p memory l) (state_of (met o (machine_of p memory)).machine (live_by r (before p memory l)))) (sym e) last in
+    record { sound = then.sound; stale = λ f st on. then.stale f (first.stale f st st.stacked) on }
+
+-- ---- what an instruction asks of the heap is what it leaves
+
+freed-is : (p : TenantParts) (m : Memory) (j : Live) (w : World) (r : Result (Unit {0}) HeapAbort) → ((e : HeapAbort) → r ≡ Err e → w ≡ world_of m p.heap p.regs.rgsr) → after (freed_by p m w r) j ≡ of_world w j
+unfolding answered entered
+freed-is p m j w (Err e) h = ap (λ v. of_world v j) (sym (h e refl))
+freed-is p m j w (Ok done) h = refl
+
+found-is : (p : TenantParts) (m : Memory) (j : Live) (service : HeapService) (second : ℕ) (w : World) (r : Result ℕ HeapAbort) → ((e : HeapAbort) → r ≡ Err e → w ≡ world_of m p.heap p.regs.rgsr) → after (found_by p m service second w r) j ≡ of_world w j
+unfolding answered entered
+found-is p m j service second w (Err e) h = ap (λ v. of_world v j) (sym (h e refl))
+found-is p m j service second w (Ok value) h = refl
+
+abbrev IsDone : ℕ → TenantParts → Memory → Live → HeapRequest → Type 0
+IsDone n p m l c = after (by_number n p m) (after_call c (before p m l)).live ≡ after_call c (before p m l)
+
+some-is : (c d : HeapRequest) → Some c ≡ Some d → c ≡ d
+some-is c d e = cc
+
+malloc-done : (p : TenantParts) (m : Memory) (l : Live) → IsDone 3 p m l (Malloc (x_of p 0))
+unfolding malloc_by answered entered after_call
+malloc-done p m l = refl
+
+free-done : (p : TenantParts) (m : Memory) (l : Live) → IsDone 4 p m l (Free (x_of p 0))
+unfolding free_by after_call
+free-done p m l =
+    let w = world_of m p.heap p.regs.rgsr in
+    freed-is p m (heap.after_free (before p m l) (x_of p 0)).live (free_of w (x_of p 0)).world (free_of w (x_of p 0)).result (free-error w (x_of p 0))
+
+calloc-done : (p : TenantParts) (m : Memory) (l : Live) → IsDone 5 p m l (Calloc (x_of p 0) (x_of p 1))
+unfolding calloc_by answered entered after_call
+calloc-done p m l = refl
+
+realloc-done : (p : TenantParts) (m : Memory) (l : Live) → IsDone 6 p m l (Realloc (x_of p 0) (x_of p 1))
+unfolding realloc_by after_call
+realloc-done p m l =
+    let w = world_of m p.heap p.regs.rgsr in
+    let s = before p m l in
+    let r = realloc_of w (x_of p 0) (x_of p 1) in
+    let j = (heap.after_realloc s (x_of p 0) (x_of p 1)).live in
+    found-is p m j calls.Realloc (x_of p 1) r.world (reallocation.answered r.result) (realloc-error w (x_of p 0) (x_of p 1))
+    ∙ ap (λ v. of_world v j) (sym (realloc-world-is s (x_of p 0) (x_of p 1)))
+
+memalign-done : (p : TenantParts) (m : Memory) (l : Live) → IsDone 7 p m l (Memalign (x_of p 0) (x_of p 1))
+unfolding memalign_by answered entered after_call
+memalign-done p m l = refl
+
+abbrev IsDoneFor : ℕ → TenantParts → Memory → Live → HeapRequest → Type 0
+IsDoneFor n p m l c = request_by n p ≡ Some c → IsDone n p m l c
+
+number-done : (n : ℕ) (p : TenantParts) (m : Memory) (l : Live) (c : HeapRequest) → IsDoneFor n p m l c
+number-done n p m l c = elim (cases_eq n 3) [
+  | inl e ↦ subst (λ t. IsDoneFor t p m l c) (sym e) (λ f. subst (IsDone 3 p m l) (some-is _ c f) (malloc-done p m l))
+  | inr a ↦ elim (cases_eq n 4) [
+    | inl e ↦ subst (λ t. IsDoneFor t p m l c) (sym e) (λ f. subst (IsDone 4 p m l) (some-is _ c f) (free-done p m l))
+    | inr b ↦ elim (cases_eq n 5) [
+      | inl e ↦ subst (λ t. IsDoneFor t p m l c) (sym e) (λ f. subst (IsDone 5 p m l) (some-is _ c f) (calloc-done p m l))
+      | inr d ↦ elim (cases_eq n 6) [
+        | inl e ↦ subst (λ t. IsDoneFor t p m l c) (sym e) (λ f. subst (IsDone 6 p m l) (some-is _ c f) (realloc-done p m l))
+        | inr g ↦ elim (cases_eq n 7) [
+          | inl e ↦ subst (λ t. IsDoneFor t p m l c) (sym e) (λ f. subst (IsDone 7 p m l) (some-is _ c f) (memalign-done p m l))
+          | inr h ↦ λ f.
+              let none = no-request n p (record { malloc = a; free = b; calloc = d; realloc = g; memalign = h }) in
+              let z : None ≡ Some c = sym none ∙ f in
+              cc
+        ]
+      ]
+    ]
+  ]
+]
+
+served-done : (p : TenantParts) (m : Memory) (l : Live) (c : HeapRequest) → request_by (x_of p 8) p ≡ Some c → state_of (with_service (served p m)).machine (after_call c (before p m l)).live ≡ after_call c (before p m l)
+unfolding served
+served-done p m l c e =
+    let s = by_number (x_of p 8) p m in
+    sym (ended-state s.end (machine_of s.parts s.memory) (after_call c (before p m l)).live) ∙ number-done (x_of p 8) p m l c e
+
+flag-done : (b : Bool) (p : TenantParts) (m : Memory) (l : Live) (c : HeapRequest) → cond b None (request_by (x_of p 8) p) ≡ Some c
+    → state_of (cond b (on (ended_by_tag (machine_of p m))) (with_service (served p m))).machine (after_call c (before p m l)).live ≡ after_call c (before p m l)
+flag-done true p m l c e = cc
+flag-done false p m l c e = served-done p m l c e
+
+met-done : (o : Outcome) (p : TenantParts) (m : Memory) (l : Live) (c : HeapRequest) → request_at o (machine_of p m) ≡ Some c → state_of (met o (machine_of p m)).machine (after_call c (before p m l)).live ≡ after_call c (before p m l)
+unfolding met
+met-done outcome.Next p m l c e = cc
+met-done outcome.Svc p m l c e = flag-done m.state.pending p m l c e
+met-done (outcome.Fault f) p m l c e = cc
+met-done (outcome.Illegal w) p m l c e = cc
+met-done (outcome.Breakpoint i) p m l c e = cc
+
+pub attempted-done : (n : ℕ) (m : Machine) (l : Live) (c : HeapRequest) → next_request m ≡ Some c → state_of (attempted n m).machine (live_after m l) ≡ after_call c (state_of (stepped m) l)
+unfolding attempted live_after next_request
+attempted-done n m l c e =
+    let o = (step_of m.parts.regs m.memory).outcome in
+    let memory = (step_of m.parts.regs m.memory).memory in
+    let q = with_regs m.parts (step_of m.parts.regs m.memory).regs in
+    let p = counted 1 n q in
+    let f : request_at o (machine_of p memory) ≡ Some c = sym (request-counted o n q memory) ∙ e in
+    ap (λ r. state_of (met o (machine_of p memory)).machine (live_by r (before p memory l))) e ∙ met-done o p memory l c f
+
+-- ---- a slice
+
+settled-by : (b : Bool) (m : Machine) (l : Live) → Sound (state_of m l) → Sound (state_of (cond b (ended_by_tag m) m) l)
+settled-by true m l k = k
+settled-by false m l k = k
+
+settled-sound : (m : Machine) (l : Live) → Sound (state_of m l) → Sound (state_of (settled m) l)
+unfolding settled
+settled-sound m l k =
+    let z : Machine = record m { parts = record m.parts { left = 0 } } in
+    settled-by (runs z && z.memory.state.pending) z l k
+
+states-by : (b : Bool) (m k : Machine) (l j : Live) → (b ≡ true → Sound (state_of m l)) → (b ≡ false → Sound (state_of k j)) → Sound (state_of (cond b m k) (cond b l j))
+states-by true m k l j f g = f refl
+states-by false m k l j f g = g refl
+
+attempts-sound : (n : ℕ) (m : Machine) (l : Live) → Sound (state_of m l) → IsCareful n m l → Sound (state_of (attempts n m) (live_through n m l))
+unfolding attempts live_through IsCareful
+attempts-sound zero m l k c = k
+attempts-sound (suc n) m l k c =
+    let a = attempted n m in
+    let j = live_after m l in
+    states-by (runs m) (cond a.goes_on (attempts n a.machine) a.machine) m (cond a.goes_on (live_through n a.machine j) j) l
+    (λ e.
+    let sound = (attempted-kept n m l k (c.0 e)).sound in
+    states-by a.goes_on (attempts n a.machine) a.machine (live_through n a.machine j) j (λ f. attempts-sound n a.machine j sound (c.1 e f)) (λ f. sound))
+    (λ e. k)
+
+pub advance-sound : (n : ℕ) (m : Machine) (l : Live) → Sound (state_of m l) → IsCareful n m l → Sound (state_of (advance n m) (live_through n m l))
+unfolding advance
+advance-sound n m l k c = settled-sound (attempts n m) (live_through n m l) (attempts-sound n m l k c)
+
+-- ---- instructions in turn
+
+pub steps-sound : {P : State → Type 0} {m k : Machine} {l j : Live} → Steps P m l k j → Sound (state_of m l) → Sound (state_of k j)
+steps-sound stop s = s
+steps-sound {P} (next {m = m} {k = k} {l = l} {j = j} n c p r) s = steps-sound r (attempted-kept n m l s c).sound
+
+pub steps-stale : (f : Freed) {m k : Machine} {l j : Live} → Steps (HasFree f.place.class f.place.block) m l k j → Sound (state_of m l) → IsStale m.memory m.parts.heap.stacks f → IsStale k.memory k.parts.heap.stacks f
+steps-stale f stop s st = st
+steps-stale f (next {m = m} {k = k} {l = l} {j = j} n c p r) s st = let h = attempted-kept n m l s c in steps-stale f r h.sound (h.stale f st p)

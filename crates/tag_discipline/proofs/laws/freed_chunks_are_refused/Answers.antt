@@ -1,0 +1,11 @@
+use Rattle.tag_discipline.proofs.Disciplines.{freed-stay, freed-blocks, freed-pages}
+use Rattle.tag_discipline.proofs.laws.freed_chunks_are_refused.Goals as goal
+
+pub returns-clause-blocks : goal.returns-clause-blocks
+returns-clause-blocks c = freed-blocks
+
+pub returns-clause-pages : goal.returns-clause-pages
+returns-clause-pages c = freed-pages
+
+pub returns-clause-instructions : goal.returns-clause-instructions
+returns-clause-instructions c = freed-stay

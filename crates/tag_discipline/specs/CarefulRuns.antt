@@ -1,0 +1,192 @@
+-- A heap and its live chunks through the calls of a tenant that stores no tags and leaves the
+-- headers of its chunks as the heap wrote them.
+--     after_call c s      the state after a heap call: the call's world, and the live chunks
+--     IsCareful s c       the pointer is one to a live chunk, whose header was not written
+--     IsQuiet a b         a step that changes no tag, as every other one of such a tenant
+--     Run P a b           steps from a to b, with P after each of them
+use Rattle.std.specs.Prelude.{◌≡◌, ◌≢◌, ℕ, ◌-◌, ◌==◌, ◌⊎◌, nat_le, true}
+use Rattle.std.specs.Prelude.{Option, Some, None, Result, Ok, Err, if◌then◌else◌}
+use Rattle.std.specs.Int.{to_le_bytes, w64}
+use Rattle.a64_bits.specs.Addresses.{plain}
+use Rattle.mte_tags.specs.Memory.{tag_at, attrs_at, pages_left}
+use Rattle.mte_tags.specs.Accesses.{read_bytes}
+use Rattle.mte_tags.specs.Whole.{IsWhole}
+use Rattle.scudo_header.specs.Headers.{packed}
+use Rattle.scudo_header.specs.declared.headers.Header.{Header}
+use Rattle.scudo_header.specs.declared.headers.Origin.{Origin}
+use Rattle.scudo_header.specs.declared.headers.Origin.TheVariants as origin
+use Rattle.scudo_primary.specs.Pools.{is_member}
+use Rattle.scudo_heap.specs.declared.abort.HeapAbort.{HeapAbort}
+use Rattle.scudo_heap.specs.declared.limits.TheConstants.{MAX_REQUEST}
+use Rattle.scudo_heap.specs.declared.chunk.Place.{Place}
+use Rattle.scudo_heap.specs.declared.chunk.Chunk.{Chunk}
+use Rattle.scudo_heap.specs.declared.chunk.Chunk.TheVariants.{Small, Large}
+use Rattle.scudo_heap.specs.declared.chunk.Found.{Found}
+use Rattle.scudo_heap.specs.declared.chunk.Found.TheVariants.{InBlock, InPages}
+use Rattle.scudo_heap.specs.Stacks.{stack_of}
+use Rattle.scudo_heap.specs.Chunks.{end_of, block_end, with_size}
+use Rattle.scudo_heap.specs.Placing.{World}
+use Rattle.scudo_heap.specs.Allocation.{Made, malloc_of, calloc_of, memalign_of}
+use Rattle.scudo_heap.specs.Checks.{found}
+use Rattle.scudo_heap.specs.Freeing.{free_of}
+use Rattle.scudo_heap.specs.Realloc.{realloc_of}
+use Rattle.tag_discipline.specs.LiveChunks.{BlockChunk, LiveBlocks, chunk_at, with_chunk}
+use Rattle.tag_discipline.specs.LiveChunks.{without_chunk, new_chunk}
+use Rattle.tag_discipline.specs.LivePages.{PageChunk, LivePages, large_at, with_large}
+use Rattle.tag_discipline.specs.LivePages.{without_large, new_large}
+
+pub record Live : Type 0 where
+  pub blocks : LiveBlocks
+  pub pages : LivePages
+
+pub record State : Type 0 where
+  pub world : World
+  pub live : Live
+
+-- ---- the live chunks after a call
+
+-- The chunk that a call made is one more.
+abbrev pub listed : Origin → Live → Option Chunk → Live
+listed o l None = l
+listed o l (Some (Small p tag)) =
+    record l { blocks = with_chunk l.blocks (new_chunk o p tag) }
+listed o l (Some (Large m size)) =
+    record l { pages = with_large l.pages (new_large o m size) }
+
+-- The chunk that a pointer named is one no more.
+abbrev pub delisted : Live → Found → Live
+delisted l (InBlock p header) = record l { blocks = without_chunk l.blocks p.user }
+delisted l (InPages m header) = record l { pages = without_large l.pages m.user }
+
+abbrev pub delisted_by : Live → Result Found HeapAbort → Live
+delisted_by l (Err e) = l
+delisted_by l (Ok f) = delisted l f
+
+-- A new chunk is in the place of the old one.
+abbrev pub moved_to : Live → Found → Option Chunk → Live
+moved_to l f None = l
+moved_to l f (Some x) = delisted (listed origin.Malloc l (Some x)) f
+
+-- The chunk in its block, with another size.
+abbrev pub with_size_of : Header → ℕ → Header
+with_size_of header size = record header { size_or_unused_bytes = size }
+
+abbrev pub resized_in : World → Live → Place → Header → ℕ → Live
+resized_in w l p header size = record l {
+  blocks = with_chunk l.blocks (record {
+    place = with_size p size;
+    tag = tag_at w.memory p.user;
+    header = with_size_of header size;
+  });
+}
+
+abbrev pub replaced : World → Live → Found → ℕ → Live
+replaced w l (InBlock p header) size =
+    if nat_le (end_of (with_size p size)) (block_end p)
+    then resized_in w l p header size
+    else moved_to l (InBlock p header) (malloc_of w size).chunk
+replaced w l (InPages m header) size = moved_to l (InPages m header) (malloc_of w size).chunk
+
+abbrev pub relisted : World → Live → Found → ℕ → Live
+relisted w l f size = if size == 0
+    then delisted l f
+    else (if nat_le size MAX_REQUEST then replaced w l f size else l)
+
+abbrev pub relisted_by : World → Live → ℕ → Result Found HeapAbort → Live
+relisted_by w l size (Err e) = l
+relisted_by w l size (Ok f) = relisted w l f size
+
+-- ---- calls
+
+pub data HeapRequest : Type 0 where
+  Malloc : ℕ → HeapRequest
+  Calloc : ℕ → ℕ → HeapRequest
+  Memalign : ℕ → ℕ → HeapRequest
+  Realloc : ℕ → ℕ → HeapRequest
+  Free : ℕ → HeapRequest
+
+abbrev pub found_at : World → ℕ → Result Found HeapAbort
+found_at w pointer = found w.memory w.heap (plain pointer)
+
+abbrev pub made : Origin → Live → Made → State
+made o l m = record { world = m.world; live = listed o l m.chunk }
+
+abbrev pub after_realloc : State → ℕ → ℕ → State
+after_realloc s pointer size = if pointer == 0
+    then made origin.Malloc s.live (malloc_of s.world size)
+    else record {
+      world = (realloc_of s.world pointer size).world;
+      live = relisted_by s.world s.live size (found_at s.world pointer);
+    }
+
+abbrev pub after_free : State → ℕ → State
+after_free s pointer = record {
+  world = (free_of s.world pointer).world;
+  live = if pointer == 0 then s.live else delisted_by s.live (found_at s.world pointer);
+}
+
+unfoldable pub after_call : HeapRequest → State → State
+after_call (Malloc size) s = made origin.Malloc s.live (malloc_of s.world size)
+after_call (Calloc count size) s = made origin.Malloc s.live (calloc_of s.world count size)
+after_call (Memalign align size) s =
+    made origin.Memalign s.live (memalign_of s.world align size)
+after_call (Realloc pointer size) s = after_realloc s pointer size
+after_call (Free pointer) s = after_free s pointer
+
+-- ---- careful calls
+
+-- The header of the chunk at a user address is the one that the heap wrote.
+abbrev pub HasHeader : World → ℕ → Header → Type 0
+HasHeader w user header =
+    read_bytes w.memory (user - 16) 8 ≡ to_le_bytes w64 (packed w.heap.cookie user header)
+
+pub record IsLiveBlock (s : State) (user : ℕ) (x : BlockChunk) : Type 0 where
+  pub live : chunk_at s.live.blocks user ≡ Some x
+  pub header : HasHeader s.world user x.header
+
+pub record IsLiveLarge (s : State) (user : ℕ) (x : PageChunk) : Type 0 where
+  pub live : large_at s.live.pages user ≡ Some x
+  pub header : HasHeader s.world user x.header
+
+abbrev pub IsLive : State → ℕ → Type 0
+IsLive s user =
+    ((x : BlockChunk) × IsLiveBlock s user x) ⊎ ((x : PageChunk) × IsLiveLarge s user x)
+
+-- Where the checks of a pointer pass, it is one to a live chunk.
+abbrev pub IsPointerTo : State → ℕ → Type 0
+IsPointerTo s pointer =
+    pointer ≢ 0 → (f : Found) → found_at s.world pointer ≡ Ok f → IsLive s (plain pointer)
+
+abbrev pub IsCareful : State → HeapRequest → Type 0
+IsCareful s (Malloc size) = Unit {0}
+IsCareful s (Calloc count size) = Unit {0}
+IsCareful s (Memalign align size) = Unit {0}
+IsCareful s (Realloc pointer size) = IsPointerTo s pointer
+IsCareful s (Free pointer) = IsPointerTo s pointer
+
+-- ---- runs
+
+-- A step that changes no tag and no page: every instruction but those that store tags, and every
+-- service but the heap's calls.
+pub record IsQuiet (a b : State) : Type 0 where
+  pub heap : b.world.heap ≡ a.world.heap
+  pub live : b.live ≡ a.live
+  pub limit : b.world.memory.limit ≡ a.world.memory.limit
+  pub mode : b.world.memory.state.mode ≡ a.world.memory.state.mode
+  pub attrs : (q : ℕ) → attrs_at b.world.memory q ≡ attrs_at a.world.memory q
+  pub left : pages_left b.world.memory ≡ pages_left a.world.memory
+  pub tags : (x : ℕ) → tag_at b.world.memory x ≡ tag_at a.world.memory x
+  pub whole : IsWhole b.world.memory
+
+pub data Step (a b : State) : Type 0 where
+  quiet : IsQuiet a b → Step a b
+  call : (c : HeapRequest) → IsCareful a c → b ≡ after_call c a → Step a b
+
+-- Steps whose states after each all have P.
+pub data Run (P : State → Type 0) : State → State → Type 0 where
+  stop : {a : State} → Run P a a
+  next : {a b c : State} → Step a b → P b → Run P b c → Run P a c
+
+-- A block is free: no allocation has taken it.
+abbrev pub HasFree : ℕ → ℕ → State → Type 0
+HasFree class block s = is_member (stack_of s.world.heap.stacks class) block ≡ true

@@ -1,0 +1,162 @@
+-- The tag discipline of careful runs, in the synchronous mode.
+use Rattle.std.specs.Prelude.{◌≡◌, ◌≢◌, ℕ, ◌+◌, ◌/◌, ◌%◌, ◌^◌, ◌<◌, ◌≤◌, ◌⊎◌, Bool}
+use Rattle.std.specs.Prelude.{Some, None, IsSome}
+use Rattle.std.specs.FinMap as finite
+use Rattle.a64_bits.specs.Addresses.{plain}
+use Rattle.mte_tags.specs.Memory.{Memory, attrs_at, tag_at}
+use Rattle.mte_tags.specs.Accesses.{read_fault, write_fault}
+use Rattle.mte_tags.specs.declared.generator.Rgsr.{Rgsr}
+use Rattle.mte_tags.specs.declared.state.TagMode.TheVariants.{Sync}
+use Rattle.mte_tags.specs.Whole.{IsWhole}
+use Rattle.address_map.specs.declared.limits.TheConstants.{MAX_PAGES}
+use Rattle.scudo_secondary.specs.Mappings as secondary
+use Rattle.scudo_heap.specs.declared.chunk.Place.{Place}
+use Rattle.scudo_heap.specs.declared.chunk.Chunk.TheVariants.{Small}
+use Rattle.scudo_heap.specs.Heaps.{empty_heap}
+use Rattle.scudo_heap.specs.Chunks.{end_of}
+use Rattle.scudo_heap.specs.Placing.{world_of}
+use Rattle.scudo_heap.specs.Allocation.{Made, malloc_of, calloc_of, memalign_of}
+use Rattle.scudo_heap.specs.Served.{IsUntouched}
+use Rattle.mte_sched.specs.Machines.{Machine, attempted, advance}
+use Rattle.tag_discipline.specs.LiveChunks.{BlockChunk, chunk_at}
+use Rattle.tag_discipline.specs.LivePages.{PageChunk, large_at}
+use Rattle.tag_discipline.specs.Laws.{Freed, IsStale, IsRefused, AreNeighbours}
+use Rattle.tag_discipline.specs.CarefulRuns.{State, Live, HeapRequest, Realloc, Free, after_call}
+use Rattle.tag_discipline.specs.CarefulRuns.{IsLiveBlock, IsLiveLarge, Run, HasFree}
+use Rattle.tag_discipline.specs.CarefulTenants.{state_of, stepped, next_request, live_after}
+use Rattle.tag_discipline.specs.CarefulTenants.{live_through, IsCarefulNext, IsCareful, Steps}
+use Rattle.tag_discipline.specs.SoundHeaps.{Sound}
+
+-- ---- what holds from the start on
+
+abbrev pub no_chunks : Live
+no_chunks = record { blocks = finite.empty; pages = finite.empty }
+
+-- A new heap and a memory that it may be used with.
+pub record IsNew (m : Memory) (pages : ℕ) : Type 0 where
+  pub whole : IsWhole m
+  pub sync : m.state.mode ≡ Sync
+  pub limit : m.limit ≤ pages
+  pub most : pages ≤ MAX_PAGES
+  pub untouched : IsUntouched m
+
+abbrev pub StartsSound : Type 0
+StartsSound =
+    (m : Memory) (cookie pages : ℕ) (r : Rgsr) → IsNew m pages
+    → Sound (record { world = world_of m (empty_heap cookie pages) r; live = no_chunks })
+
+abbrev pub StaysSound : Type 0
+StaysSound = (a b : State) → Run (λ s. Unit {0}) a b → Sound a → Sound b
+
+-- ---- a freed chunk
+
+-- The call is one that may free the chunk that a pointer names.
+abbrev pub MayFree : ℕ → HeapRequest → Type 0
+MayFree pointer c = (c ≡ Free pointer) ⊎ ((size : ℕ) × (c ≡ Realloc pointer size))
+
+-- From the call that freed a chunk of a size class until an allocation takes its block, each
+-- checked access through the pointer to it that touches one of its granules faults.
+abbrev pub FreedBlocksAreRefused : Type 0
+FreedBlocksAreRefused =
+    (a b : State) (pointer addr : ℕ) (c : HeapRequest) (x : BlockChunk)
+    → Sound a → pointer ≢ 0 → IsLiveBlock a (plain pointer) x → MayFree pointer c
+    → HasFree x.place.class x.place.block (after_call c a)
+    → Run (HasFree x.place.class x.place.block) (after_call c a) b
+    → x.place.user ≤ addr → addr < end_of x.place → IsRefused b.world.memory x.tag addr
+
+-- Each access that touches an address faults, checked or not.
+abbrev pub IsUnmapped : Memory → ℕ → Type 0
+IsUnmapped m a =
+    (pointer n i : ℕ) (check : Bool) → i < n → (plain pointer + i) % 2 ^ 56 ≡ a
+    → IsSome (read_fault m pointer n check) × IsSome (write_fault m pointer n check)
+
+-- After the free of a chunk with pages of its own no page of them is mapped, and as long as one is
+-- not, each access to it faults.
+pub record FreedPagesAreUnmapped : Type 0 where
+  pub gone :
+      (a : State) (pointer addr : ℕ) (x : PageChunk)
+      → Sound a → pointer ≢ 0 → IsLiveLarge a (plain pointer) x
+      → x.mapping.start ≤ addr → addr < secondary.end_of x.mapping
+      → attrs_at (after_call (Free pointer) a).world.memory (addr / 4096) ≡ None
+  pub refused :
+      (m : Memory) (addr : ℕ)
+      → m.state.mode ≡ Sync → attrs_at m (addr / 4096) ≡ None → IsUnmapped m addr
+
+-- ---- a new chunk
+
+-- A new chunk of a size class has a tag other than 0 and other than the one that was there; where a
+-- freed chunk was there, other than the one that its free gave.
+pub record IsFreshIn (s : State) (r : Made) : Type 0 where
+  pub some : (p : Place) (t : ℕ) → r.chunk ≡ Some (Small p t) → t ≢ 0
+  pub other :
+      (p : Place) (t : ℕ) → r.chunk ≡ Some (Small p t) → t ≢ tag_at s.world.memory p.user
+  pub reused :
+      (p : Place) (t : ℕ) (f : Freed) → r.chunk ≡ Some (Small p t)
+      → IsStale s.world.memory s.world.heap.stacks f → p.user ≡ f.place.user → t ≢ f.given
+
+pub record NewTagsDiffer : Type 0 where
+  pub malloc : (s : State) (size : ℕ) → Sound s → IsFreshIn s (malloc_of s.world size)
+  pub calloc :
+      (s : State) (count size : ℕ) → Sound s → IsFreshIn s (calloc_of s.world count size)
+  pub memalign :
+      (s : State) (align size : ℕ) → Sound s → IsFreshIn s (memalign_of s.world align size)
+
+-- ---- live chunks
+
+-- Two live chunks in neighbouring blocks of a class have different tags, so each checked access
+-- through the pointer to one of them that touches a granule of the other faults.
+abbrev pub NeighboursDiffer : Type 0
+NeighboursDiffer =
+    (s : State) (u v : ℕ) (x y : BlockChunk) → Sound s
+    → chunk_at s.live.blocks u ≡ Some x → chunk_at s.live.blocks v ≡ Some y
+    → AreNeighbours x.place y.place
+    → (x.tag ≢ y.tag)
+    × ((addr : ℕ) → y.place.user ≤ addr → addr < end_of y.place
+    → IsRefused s.world.memory x.tag addr)
+
+-- No two live chunks overlap, each with the granule of its header.
+pub record ChunksAreApart : Type 0 where
+  pub blocks :
+      (s : State) (u v : ℕ) (x y : BlockChunk) → Sound s
+      → chunk_at s.live.blocks u ≡ Some x → chunk_at s.live.blocks v ≡ Some y → u ≢ v
+      → (end_of x.place + 16 ≤ y.place.user) ⊎ (end_of y.place + 16 ≤ x.place.user)
+  pub pages :
+      (s : State) (u v : ℕ) (x y : PageChunk) → Sound s
+      → large_at s.live.pages u ≡ Some x → large_at s.live.pages v ≡ Some y → u ≢ v
+      → (u + x.size + 16 ≤ v) ⊎ (v + y.size + 16 ≤ u)
+  pub both :
+      (s : State) (u v : ℕ) (x : BlockChunk) (y : PageChunk) → Sound s
+      → chunk_at s.live.blocks u ≡ Some x → large_at s.live.pages v ≡ Some y
+      → end_of x.place + 16 ≤ v
+
+-- Each checked access through the pointer to a live chunk of a size class that touches the granule
+-- just before or just after its granules faults.
+pub record ChunksAreGuarded : Type 0 where
+  pub before :
+      (s : State) (u addr : ℕ) (x : BlockChunk) → Sound s → chunk_at s.live.blocks u ≡ Some x
+      → x.place.user ≤ addr + 16 → addr < x.place.user → IsRefused s.world.memory x.tag addr
+  pub after :
+      (s : State) (u addr : ℕ) (x : BlockChunk) → Sound s → chunk_at s.live.blocks u ≡ Some x
+      → end_of x.place ≤ addr → addr < end_of x.place + 16
+      → IsRefused s.world.memory x.tag addr
+
+-- ---- runs of a tenant's machine
+
+-- Careful instructions of a slice, and its end, keep what the other laws stand on.
+abbrev pub SlicesStaySound : Type 0
+SlicesStaySound =
+    (n : ℕ) (m : Machine) (l : Live) → Sound (state_of m l) → IsCareful n m l
+    → Sound (state_of (advance n m) (live_through n m l))
+
+-- From the service that freed a chunk of a size class until an allocation takes its block, each
+-- checked access through the pointer to it that touches one of its granules faults, whatever
+-- careful instructions come between.
+abbrev pub FreedBlocksStayRefused : Type 0
+FreedBlocksStayRefused =
+    (m k : Machine) (l j : Live) (n pointer addr : ℕ) (c : HeapRequest) (x : BlockChunk)
+    → Sound (state_of m l) → IsCarefulNext m l
+    → next_request m ≡ Some c → MayFree pointer c → pointer ≢ 0
+    → IsLiveBlock (state_of (stepped m) l) (plain pointer) x
+    → HasFree x.place.class x.place.block (state_of (attempted n m).machine (live_after m l))
+    → Steps (HasFree x.place.class x.place.block) (attempted n m).machine (live_after m l) k j
+    → x.place.user ≤ addr → addr < end_of x.place → IsRefused k.memory x.tag addr

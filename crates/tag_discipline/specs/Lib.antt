@@ -1,0 +1,7 @@
+pub mod LiveChunks
+pub mod LivePages
+pub mod Laws
+pub mod CarefulRuns
+pub mod CarefulTenants
+pub mod SoundHeaps
+pub mod Discipline

@@ -1,0 +1,9 @@
+//! What tags do for a tenant that stores none itself and leaves the headers of its heap unwritten.
+#![tactic(auto)]
+
+mod laws;
+
+pub use laws::{
+    careful_runs_are_sound, chunks_are_apart, chunks_are_guarded, freed_chunks_are_refused,
+    neighbours_differ, new_tags_differ,
+};
