@@ -1,7 +1,8 @@
 //! Short programs over a plain memory, through `a64_step`.
 
 use a64_step::{Decoder, Outcome, Regs, Stop, run, step, steps_keep_tag_mode, steps_keep_tags};
-use mte_tags::{Attrs, FaultKind, Flat, MemFault, Paged, Rgsr, TagMode, Tagged};
+use mte_flat::Flat;
+use mte_tags::{Attrs, FaultKind, MemFault, Paged, Rgsr, TagMode, Tagged};
 use std::alloc::Global;
 use std::test::Fail;
 

@@ -29,7 +29,8 @@ use a64_step::{Decoder, Outcome, run};
 use anyhow::{Result, bail};
 use case::{Case, Pages};
 use line::{Line, parse};
-use mte_tags::{Flat, TagMode};
+use mte_flat::Flat;
+use mte_tags::TagMode;
 use std::alloc::{AllocError, Global};
 use std::io::{BufRead, BufReader};
 

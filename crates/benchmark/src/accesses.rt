@@ -3,7 +3,8 @@
 ghost use Rattle.std.specs.Prelude.{◌≡◌, IfSome, length};
 
 use crate::measured::Batch;
-use mte_tags::{Flat, Tagged};
+use mte_flat::Flat;
+use mte_tags::Tagged;
 
 /// A checked load of 8 bytes at each address, `None` where one is refused.
 pub fn load_each(memory: &mut Flat, addresses: &[u64]) -> Option<Batch>

@@ -9,7 +9,8 @@ use crate::programs::{ALU, MEMORY, SERVICES, run_on, start};
 use crate::workload::Workload;
 use a64_step::{Decoder, Regs};
 use anyhow::{Result, bail};
-use mte_tags::{Attrs, Flat, Paged, TagMode, Tagged, with_tag};
+use mte_flat::Flat;
+use mte_tags::{Attrs, Paged, TagMode, Tagged, with_tag};
 use std::alloc::{AllocError, Global};
 
 /// The page of the programs, by its address and by its number.

@@ -4,7 +4,7 @@ ghost use Rattle.std.specs.Prelude.{◌≡◌, IfSome};
 
 use crate::measured::Batch;
 use a64_step::{Decoder, Outcome, Regs, run};
-use mte_tags::Flat;
+use mte_flat::Flat;
 
 /// A loop of instructions between registers (assembled by llvm-mc).
 pub const ALU: [u32; 16] = [

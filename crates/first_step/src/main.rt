@@ -5,7 +5,8 @@
 use a64_decode::decode;
 use a64_step::{Regs, step};
 use anyhow::{Result, bail};
-use mte_tags::{Attrs, Flat, Paged, TagMode, Tagged};
+use mte_flat::Flat;
+use mte_tags::{Attrs, Paged, TagMode, Tagged};
 
 /// `add x0, x0, #1`
 const WORD: u32 = 0x9100_0400;

@@ -5,7 +5,7 @@ use Rattle.std.specs.Prelude.{option_map, IfSome}
 use Rattle.std.specs.FinMap as finite
 use Rattle.std.proofs.lemmas.List.{length-replicate}
 use Rattle.mte_tags.specs.Memory.{Memory, page_at, with_page, with_granules}
-use Rattle.mte_tags.specs.Slots.{spliced}
+use Rattle.mte_tags.specs.Runs.{spliced}
 use Rattle.mte_tags.proofs.PageRuns.{spliced_is}
 use Rattle.mte_tags.proofs.FoundPages.{page_retagged}
 use Rattle.mte_tags.specs.declared.attrs.Attrs.{Attrs}

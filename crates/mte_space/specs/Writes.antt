@@ -1,7 +1,7 @@
 -- What a write to a page does to the frame that holds it.
 use Rattle.std.specs.Prelude.{ℕ, ◌+◌, ◌*◌, ◌%◌, Bool, List, ◌++◌, take, drop, replicate, slice_set}
 use Rattle.std.specs.Prelude.{Option, Some, None, if◌then◌else◌}
-use Rattle.mte_tags.specs.Slots.{spliced}
+use Rattle.mte_tags.specs.Runs.{spliced}
 use Rattle.mte_tags.specs.declared.attrs.Attrs.{Attrs}
 use Rattle.mte_arena.specs.Frames.{Frame, make_frame, frame_at, with_run}
 use Rattle.mte_frames.specs.Pool.{Pool, make_pool}

@@ -2,7 +2,7 @@
 
 ghost use Rattle.std.specs.Prelude.{◌≡◌, ℕ, ◌+◌, ◌*◌, ◌%◌, ◌<◌, ◌≤◌, length};
 ghost use Rattle.mte_frames.specs.Pool.{IsOut, IsTaken, KeepsOthers};
-ghost use Rattle.mte_tags.specs.Slots.{spliced};
+ghost use Rattle.mte_tags.specs.Runs.{spliced};
 ghost use Rattle.mte_arena.specs.Frames.{frame_at, make_frame};
 ghost use Rattle.mte_space.specs.Writes.{with_frame, retagged_frame};
 

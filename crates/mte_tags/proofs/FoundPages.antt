@@ -1,5 +1,5 @@
 -- What an access is in the page that was found for it, in whatever memory that has this page.
-use Rattle.std.proofs.Common.{◌≡◌, ℕ, ◌+◌, ◌-◌, ◌*◌, ◌/◌, ◌%◌, ◌^◌, ◌<◌, ◌≤◌, Bool, Option, Some, None, is_none, Ok, Err, List, length, take, drop, true, false, refl, sym, ap, ◌∙◌, arith, eq-eqb}
+use Rattle.std.proofs.Common.{◌≡◌, ℕ, ◌+◌, ◌-◌, ◌*◌, ◌/◌, ◌%◌, ◌^◌, ◌<◌, ◌≤◌, Bool, Option, Some, None, is_none, Err, List, length, take, drop, true, false, refl, sym, ap, ◌∙◌, arith, eq-eqb}
 use Rattle.std.proofs.lemmas.Bool.{cond-true}
 use Rattle.std.proofs.lemmas.List.{length-take}
 use Rattle.std.specs.Int.{from_le_bytes, w32}
@@ -8,7 +8,7 @@ use Rattle.std.specs.List.{range_with_len, slice_range}
 use Rattle.mte_tags.specs.Memory.{Memory, Page, page_at, with_page, tag_at, tag_in, with_granules}
 use Rattle.mte_tags.specs.declared.fault.FaultKind.TheVariants.{Translation}
 use Rattle.mte_tags.specs.Accesses.{addresses, granules, byte_fault, first_fault, fault, fault_in, bytes_at, with_bytes, fetched, fetched_by, fetch_access, word_at, read_bytes}
-use Rattle.mte_tags.specs.Slots.{spliced, first_in, retagged}
+use Rattle.mte_tags.specs.Runs.{spliced, first_in, retagged}
 use Rattle.mte_tags.specs.declared.access.Access.{Access}
 use Rattle.mte_tags.specs.declared.fault.MemFault.{MemFault}
 use Rattle.mte_tags.proofs.AddressLists.{addresses_in_page}

@@ -14,5 +14,3 @@ pub mod GranuleLists
 pub mod PageRuns
 pub mod TagRuns
 pub mod FoundPages
-mod Places
-mod Found

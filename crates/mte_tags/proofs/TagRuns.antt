@@ -4,7 +4,7 @@ use Rattle.std.proofs.lemmas.List.{length-take-le, length-append, length-drop, l
 use Rattle.std.proofs.lemmas.Slice.{drop-append-drop}
 use Rattle.std.proofs.Math.Seq.{take-append_seam}
 use Rattle.mte_tags.specs.Memory.{Memory, Page, page_at, with_page, zeroed, with_granule_in, with_granule, with_granules}
-use Rattle.mte_tags.specs.Slots.{spliced, retagged}
+use Rattle.mte_tags.specs.Runs.{spliced, retagged}
 use Rattle.mte_tags.proofs.Pages.{with_page_twice, with_page_kept, page_at-with_page_same}
 
 pub page_parts : (p : Page) (bytes tags : List ℕ) → p.bytes ≡ bytes → p.tags ≡ tags → p ≡ record { attrs = p.attrs; bytes = bytes; tags = tags }

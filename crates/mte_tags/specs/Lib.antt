@@ -3,5 +3,4 @@ pub mod Whole
 pub mod Accesses
 pub mod TagChoice
 pub mod RandomTags
-pub mod Slots
-pub mod FlatMemory
+pub mod Runs

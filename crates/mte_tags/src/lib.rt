@@ -1,12 +1,11 @@
 //! Tagged memory as FEAT_MTE2 has it: allocation tags, their choice and their generator, what a
-//! memory of tagged granules means, and a plain memory that keeps its pages in one list.
+//! memory of tagged granules means, and its accesses, made of what is done within one page.
 #![tactic(auto)]
 
 mod access;
 mod attrs;
 mod by_page;
 mod fault;
-mod flat;
 mod generator;
 mod laws;
 mod page;
@@ -19,7 +18,6 @@ pub use access::Access;
 pub use attrs::Attrs;
 pub use by_page::replace_bytes;
 pub use fault::{FaultKind, MemFault};
-pub use flat::Flat;
 pub use generator::Rgsr;
 pub use laws::{flag_stays_in_sync, mode_stays, no_tag_check_in_async, pages_after_calls};
 pub use page::{

@@ -5,7 +5,7 @@ ghost use Rattle.std.specs.Prelude.{true, Some, IsTrue, is_none, length, slice_i
 ghost use Rattle.std.specs.List.{All, range_with_len};
 ghost use Rattle.std.specs.Int.{from_le_bytes, w32};
 ghost use Rattle.mte_tags.specs.Memory.{Page, has, tag_in};
-ghost use Rattle.mte_tags.specs.Slots.{first_in, spliced};
+ghost use Rattle.mte_tags.specs.Runs.{first_in, spliced};
 
 use crate::access::Access;
 use crate::attrs::Attrs;

@@ -1,7 +1,8 @@
 //! Images of worked values, their refusals, and what they make of a memory.
 
 use mte_elf::{ElfError, load, plan};
-use mte_tags::{Flat, Paged, TagMode, Tagged};
+use mte_flat::Flat;
+use mte_tags::{Paged, TagMode, Tagged};
 use std::alloc::{AllocError, Global};
 use std::test::Fail;
 

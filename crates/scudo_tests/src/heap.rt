@@ -4,7 +4,8 @@
 ghost use Rattle.std.specs.Prelude.{◌<◌, ◌≤◌, ◌^◌, IfOk};
 ghost use Rattle.scudo_heap.specs.Served.{IsServed};
 
-use mte_tags::{Flat, Rgsr, TagMode, Tagged};
+use mte_flat::Flat;
+use mte_tags::{Rgsr, TagMode, Tagged};
 use scudo_header::{Header, Origin, State, pack, unpack};
 use scudo_heap::{Heap, HeapAbort, condition_of_calls};
 use std::alloc::Global;

@@ -4,7 +4,8 @@ ghost use Rattle.std.specs.Prelude.{◌≡◌, ◌+◌, ◌*◌, ◌<◌, ◌≤
 ghost use Rattle.scudo_heap.specs.Served.{IsServed};
 
 use crate::heap::{fresh, large};
-use mte_tags::{Flat, Rgsr, TagMode};
+use mte_flat::Flat;
+use mte_tags::{Rgsr, TagMode};
 use scudo_heap::Heap;
 use std::test::Fail;
 

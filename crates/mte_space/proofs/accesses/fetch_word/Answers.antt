@@ -3,7 +3,7 @@ use Rattle.std.specs.List.{range_with_len, slice_range}
 use Rattle.std.specs.Int.{from_le_bytes, w32}
 use Rattle.mte_tags.specs.Memory.{Page, page_at}
 use Rattle.mte_tags.specs.Accesses.{fetched_by}
-use Rattle.mte_tags.specs.Slots.{first_in}
+use Rattle.mte_tags.specs.Runs.{first_in}
 use Rattle.mte_tags.proofs.FoundPages.{fetch_missing, page_fetched, page_word}
 use Rattle.mte_space.specs.Spaces.{page_of}
 use Rattle.mte_space.proofs.accesses.fetch_word.Goals as goal

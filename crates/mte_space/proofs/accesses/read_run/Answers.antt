@@ -1,7 +1,7 @@
 use Rattle.std.proofs.Common.{◌∙◌, ◌%◌, ◌+◌, sym, ap, Some, Err, length, refl, option_map}
 use Rattle.std.specs.List.{range_with_len, slice_range}
 use Rattle.mte_tags.specs.Memory.{Page}
-use Rattle.mte_tags.specs.Slots.{first_in}
+use Rattle.mte_tags.specs.Runs.{first_in}
 use Rattle.mte_tags.specs.Accesses.{outcome}
 use Rattle.mte_tags.proofs.FoundPages.{page_run, page_read, fault_missing}
 use Rattle.mte_space.specs.Spaces.{page_of}

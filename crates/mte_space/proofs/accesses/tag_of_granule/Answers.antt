@@ -5,7 +5,7 @@ use Rattle.mte_tags.specs.Memory.{Page, tag_at, tag_in}
 use Rattle.mte_tags.specs.Accesses.{loaded}
 use Rattle.mte_frames.specs.Pool.{IsTaken}
 use Rattle.mte_space.proofs.Taken.{small_tags}
-use Rattle.mte_tags.specs.Slots.{first_in}
+use Rattle.mte_tags.specs.Runs.{first_in}
 use Rattle.mte_tags.proofs.FoundPages.{page_byte, page_tag, byte_fault_missing}
 use Rattle.mte_space.specs.Spaces.{page_of}
 use Rattle.mte_space.proofs.accesses.tag_of_granule.Goals as goal

@@ -1,7 +1,7 @@
 use Rattle.std.proofs.Common.{◌∙◌, ◌%◌, ◌+◌, sym, ap, Some, is_none, length, refl}
 use Rattle.std.specs.List.{range_with_len, slice_range}
 use Rattle.mte_tags.specs.Memory.{Page}
-use Rattle.mte_tags.specs.Slots.{first_in}
+use Rattle.mte_tags.specs.Runs.{first_in}
 use Rattle.mte_tags.proofs.FoundPages.{page_run_passed, page_read}
 use Rattle.mte_space.specs.Spaces.{page_of}
 use Rattle.mte_space.proofs.accesses.try_read.Goals as goal

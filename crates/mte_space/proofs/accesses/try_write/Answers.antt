@@ -1,6 +1,6 @@
 use Rattle.std.proofs.Common.{◌∙◌, sym, ap, Some, is_none, length, refl}
 use Rattle.std.specs.List.{range_with_len}
-use Rattle.mte_tags.specs.Slots.{first_in}
+use Rattle.mte_tags.specs.Runs.{first_in}
 use Rattle.mte_tags.proofs.FoundPages.{page_run_passed}
 use Rattle.mte_space.proofs.accesses.try_write.Goals as goal
 

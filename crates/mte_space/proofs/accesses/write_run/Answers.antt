@@ -1,6 +1,6 @@
 use Rattle.std.proofs.Common.{◌∙◌, sym, ap, Some, Err, length, option_map}
 use Rattle.std.specs.List.{range_with_len}
-use Rattle.mte_tags.specs.Slots.{first_in}
+use Rattle.mte_tags.specs.Runs.{first_in}
 use Rattle.mte_tags.specs.Accesses.{outcome}
 use Rattle.mte_tags.proofs.FoundPages.{page_run, fault_missing}
 use Rattle.mte_space.specs.Spaces.{page_of}

@@ -1,5 +1,5 @@
 use Rattle.std.proofs.Common.{◌≡◌, ◌%◌, ◌∙◌, ap, length}
-use Rattle.mte_tags.specs.Slots.{spliced}
+use Rattle.mte_tags.specs.Runs.{spliced}
 use Rattle.mte_arena.specs.Frames.{frame_at, make_frame}
 use Rattle.mte_arena.proofs.Parts.{refill-same}
 use Rattle.mte_space.specs.Writes.{with_frame}

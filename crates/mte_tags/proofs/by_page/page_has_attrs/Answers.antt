@@ -1,5 +1,4 @@
 use Rattle.std.proofs.Common.{◌≡◌, ◌∙◌, ◌/◌, Bool, true, false, not, Option, Some, None, is_some, is_none, ap, refl}
-use Rattle.a64_bits.specs.Addresses.{plain}
 use Rattle.mte_tags.specs.Memory.{page_has}
 use Rattle.mte_tags.specs.Accesses.{first_fault, addresses}
 use Rattle.mte_tags.specs.declared.fault.MemFault.{MemFault}

@@ -5,7 +5,7 @@ use Rattle.mte_space.specs.SpaceMemory.{memory_of}
 use Rattle.mte_space.specs.KeptSpaces.{none_enters_same}
 use Rattle.mte_space.proofs.SpaceSteps.{found_taken, found_out, page_found, cached_hit, space_changed, cached_changed, rest_changed, memory_changed}
 use Rattle.mte_arena.specs.Frames.{Frame, make_frame}
-use Rattle.mte_tags.specs.Slots.{spliced}
+use Rattle.mte_tags.specs.Runs.{spliced}
 use Rattle.mte_frames.specs.Pool.{KeepsOthers}
 use Rattle.mte_tags.proofs.FoundPages.{page_written}
 use Rattle.mte_space.proofs.space.SpacePageStore.try_write.Goals as goal

@@ -4,7 +4,7 @@ use Rattle.mte_space.specs.Spaces.{page_of, space_memory, IsSpace, KeepsRest}
 use Rattle.mte_space.specs.SpaceMemory.{memory_of}
 use Rattle.mte_space.proofs.SpaceSteps.{found_taken, found_out, page_is, space_changed, cached_changed, rest_changed, memory_changed}
 use Rattle.mte_arena.specs.Frames.{Frame, make_frame}
-use Rattle.mte_tags.specs.Slots.{spliced}
+use Rattle.mte_tags.specs.Runs.{spliced}
 use Rattle.mte_frames.specs.Pool.{KeepsOthers}
 use Rattle.mte_tags.proofs.FoundPages.{page_written}
 use Rattle.mte_space.proofs.space.SpacePageStore.write_in_page.Goals as goal

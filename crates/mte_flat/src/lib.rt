@@ -1,0 +1,8 @@
+//! A plain tagged memory, which keeps its pages in one list.
+#![tactic(auto)]
+
+mod finder;
+mod flat;
+mod slot;
+
+pub use flat::Flat;
