@@ -1,3 +1,4 @@
 pub mod ImageLemmas
 pub mod LoadingLemmas
 pub mod PageLemmas
+pub mod WholeLemmas

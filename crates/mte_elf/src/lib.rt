@@ -7,10 +7,12 @@
 mod error;
 mod headers;
 mod image;
+mod laws;
 mod loading;
 mod planning;
 
 pub use error::ElfError;
 pub use image::{Plan, Segment};
+pub use laws::loading_keeps_memories_whole;
 pub use loading::load;
 pub use planning::plan;

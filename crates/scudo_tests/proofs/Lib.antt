@@ -1,1 +1,2 @@
 pub mod MappingTests
+pub mod ServedTests

@@ -1,9 +1,15 @@
-//! Tests of the heap's parts, in one crate at the top: a crate with tests of its own would be
+//! Tests of the heap and its parts, in one crate at the top: a crate with tests of its own would be
 //! proved twice.
 #![tactic(auto)]
 
 #[cfg(test)]
 mod cache;
+#[cfg(test)]
+mod calls;
+#[cfg(test)]
+mod discipline;
+#[cfg(test)]
+mod frames;
 #[cfg(test)]
 mod header;
 #[cfg(test)]
@@ -11,8 +17,8 @@ mod heap;
 #[cfg(test)]
 mod primary;
 #[cfg(test)]
-mod realloc;
-#[cfg(test)]
-mod rows;
-#[cfg(test)]
 mod secondary;
+#[cfg(test)]
+mod shadow;
+#[cfg(test)]
+mod tables;

@@ -23,6 +23,7 @@ use Rattle.scudo_primary.proofs.BlockLemmas.{block-whole, size-IsSize}
 use Rattle.scudo_secondary.specs.Mappings as secondary
 use Rattle.scudo_secondary.specs.declared.mappings.Mapping.{Mapping}
 use Rattle.address_map.specs.declared.limits.TheConstants.{PAGE_SIZE}
+use Rattle.scudo_heap.specs.Chunks.{end_of}
 use Rattle.scudo_heap.specs.declared.chunk.Place.{Place}
 use Rattle.scudo_heap.specs.declared.chunk.Chunk.TheVariants.{Small}
 use Rattle.scudo_heap.specs.declared.chunk.Found.{Found}
@@ -34,7 +35,7 @@ use Rattle.scudo_heap.specs.Allocation.{Made}
 use Rattle.scudo_heap.specs.Freeing.{without_chunk as freed_world}
 use Rattle.tag_discipline.specs.LiveChunks.{BlockChunk, chunk_at, IsCarved}
 use Rattle.tag_discipline.specs.LivePages.{PageChunk, large_at}
-use Rattle.tag_discipline.specs.Laws.{Freed, IsStale}
+use Rattle.tag_discipline.specs.Laws.{Freed, IsStale, IsRefused}
 use Rattle.tag_discipline.specs.CarefulRuns.{State, HeapRequest, Free, found_at, after_call, IsLiveBlock, IsCareful, HasFree}
 use Rattle.tag_discipline.specs.SoundHeaps.{Sound}
 use Rattle.tag_discipline.specs.Discipline.{StartsSound, StaysSound, MayFree, FreedBlocksAreRefused, IsUnmapped, FreedPagesAreUnmapped, IsFreshIn, NewTagsDiffer, NeighboursDiffer, ChunksAreApart, ChunksAreGuarded, SlicesStaySound, FreedBlocksStayRefused}
@@ -82,6 +83,10 @@ apart = record {
       omega arith;
 }
 
+-- an access through the pointer to a freed chunk
+pub stale-refused : (s : State) → Sound s → (f : Freed) → IsStale s.world.memory s.world.heap.stacks f → (addr : ℕ) → f.place.user ≤ addr → addr < end_of f.place → IsRefused s.world.memory f.tag addr
+stale-refused s k f st addr low high = (kept-in s k).freed f addr st low high
+
 -- ---- new chunks
 
 fresh-in : (s : State) (r : Made) → Sound s → ((p : Place) (t : ℕ) → r.chunk ≡ Some (Small p t) → (t ≢ 0) × (t ≢ tag_at s.world.memory p.user)) → IsFreshIn s r
@@ -108,7 +113,7 @@ block-careful : (s : State) (pointer : ℕ) (c : HeapRequest) (x : BlockChunk) �
 block-careful s pointer c x l (inl e) = subst (IsCareful s) (sym e) (λ n f g. inl (x, l))
 block-careful s pointer c x l (inr e) = subst (IsCareful s) (sym e.1) (λ n f g. inl (x, l))
 
-stale-by : (s : State) (pointer : ℕ) (c : HeapRequest) (x : BlockChunk) → Sound s → pointer ≢ 0 → IsLiveBlock s (plain pointer) x → MayFree pointer c → HasFree x.place.class x.place.block (after_call c s) → IsStaleAfter (after_call c s).world x
+pub stale-by : (s : State) (pointer : ℕ) (c : HeapRequest) (x : BlockChunk) → Sound s → pointer ≢ 0 → IsLiveBlock s (plain pointer) x → MayFree pointer c → HasFree x.place.class x.place.block (after_call c s) → IsStaleAfter (after_call c s).world x
 stale-by s pointer c x k n l (inl e) on = subst (λ d. IsStaleAfter (after_call d s).world x) (sym e) (free-stale s pointer x k n l)
 stale-by s pointer c x k n l (inr e) on =
     let on' = subst (λ d. HasFree x.place.class x.place.block (after_call d s)) e.1 on in

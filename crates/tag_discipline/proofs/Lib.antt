@@ -27,3 +27,5 @@ pub mod Runs
 pub mod Freeings
 pub mod Tenants
 pub mod Disciplines
+pub mod Starts
+pub mod Sessions

@@ -110,10 +110,6 @@ read-kept p m l n None k = quiet-kept (before p m l) _ k (record {
   whole = whole-after_write m (x_of p 0) _ true k.whole;
 })
 
-quiet-same : (p : TenantParts) (m : Memory) (l : Live) (s : Served) → s.memory ≡ m → s.parts.heap ≡ p.heap → s.parts.regs.rgsr ≡ p.regs.rgsr → Sound (before p m l) → IsKeptOn (before p m l) (after s l)
-quiet-same p m l s e f g k =
-    subst (IsKeptOn (before p m l)) (λ i. record { world = record { memory = sym e i; heap = sym f i; rgsr = sym g i }; live = l }) (kept-same (before p m l) k)
-
 -- ---- a free or realloc that aborts leaves the world as it was
 
 freed-error : (w : World) (r : Result Found HeapAbort) (e : HeapAbort) → (freeing.freed_by w r).result ≡ Err e → (freeing.freed_by w r).world ≡ w
@@ -144,40 +140,20 @@ realloc-error w pointer size e = realloc-either (pointer == 0) w (reallocation.e
 abbrev of_world : World → Live → State
 of_world w l = record { world = w; live = l }
 
-freed-service : (p : TenantParts) (m : Memory) (l j : Live) (w : World) (r : Result (Unit {0}) HeapAbort) → ((e : HeapAbort) → r ≡ Err e → w ≡ world_of m p.heap p.regs.rgsr) → IsKeptOn (before p m l) (of_world w j) → IsKeptOn (before p m l) (after (freed_by p m w r) j)
+freed-is : (p : TenantParts) (m : Memory) (j : Live) (w : World) (r : Result (Unit {0}) HeapAbort) → ((e : HeapAbort) → r ≡ Err e → w ≡ world_of m p.heap p.regs.rgsr) → after (freed_by p m w r) j ≡ of_world w j
 unfolding answered entered
-freed-service p m l j w (Err e) h k = subst (λ v. IsKeptOn (before p m l) (of_world v j)) (h e refl) k
-freed-service p m l j w (Ok done) h k = k
+freed-is p m j w (Err e) h = ap (λ v. of_world v j) (sym (h e refl))
+freed-is p m j w (Ok done) h = refl
 
-found-service : (p : TenantParts) (m : Memory) (l j : Live) (service : HeapService) (second : ℕ) (w : World) (r : Result ℕ HeapAbort) → ((e : HeapAbort) → r ≡ Err e → w ≡ world_of m p.heap p.regs.rgsr) → IsKeptOn (before p m l) (of_world w j)
-    → IsKeptOn (before p m l) (after (found_by p m service second w r) j)
+found-is : (p : TenantParts) (m : Memory) (j : Live) (service : HeapService) (second : ℕ) (w : World) (r : Result ℕ HeapAbort) → ((e : HeapAbort) → r ≡ Err e → w ≡ world_of m p.heap p.regs.rgsr) → after (found_by p m service second w r) j ≡ of_world w j
 unfolding answered entered
-found-service p m l j service second w (Err e) h k = subst (λ v. IsKeptOn (before p m l) (of_world v j)) (h e refl) k
-found-service p m l j service second w (Ok value) h k = k
+found-is p m j service second w (Err e) h = ap (λ v. of_world v j) (sym (h e refl))
+found-is p m j service second w (Ok value) h = refl
 
 -- ---- the services, by number
 
 abbrev IsServiceKept : ℕ → TenantParts → Memory → Live → Type 0
 IsServiceKept n p m l = IsKeptOn (before p m l) (after (by_number n p m) (live_by (request_by n p) (before p m l)))
-
-malloc-service : (p : TenantParts) (m : Memory) (l : Live) → Sound (before p m l) → IsServiceKept 3 p m l
-unfolding malloc_by answered entered after_call
-malloc-service p m l k = call-kept (before p m l) (Malloc (x_of p 0)) k tt
-
-free-service : (p : TenantParts) (m : Memory) (l : Live) → Sound (before p m l) → heap.IsCareful (before p m l) (Free (x_of p 0)) → IsServiceKept 4 p m l
-unfolding free_by after_call
-free-service p m l k c =
-    let w = world_of m p.heap p.regs.rgsr in
-    let pointer = x_of p 0 in
-    freed-service p m l (heap.after_free (before p m l) pointer).live (free_of w pointer).world (free_of w pointer).result (free-error w pointer) (call-kept (before p m l) (Free pointer) k c)
-
-calloc-service : (p : TenantParts) (m : Memory) (l : Live) → Sound (before p m l) → IsServiceKept 5 p m l
-unfolding calloc_by answered entered after_call
-calloc-service p m l k = call-kept (before p m l) (Calloc (x_of p 0) (x_of p 1)) k tt
-
-memalign-service : (p : TenantParts) (m : Memory) (l : Live) → Sound (before p m l) → IsServiceKept 7 p m l
-unfolding memalign_by answered entered after_call
-memalign-service p m l k = call-kept (before p m l) (Memalign (x_of p 0) (x_of p 1)) k tt
 
 -- the world after a realloc is that of the call
 realloc-both : (b : Bool) (u v : State) (x y : reallocation.Reallocated) → u.world ≡ x.world → (b ≡ false → v.world ≡ y.world) → (cond b u v).world ≡ (cond b x y).world
@@ -189,20 +165,6 @@ unfolding realloc_of
 realloc-world-is s pointer size =
     realloc-both (pointer == 0) (heap.made origin.Malloc s.live (malloc_of s.world size)) _ (reallocation.ended (malloc_of s.world size)) (reallocation.reallocated_by s.world size (heap.found_at s.world pointer)) refl
     (λ e. ap (λ (r : reallocation.Reallocated). r.world) (cond-false (pointer == 0) (reallocation.ended (malloc_of s.world size)) (reallocation.reallocated_by s.world size (heap.found_at s.world pointer)) e))
-
-realloc-state : (s : State) (pointer size : ℕ) → IsKeptOn s (heap.after_realloc s pointer size) → IsKeptOn s (of_world (realloc_of s.world pointer size).world (heap.after_realloc s pointer size).live)
-unfolding realloc_of
-realloc-state s pointer size k = subst (λ v. IsKeptOn s (of_world v (heap.after_realloc s pointer size).live)) (realloc-world-is s pointer size) k
-
-realloc-service : (p : TenantParts) (m : Memory) (l : Live) → Sound (before p m l) → heap.IsCareful (before p m l) (Realloc (x_of p 0) (x_of p 1)) → IsServiceKept 6 p m l
-unfolding realloc_by after_call
-realloc-service p m l k c =
-    let w = world_of m p.heap p.regs.rgsr in
-    let pointer = x_of p 0 in
-    let size = x_of p 1 in
-    let r = realloc_of w pointer size in
-    found-service p m l (heap.after_realloc (before p m l) pointer size).live calls.Realloc size r.world (reallocation.answered r.result) (realloc-error w pointer size)
-    (realloc-state (before p m l) pointer size (call-kept (before p m l) (Realloc pointer size) k c))
 
 -- ---- all services
 
@@ -220,7 +182,9 @@ record IsOther (n : ℕ) : Type 0 where
 
 usable-kept : (p : TenantParts) (m : Memory) (l : Live) → Sound (before p m l) → IsKeptOn (before p m l) (after (usable_size_by p m) l)
 unfolding usable_size_by
-usable-kept p m l k = found-service p m l l calls.UsableSize 0 (world_of m p.heap p.regs.rgsr) (freeing.usable_size_of m p.heap (x_of p 0)) (λ e h. refl) (kept-same (before p m l) k)
+usable-kept p m l k =
+    let w = world_of m p.heap p.regs.rgsr in
+    subst (IsKeptOn (before p m l)) (sym (found-is p m l calls.UsableSize 0 w (freeing.usable_size_of m p.heap (x_of p 0)) (λ e h. refl))) (kept-same (before p m l) k)
 
 other-service : (n : ℕ) (p : TenantParts) (m : Memory) (l : Live) → IsOther n → Sound (before p m l) → IsKeptOn (before p m l) (after (by_number n p m) l)
 unfolding wrote read_in answered
@@ -254,25 +218,81 @@ no-request n p o =
 abbrev MayServe : ℕ → TenantParts → Memory → Live → Type 0
 MayServe n p m l = (c : HeapRequest) → request_by n p ≡ Some c → heap.IsCareful (before p m l) c
 
-by-number : (n : ℕ) (p : TenantParts) (m : Memory) (l : Live) → Sound (before p m l) → MayServe n p m l → IsServiceKept n p m l
-by-number n p m l k = elim (cases_eq n 3) [
-  | inl e ↦ λ c. subst (λ t. IsServiceKept t p m l) (sym e) (malloc-service p m l k)
+-- ---- what a service asks of the heap is what it leaves
+
+abbrev IsDone : ℕ → TenantParts → Memory → Live → HeapRequest → Type 0
+IsDone n p m l c = after (by_number n p m) (after_call c (before p m l)).live ≡ after_call c (before p m l)
+
+some-is : (c d : HeapRequest) → Some c ≡ Some d → c ≡ d
+some-is c d e = cc
+
+malloc-done : (p : TenantParts) (m : Memory) (l : Live) → IsDone 3 p m l (Malloc (x_of p 0))
+unfolding malloc_by answered entered after_call
+malloc-done p m l = refl
+
+free-done : (p : TenantParts) (m : Memory) (l : Live) → IsDone 4 p m l (Free (x_of p 0))
+unfolding free_by after_call
+free-done p m l =
+    let w = world_of m p.heap p.regs.rgsr in
+    freed-is p m (heap.after_free (before p m l) (x_of p 0)).live (free_of w (x_of p 0)).world (free_of w (x_of p 0)).result (free-error w (x_of p 0))
+
+calloc-done : (p : TenantParts) (m : Memory) (l : Live) → IsDone 5 p m l (Calloc (x_of p 0) (x_of p 1))
+unfolding calloc_by answered entered after_call
+calloc-done p m l = refl
+
+realloc-done : (p : TenantParts) (m : Memory) (l : Live) → IsDone 6 p m l (Realloc (x_of p 0) (x_of p 1))
+unfolding realloc_by after_call
+realloc-done p m l =
+    let w = world_of m p.heap p.regs.rgsr in
+    let s = before p m l in
+    let r = realloc_of w (x_of p 0) (x_of p 1) in
+    let j = (heap.after_realloc s (x_of p 0) (x_of p 1)).live in
+    found-is p m j calls.Realloc (x_of p 1) r.world (reallocation.answered r.result) (realloc-error w (x_of p 0) (x_of p 1))
+    ∙ ap (λ v. of_world v j) (sym (realloc-world-is s (x_of p 0) (x_of p 1)))
+
+memalign-done : (p : TenantParts) (m : Memory) (l : Live) → IsDone 7 p m l (Memalign (x_of p 0) (x_of p 1))
+unfolding memalign_by answered entered after_call
+memalign-done p m l = refl
+
+abbrev IsDoneFor : ℕ → TenantParts → Memory → Live → HeapRequest → Type 0
+IsDoneFor n p m l c = request_by n p ≡ Some c → IsDone n p m l c
+
+number-done : (n : ℕ) (p : TenantParts) (m : Memory) (l : Live) (c : HeapRequest) → IsDoneFor n p m l c
+number-done n p m l c = elim (cases_eq n 3) [
+  | inl e ↦ subst (λ t. IsDoneFor t p m l c) (sym e) (λ f. subst (IsDone 3 p m l) (some-is _ c f) (malloc-done p m l))
   | inr a ↦ elim (cases_eq n 4) [
-    | inl e ↦ λ c. subst (λ t. IsServiceKept t p m l) (sym e) (free-service p m l k (subst (λ t. MayServe t p m l) e c (Free (x_of p 0)) refl))
+    | inl e ↦ subst (λ t. IsDoneFor t p m l c) (sym e) (λ f. subst (IsDone 4 p m l) (some-is _ c f) (free-done p m l))
     | inr b ↦ elim (cases_eq n 5) [
-      | inl e ↦ λ c. subst (λ t. IsServiceKept t p m l) (sym e) (calloc-service p m l k)
+      | inl e ↦ subst (λ t. IsDoneFor t p m l c) (sym e) (λ f. subst (IsDone 5 p m l) (some-is _ c f) (calloc-done p m l))
       | inr d ↦ elim (cases_eq n 6) [
-        | inl e ↦ λ c. subst (λ t. IsServiceKept t p m l) (sym e) (realloc-service p m l k (subst (λ t. MayServe t p m l) e c (Realloc (x_of p 0) (x_of p 1)) refl))
-        | inr f ↦ elim (cases_eq n 7) [
-          | inl e ↦ λ c. subst (λ t. IsServiceKept t p m l) (sym e) (memalign-service p m l k)
-          | inr g ↦ λ c.
-              let o : IsOther n = record { malloc = a; free = b; calloc = d; realloc = f; memalign = g } in
-              subst (λ r. IsKeptOn (before p m l) (after (by_number n p m) (live_by r (before p m l)))) (sym (no-request n p o)) (other-service n p m l o k)
+        | inl e ↦ subst (λ t. IsDoneFor t p m l c) (sym e) (λ f. subst (IsDone 6 p m l) (some-is _ c f) (realloc-done p m l))
+        | inr g ↦ elim (cases_eq n 7) [
+          | inl e ↦ subst (λ t. IsDoneFor t p m l c) (sym e) (λ f. subst (IsDone 7 p m l) (some-is _ c f) (memalign-done p m l))
+          | inr h ↦ λ f.
+              let none = no-request n p (record { malloc = a; free = b; calloc = d; realloc = g; memalign = h }) in
+              let z : None ≡ Some c = sym none ∙ f in
+              cc
         ]
       ]
     ]
   ]
 ]
+
+is-other : (n : ℕ) (p : TenantParts) → request_by n p ≡ None → IsOther n
+is-other n p h = record {
+  malloc = λ e. let z : Some (Malloc (x_of p 0)) ≡ None = subst (λ t. request_by t p ≡ None) e h in cc;
+  free = λ e. let z : Some (Free (x_of p 0)) ≡ None = subst (λ t. request_by t p ≡ None) e h in cc;
+  calloc = λ e. let z : Some (Calloc (x_of p 0) (x_of p 1)) ≡ None = subst (λ t. request_by t p ≡ None) e h in cc;
+  realloc = λ e. let z : Some (Realloc (x_of p 0) (x_of p 1)) ≡ None = subst (λ t. request_by t p ≡ None) e h in cc;
+  memalign = λ e. let z : Some (Memalign (x_of p 0) (x_of p 1)) ≡ None = subst (λ t. request_by t p ≡ None) e h in cc;
+}
+
+by-request : (r : Option HeapRequest) (n : ℕ) (p : TenantParts) (m : Memory) (l : Live) → request_by n p ≡ r → Sound (before p m l) → MayServe n p m l → IsKeptOn (before p m l) (after (by_number n p m) (live_by r (before p m l)))
+by-request None n p m l e k c = other-service n p m l (is-other n p e) k
+by-request (Some d) n p m l e k c = subst (IsKeptOn (before p m l)) (sym (number-done n p m l d e)) (call-kept (before p m l) d k (c d e))
+
+by-number : (n : ℕ) (p : TenantParts) (m : Memory) (l : Live) → Sound (before p m l) → MayServe n p m l → IsServiceKept n p m l
+by-number n p m l k c = by-request (request_by n p) n p m l refl k c
 
 -- ---- an attempted instruction
 
@@ -342,74 +362,6 @@ attempted-kept n m l k c =
     record { sound = then.sound; stale = λ f st on. then.stale f (first.stale f st st.stacked) on }
 
 -- ---- what an instruction asks of the heap is what it leaves
-
-freed-is : (p : TenantParts) (m : Memory) (j : Live) (w : World) (r : Result (Unit {0}) HeapAbort) → ((e : HeapAbort) → r ≡ Err e → w ≡ world_of m p.heap p.regs.rgsr) → after (freed_by p m w r) j ≡ of_world w j
-unfolding answered entered
-freed-is p m j w (Err e) h = ap (λ v. of_world v j) (sym (h e refl))
-freed-is p m j w (Ok done) h = refl
-
-found-is : (p : TenantParts) (m : Memory) (j : Live) (service : HeapService) (second : ℕ) (w : World) (r : Result ℕ HeapAbort) → ((e : HeapAbort) → r ≡ Err e → w ≡ world_of m p.heap p.regs.rgsr) → after (found_by p m service second w r) j ≡ of_world w j
-unfolding answered entered
-found-is p m j service second w (Err e) h = ap (λ v. of_world v j) (sym (h e refl))
-found-is p m j service second w (Ok value) h = refl
-
-abbrev IsDone : ℕ → TenantParts → Memory → Live → HeapRequest → Type 0
-IsDone n p m l c = after (by_number n p m) (after_call c (before p m l)).live ≡ after_call c (before p m l)
-
-some-is : (c d : HeapRequest) → Some c ≡ Some d → c ≡ d
-some-is c d e = cc
-
-malloc-done : (p : TenantParts) (m : Memory) (l : Live) → IsDone 3 p m l (Malloc (x_of p 0))
-unfolding malloc_by answered entered after_call
-malloc-done p m l = refl
-
-free-done : (p : TenantParts) (m : Memory) (l : Live) → IsDone 4 p m l (Free (x_of p 0))
-unfolding free_by after_call
-free-done p m l =
-    let w = world_of m p.heap p.regs.rgsr in
-    freed-is p m (heap.after_free (before p m l) (x_of p 0)).live (free_of w (x_of p 0)).world (free_of w (x_of p 0)).result (free-error w (x_of p 0))
-
-calloc-done : (p : TenantParts) (m : Memory) (l : Live) → IsDone 5 p m l (Calloc (x_of p 0) (x_of p 1))
-unfolding calloc_by answered entered after_call
-calloc-done p m l = refl
-
-realloc-done : (p : TenantParts) (m : Memory) (l : Live) → IsDone 6 p m l (Realloc (x_of p 0) (x_of p 1))
-unfolding realloc_by after_call
-realloc-done p m l =
-    let w = world_of m p.heap p.regs.rgsr in
-    let s = before p m l in
-    let r = realloc_of w (x_of p 0) (x_of p 1) in
-    let j = (heap.after_realloc s (x_of p 0) (x_of p 1)).live in
-    found-is p m j calls.Realloc (x_of p 1) r.world (reallocation.answered r.result) (realloc-error w (x_of p 0) (x_of p 1))
-    ∙ ap (λ v. of_world v j) (sym (realloc-world-is s (x_of p 0) (x_of p 1)))
-
-memalign-done : (p : TenantParts) (m : Memory) (l : Live) → IsDone 7 p m l (Memalign (x_of p 0) (x_of p 1))
-unfolding memalign_by answered entered after_call
-memalign-done p m l = refl
-
-abbrev IsDoneFor : ℕ → TenantParts → Memory → Live → HeapRequest → Type 0
-IsDoneFor n p m l c = request_by n p ≡ Some c → IsDone n p m l c
-
-number-done : (n : ℕ) (p : TenantParts) (m : Memory) (l : Live) (c : HeapRequest) → IsDoneFor n p m l c
-number-done n p m l c = elim (cases_eq n 3) [
-  | inl e ↦ subst (λ t. IsDoneFor t p m l c) (sym e) (λ f. subst (IsDone 3 p m l) (some-is _ c f) (malloc-done p m l))
-  | inr a ↦ elim (cases_eq n 4) [
-    | inl e ↦ subst (λ t. IsDoneFor t p m l c) (sym e) (λ f. subst (IsDone 4 p m l) (some-is _ c f) (free-done p m l))
-    | inr b ↦ elim (cases_eq n 5) [
-      | inl e ↦ subst (λ t. IsDoneFor t p m l c) (sym e) (λ f. subst (IsDone 5 p m l) (some-is _ c f) (calloc-done p m l))
-      | inr d ↦ elim (cases_eq n 6) [
-        | inl e ↦ subst (λ t. IsDoneFor t p m l c) (sym e) (λ f. subst (IsDone 6 p m l) (some-is _ c f) (realloc-done p m l))
-        | inr g ↦ elim (cases_eq n 7) [
-          | inl e ↦ subst (λ t. IsDoneFor t p m l c) (sym e) (λ f. subst (IsDone 7 p m l) (some-is _ c f) (memalign-done p m l))
-          | inr h ↦ λ f.
-              let none = no-request n p (record { malloc = a; free = b; calloc = d; realloc = g; memalign = h }) in
-              let z : None ≡ Some c = sym none ∙ f in
-              cc
-        ]
-      ]
-    ]
-  ]
-]
 
 served-done : (p : TenantParts) (m : Memory) (l : Live) (c : HeapRequest) → request_by (x_of p 8) p ≡ Some c → state_of (with_service (served p m)).machine (after_call c (before p m l)).live ≡ after_call c (before p m l)
 unfolding served

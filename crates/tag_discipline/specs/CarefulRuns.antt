@@ -6,6 +6,7 @@
 --     Run P a b           steps from a to b, with P after each of them
 use Rattle.std.specs.Prelude.{◌≡◌, ◌≢◌, ℕ, ◌-◌, ◌==◌, ◌⊎◌, nat_le, true}
 use Rattle.std.specs.Prelude.{Option, Some, None, Result, Ok, Err, if◌then◌else◌}
+use Rattle.std.specs.FinMap as finite
 use Rattle.std.specs.Int.{to_le_bytes, w64}
 use Rattle.a64_bits.specs.Addresses.{plain}
 use Rattle.mte_tags.specs.Memory.{tag_at, attrs_at, pages_left}
@@ -38,6 +39,9 @@ use Rattle.tag_discipline.specs.LivePages.{without_large, new_large}
 pub record Live : Type 0 where
   pub blocks : LiveBlocks
   pub pages : LivePages
+
+abbrev pub no_chunks : Live
+no_chunks = record { blocks = finite.empty; pages = finite.empty }
 
 pub record State : Type 0 where
   pub world : World

@@ -1,7 +1,6 @@
 -- The tag discipline of careful runs, in the synchronous mode.
 use Rattle.std.specs.Prelude.{◌≡◌, ◌≢◌, ℕ, ◌+◌, ◌/◌, ◌%◌, ◌^◌, ◌<◌, ◌≤◌, ◌⊎◌, Bool}
-use Rattle.std.specs.Prelude.{Some, None, IsSome}
-use Rattle.std.specs.FinMap as finite
+use Rattle.std.specs.Prelude.{Some, None, IsSome, List, All}
 use Rattle.a64_bits.specs.Addresses.{plain}
 use Rattle.mte_tags.specs.Memory.{Memory, attrs_at, tag_at}
 use Rattle.mte_tags.specs.Accesses.{read_fault, write_fault}
@@ -17,20 +16,20 @@ use Rattle.scudo_heap.specs.Chunks.{end_of}
 use Rattle.scudo_heap.specs.Placing.{world_of}
 use Rattle.scudo_heap.specs.Allocation.{Made, malloc_of, calloc_of, memalign_of}
 use Rattle.scudo_heap.specs.Served.{IsUntouched}
-use Rattle.mte_sched.specs.Machines.{Machine, attempted, advance}
+use Rattle.mte_sched.specs.Machines.{Terms, Machine, start_of, attempted, advance}
+use Rattle.mte_sched.specs.Ledger.{Entry, admission_refusal}
+use Rattle.mte_sched.specs.Lives.{Session, Life}
 use Rattle.tag_discipline.specs.LiveChunks.{BlockChunk, chunk_at}
 use Rattle.tag_discipline.specs.LivePages.{PageChunk, large_at}
 use Rattle.tag_discipline.specs.Laws.{Freed, IsStale, IsRefused, AreNeighbours}
-use Rattle.tag_discipline.specs.CarefulRuns.{State, Live, HeapRequest, Realloc, Free, after_call}
-use Rattle.tag_discipline.specs.CarefulRuns.{IsLiveBlock, IsLiveLarge, Run, HasFree}
+use Rattle.tag_discipline.specs.CarefulRuns.{State, Live, no_chunks, HeapRequest, Realloc, Free}
+use Rattle.tag_discipline.specs.CarefulRuns.{after_call, IsLiveBlock, IsLiveLarge, Run, HasFree}
 use Rattle.tag_discipline.specs.CarefulTenants.{state_of, stepped, next_request, live_after}
 use Rattle.tag_discipline.specs.CarefulTenants.{live_through, IsCarefulNext, IsCareful, Steps}
+use Rattle.tag_discipline.specs.CarefulSessions.{IsCarefulIn, state_in, freed_in}
 use Rattle.tag_discipline.specs.SoundHeaps.{Sound}
 
 -- ---- what holds from the start on
-
-abbrev pub no_chunks : Live
-no_chunks = record { blocks = finite.empty; pages = finite.empty }
 
 -- A new heap and a memory that it may be used with.
 pub record IsNew (m : Memory) (pages : ℕ) : Type 0 where
@@ -44,6 +43,13 @@ abbrev pub StartsSound : Type 0
 StartsSound =
     (m : Memory) (cookie pages : ℕ) (r : Rgsr) → IsNew m pages
     → Sound (record { world = world_of m (empty_heap cookie pages) r; live = no_chunks })
+
+-- So a tenant that is admitted in the synchronous mode.
+abbrev pub TenantsStartSound : Type 0
+TenantsStartSound =
+    (frames : ℕ) (ledger : List Entry) (id : ℕ) (terms : Terms)
+    → admission_refusal frames ledger id terms ≡ None → terms.mode ≡ Sync
+    → Sound (state_of (start_of id terms) no_chunks)
 
 abbrev pub StaysSound : Type 0
 StaysSound = (a b : State) → Run (λ s. Unit {0}) a b → Sound a → Sound b
@@ -160,3 +166,31 @@ FreedBlocksStayRefused =
     → HasFree x.place.class x.place.block (state_of (attempted n m).machine (live_after m l))
     → Steps (HasFree x.place.class x.place.block) (attempted n m).machine (live_after m l) k j
     → x.place.user ≤ addr → addr < end_of x.place → IsRefused k.memory x.tag addr
+
+-- ---- tenants of a session
+
+-- What the other laws stand on holds of each tenant of a host whose slices were careful, whatever
+-- the other tenants did.
+abbrev pub TenantsStaySound : Type 0
+TenantsStaySound =
+    (s : Session) (life : Life) (m : Machine) → IsCarefulIn s life m → Sound (state_in life m)
+
+-- Each checked access through the pointer to a chunk that it freed, in whatever slice, faults while
+-- no allocation has taken the block.
+abbrev pub FreedBlocksOfTenantsAreRefused : Type 0
+FreedBlocksOfTenantsAreRefused =
+    (s : Session) (life : Life) (m : Machine) → IsCarefulIn s life m
+    → All (λ x. (addr : ℕ) → x.place.user ≤ addr → addr < end_of x.place
+    → IsRefused m.memory x.tag addr) (freed_in life)
+
+-- Each checked access through the pointer to a live chunk of its that touches the granule just
+-- before or just after the chunk's faults.
+pub record ChunksOfTenantsAreGuarded : Type 0 where
+  pub before :
+      (s : Session) (life : Life) (m : Machine) (u addr : ℕ) (x : BlockChunk)
+      → IsCarefulIn s life m → chunk_at (state_in life m).live.blocks u ≡ Some x
+      → x.place.user ≤ addr + 16 → addr < x.place.user → IsRefused m.memory x.tag addr
+  pub after :
+      (s : Session) (life : Life) (m : Machine) (u addr : ℕ) (x : BlockChunk)
+      → IsCarefulIn s life m → chunk_at (state_in life m).live.blocks u ≡ Some x
+      → end_of x.place ≤ addr → addr < end_of x.place + 16 → IsRefused m.memory x.tag addr

@@ -8,21 +8,29 @@ ghost use Rattle.tag_discipline.specs.Discipline.{FreedBlocksAreRefused, FreedPa
 ghost use Rattle.tag_discipline.specs.Discipline.{NewTagsDiffer, NeighboursDiffer};
 ghost use Rattle.tag_discipline.specs.Discipline.{ChunksAreApart, ChunksAreGuarded};
 ghost use Rattle.tag_discipline.specs.Discipline.{SlicesStaySound, FreedBlocksStayRefused};
+ghost use Rattle.tag_discipline.specs.Discipline.{TenantsStartSound, TenantsStaySound};
+ghost use Rattle.tag_discipline.specs.Discipline.{FreedBlocksOfTenantsAreRefused};
+ghost use Rattle.tag_discipline.specs.Discipline.{ChunksOfTenantsAreGuarded};
 
-/// What the other laws stand on holds of a new heap, and after each step of a careful run and each
-/// slice of careful instructions.
+/// What the other laws stand on holds of a new heap, of a tenant that is admitted, and after each
+/// step of a careful run and each slice of careful instructions: of each tenant of a host whose
+/// slices were careful, whatever the other tenants did.
 pub fn careful_runs_are_sound()
     ensures start { StartsSound }
+    ensures tenants { TenantsStartSound }
     ensures run { StaysSound }
     ensures slices { SlicesStaySound }
+    ensures sessions { TenantsStaySound }
 {}
 
 /// From the free of a chunk, by `free` or `realloc`, until an allocation takes its block, each
 /// checked access through the pointer to it that touches one of its granules faults, whatever
-/// careful instructions come between. The pages of a chunk that had its own are unmapped.
+/// careful instructions and slices come between. The pages of a chunk that had its own are
+/// unmapped.
 pub fn freed_chunks_are_refused()
     ensures blocks { FreedBlocksAreRefused }
     ensures instructions { FreedBlocksStayRefused }
+    ensures sessions { FreedBlocksOfTenantsAreRefused }
     ensures pages { FreedPagesAreUnmapped }
 {}
 
@@ -46,5 +54,6 @@ pub fn chunks_are_apart()
 /// Each checked access through the pointer to a live chunk of a size class that touches the granule
 /// just before or just after it faults.
 pub fn chunks_are_guarded()
-    ensures { ChunksAreGuarded }
+    ensures chunks { ChunksAreGuarded }
+    ensures sessions { ChunksOfTenantsAreGuarded }
 {}

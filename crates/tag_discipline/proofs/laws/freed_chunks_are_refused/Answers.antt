@@ -1,4 +1,5 @@
 use Rattle.tag_discipline.proofs.Disciplines.{freed-stay, freed-blocks, freed-pages}
+use Rattle.tag_discipline.proofs.Sessions.{freed-of-tenants}
 use Rattle.tag_discipline.proofs.laws.freed_chunks_are_refused.Goals as goal
 
 pub returns-clause-blocks : goal.returns-clause-blocks
@@ -9,3 +10,6 @@ returns-clause-pages c = freed-pages
 
 pub returns-clause-instructions : goal.returns-clause-instructions
 returns-clause-instructions c = freed-stay
+
+pub returns-clause-sessions : goal.returns-clause-sessions
+returns-clause-sessions c = freed-of-tenants

@@ -1,0 +1,183 @@
+//! Calls of a heap and accesses to its memory, and what they answer.
+
+ghost use Rattle.std.specs.Prelude.{◌<◌};
+ghost use Rattle.scudo_heap.specs.Served.{IsServed};
+
+use mte_tags::{FaultKind, MemFault, Paged, Rgsr, Tagged};
+use scudo_heap::{Heap, HeapAbort};
+
+#[derive(Clone, Copy)]
+pub(crate) enum Call {
+    Malloc(u64),
+    Calloc(u64, u64),
+    Memalign(u64, u64),
+    /// Of a pointer, to so many bytes.
+    Realloc(u64, u64),
+    Free(u64),
+    UsableSize(u64),
+    /// A read of eight bytes, whose tags are compared.
+    Checked(u64),
+    /// A read of eight bytes, whose tags are not compared.
+    Word(u64),
+    /// A write of a number as eight bytes, whose tags are not compared.
+    Write(u64, u64),
+    /// A write of a number as eight bytes, whose tags are compared.
+    CheckedWrite(u64, u64),
+    /// The tag of a granule.
+    Tag(u64),
+    /// A store of a tag to so many granules.
+    StoreTags(u64, u64, u8),
+    /// Frees of so many chunks of class 2 from an address on. Answers how many were freed.
+    FreeRow(u64, u64),
+    PagesLeft,
+    /// Whether an access has set the flag.
+    Flag,
+}
+
+/// What a call answers: a number, 0 where it has none.
+#[derive(Clone, Copy, PartialEq, Eq, Debug)]
+pub(crate) enum Answer {
+    Is(u64),
+    Aborts(HeapAbort),
+    Faults(FaultKind),
+}
+
+fn of_heap(answer: Result<u64, HeapAbort>) -> Answer {
+    match answer {
+        Ok(number) => Answer::Is(number),
+        Err(abort) => Answer::Aborts(abort),
+    }
+}
+
+fn of_memory(answer: Result<u64, MemFault>) -> Answer {
+    match answer {
+        Ok(number) => Answer::Is(number),
+        Err(fault) => Answer::Faults(fault.kind),
+    }
+}
+
+fn read<M: Tagged>(heap: &Heap, memory: &mut M, at: u64, check: bool) -> Result<u64, MemFault>
+    requires { IsServed (M.memory memory.old) heap.now }
+    ensures served { IsServed (M.memory memory.new) heap.now }
+{
+    let mut bytes = [0; 8];
+    memory.read(at, &mut bytes, check)?;
+    Ok(u64::from_le_bytes(bytes))
+}
+
+fn write<M: Tagged>(
+    heap: &Heap,
+    memory: &mut M,
+    at: u64,
+    value: u64,
+    check: bool,
+) -> Result<u64, MemFault>
+    requires { IsServed (M.memory memory.old) heap.now }
+    ensures served { IsServed (M.memory memory.new) heap.now }
+{
+    memory.write(at, &value.to_le_bytes(), check)?;
+    Ok(0)
+}
+
+/// A call that does not change the heap.
+pub(crate) fn access<M: Paged>(heap: &Heap, memory: &mut M, call: Call) -> Result<u64, MemFault>
+    requires { IsServed (M.memory memory.old) heap.now }
+    ensures served { IsServed (M.memory memory.new) heap.now }
+{
+    match call {
+        Call::Checked(at) => read(heap, memory, at, true),
+        Call::Word(at) => read(heap, memory, at, false),
+        Call::Write(at, value) => write(heap, memory, at, value, false),
+        Call::CheckedWrite(at, value) => write(heap, memory, at, value, true),
+        Call::Tag(at) => Ok(memory.load_tag(at)? as u64),
+        Call::StoreTags(at, count, tag) => {
+            memory.store_tags(at, count, tag % 16, false)?;
+            Ok(0)
+        }
+        Call::Flag => Ok(memory.pending() as u64),
+        _ => Ok(memory.pages_left() as u64),
+    }
+}
+
+/// Frees so many chunks, 64 bytes from each other.
+fn free_row<M: Paged>(
+    heap: &mut Heap,
+    rgsr: &mut Rgsr,
+    memory: &mut M,
+    first: u64,
+    count: u64,
+) -> u64
+    requires served { IsServed (M.memory memory.old) heap.old }
+    requires tag { rgsr.old.tag < 16 }
+    ensures served { IsServed (M.memory memory.new) heap.new }
+    ensures tag { rgsr.new.tag < 16 }
+{
+    for i in 0..count {
+        let pointer = first.wrapping_add(i.wrapping_mul(64));
+        if heap.free(rgsr, memory, pointer).is_err() {
+            return i;
+        }
+    }
+    count
+}
+
+/// Makes a call.
+pub(crate) fn make<M: Paged>(heap: &mut Heap, rgsr: &mut Rgsr, memory: &mut M, call: Call) -> Answer
+    requires served { IsServed (M.memory memory.old) heap.old }
+    requires tag { rgsr.old.tag < 16 }
+    ensures served { IsServed (M.memory memory.new) heap.new }
+    ensures tag { rgsr.new.tag < 16 }
+{
+    match call {
+        Call::Malloc(size) => Answer::Is(heap.malloc(rgsr, memory, size)),
+        Call::Calloc(count, size) => Answer::Is(heap.calloc(rgsr, memory, count, size)),
+        Call::Memalign(align, size) => Answer::Is(heap.memalign(rgsr, memory, align, size)),
+        Call::Realloc(pointer, size) => of_heap(heap.realloc(rgsr, memory, pointer, size)),
+        Call::Free(pointer) => of_heap(heap.free(rgsr, memory, pointer).map(|_| 0)),
+        Call::UsableSize(pointer) => of_heap(heap.usable_size(memory, pointer)),
+        Call::FreeRow(first, count) => Answer::Is(free_row(heap, rgsr, memory, first, count)),
+        _ => of_memory(access(heap, memory, call)),
+    }
+}
+
+/// A call that is made so many times, and what it answers the last time.
+#[derive(Clone, Copy)]
+pub(crate) struct Row(pub(crate) u64, pub(crate) Call, pub(crate) Answer);
+
+fn last_answer<M: Paged>(
+    heap: &mut Heap,
+    rgsr: &mut Rgsr,
+    memory: &mut M,
+    times: u64,
+    call: Call,
+) -> Answer
+    requires served { IsServed (M.memory memory.old) heap.old }
+    requires tag { rgsr.old.tag < 16 }
+    ensures served { IsServed (M.memory memory.new) heap.new }
+    ensures tag { rgsr.new.tag < 16 }
+{
+    let mut last = Answer::Is(0);
+    for _ in 0..times {
+        last = make(heap, rgsr, memory, call);
+    }
+    last
+}
+
+/// The first row of a table whose call answers otherwise, with its answer.
+pub(crate) fn first_difference<M: Paged>(
+    heap: &mut Heap,
+    rgsr: &mut Rgsr,
+    memory: &mut M,
+    rows: &[Row],
+) -> Option<(usize, Answer)>
+    requires served { IsServed (M.memory memory.old) heap.old }
+    requires tag { rgsr.old.tag < 16 }
+{
+    for (i, Row(times, call, expected)) in rows.iter().enumerate() {
+        let found = last_answer(heap, rgsr, memory, *times, *call);
+        if found != *expected {
+            return Some((i, found));
+        }
+    }
+    None
+}
