@@ -1,7 +1,7 @@
 -- Which files are images, and what an image holds (System V ABI, Object Files and Program Loading).
 use Rattle.std.specs.Prelude.{ℕ, ◌+◌, ◌-◌, ◌*◌, ◌/◌, ◌%◌, ◌==◌, nat_lt, nat_le, ◌&&◌, ◌||◌, Bool}
-use Rattle.std.specs.Prelude.{false, not, List, [], ◌∷◌, length, Option, Some, None, if◌then◌else◌}
-use Rattle.std.specs.Prelude.{nat_eq, sum_by}
+use Rattle.std.specs.Prelude.{false, not, List, [], ◌∷◌, ◌++◌, length, Option, Some, None}
+use Rattle.std.specs.Prelude.{if◌then◌else◌, nat_eq, sum_by}
 use Rattle.std.specs.List.{list_any, list_all, starts_with}
 use Rattle.mte_elf.specs.Headers.{file_type_of, machine_of, entry_of, table_offset_of}
 use Rattle.mte_elf.specs.Headers.{header_size_of, header_count_of, headers_of, is_interpreter}
@@ -59,19 +59,31 @@ abbrev pub first_refusal : List (Bool × ElfError) → Option ElfError
 first_refusal [] = None
 first_refusal (test ∷ more) = if test.0 then Some test.1 else first_refusal more
 
--- what a file is tested for, in this order, each test with its refusal
-abbrev pub tests_of : List ℕ → List (Bool × ElfError)
-tests_of file =
+-- what a file's header is tested for, in this order, each test with its refusal
+abbrev pub header_tests : List ℕ → List (Bool × ElfError)
+header_tests file =
     (nat_lt (length file) 64, Short)
     ∷ (not (starts_with nat_eq file identification), NotElf64)
     ∷ (not (machine_of file == 183), NotAarch64)
     ∷ (not (file_type_of file == 2), NotExec)
     ∷ (not (has_table file), BadHeaders)
-    ∷ (list_any is_interpreter (headers_of file), Interpreter)
+    ∷ []
+
+-- and then its program headers and segments
+abbrev pub segment_tests : List ℕ → List (Bool × ElfError)
+segment_tests file =
+    (list_any is_interpreter (headers_of file), Interpreter)
     ∷ (not (list_all (is_in_range (length file)) (segments_of file)), SegmentRange)
     ∷ (any_share_page (segments_of file), Overlap)
     ∷ (not (list_any (is_entry (entry_of file)) (segments_of file)), NoEntry)
     ∷ []
+
+abbrev pub tests_of : List ℕ → List (Bool × ElfError)
+tests_of file = header_tests file ++ segment_tests file
+
+-- why a file is no image by its header alone
+abbrev pub header_refusal : List ℕ → Option ElfError
+header_refusal file = first_refusal (header_tests file)
 
 -- why a file is no image, if it is none
 unfoldable pub refusal_of : List ℕ → Option ElfError

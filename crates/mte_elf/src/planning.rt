@@ -1,10 +1,11 @@
 //! The loader's plan for an image.
 
 ghost use Rattle.std.specs.Prelude.{◌≡◌, ◌⊎◌, ℕ, ◌+◌, ◌-◌, ◌*◌, ◌/◌, ◌^◌, ◌≤◌, ◌<◌, length, IfOk};
-ghost use Rattle.std.specs.Prelude.{IfErr, Some, None, sum_by, true};
+ghost use Rattle.std.specs.Prelude.{IfErr, Err, Some, None, sum_by, true};
 ghost use Rattle.std.specs.List.{list_any, list_all};
 ghost use Rattle.mte_elf.specs.Headers.{entry_of, segments_of, is_interpreter};
 ghost use Rattle.mte_elf.specs.Images.{refusal_of, pages_of, has_table, is_in_range};
+ghost use Rattle.mte_elf.specs.Images.{header_refusal};
 ghost use Rattle.mte_elf.specs.Images.{any_share_page, share_page, is_entry, page_count};
 ghost use Rattle.mte_elf.specs.Images.{first_page, last_page};
 
@@ -38,7 +39,8 @@ const INTERPRETER: u32 = 3;
 /// Reads an image as a whole, before anything of it is mapped.
 ///
 /// The refusal is the first of [`ElfError`]'s tests that the file fails. Only `OutOfMemory`, where
-/// an allocation was refused, can come in place of another answer.
+/// an allocation was refused, can come in place of another answer, and not in place of a refusal by
+/// the file's header, whose tests need no memory.
 #[tactic(auto, unfolding(crate::specs::Images::refusal_of))]
 pub fn plan(alloc: Global, file: &[u8]) -> Result<Plan, ElfError>
     ensures image { IfOk result (λ p. refusal_of file.now ≡ None) }
@@ -47,6 +49,7 @@ pub fn plan(alloc: Global, file: &[u8]) -> Result<Plan, ElfError>
     ensures segments { IfOk result (λ p. p.segments.items ≡ segments_of file.now) }
     ensures refused { IfErr result
         (λ e. (e ≡ ElfError.OutOfMemory) ⊎ (refusal_of file.now ≡ Some e)) }
+    ensures memory { (result ≡ Err ElfError.OutOfMemory) → header_refusal file.now ≡ None }
 {
     if file.len() < FILE_HEADER {
         return Err(ElfError::Short);
