@@ -2,31 +2,18 @@
 
 ghost use Rattle.std.specs.Prelude.{◌≡◌, ◌≤◌};
 
-use crate::system::SystemSink;
 use clap::error::ErrorKind;
 use clap::{Arg, ArgAction, ArgMatches, Command, Error, value_parser};
+use mte_program::{Program, StreamSink};
 use mte_session::write_all;
 use std::alloc::{AllocError, Global};
 use std::{env, io};
-
-/// What the program is run on.
-#[derive(Debug, Drop)]
-pub struct CommandLine {
-    /// The frames of the arena, 1 to 65536.
-    pub frames: u32,
-    /// The script's file name.
-    pub script: String,
-    /// The files' names, the first being number 1.
-    pub files: Vec<String>,
-    ghost some: { 1 ≤ frames },
-    ghost few: { frames ≤ 65536 },
-}
 
 /// What a command line requests.
 #[derive(Debug, Drop)]
 pub enum Invocation {
     /// A session.
-    Run(CommandLine),
+    Run(Program),
     /// Nothing more: help or a usage fault was printed. The exit status.
     Exit(u8),
     /// An allocation failed.
@@ -43,7 +30,7 @@ pub fn read_command_line(rt: &HostRuntime) -> Invocation {
         return Invocation::OutOfMemory;
     };
     match parse(rt.alloc(), words.as_slice()) {
-        Ok(Some(line)) => Invocation::Run(line),
+        Ok(Some(program)) => Invocation::Run(program),
         Ok(None) => Invocation::OutOfMemory,
         Err(error) => print_text(rt, &error),
     }
@@ -55,7 +42,7 @@ fn report_unreadable(rt: &HostRuntime, error: &io::Error) -> Invocation {
         return Invocation::OutOfMemory;
     }
     let _ = write_all(
-        &mut SystemSink(rt.stderr()),
+        &mut StreamSink(rt.stderr()),
         b"mte_host: an argument is not text\n",
     );
     Invocation::Exit(2)
@@ -71,7 +58,7 @@ fn print_text(rt: &HostRuntime, error: &Error) -> Invocation {
 }
 
 /// Reads the words of a command line; `None` where an allocation failed.
-fn parse(alloc: Global, words: &[String]) -> Result<Option<CommandLine>, Error> {
+fn parse(alloc: Global, words: &[String]) -> Result<Option<Program>, Error> {
     let frames = Arg::new(alloc, "frames")
         .long("frames")
         .value_name("N")
@@ -93,24 +80,20 @@ fn parse(alloc: Global, words: &[String]) -> Result<Option<CommandLine>, Error> 
         .arg(script)?
         .arg(files)?;
     let matches = command.try_get_matches_from(words)?;
-    Ok(command_line_of(alloc, &matches).ok())
+    Ok(program_of(alloc, &matches).ok())
 }
 
 /// The values of a command line that `clap` accepted.
-fn command_line_of(alloc: Global, matches: &ArgMatches<'_>) -> Result<CommandLine, AllocError> {
+fn program_of(alloc: Global, matches: &ArgMatches<'_>) -> Result<Program, AllocError> {
     let frames = in_range(matches.get_one::<u32>("frames").unwrap_or(1));
-    let script = String::from_str(alloc, matches.get_str("script").unwrap_or(""))?;
-    let mut files = Vec::new(alloc);
-    if let Some(names) = matches.get_strs("files") {
-        for name in names {
-            files.push(String::from_str(alloc, name)?)?;
+    let mut names = Vec::new(alloc);
+    names.push(String::from_str(alloc, matches.get_str("script").unwrap_or(""))?)?;
+    if let Some(files) = matches.get_strs("files") {
+        for name in files {
+            names.push(String::from_str(alloc, name)?)?;
         }
     }
-    Ok(CommandLine {
-        frames,
-        script,
-        files,
-    })
+    Ok(Program { frames, names })
 }
 
 /// A number of frames that the option's range has let pass, so it is returned as it is.

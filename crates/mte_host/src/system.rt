@@ -1,31 +1,23 @@
-//! Files and streams of the system. What they give and take is not known to any contract.
+//! Files of the system. What they give is not known to any contract.
 
-ghost use Rattle.mte_streams.specs.Reading.{unknown_reads};
-ghost use Rattle.mte_streams.specs.Writing.{unknown_writes};
+ghost use Rattle.std.specs.Prelude.{None};
 
-use mte_session::{Sink, Source, StreamError};
-use std::io::{Read, Write};
+use mte_program::{Files, StreamSource};
+use mte_session::{ReadFault, read_whole};
+use std::alloc::Global;
+use std::fs::File;
 
-/// A reader of the system.
+/// The files of the system.
 #[derive(Drop)]
-pub struct SystemSource<R: Read + Drop>(pub R);
+pub struct SystemFiles<'a>(pub &'a HostRuntime);
 
-impl<R: Read + Drop> Source for SystemSource<R> {
-    ghost log = { λ _. unknown_reads };
+impl<'a> Files for SystemFiles<'a> {
+    ghost log = { λ _. None };
 
-    fn read(&mut self, buffer: &mut [u8]) -> Result<usize, StreamError> {
-        self.0.read(buffer).map_err(|_| StreamError)
-    }
-}
-
-/// A writer of the system.
-#[derive(Drop)]
-pub struct SystemSink<W: Write + Drop>(pub W);
-
-impl<W: Write + Drop> Sink for SystemSink<W> {
-    ghost log = { λ _. unknown_writes };
-
-    fn write(&mut self, bytes: &[u8]) -> Result<usize, StreamError> {
-        self.0.write(bytes).map_err(|_| StreamError)
+    fn read_file(&mut self, alloc: Global, name: &str) -> Result<Vec<u8>, ReadFault> {
+        let Ok(file) = File::open(self.0, name) else {
+            return Err(ReadFault::Read);
+        };
+        read_whole(alloc, &mut StreamSource(file))
     }
 }

@@ -1,0 +1,7 @@
+-- What becomes of a count of bytes, or of an error of any kind.
+use Rattle.std.specs.Prelude.{ℕ, Result, Ok, Err}
+use Rattle.mte_streams.specs.declared.error.StreamError.{StreamError}
+
+abbrev pub count_or_failure : {E : Type 0} → Result ℕ E → Result ℕ StreamError
+count_or_failure (Ok count) = Ok count
+count_or_failure (Err e) = Err (record {})

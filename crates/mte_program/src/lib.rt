@@ -1,0 +1,13 @@
+//! The program between its command line and the system: it reads the script and the files, runs the
+//! session, and says how it ended.
+#![tactic(auto)]
+
+mod files;
+mod program;
+mod running;
+mod streams;
+
+pub use files::{Files, read_files};
+pub use program::Program;
+pub use running::run_program;
+pub use streams::{StreamSink, StreamSource};

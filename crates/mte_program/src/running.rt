@@ -1,0 +1,30 @@
+//! A run of the program.
+
+ghost use Rattle.mte_program.specs.Runs.{Ran};
+
+use crate::files::{Files, read_files};
+use crate::program::Program;
+use mte_session::{Ending, Sink, run_session};
+use std::alloc::Global;
+
+/// Reads the script and then each file, in order, runs the session, and returns how it ended. The
+/// first file that cannot be read ends it, and then nothing was written.
+pub fn run_program<'a, F: Files, W: Sink>(
+    alloc: Global,
+    program: &'a Program,
+    files: &mut F,
+    out: &mut W,
+) -> Ending<'a>
+    ensures { Ran program.now (F.log files.old) (F.log files.new) (W.log out.old) (W.log out.new)
+        result }
+{
+    let whole = match read_files(alloc, files, program.names.as_slice()) {
+        Ok(whole) => whole,
+        Err(ending) => return ending,
+    };
+    let script = whole[0].as_slice();
+    match run_session(alloc, program.frames, script, &whole.as_slice()[1..], out) {
+        Ok(()) => Ending::Done,
+        Err(error) => Ending::from(error),
+    }
+}
