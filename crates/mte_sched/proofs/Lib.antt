@@ -9,3 +9,4 @@ mod AdmitLemmas
 mod FrameLemmas
 mod EachLemmas
 mod FlagLemmas
+mod LoanLemmas

@@ -46,7 +46,7 @@ pub map_same : {X Y : Type 0} (f g : X → Y) (xs : List X) → ((j : ℕ) (u : 
 map_same f g [] h = refl
 map_same f g (x ∷ xs) h = ap (λ y. y ∷ map f xs) (h 0 x refl) ∙ ap (λ l. g x ∷ l) (map_same f g xs (λ j u e. h (suc j) u e))
 
-map_each : {X Y : Type 0} (f g : X → Y) (act : Y → Y) (zs : List X) → ((j : ℕ) (u : X) → slice_get zs j ≡ Some u → f u ≡ act (g u)) → map f zs ≡ map act (map g zs)
+pub map_each : {X Y : Type 0} (f g : X → Y) (act : Y → Y) (zs : List X) → ((j : ℕ) (u : X) → slice_get zs j ≡ Some u → f u ≡ act (g u)) → map f zs ≡ map act (map g zs)
 map_each f g act [] h = refl
 map_each f g act (z ∷ zs) h = ap (λ w. w ∷ map f zs) (h 0 z refl) ∙ ap (λ l. act (g z) ∷ l) (map_each f g act zs (λ j u e. h (suc j) u e))
 

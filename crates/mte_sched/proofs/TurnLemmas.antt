@@ -57,11 +57,11 @@ not_none None e = absurd cc
 not_none (Some a) e = λ f. absurd cc
 
 -- A tenant with another number is no tenant that the turn names.
-held_if : (b : Bool) (t : Tenant) (h : Held) → b ≡ false → (let u : Tenant = record t { held = if b then h else t.held } in u) ≡ t
+pub held_if : (b : Bool) (t : Tenant) (h : Held) → b ≡ false → (let u : Tenant = record t { held = if b then h else t.held } in u) ≡ t
 held_if true t h e = absurd cc
 held_if false t h e = refl
 
-by_place : (p : Pool) (t : code.Tenant) (o : Option Place) → t.place ≡ o → tenant_in p t ≡ tenant_by t.parts (option_map (λ a. memory_at p a t.pages) o) t.pages
+pub by_place : (p : Pool) (t : code.Tenant) (o : Option Place) → t.place ≡ o → tenant_in p t ≡ tenant_by t.parts (option_map (λ a. memory_at p a t.pages) o) t.pages
 by_place p t o e = ap (λ z. tenant_by t.parts (option_map (λ a. memory_at p a t.pages) z) t.pages) e
 
 module _ (p n : Pool) (us vs : List Translation) (ts : List code.Tenant) (i id : ℕ) (t : code.Tenant) (a : Place)

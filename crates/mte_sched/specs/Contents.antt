@@ -2,6 +2,8 @@
 -- What each call makes of it: one tenant's machine changes, and every other entry stays.
 use Rattle.std.specs.Prelude.{ℕ, ◌==◌, Bool, true, false, List, [], ◌∷◌, ◌++◌, map}
 use Rattle.std.specs.Prelude.{Option, Some, None, if◌then◌else◌}
+use Rattle.std.specs.List.{refill}
+use Rattle.mte_tags.specs.Memory.{Memory, Page, page_at, with_page}
 use Rattle.mte_svc.specs.declared.record.Record.{Record}
 use Rattle.mte_sched.specs.declared.refusal.Refusal.{Refusal}
 use Rattle.mte_sched.specs.Machines.{Terms, Machine, start_of, advance, halted}
@@ -84,6 +86,28 @@ after_call c (Stop id) = stopped c id
 abbrev pub after_by : Option Refusal → Content → Call → Content
 after_by (Some r) c e = c
 after_by None c e = after_call c e
+
+-- ---- what a write to the bytes of a page makes of a content, which is no call of a session
+
+-- The page q, where it is mapped, has the bytes ws, cut or filled up from its own to 4096.
+abbrev pub with_bytes_of : Memory → ℕ → List ℕ → Option Page → Memory
+with_bytes_of m q ws None = m
+with_bytes_of m q ws (Some p) = with_page m q (record p { bytes = refill 4096 p.bytes ws })
+
+unfoldable pub with_page_bytes : Memory → ℕ → List ℕ → Memory
+with_page_bytes m q ws = with_bytes_of m q ws (page_at m q)
+
+abbrev pub held_written : ℕ → List ℕ → Held → Held
+held_written q ws (Live m) = Live (record m { memory = with_page_bytes m.memory q ws })
+held_written q ws (Gone r) = Gone r
+
+abbrev pub tenant_written : ℕ → ℕ → List ℕ → Tenant → Tenant
+tenant_written id q ws t =
+    record t { held = if t.id == id then held_written q ws t.held else t.held }
+
+-- One page of one tenant, and no other.
+unfoldable pub written : Content → ℕ → ℕ → List ℕ → Content
+written c id q ws = record c { tenants = map (tenant_written id q ws) c.tenants }
 
 -- Calls in turn.
 unfoldable pub played : Content → List Call → Content

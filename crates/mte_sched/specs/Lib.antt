@@ -9,5 +9,6 @@ pub mod Sharing
 pub mod Isolation
 pub mod Views
 pub mod Hosts
+pub mod Loans
 pub mod Names
 pub mod Flags

@@ -2,7 +2,9 @@
 
 ghost use Rattle.std.specs.Prelude.{◌≡◌, ℕ, ◌⊎◌, ◌-◌, ◌+◌, ◌<◌, ◌≤◌, ◌↔◌, IfOk, IfErr, Err, OnOk};
 ghost use Rattle.std.specs.Prelude.{OnErr, IsOk, IfSome, Some, None, true, false, length, sum_by};
-ghost use Rattle.std.specs.Prelude.{count_by, option_copied};
+ghost use Rattle.std.specs.Prelude.{count_by, option_copied, option_map};
+ghost use Rattle.std.specs.Option.{option_copied_mut};
+ghost use Rattle.std.specs.Borrow.{sem};
 ghost use Rattle.std.specs.List.{list_any};
 ghost use Rattle.mte_elf.specs.Headers.{entry_of, segments_of};
 ghost use Rattle.mte_elf.specs.Images.{refusal_of, pages_of};
@@ -13,12 +15,13 @@ ghost use Rattle.mte_sched.specs.Sharing.{IsSharing, HasLiveAt};
 
 use crate::accepting::{holds_image, is_bad_reservation, plan_of};
 use crate::admission::{Admission, AdmitError, MAX_LIVE, NotLive, charge};
+use crate::hints::Hints;
 use crate::machine::start_parts;
 use crate::place::start_place;
 use crate::tenant::Tenant;
 use crate::turns::{slice_at, stop_at};
 use address_map::{MAX_FRAMES, MAX_PAGES, STACK_PAGES};
-use mte_arena::{Arena, ArenaError};
+use mte_arena::{Arena, ArenaError, FRAME_BYTES};
 use mte_elf::Plan;
 use mte_frames::FramePool;
 use mte_svc::Record;
@@ -32,6 +35,7 @@ pub struct Host {
     pool: FramePool,
     tlb: Tlb,
     tenants: Vec<Tenant>,
+    hints: Hints,
     ghost sharing: { IsSharing pool tlb tenants.items },
 }
 
@@ -40,6 +44,7 @@ impl Host {
     ghost use Rattle.mte_sched.specs.Contents.{admitted, sliced, stopped, empty};
     ghost use Rattle.mte_sched.specs.Views.{record_among, page_among, Holds};
     ghost use Rattle.mte_sched.specs.Hosts.{pool_of, content_of, frame_in, ledger_in};
+    ghost use Rattle.mte_sched.specs.Loans.{lends_page};
 
     /// A host of `frames` frames, without tenants. The number is tested before any memory is taken;
     /// `OutOfMemory` comes only where an allocation was refused.
@@ -51,10 +56,14 @@ impl Host {
         let Ok(pool) = FramePool::new(alloc, arena) else {
             return Err(ArenaError::OutOfMemory);
         };
+        let Ok(hints) = Hints::new(alloc) else {
+            return Err(ArenaError::OutOfMemory);
+        };
         Ok(Host {
             pool,
             tlb: Tlb::new(),
             tenants: Vec::new(alloc),
+            hints,
         })
     }
 
@@ -79,6 +88,7 @@ impl Host {
         let parts = start_parts(alloc, admission, &plan)?;
         self.tenants.reserve(1)?;
         let asid = self.tenants.len();
+        self.hints.set(admission.id, asid);
         let place = start_place(&mut self.pool, &mut self.tlb, asid, admission, &plan);
         self.tenants.push_reserved(Tenant {
             parts,
@@ -167,7 +177,7 @@ impl Host {
         Ok(())
     }
 
-    /// The record of the tenant that was admitted with the number, stopped or not; `None` where none
+    /// The record of the tenant admitted with the number, stopped or not; `None` where none
     /// was.
     pub fn view(&self, id: u16) -> Option<&Record>
         ensures { option_copied result ≡ record_among id (content_of self.now).tenants }
@@ -180,7 +190,7 @@ impl Host {
         None
     }
 
-    /// The frame that holds a page of the live tenant with the number; `None` where there is no such
+    /// The frame that holds a page of the live tenant with the number; `None` where it has no such
     /// page. It is out, and the page's bytes and tags are the frame's. No frame holds two pages, of
     /// one tenant or of two.
     pub fn frame_of(&self, id: u16, page: u64) -> Option<usize>
@@ -192,6 +202,20 @@ impl Host {
             → frame_in self.now other r ≡ Some f → (other ≡ id) × (r ≡ page)) }
     {
         self.find_frame(id, page)
+    }
+
+    /// The bytes of a page of the live tenant with the number, to be written: those of the frame
+    /// that holds it. `None` where there is no such page. What is left there is the page's bytes in
+    /// the tenant's machine, code included; its attributes, its tags and all else stay.
+    pub fn page_mut(&mut self, id: u16, page: u64) -> Option<&mut [u8; FRAME_BYTES]>
+        ensures* writes_back { sem 𝓛 (lends_page self.entry id page result) }
+        ensures value { option_copied_mut result
+            ≡ option_map (λ p. p.bytes) (page_among id page (content_of self.old).tenants) }
+    {
+        // what holds of every pool is in its contract
+        let _ = self.pool.frames();
+        let frame = self.find_frame(id, page);
+        self.pool.data_mut_if(frame)
     }
 
     /// The tenants, in the order of their admissions.
@@ -227,12 +251,27 @@ impl Host {
         ensures none { result ≡ None
             → list_any (has_live_id id) (entries_in self.now.tenants.items) ≡ false }
     {
+        if let Some(i) = self.hinted(id) {
+            return Some(i);
+        }
         for i in 0..self.tenants.len() {
             if self.tenants[i].has_live_id(id) {
                 return Some(i);
             }
         }
         None
+    }
+
+    /// The same, where the hint is right.
+    fn hinted(&self, id: u16) -> Option<usize>
+        ensures { IfSome result (λ i. HasLiveAt self.now.tenants.items i id) }
+    {
+        let i = self.hints.position(id);
+        if self.tenants.get(i)?.has_live_id(id) {
+            Some(i)
+        } else {
+            None
+        }
     }
 
     /// The frame of a page, by the table of the tenant with the number.

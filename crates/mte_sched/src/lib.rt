@@ -3,6 +3,7 @@
 
 mod accepting;
 mod admission;
+mod hints;
 mod host;
 mod isolation;
 mod machine;

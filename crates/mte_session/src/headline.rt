@@ -9,6 +9,7 @@ use mte_streams::Sink;
 use std::alloc::Global;
 
 /// What a session is run on: a host's frames, a script, and the files that it refers to.
+#[derive(Clone, Copy)]
 pub struct Session<'a> {
     /// The frames of the host, 1 to 65536.
     pub frames: u32,

@@ -1,7 +1,7 @@
 //! The host, called by itself.
 
 use crate::doubles::MemorySink;
-use crate::images::{HI, ILLEGAL, image};
+use crate::images::{HEADERS, HI, ILLEGAL, image};
 use address_map::{PAGE_SIZE, STACK_START};
 use mte_sched::{
     Admission, AdmitError, Host, NotLive, Refusal, Status, flag_is_clear, ledger_follows,
@@ -81,6 +81,39 @@ fn too_many_live(rt: HostRuntime) -> Result<(), Fail> {
             assert!(rt; result == Ok(()));
         }
     }
+    Ok(())
+}
+
+/// What is written to a page of code is what the tenant then runs.
+#[test]
+fn a_page_is_written_by_the_host(rt: HostRuntime) -> Result<(), Fail> {
+    let file = image(rt.alloc(), &ILLEGAL)?;
+    let mut host = Host::new(rt.alloc(), 11)?;
+    let admission = Admission {
+        id: 1,
+        image: file.as_slice(),
+        input: &[],
+        seed: 1,
+        pages: 5,
+        room: 16,
+        mode: TagMode::Sync,
+    };
+    host.admit(rt.alloc(), &admission)?;
+    assert!(rt; host.page_mut(1, 0).is_none() && host.page_mut(2, 16).is_none());
+    let Some(page) = host.page_mut(1, 16) else {
+        return Err(Fail::from(NotLive));
+    };
+    let code = image(rt.alloc(), &HI)?;
+    for (byte, code) in page.iter_mut().zip(code.iter().skip(HEADERS)) {
+        *byte = *code;
+    }
+    host.slice(1, 100)?;
+    let Some(account) = host.view(1) else {
+        return Err(Fail::from(NotLive));
+    };
+    assert!(rt; account.status == Status::Exited(0));
+    assert_eq!(rt; account.steps, 8);
+    assert_eq!(rt; account.output.as_slice(), b"Hi".as_slice());
     Ok(())
 }
 

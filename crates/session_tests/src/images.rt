@@ -21,6 +21,9 @@ pub fn image(alloc: Global, words: &[u32]) -> Result<Vec<u8>, AllocError> {
     Ok(file)
 }
 
+/// How many bytes of an image stand before its words.
+pub const HEADERS: usize = 120;
+
 /// Writes `Hi` and exits with 0.
 pub const HI: [u32; 9] = [
     0xD2A00020, 0x91008000, 0xD2800041, 0xD2800028, 0xD4000001, 0xD2800000, 0xD2800008, 0xD4000001,
@@ -122,3 +125,49 @@ pub const ILLEGAL: [u32; 1] = [0];
 
 /// Branches to 0x10001.
 pub const UNALIGNED: [u32; 3] = [0xD2A00020, 0x91000400, 0xD61F0000];
+
+/// Reads 24 bytes of input at a time, makes the call of the service whose number comes first, with
+/// the two numbers after it, and writes the eight bytes of what it returned; exits with 0 where the
+/// input ends.
+pub const CALLS_FROM_INPUT: [u32; 18] = [
+    0xD2A7FFF4, 0xF2980014, 0xAA1403E0, 0xD2800301, 0xD2800048, 0xD4000001, 0xB4000140, 0xA9400288,
+    0xF9400A81, 0xD4000001, 0xF9000E80, 0x91006280, 0xD2800101, 0xD2800028, 0xD4000001, 0x17FFFFF3,
+    0xD2800008, 0xD4000001,
+];
+
+/// Allocates 48, 80 and so on to 240 bytes, then 16, and exits with the last pointer.
+pub const SEVEN_SIZES: [u32; 11] = [
+    0xD2800613, 0xAA1303E0, 0xD2800068, 0xD4000001, 0x91008273, 0xF104427F, 0x54FFFF61, 0xD2800200,
+    0xD4000001, 0xD2800008, 0xD4000001,
+];
+
+/// Yields, and exits with the steps that its slice has left after its next service.
+pub const YIELDS: [u32; 6] = [
+    0xD2800128, 0xD4000001, 0xD2800148, 0xD4000001, 0xD2800008, 0xD4000001,
+];
+
+/// All programs.
+pub const ALL: [&[u32]; 22] = [
+    &HI,
+    &UNTAGGED,
+    &UNTAGGED_EXIT,
+    &UNTAGGED_WRITE,
+    &PAIR_WITH_TAG,
+    &PRE_INDEXED,
+    &ACROSS,
+    &LEFT_ON_THE_STACK,
+    &READS,
+    &COUNTS,
+    &USED_AFTER_FREE,
+    &CORRUPTS,
+    &FORGES_A_CLASS,
+    &GROWS,
+    &SHRINKS_TWICE,
+    &CALLS_65_TIMES,
+    &PAGES_AFTER_ONE,
+    &LARGE_FREED,
+    &ILLEGAL,
+    &UNALIGNED,
+    &SEVEN_SIZES,
+    &YIELDS,
+];

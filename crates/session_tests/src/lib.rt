@@ -6,6 +6,8 @@ mod discipline;
 #[cfg(test)]
 mod doubles;
 #[cfg(test)]
+mod edges;
+#[cfg(test)]
 mod hosts;
 #[cfg(test)]
 mod images;
@@ -17,3 +19,5 @@ mod services;
 mod sessions;
 #[cfg(test)]
 mod streams;
+#[cfg(test)]
+mod tenants;

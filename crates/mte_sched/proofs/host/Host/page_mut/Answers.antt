@@ -1,0 +1,40 @@
+use Rattle.std.proofs.Common.{refl, ap, ◌∙◌}
+use Rattle.std.specs.Prelude.{option_map}
+use Rattle.mte_arena.specs.Frames.{frame_at}
+use Rattle.mte_frames.specs.Pool.{with_bytes_at_if}
+use Rattle.mte_sched.proofs.LoanLemmas.{sharing_lent, content_lent, frames_lent, taken_lent, bytes_lent, where_lent}
+use Rattle.mte_sched.proofs.host.Host.page_mut.Goals as goal
+
+pub data_mut_if-requires : goal.data_mut_if-requires
+data_mut_if-requires c =
+    let h = c.args.self.now in
+    taken_lent h.pool h.tlb h.tenants.items h.sharing c.args.id c.args.page c.find_frame-frame.result c.find_frame-frame.ensures
+
+pub invariant_of-self-lent : goal.invariant_of-self-lent
+invariant_of-self-lent c = λ r.
+    let h = c.args.self.now in (
+      λ w. (sharing_lent h.pool h.tlb h.tenants.items h.sharing c.args.id c.args.page w c.find_frame-frame.result c.find_frame-frame.ensures, tt),
+      (h.sharing, tt),
+    )
+
+pub returns : goal.returns
+returns c =
+    let h = c.args.self.now in
+    let o = c.find_frame-frame.result in
+    let e = c.find_frame-frame.ensures in
+    let id = c.args.id in
+    let q = c.args.page in (
+      (
+        refl,
+        λ w. where_lent _ c.data_mut_if.result o (λ g. (frame_at h.pool.frames g).bytes) c.data_mut_if.ensures.value (λ f k. record {
+          content = content_lent h.pool h.tlb h.tenants.items h.sharing id q w o e f k c.frames.ensures.sound;
+          pool = ap (λ x. with_bytes_at_if h.pool x w) e;
+          frames = λ j r. ap (option_map (λ x. x.0)) (frames_lent h.pool h.tlb h.tenants.items h.sharing id q w o e j r);
+        }),
+        record { content = refl; pool = refl; frames = λ j r. refl },
+      ),
+      record {
+        writes_back = tt;
+        value = c.data_mut_if.ensures.value ∙ bytes_lent h.pool id q h.tenants.items o e;
+      },
+    )
