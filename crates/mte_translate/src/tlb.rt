@@ -66,7 +66,7 @@ impl Tlb {
     }
 
     /// The same by one comparison; or `None`, perhaps also where one stands.
-    #[inline]
+    #[inline(always)]
     pub fn quick_lookup(&self, asid: usize, page: u64) -> Option<(usize, Attrs)>
         ensures { IfSome result (λ found. lookup asid page self.now ≡ Some found) }
     {
