@@ -5,6 +5,7 @@
 mod accesses;
 mod bench;
 mod decoding;
+mod heap;
 mod measured;
 mod paging;
 mod programs;
@@ -14,8 +15,9 @@ mod workload;
 
 use anyhow::{Result, bail};
 use bench::{Bench, Lists, PAGES};
+use heap::{HEAP_PAGES, report_heap};
 use measured::Measured;
-use mte_space::Space;
+use mte_space::{Space, pages_of_a_space};
 use mte_tags::{Flat, Paged, TagMode, TagState};
 use mte_translate::{Table, Tlb};
 use shared::{has_room, pool_for};
@@ -39,6 +41,7 @@ and how much longer it takes there. The workloads:
   services         steps of a loop with an SVC in every seven instructions
   map              a page that is mapped and unmapped
   all              each of them in turn
+  heap             malloc and free of 24 bytes, 1 KiB and 33 pages, with 10 and 10,000 live chunks
   compare          a batch of each on both memories, and whether the results and registers are equal
 ";
 
@@ -68,16 +71,20 @@ fn main(rt: HostRuntime) -> Result<ExitCode> {
 
 /// Makes a plain memory and one over shared frames, and does there what is asked.
 fn run_asked(rt: &HostRuntime, asked: Asked) -> Result<()> {
-    let mut plain = Flat::new(rt.alloc(), PAGES, TagMode::Sync)?;
-    let mut pool = pool_for(rt.alloc(), PAGES)?;
-    let Ok(mut quota) = pool.reserve(2 * PAGES + 1) else {
+    let pages = match asked {
+        Asked::Heap => HEAP_PAGES,
+        _ => PAGES,
+    };
+    let mut plain = Flat::new(rt.alloc(), pages, TagMode::Sync)?;
+    let mut pool = pool_for(rt.alloc(), pages)?;
+    let Ok(mut quota) = pool.reserve(2 * pages + 1) else {
         bail!("the frames could not be reserved");
     };
     if pool.taken(&quota) >= pool.reserved(&quota) {
         bail!("there is no frame for the table");
     }
     let mut table = Table::new(&mut pool, &mut quota);
-    if !has_room(&pool, &table, &quota, PAGES) {
+    if !has_room(&pool, &table, &quota, pages) {
         bail!("there are too few frames");
     }
     let mut tlb = Tlb::new();
@@ -85,12 +92,19 @@ fn run_asked(rt: &HostRuntime, asked: Asked) -> Result<()> {
         mode: TagMode::Sync,
         pending: false,
     };
-    let mut space = Space::new(
-        &mut pool, &mut table, &mut quota, &mut tlb, &mut state, 1, PAGES,
+    pages_of_a_space();
+    let mut shared = Space::new(
+        &mut pool, &mut table, &mut quota, &mut tlb, &mut state, 1, pages,
     );
+    if pages == HEAP_PAGES {
+        println!(rt; "over a plain memory:")?;
+        report_heap(rt, &mut plain)?;
+        println!(rt; "over shared frames:")?;
+        return report_heap(rt, &mut shared);
+    }
     let lists = Lists::new(rt.alloc())?;
     let mut plain = Bench::new(&mut plain, &lists)?;
-    let mut shared = Bench::new(&mut space, &lists)?;
+    let mut shared = Bench::new(&mut shared, &lists)?;
     match asked {
         Asked::One(workload) => report(rt, &lists, &mut plain, &mut shared, workload),
         Asked::Compare => compare(rt, &lists, &mut plain, &mut shared),
@@ -127,7 +141,11 @@ fn report<A: Paged, B: Paged>(
         let other = measure(rt, lists, shared, workload)?;
         let tenths = other.tenths();
         let ratio = other.tenths() * 100 / measured.tenths().max(1);
-        print!(rt; ", over shared frames {}.{} ns, {ratio} %", tenths / 10, tenths % 10)?;
+        print!(rt;
+            ", over shared frames {}.{} ns, {ratio} %",
+            tenths / 10,
+            tenths % 10
+        )?;
     }
     println!(rt; " ({})", measured.sum)?;
     Ok(())
@@ -167,7 +185,11 @@ fn compare<A: Paged, B: Paged>(
     for workload in Workload::ALL {
         let (one, other) = (plain.batch(lists, workload), shared.batch(lists, workload));
         let alike = one.is_some() && one == other;
-        println!(rt; "{}: {}", workload.name(), if alike { "equal" } else { "different" })?;
+        println!(rt;
+            "{}: {}",
+            workload.name(),
+            if alike { "equal" } else { "different" }
+        )?;
     }
     let alike = plain.core().has_registers_of(shared.core());
     println!(rt; "registers: {}", if alike { "equal" } else { "different" })?;

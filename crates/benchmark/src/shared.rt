@@ -3,10 +3,10 @@
 ghost use Rattle.std.specs.Prelude.{◌≡◌, ◌+◌, ◌-◌, ◌*◌, ◌≤◌, IsTrue};
 ghost use Rattle.mte_frames.specs.Pool.{taken_by, reserved_by};
 
+use anyhow::{Result, bail};
 use mte_arena::Arena;
 use mte_frames::{FramePool, Quota};
 use mte_translate::Table;
-use anyhow::{Result, bail};
 use std::alloc::Global;
 
 /// A pool with the frames that a tenant of so many pages may need.

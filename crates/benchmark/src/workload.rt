@@ -1,7 +1,7 @@
 //! The workloads and their names.
 
 /// What is timed.
-#[derive(Clone, Copy, PartialEq, Eq, Debug)]
+#[derive(Clone, Copy)]
 pub enum Workload {
     /// Decoding of a program's words, in their order.
     Decode,
@@ -86,7 +86,7 @@ impl Workload {
 }
 
 /// The request of a command line.
-#[derive(Clone, Copy, PartialEq, Eq, Debug)]
+#[derive(Clone, Copy)]
 pub enum Asked {
     /// No argument was given.
     Help,
@@ -96,6 +96,8 @@ pub enum Asked {
     One(Workload),
     /// Each workload in turn.
     All,
+    /// Pairs of a malloc and a free.
+    Heap,
     /// The programs on both memories, and whether their registers are equal.
     Compare,
 }
@@ -107,6 +109,7 @@ pub fn read_words(words: &[String]) -> Asked {
         [_, name] => {
             match (name.as_str(), Workload::from_name(name.as_str())) {
                 ("all", _) => Asked::All,
+                ("heap", _) => Asked::Heap,
                 ("compare", _) => Asked::Compare,
                 (_, Some(workload)) => Asked::One(workload),
                 (_, None) => Asked::Unknown,
