@@ -187,8 +187,8 @@ fn are_answered(
     true
 }
 
-/// A thousand drawn calls of each tenant in turn, then a read of each word and of each tag, and what
-/// plain memories answer.
+/// A thousand drawn calls of each tenant in turn, then a read of each word and of each tag, with
+/// what plain memories answer.
 fn drawn(alloc: Global, first: &mut Flat, second: &mut Flat) -> Result<Vec<Row>, AllocError> {
     let mut rows = Vec::new(alloc);
     let mut draw: u64 = 7;

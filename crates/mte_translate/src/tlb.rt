@@ -103,6 +103,9 @@ impl Tlb {
     pub fn forget(&mut self, asid: usize, page: u64)
         ensures { self.new ≡ without asid page self.old }
     {
+        if self.lookup(asid, page).is_none() {
+            return;
+        }
         self.translations
             .retain(|translation| !translation.is_for(asid, page));
         self.chains.rebuild(self.translations.as_slice());

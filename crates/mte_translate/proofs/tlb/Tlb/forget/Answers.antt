@@ -1,8 +1,8 @@
-use Rattle.std.proofs.Common.{◌≡◌, ◌∙◌, sym, ap, not, rules}
+use Rattle.std.proofs.Common.{◌≡◌, ◌∙◌, sym, ap, not, false, is_some, rules}
 use Rattle.arrayvec.proofs.ArrayVecLemmas.{filter-from_retain}
-use Rattle.mte_translate.specs.Translations.{is_for, without}
+use Rattle.mte_translate.specs.Translations.{is_for, lookup, without}
 use Rattle.mte_translate.specs.Whole.{hashes_of}
-use Rattle.mte_translate.proofs.TlbLemmas.{one-each-filter}
+use Rattle.mte_translate.proofs.TlbLemmas.{others-all, one-each-filter}
 use Rattle.mte_translate.proofs.ChainLemmas.{chained-same}
 use Rattle.mte_translate.proofs.tlb.Tlb.forget.Goals as goal
 
@@ -18,3 +18,8 @@ invariant_of-self c =
 
 pub returns : goal.returns
 returns c = kept c ∙ ap (without c.args.asid c.args.page) c.self.view_is
+
+pub returns-then-is_none : goal.returns-then-is_none
+returns-then-is_none c =
+    let gone : is_some (lookup c.args.asid c.args.page c.args.self.now) ≡ false = search rules in
+    sym (others-all c.args.asid c.args.page c.args.self.now gone)
