@@ -3,11 +3,10 @@
 ghost use Rattle.std.specs.Prelude.{◌≡◌, IfSome, length};
 
 use crate::measured::Batch;
-use mte_flat::Flat;
 use mte_tags::Tagged;
 
 /// A checked load of 8 bytes at each address, `None` where one is refused.
-pub fn load_each(memory: &mut Flat, addresses: &[u64]) -> Option<Batch>
+pub fn load_each<M: Tagged>(memory: &mut M, addresses: &[u64]) -> Option<Batch>
     ensures { IfSome result (λ b. b.count ≡ length addresses.now) }
 {
     let mut sum: u64 = 0;
@@ -25,7 +24,7 @@ pub fn load_each(memory: &mut Flat, addresses: &[u64]) -> Option<Batch>
 }
 
 /// A checked store of 8 bytes at each address, `None` where one is refused.
-pub fn store_each(memory: &mut Flat, addresses: &[u64]) -> Option<Batch>
+pub fn store_each<M: Tagged>(memory: &mut M, addresses: &[u64]) -> Option<Batch>
     ensures { IfSome result (λ b. b.count ≡ length addresses.now) }
 {
     let mut sum: u64 = 0;
@@ -42,7 +41,7 @@ pub fn store_each(memory: &mut Flat, addresses: &[u64]) -> Option<Batch>
 }
 
 /// A fetch at each address, `None` where one is refused.
-pub fn fetch_each(memory: &mut Flat, addresses: &[u64]) -> Option<Batch>
+pub fn fetch_each<M: Tagged>(memory: &mut M, addresses: &[u64]) -> Option<Batch>
     ensures { IfSome result (λ b. b.count ≡ length addresses.now) }
 {
     let mut sum: u64 = 0;

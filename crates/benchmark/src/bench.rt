@@ -5,24 +5,19 @@ ghost use Rattle.std.specs.Prelude.{◌<◌};
 use crate::accesses::{fetch_each, load_each, store_each};
 use crate::decoding::{decode_each, in_order, shuffled};
 use crate::measured::Batch;
-use crate::programs::{ALU, MEMORY, SERVICES, run_on, start};
+use crate::paging::{map_each, map_page};
+use crate::programs::{ALU, CODE, Core, MEMORY, MEMORY_CODE, SERVICES, SERVICES_CODE};
 use crate::workload::Workload;
-use a64_step::{Decoder, Regs};
 use anyhow::{Result, bail};
-use mte_flat::Flat;
-use mte_tags::{Attrs, Paged, TagMode, Tagged, with_tag};
+use mte_tags::{Paged, Tagged, with_tag};
 use std::alloc::{AllocError, Global};
 
-/// The page of the programs, by its address and by its number.
-const CODE: u64 = 0x1_0000;
+/// The pages of a memory: one of programs, two of data, and one that comes and goes.
+pub const PAGES: usize = 4;
 
 const CODE_PAGE: u64 = 16;
 
-/// Where the second program begins.
-const MEMORY_LOOP: u64 = CODE + 1024;
-
-/// Where the third program begins.
-const SERVICE_LOOP: u64 = CODE + 2048;
+const SPARE_PAGE: u64 = 19;
 
 /// The first of the two pages of data.
 const DATA: u64 = 0x1_1000;
@@ -30,74 +25,85 @@ const DATA: u64 = 0x1_1000;
 /// The tag of the data.
 const TAG: u8 = 5;
 
-/// The memory, the lists of addresses and words, the decoder, and the registers of the programs.
+/// The words that are decoded, and the addresses that are reached.
 #[derive(Drop)]
-pub struct Bench {
-    memory: Flat,
+pub struct Lists {
     text: Vec<u32>,
     shuffled: Vec<u32>,
     within: Vec<u64>,
     across: Vec<u64>,
     code: Vec<u64>,
-    decoder: Decoder,
-    alu: Regs,
-    loads: Regs,
-    services: Regs,
 }
 
-impl Bench {
-    /// A memory with the programs and two pages of tagged data.
-    pub fn new(alloc: Global) -> Result<Bench> {
+impl Lists {
+    pub fn new(alloc: Global) -> Result<Lists, AllocError> {
         let data = with_tag(DATA, TAG);
-        let second = data.wrapping_add(4096);
-        let mut memory = Flat::new(alloc, 3, TagMode::Sync)?;
-        if memory.map_pages(CODE_PAGE, 3, Attrs::ALL).is_err() {
-            bail!("the memory has no room for 3 pages");
+        let across = data.wrapping_add(4096 - 7);
+        Ok(Lists {
+            text: in_order(alloc)?,
+            shuffled: shuffled(alloc)?,
+            within: places(alloc, data, 512, 8)?,
+            across: places(alloc, across, 7, 1)?,
+            code: places(alloc, CODE, 1024, 4)?,
+        })
+    }
+}
+
+/// A memory, and a core that runs on it.
+#[derive(Drop)]
+pub struct Bench<'a, M> {
+    memory: &'a mut M,
+    core: Core,
+}
+
+impl<'a, M: Paged> Bench<'a, M> {
+    /// A memory without pages gets the programs and two pages of tagged data.
+    pub fn new(memory: &'a mut M, lists: &Lists) -> Result<Bench<'a, M>> {
+        for page in CODE_PAGE..SPARE_PAGE {
+            if !map_page(memory, page) {
+                bail!("a page is mapped, or there is no room for it");
+            }
         }
-        let within = places(alloc, data, 512, 8)?;
+        let data = with_tag(DATA, TAG);
         let ready = memory.store_tags(DATA, 512, TAG, true).is_ok()
-            && put_words(&mut memory, CODE, &ALU)
-            && put_words(&mut memory, MEMORY_LOOP, &MEMORY)
-            && put_words(&mut memory, SERVICE_LOOP, &SERVICES)
-            && store_each(&mut memory, &within).is_some();
+            && put_words(memory, CODE, &ALU)
+            && put_words(memory, MEMORY_CODE, &MEMORY)
+            && put_words(memory, SERVICES_CODE, &SERVICES)
+            && store_each(memory, &lists.within).is_some();
         if !ready {
             bail!("the programs and the data could not be stored");
         }
         Ok(Bench {
             memory,
-            text: in_order(alloc)?,
-            shuffled: shuffled(alloc)?,
-            within,
-            across: places(alloc, second.wrapping_sub(7), 7, 1)?,
-            code: places(alloc, CODE, 1024, 4)?,
-            decoder: Decoder::new(),
-            alu: start(3, 0x0123_4567_89AB_CDEF, CODE),
-            loads: start(data, second, MEMORY_LOOP),
-            services: start(0, 1, SERVICE_LOOP),
+            core: Core::new(data, data.wrapping_add(4096)),
         })
     }
 
     /// Runs a batch of a workload, `None` where an access is refused.
-    pub fn batch(&mut self, workload: Workload) -> Option<Batch> {
+    pub fn batch(&mut self, lists: &Lists, workload: Workload) -> Option<Batch> {
         match workload {
-            Workload::Decode => Some(decode_each(&self.text)),
-            Workload::DecodeShuffled => Some(decode_each(&self.shuffled)),
-            Workload::Load => load_each(&mut self.memory, &self.within),
-            Workload::Store => store_each(&mut self.memory, &self.within),
-            Workload::LoadAcross => load_each(&mut self.memory, &self.across),
-            Workload::StoreAcross => store_each(&mut self.memory, &self.across),
-            Workload::Fetch => fetch_each(&mut self.memory, &self.code),
-            Workload::Alu => run_on(&mut self.decoder, &mut self.alu, &mut self.memory),
-            Workload::Memory => run_on(&mut self.decoder, &mut self.loads, &mut self.memory),
-            Workload::Services => {
-                run_on(&mut self.decoder, &mut self.services, &mut self.memory)
-            }
+            Workload::Decode => Some(decode_each(&lists.text)),
+            Workload::DecodeShuffled => Some(decode_each(&lists.shuffled)),
+            Workload::Load => load_each(self.memory, &lists.within),
+            Workload::Store => store_each(self.memory, &lists.within),
+            Workload::LoadAcross => load_each(self.memory, &lists.across),
+            Workload::StoreAcross => store_each(self.memory, &lists.across),
+            Workload::Fetch => fetch_each(self.memory, &lists.code),
+            Workload::Alu => self.core.run_alu(self.memory),
+            Workload::Memory => self.core.run_memory(self.memory),
+            Workload::Services => self.core.run_services(self.memory),
+            Workload::Map => map_each(self.memory, SPARE_PAGE),
         }
+    }
+
+    /// The core with its registers.
+    pub fn core(&self) -> &Core {
+        &self.core
     }
 }
 
 /// Stores words one after another; `false` where one is refused.
-fn put_words(memory: &mut Flat, first: u64, words: &[u32]) -> bool {
+fn put_words<M: Tagged>(memory: &mut M, first: u64, words: &[u32]) -> bool {
     let mut at = first;
     for word in words {
         if memory.write(at, &word.to_le_bytes(), false).is_err() {

@@ -1,25 +1,35 @@
 //! `benchmark WORKLOAD`: runs a workload through the libraries for about a second and prints its
-//! rate.
+//! rate, over a plain memory and over shared frames.
 #![tactic(auto)]
 
 mod accesses;
 mod bench;
 mod decoding;
+mod heap;
 mod measured;
+mod paging;
 mod programs;
+mod shared;
 mod text;
 mod workload;
 
 use anyhow::{Result, bail};
-use bench::Bench;
+use bench::{Bench, Lists, PAGES};
+use heap::{HEAP_PAGES, report_heap};
 use measured::Measured;
+use mte_space::{Space, pages_of_a_space};
+use mte_flat::Flat;
+use mte_tags::{Paged, TagMode, TagState};
+use mte_translate::{Table, Tlb};
+use shared::{has_room, pool_for};
 use std::env;
 use std::process::ExitCode;
 use std::time::Instant;
 use workload::{Asked, Workload, read_words};
 
 const USAGE: &str = "usage: benchmark WORKLOAD
-Runs a workload for about a second and prints its rate. The workloads:
+Runs a workload for about a second and prints its rate: over a plain memory, over shared frames,
+and how much longer it takes there. The workloads:
   decode           the words of a compiled program, in their order
   decode_shuffled  words of 32 instructions, in a random order
   load             checked loads of 8 bytes within a tagged page
@@ -30,7 +40,10 @@ Runs a workload for about a second and prints its rate. The workloads:
   alu              steps of a loop that adds, subtracts, shifts and combines registers
   memory           steps of a loop, a quarter of them loads and a quarter stores
   services         steps of a loop with an SVC in every seven instructions
+  map              a page that is mapped and unmapped
   all              each of them in turn
+  heap             malloc and free of 24 bytes, 1 KiB and 33 pages, with 10 and 10,000 live chunks
+  compare          a batch of each on both memories, and whether the results and registers are equal
 ";
 
 const SECOND: u64 = 1_000_000_000;
@@ -40,7 +53,8 @@ const BATCHES: u32 = 16;
 
 fn main(rt: HostRuntime) -> Result<ExitCode> {
     let words: Vec<String> = env::args(&rt)?.collect(rt.alloc())?;
-    match read_words(&words) {
+    let asked = read_words(&words);
+    match asked {
         Asked::Help => {
             print!(rt; "{USAGE}")?;
             Ok(ExitCode::SUCCESS)
@@ -49,49 +63,107 @@ fn main(rt: HostRuntime) -> Result<ExitCode> {
             print!(rt; "{USAGE}")?;
             Ok(ExitCode::from(2))
         }
-        Asked::One(workload) => {
-            report_all(&rt, &[workload])?;
-            Ok(ExitCode::SUCCESS)
-        }
-        Asked::All => {
-            report_all(&rt, &Workload::ALL)?;
+        _ => {
+            run_asked(&rt, asked)?;
             Ok(ExitCode::SUCCESS)
         }
     }
 }
 
-/// Runs workloads in turn and prints their rates.
-fn report_all(rt: &HostRuntime, workloads: &[Workload]) -> Result<()> {
-    let mut bench = Bench::new(rt.alloc())?;
-    for workload in workloads {
-        report(rt, &mut bench, *workload)?;
+/// Makes a plain memory and one over shared frames, and does there what is asked.
+fn run_asked(rt: &HostRuntime, asked: Asked) -> Result<()> {
+    let pages = match asked {
+        Asked::Heap => HEAP_PAGES,
+        _ => PAGES,
+    };
+    let mut plain = Flat::new(rt.alloc(), pages, TagMode::Sync)?;
+    let mut pool = pool_for(rt.alloc(), pages)?;
+    let Ok(mut quota) = pool.reserve(2 * pages + 1) else {
+        bail!("the frames could not be reserved");
+    };
+    if pool.taken(&quota) >= pool.reserved(&quota) {
+        bail!("there is no frame for the table");
+    }
+    let mut table = Table::new(&mut pool, &mut quota);
+    if !has_room(&pool, &table, &quota, pages) {
+        bail!("there are too few frames");
+    }
+    let mut tlb = Tlb::new();
+    let mut state = TagState {
+        mode: TagMode::Sync,
+        pending: false,
+    };
+    pages_of_a_space();
+    let mut shared = Space::new(
+        &mut pool, &mut table, &mut quota, &mut tlb, &mut state, 1, pages,
+    );
+    if pages == HEAP_PAGES {
+        println!(rt; "over a plain memory:")?;
+        report_heap(rt, &mut plain)?;
+        println!(rt; "over shared frames:")?;
+        return report_heap(rt, &mut shared);
+    }
+    let lists = Lists::new(rt.alloc())?;
+    let mut plain = Bench::new(&mut plain, &lists)?;
+    let mut shared = Bench::new(&mut shared, &lists)?;
+    match asked {
+        Asked::One(workload) => report(rt, &lists, &mut plain, &mut shared, workload),
+        Asked::Compare => compare(rt, &lists, &mut plain, &mut shared),
+        _ => report_all(rt, &lists, &mut plain, &mut shared),
+    }
+}
+
+/// Runs all workloads in turn and prints their rates.
+fn report_all<A: Paged, B: Paged>(
+    rt: &HostRuntime,
+    lists: &Lists,
+    plain: &mut Bench<'_, A>,
+    shared: &mut Bench<'_, B>,
+) -> Result<()> {
+    for workload in Workload::ALL {
+        report(rt, lists, plain, shared, workload)?;
     }
     Ok(())
 }
 
-/// Runs a workload for about a second and prints its rate.
-fn report(rt: &HostRuntime, bench: &mut Bench, workload: Workload) -> Result<()> {
-    let measured = measure(rt, bench, workload)?;
+/// Runs a workload for about a second on each memory that it may reach, and prints its rate.
+fn report<A: Paged, B: Paged>(
+    rt: &HostRuntime,
+    lists: &Lists,
+    plain: &mut Bench<'_, A>,
+    shared: &mut Bench<'_, B>,
+    workload: Workload,
+) -> Result<()> {
+    let measured = measure(rt, lists, plain, workload)?;
     let tenths = measured.tenths();
-    println!(rt;
-        "{}: {}.{} ns {}, {} million a second ({})",
-        workload.name(),
-        tenths / 10,
-        tenths % 10,
-        workload.unit(),
-        measured.millions(),
-        measured.sum
-    )?;
+    let (name, unit) = (workload.name(), workload.unit());
+    print!(rt; "{name}: {}.{} ns {unit}", tenths / 10, tenths % 10)?;
+    if workload.has_memory() {
+        let other = measure(rt, lists, shared, workload)?;
+        let tenths = other.tenths();
+        let ratio = other.tenths() * 100 / measured.tenths().max(1);
+        print!(rt;
+            ", over shared frames {}.{} ns, {ratio} %",
+            tenths / 10,
+            tenths % 10
+        )?;
+    }
+    println!(rt; " ({})", measured.sum)?;
     Ok(())
 }
 
 /// Runs batches of a workload until a second has passed.
-fn measure(rt: &HostRuntime, bench: &mut Bench, workload: Workload) -> Result<Measured> {
+fn measure<M: Paged>(
+    rt: &HostRuntime,
+    lists: &Lists,
+    bench: &mut Bench<'_, M>,
+    workload: Workload,
+) -> Result<Measured> {
     let mut measured = Measured::default();
     let start = Instant::now(rt)?;
     for _ in 0..u32::MAX {
         for _ in 0..BATCHES {
-            let Some(batch) = bench.batch(workload) else {
+            let Some(batch) = bench.batch(lists, workload) else {
                 bail!("{}: an access was refused", workload.name());
             };
             measured.add(&batch);
@@ -102,4 +174,25 @@ fn measure(rt: &HostRuntime, bench: &mut Bench, workload: Workload) -> Result<Me
         }
     }
     Ok(measured)
+}
+
+/// Runs a batch of each workload on both memories and prints whether they end alike.
+fn compare<A: Paged, B: Paged>(
+    rt: &HostRuntime,
+    lists: &Lists,
+    plain: &mut Bench<'_, A>,
+    shared: &mut Bench<'_, B>,
+) -> Result<()> {
+    for workload in Workload::ALL {
+        let (one, other) = (plain.batch(lists, workload), shared.batch(lists, workload));
+        let alike = one.is_some() && one == other;
+        println!(rt;
+            "{}: {}",
+            workload.name(),
+            if alike { "equal" } else { "different" }
+        )?;
+    }
+    let alike = plain.core().has_registers_of(shared.core());
+    println!(rt; "registers: {}", if alike { "equal" } else { "different" })?;
+    Ok(())
 }

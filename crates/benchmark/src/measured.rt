@@ -3,7 +3,7 @@
 ghost use Rattle.std.specs.Prelude.{◌≡◌, ◌+◌, ◌*◌, ◌/◌, ◌%◌, ◌^◌, max};
 
 /// What a batch did.
-#[derive(Clone, Copy, PartialEq, Eq, Debug)]
+#[derive(Clone, Copy, PartialEq, Eq)]
 pub struct Batch {
     /// The accesses, words or steps.
     pub count: u64,
@@ -12,7 +12,7 @@ pub struct Batch {
 }
 
 /// What batches did, and how long they took.
-#[derive(Clone, Copy, PartialEq, Eq, Debug, Default)]
+#[derive(Clone, Copy, Default)]
 pub struct Measured {
     /// The accesses, words or steps.
     pub count: u64,

@@ -4,7 +4,7 @@ ghost use Rattle.std.specs.Prelude.{◌≡◌, IfSome};
 
 use crate::measured::Batch;
 use a64_step::{Decoder, Outcome, Regs, run};
-use mte_flat::Flat;
+use mte_tags::Tagged;
 
 /// A loop of instructions between registers (assembled by llvm-mc).
 pub const ALU: [u32; 16] = [
@@ -61,8 +61,62 @@ pub const SERVICES: [u32; 7] = [
 /// The steps of a batch.
 const STEPS: u64 = 1 << 16;
 
+/// The address of the page of the programs, and where the second and the third begin.
+pub const CODE: u64 = 0x1_0000;
+
+pub const MEMORY_CODE: u64 = CODE + 1024;
+
+pub const SERVICES_CODE: u64 = CODE + 2048;
+
+/// A core that goes on with each program in turn: a decoder, and the registers of each program.
+#[derive(Drop)]
+pub struct Core {
+    decoder: Decoder,
+    alu: Regs,
+    memory: Regs,
+    services: Regs,
+}
+
+impl Core {
+    /// At the start of the programs, with pointers to two pages of data for the second.
+    pub fn new(first: u64, second: u64) -> Core {
+        Core {
+            decoder: Decoder::new(),
+            alu: start(3, 0x0123_4567_89AB_CDEF, CODE),
+            memory: start(first, second, MEMORY_CODE),
+            services: start(0, 1, SERVICES_CODE),
+        }
+    }
+
+    /// The steps of a batch of the first program, `None` where it stops.
+    pub fn run_alu<M: Tagged>(&mut self, memory: &mut M) -> Option<Batch>
+        ensures { IfSome result (λ b. b.count ≡ 65536) }
+    {
+        run_on(&mut self.decoder, &mut self.alu, memory)
+    }
+
+    /// Those of the second.
+    pub fn run_memory<M: Tagged>(&mut self, memory: &mut M) -> Option<Batch>
+        ensures { IfSome result (λ b. b.count ≡ 65536) }
+    {
+        run_on(&mut self.decoder, &mut self.memory, memory)
+    }
+
+    /// Those of the third.
+    pub fn run_services<M: Tagged>(&mut self, memory: &mut M) -> Option<Batch>
+        ensures { IfSome result (λ b. b.count ≡ 65536) }
+    {
+        run_on(&mut self.decoder, &mut self.services, memory)
+    }
+
+    /// Whether the registers of each program are those of another core.
+    pub fn has_registers_of(&self, other: &Core) -> bool {
+        self.alu == other.alu && self.memory == other.memory && self.services == other.services
+    }
+}
+
 /// Registers at the start of a program: x0, x1 and PC as given, the others 0.
-pub fn start(x0: u64, x1: u64, pc: u64) -> Regs {
+fn start(x0: u64, x1: u64, pc: u64) -> Regs {
     let mut regs = Regs::new(pc, 0);
     regs.x[0] = x0;
     regs.x[1] = x1;
@@ -70,7 +124,7 @@ pub fn start(x0: u64, x1: u64, pc: u64) -> Regs {
 }
 
 /// Goes on with a program as a host does, past each SVC; `None` where it stops otherwise.
-pub fn run_on(decoder: &mut Decoder, regs: &mut Regs, memory: &mut Flat) -> Option<Batch>
+fn run_on<M: Tagged>(decoder: &mut Decoder, regs: &mut Regs, memory: &mut M) -> Option<Batch>
     ensures { IfSome result (λ b. b.count ≡ 65536) }
 {
     let mut left = STEPS;

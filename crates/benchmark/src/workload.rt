@@ -1,7 +1,7 @@
 //! The workloads and their names.
 
 /// What is timed.
-#[derive(Clone, Copy, PartialEq, Eq, Debug)]
+#[derive(Clone, Copy)]
 pub enum Workload {
     /// Decoding of a program's words, in their order.
     Decode,
@@ -23,11 +23,13 @@ pub enum Workload {
     Memory,
     /// Steps of a loop with an SVC in every seven instructions.
     Services,
+    /// A page that is mapped and unmapped.
+    Map,
 }
 
 impl Workload {
     /// All of them, in the order in which they are run.
-    pub const ALL: [Workload; 10] = [
+    pub const ALL: [Workload; 11] = [
         Workload::Decode,
         Workload::DecodeShuffled,
         Workload::Load,
@@ -38,6 +40,7 @@ impl Workload {
         Workload::Alu,
         Workload::Memory,
         Workload::Services,
+        Workload::Map,
     ];
 
     /// Its name on the command line.
@@ -53,6 +56,7 @@ impl Workload {
             Workload::Alu => "alu",
             Workload::Memory => "memory",
             Workload::Services => "services",
+            Workload::Map => "map",
         }
     }
 
@@ -64,7 +68,13 @@ impl Workload {
             Workload::Store | Workload::StoreAcross => "a store",
             Workload::Fetch => "a fetch",
             Workload::Alu | Workload::Memory | Workload::Services => "an instruction",
+            Workload::Map => "a page",
         }
+    }
+
+    /// Whether it reaches a memory.
+    pub fn has_memory(self) -> bool {
+        !matches!(self, Workload::Decode | Workload::DecodeShuffled)
     }
 
     /// The workload of a name.
@@ -76,7 +86,7 @@ impl Workload {
 }
 
 /// The request of a command line.
-#[derive(Clone, Copy, PartialEq, Eq, Debug)]
+#[derive(Clone, Copy)]
 pub enum Asked {
     /// No argument was given.
     Help,
@@ -86,6 +96,10 @@ pub enum Asked {
     One(Workload),
     /// Each workload in turn.
     All,
+    /// Pairs of a malloc and a free.
+    Heap,
+    /// The programs on both memories, and whether their registers are equal.
+    Compare,
 }
 
 /// Reads a command line, of which the first word is the program's name.
@@ -93,12 +107,12 @@ pub fn read_words(words: &[String]) -> Asked {
     match words {
         [] | [_] => Asked::Help,
         [_, name] => {
-            if name.as_str() == "all" {
-                return Asked::All;
-            }
-            match Workload::from_name(name.as_str()) {
-                Some(workload) => Asked::One(workload),
-                None => Asked::Unknown,
+            match (name.as_str(), Workload::from_name(name.as_str())) {
+                ("all", _) => Asked::All,
+                ("heap", _) => Asked::Heap,
+                ("compare", _) => Asked::Compare,
+                (_, Some(workload)) => Asked::One(workload),
+                (_, None) => Asked::Unknown,
             }
         }
         _ => Asked::Unknown,

@@ -93,7 +93,7 @@ impl PageStore for Space<'_> {
         fault_of_run(self.pool, found, at, count, access)
     }
 
-    #[inline]
+    #[inline(always)]
     fn fetch_aligned(&mut self, pc: u64) -> Result<u32, MemFault> {
         let page = plain(pc) / 4096;
         let found = translate(self.pool, self.table, self.tlb, self.asid, page);

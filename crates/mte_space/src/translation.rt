@@ -11,7 +11,7 @@ use mte_translate::{Table, Tlb, fill_adds_its_own, lookup_returns_what_stands};
 
 /// The frame and the attributes of a page, if it is mapped. Where the lookaside buffer does not
 /// give them at once, the table is walked, and the buffer remembers what is mapped there.
-#[inline]
+#[inline(always)]
 pub(crate) fn translate(
     pool: &FramePool,
     table: &Table,
@@ -26,10 +26,28 @@ pub(crate) fn translate(
     ensures entries { NoneEnters asid tlb.old tlb.new }
 {
     lookup_returns_what_stands();
-    fill_adds_its_own();
     if let Some(found) = tlb.quick_lookup(asid, page) {
         return Some(found);
     }
+    walk_and_fill(pool, table, tlb, asid, page)
+}
+
+/// The same by the table alone.
+#[inline(never)]
+fn walk_and_fill(
+    pool: &FramePool,
+    table: &Table,
+    tlb: &mut Tlb,
+    asid: usize,
+    page: u64,
+) -> Option<(usize, Attrs)>
+    requires table { IsSomeTable pool.now table.now }
+    requires cached { IsCached (pages_of pool.now table.now.frame) asid tlb.old }
+    ensures found { result ≡ get (pages_of pool.now table.now.frame) page }
+    ensures cached { IsCached (pages_of pool.now table.now.frame) asid tlb.new }
+    ensures entries { NoneEnters asid tlb.old tlb.new }
+{
+    fill_adds_its_own();
     let (frame, attrs) = table.walk(pool, page)?;
     tlb.fill(asid, page, frame, attrs);
     Some((frame, attrs))

@@ -8,11 +8,19 @@ use mte_tags::{Attrs, MemFault, Paged, Tagged};
 /// Six pages over two leaves of a table, of which a tenant may map five.
 const PAGES: [u64; 6] = [0x100, 0x101, 0x1FF, 0x200, 0x201, 0x3FF];
 
-/// A call at an address.
-#[derive(Clone, Copy, PartialEq, Eq, Debug)]
+/// A call at an address, or a few.
+#[derive(Clone, Copy)]
 pub enum Call {
     /// Unmaps a page that is mapped, or maps one that isn't.
     Turn(u64),
+    /// Fills a page with a byte and a tag.
+    Fill(u64, u8, u8),
+    /// Whether a page holds these in its bytes, and in its first and its last granule.
+    Holds(u64, u8, u8),
+    /// Reads one byte.
+    Touch(u64),
+    /// A read and a write over two granules of the page 0x100, of which the second has another tag.
+    OverTwoGranules,
     Read(u64, bool),
     Write(u64, u64, bool),
     LoadTag(u64),
@@ -21,10 +29,12 @@ pub enum Call {
     PagesLeft,
 }
 
-#[derive(Clone, Copy, PartialEq, Eq, Debug)]
+#[derive(Clone, Copy, PartialEq, Eq)]
 pub enum Answer {
     Number(u64),
     Refused(MemFault),
+    /// A tenant has too few frames for its pages.
+    NoRoom,
 }
 
 /// Whether a page is mapped.
@@ -68,12 +78,75 @@ fn read<M: Tagged>(memory: &mut M, at: u64, check: bool) -> Result<u64, MemFault
     Ok(u64::from_le_bytes(bytes))
 }
 
+/// Fills a page with a byte and a tag, and returns whether it did.
+fn fill<M: Tagged>(memory: &mut M, at: u64, value: u8, tag: u8) -> bool
+    ensures { M.kept memory.old memory.new }
+{
+    memory.store_tags(at, 256, tag % 16, false).is_ok()
+        && memory.write(at, &[value; 4096], false).is_ok()
+}
+
+/// Whether a page holds a byte in all places, and a tag in its first and its last granule.
+fn holds<M: Tagged>(memory: &mut M, at: u64, value: u8, tag: u8) -> bool
+    ensures { M.kept memory.old memory.new }
+{
+    let mut bytes = [!value; 4096];
+    memory.read(at, &mut bytes, false).is_ok()
+        && bytes == [value; 4096]
+        && memory.load_tag(at) == Ok(tag)
+        && memory.load_tag(at | 0xFF0) == Ok(tag)
+}
+
+/// The first granule of the page 0x100 gets the tag 1. The fault of a read by a pointer with tag 1
+/// over the end of that granule, where a write has it too and neither changes anything.
+fn over_two_granules<M: Tagged>(memory: &mut M) -> Option<MemFault>
+    ensures { M.kept memory.old memory.new }
+{
+    let pointer = 0x0100_0000_0010_000C;
+    let stored = memory.store_tags(0x10_0000, 1, 1, false).is_ok();
+    let mut bytes = [7u8; 8];
+    let fault = memory.read(pointer, &mut bytes, true).err()?;
+    let write = memory.write(pointer - 4, &[9; 16], true).err()?;
+    let unchanged = bytes == [7; 8]
+        && memory.read(pointer - 4, &mut bytes, true).is_ok()
+        && bytes == [0; 8]
+        && memory.read(0x10_0010, &mut bytes, true).is_ok()
+        && bytes == [0; 8]
+        && !memory.pending();
+    let of_write = MemFault {
+        write: true,
+        ..fault
+    };
+    if stored && unchanged && write == of_write {
+        Some(fault)
+    } else {
+        None
+    }
+}
+
 /// The answer to a call.
 pub fn reply<M: Paged>(memory: &mut M, call: Call) -> Answer
     ensures { M.kept memory.old memory.new }
 {
     of_number(match call {
         Call::Turn(page) => Ok(turn(memory, page % 0x4_0000)),
+        Call::Fill(page, value, tag) => Ok(u64::from(fill(
+            memory,
+            page % 0x4_0000 * 4096,
+            value,
+            tag,
+        ))),
+        Call::Holds(page, value, tag) => Ok(u64::from(holds(
+            memory,
+            page % 0x4_0000 * 4096,
+            value,
+            tag,
+        ))),
+        Call::Touch(at) => memory.read(at, &mut [0], true).map(|_| 0),
+        Call::OverTwoGranules => match over_two_granules(memory) {
+            Some(fault) => Err(fault),
+            None => Ok(0),
+        },
         Call::Read(at, check) => read(memory, at, check),
         Call::Write(at, value, check) => {
             memory.write(at, &value.to_le_bytes(), check).map(|_| 0)

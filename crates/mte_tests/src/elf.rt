@@ -7,6 +7,7 @@ use std::alloc::{AllocError, Global};
 use std::test::Fail;
 
 mod compiled;
+mod over_frames;
 
 /// The program that writes "Hi": its instructions, and the two letters.
 const HI: [u32; 9] = [

@@ -1,5 +1,6 @@
 pub mod TlbLemmas
 pub mod StandingLaws
+pub mod ChainLemmas
 pub mod EntryLemmas
 pub mod TreeLemmas
 pub mod TreeUses

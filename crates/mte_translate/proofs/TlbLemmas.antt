@@ -83,7 +83,7 @@ pub room-left : (asid page : ℕ) (ts us : List Translation) → is_some (lookup
 room-left asid page ts us there most e = let few = others-fewer asid page ts there most in rw e (omega (arith, few))
 
 -- where none stands, all are others
-others-all : (asid page : ℕ) (ts : List Translation) → is_some (lookup asid page ts) ≡ false → without asid page ts ≡ ts
+pub others-all : (asid page : ℕ) (ts : List Translation) → is_some (lookup asid page ts) ≡ false → without asid page ts ≡ ts
 others-all asid page ts gone = found (find (is_for asid page) ts) refl gone
   where
     found : (o : Option Translation) → find (is_for asid page) ts ≡ o → is_some {T = ℕ × Attrs} (option_map (λ (t : Translation). (t.frame, t.attrs)) o) ≡ false → without asid page ts ≡ ts

@@ -2,7 +2,7 @@
 use Rattle.std.proofs.Common.{◌≡◌, ◌≢◌, ℕ, zero, suc, ◌+◌, ◌<◌, ◌≤◌, ◌==◌, ◌&&◌, Bool, true, false, cond, refl, sym, ap, subst, ◌∙◌, inl, inr, arith, eq-eqb}
 use Rattle.std.proofs.lemmas.Bool.{cases_eq, cond-true, cond-false}
 use Rattle.mte_frames.specs.Pool.{Pool}
-use Rattle.mte_translate.specs.Tables.{entry_at, walk_at, is_valid, leaf_in, frame_in, IsUsed, IsTree, IsTreeOf, IsSoundTree}
+use Rattle.mte_translate.specs.Tables.{entry_at, is_valid, leaf_in, IsTreeOf, IsSoundTree}
 use Rattle.mte_translate.proofs.TreeLemmas.{page-apart, leaf-root}
 
 is_leaf : Pool → ℕ → ℕ → ℕ → Bool

@@ -3,8 +3,8 @@
 //! address space.
 #![tactic(auto)]
 
+mod chains;
 mod entries;
-mod hints;
 mod laws;
 mod table;
 mod table_laws;

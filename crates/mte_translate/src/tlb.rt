@@ -4,7 +4,7 @@ ghost use Rattle.std.specs.Prelude.{◌≡◌, ◌<◌, ◌≤◌, [], length, I
 ghost use Rattle.mte_translate.specs.Translations.{lookup, filled, without, without_asid};
 ghost use Rattle.mte_translate.specs.Translations.{newest, IsOneEach};
 
-use crate::hints::Hints;
+use crate::chains::Chains;
 use crate::translation::{TLB_ENTRIES, Translation};
 use arrayvec::ArrayVec;
 use mte_tags::Attrs;
@@ -14,7 +14,7 @@ use std::marker::Model;
 #[derive(Drop)]
 pub struct Tlb {
     translations: ArrayVec<Translation, TLB_ENTRIES>,
-    hints: Hints,
+    chains: Chains,
 }
 
 impl Model for Tlb {
@@ -36,7 +36,7 @@ impl Tlb {
     {
         Tlb {
             translations: ArrayVec::new(),
-            hints: Hints::new(),
+            chains: Chains::new(),
         }
     }
 
@@ -50,33 +50,33 @@ impl Tlb {
     }
 
     /// The frame and the attributes of a page of an address space, or `None` where no translation
-    /// stands for them. It looks at one translation first, and at up to 64 where that is another's.
+    /// stands for them. It looks at the translations of the page's hash alone.
     pub fn lookup(&self, asid: usize, page: u64) -> Option<(usize, Attrs)>
         ensures { result ≡ lookup asid page self.now }
     {
-        if let Some(found) = self.quick_lookup(asid, page) {
-            return Some(found);
-        }
-        for translation in self.translations.as_slice() {
+        let mut end = self.chains.end(asid, page);
+        while end > 0 {
+            let translation = self.translations[end - 1];
             if translation.is_for(asid, page) {
                 return Some((translation.frame, translation.attrs));
             }
+            end = self.chains.end_before(end - 1);
         }
         None
     }
 
-    /// The same in constant time, by one comparison; or `None`, perhaps also where one stands.
-    #[inline]
+    /// The same by one comparison; or `None`, perhaps also where one stands.
+    #[inline(always)]
     pub fn quick_lookup(&self, asid: usize, page: u64) -> Option<(usize, Attrs)>
         ensures { IfSome result (λ found. lookup asid page self.now ≡ Some found) }
     {
-        let place = self.hints.place(asid, page);
-        if place >= self.translations.len() {
+        let end = self.chains.end(asid, page);
+        if end == 0 {
             return None;
         }
-        let hinted = self.translations[place];
-        if hinted.is_for(asid, page) {
-            Some((hinted.frame, hinted.attrs))
+        let newest = self.translations[end - 1];
+        if newest.is_for(asid, page) {
+            Some((newest.frame, newest.attrs))
         } else {
             None
         }
@@ -89,7 +89,7 @@ impl Tlb {
             ≡ filled (record { asid = asid; page = page; frame = frame; attrs = attrs }) self.old }
     {
         self.make_room(asid, page);
-        self.hints.note(asid, page, self.translations.len());
+        self.chains.push(asid, page);
         self.translations.push(Translation {
             asid,
             page,
@@ -103,9 +103,12 @@ impl Tlb {
     pub fn forget(&mut self, asid: usize, page: u64)
         ensures { self.new ≡ without asid page self.old }
     {
+        if self.lookup(asid, page).is_none() {
+            return;
+        }
         self.translations
             .retain(|translation| !translation.is_for(asid, page));
-        self.hints.note_all(self.translations.as_slice());
+        self.chains.rebuild(self.translations.as_slice());
     }
 
     /// Drops all translations of an address space. The others keep their order.
@@ -114,7 +117,7 @@ impl Tlb {
     {
         self.translations
             .retain(|translation| translation.asid != asid);
-        self.hints.note_all(self.translations.as_slice());
+        self.chains.rebuild(self.translations.as_slice());
     }
 
     /// Drops an older translation of a page, or else, where 64 stand, the oldest.
@@ -127,7 +130,7 @@ impl Tlb {
             self.forget(asid, page);
         } else if full {
             self.translations.remove(0);
-            self.hints.oldest_dropped();
+            self.chains.drop_oldest();
         }
     }
 }

@@ -1,15 +1,13 @@
-use Rattle.std.proofs.Common.{◌≢◌, subst, sym}
+use Rattle.std.proofs.Common.{◌≢◌, subst, sym, rules}
 use Rattle.mte_translate.specs.Tables.{MapsOnce}
 use Rattle.mte_tests.proofs.space.two_tenants_over_one_pool.Goals as goal
 
-pub act-requires-clause-table : goal.act-requires-clause-table
-act-requires-clause-table g c =
+pub are_answered-requires-clause-first : goal.are_answered-requires-clause-first
+are_answered-requires-clause-first g c =
     let apart = subst (λ k. k ≢ c.in-Some.r) (sym c.new_table.ensures.same) c.in-Some.ensures in
     let kept = c.tables_stay.ensures.others _ _ _ _ _ apart c.new_table-2.ensures.others c.in-Some-new_table.ensures.table in
-    kept.table
-
-pub act-requires-clause-once : goal.act-requires-clause-once
-act-requires-clause-once g c =
-    let apart = subst (λ k. k ≢ c.in-Some.r) (sym c.new_table.ensures.same) c.in-Some.ensures in
-    let kept = c.tables_stay.ensures.others _ _ _ _ _ apart c.new_table-2.ensures.others c.in-Some-new_table.ensures.table in
-    subst MapsOnce (sym kept.pages) c.in-Some-new_table.ensures.once
+    record {
+      table = kept.table;
+      once = subst MapsOnce (sym kept.pages) c.in-Some-new_table.ensures.once;
+      cached = search rules;
+    }

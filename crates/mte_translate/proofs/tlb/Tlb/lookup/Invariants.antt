@@ -1,7 +1,8 @@
-use Rattle.std.proofs.Common.{◌≡◌, drop}
-use Rattle.mte_translate.specs.Translations.{lookup}
+use Rattle.mte_translate.proofs.ChainLemmas.{IsPassed}
 use Rattle.mte_translate.proofs.tlb.Tlb.lookup.Given as goal
 
-abbrev pub invariant-loop-translation : goal.invariant-loop-translation
-invariant-loop-translation l =
-    lookup l.asid l.page (drop l.translation-index l.translation-items) ≡ lookup l.asid l.page l.translation-items
+abbrev pub invariant-loop-end : goal.invariant-loop-end
+invariant-loop-end l = IsPassed l.asid l.page l.self-inside.translations.items l.end
+
+abbrev pub decreases-loop-end : goal.decreases-loop-end
+decreases-loop-end l = l.end

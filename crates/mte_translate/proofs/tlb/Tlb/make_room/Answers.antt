@@ -1,10 +1,15 @@
 use Rattle.std.proofs.Common.{◌≡◌, ◌≤◌, ◌∙◌, ap, length, is_some, remove, true, false, rules}
 use Rattle.mte_translate.specs.Translations.{lookup}
 use Rattle.mte_translate.proofs.TlbLemmas.{room-some, room-left, room-none, room-oldest, one-each-drop, without-one}
+use Rattle.mte_translate.proofs.ChainLemmas.{chained-same, hashes-drop}
 use Rattle.mte_translate.proofs.tlb.Tlb.make_room.Goals as goal
 
 pub invariant_of-self : goal.invariant_of-self
-invariant_of-self c = one-each-drop 1 _ _ c.self.invariant (c.remove.ensures.items ∙ without-one c.self.inside.translations.items)
+invariant_of-self c =
+    record {
+      one_each = one-each-drop 1 _ _ c.self.invariant.one_each (c.remove.ensures.items ∙ without-one c.self.inside.translations.items);
+      chained = chained-same _ _ _ _ (c.drop_oldest.ensures _ c.self.invariant.chained) (hashes-drop _ _ c.remove.ensures.items);
+    }
 
 pub returns-then-is_some-clause-rest : goal.returns-then-is_some-clause-rest
 returns-then-is_some-clause-rest c =
