@@ -8,9 +8,9 @@ ghost use Rattle.mte_tests.specs.Tenants.{IsReady};
 
 use crate::calls::{Answer, CALLS, Call, call_at, reply};
 use mte_arena::Arena;
+use mte_flat::Flat;
 use mte_frames::{FramePool, Quota};
 use mte_space::{Space, other_tenants_stay, pages_of_a_space, written_frames_are_pages};
-use mte_flat::Flat;
 use mte_tags::{FaultKind, MemFault, TagMode, TagState};
 use mte_translate::{Table, Tlb, tables_stay};
 use std::alloc::{AllocError, Global};

@@ -3,7 +3,11 @@
 ghost use Rattle.std.specs.Prelude.{◌≡◌, ◌+◌, ◌<◌, None};
 
 use mte_flat::Flat;
-use mte_tags::{Attrs, FaultKind, MemFault, NoQuota, PageStore, Paged, Rgsr, TagMode, TagState, Tagged, choose_non_excluded, flag_stays_in_sync, mode_stays, no_tag_check_in_async, pages_after_calls, tag_of, with_tag};
+use mte_tags::{
+    Attrs, FaultKind, MemFault, NoQuota, PageStore, Paged, Rgsr, TagMode, TagState, Tagged,
+    choose_non_excluded, flag_stays_in_sync, mode_stays, no_tag_check_in_async, pages_after_calls,
+    tag_of, with_tag,
+};
 use std::test::Fail;
 
 fn fault(kind: FaultKind, addr: u64, write: bool, ptr_tag: u8, mem_tag: u8) -> MemFault {
