@@ -238,8 +238,8 @@ impl FramePool {
         self.arena.data_mut(f)
     }
 
-    /// The same of the frame in `f`, which is out. Where `f` is `None` nothing is lent, and the pool
-    /// stays as it is.
+    /// The same of the frame in `f`, which is out. Where `f` is `None` nothing is lent, and the
+    /// pool stays as it is.
     pub fn data_mut_if(&mut self, f: Option<usize>) -> Option<&mut [u8; FRAME_BYTES]>
         requires { IfSome f (λ g. IsTaken self.old g) }
         ensures* writes_back { sem 𝓛 (lends_bytes_if self.entry f result) }

@@ -82,8 +82,9 @@ abbrev pub life_among : ℕ → List Life → Option Life
 life_among id [] = None
 life_among id (life ∷ more) = if life.id == id then Some life else life_among id more
 
--- Two sessions agree for a tenant: both admit it with the same image, input, seed, reservation, room
--- and tag mode, and its own events are the same. Frames, all other calls and their places may differ.
+-- Two sessions agree for a tenant: both admit it with the same image, input, seed, reservation,
+-- room and tag mode, and its own events are the same. Frames, all other calls and their places may
+-- differ.
 pub record Agree (id : ℕ) (s t : Session) : Type 0 where
   pub life : Life
   pub one : life_among id (lives s) ≡ Some life

@@ -14,8 +14,8 @@ use Rattle.mte_session.specs.Sessions.{session_of}
 abbrev pub input_of : Session → Input
 input_of s = record { frames = s.frames; files = contents s.files.now; script = s.script.now }
 
--- Both scripts admit the tenant with the same image, input, seed, reservation, room and tag mode, and
--- give it the same slices and the same stop.
+-- Both scripts admit the tenant with the same image, input, seed, reservation, room and tag mode,
+-- and give it the same slices and the same stop.
 pub record AgreeFor (id : ℕ) (one other : Input) : Type 0 where
   pub events : List Event
   pub others : List Event

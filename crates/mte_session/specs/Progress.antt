@@ -1,5 +1,5 @@
--- How far a session has come: what its host has, and the events that were refused. Only the function
--- that makes the calls cites it.
+-- How far a session has come: what its host has, and the events that were refused. Only the
+-- function that makes the calls cites it.
 use Rattle.std.specs.Prelude.{ℕ, ◌+◌, List, [], ◌∷◌, ◌++◌, map, Option, Some, None}
 use Rattle.std.specs.List.{concat}
 use Rattle.mte_sched.specs.declared.refusal.Refusal.{Refusal}

@@ -20,7 +20,8 @@ pub fn write_calls<W: Sink>(out: &mut W, calls: &HeapCalls) -> Result<(), WriteF
 
 /// Writes the heap calls that are kept, the oldest first.
 fn write_kept_calls<W: Sink>(out: &mut W, calls: &HeapCalls) -> Result<(), WriteFault>
-    ensures { Writes (W.log out.old) (W.log out.new) result (concat (map call_line calls.now.last)) }
+    ensures { Writes (W.log out.old) (W.log out.new) result
+        (concat (map call_line calls.now.last)) }
 {
     let mut i = 0;
     while i < calls.kept() {

@@ -52,7 +52,8 @@ freed_by p m w (Ok done) = called p Free 0 w 0
 
 unfoldable pub free_by : TenantParts → Memory → Served
 free_by p m =
-    freed_by p m (free_of (world_in p m) (x_of p 0)).world (free_of (world_in p m) (x_of p 0)).result
+    freed_by p m
+    (free_of (world_in p m) (x_of p 0)).world (free_of (world_in p m) (x_of p 0)).result
 
 abbrev pub found_by :
     TenantParts → Memory → HeapService → ℕ → World → Result ℕ HeapAbort → Served

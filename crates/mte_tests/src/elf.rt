@@ -1,6 +1,6 @@
 //! Images of worked values, their refusals, and what they make of a memory.
 
-use mte_elf::{ElfError, load, plan};
+use mte_elf::{ElfError, load, loading_keeps_memories_whole, plan};
 use mte_flat::Flat;
 use mte_tags::{Paged, TagMode, Tagged};
 use std::alloc::{AllocError, Global};
@@ -133,6 +133,7 @@ fn loaded(alloc: Global, file: &[u8]) -> Result<Flat, ElfError> {
 
 #[test]
 fn files_cut_short(rt: HostRuntime) -> Result<(), Fail> {
+    loading_keeps_memories_whole();
     let file = image(rt.alloc(), EXECUTABLE, &[text(1)])?;
     assert_eq!(rt; file.len(), 156);
     for length in 0..file.len() {

@@ -2,8 +2,8 @@
 -- to the next older one of its hash:
 --     hash_of asid page           the hash of a page of an address space
 --     hashes_of ts                those of translations
---     IsChained heads gaps hs     for translations of the hashes hs, the oldest first, heads has for
---                                 each hash the place behind the newest, and gaps for each
+--     IsChained heads gaps hs     for translations of the hashes hs, the oldest first, heads has
+--                                 for each hash the place behind the newest, and gaps for each
 --                                 translation how many stand between it and the next older
 use Rattle.std.specs.Prelude.{◌≡◌, ℕ, ◌+◌, ◌*◌, ◌/◌, ◌%◌, ◌<◌, ◌≤◌, List, length, map, slice_index}
 use Rattle.mte_translate.specs.Translations.{IsOneEach}

@@ -5,7 +5,8 @@
 --                               blocks, the newest on top, and then the pool's
 --     IsAbove c p               what the cache holds is carved, marked free and in no list of the
 --                               pool
---     AreStacks c p             each stack has carved blocks, none twice: those that are marked free
+--     AreStacks c p             each stack has carved blocks, none twice: those that are marked
+--                               free
 use Rattle.std.specs.Prelude.{ℕ, ◌-◌, ◌/◌, ◌<◌, ◌≤◌, ◌≡◌, ◌==◌, Bool, true, false, List, [], ◌∷◌}
 use Rattle.std.specs.Prelude.{◌++◌, length, take, drop, reverse, replicate, get_or, slice_get}
 use Rattle.std.specs.Prelude.{slice_set, slice_index_or, nat_eq, Option, Some, None, IfSome}

@@ -38,7 +38,8 @@ pub record IsServed (m : Memory) (h : HeapState) : Type 0 where
       (i : ℕ) → i < REGION_SIZE / PAGE_SIZE → attrs_at m (REGIONS_START / PAGE_SIZE + i) ≡ None
   pub regions :
       (class i : ℕ) → 0 < class → class ≤ CLASSES → i < REGION_SIZE / PAGE_SIZE
-      → attrs_at m (region_of class / PAGE_SIZE + i) ≡ heap_page (nat_lt i (pages_of h.stacks class))
+      → attrs_at m (region_of class / PAGE_SIZE + i)
+      ≡ heap_page (nat_lt i (pages_of h.stacks class))
   pub mappings :
       (a : ℕ) → SECONDARY_START ≤ a → a < SECONDARY_END
       → attrs_at m (a / PAGE_SIZE) ≡ heap_page (list_any (is_inside a) h.maps.mappings)

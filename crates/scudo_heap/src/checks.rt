@@ -4,7 +4,8 @@ ghost use Rattle.std.specs.Prelude.{◌≡◌, ◌+◌, ◌*◌, ◌<◌, ◌≤
 ghost use Rattle.scudo_secondary.specs.Mappings.{mapping_of};
 ghost use Rattle.scudo_heap.specs.Chunks.{end_of, block_end};
 ghost use Rattle.scudo_heap.specs.Heaps.{heap_of};
-ghost use Rattle.scudo_heap.specs.Checks.{is_allocated, is_place, place_by, size_found, is_mapped, found};
+ghost use Rattle.scudo_heap.specs.Checks.{is_allocated, is_place, place_by, size_found, is_mapped};
+ghost use Rattle.scudo_heap.specs.Checks.{found};
 ghost use Rattle.scudo_heap.specs.Checks.{found_block, found_mapping, found_chunk, HasEnd};
 
 use crate::abort::HeapAbort;

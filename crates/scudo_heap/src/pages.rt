@@ -1,6 +1,7 @@
 //! Allocation with pages of their own.
 
-ghost use Rattle.std.specs.Prelude.{◌≡◌, ◌+◌, ◌-◌, ◌*◌, ◌/◌, ◌<◌, ◌≤◌, ◌^◌, ◌%◌, ℕ, IsTrue, Some, IfSome};
+ghost use Rattle.std.specs.Prelude.{◌≡◌, ◌+◌, ◌-◌, ◌*◌, ◌/◌, ◌<◌, ◌≤◌, ◌^◌, ◌%◌, ℕ, IsTrue, Some};
+ghost use Rattle.std.specs.Prelude.{IfSome};
 ghost use Rattle.mte_tags.specs.Memory.{pages_left, with_new_pages};
 ghost use Rattle.mte_tags.specs.declared.generator.Rgsr.{Rgsr};
 ghost use Rattle.scudo_secondary.specs.Mappings as secondary;
