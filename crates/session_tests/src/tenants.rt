@@ -78,7 +78,7 @@ fn files_of(alloc: Global, words: &[u32]) -> Result<Vec<Vec<u8>>, AllocError> {
     Ok(files)
 }
 
-/// Each program alone, with as many frames as it needs; then beside three tenants that come, run
+/// Each program alone; then beside three tenants that come, run
 /// and stop between its slices. Its lines are the whole report of the one session, and the last
 /// lines of the other.
 #[test]
@@ -86,7 +86,7 @@ fn alone_and_beside_others(rt: HostRuntime) -> Result<(), Fail> {
     for words in ALL {
         let files = files_of(rt.alloc(), words)?;
         let alone = Session {
-            frames: 121,
+            frames: 200,
             script: b"admit 7 image 1 input 1 seed 0000000000000001 frames 60 out 16\n\
                       slice 7 5\nslice 7 100\nslice 7 100\nstop 7\n",
             files: files.as_slice(),

@@ -1,0 +1,66 @@
+#!/usr/bin/env bash
+# Builds each tenant of this folder with the compilers that are there, at -O0, -O2 and -Os, runs it
+# by the host and compares the report with the lines that the tenant's first comment expects. The
+# comment may also give the tenant its input, its pages (frames, 8) and how many slices of 1048576
+# steps it gets (1).
+#     check.sh PROGRAM
+set -euo pipefail
+here=$(cd "$(dirname "$0")" && pwd)
+program=${1:-$here/../../crates/mte_host/out/mte_host}
+work=$(mktemp -d)
+trap 'rm -rf "$work"' EXIT
+flags=(-ffreestanding -nostdlib -static -mgeneral-regs-only -Wall -Wextra)
+
+compilers=()
+command -v clang > /dev/null && command -v ld.lld > /dev/null &&
+    compilers+=("clang --target=aarch64-linux-gnu -fuse-ld=lld")
+command -v aarch64-linux-gnu-gcc > /dev/null && compilers+=("aarch64-linux-gnu-gcc")
+if [[ ${#compilers[@]} -eq 0 ]]; then
+    echo "check.sh: no cross compiler: install clang and lld, or gcc-aarch64-linux-gnu" >&2
+    exit 2
+fi
+
+# The first value that a tenant's comment gives under a name, or the default.
+value() {
+    local found
+    found=$(sed -n "1,/\*\//s/^ *$2: \(.*[^ ]\) *\(\*\/\)\{0,1\}$/\1/p" "$1" | head -n 1)
+    echo "${found:-$3}"
+}
+
+# Runs the image of a tenant.
+run() {
+    local source=$1 image=$2 frames slices
+    frames=$(value "$source" frames 8)
+    slices=$(value "$source" slices 1)
+    value "$source" input "" | tr -d '\n' > "$work/input"
+    {
+        echo "admit 1 image 1 input 2 seed 0000000000000001 frames $frames out 64"
+        for ((i = 0; i < slices; i++)); do echo "slice 1 1048576"; done
+    } > "$work/script"
+    "$program" --frames $((2 * frames + 1)) "$work/script" "$image" "$work/input" > "$work/report"
+}
+
+passed=0 failed=0
+for compiler in "${compilers[@]}"; do
+    for level in -O0 -O2 -Os; do
+        for source in "$here"/*.c; do
+            [[ $(basename "$source") == start.c ]] && continue
+            # shellcheck disable=SC2086
+            $compiler "$level" "${flags[@]}" -o "$work/image" "$here/start.c" "$source"
+            run "$source" "$work/image"
+            good=1
+            while read -r line; do
+                grep -qF -- "$line" "$work/report" || good=0
+            done < <(sed -n '1,/\*\//s/^ *expect: \(.*[^ ]\) *$/\1/p' "$source" | sed 's/ *\*\/$//')
+            if [[ $good -eq 1 ]]; then
+                passed=$((passed + 1))
+            else
+                failed=$((failed + 1))
+                echo "$(basename "$source") by ${compiler%% *} $level:" >&2
+                cat "$work/report" >&2
+            fi
+        done
+    done
+done
+echo "$passed as expected, $failed not"
+[[ $failed -eq 0 ]]

@@ -1,0 +1,14 @@
+/* Overwrites a chunk's header through a pointer without a tag, which fits the header's tag 0: the
+   checksum differs.
+   expect: status abort HeaderCorrupt ptr 0x0100000012000010 */
+#include "tenant.h"
+
+int main(void)
+{
+    char *chunk = tenant_malloc(24);
+    uintptr_t plain = (uintptr_t)chunk & (((uintptr_t)1 << 56) - 1);
+    volatile char *header = (volatile char *)(plain - 16);
+    header[0] = 3;
+    tenant_free(chunk);
+    return 0;
+}

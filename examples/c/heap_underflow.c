@@ -1,0 +1,9 @@
+/* Reads in front of a chunk, where its header stands: the header's granule has tag 0.
+   expect: status fault TagCheck read addr 0x000000001200000f ptr 1 mem 0 */
+#include "tenant.h"
+
+int main(void)
+{
+    volatile char *text = tenant_malloc(24);
+    return text[-1];
+}
