@@ -10,7 +10,7 @@ use std::test::Fail;
 /// Programs, with what follows `admit 1 image 1 input `, and with the lines after `tenant 1`.
 #[test]
 fn services(rt: HostRuntime) -> Result<(), Fail> {
-    let cases: [(&[u32], &[u8], &[u8]); 11] = [
+    let cases: [(&[u32], &[u8], &[u8]); 12] = [
         (
             &READS,
             b"1 seed 0000000000000001 frames 5 out 16\nslice 1 100\n",
@@ -53,6 +53,12 @@ fn services(rt: HostRuntime) -> Result<(), Fail> {
             b"0 seed 0000000000000001 frames 5 out 16\nslice 1 100\n",
             b"status exit 0\nsteps 7\noutput 0\nheap 1\n\
               call malloc 0x0000000000000018 0x0000000000000000 = 0x0000000000000000\n",
+        ),
+        (
+            &PAGES_AFTER_ONE,
+            b"0 seed 0000000000000001 frames 6 out 16\nslice 1 100\n",
+            b"status exit 0\nsteps 7\noutput 0\nheap 1\n\
+              call malloc 0x0000000000000018 0x0000000000000000 = 0x0100000012000010\n",
         ),
         (
             &PAGES_AFTER_ONE,
