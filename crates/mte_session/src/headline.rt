@@ -2,6 +2,7 @@
 
 ghost use Rattle.std.specs.Prelude.{◌≡◌, ◌≤◌, OnOk};
 ghost use Rattle.mte_session.specs.Headline.{input_of, AgreeFor, WroteAlike};
+ghost use Rattle.mte_session.specs.Outcomes.{Reported};
 
 use crate::session::{SessionError, run_session};
 use mte_sched::numbers_stay;
@@ -19,7 +20,7 @@ pub struct Session<'a> {
     pub files: &'a [Vec<u8>],
 }
 
-/// Runs two sessions. Where both admit the tenant `id` with the same image, input, seed,
+/// Runs two sessions, each with a writer of its own. Where both admit the tenant `id` with the same image, input, seed,
 /// reservation, room and tag mode, and give it the same slices and the same stop, both reports have
 /// the same lines of it, from `tenant` to `end`: whatever the other tenants of either session are
 /// and do. Where one of them fails, its error is returned, and the second is not run after the
@@ -36,6 +37,9 @@ pub fn run_both<W: Sink>(
     requires few { one.now.frames ≤ 65536 }
     requires some_other { 1 ≤ other.now.frames }
     requires few_other { other.now.frames ≤ 65536 }
+    ensures one { OnOk result (Reported (input_of one.now) (W.log first.old) (W.log first.new)) }
+    ensures other { OnOk result
+        (Reported (input_of other.now) (W.log second.old) (W.log second.new)) }
     ensures same { OnOk result (AgreeFor id (input_of one.now) (input_of other.now)
         → WroteAlike id (W.log first.old) (W.log first.new) (W.log second.old) (W.log second.new)) }
 {
