@@ -20,11 +20,11 @@ pub struct Session<'a> {
     pub files: &'a [Vec<u8>],
 }
 
-/// Runs two sessions, each with a writer of its own. Where both admit the tenant `id` with the same image, input, seed,
-/// reservation, room and tag mode, and give it the same slices and the same stop, both reports have
-/// the same lines of it, from `tenant` to `end`: whatever the other tenants of either session are
-/// and do. Where one of them fails, its error is returned, and the second is not run after the
-/// first failed.
+/// Runs two sessions, each with a writer of its own. Where both admit the tenant `id` with the same
+/// image, input, seed, reservation, room and tag mode, and give it the same slices and the same
+/// stop, both reports have the same lines of it, from `tenant` to `end`: whatever the other tenants
+/// of either session are and do. Where one of them fails, its error is returned, and the second is
+/// not run after the first failed.
 pub fn run_both<W: Sink>(
     alloc: Global,
     id: u16,
