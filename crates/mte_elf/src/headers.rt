@@ -143,6 +143,19 @@ fn is_loadable(header: &ProgramHeader) -> bool
     header.kind == LOAD && header.memsz > 0
 }
 
+/// The segment that a program header describes.
+fn segment_of(header: &ProgramHeader) -> Segment
+    ensures { result ≡ segment_of header.now }
+{
+    Segment {
+        vaddr: header.vaddr,
+        memsz: header.memsz,
+        offset: header.offset,
+        filesz: header.filesz,
+        flags: header.flags,
+    }
+}
+
 /// The loadable segments with bytes in memory, in the order of the headers. The error is
 /// `OutOfMemory`.
 pub fn segments(alloc: Global, headers: &[ProgramHeader]) -> Result<Vec<Segment>, ElfError>
@@ -150,16 +163,11 @@ pub fn segments(alloc: Global, headers: &[ProgramHeader]) -> Result<Vec<Segment>
         (λ segments. segments.items ≡ map segment_of (filter is_loaded headers.now)) }
     ensures memory { IfErr result (λ e. e ≡ ElfError.OutOfMemory) }
 {
-    let segments = headers
-        .iter()
-        .filter(|header| is_loadable(header))
-        .map(|header| Segment {
-            vaddr: header.vaddr,
-            memsz: header.memsz,
-            offset: header.offset,
-            filesz: header.filesz,
-            flags: header.flags,
-        })
-        .collect(alloc)?;
+    let mut segments = Vec::with_capacity(alloc, headers.len())?;
+    for header in headers {
+        if is_loadable(header) {
+            segments.push(segment_of(header))?;
+        }
+    }
     Ok(segments)
 }
