@@ -3,6 +3,7 @@ use Rattle.std.proofs.Common.{◌≡◌, ℕ, zero, suc, ◌+◌, ◌<◌, ◌%�
 use Rattle.std.specs.List.{range_with_len, filter, All, count_by}
 use Rattle.std.proofs.lemmas.List.{take_more_set, append-nil}
 use Rattle.std.proofs.lemmas.List.Elements.{filter-append, All-filter, All-from_get_or}
+use Rattle.std.proofs.lemmas.List.Sums.{sum_by-append}
 use Rattle.std.proofs.lemmas.List.FromFn.{get_or-range_with_len, length-range_with_len}
 use Rattle.mte_tags.specs.TagChoice.{is_allowed, allowed_tags, tag_in_turn, chosen_of, chosen_tag}
 
@@ -31,6 +32,31 @@ listed p table count n e l h =
 
 pub passed_over : (p : ℕ → Bool) (n : ℕ) → p n ≡ false → filter p (range_with_len 0 (n + 1)) ≡ filter p (range_with_len 0 n)
 passed_over p n e = allowed_more p n ∙ ap (λ b. filter p (range_with_len 0 n) ++ cond b (n ∷ []) []) e ∙ append-nil _
+
+-- one where it is so
+abbrev one_if : Bool → ℕ
+one_if b = 0 + cond b 1 0
+
+-- how many of them some test counts
+count_append : (q : ℕ → Bool) (xs ys : List ℕ) → count_by q (xs ++ ys) ≡ count_by q xs + count_by q ys
+count_append q xs ys = sum_by-append (λ x. cond (q x) 1 0) xs ys
+
+none_of : (b : Bool) (q : ℕ → Bool) (n : ℕ) → q n ≡ false → count_by q (cond b (n ∷ []) []) ≡ 0
+none_of true q n f = ap one_if f
+none_of false q n f = refl
+
+pub counted_one : (p q : ℕ → Bool) (n : ℕ) → p n ≡ true → q n ≡ true
+    → count_by q (filter p (range_with_len 0 (n + 1))) ≡ count_by q (filter p (range_with_len 0 n)) + 1
+counted_one p q n e f =
+    ap (count_by q) (allowed_more p n ∙ ap (λ b. filter p (range_with_len 0 n) ++ cond b (n ∷ []) []) e)
+    ∙ count_append q (filter p (range_with_len 0 n)) (n ∷ [])
+    ∙ ap (λ b. count_by q (filter p (range_with_len 0 n)) + one_if b) f
+
+pub counted_none : (p q : ℕ → Bool) (n : ℕ) → q n ≡ false
+    → count_by q (filter p (range_with_len 0 (n + 1))) ≡ count_by q (filter p (range_with_len 0 n))
+counted_none p q n f =
+    let all = ap (count_by q) (allowed_more p n) ∙ count_append q (filter p (range_with_len 0 n)) (cond (p n) (n ∷ []) []) in
+    omega (arith, all, none_of (p n) q n f)
 
 pub listed_length : (p : ℕ → Bool) (n : ℕ) → p n ≡ true → length (filter p (range_with_len 0 (n + 1))) ≡ length (filter p (range_with_len 0 n)) + 1
 listed_length p n e =

@@ -39,9 +39,9 @@ pub fn choose_non_excluded(tag: u8, offset: u8, exclude: u16) -> u8
     }
     let allowed = &table[..count];
     let rank = if offset == 0 {
-        count_below(allowed, tag)
+        count_below(exclude, tag)
     } else {
-        count_below(allowed, tag + 1) + offset as usize - 1
+        count_below(exclude, tag + 1) + offset as usize - 1
     };
     allowed[rank % count]
 }
@@ -55,16 +55,25 @@ fn list_allowed(exclude: u16, table: &mut [u8; 16]) -> usize
 {
     let mut count = 0;
     for tag in 0..16u8 {
+        // Written in any case, and written over where it is excluded: there is no jump to guess.
+        table[count] = tag;
         if (exclude >> tag) % 2 == 0 {
-            table[count] = tag;
             count += 1;
         }
     }
     count
 }
 
-fn count_below(tags: &[u8], bound: u8) -> usize
-    ensures { result ≡ count_by (λ a. nat_lt a bound) tags.now }
+/// How many tags below a bound are not excluded.
+fn count_below(exclude: u16, bound: u8) -> usize
+    ensures count { result ≡ count_by (λ a. nat_lt a bound) (allowed_tags exclude) }
+    ensures most { result ≤ 16 }
 {
-    tags.iter().filter(|tag| **tag < bound).count()
+    let mut count = 0;
+    for tag in 0..16u8 {
+        if tag < bound && (exclude >> tag) % 2 == 0 {
+            count += 1;
+        }
+    }
+    count
 }

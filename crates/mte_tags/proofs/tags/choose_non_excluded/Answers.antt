@@ -18,13 +18,13 @@ returns-clause-choice c =
     let some : 0 < length tags = omega arith in
     elim c.if-offset-eq0.branch [
       | then-offset-eq0 w ↦
-          let rank : c.if-offset-eq0.rank ≡ count_by (λ a. nat_lt a c.args.tag) tags = w.rank-is ∙ w.count_below-rank.ensures in
+          let rank : c.if-offset-eq0.rank ≡ count_by (λ a. nat_lt a c.args.tag) tags = w.rank-is ∙ w.count_below-rank.ensures.count ∙ ap (count_by (λ a. nat_lt a c.args.tag)) (sym is) in
           ap (λ r. slice_index tags (r % c.list_allowed-count.result)) rank
           ∙ ap (λ n. slice_index tags (count_by (λ a. nat_lt a c.args.tag) tags % n)) (sym long)
           ∙ sym (chosen_at c.args.tag c.args.exclude tags is some)
           ∙ ap (λ k. chosen_tag c.args.tag k c.args.exclude) (sym w.if-offset-eq0.true)
       | else-offset-eq0 w ↦
-          let rank : c.if-offset-eq0.rank ≡ count_by (λ a. nat_lt a (c.args.tag + 1)) tags + c.args.offset - 1 = w.rank-is ∙ ap (λ n. n + c.args.offset - 1) w.count_below.ensures in
+          let rank : c.if-offset-eq0.rank ≡ count_by (λ a. nat_lt a (c.args.tag + 1)) tags + c.args.offset - 1 = w.rank-is ∙ ap (λ n. n + c.args.offset - 1) (w.count_below.ensures.count ∙ ap (count_by (λ a. nat_lt a (c.args.tag + 1))) (sym is)) in
           let later : 0 < c.args.offset = let no = w.if-offset-eq0.false in omega arith in
           ap (λ r. slice_index tags (r % c.list_allowed-count.result)) rank
           ∙ ap (λ n. slice_index tags ((count_by (λ a. nat_lt a (c.args.tag + 1)) tags + c.args.offset - 1) % n)) (sym long)

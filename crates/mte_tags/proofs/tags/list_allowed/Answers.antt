@@ -1,4 +1,5 @@
-use Rattle.std.proofs.Common.{◌≡◌, ◌∙◌, ◌+◌, ◌<◌, sym, ap, length, take, true, false, arith, eq-eqb, length-set}
+use Rattle.std.proofs.Common.{◌≡◌, ◌∙◌, sym, ap, length, take, set, true, false, arith, eq-eqb, length-set}
+use Rattle.std.proofs.lemmas.List.{take-set}
 use Rattle.mte_tags.specs.TagChoice.{is_allowed}
 use Rattle.mte_tags.proofs.Choices.{allowed_to, listed, passed_over, listed_length}
 use Rattle.mte_tags.proofs.tags.list_allowed.Goals as goal
@@ -10,11 +11,11 @@ loop-tag-preserved c =
     elim c.if-exclude-tag-eq0.branch [
       | then-exclude-tag-eq0 w ↦
           let yes : p c.loop-tag.tag ≡ true = eq-eqb _ _ w.if-exclude-tag-eq0.true in
-          let room : c.loop-tag.count < length c.loop-tag.table = omega (arith, length-set c.loop-tag.table c.loop-tag.count c.loop-tag.tag, ap length w.table-is) in
           record {
             count = omega (arith, listed_length p c.loop-tag.tag yes);
             fits = omega arith;
-            tags = ap (λ k. take k c.if-exclude-tag-eq0.table) w.count-is ∙ ap (take (c.loop-tag.count + 1)) w.table-is ∙ listed p c.loop-tag.table c.loop-tag.count c.loop-tag.tag yes room c.loop-tag.invariant.tags;
+            tags = ap (λ k. take k (set c.loop-tag.table c.loop-tag.count c.loop-tag.tag)) w.count-is ∙ listed p c.loop-tag.table c.loop-tag.count c.loop-tag.tag yes (omega arith) c.loop-tag.invariant.tags;
+            long = omega (arith, length-set c.loop-tag.table c.loop-tag.count c.loop-tag.tag);
           }
       | else-exclude-tag-eq0 w ↦
           let no : p c.loop-tag.tag ≡ false = grind (arith, w.if-exclude-tag-eq0.false) in
@@ -22,7 +23,8 @@ loop-tag-preserved c =
           record {
             count = w.count-is ∙ c.loop-tag.invariant.count ∙ ap length (sym same);
             fits = omega arith;
-            tags = ap (λ k. take k c.if-exclude-tag-eq0.table) w.count-is ∙ ap (take c.loop-tag.count) w.table-is ∙ c.loop-tag.invariant.tags ∙ sym same;
+            tags = ap (λ k. take k (set c.loop-tag.table c.loop-tag.count c.loop-tag.tag)) w.count-is ∙ take-set c.loop-tag.table c.loop-tag.count c.loop-tag.tag ∙ c.loop-tag.invariant.tags ∙ sym same;
+            long = omega (arith, length-set c.loop-tag.table c.loop-tag.count c.loop-tag.tag);
           }
     ]
 

@@ -7,5 +7,6 @@ abbrev pub invariant-loop-tag : goal.invariant-loop-tag
 invariant-loop-tag l = record {
   count : l.count ≡ length (filter (is_allowed l.exclude) (range_with_len 0 l.tag));
   fits : l.count ≤ l.tag;
+  long : length l.table ≡ 16;
   tags : take l.count l.table ≡ filter (is_allowed l.exclude) (range_with_len 0 l.tag);
 }
