@@ -1,5 +1,8 @@
 pub mod Drawing
 pub mod Effects
+pub mod FixedPages
+pub mod FixedSteps
 mod GranuleWrites
+pub mod Knowing
 pub mod Modes
 pub mod Running

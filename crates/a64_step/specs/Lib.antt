@@ -16,3 +16,6 @@ pub mod LoadStore
 pub mod LoadStorePair
 pub mod MemoryTagging
 pub mod Steps
+pub mod Fixed
+pub mod Ops
+pub mod Kept

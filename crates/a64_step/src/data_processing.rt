@@ -73,7 +73,7 @@ pub fn two_source(regs: &mut Regs, sf: u8, rm: u8, opcode: u8, rn: u8, rd: u8)
 /// `a + x * y`, or `a - x * y` where `o0` is 1.
 #[inline(always)]
 #[tactic(auto, unfolding(crate::specs::DataProcessing::multiplied_sum))]
-fn multiply_and_add(sf: u8, o0: u8, a: u64, x: u64, y: u64) -> u64
+pub fn multiply_and_add(sf: u8, o0: u8, a: u64, x: u64, y: u64) -> u64
     ensures { result ≡ multiplied_sum (size_of sf) o0 a x y }
 {
     let product = x.wrapping_mul(y);

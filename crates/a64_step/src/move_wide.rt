@@ -9,7 +9,7 @@ use crate::registers::Regs;
 
 /// `imm16` shifted left by `16 * hw`.
 #[inline(always)]
-fn placed_half(imm16: u16, hw: u8) -> u64
+pub fn placed_half(imm16: u16, hw: u8) -> u64
     requires { hw < 4 }
     ensures value { result ≡ imm16 * 2 ^ (16 * hw) }
     ensures narrow { hw < 2 → result < 2 ^ 32 }
@@ -25,7 +25,7 @@ fn placed_half(imm16: u16, hw: u8) -> u64
 
 /// A value with the sixteen bits from `16 * hw` on replaced.
 #[inline(always)]
-fn with_half(old: u64, imm16: u16, hw: u8) -> u64
+pub fn with_half(old: u64, imm16: u16, hw: u8) -> u64
     requires { hw < 4 }
     ensures { result
         ≡ old - old / 2 ^ (16 * hw) % 2 ^ 16 * 2 ^ (16 * hw) + imm16 * 2 ^ (16 * hw) }

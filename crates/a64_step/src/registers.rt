@@ -89,6 +89,62 @@ impl Regs {
         }
     }
 
+    /// A register that is neither the zero register nor the stack pointer.
+    #[inline(always)]
+    #[rattlefmt::skip]
+    #[tactic(auto, unfolding(
+        crate::specs::Registers::register,
+        crate::specs::Registers::register_or_sp
+    ))]
+    pub(crate) fn low(&self, n: u8) -> u64
+        requires { n < 31 }
+        ensures register { result ≡ register self.now n }
+        ensures or_sp { result ≡ register_or_sp self.now n }
+    {
+        self.x[n as usize]
+    }
+
+    /// Writes a register that is neither the zero register nor the stack pointer.
+    #[inline(always)]
+    #[rattlefmt::skip]
+    #[tactic(auto, unfolding(
+        crate::specs::Registers::with_register,
+        crate::specs::Registers::with_register_or_sp
+    ))]
+    pub(crate) fn set_low(&mut self, n: u8, value: u64)
+        requires { n < 31 }
+        ensures register { self.new ≡ with_register self.old n value }
+        ensures or_sp { self.new ≡ with_register_or_sp self.old n value }
+        ensures pc { self.new.pc ≡ self.old.pc }
+    {
+        self.x[n as usize] = value;
+    }
+
+    /// Moves the program counter, which the caller has at hand, to the next instruction.
+    #[inline(always)]
+    #[tactic(auto, unfolding(crate::specs::Registers::advanced))]
+    pub(crate) fn advance_from(&mut self, pc: u64) -> u64
+        requires { pc ≡ self.old.pc }
+        ensures regs { self.new ≡ advanced self.old }
+        ensures pc { result ≡ self.new.pc }
+    {
+        let next = pc.wrapping_add(4) % (1 << 56);
+        self.pc = next;
+        next
+    }
+
+    /// Moves the program counter to an address, and returns what it is then.
+    #[inline(always)]
+    #[tactic(auto, unfolding(crate::specs::Registers::jumped))]
+    pub(crate) fn jump_to(&mut self, target: u64) -> u64
+        ensures regs { self.new ≡ jumped self.old target }
+        ensures pc { result ≡ self.new.pc }
+    {
+        let next = target % (1 << 56);
+        self.pc = next;
+        next
+    }
+
     /// Moves the program counter to the next instruction.
     #[inline(always)]
     #[tactic(auto, unfolding(crate::specs::Registers::advanced))]
