@@ -10,3 +10,5 @@ mod bits;
 mod decode;
 #[cfg(test)]
 mod step;
+#[cfg(test)]
+mod text;
