@@ -32,8 +32,8 @@ HERE = pathlib.Path(__file__).resolve().parent
 OBJDUMP = "aarch64-linux-gnu-objdump"
 START = 0x400000
 
-# Prefetches, and FEAT_CSSC.
-OTHERS = {"prfm", "prfum", "cnt", "ctz"}
+# Prefetches, the tag instructions of privileged code, and FEAT_CSSC.
+OTHERS = {"prfm", "prfum", "ldgm", "stgm", "stzgm", "cnt", "ctz"}
 
 # Each of the aliases that must occur.
 ALIASES = set("""
@@ -67,9 +67,9 @@ def has_pair(f):
     return f["opc"] != 3 and (f["l"] == 0 or f["rt"] != f["rt2"])
 
 
-def is_tag_store(f):
-    """The words of STGP, which has a row of its own."""
-    return f.get("l") == 0 and f["opc"] == 1
+def is_of_another_row(f):
+    """The words of STGP among those of pairs, and of LDG among those of tag stores."""
+    return f.get("opc") == 1 and (f.get("l") == 0 or f.get("mode") == 0)
 
 
 # For each row its name, base, fields (NAME BIT:WIDTH), and which fields make an instruction.
@@ -173,7 +173,7 @@ def make_words(source, count):
         wanted = count * (number + 1) // len(ROWS) - count * number // len(ROWS)
         while wanted > 0:
             drawn = draw(source, fields)
-            if is_tag_store(drawn):
+            if is_of_another_row(drawn):
                 continue
             word = base + sum(drawn[field] << bit for field, (bit, _) in fields)
             good = allows is None or allows(drawn)

@@ -103,7 +103,8 @@ pub fn log_imm(sf: u8, opc: u8, n: u8, immr: u8, imms: u8, rn: u8, rd: u8) -> Li
     let (first, immediate) = (general(sf, rn), Operand::Hexadecimal(mask));
     match opc {
         0 => three("and", general_or_sp(sf, rd), first, immediate),
-        1 if rn == LAST && !by_move => two("mov", general_or_sp(sf, rd), immediate),
+        // No other move of an immediate writes the stack pointer.
+        1 if rn == LAST && (rd == LAST || !by_move) => two("mov", general_or_sp(sf, rd), immediate),
         1 => three("orr", general_or_sp(sf, rd), first, immediate),
         2 => three("eor", general_or_sp(sf, rd), first, immediate),
         _ if rd == LAST => two("tst", first, immediate),
