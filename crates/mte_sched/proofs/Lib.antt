@@ -10,3 +10,4 @@ mod FrameLemmas
 mod EachLemmas
 mod FlagLemmas
 mod LoanLemmas
+mod AloneLemmas

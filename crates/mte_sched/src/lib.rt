@@ -3,6 +3,7 @@
 
 mod accepting;
 mod admission;
+mod alone;
 mod hints;
 mod host;
 mod isolation;
@@ -14,6 +15,7 @@ mod tenant_calls;
 mod turns;
 
 pub use admission::{Admission, AdmitError, MAX_LIVE, NotLive};
+pub use alone::{Watch, admit_alone, slice_watched};
 pub use host::Host;
 pub use isolation::{
     flag_is_clear, ledger_follows, numbers_stay, tenants_are_alone, tenants_are_isolated,

@@ -131,7 +131,7 @@ fn run_on<M: Paged>(
 
 /// Ends the slice, and the tenant where it is running and its flag is set.
 #[tactic(auto, unfolding(crate::specs::Machines::settled))]
-fn settle<M: Tagged>(parts: &mut TenantParts, memory: &mut M)
+pub(crate) fn settle<M: Tagged>(parts: &mut TenantParts, memory: &mut M)
     ensures machine { machine_of parts.new (M.memory memory.new)
         ≡ settled (machine_of parts.old (M.memory memory.old)) }
     ensures heap { parts.new.heap ≡ parts.old.heap }
@@ -148,7 +148,7 @@ fn settle<M: Tagged>(parts: &mut TenantParts, memory: &mut M)
 /// Handles an outcome: serves an SVC where the flag is clear, and ends the tenant at anything else.
 /// Returns whether the slice goes on.
 #[tactic(auto, unfolding(crate::specs::Machines::met))]
-fn handle<M: Paged>(outcome: Outcome, parts: &mut TenantParts, memory: &mut M) -> bool
+pub(crate) fn handle<M: Paged>(outcome: Outcome, parts: &mut TenantParts, memory: &mut M) -> bool
     requires heap { IsServed (M.Tagged.memory memory.old) parts.old.heap }
     requires tag { parts.old.regs.rgsr.tag < 16 }
     ensures machine { record {

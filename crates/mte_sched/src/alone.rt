@@ -1,0 +1,139 @@
+//! A tenant alone, on a memory of its own, and what watches it.
+
+ghost use Rattle.std.specs.Prelude.{◌≡◌, ◌⊎◌, ◌<◌, [], Some, None, IfOk, IfErr, OnOk, OnErr, true};
+ghost use Rattle.mte_tags.specs.Memory.{no_pages};
+ghost use Rattle.mte_elf.specs.Headers.{segments_of, entry_of};
+ghost use Rattle.mte_elf.specs.Images.{refusal_of, pages_of};
+ghost use Rattle.scudo_heap.specs.Served.{IsServed};
+ghost use Rattle.mte_svc.specs.Results.{is_running};
+ghost use Rattle.mte_sched.specs.Ledger.{admission_refusal, charge_of};
+ghost use Rattle.mte_sched.specs.Machines.{machine_of, start_of, attempts, advance};
+ghost use Rattle.mte_sched.specs.Tenants.{terms_of};
+
+use crate::accepting::{holds_image, is_bad_reservation, plan_of};
+use crate::admission::{Admission, AdmitError};
+use crate::machine::{fill, handle, settle, start_parts};
+use a64_step::{Decoder, run, steps_keep_pages};
+use mte_svc::TenantParts;
+use mte_tags::{Paged, Tagged};
+use scudo_heap::condition_of_calls;
+use std::alloc::Global;
+
+/// What watches a tenant: it is shown the machine before and after each attempt, and changes
+/// nothing of it.
+pub trait Watch {
+    /// An instruction is attempted next.
+    fn before<M: Tagged>(&mut self, parts: &TenantParts, memory: &mut M)
+        ensures memory { M.memory memory.new ≡ M.memory memory.old }
+        ensures kept { M.kept memory.old memory.new };
+
+    /// It was attempted, and its service served where it was an SVC.
+    fn after<M: Tagged>(&mut self, parts: &TenantParts, memory: &mut M)
+        ensures memory { M.memory memory.new ≡ M.memory memory.old }
+        ensures kept { M.kept memory.old memory.new };
+}
+
+/// Admits a tenant to a memory of its own that has no pages: maps and loads its image and its
+/// stack, or returns the first refusal that applies, that of a host which has no tenant and just
+/// the frames that it is charged. Only `OutOfMemory`, where an allocation failed, can come in place
+/// of the refusals from `Image` on.
+#[tactic(auto, unfolding(crate::specs::Ledger::admission_refusal))]
+pub fn admit_alone<M: Paged>(
+    alloc: Global,
+    admission: &Admission<'_>,
+    memory: &mut M,
+) -> Result<TenantParts, AdmitError>
+    requires empty { M.Tagged.memory memory.old
+        ≡ no_pages admission.now.pages admission.now.mode }
+    ensures machine { IfOk result (λ parts. machine_of parts (M.Tagged.memory memory.new)
+        ≡ start_of admission.now.id (terms_of admission.now)) }
+    ensures heap { IfOk result (λ parts. IsServed (M.Tagged.memory memory.new) parts.heap) }
+    ensures tag { IfOk result (λ parts. parts.regs.rgsr.tag < 16) }
+    ensures accepted { OnOk result (admission_refusal (charge_of admission.now.pages) []
+        admission.now.id (terms_of admission.now) ≡ None) }
+    ensures refused { IfErr result (λ e. (e ≡ AdmitError.OutOfMemory)
+        ⊎ (admission_refusal (charge_of admission.now.pages) []
+        admission.now.id (terms_of admission.now) ≡ Some e)) }
+    ensures err { OnErr result (M.Tagged.memory memory.new ≡ M.Tagged.memory memory.old) }
+    ensures kept { M.Tagged.kept memory.old memory.new }
+{
+    condition_of_calls();
+    if is_bad_reservation(admission) {
+        return Err(AdmitError::BadReservation);
+    }
+    let plan = plan_of(alloc, admission.image)?;
+    if !holds_image(admission.pages, plan.pages) {
+        return Err(AdmitError::ReservationTooSmall);
+    }
+    let parts = start_parts(alloc, admission, &plan)?;
+    fill(
+        &plan,
+        admission.image,
+        admission.pages,
+        admission.mode,
+        memory,
+    );
+    Ok(parts)
+}
+
+/// A slice that is watched: what `slice` makes of the machine, whatever watches it.
+pub fn slice_watched<M: Paged, W: Watch>(
+    watch: &mut W,
+    parts: &mut TenantParts,
+    memory: &mut M,
+    steps: u32,
+)
+    requires heap { IsServed (M.Tagged.memory memory.old) parts.old.heap }
+    requires tag { parts.old.regs.rgsr.tag < 16 }
+    ensures machine { machine_of parts.new (M.Tagged.memory memory.new)
+        ≡ advance steps (machine_of parts.old (M.Tagged.memory memory.old)) }
+    ensures heap { IsServed (M.Tagged.memory memory.new) parts.new.heap }
+    ensures tag { parts.new.regs.rgsr.tag < 16 }
+    ensures kept { M.Tagged.kept memory.old memory.new }
+{
+    let mut decoder = Decoder::new();
+    let mut left = u64::from(steps);
+    while left > 0 && parts.is_running() {
+        watch.before(parts, memory);
+        left = attempt(&mut decoder, parts, memory, left);
+        watch.after(parts, memory);
+    }
+    settle(parts, memory);
+}
+
+/// Attempts one instruction of a slice that has `left` of them; returns how many it has then, 0
+/// after a yield.
+fn attempt<M: Paged>(
+    decoder: &mut Decoder,
+    parts: &mut TenantParts,
+    memory: &mut M,
+    left: u64,
+) -> u64
+    requires some { 0 < left }
+    requires running { is_running parts.old.account.status ≡ true }
+    requires heap { IsServed (M.Tagged.memory memory.old) parts.old.heap }
+    requires tag { parts.old.regs.rgsr.tag < 16 }
+    ensures rest { attempts result (machine_of parts.new (M.Tagged.memory memory.new))
+        ≡ attempts left (machine_of parts.old (M.Tagged.memory memory.old)) }
+    ensures fewer { result < left }
+    ensures heap { IsServed (M.Tagged.memory memory.new) parts.new.heap }
+    ensures tag { parts.new.regs.rgsr.tag < 16 }
+    ensures kept { M.Tagged.kept memory.old memory.new }
+{
+    steps_keep_pages();
+    condition_of_calls();
+    let stop = run(decoder, &mut parts.regs, memory, 1);
+    let then = left - 1;
+    parts.account.steps = parts.account.steps.saturating_add(1);
+    parts.left = then;
+    match stop.outcome {
+        Some(outcome) => {
+            if handle(outcome, parts, memory) {
+                then
+            } else {
+                0
+            }
+        }
+        None => then,
+    }
+}
