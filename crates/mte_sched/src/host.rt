@@ -20,6 +20,7 @@ use crate::machine::start_parts;
 use crate::place::start_place;
 use crate::tenant::Tenant;
 use crate::turns::{slice_at, stop_at};
+use a64_step::Kept;
 use address_map::{MAX_FRAMES, MAX_PAGES, STACK_PAGES};
 use mte_arena::{Arena, ArenaError, FRAME_BYTES};
 use mte_elf::Plan;
@@ -36,6 +37,8 @@ pub struct Host {
     tlb: Tlb,
     tenants: Vec<Tenant>,
     hints: Hints,
+    /// What the instructions of tenants mean; it holds for all of them.
+    kept: Kept,
     ghost sharing: { IsSharing pool tlb tenants.items },
 }
 
@@ -64,6 +67,7 @@ impl Host {
             tlb: Tlb::new(),
             tenants: Vec::new(alloc),
             hints,
+            kept: Kept::new(),
         })
     }
 
@@ -157,7 +161,15 @@ impl Host {
             return Err(NotLive);
         };
         let tenants = self.tenants.as_mut_slice();
-        slice_at(&mut self.pool, &mut self.tlb, tenants, asid, id, steps);
+        slice_at(
+            &mut self.kept,
+            &mut self.pool,
+            &mut self.tlb,
+            tenants,
+            asid,
+            id,
+            steps,
+        );
         Ok(())
     }
 

@@ -13,7 +13,7 @@ ghost use Rattle.mte_sched.specs.Tenants.{terms_of};
 ghost use Rattle.mte_sched.specs.Machines.{advance, attempts, settled, met, halted, with_service};
 
 use crate::admission::Admission;
-use a64_step::{Decoder, Outcome, Regs, run, steps_keep_pages};
+use a64_step::{Kept, Outcome, Regs, run_kept, steps_keep_pages};
 use address_map::{MAX_PAGES, PAGE_SIZE, STACK_END, STACK_PAGES, STACK_START};
 use mte_elf::{Plan, load};
 use mte_svc::{HeapCalls, Input, Output, Record, Status, SvcEnd, TenantParts, svc};
@@ -75,8 +75,8 @@ pub(crate) fn fill<M: Paged>(plan: &Plan, image: &[u8], pages: u32, mode: TagMod
 }
 
 /// Lets a tenant attempt at most `steps` instructions while it is running and does not yield. It
-/// ends where its flag is set then.
-pub fn slice<M: Paged>(parts: &mut TenantParts, memory: &mut M, steps: u32)
+/// ends where its flag is set then. A table may serve any number of slices, of any tenants.
+pub fn slice<M: Paged>(kept: &mut Kept, parts: &mut TenantParts, memory: &mut M, steps: u32)
     requires heap { IsServed (M.Tagged.memory memory.old) parts.old.heap }
     requires tag { parts.old.regs.rgsr.tag < 16 }
     ensures machine { machine_of parts.new (M.Tagged.memory memory.new)
@@ -85,22 +85,16 @@ pub fn slice<M: Paged>(parts: &mut TenantParts, memory: &mut M, steps: u32)
     ensures tag { parts.new.regs.rgsr.tag < 16 }
     ensures kept { M.Tagged.kept memory.old memory.new }
 {
-    let mut decoder = Decoder::new();
     let mut left = u64::from(steps);
     while left > 0 && parts.is_running() {
-        left = run_on(&mut decoder, parts, memory, left);
+        left = run_on(kept, parts, memory, left);
     }
     settle(parts, memory);
 }
 
 /// Runs to the next service, fault or end, or for `left` instructions; returns how many the slice
 /// has left, 0 after a yield.
-fn run_on<M: Paged>(
-    decoder: &mut Decoder,
-    parts: &mut TenantParts,
-    memory: &mut M,
-    left: u64,
-) -> u64
+fn run_on<M: Paged>(kept: &mut Kept, parts: &mut TenantParts, memory: &mut M, left: u64) -> u64
     requires some { 0 < left }
     requires running { is_running parts.old.account.status ≡ true }
     requires heap { IsServed (M.Tagged.memory memory.old) parts.old.heap }
@@ -114,7 +108,7 @@ fn run_on<M: Paged>(
 {
     steps_keep_pages();
     condition_of_calls();
-    let stop = run(decoder, &mut parts.regs, memory, left);
+    let stop = run_kept(kept, &mut parts.regs, memory, left);
     parts.account.steps = parts.account.steps.saturating_add(left - stop.left);
     parts.left = stop.left;
     match stop.outcome {

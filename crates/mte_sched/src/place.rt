@@ -18,6 +18,7 @@ ghost use Rattle.mte_sched.specs.Ready.{IsReady};
 
 use crate::admission::{Admission, charge};
 use crate::machine::{fill, slice};
+use a64_step::Kept;
 use address_map::{MAX_PAGES, STACK_PAGES};
 use mte_elf::Plan;
 use mte_frames::{FramePool, Quota};
@@ -155,6 +156,7 @@ fn fill_place(
 
 /// Lets a tenant attempt at most `steps` instructions over its place.
 pub(crate) fn slice_place(
+    kept: &mut Kept,
     pool: &mut FramePool,
     tlb: &mut Tlb,
     asid: usize,
@@ -183,7 +185,7 @@ pub(crate) fn slice_place(
         asid,
         pages as usize,
     );
-    slice(parts, &mut memory, steps);
+    slice(kept, parts, &mut memory, steps);
 }
 
 /// Gives all frames of a place back, ends its quota, and forgets its translations.

@@ -8,11 +8,13 @@ ghost use Rattle.mte_sched.specs.Sharing.{IsSharing, HasLiveAt};
 use crate::machine::halt;
 use crate::place::{slice_place, stop_place};
 use crate::tenant::Tenant;
+use a64_step::Kept;
 use mte_frames::FramePool;
 use mte_translate::Tlb;
 
 /// A slice of the tenant that has the number, and of no other.
 pub(crate) fn slice_at(
+    kept: &mut Kept,
     pool: &mut FramePool,
     tlb: &mut Tlb,
     tenants: &mut [Tenant],
@@ -32,6 +34,7 @@ pub(crate) fn slice_at(
         // what holds of every pool is in its contract
         let _ = pool.frames();
         slice_place(
+            kept,
             pool,
             tlb,
             asid,
