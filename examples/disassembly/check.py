@@ -13,7 +13,7 @@ The other words are those that a row's fixed bits fit and that no instruction of
 There PROGRAM must print `.inst`, and objdump either says `undefined` or names one of:
 
 - an instruction of another feature (`OTHERS`);
-- a form that the manual calls CONSTRAINED UNPREDICTABLE: a pair that is loaded into equal registers,
+- a form that the manual calls CONSTRAINED UNPREDICTABLE: a pair that is loaded into one register,
   or a base that is written back and is also transferred.
 
 Needed: aarch64-linux-gnu-objdump (Debian: binutils-aarch64-linux-gnu; tried with 2.40).
@@ -219,6 +219,8 @@ def main():
     seed = int(sys.argv[3]) if len(sys.argv) > 3 else 1
     if not shutil.which(OBJDUMP):
         sys.exit(f"check.py: {OBJDUMP} is not there: install binutils-aarch64-linux-gnu")
+    if not pathlib.Path(program).is_file():
+        sys.exit(f"check.py: {program} is not there: build it by rt run in crates/disassemble")
     made = make_words(random.Random(seed), count)
     words = [word for word, _ in made]
     same = refused = different = 0

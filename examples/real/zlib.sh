@@ -9,17 +9,28 @@
 # system's own lists of packages stay as they are.
 set -euo pipefail
 here=$(cd "$(dirname "$0")" && pwd)
-program=$(realpath "${1:-$here/../../crates/mte_host/out/mte_host}")
+program=$(realpath -m "${1:-$here/../../crates/mte_host/out/mte_host}")
 work=$(mktemp -d)
 trap 'rm -rf "$work"' EXIT
 
-# The source of zlib, as Debian's current release has it, in $work/zlib.
+if [[ ! -x $program ]]; then
+    echo "zlib.sh: $program is not there: build it by rt run in crates/mte_host" >&2
+    exit 2
+fi
+for tool in clang ld.lld apt-get bzip2 python3; do
+    if ! command -v "$tool" > /dev/null; then
+        echo "zlib.sh: $tool is not there" >&2
+        exit 2
+    fi
+done
+
+# The source of zlib, as this machine's release of Debian has it, in $work/zlib.
 fetch() {
-    local lists=$work/lists cache=$work/cache
-    mkdir -p "$lists/partial" "$cache/archives/partial" "$work/zlib"
+    local lists=$work/lists cache=$work/cache release
     # shellcheck source=/dev/null
-    echo "deb-src http://deb.debian.org/debian $(. /etc/os-release && echo "$VERSION_CODENAME") main" \
-        > "$work/sources.list"
+    release=$(. /etc/os-release && echo "$VERSION_CODENAME")
+    mkdir -p "$lists/partial" "$cache/archives/partial" "$work/zlib"
+    echo "deb-src http://deb.debian.org/debian $release main" > "$work/sources.list"
     local apt=(apt-get -qq -o "Dir::Etc::sourcelist=$work/sources.list" -o Dir::Etc::sourceparts=-
         -o "Dir::State::lists=$lists" -o "Dir::Cache=$cache" -o APT::Sandbox::User=)
     (cd "$work" && "${apt[@]}" update && "${apt[@]}" source --download-only zlib) \
@@ -47,7 +58,7 @@ build() {
         "$here/../c/start.c" "$here/gzip_header.c" "${sources[@]}"
 }
 
-# Runs a tenant and prints the first lines of its report and its heap calls.
+# Runs a tenant over the input and prints its report.
 run() {
     printf '%s\n' "admit 1 image 1 input 2 seed 0000000000000001 frames 64 out 64" \
         "slice 1 1048576" > "$work/script"
