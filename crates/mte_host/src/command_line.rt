@@ -7,7 +7,8 @@ use clap::{Arg, ArgAction, ArgMatches, Command, Error, value_parser};
 use mte_program::{Program, StreamSink};
 use mte_session::write_all;
 use std::alloc::{AllocError, Global};
-use std::{env, io};
+use std::env::{self, Args};
+use std::io;
 
 /// What a command line requests.
 #[derive(Debug, Drop)]
@@ -26,7 +27,7 @@ pub fn read_command_line(rt: &HostRuntime) -> Invocation {
         Ok(args) => args,
         Err(error) => return report_unreadable(rt, &error),
     };
-    let Ok(words) = args.collect::<Vec<String>>(rt.alloc()) else {
+    let Ok(words) = words_of(rt.alloc(), args) else {
         return Invocation::OutOfMemory;
     };
     match parse(rt.alloc(), words.as_slice()) {
@@ -34,6 +35,16 @@ pub fn read_command_line(rt: &HostRuntime) -> Invocation {
         Ok(None) => Invocation::OutOfMemory,
         Err(error) => print_text(rt, &error),
     }
+}
+
+/// The arguments, in room that is reserved for all of them: a vector that collects would go on with
+/// less where it is refused.
+fn words_of(alloc: Global, args: Args) -> Result<Vec<String>, AllocError> {
+    let mut words = Vec::with_capacity(alloc, args.len())?;
+    for word in args {
+        words.push(word)?;
+    }
+    Ok(words)
 }
 
 /// How to exit if the arguments cannot be read: out of memory, or not UTF-8.
