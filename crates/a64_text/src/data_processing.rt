@@ -1,9 +1,7 @@
 //! The lines of data-processing instructions, with the aliases that the manual prefers
 //! (Arm ARM DDI 0487, C6.2).
 
-use crate::operand::{
-    Line, Modifier, Operand, Register, four, general, general_or_sp, shifted, three, two,
-};
+use crate::operand::{Line, Modifier, Operand, four, general, general_or_sp, shifted, three, two};
 use a64_bits::bit_masks;
 
 /// The zero register, or the stack pointer.
@@ -95,7 +93,6 @@ fn ones(sf: u8) -> u64 {
     if sf == 1 { u64::MAX } else { 0xFFFF_FFFF }
 }
 
-#[rattlefmt::skip]
 pub fn log_imm(sf: u8, opc: u8, n: u8, immr: u8, imms: u8, rn: u8, rd: u8) -> Line {
     let size = if sf == 1 { 64 } else { 32 };
     let mask = bit_masks(n % 2, imms % 64, immr % 64, size).unwrap_or(0);
@@ -112,7 +109,6 @@ pub fn log_imm(sf: u8, opc: u8, n: u8, immr: u8, imms: u8, rn: u8, rd: u8) -> Li
     }
 }
 
-#[rattlefmt::skip]
 pub fn log_shift(sf: u8, opc: u8, shift: u8, n: u8, rm: u8, imm6: u8, rn: u8, rd: u8) -> Line {
     let destination = general(sf, rd);
     let (first, second) = (general(sf, rn), general(sf, rm));

@@ -74,8 +74,8 @@ fn line_of(instr: &Instr, pc: Option<u64>) -> Line {
 }
 
 /// The text of an instruction in the assembler's syntax, as `{}` writes it: the manual's preferred
-/// form or alias. An address that counts from the instruction is written by its distance, as in
-/// `b .+0x10`.
+/// form or alias, as GNU objdump prints it. An address that counts from the instruction is written
+/// by its distance, as in `b .+0x10`.
 ///
 /// An instruction that `encode` refuses has no syntax: what is written for it says nothing.
 #[derive(Clone, Copy, Debug)]

@@ -4,7 +4,7 @@ use crate::control::target;
 use crate::operand::{Line, Modifier, Operand, Register, four, general, general_or_sp, three, two};
 
 /// Bytes of a granule.
-const GRANULE: i64 = 16;
+const GRANULE: u8 = 16;
 
 /// What follows `ldr`, `ldur`, `str` or `stur`: how many bytes and how they are extended.
 fn suffix(size: u8, opc: u8) -> &'static str {
@@ -121,10 +121,7 @@ impl Indexing {
     }
 }
 
-#[rattlefmt::skip]
-pub fn pair(
-    indexing: Indexing, opc: u8, l: u8, imm7: i8, rt2: u8, rn: u8, rt: u8,
-) -> Line {
+pub fn pair(indexing: Indexing, opc: u8, l: u8, imm7: i8, rt2: u8, rn: u8, rt: u8) -> Line {
     let (sf, bytes) = match opc {
         0 => (0, 4),
         1 => (1, 4),
@@ -132,12 +129,12 @@ pub fn pair(
     };
     let (address, after) = indexing.operands(rn, bytes * i64::from(imm7));
     let stem = if l == 0 { "stp" } else { "ldp" };
-    four(stem, general(sf, rt), general(sf, rt2), address, after)
-        .with_suffix(if opc == 1 { "sw" } else { "" })
+    let kind = if opc == 1 { "sw" } else { "" };
+    four(stem, general(sf, rt), general(sf, rt2), address, after).with_suffix(kind)
 }
 
 pub fn add_g(op: u8, uimm6: u8, uimm4: u8, rn: u8, rd: u8) -> Line {
-    let bytes = Operand::Hexadecimal(16 * u64::from(uimm6));
+    let bytes = Operand::Hexadecimal(u64::from(GRANULE) * u64::from(uimm6));
     let tags = Operand::Hexadecimal(u64::from(uimm4));
     let name = if op == 0 { "addg" } else { "subg" };
     four(
@@ -175,7 +172,7 @@ pub fn ldg(imm9: i16, rn: u8, rt: u8) -> Line {
     two(
         "ldg",
         general(1, rt),
-        Operand::Offset(base(rn), GRANULE * i64::from(imm9)),
+        Operand::Offset(base(rn), i64::from(GRANULE) * i64::from(imm9)),
     )
 }
 
@@ -186,11 +183,17 @@ pub fn st_g(opc: u8, imm9: i16, mode: u8, rn: u8, rt: u8) -> Line {
         2 => "st2g",
         _ => "stz2g",
     };
-    let (address, after) = Indexing::of_mode(mode).operands(rn, GRANULE * i64::from(imm9));
+    let (address, after) = Indexing::of_mode(mode).operands(
+        rn,
+        i64::from(GRANULE) * i64::from(imm9),
+    );
     three(name, general_or_sp(1, rt), address, after)
 }
 
 pub fn st_g_p(mode: u8, imm7: i8, rt2: u8, rn: u8, rt: u8) -> Line {
-    let (address, after) = Indexing::of_mode(mode).operands(rn, GRANULE * i64::from(imm7));
+    let (address, after) = Indexing::of_mode(mode).operands(
+        rn,
+        i64::from(GRANULE) * i64::from(imm7),
+    );
     four("stgp", general(1, rt), general(1, rt2), address, after)
 }
