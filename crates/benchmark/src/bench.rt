@@ -5,19 +5,24 @@ ghost use Rattle.std.specs.Prelude.{◌<◌};
 use crate::accesses::{fetch_each, load_each, store_each};
 use crate::decoding::{decode_each, in_order, shuffled};
 use crate::measured::Batch;
-use crate::paging::{map_each, map_page};
-use crate::programs::{ALU, CODE, Core, MEMORY, MEMORY_CODE, SERVICES, SERVICES_CODE};
+use crate::paging::{map_each, map_page, put_byte};
+use crate::programs::{
+    ALU, CODE, Core, MEMORY, MEMORY_CODE, SERVICES, SERVICES_CODE, WRITABLE_CODE,
+};
 use crate::workload::Workload;
 use anyhow::{Result, bail};
-use mte_tags::{Paged, Tagged, with_tag};
+use mte_tags::{Attrs, Paged, with_tag};
 use std::alloc::{AllocError, Global};
 
-/// The pages of a memory: one of programs, two of data, and one that comes and goes.
-pub const PAGES: usize = 4;
+/// The pages of a memory: one of programs, two of data, one that comes and goes, and one of a
+/// program that may be written.
+pub const PAGES: usize = 5;
 
 const CODE_PAGE: u64 = 16;
 
 const SPARE_PAGE: u64 = 19;
+
+const WRITABLE_CODE_PAGE: u64 = 20;
 
 /// The first of the two pages of data.
 const DATA: u64 = 0x1_1000;
@@ -59,16 +64,19 @@ pub struct Bench<'a, M> {
 impl<'a, M: Paged> Bench<'a, M> {
     /// A memory without pages gets the programs and two pages of tagged data.
     pub fn new(memory: &'a mut M, lists: &Lists) -> Result<Bench<'a, M>> {
-        for page in CODE_PAGE..SPARE_PAGE {
-            if !map_page(memory, page) {
-                bail!("a page is mapped, or there is no room for it");
-            }
+        let mapped = map_page(memory, CODE_PAGE, Attrs::TEXT)
+            && map_page(memory, CODE_PAGE + 1, Attrs::DATA)
+            && map_page(memory, CODE_PAGE + 2, Attrs::DATA)
+            && map_page(memory, WRITABLE_CODE_PAGE, Attrs::ALL);
+        if !mapped {
+            bail!("a page is mapped, or there is no room for it");
         }
         let data = with_tag(DATA, TAG);
         let ready = memory.store_tags(DATA, 512, TAG, true).is_ok()
             && put_words(memory, CODE, &ALU)
             && put_words(memory, MEMORY_CODE, &MEMORY)
             && put_words(memory, SERVICES_CODE, &SERVICES)
+            && put_words(memory, WRITABLE_CODE, &ALU)
             && store_each(memory, &lists.within).is_some();
         if !ready {
             bail!("the programs and the data could not be stored");
@@ -90,6 +98,7 @@ impl<'a, M: Paged> Bench<'a, M> {
             Workload::StoreAcross => store_each(self.memory, &lists.across),
             Workload::Fetch => fetch_each(self.memory, &lists.code),
             Workload::Alu => self.core.run_alu(self.memory),
+            Workload::AluWritable => self.core.run_alu_writable(self.memory),
             Workload::Memory => self.core.run_memory(self.memory),
             Workload::Services => self.core.run_services(self.memory),
             Workload::Map => map_each(self.memory, SPARE_PAGE),
@@ -102,14 +111,26 @@ impl<'a, M: Paged> Bench<'a, M> {
     }
 }
 
-/// Stores words one after another; `false` where one is refused.
-fn put_words<M: Tagged>(memory: &mut M, first: u64, words: &[u32]) -> bool {
+/// Puts words one after another, whatever the attributes of their pages; `false` where there is no
+/// page.
+fn put_words<M: Paged>(memory: &mut M, first: u64, words: &[u32]) -> bool {
     let mut at = first;
     for word in words {
-        if memory.write(at, &word.to_le_bytes(), false).is_err() {
+        if !put_word(memory, at, *word) {
             return false;
         }
         at = at.wrapping_add(4);
+    }
+    true
+}
+
+fn put_word<M: Paged>(memory: &mut M, first: u64, word: u32) -> bool {
+    let mut at = first;
+    for byte in word.to_le_bytes() {
+        if !put_byte(memory, at, byte) {
+            return false;
+        }
+        at = at.wrapping_add(1);
     }
     true
 }

@@ -38,6 +38,7 @@ and how much longer it takes there. The workloads:
   store_across     checked stores of 8 bytes over two tagged pages
   fetch            fetches of instruction words
   alu              steps of a loop that adds, subtracts, shifts and combines registers
+  alu_writable     the same on a page that may be written
   memory           steps of a loop, a quarter of them loads and a quarter stores
   services         steps of a loop with an SVC in every seven instructions
   map              a page that is mapped and unmapped

@@ -1,6 +1,7 @@
 //! Pages that come and go.
 
 ghost use Rattle.std.specs.Prelude.{◌≡◌, ◌<◌, ◌^◌, IsTrue, IfSome, IsSome, None, false};
+ghost use Rattle.mte_tags.specs.Accesses.{IsPageAttrs};
 ghost use Rattle.mte_tags.specs.Memory.{Memory, page_at};
 
 use crate::measured::Batch;
@@ -20,10 +21,21 @@ fn is_free<M: Paged>(memory: &mut M, page: u64) -> bool
 }
 
 /// Maps a page that is not mapped, and returns whether it did.
-pub fn map_page<M: Paged>(memory: &mut M, page: u64) -> bool
-    requires { page < 2 ^ 18 }
+pub fn map_page<M: Paged>(memory: &mut M, page: u64, attrs: Attrs) -> bool
+    requires page { page < 2 ^ 18 }
+    requires attrs { IsPageAttrs attrs }
 {
-    is_free(memory, page) && memory.map_pages(page, 1, Attrs::ALL).is_ok()
+    is_free(memory, page) && memory.map_pages(page, 1, attrs).is_ok()
+}
+
+/// Puts a byte into a page below 2^30 that is mapped, whatever its attributes, and returns whether
+/// it did.
+pub fn put_byte<M: Paged>(memory: &mut M, at: u64, byte: u8) -> bool {
+    if at >= 1 << 30 || is_free(memory, at / 4096) {
+        return false;
+    }
+    memory.load_bytes(at, &[byte]);
+    true
 }
 
 /// Maps a page and unmaps it, again and again; `None` where it cannot be mapped.
@@ -33,7 +45,7 @@ pub fn map_each<M: Paged>(memory: &mut M, page: u64) -> Option<Batch>
 {
     let mut sum: u64 = 0;
     for _ in 0..TURNS {
-        if !map_page(memory, page) {
+        if !map_page(memory, page, Attrs::ALL) {
             return None;
         }
         sum = sum.wrapping_add(memory.pages_left() as u64);

@@ -3,7 +3,7 @@
 ghost use Rattle.std.specs.Prelude.{◌≡◌, IfSome};
 
 use crate::measured::Batch;
-use a64_step::{Decoder, Outcome, Regs, run};
+use a64_step::{Kept, Outcome, Regs, run_kept};
 use mte_tags::Tagged;
 
 /// A loop of instructions between registers (assembled by llvm-mc).
@@ -68,11 +68,16 @@ pub const MEMORY_CODE: u64 = CODE + 1024;
 
 pub const SERVICES_CODE: u64 = CODE + 2048;
 
-/// A core that goes on with each program in turn: a decoder, and the registers of each program.
+/// The address of the first program on a page with WRITE.
+pub const WRITABLE_CODE: u64 = 0x1_4000;
+
+/// A core that goes on with each program in turn: the instructions that it keeps, and the registers
+/// of each program.
 #[derive(Drop)]
 pub struct Core {
-    decoder: Decoder,
+    kept: Kept,
     alu: Regs,
+    alu_writable: Regs,
     memory: Regs,
     services: Regs,
 }
@@ -81,8 +86,9 @@ impl Core {
     /// At the start of the programs, with pointers to two pages of data for the second.
     pub fn new(first: u64, second: u64) -> Core {
         Core {
-            decoder: Decoder::new(),
+            kept: Kept::new(),
             alu: start(3, 0x0123_4567_89AB_CDEF, CODE),
+            alu_writable: start(3, 0x0123_4567_89AB_CDEF, WRITABLE_CODE),
             memory: start(first, second, MEMORY_CODE),
             services: start(0, 1, SERVICES_CODE),
         }
@@ -92,26 +98,36 @@ impl Core {
     pub fn run_alu<M: Tagged>(&mut self, memory: &mut M) -> Option<Batch>
         ensures { IfSome result (λ b. b.count ≡ 65536) }
     {
-        run_on(&mut self.decoder, &mut self.alu, memory)
+        run_on(&mut self.kept, &mut self.alu, memory)
+    }
+
+    /// The same on a page with WRITE.
+    pub fn run_alu_writable<M: Tagged>(&mut self, memory: &mut M) -> Option<Batch>
+        ensures { IfSome result (λ b. b.count ≡ 65536) }
+    {
+        run_on(&mut self.kept, &mut self.alu_writable, memory)
     }
 
     /// Those of the second.
     pub fn run_memory<M: Tagged>(&mut self, memory: &mut M) -> Option<Batch>
         ensures { IfSome result (λ b. b.count ≡ 65536) }
     {
-        run_on(&mut self.decoder, &mut self.memory, memory)
+        run_on(&mut self.kept, &mut self.memory, memory)
     }
 
     /// Those of the third.
     pub fn run_services<M: Tagged>(&mut self, memory: &mut M) -> Option<Batch>
         ensures { IfSome result (λ b. b.count ≡ 65536) }
     {
-        run_on(&mut self.decoder, &mut self.services, memory)
+        run_on(&mut self.kept, &mut self.services, memory)
     }
 
     /// Whether the registers of each program are those of another core.
     pub fn has_registers_of(&self, other: &Core) -> bool {
-        self.alu == other.alu && self.memory == other.memory && self.services == other.services
+        self.alu == other.alu
+            && self.alu_writable == other.alu_writable
+            && self.memory == other.memory
+            && self.services == other.services
     }
 }
 
@@ -124,7 +140,7 @@ fn start(x0: u64, x1: u64, pc: u64) -> Regs {
 }
 
 /// Goes on with a program as a host does, past each SVC; `None` where it stops otherwise.
-fn run_on<M: Tagged>(decoder: &mut Decoder, regs: &mut Regs, memory: &mut M) -> Option<Batch>
+fn run_on<M: Tagged>(kept: &mut Kept, regs: &mut Regs, memory: &mut M) -> Option<Batch>
     ensures { IfSome result (λ b. b.count ≡ 65536) }
 {
     let mut left = STEPS;
@@ -132,7 +148,7 @@ fn run_on<M: Tagged>(decoder: &mut Decoder, regs: &mut Regs, memory: &mut M) -> 
         if left == 0 {
             break;
         }
-        let stop = run(decoder, regs, memory, left);
+        let stop = run_kept(kept, regs, memory, left);
         match stop.outcome {
             None => {}
             Some(Outcome::Svc) => regs.pc = regs.pc.wrapping_add(4),

@@ -19,6 +19,8 @@ pub enum Workload {
     Fetch,
     /// Steps of a loop of instructions between registers.
     Alu,
+    /// The same on a page with WRITE.
+    AluWritable,
     /// Steps of a loop half of which reaches memory.
     Memory,
     /// Steps of a loop with an SVC in every seven instructions.
@@ -29,7 +31,7 @@ pub enum Workload {
 
 impl Workload {
     /// All of them, in the order in which they are run.
-    pub const ALL: [Workload; 11] = [
+    pub const ALL: [Workload; 12] = [
         Workload::Decode,
         Workload::DecodeShuffled,
         Workload::Load,
@@ -38,6 +40,7 @@ impl Workload {
         Workload::StoreAcross,
         Workload::Fetch,
         Workload::Alu,
+        Workload::AluWritable,
         Workload::Memory,
         Workload::Services,
         Workload::Map,
@@ -54,6 +57,7 @@ impl Workload {
             Workload::StoreAcross => "store_across",
             Workload::Fetch => "fetch",
             Workload::Alu => "alu",
+            Workload::AluWritable => "alu_writable",
             Workload::Memory => "memory",
             Workload::Services => "services",
             Workload::Map => "map",
@@ -67,7 +71,8 @@ impl Workload {
             Workload::Load | Workload::LoadAcross => "a load",
             Workload::Store | Workload::StoreAcross => "a store",
             Workload::Fetch => "a fetch",
-            Workload::Alu | Workload::Memory | Workload::Services => "an instruction",
+            Workload::Alu | Workload::AluWritable | Workload::Memory | Workload::Services =>
+                "an instruction",
             Workload::Map => "a page",
         }
     }
