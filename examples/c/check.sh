@@ -1,12 +1,14 @@
 #!/usr/bin/env bash
 # Builds each tenant of this folder with the compilers that are there, at -O0, -O2 and -Os, runs it
-# by the host and compares the report with the lines that the tenant's first comment expects. The
-# comment may also give the tenant its input, its pages (frames, 8) and how many slices of 1048576
-# steps it gets (1).
-#     check.sh PROGRAM
+# by the host and compares the report with the lines that the tenant's first comment expects. Then
+# it runs the tenant alone and compares what that program tells with the lines under cause, its exit
+# status with ends (0), and its output with that of the host. The comment may also give the tenant
+# its input, its pages (frames, 8) and how many slices of 1048576 steps it gets (1).
+#     check.sh [HOST [ALONE]]
 set -euo pipefail
 here=$(cd "$(dirname "$0")" && pwd)
 program=${1:-$here/../../crates/mte_host/out/mte_host}
+alone=${2:-$here/../../crates/mte_run/out/mte_run}
 work=$(mktemp -d)
 trap 'rm -rf "$work"' EXIT
 flags=(-ffreestanding -nostdlib -static -mgeneral-regs-only -Wall -Wextra)
@@ -40,6 +42,18 @@ run() {
     "$program" --frames $((2 * frames + 1)) "$work/script" "$image" "$work/input" > "$work/report"
 }
 
+# Runs the image of a tenant alone, as it runs in its session.
+run_alone() {
+    local source=$1 image=$2
+    ended=0
+    "$alone" --pages "$(value "$source" frames 8)" --out 64 --input "$work/input" \
+        --steps $((1048576 * $(value "$source" slices 1))) "$image" \
+        > "$work/output" 2> "$work/story" || ended=$?
+}
+
+# The output that the report has, in hexadecimal.
+report_output() { sed -n 's/^output [0-9]* *//p' "$work/report"; }
+
 passed=0 failed=0
 for compiler in "${compilers[@]}"; do
     for level in -O0 -O2 -Os; do
@@ -52,12 +66,18 @@ for compiler in "${compilers[@]}"; do
             while read -r line; do
                 grep -qF -- "$line" "$work/report" || good=0
             done < <(sed -n '1,/\*\//s/^ *expect: \(.*[^ ]\) *$/\1/p' "$source" | sed 's/ *\*\/$//')
+            run_alone "$source" "$work/image"
+            while read -r line; do
+                grep -qF -- "$line" "$work/story" || good=0
+            done < <(sed -n '1,/\*\//s/^ *cause: \(.*[^ ]\) *$/\1/p' "$source" | sed 's/ *\*\/$//')
+            [[ $ended -eq $(value "$source" ends 0) ]] || good=0
+            [[ $(od -An -v -tx1 "$work/output" | tr -d ' \n') == "$(report_output)" ]] || good=0
             if [[ $good -eq 1 ]]; then
                 passed=$((passed + 1))
             else
                 failed=$((failed + 1))
                 echo "$(basename "$source") by ${compiler%% *} $level:" >&2
-                cat "$work/report" >&2
+                cat "$work/report" "$work/story" >&2
             fi
         done
     done

@@ -14,5 +14,6 @@ pub use ending::{Ending, finish};
 pub use headline::{Session, run_both};
 pub use mte_script::{Event, ScriptError, ScriptFault, parse_script};
 pub use mte_streams::{ReadFault, Sink, Source, StreamError, WriteFault, read_whole, write_all};
+pub use refusals::write_refusal;
 pub use report::write_report;
 pub use session::{SessionError, run_session};

@@ -1,0 +1,55 @@
+//! A tenant alone on a memory of its own.
+
+ghost use Rattle.std.specs.Prelude.{◌≡◌, ◌<◌, IfOk};
+ghost use Rattle.scudo_heap.specs.Served.{IsServed};
+
+use mte_flat::Flat;
+use mte_sched::{Admission, AdmitError, Status, TenantParts, Watch, admit_alone, slice_watched};
+use std::alloc::Global;
+
+/// A tenant's machine, which is the machine of the definition: it is made by `admit_alone` and
+/// changed by slices alone.
+#[derive(Drop)]
+pub struct Bench {
+    /// All but its memory.
+    pub parts: TenantParts,
+    /// Its memory.
+    pub memory: Flat,
+    ghost served: { IsServed memory parts.heap },
+    ghost tag: { parts.regs.rgsr.tag < 16 },
+}
+
+impl Bench {
+    ghost use Rattle.mte_sched.specs.Machines.{machine_of, start_of, advance, halted};
+    ghost use Rattle.mte_sched.specs.Tenants.{terms_of};
+
+    /// A tenant at its first instruction, or why it is refused.
+    pub fn new(alloc: Global, admission: &Admission<'_>) -> Result<Bench, AdmitError>
+        requires { 0 < admission.now.pages }
+        ensures { IfOk result (λ b. machine_of b.parts b.memory
+            ≡ start_of admission.now.id (terms_of admission.now)) }
+    {
+        let mut memory = Flat::new(alloc, admission.pages as usize, admission.mode)?;
+        let parts = admit_alone(alloc, admission, &mut memory)?;
+        Ok(Bench { parts, memory })
+    }
+
+    /// A slice.
+    pub fn slice<W: Watch>(&mut self, watch: &mut W, steps: u32)
+        ensures { machine_of self.new.parts self.new.memory
+            ≡ advance steps (machine_of self.old.parts self.old.memory) }
+    {
+        slice_watched(watch, &mut self.parts, &mut self.memory, steps);
+    }
+
+    /// A stop.
+    #[tactic(auto, unfolding(mte_sched::specs::Machines::halted))]
+    pub fn stop(&mut self)
+        ensures { machine_of self.new.parts self.new.memory
+            ≡ halted (machine_of self.old.parts self.old.memory) }
+    {
+        if self.parts.is_running() {
+            self.parts.account.status = Status::Stopped;
+        }
+    }
+}

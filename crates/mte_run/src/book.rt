@@ -1,0 +1,220 @@
+//! The book of a tenant's heap calls.
+
+use a64_bits::plain;
+use circular_buffer::HeapCircularBuffer;
+use mte_sched::TenantParts;
+use mte_svc::{HeapCall, HeapService};
+use mte_tags::tag_of;
+use std::alloc::{AllocError, Global};
+
+/// How many heap calls are kept.
+pub const KEPT: usize = 65_536;
+
+/// A heap call that was answered.
+#[derive(Clone, Copy, Debug, PartialEq, Eq)]
+pub struct Entry {
+    /// Its number among the heap calls, from 1.
+    pub number: u64,
+    /// The step that made it, from 1.
+    pub step: u64,
+    /// The address of its SVC.
+    pub pc: u64,
+    /// The call.
+    pub call: HeapCall,
+}
+
+/// A chunk that a heap call returned.
+#[derive(Clone, Copy, Debug, PartialEq, Eq)]
+pub struct Chunk {
+    /// The pointer that was returned.
+    pub pointer: u64,
+    /// The bytes that were asked for.
+    pub size: u64,
+    /// The call that made it.
+    pub made: Entry,
+    /// The call that freed it.
+    pub freed: Option<Entry>,
+}
+
+/// The last heap calls of a tenant, the oldest first.
+#[derive(Drop)]
+pub struct Book {
+    entries: HeapCircularBuffer<Entry>,
+    seen: u64,
+}
+
+/// Which chunk is looked for, by plain addresses.
+#[derive(Clone, Copy, Debug, PartialEq, Eq)]
+pub enum Wanted {
+    /// One whose bytes an address is among.
+    Holding(u64),
+    /// The same, and its pointer has a tag.
+    Tagged(u64, u8),
+    /// One of whose granules an address is in.
+    InGranules(u64),
+    /// One that begins at an address.
+    At(u64),
+}
+
+impl Wanted {
+    /// Whether a chunk is one of these.
+    fn is(&self, chunk: &Chunk) -> bool {
+        match self {
+            Wanted::Holding(addr) => chunk.distance(*addr) == 0,
+            Wanted::Tagged(addr, tag) => chunk.distance(*addr) == 0 && chunk.tag() == *tag,
+            Wanted::InGranules(addr) => chunk.start() <= *addr && *addr < chunk.granules_end(),
+            Wanted::At(start) => chunk.start() == *start,
+        }
+    }
+}
+
+impl Entry {
+    /// The chunk that the call returned, as it was then.
+    fn made(&self) -> Option<Chunk> {
+        let HeapCall {
+            service,
+            first,
+            second,
+            answer,
+        } = self.call;
+        let size = match service {
+            HeapService::Malloc => first,
+            HeapService::Calloc => first.wrapping_mul(second),
+            HeapService::Realloc | HeapService::Memalign => second,
+            HeapService::Free | HeapService::UsableSize => return None,
+        };
+        if answer == 0 {
+            return None;
+        }
+        Some(Chunk {
+            pointer: answer,
+            size,
+            made: *self,
+            freed: None,
+        })
+    }
+
+    /// Whether the call ended the chunk at a plain address: freed it, or gave it another size.
+    fn ends(&self, start: u64) -> bool {
+        let HeapCall {
+            service,
+            first,
+            second,
+            answer,
+        } = self.call;
+        let named = plain(first) == start;
+        match service {
+            HeapService::Free => named,
+            HeapService::Realloc => named && (answer != 0 || second == 0),
+            _ => false,
+        }
+    }
+}
+
+impl Chunk {
+    /// Its first plain address.
+    pub fn start(&self) -> u64 {
+        plain(self.pointer)
+    }
+
+    /// The plain address after its last byte. A chunk of 0 bytes has one.
+    pub fn end(&self) -> u64 {
+        self.start().saturating_add(self.size.max(1))
+    }
+
+    /// The end of its last granule.
+    pub fn granules_end(&self) -> u64 {
+        self.end().saturating_add(15) / 16 * 16
+    }
+
+    /// The tag of its pointer.
+    pub fn tag(&self) -> u8 {
+        tag_of(self.pointer)
+    }
+
+    /// How many bytes lie between it and an address: 0 where the address is one of its own.
+    pub fn distance(&self, addr: u64) -> u64 {
+        let (start, end) = (self.start(), self.end());
+        if addr < start {
+            start - addr
+        } else if addr < end {
+            0
+        } else {
+            (addr - end).saturating_add(1)
+        }
+    }
+}
+
+impl Book {
+    /// An empty book.
+    pub fn new(alloc: Global) -> Result<Book, AllocError> {
+        let entries = HeapCircularBuffer::with_capacity(alloc, KEPT)?;
+        Ok(Book { entries, seen: 0 })
+    }
+
+    /// Enters the heap call that the last step made, if it made one.
+    pub fn note(&mut self, parts: &TenantParts) {
+        let calls = &parts.account.calls;
+        if calls.count() == self.seen {
+            return;
+        }
+        self.seen = calls.count();
+        if let Some(call) = calls.get(calls.kept().saturating_sub(1)) {
+            self.entries.push_back(Entry {
+                number: self.seen,
+                step: parts.account.steps,
+                pc: parts.regs.pc.wrapping_sub(4),
+                call,
+            });
+        }
+    }
+
+    /// Whether calls were made that are no longer kept.
+    pub fn is_short(&self) -> bool {
+        self.seen > self.entries.len() as u64
+    }
+
+    /// The newest chunk that is the wanted one, with the call that freed it.
+    pub fn newest(&self, wanted: &Wanted) -> Option<Chunk> {
+        let mut found = None;
+        for (i, entry) in self.entries.iter().enumerate() {
+            if let Some(chunk) = entry.made() {
+                if wanted.is(&chunk) {
+                    found = Some((i, chunk));
+                }
+            }
+        }
+        let (i, chunk) = found?;
+        Some(self.with_end(i, chunk))
+    }
+
+    /// The chunk, of those with a tag, that lies nearest to an address; of several the newest.
+    pub fn nearest(&self, addr: u64, tag: u8) -> Option<Chunk> {
+        let mut found: Option<(usize, Chunk)> = None;
+        for (i, entry) in self.entries.iter().enumerate() {
+            if let Some(chunk) = entry.made() {
+                let nearer = match &found {
+                    Some((_, best)) => chunk.distance(addr) <= best.distance(addr),
+                    None => true,
+                };
+                if chunk.tag() == tag && nearer {
+                    found = Some((i, chunk));
+                }
+            }
+        }
+        let (i, chunk) = found?;
+        Some(self.with_end(i, chunk))
+    }
+
+    /// A chunk that the call at an index made, with the call that freed it.
+    fn with_end(&self, index: usize, chunk: Chunk) -> Chunk {
+        let start = chunk.start();
+        let freed = self
+            .entries
+            .iter()
+            .skip(index.saturating_add(1))
+            .find(|entry| entry.ends(start))
+            .copied();
+        Chunk { freed, ..chunk }
+    }
+}

@@ -1,0 +1,196 @@
+//! What most likely went wrong, in the manner of the reports of Android's memory tagging.
+
+use crate::book::{Book, Chunk, Wanted};
+use crate::words::Bytes;
+use a64_bits::plain;
+use address_map::{IMAGE_START, STACK_START};
+use mte_sched::Status;
+use mte_svc::FREE;
+use mte_tags::{FaultKind, MemFault};
+use std::fmt;
+
+/// How far from a chunk an access is still taken for one past its end or in front of it, and from
+/// the stack for one below it.
+const NEAR: u64 = 65_536;
+
+/// What most likely went wrong.
+#[derive(Clone, Copy, Debug, PartialEq, Eq)]
+pub enum Cause {
+    /// An access so many bytes into a chunk that was freed.
+    UseAfterFree(Chunk, u64),
+    /// The same, and its block was given again, as another chunk.
+    StalePointer(Chunk, u64, Chunk),
+    /// An access so many bytes after a chunk.
+    Overflow(Chunk, u64),
+    /// An access so many bytes before a chunk.
+    Underflow(Chunk, u64),
+    /// An access to a live chunk by its pointer, but its tags were changed.
+    TagsChanged(Chunk),
+    /// An access to a chunk by a pointer whose tag no chunk there had.
+    ForeignPointer(Chunk),
+    /// An access near address 0.
+    NullPointer,
+    /// An access so many bytes below the stack.
+    StackOverflow(u64),
+    /// A chunk that was freed is freed again.
+    DoubleFree(Chunk),
+    /// A chunk that was freed is handed to the heap.
+    FreedPointer(Chunk),
+    /// A live chunk whose header was overwritten.
+    HeaderOverwritten(Chunk),
+    /// A pointer so many bytes into a chunk is handed to the heap.
+    InsideChunk(Chunk, u64),
+    /// A pointer that no call returned is handed to the heap.
+    NoChunk,
+    /// Nothing that the heap calls tell.
+    Unknown,
+}
+
+impl Cause {
+    /// The cause of a status, where `service` is what x8 was.
+    pub fn of(book: &Book, status: &Status, service: u64) -> Cause {
+        match status {
+            Status::Faulted(fault, _) => match fault.kind {
+                FaultKind::Translation | FaultKind::TagCheck => Cause::of_access(book, fault),
+                _ => Cause::Unknown,
+            },
+            Status::Aborted(_, pointer, _) => Cause::of_pointer(book, *pointer, service),
+            _ => Cause::Unknown,
+        }
+    }
+
+    /// The cause of an access that failed.
+    fn of_access(book: &Book, fault: &MemFault) -> Cause {
+        let (addr, tag) = (fault.addr, fault.ptr_tag);
+        if addr < IMAGE_START {
+            return Cause::NullPointer;
+        }
+        if let Some(chunk) = book.newest(&Wanted::Tagged(addr, tag)) {
+            return Cause::of_own(book, addr, chunk);
+        }
+        if let Some(chunk) = book.nearest(addr, tag) {
+            if chunk.distance(addr) <= NEAR {
+                return Cause::of_neighbour(addr, chunk);
+            }
+        }
+        if addr < STACK_START && STACK_START - addr <= NEAR {
+            return Cause::StackOverflow(STACK_START - addr);
+        }
+        match book.newest(&Wanted::Holding(addr)) {
+            Some(chunk) => Cause::ForeignPointer(chunk),
+            None => Cause::Unknown,
+        }
+    }
+
+    /// The cause of an access to a chunk whose pointer had the tag.
+    fn of_own(book: &Book, addr: u64, chunk: Chunk) -> Cause {
+        if chunk.freed.is_none() {
+            return Cause::TagsChanged(chunk);
+        }
+        let offset = addr.saturating_sub(chunk.start());
+        match book.newest(&Wanted::Holding(addr)) {
+            Some(young) if young.freed.is_none() => Cause::StalePointer(chunk, offset, young),
+            _ => Cause::UseAfterFree(chunk, offset),
+        }
+    }
+
+    /// The cause of an access beside a chunk whose pointer had the tag.
+    fn of_neighbour(addr: u64, chunk: Chunk) -> Cause {
+        let start = chunk.start();
+        if addr < start {
+            Cause::Underflow(chunk, start - addr)
+        } else {
+            Cause::Overflow(chunk, addr.saturating_sub(chunk.end()))
+        }
+    }
+
+    /// The cause of a check of a pointer that failed.
+    fn of_pointer(book: &Book, pointer: u64, service: u64) -> Cause {
+        let start = plain(pointer);
+        if let Some(chunk) = book.newest(&Wanted::At(start)) {
+            return match chunk.freed {
+                None => Cause::HeaderOverwritten(chunk),
+                Some(_) if service == FREE => Cause::DoubleFree(chunk),
+                Some(_) => Cause::FreedPointer(chunk),
+            };
+        }
+        match book.newest(&Wanted::InGranules(start)) {
+            Some(chunk) => Cause::InsideChunk(chunk, start.saturating_sub(chunk.start())),
+            None => Cause::NoChunk,
+        }
+    }
+
+    /// The chunk that it names.
+    pub fn chunk(&self) -> Option<&Chunk> {
+        match self {
+            Cause::UseAfterFree(chunk, _)
+            | Cause::StalePointer(chunk, _, _)
+            | Cause::Overflow(chunk, _)
+            | Cause::Underflow(chunk, _)
+            | Cause::TagsChanged(chunk)
+            | Cause::ForeignPointer(chunk)
+            | Cause::DoubleFree(chunk)
+            | Cause::FreedPointer(chunk)
+            | Cause::HeaderOverwritten(chunk)
+            | Cause::InsideChunk(chunk, _) => Some(chunk),
+            Cause::NullPointer | Cause::StackOverflow(_) | Cause::NoChunk | Cause::Unknown => None,
+        }
+    }
+
+    /// The chunk that its block was given to again.
+    pub fn young(&self) -> Option<&Chunk> {
+        match self {
+            Cause::StalePointer(_, _, young) => Some(young),
+            _ => None,
+        }
+    }
+}
+
+impl fmt::Display for Cause {
+    fn fmt<W: fmt::Write>(&self, f: &mut fmt::Formatter<W>) -> fmt::Result {
+        match self {
+            Cause::UseAfterFree(chunk, offset) => {
+                let offset = Bytes(*offset);
+                write!(f, "[MTE]: Use After Free, {offset} into a {chunk}")
+            }
+            Cause::StalePointer(chunk, offset, _) => {
+                let offset = Bytes(*offset);
+                write!(
+                    f,
+                    "[MTE]: Use After Free by a stale pointer, {offset} into a {chunk}"
+                )
+            }
+            Cause::Overflow(chunk, past) => {
+                let past = Bytes(*past);
+                write!(f, "[MTE]: Buffer Overflow, {past} right of a {chunk}")
+            }
+            Cause::Underflow(chunk, before) => {
+                let before = Bytes(*before);
+                write!(f, "[MTE]: Buffer Underflow, {before} left of a {chunk}")
+            }
+            Cause::TagsChanged(chunk) => write!(f, "the tags were changed of a {chunk}"),
+            Cause::ForeignPointer(chunk) => {
+                write!(f, "[MTE]: a pointer of another tag into a {chunk}")
+            }
+            Cause::NullPointer => f.write_str("Null Pointer"),
+            Cause::StackOverflow(below) => {
+                let below = Bytes(*below);
+                write!(f, "Stack Overflow, {below} below the stack")
+            }
+            Cause::DoubleFree(chunk) => write!(f, "Double Free of a {chunk}"),
+            Cause::FreedPointer(chunk) => write!(f, "Use After Free of a {chunk}"),
+            Cause::HeaderOverwritten(chunk) => {
+                write!(
+                    f,
+                    "Corrupt Header: something was written in front of a {chunk}"
+                )
+            }
+            Cause::InsideChunk(chunk, offset) => {
+                let offset = Bytes(*offset);
+                write!(f, "Invalid Pointer, {offset} into a {chunk}")
+            }
+            Cause::NoChunk => f.write_str("Invalid Pointer, which no heap call returned"),
+            Cause::Unknown => f.write_str("unknown"),
+        }
+    }
+}

@@ -1,0 +1,34 @@
+//! `mte_run [OPTIONS] ELF`: runs one tenant alone, and tells why it ended.
+#![tactic(auto)]
+
+mod bench;
+mod book;
+mod cause;
+mod command_line;
+mod ending;
+mod failure;
+mod moment;
+mod observer;
+mod owner;
+mod pages;
+mod replay;
+mod running;
+mod story;
+mod words;
+
+use command_line::{Invocation, read_command_line};
+use failure::{Failure, report};
+use running::run_program;
+use std::process::ExitCode;
+
+fn main(rt: HostRuntime) -> ExitCode {
+    let status = match &read_command_line(&rt) {
+        Invocation::Run(options) => match run_program(&rt, options) {
+            Ok(status) => status,
+            Err(failure) => report(&rt, &failure),
+        },
+        Invocation::Exit(status) => *status,
+        Invocation::OutOfMemory => report(&rt, &Failure::Memory),
+    };
+    ExitCode::from(status)
+}

@@ -1,0 +1,362 @@
+//! An attempted instruction, and what it changed.
+
+use crate::words::Instruction;
+use a64_asm::Instr;
+use a64_bits::Flags;
+use a64_decode::decode;
+use a64_step::Regs;
+use mte_svc::{
+    CALLOC, EXIT, FREE, MALLOC, MEMALIGN, PAGES_LEFT, READ, REALLOC, STEPS_LEFT, USABLE_SIZE,
+    WRITE, YIELD,
+};
+use mte_tags::tag_of;
+use std::fmt;
+
+/// What stood before an instruction was attempted.
+#[derive(Clone, Copy, Debug, PartialEq, Eq)]
+pub struct Moment {
+    /// Its number, from 1.
+    pub step: u64,
+    /// Its word, if it could be fetched.
+    pub word: Option<u32>,
+    /// The registers.
+    pub regs: Regs,
+}
+
+/// An instruction's line: where it stands, what it is, and what it changed.
+#[derive(Clone, Copy)]
+pub struct Line<'a> {
+    /// Before it.
+    pub moment: &'a Moment,
+    /// The registers after it.
+    pub after: &'a Regs,
+}
+
+impl<'a> fmt::Display for Line<'a> {
+    fn fmt<W: fmt::Write>(&self, f: &mut fmt::Formatter<W>) -> fmt::Result {
+        let Moment { step, word, regs } = self.moment;
+        write!(f, "{step:>9}  {:#018x}  ", regs.pc)?;
+        let Some(word) = *word else {
+            return f.write_str("--------");
+        };
+        let instruction = Instruction { word, pc: regs.pc };
+        write!(f, "{word:08x}  {instruction}")?;
+        if regs == self.after {
+            return Ok(());
+        }
+        let changes = Changes {
+            before: regs,
+            after: self.after,
+        };
+        write!(f, "{changes}")?;
+        if let Some(stored) = decode(word).and_then(|instr| Stored::of(&instr, regs)) {
+            write!(f, "; {stored}")?;
+        }
+        Ok(())
+    }
+}
+
+/// A service's line: what was requested, and its result.
+#[derive(Clone, Copy)]
+pub struct Service<'a> {
+    /// The registers before it.
+    pub before: &'a Regs,
+    /// The registers after it.
+    pub after: &'a Regs,
+}
+
+impl<'a> fmt::Display for Service<'a> {
+    fn fmt<W: fmt::Write>(&self, f: &mut fmt::Formatter<W>) -> fmt::Result {
+        let Regs { x, .. } = self.before;
+        let (number, first, second) = (x[8], x[0], x[1]);
+        let name = service_name(number);
+        write!(f, "service {number} {name}, x0 {first:#x}, x1 {second:#x}")?;
+        if self.before.pc == self.after.pc {
+            return f.write_str(", which ends it");
+        }
+        write!(f, " = {:#x}", self.after.x[0])
+    }
+}
+
+/// The name of a service, by its number.
+fn service_name(number: u64) -> &'static str {
+    match number {
+        EXIT => "exit",
+        WRITE => "write",
+        READ => "read",
+        MALLOC => "malloc",
+        FREE => "free",
+        CALLOC => "calloc",
+        REALLOC => "realloc",
+        MEMALIGN => "memalign",
+        USABLE_SIZE => "usable_size",
+        YIELD => "yield",
+        STEPS_LEFT => "steps_left",
+        PAGES_LEFT => "pages_left",
+        _ => "of no name",
+    }
+}
+
+/// The registers that differ, but PC.
+#[derive(Clone, Copy)]
+struct Changes<'a> {
+    before: &'a Regs,
+    after: &'a Regs,
+}
+
+impl<'a> fmt::Display for Changes<'a> {
+    fn fmt<W: fmt::Write>(&self, f: &mut fmt::Formatter<W>) -> fmt::Result {
+        let Changes { before, after } = self;
+        for (n, (old, new)) in before.x.iter().zip(after.x.iter()).enumerate() {
+            if old != new {
+                write!(f, "; x{n} {old:#x} -> {new:#x}")?;
+            }
+        }
+        if before.sp != after.sp {
+            write!(f, "; sp {:#x} -> {:#x}", before.sp, after.sp)?;
+        }
+        if before.flags != after.flags {
+            let (old, new) = (Nzcv(before.flags), Nzcv(after.flags));
+            write!(f, "; flags {old} -> {new}")?;
+        }
+        if before.rgsr != after.rgsr {
+            write!(f, "; rgsr tag {} -> {}", before.rgsr.tag, after.rgsr.tag)?;
+        }
+        Ok(())
+    }
+}
+
+/// The flags: a capital letter for each that is set.
+#[derive(Clone, Copy)]
+pub struct Nzcv(pub Flags);
+
+impl fmt::Display for Nzcv {
+    fn fmt<W: fmt::Write>(&self, f: &mut fmt::Formatter<W>) -> fmt::Result {
+        let Flags { n, z, c, v } = self.0;
+        f.write_str(if n { "N" } else { "n" })?;
+        f.write_str(if z { "Z" } else { "z" })?;
+        f.write_str(if c { "C" } else { "c" })?;
+        f.write_str(if v { "V" } else { "v" })
+    }
+}
+
+/// What a store leaves in memory.
+#[derive(Clone, Copy, Debug, PartialEq, Eq)]
+enum Stored {
+    /// So many bytes of a register at an address.
+    One {
+        addr: u64,
+        bytes: u64,
+        value: u64,
+    },
+    /// So many bytes each of two registers at an address.
+    Two {
+        addr: u64,
+        bytes: u64,
+        first: u64,
+        second: u64,
+    },
+    /// A tag of so many granules from an address on.
+    Tags {
+        addr: u64,
+        granules: u8,
+        tag: u8,
+    },
+}
+
+impl Stored {
+    /// What an instruction stores, by the registers before it.
+    fn of(instr: &Instr, regs: &Regs) -> Option<Stored> {
+        match *instr {
+            Instr::LdStImm {
+                size,
+                opc: 0,
+                imm12,
+                rn,
+                rt,
+            } => {
+                let offset = u64::from(imm12).wrapping_mul(unit(size));
+                Some(one(regs, rn, offset, size, rt))
+            }
+            Instr::LdStUnscaled {
+                size,
+                opc: 0,
+                imm9,
+                rn,
+                rt,
+            }
+            | Instr::LdStPre {
+                size,
+                opc: 0,
+                imm9,
+                rn,
+                rt,
+            } => { Some(one(regs, rn, signed(i64::from(imm9)), size, rt)) }
+            Instr::LdStPost {
+                size,
+                opc: 0,
+                rn,
+                rt,
+                ..
+            } => Some(one(regs, rn, 0, size, rt)),
+            Instr::LdStReg {
+                size,
+                opc: 0,
+                rm,
+                option,
+                s,
+                rn,
+                rt,
+            } => {
+                let offset = extended(zero_or(regs, rm), option);
+                let scale = if s == 1 { unit(size) } else { 1 };
+                Some(one(regs, rn, offset.wrapping_mul(scale), size, rt))
+            }
+            Instr::PairOff {
+                opc,
+                l: 0,
+                imm7,
+                rt2,
+                rn,
+                rt,
+            }
+            | Instr::PairPre {
+                opc,
+                l: 0,
+                imm7,
+                rt2,
+                rn,
+                rt,
+            } => { Some(two(regs, opc, rn, i64::from(imm7), rt, rt2)) }
+            Instr::PairPost {
+                opc,
+                l: 0,
+                rt2,
+                rn,
+                rt,
+                ..
+            } => { Some(two(regs, opc, rn, 0, rt, rt2)) }
+            Instr::StGP {
+                mode,
+                imm7,
+                rt2,
+                rn,
+                rt,
+            } => {
+                let offset = if mode == 1 { 0 } else { i64::from(imm7) };
+                let addr = base(regs, rn).wrapping_add(signed(offset.wrapping_mul(16)));
+                let (first, second) = (zero_or(regs, rt), zero_or(regs, rt2));
+                Some(Stored::Two {
+                    addr,
+                    bytes: 8,
+                    first,
+                    second,
+                })
+            }
+            Instr::StG {
+                opc,
+                imm9,
+                mode,
+                rn,
+                rt,
+            } => {
+                let offset = if mode == 1 { 0 } else { i64::from(imm9) };
+                Some(Stored::Tags {
+                    addr: base(regs, rn).wrapping_add(signed(offset.wrapping_mul(16))),
+                    granules: if opc >= 2 { 2 } else { 1 },
+                    tag: tag_of(base(regs, rt)),
+                })
+            }
+            _ => None,
+        }
+    }
+}
+
+/// A store of one register, of 2 to the power of `size` bytes.
+fn one(regs: &Regs, rn: u8, offset: u64, size: u8, rt: u8) -> Stored {
+    let bytes = unit(size);
+    Stored::One {
+        addr: base(regs, rn).wrapping_add(offset),
+        bytes,
+        value: low_bytes(zero_or(regs, rt), bytes),
+    }
+}
+
+/// A store of two registers, of four bytes each or, by `opc`, of eight.
+fn two(regs: &Regs, opc: u8, rn: u8, imm7: i64, rt: u8, rt2: u8) -> Stored {
+    let bytes = if opc >= 2 { 8 } else { 4 };
+    let offset = signed(imm7).wrapping_mul(bytes);
+    Stored::Two {
+        addr: base(regs, rn).wrapping_add(offset),
+        bytes,
+        first: low_bytes(zero_or(regs, rt), bytes),
+        second: low_bytes(zero_or(regs, rt2), bytes),
+    }
+}
+
+/// A register, or SP for number 31.
+fn base(regs: &Regs, n: u8) -> u64 {
+    regs.x.get(n as usize).copied().unwrap_or(regs.sp)
+}
+
+/// A register, or 0 for number 31.
+fn zero_or(regs: &Regs, n: u8) -> u64 {
+    regs.x.get(n as usize).copied().unwrap_or(0)
+}
+
+/// The bytes of a size: 1, 2, 4, 8.
+fn unit(size: u8) -> u64 {
+    match size {
+        0 => 1,
+        1 => 2,
+        2 => 4,
+        _ => 8,
+    }
+}
+
+/// The lowest bytes of a number.
+fn low_bytes(value: u64, bytes: u64) -> u64 {
+    match bytes {
+        1 => value % 256,
+        2 => value % 65_536,
+        4 => value % 4_294_967_296,
+        _ => value,
+    }
+}
+
+/// A signed number as one that is added modulo 2^64.
+fn signed(offset: i64) -> u64 {
+    u64::from_le_bytes(offset.to_le_bytes())
+}
+
+/// An offset register as its option extends it: UXTW 2, LSL 3, SXTW 6, SXTX 7.
+fn extended(value: u64, option: u8) -> u64 {
+    let low = value % 4_294_967_296;
+    match option {
+        2 => low,
+        6 if low >= 2_147_483_648 => low.wrapping_sub(4_294_967_296),
+        6 => low,
+        _ => value,
+    }
+}
+
+impl fmt::Display for Stored {
+    fn fmt<W: fmt::Write>(&self, f: &mut fmt::Formatter<W>) -> fmt::Result {
+        match self {
+            Stored::One { addr, bytes, value } => {
+                write!(f, "[{addr:#x}] = {value:#x} of {bytes}")
+            }
+            Stored::Two {
+                addr,
+                bytes,
+                first,
+                second,
+            } => { write!(f, "[{addr:#x}] = {first:#x}, {second:#x} of {bytes} each") }
+            Stored::Tags {
+                addr,
+                granules,
+                tag,
+            } => { write!(f, "tag of {granules} granules from {addr:#x} = {tag}") }
+        }
+    }
+}

@@ -1,0 +1,65 @@
+//! The page map.
+
+use crate::owner::Range;
+use address_map::{ADDRESS_END, PAGE_SIZE};
+use mte_tags::{Attrs, Tagged};
+use std::alloc::{AllocError, Global};
+
+/// Pages one after another in one range, with the same attributes.
+#[derive(Clone, Copy, Debug, PartialEq, Eq)]
+pub struct Pages {
+    /// The first address.
+    pub start: u64,
+    /// The address after the last.
+    pub end: u64,
+    /// What may be done with them.
+    pub attrs: Attrs,
+    /// What they are for.
+    pub range: Range,
+}
+
+/// All pages of a memory, the lowest first.
+pub fn page_map<M: Tagged>(alloc: Global, memory: &mut M) -> Result<Vec<Pages>, AllocError> {
+    let mut map: Vec<Pages> = Vec::new(alloc);
+    for number in 0..ADDRESS_END / PAGE_SIZE {
+        let start = number * PAGE_SIZE;
+        if let Some(attrs) = attrs_at(memory, start) {
+            let page = Pages {
+                start,
+                end: start + PAGE_SIZE,
+                attrs,
+                range: Range::of(start),
+            };
+            if !extend(map.as_mut_slice(), &page) {
+                map.push(page)?;
+            }
+        }
+    }
+    Ok(map)
+}
+
+/// Lengthens the last pages by one that follows them and is like them, and returns whether it did.
+fn extend(map: &mut [Pages], page: &Pages) -> bool {
+    let Some(last) = map.last_mut() else {
+        return false;
+    };
+    let follows = last.end == page.start && last.attrs == page.attrs && last.range == page.range;
+    if follows {
+        last.end = page.end;
+    }
+    follows
+}
+
+/// The attributes of a page that is mapped.
+pub fn attrs_at<M: Tagged>(memory: &mut M, addr: u64) -> Option<Attrs> {
+    if !memory.has_attrs(addr, Attrs::NONE) {
+        return None;
+    }
+    let mut sum = Attrs::NONE;
+    for attrs in [Attrs::READ, Attrs::WRITE, Attrs::EXEC, Attrs::TAGGED] {
+        if memory.has_attrs(addr, attrs) {
+            sum = sum | attrs;
+        }
+    }
+    Some(sum)
+}

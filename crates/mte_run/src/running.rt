@@ -1,0 +1,185 @@
+//! A run of one tenant: its files are read, its slices run, and what happened is told.
+
+use crate::bench::Bench;
+use crate::command_line::{Options, Replay, Traced};
+use crate::ending::{REFUSED, exit_status};
+use crate::failure::Failure;
+use crate::observer::{Observer, Tracer};
+use crate::replay::replay_tenant;
+use crate::story::{Scene, tell};
+use address_map::MAX_STEPS;
+use mte_program::{StreamSink, StreamSource};
+use mte_sched::{Admission, AdmitError, Host, Status, Watch};
+use mte_session::{ReadFault, parse_script, read_whole, write_all, write_report};
+use std::fs::File;
+use std::io::{BufWriter, Stderr};
+
+/// The number of a tenant that is alone.
+const ID: u16 = 1;
+
+/// What is written to standard error while a tenant runs, and after it.
+type Log = BufWriter<Stderr>;
+
+/// Runs the tenant, writes its output and tells why it ended; returns the exit status.
+pub fn run_program<'a>(rt: &HostRuntime, options: &'a Options) -> Result<u8, Failure<'a>> {
+    let mut files = Vec::new(rt.alloc());
+    for name in &options.files {
+        files.push(read_file(rt, name.as_str())?)?;
+    }
+    let tracer = match options.traced {
+        Some(Traced { from, to }) => Some(Tracer {
+            from,
+            to,
+            out: BufWriter::new(rt.alloc(), rt.stderr())?,
+            failed: false,
+        }),
+        None => None,
+    };
+    let mut observer = Observer::new(rt.alloc(), options.last, tracer)?;
+    match &options.replay {
+        Some(replay) => run_replay(rt, options, replay, files.as_slice(), &mut observer),
+        None => match files.first() {
+            Some(image) => run_alone(rt, options, image.as_slice(), &mut observer),
+            None => Ok(REFUSED),
+        },
+    }
+}
+
+/// Runs an image alone.
+fn run_alone<'a>(
+    rt: &HostRuntime,
+    options: &'a Options,
+    image: &[u8],
+    observer: &mut Observer<Log>,
+) -> Result<u8, Failure<'a>> {
+    let input = match &options.input {
+        Some(name) => read_file(rt, name.as_str())?,
+        None => Vec::new(rt.alloc()),
+    };
+    let admission = Admission {
+        id: ID,
+        image,
+        input: input.as_slice(),
+        seed: options.seed,
+        pages: options.pages,
+        room: options.room,
+        mode: options.mode,
+    };
+    let mut bench = match Bench::new(rt.alloc(), &admission) {
+        Ok(bench) => bench,
+        Err(AdmitError::OutOfMemory) => return Err(Failure::Memory),
+        Err(error) => {
+            let _ = eprintln!(rt; "mte_run: the tenant is refused: {error}");
+            return Ok(REFUSED);
+        }
+    };
+    run_slices(&mut bench, observer, options);
+    write_all(
+        &mut StreamSink(rt.stdout()),
+        bench.parts.account.output.as_slice(),
+    )?;
+    tell_end(rt, bench, observer, options)
+}
+
+/// Runs what a session does to one tenant, and writes its lines of the report.
+fn run_replay<'a>(
+    rt: &HostRuntime,
+    options: &'a Options,
+    replay: &'a Replay,
+    files: &[Vec<u8>],
+    observer: &mut Observer<Log>,
+) -> Result<u8, Failure<'a>> {
+    let script = read_file(rt, replay.script.as_str())?;
+    let events = parse_script(rt.alloc(), script.as_slice(), files)?;
+    let Ok(mut host) = Host::new(rt.alloc(), replay.frames) else {
+        return Err(Failure::Memory);
+    };
+    let mut out = StreamSink(rt.stdout());
+    let played = replay_tenant(
+        rt.alloc(),
+        &mut host,
+        replay.id,
+        events.as_slice(),
+        files,
+        observer,
+        &mut out,
+    )?;
+    match played {
+        Some(bench) => {
+            write_report(&bench.parts.account, &mut out)?;
+            tell_end(rt, bench, observer, options)
+        }
+        None => {
+            let _ = eprintln!(rt; "mte_run: the session never admits the tenant");
+            Ok(REFUSED)
+        }
+    }
+}
+
+/// Tells what happened, on standard error, unless the tenant exited; returns the exit status.
+fn tell_end<'a>(
+    rt: &HostRuntime,
+    bench: Bench,
+    observer: &mut Observer<Log>,
+    options: &'a Options,
+) -> Result<u8, Failure<'a>> {
+    if !observer.finish() {
+        return Err(Failure::Write);
+    }
+    let limit = match options.replay {
+        Some(_) => u64::MAX,
+        None => options.steps,
+    };
+    let Bench { parts, mut memory } = bench;
+    let (status, steps) = (parts.account.status, parts.account.steps);
+    match status {
+        Status::Exited(_) => {}
+        _ => {
+            let mut out = BufWriter::new(rt.alloc(), rt.stderr())?;
+            let scene = Scene {
+                parts: &parts,
+                observer,
+                limit,
+                last: options.last,
+            };
+            tell(rt.alloc(), &mut out, &scene, &mut memory)?;
+        }
+    }
+    Ok(exit_status(&status, steps, limit))
+}
+
+/// All bytes of the file with a name.
+fn read_file<'a>(rt: &HostRuntime, name: &'a str) -> Result<Vec<u8>, Failure<'a>> {
+    let Ok(file) = File::open(rt, name) else {
+        return Err(Failure::of_read(ReadFault::Read, name));
+    };
+    match read_whole(rt.alloc(), &mut StreamSource(file)) {
+        Ok(bytes) => Ok(bytes),
+        Err(fault) => Err(Failure::of_read(fault, name)),
+    }
+}
+
+/// Runs the slices that are named, or as many as the limit of steps holds.
+fn run_slices<O: Watch>(bench: &mut Bench, observer: &mut O, options: &Options) {
+    match &options.slices {
+        Some(slices) => {
+            for steps in slices {
+                run_slice(bench, observer, *steps, options.steps);
+            }
+        }
+        None => {
+            for _ in 0..options.steps {
+                if !bench.parts.is_running() || bench.parts.account.steps >= options.steps {
+                    return;
+                }
+                run_slice(bench, observer, MAX_STEPS as u32, options.steps);
+            }
+        }
+    }
+}
+
+/// Runs a slice, or what the limit of steps leaves of it.
+fn run_slice<O: Watch>(bench: &mut Bench, observer: &mut O, steps: u32, limit: u64) {
+    let left = limit.saturating_sub(bench.parts.account.steps);
+    bench.slice(observer, left.min(u64::from(steps)) as u32);
+}

@@ -1,0 +1,104 @@
+//! Texts of numbers, calls and instructions.
+
+use crate::book::{Chunk, Entry};
+use a64_decode::decode;
+use mte_svc::HeapService;
+use mte_tags::{Attrs, FaultKind};
+use scudo_heap::HeapAbort;
+use std::fmt;
+
+/// An instruction's word at an address, as text.
+#[derive(Clone, Copy)]
+pub struct Instruction {
+    /// The word.
+    pub word: u32,
+    /// Its address.
+    pub pc: u64,
+}
+
+impl fmt::Display for Instruction {
+    fn fmt<W: fmt::Write>(&self, f: &mut fmt::Formatter<W>) -> fmt::Result {
+        match decode(self.word) {
+            Some(instr) => write!(f, "{instr:?}"),
+            None => f.write_str("no instruction of the table"),
+        }
+    }
+}
+
+impl fmt::Display for Entry {
+    fn fmt<W: fmt::Write>(&self, f: &mut fmt::Formatter<W>) -> fmt::Result {
+        let (first, second, answer) = (self.call.first, self.call.second, self.call.answer);
+        write!(f, "call {}, ", self.number)?;
+        match self.call.service {
+            HeapService::Malloc => write!(f, "malloc({first})")?,
+            HeapService::Free => write!(f, "free({first:#x})")?,
+            HeapService::Calloc => write!(f, "calloc({first}, {second})")?,
+            HeapService::Realloc => write!(f, "realloc({first:#x}, {second})")?,
+            HeapService::Memalign => write!(f, "memalign({first}, {second})")?,
+            HeapService::UsableSize => write!(f, "usable_size({first:#x})")?,
+        }
+        write!(
+            f,
+            " = {answer:#x} by the SVC at {:#x}, step {}",
+            self.pc, self.step
+        )
+    }
+}
+
+impl fmt::Display for Chunk {
+    fn fmt<W: fmt::Write>(&self, f: &mut fmt::Formatter<W>) -> fmt::Result {
+        write!(f, "{}-byte allocation at {:#018x}", self.size, self.pointer)
+    }
+}
+
+/// The attributes of a page, a letter each.
+#[derive(Clone, Copy)]
+pub struct Letters(pub Attrs);
+
+impl fmt::Display for Letters {
+    fn fmt<W: fmt::Write>(&self, f: &mut fmt::Formatter<W>) -> fmt::Result {
+        for (bit, letter) in [(1, "r"), (2, "w"), (4, "x"), (8, "t")] {
+            f.write_str(if self.0.0 & bit != 0 { letter } else { "-" })?;
+        }
+        Ok(())
+    }
+}
+
+/// A number of bytes.
+#[derive(Clone, Copy)]
+pub struct Bytes(pub u64);
+
+impl fmt::Display for Bytes {
+    fn fmt<W: fmt::Write>(&self, f: &mut fmt::Formatter<W>) -> fmt::Result {
+        let Bytes(count) = self;
+        if *count == 1 {
+            f.write_str("1 byte")
+        } else {
+            write!(f, "{count} bytes")
+        }
+    }
+}
+
+/// What a kind of fault means.
+pub fn fault_words(kind: FaultKind) -> &'static str {
+    match kind {
+        FaultKind::Translation => "no page is mapped there",
+        FaultKind::Permission => "the page does not allow it",
+        FaultKind::TagCheck => "the pointer's tag is not the memory's",
+        FaultKind::Alignment => "a tag is stored at an address that is not a multiple of 16",
+        FaultKind::SpAlignment => "SP is not a multiple of 16",
+        FaultKind::PcAlignment => "PC is not a multiple of 4",
+    }
+}
+
+/// What a check of a pointer that failed means.
+pub fn abort_words(abort: HeapAbort) -> &'static str {
+    match abort {
+        HeapAbort::Misaligned => "it is not a multiple of 16",
+        HeapAbort::Unmapped => "no writable page holds its header",
+        HeapAbort::HeaderCorrupt => "the checksum of its header differs",
+        HeapAbort::InvalidState => "its header says that it is free",
+        HeapAbort::NotABlock => "its header names no block of the heap",
+        HeapAbort::AlreadyFree => "its block is free",
+    }
+}
