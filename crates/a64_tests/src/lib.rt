@@ -9,6 +9,8 @@ mod bits;
 #[cfg(test)]
 mod decode;
 #[cfg(test)]
+mod kept;
+#[cfg(test)]
 mod step;
 #[cfg(test)]
 mod text;

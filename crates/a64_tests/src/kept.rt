@@ -1,0 +1,60 @@
+//! Runs that keep instructions, over plain memories.
+
+use a64_step::{Kept, Outcome, Regs, run_kept, steps_keep_fixed_pages};
+use mte_flat::Flat;
+use mte_tags::{Attrs, Paged, TagMode, Tagged};
+use std::alloc::Global;
+use std::test::Fail;
+
+/// Where the programs begin.
+const CODE: u64 = 0x10000;
+
+/// A memory with a program in a page that may be executed and not written: add x0, x0, #1, where the
+/// second byte is 4, or #2, where it is 8; b #-4.
+fn text_of(alloc: Global, second: u8) -> Result<Flat, Fail> {
+    let mut memory = Flat::new(alloc, 1, TagMode::Sync)?;
+    memory.map_pages(16, 1, Attrs::TEXT)?;
+    memory.load_bytes(CODE, &[0x00, second, 0x00, 0x91, 0xFF, 0xFF, 0xFF, 0x17]);
+    Ok(memory)
+}
+
+// One table serves two memories in turns, with other words at the same addresses.
+#[test]
+fn memories_take_turns(rt: HostRuntime) -> Result<(), Fail> {
+    let mut one = text_of(rt.alloc(), 4)?;
+    let mut two = text_of(rt.alloc(), 8)?;
+    let mut kept = Kept::new();
+    let mut regs = Regs::new(CODE, 0);
+    for _ in 0..3 {
+        run_kept(&mut kept, &mut regs, &mut one, 4);
+        run_kept(&mut kept, &mut regs, &mut two, 6);
+    }
+    assert_eq!(rt; (regs.x[0], regs.pc), (24, CODE));
+    steps_keep_fixed_pages();
+    Ok(())
+}
+
+// A program changes an instruction that it has executed, on a page with WRITE and EXEC.
+#[test]
+fn changed_code_is_executed(rt: HostRuntime) -> Result<(), Fail> {
+    let mut memory = Flat::new(rt.alloc(), 1, TagMode::Sync)?;
+    memory.map_pages(16, 1, Attrs::ALL)?;
+    // add x0, x0, #1; str w1, [x2]; b #-8
+    let program = [
+        0x00, 0x04, 0x00, 0x91, 0x41, 0x00, 0x00, 0xB9, 0xFE, 0xFF, 0xFF, 0x17,
+    ];
+    memory.write(CODE, &program, false)?;
+    let mut kept = Kept::new();
+    let mut regs = Regs::new(CODE, 0);
+    // add x0, x0, #2
+    regs.x[1] = 0x91000800;
+    regs.x[2] = CODE;
+    run_kept(&mut kept, &mut regs, &mut memory, 7);
+    assert_eq!(rt; (regs.x[0], regs.pc), (5, CODE + 4));
+    // svc #0
+    regs.x[1] = 0xD4000001;
+    let stop = run_kept(&mut kept, &mut regs, &mut memory, 9);
+    assert_eq!(rt; (stop.outcome, stop.left), (Some(Outcome::Svc), 6));
+    assert_eq!(rt; regs.pc, CODE);
+    Ok(())
+}
