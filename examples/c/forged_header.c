@@ -1,8 +1,8 @@
 /* Overwrites a chunk's header through a pointer without a tag, which fits the header's tag 0: the
    checksum differs.
+   ends: 131
    expect: status abort HeaderCorrupt ptr 0x0100000012000010
-   cause: Corrupt Header: something was written in front of a 24-byte allocation at 0x0100000012000010
-   ends: 131 */
+   cause: Corrupt Header: something was written in front of a 24-byte allocation at 0x0100000012000010 */
 #include "tenant.h"
 
 int main(void)

@@ -1,7 +1,7 @@
 /* Writes a line and exits with 7.
+   ends: 7
    expect: status exit 7
-   expect: output 12 48656c6c6f2c20686f73740a
-   ends: 7 */
+   expect: output 12 48656c6c6f2c20686f73740a */
 #include "tenant.h"
 
 int main(void)
