@@ -1,6 +1,6 @@
 /* Hashes a megabyte of the heap (FNV-1a, 64 bits) and writes the hash, the lowest byte first.
    frames: 300
-   slices: 40
+   slices: 48
    expect: status exit 0
    expect: output 8 252382bafac05ce8 */
 #include "tenant.h"
