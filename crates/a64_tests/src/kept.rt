@@ -9,8 +9,8 @@ use std::test::Fail;
 /// Where the programs begin.
 const CODE: u64 = 0x10000;
 
-/// A memory with a program in a page that may be executed and not written: add x0, x0, #1, where the
-/// second byte is 4, or #2, where it is 8; b #-4.
+/// A memory with a program in a page that may be executed and not written: add x0, x0, #1, where
+/// the second byte is 4, or #2, where it is 8; b #-4.
 fn text_of(alloc: Global, second: u8) -> Result<Flat, Fail> {
     let mut memory = Flat::new(alloc, 1, TagMode::Sync)?;
     memory.map_pages(16, 1, Attrs::TEXT)?;
