@@ -2,6 +2,7 @@
 
 use crate::book::{Chunk, Entry};
 use a64_decode::decode;
+use a64_text::TextAt;
 use mte_svc::HeapService;
 use mte_tags::{Attrs, FaultKind};
 use scudo_heap::HeapAbort;
@@ -19,7 +20,10 @@ pub struct Instruction {
 impl fmt::Display for Instruction {
     fn fmt<W: fmt::Write>(&self, f: &mut fmt::Formatter<W>) -> fmt::Result {
         match decode(self.word) {
-            Some(instr) => write!(f, "{instr:?}"),
+            Some(instr) => {
+                let text = TextAt { instr, pc: self.pc };
+                write!(f, "{text}")
+            }
             None => f.write_str("no instruction of the table"),
         }
     }
