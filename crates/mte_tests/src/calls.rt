@@ -3,6 +3,7 @@
 ghost use Rattle.std.specs.Prelude.{◌≡◌, ◌<◌, ◌^◌, IsSome, IsTrue, None, false};
 ghost use Rattle.mte_tags.specs.Memory.{page_at};
 
+use mte_flat::Flat;
 use mte_tags::{Attrs, MemFault, Paged, Tagged};
 
 /// Six pages over two leaves of a table, of which a tenant may map five.
@@ -26,6 +27,8 @@ pub enum Call {
     LoadTag(u64),
     StoreTags(u64, u64, u8),
     Fetch(u64),
+    /// Whether an access whose tag differs was let pass.
+    Pending,
     PagesLeft,
 }
 
@@ -154,8 +157,19 @@ pub fn reply<M: Paged>(memory: &mut M, call: Call) -> Answer
         Call::LoadTag(at) => memory.load_tag(at).map(u64::from),
         Call::StoreTags(at, count, tag) => memory.store_tags(at, count, tag % 16, true).map(|_| 0),
         Call::Fetch(at) => memory.fetch(at).map(u64::from),
+        Call::Pending => Ok(u64::from(memory.pending())),
         Call::PagesLeft => Ok(memory.pages_left() as u64),
     })
+}
+
+/// Whether a plain memory answers calls one after another as it must.
+pub fn answers(memory: &mut Flat, rows: &[(Call, Answer)]) -> bool {
+    for (call, answer) in rows {
+        if reply(memory, *call) != *answer {
+            return false;
+        }
+    }
+    true
 }
 
 /// How many calls are drawn.

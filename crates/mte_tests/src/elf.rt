@@ -1,5 +1,6 @@
 //! Images of worked values, their refusals, and what they make of a memory.
 
+use crate::calls::{Answer, Call, answers};
 use mte_elf::{ElfError, load, loading_keeps_memories_whole, plan};
 use mte_flat::Flat;
 use mte_tags::{Paged, TagMode, Tagged};
@@ -196,6 +197,19 @@ fn second_headers(rt: HostRuntime) -> Result<(), Fail> {
     Ok(())
 }
 
+/// What its memory of 8 pages answers.
+const TWO_SEGMENTS: [(Call, Answer); 9] = [
+    (Call::PagesLeft, Answer::Number(5)),
+    (Call::Fetch(0x10000), Answer::Number(0xD2A0_0020)),
+    (Call::Fetch(0x1001C), Answer::Number(0xD400_0001)),
+    (Call::Fetch(0x10024), Answer::Number(0)),
+    (Call::Read(0x10020, true), Answer::Number(0x6948)),
+    (Call::Read(0x10028, true), Answer::Number(0)),
+    (Call::Read(0x11000, true), Answer::Number(0x5_0000_0001)),
+    (Call::Read(0x11008, true), Answer::Number(0)),
+    (Call::Read(0x12FF8, true), Answer::Number(0)),
+];
+
 #[test]
 fn pages_of_two_segments(rt: HostRuntime) -> Result<(), Fail> {
     // its 8 bytes are the type and the flags of the first program header
@@ -207,16 +221,6 @@ fn pages_of_two_segments(rt: HostRuntime) -> Result<(), Fail> {
     let file = image(rt.alloc(), EXECUTABLE, &[text(2), data])?;
     assert_eq!(rt; plan(rt.alloc(), &file)?.pages, 3);
     let mut memory = loaded(rt.alloc(), &file)?;
-    assert_eq!(rt; memory.pages_left(), 5);
-    for (at, want) in [(0x10000, 0xD2A0_0020), (0x1001C, 0xD400_0001), (0x10024, 0)] {
-        assert_eq!(rt; memory.fetch(at), Ok(want), "at {at}");
-    }
-    let mut bytes = [7u8; 9];
-    assert_eq!(rt; memory.read(0x10020, &mut bytes, true), Ok(()));
-    assert_eq!(rt; bytes, [b'H', b'i', 0, 0, 0, 0, 0, 0, 0]);
-    assert_eq!(rt; memory.read(0x11000, &mut bytes, true), Ok(()));
-    assert_eq!(rt; bytes, [1, 0, 0, 0, 5, 0, 0, 0, 0]);
-    assert_eq!(rt; memory.read(0x12FF7, &mut bytes, true), Ok(()));
-    assert_eq!(rt; bytes, [0; 9]);
+    assert!(rt; answers(&mut memory, &TWO_SEGMENTS));
     Ok(())
 }

@@ -2,6 +2,7 @@
 
 ghost use Rattle.std.specs.Prelude.{◌≡◌, ◌+◌, ◌<◌, None};
 
+use crate::calls::{Answer, Call, answers};
 use mte_flat::Flat;
 use mte_tags::{
     Attrs, FaultKind, MemFault, NoQuota, PageStore, Paged, Rgsr, TagMode, TagState, Tagged,
@@ -55,55 +56,85 @@ fn draws(rt: HostRuntime) {
     assert_eq!(rt; still.draw(0xFFFF), 0);
 }
 
+/// What a memory that has the page 0x3FFFC alone answers.
+const OVER_TWO_GRANULES: [(Call, Answer); 10] = [
+    (Call::Turn(0x3FFFC), Answer::Number(1)),
+    (Call::StoreTags(0x3FFF_C000, 1, 1), Answer::Number(0)),
+    (Call::LoadTag(0x3FFF_C00F), Answer::Number(1)),
+    (Call::LoadTag(0x3FFF_C010), Answer::Number(0)),
+    (
+        Call::Read(0x0100_0000_3FFF_C00C, true),
+        Answer::Refused(MemFault {
+            kind: FaultKind::TagCheck,
+            addr: 0x3FFF_C010,
+            write: false,
+            ptr_tag: 1,
+            mem_tag: 0,
+        }),
+    ),
+    (
+        Call::Write(0x0100_0000_3FFF_C00C, 9, true),
+        Answer::Refused(MemFault {
+            kind: FaultKind::TagCheck,
+            addr: 0x3FFF_C010,
+            write: true,
+            ptr_tag: 1,
+            mem_tag: 0,
+        }),
+    ),
+    (Call::Pending, Answer::Number(0)),
+    (Call::Read(0x0100_0000_3FFF_C00C, false), Answer::Number(0)),
+    (
+        Call::Write(0x0100_0000_3FFF_C008, 0x0807_0605_0403_0201, true),
+        Answer::Number(0),
+    ),
+    (
+        Call::Read(0x0100_0000_3FFF_C008, true),
+        Answer::Number(0x0807_0605_0403_0201),
+    ),
+];
+
 #[test]
 fn access_over_two_granules(rt: HostRuntime) -> Result<(), Fail> {
     let mut memory = Flat::new(rt.alloc(), 4, TagMode::Sync)?;
-    assert_eq!(rt; memory.map_pages(0x3FFFC, 1, Attrs::DATA), Ok(()));
-    assert_eq!(rt; memory.store_tags(0x3FFF_C000, 1, 1, false), Ok(()));
-    assert_eq!(rt; memory.load_tag(0x3FFF_C00F), Ok(1));
-    assert_eq!(rt; memory.load_tag(0x3FFF_C010), Ok(0));
-    let pointer = 0x0100_0000_3FFF_C00C;
-    let mut bytes = [7u8; 8];
-    let refused = fault(FaultKind::TagCheck, 0x3FFF_C010, false, 1, 0);
-    assert_eq!(rt; memory.read(pointer, &mut bytes, true), Err(refused));
-    assert_eq!(rt; bytes, [7; 8]);
-    let refused = fault(FaultKind::TagCheck, 0x3FFF_C010, true, 1, 0);
-    assert_eq!(rt; memory.write(pointer - 4, &[9; 16], true), Err(refused));
-    assert!(rt; !memory.pending());
-    assert_eq!(rt; memory.read(pointer, &mut bytes, false), Ok(()));
-    assert_eq!(rt; bytes, [0; 8]);
-    assert_eq!(rt;
-        memory.write(pointer - 4, &[1, 2, 3, 4, 5, 6, 7, 8], true),
-        Ok(())
-    );
-    assert_eq!(rt; memory.read(pointer - 4, &mut bytes, true), Ok(()));
-    assert_eq!(rt; bytes, [1, 2, 3, 4, 5, 6, 7, 8]);
+    assert!(rt; answers(&mut memory, &OVER_TWO_GRANULES));
     Ok(())
 }
 
-/// Accesses whose tag differs in a granule: one that is permitted completes and sets the flag, one
-/// that is not, at its last byte, faults and doesn't.
+/// The last page can be read and not written. An access whose tag differs in a granule: one that
+/// is permitted completes and sets the flag, one that is not, at its last byte, faults and doesn't.
+const ASYNCHRONOUS: [(Call, Answer); 6] = [
+    (Call::StoreTags(0x3FFF_E000, 1, 1), Answer::Number(0)),
+    (
+        Call::Write(0x0200_0000_3FFF_EFF9, 9, true),
+        Answer::Refused(MemFault {
+            kind: FaultKind::Permission,
+            addr: 0x3FFF_F000,
+            write: true,
+            ptr_tag: 2,
+            mem_tag: 0,
+        }),
+    ),
+    (Call::Pending, Answer::Number(0)),
+    (
+        Call::Write(0x0100_0000_3FFF_E00C, 5, true),
+        Answer::Number(0),
+    ),
+    (Call::Pending, Answer::Number(1)),
+    (Call::Read(0x3FFF_E00C, true), Answer::Number(5)),
+];
+
 #[test]
 fn asynchronous_accesses(rt: HostRuntime) -> Result<(), Fail> {
     let mut memory = Flat::new(rt.alloc(), 2, TagMode::Async)?;
     memory.map_pages(0x3FFFE, 1, Attrs::DATA)?;
     memory.map_pages(0x3FFFF, 1, Attrs::READ)?;
-    assert_eq!(rt; memory.store_tags(0x3FFF_E000, 1, 1, false), Ok(()));
-    let refused = fault(FaultKind::Permission, 0x3FFF_F000, true, 2, 0);
-    assert_eq!(rt;
-        memory.write(0x0200_0000_3FFF_EFF9, &[9; 8], true),
-        Err(refused)
-    );
-    assert!(rt; !memory.pending());
-    assert_eq!(rt; memory.write(0x0100_0000_3FFF_E00C, &[5; 8], true), Ok(()));
+    assert!(rt; answers(&mut memory, &ASYNCHRONOUS));
     let state = TagState {
         mode: TagMode::Async,
         pending: true,
     };
     assert_eq!(rt; memory.tag_state(), state);
-    let mut bytes = [0u8; 8];
-    assert_eq!(rt; memory.read(0x3FFF_E00C, &mut bytes, true), Ok(()));
-    assert_eq!(rt; bytes, [5; 8]);
     Ok(())
 }
 

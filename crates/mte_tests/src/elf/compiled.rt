@@ -30,6 +30,7 @@
 //     GNU_STACK      0x000000 0x0000000000000000 0x0000000000000000 0x000000 0x000000 RW  0x10
 
 use super::loaded;
+use crate::calls::{Answer, Call, answers};
 use mte_elf::plan;
 use mte_tags::{Paged, Tagged};
 use std::test::Fail;
@@ -81,6 +82,25 @@ const SMALL: [u8; 680] = [
 ];
 
 /// Text and data as objdump -s shows them, and zeros after the data.
+const CONTENT: [(Call, Answer); 13] = [
+    (Call::PagesLeft, Answer::Number(5)),
+    (Call::Fetch(0x10000), Answer::Number(0xD000_0001)),
+    (Call::Fetch(0x10018), Answer::Number(0x8B03_0000)),
+    (Call::Fetch(0x1002C), Answer::Number(0xF909_5C20)),
+    (Call::Fetch(0x10038), Answer::Number(0xD400_0001)),
+    (Call::Fetch(0x1003C), Answer::Number(0)),
+    (
+        Call::Read(0x12000, true),
+        Answer::Number(0x0123_4567_89AB_CDEF),
+    ),
+    (Call::Read(0x12008, true), Answer::Number(2)),
+    (Call::Read(0x12010, true), Answer::Number(3)),
+    (Call::Read(0x12018, true), Answer::Number(4)),
+    (Call::Read(0x12020, true), Answer::Number(0)),
+    (Call::Read(0x132D8, true), Answer::Number(0)),
+    (Call::Read(0x13FF8, true), Answer::Number(0)),
+];
+
 #[test]
 fn compiled_program(rt: HostRuntime) -> Result<(), Fail> {
     let plan = plan(rt.alloc(), &SMALL)?;
@@ -88,28 +108,6 @@ fn compiled_program(rt: HostRuntime) -> Result<(), Fail> {
     assert_eq!(rt; plan.pages, 3);
     assert_eq!(rt; plan.segments.len(), 2);
     let mut memory = loaded(rt.alloc(), &SMALL)?;
-    assert_eq!(rt; memory.pages_left(), 5);
-    for (at, want) in [
-        (0x10000, 0xD000_0001),
-        (0x10018, 0x8B03_0000),
-        (0x1002C, 0xF909_5C20),
-        (0x10038, 0xD400_0001),
-        (0x1003C, 0),
-    ] {
-        assert_eq!(rt; memory.fetch(at), Ok(want), "the word at {at}");
-    }
-    for (at, want) in [
-        (0x12000, 0x0123_4567_89AB_CDEF),
-        (0x12008, 2),
-        (0x12010, 3),
-        (0x12018, 4),
-        (0x12020, 0),
-        (0x132D8, 0),
-        (0x13FF8, 0),
-    ] {
-        let mut bytes = [7u8; 8];
-        assert_eq!(rt; memory.read(at, &mut bytes, true), Ok(()));
-        assert_eq!(rt; u64::from_le_bytes(bytes), want, "the number at {at}");
-    }
+    assert!(rt; answers(&mut memory, &CONTENT));
     Ok(())
 }
