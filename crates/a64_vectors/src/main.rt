@@ -25,7 +25,7 @@ mod line;
 mod place;
 mod report;
 
-use a64_step::{Decoder, Outcome, run};
+use a64_step::{Kept, Outcome, run_kept};
 use anyhow::{Result, bail};
 use case::{Case, Pages};
 use line::{Line, parse};
@@ -34,10 +34,11 @@ use mte_tags::TagMode;
 use std::alloc::{AllocError, Global};
 use std::io::{BufRead, BufReader};
 
-/// The map, the case that is being read, the counts so far, and one decoder for all cases.
+/// The map, the case that is being read, the counts so far, and one table of instructions for all
+/// cases.
 #[derive(Drop)]
 struct Session {
-    decoder: Decoder,
+    kept: Kept,
     map: Vec<Pages>,
     case: Option<Case>,
     same: u64,
@@ -47,7 +48,7 @@ struct Session {
 /// Runs a case that was read whole; what differs, or `None` where its parts don't fit together.
 fn differences(
     alloc: Global,
-    decoder: &mut Decoder,
+    kept: &mut Kept,
     map: &[Pages],
     case: &Case,
 ) -> Result<Option<String>, AllocError> {
@@ -61,7 +62,7 @@ fn differences(
         return Ok(None);
     }
     let mut regs = case.before;
-    let outcome = run(decoder, &mut regs, &mut ours, 1)
+    let outcome = run_kept(kept, &mut regs, &mut ours, 1)
         .outcome
         .unwrap_or(Outcome::Next);
     Ok(Some(report::differences(alloc, case, outcome, &regs, map, &mut ours, &mut theirs)?))
@@ -74,7 +75,7 @@ impl Session {
             return Ok(true);
         };
         let map = self.map.as_slice();
-        let Some(text) = differences(rt.alloc(), &mut self.decoder, map, &case)? else {
+        let Some(text) = differences(rt.alloc(), &mut self.kept, map, &case)? else {
             return Ok(false);
         };
         if text.is_empty() {
@@ -117,7 +118,7 @@ impl Session {
 
 fn main(rt: HostRuntime) -> Result<()> {
     let mut session = Session {
-        decoder: Decoder::new(),
+        kept: Kept::new(),
         map: Vec::new(rt.alloc()),
         case: None,
         same: 0,
