@@ -1,0 +1,21 @@
+//! A heap and its tags as a picture in SVG: rows of granules, each in the colour of its tag, with
+//! the blocks, the chunks that are live or freed, and the access that faulted.
+//!
+//! A picture is the text of a [`Heading`], of its [`Line`]s in order, and [`END`].
+#![tactic(auto)]
+
+mod cell;
+mod heading;
+mod layout;
+mod legend;
+mod line;
+mod pages;
+mod part;
+mod row;
+mod run;
+
+pub use heading::{END, Heading};
+pub use layout::{GRANULES, ROWS};
+pub use line::{Line, Mark};
+pub use pages::{Kind, Pages};
+pub use row::{Granule, Owner, Row};

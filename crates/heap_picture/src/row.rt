@@ -1,0 +1,96 @@
+//! What a row of a picture shows.
+
+use crate::cell::{CELL_WIDTH, Cell};
+use crate::layout::GRANULES;
+use crate::part::Part::{Number, Text};
+use crate::part::write_parts;
+use address_map::GRANULE_SIZE;
+use std::fmt;
+
+/// Whose a granule is.
+#[derive(Clone, Copy, Debug, PartialEq, Eq)]
+pub enum Owner {
+    /// No chunk's: a header, the rest of a block, or a block that was never given out.
+    Nothing,
+    /// A chunk's that is in use.
+    Live,
+    /// A chunk's that was freed, and no newer one's.
+    Freed,
+}
+
+/// A granule of memory.
+#[derive(Clone, Copy, Debug)]
+pub struct Granule {
+    /// Its allocation tag, 0 to 15; none where no page is mapped.
+    pub tag: Option<u8>,
+    /// Whose it is.
+    pub owner: Owner,
+}
+
+/// [`GRANULES`] granules that follow each other.
+#[derive(Clone, Copy, Debug)]
+pub struct Row {
+    /// The address of the first.
+    pub address: u64,
+    /// The size class of its blocks, if it has blocks.
+    pub class: Option<u8>,
+    /// The address of the first block of the class.
+    pub first: u64,
+    /// The bytes of a block; 0 where there are none.
+    pub size: u64,
+    /// The granules.
+    pub granules: [Granule; GRANULES],
+}
+
+impl Row {
+    /// Whether a block begins at the granule with the number `index`.
+    fn begins_block(&self, index: usize) -> bool {
+        let distance = GRANULE_SIZE.saturating_mul(index as u64);
+        let address = self.address.saturating_add(distance);
+        self.size != 0 && address >= self.first && (address - self.first) % self.size == 0
+    }
+
+    /// The number of the granule that an address is in, where it is one of the row.
+    pub fn index_of(&self, address: u64) -> Option<usize> {
+        let index = address.checked_sub(self.address)? / GRANULE_SIZE;
+        if index < GRANULES as u64 {
+            Some(index as usize)
+        } else {
+            None
+        }
+    }
+}
+
+/// The granules of a row, each in the colour of its tag.
+#[derive(Clone, Copy)]
+pub struct Cells<'a>(pub &'a Row);
+
+impl<'a> fmt::Display for Cells<'a> {
+    fn fmt<W: fmt::Write>(&self, f: &mut fmt::Formatter<W>) -> fmt::Result {
+        for (index, granule) in self.0.granules.iter().enumerate() {
+            let cell = Cell {
+                x: CELL_WIDTH * index as u64,
+                tag: granule.tag,
+            };
+            write!(f, "{cell}")?;
+        }
+        Ok(())
+    }
+}
+
+/// A line before each block of a row.
+#[derive(Clone, Copy)]
+pub struct Boundaries<'a>(pub &'a Row);
+
+impl<'a> fmt::Display for Boundaries<'a> {
+    fn fmt<W: fmt::Write>(&self, f: &mut fmt::Formatter<W>) -> fmt::Result {
+        f.write_str("<path class=\"block\" d=\"")?;
+        for index in 0..GRANULES {
+            if self.0.begins_block(index) {
+                let x = Number(CELL_WIDTH * index as u64);
+                write_parts(f, &[Text("M"), x, Text(",-4v26")])?;
+            }
+        }
+        f.write_str("\"/>")
+    }
+}
