@@ -2,19 +2,12 @@
 #![tactic(auto)]
 
 mod bench;
-mod book;
-mod cause;
 mod command_line;
 mod ending;
 mod failure;
-mod moment;
 mod observer;
-mod owner;
-mod pages;
 mod replay;
 mod running;
-mod story;
-mod words;
 
 use command_line::{Invocation, read_command_line};
 use failure::{Failure, report};

@@ -1,9 +1,8 @@
 //! What is remembered and written of a tenant while it runs.
 
-use crate::book::Book;
-use crate::moment::{Line, Moment, Service};
 use a64_step::Regs;
 use circular_buffer::HeapCircularBuffer;
+use mte_report::{Book, Line, Moment, Service};
 use mte_sched::{TenantParts, Watch};
 use mte_tags::Tagged;
 use std::alloc::{AllocError, Global};

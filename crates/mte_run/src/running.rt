@@ -6,9 +6,9 @@ use crate::ending::{REFUSED, exit_status};
 use crate::failure::Failure;
 use crate::observer::{Observer, Tracer};
 use crate::replay::replay_tenant;
-use crate::story::{Scene, tell};
 use address_map::MAX_STEPS;
 use mte_program::{StreamSink, StreamSource};
+use mte_report::Report;
 use mte_sched::{Admission, AdmitError, Host, Status, Watch};
 use mte_session::{ReadFault, parse_script, read_whole, write_all, write_report};
 use std::fs::File;
@@ -136,13 +136,17 @@ fn tell_end<'a>(
         Status::Exited(_) => {}
         _ => {
             let mut out = BufWriter::new(rt.alloc(), rt.stderr())?;
-            let scene = Scene {
+            let report = Report {
                 parts: &parts,
-                observer,
+                book: &observer.book,
+                last: if options.last > 0 {
+                    Some(&observer.last)
+                } else {
+                    None
+                },
                 limit,
-                last: options.last,
             };
-            tell(rt.alloc(), &mut out, &scene, &mut memory)?;
+            report.write(rt.alloc(), &mut out, &mut memory)?;
         }
     }
     Ok(exit_status(&status, steps, limit))

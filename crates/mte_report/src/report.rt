@@ -1,15 +1,15 @@
 //! What happened to a tenant that did not exit, in words.
 
-use crate::book::{Chunk, Wanted};
+use crate::book::{Book, Chunk, Wanted};
 use crate::cause::Cause;
 use crate::moment::{Line, Moment, Nzcv};
-use crate::observer::Observer;
 use crate::owner::Owner;
 use crate::pages::{Pages, attrs_at, page_map};
 use crate::words::{Instruction, Letters, abort_words, fault_words};
 use a64_bits::plain;
 use a64_step::Regs;
 use address_map::GRANULE_SIZE;
+use circular_buffer::HeapCircularBuffer;
 use mte_flat::Flat;
 use mte_sched::{Status, TenantParts};
 use mte_tags::{FaultKind, Tagged};
@@ -21,40 +21,33 @@ use std::io::Write;
 const GRANULES: u64 = 8;
 
 /// A tenant that ran, and what was remembered of it.
-#[derive(Drop)]
-pub struct Scene<'a, L: Write + Drop> {
+#[derive(Clone, Copy)]
+pub struct Report<'a> {
     /// All of its machine but the memory.
     pub parts: &'a TenantParts,
-    /// What was remembered.
-    pub observer: &'a Observer<L>,
+    /// Its heap calls.
+    pub book: &'a Book,
+    /// Its last instructions, the oldest first, where they are wanted.
+    pub last: Option<&'a HeapCircularBuffer<Moment>>,
     /// The steps that it could have.
     pub limit: u64,
-    /// How many of the last instructions are wanted.
-    pub last: usize,
 }
 
-/// Tells what happened, the cause first.
-pub fn tell<W: Write, L: Write + Drop>(
-    alloc: Global,
-    out: &mut W,
-    scene: &Scene<'_, L>,
-    memory: &mut Flat,
-) -> io::Result<()> {
-    write!(out, "mte_run: ")?;
-    tell_status(
-        out,
-        &scene.parts.account.status,
-        scene.parts.account.steps,
-        scene.limit,
-    )?;
-    tell_cause(out, scene)?;
-    tell_place(out, scene, memory)?;
-    tell_registers(out, &scene.parts.regs, memory)?;
-    tell_pages(alloc, out, memory)?;
-    if scene.last > 0 {
-        tell_last(out, scene)?;
+impl<'a> Report<'a> {
+    /// Writes what happened, the cause first.
+    pub fn write<W: Write>(&self, alloc: Global, out: &mut W, memory: &mut Flat) -> io::Result<()> {
+        write!(out, "mte_run: ")?;
+        let account = &self.parts.account;
+        tell_status(out, &account.status, account.steps, self.limit)?;
+        tell_cause(out, self)?;
+        tell_place(out, self, memory)?;
+        tell_registers(out, &self.parts.regs, memory)?;
+        tell_pages(alloc, out, memory)?;
+        if let Some(last) = self.last {
+            tell_last(out, last, &self.parts.regs)?;
+        }
+        out.flush()
     }
-    out.flush()
 }
 
 /// What ended it.
@@ -115,9 +108,9 @@ fn tell_status<W: Write>(out: &mut W, status: &Status, steps: u64, limit: u64) -
 }
 
 /// What most likely went wrong, and the calls that made and freed the chunk.
-fn tell_cause<W: Write, L: Write + Drop>(out: &mut W, scene: &Scene<'_, L>) -> io::Result<()> {
-    let (parts, observer) = (scene.parts, scene.observer);
-    let cause = Cause::of(&observer.book, &parts.account.status, parts.regs.x[8]);
+fn tell_cause<W: Write>(out: &mut W, report: &Report<'_>) -> io::Result<()> {
+    let parts = report.parts;
+    let cause = Cause::of(report.book, &parts.account.status, parts.regs.x[8]);
     match parts.account.status {
         Status::Faulted(_, _) | Status::Aborted(_, _, _) => {
             writeln!(out, "Cause: {cause}")?;
@@ -131,7 +124,7 @@ fn tell_cause<W: Write, L: Write + Drop>(out: &mut W, scene: &Scene<'_, L>) -> i
         writeln!(out, "  its block was given again, as the {young}:")?;
         tell_chunk(out, young)?;
     }
-    if observer.book.is_short() {
+    if report.book.is_short() {
         writeln!(out, "  (older heap calls are no longer kept)")?;
     }
     Ok(())
@@ -148,13 +141,8 @@ fn tell_chunk<W: Write>(out: &mut W, chunk: &Chunk) -> io::Result<()> {
 }
 
 /// Whose granule the address is in that a status names, and the tags around it.
-fn tell_place<W: Write, L: Write + Drop>(
-    out: &mut W,
-    scene: &Scene<'_, L>,
-    memory: &mut Flat,
-) -> io::Result<()> {
-    let (parts, observer) = (scene.parts, scene.observer);
-    let addr = match parts.account.status {
+fn tell_place<W: Write>(out: &mut W, report: &Report<'_>, memory: &mut Flat) -> io::Result<()> {
+    let addr = match report.parts.account.status {
         Status::Faulted(fault, _) => fault.addr,
         Status::Aborted(_, pointer, _) => plain(pointer),
         _ => return Ok(()),
@@ -162,7 +150,7 @@ fn tell_place<W: Write, L: Write + Drop>(
     let owner = Owner {
         addr,
         mapped: attrs_at(memory, addr).is_some(),
-        chunk: observer.book.newest(&Wanted::InGranules(addr)),
+        chunk: report.book.newest(&Wanted::InGranules(addr)),
     };
     writeln!(out, "{owner}")?;
     tell_tags(out, memory, addr)
@@ -226,9 +214,11 @@ fn tell_pages<W: Write>(alloc: Global, out: &mut W, memory: &mut Flat) -> io::Re
 }
 
 /// The last instructions.
-fn tell_last<W: Write, L: Write + Drop>(out: &mut W, scene: &Scene<'_, L>) -> io::Result<()> {
-    let (parts, observer) = (scene.parts, scene.observer);
-    let last = &observer.last;
+fn tell_last<W: Write>(
+    out: &mut W,
+    last: &HeapCircularBuffer<Moment>,
+    after: &Regs,
+) -> io::Result<()> {
     if last.is_empty() {
         return Ok(());
     }
@@ -245,10 +235,7 @@ fn tell_last<W: Write, L: Write + Drop>(out: &mut W, scene: &Scene<'_, L>) -> io
         before = Some(moment);
     }
     if let Some(moment) = before {
-        let line = Line {
-            moment,
-            after: &parts.regs,
-        };
+        let line = Line { moment, after };
         writeln!(out, "{line}")?;
     }
     Ok(())

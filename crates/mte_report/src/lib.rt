@@ -1,0 +1,15 @@
+//! Why a tenant ended, in words: the cause, whose granule an address is in, the registers, the
+//! pages and the last instructions.
+#![tactic(auto)]
+
+mod book;
+mod cause;
+mod moment;
+mod owner;
+mod pages;
+mod report;
+mod words;
+
+pub use book::Book;
+pub use moment::{Line, Moment, Service};
+pub use report::Report;
