@@ -8,8 +8,10 @@ mod moment;
 mod owner;
 mod pages;
 mod report;
+mod symbols;
 mod words;
 
 pub use book::Book;
 pub use moment::{Line, Moment, Service};
 pub use report::Report;
+pub use symbols::Symbols;

@@ -3,9 +3,10 @@
 use crate::book::{Book, Chunk, Wanted};
 use crate::cause::Cause;
 use crate::moment::{Line, Moment, Nzcv};
-use crate::owner::Owner;
+use crate::owner::{Owner, Range};
 use crate::pages::{Pages, attrs_at, page_map};
-use crate::words::{Instruction, Letters, abort_words, fault_words};
+use crate::symbols::{Place, Symbols};
+use crate::words::{Call, Instruction, Letters, abort_words, fault_words};
 use a64_bits::plain;
 use a64_step::Regs;
 use address_map::GRANULE_SIZE;
@@ -31,6 +32,8 @@ pub struct Report<'a> {
     pub last: Option<&'a HeapCircularBuffer<Moment>>,
     /// The steps that it could have.
     pub limit: u64,
+    /// The names of its image's addresses.
+    pub symbols: Symbols<'a>,
 }
 
 impl<'a> Report<'a> {
@@ -38,10 +41,11 @@ impl<'a> Report<'a> {
     pub fn write<W: Write>(&self, alloc: Global, out: &mut W, memory: &mut Flat) -> io::Result<()> {
         write!(out, "mte_run: ")?;
         let account = &self.parts.account;
-        tell_status(out, &account.status, account.steps, self.limit)?;
+        let place = self.symbols.place(self.parts.regs.pc);
+        tell_status(out, &account.status, place, account.steps, self.limit)?;
         tell_cause(out, self)?;
         tell_place(out, self, memory)?;
-        tell_registers(out, &self.parts.regs, memory)?;
+        tell_registers(out, &self.parts.regs, place, memory)?;
         tell_pages(alloc, out, memory)?;
         if let Some(last) = self.last {
             tell_last(out, last, &self.parts.regs)?;
@@ -51,7 +55,13 @@ impl<'a> Report<'a> {
 }
 
 /// What ended it.
-fn tell_status<W: Write>(out: &mut W, status: &Status, steps: u64, limit: u64) -> io::Result<()> {
+fn tell_status<W: Write>(
+    out: &mut W,
+    status: &Status,
+    place: Place<'_>,
+    steps: u64,
+    limit: u64,
+) -> io::Result<()> {
     match status {
         Status::Exited(code) => writeln!(out, "it exited with {code}"),
         Status::Faulted(fault, pc) => {
@@ -62,7 +72,7 @@ fn tell_status<W: Write>(out: &mut W, status: &Status, steps: u64, limit: u64) -
                 out,
                 "fault {kind:?}: a {access} at {addr:#018x} by the instruction at "
             )?;
-            write!(out, "{pc:#018x}: {why}")?;
+            write!(out, "{pc:#018x}{place}: {why}")?;
             match fault.kind {
                 FaultKind::TagCheck => {
                     writeln!(
@@ -77,10 +87,10 @@ fn tell_status<W: Write>(out: &mut W, status: &Status, steps: u64, limit: u64) -
         Status::Illegal(word, pc) => {
             writeln!(
                 out,
-                "illegal word {word:#010x} at {pc:#018x}: no instruction of the table"
+                "illegal word {word:#010x} at {pc:#018x}{place}: no instruction of the table"
             )
         }
-        Status::Breakpoint(number, pc) => writeln!(out, "breakpoint {number} at {pc:#018x}"),
+        Status::Breakpoint(number, pc) => writeln!(out, "breakpoint {number} at {pc:#018x}{place}"),
         Status::AsyncTag(pc) => {
             writeln!(
                 out,
@@ -94,7 +104,7 @@ fn tell_status<W: Write>(out: &mut W, status: &Status, steps: u64, limit: u64) -
                 out,
                 "abort {abort}: the pointer {pointer:#018x}, handed to the heap by the "
             )?;
-            writeln!(out, "SVC at {pc:#018x}, is refused: {why}")
+            writeln!(out, "SVC at {pc:#018x}{place}, is refused: {why}")
         }
         Status::Running if steps >= limit => {
             writeln!(
@@ -118,11 +128,11 @@ fn tell_cause<W: Write>(out: &mut W, report: &Report<'_>) -> io::Result<()> {
         _ => return Ok(()),
     }
     if let Some(chunk) = cause.chunk() {
-        tell_chunk(out, chunk)?;
+        tell_chunk(out, chunk, &report.symbols)?;
     }
     if let Some(young) = cause.young() {
         writeln!(out, "  its block was given again, as the {young}:")?;
-        tell_chunk(out, young)?;
+        tell_chunk(out, young, &report.symbols)?;
     }
     if report.book.is_short() {
         writeln!(out, "  (older heap calls are no longer kept)")?;
@@ -131,10 +141,15 @@ fn tell_cause<W: Write>(out: &mut W, report: &Report<'_>) -> io::Result<()> {
 }
 
 /// The calls that made and freed a chunk.
-fn tell_chunk<W: Write>(out: &mut W, chunk: &Chunk) -> io::Result<()> {
-    let made = &chunk.made;
+fn tell_chunk<W: Write>(out: &mut W, chunk: &Chunk, symbols: &Symbols<'_>) -> io::Result<()> {
+    let made = Call {
+        entry: &chunk.made,
+        place: symbols.place(chunk.made.pc),
+    };
     writeln!(out, "  allocated by {made}")?;
-    if let Some(freed) = &chunk.freed {
+    if let Some(entry) = &chunk.freed {
+        let place = symbols.place(entry.pc);
+        let freed = Call { entry, place };
         writeln!(out, "  freed by {freed}")?;
     }
     Ok(())
@@ -152,7 +167,11 @@ fn tell_place<W: Write>(out: &mut W, report: &Report<'_>, memory: &mut Flat) -> 
         mapped: attrs_at(memory, addr).is_some(),
         chunk: report.book.newest(&Wanted::InGranules(addr)),
     };
-    writeln!(out, "{owner}")?;
+    let place = match Range::of(addr) {
+        Range::Image => report.symbols.place(addr),
+        _ => Place::unnamed(addr),
+    };
+    writeln!(out, "{owner}{place}")?;
     tell_tags(out, memory, addr)
 }
 
@@ -173,11 +192,19 @@ fn tell_tags<W: Write, M: Tagged>(out: &mut W, memory: &mut M, addr: u64) -> io:
 }
 
 /// The instruction, the registers, the flags and the generator.
-fn tell_registers<W: Write>(out: &mut W, regs: &Regs, memory: &mut Flat) -> io::Result<()> {
+fn tell_registers<W: Write>(
+    out: &mut W,
+    regs: &Regs,
+    place: Place<'_>,
+    memory: &mut Flat,
+) -> io::Result<()> {
     let pc = regs.pc;
     if let Ok(word) = memory.fetch(pc) {
         let instruction = Instruction { word, pc };
-        writeln!(out, "instruction at {pc:#018x}: {word:08x}  {instruction}")?;
+        writeln!(
+            out,
+            "instruction at {pc:#018x}{place}: {word:08x}  {instruction}"
+        )?;
     }
     let Regs {
         x,

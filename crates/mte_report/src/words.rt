@@ -1,6 +1,7 @@
 //! Texts of numbers, calls and instructions.
 
 use crate::book::{Chunk, Entry};
+use crate::symbols::Place;
 use a64_decode::decode;
 use a64_text::TextAt;
 use mte_svc::HeapService;
@@ -29,11 +30,26 @@ impl fmt::Display for Instruction {
     }
 }
 
-impl fmt::Display for Entry {
+/// A heap call: its number, its arguments and result, and where and when it was made.
+#[derive(Clone, Copy)]
+pub struct Call<'a> {
+    /// The call.
+    pub entry: &'a Entry,
+    /// The address of its SVC.
+    pub place: Place<'a>,
+}
+
+impl<'a> fmt::Display for Call<'a> {
     fn fmt<W: fmt::Write>(&self, f: &mut fmt::Formatter<W>) -> fmt::Result {
-        let (first, second, answer) = (self.call.first, self.call.second, self.call.answer);
-        write!(f, "call {}, ", self.number)?;
-        match self.call.service {
+        let Entry {
+            number,
+            step,
+            pc,
+            call,
+        } = self.entry;
+        let (first, second, answer) = (call.first, call.second, call.answer);
+        write!(f, "call {number}, ")?;
+        match call.service {
             HeapService::Malloc => write!(f, "malloc({first})")?,
             HeapService::Free => write!(f, "free({first:#x})")?,
             HeapService::Calloc => write!(f, "calloc({first}, {second})")?,
@@ -41,10 +57,10 @@ impl fmt::Display for Entry {
             HeapService::Memalign => write!(f, "memalign({first}, {second})")?,
             HeapService::UsableSize => write!(f, "usable_size({first:#x})")?,
         }
+        let place = self.place;
         write!(
             f,
-            " = {answer:#x} by the SVC at {:#x}, step {}",
-            self.pc, self.step
+            " = {answer:#x} by the SVC at {pc:#x}{place}, step {step}"
         )
     }
 }

@@ -6,6 +6,15 @@ use mte_sched::{Admission, AdmitError, Host, Refusal, Refused, Watch};
 use mte_session::{Event, Sink, write_refusal};
 use std::alloc::Global;
 
+/// A tenant that ran as in its session.
+#[derive(Drop)]
+pub struct Replayed {
+    /// The tenant.
+    pub bench: Bench,
+    /// The number of the file with its image.
+    pub image: u32,
+}
+
 /// Runs what a session does to the tenant with the number, and writes the lines of its refused
 /// events. A host decides which events are refused, and runs no instruction: what a tenant does
 /// cannot change what is refused. `None` where the tenant was never admitted.
@@ -17,11 +26,15 @@ pub fn replay_tenant<'a, W: Sink, O: Watch>(
     files: &[Vec<u8>],
     observer: &mut O,
     out: &mut W,
-) -> Result<Option<Bench>, Failure<'a>> {
+) -> Result<Option<Replayed>, Failure<'a>> {
     let mut bench = None;
+    let mut image = 0;
     for (before, event) in events.iter().enumerate() {
         match decide(alloc, host, event, files) {
             Ok(()) if number_of(event) == id => {
+                if let Event::Admit { image: number, .. } = event {
+                    image = *number;
+                }
                 bench = played(alloc, bench, event, files, observer)?;
             }
             Ok(()) => {}
@@ -33,7 +46,7 @@ pub fn replay_tenant<'a, W: Sink, O: Watch>(
             Err(_) => {}
         }
     }
-    Ok(bench)
+    Ok(bench.map(|bench| Replayed { bench, image }))
 }
 
 /// Whether a host accepts an event, whose slices attempt no instruction.
@@ -112,7 +125,7 @@ fn admission_of<'a>(event: &Event, files: &'a [Vec<u8>]) -> Option<Admission<'a>
 }
 
 /// The bytes of a file by its number from 1; none for 0.
-fn file_of(files: &[Vec<u8>], number: u32) -> &[u8] {
+pub fn file_of(files: &[Vec<u8>], number: u32) -> &[u8] {
     match files.get((number as usize).wrapping_sub(1)) {
         Some(file) => file.as_slice(),
         None => &[],

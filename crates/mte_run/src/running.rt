@@ -5,10 +5,10 @@ use crate::command_line::{Options, Replay, Traced};
 use crate::ending::{REFUSED, exit_status};
 use crate::failure::Failure;
 use crate::observer::{Observer, Tracer};
-use crate::replay::replay_tenant;
+use crate::replay::{Replayed, file_of, replay_tenant};
 use address_map::MAX_STEPS;
 use mte_program::{StreamSink, StreamSource};
-use mte_report::Report;
+use mte_report::{Report, Symbols};
 use mte_sched::{Admission, AdmitError, Host, Status, Watch};
 use mte_session::{ReadFault, parse_script, read_whole, write_all, write_report};
 use std::fs::File;
@@ -78,7 +78,7 @@ fn run_alone<'a>(
         &mut StreamSink(rt.stdout()),
         bench.parts.account.output.as_slice(),
     )?;
-    tell_end(rt, bench, observer, options)
+    tell_end(rt, bench, observer, options, Symbols::of(image))
 }
 
 /// Runs what a session does to one tenant, and writes its lines of the report.
@@ -105,9 +105,10 @@ fn run_replay<'a>(
         &mut out,
     )?;
     match played {
-        Some(bench) => {
+        Some(Replayed { bench, image }) => {
             write_report(&bench.parts.account, &mut out)?;
-            tell_end(rt, bench, observer, options)
+            let symbols = Symbols::of(file_of(files, image));
+            tell_end(rt, bench, observer, options, symbols)
         }
         None => {
             let _ = eprintln!(rt; "mte_run: the session never admits the tenant");
@@ -122,6 +123,7 @@ fn tell_end<'a>(
     bench: Bench,
     observer: &mut Observer<Log>,
     options: &'a Options,
+    symbols: Symbols<'_>,
 ) -> Result<u8, Failure<'a>> {
     if !observer.finish() {
         return Err(Failure::Write);
@@ -145,6 +147,7 @@ fn tell_end<'a>(
                     None
                 },
                 limit,
+                symbols,
             };
             report.write(rt.alloc(), &mut out, &mut memory)?;
         }
