@@ -92,4 +92,4 @@ const SAMPLES: &str = "\n<g transform=\"translate(0 28)\">\
     <text x=\"10\" y=\"13\">a block begins</text></g>\
     <g transform=\"translate(644)\">\
     <rect class=\"mark\" y=\"-1\" width=\"16\" height=\"20\"/>\
-    <text x=\"28\" y=\"13\">the access that faulted</text></g></g>\n";
+    <text x=\"28\" y=\"13\">the access or pointer that was refused</text></g></g>\n";

@@ -1,5 +1,5 @@
 //! A heap and its tags as a picture in SVG: rows of granules, each in the colour of its tag, with
-//! the blocks, the chunks that are live or freed, and the access that faulted.
+//! the blocks, the chunks that are live or freed, and the access or pointer that was refused.
 //!
 //! A picture is the text of a [`Heading`], of its [`Line`]s in order, and [`END`].
 #![tactic(auto)]
@@ -16,6 +16,6 @@ mod run;
 
 pub use heading::{END, Heading};
 pub use layout::{GRANULES, ROWS};
-pub use line::{Line, Mark};
+pub use line::{Line, Mark, Marked};
 pub use pages::{Kind, Pages};
 pub use row::{Granule, Owner, Row};

@@ -1,4 +1,4 @@
-//! A line of a picture: a row, its address, and the access that faulted where it is in the row.
+//! A line of a picture: a row, its address, and what was refused where it is in the row.
 
 use crate::cell::{CELL_WIDTH, Cell};
 use crate::layout::PITCH;
@@ -8,9 +8,29 @@ use crate::row::{Boundaries, Cells, Row};
 use crate::run::Chunks;
 use std::fmt;
 
-/// An access that faulted.
+/// What is marked.
+#[derive(Clone, Copy, Debug, PartialEq, Eq)]
+pub enum Marked {
+    /// An access that faulted.
+    Access,
+    /// A pointer that was handed to the heap and refused.
+    Pointer,
+}
+
+impl fmt::Display for Marked {
+    fn fmt<W: fmt::Write>(&self, f: &mut fmt::Formatter<W>) -> fmt::Result {
+        f.write_str(match self {
+            Marked::Access => "access at ",
+            Marked::Pointer => "pointer ",
+        })
+    }
+}
+
+/// An access or a pointer that was refused.
 #[derive(Clone, Copy, Debug)]
 pub struct Mark {
+    /// Which of them it is.
+    pub marked: Marked,
     /// Its address, without a tag.
     pub addr: u64,
     /// The tag of its pointer, 0 to 15.
@@ -24,12 +44,12 @@ pub struct Line {
     pub row: Row,
     /// Its number in the picture, from 0.
     pub number: usize,
-    /// The access that faulted, which is drawn where its address is in the row.
+    /// What was refused, which is drawn where its address is in the row.
     pub mark: Option<Mark>,
 }
 
 impl Line {
-    /// The mark of the row, if the access was there.
+    /// The mark of the row, if its address is there.
     fn frame(&self) -> Option<Frame> {
         let mark = self.mark?;
         let index = self.row.index_of(mark.addr)?;
@@ -66,7 +86,7 @@ impl fmt::Display for Line {
     }
 }
 
-/// What stands behind the row with the access that faulted.
+/// What stands behind the row with the mark.
 const BAND: &str = "<rect class=\"band\" x=\"-166\" y=\"-4\" width=\"1586\" height=\"26\"/>";
 
 /// A frame round a granule, and beside the row what it says.
@@ -88,22 +108,14 @@ impl fmt::Display for Frame {
         let (start, left) = (Text("<rect class=\"mark\" x=\""), Number(left));
         let end = Text("\" y=\"-1\" width=\"16\" height=\"20\"/>");
         write_parts(f, &[start, left, end])?;
-        let Mark { addr, tag } = self.mark;
+        let Mark { marked, addr, tag } = self.mark;
         let cell = Cell {
             x: 1040,
             tag: Some(tag),
         };
-        write!(f, "{cell}<text class=\"says\" x=\"1062\" y=\"13\">")?;
-        let tag = Number(u64::from(tag % 16));
-        write_parts(
-            f,
-            &[
-                Text("access at "),
-                Hexadecimal(addr),
-                Text(" with tag "),
-                tag,
-            ],
-        )?;
+        write!(f, "{cell}<text class=\"says\" x=\"1062\" y=\"13\">{marked}")?;
+        let (addr, tag) = (Hexadecimal(addr), Number(u64::from(tag % 16)));
+        write_parts(f, &[addr, Text(" with tag "), tag])?;
         match self.memory {
             Some(tag) => {
                 let tag = Number(u64::from(tag % 16));

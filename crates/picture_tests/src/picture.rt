@@ -1,6 +1,6 @@
 //! What a picture says of a row, its pages and its title.
 
-use heap_picture::{GRANULES, Granule, Heading, Kind, Line, Mark, Owner, Pages, Row};
+use heap_picture::{GRANULES, Granule, Heading, Kind, Line, Mark, Marked, Owner, Pages, Row};
 use std::test::Fail;
 
 /// The first granules of class 2: a header, a live chunk of two granules with tag 14, and a header.
@@ -25,18 +25,22 @@ fn row() -> Row {
     }
 }
 
-/// The line of the row, with an access by a pointer whose tag is 14.
-fn line(addr: u64) -> Line {
+/// The line of the row, with a mark of a pointer whose tag is 14.
+fn line(marked: Marked, addr: u64) -> Line {
     Line {
         row: row(),
         number: 2,
-        mark: Some(Mark { addr, tag: 14 }),
+        mark: Some(Mark {
+            marked,
+            addr,
+            tag: 14,
+        }),
     }
 }
 
 #[test]
 fn an_access_behind_a_chunk(rt: HostRuntime) -> Result<(), Fail> {
-    let line = line(0x1200_0038);
+    let line = line(Marked::Access, 0x1200_0038);
     let text = format!(in rt.alloc(); "{line}")?;
     for expected in [
         "<g transform=\"translate(0 52)\">",
@@ -55,9 +59,17 @@ fn an_access_behind_a_chunk(rt: HostRuntime) -> Result<(), Fail> {
 }
 
 #[test]
+fn a_pointer_that_was_refused(rt: HostRuntime) -> Result<(), Fail> {
+    let line = line(Marked::Pointer, 0x1200_0010);
+    let text = format!(in rt.alloc(); "{line}")?;
+    assert!(rt; text.contains(">pointer 0x12000010 with tag 14, memory has 14</text>"));
+    Ok(())
+}
+
+#[test]
 fn an_access_in_another_row(rt: HostRuntime) -> Result<(), Fail> {
     for addr in [0x11FF_FFFF, 0x1200_0400] {
-        let line = line(addr);
+        let line = line(Marked::Access, addr);
         let text = format!(in rt.alloc(); "{line}")?;
         assert!(rt; !text.contains("access at"));
     }
