@@ -1,11 +1,13 @@
 //! The book of a tenant's heap calls.
 
+use crate::extent::Extent;
 use a64_bits::plain;
 use circular_buffer::HeapCircularBuffer;
 use mte_sched::TenantParts;
 use mte_svc::{HeapCall, HeapService};
 use mte_tags::tag_of;
 use std::alloc::{AllocError, Global};
+use std::collections::BTreeMap;
 
 /// How many heap calls are kept.
 pub const KEPT: usize = 65_536;
@@ -94,19 +96,18 @@ impl Entry {
         })
     }
 
-    /// Whether the call ended the chunk at a plain address: freed it, or gave it another size.
-    fn ends(&self, start: u64) -> bool {
+    /// The plain address of the chunk that the call freed, or gave another size.
+    fn ended(&self) -> Option<u64> {
         let HeapCall {
             service,
             first,
             second,
             answer,
         } = self.call;
-        let named = plain(first) == start;
         match service {
-            HeapService::Free => named,
-            HeapService::Realloc => named && (answer != 0 || second == 0),
-            _ => false,
+            HeapService::Free => Some(plain(first)),
+            HeapService::Realloc if answer != 0 || second == 0 => Some(plain(first)),
+            _ => None,
         }
     }
 }
@@ -125,6 +126,15 @@ impl Chunk {
     /// The end of its last granule.
     pub fn granules_end(&self) -> u64 {
         self.end().saturating_add(15) / 16 * 16
+    }
+
+    /// Its granules, while it is in use.
+    fn extent(&self) -> Extent {
+        Extent {
+            start: self.start(),
+            end: self.granules_end(),
+            live: true,
+        }
     }
 
     /// The tag of its pointer.
@@ -213,8 +223,27 @@ impl Book {
             .entries
             .iter()
             .skip(index.saturating_add(1))
-            .find(|entry| entry.ends(start))
+            .find(|entry| entry.ended() == Some(start))
             .copied();
         Chunk { freed, ..chunk }
+    }
+
+    /// The granules of each chunk that was made, the oldest first.
+    pub fn extents(&self, alloc: Global) -> Result<Vec<Extent>, AllocError> {
+        let mut extents: Vec<Extent> = Vec::new(alloc);
+        let mut newest: BTreeMap<u64, usize> = BTreeMap::new(alloc);
+        for entry in self.entries.iter() {
+            if let Some(start) = entry.ended() {
+                let index = newest.remove(&start);
+                if let Some(extent) = index.and_then(|index| extents.get_mut(index)) {
+                    extent.live = false;
+                }
+            }
+            if let Some(chunk) = entry.made() {
+                newest.insert(chunk.start(), extents.len())?;
+                extents.push(chunk.extent())?;
+            }
+        }
+        Ok(extents)
     }
 }

@@ -1,18 +1,16 @@
 //! The command line.
 
-ghost use Rattle.std.specs.Prelude.{◌<◌, ◌≤◌};
-
+use crate::options::{Fault, Options};
 use clap::error::ErrorKind;
-use clap::{Arg, ArgAction, ArgMatches, Command, Error, value_parser};
-use mte_tags::TagMode;
-use std::alloc::{AllocError, Global};
+use clap::{Arg, ArgAction, Command, Error, value_parser};
+use std::alloc::Global;
 use std::{env, io};
 
 /// The steps after which a tenant is given up, where none are named.
 const STEPS: &str = "10000000";
 
 /// What a command line requests.
-#[derive(Debug, Drop)]
+#[derive(Drop)]
 pub enum Invocation {
     /// A run.
     Run(Options),
@@ -20,55 +18,6 @@ pub enum Invocation {
     Exit(u8),
     /// An allocation failed.
     OutOfMemory,
-}
-
-/// A tenant of a session.
-#[derive(Debug, Drop)]
-pub struct Replay {
-    /// The script's file name.
-    pub script: String,
-    /// The tenant's number.
-    pub id: u16,
-    /// The frames of the host.
-    pub frames: u32,
-}
-
-/// The steps whose instructions are traced.
-#[derive(Clone, Copy, Debug, PartialEq, Eq)]
-pub struct Traced {
-    /// The first.
-    pub from: u64,
-    /// The last.
-    pub to: u64,
-}
-
-/// What the program is run on.
-#[derive(Debug, Drop)]
-pub struct Options {
-    /// The names of the files: the image, or the files of a script.
-    pub files: Vec<String>,
-    /// The tenant of a session that is replayed, if one is.
-    pub replay: Option<Replay>,
-    /// The input's file name.
-    pub input: Option<String>,
-    /// The reservation.
-    pub pages: u32,
-    /// The room for output.
-    pub room: u32,
-    /// The seed of tags and of the heap's cookie.
-    pub seed: u64,
-    /// What a tag that differs does.
-    pub mode: TagMode,
-    /// After how many steps the tenant is given up.
-    pub steps: u64,
-    /// The steps of its slices, where they are named.
-    pub slices: Option<Vec<u32>>,
-    /// How many of the last instructions are told.
-    pub last: usize,
-    /// The trace.
-    pub traced: Option<Traced>,
-    ghost some: { 0 < pages },
-    ghost most: { pages ≤ 4096 },
 }
 
 /// Reads the process's arguments; prints the help, or what is wrong with them.
@@ -109,30 +58,11 @@ fn print_text(rt: &HostRuntime, error: &Error) -> Invocation {
 fn parse(alloc: Global, words: &[String]) -> Result<Option<Options>, Error> {
     let mut command = command(alloc)?;
     let matches = command.try_get_matches_from_mut(words)?;
-    let Some(seed) = seed_of(matches.get_str("seed").unwrap_or("")) else {
-        let text = "the seed is not 16 hexadecimal digits";
-        return Err(command.error(ErrorKind::ValueValidation, text)?);
-    };
-    let traced = match matches.get_str("trace") {
-        Some(text) => match traced_of(text) {
-            Some(traced) => Some(traced),
-            None => {
-                let text = "the trace is not FROM-TO, two step numbers";
-                return Err(command.error(ErrorKind::ValueValidation, text)?);
-            }
-        },
-        None => None,
-    };
-    let Ok(replay) = replay_of(alloc, &matches) else {
-        let text = "--script has two values, a file and a tenant's number, and wants --frames";
-        return Err(command.error(ErrorKind::ValueValidation, text)?);
-    };
-    let count = matches.get_strs("files").map_or(0, |files| files.len());
-    if replay.is_none() && count != 1 {
-        let text = "without --script there is one file, the image";
-        return Err(command.error(ErrorKind::ValueValidation, text)?);
+    match Options::of(alloc, &matches) {
+        Ok(options) => Ok(Some(options)),
+        Err(Fault::Memory) => Ok(None),
+        Err(fault) => Err(command.error(ErrorKind::ValueValidation, fault.text())?),
     }
-    Ok(options_of(alloc, &matches, seed, traced, replay).ok())
 }
 
 /// The command line's form.
@@ -141,7 +71,8 @@ fn command<'a>(alloc: Global) -> Result<Command<'a>, Error> {
         "Runs one tenant alone on an Arm core with memory tagging, and tells why it ended",
     );
     let command = tenant_options(alloc, command)?;
-    Ok(run_options(alloc, command)?)
+    let command = run_options(alloc, command)?;
+    Ok(told_options(alloc, command)?)
 }
 
 /// The arguments that say which tenant is run.
@@ -198,7 +129,7 @@ fn tenant_options<'a>(alloc: Global, command: Command<'a>) -> Result<Command<'a>
     )
 }
 
-/// The arguments that say how long it runs, and what is told.
+/// The arguments that say how long it runs.
 fn run_options<'a>(alloc: Global, command: Command<'a>) -> Result<Command<'a>, Error> {
     let steps = number(
         alloc,
@@ -215,6 +146,11 @@ fn run_options<'a>(alloc: Global, command: Command<'a>) -> Result<Command<'a>, E
     )
     .value_delimiter(',')
     .value_parser(value_parser!(u32).range(0..=1_048_576));
+    Ok(command.arg(steps)?.arg(slices)?)
+}
+
+/// The arguments that say what is told.
+fn told_options<'a>(alloc: Global, command: Command<'a>) -> Result<Command<'a>, Error> {
     let last = number(
         alloc,
         "last",
@@ -231,7 +167,13 @@ fn run_options<'a>(alloc: Global, command: Command<'a>) -> Result<Command<'a>, E
     .num_args(0..=1)
     .require_equals(true)
     .default_missing_value("-");
-    Ok(command.arg(steps)?.arg(slices)?.arg(last)?.arg(trace)?)
+    let map = named(
+        alloc,
+        "map",
+        "FILE",
+        "Draws the heap and its tags at the end into an SVG file",
+    );
+    Ok(command.arg(last)?.arg(trace)?.arg(map)?)
 }
 
 /// An option with a value.
@@ -245,96 +187,4 @@ fn named<'a>(alloc: Global, name: &'a str, value: &'a str, help: &'a str) -> Arg
 /// An option whose value is a number, with a default.
 fn number<'a>(alloc: Global, name: &'a str, default: &'a str, help: &'a str) -> Arg<'a> {
     named(alloc, name, "N", help).default_value(default)
-}
-
-/// The number of 16 hexadecimal digits.
-fn seed_of(text: &str) -> Option<u64> {
-    if text.len() != 16 || text.starts_with('+') {
-        return None;
-    }
-    u64::from_str_radix(text, 16).ok()
-}
-
-/// The steps from one to another; the first and the last where a number is left out.
-fn traced_of(text: &str) -> Option<Traced> {
-    let (from, to) = text.split_once('-')?;
-    Some(Traced {
-        from: if from.is_empty() {
-            1
-        } else {
-            from.parse().ok()?
-        },
-        to: if to.is_empty() {
-            u64::MAX
-        } else {
-            to.parse().ok()?
-        },
-    })
-}
-
-/// The tenant of a session that is to be replayed; an error where its number or the frames are not
-/// there.
-fn replay_of(alloc: Global, matches: &ArgMatches<'_>) -> Result<Option<Replay>, Missing> {
-    let Some(words) = matches.get_strs("script") else {
-        return Ok(None);
-    };
-    let (Some(script), Some(id)) = (words.first(), words.get(1)) else {
-        return Err(Missing);
-    };
-    let (Ok(id), Some(frames)) = (id.parse::<u16>(), matches.get_one::<u32>("frames")) else {
-        return Err(Missing);
-    };
-    let Ok(script) = String::from_str(alloc, script) else {
-        return Err(Missing);
-    };
-    Ok(Some(Replay { script, id, frames }))
-}
-
-/// What `--script` needs is not there.
-#[derive(Clone, Copy, Debug)]
-struct Missing;
-
-/// The values of a command line that `clap` accepted.
-fn options_of(
-    alloc: Global,
-    matches: &ArgMatches<'_>,
-    seed: u64,
-    traced: Option<Traced>,
-    replay: Option<Replay>,
-) -> Result<Options, AllocError> {
-    let mut files = Vec::new(alloc);
-    if let Some(names) = matches.get_strs("files") {
-        for name in names {
-            files.push(String::from_str(alloc, name)?)?;
-        }
-    }
-    let input = match matches.get_str("input") {
-        Some(name) => Some(String::from_str(alloc, name)?),
-        None => None,
-    };
-    let slices = match matches.get_many::<u32>("slices") {
-        Some(values) => Some(values.filter_map(|value| value.ok()).collect(alloc)?),
-        None => None,
-    };
-    let mode = match matches.get_flag("async") {
-        true => TagMode::Async,
-        false => TagMode::Sync,
-    };
-    Ok(Options {
-        files,
-        replay,
-        input,
-        pages: matches
-            .get_one::<u32>("pages")
-            .unwrap_or(4096)
-            .max(1)
-            .min(4096),
-        room: matches.get_one::<u32>("out").unwrap_or(65536),
-        seed,
-        mode,
-        steps: matches.get_one::<u64>("steps").unwrap_or(0),
-        slices,
-        last: matches.get_one::<u32>("last").unwrap_or(16) as usize,
-        traced,
-    })
 }

@@ -13,6 +13,8 @@ pub enum Failure<'a> {
     Read(&'a str),
     /// A stream could not be written.
     Write,
+    /// A file could not be written; its name as it was given.
+    WriteFile(&'a str),
     /// A script's first faulty line, counted from 1, and what is wrong with it.
     Script(u64, ScriptFault),
 }
@@ -26,12 +28,21 @@ impl<'a> Failure<'a> {
         }
     }
 
+    /// A file that cannot be written as a whole.
+    pub fn of_write(error: &io::Error, name: &'a str) -> Failure<'a> {
+        if error.kind() == io::ErrorKind::OutOfMemory {
+            Failure::Memory
+        } else {
+            Failure::WriteFile(name)
+        }
+    }
+
     /// The exit status.
     fn status(&self) -> u8 {
         match self {
             Failure::Memory => 4,
             Failure::Read(_) => 5,
-            Failure::Write => 6,
+            Failure::Write | Failure::WriteFile(_) => 6,
             Failure::Script(_, _) => 3,
         }
     }
@@ -43,6 +54,7 @@ impl<'a> fmt::Display for Failure<'a> {
             Failure::Memory => f.write_str("out of memory"),
             Failure::Read(name) => write!(f, "cannot read {name}"),
             Failure::Write => f.write_str("cannot write"),
+            Failure::WriteFile(name) => write!(f, "cannot write {name}"),
             Failure::Script(line, fault) => write!(f, "script line {line}: {fault}"),
         }
     }

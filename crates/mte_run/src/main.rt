@@ -5,7 +5,9 @@ mod bench;
 mod command_line;
 mod ending;
 mod failure;
+mod map;
 mod observer;
+mod options;
 mod replay;
 mod running;
 

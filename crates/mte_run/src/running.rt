@@ -1,17 +1,20 @@
 //! A run of one tenant: its files are read, its slices run, and what happened is told.
 
 use crate::bench::Bench;
-use crate::command_line::{Options, Replay, Traced};
 use crate::ending::{REFUSED, exit_status};
 use crate::failure::Failure;
+use crate::map::draw_map;
 use crate::observer::{Observer, Tracer};
+use crate::options::{Options, Replay, Traced};
 use crate::replay::{Replayed, file_of, replay_tenant};
 use address_map::MAX_STEPS;
+use mte_flat::Flat;
 use mte_program::{StreamSink, StreamSource};
 use mte_report::{Report, Symbols};
 use mte_sched::{Admission, AdmitError, Host, Status, Watch};
 use mte_session::{ReadFault, parse_script, read_whole, write_all, write_report};
 use std::fs::File;
+use std::io;
 use std::io::{BufWriter, Stderr};
 
 /// The number of a tenant that is alone.
@@ -26,7 +29,7 @@ pub fn run_program<'a>(rt: &HostRuntime, options: &'a Options) -> Result<u8, Fai
     for name in &options.files {
         files.push(read_file(rt, name.as_str())?)?;
     }
-    let tracer = match options.traced {
+    let tracer = match options.told.traced {
         Some(Traced { from, to }) => Some(Tracer {
             from,
             to,
@@ -35,7 +38,7 @@ pub fn run_program<'a>(rt: &HostRuntime, options: &'a Options) -> Result<u8, Fai
         }),
         None => None,
     };
-    let mut observer = Observer::new(rt.alloc(), options.last, tracer)?;
+    let mut observer = Observer::new(rt.alloc(), options.told.last, tracer)?;
     match &options.replay {
         Some(replay) => run_replay(rt, options, replay, files.as_slice(), &mut observer),
         None => match files.first() {
@@ -52,7 +55,7 @@ fn run_alone<'a>(
     image: &[u8],
     observer: &mut Observer<Log>,
 ) -> Result<u8, Failure<'a>> {
-    let input = match &options.input {
+    let input = match &options.terms.input {
         Some(name) => read_file(rt, name.as_str())?,
         None => Vec::new(rt.alloc()),
     };
@@ -60,10 +63,10 @@ fn run_alone<'a>(
         id: ID,
         image,
         input: input.as_slice(),
-        seed: options.seed,
-        pages: options.pages,
-        room: options.room,
-        mode: options.mode,
+        seed: options.terms.seed,
+        pages: options.terms.pages,
+        room: options.terms.room,
+        mode: options.terms.mode,
     };
     let mut bench = match Bench::new(rt.alloc(), &admission) {
         Ok(bench) => bench,
@@ -117,7 +120,7 @@ fn run_replay<'a>(
     }
 }
 
-/// Tells what happened, on standard error, unless the tenant exited; returns the exit status.
+/// Tells what happened, draws the heap where that is wanted, and returns the exit status.
 fn tell_end<'a>(
     rt: &HostRuntime,
     bench: Bench,
@@ -128,31 +131,31 @@ fn tell_end<'a>(
     if !observer.finish() {
         return Err(Failure::Write);
     }
-    let limit = match options.replay {
-        Some(_) => u64::MAX,
-        None => options.steps,
-    };
     let Bench { parts, mut memory } = bench;
-    let (status, steps) = (parts.account.status, parts.account.steps);
-    match status {
-        Status::Exited(_) => {}
-        _ => {
-            let mut out = BufWriter::new(rt.alloc(), rt.stderr())?;
-            let report = Report {
-                parts: &parts,
-                book: &observer.book,
-                last: if options.last > 0 {
-                    Some(&observer.last)
-                } else {
-                    None
-                },
-                limit,
-                symbols,
-            };
-            report.write(rt.alloc(), &mut out, &mut memory)?;
-        }
+    let report = Report {
+        parts: &parts,
+        book: &observer.book,
+        last: if options.told.last > 0 {
+            Some(&observer.last)
+        } else {
+            None
+        },
+        limit: options.limit(),
+        symbols,
+    };
+    tell_report(rt, &report, &mut memory)?;
+    draw_map(rt, &report, options, &mut memory)?;
+    let account = &parts.account;
+    Ok(exit_status(&account.status, account.steps, options.limit()))
+}
+
+/// Tells what happened, on standard error, unless the tenant exited.
+fn tell_report(rt: &HostRuntime, report: &Report<'_>, memory: &mut Flat) -> io::Result<()> {
+    if let Status::Exited(_) = report.parts.account.status {
+        return Ok(());
     }
-    Ok(exit_status(&status, steps, limit))
+    let mut out = BufWriter::new(rt.alloc(), rt.stderr())?;
+    report.write(rt.alloc(), &mut out, memory)
 }
 
 /// All bytes of the file with a name.
@@ -168,18 +171,18 @@ fn read_file<'a>(rt: &HostRuntime, name: &'a str) -> Result<Vec<u8>, Failure<'a>
 
 /// Runs the slices that are named, or as many as the limit of steps holds.
 fn run_slices<O: Watch>(bench: &mut Bench, observer: &mut O, options: &Options) {
-    match &options.slices {
+    match &options.length.slices {
         Some(slices) => {
             for steps in slices {
-                run_slice(bench, observer, *steps, options.steps);
+                run_slice(bench, observer, *steps, options.length.steps);
             }
         }
         None => {
-            for _ in 0..options.steps {
-                if !bench.parts.is_running() || bench.parts.account.steps >= options.steps {
+            for _ in 0..options.length.steps {
+                if !bench.parts.is_running() || bench.parts.account.steps >= options.length.steps {
                     return;
                 }
-                run_slice(bench, observer, MAX_STEPS as u32, options.steps);
+                run_slice(bench, observer, MAX_STEPS as u32, options.length.steps);
             }
         }
     }

@@ -1,0 +1,222 @@
+//! Which rows a picture has, and what they show.
+
+use crate::extent::{Extent, ROW_SIZE, paint_all};
+use crate::owner::{Block, Range};
+use crate::pages::Pages;
+use address_map::{ADDRESS_END, GRANULE_SIZE, REGION_SIZE, REGIONS_START};
+use heap_picture::{GRANULES, Granule, Owner, ROWS, Row};
+use mte_tags::{FaultKind, Tagged};
+use std::alloc::{AllocError, Global};
+
+/// How many rows are shown one after another in which nothing changes.
+const PLAIN: u32 = 3;
+
+/// A row that may be shown.
+#[derive(Clone, Copy, Debug, PartialEq, Eq)]
+pub struct Place {
+    /// The address of its first granule.
+    pub address: u64,
+    /// Its number from the first row, where a gap in the addresses counts as a row.
+    pub number: usize,
+}
+
+/// The rows that are shown, by their numbers.
+#[derive(Clone, Copy, Debug, PartialEq, Eq)]
+pub struct Window {
+    /// The first number.
+    pub first: usize,
+    /// How many numbers there are, at most [`ROWS`].
+    pub count: usize,
+}
+
+impl Window {
+    /// The rows around an address, or the first ones.
+    pub fn around(places: &[Place], mark: Option<u64>) -> Window {
+        let total = match places.last() {
+            Some(last) => last.number.saturating_add(1),
+            None => 0,
+        };
+        let middle = match mark {
+            Some(addr) => number_of(places, addr),
+            None => 0,
+        };
+        let most = total.saturating_sub(ROWS);
+        Window {
+            first: middle.saturating_sub(ROWS / 2).min(most),
+            count: total.min(ROWS),
+        }
+    }
+
+    /// How many of the rows are shown.
+    pub fn shown(&self, places: &[Place]) -> usize {
+        places
+            .iter()
+            .filter(|place| self.number(*place).is_some())
+            .count()
+    }
+
+    /// The number of a row in the picture, if it is shown.
+    pub fn number(&self, place: &Place) -> Option<usize> {
+        let number = place.number.checked_sub(self.first)?;
+        if number < self.count {
+            Some(number)
+        } else {
+            None
+        }
+    }
+}
+
+/// The number of the row that an address is in.
+fn number_of(places: &[Place], addr: u64) -> usize {
+    let found = places.iter().find(|place| place.address == row_of(addr));
+    found.map_or(0, |place| place.number)
+}
+
+/// The address of the row that an address is in.
+fn row_of(addr: u64) -> u64 {
+    addr - addr % ROW_SIZE
+}
+
+/// The rows of the heap's pages, and of a marked address with its neighbours.
+pub fn places<M: Tagged>(
+    alloc: Global,
+    memory: &mut M,
+    map: &[Pages],
+    extents: &[Extent],
+    mark: Option<u64>,
+) -> Result<Vec<Place>, AllocError> {
+    let edges = edges(alloc, extents)?;
+    let mut rows = Vec::new(alloc);
+    for pages in map {
+        if let Range::Class(_) | Range::Large = pages.range {
+            push_rows(&mut rows, memory, pages, edges.as_slice())?;
+        }
+    }
+    if let Some(addr) = mark {
+        push_marked(&mut rows, memory, addr)?;
+    }
+    rows.sort()?;
+    rows.dedup();
+    number_rows(alloc, rows.as_slice())
+}
+
+/// For each row of the address space whether a chunk begins or ends there.
+fn edges(alloc: Global, extents: &[Extent]) -> Result<Vec<bool>, AllocError> {
+    let mut edges = vec![in alloc; false; (ADDRESS_END / ROW_SIZE) as usize]?;
+    for extent in extents {
+        for addr in [extent.start, extent.end.saturating_sub(1)] {
+            if let Some(edge) = edges.get_mut((addr / ROW_SIZE) as usize) {
+                *edge = true;
+            }
+        }
+    }
+    Ok(edges)
+}
+
+/// Adds the rows of pages, without those that go on as the rows in front of them.
+fn push_rows<M: Tagged>(
+    rows: &mut Vec<u64>,
+    memory: &mut M,
+    pages: &Pages,
+    edges: &[bool],
+) -> Result<(), AllocError> {
+    let mut plain = 0u32;
+    for index in pages.start / ROW_SIZE..pages.end / ROW_SIZE {
+        let address = index.saturating_mul(ROW_SIZE);
+        let edge = edges.get(index as usize).copied().unwrap_or(false);
+        plain = if edge || !is_plain(memory, address) {
+            0
+        } else {
+            plain.saturating_add(1)
+        };
+        if plain <= PLAIN {
+            rows.push(address)?;
+        }
+    }
+    Ok(())
+}
+
+/// Whether all granules of a row have the tag of the granule in front of it.
+fn is_plain<M: Tagged>(memory: &mut M, address: u64) -> bool {
+    let before = tag_of(memory, address.saturating_sub(GRANULE_SIZE));
+    for index in 0..GRANULES as u64 {
+        if tag_of(memory, address.saturating_add(index * GRANULE_SIZE)) != before {
+            return false;
+        }
+    }
+    true
+}
+
+/// Adds the row of an address, and the rows beside it where their page is mapped.
+fn push_marked<M: Tagged>(
+    rows: &mut Vec<u64>,
+    memory: &mut M,
+    addr: u64,
+) -> Result<(), AllocError> {
+    let own = row_of(addr);
+    rows.push(own)?;
+    for beside in [own.saturating_sub(ROW_SIZE), own.saturating_add(ROW_SIZE)] {
+        if tag_of(memory, beside).is_some() {
+            rows.push(beside)?;
+        }
+    }
+    Ok(())
+}
+
+/// Numbers the rows, and leaves a number out where rows between are left out.
+fn number_rows(alloc: Global, rows: &[u64]) -> Result<Vec<Place>, AllocError> {
+    let mut places = Vec::with_capacity(alloc, rows.len())?;
+    let mut number = 0usize;
+    let mut next = rows.first().copied().unwrap_or(0);
+    for row in rows {
+        let address = *row;
+        if address != next {
+            number = number.saturating_add(1);
+        }
+        places.push(Place { address, number })?;
+        number = number.saturating_add(1);
+        next = address.saturating_add(ROW_SIZE);
+    }
+    Ok(places)
+}
+
+/// The allocation tag of the granule that an address is in; none where no page is mapped.
+fn tag_of<M: Tagged>(memory: &mut M, addr: u64) -> Option<u8> {
+    match memory.load_tag(addr) {
+        Ok(tag) => Some(tag),
+        Err(fault) if fault.kind == FaultKind::Translation => None,
+        Err(_) => Some(0),
+    }
+}
+
+/// What the row at an address shows.
+pub fn row_at<M: Tagged>(memory: &mut M, extents: &[Extent], address: u64) -> Row {
+    let unmapped = Granule {
+        tag: None,
+        owner: Owner::Nothing,
+    };
+    let mut row = Row {
+        address,
+        class: None,
+        first: 0,
+        size: 0,
+        granules: [unmapped; GRANULES],
+    };
+    if let Some(Block { class, size, .. }) = Block::of(address) {
+        row.class = Some(class);
+        row.first = REGIONS_START + u64::from(class) * REGION_SIZE;
+        row.size = size;
+    }
+    load_tags(&mut row, memory);
+    paint_all(&mut row, extents);
+    row
+}
+
+/// Gives each granule of a row its tag.
+fn load_tags<M: Tagged>(row: &mut Row, memory: &mut M) {
+    let first = row.address;
+    for (index, granule) in row.granules.iter_mut().enumerate() {
+        let distance = GRANULE_SIZE.saturating_mul(index as u64);
+        granule.tag = tag_of(memory, first.saturating_add(distance));
+    }
+}

@@ -1,0 +1,66 @@
+//! The picture of the heap, in a file.
+
+use crate::failure::Failure;
+use crate::options::Options;
+use mte_flat::Flat;
+use mte_report::Report;
+use std::fs::File;
+use std::io::BufWriter;
+use std::{fmt, io};
+
+/// Draws the heap and its tags into the file that is named, if one is.
+pub fn draw_map<'a>(
+    rt: &HostRuntime,
+    report: &Report<'_>,
+    options: &'a Options,
+    memory: &mut Flat,
+) -> Result<(), Failure<'a>> {
+    match &options.told.map {
+        Some(name) => {
+            let name = name.as_str();
+            draw_file(rt, report, options, name, memory).map_err(|error| Failure::of_write(
+                &error, name,
+            ))
+        }
+        None => Ok(()),
+    }
+}
+
+/// Draws the heap and its tags into the file with a name.
+fn draw_file(
+    rt: &HostRuntime,
+    report: &Report<'_>,
+    options: &Options,
+    name: &str,
+    memory: &mut Flat,
+) -> io::Result<()> {
+    let mut out = BufWriter::new(rt.alloc(), File::create(rt, name)?)?;
+    let subject = Subject(options);
+    let title = format!(in rt.alloc(); "{subject}")?;
+    report.draw(rt.alloc(), &mut out, title.as_str(), memory)
+}
+
+/// What was run: the image's name without its folder, or a tenant of a script.
+#[derive(Clone, Copy)]
+struct Subject<'a>(&'a Options);
+
+impl<'a> fmt::Display for Subject<'a> {
+    fn fmt<W: fmt::Write>(&self, f: &mut fmt::Formatter<W>) -> fmt::Result {
+        if let Some(replay) = &self.0.replay {
+            let (id, script) = (replay.id, without_folder(replay.script.as_str()));
+            return write!(f, "tenant {id} of {script}");
+        }
+        match self.0.files.first() {
+            Some(image) => f.write_str(without_folder(image.as_str())),
+            None => Ok(()),
+        }
+    }
+}
+
+/// What follows the last slash of a file's name.
+fn without_folder(name: &str) -> &str {
+    match name.rsplit_once('/') {
+        Some((_, last)) => last,
+        None => name,
+    }
+}
