@@ -2,8 +2,9 @@
 # Builds each tenant of this folder with the compilers that are there, at -O0, -O2 and -Os, runs it
 # by the host and compares the report with the lines that the tenant's first comment expects. Then
 # it runs the tenant alone and compares what that program tells with the lines under cause, its exit
-# status with ends (0), and its output with that of the host. The comment may also give the tenant
-# its input, its pages (frames, 8) and how many slices of 1048576 steps it gets (1).
+# status with ends (0), and its output with that of the host. The picture of its heap must be whole,
+# and have a red frame where an address was refused (ends 129 or 131). The comment may also give the
+# tenant its input, its pages (frames, 8) and how many slices of 1048576 steps it gets (1).
 #     check.sh [HOST [ALONE]]
 set -euo pipefail
 here=$(cd "$(dirname "$0")" && pwd)
@@ -47,8 +48,19 @@ run_alone() {
     local source=$1 image=$2
     ended=0
     "$alone" --pages "$(value "$source" frames 8)" --out 64 --input "$work/input" \
-        --steps $((1048576 * $(value "$source" slices 1))) "$image" \
+        --steps $((1048576 * $(value "$source" slices 1))) --map "$work/map.svg" "$image" \
         > "$work/output" 2> "$work/story" || ended=$?
+}
+
+# Whether the picture of the tenant's heap is whole, and has a red frame where it should.
+is_drawn() {
+    local framed=1
+    grep -q 'class="says"' "$work/map.svg" || framed=0
+    [[ $(tail -n 1 "$work/map.svg") == "</svg>" ]] || return 1
+    case $ended in
+        129 | 131) [[ $framed -eq 1 ]] ;;
+        *) [[ $framed -eq 0 ]] ;;
+    esac
 }
 
 # The output that the report has, in hexadecimal.
@@ -71,6 +83,7 @@ for compiler in "${compilers[@]}"; do
                 grep -qF -- "$line" "$work/story" || good=0
             done < <(sed -n '1,/\*\//s/^ *cause: \(.*[^ ]\) *$/\1/p' "$source" | sed 's/ *\*\/$//')
             [[ $ended -eq $(value "$source" ends 0) ]] || good=0
+            is_drawn || good=0
             [[ $(od -An -v -tx1 "$work/output" | tr -d ' \n') == "$(report_output)" ]] || good=0
             if [[ $good -eq 1 ]]; then
                 passed=$((passed + 1))
