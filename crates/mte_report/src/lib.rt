@@ -11,10 +11,8 @@ mod owner;
 mod pages;
 mod report;
 mod selection;
-mod symbols;
 mod words;
 
 pub use book::Book;
 pub use moment::{Line, Moment, Service};
 pub use report::Report;
-pub use symbols::Symbols;

@@ -1,9 +1,9 @@
 //! Texts of numbers, calls and instructions.
 
 use crate::book::{Chunk, Entry};
-use crate::symbols::Place;
 use a64_decode::decode;
 use a64_text::TextAt;
+use elf_symbols::Place;
 use mte_svc::HeapService;
 use mte_tags::{Attrs, FaultKind};
 use scudo_heap::HeapAbort;

@@ -1,0 +1,6 @@
+//! The names of an image's addresses.
+#![tactic(auto)]
+
+mod symbols;
+
+pub use symbols::{Place, Symbols};
