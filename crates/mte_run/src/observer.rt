@@ -81,6 +81,11 @@ impl<W: Write + Drop> Observer<W> {
         })
     }
 
+    /// The last instructions, unless their number is 0.
+    pub fn last(&self, count: usize) -> Option<&HeapCircularBuffer<Moment>> {
+        if count > 0 { Some(&self.last) } else { None }
+    }
+
     /// Writes what is held of the trace; whether all of it could be written.
     pub fn finish(&mut self) -> bool {
         match &mut self.tracer {

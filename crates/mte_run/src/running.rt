@@ -136,11 +136,7 @@ fn tell_end<'a>(
     let report = Report {
         parts: &parts,
         book: &observer.book,
-        last: if options.told.last > 0 {
-            Some(&observer.last)
-        } else {
-            None
-        },
+        last: observer.last(options.told.last),
         limit: options.limit(),
         symbols,
     };
