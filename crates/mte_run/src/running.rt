@@ -133,10 +133,11 @@ fn tell_end<'a>(
         return Err(Failure::Write);
     }
     let Bench { parts, mut memory } = bench;
+    let last = observer.last(options.told.last);
     let report = Report {
         parts: &parts,
         book: &observer.book,
-        last: observer.last(options.told.last),
+        last,
         limit: options.limit(),
         symbols,
     };
