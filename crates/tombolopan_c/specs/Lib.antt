@@ -1,0 +1,3 @@
+pub mod LentPages
+pub mod LentMemory
+pub mod Faults

@@ -1,0 +1,18 @@
+//! A tagged memory, a step and a run for programs in C: exports over memory that the caller lends
+//! to each call. Nothing is allocated, and nothing is kept between calls.
+#![tactic(auto)]
+
+mod codes;
+mod faults;
+mod find;
+mod lent;
+mod lent_accesses;
+mod lent_page;
+mod memory_calls;
+mod page_calls;
+
+pub use lent::LentTagState;
+pub use lent_page::LentPage;
+pub use memory_calls::{tb_load_tag, tb_read, tb_store_tags, tb_write};
+pub use page_calls::{tb_map, tb_memory_init, tb_unmap, tb_version};
+pub use faults::FaultReport;
