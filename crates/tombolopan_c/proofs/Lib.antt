@@ -1,3 +1,4 @@
 mod Places
 mod Changes
 mod Found
+mod Tags

@@ -1,6 +1,6 @@
 -- What lent places say of a page.
-use Rattle.std.proofs.Common.{◌≡◌, ◌≢◌, ℕ, suc, zero, ◌<◌, ◌==◌, ◌&&◌, Bool, true, false, not, cond, Option, Some, None, List, [], ◌∷◌, length, get_or, set, refl, sym, ap, ◌∙◌, inl, inr, arith, eq-eqb}
-use Rattle.std.proofs.lemmas.Bool.{cases_eq, cases_Bool, and_parts, and_left, and_from, not-true, not_from_true, not_from_false, both_ways, eqb-true, ne_eqb, or_from, or_left, or_right, cond-true, cond-false}
+use Rattle.std.proofs.Common.{◌≡◌, ◌≢◌, ℕ, suc, zero, ◌<◌, ◌==◌, ◌&&◌, true, false, not, cond, Option, Some, None, IfSome, IsNone, is_some, List, [], ◌∷◌, length, get_or, set, refl, sym, ap, ◌∙◌, inl, inr, arith, eq-eqb}
+use Rattle.std.proofs.lemmas.Bool.{cases_Bool, and_parts, and_left, and_from, not-true, not_from_true, not_from_false, both_ways, eqb-true, ne_eqb, or_from, or_left, or_right, cond-true, cond-false}
 use Rattle.std.specs.Ordering.{nat_cmp, eq_by_cmp}
 use Rattle.std.specs.Cmp.{nat_cmp_total}
 use Rattle.std.specs.FinMap.{find, get-from_entries}
@@ -9,6 +9,9 @@ use Rattle.mte_tags.specs.declared.state.TagState.{TagState}
 use Rattle.mte_tags.proofs.Pages.{tied_same, tied_other}
 use Rattle.tombolopan_c.specs.LentPages.{page_of, is_place_of, entries_of, lent_memory, has_room, NoneBefore, HasNone, IsFirst, IsFree}
 use Rattle.tombolopan_c.specs.declared.lent_page.LentPage.{LentPage}
+
+abbrev pub any_page : LentPage
+any_page = record { number = 0; mapped = 0; attrs = 0; bytes = []; tags = [] }
 
 -- a place of a page is in use and has its number
 pub used : (p : LentPage) (q : ℕ) → is_place_of p q ≡ true → (p.mapped == 0) ≡ false
@@ -92,3 +95,8 @@ room (p ∷ more) (suc i) h = or_right _ _ (room more i (record { within = omega
 pub no_room : (pages : List LentPage) → ((k : ℕ) (d : LentPage) → k < length pages → (get_or pages k d).mapped ≢ 0) → has_room pages ≡ false
 no_room [] h = refl
 no_room (p ∷ more) h = or_from _ _ (ne_eqb p.mapped 0 (h 0 p (omega arith))) (no_room more (λ k d l. h (suc k) d (omega arith)))
+
+-- what a search for a page's first place found
+pub found_place : (s : TagState) (pages : List LentPage) (q : ℕ) (o : Option ℕ) → IfSome o (λ i. IsFirst pages i q) → (IsNone o → HasNone pages q) → is_some o ≡ is_some (page_at (lent_memory s pages) q)
+found_place s pages q None a b = sym (ap is_some (page_at-none s pages q (b refl)))
+found_place s pages q (Some i) a b = sym (ap is_some (page_at-first s pages i q any_page a))

@@ -1,5 +1,5 @@
 -- The codes of faults and of the calls that map pages, and what is reported of a fault.
-use Rattle.std.specs.Prelude.{ℕ, ◌<◌, ◌&&◌, Bool, Option, Some, None, is_some, nat_lt}
+use Rattle.std.specs.Prelude.{ℕ, ◌&&◌, Bool, Option, Some, None, is_some, nat_lt}
 use Rattle.std.specs.Prelude.{if◌then◌else◌}
 use Rattle.mte_tags.specs.Memory.{Memory, page_at}
 use Rattle.mte_tags.specs.declared.fault.FaultKind.{FaultKind}

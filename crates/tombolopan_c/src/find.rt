@@ -1,7 +1,9 @@
 //! The place of a page.
 
-ghost use Rattle.std.specs.Prelude.{◌≡◌, IfSome, IsNone, false};
-ghost use Rattle.tombolopan_c.specs.LentPages.{IsFirst, HasNone, IsFree, has_room};
+ghost use Rattle.std.specs.Prelude.{◌≡◌, IfSome, IsNone, IsFalse, is_some};
+ghost use Rattle.mte_tags.specs.Memory.{page_at};
+ghost use Rattle.mte_tags.specs.declared.state.TagState.{TagState};
+ghost use Rattle.tombolopan_c.specs.LentPages.{IsFirst, HasNone, IsFree, has_room, lent_memory};
 
 use crate::lent_page::LentPage;
 
@@ -18,10 +20,18 @@ pub(crate) fn find(pages: &[LentPage], number: u64) -> Option<usize>
     None
 }
 
+/// Whether a page has a place.
+pub(crate) fn is_mapped(pages: &[LentPage], number: u64) -> bool
+    ensures page { (s : TagState) → result ≡ is_some (page_at (lent_memory s pages.now) number) }
+    ensures none { IsFalse result → HasNone pages.now number }
+{
+    find(pages, number).is_some()
+}
+
 /// The first free place.
 pub(crate) fn find_free(pages: &[LentPage]) -> Option<usize>
     ensures some { IfSome result (λ i. IsFree pages.now i) }
-    ensures none { IsNone result → has_room pages.now ≡ false }
+    ensures room { is_some result ≡ has_room pages.now }
 {
     for (i, page) in pages.iter().enumerate() {
         if page.mapped == 0 {

@@ -83,12 +83,7 @@ pub(crate) fn read_run(
 }
 
 /// Copies bytes out where one page holds them and none fails, and returns whether it did.
-pub(crate) fn try_read_run(
-    pages: &[LentPage],
-    at: u64,
-    buffer: &mut [u8],
-    access: &Access,
-) -> bool
+pub(crate) fn try_read_run(pages: &[LentPage], at: u64, buffer: &mut [u8], access: &Access) -> bool
     requires { at < 2 ^ 56 }
     ensures passed { IsTrue result
         → (s : TagState)
@@ -138,12 +133,7 @@ pub(crate) fn write_run(
 }
 
 /// Copies bytes in where one page holds them and none fails, and returns whether it did.
-pub(crate) fn try_write_run(
-    pages: &mut [LentPage],
-    at: u64,
-    bytes: &[u8],
-    access: &Access,
-) -> bool
+pub(crate) fn try_write_run(pages: &mut [LentPage], at: u64, bytes: &[u8], access: &Access) -> bool
     requires { at < 2 ^ 56 }
     ensures passed { IsTrue result
         → (s : TagState)

@@ -11,8 +11,8 @@ mod lent_page;
 mod memory_calls;
 mod page_calls;
 
+pub use faults::FaultReport;
 pub use lent::LentTagState;
 pub use lent_page::LentPage;
 pub use memory_calls::{tb_load_tag, tb_read, tb_store_tags, tb_write};
 pub use page_calls::{tb_map, tb_memory_init, tb_unmap, tb_version};
-pub use faults::FaultReport;

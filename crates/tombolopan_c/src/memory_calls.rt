@@ -11,9 +11,9 @@ ghost use Rattle.tombolopan_c.specs.Faults.{tags_report};
 ghost use Rattle.tombolopan_c.specs.declared.codes.TheConstants.{OK};
 
 use crate::codes::{BAD_ARGUMENT, OK};
+use crate::faults::{FaultReport, report};
 use crate::lent::{Lent, LentTagState};
 use crate::lent_page::LentPage;
-use crate::faults::{FaultReport, report};
 use mte_tags::Tagged;
 
 /// Copies bytes out of pages with READ, and compares tags where `check` is set. FAULT leaves the
@@ -96,8 +96,13 @@ pub extern "C" fn tb_load_tag(
         ≡ lent_memory (state_of state.old) pages.old }
 {
     let mut memory = Lent::new(pages, state);
-    let answer = memory.load_tag(addr).map(|loaded| *tag = loaded);
-    report(answer, fault)
+    match memory.load_tag(addr) {
+        Ok(loaded) => {
+            *tag = loaded;
+            report(Ok(()), fault)
+        }
+        Err(found) => report(Err(found), fault),
+    }
 }
 
 /// Replaces the tags of consecutive granules of pages with WRITE, all of them or none, and makes

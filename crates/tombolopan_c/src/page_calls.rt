@@ -8,7 +8,7 @@ ghost use Rattle.tombolopan_c.specs.Faults.{map_code, unmap_code};
 ghost use Rattle.tombolopan_c.specs.declared.codes.TheConstants.{OK};
 
 use crate::codes::{ALREADY_MAPPED, BAD_ARGUMENT, NO_ROOM, NOT_MAPPED, OK, PAGES};
-use crate::find::{find, find_free};
+use crate::find::{find_free, is_mapped};
 use crate::lent::LentTagState;
 use crate::lent_page::LentPage;
 
@@ -52,7 +52,7 @@ pub extern "C" fn tb_map(pages: &mut [LentPage], number: u64, attrs: u32) -> u32
     if number >= PAGES || attrs > 15 {
         return BAD_ARGUMENT;
     }
-    if find(pages, number).is_some() {
+    if is_mapped(pages, number) {
         return ALREADY_MAPPED;
     }
     let Some(i) = find_free(pages) else {
@@ -72,12 +72,12 @@ pub extern "C" fn tb_unmap(pages: &mut [LentPage], number: u64) -> u32
         then without_page (lent_memory s pages.old) number
         else lent_memory s pages.old) }
 {
-    if find(pages, number).is_none() {
+    if !is_mapped(pages, number) {
         return NOT_MAPPED;
     }
-    for i in 0..pages.len() {
-        if pages[i].is_of(number) {
-            pages[i].mapped = 0;
+    for page in pages.iter_mut() {
+        if page.is_of(number) {
+            page.mapped = 0;
         }
     }
     OK

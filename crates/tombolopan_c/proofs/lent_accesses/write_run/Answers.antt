@@ -1,4 +1,4 @@
-use Rattle.std.proofs.Common.{◌/◌, ◌<◌, ◌∙◌, sym, ap, length, Err, refl}
+use Rattle.std.proofs.Common.{◌/◌, ◌∙◌, sym, ap, length, Err, refl}
 use Rattle.mte_tags.specs.Accesses.{outcome}
 use Rattle.tombolopan_c.specs.LentPages.{lent_memory}
 use Rattle.tombolopan_c.proofs.Places.{page_at-first, page_at-none}

@@ -1,4 +1,4 @@
-use Rattle.std.proofs.Common.{refl, rules}
+use Rattle.std.proofs.Common.{rules}
 use Rattle.tombolopan_c.specs.LentPages.{lent_memory}
 use Rattle.tombolopan_c.proofs.lent.LentPageStore.tag_state.Goals as goal
 

@@ -14,9 +14,9 @@ returns-then-zero-clause-holds c =
     let t = c.args.tag in
     let low = λ (x : ℕ). x % 16 in
     let tags =
-        ap (map low) (filled_spliced page.tags c.fill.new.self f n t (omega arith) (c.fill.ensures.after (λ y e. e)))
-        ∙ map-spliced low (replicate n t) page.tags f
-        ∙ ap (spliced (map low page.tags) f) (map-replicate n t c.requires.tag) in
+    ap (map low) (filled_spliced page.tags c.fill.new.self f n t (omega arith) (c.fill.ensures.after (λ y e. e)))
+    ∙ map-spliced low (replicate n t) page.tags f
+    ∙ ap (spliced (map low page.tags) f) (map-replicate n t c.requires.tag) in
     let bytes = filled page.bytes c.fill-then-zero.new.self (16 * f) (16 * n) 0 (omega arith) (c.fill-then-zero.ensures.after (λ y e. e)) in
     page_parts _ _ _ bytes tags ∙ ap (retagged (page_of page) f n t) (sym c.if-zero.true)
 
@@ -28,7 +28,7 @@ returns-else-zero-clause-holds c =
     let t = c.args.tag in
     let low = λ (x : ℕ). x % 16 in
     let tags =
-        ap (map low) (filled_spliced page.tags c.fill.new.self f n t (omega arith) (c.fill.ensures.after (λ y e. e)))
-        ∙ map-spliced low (replicate n t) page.tags f
-        ∙ ap (spliced (map low page.tags) f) (map-replicate n t c.requires.tag) in
+    ap (map low) (filled_spliced page.tags c.fill.new.self f n t (omega arith) (c.fill.ensures.after (λ y e. e)))
+    ∙ map-spliced low (replicate n t) page.tags f
+    ∙ ap (spliced (map low page.tags) f) (map-replicate n t c.requires.tag) in
     page_parts _ _ _ refl tags ∙ ap (retagged (page_of page) f n t) (sym c.if-zero.false)
