@@ -1,3 +1,5 @@
 pub mod LentPages
 pub mod LentMemory
+pub mod LentRegisters
 pub mod Faults
+pub mod Stops

@@ -1,5 +1,8 @@
 //! What calls answer.
 
+/// The version of the layouts and calls.
+pub const VERSION: u32 = 1;
+
 /// It was done; a step went on, and a run did all of its steps.
 pub const OK: u32 = 0;
 /// The access, or the instruction or its fetch, faulted.

@@ -8,11 +8,17 @@ mod find;
 mod lent;
 mod lent_accesses;
 mod lent_page;
+mod lent_regs;
 mod memory_calls;
 mod page_calls;
+mod run_calls;
+mod stops;
 
 pub use faults::FaultReport;
 pub use lent::LentTagState;
 pub use lent_page::LentPage;
+pub use lent_regs::LentRegs;
 pub use memory_calls::{tb_load_tag, tb_read, tb_store_tags, tb_write};
 pub use page_calls::{tb_map, tb_memory_init, tb_unmap, tb_version};
+pub use run_calls::{tb_run, tb_step};
+pub use stops::StopReport;

@@ -7,7 +7,7 @@ ghost use Rattle.tombolopan_c.specs.LentPages.{lent_memory, state_of, has_room, 
 ghost use Rattle.tombolopan_c.specs.Faults.{map_code, unmap_code};
 ghost use Rattle.tombolopan_c.specs.declared.codes.TheConstants.{OK};
 
-use crate::codes::{ALREADY_MAPPED, BAD_ARGUMENT, NO_ROOM, NOT_MAPPED, OK, PAGES};
+use crate::codes::{ALREADY_MAPPED, BAD_ARGUMENT, NO_ROOM, NOT_MAPPED, OK, PAGES, VERSION};
 use crate::find::{find_free, is_mapped};
 use crate::lent::LentTagState;
 use crate::lent_page::LentPage;
@@ -17,7 +17,7 @@ use crate::lent_page::LentPage;
 pub extern "C" fn tb_version() -> u32
     ensures { result ≡ 1 }
 {
-    1
+    VERSION
 }
 
 /// Makes each place free, sets the tag mode and clears the flag: a memory without pages.

@@ -1,0 +1,45 @@
+//! What a call reports of the end of a step or a run.
+
+ghost use Rattle.std.specs.Prelude.{◌≡◌};
+ghost use Rattle.tombolopan_c.specs.Stops.{stop_report};
+
+use crate::codes::{BREAKPOINT, FAULT, ILLEGAL, OK, SVC};
+use crate::faults::FaultReport;
+use a64_step::{Outcome, Stop};
+
+/// How a step or a run ended.
+#[repr(C)]
+#[derive(Clone, Copy)]
+pub struct StopReport {
+    /// The steps that were not attempted.
+    pub left: u64,
+    /// OK, FAULT, SVC, BREAKPOINT or ILLEGAL.
+    pub code: u32,
+    /// The number of BREAKPOINT, or the word of ILLEGAL; else 0.
+    pub number: u32,
+    /// The fault of FAULT.
+    pub fault: FaultReport,
+}
+
+impl StopReport {
+    /// That of the end of a run.
+    pub(crate) fn of(stop: &Stop) -> StopReport
+        ensures { result ≡ stop_report stop.now }
+    {
+        let (code, number, fault) = match stop.outcome {
+            None | Some(Outcome::Next) => (OK, 0, FaultReport::none()),
+            Some(Outcome::Svc) => (SVC, 0, FaultReport::none()),
+            Some(Outcome::Fault(fault)) => (FAULT, 0, FaultReport::of(&fault)),
+            Some(Outcome::Illegal(word)) => (ILLEGAL, word, FaultReport::none()),
+            Some(Outcome::Breakpoint(number)) => {
+                (BREAKPOINT, u32::from(number), FaultReport::none())
+            }
+        };
+        StopReport {
+            left: stop.left,
+            code,
+            number,
+            fault,
+        }
+    }
+}
