@@ -1,0 +1,84 @@
+-- What an operation answers and leaves. One that aborts or faults changes nothing.
+use Rattle.std.specs.Prelude.{ℕ, true, Option, Some, None, Result, Ok, Err}
+use Rattle.std.specs.Int.{w64, from_le_bytes, to_le_bytes}
+use Rattle.a64_bits.specs.Addresses.{plain}
+use Rattle.mte_tags.specs.Memory.{Memory, tag_at}
+use Rattle.mte_tags.specs.Accesses.{read_fault, read_bytes, after_read, write_fault, after_write}
+use Rattle.mte_tags.specs.Accesses.{tag_load_fault}
+use Rattle.mte_tags.specs.declared.fault.MemFault.{MemFault}
+use Rattle.scudo_heap.specs.declared.abort.HeapAbort.{HeapAbort}
+use Rattle.scudo_heap.specs.Placing.{World}
+use Rattle.scudo_heap.specs.Allocation.{Made, answer_of, malloc_of, calloc_of, memalign_of}
+use Rattle.scudo_heap.specs.Freeing.{Freed, free_of, usable_size_of}
+use Rattle.scudo_heap.specs.Realloc as realloc
+use Rattle.scudo_heap.specs.Realloc.{Reallocated, realloc_of}
+use Rattle.heap_calls.specs.declared.op.HeapOp.{HeapOp}
+use Rattle.heap_calls.specs.declared.op.HeapOp.TheVariants.{Malloc, Calloc, Memalign, Realloc}
+use Rattle.heap_calls.specs.declared.op.HeapOp.TheVariants.{Free, UsableSize, Load, Store}
+use Rattle.heap_calls.specs.declared.op.HeapOp.TheVariants.{LoadTag}
+use Rattle.heap_calls.specs.declared.op.HeapAnswer.{HeapAnswer}
+use Rattle.heap_calls.specs.declared.op.HeapAnswer.TheVariants.{Value, Abort, Fault}
+
+pub record Answered : Type 0 where
+  pub world : World
+  pub answer : HeapAnswer
+
+-- ---- heap calls
+
+abbrev pub of_call : Result ℕ HeapAbort → HeapAnswer
+of_call (Ok value) = Value value
+of_call (Err abort) = Abort abort
+
+abbrev pub of_free : Result (Unit {0}) HeapAbort → HeapAnswer
+of_free (Ok done) = Value 0
+of_free (Err abort) = Abort abort
+
+abbrev pub made : Made → Answered
+made m = record { world = m.world; answer = Value (answer_of m.chunk) }
+
+abbrev pub reallocated : Reallocated → Answered
+reallocated r = record { world = r.world; answer = of_call (realloc.answered r.result) }
+
+abbrev pub freed : Freed → Answered
+freed f = record { world = f.world; answer = of_free f.result }
+
+-- ---- accesses, with the tags compared
+
+pub record Accessed : Type 0 where
+  pub memory : Memory
+  pub answer : HeapAnswer
+
+-- A fault, or else a value and what the access leaves.
+abbrev pub unless : Option MemFault → Memory → ℕ → Memory → Accessed
+unless (Some fault) before value after = record { memory = before; answer = Fault fault }
+unless None before value after = record { memory = after; answer = Value value }
+
+-- The eight bytes at an address, the lowest first.
+unfoldable pub load_of : Memory → ℕ → Accessed
+load_of m a =
+    unless (read_fault m a 8 true) m (from_le_bytes w64 (read_bytes m a 8)) (after_read m a 8 true)
+
+unfoldable pub store_of : Memory → ℕ → ℕ → Accessed
+store_of m a value =
+    unless (write_fault m a 8 true) m 0 (after_write m a (to_le_bytes w64 value) true)
+
+-- A load of a tag compares none, and changes nothing.
+unfoldable pub load_tag_of : Memory → ℕ → HeapAnswer
+load_tag_of m a = (unless (tag_load_fault m a) m (tag_at m (plain a)) m).answer
+
+abbrev pub in_world : World → Accessed → Answered
+in_world w x = record { world = record w { memory = x.memory }; answer = x.answer }
+
+-- ---- all operations
+
+unfoldable pub answered : World → HeapOp → Answered
+answered w (Malloc size) = made (malloc_of w size)
+answered w (Calloc count size) = made (calloc_of w count size)
+answered w (Memalign alignment size) = made (memalign_of w alignment size)
+answered w (Realloc pointer size) = reallocated (realloc_of w pointer size)
+answered w (Free pointer) = freed (free_of w pointer)
+answered w (UsableSize pointer) =
+    record { world = w; answer = of_call (usable_size_of w.memory w.heap pointer) }
+answered w (Load addr) = in_world w (load_of w.memory addr)
+answered w (Store addr value) = in_world w (store_of w.memory addr value)
+answered w (LoadTag addr) = record { world = w; answer = load_tag_of w.memory addr }

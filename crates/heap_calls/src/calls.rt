@@ -1,0 +1,46 @@
+//! The answer of an operation.
+
+ghost use Rattle.std.specs.Prelude.{◌≡◌, ◌<◌};
+ghost use Rattle.scudo_heap.specs.Placing.{world_of};
+ghost use Rattle.scudo_heap.specs.Served.{IsServed};
+ghost use Rattle.heap_calls.specs.Answers.{answered};
+
+use crate::access::{load, load_tag, store};
+use crate::op::{HeapAnswer, HeapOp};
+use mte_tags::{Paged, Rgsr};
+use scudo_heap::Heap;
+
+/// Makes a call of a heap or an access to its memory, and returns its answer.
+#[tactic(auto, unfolding(crate::specs::Answers::answered))]
+pub fn answer<M: Paged>(heap: &mut Heap, rgsr: &mut Rgsr, memory: &mut M, op: &HeapOp) -> HeapAnswer
+    requires served { IsServed (M.Tagged.memory memory.old) heap.old }
+    requires tag { rgsr.old.tag < 16 }
+    ensures answer { let w = world_of (M.Tagged.memory memory.old) heap.old rgsr.old in
+        result ≡ (answered w op.now).answer }
+    ensures world { let w = world_of (M.Tagged.memory memory.old) heap.old rgsr.old in
+        world_of (M.Tagged.memory memory.new) heap.new rgsr.new ≡ (answered w op.now).world }
+    ensures served { IsServed (M.Tagged.memory memory.new) heap.new }
+    ensures tag { rgsr.new.tag < 16 }
+    ensures kept { M.Tagged.kept memory.old memory.new }
+{
+    match *op {
+        HeapOp::Malloc { size } => HeapAnswer::Value(heap.malloc(rgsr, memory, size)),
+        HeapOp::Calloc { count, size } => {
+            HeapAnswer::Value(heap.calloc(rgsr, memory, count, size))
+        }
+        HeapOp::Memalign { alignment, size } => {
+            HeapAnswer::Value(heap.memalign(rgsr, memory, alignment, size))
+        }
+        HeapOp::Realloc { pointer, size } => {
+            HeapAnswer::of_call(heap.realloc(rgsr, memory, pointer, size))
+        }
+        HeapOp::Free { pointer } => match heap.free(rgsr, memory, pointer) {
+            Ok(()) => HeapAnswer::Value(0),
+            Err(abort) => HeapAnswer::Abort(abort),
+        },
+        HeapOp::UsableSize { pointer } => { HeapAnswer::of_call(heap.usable_size(memory, pointer)) }
+        HeapOp::Load { addr } => load(memory, addr),
+        HeapOp::Store { addr, value } => store(memory, addr, value),
+        HeapOp::LoadTag { addr } => load_tag(memory, addr),
+    }
+}

@@ -1,0 +1,84 @@
+//! A table of operations on a new heap and what each answers.
+
+use heap_calls::{HeapAnswer, HeapBench, HeapOp};
+use mte_tags::{FaultKind, MemFault, Rgsr, TagMode};
+use scudo_heap::HeapAbort;
+use std::test::Fail;
+
+/// The address of the first chunk of class 2, whose blocks have 64 bytes.
+const CHUNK: u64 = 0x0100_0000_1200_0010;
+
+/// What a use of a chunk after it was freed answers.
+const REFUSED: HeapAnswer = HeapAnswer::Fault(MemFault {
+    addr: 0x1200_0010,
+    kind: FaultKind::TagCheck,
+    write: false,
+    ptr_tag: 1,
+    mem_tag: 3,
+});
+
+/// Each kind of operation once, and what a chunk that was freed is kept from.
+const TABLE: [(HeapOp, HeapAnswer); 14] = [
+    (HeapOp::Malloc { size: 24 }, HeapAnswer::Value(CHUNK)),
+    (HeapOp::UsableSize { pointer: CHUNK }, HeapAnswer::Value(24)),
+    (
+        HeapOp::Store {
+            addr: CHUNK,
+            value: 0x0102_0304_0506_0708,
+        },
+        HeapAnswer::Value(0),
+    ),
+    (
+        HeapOp::Load { addr: CHUNK },
+        HeapAnswer::Value(0x0102_0304_0506_0708),
+    ),
+    (HeapOp::LoadTag { addr: CHUNK }, HeapAnswer::Value(1)),
+    (HeapOp::Free { pointer: CHUNK }, HeapAnswer::Value(0)),
+    (HeapOp::LoadTag { addr: CHUNK }, HeapAnswer::Value(3)),
+    (HeapOp::Load { addr: CHUNK }, REFUSED),
+    (
+        HeapOp::Free { pointer: CHUNK },
+        HeapAnswer::Abort(HeapAbort::InvalidState),
+    ),
+    (
+        HeapOp::Calloc { count: 3, size: 8 },
+        HeapAnswer::Value(0x0500_0000_1200_0010),
+    ),
+    (
+        HeapOp::Realloc {
+            pointer: 0x0500_0000_1200_0010,
+            size: 32,
+        },
+        HeapAnswer::Value(0x0500_0000_1200_0010),
+    ),
+    (
+        HeapOp::UsableSize {
+            pointer: 0x0500_0000_1200_0010,
+        },
+        HeapAnswer::Value(32),
+    ),
+    (
+        HeapOp::Memalign {
+            alignment: 24,
+            size: 8,
+        },
+        HeapAnswer::Value(0),
+    ),
+    (
+        HeapOp::Realloc {
+            pointer: 0x0500_0000_1200_0010,
+            size: 0,
+        },
+        HeapAnswer::Value(0),
+    ),
+];
+
+#[test]
+fn operations_on_a_new_heap(rt: HostRuntime) -> Result<(), Fail> {
+    let rgsr = Rgsr { tag: 0, seed: 1 };
+    let mut bench = HeapBench::new(rt.alloc(), 1, 64, TagMode::Sync, rgsr)?;
+    for (op, expected) in TABLE {
+        assert_eq!(rt; bench.answer(&op), expected, "{op:?}");
+    }
+    Ok(())
+}
