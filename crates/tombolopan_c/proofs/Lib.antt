@@ -2,3 +2,4 @@ mod Places
 mod Changes
 mod Found
 mod Tags
+mod HeapLists

@@ -1,4 +1,5 @@
 pub mod LentPages
+pub mod HeapCalls
 pub mod LentMemory
 pub mod LentRegisters
 pub mod Faults

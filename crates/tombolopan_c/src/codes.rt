@@ -22,6 +22,11 @@ pub const NO_ROOM: u32 = 7;
 /// An argument is out of its range.
 pub const BAD_ARGUMENT: u32 = 8;
 
+/// A check of the pointer that was handed to the heap failed.
+pub const ABORT: u32 = 9;
+/// An allocation failed.
+pub const OUT_OF_MEMORY: u32 = 10;
+
 /// No page is mapped there.
 pub const TRANSLATION: u32 = 1;
 /// The page lacks READ, WRITE or EXEC.
@@ -34,6 +39,38 @@ pub const ALIGNMENT: u32 = 4;
 pub const SP_ALIGNMENT: u32 = 5;
 /// A fetch at an address that is not a multiple of 4.
 pub const PC_ALIGNMENT: u32 = 6;
+
+/// A chunk of `first` bytes.
+pub const MALLOC: u32 = 1;
+/// Frees the chunk at `first`.
+pub const FREE: u32 = 2;
+/// A chunk for `first` elements of `second` bytes, all zero.
+pub const CALLOC: u32 = 3;
+/// Gives the chunk at `first` a size of `second` bytes.
+pub const REALLOC: u32 = 4;
+/// A chunk of `second` bytes at a multiple of `first`.
+pub const MEMALIGN: u32 = 5;
+/// How many bytes of the chunk at `first` may be used.
+pub const USABLE_SIZE: u32 = 6;
+/// The eight bytes at `first`, tags compared.
+pub const LOAD: u32 = 7;
+/// Stores `second` as eight bytes at `first`, tags compared.
+pub const STORE: u32 = 8;
+/// The allocation tag of the granule that holds `first`.
+pub const LOAD_TAG: u32 = 9;
+
+/// The pointer is not a multiple of 16.
+pub const MISALIGNED: u64 = 1;
+/// No page with WRITE holds its header.
+pub const UNMAPPED: u64 = 2;
+/// The checksum of its header differs.
+pub const HEADER_CORRUPT: u64 = 3;
+/// Its header says that it is free.
+pub const INVALID_STATE: u64 = 4;
+/// Its header names no block of the heap.
+pub const NOT_A_BLOCK: u64 = 5;
+/// Its block is free.
+pub const ALREADY_FREE: u64 = 6;
 
 /// Page numbers below it have addresses: 2^56 / 4096.
 pub const PAGES: u64 = 1 << 44;

@@ -1,12 +1,14 @@
-//! A tagged memory, a step and a run for programs in C: exports over memory that the caller lends
-//! to each call. Nothing is allocated, and nothing is kept between calls.
+//! A tagged memory, a step, a run and a heap for programs in C: exports over memory that the caller
+//! lends to each call. Nothing is kept between calls, and `tb_heap_calls` alone allocates.
 #![tactic(auto)]
 
 mod codes;
 mod faults;
 mod find;
+mod heap_lists;
 mod lent;
 mod lent_accesses;
+mod lent_heap;
 mod lent_page;
 mod lent_regs;
 mod memory_calls;
@@ -15,7 +17,9 @@ mod run_calls;
 mod stops;
 
 pub use faults::FaultReport;
+pub use heap_lists::tb_heap_calls;
 pub use lent::LentTagState;
+pub use lent_heap::{HeapSetup, LentHeapCall};
 pub use lent_page::LentPage;
 pub use lent_regs::LentRegs;
 pub use memory_calls::{tb_load_tag, tb_read, tb_store_tags, tb_write};

@@ -1,0 +1,94 @@
+-- A heap's calls as an array: what each means, and what is entered of its answer.
+use Rattle.std.specs.Prelude.{ℕ, zero, suc, ◌%◌, ◌==◌, ◌&&◌, Bool, not, nat_lt, nat_le}
+use Rattle.std.specs.Prelude.{List, slice_index_or, Option, Some, None, if◌then◌else◌}
+use Rattle.address_map.specs.declared.limits.TheConstants.{MAX_PAGES}
+use Rattle.mte_tags.specs.Memory.{no_pages}
+use Rattle.mte_tags.specs.declared.generator.Rgsr.{Rgsr}
+use Rattle.mte_tags.specs.declared.state.TagMode.{TagMode}
+use Rattle.scudo_heap.specs.Heaps.{empty_heap}
+use Rattle.scudo_heap.specs.Placing.{World, world_of}
+use Rattle.scudo_heap.specs.declared.abort.HeapAbort.{HeapAbort}
+use Rattle.scudo_heap.specs.declared.abort.HeapAbort.TheVariants as abort
+use Rattle.heap_calls.specs.Answers.{answered}
+use Rattle.heap_calls.specs.declared.op.HeapOp.{HeapOp}
+use Rattle.heap_calls.specs.declared.op.HeapOp.TheVariants as op
+use Rattle.heap_calls.specs.declared.op.HeapAnswer.{HeapAnswer}
+use Rattle.heap_calls.specs.declared.op.HeapAnswer.TheVariants as answer
+use Rattle.tombolopan_c.specs.Faults.{no_fault, report_of}
+use Rattle.tombolopan_c.specs.LentPages.{mode_for}
+use Rattle.tombolopan_c.specs.declared.codes.TheConstants.{OK, FAULT, ABORT, BAD_ARGUMENT}
+use Rattle.tombolopan_c.specs.declared.codes.TheConstants.{MISALIGNED, UNMAPPED, HEADER_CORRUPT}
+use Rattle.tombolopan_c.specs.declared.codes.TheConstants.{INVALID_STATE, NOT_A_BLOCK, ALREADY_FREE}
+use Rattle.tombolopan_c.specs.declared.codes.TheConstants.{MALLOC, FREE, CALLOC, REALLOC, MEMALIGN}
+use Rattle.tombolopan_c.specs.declared.codes.TheConstants.{USABLE_SIZE, LOAD, STORE, LOAD_TAG}
+use Rattle.tombolopan_c.specs.declared.lent_heap.HeapSetup.{HeapSetup}
+use Rattle.tombolopan_c.specs.declared.lent_heap.LentHeapCall.{LentHeapCall}
+
+-- ---- the heap that a setup asks for
+
+abbrev pub is_setup : HeapSetup → Bool
+is_setup s = nat_lt 0 s.pages && nat_le s.pages MAX_PAGES
+
+abbrev pub mode_of : HeapSetup → TagMode
+mode_of s = mode_for (not (s.asynchronous == 0))
+
+abbrev pub rgsr_of : HeapSetup → Rgsr
+rgsr_of s = record { tag = s.rgsr_tag % 16; seed = s.rgsr_seed }
+
+abbrev pub start_of : HeapSetup → World
+start_of s = world_of (no_pages s.pages (mode_of s)) (empty_heap s.cookie s.pages) (rgsr_of s)
+
+-- ---- a call
+
+abbrev pub op_of : LentHeapCall → Option HeapOp
+op_of c =
+    if c.op == MALLOC then Some (op.Malloc c.first)
+    else if c.op == FREE then Some (op.Free c.first)
+    else if c.op == CALLOC then Some (op.Calloc c.first c.second)
+    else if c.op == REALLOC then Some (op.Realloc c.first c.second)
+    else if c.op == MEMALIGN then Some (op.Memalign c.first c.second)
+    else if c.op == USABLE_SIZE then Some (op.UsableSize c.first)
+    else if c.op == LOAD then Some (op.Load c.first)
+    else if c.op == STORE then Some (op.Store c.first c.second)
+    else if c.op == LOAD_TAG then Some (op.LoadTag c.first)
+    else None
+
+abbrev pub abort_code : HeapAbort → ℕ
+abort_code abort.Misaligned = MISALIGNED
+abort_code abort.Unmapped = UNMAPPED
+abort_code abort.HeaderCorrupt = HEADER_CORRUPT
+abort_code abort.InvalidState = INVALID_STATE
+abort_code abort.NotABlock = NOT_A_BLOCK
+abort_code abort.AlreadyFree = ALREADY_FREE
+
+abbrev pub noted : LentHeapCall → HeapAnswer → LentHeapCall
+noted c (answer.Value v) = record c { code = OK; answer = v; fault = no_fault }
+noted c (answer.Abort a) = record c { code = ABORT; answer = abort_code a; fault = no_fault }
+noted c (answer.Fault f) = record c { code = FAULT; answer = 0; fault = report_of f }
+
+abbrev pub refused : LentHeapCall → LentHeapCall
+refused c = record c { code = BAD_ARGUMENT; answer = 0; fault = no_fault }
+
+pub record MadeCall : Type 0 where
+  pub world : World
+  pub call : LentHeapCall
+
+abbrev pub made_by : World → LentHeapCall → Option HeapOp → MadeCall
+made_by w c None = record { world = w; call = refused c }
+made_by w c (Some o) =
+    record { world = (answered w o).world; call = noted c (answered w o).answer }
+
+abbrev pub made_in : World → LentHeapCall → MadeCall
+made_in w c = made_by w c (op_of c)
+
+-- ---- calls in order
+
+-- What the first k calls leave.
+unfoldable pub world_before : World → List LentHeapCall → ℕ → LentHeapCall → World
+world_before w calls zero d = w
+world_before w calls (suc k) d =
+    (made_in (world_before w calls k d) (slice_index_or calls k d)).world
+
+-- The call k with its answer.
+abbrev pub call_made : World → List LentHeapCall → ℕ → LentHeapCall → LentHeapCall
+call_made w calls k d = (made_in (world_before w calls k d) (slice_index_or calls k d)).call
