@@ -1,9 +1,11 @@
 /*
- * libtombolopan_c.a: a tagged memory as FEAT_MTE2 has it, a step of an A64 core and a run of steps.
+ * libtombolopan_c.a: a tagged memory as FEAT_MTE2 has it, a step of an A64 core, a run of steps, and
+ * the calls of a heap with tags.
  *
  * All memory is the caller's and is lent to each call: an array of places for pages, the tag state,
- * the registers. The library allocates nothing and keeps nothing between calls, so the caller may
- * read and write all of it between calls, copy it, or place it in a file. Every content has a
+ * the registers. The library keeps nothing between calls, and only tb_heap_calls allocates, for its
+ * own time. So the caller may read and write all of it between calls, copy it, or place it in a
+ * file. Every content has a
  * meaning:
  *
  * - A place with `mapped` 0 is free; zero bytes are free places and the synchronous mode.
@@ -42,7 +44,9 @@ enum tb_code {
     TB_NOT_MAPPED = 5,     /* the page is not mapped */
     TB_ALREADY_MAPPED = 6, /* the page is mapped already */
     TB_NO_ROOM = 7,        /* no place is free */
-    TB_BAD_ARGUMENT = 8    /* an argument is out of its range */
+    TB_BAD_ARGUMENT = 8,   /* an argument is out of its range */
+    TB_ABORT = 9,          /* a check of the pointer that was handed to the heap failed */
+    TB_OUT_OF_MEMORY = 10  /* an allocation failed */
 };
 
 /* Why an access faulted; 0 is no fault. */
@@ -53,6 +57,29 @@ enum tb_fault_kind {
     TB_ALIGNMENT = 4,    /* tags stored at an address that is not a multiple of 16 */
     TB_SP_ALIGNMENT = 5, /* a stack pointer as a base that is not a multiple of 16 */
     TB_PC_ALIGNMENT = 6  /* a fetch at an address that is not a multiple of 4 */
+};
+
+/* What tb_heap_calls makes. Accesses are of 8 bytes, the lowest first, and compare the tags. */
+enum tb_heap_op {
+    TB_MALLOC = 1,      /* a chunk of `first` bytes */
+    TB_FREE = 2,        /* frees the chunk at `first` */
+    TB_CALLOC = 3,      /* a chunk for `first` elements of `second` bytes, all zero */
+    TB_REALLOC = 4,     /* gives the chunk at `first` a size of `second` bytes */
+    TB_MEMALIGN = 5,    /* a chunk of `second` bytes at a multiple of `first` */
+    TB_USABLE_SIZE = 6, /* how many bytes of the chunk at `first` may be used */
+    TB_LOAD = 7,        /* the number at `first` */
+    TB_STORE = 8,       /* stores `second` at `first` */
+    TB_LOAD_TAG = 9     /* the allocation tag of the granule that holds `first` */
+};
+
+/* Why a pointer that was handed to the heap is refused: the first check that it fails. */
+enum tb_heap_abort {
+    TB_MISALIGNED = 1,     /* it is not a multiple of 16 */
+    TB_UNMAPPED = 2,       /* no page with TB_WRITE holds its header */
+    TB_HEADER_CORRUPT = 3, /* the checksum of its header differs */
+    TB_INVALID_STATE = 4,  /* its header says that it is free */
+    TB_NOT_A_BLOCK = 5,    /* its header names no block of the heap */
+    TB_ALREADY_FREE = 6    /* its block is free */
 };
 
 /* What may be done with a page: a sum of these. */
@@ -105,12 +132,33 @@ typedef struct tb_stop {
     tb_fault fault;  /* the fault of TB_FAULT; else zero */
 } tb_stop;
 
+/* What a heap and its memory begin with. */
+typedef struct tb_heap_setup {
+    uint32_t cookie;       /* what the checksums of the headers start from */
+    uint32_t pages;        /* the most pages that are mapped at once, 1 to 4096 */
+    uint32_t asynchronous; /* any number but 0: a tag that differs sets a flag, and fails no access */
+    uint16_t rgsr_seed;    /* the seed of the random tags, as in tb_regs */
+    uint16_t rgsr_tag;     /* the tag that was drawn last; its low four bits count */
+} tb_heap_setup;
+
+/* A call of a heap or an access to its memory: op, first and second are read, the others written. */
+typedef struct tb_heap_call {
+    uint32_t op;     /* tb_heap_op */
+    uint32_t code;   /* TB_OK, TB_FAULT or TB_ABORT; TB_BAD_ARGUMENT where op is none */
+    uint64_t first;
+    uint64_t second;
+    uint64_t answer; /* the pointer (0: there is no room), size, number or tag; why, for TB_ABORT */
+    tb_fault fault;  /* the fault of TB_FAULT; else zero */
+} tb_heap_call;
+
 TB_ASSERT(sizeof(tb_page) == 4368);
 TB_ASSERT(offsetof(tb_page, bytes) == 16 && offsetof(tb_page, tags) == 4112);
 TB_ASSERT(sizeof(tb_tag_state) == 8);
 TB_ASSERT(sizeof(tb_regs) == 272 && offsetof(tb_regs, sp) == 248 && offsetof(tb_regs, nzcv) == 264);
 TB_ASSERT(sizeof(tb_fault) == 24 && offsetof(tb_fault, mem_tag) == 20);
 TB_ASSERT(sizeof(tb_stop) == 40 && offsetof(tb_stop, fault) == 16);
+TB_ASSERT(sizeof(tb_heap_setup) == 16 && offsetof(tb_heap_setup, rgsr_tag) == 14);
+TB_ASSERT(sizeof(tb_heap_call) == 56 && offsetof(tb_heap_call, fault) == 32);
 
 /* The version of these layouts and calls, 1. */
 uint32_t tb_version(void);
@@ -168,6 +216,16 @@ uint32_t tb_step(tb_page *pages, size_t count, tb_tag_state *state, tb_regs *reg
  */
 uint32_t tb_run(tb_page *pages, size_t count, tb_tag_state *state, tb_regs *regs, uint64_t steps,
                 tb_stop *stop);
+
+/*
+ * Makes `count` calls in order on a new heap over a memory of its own without pages, and enters the
+ * code and the answer of each. A call that aborts or faults changes nothing of the heap, and those
+ * behind it are made too. The heap ends with this call; since it is deterministic, the same array
+ * with more calls behind it goes on where this one ended. TB_BAD_ARGUMENT where setup->pages is not
+ * 1 to 4096 and TB_OUT_OF_MEMORY change nothing. It takes its memory by malloc, at most 5,000 bytes
+ * a page, and frees it again.
+ */
+uint32_t tb_heap_calls(const tb_heap_setup *setup, tb_heap_call *calls, size_t count);
 
 #ifdef __cplusplus
 }

@@ -55,6 +55,31 @@ static void store(const char *what, uint64_t count) {
     tell(what, &stop, &regs);
 }
 
+/* A chunk is stored to, loaded, freed, loaded again and freed again. */
+static void use_a_heap(void) {
+    static const tb_heap_setup setup = {1, 64, 0, 1, 0};
+    static const uint64_t CHUNK = 0x0100000012000010;
+    static tb_heap_call calls[] = {
+        {TB_MALLOC, 0, 24, 0, 0, {0, 0, 0, 0, 0}},
+        {TB_STORE, 0, CHUNK, 42, 0, {0, 0, 0, 0, 0}},
+        {TB_LOAD, 0, CHUNK, 0, 0, {0, 0, 0, 0, 0}},
+        {TB_FREE, 0, CHUNK, 0, 0, {0, 0, 0, 0, 0}},
+        {TB_LOAD, 0, CHUNK, 0, 0, {0, 0, 0, 0, 0}},
+        {TB_FREE, 0, CHUNK, 0, 0, {0, 0, 0, 0, 0}},
+        {0, 0, 0, 0, 0, {0, 0, 0, 0, 0}},
+    };
+    size_t count = sizeof calls / sizeof calls[0];
+    printf("heap calls: %" PRIu32 "\n", tb_heap_calls(&setup, calls, count));
+    for (size_t i = 0; i < count; i++)
+        printf("  op %" PRIu32 ": code %" PRIu32 ", answer 0x%" PRIx64 ", fault %" PRIu32
+               ", memory tag %" PRIu32 "\n",
+               calls[i].op, calls[i].code, calls[i].answer, calls[i].fault.kind,
+               calls[i].fault.mem_tag);
+    tb_heap_setup wrong = setup;
+    wrong.pages = 4097;
+    printf("too many pages: %" PRIu32 "\n", tb_heap_calls(&wrong, calls, count));
+}
+
 int main(void) {
     tb_fault fault = no_fault;
     tb_regs regs = no_regs;
@@ -101,5 +126,6 @@ int main(void) {
     printf("unmap: %" PRIu32, tb_unmap(pages, PLACES, CODE / 4096));
     printf(" %" PRIu32 "\n", tb_unmap(pages, PLACES, CODE / 4096));
     store("no code", 1);
+    use_a_heap();
     return 0;
 }

@@ -7,6 +7,10 @@ const CODE: u64 = 0x10000;
 const DATA: u64 = 0x20000;
 
 const TB_FAULT: u32 = 1;
+const TB_MALLOC: u32 = 1;
+const TB_FREE: u32 = 2;
+const TB_LOAD: u32 = 7;
+const TB_STORE: u32 = 8;
 const TB_READ: u32 = 1;
 const TB_WRITE: u32 = 2;
 const TB_EXEC: u32 = 4;
@@ -68,6 +72,26 @@ struct Stop {
     fault: Fault,
 }
 
+#[repr(C)]
+struct HeapSetup {
+    cookie: u32,
+    pages: u32,
+    asynchronous: u32,
+    rgsr_seed: u16,
+    rgsr_tag: u16,
+}
+
+#[repr(C)]
+#[derive(Default)]
+struct HeapCall {
+    op: u32,
+    code: u32,
+    first: u64,
+    second: u64,
+    answer: u64,
+    fault: Fault,
+}
+
 unsafe extern "C" {
     fn tb_version() -> u32;
     fn tb_memory_init(pages: *mut Page, count: usize, state: *mut TagState, asynchronous: bool);
@@ -126,6 +150,7 @@ unsafe extern "C" {
         steps: u64,
         stop: *mut Stop,
     ) -> u32;
+    fn tb_heap_calls(setup: *const HeapSetup, calls: *mut HeapCall, count: usize) -> u32;
 }
 
 /// A memory of tagged pages, and its calls without raw pointers.
@@ -214,6 +239,38 @@ fn tell(what: &str, stop: &Stop, regs: &Regs) {
     }
 }
 
+/// Makes heap calls in order.
+fn heap_calls(setup: &HeapSetup, calls: &mut [HeapCall]) -> u32 {
+    unsafe { tb_heap_calls(setup, calls.as_mut_ptr(), calls.len()) }
+}
+
+/// A chunk is stored to, loaded, freed, loaded again and freed again.
+fn use_a_heap() {
+    const CHUNK: u64 = 0x0100000012000010;
+    let mut setup =
+        HeapSetup { cookie: 1, pages: 64, asynchronous: 0, rgsr_seed: 1, rgsr_tag: 0 };
+    let mut calls: Vec<HeapCall> = [
+        (TB_MALLOC, 24, 0),
+        (TB_STORE, CHUNK, 42),
+        (TB_LOAD, CHUNK, 0),
+        (TB_FREE, CHUNK, 0),
+        (TB_LOAD, CHUNK, 0),
+        (TB_FREE, CHUNK, 0),
+        (0, 0, 0),
+    ]
+    .map(|(op, first, second)| HeapCall { op, first, second, ..HeapCall::default() })
+    .into();
+    println!("heap calls: {}", heap_calls(&setup, &mut calls));
+    for call in &calls {
+        println!(
+            "  op {}: code {}, answer {:#x}, fault {}, memory tag {}",
+            call.op, call.code, call.answer, call.fault.kind, call.fault.mem_tag
+        );
+    }
+    setup.pages = 4097;
+    println!("too many pages: {}", heap_calls(&setup, &mut calls));
+}
+
 fn main() {
     let mut fault = Fault::default();
     let mut regs = Regs::default();
@@ -257,4 +314,5 @@ fn main() {
     print!("unmap: {}", memory.unmap(CODE / 4096));
     println!(" {}", memory.unmap(CODE / 4096));
     memory.store("no code", 1);
+    use_a_heap();
 }
