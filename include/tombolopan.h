@@ -1,6 +1,6 @@
 /*
- * libtombolopan_c.a: a tagged memory as FEAT_MTE2 has it, a step of an A64 core, a run of steps, and
- * the calls of a heap with tags.
+ * libtombolopan_c.a: a tagged memory as FEAT_MTE2 has it, a step of an A64 core, a run of steps,
+ * and the calls of a heap with tags.
  *
  * All memory is the caller's and is lent to each call: an array of places for pages, the tag state,
  * the registers. The library keeps nothing between calls, and only tb_heap_calls allocates, for its
@@ -136,12 +136,12 @@ typedef struct tb_stop {
 typedef struct tb_heap_setup {
     uint32_t cookie;       /* what the checksums of the headers start from */
     uint32_t pages;        /* the most pages that are mapped at once, 1 to 4096 */
-    uint32_t asynchronous; /* any number but 0: a tag that differs sets a flag, and fails no access */
+    uint32_t asynchronous; /* any number but 0: a tag that differs fails no access */
     uint16_t rgsr_seed;    /* the seed of the random tags, as in tb_regs */
     uint16_t rgsr_tag;     /* the tag that was drawn last; its low four bits count */
 } tb_heap_setup;
 
-/* A call of a heap or an access to its memory: op, first and second are read, the others written. */
+/* A call of a heap or an access to its memory. op, first and second are read, the rest written. */
 typedef struct tb_heap_call {
     uint32_t op;     /* tb_heap_op */
     uint32_t code;   /* TB_OK, TB_FAULT or TB_ABORT; TB_BAD_ARGUMENT where op is none */

@@ -4,7 +4,7 @@ ghost use Rattle.std.specs.Prelude.{◌≡◌, ◌≢◌, ◌⊎◌, ℕ, ◌<�
 ghost use Rattle.mte_tags.specs.Memory.{no_pages};
 ghost use Rattle.scudo_heap.specs.Heaps.{empty_heap};
 ghost use Rattle.scudo_heap.specs.Placing.{world_of};
-ghost use Rattle.tombolopan_c.specs.HeapCalls.{is_setup, made_in, start_of, call_made, world_before};
+ghost use Rattle.tombolopan_c.specs.HeapCalls.{is_setup, made_in, start_of, call_made};
 ghost use Rattle.tombolopan_c.specs.declared.codes.TheConstants.{OK, BAD_ARGUMENT, OUT_OF_MEMORY};
 
 use crate::codes::{BAD_ARGUMENT, OK, OUT_OF_MEMORY};
