@@ -1,9 +1,6 @@
 //! The export that makes heap calls.
 
 ghost use Rattle.std.specs.Prelude.{◌≡◌, ◌≢◌, ◌⊎◌, ℕ, ◌<◌, length, slice_index_or, true, false};
-ghost use Rattle.mte_tags.specs.Memory.{no_pages};
-ghost use Rattle.scudo_heap.specs.Heaps.{empty_heap};
-ghost use Rattle.scudo_heap.specs.Placing.{world_of};
 ghost use Rattle.tombolopan_c.specs.HeapCalls.{is_setup, made_in, start_of, call_made};
 ghost use Rattle.tombolopan_c.specs.declared.codes.TheConstants.{OK, BAD_ARGUMENT, OUT_OF_MEMORY};
 

@@ -1,9 +1,8 @@
 //! A heap's setup and its calls, which the caller lends.
 
 ghost use Rattle.std.specs.Prelude.{◌≡◌, ◌<◌, ◌≤◌, true};
-ghost use Rattle.scudo_heap.specs.Placing.{World};
-ghost use Rattle.tombolopan_c.specs.HeapCalls.{op_of, abort_code, noted, refused, rgsr_of, mode_of};
-ghost use Rattle.tombolopan_c.specs.HeapCalls.{is_setup};
+ghost use Rattle.tombolopan_c.specs.HeapCalls.{is_setup, mode_of, rgsr_of};
+ghost use Rattle.tombolopan_c.specs.HeapCalls.{op_of, abort_code, noted, refused};
 
 use crate::codes::{
     ABORT, ALREADY_FREE, BAD_ARGUMENT, CALLOC, FAULT, FREE, HEADER_CORRUPT, INVALID_STATE, LOAD,
