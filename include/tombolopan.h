@@ -4,9 +4,8 @@
  *
  * All memory is the caller's and is lent to each call: an array of places for pages, the tag state,
  * the registers. The library keeps nothing between calls, and only tb_heap_calls allocates, for its
- * own time. So the caller may read and write all of it between calls, copy it, or place it in a
- * file. Every content has a
- * meaning:
+ * own time. So the caller may read and write all of it between calls, copy it, or place it in a file.
+ * Every content has a meaning:
  *
  * - A place with `mapped` 0 is free; zero bytes are free places and the synchronous mode.
  * - Of several places of one page the first counts.
@@ -59,7 +58,8 @@ enum tb_fault_kind {
     TB_PC_ALIGNMENT = 6  /* a fetch at an address that is not a multiple of 4 */
 };
 
-/* What tb_heap_calls makes. Accesses are of 8 bytes, the lowest first, and compare the tags. */
+/* What tb_heap_calls makes. TB_LOAD and TB_STORE are accesses of 8 bytes, the lowest first, and
+   compare the tags; TB_LOAD_TAG compares none. */
 enum tb_heap_op {
     TB_MALLOC = 1,      /* a chunk of `first` bytes */
     TB_FREE = 2,        /* frees the chunk at `first` */
@@ -134,7 +134,7 @@ typedef struct tb_stop {
 
 /* What a heap and its memory begin with. */
 typedef struct tb_heap_setup {
-    uint32_t cookie;       /* what the checksums of the headers start from */
+    uint32_t cookie;       /* its low 16 bits start the checksums of the headers */
     uint32_t pages;        /* the most pages that are mapped at once, 1 to 4096 */
     uint32_t asynchronous; /* any number but 0: a tag that differs fails no access */
     uint16_t rgsr_seed;    /* the seed of the random tags, as in tb_regs */
