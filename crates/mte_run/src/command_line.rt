@@ -2,7 +2,7 @@
 
 use crate::options::{Fault, Options};
 use clap::error::ErrorKind;
-use clap::{Arg, ArgAction, Command, Error, value_parser};
+use clap::{Arg, ArgAction, ArgMatches, Command, Error, value_parser};
 use std::alloc::Global;
 use std::{env, io};
 
@@ -58,7 +58,16 @@ fn print_text(rt: &HostRuntime, error: &Error) -> Invocation {
 fn parse(alloc: Global, words: &[String]) -> Result<Option<Options>, Error> {
     let mut command = command(alloc)?;
     let matches = command.try_get_matches_from_mut(words)?;
-    match Options::of(alloc, &matches) {
+    options_of(alloc, &mut command, &matches)
+}
+
+/// The values of a command line that `clap` accepted; `None` where an allocation failed.
+fn options_of<'a>(
+    alloc: Global,
+    command: &mut Command<'a>,
+    matches: &ArgMatches<'_>,
+) -> Result<Option<Options>, Error> {
+    match Options::of(alloc, matches) {
         Ok(options) => Ok(Some(options)),
         Err(Fault::Memory) => Ok(None),
         Err(fault) => Err(command.error(ErrorKind::ValueValidation, fault.text())?),
@@ -71,109 +80,110 @@ fn command<'a>(alloc: Global) -> Result<Command<'a>, Error> {
         "Runs one tenant alone on an Arm core with memory tagging, and tells why it ended",
     );
     let command = tenant_options(alloc, command)?;
+    let command = terms_options(alloc, command)?;
     let command = run_options(alloc, command)?;
     Ok(told_options(alloc, command)?)
 }
 
-/// The arguments that say which tenant is run.
+/// The arguments that say which tenant is run. Each argument has a function of its own, so that few
+/// of them are alive at once: the proof of one function with all of them takes two minutes.
 fn tenant_options<'a>(alloc: Global, command: Command<'a>) -> Result<Command<'a>, Error> {
-    let files = Arg::new(alloc, "files")
+    let command = command.arg(files(alloc))?;
+    let command = command.arg(script(alloc))?;
+    let command = command.arg(frames(alloc))?;
+    Ok(command.arg(named(alloc, "input", "FILE", "What it may read"))?)
+}
+
+fn files<'a>(alloc: Global) -> Arg<'a> {
+    Arg::new(alloc, "files")
         .value_name("FILE")
         .help("The tenant, a static ELF64 executable for AArch64; or the files of a script")
         .num_args(1..)
         .required(true)
-        .action(ArgAction::Append);
-    let script = Arg::new(alloc, "script")
+        .action(ArgAction::Append)
+}
+
+fn script<'a>(alloc: Global) -> Arg<'a> {
+    Arg::new(alloc, "script")
         .long("script")
         .value_names(&["SCRIPT", "ID"])
         .help("Replays tenant ID of a session's script")
-        .num_args(2);
-    let frames = named(
-        alloc,
-        "frames",
-        "N",
-        "The frames of the session's host, 1 to 65536",
-    )
-    .value_parser(value_parser!(u32).range(1..=65536));
-    let pages = number(alloc, "pages", "4096", "Its pages, 1 to 4096").value_parser(value_parser!(
-        u32
-    ).range(1..=4096));
-    let room = number(
-        alloc,
-        "out",
-        "65536",
-        "The room for its output, 0 to 65536 bytes",
-    )
-    .value_parser(value_parser!(u32).range(0..=65536));
-    let seed = named(
-        alloc,
-        "seed",
-        "HEX16",
-        "16 digits, which seed tags and checksums",
-    )
-    .default_value("0000000000000001");
-    let mode = Arg::new(alloc, "async")
+        .num_args(2)
+}
+
+fn frames<'a>(alloc: Global) -> Arg<'a> {
+    let help = "The frames of the session's host, 1 to 65536";
+    named(alloc, "frames", "N", help).value_parser(value_parser!(u32).range(1..=65536))
+}
+
+/// The arguments that say what a tenant that is alone is admitted with.
+fn terms_options<'a>(alloc: Global, command: Command<'a>) -> Result<Command<'a>, Error> {
+    let command = command.arg(pages(alloc))?;
+    let command = command.arg(room(alloc))?;
+    let command = command.arg(seed(alloc))?;
+    Ok(command.arg(mode(alloc))?)
+}
+
+fn pages<'a>(alloc: Global) -> Arg<'a> {
+    number(alloc, "pages", "4096", "Its pages, 1 to 4096").value_parser(value_parser!(u32).range(
+        1..=4096,
+    ))
+}
+
+fn room<'a>(alloc: Global) -> Arg<'a> {
+    let help = "The room for its output, 0 to 65536 bytes";
+    number(alloc, "out", "65536", help).value_parser(value_parser!(u32).range(0..=65536))
+}
+
+fn seed<'a>(alloc: Global) -> Arg<'a> {
+    let help = "16 digits, which seed tags and checksums";
+    named(alloc, "seed", "HEX16", help).default_value("0000000000000001")
+}
+
+fn mode<'a>(alloc: Global) -> Arg<'a> {
+    Arg::new(alloc, "async")
         .long("async")
         .help("The asynchronous tag mode")
-        .action(ArgAction::SetTrue);
-    Ok(
-        command
-            .arg(files)?
-            .arg(script)?
-            .arg(frames)?
-            .arg(named(alloc, "input", "FILE", "What it may read"))?
-            .arg(pages)?
-            .arg(room)?
-            .arg(seed)?
-            .arg(mode)?,
-    )
+        .action(ArgAction::SetTrue)
 }
 
 /// The arguments that say how long it runs.
 fn run_options<'a>(alloc: Global, command: Command<'a>) -> Result<Command<'a>, Error> {
-    let steps = number(
-        alloc,
-        "steps",
-        STEPS,
-        "The instructions after which it is given up",
-    )
-    .value_parser(value_parser!(u64));
-    let slices = named(
-        alloc,
-        "slices",
-        "A,B,..",
-        "The steps of its slices, each up to 1048576",
-    )
-    .value_delimiter(',')
-    .value_parser(value_parser!(u32).range(0..=1_048_576));
-    Ok(command.arg(steps)?.arg(slices)?)
+    let command = command.arg(steps(alloc))?;
+    Ok(command.arg(slices(alloc))?)
+}
+
+fn steps<'a>(alloc: Global) -> Arg<'a> {
+    let help = "The instructions after which it is given up";
+    number(alloc, "steps", STEPS, help).value_parser(value_parser!(u64))
+}
+
+fn slices<'a>(alloc: Global) -> Arg<'a> {
+    let help = "The steps of its slices, each up to 1048576";
+    named(alloc, "slices", "A,B,..", help)
+        .value_delimiter(',')
+        .value_parser(value_parser!(u32).range(0..=1_048_576))
 }
 
 /// The arguments that say what is told.
 fn told_options<'a>(alloc: Global, command: Command<'a>) -> Result<Command<'a>, Error> {
-    let last = number(
-        alloc,
-        "last",
-        "16",
-        "How many of the last instructions are told",
-    )
-    .value_parser(value_parser!(u32).range(0..=65536));
-    let trace = named(
-        alloc,
-        "trace",
-        "FROM-TO",
-        "Writes a line an instruction, of these steps",
-    )
-    .num_args(0..=1)
-    .require_equals(true)
-    .default_missing_value("-");
-    let map = named(
-        alloc,
-        "map",
-        "FILE",
-        "Draws the heap and its tags at the end into an SVG file",
-    );
-    Ok(command.arg(last)?.arg(trace)?.arg(map)?)
+    let command = command.arg(last(alloc))?;
+    let command = command.arg(trace(alloc))?;
+    let help = "Draws the heap and its tags at the end into an SVG file";
+    Ok(command.arg(named(alloc, "map", "FILE", help))?)
+}
+
+fn last<'a>(alloc: Global) -> Arg<'a> {
+    let help = "How many of the last instructions are told";
+    number(alloc, "last", "16", help).value_parser(value_parser!(u32).range(0..=65536))
+}
+
+fn trace<'a>(alloc: Global) -> Arg<'a> {
+    let help = "Writes a line an instruction, of these steps";
+    named(alloc, "trace", "FROM-TO", help)
+        .num_args(0..=1)
+        .require_equals(true)
+        .default_missing_value("-")
 }
 
 /// An option with a value.

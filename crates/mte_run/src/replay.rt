@@ -32,21 +32,41 @@ pub fn replay_tenant<'a, W: Sink, O: Watch>(
     for (before, event) in events.iter().enumerate() {
         match decide(alloc, host, event, files) {
             Ok(()) if number_of(event) == id => {
-                if let Event::Admit { image: number, .. } = event {
-                    image = *number;
-                }
+                image = image_of(event).unwrap_or(image);
                 bench = played(alloc, bench, event, files, observer)?;
             }
             Ok(()) => {}
-            Err(Refusal::Admit(AdmitError::OutOfMemory)) => return Err(Failure::Memory),
-            Err(refusal) if number_of(event) == id => {
-                let event = before as u64 + 1;
-                write_refusal(&Refused { event, refusal }, out)?;
+            Err(refusal) => {
+                let event_number = before as u64 + 1;
+                tell_refusal(event_number, refusal, number_of(event) == id, out)?;
             }
-            Err(_) => {}
         }
     }
     Ok(bench.map(|bench| Replayed { bench, image }))
+}
+
+/// Writes the line of an event that is refused to the tenant itself.
+fn tell_refusal<'a, W: Sink>(
+    event: u64,
+    refusal: Refusal,
+    is_own: bool,
+    out: &mut W,
+) -> Result<(), Failure<'a>> {
+    if let Refusal::Admit(AdmitError::OutOfMemory) = refusal {
+        return Err(Failure::Memory);
+    }
+    if is_own {
+        write_refusal(&Refused { event, refusal }, out)?;
+    }
+    Ok(())
+}
+
+/// The number of the file with the image, where the event admits a tenant.
+fn image_of(event: &Event) -> Option<u32> {
+    match event {
+        Event::Admit { image, .. } => Some(*image),
+        _ => None,
+    }
 }
 
 /// Whether a host accepts an event, whose slices attempt no instruction.

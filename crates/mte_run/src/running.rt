@@ -93,24 +93,9 @@ fn run_replay<'a>(
     files: &[Vec<u8>],
     observer: &mut Observer<Log>,
 ) -> Result<u8, Failure<'a>> {
-    let script = read_file(rt, replay.script.as_str())?;
-    let events = parse_script(rt.alloc(), script.as_slice(), files)?;
-    let Ok(mut host) = Host::new(rt.alloc(), replay.frames) else {
-        return Err(Failure::Memory);
-    };
-    let mut out = StreamSink(rt.stdout());
-    let played = replay_tenant(
-        rt.alloc(),
-        &mut host,
-        replay.id,
-        events.as_slice(),
-        files,
-        observer,
-        &mut out,
-    )?;
-    match played {
+    match replayed(rt, replay, files, observer)? {
         Some(Replayed { bench, image }) => {
-            write_report(&bench.parts.account, &mut out)?;
+            write_report(&bench.parts.account, &mut StreamSink(rt.stdout()))?;
             let symbols = Symbols::of(file_of(files, image));
             tell_end(rt, bench, observer, options, symbols)
         }
@@ -119,6 +104,29 @@ fn run_replay<'a>(
             Ok(REFUSED)
         }
     }
+}
+
+/// Runs what a session does to one tenant; `None` where it never admits it.
+fn replayed<'a>(
+    rt: &HostRuntime,
+    replay: &'a Replay,
+    files: &[Vec<u8>],
+    observer: &mut Observer<Log>,
+) -> Result<Option<Replayed>, Failure<'a>> {
+    let script = read_file(rt, replay.script.as_str())?;
+    let events = parse_script(rt.alloc(), script.as_slice(), files)?;
+    let Ok(mut host) = Host::new(rt.alloc(), replay.frames) else {
+        return Err(Failure::Memory);
+    };
+    replay_tenant(
+        rt.alloc(),
+        &mut host,
+        replay.id,
+        events.as_slice(),
+        files,
+        observer,
+        &mut StreamSink(rt.stdout()),
+    )
 }
 
 /// Tells what happened, draws the heap where that is wanted, and returns the exit status.
@@ -133,17 +141,26 @@ fn tell_end<'a>(
         return Err(Failure::Write);
     }
     let Bench { parts, mut memory } = bench;
-    let last = observer.last(options.told.last);
     let report = Report {
         parts: &parts,
         book: &observer.book,
-        last,
+        last: observer.last(options.told.last),
         limit: options.limit(),
         symbols,
     };
-    tell_report(rt, &report, &mut memory)?;
-    draw_map(rt, &report, options, &mut memory)?;
-    let account = &parts.account;
+    tell_whole(rt, &report, options, &mut memory)
+}
+
+/// Tells what happened, and draws the heap where that is wanted.
+fn tell_whole<'a>(
+    rt: &HostRuntime,
+    report: &Report<'_>,
+    options: &'a Options,
+    memory: &mut Flat,
+) -> Result<u8, Failure<'a>> {
+    tell_report(rt, report, memory)?;
+    draw_map(rt, report, options, memory)?;
+    let account = &report.parts.account;
     Ok(exit_status(&account.status, account.steps, options.limit()))
 }
 
