@@ -52,40 +52,58 @@ fn draw_words(alloc: Global, seed: u64) -> Result<Vec<u32>, AllocError> {
     Ok(words)
 }
 
+/// A tenant alone.
+const ALONE: &[u8] = b"admit 7 image 1 input 0 seed 0000000000000001 frames 7 out 16\nslice 7 5\n\
+      slice 7 100\n";
+
+/// The same beside three others and one of drawn words.
+const BESIDE: &[u8] = b"admit 1 image 5 input 5 seed 0000000000000003 frames 60 out 64\n\
+      admit 2 image 2 input 0 seed 0000000000000001 frames 5 out 16\n\
+      admit 3 image 3 input 0 seed 0000000000000001 frames 9 out 16\n\
+      admit 4 image 4 input 0 seed 0000000000000001 frames 60 out 16\n\
+      slice 1 5000\nslice 4 6\n\
+      admit 7 image 1 input 0 seed 0000000000000001 frames 7 out 16\nslice 2 100\n\
+      slice 7 5\nslice 3 100\nslice 1 5000\nslice 4 100\nstop 1\nslice 7 100\n";
+
+/// The images of three programs and of drawn words, after that of the tenant itself.
+fn files_of(alloc: Global, seed: u64) -> Result<Vec<Vec<u8>>, AllocError> {
+    let words = draw_words(alloc, seed)?;
+    let programs: [&[u32]; 5] = [&GROWS, &UNTAGGED, &CORRUPTS, &LARGE_FREED, words.as_slice()];
+    let mut files = Vec::new(alloc);
+    for words in programs {
+        files.push(image(alloc, words)?)?;
+    }
+    Ok(files)
+}
+
+/// The reports of the tenant alone and beside others.
+fn both_reports(alloc: Global, seed: u64) -> Result<(Vec<u8>, Vec<u8>), Fail> {
+    let files = files_of(alloc, seed)?;
+    let alone = Session {
+        frames: 200,
+        script: ALONE,
+        files: files.as_slice(),
+    };
+    let beside = Session {
+        frames: 4000,
+        script: BESIDE,
+        files: files.as_slice(),
+    };
+    let mut one = MemorySink::new(alloc);
+    let mut other = MemorySink::new(alloc);
+    run_both(alloc, 7, &alone, &beside, &mut one, &mut other)?;
+    Ok((one.held, other.held))
+}
+
 /// A tenant alone in 200 frames, and in 4000 beside three others and one of drawn words, which run
 /// 10,000 steps between its slices: its lines are the whole report of the one session, and the last
 /// lines of the other.
 #[test]
 fn beside_drawn_words(rt: HostRuntime) -> Result<(), Fail> {
     for seed in 0..IMAGES {
-        let words = draw_words(rt.alloc(), seed)?;
-        let programs: [&[u32]; 5] = [&GROWS, &UNTAGGED, &CORRUPTS, &LARGE_FREED, words.as_slice()];
-        let mut files = Vec::new(rt.alloc());
-        for words in programs {
-            files.push(image(rt.alloc(), words)?)?;
-        }
-        let alone = Session {
-            frames: 200,
-            script: b"admit 7 image 1 input 0 seed 0000000000000001 frames 7 out 16\nslice 7 5\n\
-                      slice 7 100\n",
-            files: files.as_slice(),
-        };
-        let beside = Session {
-            frames: 4000,
-            script: b"admit 1 image 5 input 5 seed 0000000000000003 frames 60 out 64\n\
-                      admit 2 image 2 input 0 seed 0000000000000001 frames 5 out 16\n\
-                      admit 3 image 3 input 0 seed 0000000000000001 frames 9 out 16\n\
-                      admit 4 image 4 input 0 seed 0000000000000001 frames 60 out 16\n\
-                      slice 1 5000\nslice 4 6\n\
-                      admit 7 image 1 input 0 seed 0000000000000001 frames 7 out 16\nslice 2 100\n\
-                      slice 7 5\nslice 3 100\nslice 1 5000\nslice 4 100\nstop 1\nslice 7 100\n",
-            files: files.as_slice(),
-        };
-        let mut one = MemorySink::new(rt.alloc());
-        let mut other = MemorySink::new(rt.alloc());
-        run_both(rt.alloc(), 7, &alone, &beside, &mut one, &mut other)?;
-        assert!(rt; one.held.starts_with(b"tenant 7\nstatus exit 0\nsteps 11\n"));
-        assert!(rt; other.held.ends_with(one.held.as_slice()));
+        let (one, other) = both_reports(rt.alloc(), seed)?;
+        assert!(rt; one.starts_with(b"tenant 7\nstatus exit 0\nsteps 11\n"));
+        assert!(rt; other.ends_with(one.as_slice()));
     }
     Ok(())
 }

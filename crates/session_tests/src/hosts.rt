@@ -4,39 +4,63 @@ use crate::doubles::MemorySink;
 use crate::images::{HEADERS, HI, ILLEGAL, image};
 use address_map::{PAGE_SIZE, STACK_START};
 use mte_sched::{
-    Admission, AdmitError, Host, NotLive, Refusal, Status, flag_is_clear, ledger_follows,
+    Admission, AdmitError, Host, NotLive, Record, Refusal, Status, flag_is_clear, ledger_follows,
     tenants_are_alone, tenants_are_isolated,
 };
 use mte_session::{ScriptFault, write_report};
 use mte_tags::TagMode;
+use std::alloc::Global;
+use std::process::Abort;
 use std::test::Fail;
 
-#[test]
-fn one_host(rt: HostRuntime) -> Result<(), Fail> {
-    let file = image(rt.alloc(), &HI)?;
-    let mut host = Host::new(rt.alloc(), 11)?;
-    let admission = Admission {
-        id: 7,
-        image: file.as_slice(),
+/// A tenant of five pages, on an image.
+fn admission_of(id: u16, image: &[u8]) -> Admission<'_> {
+    Admission {
+        id,
+        image,
         input: &[],
         seed: 1,
         pages: 5,
         room: 16,
         mode: TagMode::Sync,
-    };
-    assert!(rt; host.slice(7, 1) == Err(NotLive));
-    host.admit(rt.alloc(), &admission)?;
-    assert!(rt; host.admit(rt.alloc(), &admission) == Err(AdmitError::Duplicate));
-    host.slice(7, 3)?;
+    }
+}
+
+/// Admits the tenant 7, whose number then is no longer free.
+fn admit_once(rt: &impl Abort, alloc: Global, host: &mut Host) -> Result<(), Fail> {
+    let file = image(alloc, &HI)?;
+    let admission = admission_of(7, file.as_slice());
+    host.admit(alloc, &admission)?;
+    assert!(rt; host.admit(alloc, &admission) == Err(AdmitError::Duplicate));
+    Ok(())
+}
+
+/// Two pages of the live tenant 7 have a frame each, and what is no page of it has none.
+fn frames_of_the_live(rt: &impl Abort, host: &Host) {
     let stack = STACK_START / PAGE_SIZE;
     let frames = (host.frame_of(7, stack), host.frame_of(7, stack + 1));
     assert!(rt; frames.0.is_some() && frames.0 != frames.1);
     assert!(rt; host.frame_of(7, 0).is_none() && host.frame_of(8, stack).is_none());
-    host.stop(7)?;
-    assert!(rt; host.stop(7) == Err(NotLive));
-    assert!(rt; host.frame_of(7, stack).is_none());
+}
+
+/// The stopped tenant 7 has no frames, and can still be seen.
+fn frames_of_the_stopped(rt: &impl Abort, host: &Host) {
+    assert!(rt; host.frame_of(7, STACK_START / PAGE_SIZE).is_none());
     assert!(rt; host.pool().frames() == 11);
     assert!(rt; host.view(7).is_some() && host.view(8).is_none());
+}
+
+fn report_of_the_stopped(rt: &impl Abort, alloc: Global, account: &Record) -> Result<(), Fail> {
+    let mut out = MemorySink::new(alloc);
+    write_report(account, &mut out)?;
+    assert_eq!(rt;
+        out.held.as_slice(),
+        b"tenant 7\nstatus stopped\nsteps 3\noutput 0\nheap 0\nend\n".as_slice()
+    );
+    Ok(())
+}
+
+fn account_of_the_stopped(rt: &impl Abort, alloc: Global, host: &Host) -> Result<(), Fail> {
     let Some(tenant) = host.tenants().first() else {
         return Err(Fail::from(NotLive));
     };
@@ -44,12 +68,20 @@ fn one_host(rt: HostRuntime) -> Result<(), Fail> {
     assert!(rt; account.status == Status::Stopped);
     assert!(rt; !tenant.is_live());
     assert_eq!(rt; (account.steps, account.output.left()), (3, 16));
-    let mut out = MemorySink::new(rt.alloc());
-    write_report(account, &mut out)?;
-    assert_eq!(rt;
-        out.held.as_slice(),
-        b"tenant 7\nstatus stopped\nsteps 3\noutput 0\nheap 0\nend\n".as_slice()
-    );
+    report_of_the_stopped(rt, alloc, account)
+}
+
+#[test]
+fn one_host(rt: HostRuntime) -> Result<(), Fail> {
+    let mut host = Host::new(rt.alloc(), 11)?;
+    assert!(rt; host.slice(7, 1) == Err(NotLive));
+    admit_once(&rt, rt.alloc(), &mut host)?;
+    host.slice(7, 3)?;
+    frames_of_the_live(&rt, &host);
+    host.stop(7)?;
+    assert!(rt; host.stop(7) == Err(NotLive));
+    frames_of_the_stopped(&rt, &host);
+    account_of_the_stopped(&rt, rt.alloc(), &host)?;
     ledger_follows();
     tenants_are_alone();
     tenants_are_isolated();
@@ -63,15 +95,7 @@ fn too_many_live(rt: HostRuntime) -> Result<(), Fail> {
     let file = image(rt.alloc(), &ILLEGAL)?;
     let mut host = Host::new(rt.alloc(), 4000)?;
     for id in 0..256u16 {
-        let admission = Admission {
-            id,
-            image: file.as_slice(),
-            input: &[],
-            seed: 1,
-            pages: 5,
-            room: 16,
-            mode: TagMode::Sync,
-        };
+        let admission = admission_of(id, file.as_slice());
         let result = host.admit(rt.alloc(), &admission);
         if id == 255 {
             assert!(rt; result == Err(AdmitError::TooManyLive));
@@ -84,29 +108,37 @@ fn too_many_live(rt: HostRuntime) -> Result<(), Fail> {
     Ok(())
 }
 
-/// What is written to a page of code is what the tenant then runs.
-#[test]
-fn a_page_is_written_by_the_host(rt: HostRuntime) -> Result<(), Fail> {
-    let file = image(rt.alloc(), &ILLEGAL)?;
-    let mut host = Host::new(rt.alloc(), 11)?;
-    let admission = Admission {
-        id: 1,
-        image: file.as_slice(),
-        input: &[],
-        seed: 1,
-        pages: 5,
-        room: 16,
-        mode: TagMode::Sync,
-    };
-    host.admit(rt.alloc(), &admission)?;
+/// A host with the tenant 1 alone, whose program is illegal.
+fn host_of_one(alloc: Global) -> Result<Host, Fail> {
+    let file = image(alloc, &ILLEGAL)?;
+    let mut host = Host::new(alloc, 11)?;
+    host.admit(alloc, &admission_of(1, file.as_slice()))?;
+    Ok(host)
+}
+
+/// Copies the words of an image over the first bytes of a page.
+fn copy_words(page: &mut [u8; 4096], file: &[u8]) {
+    for (byte, code) in page.iter_mut().zip(file.iter().skip(HEADERS)) {
+        *byte = *code;
+    }
+}
+
+/// Writes another program over that of the tenant 1.
+fn write_page(rt: &impl Abort, alloc: Global, host: &mut Host) -> Result<(), Fail> {
     assert!(rt; host.page_mut(1, 0).is_none() && host.page_mut(2, 16).is_none());
+    let code = image(alloc, &HI)?;
     let Some(page) = host.page_mut(1, 16) else {
         return Err(Fail::from(NotLive));
     };
-    let code = image(rt.alloc(), &HI)?;
-    for (byte, code) in page.iter_mut().zip(code.iter().skip(HEADERS)) {
-        *byte = *code;
-    }
+    copy_words(page, code.as_slice());
+    Ok(())
+}
+
+/// What is written to a page of code is what the tenant then runs.
+#[test]
+fn a_page_is_written_by_the_host(rt: HostRuntime) -> Result<(), Fail> {
+    let mut host = host_of_one(rt.alloc())?;
+    write_page(&rt, rt.alloc(), &mut host)?;
     host.slice(1, 100)?;
     let Some(account) = host.view(1) else {
         return Err(Fail::from(NotLive));
@@ -119,11 +151,15 @@ fn a_page_is_written_by_the_host(rt: HostRuntime) -> Result<(), Fail> {
 
 #[test]
 fn names(rt: HostRuntime) {
-    assert_eq!(rt; ScriptFault::TooManyEvents.name(), "TooManyEvents");
-    assert_eq!(rt; AdmitError::NoFrames.name(), "NoFrames");
-    assert_eq!(rt; Refusal::NotLive.name(), "NotLive");
-    assert_eq!(rt;
-        Refusal::Admit(AdmitError::TooManyLive).name(),
-        "TooManyLive"
-    );
+    for (name, want) in [
+        (ScriptFault::TooManyEvents.name(), "TooManyEvents"),
+        (AdmitError::NoFrames.name(), "NoFrames"),
+        (Refusal::NotLive.name(), "NotLive"),
+        (
+            Refusal::Admit(AdmitError::TooManyLive).name(),
+            "TooManyLive",
+        ),
+    ] {
+        assert_eq!(rt; name, want);
+    }
 }

@@ -2,19 +2,28 @@
 
 use std::alloc::{AllocError, Global};
 
+/// Appends eight bytes of each number, the lowest first.
+pub fn append(bytes: &mut Vec<u8>, numbers: &[u64]) -> Result<(), AllocError> {
+    for number in numbers {
+        bytes.extend_from_slice(&number.to_le_bytes())?;
+    }
+    Ok(())
+}
+
+/// Appends the header of a file with one segment.
+fn append_file_header(file: &mut Vec<u8>) -> Result<(), AllocError> {
+    file.extend_from_slice(b"\x7fELF\x02\x01\x01\0\0\0\0\0\0\0\0\0\x02\0\xb7\0\x01\0\0\0")?;
+    append(file, &[0x10000, 64, 0])?;
+    file.extend_from_slice(b"\0\0\0\0\x40\0\x38\0\x01\0\0\0\0\0\0\0")
+}
+
 /// An image of one segment, readable and executable, at 0x10000, of some words.
 pub fn image(alloc: Global, words: &[u32]) -> Result<Vec<u8>, AllocError> {
-    let mut file = Vec::from_slice(alloc, b"\x7fELF\x02\x01\x01\0\0\0\0\0\0\0\0\0")?;
+    let mut file = Vec::new(alloc);
+    append_file_header(&mut file)?;
     let size = (words.len() as u64).wrapping_mul(4);
-    file.extend_from_slice(b"\x02\0\xb7\0\x01\0\0\0")?;
-    for number in [0x10000u64, 64, 0] {
-        file.extend_from_slice(&number.to_le_bytes())?;
-    }
-    file.extend_from_slice(b"\0\0\0\0\x40\0\x38\0\x01\0\0\0\0\0\0\0")?;
     file.extend_from_slice(b"\x01\0\0\0\x05\0\0\0")?;
-    for number in [120u64, 0x10000, 0x10000, size, size, 1] {
-        file.extend_from_slice(&number.to_le_bytes())?;
-    }
+    append(&mut file, &[120, 0x10000, 0x10000, size, size, 1])?;
     for word in words {
         file.extend_from_slice(&word.to_le_bytes())?;
     }

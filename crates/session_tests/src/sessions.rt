@@ -6,8 +6,17 @@ use crate::images::{
     UNTAGGED_EXIT, UNTAGGED_WRITE, image,
 };
 use mte_session::{ScriptFault, SessionError, run_session};
-use std::alloc::Global;
+use std::alloc::{AllocError, Global};
 use std::test::Fail;
+
+/// The images of some programs.
+fn images_of(alloc: Global, programs: &[&[u32]]) -> Result<Vec<Vec<u8>>, AllocError> {
+    let mut files = Vec::new(alloc);
+    for words in programs {
+        files.push(image(alloc, words)?)?;
+    }
+    Ok(files)
+}
 
 /// The report of a script on `frames` frames, over the images of some programs as files 1 and on.
 pub fn report(
@@ -16,18 +25,19 @@ pub fn report(
     script: &[u8],
     programs: &[&[u32]],
 ) -> Result<Vec<u8>, Fail> {
-    let mut files = Vec::new(alloc);
-    for words in programs {
-        files.push(image(alloc, words)?)?;
-    }
+    let files = images_of(alloc, programs)?;
+    report_over(alloc, frames, script, files.as_slice())
+}
+
+/// The report of a script over some files.
+fn report_over(
+    alloc: Global,
+    frames: u32,
+    script: &[u8],
+    files: &[Vec<u8>],
+) -> Result<Vec<u8>, Fail> {
     let mut out = MemorySink::new(alloc);
-    run_session(
-        alloc,
-        frames.max(1).min(65536),
-        script,
-        files.as_slice(),
-        &mut out,
-    )?;
+    run_session(alloc, frames.max(1).min(65536), script, files, &mut out)?;
     Ok(out.held)
 }
 
@@ -42,62 +52,64 @@ fn an_empty_script_has_an_empty_report(rt: HostRuntime) -> Result<(), Fail> {
     Ok(())
 }
 
+/// Programs with a script and its report.
+const REPORTS: [(&[u32], &[u8], &[u8]); 9] = [
+    (
+        &HI,
+        ADMIT,
+        b"tenant 1\nstatus exit 0\nsteps 8\noutput 2 4869\nheap 0\nend\n",
+    ),
+    (
+        &HI,
+        b"admit 1 image 1 input 0 seed 0000000000000001 frames 5 out 16\nslice 1 3\n",
+        b"tenant 1\nstatus running\nsteps 3\noutput 0\nheap 0\nend\n",
+    ),
+    (
+        &HI,
+        b"admit 1 image 1 input 0 seed 0000000000000001 frames 5 out 1\nslice 1 100\n",
+        b"tenant 1\nstatus exit 0\nsteps 8\noutput 1 48\nheap 0\nend\n",
+    ),
+    (
+        &UNTAGGED,
+        ADMIT,
+        b"tenant 1\nstatus fault TagCheck read addr 0x000000003fffc000 ptr 0 mem 1 pc \
+          0x0000000000010018\nsteps 7\noutput 0\nheap 0\nend\n",
+    ),
+    (
+        &PAIR_WITH_TAG,
+        ADMIT,
+        b"tenant 1\nstatus fault TagCheck read addr 0x000000003fffc010 ptr 0 mem 1 pc \
+          0x0000000000010018\nsteps 7\noutput 0\nheap 0\nend\n",
+    ),
+    (
+        &PRE_INDEXED,
+        ADMIT,
+        b"tenant 1\nstatus fault TagCheck read addr 0x000000003fffffe0 ptr 0 mem 1 pc \
+          0x0000000000010010\nsteps 5\noutput 0\nheap 0\nend\n",
+    ),
+    (
+        &ACROSS,
+        ADMIT,
+        b"tenant 1\nstatus fault TagCheck read addr 0x000000003fffc010 ptr 1 mem 0 pc \
+          0x0000000000010010\nsteps 5\noutput 0\nheap 0\nend\n",
+    ),
+    (
+        &ILLEGAL,
+        ADMIT,
+        b"tenant 1\nstatus illegal 0x00000000 pc 0x0000000000010000\nsteps 1\noutput 0\n\
+          heap 0\nend\n",
+    ),
+    (
+        &UNALIGNED,
+        ADMIT,
+        b"tenant 1\nstatus fault PcAlignment read addr 0x0000000000010001 ptr 0 mem 0 pc \
+          0x0000000000010001\nsteps 4\noutput 0\nheap 0\nend\n",
+    ),
+];
+
 #[test]
 fn one_tenant_alone(rt: HostRuntime) -> Result<(), Fail> {
-    let cases: [(&[u32], &[u8], &[u8]); 9] = [
-        (
-            &HI,
-            ADMIT,
-            b"tenant 1\nstatus exit 0\nsteps 8\noutput 2 4869\nheap 0\nend\n",
-        ),
-        (
-            &HI,
-            b"admit 1 image 1 input 0 seed 0000000000000001 frames 5 out 16\nslice 1 3\n",
-            b"tenant 1\nstatus running\nsteps 3\noutput 0\nheap 0\nend\n",
-        ),
-        (
-            &HI,
-            b"admit 1 image 1 input 0 seed 0000000000000001 frames 5 out 1\nslice 1 100\n",
-            b"tenant 1\nstatus exit 0\nsteps 8\noutput 1 48\nheap 0\nend\n",
-        ),
-        (
-            &UNTAGGED,
-            ADMIT,
-            b"tenant 1\nstatus fault TagCheck read addr 0x000000003fffc000 ptr 0 mem 1 pc \
-              0x0000000000010018\nsteps 7\noutput 0\nheap 0\nend\n",
-        ),
-        (
-            &PAIR_WITH_TAG,
-            ADMIT,
-            b"tenant 1\nstatus fault TagCheck read addr 0x000000003fffc010 ptr 0 mem 1 pc \
-              0x0000000000010018\nsteps 7\noutput 0\nheap 0\nend\n",
-        ),
-        (
-            &PRE_INDEXED,
-            ADMIT,
-            b"tenant 1\nstatus fault TagCheck read addr 0x000000003fffffe0 ptr 0 mem 1 pc \
-              0x0000000000010010\nsteps 5\noutput 0\nheap 0\nend\n",
-        ),
-        (
-            &ACROSS,
-            ADMIT,
-            b"tenant 1\nstatus fault TagCheck read addr 0x000000003fffc010 ptr 1 mem 0 pc \
-              0x0000000000010010\nsteps 5\noutput 0\nheap 0\nend\n",
-        ),
-        (
-            &ILLEGAL,
-            ADMIT,
-            b"tenant 1\nstatus illegal 0x00000000 pc 0x0000000000010000\nsteps 1\noutput 0\n\
-              heap 0\nend\n",
-        ),
-        (
-            &UNALIGNED,
-            ADMIT,
-            b"tenant 1\nstatus fault PcAlignment read addr 0x0000000000010001 ptr 0 mem 0 pc \
-              0x0000000000010001\nsteps 4\noutput 0\nheap 0\nend\n",
-        ),
-    ];
-    for (words, script, want) in cases {
+    for (words, script, want) in REPORTS {
         let text = report(rt.alloc(), 11, script, &[words])?;
         assert_eq!(rt; text.as_slice(), want);
     }
@@ -120,132 +132,152 @@ fn the_largest_reservation(rt: HostRuntime) -> Result<(), Fail> {
     Ok(())
 }
 
+/// Programs with the end of an admission and a slice, and with the lines after `tenant 1`.
+const MODES: [(&[u32], &[u8], &[u8]); 7] = [
+    (
+        &UNTAGGED,
+        b" async\nslice 1 7\n",
+        b"status async pc 0x000000000001001c\nsteps 7\noutput 0\n",
+    ),
+    (
+        &UNTAGGED,
+        b" async\nslice 1 100\n",
+        b"status illegal 0x00000000 pc 0x000000000001001c\nsteps 8\noutput 0\n",
+    ),
+    (
+        &UNTAGGED_EXIT,
+        b" async\nslice 1 100\n",
+        b"status async pc 0x0000000000010020\nsteps 9\noutput 0\n",
+    ),
+    (
+        &UNTAGGED_EXIT,
+        b"\nslice 1 100\n",
+        b"status fault TagCheck read addr 0x000000003fffc000 ptr 0 mem 1 pc \
+          0x0000000000010018\nsteps 7\noutput 0\n",
+    ),
+    (
+        &UNTAGGED_WRITE,
+        b" async\nslice 1 100\n",
+        b"status async pc 0x0000000000010020\nsteps 9\n\
+          output 16 00000000000000000000000000000000\n",
+    ),
+    (
+        &UNTAGGED_WRITE,
+        b" async\nslice 1 7\n",
+        b"status async pc 0x000000000001001c\nsteps 7\n\
+          output 16 00000000000000000000000000000000\n",
+    ),
+    (
+        &UNTAGGED_WRITE,
+        b"\nslice 1 100\n",
+        b"status fault TagCheck read addr 0x000000003fffc000 ptr 0 mem 1 pc \
+          0x0000000000010018\nsteps 7\noutput 0\n",
+    ),
+];
+
+/// The report of a program after an admission that ends so.
+fn report_after(alloc: Global, words: &[u32], rest: &[u8]) -> Result<Vec<u8>, Fail> {
+    let mut script = Vec::from_slice(
+        alloc,
+        b"admit 1 image 1 input 0 seed 0000000000000001 frames 5 out 16",
+    )?;
+    script.extend_from_slice(rest)?;
+    report(alloc, 11, script.as_slice(), &[words])
+}
+
+/// The whole report that has these lines.
+fn whole(alloc: Global, lines: &[u8]) -> Result<Vec<u8>, AllocError> {
+    let mut text = Vec::from_slice(alloc, b"tenant 1\n")?;
+    text.extend_from_slice(lines)?;
+    text.extend_from_slice(b"heap 0\nend\n")?;
+    Ok(text)
+}
+
 /// In the asynchronous mode an access whose tag differs completes. The tenant ends at its next
 /// service, or with its slice.
 #[test]
 fn the_asynchronous_mode(rt: HostRuntime) -> Result<(), Fail> {
-    let cases: [(&[u32], &[u8], &[u8]); 7] = [
-        (
-            &UNTAGGED,
-            b" async\nslice 1 7\n",
-            b"status async pc 0x000000000001001c\nsteps 7\noutput 0\n",
-        ),
-        (
-            &UNTAGGED,
-            b" async\nslice 1 100\n",
-            b"status illegal 0x00000000 pc 0x000000000001001c\nsteps 8\noutput 0\n",
-        ),
-        (
-            &UNTAGGED_EXIT,
-            b" async\nslice 1 100\n",
-            b"status async pc 0x0000000000010020\nsteps 9\noutput 0\n",
-        ),
-        (
-            &UNTAGGED_EXIT,
-            b"\nslice 1 100\n",
-            b"status fault TagCheck read addr 0x000000003fffc000 ptr 0 mem 1 pc \
-              0x0000000000010018\nsteps 7\noutput 0\n",
-        ),
-        (
-            &UNTAGGED_WRITE,
-            b" async\nslice 1 100\n",
-            b"status async pc 0x0000000000010020\nsteps 9\n\
-              output 16 00000000000000000000000000000000\n",
-        ),
-        (
-            &UNTAGGED_WRITE,
-            b" async\nslice 1 7\n",
-            b"status async pc 0x000000000001001c\nsteps 7\n\
-              output 16 00000000000000000000000000000000\n",
-        ),
-        (
-            &UNTAGGED_WRITE,
-            b"\nslice 1 100\n",
-            b"status fault TagCheck read addr 0x000000003fffc000 ptr 0 mem 1 pc \
-              0x0000000000010018\nsteps 7\noutput 0\n",
-        ),
-    ];
-    for (words, rest, want) in cases {
-        let mut script = Vec::from_slice(
-            rt.alloc(),
-            b"admit 1 image 1 input 0 seed 0000000000000001 frames 5 out 16",
-        )?;
-        script.extend_from_slice(rest)?;
-        let text = report(rt.alloc(), 11, script.as_slice(), &[words])?;
-        let mut wanted = Vec::from_slice(rt.alloc(), b"tenant 1\n")?;
-        wanted.extend_from_slice(want)?;
-        wanted.extend_from_slice(b"heap 0\nend\n")?;
-        assert_eq!(rt; text.as_slice(), wanted.as_slice());
+    for (words, rest, lines) in MODES {
+        let text = report_after(rt.alloc(), words, rest)?;
+        let want = whole(rt.alloc(), lines)?;
+        assert_eq!(rt; text.as_slice(), want.as_slice());
     }
     Ok(())
 }
 
+/// Frames, a script with events that are refused, and its report.
+const REFUSED: [(u32, &[u8], &[u8]); 9] = [
+    (
+        10,
+        b"admit 1 image 1 input 0 seed 0000000000000001 frames 5 out 16\nslice 1 5\n",
+        b"refused 1 NoFrames\nrefused 2 NotLive\n",
+    ),
+    (
+        11,
+        b"admit 1 image 1 input 0 seed 0000000000000001 frames 4 out 16\n",
+        b"refused 1 ReservationTooSmall\n",
+    ),
+    (
+        11,
+        b"admit 1 image 1 input 0 seed 0000000000000001 frames 0 out 16\n",
+        b"refused 1 BadReservation\n",
+    ),
+    (
+        11,
+        b"admit 1 image 1 input 0 seed 0000000000000001 frames 4097 out 16\n",
+        b"refused 1 BadReservation\n",
+    ),
+    (
+        8192,
+        b"admit 1 image 1 input 0 seed 0000000000000001 frames 4096 out 16\n",
+        b"refused 1 NoFrames\n",
+    ),
+    (
+        11,
+        b"admit 1 image 1 input 0 seed 0000000000000001 frames 5 out 65537\n",
+        b"refused 1 BadReservation\n",
+    ),
+    (
+        65536,
+        b"admit 1 image 2 input 0 seed 0000000000000001 frames 5 out 16\n",
+        b"refused 1 Image SegmentRange\n",
+    ),
+    (
+        22,
+        b"admit 1 image 1 input 0 seed 0000000000000001 frames 5 out 16\n\
+          admit 1 image 1 input 0 seed 0000000000000001 frames 5 out 16\n\
+          admit 2 image 1 input 0 seed 0000000000000001 frames 5 out 16\nstop 1\nslice 1 5\n",
+        b"refused 2 Duplicate\nrefused 5 NotLive\ntenant 1\n\
+          status stopped\nsteps 0\noutput 0\nheap 0\nend\ntenant 2\n\
+          status running\nsteps 0\noutput 0\nheap 0\nend\n",
+    ),
+    (
+        21,
+        b"admit 1 image 1 input 0 seed 0000000000000001 frames 5 out 16\nslice 1 100\n\
+          slice 1 100\nadmit 2 image 1 input 0 seed 0000000000000001 frames 5 out 16\nstop 1\n\
+          admit 2 image 1 input 0 seed 0000000000000001 frames 5 out 16\nslice 1 5\n",
+        b"refused 4 NoFrames\nrefused 7 NotLive\ntenant 1\nstatus exit 0\nsteps 8\n\
+          output 2 4869\nheap 0\nend\ntenant 2\nstatus running\nsteps 0\noutput 0\n\
+          heap 0\nend\n",
+    ),
+];
+
+/// An image, and the same cut short.
+fn whole_and_cut(alloc: Global) -> Result<Vec<Vec<u8>>, AllocError> {
+    let mut files = Vec::new(alloc);
+    files.push(image(alloc, &HI)?)?;
+    let mut cut = image(alloc, &HI)?;
+    cut.truncate(155);
+    files.push(cut)?;
+    Ok(files)
+}
+
 #[test]
 fn refused_events(rt: HostRuntime) -> Result<(), Fail> {
-    let cases: [(u32, &[u8], &[u8]); 9] = [
-        (
-            10,
-            b"admit 1 image 1 input 0 seed 0000000000000001 frames 5 out 16\nslice 1 5\n",
-            b"refused 1 NoFrames\nrefused 2 NotLive\n",
-        ),
-        (
-            11,
-            b"admit 1 image 1 input 0 seed 0000000000000001 frames 4 out 16\n",
-            b"refused 1 ReservationTooSmall\n",
-        ),
-        (
-            11,
-            b"admit 1 image 1 input 0 seed 0000000000000001 frames 0 out 16\n",
-            b"refused 1 BadReservation\n",
-        ),
-        (
-            11,
-            b"admit 1 image 1 input 0 seed 0000000000000001 frames 4097 out 16\n",
-            b"refused 1 BadReservation\n",
-        ),
-        (
-            8192,
-            b"admit 1 image 1 input 0 seed 0000000000000001 frames 4096 out 16\n",
-            b"refused 1 NoFrames\n",
-        ),
-        (
-            11,
-            b"admit 1 image 1 input 0 seed 0000000000000001 frames 5 out 65537\n",
-            b"refused 1 BadReservation\n",
-        ),
-        (
-            65536,
-            b"admit 1 image 2 input 0 seed 0000000000000001 frames 5 out 16\n",
-            b"refused 1 Image SegmentRange\n",
-        ),
-        (
-            22,
-            b"admit 1 image 1 input 0 seed 0000000000000001 frames 5 out 16\n\
-              admit 1 image 1 input 0 seed 0000000000000001 frames 5 out 16\n\
-              admit 2 image 1 input 0 seed 0000000000000001 frames 5 out 16\nstop 1\nslice 1 5\n",
-            b"refused 2 Duplicate\nrefused 5 NotLive\ntenant 1\n\
-              status stopped\nsteps 0\noutput 0\nheap 0\nend\ntenant 2\n\
-              status running\nsteps 0\noutput 0\nheap 0\nend\n",
-        ),
-        (
-            21,
-            b"admit 1 image 1 input 0 seed 0000000000000001 frames 5 out 16\nslice 1 100\n\
-              slice 1 100\nadmit 2 image 1 input 0 seed 0000000000000001 frames 5 out 16\nstop 1\n\
-              admit 2 image 1 input 0 seed 0000000000000001 frames 5 out 16\nslice 1 5\n",
-            b"refused 4 NoFrames\nrefused 7 NotLive\ntenant 1\nstatus exit 0\nsteps 8\n\
-              output 2 4869\nheap 0\nend\ntenant 2\nstatus running\nsteps 0\noutput 0\n\
-              heap 0\nend\n",
-        ),
-    ];
-    for (frames, script, want) in cases {
-        let mut files = Vec::new(rt.alloc());
-        files.push(image(rt.alloc(), &HI)?)?;
-        let mut cut = image(rt.alloc(), &HI)?;
-        cut.truncate(155);
-        files.push(cut)?;
-        let mut out = MemorySink::new(rt.alloc());
-        run_session(rt.alloc(), frames, script, files.as_slice(), &mut out)?;
-        assert_eq!(rt; out.held.as_slice(), want);
+    let files = whole_and_cut(rt.alloc())?;
+    for (frames, script, want) in REFUSED {
+        let text = report_over(rt.alloc(), frames, script, files.as_slice())?;
+        assert_eq!(rt; text.as_slice(), want);
     }
     Ok(())
 }
