@@ -222,8 +222,8 @@ uint32_t tb_run(tb_page *pages, size_t count, tb_tag_state *state, tb_regs *regs
  * code and the answer of each. A call that aborts or faults changes nothing of the heap, and those
  * behind it are made too. The heap ends with this call; since it is deterministic, the same array
  * with more calls behind it goes on where this one ended. TB_BAD_ARGUMENT where setup->pages is not
- * 1 to 4096 and TB_OUT_OF_MEMORY change nothing. It takes its memory by malloc, at most 5,000 bytes
- * a page, and frees it again.
+ * 1 to 4096 and TB_OUT_OF_MEMORY change nothing. It takes its memory by malloc, about 5,600 bytes
+ * a page and 11,000 more, and frees it again.
  */
 uint32_t tb_heap_calls(const tb_heap_setup *setup, tb_heap_call *calls, size_t count);
 
