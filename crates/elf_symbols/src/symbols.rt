@@ -1,5 +1,6 @@
 //! The names of an image's addresses, by its symbol table (System V ABI, Object Files:
-//! `Elf64_Shdr`, `Elf64_Sym`). A file without one, or with one that does not lie in it, has no names.
+//! `Elf64_Shdr`, `Elf64_Sym`). A file without one, or with one that does not lie in it, has no
+//! names.
 
 use std::{fmt, str};
 

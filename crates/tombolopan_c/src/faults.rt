@@ -70,7 +70,8 @@ impl FaultReport {
 /// Reports how an access ended, and returns its code.
 pub(crate) fn report(answer: Result<(), MemFault>, fault: &mut FaultReport) -> u32
     ensures code { (o : Option MemFault) → answer ≡ outcome o → result ≡ fault_code o }
-    ensures fault { (o : Option MemFault) → answer ≡ outcome o → fault.new ≡ fault_report o }
+    ensures fault { (o : Option MemFault)
+        → answer ≡ outcome o → fault.new ≡ fault_report o }
 {
     match answer {
         Ok(()) => {

@@ -22,7 +22,8 @@ pub(crate) fn find(pages: &[LentPage], number: u64) -> Option<usize>
 
 /// Whether a page has a place.
 pub(crate) fn is_mapped(pages: &[LentPage], number: u64) -> bool
-    ensures page { (s : TagState) → result ≡ is_some (page_at (lent_memory s pages.now) number) }
+    ensures page { (s : TagState)
+        → result ≡ is_some (page_at (lent_memory s pages.now) number) }
     ensures none { IsFalse result → HasNone pages.now number }
 {
     find(pages, number).is_some()
