@@ -4,5 +4,6 @@
 mod instruction;
 mod refusals;
 
-pub use instruction::{Instr, encode};
+pub use a64_instr::Instr;
+pub use instruction::encode;
 pub use refusals::{is_load_store, is_load_store_pair, may_write_back};

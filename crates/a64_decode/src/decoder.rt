@@ -2,7 +2,7 @@
 
 ghost use Rattle.std.specs.Prelude.{◌≡◌, ◌↔◌, ℕ, IfSome};
 ghost use Rattle.a64_asm.specs.Encoding.{IsAllowed, IsWordOf, word_of};
-ghost use Rattle.a64_asm.specs.declared.instruction.Instr.{Instr};
+ghost use Rattle.a64_instr.specs.declared.instruction.Instr.{Instr};
 ghost use Rattle.a64_decode.specs.Decoded.{decoded};
 
 use crate::rows::read;

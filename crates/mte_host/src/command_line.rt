@@ -70,28 +70,42 @@ fn print_text(rt: &HostRuntime, error: &Error) -> Invocation {
 
 /// Reads the words of a command line; `None` where an allocation failed.
 fn parse(alloc: Global, words: &[String]) -> Result<Option<Program>, Error> {
-    let frames = Arg::new(alloc, "frames")
+    let matches = command(alloc)?.try_get_matches_from(words)?;
+    Ok(program_of(alloc, &matches).ok())
+}
+
+/// The command line's form. Each argument has a function of its own, so that few of them are alive
+/// at once: that makes the proof a third as long.
+fn command<'a>(alloc: Global) -> Result<Command<'a>, Error> {
+    let command = Command::new(alloc, "mte_host")
+        .about("Runs a script of tenants on an Arm core with memory tagging, and reports on each");
+    let command = command.arg(frames(alloc))?;
+    let command = command.arg(script(alloc))?;
+    Ok(command.arg(files(alloc))?)
+}
+
+fn frames<'a>(alloc: Global) -> Arg<'a> {
+    Arg::new(alloc, "frames")
         .long("frames")
         .value_name("N")
         .help("How many frames of 4096 bytes the arena has, 1 to 65536")
         .required(true)
-        .value_parser(value_parser!(u32).range(1..=65536));
-    let script = Arg::new(alloc, "script")
+        .value_parser(value_parser!(u32).range(1..=65536))
+}
+
+fn script<'a>(alloc: Global) -> Arg<'a> {
+    Arg::new(alloc, "script")
         .value_name("SCRIPT")
         .help("The script: a line an event")
-        .required(true);
-    let files = Arg::new(alloc, "files")
+        .required(true)
+}
+
+fn files<'a>(alloc: Global) -> Arg<'a> {
+    Arg::new(alloc, "files")
         .value_name("FILE")
         .help("The images and inputs that the script names by their numbers from 1")
         .num_args(0..)
-        .action(ArgAction::Append);
-    let command = Command::new(alloc, "mte_host")
-        .about("Runs a script of tenants on an Arm core with memory tagging, and reports on each")
-        .arg(frames)?
-        .arg(script)?
-        .arg(files)?;
-    let matches = command.try_get_matches_from(words)?;
-    Ok(program_of(alloc, &matches).ok())
+        .action(ArgAction::Append)
 }
 
 /// The values of a command line that `clap` accepted.
