@@ -17,8 +17,29 @@ fn fields_that_do_not_fit(rt: HostRuntime) {
 #[test]
 fn forms_of_loads_and_stores(rt: HostRuntime) {
     // LDRSW is there, LDRSW to 32 bits is not; PRFM (size 3, opc 2) is none of the profile.
-    assert!(rt; is_load_store(2, 2) && !is_load_store(2, 3) && !is_load_store(3, 2));
-    assert!(rt; is_load_store_pair(1, 1, 0, 1) && !is_load_store_pair(1, 0, 0, 1));
-    assert!(rt; is_load_store_pair(2, 0, 5, 5) && !is_load_store_pair(2, 1, 5, 5));
-    assert!(rt; may_write_back(31, 31) && may_write_back(1, 2) && !may_write_back(3, 3));
+    assert_eq!(rt;
+        [
+            is_load_store(2, 2),
+            is_load_store(2, 3),
+            is_load_store(3, 2)
+        ],
+        [true, false, false]
+    );
+    assert_eq!(rt;
+        [
+            is_load_store_pair(1, 1, 0, 1),
+            is_load_store_pair(1, 0, 0, 1),
+            is_load_store_pair(2, 0, 5, 5),
+            is_load_store_pair(2, 1, 5, 5),
+        ],
+        [true, false, true, false]
+    );
+    assert_eq!(rt;
+        [
+            may_write_back(31, 31),
+            may_write_back(1, 2),
+            may_write_back(3, 3)
+        ],
+        [true, true, false]
+    );
 }

@@ -122,20 +122,21 @@ const REFUSED: [u32; 7] = [
 #[test]
 fn rows_as_assembled(rt: HostRuntime) {
     for (word, instr) in ROWS {
-        assert_eq!(rt; decode(word), Some(instr), "decode {word:#x}");
-        assert_eq!(rt; encode(&instr), Some(word), "encode {word:#x}");
+        assert_eq!(rt;
+            (decode(word), encode(&instr)),
+            (Some(instr), Some(word)),
+            "{word:#x}"
+        );
     }
 }
 
 #[test]
 fn sample_programs(rt: HostRuntime) {
     for word in SAMPLES {
-        let instr = decode(word);
-        assert!(rt; instr.is_some(), "decode {word:#x}");
         assert_eq!(rt;
-            instr.and_then(|i| encode(&i)),
+            decode(word).and_then(|i| encode(&i)),
             Some(word),
-            "encode {word:#x}"
+            "{word:#x}"
         );
     }
 }

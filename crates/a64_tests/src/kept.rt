@@ -54,7 +54,9 @@ fn changed_code_is_executed(rt: HostRuntime) -> Result<(), Fail> {
     // svc #0
     regs.x[1] = 0xD4000001;
     let stop = run_kept(&mut kept, &mut regs, &mut memory, 9);
-    assert_eq!(rt; (stop.outcome, stop.left), (Some(Outcome::Svc), 6));
-    assert_eq!(rt; regs.pc, CODE);
+    assert_eq!(rt;
+        (stop.outcome, stop.left, regs.pc),
+        (Some(Outcome::Svc), 6, CODE)
+    );
     Ok(())
 }

@@ -1,6 +1,6 @@
 //! Short programs over a plain memory, through `a64_step`.
 
-use a64_step::{Decoder, Outcome, Regs, Stop, run, step, steps_keep_tag_mode, steps_keep_tags};
+use a64_step::{Decoder, Outcome, Regs, run, step, steps_keep_tag_mode, steps_keep_tags};
 use mte_flat::Flat;
 use mte_tags::{Attrs, FaultKind, MemFault, Paged, Rgsr, TagMode, Tagged};
 use std::alloc::Global;
@@ -55,18 +55,20 @@ fn runs_over_a_plain_memory(rt: HostRuntime) -> Result<(), Fail> {
     let mut decoder = Decoder::new();
     let mut regs = start();
     let five = run(&mut decoder, &mut regs, &mut memory, 5);
-    assert_eq!(rt; (five.outcome, five.left), (None, 0));
-    assert_eq!(rt;
-        (regs.x[0], regs.x[1], regs.x[2]),
-        (0x3fffff00, 0x3fffff48, 0x3fffff00)
-    );
+    let values = [regs.x[0], regs.x[1], regs.x[2]];
     let more = run(&mut decoder, &mut regs, &mut memory, 9);
-    assert_eq!(rt; (more.outcome, more.left), (Some(Outcome::Svc), 8));
-    assert_eq!(rt; regs.pc, CODE + 20);
+    let pc = regs.pc;
     regs.pc = STACK_END;
+    let last = step(&mut regs, &mut memory);
+    assert_eq!(rt; values, [0x3fffff00, 0x3fffff48, 0x3fffff00]);
+    assert_eq!(rt; [five.left, more.left, pc], [0, 8, CODE + 20]);
     assert_eq!(rt;
-        step(&mut regs, &mut memory),
-        fault(FaultKind::Translation, STACK_END, false, 0, 0)
+        [five.outcome, more.outcome, Some(last)],
+        [
+            None,
+            Some(Outcome::Svc),
+            Some(fault(FaultKind::Translation, STACK_END, false, 0, 0)),
+        ]
     );
     steps_keep_tags();
     steps_keep_tag_mode();
@@ -126,13 +128,9 @@ fn programs_stop_where_they_should(rt: HostRuntime) -> Result<(), Fail> {
         let mut regs = start();
         let stop = run(&mut decoder, &mut regs, &mut memory, 100);
         assert_eq!(rt;
-            stop,
-            Stop {
-                outcome: Some(outcome),
-                left
-            }
+            (stop.outcome, stop.left, regs.pc),
+            (Some(outcome), left, pc)
         );
-        assert_eq!(rt; regs.pc, pc);
     }
     Ok(())
 }
@@ -146,13 +144,9 @@ fn a_pair_is_stored_whole_or_not(rt: HostRuntime) -> Result<(), Fail> {
     regs.x[2] = 0x1122334455667788;
     regs.x[3] = 0x99aabbccddeeff00;
     let stop = run(&mut Decoder::new(), &mut regs, &mut memory, 100);
-    assert_eq!(rt;
-        stop.outcome,
-        Some(fault(FaultKind::TagCheck, 0x3fffc010, true, 1, 0))
-    );
-    assert_eq!(rt; stop.left, 95);
+    let stored = fault(FaultKind::TagCheck, 0x3fffc010, true, 1, 0);
+    assert_eq!(rt; (stop.outcome, stop.left), (Some(stored), 95));
     let mut bytes = [1; 32];
-    assert!(rt; memory.read(0x3fffc000, &mut bytes, false).is_ok());
-    assert_eq!(rt; bytes, [0; 32]);
+    assert!(rt; memory.read(0x3fffc000, &mut bytes, false).is_ok() && bytes == [0; 32]);
     Ok(())
 }

@@ -127,7 +127,46 @@ fn change(
     }
 }
 
+/// A page to map or to unmap, and what table and quota tell after it: how many pages, leaves and
+/// frames taken, and the first page.
+struct Row {
+    is_map: bool,
+    page: u64,
+    counts: (usize, usize, usize),
+    first: Option<u64>,
+}
+
 /// Three pages, of which two share a leaf.
+#[rattlefmt::skip]
+const LIFE: [Row; 6] = [
+    Row { is_map: true, page: 1023, counts: (1, 1, 3), first: Some(1023) },
+    Row { is_map: true, page: 262_143, counts: (2, 2, 5), first: Some(1023) },
+    Row { is_map: true, page: 512, counts: (3, 2, 6), first: Some(512) },
+    Row { is_map: false, page: 512, counts: (2, 2, 5), first: Some(1023) },
+    Row { is_map: false, page: 1023, counts: (1, 1, 3), first: Some(262_143) },
+    Row { is_map: false, page: 262_143, counts: (0, 0, 1), first: None },
+];
+
+/// Whether a table changes as the rows say.
+fn lives(pool: &mut FramePool, quota: &mut Quota, table: &mut Table, rows: &[Row]) -> bool
+    requires table { IsTable pool.old quota.old table.old }
+    requires once { MapsOnce (pages_of pool.old table.old.frame) }
+    ensures table { IsTable pool.new quota.new table.new }
+{
+    for row in rows {
+        let is_done = if row.is_map {
+            map(pool, quota, table, row.page).is_some()
+        } else {
+            unmap(pool, quota, table, row.page)
+        };
+        let counts = (table.len(), table.leaves(), pool.taken(quota));
+        if !is_done || counts != row.counts || table.first(pool) != row.first {
+            return false;
+        }
+    }
+    true
+}
+
 #[test]
 fn a_life(rt: HostRuntime) -> Result<(), Fail> {
     let mut pool = pool_of(rt.alloc(), 16)?;
@@ -137,54 +176,32 @@ fn a_life(rt: HostRuntime) -> Result<(), Fail> {
     let Some(mut table) = new_table(&mut pool, &mut quota) else {
         return Err(Fail::new("no root"));
     };
-    assert_eq!(rt;
-        (table.len(), table.leaves(), pool.taken(&quota)),
-        (0, 0, 1)
-    );
-    assert_eq!(rt; table.first(&pool), None);
-    let frame = map(&mut pool, &mut quota, &mut table, 1023);
-    assert_eq!(rt;
-        (table.len(), table.leaves(), pool.taken(&quota)),
-        (1, 1, 3)
-    );
-    assert!(rt; map(&mut pool, &mut quota, &mut table, 262_143).is_some());
-    assert_eq!(rt;
-        (table.len(), table.leaves(), pool.taken(&quota)),
-        (2, 2, 5)
-    );
-    assert!(rt; map(&mut pool, &mut quota, &mut table, 512).is_some());
-    assert_eq!(rt;
-        (table.len(), table.leaves(), pool.taken(&quota)),
-        (3, 2, 6)
-    );
-    assert_eq!(rt; table.first(&pool), Some(512));
-    assert!(rt; frame.is_some());
-    assert_eq!(rt; table.walk(&pool, 1023), frame.map(|f| (f, Attrs::DATA)));
-    assert!(rt; table.walk(&pool, 513).is_none() && table.walk(&pool, 262_144).is_none());
-    assert!(rt; !unmap(&mut pool, &mut quota, &mut table, 513));
-    assert!(rt; unmap(&mut pool, &mut quota, &mut table, 512));
-    assert_eq!(rt;
-        (table.len(), table.leaves(), pool.taken(&quota)),
-        (2, 2, 5)
-    );
-    assert_eq!(rt; table.first(&pool), Some(1023));
-    assert!(rt; unmap(&mut pool, &mut quota, &mut table, 1023));
-    assert_eq!(rt;
-        (table.len(), table.leaves(), pool.taken(&quota)),
-        (1, 1, 3)
-    );
-    assert_eq!(rt; table.first(&pool), Some(262_143));
-    assert!(rt; unmap(&mut pool, &mut quota, &mut table, 262_143));
-    assert_eq!(rt;
-        (table.len(), table.leaves(), pool.taken(&quota)),
-        (0, 0, 1)
-    );
-    assert!(rt; close(&mut pool, &mut quota, table));
-    assert_eq!(rt; pool.taken(&quota), 0);
+    let new = (table.len(), table.leaves(), pool.taken(&quota));
+    assert_eq!(rt; (new, table.first(&pool)), ((0, 0, 1), None));
+    let is_alive = lives(&mut pool, &mut quota, &mut table, &LIFE);
+    let is_closed = close(&mut pool, &mut quota, table);
+    assert!(rt; is_alive && is_closed && pool.taken(&quota) == 0);
     pages_are_walks();
     frames_of_tables();
     leaves_are_used();
     cached_translations_stay();
+    Ok(())
+}
+
+#[test]
+fn pages_that_are_not_there(rt: HostRuntime) -> Result<(), Fail> {
+    let mut pool = pool_of(rt.alloc(), 16)?;
+    let Some((mut quota, _)) = two_quotas(&mut pool) else {
+        return Err(Fail::new("a quota is refused"));
+    };
+    let Some(mut table) = new_table(&mut pool, &mut quota) else {
+        return Err(Fail::new("no root"));
+    };
+    let frame = map(&mut pool, &mut quota, &mut table, 1023);
+    let walked = table.walk(&pool, 1023);
+    assert!(rt; frame.is_some() && walked == frame.map(|f| (f, Attrs::DATA)));
+    let none = table.walk(&pool, 513).is_none() && table.walk(&pool, 262_144).is_none();
+    assert!(rt; none && !unmap(&mut pool, &mut quota, &mut table, 513));
     Ok(())
 }
 
@@ -201,13 +218,15 @@ fn two_tables_over_one_pool(rt: HostRuntime) -> Result<(), Fail> {
     let Some(mut second) = new_table(&mut pool, &mut two) else {
         return Err(Fail::new("no second root"));
     };
-    assert!(rt; change(&mut pool, &mut one, &mut first, 5, &two, &second));
-    assert!(rt; change(&mut pool, &mut two, &mut second, 5, &one, &first));
-    assert!(rt; change(&mut pool, &mut two, &mut second, 6, &one, &first));
+    let changed = [
+        change(&mut pool, &mut one, &mut first, 5, &two, &second),
+        change(&mut pool, &mut two, &mut second, 5, &one, &first),
+        change(&mut pool, &mut two, &mut second, 6, &one, &first),
+    ];
     let (own, other) = (first.walk(&pool, 5), second.walk(&pool, 5));
-    assert!(rt; own.is_some() && other.is_some() && own != other);
-    assert!(rt; change(&mut pool, &mut one, &mut first, 5, &two, &second));
-    assert!(rt; first.walk(&pool, 5).is_none() && second.walk(&pool, 5) == other);
+    assert!(rt; changed == [true; 3] && own.is_some() && other.is_some() && own != other);
+    let again = change(&mut pool, &mut one, &mut first, 5, &two, &second);
+    assert!(rt; again && first.walk(&pool, 5).is_none() && second.walk(&pool, 5) == other);
     assert_eq!(rt; (first.len(), second.len()), (0, 2));
     assert_eq!(rt; (pool.taken(&one), pool.taken(&two)), (1, 4));
     Ok(())

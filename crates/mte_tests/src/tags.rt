@@ -45,15 +45,11 @@ fn tags_of_addresses(rt: HostRuntime) {
 #[test]
 fn draws(rt: HostRuntime) {
     let mut rgsr = Rgsr { tag: 0, seed: 1 };
-    assert_eq!(rt; rgsr.draw(0x5555), 1);
-    assert_eq!(rt; rgsr.draw(0x5557), 3);
-    assert_eq!(rt; rgsr.draw(0x555D), 5);
-    assert_eq!(rt; rgsr.seed, 0x8010);
+    let drawn = [rgsr.draw(0x5555), rgsr.draw(0x5557), rgsr.draw(0x555D)];
+    assert_eq!(rt; (drawn, rgsr.seed), ([1, 3, 5], 0x8010));
     let mut still = Rgsr { tag: 0, seed: 0 };
-    assert_eq!(rt; still.draw(0x0001), 1);
-    assert_eq!(rt; still.draw(0x0001), 1);
-    assert_eq!(rt; still.seed, 0);
-    assert_eq!(rt; still.draw(0xFFFF), 0);
+    let drawn = [still.draw(0x0001), still.draw(0x0001), still.draw(0xFFFF)];
+    assert_eq!(rt; (drawn, still.seed), ([1, 1, 0], 0));
 }
 
 /// What a memory that has the page 0x3FFFC alone answers.

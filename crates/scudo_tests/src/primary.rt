@@ -20,14 +20,16 @@ fn start(class: u64) -> u64
 #[tactic(auto, using(scudo_primary::proofs::PoolLaws::left_laws))]
 fn thirteen_blocks_of_class_9(rt: HostRuntime) -> Result<(), Fail> {
     let mut pool = Pool::new(rt.alloc(), 2)?;
-    assert_eq!(rt; pool.carved(9), 0);
-    assert_eq!(rt; pool.pop(9), None);
-    assert!(rt; !pool.is_block(9, 0x1900_0000));
+    let before = (pool.carved(9), pool.pop(9), pool.is_block(9, 0x1900_0000));
+    assert_eq!(rt; before, (0, None, false));
     pool.carve(9, 1);
-    assert_eq!(rt; pool.carved(9), 12);
-    assert!(rt; pool.is_block(9, 0x1900_0dc0));
-    assert!(rt; !pool.is_block(9, 0x1900_0f00));
-    assert!(rt; !pool.is_free(9, 0x1900_0f00));
+    let after = (
+        pool.carved(9),
+        pool.is_block(9, 0x1900_0dc0),
+        pool.is_block(9, 0x1900_0f00),
+        pool.is_free(9, 0x1900_0f00),
+    );
+    assert_eq!(rt; after, (12, true, false, false));
     for n in 0..12u64 {
         assert_eq!(rt; pool.pop(9), Some(0x1900_0000 + 320 * n));
     }
@@ -62,12 +64,10 @@ fn a_batch_keeps_its_order(rt: HostRuntime) -> Result<(), Fail> {
     pool.carve(13, 1);
     let mut buffer = [0u64; MAX_COUNT];
     let count = pool.pop_batch(13, &mut buffer);
-    assert_eq!(rt; count, 4);
-    assert!(rt; pool.is_free(13, buffer[0]));
+    assert!(rt; count == 4 && pool.is_free(13, buffer[0]));
     pool.push_batch(13, &buffer[..count]);
     let mut again = [0u64; MAX_COUNT];
-    assert_eq!(rt; pool.pop_batch(13, &mut again), 4);
-    assert_eq!(rt; again, buffer);
+    assert!(rt; pool.pop_batch(13, &mut again) == 4 && again == buffer);
     assert_eq!(rt; pool.pop(13), Some(start(13) + 4 * 640));
     Ok(())
 }
@@ -78,19 +78,19 @@ fn a_batch_keeps_its_order(rt: HostRuntime) -> Result<(), Fail> {
 fn marks(rt: HostRuntime) -> Result<(), Fail> {
     let mut pool = Pool::new(rt.alloc(), 32)?;
     pool.carve(44, 32);
-    assert_eq!(rt; pool.carved(44), 1);
     let block = start(44);
-    assert!(rt; pool.is_block(44, block));
-    assert!(rt; pool.is_free(44, block));
+    let new = (
+        pool.carved(44),
+        pool.is_block(44, block),
+        pool.is_free(44, block),
+    );
     let popped = pool.pop(44);
-    assert_eq!(rt; popped, Some(block));
+    assert_eq!(rt; (new, popped), ((1, true, true), Some(block)));
     if let Some(popped) = popped {
         pool.mark_used(44, popped);
     }
-    assert!(rt; pool.is_block(44, block));
-    assert!(rt; !pool.is_free(44, block));
+    assert!(rt; pool.is_block(44, block) && !pool.is_free(44, block));
     pool.mark_free(44, block);
-    assert!(rt; pool.is_free(44, block));
-    assert_eq!(rt; pool.pop(44), None);
+    assert!(rt; pool.is_free(44, block) && pool.pop(44).is_none());
     Ok(())
 }
