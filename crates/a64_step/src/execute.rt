@@ -23,7 +23,8 @@ use a64_asm::Instr;
 use mte_tags::Tagged;
 
 /// Executes an instruction. An arm with constants in its pattern passes them on, so that its copy
-/// of the function does not test them again.
+/// of the function does not test them again. A part with a match of its own has at most ten rows,
+/// next to one another in `Instr`: so the compiler makes one jump of both matches.
 #[rattlefmt::skip]
 #[inline(always)]
 #[tactic(auto, unfolding(crate::specs::Steps::executed))]
