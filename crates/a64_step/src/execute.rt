@@ -1,10 +1,10 @@
 //! The table of instructions.
 
-ghost use Rattle.std.specs.Prelude.{◌≡◌, ◌<◌};
+ghost use Rattle.std.specs.Prelude.{◌≡◌, ◌<◌, true};
 ghost use Rattle.a64_asm.specs.Encoding.{IsAllowed};
 ghost use Rattle.a64_step.specs.Registers.{advanced};
 ghost use Rattle.a64_step.specs.Results.{Leaves};
-ghost use Rattle.a64_step.specs.Steps.{executed};
+ghost use Rattle.a64_step.specs.Steps.{executed, is_other_load_or_store, is_system_or_tag};
 
 use crate::add_subtract::{adc_sbc, add_sub_ext, add_sub_imm, add_sub_shift};
 use crate::bitfield::{bitfield, extr};
@@ -23,7 +23,8 @@ use a64_asm::Instr;
 use mte_tags::Tagged;
 
 /// Executes an instruction. An arm with constants in its pattern passes them on, so that its copy
-/// of the function does not test them again.
+/// of the function does not test them again. A part with a match of its own has at most ten rows,
+/// next to one another in `Instr`: so the compiler makes one jump of both matches.
 #[rattlefmt::skip]
 #[inline(always)]
 #[tactic(auto, unfolding(crate::specs::Steps::executed))]
@@ -66,6 +67,31 @@ pub fn execute<M: Tagged>(instr: &Instr, regs: &mut Regs, memory: &mut M, outcom
         Instr::TestBranch { b5, op, b40, imm14, rt } => test_branch(regs, b5, op, b40, imm14, rt),
         Instr::BranchReg { opc, rn } => branch_reg(regs, opc, rn),
         Instr::LdStImm { size, opc, imm12, rn, rt } => ld_st_imm(regs, memory, size, opc, imm12, rn, rt, outcome),
+        Instr::LdStUnscaled { .. }
+        | Instr::LdStPost { .. }
+        | Instr::LdStPre { .. }
+        | Instr::LdStReg { .. }
+        | Instr::LdLit { .. }
+        | Instr::PairPost { .. }
+        | Instr::PairOff { .. }
+        | Instr::PairPre { .. } => execute_other_load_store(instr, regs, memory, outcome),
+        _ => execute_system_or_tag(instr, regs, memory, outcome),
+    }
+}
+
+/// The rows of loads and stores but those of a register at an unsigned offset.
+#[rattlefmt::skip]
+#[inline(always)]
+#[tactic(auto, unfolding(crate::specs::Steps::executed))]
+fn execute_other_load_store<M: Tagged>(instr: &Instr, regs: &mut Regs, memory: &mut M, outcome: &mut Outcome)
+    requires allowed { IsAllowed instr.now }
+    requires row { is_other_load_or_store instr.now ≡ true }
+    requires outcome { outcome.old ≡ Outcome.Next }
+    ensures leaves { Leaves (executed instr.now regs.old (M.memory memory.old))
+        outcome.new regs.new (M.memory memory.new) }
+    ensures kept { M.kept memory.old memory.new }
+{
+    match *instr {
         Instr::LdStUnscaled { size, opc, imm9, rn, rt } => ld_st_unscaled(regs, memory, size, opc, imm9, rn, rt, outcome),
         Instr::LdStPost { size, opc, imm9, rn, rt } => ld_st_post(regs, memory, size, opc, imm9, rn, rt, outcome),
         Instr::LdStPre { size, opc, imm9, rn, rt } => ld_st_pre(regs, memory, size, opc, imm9, rn, rt, outcome),
@@ -74,6 +100,23 @@ pub fn execute<M: Tagged>(instr: &Instr, regs: &mut Regs, memory: &mut M, outcom
         Instr::PairPost { opc, l, imm7, rt2, rn, rt } => pair_post(regs, memory, opc, l, imm7, rt2, rn, rt, outcome),
         Instr::PairOff { opc, l, imm7, rt2, rn, rt } => pair_off(regs, memory, opc, l, imm7, rt2, rn, rt, outcome),
         Instr::PairPre { opc, l, imm7, rt2, rn, rt } => pair_pre(regs, memory, opc, l, imm7, rt2, rn, rt, outcome),
+        _ => {}
+    }
+}
+
+/// The rows of the system and of tags.
+#[rattlefmt::skip]
+#[inline(always)]
+#[tactic(auto, unfolding(crate::specs::Steps::executed))]
+fn execute_system_or_tag<M: Tagged>(instr: &Instr, regs: &mut Regs, memory: &mut M, outcome: &mut Outcome)
+    requires allowed { IsAllowed instr.now }
+    requires row { is_system_or_tag instr.now ≡ true }
+    requires outcome { outcome.old ≡ Outcome.Next }
+    ensures leaves { Leaves (executed instr.now regs.old (M.memory memory.old))
+        outcome.new regs.new (M.memory memory.new) }
+    ensures kept { M.kept memory.old memory.new }
+{
+    match *instr {
         Instr::Svc => *outcome = Outcome::Svc,
         Instr::Brk { imm16 } => *outcome = Outcome::Breakpoint(imm16),
         Instr::Hint { .. } => regs.advance(),
@@ -84,5 +127,6 @@ pub fn execute<M: Tagged>(instr: &Instr, regs: &mut Regs, memory: &mut M, outcom
         Instr::Ldg { imm9, rn, rt } => ldg(regs, memory, imm9, rn, rt, outcome),
         Instr::StG { opc, imm9, mode, rn, rt } => st_g(regs, memory, opc, imm9, mode, rn, rt, outcome),
         Instr::StGP { mode, imm7, rt2, rn, rt } => st_g_p(regs, memory, mode, imm7, rt2, rn, rt, outcome),
+        _ => {}
     }
 }
