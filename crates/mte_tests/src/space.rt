@@ -135,28 +135,46 @@ struct Row {
     answer: Answer,
 }
 
-fn numbered(second: bool, call: Call, number: u64) -> Row {
-    Row {
-        second,
-        call,
-        answer: Answer::Number(number),
-    }
-}
+/// One byte that is read puts the page into the lookaside buffer.
+#[rattlefmt::skip]
+const TOUCHED: [Row; 2] = [
+    Row { second: false, call: Call::Turn(PAGE), answer: Answer::Number(1) },
+    Row { second: false, call: Call::Touch(PAGE * 4096 + 4095), answer: Answer::Number(0) },
+];
 
-/// A call of the first tenant that is refused at an address.
-fn refused(call: Call, kind: FaultKind, addr: u64, ptr_tag: u8) -> Row {
+/// An access that faults changes nothing. The frame of a page that the first fills and unmaps comes
+/// to the second, all zero.
+#[rattlefmt::skip]
+const TAKEN_OVER: [Row; 7] = [
     Row {
         second: false,
-        call,
+        call: Call::OverTwoGranules,
         answer: Answer::Refused(MemFault {
-            kind,
-            addr,
-            write: false,
-            ptr_tag,
-            mem_tag: 0,
+            kind: FaultKind::TagCheck, addr: PAGE * 4096 + 16, write: false, ptr_tag: 1, mem_tag: 0,
         }),
-    }
-}
+    },
+    Row { second: false, call: Call::PagesLeft, answer: Answer::Number(4) },
+    Row {
+        second: false,
+        call: Call::Fetch(PAGE * 4096),
+        answer: Answer::Refused(MemFault {
+            kind: FaultKind::Permission, addr: PAGE * 4096, write: false, ptr_tag: 0, mem_tag: 0,
+        }),
+    },
+    Row { second: false, call: Call::Fill(PAGE, 0xFF, 15), answer: Answer::Number(1) },
+    Row { second: false, call: Call::Turn(PAGE), answer: Answer::Number(0) },
+    Row { second: true, call: Call::Turn(PAGE), answer: Answer::Number(1) },
+    Row { second: true, call: Call::Holds(PAGE, 0, 0), answer: Answer::Number(1) },
+];
+
+/// The first has another frame now.
+#[rattlefmt::skip]
+const APART: [Row; 4] = [
+    Row { second: false, call: Call::Turn(PAGE), answer: Answer::Number(1) },
+    Row { second: false, call: Call::Fill(PAGE, 0xFF, 15), answer: Answer::Number(1) },
+    Row { second: true, call: Call::Holds(PAGE, 0, 0), answer: Answer::Number(1) },
+    Row { second: false, call: Call::Holds(PAGE, 0xFF, 15), answer: Answer::Number(1) },
+];
 
 /// Whether two tenants' memories answer calls in turn as they should.
 fn are_answered(
@@ -212,9 +230,8 @@ fn drawn(alloc: Global, first: &mut Flat, second: &mut Flat) -> Result<Vec<Row>,
     Ok(rows)
 }
 
-/// Two tenants over one pool. One byte that is read puts the page into the lookaside buffer. An
-/// access that faults changes nothing. The frame of a page that the first fills and unmaps comes to
-/// the second, all zero. Then each answers as a plain memory does, while pages come and go.
+/// Two tenants over one pool: the worked calls, and then each answers as a plain memory does, while
+/// pages come and go.
 #[test]
 fn two_tenants_over_one_pool(rt: HostRuntime) -> Result<(), Fail> {
     let mut pool = pool_of(rt.alloc(), 22)?;
@@ -229,58 +246,26 @@ fn two_tenants_over_one_pool(rt: HostRuntime) -> Result<(), Fail> {
         return Err(Fail::new("no second root"));
     };
     let mut tlb = Tlb::new();
-    let touched = [
-        numbered(false, Call::Turn(PAGE), 1),
-        numbered(false, Call::Touch(PAGE * 4096 + 4095), 0),
-    ];
-    assert!(rt;
-        are_answered(
-            &mut pool, &mut t, &mut q, &mut u, &mut r, &mut tlb, &touched
-        )
+    let touched = are_answered(
+        &mut pool, &mut t, &mut q, &mut u, &mut r, &mut tlb, &TOUCHED,
     );
     let walked = t.walk(&pool, PAGE);
-    assert!(rt; walked.is_some() && tlb.len() == 1 && tlb.lookup(1, PAGE) == walked);
-    let taken_over = [
-        refused(
-            Call::OverTwoGranules,
-            FaultKind::TagCheck,
-            PAGE * 4096 + 16,
-            1,
-        ),
-        numbered(false, Call::PagesLeft, 4),
-        refused(
-            Call::Fetch(PAGE * 4096),
-            FaultKind::Permission,
-            PAGE * 4096,
-            0,
-        ),
-        numbered(false, Call::Fill(PAGE, 0xFF, 15), 1),
-        numbered(false, Call::Turn(PAGE), 0),
-        numbered(true, Call::Turn(PAGE), 1),
-        numbered(true, Call::Holds(PAGE, 0, 0), 1),
-    ];
-    assert!(rt;
-        are_answered(
-            &mut pool,
-            &mut t,
-            &mut q,
-            &mut u,
-            &mut r,
-            &mut tlb,
-            &taken_over
-        )
+    let is_cached = walked.is_some() && tlb.len() == 1 && tlb.lookup(1, PAGE) == walked;
+    let taken_over = are_answered(
+        &mut pool,
+        &mut t,
+        &mut q,
+        &mut u,
+        &mut r,
+        &mut tlb,
+        &TAKEN_OVER,
     );
-    assert_eq!(rt; u.walk(&pool, PAGE).map(|x| x.0), walked.map(|x| x.0));
-    assert!(rt; tlb.lookup(1, PAGE).is_none() && pool.taken(&q) == 1);
-    let apart = [
-        numbered(false, Call::Turn(PAGE), 1),
-        numbered(false, Call::Fill(PAGE, 0xFF, 15), 1),
-        numbered(true, Call::Holds(PAGE, 0, 0), 1),
-        numbered(false, Call::Holds(PAGE, 0xFF, 15), 1),
-    ];
-    assert!(rt; are_answered(&mut pool, &mut t, &mut q, &mut u, &mut r, &mut tlb, &apart));
-    assert!(rt; tlb.len() == 2 && tlb.lookup(1, PAGE) == t.walk(&pool, PAGE));
-    assert!(rt; tlb.lookup(2, PAGE) == u.walk(&pool, PAGE));
+    let is_handed_on = u.walk(&pool, PAGE).map(|x| x.0) == walked.map(|x| x.0);
+    let is_forgotten = tlb.lookup(1, PAGE).is_none() && pool.taken(&q) == 1;
+    assert!(rt; touched && is_cached && taken_over && is_handed_on && is_forgotten);
+    let apart = are_answered(&mut pool, &mut t, &mut q, &mut u, &mut r, &mut tlb, &APART);
+    let first = tlb.len() == 2 && tlb.lookup(1, PAGE) == t.walk(&pool, PAGE);
+    assert!(rt; apart && first && tlb.lookup(2, PAGE) == u.walk(&pool, PAGE));
     let mut a = Flat::new(rt.alloc(), PAGES, TagMode::Sync)?;
     let mut b = Flat::new(rt.alloc(), PAGES, TagMode::Sync)?;
     reply(&mut a, Call::Turn(PAGE));
