@@ -13,7 +13,7 @@ use mte_frames::{FramePool, Quota};
 use mte_space::{Space, other_tenants_stay, pages_of_a_space, written_frames_are_pages};
 use mte_tags::{FaultKind, MemFault, TagMode, TagState};
 use mte_translate::{Table, Tlb, tables_stay};
-use std::alloc::{AllocError, Global};
+use std::alloc::Global;
 use std::test::Fail;
 
 pub(crate) const PAGES: usize = 5;
@@ -207,8 +207,13 @@ fn are_answered(
 }
 
 /// A thousand drawn calls of each tenant in turn, then a read of each word and of each tag, with
-/// what plain memories answer.
-fn drawn(alloc: Global, first: &mut Flat, second: &mut Flat) -> Result<Vec<Row>, AllocError> {
+/// what plain memories answer that are as the worked calls leave the two.
+fn drawn(alloc: Global) -> Result<Vec<Row>, Fail> {
+    let mut first = Flat::new(alloc, PAGES, TagMode::Sync)?;
+    let mut second = Flat::new(alloc, PAGES, TagMode::Sync)?;
+    reply(&mut first, Call::Turn(PAGE));
+    reply(&mut first, Call::Fill(PAGE, 0xFF, 15));
+    reply(&mut second, Call::Turn(PAGE));
     let mut rows = Vec::new(alloc);
     let mut draw: u64 = 7;
     for i in 0..CALLS {
@@ -219,12 +224,12 @@ fn drawn(alloc: Global, first: &mut Flat, second: &mut Flat) -> Result<Vec<Row>,
         rows.push(Row {
             second: false,
             call: one,
-            answer: reply(first, one),
+            answer: reply(&mut first, one),
         })?;
         rows.push(Row {
             second: true,
             call: other,
-            answer: reply(second, other),
+            answer: reply(&mut second, other),
         })?;
     }
     Ok(rows)
@@ -234,6 +239,7 @@ fn drawn(alloc: Global, first: &mut Flat, second: &mut Flat) -> Result<Vec<Row>,
 /// pages come and go.
 #[test]
 fn two_tenants_over_one_pool(rt: HostRuntime) -> Result<(), Fail> {
+    let rows = drawn(rt.alloc())?;
     let mut pool = pool_of(rt.alloc(), 22)?;
     let Some((mut q, mut r)) = two_quotas(&mut pool) else {
         return Err(Fail::new("a quota is refused"));
@@ -266,12 +272,6 @@ fn two_tenants_over_one_pool(rt: HostRuntime) -> Result<(), Fail> {
     let apart = are_answered(&mut pool, &mut t, &mut q, &mut u, &mut r, &mut tlb, &APART);
     let first = tlb.len() == 2 && tlb.lookup(1, PAGE) == t.walk(&pool, PAGE);
     assert!(rt; apart && first && tlb.lookup(2, PAGE) == u.walk(&pool, PAGE));
-    let mut a = Flat::new(rt.alloc(), PAGES, TagMode::Sync)?;
-    let mut b = Flat::new(rt.alloc(), PAGES, TagMode::Sync)?;
-    reply(&mut a, Call::Turn(PAGE));
-    reply(&mut a, Call::Fill(PAGE, 0xFF, 15));
-    reply(&mut b, Call::Turn(PAGE));
-    let rows = drawn(rt.alloc(), &mut a, &mut b)?;
     assert!(rt; are_answered(&mut pool, &mut t, &mut q, &mut u, &mut r, &mut tlb, &rows));
     written_frames_are_pages();
     pages_of_a_space();

@@ -2,8 +2,8 @@ use Rattle.std.proofs.Common.{◌≢◌, subst, sym, rules}
 use Rattle.mte_translate.specs.Tables.{MapsOnce}
 use Rattle.mte_tests.proofs.space.two_tenants_over_one_pool.Goals as goal
 
-pub are_answered-requires-clause-first : goal.are_answered-requires-clause-first
-are_answered-requires-clause-first g c =
+pub are_answered-touched-requires-clause-first : goal.are_answered-touched-requires-clause-first
+are_answered-touched-requires-clause-first g c =
     let apart = subst (λ k. k ≢ c.in-Some.r) (sym c.new_table.ensures.same) c.in-Some.ensures in
     let kept = c.tables_stay.ensures.others _ _ _ _ _ apart c.new_table-2.ensures.others c.in-Some-new_table.ensures.table in
     record {
