@@ -92,6 +92,10 @@ impl<'a> Words<'a> {
         u8::try_from(self.hex(u64::from(most))?).ok()
     }
 
+    fn word(&mut self) -> Option<u32> {
+        u32::try_from(self.hex(0xffff_ffff)?).ok()
+    }
+
     fn end(&self) -> Option<()> {
         if self.rest.is_none() { Some(()) } else { None }
     }
@@ -100,21 +104,26 @@ impl<'a> Words<'a> {
 /// What a line says, or `None` where it is malformed.
 pub fn parse(text: &str) -> Option<Line> {
     let mut words = Words { rest: Some(text) };
-    let line = match words.next()? {
-        "page" => read_page(&mut words)?,
-        "case" => read_case(&mut words)?,
-        "word" => Line::Word(u32::try_from(words.hex(0xffff_ffff)?).ok()?),
-        "x" => read_register(&mut words)?,
-        "sp" => Line::StackPointer(words.hex(u64::MAX)?),
-        "pc" => Line::ProgramCounter(words.hex((1 << 56) - 1)?),
-        "nzcv" => Line::Nzcv(words.small(15)?),
-        "rgsr" => read_rgsr(&mut words)?,
-        "granule" => read_granule(&mut words)?,
-        "then" => Line::Then(read_ending(&mut words)?),
-        _ => return None,
-    };
+    let kind = words.next()?;
+    let line = read_line(kind, &mut words)?;
     words.end()?;
     Some(line)
+}
+
+fn read_line(kind: &str, words: &mut Words<'_>) -> Option<Line> {
+    match kind {
+        "page" => read_page(words),
+        "case" => read_case(words),
+        "word" => words.word().map(Line::Word),
+        "x" => read_register(words),
+        "sp" => words.hex(u64::MAX).map(Line::StackPointer),
+        "pc" => words.hex((1 << 56) - 1).map(Line::ProgramCounter),
+        "nzcv" => words.small(15).map(Line::Nzcv),
+        "rgsr" => read_rgsr(words),
+        "granule" => read_granule(words),
+        "then" => read_ending(words).map(Line::Then),
+        _ => None,
+    }
 }
 
 fn read_page(words: &mut Words<'_>) -> Option<Line> {

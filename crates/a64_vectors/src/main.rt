@@ -116,6 +116,21 @@ impl Session {
     }
 }
 
+/// Runs the cases of all lines.
+fn take_all(rt: &HostRuntime, session: &mut Session) -> Result<()> {
+    let mut number = 0u64;
+    for text in BufReader::new(rt.alloc(), rt.reader())?.lines(rt.alloc()) {
+        number = number.saturating_add(1);
+        if !session.take(rt, text?.as_str())? {
+            bail!("line {number} is malformed");
+        }
+    }
+    if !session.finish(rt)? {
+        bail!("the last case is malformed");
+    }
+    Ok(())
+}
+
 fn main(rt: HostRuntime) -> Result<()> {
     let mut session = Session {
         kept: Kept::new(),
@@ -124,16 +139,7 @@ fn main(rt: HostRuntime) -> Result<()> {
         same: 0,
         different: 0,
     };
-    let mut number = 0u64;
-    for text in BufReader::new(rt.alloc(), rt.reader())?.lines(rt.alloc()) {
-        number = number.saturating_add(1);
-        if !session.take(&rt, text?.as_str())? {
-            bail!("line {number} is malformed");
-        }
-    }
-    if !session.finish(&rt)? {
-        bail!("the last case is malformed");
-    }
+    take_all(&rt, &mut session)?;
     println!(rt; "{} same, {} different", session.same, session.different)?;
     Ok(())
 }

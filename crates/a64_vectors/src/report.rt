@@ -5,14 +5,19 @@ use crate::place::granule_at;
 use a64_step::{Outcome, Regs};
 use mte_tags::Tagged;
 use std::alloc::{AllocError, Global};
+use std::fmt::Debug;
 
 /// Adds what differs between two values.
-macro_rules! compare {
-    ($text:expr, $name:expr, $ours:expr, $theirs:expr) => {
-        if $ours != $theirs {
-            write!($text, " {}: {:?} for {:?};", $name, $ours, $theirs)?;
-        }
-    };
+fn compare<T: PartialEq + Debug>(
+    text: &mut String,
+    name: &str,
+    ours: &T,
+    theirs: &T,
+) -> Result<(), AllocError> {
+    if *ours != *theirs {
+        write!(text, " {name}: {ours:?} for {theirs:?};")?;
+    }
+    Ok(())
 }
 
 fn compare_number(text: &mut String, name: &str, ours: u64, theirs: u64) -> Result<(), AllocError> {
@@ -30,9 +35,8 @@ fn compare_registers(text: &mut String, ours: &Regs, theirs: &Regs) -> Result<()
     }
     compare_number(text, "sp", ours.sp, theirs.sp)?;
     compare_number(text, "pc", ours.pc, theirs.pc)?;
-    compare!(text, "flags", ours.flags, theirs.flags);
-    compare!(text, "rgsr", ours.rgsr, theirs.rgsr);
-    Ok(())
+    compare(text, "flags", &ours.flags, &theirs.flags)?;
+    compare(text, "rgsr", &ours.rgsr, &theirs.rgsr)
 }
 
 /// Compares each granule of some pages.
@@ -47,12 +51,8 @@ fn compare_pages<M: Tagged>(
             .first
             .wrapping_mul(4096)
             .wrapping_add(number.wrapping_mul(16));
-        compare!(
-            text,
-            "granule",
-            granule_at(ours, address),
-            granule_at(theirs, address)
-        );
+        let (ours, theirs) = (granule_at(ours, address), granule_at(theirs, address));
+        compare(text, "granule", &ours, &theirs)?;
     }
     Ok(())
 }
@@ -69,7 +69,7 @@ pub fn differences<M: Tagged>(
 ) -> Result<String, AllocError> {
     let mut text = String::new(alloc);
     let expected = case.ending.map(|ending| ending.outcome(case.word));
-    compare!(text, "outcome", Some(outcome), expected);
+    compare(&mut text, "outcome", &Some(outcome), &expected)?;
     compare_registers(&mut text, regs, &case.after)?;
     for pages in map {
         compare_pages(&mut text, ours, theirs, pages)?;
