@@ -3,8 +3,8 @@
 /// An A64 instruction of the profile: its variant is the row of the encoding table, its fields are
 /// the row's fields as encoded in the word (Arm ARM DDI 0487, C4.1 and C6.2).
 ///
-/// Fields are plain numbers; `encode` of `a64_asm` says which values are allowed. Offsets are signed
-/// and count the unit of their instruction (bytes, words, pairs or granules).
+/// Fields are plain numbers; `encode` of `a64_asm` says which values are allowed. Offsets are
+/// signed and count the unit of their instruction (bytes, words, pairs or granules).
 #[derive(Clone, Copy, Debug, PartialEq, Eq)]
 #[rattlefmt::skip]
 pub enum Instr {

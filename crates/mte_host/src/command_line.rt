@@ -77,8 +77,9 @@ fn parse(alloc: Global, words: &[String]) -> Result<Option<Program>, Error> {
 /// The command line's form. Each argument has a function of its own, so that few of them are alive
 /// at once: that makes the proof a third as long.
 fn command<'a>(alloc: Global) -> Result<Command<'a>, Error> {
-    let command = Command::new(alloc, "mte_host")
-        .about("Runs a script of tenants on an Arm core with memory tagging, and reports on each");
+    let command = Command::new(alloc, "mte_host").about(
+        "Runs a script of tenants on an Arm core with memory tagging, and reports on each",
+    );
     let command = command.arg(frames(alloc))?;
     let command = command.arg(script(alloc))?;
     Ok(command.arg(files(alloc))?)
