@@ -147,8 +147,7 @@ fn files_cut_short(rt: HostRuntime) -> Result<(), Fail> {
         assert_eq!(rt; refusal, Some(want), "{length} bytes");
     }
     let plan = plan(rt.alloc(), &file)?;
-    assert_eq!(rt; plan.entry, 0x10000);
-    assert_eq!(rt; plan.pages, 1);
+    assert_eq!(rt; (plan.entry, plan.pages), (0x10000, 1));
     Ok(())
 }
 

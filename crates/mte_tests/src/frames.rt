@@ -103,6 +103,26 @@ fn tag_at(pool: &FramePool, quota: &Quota, f: usize, g: usize) -> Option<u8> {
     }
 }
 
+/// Whether a frame has these bytes at their places.
+fn has_bytes(pool: &FramePool, quota: &Quota, f: usize, bytes: &[(usize, u8)]) -> bool {
+    for (at, byte) in bytes {
+        if byte_at(pool, quota, f, *at) != Some(*byte) {
+            return false;
+        }
+    }
+    true
+}
+
+/// Whether a frame's granules have these tags.
+fn has_tags(pool: &FramePool, quota: &Quota, f: usize, tags: &[(usize, u8)]) -> bool {
+    for (at, tag) in tags {
+        if tag_at(pool, quota, f, *at) != Some(*tag) {
+            return false;
+        }
+    }
+    true
+}
+
 fn is_all(pool: &FramePool, quota: &Quota, f: usize, byte: u8, tag: u8) -> bool {
     for i in 0..4096 {
         if byte_at(pool, quota, f, i) != Some(byte) {
@@ -141,10 +161,9 @@ fn all_frames_are_reserved_once(rt: HostRuntime) -> Result<(), Fail> {
     let Ok(all) = reserve(&mut pool, 11) else {
         return Err(Fail::new("eleven of eleven are refused"));
     };
-    assert!(rt; reserve(&mut pool, 1).is_err());
-    assert!(rt; release(&mut pool, all));
-    assert!(rt; reserve(&mut pool, 12).is_err());
-    assert!(rt; reserve(&mut pool, 1).is_ok());
+    let refused = reserve(&mut pool, 1).is_err();
+    assert!(rt; refused && release(&mut pool, all));
+    assert!(rt; reserve(&mut pool, 12).is_err() && reserve(&mut pool, 1).is_ok());
     Ok(())
 }
 
@@ -162,10 +181,9 @@ fn a_frame_comes_back_zero(rt: HostRuntime) -> Result<(), Fail> {
     for g in 0..256 {
         mark(&mut pool, &first, f, g, 15);
     }
-    assert!(rt; is_all(&pool, &first, f, 0xFF, 15));
-    assert!(rt; take(&mut pool, &mut first).is_none());
-    assert!(rt; give(&mut pool, &mut first, f));
-    assert!(rt; release(&mut pool, first));
+    let full = is_all(&pool, &first, f, 0xFF, 15) && take(&mut pool, &mut first).is_none();
+    let given = give(&mut pool, &mut first, f);
+    assert!(rt; full && given && release(&mut pool, first));
     let Ok(mut second) = reserve(&mut pool, 1) else {
         return Err(Fail::new("the second quota"));
     };
@@ -186,12 +204,9 @@ fn both_planes_at_once(rt: HostRuntime) -> Result<(), Fail> {
         return Err(Fail::new("a frame is missing"));
     };
     write_block(&mut pool, &quota, f);
-    for (at, byte) in [(0, 7), (1, 0), (4094, 0), (4095, 8)] {
-        assert_eq!(rt; byte_at(&pool, &quota, f, at), Some(byte), "byte {at}");
-    }
-    for (at, tag) in [(0, 1), (1, 2), (2, 0), (254, 3), (255, 4)] {
-        assert_eq!(rt; tag_at(&pool, &quota, f, at), Some(tag), "granule {at}");
-    }
+    let bytes = [(0, 7), (1, 0), (4094, 0), (4095, 8)];
+    let tags = [(0, 1), (1, 2), (2, 0), (254, 3), (255, 4)];
+    assert!(rt; has_bytes(&pool, &quota, f, &bytes) && has_tags(&pool, &quota, f, &tags));
     assert!(rt; is_all(&pool, &quota, g, 0, 0));
     Ok(())
 }
@@ -206,13 +221,28 @@ fn bytes_of_an_optional_frame(rt: HostRuntime) -> Result<(), Fail> {
         return Err(Fail::new("a frame is missing"));
     };
     mark(&mut pool, &quota, f, 255, 9);
-    assert!(rt; !fill_if(&mut pool, &quota, None, 5));
-    assert!(rt; is_all(&pool, &quota, g, 0, 0) && byte_at(&pool, &quota, f, 0) == Some(0));
-    assert!(rt; fill_if(&mut pool, &quota, Some(f), 6));
-    assert!(rt; is_all(&pool, &quota, g, 0, 0) && byte_at(&pool, &quota, f, 4095) == Some(6));
-    assert_eq!(rt; tag_at(&pool, &quota, f, 255), Some(9));
+    let none = fill_if(&mut pool, &quota, None, 5);
+    let before = is_all(&pool, &quota, g, 0, 0) && has_bytes(&pool, &quota, f, &[(0, 0)]);
+    let some = fill_if(&mut pool, &quota, Some(f), 6);
+    let after = is_all(&pool, &quota, g, 0, 0) && has_bytes(&pool, &quota, f, &[(4095, 6)]);
+    assert!(rt; !none && before && some && after && has_tags(&pool, &quota, f, &[(255, 9)]));
     Ok(())
 }
+
+const AFTER_RUNS: [(usize, u8); 12] = [
+    (0, 0),
+    (2, 0),
+    (3, 5),
+    (4, 5),
+    (8, 5),
+    (9, 0),
+    (10, 6),
+    (11, 7),
+    (12, 0),
+    (252, 0),
+    (253, 8),
+    (255, 8),
+];
 
 /// Runs with odd ends, within one byte, and none at all.
 #[test]
@@ -227,22 +257,6 @@ fn runs_of_tags(rt: HostRuntime) -> Result<(), Fail> {
     for (first, count, tag) in [(3, 6, 5), (10, 1, 6), (11, 1, 7), (253, 3, 8), (0, 0, 9)] {
         mark_run(&mut pool, &quota, f, first, count, tag);
     }
-    let tags = [
-        (0, 0),
-        (2, 0),
-        (3, 5),
-        (4, 5),
-        (8, 5),
-        (9, 0),
-        (10, 6),
-        (11, 7),
-        (12, 0),
-        (252, 0),
-        (253, 8),
-        (255, 8),
-    ];
-    for (at, tag) in tags {
-        assert_eq!(rt; tag_at(&pool, &quota, f, at), Some(tag), "granule {at}");
-    }
+    assert!(rt; has_tags(&pool, &quota, f, &AFTER_RUNS));
     Ok(())
 }

@@ -168,10 +168,15 @@ fn fetches(rt: HostRuntime) -> Result<(), Fail> {
     let mut memory = Flat::new(rt.alloc(), 1, TagMode::Sync)?;
     assert_eq!(rt; memory.map_pages(16, 1, Attrs::TEXT), Ok(()));
     let unaligned = fault(FaultKind::PcAlignment, 0x10001, false, 0, 0);
-    assert_eq!(rt; memory.fetch(0x10001), Err(unaligned));
     let missing = fault(FaultKind::Translation, 0x11000, false, 0, 0);
-    assert_eq!(rt; memory.fetch(0x11000), Err(missing));
-    assert_eq!(rt; memory.fetch(0x10000), Ok(0));
+    assert_eq!(rt;
+        [
+            memory.fetch(0x10001),
+            memory.fetch(0x11000),
+            memory.fetch(0x10000),
+        ],
+        [Err(unaligned), Err(missing), Ok(0)]
+    );
     let refused = fault(FaultKind::Permission, 0x10ffc, true, 3, 0);
     assert_eq!(rt;
         memory.write(0x0300_0000_0001_0ffc, &[1; 4], true),
@@ -186,11 +191,8 @@ fn loading(rt: HostRuntime) -> Result<(), Fail> {
     memory.map_pages(16, 2, Attrs::READ)?;
     memory.load_bytes(0x0400_0000_0001_0FFC, &[1, 2, 3, 4, 5, 6, 7, 8]);
     let mut bytes = [0u8; 8];
-    assert_eq!(rt;
-        memory.read(0x0400_0000_0001_0FFC, &mut bytes, true),
-        Ok(())
-    );
-    assert_eq!(rt; bytes, [1, 2, 3, 4, 5, 6, 7, 8]);
+    let read = memory.read(0x0400_0000_0001_0FFC, &mut bytes, true);
+    assert_eq!(rt; (read, bytes), (Ok(()), [1, 2, 3, 4, 5, 6, 7, 8]));
     Ok(())
 }
 
@@ -213,9 +215,11 @@ fn mapping_again(rt: HostRuntime) -> Result<(), Fail> {
     memory.unmap_pages(16, 2);
     assert_eq!(rt; memory.pages_left(), 2);
     memory.map_pages(16, 2, Attrs::DATA)?;
-    assert_eq!(rt; memory.load_tag(0x10FF0), Ok(0));
     let mut bytes = [7u8; 8];
-    assert_eq!(rt; memory.read(0x10FFC, &mut bytes, true), Ok(()));
-    assert_eq!(rt; bytes, [0; 8]);
+    let read = memory.read(0x10FFC, &mut bytes, true);
+    assert_eq!(rt;
+        (memory.load_tag(0x10FF0), read, bytes),
+        (Ok(0), Ok(()), [0; 8])
+    );
     Ok(())
 }

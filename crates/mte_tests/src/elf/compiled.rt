@@ -104,9 +104,10 @@ const CONTENT: [(Call, Answer); 13] = [
 #[test]
 fn compiled_program(rt: HostRuntime) -> Result<(), Fail> {
     let plan = plan(rt.alloc(), &SMALL)?;
-    assert_eq!(rt; plan.entry, 0x10000);
-    assert_eq!(rt; plan.pages, 3);
-    assert_eq!(rt; plan.segments.len(), 2);
+    assert_eq!(rt;
+        (plan.entry, plan.pages, plan.segments.len()),
+        (0x10000, 3, 2)
+    );
     let mut memory = loaded(rt.alloc(), &SMALL)?;
     assert!(rt; answers(&mut memory, &CONTENT));
     Ok(())

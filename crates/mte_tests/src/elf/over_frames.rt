@@ -77,11 +77,14 @@ fn an_image_over_frames(rt: HostRuntime) -> Result<(), Fail> {
     let mut space = Space::new(
         &mut pool, &mut table, &mut quota, &mut tlb, &mut state, 1, PAGES,
     );
-    assert!(rt; load_into(&plan, &file, &mut plain));
-    assert!(rt; load_into(&plan, &file, &mut space));
+    let loaded = [
+        load_into(&plan, &file, &mut plain),
+        load_into(&plan, &file, &mut space),
+    ];
     for page in 0..32 {
         assert!(rt; is_same_page(&mut plain, &mut space, page), "page {page}");
     }
-    assert_eq!(rt; (plain.pages_left(), space.pages_left()), (4, 4));
+    let left = (plain.pages_left(), space.pages_left());
+    assert_eq!(rt; (loaded, left), ([true, true], (4, 4)));
     Ok(())
 }
