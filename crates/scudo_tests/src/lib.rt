@@ -1,5 +1,5 @@
-//! Tests of the heap and its parts, in one crate at the top: a crate with tests of its own would be
-//! proved twice.
+//! Tests of the heap and its parts, of its calls as values, and of its picture, in one crate at the
+//! top: a crate with tests of its own would be proved twice.
 #![tactic(auto)]
 
 #[cfg(test)]
@@ -14,6 +14,10 @@ mod frames;
 mod header;
 #[cfg(test)]
 mod heap;
+#[cfg(test)]
+mod operations;
+#[cfg(test)]
+mod picture;
 #[cfg(test)]
 mod primary;
 #[cfg(test)]
