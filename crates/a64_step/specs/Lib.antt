@@ -18,4 +18,5 @@ pub mod MemoryTagging
 pub mod Steps
 pub mod Fixed
 pub mod Ops
+pub mod OpFamilies
 pub mod Kept
