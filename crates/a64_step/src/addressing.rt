@@ -9,7 +9,7 @@ use a64_bits::plain;
 use mte_tags::{FaultKind, MemFault, tag_of};
 
 /// The target of an access.
-#[derive(Clone, Copy, Debug, PartialEq, Eq)]
+#[derive(Clone, Copy)]
 pub struct Target {
     /// The address with its tag.
     pub address: u64,

@@ -4,7 +4,13 @@ ghost use Rattle.std.specs.Prelude.{◌≡◌, ◌<◌, true};
 ghost use Rattle.a64_asm.specs.Encoding.{IsAllowed};
 ghost use Rattle.a64_step.specs.Registers.{advanced};
 ghost use Rattle.a64_step.specs.Results.{Leaves};
-ghost use Rattle.a64_step.specs.Steps.{executed, is_other_load_or_store, is_system_or_tag};
+ghost use Rattle.a64_step.specs.Steps.{
+  executed,
+  is_branch,
+  is_other_data_processing,
+  is_other_load_or_store,
+  is_system_or_tag,
+};
 
 use crate::add_subtract::{adc_sbc, add_sub_ext, add_sub_imm, add_sub_shift};
 use crate::bitfield::{bitfield, extr};
@@ -53,19 +59,19 @@ pub fn execute<M: Tagged>(instr: &Instr, regs: &mut Regs, memory: &mut M, outcom
         Instr::Extr { sf: 1, rm, imms, rn, rd, .. } => extr(regs, 1, rm, imms, rn, rd),
         Instr::Extr { sf, rm, imms, rn, rd, .. } => extr(regs, sf, rm, imms, rn, rd),
         Instr::Adr { op, immlo, immhi, rd } => adr(regs, op, immlo, immhi, rd),
-        Instr::AdcSbc { sf, op, s, rm, rn, rd } => adc_sbc(regs, sf, op, s, rm, rn, rd),
-        Instr::CondCmp { sf, op, rm, cond, i, rn, nzcv } => cond_cmp(regs, sf, op, rm, cond, i, rn, nzcv),
-        Instr::CondSel { sf, op, rm, cond, o2, rn, rd } => cond_sel(regs, sf, op, rm, cond, o2, rn, rd),
-        Instr::TwoSource { sf, rm, opcode, rn, rd } => two_source(regs, sf, rm, opcode, rn, rd),
-        Instr::OneSource { sf, opcode, rn, rd } => one_source(regs, sf, opcode, rn, rd),
-        Instr::MulAdd { sf, rm, o0, ra, rn, rd } => mul_add(regs, sf, rm, o0, ra, rn, rd),
-        Instr::MulAddLong { u, rm, o0, ra, rn, rd } => mul_add_long(regs, u, rm, o0, ra, rn, rd),
-        Instr::MulHigh { u, rm, rn, rd } => mul_high(regs, u, rm, rn, rd),
-        Instr::Branch { op, imm26 } => branch(regs, op, imm26),
-        Instr::BranchCond { imm19, cond } => branch_cond(regs, imm19, cond),
-        Instr::CmpBranch { sf, op, imm19, rt } => cmp_branch(regs, sf, op, imm19, rt),
-        Instr::TestBranch { b5, op, b40, imm14, rt } => test_branch(regs, b5, op, b40, imm14, rt),
-        Instr::BranchReg { opc, rn } => branch_reg(regs, opc, rn),
+        Instr::Branch { .. }
+        | Instr::BranchCond { .. }
+        | Instr::CmpBranch { .. }
+        | Instr::TestBranch { .. }
+        | Instr::BranchReg { .. } => execute_branch(instr, regs, memory, outcome),
+        Instr::AdcSbc { .. }
+        | Instr::CondCmp { .. }
+        | Instr::CondSel { .. }
+        | Instr::TwoSource { .. }
+        | Instr::OneSource { .. }
+        | Instr::MulAdd { .. }
+        | Instr::MulAddLong { .. }
+        | Instr::MulHigh { .. } => execute_other_data_processing(instr, regs, memory, outcome),
         Instr::LdStImm { size, opc, imm12, rn, rt } => ld_st_imm(regs, memory, size, opc, imm12, rn, rt, outcome),
         Instr::LdStUnscaled { .. }
         | Instr::LdStPost { .. }
@@ -76,6 +82,54 @@ pub fn execute<M: Tagged>(instr: &Instr, regs: &mut Regs, memory: &mut M, outcom
         | Instr::PairOff { .. }
         | Instr::PairPre { .. } => execute_other_load_store(instr, regs, memory, outcome),
         _ => execute_system_or_tag(instr, regs, memory, outcome),
+    }
+}
+
+/// The rows of branches.
+#[rattlefmt::skip]
+#[inline(always)]
+#[tactic(auto, unfolding(crate::specs::Steps::executed))]
+fn execute_branch<M: Tagged>(instr: &Instr, regs: &mut Regs, memory: &mut M, outcome: &mut Outcome)
+    requires allowed { IsAllowed instr.now }
+    requires row { is_branch instr.now ≡ true }
+    requires outcome { outcome.old ≡ Outcome.Next }
+    ensures leaves { Leaves (executed instr.now regs.old (M.memory memory.old))
+        outcome.new regs.new (M.memory memory.new) }
+    ensures kept { M.kept memory.old memory.new }
+{
+    match *instr {
+        Instr::Branch { op, imm26 } => branch(regs, op, imm26),
+        Instr::BranchCond { imm19, cond } => branch_cond(regs, imm19, cond),
+        Instr::CmpBranch { sf, op, imm19, rt } => cmp_branch(regs, sf, op, imm19, rt),
+        Instr::TestBranch { b5, op, b40, imm14, rt } => test_branch(regs, b5, op, b40, imm14, rt),
+        Instr::BranchReg { opc, rn } => branch_reg(regs, opc, rn),
+        _ => {}
+    }
+}
+
+/// The rows of data processing of registers but addition without carry, subtraction, logic and moves
+/// of bits.
+#[rattlefmt::skip]
+#[inline(always)]
+#[tactic(auto, unfolding(crate::specs::Steps::executed))]
+fn execute_other_data_processing<M: Tagged>(instr: &Instr, regs: &mut Regs, memory: &mut M, outcome: &mut Outcome)
+    requires allowed { IsAllowed instr.now }
+    requires row { is_other_data_processing instr.now ≡ true }
+    requires outcome { outcome.old ≡ Outcome.Next }
+    ensures leaves { Leaves (executed instr.now regs.old (M.memory memory.old))
+        outcome.new regs.new (M.memory memory.new) }
+    ensures kept { M.kept memory.old memory.new }
+{
+    match *instr {
+        Instr::AdcSbc { sf, op, s, rm, rn, rd } => adc_sbc(regs, sf, op, s, rm, rn, rd),
+        Instr::CondCmp { sf, op, rm, cond, i, rn, nzcv } => cond_cmp(regs, sf, op, rm, cond, i, rn, nzcv),
+        Instr::CondSel { sf, op, rm, cond, o2, rn, rd } => cond_sel(regs, sf, op, rm, cond, o2, rn, rd),
+        Instr::TwoSource { sf, rm, opcode, rn, rd } => two_source(regs, sf, rm, opcode, rn, rd),
+        Instr::OneSource { sf, opcode, rn, rd } => one_source(regs, sf, opcode, rn, rd),
+        Instr::MulAdd { sf, rm, o0, ra, rn, rd } => mul_add(regs, sf, rm, o0, ra, rn, rd),
+        Instr::MulAddLong { u, rm, o0, ra, rn, rd } => mul_add_long(regs, u, rm, o0, ra, rn, rd),
+        Instr::MulHigh { u, rm, rn, rd } => mul_high(regs, u, rm, rn, rd),
+        _ => {}
     }
 }
 
