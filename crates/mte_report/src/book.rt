@@ -13,7 +13,7 @@ use std::collections::BTreeMap;
 pub const KEPT: usize = 65_536;
 
 /// A heap call that was answered.
-#[derive(Clone, Copy, Debug, PartialEq, Eq)]
+#[derive(Clone, Copy)]
 pub struct Entry {
     /// Its number among the heap calls, from 1.
     pub number: u64,
@@ -26,7 +26,7 @@ pub struct Entry {
 }
 
 /// A chunk that a heap call returned.
-#[derive(Clone, Copy, Debug, PartialEq, Eq)]
+#[derive(Clone, Copy)]
 pub struct Chunk {
     /// The pointer that was returned.
     pub pointer: u64,
@@ -46,7 +46,7 @@ pub struct Book {
 }
 
 /// Which chunk is looked for, by plain addresses.
-#[derive(Clone, Copy, Debug, PartialEq, Eq)]
+#[derive(Clone, Copy)]
 pub enum Wanted {
     /// One whose bytes an address is among.
     Holding(u64),

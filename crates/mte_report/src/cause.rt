@@ -14,7 +14,7 @@ use std::fmt;
 const NEAR: u64 = 65_536;
 
 /// What most likely went wrong.
-#[derive(Clone, Copy, Debug, PartialEq, Eq)]
+#[derive(Clone, Copy)]
 pub enum Cause {
     /// An access so many bytes into a chunk that was freed.
     UseAfterFree(Chunk, u64),
@@ -144,53 +144,66 @@ impl Cause {
             _ => None,
         }
     }
+
+    /// What it is called.
+    fn name(&self) -> &'static str {
+        match self {
+            Cause::UseAfterFree(_, _) => "[MTE]: Use After Free",
+            Cause::StalePointer(_, _, _) => "[MTE]: Use After Free by a stale pointer",
+            Cause::Overflow(_, _) => "[MTE]: Buffer Overflow",
+            Cause::Underflow(_, _) => "[MTE]: Buffer Underflow",
+            Cause::TagsChanged(_) => "the tags were changed",
+            Cause::ForeignPointer(_) => "[MTE]: a pointer of another tag",
+            Cause::NullPointer => "Null Pointer",
+            Cause::StackOverflow(_) => "Stack Overflow",
+            Cause::DoubleFree(_) => "Double Free",
+            Cause::FreedPointer(_) => "Use After Free",
+            Cause::HeaderOverwritten(_) => "Corrupt Header: something was written in front",
+            Cause::InsideChunk(_, _) => "Invalid Pointer",
+            Cause::NoChunk => "Invalid Pointer, which no heap call returned",
+            Cause::Unknown => "unknown",
+        }
+    }
+
+    /// How many bytes lie between what was named and what it belongs to, where that is told.
+    fn distance(&self) -> Option<u64> {
+        match self {
+            Cause::UseAfterFree(_, distance)
+            | Cause::StalePointer(_, distance, _)
+            | Cause::Overflow(_, distance)
+            | Cause::Underflow(_, distance)
+            | Cause::StackOverflow(distance)
+            | Cause::InsideChunk(_, distance) => Some(*distance),
+            _ => None,
+        }
+    }
+
+    /// What stands between its name, or the distance, and the chunk.
+    fn joint(&self) -> &'static str {
+        match self {
+            Cause::UseAfterFree(_, _)
+            | Cause::StalePointer(_, _, _)
+            | Cause::ForeignPointer(_)
+            | Cause::InsideChunk(_, _) => " into a ",
+            Cause::Overflow(_, _) => " right of a ",
+            Cause::Underflow(_, _) => " left of a ",
+            Cause::StackOverflow(_) => " below the stack",
+            Cause::NullPointer | Cause::NoChunk | Cause::Unknown => "",
+            _ => " of a ",
+        }
+    }
 }
 
 impl fmt::Display for Cause {
     fn fmt<W: fmt::Write>(&self, f: &mut fmt::Formatter<W>) -> fmt::Result {
-        match self {
-            Cause::UseAfterFree(chunk, offset) => {
-                let offset = Bytes(*offset);
-                write!(f, "[MTE]: Use After Free, {offset} into a {chunk}")
-            }
-            Cause::StalePointer(chunk, offset, _) => {
-                let offset = Bytes(*offset);
-                write!(
-                    f,
-                    "[MTE]: Use After Free by a stale pointer, {offset} into a {chunk}"
-                )
-            }
-            Cause::Overflow(chunk, past) => {
-                let past = Bytes(*past);
-                write!(f, "[MTE]: Buffer Overflow, {past} right of a {chunk}")
-            }
-            Cause::Underflow(chunk, before) => {
-                let before = Bytes(*before);
-                write!(f, "[MTE]: Buffer Underflow, {before} left of a {chunk}")
-            }
-            Cause::TagsChanged(chunk) => write!(f, "the tags were changed of a {chunk}"),
-            Cause::ForeignPointer(chunk) => {
-                write!(f, "[MTE]: a pointer of another tag into a {chunk}")
-            }
-            Cause::NullPointer => f.write_str("Null Pointer"),
-            Cause::StackOverflow(below) => {
-                let below = Bytes(*below);
-                write!(f, "Stack Overflow, {below} below the stack")
-            }
-            Cause::DoubleFree(chunk) => write!(f, "Double Free of a {chunk}"),
-            Cause::FreedPointer(chunk) => write!(f, "Use After Free of a {chunk}"),
-            Cause::HeaderOverwritten(chunk) => {
-                write!(
-                    f,
-                    "Corrupt Header: something was written in front of a {chunk}"
-                )
-            }
-            Cause::InsideChunk(chunk, offset) => {
-                let offset = Bytes(*offset);
-                write!(f, "Invalid Pointer, {offset} into a {chunk}")
-            }
-            Cause::NoChunk => f.write_str("Invalid Pointer, which no heap call returned"),
-            Cause::Unknown => f.write_str("unknown"),
+        f.write_str(self.name())?;
+        if let Some(distance) = self.distance() {
+            write!(f, ", {}", Bytes(distance))?;
+        }
+        f.write_str(self.joint())?;
+        match self.chunk() {
+            Some(chunk) => chunk.fmt(f),
+            None => Ok(()),
         }
     }
 }

@@ -7,7 +7,7 @@ use heap_picture::{GRANULES, Owner, Row};
 pub const ROW_SIZE: u64 = GRANULES as u64 * GRANULE_SIZE;
 
 /// The granules of a chunk.
-#[derive(Clone, Copy, Debug, PartialEq, Eq)]
+#[derive(Clone, Copy)]
 pub struct Extent {
     /// The first plain address.
     pub start: u64,

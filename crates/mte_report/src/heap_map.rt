@@ -1,6 +1,7 @@
 //! The heap and its tags at the end of a tenant, as a picture.
 
 use crate::cause::Cause;
+use crate::extent::Extent;
 use crate::owner::Range;
 use crate::pages::{Pages, page_map};
 use crate::report::Report;
@@ -12,6 +13,7 @@ use mte_flat::Flat;
 use mte_sched::Status;
 use mte_tags::tag_of;
 use std::alloc::{AllocError, Global};
+use std::fmt::Display;
 use std::io::Write;
 use std::{fmt, io};
 
@@ -27,48 +29,142 @@ impl<'a> Report<'a> {
         title: &str,
         memory: &mut Flat,
     ) -> io::Result<()> {
-        let mark = mark_of(&self.parts.account.status);
-        let addr = mark.map(|mark| mark.addr);
         let map = page_map(alloc, memory)?;
+        self.draw_chunks(alloc, out, title, memory, map.as_slice())
+    }
+
+    /// Draws the chunks on the pages of a map.
+    fn draw_chunks<W: Write>(
+        &self,
+        alloc: Global,
+        out: &mut W,
+        title: &str,
+        memory: &mut Flat,
+        map: &[Pages],
+    ) -> io::Result<()> {
         let extents = self.book.extents(alloc)?;
-        let (map, extents) = (map.as_slice(), extents.as_slice());
-        let places = places(alloc, memory, map, extents, addr)?;
-        let window = Window::around(places.as_slice(), addr);
-        let title = Title {
-            name: title,
-            ending: Ending(self),
-            shown: window.shown(places.as_slice()),
-            rows: places.len(),
+        let scene = Scene {
+            title,
+            map,
+            extents: extents.as_slice(),
+            mark: mark_of(&self.parts.account.status),
         };
-        write_heading(alloc, out, &title, map, window.count)?;
-        for place in &places {
-            if let Some(number) = window.number(place) {
-                let row = row_at(memory, extents, place.address);
-                let line = Line { row, number, mark };
-                write!(out, "{line}")?;
-            }
-        }
-        write!(out, "{END}")?;
-        out.flush()
+        self.draw_scene(alloc, out, memory, &scene)
+    }
+
+    /// Draws the rows of a scene, under their heading.
+    fn draw_scene<W: Write>(
+        &self,
+        alloc: Global,
+        out: &mut W,
+        memory: &mut Flat,
+        scene: &Scene<'_>,
+    ) -> io::Result<()> {
+        let addr = scene.mark.map(|mark| mark.addr);
+        let places = places(alloc, memory, scene.map, scene.extents, addr)?;
+        let rows = Rows {
+            scene,
+            places: places.as_slice(),
+            window: Window::around(places.as_slice(), addr),
+        };
+        self.write_heading(alloc, out, &rows)?;
+        rows.write(out, memory)
+    }
+
+    /// Writes what stands above the rows of a picture.
+    fn write_heading<W: Write>(
+        &self,
+        alloc: Global,
+        out: &mut W,
+        rows: &Rows<'_>,
+    ) -> io::Result<()> {
+        let title = Title {
+            name: rows.scene.title,
+            ending: Ending(self),
+            left_out: rows.left_out(),
+        };
+        let title = format!(in alloc; "{title}")?;
+        write_titled(
+            alloc,
+            out,
+            title.as_str(),
+            rows.scene.map,
+            rows.window.count,
+        )
     }
 }
 
-/// Writes what stands above a number of rows.
-fn write_heading<W: Write>(
+/// Writes what stands above a number of rows, under a title.
+fn write_titled<W: Write>(
     alloc: Global,
     out: &mut W,
-    title: &Title<'_>,
+    title: &str,
     map: &[Pages],
     rows: usize,
 ) -> io::Result<()> {
-    let title = format!(in alloc; "{title}")?;
     let pages = listed(alloc, map)?;
     let heading = Heading {
-        title: title.as_str(),
+        title,
         pages: pages.as_slice(),
         rows,
     };
     write!(out, "{heading}")
+}
+
+/// What a picture is of.
+#[derive(Clone, Copy)]
+struct Scene<'a> {
+    /// What was run.
+    title: &'a str,
+    /// The page map.
+    map: &'a [Pages],
+    /// The granules of the chunks.
+    extents: &'a [Extent],
+    /// What is framed.
+    mark: Option<Mark>,
+}
+
+/// The rows of a picture.
+#[derive(Clone, Copy)]
+struct Rows<'a> {
+    /// What it is of.
+    scene: &'a Scene<'a>,
+    /// The rows that may be shown.
+    places: &'a [Place],
+    /// Those that are.
+    window: Window,
+}
+
+impl<'a> Rows<'a> {
+    /// How many of them are shown, where not all are.
+    fn left_out(&self) -> LeftOut {
+        LeftOut {
+            shown: self.window.shown(self.places),
+            rows: self.places.len(),
+        }
+    }
+
+    /// Writes those that are shown, and the end of the picture.
+    fn write<W: Write>(&self, out: &mut W, memory: &mut Flat) -> io::Result<()> {
+        for place in self.places {
+            self.write_row(out, memory, place)?;
+        }
+        write!(out, "{END}")?;
+        out.flush()
+    }
+
+    /// Writes a row, if it is shown.
+    fn write_row<W: Write>(&self, out: &mut W, memory: &mut Flat, place: &Place) -> io::Result<()> {
+        let Some(number) = self.window.number(place) else {
+            return Ok(());
+        };
+        let line = Line {
+            row: row_at(memory, self.scene.extents, place.address),
+            number,
+            mark: self.scene.mark,
+        };
+        write!(out, "{line}")
+    }
 }
 
 /// The pages as a picture lists them.
@@ -121,20 +217,37 @@ struct Title<'a> {
     name: &'a str,
     /// What ended it.
     ending: Ending<'a>,
+    /// How many rows are shown, where not all are.
+    left_out: LeftOut,
+}
+
+impl<'a> fmt::Display for Title<'a> {
+    fn fmt<W: fmt::Write>(&self, f: &mut fmt::Formatter<W>) -> fmt::Result {
+        let Title {
+            name,
+            ending,
+            left_out,
+        } = self;
+        write!(f, "{name}: {ending}{left_out}")
+    }
+}
+
+/// How many rows are shown, where not all are.
+#[derive(Clone, Copy)]
+struct LeftOut {
     /// How many rows are shown.
     shown: usize,
     /// How many rows there are.
     rows: usize,
 }
 
-impl<'a> fmt::Display for Title<'a> {
+impl fmt::Display for LeftOut {
     fn fmt<W: fmt::Write>(&self, f: &mut fmt::Formatter<W>) -> fmt::Result {
-        let (name, ending) = (self.name, self.ending);
-        write!(f, "{name}: {ending}")?;
-        if self.shown < self.rows {
-            write!(f, " ({} of {} rows)", self.shown, self.rows)?;
+        let LeftOut { shown, rows } = self;
+        if shown >= rows {
+            return Ok(());
         }
-        Ok(())
+        write!(f, " ({shown} of {rows} rows)")
     }
 }
 
@@ -145,17 +258,24 @@ struct Ending<'a>(&'a Report<'a>);
 impl<'a> fmt::Display for Ending<'a> {
     fn fmt<W: fmt::Write>(&self, f: &mut fmt::Formatter<W>) -> fmt::Result {
         let Report { parts, book, .. } = self.0;
-        match parts.account.status {
+        match &parts.account.status {
             Status::Exited(code) => write!(f, "exit {code}"),
-            Status::Faulted(_, _) | Status::Aborted(_, _, _) => {
-                let cause = Cause::of(book, &parts.account.status, parts.regs.x[8]);
-                write!(f, "{cause}")
-            }
-            Status::Illegal(_, _) => f.write_str("a word that is no instruction"),
-            Status::Breakpoint(_, _) => f.write_str("breakpoint"),
-            Status::AsyncTag(_) => f.write_str("an access had another tag than its memory"),
-            Status::Running => f.write_str("still running"),
-            Status::Stopped => f.write_str("stopped"),
+            status => match ending_words(status) {
+                Some(words) => f.write_str(words),
+                None => Cause::of(book, status, parts.regs.x[8]).fmt(f),
+            },
         }
+    }
+}
+
+/// What a status is called; none where an exit code or a cause tells more.
+fn ending_words(status: &Status) -> Option<&'static str> {
+    match status {
+        Status::Exited(_) | Status::Faulted(_, _) | Status::Aborted(_, _, _) => None,
+        Status::Illegal(_, _) => Some("a word that is no instruction"),
+        Status::Breakpoint(_, _) => Some("breakpoint"),
+        Status::AsyncTag(_) => Some("an access had another tag than its memory"),
+        Status::Running => Some("still running"),
+        Status::Stopped => Some("stopped"),
     }
 }

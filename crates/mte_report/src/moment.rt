@@ -11,6 +11,7 @@ use mte_svc::{
 };
 use mte_tags::tag_of;
 use std::fmt;
+use std::fmt::Display;
 
 /// What stood before an instruction was attempted.
 #[derive(Clone, Copy, Debug, PartialEq, Eq)]
@@ -35,24 +36,46 @@ pub struct Line<'a> {
 impl<'a> fmt::Display for Line<'a> {
     fn fmt<W: fmt::Write>(&self, f: &mut fmt::Formatter<W>) -> fmt::Result {
         let Moment { step, word, regs } = self.moment;
-        write!(f, "{step:>9}  {:#018x}  ", regs.pc)?;
+        let pc = regs.pc;
         let Some(word) = *word else {
-            return f.write_str("--------");
+            return write!(f, "{step:>9}  {pc:#018x}  --------");
         };
-        let instruction = Instruction { word, pc: regs.pc };
-        write!(f, "{word:08x}  {instruction}")?;
-        if regs == self.after {
-            return Ok(());
-        }
-        let changes = Changes {
+        let instruction = Instruction { word, pc };
+        let effect = Effect {
+            word,
             before: regs,
             after: self.after,
         };
-        write!(f, "{changes}")?;
-        if let Some(stored) = decode(word).and_then(|instr| Stored::of(&instr, regs)) {
-            write!(f, "; {stored}")?;
+        write!(
+            f,
+            "{step:>9}  {pc:#018x}  {word:08x}  {instruction}{effect}"
+        )
+    }
+}
+
+/// What an instruction changed; nothing where it did not complete.
+#[derive(Clone, Copy)]
+struct Effect<'a> {
+    word: u32,
+    before: &'a Regs,
+    after: &'a Regs,
+}
+
+impl<'a> fmt::Display for Effect<'a> {
+    fn fmt<W: fmt::Write>(&self, f: &mut fmt::Formatter<W>) -> fmt::Result {
+        let Effect {
+            word,
+            before,
+            after,
+        } = *self;
+        if before == after {
+            return Ok(());
         }
-        Ok(())
+        let changes = Changes { before, after };
+        match Stored::by(word, before) {
+            Some(stored) => write!(f, "{changes}; {stored}"),
+            None => changes.fmt(f),
+        }
     }
 }
 
@@ -70,11 +93,25 @@ impl<'a> fmt::Display for Service<'a> {
         let Regs { x, .. } = self.before;
         let (number, first, second) = (x[8], x[0], x[1]);
         let name = service_name(number);
-        write!(f, "service {number} {name}, x0 {first:#x}, x1 {second:#x}")?;
-        if self.before.pc == self.after.pc {
+        let answer = Answer(*self);
+        write!(
+            f,
+            "service {number} {name}, x0 {first:#x}, x1 {second:#x}{answer}"
+        )
+    }
+}
+
+/// The result of a service.
+#[derive(Clone, Copy)]
+struct Answer<'a>(Service<'a>);
+
+impl<'a> fmt::Display for Answer<'a> {
+    fn fmt<W: fmt::Write>(&self, f: &mut fmt::Formatter<W>) -> fmt::Result {
+        let Service { before, after } = self.0;
+        if before.pc == after.pc {
             return f.write_str(", which ends it");
         }
-        write!(f, " = {:#x}", self.after.x[0])
+        write!(f, " = {:#x}", after.x[0])
     }
 }
 
@@ -106,24 +143,61 @@ struct Changes<'a> {
 
 impl<'a> fmt::Display for Changes<'a> {
     fn fmt<W: fmt::Write>(&self, f: &mut fmt::Formatter<W>) -> fmt::Result {
-        let Changes { before, after } = self;
-        for (n, (old, new)) in before.x.iter().zip(after.x.iter()).enumerate() {
-            if old != new {
-                write!(f, "; x{n} {old:#x} -> {new:#x}")?;
-            }
-        }
-        if before.sp != after.sp {
-            write!(f, "; sp {:#x} -> {:#x}", before.sp, after.sp)?;
-        }
-        if before.flags != after.flags {
-            let (old, new) = (Nzcv(before.flags), Nzcv(after.flags));
-            write!(f, "; flags {old} -> {new}")?;
-        }
-        if before.rgsr != after.rgsr {
-            write!(f, "; rgsr tag {} -> {}", before.rgsr.tag, after.rgsr.tag)?;
+        self.write_numbered(f)?;
+        self.write_sp(f)?;
+        self.write_flags(f)?;
+        self.write_generator(f)
+    }
+}
+
+impl<'a> Changes<'a> {
+    /// Writes those of the numbered registers.
+    fn write_numbered<W: fmt::Write>(&self, f: &mut fmt::Formatter<W>) -> fmt::Result {
+        for (n, (old, new)) in self.before.x.iter().zip(self.after.x.iter()).enumerate() {
+            write_change(f, n, *old, *new)?;
         }
         Ok(())
     }
+
+    /// Writes that of SP.
+    fn write_sp<W: fmt::Write>(&self, f: &mut fmt::Formatter<W>) -> fmt::Result {
+        let (old, new) = (self.before.sp, self.after.sp);
+        if old == new {
+            return Ok(());
+        }
+        write!(f, "; sp {old:#x} -> {new:#x}")
+    }
+
+    /// Writes that of the flags.
+    fn write_flags<W: fmt::Write>(&self, f: &mut fmt::Formatter<W>) -> fmt::Result {
+        if self.before.flags == self.after.flags {
+            return Ok(());
+        }
+        let (old, new) = (Nzcv(self.before.flags), Nzcv(self.after.flags));
+        write!(f, "; flags {old} -> {new}")
+    }
+
+    /// Writes that of the generator's tag, also where its seed alone differs.
+    fn write_generator<W: fmt::Write>(&self, f: &mut fmt::Formatter<W>) -> fmt::Result {
+        let (old, new) = (&self.before.rgsr, &self.after.rgsr);
+        if old == new {
+            return Ok(());
+        }
+        write!(f, "; rgsr tag {} -> {}", old.tag, new.tag)
+    }
+}
+
+/// Writes that of a numbered register.
+fn write_change<W: fmt::Write>(
+    f: &mut fmt::Formatter<W>,
+    n: usize,
+    old: u64,
+    new: u64,
+) -> fmt::Result {
+    if old == new {
+        return Ok(());
+    }
+    write!(f, "; x{n} {old:#x} -> {new:#x}")
 }
 
 /// The flags: a capital letter for each that is set.
@@ -133,15 +207,19 @@ pub struct Nzcv(pub Flags);
 impl fmt::Display for Nzcv {
     fn fmt<W: fmt::Write>(&self, f: &mut fmt::Formatter<W>) -> fmt::Result {
         let Flags { n, z, c, v } = self.0;
-        f.write_str(if n { "N" } else { "n" })?;
-        f.write_str(if z { "Z" } else { "z" })?;
-        f.write_str(if c { "C" } else { "c" })?;
-        f.write_str(if v { "V" } else { "v" })
+        let (n, z) = (either(n, "N", "n"), either(z, "Z", "z"));
+        let (c, v) = (either(c, "C", "c"), either(v, "V", "v"));
+        write!(f, "{n}{z}{c}{v}")
     }
 }
 
+/// The text of a flag, by whether it is set.
+fn either(flag: bool, set: &'static str, clear: &'static str) -> &'static str {
+    if flag { set } else { clear }
+}
+
 /// What a store leaves in memory.
-#[derive(Clone, Copy, Debug, PartialEq, Eq)]
+#[derive(Clone, Copy)]
 enum Stored {
     /// So many bytes of a register at an address.
     One {
@@ -165,6 +243,11 @@ enum Stored {
 }
 
 impl Stored {
+    /// What the instruction with a word stores, by the registers before it.
+    fn by(word: u32, regs: &Regs) -> Option<Stored> {
+        Stored::of(&decode(word)?, regs)
+    }
+
     /// What an instruction stores, by the registers before it.
     fn of(instr: &Instr, regs: &Regs) -> Option<Stored> {
         match *instr {

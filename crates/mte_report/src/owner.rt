@@ -9,7 +9,7 @@ use scudo_header::{CLASSES, size_of_class};
 use std::fmt;
 
 /// What a range of addresses is for.
-#[derive(Clone, Copy, Debug, PartialEq, Eq)]
+#[derive(Clone, Copy, PartialEq, Eq)]
 pub enum Range {
     /// An image's segments.
     Image,
@@ -55,7 +55,7 @@ impl fmt::Display for Range {
 }
 
 /// A block of a size class.
-#[derive(Clone, Copy, Debug, PartialEq, Eq)]
+#[derive(Clone, Copy)]
 pub struct Block {
     /// The class.
     pub class: u8,
@@ -82,7 +82,7 @@ impl Block {
 }
 
 /// Whose granule an address is in.
-#[derive(Clone, Copy, Debug, PartialEq, Eq)]
+#[derive(Clone, Copy)]
 pub struct Owner {
     /// Its plain address.
     pub addr: u64,
@@ -94,31 +94,43 @@ pub struct Owner {
 
 impl fmt::Display for Owner {
     fn fmt<W: fmt::Write>(&self, f: &mut fmt::Formatter<W>) -> fmt::Result {
-        let addr = self.addr;
-        write!(f, "{addr:#018x} is in ")?;
-        if let Some(block) = Block::of(addr) {
-            let Block { class, start, size } = block;
-            write!(f, "the block of {size} bytes at {start:#x} (class {class})")?;
-        } else {
-            write!(f, "the range of: {}", Range::of(addr))?;
-        }
-        if !self.mapped {
-            f.write_str(", in no mapped page")?;
-        }
-        match &self.chunk {
-            Some(chunk) => {
-                let state = if chunk.freed.is_some() {
-                    "freed"
-                } else {
-                    "live"
-                };
-                let from_start = addr.saturating_sub(chunk.start());
-                write!(
-                    f,
-                    ", {from_start} bytes from the start of a {state} {chunk}"
-                )
+        let Owner { addr, mapped, .. } = *self;
+        let (spot, inside) = (Spot(addr), Inside(self));
+        let page = if mapped { "" } else { ", in no mapped page" };
+        write!(f, "{addr:#018x} is in {spot}{page}, {inside}")
+    }
+}
+
+/// The block that an address is in, or what its range is for.
+#[derive(Clone, Copy)]
+struct Spot(u64);
+
+impl fmt::Display for Spot {
+    fn fmt<W: fmt::Write>(&self, f: &mut fmt::Formatter<W>) -> fmt::Result {
+        match Block::of(self.0) {
+            Some(Block { class, start, size }) => {
+                write!(f, "the block of {size} bytes at {start:#x} (class {class})")
             }
-            None => f.write_str(", of no chunk"),
+            None => write!(f, "the range of: {}", Range::of(self.0)),
         }
+    }
+}
+
+/// Where in its chunk an address is.
+#[derive(Clone, Copy)]
+struct Inside<'a>(&'a Owner);
+
+impl<'a> fmt::Display for Inside<'a> {
+    fn fmt<W: fmt::Write>(&self, f: &mut fmt::Formatter<W>) -> fmt::Result {
+        let Some(chunk) = &self.0.chunk else {
+            return f.write_str("of no chunk");
+        };
+        let state = if chunk.freed.is_some() {
+            "freed"
+        } else {
+            "live"
+        };
+        let from_start = self.0.addr.saturating_sub(chunk.start());
+        write!(f, "{from_start} bytes from the start of a {state} {chunk}")
     }
 }

@@ -1,12 +1,14 @@
 //! The page map.
 
 use crate::owner::Range;
+use crate::words::Letters;
 use address_map::{ADDRESS_END, PAGE_SIZE};
 use mte_tags::{Attrs, Tagged};
 use std::alloc::{AllocError, Global};
+use std::fmt;
 
 /// Pages one after another in one range, with the same attributes.
-#[derive(Clone, Copy, Debug, PartialEq, Eq)]
+#[derive(Clone, Copy)]
 pub struct Pages {
     /// The first address.
     pub start: u64,
@@ -18,24 +20,37 @@ pub struct Pages {
     pub range: Range,
 }
 
+impl fmt::Display for Pages {
+    fn fmt<W: fmt::Write>(&self, f: &mut fmt::Formatter<W>) -> fmt::Result {
+        let Pages { start, range, .. } = self;
+        let (last, letters) = (self.end.wrapping_sub(1), Letters(self.attrs));
+        write!(f, "{start:#010x} to {last:#010x}  {letters}  {range}")
+    }
+}
+
 /// All pages of a memory, the lowest first.
 pub fn page_map<M: Tagged>(alloc: Global, memory: &mut M) -> Result<Vec<Pages>, AllocError> {
     let mut map: Vec<Pages> = Vec::new(alloc);
     for number in 0..ADDRESS_END / PAGE_SIZE {
         let start = number * PAGE_SIZE;
         if let Some(attrs) = attrs_at(memory, start) {
-            let page = Pages {
-                start,
-                end: start + PAGE_SIZE,
-                attrs,
-                range: Range::of(start),
-            };
+            let page = page_of(start, attrs);
             if !extend(map.as_mut_slice(), &page) {
                 map.push(page)?;
             }
         }
     }
     Ok(map)
+}
+
+/// The page at an address.
+fn page_of(start: u64, attrs: Attrs) -> Pages {
+    Pages {
+        start,
+        end: start.saturating_add(PAGE_SIZE),
+        attrs,
+        range: Range::of(start),
+    }
 }
 
 /// Lengthens the last pages by one that follows them and is like them, and returns whether it did.

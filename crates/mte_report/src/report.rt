@@ -1,11 +1,11 @@
 //! What happened to a tenant that did not exit, in words.
 
-use crate::book::{Book, Chunk, Wanted};
+use crate::book::{Book, Chunk, Entry, Wanted};
 use crate::cause::Cause;
 use crate::moment::{Line, Moment, Nzcv};
 use crate::owner::{Owner, Range};
 use crate::pages::{Pages, attrs_at, page_map};
-use crate::words::{Call, Instruction, Letters, abort_words, fault_words};
+use crate::words::{Call, Instruction, abort_words, fault_words};
 use a64_bits::plain;
 use a64_step::Regs;
 use address_map::GRANULE_SIZE;
@@ -13,10 +13,11 @@ use circular_buffer::HeapCircularBuffer;
 use elf_symbols::{Place, Symbols};
 use mte_flat::Flat;
 use mte_sched::{Status, TenantParts};
-use mte_tags::{FaultKind, Tagged};
+use mte_tags::{FaultKind, MemFault, Tagged};
+use scudo_heap::HeapAbort;
 use std::alloc::Global;
-use std::io;
 use std::io::Write;
+use std::{fmt, io};
 
 /// How many granules are shown in front of an address, and how many from it on.
 const GRANULES: u64 = 8;
@@ -39,120 +40,209 @@ pub struct Report<'a> {
 impl<'a> Report<'a> {
     /// Writes what happened, the cause first.
     pub fn write<W: Write>(&self, alloc: Global, out: &mut W, memory: &mut Flat) -> io::Result<()> {
-        write!(out, "mte_run: ")?;
-        let account = &self.parts.account;
-        let place = self.symbols.place(self.parts.regs.pc);
-        tell_status(out, &account.status, place, account.steps, self.limit)?;
-        tell_cause(out, self)?;
+        self.write_end(out)?;
         tell_place(out, self, memory)?;
-        tell_registers(out, &self.parts.regs, place, memory)?;
-        tell_pages(alloc, out, memory)?;
-        if let Some(last) = self.last {
-            tell_last(out, last, &self.parts.regs)?;
-        }
+        self.write_machine(alloc, out, memory)?;
         out.flush()
+    }
+
+    /// Writes what ended it, and why.
+    fn write_end<W: Write>(&self, out: &mut W) -> io::Result<()> {
+        write!(out, "mte_run: ")?;
+        tell_status(out, self)?;
+        tell_cause(out, self)
+    }
+
+    /// Writes the registers, the pages and the last instructions.
+    fn write_machine<W: Write>(
+        &self,
+        alloc: Global,
+        out: &mut W,
+        memory: &mut Flat,
+    ) -> io::Result<()> {
+        let regs = &self.parts.regs;
+        tell_instruction(out, self.here(), memory)?;
+        tell_registers(out, regs)?;
+        tell_pages(alloc, out, memory)?;
+        match self.last {
+            Some(last) => tell_last(out, last, regs),
+            None => Ok(()),
+        }
+    }
+
+    /// The next instruction's address.
+    fn here(&self) -> At<'a> {
+        self.at(self.parts.regs.pc)
+    }
+
+    /// An address, at the place of the next instruction.
+    fn at(&self, pc: u64) -> At<'a> {
+        let place = self.symbols.place(self.parts.regs.pc);
+        At { pc, place }
+    }
+}
+
+/// An instruction's address and its place.
+#[derive(Clone, Copy)]
+struct At<'a> {
+    pc: u64,
+    place: Place<'a>,
+}
+
+impl<'a> fmt::Display for At<'a> {
+    fn fmt<W: fmt::Write>(&self, f: &mut fmt::Formatter<W>) -> fmt::Result {
+        let At { pc, place } = self;
+        write!(f, "{pc:#018x}{place}")
     }
 }
 
 /// What ended it.
-fn tell_status<W: Write>(
-    out: &mut W,
-    status: &Status,
-    place: Place<'_>,
-    steps: u64,
-    limit: u64,
-) -> io::Result<()> {
-    match status {
+fn tell_status<W: Write>(out: &mut W, report: &Report<'_>) -> io::Result<()> {
+    match &report.parts.account.status {
         Status::Exited(code) => writeln!(out, "it exited with {code}"),
-        Status::Faulted(fault, pc) => {
-            let access = if fault.write { "write" } else { "read" };
-            let (addr, why) = (fault.addr, fault_words(fault.kind));
-            let kind = fault.kind;
-            write!(
-                out,
-                "fault {kind:?}: a {access} at {addr:#018x} by the instruction at "
-            )?;
-            write!(out, "{pc:#018x}{place}: {why}")?;
-            match fault.kind {
-                FaultKind::TagCheck => {
-                    writeln!(
-                        out,
-                        " (pointer {}, memory {})",
-                        fault.ptr_tag, fault.mem_tag
-                    )
-                }
-                _ => writeln!(out),
-            }
-        }
-        Status::Illegal(word, pc) => {
-            writeln!(
-                out,
-                "illegal word {word:#010x} at {pc:#018x}{place}: no instruction of the table"
-            )
-        }
-        Status::Breakpoint(number, pc) => writeln!(out, "breakpoint {number} at {pc:#018x}{place}"),
-        Status::AsyncTag(pc) => {
-            writeln!(
-                out,
-                "an access before {pc:#018x} had another tag than its memory"
-            )?;
-            writeln!(out, "without --async the tenant faults at that access")
-        }
-        Status::Aborted(abort, pointer, pc) => {
-            let why = abort_words(*abort);
-            write!(
-                out,
-                "abort {abort}: the pointer {pointer:#018x}, handed to the heap by the "
-            )?;
-            writeln!(out, "SVC at {pc:#018x}{place}, is refused: {why}")
-        }
-        Status::Running if steps >= limit => {
-            writeln!(
-                out,
-                "the limit of {limit} steps is reached (--steps gives it more)"
-            )
-        }
-        Status::Running => writeln!(out, "still running after its slices"),
+        Status::Faulted(fault, pc) => tell_fault(out, fault, report.at(*pc)),
+        Status::Illegal(word, pc) => tell_illegal(out, *word, report.at(*pc)),
+        Status::Breakpoint(number, pc) => tell_breakpoint(out, *number, report.at(*pc)),
+        Status::AsyncTag(pc) => tell_async(out, *pc),
+        Status::Aborted(abort, pointer, pc) => { tell_abort(out, *abort, *pointer, report.at(*pc)) }
+        Status::Running => tell_running(out, report),
         Status::Stopped => writeln!(out, "stopped"),
+    }
+}
+
+/// An access that failed, of the instruction at an address.
+fn tell_fault<W: Write>(out: &mut W, fault: &MemFault, at: At<'_>) -> io::Result<()> {
+    let MemFault { addr, kind, .. } = fault;
+    let access = if fault.write { "write" } else { "read" };
+    write!(
+        out,
+        "fault {kind:?}: a {access} at {addr:#018x} by the instruction at "
+    )?;
+    let (why, tags) = (fault_words(*kind), Tags(fault));
+    writeln!(out, "{at}: {why}{tags}")
+}
+
+/// The tags that differ, where they are the fault.
+#[derive(Clone, Copy)]
+struct Tags<'a>(&'a MemFault);
+
+impl<'a> fmt::Display for Tags<'a> {
+    fn fmt<W: fmt::Write>(&self, f: &mut fmt::Formatter<W>) -> fmt::Result {
+        let MemFault {
+            kind,
+            ptr_tag,
+            mem_tag,
+            ..
+        } = self.0;
+        match kind {
+            FaultKind::TagCheck => write!(f, " (pointer {ptr_tag}, memory {mem_tag})"),
+            _ => Ok(()),
+        }
+    }
+}
+
+/// A word at an address that is no instruction.
+fn tell_illegal<W: Write>(out: &mut W, word: u32, at: At<'_>) -> io::Result<()> {
+    writeln!(
+        out,
+        "illegal word {word:#010x} at {at}: no instruction of the table"
+    )
+}
+
+/// A breakpoint at an address.
+fn tell_breakpoint<W: Write>(out: &mut W, number: u16, at: At<'_>) -> io::Result<()> {
+    writeln!(out, "breakpoint {number} at {at}")
+}
+
+/// A tag that differed before an address.
+fn tell_async<W: Write>(out: &mut W, pc: u64) -> io::Result<()> {
+    writeln!(
+        out,
+        "an access before {pc:#018x} had another tag than its memory"
+    )?;
+    writeln!(out, "without --async the tenant faults at that access")
+}
+
+/// A pointer that the heap refused, from the SVC at an address.
+fn tell_abort<W: Write>(out: &mut W, abort: HeapAbort, pointer: u64, at: At<'_>) -> io::Result<()> {
+    let why = abort_words(abort);
+    write!(
+        out,
+        "abort {abort}: the pointer {pointer:#018x}, handed to the heap by the "
+    )?;
+    writeln!(out, "SVC at {at}, is refused: {why}")
+}
+
+/// That its steps or its slices are over.
+fn tell_running<W: Write>(out: &mut W, report: &Report<'_>) -> io::Result<()> {
+    let limit = report.limit;
+    if report.parts.account.steps >= limit {
+        writeln!(
+            out,
+            "the limit of {limit} steps is reached (--steps gives it more)"
+        )
+    } else {
+        writeln!(out, "still running after its slices")
     }
 }
 
 /// What most likely went wrong, and the calls that made and freed the chunk.
 fn tell_cause<W: Write>(out: &mut W, report: &Report<'_>) -> io::Result<()> {
     let parts = report.parts;
-    let cause = Cause::of(report.book, &parts.account.status, parts.regs.x[8]);
-    match parts.account.status {
-        Status::Faulted(_, _) | Status::Aborted(_, _, _) => {
-            writeln!(out, "Cause: {cause}")?;
-        }
-        _ => return Ok(()),
+    let status = &parts.account.status;
+    if !matches!(status, Status::Faulted(_, _) | Status::Aborted(_, _, _)) {
+        return Ok(());
     }
+    let cause = Cause::of(report.book, status, parts.regs.x[8]);
+    writeln!(out, "Cause: {cause}")?;
+    tell_chunks(out, &cause, &report.symbols)?;
+    tell_short(out, report.book)
+}
+
+/// That older calls are forgotten, if any are.
+fn tell_short<W: Write>(out: &mut W, book: &Book) -> io::Result<()> {
+    if !book.is_short() {
+        return Ok(());
+    }
+    writeln!(out, "  (older heap calls are no longer kept)")
+}
+
+/// The chunks that a cause names.
+fn tell_chunks<W: Write>(out: &mut W, cause: &Cause, symbols: &Symbols<'_>) -> io::Result<()> {
     if let Some(chunk) = cause.chunk() {
-        tell_chunk(out, chunk, &report.symbols)?;
+        tell_chunk(out, chunk, symbols)?;
     }
-    if let Some(young) = cause.young() {
-        writeln!(out, "  its block was given again, as the {young}:")?;
-        tell_chunk(out, young, &report.symbols)?;
+    match cause.young() {
+        Some(young) => tell_young(out, young, symbols),
+        None => Ok(()),
     }
-    if report.book.is_short() {
-        writeln!(out, "  (older heap calls are no longer kept)")?;
-    }
-    Ok(())
+}
+
+/// The chunk that a freed block was given to.
+fn tell_young<W: Write>(out: &mut W, young: &Chunk, symbols: &Symbols<'_>) -> io::Result<()> {
+    writeln!(out, "  its block was given again, as the {young}:")?;
+    tell_chunk(out, young, symbols)
 }
 
 /// The calls that made and freed a chunk.
 fn tell_chunk<W: Write>(out: &mut W, chunk: &Chunk, symbols: &Symbols<'_>) -> io::Result<()> {
-    let made = Call {
-        entry: &chunk.made,
-        place: symbols.place(chunk.made.pc),
-    };
-    writeln!(out, "  allocated by {made}")?;
-    if let Some(entry) = &chunk.freed {
-        let place = symbols.place(entry.pc);
-        let freed = Call { entry, place };
-        writeln!(out, "  freed by {freed}")?;
+    tell_call(out, "allocated", &chunk.made, symbols)?;
+    match &chunk.freed {
+        Some(entry) => tell_call(out, "freed", entry, symbols),
+        None => Ok(()),
     }
-    Ok(())
+}
+
+/// A call, and what it did.
+fn tell_call<W: Write>(
+    out: &mut W,
+    did: &str,
+    entry: &Entry,
+    symbols: &Symbols<'_>,
+) -> io::Result<()> {
+    let place = symbols.place(entry.pc);
+    let call = Call { entry, place };
+    writeln!(out, "  {did} by {call}")
 }
 
 /// Whose granule the address is in that a status names, and the tags around it.
@@ -182,60 +272,73 @@ fn tell_tags<W: Write, M: Tagged>(out: &mut W, memory: &mut M, addr: u64) -> io:
     write!(out, "tags from {first:#x}, of 16 bytes each:")?;
     for i in 0..2 * GRANULES {
         let at = first.wrapping_add(i * GRANULE_SIZE);
-        let (open, close) = if at == own { ("[", "]") } else { ("", "") };
-        match memory.load_tag(at) {
-            Ok(tag) => write!(out, " {open}{tag:x}{close}")?,
-            Err(_) => write!(out, " {open}-{close}")?,
-        }
+        let tag = Tag(memory.load_tag(at).ok());
+        tell_tag(out, tag, at == own)?;
     }
     writeln!(out)
 }
 
-/// The instruction, the registers, the flags and the generator.
-fn tell_registers<W: Write>(
-    out: &mut W,
-    regs: &Regs,
-    place: Place<'_>,
-    memory: &mut Flat,
-) -> io::Result<()> {
-    let pc = regs.pc;
-    if let Ok(word) = memory.fetch(pc) {
-        let instruction = Instruction { word, pc };
-        writeln!(
-            out,
-            "instruction at {pc:#018x}{place}: {word:08x}  {instruction}"
-        )?;
+/// The tag of a granule, in brackets where it is the address's own.
+fn tell_tag<W: Write>(out: &mut W, tag: Tag, is_own: bool) -> io::Result<()> {
+    if is_own {
+        write!(out, " [{tag}]")
+    } else {
+        write!(out, " {tag}")
     }
-    let Regs {
-        x,
-        sp,
-        flags,
-        rgsr,
-        ..
-    } = regs;
-    for (n, value) in x.iter().enumerate() {
+}
+
+/// A granule's tag, or a dash where it has none.
+#[derive(Clone, Copy)]
+struct Tag(Option<u8>);
+
+impl fmt::Display for Tag {
+    fn fmt<W: fmt::Write>(&self, f: &mut fmt::Formatter<W>) -> fmt::Result {
+        match self.0 {
+            Some(tag) => write!(f, "{tag:x}"),
+            None => f.write_str("-"),
+        }
+    }
+}
+
+/// The instruction at an address, if it can be fetched.
+fn tell_instruction<W: Write>(out: &mut W, at: At<'_>, memory: &mut Flat) -> io::Result<()> {
+    let pc = at.pc;
+    let Ok(word) = memory.fetch(pc) else {
+        return Ok(());
+    };
+    let instruction = Instruction { word, pc };
+    writeln!(out, "instruction at {at}: {word:08x}  {instruction}")
+}
+
+/// The registers, the flags and the generator.
+fn tell_registers<W: Write>(out: &mut W, regs: &Regs) -> io::Result<()> {
+    for (n, value) in regs.x.iter().enumerate() {
         let end = if n % 4 == 3 { "\n" } else { "" };
         write!(out, "  x{n:<2} {value:016x}{end}")?;
     }
-    let flags = Nzcv(*flags);
+    let Regs { sp, pc, .. } = regs;
+    let flags = Nzcv(regs.flags);
     writeln!(out, "\n  sp  {sp:016x}  pc  {pc:016x}  flags {flags}")?;
-    let (tag, seed) = (rgsr.tag, rgsr.seed);
+    tell_generator(out, regs)
+}
+
+/// The generator.
+fn tell_generator<W: Write>(out: &mut W, regs: &Regs) -> io::Result<()> {
+    let (tag, seed) = (regs.rgsr.tag, regs.rgsr.seed);
     writeln!(out, "  generator: tag {tag}, seed {seed:#06x}")
 }
 
 /// The page map.
 fn tell_pages<W: Write>(alloc: Global, out: &mut W, memory: &mut Flat) -> io::Result<()> {
     writeln!(out, "pages:")?;
-    for pages in &page_map(alloc, memory)? {
-        let Pages {
-            start,
-            end,
-            attrs,
-            range,
-        } = pages;
-        let letters = Letters(*attrs);
-        let last = end.wrapping_sub(1);
-        writeln!(out, "  {start:#010x} to {last:#010x}  {letters}  {range}")?;
+    let map = page_map(alloc, memory)?;
+    tell_map(out, map.as_slice())
+}
+
+/// Pages, each in a line.
+fn tell_map<W: Write>(out: &mut W, map: &[Pages]) -> io::Result<()> {
+    for pages in map {
+        writeln!(out, "  {pages}")?;
     }
     Ok(())
 }
@@ -250,20 +353,18 @@ fn tell_last<W: Write>(
         return Ok(());
     }
     writeln!(out, "the last instructions:")?;
-    let mut before: Option<&Moment> = None;
+    let mut before = None;
     for moment in last.iter() {
-        if let Some(earlier) = before {
-            let line = Line {
-                moment: earlier,
-                after: &moment.regs,
-            };
-            writeln!(out, "{line}")?;
-        }
+        tell_moment(out, before, &moment.regs)?;
         before = Some(moment);
     }
-    if let Some(moment) = before {
-        let line = Line { moment, after };
-        writeln!(out, "{line}")?;
+    tell_moment(out, before, after)
+}
+
+/// An instruction, if there is one.
+fn tell_moment<W: Write>(out: &mut W, moment: Option<&Moment>, after: &Regs) -> io::Result<()> {
+    match moment {
+        Some(moment) => writeln!(out, "{}", Line { moment, after }),
+        None => Ok(()),
     }
-    Ok(())
 }

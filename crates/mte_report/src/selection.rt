@@ -12,7 +12,7 @@ use std::alloc::{AllocError, Global};
 const PLAIN: u32 = 3;
 
 /// A row that may be shown.
-#[derive(Clone, Copy, Debug, PartialEq, Eq)]
+#[derive(Clone, Copy)]
 pub struct Place {
     /// The address of its first granule.
     pub address: u64,
@@ -21,7 +21,7 @@ pub struct Place {
 }
 
 /// The rows that are shown, by their numbers.
-#[derive(Clone, Copy, Debug, PartialEq, Eq)]
+#[derive(Clone, Copy)]
 pub struct Window {
     /// The first number.
     pub first: usize,
@@ -85,13 +85,7 @@ pub fn places<M: Tagged>(
     extents: &[Extent],
     mark: Option<u64>,
 ) -> Result<Vec<Place>, AllocError> {
-    let edges = edges(alloc, extents)?;
-    let mut rows = Vec::new(alloc);
-    for pages in map {
-        if let Range::Class(_) | Range::Large = pages.range {
-            push_rows(&mut rows, memory, pages, edges.as_slice())?;
-        }
-    }
+    let mut rows = heap_rows(alloc, memory, map, extents)?;
     if let Some(addr) = mark {
         push_marked(&mut rows, memory, addr)?;
     }
@@ -100,17 +94,38 @@ pub fn places<M: Tagged>(
     number_rows(alloc, rows.as_slice())
 }
 
+/// The rows of the heap's pages.
+fn heap_rows<M: Tagged>(
+    alloc: Global,
+    memory: &mut M,
+    map: &[Pages],
+    extents: &[Extent],
+) -> Result<Vec<u64>, AllocError> {
+    let edges = edges(alloc, extents)?;
+    let mut rows = Vec::new(alloc);
+    for pages in map {
+        if let Range::Class(_) | Range::Large = pages.range {
+            push_rows(&mut rows, memory, pages, edges.as_slice())?;
+        }
+    }
+    Ok(rows)
+}
+
 /// For each row of the address space whether a chunk begins or ends there.
 fn edges(alloc: Global, extents: &[Extent]) -> Result<Vec<bool>, AllocError> {
     let mut edges = vec![in alloc; false; (ADDRESS_END / ROW_SIZE) as usize]?;
     for extent in extents {
-        for addr in [extent.start, extent.end.saturating_sub(1)] {
-            if let Some(edge) = edges.get_mut((addr / ROW_SIZE) as usize) {
-                *edge = true;
-            }
-        }
+        mark_row(edges.as_mut_slice(), extent.start);
+        mark_row(edges.as_mut_slice(), extent.end.saturating_sub(1));
     }
     Ok(edges)
+}
+
+/// Marks the row that an address is in.
+fn mark_row(rows: &mut [bool], addr: u64) {
+    if let Some(row) = rows.get_mut((addr / ROW_SIZE) as usize) {
+        *row = true;
+    }
 }
 
 /// Adds the rows of pages, without those that go on as the rows in front of them.
@@ -155,10 +170,18 @@ fn push_marked<M: Tagged>(
 ) -> Result<(), AllocError> {
     let own = row_of(addr);
     rows.push(own)?;
-    for beside in [own.saturating_sub(ROW_SIZE), own.saturating_add(ROW_SIZE)] {
-        if tag_of(memory, beside).is_some() {
-            rows.push(beside)?;
-        }
+    push_mapped(rows, memory, own.saturating_sub(ROW_SIZE))?;
+    push_mapped(rows, memory, own.saturating_add(ROW_SIZE))
+}
+
+/// Adds the row at an address, if its page is mapped.
+fn push_mapped<M: Tagged>(
+    rows: &mut Vec<u64>,
+    memory: &mut M,
+    address: u64,
+) -> Result<(), AllocError> {
+    if tag_of(memory, address).is_some() {
+        rows.push(address)?;
     }
     Ok(())
 }

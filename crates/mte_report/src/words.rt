@@ -4,10 +4,11 @@ use crate::book::{Chunk, Entry};
 use a64_decode::decode;
 use a64_text::TextAt;
 use elf_symbols::Place;
-use mte_svc::HeapService;
+use mte_svc::{HeapCall, HeapService};
 use mte_tags::{Attrs, FaultKind};
 use scudo_heap::HeapAbort;
 use std::fmt;
+use std::fmt::Display;
 
 /// An instruction's word at an address, as text.
 #[derive(Clone, Copy)]
@@ -21,10 +22,7 @@ pub struct Instruction {
 impl fmt::Display for Instruction {
     fn fmt<W: fmt::Write>(&self, f: &mut fmt::Formatter<W>) -> fmt::Result {
         match decode(self.word) {
-            Some(instr) => {
-                let text = TextAt { instr, pc: self.pc };
-                write!(f, "{text}")
-            }
+            Some(instr) => TextAt { instr, pc: self.pc }.fmt(f),
             None => f.write_str("no instruction of the table"),
         }
     }
@@ -47,21 +45,40 @@ impl<'a> fmt::Display for Call<'a> {
             pc,
             call,
         } = self.entry;
-        let (first, second, answer) = (call.first, call.second, call.answer);
-        write!(f, "call {number}, ")?;
-        match call.service {
-            HeapService::Malloc => write!(f, "malloc({first})")?,
-            HeapService::Free => write!(f, "free({first:#x})")?,
-            HeapService::Calloc => write!(f, "calloc({first}, {second})")?,
-            HeapService::Realloc => write!(f, "realloc({first:#x}, {second})")?,
-            HeapService::Memalign => write!(f, "memalign({first}, {second})")?,
-            HeapService::UsableSize => write!(f, "usable_size({first:#x})")?,
-        }
-        let place = self.place;
+        let (request, answer, place) = (Request(call), call.answer, self.place);
         write!(
             f,
-            " = {answer:#x} by the SVC at {pc:#x}{place}, step {step}"
+            "call {number}, {request} = {answer:#x} by the SVC at {pc:#x}{place}, step {step}"
         )
+    }
+}
+
+/// A heap call's service and its arguments.
+#[derive(Clone, Copy)]
+struct Request<'a>(&'a HeapCall);
+
+impl<'a> fmt::Display for Request<'a> {
+    fn fmt<W: fmt::Write>(&self, f: &mut fmt::Formatter<W>) -> fmt::Result {
+        let HeapCall { first, second, .. } = self.0;
+        let name = name_of(self.0.service);
+        match self.0.service {
+            HeapService::Malloc => write!(f, "{name}({first})"),
+            HeapService::Free | HeapService::UsableSize => write!(f, "{name}({first:#x})"),
+            HeapService::Realloc => write!(f, "{name}({first:#x}, {second})"),
+            HeapService::Calloc | HeapService::Memalign => write!(f, "{name}({first}, {second})"),
+        }
+    }
+}
+
+/// The name of a service of the heap.
+fn name_of(service: HeapService) -> &'static str {
+    match service {
+        HeapService::Malloc => "malloc",
+        HeapService::Free => "free",
+        HeapService::Calloc => "calloc",
+        HeapService::Realloc => "realloc",
+        HeapService::Memalign => "memalign",
+        HeapService::UsableSize => "usable_size",
     }
 }
 
@@ -77,10 +94,16 @@ pub struct Letters(pub Attrs);
 
 impl fmt::Display for Letters {
     fn fmt<W: fmt::Write>(&self, f: &mut fmt::Formatter<W>) -> fmt::Result {
-        for (bit, letter) in [(1, "r"), (2, "w"), (4, "x"), (8, "t")] {
-            f.write_str(if self.0.0 & bit != 0 { letter } else { "-" })?;
-        }
-        Ok(())
+        let (r, w) = (self.letter(1, "r"), self.letter(2, "w"));
+        let (x, t) = (self.letter(4, "x"), self.letter(8, "t"));
+        write!(f, "{r}{w}{x}{t}")
+    }
+}
+
+impl Letters {
+    /// The letter of a bit, or a dash.
+    fn letter(&self, bit: u8, letter: &'static str) -> &'static str {
+        if self.0.0 & bit != 0 { letter } else { "-" }
     }
 }
 
