@@ -57,8 +57,17 @@ fn print_text(rt: &HostRuntime, error: &Error) -> Invocation {
 /// Reads the words of a command line; `None` where an allocation failed.
 fn parse(alloc: Global, words: &[String]) -> Result<Option<Options>, Error> {
     let mut command = command(alloc)?;
+    parse_by(alloc, &mut command, words)
+}
+
+/// Reads the words of a command line by its form.
+fn parse_by<'a>(
+    alloc: Global,
+    command: &mut Command<'a>,
+    words: &'a [String],
+) -> Result<Option<Options>, Error> {
     let matches = command.try_get_matches_from_mut(words)?;
-    options_of(alloc, &mut command, &matches)
+    options_of(alloc, command, &matches)
 }
 
 /// The values of a command line that `clap` accepted; `None` where an allocation failed.

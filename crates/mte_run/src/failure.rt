@@ -5,7 +5,7 @@ use std::alloc::{AllocError, AllocFailed};
 use std::{fmt, io};
 
 /// Why the program ends without a tenant's status.
-#[derive(Clone, Copy, Debug, PartialEq, Eq)]
+#[derive(Clone, Copy)]
 pub enum Failure<'a> {
     /// An allocation failed.
     Memory,
@@ -55,9 +55,18 @@ impl<'a> fmt::Display for Failure<'a> {
             Failure::Read(name) => write!(f, "cannot read {name}"),
             Failure::Write => f.write_str("cannot write"),
             Failure::WriteFile(name) => write!(f, "cannot write {name}"),
-            Failure::Script(line, fault) => write!(f, "script line {line}: {fault}"),
+            Failure::Script(line, fault) => write_script_fault(f, *line, fault),
         }
     }
+}
+
+/// Writes a script's faulty line and what is wrong with it.
+fn write_script_fault<W: fmt::Write>(
+    f: &mut fmt::Formatter<W>,
+    line: u64,
+    fault: &ScriptFault,
+) -> fmt::Result {
+    write!(f, "script line {line}: {fault}")
 }
 
 impl<'a> From<AllocError> for Failure<'a> {

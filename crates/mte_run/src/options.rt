@@ -44,7 +44,7 @@ pub struct Length {
 }
 
 /// The steps whose instructions are traced.
-#[derive(Clone, Copy, Debug, PartialEq, Eq)]
+#[derive(Clone, Copy)]
 pub struct Traced {
     /// The first.
     pub from: u64,
@@ -79,7 +79,7 @@ pub struct Options {
 }
 
 /// Why values that `clap` accepted are refused.
-#[derive(Clone, Copy, Debug, PartialEq, Eq)]
+#[derive(Clone, Copy)]
 pub enum Fault {
     /// An allocation failed.
     Memory,

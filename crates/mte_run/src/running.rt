@@ -56,10 +56,7 @@ fn run_alone<'a>(
     image: &[u8],
     observer: &mut Observer<Log>,
 ) -> Result<u8, Failure<'a>> {
-    let input = match &options.terms.input {
-        Some(name) => read_file(rt, name.as_str())?,
-        None => Vec::new(rt.alloc()),
-    };
+    let input = read_input(rt, options)?;
     let admission = Admission {
         id: ID,
         image,
@@ -69,14 +66,33 @@ fn run_alone<'a>(
         room: options.terms.room,
         mode: options.terms.mode,
     };
-    let mut bench = match Bench::new(rt.alloc(), &admission) {
-        Ok(bench) => bench,
-        Err(AdmitError::OutOfMemory) => return Err(Failure::Memory),
+    match Bench::new(rt.alloc(), &admission) {
+        Ok(bench) => run_bench(rt, options, bench, observer, image),
+        Err(AdmitError::OutOfMemory) => Err(Failure::Memory),
         Err(error) => {
             let _ = eprintln!(rt; "mte_run: the tenant is refused: {error}");
-            return Ok(REFUSED);
+            Ok(REFUSED)
         }
-    };
+    }
+}
+
+/// All bytes of the input, if one is named.
+fn read_input<'a>(rt: &HostRuntime, options: &'a Options) -> Result<Vec<u8>, Failure<'a>> {
+    match &options.terms.input {
+        Some(name) => read_file(rt, name.as_str()),
+        None => Ok(Vec::new(rt.alloc())),
+    }
+}
+
+/// Runs a tenant of an image, and writes its output.
+fn run_bench<'a>(
+    rt: &HostRuntime,
+    options: &'a Options,
+    bench: Bench,
+    observer: &mut Observer<Log>,
+    image: &[u8],
+) -> Result<u8, Failure<'a>> {
+    let mut bench = bench;
     run_slices(&mut bench, observer, options);
     write_all(
         &mut StreamSink(rt.stdout()),
