@@ -11,7 +11,6 @@ ghost use Rattle.mte_flat.specs.Slots.{slots_memory, AreSlots};
 use crate::finder::Finder;
 use crate::slot::{Slot, find, holds, new_slot};
 use a64_bits::plain;
-use bitflags::Flags;
 use mte_tags::{
     Access, Attrs, FaultKind, MemFault, NoQuota, PageStore, Paged, TagMode, TagState, copy_out,
     fits_one_page, replace_bytes, run_fault, run_passes, tag_in_page, word_in_page,

@@ -1,9 +1,9 @@
 //! What may be done with a page.
 
-ghost use Rattle.std.specs.Prelude.{⊤, ◌≡◌, ◌==◌, [], ◌∷◌, codes};
-ghost use Rattle.std.specs.Int.RustNames.{bit_and, bit_or};
+ghost use Rattle.std.specs.Prelude.{◌≡◌};
+ghost use Rattle.std.specs.Int.RustNames.{bit_or};
+ghost use Rattle.mte_tags.specs.Memory.{has};
 
-use bitflags::{Flag, Flags};
 use std::ops::BitOr;
 
 /// What may be done with a page of 4096 bytes, as the sum of its bits.
@@ -29,46 +29,12 @@ impl Attrs {
     /// Data that may be executed: all four.
     pub const ALL: Attrs = Attrs(15);
 
-    const FLAGS: &'static [Flag<Attrs>] = &[
-        Flag {
-            name: "READ",
-            value: Attrs::READ,
-        },
-        Flag {
-            name: "WRITE",
-            value: Attrs::WRITE,
-        },
-        Flag {
-            name: "EXEC",
-            value: Attrs::EXEC,
-        },
-        Flag {
-            name: "TAGGED",
-            value: Attrs::TAGGED,
-        },
-    ];
-}
-
-impl Flags for Attrs {
-    type Bits = u8;
-
-    ghost exact = { ⊤ };
-
-    ghost table = { (codes "READ", 1) ∷ (codes "WRITE", 2) ∷ (codes "EXEC", 4) ∷
-        (codes "TAGGED", 8) ∷ [] };
-
-    ghost set_of = { λ a. a.0 };
-
-    fn flags<'a>() -> &'a [Flag<Attrs>] {
-        Attrs::FLAGS
-    }
-
-    fn bits(&self) -> u8 {
-        self.0
-    }
-
-    fn from_bits_retain(bits: u8) -> Attrs {
-        Attrs(bits)
+    /// Whether it has all of others.
+    #[inline]
+    pub fn contains(&self, others: Attrs) -> bool
+        ensures { result ≡ has self.now.0 others.0 }
+    {
+        self.0 & others.0 == others.0
     }
 }
 

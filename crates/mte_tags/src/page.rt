@@ -10,7 +10,6 @@ ghost use Rattle.mte_tags.specs.Runs.{first_in, spliced};
 use crate::access::Access;
 use crate::attrs::Attrs;
 use crate::fault::{FaultKind, MemFault};
-use bitflags::Flags;
 
 /// A mapped page: its attributes, 4096 bytes, and a tag for each of its 256 granules.
 pub trait MappedPage {

@@ -20,6 +20,6 @@ pub returns-then-not-contains : goal.returns-then-not-contains
 returns-then-not-contains g c =
     let p = g.P.MappedPage.page c.args.page.now in
     let permitted : has p.attrs c.args.access.now.need ≡ true = ap (λ a. has a c.args.access.now.need) (sym c.attrs-attrs.ensures) ∙ eq-eqb _ _ c.if-attrs-access.false in
-    let untagged : has p.attrs 8 ≡ false = ap (λ a. has a 8) (sym c.attrs-attrs.ensures) ∙ sym (c.contains.ensures tt) ∙ c.if-not-contains.true in
+    let untagged : has p.attrs 8 ≡ false = ap (λ a. has a 8) (sym c.attrs-attrs.ensures) ∙ sym c.contains.ensures ∙ c.if-not-contains.true in
     sym (first_in-untagged c.args.access.now p c.args.at c.args.count permitted
     (ap (λ b. b && has p.attrs 8) c.if-not-access.false ∙ untagged))

@@ -18,7 +18,7 @@ returns-then-not-compared g c =
     let same : (need : ℕ) → has c.attrs-attrs.result.0 need ≡ has p.attrs need = λ need. ap (λ a. has a need) c.attrs-attrs.ensures in
     let permitted : has p.attrs x.need ≡ true = sym (same x.need) ∙ eq-eqb _ _ c.if-not-permitted.false in
     let compared : c.if-access.compared ≡ (x.checked && has p.attrs 8) = elim c.if-access.branch [
-      | then-access w ↦ w.compared-is ∙ w.contains-compared.ensures tt ∙ same 8 ∙ sym (ap (λ b. b && has p.attrs 8) w.if-access.true)
+      | then-access w ↦ w.compared-is ∙ w.contains-compared.ensures ∙ same 8 ∙ sym (ap (λ b. b && has p.attrs 8) w.if-access.true)
       | else-access w ↦ w.compared-is ∙ w.if-access.false ∙ sym (ap (λ b. b && has p.attrs 8) w.if-access.false)
     ] in
     sym (ap is_none (first_in-untagged x p c.args.at c.args.count permitted (sym compared ∙ c.if-not-compared.true)))
@@ -30,7 +30,7 @@ returns-then-granule_tag-access g c =
     let same : (need : ℕ) → has c.attrs-attrs.result.0 need ≡ has p.attrs need = λ need. ap (λ a. has a need) c.attrs-attrs.ensures in
     let permitted : has p.attrs x.need ≡ true = sym (same x.need) ∙ eq-eqb _ _ c.if-not-permitted.false in
     let compared : c.if-access.compared ≡ (x.checked && has p.attrs 8) = elim c.if-access.branch [
-      | then-access w ↦ w.compared-is ∙ w.contains-compared.ensures tt ∙ same 8 ∙ sym (ap (λ b. b && has p.attrs 8) w.if-access.true)
+      | then-access w ↦ w.compared-is ∙ w.contains-compared.ensures ∙ same 8 ∙ sym (ap (λ b. b && has p.attrs 8) w.if-access.true)
       | else-access w ↦ w.compared-is ∙ w.if-access.false ∙ sym (ap (λ b. b && has p.attrs 8) w.if-access.false)
     ] in
     sym (ap is_none (first_in-tag x p c.args.at c.args.count c.requires.some permitted (sym compared ∙ c.if-not-compared.false) (λ e. c.if-granule_tag-access.true (c.granule_tag.ensures ∙ e))))
@@ -49,7 +49,7 @@ returns-then-count-le16 g c =
     let same : (need : ℕ) → has c.attrs-attrs.result.0 need ≡ has p.attrs need = λ need. ap (λ a. has a need) c.attrs-attrs.ensures in
     let permitted : has p.attrs x.need ≡ true = sym (same x.need) ∙ eq-eqb _ _ c.if-not-permitted.false in
     let compared : c.if-access.compared ≡ (x.checked && has p.attrs 8) = elim c.if-access.branch [
-      | then-access w ↦ w.compared-is ∙ w.contains-compared.ensures tt ∙ same 8 ∙ sym (ap (λ b. b && has p.attrs 8) w.if-access.true)
+      | then-access w ↦ w.compared-is ∙ w.contains-compared.ensures ∙ same 8 ∙ sym (ap (λ b. b && has p.attrs 8) w.if-access.true)
       | else-access w ↦ w.compared-is ∙ w.if-access.false ∙ sym (ap (λ b. b && has p.attrs 8) w.if-access.false)
     ] in
     ap (λ t. t == x.tag) c.granule_tag-then-count-le16.ensures
