@@ -245,114 +245,75 @@ enum Stored {
 impl Stored {
     /// What the instruction with a word stores, by the registers before it.
     fn by(word: u32, regs: &Regs) -> Option<Stored> {
-        Stored::of(&decode(word)?, regs)
+        let instr = decode(word)?;
+        Stored::of_register(&instr, regs)
+            .or(Stored::of_pair(&instr, regs))
+            .or(Stored::of_tags(&instr, regs))
     }
 
-    /// What an instruction stores, by the registers before it.
-    fn of(instr: &Instr, regs: &Regs) -> Option<Stored> {
+    /// What a store of one register stores.
+    #[rattlefmt::skip]
+    fn of_register(instr: &Instr, regs: &Regs) -> Option<Stored> {
         match *instr {
-            Instr::LdStImm {
-                size,
-                opc: 0,
-                imm12,
-                rn,
-                rt,
-            } => {
-                let offset = u64::from(imm12).wrapping_mul(unit(size));
-                Some(one(regs, rn, offset, size, rt))
-            }
-            Instr::LdStUnscaled {
-                size,
-                opc: 0,
-                imm9,
-                rn,
-                rt,
-            }
-            | Instr::LdStPre {
-                size,
-                opc: 0,
-                imm9,
-                rn,
-                rt,
-            } => { Some(one(regs, rn, signed(i64::from(imm9)), size, rt)) }
-            Instr::LdStPost {
-                size,
-                opc: 0,
-                rn,
-                rt,
-                ..
-            } => Some(one(regs, rn, 0, size, rt)),
-            Instr::LdStReg {
-                size,
-                opc: 0,
-                rm,
-                option,
-                s,
-                rn,
-                rt,
-            } => {
-                let offset = extended(zero_or(regs, rm), option);
-                let scale = if s == 1 { unit(size) } else { 1 };
-                Some(one(regs, rn, offset.wrapping_mul(scale), size, rt))
-            }
-            Instr::PairOff {
-                opc,
-                l: 0,
-                imm7,
-                rt2,
-                rn,
-                rt,
-            }
-            | Instr::PairPre {
-                opc,
-                l: 0,
-                imm7,
-                rt2,
-                rn,
-                rt,
-            } => { Some(two(regs, opc, rn, i64::from(imm7), rt, rt2)) }
-            Instr::PairPost {
-                opc,
-                l: 0,
-                rt2,
-                rn,
-                rt,
-                ..
-            } => { Some(two(regs, opc, rn, 0, rt, rt2)) }
-            Instr::StGP {
-                mode,
-                imm7,
-                rt2,
-                rn,
-                rt,
-            } => {
-                let offset = if mode == 1 { 0 } else { i64::from(imm7) };
-                let addr = base(regs, rn).wrapping_add(signed(offset.wrapping_mul(16)));
-                let (first, second) = (zero_or(regs, rt), zero_or(regs, rt2));
-                Some(Stored::Two {
-                    addr,
-                    bytes: 8,
-                    first,
-                    second,
-                })
-            }
-            Instr::StG {
-                opc,
-                imm9,
-                mode,
-                rn,
-                rt,
-            } => {
-                let offset = if mode == 1 { 0 } else { i64::from(imm9) };
-                Some(Stored::Tags {
-                    addr: base(regs, rn).wrapping_add(signed(offset.wrapping_mul(16))),
-                    granules: if opc >= 2 { 2 } else { 1 },
-                    tag: tag_of(base(regs, rt)),
-                })
-            }
+            Instr::LdStImm { size, opc: 0, imm12, rn, rt } =>
+                Some(one(regs, rn, u64::from(imm12).wrapping_mul(unit(size)), size, rt)),
+            Instr::LdStUnscaled { size, opc: 0, imm9, rn, rt }
+            | Instr::LdStPre { size, opc: 0, imm9, rn, rt } =>
+                Some(one(regs, rn, signed(i64::from(imm9)), size, rt)),
+            Instr::LdStPost { size, opc: 0, rn, rt, .. } => Some(one(regs, rn, 0, size, rt)),
+            Instr::LdStReg { size, opc: 0, rm, option, s, rn, rt } =>
+                Some(one(regs, rn, register_offset(regs, rm, option, s, size), size, rt)),
             _ => None,
         }
     }
+
+    /// What a store of two registers stores.
+    #[rattlefmt::skip]
+    fn of_pair(instr: &Instr, regs: &Regs) -> Option<Stored> {
+        match *instr {
+            Instr::PairOff { opc, l: 0, imm7, rt2, rn, rt }
+            | Instr::PairPre { opc, l: 0, imm7, rt2, rn, rt } =>
+                Some(two(regs, opc, rn, i64::from(imm7), rt, rt2)),
+            Instr::PairPost { opc, l: 0, rt2, rn, rt, .. } =>
+                Some(two(regs, opc, rn, 0, rt, rt2)),
+            // A granule: two registers of eight bytes.
+            Instr::StGP { mode, imm7, rt2, rn, rt } =>
+                Some(two(regs, 2, rn, granules_on(mode, i64::from(imm7)).wrapping_mul(2), rt, rt2)),
+            _ => None,
+        }
+    }
+
+    /// What a store of tags stores.
+    fn of_tags(instr: &Instr, regs: &Regs) -> Option<Stored> {
+        let Instr::StG {
+            opc,
+            imm9,
+            mode,
+            rn,
+            rt,
+        } = *instr
+        else {
+            return None;
+        };
+        let offset = granules_on(mode, i64::from(imm9)).wrapping_mul(16);
+        Some(Stored::Tags {
+            addr: base(regs, rn).wrapping_add(signed(offset)),
+            granules: if opc >= 2 { 2 } else { 1 },
+            tag: tag_of(base(regs, rt)),
+        })
+    }
+}
+
+/// How many granules from the base a store of tags begins: by its offset, unless it is post-indexed
+/// (mode 1).
+fn granules_on(mode: u8, offset: i64) -> i64 {
+    if mode == 1 { 0 } else { offset }
+}
+
+/// The offset that a register gives to the base.
+fn register_offset(regs: &Regs, rm: u8, option: u8, s: u8, size: u8) -> u64 {
+    let offset = extended(zero_or(regs, rm), option);
+    offset.wrapping_mul(if s == 1 { unit(size) } else { 1 })
 }
 
 /// A store of one register, of 2 to the power of `size` bytes.
