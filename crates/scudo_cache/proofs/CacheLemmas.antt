@@ -1,11 +1,9 @@
 -- All classes: one of them changed, and the others stay.
-use Rattle.std.proofs.Common.{◌≡◌, ◌≢◌, ℕ, ◌-◌, ◌<◌, ◌≤◌, List, [], length, get_or, set, replicate, sym, ap, subst, ◌∙◌, inl, inr, arith, nat_eq}
+use Rattle.std.proofs.Common.{◌≡◌, ◌≢◌, ℕ, ◌-◌, ◌<◌, ◌≤◌, List, [], length, get_or, sym, ap, subst, ◌∙◌, inl, inr, arith, nat_eq}
 use Rattle.std.proofs.lemmas.Bool.{cases_eq}
-use Rattle.std.proofs.lemmas.List.{get_or-set_same, get_or-set_other, get_or-map, get_or-replicate, map-set, length-set, length-map}
+use Rattle.std.proofs.lemmas.List.{get_or-set_same, get_or-set_other, get_or_default, get_or-replicate, length-set}
 use Rattle.std.specs.List.{All, IsDistinct}
-use Rattle.std.specs.Prelude.{vec_capacity}
 use Rattle.std.specs.Vec.{with_item}
-use Rattle.arrayvec.specs.ArrayVec.{ArrayVec}
 use Rattle.scudo_header.specs.declared.classes.TheConstants.{CLASSES}
 use Rattle.scudo_primary.specs.Batches.{max_count_of}
 use Rattle.scudo_primary.specs.Pools.{ClassState, PoolState, IsLoose, class_at}
@@ -21,34 +19,32 @@ pub entries-other : (v : CacheState) (c d : ℕ) (ys : List ℕ) → 0 < c → 0
 entries-other v c d ys a b n = get_or-set_other v.lists (c - 1) (d - 1) ys [] (λ e. n (omega arith))
 
 pub all-classes : (f : Inside) (v : CacheState) → IsCache f → cache_of f ≡ v → length v.lists ≡ CLASSES
-all-classes f v h e = ap (λ (t : CacheState). length t.lists) (sym e) ∙ length-map f.entries.items (λ (t : ArrayVec ℕ). t.items) ∙ h.all
+all-classes f v h e = ap (λ (t : CacheState). length t.lists) (sym e) ∙ h.all
 
 -- the list of a class that is read
-pub at-class : (f : Inside) (v : CacheState) (c : ℕ) (r : ArrayVec ℕ) → IsCache f → cache_of f ≡ v → IsClass c → r ≡ get_or f.entries.items (c - 1) r → r.items ≡ entries_of v c
+pub at-class : (f : Inside) (v : CacheState) (c : ℕ) (r : List ℕ) → IsCache f → cache_of f ≡ v → IsClass c → r ≡ get_or f.entries.items (c - 1) r → r ≡ entries_of v c
 at-class f v c r h e hc er =
     let a = hc.low in
     let b = hc.high in
     let l = h.all in
-    ap (λ (t : ArrayVec ℕ). t.items) er ∙ sym (get_or-map (λ (t : ArrayVec ℕ). t.items) f.entries.items (c - 1) r [] (omega arith)) ∙ ap (λ t. entries_of t c) e
+    er ∙ get_or_default f.entries.items (c - 1) r [] (omega arith) ∙ ap (λ t. entries_of t c) e
 
 -- the list of a class that is written back
-abbrev pub inside_with : Inside → ℕ → ArrayVec ℕ → Inside
+abbrev pub inside_with : Inside → ℕ → List ℕ → Inside
 inside_with f c x = record { entries = with_item f.entries (c - 1) x }
 
-pub view-with : (f : Inside) (v : CacheState) (c : ℕ) (x : ArrayVec ℕ) → cache_of f ≡ v → cache_of (inside_with f c x) ≡ with_entries v c x.items
-view-with f v c x e =
-    ap (λ t. record { lists = t; capacity = vec_capacity f.entries }) (map-set (λ (t : ArrayVec ℕ). t.items) f.entries.items (c - 1) x)
-    ∙ ap (λ t. with_entries t c x.items) e
+pub view-with : (f : Inside) (v : CacheState) (c : ℕ) (x : List ℕ) → cache_of f ≡ v → cache_of (inside_with f c x) ≡ with_entries v c x
+view-with f v c x e = ap (λ t. with_entries t c x) e
 
-pub entries-with : (f : Inside) (v : CacheState) (c : ℕ) (x : ArrayVec ℕ) → IsCache f → cache_of f ≡ v → IsClass c → entries_of (cache_of (inside_with f c x)) c ≡ x.items
-entries-with f v c x h e hc = ap (λ t. entries_of t c) (view-with f v c x e) ∙ entries-same v c x.items (all-classes f v h e) hc
+pub entries-with : (f : Inside) (v : CacheState) (c : ℕ) (x : List ℕ) → IsCache f → cache_of f ≡ v → IsClass c → entries_of (cache_of (inside_with f c x)) c ≡ x
+entries-with f v c x h e hc = ap (λ t. entries_of t c) (view-with f v c x e) ∙ entries-same v c x (all-classes f v h e) hc
 
-pub put-back : (f : Inside) (v : CacheState) (c : ℕ) (x : ArrayVec ℕ) → IsCache f → cache_of f ≡ v → IsClass c → length x.items ≤ max_count_of c → IsDistinct nat_eq x.items → IsCache (inside_with f c x)
+pub put-back : (f : Inside) (v : CacheState) (c : ℕ) (x : List ℕ) → IsCache f → cache_of f ≡ v → IsClass c → length x ≤ max_count_of c → IsDistinct nat_eq x → IsCache (inside_with f c x)
 put-back f v c x h e hc m u =
     let w = cache_of (inside_with f c x) in
-    let own : entries_of w c ≡ x.items = entries-with f v c x h e hc in
+    let own : entries_of w c ≡ x = entries-with f v c x h e hc in
     let other : (d : ℕ) → 0 < d → d ≢ c → entries_of w d ≡ entries_of (cache_of f) d =
-    λ d a n. ap (λ t. entries_of t d) (view-with f v c x e) ∙ entries-other v c d x.items hc.low a n ∙ ap (λ t. entries_of t d) (sym e) in
+    λ d a n. ap (λ t. entries_of t d) (view-with f v c x e) ∙ entries-other v c d x hc.low a n ∙ ap (λ t. entries_of t d) (sym e) in
     record {
       all = length-set f.entries.items (c - 1) x ∙ h.all;
       most = λ d a b. elim (cases_eq d c) [
@@ -77,7 +73,7 @@ none-yet n d a b = get_or-replicate CLASSES (d - 1) [] [] (omega arith)
 pub new-cache : (f : Inside) (n : ℕ) → cache_of f ≡ empty_cache n → IsCache f
 unfolding IsDistinct
 new-cache f n e = record {
-  all = sym (length-map f.entries.items (λ (t : ArrayVec ℕ). t.items)) ∙ ap (λ (t : CacheState). length t.lists) e;
+  all = ap (λ (t : CacheState). length t.lists) e;
   most = λ d a b. subst (λ (t : List ℕ). length t ≤ max_count_of d) (sym (ap (λ t. entries_of t d) e ∙ none-yet n d a b)) (omega arith);
   distinct = λ d a b. subst (IsDistinct nat_eq) (sym (ap (λ t. entries_of t d) e ∙ none-yet n d a b)) tt;
 }

@@ -1,20 +1,18 @@
 -- What keeps a class's stack: its blocks carved, none twice, and just those that are marked free.
-use Rattle.std.proofs.Common.{◌≡◌, ◌≢◌, ℕ, zero, suc, ◌+◌, ◌-◌, ◌*◌, ◌/◌, ◌%◌, ◌<◌, ◌≤◌, ◌||◌, Bool, true, false, List, [], ◌∷◌, ◌++◌, length, take, drop, reverse, cond, get_or, set, replicate, slice_get, Option, Some, None, refl, sym, ap, subst, ◌∙◌, inl, inr, arith, nat_eq, eqb}
+use Rattle.std.proofs.Common.{◌≡◌, ◌≢◌, ℕ, zero, suc, ◌+◌, ◌-◌, ◌/◌, ◌<◌, ◌≤◌, ◌||◌, Bool, true, false, List, [], ◌∷◌, ◌++◌, length, take, drop, reverse, cond, get_or, set, replicate, slice_get, Option, Some, None, refl, sym, ap, subst, ◌∙◌, inl, inr, arith, eqb}
 use Rattle.std.proofs.lemmas.Bool.{cases_eq, cases_lt}
 use Rattle.std.proofs.lemmas.List.{get_or-set_other, get_or_append_left, get_or-replicate, length-set, length-append, length-replicate}
 use Rattle.std.proofs.Math.Seq.{get_or-append_right}
 use Rattle.std.specs.List.{IsDistinct}
-use Rattle.scudo_header.specs.Classes.{size_of}
-use Rattle.scudo_header.specs.Regions.{region_of}
 use Rattle.scudo_primary.specs.Blocks.{carved_count, block_at, number_of, IsBlock, blocks_from}
 use Rattle.scudo_primary.specs.Batches.{max_count_of}
-use Rattle.scudo_primary.specs.Pools.{ClassState, PoolState, is_member, class_at, pages_of, new_count, with_class, with_mark, with_batch, without_batch, with_pages, carve_in, empty_pool}
+use Rattle.scudo_primary.specs.Pools.{ClassState, PoolState, is_member, class_at, pages_of, new_count, with_class, with_mark, with_batch, without_batch, with_pages, empty_pool}
 use Rattle.scudo_primary.specs.Lists.{IsClass}
 use Rattle.scudo_primary.proofs.BlockLemmas.{size-pos, number-apart, block_at-number, block_at-IsBlock, number_of-block_at, IsBlock-more, carved_count-≤}
 use Rattle.scudo_primary.proofs.ListLemmas.{member-other, member-first, distinct-head, distinct-cons}
 use Rattle.scudo_primary.proofs.PoolLaws.{class_at-with_mark, class_at-without_batch, class_at-with_pages, class_at-with_pages_other, class_at-empty_pool}
 use Rattle.scudo_header.specs.declared.classes.TheConstants.{CLASSES}
-use Rattle.scudo_cache.specs.Caches.{CacheState, Class, class_with, entries_of, one_stack, IsStack, AreStacks, refilled, newest, handed_out, after_take, with_room, after_put}
+use Rattle.scudo_cache.specs.Caches.{CacheState, class_with, entries_of, one_stack, IsStack, AreStacks, refilled, newest, handed_out, after_take, with_room, after_put}
 use Rattle.scudo_cache.proofs.ClassLemmas.{room-class, halved_class}
 
 -- ---- the marks and pages of the class that a call is about

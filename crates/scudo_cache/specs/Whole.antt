@@ -1,7 +1,6 @@
 -- What holds of the fields of a cache.
-use Rattle.std.specs.Prelude.{◌≡◌, ℕ, ◌<◌, ◌≤◌, length, map, nat_eq, vec_capacity}
+use Rattle.std.specs.Prelude.{◌≡◌, ℕ, ◌<◌, ◌≤◌, length, nat_eq, vec_capacity}
 use Rattle.std.specs.List.{IsDistinct}
-use Rattle.arrayvec.specs.ArrayVec.{ArrayVec}
 use Rattle.scudo_header.specs.declared.classes.TheConstants.{CLASSES}
 use Rattle.scudo_primary.specs.Batches.{max_count_of}
 use Rattle.scudo_cache.specs.Caches.{CacheState, entries_of}
@@ -9,7 +8,7 @@ use Rattle.scudo_cache.specs.declared.cache.Cache.TheInside.{Inside}
 
 abbrev pub cache_of : Inside → CacheState
 cache_of f = record {
-  lists = map (λ (v : ArrayVec ℕ). v.items) f.entries.items;
+  lists = f.entries.items;
   capacity = vec_capacity f.entries;
 }
 

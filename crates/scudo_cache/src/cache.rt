@@ -2,7 +2,6 @@
 
 ghost use Rattle.std.specs.Prelude.{◌≡◌, ◌≢◌, ◌<◌, ◌≤◌, ◌∷◌, [], ℕ, length};
 ghost use Rattle.std.specs.Prelude.{drop, slice_get, false, IfSome, IfOk};
-ghost use Rattle.arrayvec.specs.ArrayVec.{array_vec_len};
 ghost use Rattle.scudo_primary.specs.Batches.{max_count_of};
 ghost use Rattle.scudo_primary.specs.Blocks.{IsBlock};
 ghost use Rattle.scudo_primary.specs.Pools.{pages_of, stack_of, sizes_of, is_marked, is_member};
@@ -11,9 +10,9 @@ ghost use Rattle.scudo_cache.specs.Caches.{empty_cache, AreStacks};
 ghost use Rattle.scudo_cache.specs.Caches.{IsAbove, IsHeld, Took, class_with, refilled, newest};
 ghost use Rattle.scudo_cache.specs.Caches.{after_take, with_room, after_put};
 
-use arrayvec::ArrayVec;
+use crate::per_class::PerClass;
 use scudo_header::CLASSES;
-use scudo_primary::{MAX_COUNT, Pool, max_count};
+use scudo_primary::{Pool, max_count};
 use std::alloc::{AllocError, Global};
 use std::marker::Model;
 
@@ -22,7 +21,7 @@ use std::marker::Model;
 /// how many classes there is memory.
 #[derive(Drop)]
 pub struct Cache {
-    entries: Vec<ArrayVec<u64, MAX_COUNT>>,
+    entries: Vec<PerClass>,
 }
 
 impl Model for Cache {
@@ -44,7 +43,7 @@ impl Cache {
     pub fn new(alloc: Global) -> Result<Cache, AllocError>
         ensures { IfOk result (λ cache. cache ≡ empty_cache cache.capacity) }
     {
-        let entries = vec![in alloc; ArrayVec::new(); CLASSES as usize]?;
+        let entries = vec![in alloc; PerClass::new(); CLASSES as usize]?;
         Ok(Cache { entries })
     }
 
@@ -137,15 +136,15 @@ impl Cache {
 
 /// Takes the newest of a class's entries.
 #[inline]
-fn take_from(entries: &mut ArrayVec<u64, MAX_COUNT>, class: u8, pool: &mut Pool) -> Option<u64>
+fn take_from(entries: &mut PerClass, class: u8, pool: &mut Pool) -> Option<u64>
     requires low { 0 < class }
     requires high { class ≤ CLASSES }
-    requires held { IsHeld class entries.old.items pool.old }
-    ensures answer { result ≡ newest (refilled class entries.old.items pool.old).entries }
-    ensures state { class_with entries.new.items pool.new
-        ≡ after_take class (refilled class entries.old.items pool.old) }
-    ensures held { IsHeld class entries.new.items pool.new }
-    ensures took { Took class entries.old.items pool.old entries.new.items pool.new result }
+    requires held { IsHeld class entries.old pool.old }
+    ensures answer { result ≡ newest (refilled class entries.old pool.old).entries }
+    ensures state { class_with entries.new pool.new
+        ≡ after_take class (refilled class entries.old pool.old) }
+    ensures held { IsHeld class entries.new pool.new }
+    ensures took { Took class entries.old pool.old entries.new pool.new result }
 {
     if entries.is_empty() {
         return refill_and_take(entries, class, pool);
@@ -155,74 +154,51 @@ fn take_from(entries: &mut ArrayVec<u64, MAX_COUNT>, class: u8, pool: &mut Pool)
 
 /// The same where there is none: apart, so that a take of what is at hand stays short.
 #[inline(never)]
-fn refill_and_take(
-    entries: &mut ArrayVec<u64, MAX_COUNT>,
-    class: u8,
-    pool: &mut Pool,
-) -> Option<u64>
+fn refill_and_take(entries: &mut PerClass, class: u8, pool: &mut Pool) -> Option<u64>
     requires low { 0 < class }
     requires high { class ≤ CLASSES }
-    requires empty { array_vec_len entries.old ≡ 0 }
-    ensures answer { result ≡ newest (refilled class entries.old.items pool.old).entries }
-    ensures state { class_with entries.new.items pool.new
-        ≡ after_take class (refilled class entries.old.items pool.old) }
-    ensures held { IsHeld class entries.new.items pool.new }
-    ensures took { Took class entries.old.items pool.old entries.new.items pool.new result }
+    requires empty { length entries.old ≡ 0 }
+    ensures answer { result ≡ newest (refilled class entries.old pool.old).entries }
+    ensures state { class_with entries.new pool.new
+        ≡ after_take class (refilled class entries.old pool.old) }
+    ensures held { IsHeld class entries.new pool.new }
+    ensures took { Took class entries.old pool.old entries.new pool.new result }
 {
-    refill(entries, class, pool);
+    entries.refill(class, pool);
     hand_out(entries, class, pool)
 }
 
 /// Takes the newest entry and marks it used. Where there is none, the pool has none either.
 #[inline]
-fn hand_out(entries: &mut ArrayVec<u64, MAX_COUNT>, class: u8, pool: &mut Pool) -> Option<u64>
+fn hand_out(entries: &mut PerClass, class: u8, pool: &mut Pool) -> Option<u64>
     requires low { 0 < class }
     requires high { class ≤ CLASSES }
-    requires held { IsHeld class entries.old.items pool.old }
-    requires none { entries.old.items ≡ [] → stack_of pool.old class ≡ [] }
-    ensures answer { result ≡ newest entries.old.items }
-    ensures state { class_with entries.new.items pool.new
-        ≡ after_take class (class_with entries.old.items pool.old) }
-    ensures held { IsHeld class entries.new.items pool.new }
-    ensures took { Took class entries.old.items pool.old entries.new.items pool.new result }
+    requires held { IsHeld class entries.old pool.old }
+    requires none { entries.old ≡ [] → stack_of pool.old class ≡ [] }
+    ensures answer { result ≡ newest entries.old }
+    ensures state { class_with entries.new pool.new
+        ≡ after_take class (class_with entries.old pool.old) }
+    ensures held { IsHeld class entries.new pool.new }
+    ensures took { Took class entries.old pool.old entries.new pool.new result }
 {
     let block = entries.pop()?;
     pool.mark_used(class, block);
     Some(block)
 }
 
-/// Fills an empty list of entries with the pool's top batch.
-fn refill(entries: &mut ArrayVec<u64, MAX_COUNT>, class: u8, pool: &mut Pool)
-    requires low { 0 < class }
-    requires high { class ≤ CLASSES }
-    requires empty { array_vec_len entries.old ≡ 0 }
-    ensures state { class_with entries.new.items pool.new
-        ≡ refilled class entries.old.items pool.old }
-    ensures held { IsHeld class entries.new.items pool.new }
-    ensures none { entries.new.items ≡ [] → stack_of pool.new class ≡ [] }
-    ensures stack { stack_over entries.new.items pool.new class
-        ≡ stack_over entries.old.items pool.old class }
-{
-    let mut batch = [0; MAX_COUNT];
-    let count = pool.pop_batch(class, &mut batch);
-    for block in &batch[..count] {
-        entries.push(*block);
-    }
-}
-
 /// Appends a block to a class's entries.
 #[inline]
-fn put_into(entries: &mut ArrayVec<u64, MAX_COUNT>, class: u8, block: u64, pool: &mut Pool)
+fn put_into(entries: &mut PerClass, class: u8, block: u64, pool: &mut Pool)
     requires low { 0 < class }
     requires high { class ≤ CLASSES }
-    requires held { IsHeld class entries.old.items pool.old }
+    requires held { IsHeld class entries.old pool.old }
     requires carved { IsBlock class (pages_of pool.old class) block }
     requires used { is_marked pool.old class block ≡ false }
-    ensures state { class_with entries.new.items pool.new
-        ≡ after_put class block (with_room class entries.old.items pool.old) }
-    ensures held { IsHeld class entries.new.items pool.new }
-    ensures stack { stack_over entries.new.items pool.new class
-        ≡ block ∷ stack_over entries.old.items pool.old class }
+    ensures state { class_with entries.new pool.new
+        ≡ after_put class block (with_room class entries.old pool.old) }
+    ensures held { IsHeld class entries.new pool.new }
+    ensures stack { stack_over entries.new pool.new class
+        ≡ block ∷ stack_over entries.old pool.old class }
 {
     if entries.len() >= max_count(class) {
         return make_room_and_put(entries, class, block, pool);
@@ -232,18 +208,18 @@ fn put_into(entries: &mut ArrayVec<u64, MAX_COUNT>, class: u8, block: u64, pool:
 
 /// The same where they are full: apart, so that a put where there is room stays short.
 #[inline(never)]
-fn make_room_and_put(entries: &mut ArrayVec<u64, MAX_COUNT>, class: u8, block: u64, pool: &mut Pool)
+fn make_room_and_put(entries: &mut PerClass, class: u8, block: u64, pool: &mut Pool)
     requires low { 0 < class }
     requires high { class ≤ CLASSES }
-    requires held { IsHeld class entries.old.items pool.old }
-    requires full { array_vec_len entries.old ≡ max_count_of class }
+    requires held { IsHeld class entries.old pool.old }
+    requires full { length entries.old ≡ max_count_of class }
     requires carved { IsBlock class (pages_of pool.old class) block }
     requires used { is_marked pool.old class block ≡ false }
-    ensures state { class_with entries.new.items pool.new
-        ≡ after_put class block (with_room class entries.old.items pool.old) }
-    ensures held { IsHeld class entries.new.items pool.new }
-    ensures stack { stack_over entries.new.items pool.new class
-        ≡ block ∷ stack_over entries.old.items pool.old class }
+    ensures state { class_with entries.new pool.new
+        ≡ after_put class block (with_room class entries.old pool.old) }
+    ensures held { IsHeld class entries.new pool.new }
+    ensures stack { stack_over entries.new pool.new class
+        ≡ block ∷ stack_over entries.old pool.old class }
 {
     make_room(entries, class, pool);
     add(entries, class, block, pool);
@@ -251,37 +227,35 @@ fn make_room_and_put(entries: &mut ArrayVec<u64, MAX_COUNT>, class: u8, block: u
 
 /// Adds a block where there is room, and marks it free.
 #[inline]
-fn add(entries: &mut ArrayVec<u64, MAX_COUNT>, class: u8, block: u64, pool: &mut Pool)
+fn add(entries: &mut PerClass, class: u8, block: u64, pool: &mut Pool)
     requires low { 0 < class }
     requires high { class ≤ CLASSES }
-    requires held { IsHeld class entries.old.items pool.old }
-    requires room { array_vec_len entries.old < max_count_of class }
+    requires held { IsHeld class entries.old pool.old }
+    requires room { length entries.old < max_count_of class }
     requires carved { IsBlock class (pages_of pool.old class) block }
     requires used { is_marked pool.old class block ≡ false }
-    ensures state { class_with entries.new.items pool.new
-        ≡ after_put class block (class_with entries.old.items pool.old) }
-    ensures held { IsHeld class entries.new.items pool.new }
-    ensures stack { stack_over entries.new.items pool.new class
-        ≡ block ∷ stack_over entries.old.items pool.old class }
+    ensures state { class_with entries.new pool.new
+        ≡ after_put class block (class_with entries.old pool.old) }
+    ensures held { IsHeld class entries.new pool.new }
+    ensures stack { stack_over entries.new pool.new class
+        ≡ block ∷ stack_over entries.old pool.old class }
 {
     entries.push(block);
     pool.mark_free(class, block);
 }
 
 /// Gives the oldest half of full entries to the pool.
-fn make_room(entries: &mut ArrayVec<u64, MAX_COUNT>, class: u8, pool: &mut Pool)
+fn make_room(entries: &mut PerClass, class: u8, pool: &mut Pool)
     requires low { 0 < class }
     requires high { class ≤ CLASSES }
-    requires held { IsHeld class entries.old.items pool.old }
-    requires full { array_vec_len entries.old ≡ max_count_of class }
-    ensures state { class_with entries.new.items pool.new
-        ≡ with_room class entries.old.items pool.old }
-    ensures held { IsHeld class entries.new.items pool.new }
-    ensures room { array_vec_len entries.new < max_count_of class }
-    ensures stack { stack_over entries.new.items pool.new class
-        ≡ stack_over entries.old.items pool.old class }
+    requires held { IsHeld class entries.old pool.old }
+    requires full { length entries.old ≡ max_count_of class }
+    ensures state { class_with entries.new pool.new ≡ with_room class entries.old pool.old }
+    ensures held { IsHeld class entries.new pool.new }
+    ensures room { length entries.new < max_count_of class }
+    ensures stack { stack_over entries.new pool.new class ≡ stack_over entries.old pool.old class }
 {
     let half = max_count(class) / 2;
-    pool.push_batch(class, &entries.as_slice()[..half]);
-    entries.drain(..half);
+    pool.push_batch(class, entries.oldest(half));
+    entries.drop_oldest(half);
 }

@@ -4,6 +4,7 @@
 
 mod cache;
 mod laws;
+mod per_class;
 
 pub use cache::Cache;
 pub use laws::stacks_of_parts;

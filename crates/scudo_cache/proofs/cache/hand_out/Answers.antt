@@ -5,7 +5,7 @@ use Rattle.scudo_cache.proofs.cache.hand_out.Goals as goal
 
 pub returns-in_err-block-clause-state : goal.returns-in_err-block-clause-state
 returns-in_err-block-clause-state c =
-    let e : None ≡ newest c.args.entries.now.items = search rules in
+    let e : None ≡ newest c.args.entries.now = search rules in
     taken-state _ _ c.args.class None _ _ refl c.pop.ensures.rest e
 
 pub returns-clause-state : goal.returns-clause-state
@@ -15,15 +15,15 @@ pub returns-clause-held : goal.returns-clause-held
 returns-clause-held c =
     let h = c.requires.held in
     record {
-      cached = taken-loose c.args.pool.now c.mark_used.new.self c.args.class c.in_ok-block.block c.args.entries.now.items c.pop.new.self.items c.mark_used.ensures c.pop.ensures.rest c.in_ok-block.ensures.value h.distinct h.cached;
-      distinct = taken-distinct c.args.entries.now.items c.pop.new.self.items c.pop.ensures.rest h.distinct;
+      cached = taken-loose c.args.pool.now c.mark_used.new.self c.args.class c.in_ok-block.block c.args.entries.now c.pop.new.self c.mark_used.ensures c.pop.ensures.rest c.in_ok-block.ensures.value h.distinct h.cached;
+      distinct = taken-distinct c.args.entries.now c.pop.new.self c.pop.ensures.rest h.distinct;
       most = search rules;
     }
 
 pub returns-clause-took : goal.returns-clause-took
 returns-clause-took c = record {
-  top = taken-top c.in_ok-block.block c.args.entries.now.items c.pop.new.self.items _ c.in_ok-block.ensures.items;
-  rest = taken-rest c.args.pool.now c.mark_used.new.self c.args.class c.in_ok-block.block c.args.entries.now.items c.pop.new.self.items _ c.mark_used.ensures c.in_ok-block.ensures.items refl;
-  block = taken-block c.args.pool.now c.mark_used.new.self c.args.class c.in_ok-block.block c.args.entries.now.items c.mark_used.ensures c.in_ok-block.ensures.value c.requires.held.cached;
+  top = taken-top c.in_ok-block.block c.args.entries.now c.pop.new.self _ c.in_ok-block.ensures.blocks;
+  rest = taken-rest c.args.pool.now c.mark_used.new.self c.args.class c.in_ok-block.block c.args.entries.now c.pop.new.self _ c.mark_used.ensures c.in_ok-block.ensures.blocks refl;
+  block = taken-block c.args.pool.now c.mark_used.new.self c.args.class c.in_ok-block.block c.args.entries.now c.mark_used.ensures c.in_ok-block.ensures.value c.requires.held.cached;
   used = taken-used c.args.pool.now c.mark_used.new.self c.args.class c.in_ok-block.block c.mark_used.ensures;
 }

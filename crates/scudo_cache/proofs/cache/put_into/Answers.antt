@@ -7,5 +7,5 @@ use Rattle.scudo_cache.proofs.cache.put_into.Goals as goal
 -- there is room, so no half moves
 pub returns-clause-state : goal.returns-clause-state
 returns-clause-state c =
-    let l : length c.args.entries.now.items < max_count_of c.args.class = search rules in
-    c.add.ensures.state ∙ ap (after_put c.args.class c.args.block) (room-left c.args.class c.args.entries.now.items c.args.pool.now l)
+    let l : length c.args.entries.now < max_count_of c.args.class = search rules in
+    c.add.ensures.state ∙ ap (after_put c.args.class c.args.block) (room-left c.args.class c.args.entries.now c.args.pool.now l)

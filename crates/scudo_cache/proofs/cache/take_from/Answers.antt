@@ -4,10 +4,10 @@ use Rattle.scudo_cache.proofs.ClassLemmas.{refilled-some}
 use Rattle.scudo_cache.proofs.cache.take_from.Goals as goal
 
 -- there is an entry, so nothing is refilled
-at-hand : (c : goal.After-hand_out) → class_with c.args.entries.now.items c.args.pool.now ≡ refilled c.args.class c.args.entries.now.items c.args.pool.now
+at-hand : (c : goal.After-hand_out) → class_with c.args.entries.now c.args.pool.now ≡ refilled c.args.class c.args.entries.now c.args.pool.now
 at-hand c =
-    let l : 0 < length c.args.entries.now.items = search rules in
-    refilled-some c.args.class c.args.entries.now.items c.args.pool.now l
+    let l : 0 < length c.args.entries.now = search rules in
+    refilled-some c.args.class c.args.entries.now c.args.pool.now l
 
 pub returns-clause-answer : goal.returns-clause-answer
 returns-clause-answer c = c.hand_out.ensures.answer ∙ ap (λ (k : Class). newest k.entries) (at-hand c)

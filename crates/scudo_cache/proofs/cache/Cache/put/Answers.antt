@@ -4,7 +4,7 @@ use Rattle.scudo_primary.specs.Batches.{max_count_of}
 use Rattle.scudo_primary.specs.Blocks.{number_of}
 use Rattle.scudo_primary.specs.Pools.{ClassState, PoolState, class_at, pages_of}
 use Rattle.scudo_primary.specs.Lists.{IsClass}
-use Rattle.scudo_cache.specs.Caches.{Class, entries_of, with_entries, one_stack, AreStacks, with_room, after_put}
+use Rattle.scudo_cache.specs.Caches.{Class, entries_of, with_entries, one_stack, with_room, after_put}
 use Rattle.scudo_cache.proofs.ClassLemmas.{room-left, room-other, put-other, put-lists}
 use Rattle.scudo_cache.specs.Whole.{cache_of}
 use Rattle.scudo_cache.proofs.CacheLemmas.{all-classes, at-class, inside_with, view-with, entries-with, entries-other, put-back, above-kept}
@@ -15,7 +15,7 @@ use Rattle.scudo_cache.proofs.cache.Cache.put.Goals as goal
 is-class : (c : goal.After-self-1) → IsClass c.args.class
 is-class c = record { low = c.requires.low; high = c.requires.high }
 
-read : (c : goal.After-self-1) → c.index_mut.result.now.items ≡ entries_of c.args.self.now c.args.class
+read : (c : goal.After-self-1) → c.index_mut.result.now ≡ entries_of c.args.self.now c.args.class
 read c = at-class c.self.inside c.args.self.now c.args.class c.index_mut.result.now c.self.invariant c.self.view_is (is-class c) c.index_mut.ensures.value
 
 pub invariant_of-self : goal.invariant_of-self
@@ -29,19 +29,19 @@ returns-clause-cache c =
 
 others : (c : goal.After-self-1) (d : ℕ) → d ≢ c.args.class → class_at c.put_into.new.pool d ≡ class_at c.args.pool.now d
 others c d n =
-    ap (λ (k : Class). class_at k.pool d) c.put_into.ensures.state ∙ put-other c.args.class c.args.block (with_room c.args.class c.index_mut.result.now.items c.args.pool.now) d n
-    ∙ room-other c.args.class c.index_mut.result.now.items c.args.pool.now d n
+    ap (λ (k : Class). class_at k.pool d) c.put_into.ensures.state ∙ put-other c.args.class c.args.block (with_room c.args.class c.index_mut.result.now c.args.pool.now) d n
+    ∙ room-other c.args.class c.index_mut.result.now c.args.pool.now d n
 
 pub returns-clause-above : goal.returns-clause-above
 returns-clause-above c =
-    above-kept c.args.self.now _ c.args.pool.now c.put_into.new.pool c.args.class c.put_into.new.entries.items (all-classes c.self.inside c.args.self.now c.self.invariant c.self.view_is)
+    above-kept c.args.self.now _ c.args.pool.now c.put_into.new.pool c.args.class c.put_into.new.entries (all-classes c.self.inside c.args.self.now c.self.invariant c.self.view_is)
     (view-with c.self.inside c.args.self.now c.args.class c.put_into.new.entries c.self.view_is)
     (is-class c) c.requires.above c.put_into.ensures.held.cached (others c)
 
 over : (c : goal.After-self-1) (d : ℕ) → 0 < d → d ≢ c.args.class → entries_of (cache_of (inside_with c.self.inside c.args.class c.put_into.new.entries)) d ≡ entries_of c.args.self.now d
 over c d a n =
     ap (λ t. entries_of t d) (view-with c.self.inside c.args.self.now c.args.class c.put_into.new.entries c.self.view_is)
-    ∙ entries-other c.args.self.now c.args.class d c.put_into.new.entries.items c.requires.low a n
+    ∙ entries-other c.args.self.now c.args.class d c.put_into.new.entries c.requires.low a n
 
 pub returns-clause-others : goal.returns-clause-others
 returns-clause-others c = λ d a n.
@@ -50,7 +50,7 @@ returns-clause-others c = λ d a n.
 
 after : (c : goal.After-self-1) → IsAfter c.args.class (set (class_at c.args.pool.now c.args.class).marks (number_of c.args.class c.args.block) true) (class_at c.args.pool.now c.args.class).pages (class_at c.put_into.new.pool c.args.class)
 after c =
-    let xs = c.index_mut.result.now.items in
+    let xs = c.index_mut.result.now in
     let p = c.args.pool.now in
     subst (λ t. IsAfter c.args.class (set (class_at p c.args.class).marks (number_of c.args.class c.args.block) true) (class_at p c.args.class).pages (class_at t c.args.class))
     (sym (ap (λ (k : Class). k.pool) c.put_into.ensures.state)) (put-after c.args.class c.args.block xs p)
@@ -62,10 +62,10 @@ returns-clause-pages c = λ d. elim (cases_eq d c.args.class) [
 ]
 
 pub returns-clause-left : goal.returns-clause-left
-returns-clause-left c = ap (λ (k : Class). k.pool.left) c.put_into.ensures.state ∙ left-put c.args.class c.args.block c.index_mut.result.now.items c.args.pool.now
+returns-clause-left c = ap (λ (k : Class). k.pool.left) c.put_into.ensures.state ∙ left-put c.args.class c.args.block c.index_mut.result.now c.args.pool.now
 
 pub returns-clause-capacities : goal.returns-clause-capacities
-returns-clause-capacities c = ap (λ (k : Class). k.pool.capacities) c.put_into.ensures.state ∙ caps-put c.args.class c.args.block c.index_mut.result.now.items c.args.pool.now
+returns-clause-capacities c = ap (λ (k : Class). k.pool.capacities) c.put_into.ensures.state ∙ caps-put c.args.class c.args.block c.index_mut.result.now c.args.pool.now
 
 pub returns-clause-stack : goal.returns-clause-stack
 returns-clause-stack c =
@@ -73,19 +73,19 @@ returns-clause-stack c =
     ∙ c.put_into.ensures.stack
     ∙ ap (λ xs. c.args.block ∷ (reverse xs ++ (class_at c.args.pool.now c.args.class).stack)) (read c)
 
-kept : (c : goal.After-self-1) → length (entries_of c.args.self.now c.args.class) < max_count_of c.args.class → (with_room c.args.class c.index_mut.result.now.items c.args.pool.now).pool ≡ c.args.pool.now
-kept c l = ap (λ (k : Class). k.pool) (sym (room-left c.args.class c.index_mut.result.now.items c.args.pool.now (subst (λ xs. length xs < max_count_of c.args.class) (sym (read c)) l)))
+kept : (c : goal.After-self-1) → length (entries_of c.args.self.now c.args.class) < max_count_of c.args.class → (with_room c.args.class c.index_mut.result.now c.args.pool.now).pool ≡ c.args.pool.now
+kept c l = ap (λ (k : Class). k.pool) (sym (room-left c.args.class c.index_mut.result.now c.args.pool.now (subst (λ xs. length xs < max_count_of c.args.class) (sym (read c)) l)))
 
 pub returns-clause-lists : goal.returns-clause-lists
 returns-clause-lists c l =
     ap (λ (k : Class). (class_at k.pool c.args.class).stack) c.put_into.ensures.state
-    ∙ (put-lists c.args.class c.args.block (with_room c.args.class c.index_mut.result.now.items c.args.pool.now)).0
+    ∙ (put-lists c.args.class c.args.block (with_room c.args.class c.index_mut.result.now c.args.pool.now)).0
     ∙ ap (λ (p : PoolState). (class_at p c.args.class).stack) (kept c l)
 
 pub returns-clause-batches : goal.returns-clause-batches
 returns-clause-batches c l =
     ap (λ (k : Class). (class_at k.pool c.args.class).sizes) c.put_into.ensures.state
-    ∙ (put-lists c.args.class c.args.block (with_room c.args.class c.index_mut.result.now.items c.args.pool.now)).1
+    ∙ (put-lists c.args.class c.args.block (with_room c.args.class c.index_mut.result.now c.args.pool.now)).1
     ∙ ap (λ (p : PoolState). (class_at p c.args.class).sizes) (kept c l)
 
 pub returns-clause-stacks : goal.returns-clause-stacks

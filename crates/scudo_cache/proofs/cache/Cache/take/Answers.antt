@@ -4,7 +4,7 @@ use Rattle.std.specs.List.{All, IsDistinct}
 use Rattle.scudo_primary.specs.Batches.{max_count_of}
 use Rattle.scudo_primary.specs.Pools.{IsLoose, ClassState, PoolState, class_at, pages_of}
 use Rattle.scudo_primary.specs.Lists.{IsClass}
-use Rattle.scudo_cache.specs.Caches.{Class, entries_of, with_entries, one_stack, AreStacks, refilled, newest, after_take}
+use Rattle.scudo_cache.specs.Caches.{Class, entries_of, with_entries, one_stack, refilled, newest, after_take}
 use Rattle.scudo_cache.proofs.ClassLemmas.{some, refilled-some, refilled-other, taken-other, taken-lists}
 use Rattle.scudo_cache.specs.Whole.{cache_of}
 use Rattle.scudo_cache.proofs.CacheLemmas.{all-classes, at-class, inside_with, view-with, entries-with, entries-other, put-back, above-kept}
@@ -15,7 +15,7 @@ use Rattle.scudo_cache.proofs.cache.Cache.take.Goals as goal
 is-class : (c : goal.After-self-1) → IsClass c.args.class
 is-class c = record { low = c.requires.low; high = c.requires.high }
 
-read : (c : goal.After-self-1) → c.index_mut.result.now.items ≡ entries_of c.args.self.now c.args.class
+read : (c : goal.After-self-1) → c.index_mut.result.now ≡ entries_of c.args.self.now c.args.class
 read c = at-class c.self.inside c.args.self.now c.args.class c.index_mut.result.now c.self.invariant c.self.view_is (is-class c) c.index_mut.ensures.value
 
 pub take_from-requires-clause-held : goal.take_from-requires-clause-held
@@ -43,19 +43,19 @@ returns-clause-cache c =
 
 others : (c : goal.After-self-1) (d : ℕ) → d ≢ c.args.class → class_at c.take_from.new.pool d ≡ class_at c.args.pool.now d
 others c d n =
-    ap (λ (k : Class). class_at k.pool d) c.take_from.ensures.state ∙ taken-other c.args.class (refilled c.args.class c.index_mut.result.now.items c.args.pool.now) d n
-    ∙ refilled-other c.args.class c.index_mut.result.now.items c.args.pool.now d n
+    ap (λ (k : Class). class_at k.pool d) c.take_from.ensures.state ∙ taken-other c.args.class (refilled c.args.class c.index_mut.result.now c.args.pool.now) d n
+    ∙ refilled-other c.args.class c.index_mut.result.now c.args.pool.now d n
 
 pub returns-clause-above : goal.returns-clause-above
 returns-clause-above c =
-    above-kept c.args.self.now _ c.args.pool.now c.take_from.new.pool c.args.class c.take_from.new.entries.items (all-classes c.self.inside c.args.self.now c.self.invariant c.self.view_is)
+    above-kept c.args.self.now _ c.args.pool.now c.take_from.new.pool c.args.class c.take_from.new.entries (all-classes c.self.inside c.args.self.now c.self.invariant c.self.view_is)
     (view-with c.self.inside c.args.self.now c.args.class c.take_from.new.entries c.self.view_is)
     (is-class c) c.requires.above c.take_from.ensures.held.cached (others c)
 
 over : (c : goal.After-self-1) (d : ℕ) → 0 < d → d ≢ c.args.class → entries_of (cache_of (inside_with c.self.inside c.args.class c.take_from.new.entries)) d ≡ entries_of c.args.self.now d
 over c d a n =
     ap (λ t. entries_of t d) (view-with c.self.inside c.args.self.now c.args.class c.take_from.new.entries c.self.view_is)
-    ∙ entries-other c.args.self.now c.args.class d c.take_from.new.entries.items c.requires.low a n
+    ∙ entries-other c.args.self.now c.args.class d c.take_from.new.entries c.requires.low a n
 
 pub returns-clause-others : goal.returns-clause-others
 returns-clause-others c = λ d a n.
@@ -64,7 +64,7 @@ returns-clause-others c = λ d a n.
 
 after : (c : goal.After-self-1) → IsAfter c.args.class (marks_after c.args.class c.take_from.result (class_at c.args.pool.now c.args.class).marks) (class_at c.args.pool.now c.args.class).pages (class_at c.take_from.new.pool c.args.class)
 after c =
-    let xs = c.index_mut.result.now.items in
+    let xs = c.index_mut.result.now in
     let p = c.args.pool.now in
     subst (λ o. IsAfter c.args.class (marks_after c.args.class o (class_at p c.args.class).marks) (class_at p c.args.class).pages (class_at c.take_from.new.pool c.args.class)) (sym c.take_from.ensures.answer)
     (subst (λ t. IsAfter c.args.class (marks_after c.args.class (newest (refilled c.args.class xs p).entries) (class_at p c.args.class).marks) (class_at p c.args.class).pages (class_at t c.args.class))
@@ -77,10 +77,10 @@ returns-clause-pages c = λ d. elim (cases_eq d c.args.class) [
 ]
 
 pub returns-clause-left : goal.returns-clause-left
-returns-clause-left c = ap (λ (k : Class). k.pool.left) c.take_from.ensures.state ∙ left-taken c.args.class c.index_mut.result.now.items c.args.pool.now
+returns-clause-left c = ap (λ (k : Class). k.pool.left) c.take_from.ensures.state ∙ left-taken c.args.class c.index_mut.result.now c.args.pool.now
 
 pub returns-clause-capacities : goal.returns-clause-capacities
-returns-clause-capacities c = ap (λ (k : Class). k.pool.capacities) c.take_from.ensures.state ∙ caps-taken c.args.class c.index_mut.result.now.items c.args.pool.now
+returns-clause-capacities c = ap (λ (k : Class). k.pool.capacities) c.take_from.ensures.state ∙ caps-taken c.args.class c.index_mut.result.now c.args.pool.now
 
 pub returns-clause-rest : goal.returns-clause-rest
 returns-clause-rest c =
@@ -88,19 +88,19 @@ returns-clause-rest c =
     ∙ c.take_from.ensures.took.rest
     ∙ ap (λ xs. drop 1 (reverse xs ++ (class_at c.args.pool.now c.args.class).stack)) (read c)
 
-kept : (c : goal.After-self-1) → entries_of c.args.self.now c.args.class ≢ [] → (refilled c.args.class c.index_mut.result.now.items c.args.pool.now).pool ≡ c.args.pool.now
-kept c n = ap (λ (k : Class). k.pool) (sym (refilled-some c.args.class c.index_mut.result.now.items c.args.pool.now (some _ (λ e. n (sym (read c) ∙ e)))))
+kept : (c : goal.After-self-1) → entries_of c.args.self.now c.args.class ≢ [] → (refilled c.args.class c.index_mut.result.now c.args.pool.now).pool ≡ c.args.pool.now
+kept c n = ap (λ (k : Class). k.pool) (sym (refilled-some c.args.class c.index_mut.result.now c.args.pool.now (some _ (λ e. n (sym (read c) ∙ e)))))
 
 pub returns-clause-lists : goal.returns-clause-lists
 returns-clause-lists c n =
     ap (λ (k : Class). (class_at k.pool c.args.class).stack) c.take_from.ensures.state
-    ∙ (taken-lists c.args.class (refilled c.args.class c.index_mut.result.now.items c.args.pool.now)).0
+    ∙ (taken-lists c.args.class (refilled c.args.class c.index_mut.result.now c.args.pool.now)).0
     ∙ ap (λ (p : PoolState). (class_at p c.args.class).stack) (kept c n)
 
 pub returns-clause-batches : goal.returns-clause-batches
 returns-clause-batches c n =
     ap (λ (k : Class). (class_at k.pool c.args.class).sizes) c.take_from.ensures.state
-    ∙ (taken-lists c.args.class (refilled c.args.class c.index_mut.result.now.items c.args.pool.now)).1
+    ∙ (taken-lists c.args.class (refilled c.args.class c.index_mut.result.now c.args.pool.now)).1
     ∙ ap (λ (p : PoolState). (class_at p c.args.class).sizes) (kept c n)
 
 pub returns-clause-stacks : goal.returns-clause-stacks
