@@ -1,8 +1,7 @@
 -- The chains of a lookaside buffer: none, one translation more, the oldest dropped.
-use Rattle.std.proofs.Common.{cond, inl, inr, ◌≡◌, ℕ, zero, suc, ◌+◌, ◌-◌, ◌<◌, ◌≤◌, Bool, true, false, List, [], ◌∷◌, ◌++◌, length, drop, replicate, get_or, Some, None, refl, sym, ap, subst, ◌∙◌, remove, arith}
+use Rattle.std.proofs.Common.{cond, inl, inr, ◌≡◌, ℕ, zero, suc, ◌+◌, ◌-◌, ◌<◌, ◌≤◌, Bool, true, false, List, [], ◌∷◌, ◌++◌, length, drop, replicate, get_or, Some, None, refl, sym, ap, subst, ◌∙◌, arith}
 use Rattle.std.specs.Prelude.{find, slice_index, option_map}
 use Rattle.std.proofs.lemmas.List.{length-drop, length-map, get_or-drop, get_or-map, get_or_default, map-append}
-use Rattle.std.proofs.lemmas.List.Edits.{length-remove, get_or-remove_above}
 use Rattle.std.proofs.lemmas.Bool.{cases_lt, cases_eq, false_from_ne_true}
 use Rattle.mte_translate.specs.declared.translation.Translation.{Translation}
 use Rattle.mte_translate.specs.Translations.{is_for, lookup}
@@ -15,10 +14,9 @@ zero_at zero k = refl
 zero_at (suc n) zero = refl
 zero_at (suc n) (suc k) = zero_at n k
 
-pub chained-none : (n : ℕ) (gaps : List ℕ) → gaps ≡ [] → IsChained (replicate n 0) gaps []
-chained-none n gaps e =
+pub chained-none : (n : ℕ) (gaps : List ℕ) → IsChained (replicate n 0) gaps []
+chained-none n gaps =
     record {
-      sized = ap length e;
       most = λ h. let z = zero_at n h in omega (arith, z);
       newest = λ i l. absurd (omega (arith, l));
       own = λ h i s. absurd (let z = zero_at n h in omega (arith, z, s));
@@ -27,11 +25,11 @@ chained-none n gaps e =
     }
 
 -- the oldest is dropped
-pub chained-drop : (heads gaps hs news left : List ℕ) → IsChained heads gaps hs → 0 < length gaps → left ≡ remove gaps 0
+pub chained-drop : (heads gaps hs news left : List ℕ) → IsChained heads gaps hs → length hs ≤ 64
+    → ((j : ℕ) → j < 63 → slice_index left j ≡ slice_index gaps (1 + j))
     → ((k : ℕ) → slice_index news k ≡ slice_index heads k - 1) → IsChained news left (drop 1 hs)
-chained-drop heads gaps hs news left c some e less =
+chained-drop heads gaps hs news left c few gap_at less =
     record {
-      sized = let a = length-remove gaps 0 some in let b = length-drop 1 hs in let d = ap length e in omega (arith, a, b, d, c.sized);
       most = λ h. let a = less h in let b = c.most h in let d = length-drop 1 hs in omega (arith, a, b, d);
       newest = λ i l.
           let d = length-drop 1 hs in
@@ -47,20 +45,16 @@ chained-drop heads gaps hs news left c some e less =
           let d = length-drop 1 hs in
           let ai : slice_index (drop 1 hs) i ≡ slice_index hs (1 + i) = get_or-drop 1 hs i 0 in
           let aj : slice_index (drop 1 hs) j ≡ slice_index hs (1 + j) = get_or-drop 1 hs j 0 in
-          let g = gap_at j (omega (arith, m, d, c.sized)) in
+          let g = gap_at j (omega (arith, m, d, few)) in
           let a = c.between (1 + i) (1 + j) (omega (arith, l)) (omega (arith, m, d)) (sym ai ∙ s ∙ aj) in
           omega (arith, a, g);
       older = λ i j m s.
           let d = length-drop 1 hs in
           let ai : slice_index (drop 1 hs) i ≡ slice_index hs (1 + i) = get_or-drop 1 hs i 0 in
           let aj : slice_index (drop 1 hs) j ≡ slice_index hs (1 + j) = get_or-drop 1 hs j 0 in
-          let g = gap_at j (omega (arith, m, d, c.sized)) in
+          let g = gap_at j (omega (arith, m, d, few)) in
           ai ∙ c.older (1 + i) (1 + j) (omega (arith, m, d)) (omega (arith, s, g)) ∙ sym aj;
     }
-  where
-    gap_at : (j : ℕ) → j < length gaps → slice_index left j ≡ slice_index gaps (1 + j)
-    gap_at j l =
-        ap (λ xs. slice_index xs j) e ∙ get_or-remove_above gaps 0 0 j (omega arith) some ∙ ap (slice_index gaps) (omega arith)
 
 -- what a lookup has passed: no translation from a place on is that of the page, and the one before
 -- has its hash
@@ -130,9 +124,9 @@ chained-same heads gaps hs ks c e = subst (IsChained heads gaps) (sym e) c
 pub hashes-push : (ts us : List Translation) (t : Translation) → us ≡ ts ++ t ∷ [] → hashes_of us ≡ hashes_of ts ++ hash_of t.asid t.page ∷ []
 hashes-push ts us t e = ap hashes_of e ∙ map-append (λ (u : Translation). hash_of u.asid u.page) ts (t ∷ [])
 
-pub hashes-drop : (ts us : List Translation) → us ≡ remove ts 0 → hashes_of us ≡ drop 1 (hashes_of ts)
+pub hashes-drop : (ts us : List Translation) → us ≡ drop 1 ts → hashes_of us ≡ drop 1 (hashes_of ts)
 hashes-drop ts us e = ap hashes_of e ∙ first ts
   where
-    first : (xs : List Translation) → hashes_of (remove xs 0) ≡ drop 1 (hashes_of xs)
+    first : (xs : List Translation) → hashes_of (drop 1 xs) ≡ drop 1 (hashes_of xs)
     first [] = refl
     first (x ∷ xs) = refl

@@ -1,5 +1,5 @@
 -- What a filter leaves of lists in which one translation stands for each ASID and page.
-use Rattle.std.proofs.Common.{◌≡◌, ℕ, zero, suc, ◌+◌, ◌-◌, ◌<◌, ◌≤◌, ◌==◌, Bool, true, false, not, cond, List, [], ◌∷◌, ◌++◌, length, drop, filter, get_or, Option, Some, None, refl, sym, ap, subst, ◌∙◌, remove, is_some, length-append, arith}
+use Rattle.std.proofs.Common.{◌≡◌, ℕ, zero, suc, ◌+◌, ◌-◌, ◌<◌, ◌≤◌, ◌==◌, Bool, true, false, not, cond, List, [], ◌∷◌, ◌++◌, length, drop, filter, get_or, Option, Some, None, refl, sym, ap, subst, ◌∙◌, is_some, length-append, arith}
 use Rattle.std.specs.Prelude.{find, ◌&&◌, option_map}
 use Rattle.std.proofs.lemmas.List.Elements.{filter-append}
 use Rattle.mte_tags.specs.declared.attrs.Attrs.{Attrs}
@@ -93,17 +93,13 @@ others-all asid page ts gone = found (find (is_for asid page) ts) refl gone
 pub room-none : (asid page : ℕ) (ts : List Translation) → is_some (lookup asid page ts) ≡ false → length ts ≤ 63 → ts ≡ newest 63 (without asid page ts)
 room-none asid page ts gone few = sym (ap (newest 63) (others-all asid page ts gone) ∙ newest-few ts few)
 
-pub without-one : (ts : List Translation) → remove ts 0 ≡ drop 1 ts
-without-one [] = refl
-without-one (t ∷ ts) = refl
-
-without-first : (ts : List Translation) → length ts ≡ 64 → remove ts 0 ≡ newest 63 ts
+without-first : (ts : List Translation) → length ts ≡ 64 → drop 1 ts ≡ newest 63 ts
 without-first [] full = absurd (omega (arith, full))
 without-first (t ∷ ts) full =
     let one : length (t ∷ ts) - 63 ≡ 1 = omega (arith, full) in
     sym (ap (λ n. drop n (t ∷ ts)) one)
 
-pub room-oldest : (asid page : ℕ) (ts : List Translation) → is_some (lookup asid page ts) ≡ false → length ts ≡ 64 → remove ts 0 ≡ newest 63 (without asid page ts)
+pub room-oldest : (asid page : ℕ) (ts : List Translation) → is_some (lookup asid page ts) ≡ false → length ts ≡ 64 → drop 1 ts ≡ newest 63 (without asid page ts)
 room-oldest asid page ts gone full = without-first ts full ∙ sym (ap (newest 63) (others-all asid page ts gone))
 
 pub same-left : (a b c d : ℕ) → ((a == b) && (c == d)) ≡ true → a ≡ b
@@ -140,8 +136,7 @@ one-each-push t old ts us one others e asid page = rw e (split (is_for asid page
         omega (arith, long, last_long, more)
 
 -- the translation that a hint names
-pub lookup-at : (asid page : ℕ) (old ts us : List Translation) (i : ℕ) (d : Translation) → IsOneEach ts → ts ≡ old → us ≡ ts → i < length ts → is_for asid page (get_or us i d) ≡ true → lookup asid page old ≡ Some ((get_or us i d).frame, (get_or us i d).attrs)
-lookup-at asid page old ts us i d one is same l e =
-    let few : length (filter (is_for asid page) us) ≤ 1 = subst (λ xs. length (filter (is_for asid page) xs) ≤ 1) (sym same) (one asid page) in
-    let inside : i < length us = subst (λ xs. i < length xs) (sym same) l in
-    ap (lookup asid page) (sym (same ∙ is)) ∙ ap (option_map (λ (t : Translation). (t.frame, t.attrs))) (the-one (is_for asid page) us i d few inside e)
+pub lookup-at : (asid page : ℕ) (old ts : List Translation) (i : ℕ) (t : Translation) → IsOneEach ts → ts ≡ old → i < length ts → t ≡ get_or ts i t → is_for asid page t ≡ true → lookup asid page old ≡ Some (t.frame, t.attrs)
+lookup-at asid page old ts i t one same l here e =
+    let found = the-one (is_for asid page) ts i t (one asid page) l (sym (ap (is_for asid page) here) ∙ e) in
+    ap (lookup asid page) (sym same) ∙ ap (option_map (λ (u : Translation). (u.frame, u.attrs))) (found ∙ ap Some (sym here))

@@ -17,7 +17,6 @@ abbrev pub hashes_of : List Translation → List ℕ
 hashes_of ts = map (λ t. hash_of t.asid t.page) ts
 
 pub record IsChained (heads gaps hs : List ℕ) : Type 0 where
-  pub sized : length gaps ≡ length hs
   pub most : (h : ℕ) → slice_index heads h ≤ length hs
   -- none of a hash is newer than its head, and its head has the hash
   pub newest : (i : ℕ) → i < length hs → i < slice_index heads (slice_index hs i)
@@ -31,8 +30,8 @@ pub record IsChained (heads gaps hs : List ℕ) : Type 0 where
       → slice_index hs i ≡ slice_index hs j
 
 abbrev pub translations_of : Inside → List Translation
-translations_of f = f.translations.items
+translations_of f = f.translations
 
 pub record IsTlb (f : Inside) : Type 0 where
   pub one_each : IsOneEach (translations_of f)
-  pub chained : IsChained f.chains.heads f.chains.gaps.items (hashes_of (translations_of f))
+  pub chained : IsChained f.chains.heads f.chains.gaps (hashes_of (translations_of f))

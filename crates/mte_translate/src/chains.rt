@@ -5,7 +5,6 @@ ghost use Rattle.std.specs.Prelude.{slice_index};
 ghost use Rattle.mte_translate.specs.Whole.{hash_of, hashes_of, IsChained};
 
 use crate::translation::{TLB_ENTRIES, Translation};
-use arrayvec::ArrayVec;
 
 const HASHES: usize = 256;
 
@@ -16,17 +15,17 @@ pub(crate) struct Chains {
     heads: [u8; HASHES],
     /// For each translation how many of other hashes stand between it and the next older one of its
     /// own, or at least all that are older where it is the oldest of its hash. This stays right
-    /// where the oldest translation of all is dropped.
-    gaps: ArrayVec<u8, TLB_ENTRIES>,
+    /// where the oldest translation of all is dropped. What lies behind them says nothing.
+    gaps: [u8; TLB_ENTRIES],
 }
 
 impl Chains {
     pub(crate) fn new() -> Chains
-        ensures { IsChained result.heads result.gaps.items [] }
+        ensures { IsChained result.heads result.gaps [] }
     {
         Chains {
             heads: [0; HASHES],
-            gaps: ArrayVec::new(),
+            gaps: [0; TLB_ENTRIES],
         }
     }
 
@@ -41,33 +40,31 @@ impl Chains {
     /// The place behind the next older translation of the hash of that at a place, 0 where there is
     /// none.
     pub(crate) fn end_before(&self, place: usize) -> usize
-        requires { place < length self.now.gaps.items }
-        ensures { result ≡ place - slice_index self.now.gaps.items place }
+        requires { place < 64 }
+        ensures { result ≡ place - slice_index self.now.gaps place }
     {
         place.saturating_sub(self.gaps[place] as usize)
     }
 
-    /// A translation of the page comes last.
-    pub(crate) fn push(&mut self, asid: usize, page: u64)
-        requires { length self.old.gaps.items < 64 }
-        ensures { (hs : List ℕ)
-            → IsChained self.old.heads self.old.gaps.items hs
-            → IsChained self.new.heads self.new.gaps.items (hs ++ hash_of asid page ∷ []) }
+    /// A translation of the page comes last, at `place`, which is how many stand.
+    pub(crate) fn push(&mut self, place: usize, asid: usize, page: u64)
+        requires { place < 64 }
+        ensures { (hs : List ℕ) → length hs ≡ place
+            → IsChained self.old.heads self.old.gaps hs
+            → IsChained self.new.heads self.new.gaps (hs ++ hash_of asid page ∷ []) }
     {
-        let place = self.gaps.len() as u8;
         let head = &mut self.heads[hash(asid, page)];
-        self.gaps.push(place.saturating_sub(*head));
-        *head = place + 1;
+        self.gaps[place] = (place as u8).saturating_sub(*head);
+        *head = place as u8 + 1;
     }
 
     /// The oldest translation is dropped: each other one stands one place lower.
     pub(crate) fn drop_oldest(&mut self)
-        requires { 0 < length self.old.gaps.items }
-        ensures { (hs : List ℕ)
-            → IsChained self.old.heads self.old.gaps.items hs
-            → IsChained self.new.heads self.new.gaps.items (drop 1 hs) }
+        ensures { (hs : List ℕ) → length hs ≤ 64
+            → IsChained self.old.heads self.old.gaps hs
+            → IsChained self.new.heads self.new.gaps (drop 1 hs) }
     {
-        self.gaps.remove(0);
+        self.gaps.copy_within(1.., 0);
         for head in self.heads.iter_mut() {
             *head = head.saturating_sub(1);
         }
@@ -76,11 +73,12 @@ impl Chains {
     /// Other translations stand, these.
     pub(crate) fn rebuild(&mut self, translations: &[Translation])
         requires { length translations.now ≤ 64 }
-        ensures { IsChained self.new.heads self.new.gaps.items (hashes_of translations.now) }
+        ensures { IsChained self.new.heads self.new.gaps (hashes_of translations.now) }
     {
         *self = Chains::new();
-        for translation in translations {
-            self.push(translation.asid, translation.page);
+        for place in 0..translations.len() {
+            let translation = translations[place];
+            self.push(place, translation.asid, translation.page);
         }
     }
 }

@@ -6,6 +6,7 @@
 mod chains;
 mod entries;
 mod laws;
+mod standing;
 mod table;
 mod table_laws;
 mod tlb;

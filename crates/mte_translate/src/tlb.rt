@@ -5,15 +5,15 @@ ghost use Rattle.mte_translate.specs.Translations.{lookup, filled, without, with
 ghost use Rattle.mte_translate.specs.Translations.{newest, IsOneEach};
 
 use crate::chains::Chains;
+use crate::standing::Standing;
 use crate::translation::{TLB_ENTRIES, Translation};
-use arrayvec::ArrayVec;
 use mte_tags::Attrs;
 use std::marker::Model;
 
 /// At most 64 translations, the oldest first, and at most one of each page of an address space.
 #[derive(Drop)]
 pub struct Tlb {
-    translations: ArrayVec<Translation, TLB_ENTRIES>,
+    translations: Standing,
     chains: Chains,
 }
 
@@ -35,7 +35,7 @@ impl Tlb {
         ensures { result ≡ [] }
     {
         Tlb {
-            translations: ArrayVec::new(),
+            translations: Standing::new(),
             chains: Chains::new(),
         }
     }
@@ -56,7 +56,7 @@ impl Tlb {
     {
         let mut end = self.chains.end(asid, page);
         while end > 0 {
-            let translation = self.translations[end - 1];
+            let translation = self.translations.get(end - 1);
             if translation.is_for(asid, page) {
                 return Some((translation.frame, translation.attrs));
             }
@@ -74,7 +74,7 @@ impl Tlb {
         if end == 0 {
             return None;
         }
-        let newest = self.translations[end - 1];
+        let newest = self.translations.get(end - 1);
         if newest.is_for(asid, page) {
             Some((newest.frame, newest.attrs))
         } else {
@@ -89,7 +89,7 @@ impl Tlb {
             ≡ filled (record { asid = asid; page = page; frame = frame; attrs = attrs }) self.old }
     {
         self.make_room(asid, page);
-        self.chains.push(asid, page);
+        self.chains.push(self.translations.len(), asid, page);
         self.translations.push(Translation {
             asid,
             page,
@@ -125,11 +125,11 @@ impl Tlb {
         ensures rest { self.new ≡ newest 63 (without asid page self.old) }
         ensures room { length self.new < 64 }
     {
-        let full = self.translations.is_full();
+        let full = self.translations.len() == TLB_ENTRIES;
         if self.lookup(asid, page).is_some() {
             self.forget(asid, page);
         } else if full {
-            self.translations.remove(0);
+            self.translations.drop_oldest();
             self.chains.drop_oldest();
         }
     }

@@ -10,14 +10,14 @@ loop-end-init c = passed-none _ _ _ _ _ _ c.self.invariant.chained c.end-end.ens
 
 pub returns-then-is_for : goal.returns-then-is_for
 returns-then-is_for c =
-    let inside : c.loop-end.end - 1 < length c.self.inside.translations.items = omega (arith, c.loop-end.invariant.within, c.loop-end-test.true) in
-    sym (lookup-at c.args.asid c.args.page c.args.self.now c.self.inside.translations.items c.deref.result.now (c.loop-end.end - 1) _ c.self.invariant.one_each c.self.view_is c.deref.ensures.0 inside (sym c.is_for.ensures ∙ c.if-is_for.true))
+    let inside : c.loop-end.end - 1 < length c.self.inside.translations = omega (arith, c.loop-end.invariant.within, c.loop-end-test.true) in
+    sym (lookup-at c.args.asid c.args.page c.args.self.now c.self.inside.translations (c.loop-end.end - 1) c.get-translation.result c.self.invariant.one_each c.self.view_is inside (c.get-translation.ensures.value _) (sym c.is_for.ensures ∙ c.if-is_for.true))
 
 pub loop-end-preserved : goal.loop-end-preserved
 loop-end-preserved c =
     let none : Translation = record { asid = 0; page = 0; frame = 0; attrs = record { 0 = 0 } } in
-    let not : is_for c.args.asid c.args.page (get_or c.self.inside.translations.items (c.loop-end.end - 1) none) ≡ false =
-    sym (ap (λ ts. is_for c.args.asid c.args.page (get_or ts (c.loop-end.end - 1) none)) c.deref.ensures.0) ∙ sym c.is_for.ensures ∙ c.if-is_for.false in
+    let not : is_for c.args.asid c.args.page (get_or c.self.inside.translations (c.loop-end.end - 1) none) ≡ false =
+    sym (ap (is_for c.args.asid c.args.page) (c.get-translation.ensures.value none)) ∙ sym c.is_for.ensures ∙ c.if-is_for.false in
     passed-more _ _ _ _ _ _ _ none c.self.invariant.chained c.loop-end.invariant (omega (arith, c.loop-end-test.true)) not c.end_before-end.ensures
 
 pub returns : goal.returns
