@@ -19,8 +19,6 @@ pub enum Call {
     Fill(u64, u8, u8),
     /// Whether a page holds these in its bytes, and in its first and its last granule.
     Holds(u64, u8, u8),
-    /// Reads one byte.
-    Touch(u64),
     Read(u64, bool),
     Write(u64, u64, bool),
     LoadTag(u64),
@@ -111,10 +109,6 @@ fn access<M: Tagged>(memory: &mut M, call: Call) -> Result<u64, MemFault>
     ensures { M.kept memory.old memory.new }
 {
     match call {
-        Call::Touch(at) => {
-            memory.read(at, &mut [0], true)?;
-            Ok(0)
-        }
         Call::Read(at, check) => read(memory, at, check),
         Call::Write(at, value, check) => write(memory, at, value, check),
         Call::LoadTag(at) => Ok(u64::from(memory.load_tag(at)?)),

@@ -151,14 +151,18 @@ fn refused_memory(rt: HostRuntime) {
     }
 }
 
+fn reserves_all_once(pool: &mut FramePool) -> bool {
+    let Ok(all) = reserve(pool, 11) else {
+        return false;
+    };
+    let refused = reserve(pool, 1).is_err() && release(pool, all);
+    refused && reserve(pool, 12).is_err() && reserve(pool, 1).is_ok()
+}
+
 #[test]
 fn all_frames_are_reserved_once(rt: HostRuntime) -> Result<(), Fail> {
     let mut pool = pool_of(rt.alloc(), 11)?;
-    let Ok(all) = reserve(&mut pool, 11) else {
-        return Err(Fail::new("eleven of eleven are refused"));
-    };
-    let refused = reserve(&mut pool, 1).is_err() && release(&mut pool, all);
-    assert!(rt; refused && reserve(&mut pool, 12).is_err() && reserve(&mut pool, 1).is_ok());
+    assert!(rt; reserves_all_once(&mut pool));
     Ok(())
 }
 
@@ -192,14 +196,19 @@ fn is_used_once(pool: &mut FramePool) -> bool {
     }
 }
 
+/// Whether the frame that was used under one quota is zero under the next.
+fn comes_back_zero(pool: &mut FramePool) -> bool {
+    let used = is_used_once(pool);
+    match reserve(pool, 1) {
+        Ok(mut second) => used && next_is_zero(pool, &mut second),
+        Err(_) => false,
+    }
+}
+
 #[test]
 fn a_frame_comes_back_zero(rt: HostRuntime) -> Result<(), Fail> {
     let mut pool = pool_of(rt.alloc(), 1)?;
-    let used = is_used_once(&mut pool);
-    let Ok(mut second) = reserve(&mut pool, 1) else {
-        return Err(Fail::new("the second quota"));
-    };
-    assert!(rt; used && next_is_zero(&mut pool, &mut second));
+    assert!(rt; comes_back_zero(&mut pool));
     Ok(())
 }
 
@@ -221,22 +230,6 @@ fn is_filled_if_there(pool: &mut FramePool, quota: &Quota, f: usize) -> bool {
     let some = fill_if(pool, quota, Some(f), 6);
     let after = has_bytes(pool, quota, f, &[(0, 6), (4095, 6)]);
     !none && before && some && after && has_tags(pool, quota, f, &TAGS_OF_BLOCK)
-}
-
-/// What is written to one frame leaves another as it is.
-#[test]
-fn frames_are_apart(rt: HostRuntime) -> Result<(), Fail> {
-    let mut pool = pool_of(rt.alloc(), 2)?;
-    let Ok(mut quota) = reserve(&mut pool, 2) else {
-        return Err(Fail::new("a quota is refused"));
-    };
-    let (Some(f), Some(g)) = (take(&mut pool, &mut quota), take(&mut pool, &mut quota)) else {
-        return Err(Fail::new("a frame is missing"));
-    };
-    let written = is_written_at_once(&mut pool, &quota, f);
-    let filled = written && is_filled_if_there(&mut pool, &quota, f);
-    assert!(rt; filled && is_all(&pool, &quota, g, 0, 0));
-    Ok(())
 }
 
 const AFTER_RUNS: [(usize, u8); 12] = [
@@ -262,15 +255,25 @@ fn runs_are_marked(pool: &mut FramePool, quota: &Quota, f: usize) -> bool {
     has_tags(pool, quota, f, &AFTER_RUNS)
 }
 
+/// Whether what is written to one frame leaves another as it is, which then gets runs of tags.
+fn two_are_apart(pool: &mut FramePool, quota: &mut Quota) -> bool {
+    let (Some(f), Some(g)) = (take(pool, quota), take(pool, quota)) else {
+        return false;
+    };
+    let filled = is_written_at_once(pool, quota, f) && is_filled_if_there(pool, quota, f);
+    filled && is_all(pool, quota, g, 0, 0) && runs_are_marked(pool, quota, g)
+}
+
+fn frames_of_a_quota_are_apart(pool: &mut FramePool) -> bool {
+    match reserve(pool, 2) {
+        Ok(mut quota) => two_are_apart(pool, &mut quota),
+        Err(_) => false,
+    }
+}
+
 #[test]
-fn runs_of_tags(rt: HostRuntime) -> Result<(), Fail> {
-    let mut pool = pool_of(rt.alloc(), 1)?;
-    let Ok(mut quota) = reserve(&mut pool, 1) else {
-        return Err(Fail::new("a quota is refused"));
-    };
-    let Some(f) = take(&mut pool, &mut quota) else {
-        return Err(Fail::new("a frame is missing"));
-    };
-    assert!(rt; runs_are_marked(&mut pool, &quota, f));
+fn frames_are_apart(rt: HostRuntime) -> Result<(), Fail> {
+    let mut pool = pool_of(rt.alloc(), 2)?;
+    assert!(rt; frames_of_a_quota_are_apart(&mut pool));
     Ok(())
 }

@@ -138,11 +138,11 @@ struct Row {
     answer: Answer,
 }
 
-/// One byte that is read puts the page into the lookaside buffer.
+/// Bytes that are read put the page into the lookaside buffer.
 #[rattlefmt::skip]
 const TOUCHED: [Row; 2] = [
     Row { second: false, call: Call::Turn(PAGE), answer: Answer::Number(1) },
-    Row { second: false, call: Call::Touch(PAGE * 4096 + 4095), answer: Answer::Number(0) },
+    Row { second: false, call: Call::Read(PAGE * 4096 + 4088, true), answer: Answer::Number(0) },
 ];
 
 /// An access that faults changes nothing. The frame of a page that the first fills and unmaps comes

@@ -7,12 +7,13 @@ ghost use Rattle.mte_elf.specs.Images.{refusal_of, pages_of};
 
 use super::{EXECUTABLE, image, text};
 use crate::space::{PAGES, SYNC, has_room, pool_of, two_quotas};
-use mte_elf::{Plan, load, plan};
+use mte_elf::{ElfError, Plan, load, plan};
 use mte_flat::Flat;
 use mte_frames::FramePool;
 use mte_space::{Space, pages_of_a_space};
 use mte_tags::{Attrs, Paged, TagMode, Tagged};
 use mte_translate::{Table, Tlb};
+use std::alloc::Global;
 use std::test::Fail;
 
 /// Loads an image into a memory without pages, if it has room.
@@ -109,13 +110,22 @@ fn is_loaded_alike<M: Paged>(plan: &Plan, file: &[u8], plain: &mut M, pool: &mut
     are_loaded_alike(plan, file, plain, &mut space)
 }
 
+/// Whether a file is loaded into a new plain memory and into one over frames alike.
+fn file_is_loaded_alike(
+    alloc: Global,
+    pool: &mut FramePool,
+    file: &[u8],
+) -> Result<bool, ElfError> {
+    let plan = plan(alloc, file)?;
+    let mut plain = Flat::new(alloc, PAGES, TagMode::Sync)?;
+    Ok(is_loaded_alike(&plan, file, &mut plain, pool))
+}
+
 /// The image is that of examples/hi.elf, of one page. No other page is mapped.
 #[test]
 fn an_image_over_frames(rt: HostRuntime) -> Result<(), Fail> {
     let file = image(rt.alloc(), EXECUTABLE, &[text(1)])?;
-    let plan = plan(rt.alloc(), &file)?;
-    let mut plain = Flat::new(rt.alloc(), PAGES, TagMode::Sync)?;
     let mut pool = pool_of(rt.alloc(), 22)?;
-    assert!(rt; is_loaded_alike(&plan, &file, &mut plain, &mut pool));
+    assert!(rt; file_is_loaded_alike(rt.alloc(), &mut pool, &file) == Ok(true));
     Ok(())
 }
