@@ -25,16 +25,24 @@ fn pops_twelve(pool: &mut Pool) -> bool {
     pool.pop(9).is_none()
 }
 
+fn has_none(pool: &Pool) -> bool {
+    pool.carved(9) == 0 && !pool.is_block(9, 0x1900_0000)
+}
+
+/// Whether the twelfth block is the last one.
+fn has_twelve(pool: &Pool) -> bool {
+    let last = pool.carved(9) == 12 && pool.is_block(9, 0x1900_0dc0);
+    last && !pool.is_block(9, 0x1900_0f00) && !pool.is_free(9, 0x1900_0f00)
+}
+
 /// Class 9 has 320 bytes: a page holds 12 blocks, two pages 25.
 #[test]
 #[tactic(auto, using(scudo_primary::proofs::PoolLaws::left_laws))]
 fn thirteen_blocks_of_class_9(rt: HostRuntime) -> Result<(), Fail> {
     let mut pool = Pool::new(rt.alloc(), 2)?;
-    let none = pool.carved(9) == 0 && pool.pop(9).is_none() && !pool.is_block(9, 0x1900_0000);
+    let none = has_none(&pool);
     pool.carve(9, 1);
-    let last = pool.carved(9) == 12 && pool.is_block(9, 0x1900_0dc0);
-    let past = pool.is_block(9, 0x1900_0f00) || pool.is_free(9, 0x1900_0f00);
-    assert!(rt; none && last && !past && pops_twelve(&mut pool));
+    assert!(rt; none && has_twelve(&pool) && pops_twelve(&mut pool));
     Ok(())
 }
 
@@ -79,21 +87,26 @@ fn a_batch_keeps_its_order(rt: HostRuntime) -> Result<(), Fail> {
     Ok(())
 }
 
-/// Marks follow `pop` and the two calls that set them.
+/// Whether marks follow `pop` and the two calls that set them.
+fn are_marked(pool: &mut Pool) -> bool {
+    let block = start(44);
+    let new = pool.carved(44) == 1 && pool.is_free(44, block);
+    let Some(popped) = pool.pop(44) else {
+        return false;
+    };
+    pool.mark_used(44, popped);
+    if !new || popped != block || !pool.is_block(44, block) || pool.is_free(44, block) {
+        return false;
+    }
+    pool.mark_free(44, block);
+    pool.is_free(44, block) && pool.pop(44).is_none()
+}
+
 #[test]
 #[tactic(auto, using(scudo_primary::proofs::PoolLaws::left_laws))]
 fn marks(rt: HostRuntime) -> Result<(), Fail> {
     let mut pool = Pool::new(rt.alloc(), 32)?;
     pool.carve(44, 32);
-    let block = start(44);
-    let new = pool.carved(44) == 1 && pool.is_block(44, block) && pool.is_free(44, block);
-    let Some(popped) = pool.pop(44) else {
-        return Err(Fail::new("no block"));
-    };
-    pool.mark_used(44, popped);
-    let used = pool.is_block(44, block) && !pool.is_free(44, block);
-    assert!(rt; new && popped == block && used);
-    pool.mark_free(44, block);
-    assert!(rt; pool.is_free(44, block) && pool.pop(44).is_none());
+    assert!(rt; are_marked(&mut pool));
     Ok(())
 }

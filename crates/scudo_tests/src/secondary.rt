@@ -59,14 +59,18 @@ fn puts_three(maps: &mut Maps) -> bool
     one == Some(0x3D00_1000) && two == Some(0x3D00_3000) && three == Some(0x3D00_6000)
 }
 
+/// Whether all of the range behind the three is to be had, and no more.
+fn places_rest(maps: &Maps) -> bool {
+    let (after, last) = (maps.place(1), maps.place(8181));
+    after == Some(0x3D00_A000) && last == after && maps.place(8182).is_none()
+}
+
 #[test]
 #[tactic(auto, using(crate::proofs::MappingTests::test_rules))]
 fn mappings_share_the_page_between_them(rt: HostRuntime) -> Result<(), Fail> {
     let mut maps = Maps::new(rt.alloc(), 8)?;
     let put = puts_three(&mut maps);
-    let (after, last) = (maps.place(1), maps.place(8181));
-    let placed = after == Some(0x3D00_A000) && last == after;
-    assert!(rt; put && placed && maps.place(8182).is_none());
+    assert!(rt; put && places_rest(&maps));
     maps.are_in_order();
     Ok(())
 }
