@@ -4,7 +4,8 @@ ghost use Rattle.std.specs.Prelude.{◌≡◌, ◌<◌, ◌^◌, IsSome, IsTrue,
 ghost use Rattle.mte_tags.specs.Memory.{page_at};
 
 use mte_flat::Flat;
-use mte_tags::{Attrs, MemFault, Paged, Tagged};
+use mte_tags::{Attrs, MemFault, Paged, TagMode, Tagged};
+use std::alloc::Global;
 
 /// Six pages over two leaves of a table, of which a tenant may map five.
 const PAGES: [u64; 6] = [0x100, 0x101, 0x1FF, 0x200, 0x201, 0x3FF];
@@ -18,10 +19,6 @@ pub enum Call {
     Fill(u64, u8, u8),
     /// Whether a page holds these in its bytes, and in its first and its last granule.
     Holds(u64, u8, u8),
-    /// Reads one byte.
-    Touch(u64),
-    /// A read and a write over two granules of the page 0x100, of which the second has another tag.
-    OverTwoGranules,
     Read(u64, bool),
     Write(u64, u64, bool),
     LoadTag(u64),
@@ -100,30 +97,27 @@ fn holds<M: Tagged>(memory: &mut M, at: u64, value: u8, tag: u8) -> bool
         && memory.load_tag(at | 0xFF0) == Ok(tag)
 }
 
-/// The first granule of the page 0x100 gets the tag 1. The fault of a read by a pointer with tag 1
-/// over the end of that granule, where a write has it too and neither changes anything.
-fn over_two_granules<M: Tagged>(memory: &mut M) -> Option<MemFault>
+fn write<M: Tagged>(memory: &mut M, at: u64, value: u64, check: bool) -> Result<u64, MemFault>
     ensures { M.kept memory.old memory.new }
 {
-    let pointer = 0x0100_0000_0010_000C;
-    let stored = memory.store_tags(0x10_0000, 1, 1, false).is_ok();
-    let mut bytes = [7u8; 8];
-    let fault = memory.read(pointer, &mut bytes, true).err()?;
-    let write = memory.write(pointer - 4, &[9; 16], true).err()?;
-    let unchanged = bytes == [7; 8]
-        && memory.read(pointer - 4, &mut bytes, true).is_ok()
-        && bytes == [0; 8]
-        && memory.read(0x10_0010, &mut bytes, true).is_ok()
-        && bytes == [0; 8]
-        && !memory.pending();
-    let of_write = MemFault {
-        write: true,
-        ..fault
-    };
-    if stored && unchanged && write == of_write {
-        Some(fault)
-    } else {
-        None
+    memory.write(at, &value.to_le_bytes(), check)?;
+    Ok(0)
+}
+
+/// A call that maps no page.
+fn access<M: Tagged>(memory: &mut M, call: Call) -> Result<u64, MemFault>
+    ensures { M.kept memory.old memory.new }
+{
+    match call {
+        Call::Read(at, check) => read(memory, at, check),
+        Call::Write(at, value, check) => write(memory, at, value, check),
+        Call::LoadTag(at) => Ok(u64::from(memory.load_tag(at)?)),
+        Call::StoreTags(at, count, tag) => {
+            memory.store_tags(at, count, tag % 16, true)?;
+            Ok(0)
+        }
+        Call::Fetch(at) => Ok(u64::from(memory.fetch(at)?)),
+        _ => Ok(u64::from(memory.pending())),
     }
 }
 
@@ -131,35 +125,17 @@ fn over_two_granules<M: Tagged>(memory: &mut M) -> Option<MemFault>
 pub fn reply<M: Paged>(memory: &mut M, call: Call) -> Answer
     ensures { M.kept memory.old memory.new }
 {
-    of_number(match call {
-        Call::Turn(page) => Ok(turn(memory, page % 0x4_0000)),
-        Call::Fill(page, value, tag) => Ok(u64::from(fill(
-            memory,
-            page % 0x4_0000 * 4096,
-            value,
-            tag,
-        ))),
-        Call::Holds(page, value, tag) => Ok(u64::from(holds(
-            memory,
-            page % 0x4_0000 * 4096,
-            value,
-            tag,
-        ))),
-        Call::Touch(at) => memory.read(at, &mut [0], true).map(|_| 0),
-        Call::OverTwoGranules => match over_two_granules(memory) {
-            Some(fault) => Err(fault),
-            None => Ok(0),
-        },
-        Call::Read(at, check) => read(memory, at, check),
-        Call::Write(at, value, check) => {
-            memory.write(at, &value.to_le_bytes(), check).map(|_| 0)
+    match call {
+        Call::Turn(page) => Answer::Number(turn(memory, page % 0x4_0000)),
+        Call::Fill(page, value, tag) => {
+            Answer::Number(u64::from(fill(memory, page % 0x4_0000 * 4096, value, tag)))
         }
-        Call::LoadTag(at) => memory.load_tag(at).map(u64::from),
-        Call::StoreTags(at, count, tag) => memory.store_tags(at, count, tag % 16, true).map(|_| 0),
-        Call::Fetch(at) => memory.fetch(at).map(u64::from),
-        Call::Pending => Ok(u64::from(memory.pending())),
-        Call::PagesLeft => Ok(memory.pages_left() as u64),
-    })
+        Call::Holds(page, value, tag) => {
+            Answer::Number(u64::from(holds(memory, page % 0x4_0000 * 4096, value, tag)))
+        }
+        Call::PagesLeft => Answer::Number(memory.pages_left() as u64),
+        _ => of_number(access(memory, call)),
+    }
 }
 
 /// Whether a plain memory answers calls one after another as it must.
@@ -170,6 +146,16 @@ pub fn answers(memory: &mut Flat, rows: &[(Call, Answer)]) -> bool {
         }
     }
     true
+}
+
+/// Whether a new plain memory answers calls one after another as it must.
+pub fn flat_answers(alloc: Global, pages: usize, rows: &[(Call, Answer)]) -> bool
+    requires { 0 < pages }
+{
+    match Flat::new(alloc, pages, TagMode::Sync) {
+        Ok(mut memory) => answers(&mut memory, rows),
+        Err(_) => false,
+    }
 }
 
 /// How many calls are drawn.

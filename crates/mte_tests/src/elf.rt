@@ -23,26 +23,15 @@ const HI: [u32; 9] = [
     0x0000_6948,
 ];
 
-/// What the tests choose of a file header.
-#[derive(Clone, Copy)]
-struct FileHeader {
-    class: u8,
-    kind: u16,
-    machine: u16,
-    entry: u64,
-    table: u64,
-    header_size: u16,
-}
-
-/// The file header of an executable that begins at 0x10000.
-const EXECUTABLE: FileHeader = FileHeader {
-    class: 2,
-    kind: 2,
-    machine: 183,
-    entry: 0x10000,
-    table: 64,
-    header_size: 56,
-};
+/// The file header of an executable that begins at 0x10000, but for the number of its program
+/// headers.
+#[rattlefmt::skip]
+const EXECUTABLE: [u8; 64] = [
+    0x7F, b'E', b'L', b'F', 2, 1, 1, 0, 0, 0, 0, 0, 0, 0, 0, 0,
+    2, 0, 183, 0, 1, 0, 0, 0, 0, 0, 1, 0, 0, 0, 0, 0,
+    64, 0, 0, 0, 0, 0, 0, 0, 0, 0, 0, 0, 0, 0, 0, 0,
+    0, 0, 0, 0, 64, 0, 56, 0, 0, 0, 0, 0, 0, 0, 0, 0,
+];
 
 /// A program header.
 #[derive(Clone, Copy)]
@@ -80,37 +69,38 @@ fn zeros(vaddr: u64, memsz: u64) -> Header {
 }
 
 /// A file of a file header, program headers and the words of `HI`.
-fn image(alloc: Global, file: FileHeader, headers: &[Header]) -> Result<Vec<u8>, AllocError> {
-    let count = u16::try_from(headers.len()).unwrap_or(u16::MAX);
+fn image(alloc: Global, file: [u8; 64], headers: &[Header]) -> Result<Vec<u8>, AllocError> {
     let mut bytes = Vec::new(alloc);
-    bytes.extend_from_slice(&[0x7F, b'E', b'L', b'F', file.class, 1, 1])?;
-    bytes.extend_from_slice(&[0; 9])?;
-    bytes.extend_from_slice(&file.kind.to_le_bytes())?;
-    bytes.extend_from_slice(&file.machine.to_le_bytes())?;
-    bytes.extend_from_slice(&1u32.to_le_bytes())?;
-    bytes.extend_from_slice(&file.entry.to_le_bytes())?;
-    bytes.extend_from_slice(&file.table.to_le_bytes())?;
-    bytes.extend_from_slice(&[0; 12])?;
-    bytes.extend_from_slice(&64u16.to_le_bytes())?;
-    bytes.extend_from_slice(&file.header_size.to_le_bytes())?;
-    bytes.extend_from_slice(&count.to_le_bytes())?;
-    bytes.extend_from_slice(&[0; 6])?;
-    for header in headers {
-        push_header(&mut bytes, header)?;
-    }
-    push_words(&mut bytes)?;
+    push_image(&mut bytes, file, headers)?;
     Ok(bytes)
 }
 
+fn push_image(
+    bytes: &mut Vec<u8>,
+    mut file: [u8; 64],
+    headers: &[Header],
+) -> Result<(), AllocError> {
+    file[56] = (headers.len() % 256) as u8;
+    bytes.extend_from_slice(&file)?;
+    for header in headers {
+        push_header(bytes, header)?;
+    }
+    push_words(bytes)
+}
+
 fn push_header(bytes: &mut Vec<u8>, header: &Header) -> Result<(), AllocError> {
-    bytes.extend_from_slice(&header.kind.to_le_bytes())?;
-    bytes.extend_from_slice(&header.flags.to_le_bytes())?;
-    bytes.extend_from_slice(&header.offset.to_le_bytes())?;
-    bytes.extend_from_slice(&header.vaddr.to_le_bytes())?;
-    bytes.extend_from_slice(&header.vaddr.to_le_bytes())?;
-    bytes.extend_from_slice(&header.filesz.to_le_bytes())?;
-    bytes.extend_from_slice(&header.memsz.to_le_bytes())?;
-    bytes.extend_from_slice(&1u64.to_le_bytes())?;
+    let kind = u64::from(header.kind) | u64::from(header.flags) << 32;
+    for word in [
+        kind,
+        header.offset,
+        header.vaddr,
+        header.vaddr,
+        header.filesz,
+        header.memsz,
+        1,
+    ] {
+        bytes.extend_from_slice(&word.to_le_bytes())?;
+    }
     Ok(())
 }
 
@@ -132,46 +122,74 @@ fn loaded(alloc: Global, file: &[u8]) -> Result<Flat, ElfError> {
     Ok(memory)
 }
 
+/// Whether a memory that an image was loaded into answers calls as it must.
+fn answers_loaded(alloc: Global, file: &[u8], rows: &[(Call, Answer)]) -> bool {
+    match loaded(alloc, file) {
+        Ok(mut memory) => answers(&mut memory, rows),
+        Err(_) => false,
+    }
+}
+
+/// The entry of a file, and how many pages and segments it has.
+fn planned(alloc: Global, file: &[u8]) -> Result<(u64, u64, usize), ElfError> {
+    let plan = plan(alloc, file)?;
+    Ok((plan.entry, plan.pages, plan.segments.len()))
+}
+
+/// Why an image is refused.
+fn refusal(alloc: Global, file: [u8; 64], headers: &[Header]) -> Option<ElfError> {
+    match image(alloc, file, headers) {
+        Ok(bytes) => planned(alloc, &bytes).err(),
+        Err(_) => Some(ElfError::OutOfMemory),
+    }
+}
+
+/// Why a file of one program header is refused that ends after so many bytes.
+fn refusal_of_length(length: usize) -> ElfError {
+    match length {
+        0..=63 => ElfError::Short,
+        64..=119 => ElfError::BadHeaders,
+        _ => ElfError::SegmentRange,
+    }
+}
+
+/// Whether a file is refused that ends before its last byte.
+fn is_refused_short(alloc: Global, file: &[u8]) -> bool {
+    for length in 0..file.len() {
+        if planned(alloc, &file[..length]) != Err(refusal_of_length(length)) {
+            return false;
+        }
+    }
+    true
+}
+
 #[test]
 fn files_cut_short(rt: HostRuntime) -> Result<(), Fail> {
     loading_keeps_memories_whole();
     let file = image(rt.alloc(), EXECUTABLE, &[text(1)])?;
-    assert_eq!(rt; file.len(), 156);
-    for length in 0..file.len() {
-        let want = match length {
-            0..=63 => ElfError::Short,
-            64..=119 => ElfError::BadHeaders,
-            _ => ElfError::SegmentRange,
-        };
-        let refusal = plan(rt.alloc(), &file[..length]).err();
-        assert_eq!(rt; refusal, Some(want), "{length} bytes");
-    }
-    let plan = plan(rt.alloc(), &file)?;
-    assert_eq!(rt; (plan.entry, plan.pages), (0x10000, 1));
+    let planned = planned(rt.alloc(), &file) == Ok((0x10000, 1, 1));
+    assert!(rt; planned && file.len() == 156 && is_refused_short(rt.alloc(), &file));
     Ok(())
 }
 
 #[test]
-fn file_headers(rt: HostRuntime) -> Result<(), Fail> {
-    let shared = FileHeader {
-        kind: 3,
-        ..EXECUTABLE
-    };
-    let far = FileHeader {
-        table: u64::MAX,
-        ..EXECUTABLE
-    };
-    for (file, want) in [(shared, ElfError::NotExec), (far, ElfError::BadHeaders)] {
-        let bytes = image(rt.alloc(), file, &[text(1)])?;
-        let refusal = plan(rt.alloc(), &bytes).err();
-        assert_eq!(rt; refusal, Some(want), "instead of {want}");
-    }
-    Ok(())
+fn file_headers(rt: HostRuntime) {
+    let mut shared = EXECUTABLE;
+    shared[16] = 3;
+    let mut far = EXECUTABLE;
+    far[32..40].fill(0xFF);
+    let of_shared = refusal(rt.alloc(), shared, &[text(1)]);
+    let of_far = refusal(rt.alloc(), far, &[text(1)]);
+    assert!(rt; [of_shared, of_far] == [Some(ElfError::NotExec), Some(ElfError::BadHeaders)]);
 }
 
-/// Two program headers: the first segment, and one more with its answer.
+/// Why an image is refused whose second segment is this one.
+fn refusal_of_second(alloc: Global, second: Header) -> Option<ElfError> {
+    refusal(alloc, EXECUTABLE, &[text(2), second])
+}
+
 #[test]
-fn second_headers(rt: HostRuntime) -> Result<(), Fail> {
+fn second_headers(rt: HostRuntime) {
     let outside = Header {
         filesz: 1,
         offset: u64::MAX,
@@ -181,19 +199,19 @@ fn second_headers(rt: HostRuntime) -> Result<(), Fail> {
         filesz: 0,
         ..outside
     };
-    for (second, want) in [
-        (zeros(0x10800, 1), Some(ElfError::Overlap)),
-        (zeros(0x10800, 0), None),
-        (zeros(0x0FFF_F000, 0x1000), None),
-        (zeros(0x0FFF_F000, 0x1001), Some(ElfError::SegmentRange)),
-        (outside, Some(ElfError::SegmentRange)),
-        (without_bytes, None),
-    ] {
-        let bytes = image(rt.alloc(), EXECUTABLE, &[text(2), second])?;
-        let refusal = plan(rt.alloc(), &bytes).err();
-        assert_eq!(rt; refusal, want, "second from {}", second.vaddr);
-    }
-    Ok(())
+    let refusals = [
+        refusal_of_second(rt.alloc(), zeros(0x10800, 1)),
+        refusal_of_second(rt.alloc(), zeros(0x0FFF_F000, 0x1001)),
+        refusal_of_second(rt.alloc(), outside),
+    ];
+    let range = Some(ElfError::SegmentRange);
+    assert!(rt; refusals == [Some(ElfError::Overlap), range, range]);
+    let permitted = [
+        refusal_of_second(rt.alloc(), zeros(0x10800, 0)),
+        refusal_of_second(rt.alloc(), zeros(0x0FFF_F000, 0x1000)),
+        refusal_of_second(rt.alloc(), without_bytes),
+    ];
+    assert!(rt; permitted == [None, None, None]);
 }
 
 /// What its memory of 8 pages answers.
@@ -218,8 +236,7 @@ fn pages_of_two_segments(rt: HostRuntime) -> Result<(), Fail> {
         ..zeros(0x11000, 0x2000)
     };
     let file = image(rt.alloc(), EXECUTABLE, &[text(2), data])?;
-    assert_eq!(rt; plan(rt.alloc(), &file)?.pages, 3);
-    let mut memory = loaded(rt.alloc(), &file)?;
-    assert!(rt; answers(&mut memory, &TWO_SEGMENTS));
+    let planned = planned(rt.alloc(), &file) == Ok((0x10000, 3, 2));
+    assert!(rt; planned && answers_loaded(rt.alloc(), &file, &TWO_SEGMENTS));
     Ok(())
 }

@@ -3,20 +3,11 @@
 ghost use Rattle.std.specs.Prelude.{IsTrue};
 ghost use Rattle.mte_frames.specs.Pool.{IsOut};
 
+use crate::space::pool_of;
 use mte_arena::{Arena, FRAME_BYTES};
 use mte_frames::{FramePool, NoFrames, Quota, others_are_kept};
 use std::alloc::Global;
 use std::test::Fail;
-
-fn pool_of(alloc: Global, frames: usize) -> Result<FramePool, Fail> {
-    let Ok(arena) = Arena::new(alloc, frames) else {
-        return Err(Fail::new("no memory for the arena"));
-    };
-    match FramePool::new(alloc, arena) {
-        Ok(pool) => Ok(pool),
-        Err(_) => Err(Fail::new("no memory for the pool")),
-    }
-}
 
 fn take(pool: &mut FramePool, quota: &mut Quota) -> Option<usize> {
     if pool.taken(quota) < pool.reserved(quota) {
@@ -144,89 +135,101 @@ fn reserve(pool: &mut FramePool, count: usize) -> Result<Quota, NoFrames> {
     pool.reserve(count)
 }
 
+/// How many frames the arena has that a pool is made of, or that it hands back.
+fn frames_of_new(alloc: Global, arena: Arena) -> usize {
+    match FramePool::new(alloc, arena) {
+        Ok(pool) => pool.frames(),
+        Err(refused) => refused.arena.frames(),
+    }
+}
+
 /// With `rt try --test --fail-alloc N` one of its six allocations is refused.
 #[test]
 fn refused_memory(rt: HostRuntime) {
     if let Ok(arena) = Arena::new(rt.alloc(), 11) {
-        match FramePool::new(rt.alloc(), arena) {
-            Ok(pool) => assert_eq!(rt; pool.frames(), 11),
-            Err(refused) => assert_eq!(rt; refused.arena.frames(), 11),
-        }
+        assert!(rt; frames_of_new(rt.alloc(), arena) == 11);
     }
+}
+
+fn reserves_all_once(pool: &mut FramePool) -> bool {
+    let Ok(all) = reserve(pool, 11) else {
+        return false;
+    };
+    let refused = reserve(pool, 1).is_err() && release(pool, all);
+    refused && reserve(pool, 12).is_err() && reserve(pool, 1).is_ok()
 }
 
 #[test]
 fn all_frames_are_reserved_once(rt: HostRuntime) -> Result<(), Fail> {
     let mut pool = pool_of(rt.alloc(), 11)?;
-    let Ok(all) = reserve(&mut pool, 11) else {
-        return Err(Fail::new("eleven of eleven are refused"));
-    };
-    let refused = reserve(&mut pool, 1).is_err();
-    assert!(rt; refused && release(&mut pool, all));
-    assert!(rt; reserve(&mut pool, 12).is_err() && reserve(&mut pool, 1).is_ok());
+    assert!(rt; reserves_all_once(&mut pool));
     Ok(())
+}
+
+/// Whether a quota's only frame is taken, filled and given back.
+fn is_used(pool: &mut FramePool, quota: &mut Quota) -> bool {
+    let Some(f) = take(pool, quota) else {
+        return false;
+    };
+    others_are_kept();
+    fill(pool, quota, f, 0xFF);
+    for g in 0..256 {
+        mark(pool, quota, f, g, 15);
+    }
+    let full = is_all(pool, quota, f, 0xFF, 15) && take(pool, quota).is_none();
+    full && give(pool, quota, f)
+}
+
+/// Whether the next frame is all zero.
+fn next_is_zero(pool: &mut FramePool, quota: &mut Quota) -> bool {
+    match take(pool, quota) {
+        Some(f) => is_all(pool, quota, f, 0, 0),
+        None => false,
+    }
+}
+
+/// Under a quota of its own, whether a pool of one frame uses it.
+fn is_used_once(pool: &mut FramePool) -> bool {
+    match reserve(pool, 1) {
+        Ok(mut quota) => is_used(pool, &mut quota) && release(pool, quota),
+        Err(_) => false,
+    }
+}
+
+/// Whether the frame that was used under one quota is zero under the next.
+fn comes_back_zero(pool: &mut FramePool) -> bool {
+    let used = is_used_once(pool);
+    match reserve(pool, 1) {
+        Ok(mut second) => used && next_is_zero(pool, &mut second),
+        Err(_) => false,
+    }
 }
 
 #[test]
 fn a_frame_comes_back_zero(rt: HostRuntime) -> Result<(), Fail> {
     let mut pool = pool_of(rt.alloc(), 1)?;
-    let Ok(mut first) = reserve(&mut pool, 1) else {
-        return Err(Fail::new("the first quota"));
-    };
-    let Some(f) = take(&mut pool, &mut first) else {
-        return Err(Fail::new("the first take"));
-    };
-    others_are_kept();
-    fill(&mut pool, &first, f, 0xFF);
-    for g in 0..256 {
-        mark(&mut pool, &first, f, g, 15);
-    }
-    let full = is_all(&pool, &first, f, 0xFF, 15) && take(&mut pool, &mut first).is_none();
-    let given = give(&mut pool, &mut first, f);
-    assert!(rt; full && given && release(&mut pool, first));
-    let Ok(mut second) = reserve(&mut pool, 1) else {
-        return Err(Fail::new("the second quota"));
-    };
-    let Some(f) = take(&mut pool, &mut second) else {
-        return Err(Fail::new("the second take"));
-    };
-    assert!(rt; is_all(&pool, &second, f, 0, 0));
+    assert!(rt; comes_back_zero(&mut pool));
     Ok(())
 }
 
-#[test]
-fn both_planes_at_once(rt: HostRuntime) -> Result<(), Fail> {
-    let mut pool = pool_of(rt.alloc(), 2)?;
-    let Ok(mut quota) = reserve(&mut pool, 2) else {
-        return Err(Fail::new("a quota is refused"));
-    };
-    let (Some(f), Some(g)) = (take(&mut pool, &mut quota), take(&mut pool, &mut quota)) else {
-        return Err(Fail::new("a frame is missing"));
-    };
-    write_block(&mut pool, &quota, f);
-    let bytes = [(0, 7), (1, 0), (4094, 0), (4095, 8)];
-    let tags = [(0, 1), (1, 2), (2, 0), (254, 3), (255, 4)];
-    assert!(rt; has_bytes(&pool, &quota, f, &bytes) && has_tags(&pool, &quota, f, &tags));
-    assert!(rt; is_all(&pool, &quota, g, 0, 0));
-    Ok(())
+/// Bytes, and tags of granules, at their places.
+const BYTES_OF_BLOCK: [(usize, u8); 4] = [(0, 7), (1, 0), (4094, 0), (4095, 8)];
+
+const TAGS_OF_BLOCK: [(usize, u8); 5] = [(0, 1), (1, 2), (2, 0), (254, 3), (255, 4)];
+
+/// Whether both planes of a frame are written at once.
+fn is_written_at_once(pool: &mut FramePool, quota: &Quota, f: usize) -> bool {
+    write_block(pool, quota, f);
+    has_bytes(pool, quota, f, &BYTES_OF_BLOCK) && has_tags(pool, quota, f, &TAGS_OF_BLOCK)
 }
 
-#[test]
-fn bytes_of_an_optional_frame(rt: HostRuntime) -> Result<(), Fail> {
-    let mut pool = pool_of(rt.alloc(), 2)?;
-    let Ok(mut quota) = reserve(&mut pool, 2) else {
-        return Err(Fail::new("a quota is refused"));
-    };
-    let (Some(f), Some(g)) = (take(&mut pool, &mut quota), take(&mut pool, &mut quota)) else {
-        return Err(Fail::new("a frame is missing"));
-    };
-    mark(&mut pool, &quota, f, 255, 9);
-    let none = fill_if(&mut pool, &quota, None, 5);
-    let before = is_all(&pool, &quota, g, 0, 0) && has_bytes(&pool, &quota, f, &[(0, 0)]);
-    let some = fill_if(&mut pool, &quota, Some(f), 6);
-    let after = is_all(&pool, &quota, g, 0, 0) && has_bytes(&pool, &quota, f, &[(4095, 6)]);
-    assert!(rt; !none && before && some && after && has_tags(&pool, &quota, f, &[(255, 9)]));
-    Ok(())
+/// Whether the bytes of a frame are filled if there is one, and its tags are kept.
+fn is_filled_if_there(pool: &mut FramePool, quota: &Quota, f: usize) -> bool {
+    let none = fill_if(pool, quota, None, 5);
+    let before = has_bytes(pool, quota, f, &BYTES_OF_BLOCK);
+    let some = fill_if(pool, quota, Some(f), 6);
+    let after = has_bytes(pool, quota, f, &[(0, 6), (4095, 6)]);
+    !none && before && some && after && has_tags(pool, quota, f, &TAGS_OF_BLOCK)
 }
 
 const AFTER_RUNS: [(usize, u8); 12] = [
@@ -244,19 +247,33 @@ const AFTER_RUNS: [(usize, u8); 12] = [
     (255, 8),
 ];
 
-/// Runs with odd ends, within one byte, and none at all.
-#[test]
-fn runs_of_tags(rt: HostRuntime) -> Result<(), Fail> {
-    let mut pool = pool_of(rt.alloc(), 1)?;
-    let Ok(mut quota) = reserve(&mut pool, 1) else {
-        return Err(Fail::new("a quota is refused"));
-    };
-    let Some(f) = take(&mut pool, &mut quota) else {
-        return Err(Fail::new("a frame is missing"));
-    };
+/// Whether runs of tags with odd ends, within one byte, and none at all, are as they should be.
+fn runs_are_marked(pool: &mut FramePool, quota: &Quota, f: usize) -> bool {
     for (first, count, tag) in [(3, 6, 5), (10, 1, 6), (11, 1, 7), (253, 3, 8), (0, 0, 9)] {
-        mark_run(&mut pool, &quota, f, first, count, tag);
+        mark_run(pool, quota, f, first, count, tag);
     }
-    assert!(rt; has_tags(&pool, &quota, f, &AFTER_RUNS));
+    has_tags(pool, quota, f, &AFTER_RUNS)
+}
+
+/// Whether what is written to one frame leaves another as it is, which then gets runs of tags.
+fn two_are_apart(pool: &mut FramePool, quota: &mut Quota) -> bool {
+    let (Some(f), Some(g)) = (take(pool, quota), take(pool, quota)) else {
+        return false;
+    };
+    let filled = is_written_at_once(pool, quota, f) && is_filled_if_there(pool, quota, f);
+    filled && is_all(pool, quota, g, 0, 0) && runs_are_marked(pool, quota, g)
+}
+
+fn frames_of_a_quota_are_apart(pool: &mut FramePool) -> bool {
+    match reserve(pool, 2) {
+        Ok(mut quota) => two_are_apart(pool, &mut quota),
+        Err(_) => false,
+    }
+}
+
+#[test]
+fn frames_are_apart(rt: HostRuntime) -> Result<(), Fail> {
+    let mut pool = pool_of(rt.alloc(), 2)?;
+    assert!(rt; frames_of_a_quota_are_apart(&mut pool));
     Ok(())
 }

@@ -11,15 +11,18 @@ use mte_arena::Arena;
 use mte_flat::Flat;
 use mte_frames::{FramePool, Quota};
 use mte_space::{Space, other_tenants_stay, pages_of_a_space, written_frames_are_pages};
-use mte_tags::{FaultKind, MemFault, TagMode, TagState};
+use mte_tags::{Attrs, FaultKind, MemFault, TagMode, TagState};
 use mte_translate::{Table, Tlb, tables_stay};
-use std::alloc::Global;
+use std::alloc::{AllocError, Global};
 use std::test::Fail;
 
 pub(crate) const PAGES: usize = 5;
 
 /// The page of the worked calls, one of those that are drawn.
 const PAGE: u64 = 0x100;
+
+/// Its first address, in a pointer with tag 1.
+const TAGGED: u64 = (1 << 56) + PAGE * 4096;
 
 pub(crate) const SYNC: TagState = TagState {
     mode: TagMode::Sync,
@@ -135,24 +138,35 @@ struct Row {
     answer: Answer,
 }
 
-/// One byte that is read puts the page into the lookaside buffer.
+/// Bytes that are read put the page into the lookaside buffer.
 #[rattlefmt::skip]
 const TOUCHED: [Row; 2] = [
     Row { second: false, call: Call::Turn(PAGE), answer: Answer::Number(1) },
-    Row { second: false, call: Call::Touch(PAGE * 4096 + 4095), answer: Answer::Number(0) },
+    Row { second: false, call: Call::Read(PAGE * 4096 + 4088, true), answer: Answer::Number(0) },
 ];
 
 /// An access that faults changes nothing. The frame of a page that the first fills and unmaps comes
 /// to the second, all zero.
 #[rattlefmt::skip]
-const TAKEN_OVER: [Row; 7] = [
+const TAKEN_OVER: [Row; 12] = [
+    Row { second: false, call: Call::StoreTags(PAGE * 4096, 1, 1), answer: Answer::Number(0) },
     Row {
         second: false,
-        call: Call::OverTwoGranules,
+        call: Call::Read(TAGGED + 12, true),
         answer: Answer::Refused(MemFault {
             kind: FaultKind::TagCheck, addr: PAGE * 4096 + 16, write: false, ptr_tag: 1, mem_tag: 0,
         }),
     },
+    Row {
+        second: false,
+        call: Call::Write(TAGGED + 12, 9, true),
+        answer: Answer::Refused(MemFault {
+            kind: FaultKind::TagCheck, addr: PAGE * 4096 + 16, write: true, ptr_tag: 1, mem_tag: 0,
+        }),
+    },
+    Row { second: false, call: Call::Read(TAGGED + 8, true), answer: Answer::Number(0) },
+    Row { second: false, call: Call::Read(PAGE * 4096 + 16, true), answer: Answer::Number(0) },
+    Row { second: false, call: Call::Pending, answer: Answer::Number(0) },
     Row { second: false, call: Call::PagesLeft, answer: Answer::Number(4) },
     Row {
         second: false,
@@ -206,33 +220,99 @@ fn are_answered(
     true
 }
 
-/// A thousand drawn calls of each tenant in turn, then a read of each word and of each tag, with
-/// what plain memories answer that are as the worked calls leave the two.
-fn drawn(alloc: Global) -> Result<Vec<Row>, Fail> {
-    let mut first = Flat::new(alloc, PAGES, TagMode::Sync)?;
-    let mut second = Flat::new(alloc, PAGES, TagMode::Sync)?;
-    reply(&mut first, Call::Turn(PAGE));
-    reply(&mut first, Call::Fill(PAGE, 0xFF, 15));
-    reply(&mut second, Call::Turn(PAGE));
-    let mut rows = Vec::new(alloc);
+/// Pushes a call of each tenant, and what two plain memories answer.
+fn push_calls(
+    rows: &mut Vec<Row>,
+    first: &mut Flat,
+    second: &mut Flat,
+    one: Call,
+    other: Call,
+) -> Result<(), AllocError> {
+    rows.push(Row {
+        second: false,
+        call: one,
+        answer: reply(first, one),
+    })?;
+    rows.push(Row {
+        second: true,
+        call: other,
+        answer: reply(second, other),
+    })?;
+    Ok(())
+}
+
+fn push_drawn(rows: &mut Vec<Row>, first: &mut Flat, second: &mut Flat) -> Result<(), AllocError> {
     let mut draw: u64 = 7;
     for i in 0..CALLS {
         draw = draw
             .wrapping_mul(6_364_136_223_846_793_005)
             .wrapping_add(1_442_695_040_888_963_407);
         let (one, other) = (call_at(i, draw >> 16), call_at(i, draw >> 8));
-        rows.push(Row {
-            second: false,
-            call: one,
-            answer: reply(&mut first, one),
-        })?;
-        rows.push(Row {
-            second: true,
-            call: other,
-            answer: reply(&mut second, other),
-        })?;
+        push_calls(rows, first, second, one, other)?;
     }
+    Ok(())
+}
+
+/// A thousand drawn calls of each tenant in turn, then a read of each word and of each tag, with
+/// what plain memories answer that are as the worked calls leave the two.
+fn drawn(alloc: Global) -> Result<Vec<Row>, AllocError> {
+    let mut first = Flat::new(alloc, PAGES, TagMode::Sync)?;
+    let mut second = Flat::new(alloc, PAGES, TagMode::Sync)?;
+    reply(&mut first, Call::Turn(PAGE));
+    reply(&mut first, Call::Fill(PAGE, 0xFF, 15));
+    reply(&mut second, Call::Turn(PAGE));
+    let mut rows = Vec::new(alloc);
+    push_drawn(&mut rows, &mut first, &mut second)?;
     Ok(rows)
+}
+
+fn frame_of(walked: Option<(usize, Attrs)>) -> Option<usize> {
+    match walked {
+        Some((frame, _)) => Some(frame),
+        None => None,
+    }
+}
+
+/// Whether the worked calls are answered, and then those that were drawn.
+fn answer_all(
+    pool: &mut FramePool,
+    t: &mut Table,
+    q: &mut Quota,
+    u: &mut Table,
+    r: &mut Quota,
+    tlb: &mut Tlb,
+    rows: &[Row],
+) -> bool
+    requires apart { r.old ≢ q.old }
+    requires first { IsReady pool.old q.old t.old 1 tlb.old }
+    requires second { IsReady pool.old r.old u.old 2 tlb.old }
+{
+    let touched = are_answered(pool, t, q, u, r, tlb, &TOUCHED);
+    let walked = t.walk(pool, PAGE);
+    let is_cached = walked.is_some() && tlb.len() == 1 && tlb.lookup(1, PAGE) == walked;
+    let taken_over = are_answered(pool, t, q, u, r, tlb, &TAKEN_OVER);
+    let is_handed_on = frame_of(u.walk(pool, PAGE)) == frame_of(walked);
+    let is_forgotten = tlb.lookup(1, PAGE).is_none() && pool.taken(q) == 1;
+    let apart = are_answered(pool, t, q, u, r, tlb, &APART);
+    let first = tlb.len() == 2 && tlb.lookup(1, PAGE) == t.walk(pool, PAGE);
+    let second = tlb.lookup(2, PAGE) == u.walk(pool, PAGE);
+    let worked = touched && is_cached && taken_over && is_handed_on && is_forgotten;
+    worked && apart && first && second && are_answered(pool, t, q, u, r, tlb, rows)
+}
+
+fn tenants_answer(pool: &mut FramePool, rows: &[Row]) -> bool {
+    let Some((mut q, mut r)) = two_quotas(pool) else {
+        return false;
+    };
+    let Some(mut t) = new_table(pool, &mut q) else {
+        return false;
+    };
+    tables_stay();
+    let Some(mut u) = new_table(pool, &mut r) else {
+        return false;
+    };
+    let mut tlb = Tlb::new();
+    answer_all(pool, &mut t, &mut q, &mut u, &mut r, &mut tlb, rows)
 }
 
 /// Two tenants over one pool: the worked calls, and then each answers as a plain memory does, while
@@ -241,38 +321,7 @@ fn drawn(alloc: Global) -> Result<Vec<Row>, Fail> {
 fn two_tenants_over_one_pool(rt: HostRuntime) -> Result<(), Fail> {
     let rows = drawn(rt.alloc())?;
     let mut pool = pool_of(rt.alloc(), 22)?;
-    let Some((mut q, mut r)) = two_quotas(&mut pool) else {
-        return Err(Fail::new("a quota is refused"));
-    };
-    let Some(mut t) = new_table(&mut pool, &mut q) else {
-        return Err(Fail::new("no root"));
-    };
-    tables_stay();
-    let Some(mut u) = new_table(&mut pool, &mut r) else {
-        return Err(Fail::new("no second root"));
-    };
-    let mut tlb = Tlb::new();
-    let touched = are_answered(
-        &mut pool, &mut t, &mut q, &mut u, &mut r, &mut tlb, &TOUCHED,
-    );
-    let walked = t.walk(&pool, PAGE);
-    let is_cached = walked.is_some() && tlb.len() == 1 && tlb.lookup(1, PAGE) == walked;
-    let taken_over = are_answered(
-        &mut pool,
-        &mut t,
-        &mut q,
-        &mut u,
-        &mut r,
-        &mut tlb,
-        &TAKEN_OVER,
-    );
-    let is_handed_on = u.walk(&pool, PAGE).map(|x| x.0) == walked.map(|x| x.0);
-    let is_forgotten = tlb.lookup(1, PAGE).is_none() && pool.taken(&q) == 1;
-    assert!(rt; touched && is_cached && taken_over && is_handed_on && is_forgotten);
-    let apart = are_answered(&mut pool, &mut t, &mut q, &mut u, &mut r, &mut tlb, &APART);
-    let first = tlb.len() == 2 && tlb.lookup(1, PAGE) == t.walk(&pool, PAGE);
-    assert!(rt; apart && first && tlb.lookup(2, PAGE) == u.walk(&pool, PAGE));
-    assert!(rt; are_answered(&mut pool, &mut t, &mut q, &mut u, &mut r, &mut tlb, &rows));
+    assert!(rt; tenants_answer(&mut pool, &rows));
     written_frames_are_pages();
     pages_of_a_space();
     Ok(())

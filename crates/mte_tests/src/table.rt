@@ -1,55 +1,17 @@
 //! The life of a table, and two tables over one pool.
 
-ghost use Rattle.std.specs.Prelude.{◌≡◌, ◌≢◌, IfSome};
+ghost use Rattle.std.specs.Prelude.{◌≡◌, ◌≢◌};
 ghost use Rattle.mte_frames.specs.Pool.{KeepsOthers};
 ghost use Rattle.mte_translate.specs.Tables.{IsTable, MapsOnce, pages_of};
 
-use mte_arena::Arena;
+use crate::space::{new_table, pool_of, two_quotas};
 use mte_frames::{FramePool, Quota};
 use mte_tags::Attrs;
 use mte_translate::{
     TABLE_PAGES, Table, cached_translations_stay, frames_of_tables, leaves_are_used,
     pages_are_walks, tables_stay,
 };
-use std::alloc::Global;
 use std::test::Fail;
-
-fn pool_of(alloc: Global, frames: usize) -> Result<FramePool, Fail> {
-    let Ok(arena) = Arena::new(alloc, frames) else {
-        return Err(Fail::new("no memory for the arena"));
-    };
-    match FramePool::new(alloc, arena) {
-        Ok(pool) => Ok(pool),
-        Err(_) => Err(Fail::new("no memory for the pool")),
-    }
-}
-
-/// Two quotas of eight frames each.
-fn two_quotas(pool: &mut FramePool) -> Option<(Quota, Quota)>
-    ensures { IfSome result (λ both. both.0 ≢ both.1) }
-{
-    let _ = pool.frames();
-    let Ok(first) = pool.reserve(8) else {
-        return None;
-    };
-    let Ok(second) = pool.reserve(8) else {
-        return None;
-    };
-    Some((first, second))
-}
-
-fn new_table(pool: &mut FramePool, quota: &mut Quota) -> Option<Table>
-    ensures table { IfSome result (λ t. IsTable pool.new quota.new t) }
-    ensures once { IfSome result (λ t. MapsOnce (pages_of pool.new t.frame)) }
-    ensures same { quota.new ≡ quota.old }
-    ensures others { KeepsOthers quota.old pool.old pool.new }
-{
-    if pool.taken(quota) < pool.reserved(quota) {
-        Some(Table::new(pool, quota))
-    } else {
-        None
-    }
-}
 
 /// Maps a page to a frame that is taken for it.
 fn map(pool: &mut FramePool, quota: &mut Quota, table: &mut Table, page: u64) -> Option<usize>
@@ -167,20 +129,42 @@ fn lives(pool: &mut FramePool, quota: &mut Quota, table: &mut Table, rows: &[Row
     true
 }
 
+/// Whether a new table is empty, lives, and is closed.
+fn has_a_life(pool: &mut FramePool, quota: &mut Quota) -> bool {
+    let Some(mut table) = new_table(pool, quota) else {
+        return false;
+    };
+    let counts = (table.len(), table.leaves(), pool.taken(quota));
+    let is_new = counts == (0, 0, 1) && table.first(pool).is_none();
+    let is_alive = lives(pool, quota, &mut table, &LIFE);
+    let is_closed = close(pool, quota, table);
+    is_new && is_alive && is_closed && pool.taken(quota) == 0
+}
+
+/// Whether a new table finds the page that is mapped, and no other.
+fn finds_its_page(pool: &mut FramePool, quota: &mut Quota) -> bool {
+    let Some(mut table) = new_table(pool, quota) else {
+        return false;
+    };
+    let Some(frame) = map(pool, quota, &mut table, 1023) else {
+        return false;
+    };
+    let found = table.walk(pool, 1023) == Some((frame, Attrs::DATA));
+    let none = table.walk(pool, 513).is_none() && table.walk(pool, 262_144).is_none();
+    found && none && !unmap(pool, quota, &mut table, 513)
+}
+
+fn tables_work(pool: &mut FramePool) -> bool {
+    let Some((mut one, mut two)) = two_quotas(pool) else {
+        return false;
+    };
+    has_a_life(pool, &mut one) && finds_its_page(pool, &mut two)
+}
+
 #[test]
 fn a_life(rt: HostRuntime) -> Result<(), Fail> {
-    let mut pool = pool_of(rt.alloc(), 16)?;
-    let Some((mut quota, _)) = two_quotas(&mut pool) else {
-        return Err(Fail::new("a quota is refused"));
-    };
-    let Some(mut table) = new_table(&mut pool, &mut quota) else {
-        return Err(Fail::new("no root"));
-    };
-    let new = (table.len(), table.leaves(), pool.taken(&quota));
-    assert_eq!(rt; (new, table.first(&pool)), ((0, 0, 1), None));
-    let is_alive = lives(&mut pool, &mut quota, &mut table, &LIFE);
-    let is_closed = close(&mut pool, &mut quota, table);
-    assert!(rt; is_alive && is_closed && pool.taken(&quota) == 0);
+    let mut pool = pool_of(rt.alloc(), 22)?;
+    assert!(rt; tables_work(&mut pool));
     pages_are_walks();
     frames_of_tables();
     leaves_are_used();
@@ -188,46 +172,50 @@ fn a_life(rt: HostRuntime) -> Result<(), Fail> {
     Ok(())
 }
 
-#[test]
-fn pages_that_are_not_there(rt: HostRuntime) -> Result<(), Fail> {
-    let mut pool = pool_of(rt.alloc(), 16)?;
-    let Some((mut quota, _)) = two_quotas(&mut pool) else {
-        return Err(Fail::new("a quota is refused"));
+/// Whether two tables under two quotas map the same page to frames of their own.
+fn are_apart(
+    pool: &mut FramePool,
+    one: &mut Quota,
+    first: &mut Table,
+    two: &mut Quota,
+    second: &mut Table,
+) -> bool
+    requires apart { two.old ≢ one.old }
+    requires table { IsTable pool.old one.old first.old }
+    requires once { MapsOnce (pages_of pool.old first.old.frame) }
+    requires other { IsTable pool.old two.old second.old }
+    requires other_once { MapsOnce (pages_of pool.old second.old.frame) }
+{
+    let changed = (
+        change(pool, one, first, 5, two, second),
+        change(pool, two, second, 5, one, first),
+        change(pool, two, second, 6, one, first),
+    );
+    let (own, other) = (first.walk(pool, 5), second.walk(pool, 5));
+    let mapped = changed == (true, true, true) && own.is_some() && other.is_some() && own != other;
+    let again = change(pool, one, first, 5, two, second);
+    let unmapped = again && first.walk(pool, 5).is_none() && second.walk(pool, 5) == other;
+    let counts = (first.len(), second.len(), pool.taken(one), pool.taken(two));
+    mapped && unmapped && counts == (0, 2, 1, 4)
+}
+
+fn two_tables_are_apart(pool: &mut FramePool) -> bool {
+    let Some((mut one, mut two)) = two_quotas(pool) else {
+        return false;
     };
-    let Some(mut table) = new_table(&mut pool, &mut quota) else {
-        return Err(Fail::new("no root"));
+    let Some(mut first) = new_table(pool, &mut one) else {
+        return false;
     };
-    let frame = map(&mut pool, &mut quota, &mut table, 1023);
-    let walked = table.walk(&pool, 1023);
-    assert!(rt; frame.is_some() && walked == frame.map(|f| (f, Attrs::DATA)));
-    let none = table.walk(&pool, 513).is_none() && table.walk(&pool, 262_144).is_none();
-    assert!(rt; none && !unmap(&mut pool, &mut quota, &mut table, 513));
-    Ok(())
+    tables_stay();
+    let Some(mut second) = new_table(pool, &mut two) else {
+        return false;
+    };
+    are_apart(pool, &mut one, &mut first, &mut two, &mut second)
 }
 
 #[test]
 fn two_tables_over_one_pool(rt: HostRuntime) -> Result<(), Fail> {
-    let mut pool = pool_of(rt.alloc(), 16)?;
-    let Some((mut one, mut two)) = two_quotas(&mut pool) else {
-        return Err(Fail::new("a quota is refused"));
-    };
-    let Some(mut first) = new_table(&mut pool, &mut one) else {
-        return Err(Fail::new("no root"));
-    };
-    tables_stay();
-    let Some(mut second) = new_table(&mut pool, &mut two) else {
-        return Err(Fail::new("no second root"));
-    };
-    let changed = [
-        change(&mut pool, &mut one, &mut first, 5, &two, &second),
-        change(&mut pool, &mut two, &mut second, 5, &one, &first),
-        change(&mut pool, &mut two, &mut second, 6, &one, &first),
-    ];
-    let (own, other) = (first.walk(&pool, 5), second.walk(&pool, 5));
-    assert!(rt; changed == [true; 3] && own.is_some() && other.is_some() && own != other);
-    let again = change(&mut pool, &mut one, &mut first, 5, &two, &second);
-    assert!(rt; again && first.walk(&pool, 5).is_none() && second.walk(&pool, 5) == other);
-    assert_eq!(rt; (first.len(), second.len()), (0, 2));
-    assert_eq!(rt; (pool.taken(&one), pool.taken(&two)), (1, 4));
+    let mut pool = pool_of(rt.alloc(), 22)?;
+    assert!(rt; two_tables_are_apart(&mut pool));
     Ok(())
 }

@@ -2,54 +2,46 @@
 
 ghost use Rattle.std.specs.Prelude.{◌≡◌, ◌+◌, ◌<◌, None};
 
-use crate::calls::{Answer, Call, answers};
+use crate::calls::{Answer, Call, answers, flat_answers};
 use mte_flat::Flat;
 use mte_tags::{
-    Attrs, FaultKind, MemFault, NoQuota, PageStore, Paged, Rgsr, TagMode, TagState, Tagged,
-    choose_non_excluded, flag_stays_in_sync, mode_stays, no_tag_check_in_async, pages_after_calls,
-    tag_of, with_tag,
+    Attrs, FaultKind, MemFault, PageStore, Paged, Rgsr, TagMode, Tagged, choose_non_excluded,
+    flag_stays_in_sync, mode_stays, no_tag_check_in_async, pages_after_calls, tag_of, with_tag,
 };
 use std::test::Fail;
 
-fn fault(kind: FaultKind, addr: u64, write: bool, ptr_tag: u8, mem_tag: u8) -> MemFault {
-    MemFault {
-        kind,
-        addr,
-        write,
-        ptr_tag,
-        mem_tag,
+const CHOICES: [(u8, u8, u16, u8); 5] = [
+    (0, 0, 0x0001, 1),
+    (15, 0, 0x8001, 1),
+    (3, 2, 0x0000, 5),
+    (14, 3, 0x8000, 2),
+    (7, 9, 0xFFFF, 0),
+];
+
+/// Whether the tags that are chosen are the last ones of the rows.
+fn are_chosen(rows: &[(u8, u8, u16, u8)]) -> bool {
+    for (tag, offset, exclude, want) in rows {
+        if *tag >= 16 || *offset >= 16 || choose_non_excluded(*tag, *offset, *exclude) != *want {
+            return false;
+        }
     }
+    true
 }
 
 #[test]
 fn tags_of_addresses(rt: HostRuntime) {
-    assert_eq!(rt; tag_of(0xF123_4567_89AB_CDEF), 1);
-    assert_eq!(rt; with_tag(0xFF23_4567_89AB_CDEF, 5), 0xF523_4567_89AB_CDEF);
-    for (tag, offset, exclude, want) in [
-        (0u8, 0u8, 0x0001u16, 1u8),
-        (15, 0, 0x8001, 1),
-        (3, 2, 0x0000, 5),
-        (14, 3, 0x8000, 2),
-        (7, 9, 0xFFFF, 0),
-    ] {
-        if tag < 16 && offset < 16 {
-            assert_eq!(rt;
-                choose_non_excluded(tag, offset, exclude),
-                want,
-                "from {tag} by {offset}"
-            );
-        }
-    }
+    assert!(rt; tag_of(0xF123_4567_89AB_CDEF) == 1 && are_chosen(&CHOICES));
+    assert!(rt; with_tag(0xFF23_4567_89AB_CDEF, 5) == 0xF523_4567_89AB_CDEF);
 }
 
 #[test]
 fn draws(rt: HostRuntime) {
     let mut rgsr = Rgsr { tag: 0, seed: 1 };
     let drawn = [rgsr.draw(0x5555), rgsr.draw(0x5557), rgsr.draw(0x555D)];
-    assert_eq!(rt; (drawn, rgsr.seed), ([1, 3, 5], 0x8010));
+    assert!(rt; drawn == [1, 3, 5] && rgsr.seed == 0x8010);
     let mut still = Rgsr { tag: 0, seed: 0 };
     let drawn = [still.draw(0x0001), still.draw(0x0001), still.draw(0xFFFF)];
-    assert_eq!(rt; (drawn, still.seed), ([1, 1, 0], 0));
+    assert!(rt; drawn == [1, 1, 0] && still.seed == 0);
 }
 
 /// What a memory that has the page 0x3FFFC alone answers.
@@ -90,11 +82,30 @@ const OVER_TWO_GRANULES: [(Call, Answer); 10] = [
     ),
 ];
 
+/// Pages that come again are zero, and so are their tags.
+const MAPPED_AGAIN: [(Call, Answer); 13] = [
+    (Call::Turn(16), Answer::Number(1)),
+    (Call::Turn(17), Answer::Number(1)),
+    (
+        Call::Write(0x10FFC, 0x0807_0605_0403_0201, false),
+        Answer::Number(0),
+    ),
+    (Call::StoreTags(0x10FF0, 2, 4), Answer::Number(0)),
+    (Call::Read(0x0400_0000_0001_1004, true), Answer::Number(0)),
+    (Call::Turn(16), Answer::Number(0)),
+    (Call::Turn(17), Answer::Number(0)),
+    (Call::PagesLeft, Answer::Number(2)),
+    (Call::Turn(16), Answer::Number(1)),
+    (Call::Turn(17), Answer::Number(1)),
+    (Call::LoadTag(0x10FF0), Answer::Number(0)),
+    (Call::LoadTag(0x11000), Answer::Number(0)),
+    (Call::Read(0x10FFC, true), Answer::Number(0)),
+];
+
 #[test]
-fn access_over_two_granules(rt: HostRuntime) -> Result<(), Fail> {
-    let mut memory = Flat::new(rt.alloc(), 4, TagMode::Sync)?;
-    assert!(rt; answers(&mut memory, &OVER_TWO_GRANULES));
-    Ok(())
+fn calls_of_a_plain_memory(rt: HostRuntime) {
+    assert!(rt; flat_answers(rt.alloc(), 4, &OVER_TWO_GRANULES));
+    assert!(rt; flat_answers(rt.alloc(), 2, &MAPPED_AGAIN));
 }
 
 /// The last page can be read and not written. An access whose tag differs in a granule: one that
@@ -125,12 +136,9 @@ fn asynchronous_accesses(rt: HostRuntime) -> Result<(), Fail> {
     let mut memory = Flat::new(rt.alloc(), 2, TagMode::Async)?;
     memory.map_pages(0x3FFFE, 1, Attrs::DATA)?;
     memory.map_pages(0x3FFFF, 1, Attrs::READ)?;
-    assert!(rt; answers(&mut memory, &ASYNCHRONOUS));
-    let state = TagState {
-        mode: TagMode::Async,
-        pending: true,
-    };
-    assert_eq!(rt; memory.tag_state(), state);
+    let answered = answers(&mut memory, &ASYNCHRONOUS);
+    let state = memory.tag_state();
+    assert!(rt; answered && state.mode == TagMode::Async && state.pending);
     Ok(())
 }
 
@@ -147,41 +155,53 @@ fn flag_set_by_hand(rt: HostRuntime) -> Result<(), Fail> {
     Ok(())
 }
 
-/// Each page has its own attributes, whatever the tag of the address.
-#[test]
-fn attributes_of_a_page(rt: HostRuntime) -> Result<(), Fail> {
-    let mut memory = Flat::new(rt.alloc(), 1, TagMode::Sync)?;
-    assert!(rt; memory.map_pages(0x10, 1, Attrs::TEXT).is_ok());
-    assert!(rt; memory.has_attrs(0x0100_0000_0001_0FFF, Attrs::READ));
-    assert!(rt; !memory.has_attrs(0x10000, Attrs::DATA));
-    assert!(rt; !memory.has_attrs(0x11000, Attrs::NONE));
-    Ok(())
+/// What a memory whose only page holds instructions answers.
+const OF_TEXT: [(Call, Answer); 4] = [
+    (
+        Call::Fetch(0x10001),
+        Answer::Refused(MemFault {
+            kind: FaultKind::PcAlignment,
+            addr: 0x10001,
+            write: false,
+            ptr_tag: 0,
+            mem_tag: 0,
+        }),
+    ),
+    (
+        Call::Fetch(0x11000),
+        Answer::Refused(MemFault {
+            kind: FaultKind::Translation,
+            addr: 0x11000,
+            write: false,
+            ptr_tag: 0,
+            mem_tag: 0,
+        }),
+    ),
+    (Call::Fetch(0x10000), Answer::Number(0)),
+    (
+        Call::Write(0x0300_0000_0001_0FF8, 1, true),
+        Answer::Refused(MemFault {
+            kind: FaultKind::Permission,
+            addr: 0x10FF8,
+            write: true,
+            ptr_tag: 3,
+            mem_tag: 0,
+        }),
+    ),
+];
+
+/// Whether its page has its own attributes, whatever the tag of the address, and the next has none.
+fn has_text_alone(memory: &mut Flat) -> bool {
+    memory.has_attrs(0x0100_0000_0001_0FFF, Attrs::READ)
+        && !memory.has_attrs(0x10000, Attrs::DATA)
+        && !memory.has_attrs(0x11000, Attrs::NONE)
 }
 
 #[test]
-fn too_many_pages(rt: HostRuntime) {
-    assert!(rt; Flat::new(rt.alloc(), 1 << 58, TagMode::Sync).is_err());
-}
-
-#[test]
-fn fetches(rt: HostRuntime) -> Result<(), Fail> {
+fn a_page_of_text(rt: HostRuntime) -> Result<(), Fail> {
     let mut memory = Flat::new(rt.alloc(), 1, TagMode::Sync)?;
-    assert_eq!(rt; memory.map_pages(16, 1, Attrs::TEXT), Ok(()));
-    let unaligned = fault(FaultKind::PcAlignment, 0x10001, false, 0, 0);
-    let missing = fault(FaultKind::Translation, 0x11000, false, 0, 0);
-    assert_eq!(rt;
-        [
-            memory.fetch(0x10001),
-            memory.fetch(0x11000),
-            memory.fetch(0x10000),
-        ],
-        [Err(unaligned), Err(missing), Ok(0)]
-    );
-    let refused = fault(FaultKind::Permission, 0x10ffc, true, 3, 0);
-    assert_eq!(rt;
-        memory.write(0x0300_0000_0001_0ffc, &[1; 4], true),
-        Err(refused)
-    );
+    let mapped = memory.map_pages(16, 1, Attrs::TEXT).is_ok();
+    assert!(rt; mapped && answers(&mut memory, &OF_TEXT) && has_text_alone(&mut memory));
     Ok(())
 }
 
@@ -190,36 +210,35 @@ fn loading(rt: HostRuntime) -> Result<(), Fail> {
     let mut memory = Flat::new(rt.alloc(), 2, TagMode::Sync)?;
     memory.map_pages(16, 2, Attrs::READ)?;
     memory.load_bytes(0x0400_0000_0001_0FFC, &[1, 2, 3, 4, 5, 6, 7, 8]);
-    let mut bytes = [0u8; 8];
-    let read = memory.read(0x0400_0000_0001_0FFC, &mut bytes, true);
-    assert_eq!(rt; (read, bytes), (Ok(()), [1, 2, 3, 4, 5, 6, 7, 8]));
+    assert!(rt; answers(&mut memory, &LOADED));
     Ok(())
 }
+
+const LOADED: [(Call, Answer); 1] = [(
+    Call::Read(0x0400_0000_0001_0FFC, true),
+    Answer::Number(0x0807_0605_0403_0201),
+)];
+
+/// What a memory of two pages answers after three are refused.
+const REFUSED: [(Call, Answer); 2] = [
+    (Call::PagesLeft, Answer::Number(2)),
+    (
+        Call::LoadTag(0x10008),
+        Answer::Refused(MemFault {
+            kind: FaultKind::Translation,
+            addr: 0x10000,
+            write: false,
+            ptr_tag: 0,
+            mem_tag: 0,
+        }),
+    ),
+];
 
 #[test]
 fn refused_mapping(rt: HostRuntime) -> Result<(), Fail> {
+    let many = Flat::new(rt.alloc(), 1 << 58, TagMode::Sync).is_err();
     let mut memory = Flat::new(rt.alloc(), 2, TagMode::Sync)?;
-    assert_eq!(rt; memory.map_pages(16, 3, Attrs::DATA), Err(NoQuota));
-    assert_eq!(rt; memory.pages_left(), 2);
-    let missing = fault(FaultKind::Translation, 0x10000, false, 0, 0);
-    assert_eq!(rt; memory.load_tag(0x10008), Err(missing));
-    Ok(())
-}
-
-#[test]
-fn mapping_again(rt: HostRuntime) -> Result<(), Fail> {
-    let mut memory = Flat::new(rt.alloc(), 2, TagMode::Sync)?;
-    memory.map_pages(16, 2, Attrs::DATA)?;
-    memory.load_bytes(0x10FFC, &[1, 2, 3, 4, 5, 6, 7, 8]);
-    memory.store_tags(0x10FF0, 2, 4, false)?;
-    memory.unmap_pages(16, 2);
-    assert_eq!(rt; memory.pages_left(), 2);
-    memory.map_pages(16, 2, Attrs::DATA)?;
-    let mut bytes = [7u8; 8];
-    let read = memory.read(0x10FFC, &mut bytes, true);
-    assert_eq!(rt;
-        (memory.load_tag(0x10FF0), read, bytes),
-        (Ok(0), Ok(()), [0; 8])
-    );
+    let refused = memory.map_pages(16, 3, Attrs::DATA).is_err();
+    assert!(rt; many && refused && answers(&mut memory, &REFUSED));
     Ok(())
 }

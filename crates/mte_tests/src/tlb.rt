@@ -2,7 +2,6 @@
 
 use mte_tags::Attrs;
 use mte_translate::{Tlb, fill_adds_its_own, forget_drops_its_own, lookup_returns_what_stands};
-use std::test::Fail;
 
 /// Fills a page's translation, and tests that it is then returned at once.
 fn fill(tlb: &mut Tlb, asid: usize, page: u64, frame: usize) -> bool {
@@ -14,50 +13,70 @@ fn stands(tlb: &Tlb, asid: usize, page: u64, frame: usize) -> bool {
     tlb.lookup(asid, page) == Some((frame, Attrs::DATA))
 }
 
-#[test]
-fn the_oldest_translation_is_dropped(rt: HostRuntime) -> Result<(), Fail> {
-    let mut tlb = Tlb::new();
-    assert!(rt; tlb.lookup(0, 0).is_none());
+/// Fills the translations of 65 pages from 1 on, and whether each is returned at once.
+fn fill_all(tlb: &mut Tlb) -> bool {
     for page in 1..66 {
-        assert!(rt;
-            fill(&mut tlb, 7, page, 1000 + page as usize),
-            "page {page}"
-        );
+        if !fill(tlb, 7, page, 1000 + page as usize) {
+            return false;
+        }
     }
-    assert!(rt; fill(&mut tlb, 7, 2, 2) && fill(&mut tlb, 7, 66, 1066));
-    let gone = tlb.lookup(7, 1).is_none() && tlb.lookup(7, 3).is_none();
-    assert!(rt; tlb.len() == 64 && gone && stands(&tlb, 7, 2, 2));
+    true
+}
+
+/// Whether the translations of the pages 4 to 66 stand.
+fn all_stand(tlb: &Tlb) -> bool {
     for page in 4..67 {
         let quick = tlb.quick_lookup(7, page).is_some();
-        assert!(rt;
-            quick && stands(&tlb, 7, page, 1000 + page as usize),
-            "page {page}"
-        );
+        if !quick || !stands(tlb, 7, page, 1000 + page as usize) {
+            return false;
+        }
     }
-    Ok(())
+    true
+}
+
+/// Whether those of the pages 1 and 3 are gone, the oldest where 2 was filled again.
+fn two_are_gone(tlb: &Tlb) -> bool {
+    let gone = tlb.lookup(7, 1).is_none() && tlb.lookup(7, 3).is_none();
+    gone && tlb.len() == 64 && stands(tlb, 7, 2, 2)
 }
 
 #[test]
-fn each_address_space_has_its_own(rt: HostRuntime) -> Result<(), Fail> {
+fn the_oldest_translation_is_dropped(rt: HostRuntime) {
     let mut tlb = Tlb::new();
+    let none = tlb.lookup(0, 0).is_none();
+    let filled = fill_all(&mut tlb) && fill(&mut tlb, 7, 2, 2) && fill(&mut tlb, 7, 66, 1066);
+    assert!(rt; none && filled && two_are_gone(&tlb) && all_stand(&tlb));
+}
+
+/// Fills the translations of eight pages of two address spaces.
+fn fill_both(tlb: &mut Tlb) -> bool {
     for page in 0..8 {
-        let filled = fill(&mut tlb, 1, page, 1) && fill(&mut tlb, 2, page, 2);
-        assert!(rt; filled, "page {page}");
+        if !fill(tlb, 1, page, 1) || !fill(tlb, 2, page, 2) {
+            return false;
+        }
     }
+    true
+}
+
+/// Whether none of the second's eight translations is left, and of the first's all but one.
+fn second_is_forgotten(tlb: &Tlb) -> bool {
     for page in 0..8 {
-        assert!(rt;
-            stands(&tlb, 1, page, 1) && stands(&tlb, 2, page, 2),
-            "page {page}"
-        );
+        if tlb.lookup(2, page).is_some() || stands(tlb, 1, page, 1) != (page != 3) {
+            return false;
+        }
     }
+    true
+}
+
+#[test]
+fn each_address_space_has_its_own(rt: HostRuntime) {
+    let mut tlb = Tlb::new();
+    let filled = fill_both(&mut tlb);
     tlb.forget(1, 3);
-    assert!(rt; tlb.lookup(1, 3).is_none() && stands(&tlb, 2, 3, 2) && stands(&tlb, 1, 4, 1));
+    assert!(rt; filled && tlb.lookup(1, 3).is_none() && stands(&tlb, 2, 3, 2));
     tlb.forget_all(2);
-    for page in 0..8 {
-        assert!(rt; tlb.lookup(2, page).is_none() && tlb.lookup(1, page).is_some() == (page != 3));
-    }
+    assert!(rt; second_is_forgotten(&tlb));
     fill_adds_its_own();
     forget_drops_its_own();
     lookup_returns_what_stands();
-    Ok(())
 }

@@ -8,7 +8,6 @@ ghost use Rattle.scudo_cache.specs.Caches.{IsAbove};
 use scudo_cache::Cache;
 use scudo_primary::{MAX_COUNT, Pool};
 use std::alloc::{AllocError, Global};
-use std::process::Abort;
 use std::test::Fail;
 
 /// The block with a number, of a class whose blocks have `size` bytes.
@@ -19,15 +18,24 @@ fn block_at(class: u8, size: u64, number: u64) -> u64
     0x1000_0000 + class as u64 * 0x100_0000 + size * number
 }
 
+/// Whether the first `count` blocks of a class are popped in their order.
+fn pops_first(pool: &mut Pool, class: u8, size: u64, count: u64) -> bool
+    requires low { 0 < class }
+    requires high { class ≤ 44 }
+    requires size { size ≤ 65552 }
+    requires count { count ≤ 100000 }
+{
+    for number in 0..count {
+        if pool.pop(class) != Some(block_at(class, size, number)) {
+            return false;
+        }
+    }
+    true
+}
+
 /// A pool whose first `count` blocks of a class were popped.
 #[tactic(auto, using(scudo_primary::proofs::PoolLaws::left_laws))]
-fn pool_without(
-    rt: &impl Abort,
-    alloc: Global,
-    class: u8,
-    size: u64,
-    count: u64,
-) -> Result<Pool, Fail>
+fn pool_without(alloc: Global, class: u8, size: u64, count: u64) -> Result<Pool, Fail>
     requires low { 0 < class }
     requires high { class ≤ 44 }
     requires size { size ≤ 65552 }
@@ -35,14 +43,28 @@ fn pool_without(
 {
     let mut pool = Pool::new(alloc, 2)?;
     pool.carve(class, 2);
-    for number in 0..count {
-        assert_eq!(rt; pool.pop(class), Some(block_at(class, size, number)));
+    if !pops_first(&mut pool, class, size, count) {
+        return Err(Fail::new("another block is popped"));
     }
     Ok(pool)
 }
 
+/// Puts a block that is used, and returns whether it was and is free then.
+fn put_one(cache: &mut Cache, pool: &mut Pool, class: u8, block: u64) -> bool
+    requires low { 0 < class }
+    requires high { class ≤ 44 }
+    requires above { IsAbove cache.old pool.old }
+    ensures above { IsAbove cache.new pool.new }
+{
+    if !pool.is_block(class, block) || pool.is_free(class, block) {
+        return false;
+    }
+    cache.put(class, block, pool);
+    pool.is_free(class, block)
+}
+
 /// Puts the first `count` blocks of a class.
-fn put_first(rt: &impl Abort, cache: &mut Cache, pool: &mut Pool, class: u8, size: u64, count: u64)
+fn put_first(cache: &mut Cache, pool: &mut Pool, class: u8, size: u64, count: u64) -> bool
     requires low { 0 < class }
     requires high { class ≤ 44 }
     requires above { IsAbove cache.old pool.old }
@@ -51,71 +73,91 @@ fn put_first(rt: &impl Abort, cache: &mut Cache, pool: &mut Pool, class: u8, siz
     ensures above { IsAbove cache.new pool.new }
 {
     for number in 0..count {
-        let block = block_at(class, size, number);
-        assert!(rt; pool.is_block(class, block));
-        assert!(rt; !pool.is_free(class, block));
-        cache.put(class, block, pool);
-        assert!(rt; pool.is_free(class, block));
+        if !put_one(cache, pool, class, block_at(class, size, number)) {
+            return false;
+        }
     }
+    true
 }
 
-#[test]
+/// Whether a batch of the first `count` blocks of a class, and no second one, is in the pool.
+fn has_one_batch(pool: &mut Pool, class: u8, size: u64, count: usize) -> bool
+    requires low { 0 < class }
+    requires high { class ≤ 44 }
+    requires size { size ≤ 65552 }
+    requires count { count < 28 }
+{
+    let mut buffer = [7u64; MAX_COUNT];
+    if pool.pop_batch(class, &mut buffer) != count {
+        return false;
+    }
+    for number in 0..count {
+        if buffer[number] != block_at(class, size, number as u64) {
+            return false;
+        }
+    }
+    buffer[count] == 7 && pool.pop_batch(class, &mut buffer) == 0
+}
+
+/// After a class's `all` blocks were popped, whether the last of `puts` moves a batch of `moved`.
 #[tactic(auto, using(scudo_cache::proofs::CacheLaws::above_laws))]
-fn an_empty_cache_gives_none(rt: HostRuntime) -> Result<(), Fail> {
-    let mut pool = Pool::new(rt.alloc(), 1)?;
-    let mut cache = Cache::new(rt.alloc())?;
-    assert_eq!(rt; cache.take(1, &mut pool), None);
-    assert_eq!(rt; cache.take(44, &mut pool), None);
-    Ok(())
+fn moves_a_batch(
+    alloc: Global,
+    class: u8,
+    size: u64,
+    all: u64,
+    puts: u64,
+    moved: usize,
+) -> Result<bool, Fail>
+    requires low { 0 < class }
+    requires high { class ≤ 44 }
+    requires size { size ≤ 65552 }
+    requires all { all ≤ 100000 }
+    requires puts { puts ≤ 100000 }
+    requires moved { moved < 28 }
+{
+    let mut pool = pool_without(alloc, class, size, all)?;
+    let mut cache = Cache::new(alloc)?;
+    let put = put_first(&mut cache, &mut pool, class, size, puts);
+    Ok(put && has_one_batch(&mut pool, class, size, moved))
 }
 
 /// Class 13 has 640 bytes, of which a cache holds eight blocks: the ninth put moves the first four.
+/// Class 1 has 32 bytes, of which a cache holds 28 blocks: the 29th put moves the first 14.
 #[test]
-#[tactic(auto, using(scudo_cache::proofs::CacheLaws::above_laws))]
-fn nine_puts_leave_one_batch(rt: HostRuntime) -> Result<(), Fail> {
-    let mut pool = pool_without(&rt, rt.alloc(), 13, 640, 12)?;
-    let mut cache = Cache::new(rt.alloc())?;
-    put_first(&rt, &mut cache, &mut pool, 13, 640, 9);
-    let mut buffer = [7u64; MAX_COUNT];
-    assert_eq!(rt; pool.pop_batch(13, &mut buffer), 4);
-    for number in 0..4usize {
-        assert_eq!(rt; buffer[number], block_at(13, 640, number as u64));
-    }
-    assert_eq!(rt; buffer[4], 7);
-    assert_eq!(rt; pool.pop_batch(13, &mut buffer), 0);
+fn puts_move_one_batch(rt: HostRuntime) -> Result<(), Fail> {
+    let nine = moves_a_batch(rt.alloc(), 13, 640, 12, 9, 4)?;
+    let twenty_nine = moves_a_batch(rt.alloc(), 1, 32, 256, 29, 14)?;
+    assert!(rt; nine && twenty_nine);
     Ok(())
+}
+
+/// Takes a block, and returns whether it is this one and is not free then.
+fn takes(cache: &mut Cache, pool: &mut Pool, block: u64) -> bool
+    requires above { IsAbove cache.old pool.old }
+    ensures above { IsAbove cache.new pool.new }
+{
+    cache.take(13, pool) == Some(block) && !pool.is_free(13, block)
+}
+
+/// Whether a cache above its pool gives nine blocks of class 13, the last first.
+fn gives_nine(cache: &mut Cache, pool: &mut Pool) -> bool
+    requires above { IsAbove cache.old pool.old }
+{
+    for number in 0..9u64 {
+        if !takes(cache, pool, block_at(13, 640, 8 - number)) {
+            return false;
+        }
+    }
+    cache.take(13, pool).is_none()
 }
 
 #[test]
 #[tactic(auto, using(scudo_cache::proofs::CacheLaws::above_laws))]
 fn nine_takes_give_the_last_first(rt: HostRuntime) -> Result<(), Fail> {
-    let mut pool = pool_without(&rt, rt.alloc(), 13, 640, 12)?;
+    let mut pool = pool_without(rt.alloc(), 13, 640, 12)?;
     let mut cache = Cache::new(rt.alloc())?;
-    put_first(&rt, &mut cache, &mut pool, 13, 640, 9);
-    for number in 0..9u64 {
-        assert_eq!(rt;
-            cache.take(13, &mut pool),
-            Some(block_at(13, 640, 8 - number))
-        );
-        assert!(rt; !pool.is_free(13, block_at(13, 640, 8 - number)));
-    }
-    assert_eq!(rt; cache.take(13, &mut pool), None);
-    Ok(())
-}
-
-/// Class 1 has 32 bytes, of which a cache holds 28 blocks: the 29th put moves the first 14.
-#[test]
-#[tactic(auto, using(scudo_cache::proofs::CacheLaws::above_laws))]
-fn twenty_nine_puts_leave_fourteen(rt: HostRuntime) -> Result<(), Fail> {
-    let mut pool = pool_without(&rt, rt.alloc(), 1, 32, 256)?;
-    let mut cache = Cache::new(rt.alloc())?;
-    put_first(&rt, &mut cache, &mut pool, 1, 32, 29);
-    let mut buffer = [7u64; MAX_COUNT];
-    assert_eq!(rt; pool.pop_batch(1, &mut buffer), 14);
-    for number in 0..14usize {
-        assert_eq!(rt; buffer[number], block_at(1, 32, number as u64));
-    }
-    assert_eq!(rt; buffer[14], 7);
-    assert_eq!(rt; pool.pop_batch(1, &mut buffer), 0);
+    let put = put_first(&mut cache, &mut pool, 13, 640, 9);
+    assert!(rt; put && gives_nine(&mut cache, &mut pool));
     Ok(())
 }

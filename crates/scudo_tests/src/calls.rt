@@ -35,7 +35,7 @@ pub(crate) enum Call {
 }
 
 /// What a call answers: a number, 0 where it has none.
-#[derive(Clone, Copy, PartialEq, Eq, Debug)]
+#[derive(Clone, Copy, PartialEq, Eq)]
 pub(crate) enum Answer {
     Is(u64),
     Aborts(HeapAbort),
@@ -79,6 +79,29 @@ fn write<M: Tagged>(
     Ok(0)
 }
 
+fn load_tag<M: Tagged>(heap: &Heap, memory: &mut M, at: u64) -> Result<u64, MemFault>
+    requires { IsServed (M.memory memory.old) heap.now }
+    ensures served { IsServed (M.memory memory.new) heap.now }
+{
+    let _ = heap;
+    Ok(memory.load_tag(at)? as u64)
+}
+
+fn store_tags<M: Tagged>(
+    heap: &Heap,
+    memory: &mut M,
+    at: u64,
+    count: u64,
+    tag: u8,
+) -> Result<u64, MemFault>
+    requires { IsServed (M.memory memory.old) heap.now }
+    ensures served { IsServed (M.memory memory.new) heap.now }
+{
+    let _ = heap;
+    memory.store_tags(at, count, tag % 16, false)?;
+    Ok(0)
+}
+
 /// A call that does not change the heap.
 pub(crate) fn access<M: Paged>(heap: &Heap, memory: &mut M, call: Call) -> Result<u64, MemFault>
     requires { IsServed (M.memory memory.old) heap.now }
@@ -89,11 +112,8 @@ pub(crate) fn access<M: Paged>(heap: &Heap, memory: &mut M, call: Call) -> Resul
         Call::Word(at) => read(heap, memory, at, false),
         Call::Write(at, value) => write(heap, memory, at, value, false),
         Call::CheckedWrite(at, value) => write(heap, memory, at, value, true),
-        Call::Tag(at) => Ok(memory.load_tag(at)? as u64),
-        Call::StoreTags(at, count, tag) => {
-            memory.store_tags(at, count, tag % 16, false)?;
-            Ok(0)
-        }
+        Call::Tag(at) => load_tag(heap, memory, at),
+        Call::StoreTags(at, count, tag) => store_tags(heap, memory, at, count, tag),
         Call::Flag => Ok(memory.pending() as u64),
         _ => Ok(memory.pages_left() as u64),
     }
@@ -163,21 +183,20 @@ fn last_answer<M: Paged>(
     last
 }
 
-/// The first row of a table whose call answers otherwise, with its answer.
-pub(crate) fn first_difference<M: Paged>(
+/// Whether the calls of a table answer as its rows say.
+pub(crate) fn answers<M: Paged>(
     heap: &mut Heap,
     rgsr: &mut Rgsr,
     memory: &mut M,
     rows: &[Row],
-) -> Option<(usize, Answer)>
+) -> bool
     requires served { IsServed (M.memory memory.old) heap.old }
     requires tag { rgsr.old.tag < 16 }
 {
-    for (i, Row(times, call, expected)) in rows.iter().enumerate() {
-        let found = last_answer(heap, rgsr, memory, *times, *call);
-        if found != *expected {
-            return Some((i, found));
+    for row in rows {
+        if last_answer(heap, rgsr, memory, row.0, row.1) != row.2 {
+            return false;
         }
     }
-    None
+    true
 }

@@ -8,7 +8,7 @@ use crate::shadow::Shadow;
 use mte_flat::Flat;
 use mte_tags::{Paged, Rgsr, TagMode};
 use scudo_heap::Heap;
-use std::alloc::Global;
+use std::alloc::{AllocError, Global};
 use std::test::Fail;
 
 /// The next number of a fixed generator, of which the high bits are used.
@@ -37,7 +37,7 @@ fn is_disciplined<M: Paged>(heap: &mut Heap, rgsr: &mut Rgsr, memory: &mut M, se
 }
 
 /// A run with a cookie and a seed of its own.
-fn careful_run(alloc: Global, run: u16) -> Result<bool, Fail> {
+fn careful_run(alloc: Global, run: u16) -> Result<bool, AllocError> {
     let mut memory = Flat::new(alloc, 128, TagMode::Sync)?;
     let mut heap = Heap::new(alloc, u32::from(run), 128)?;
     let mut rgsr = Rgsr { tag: 0, seed: run };
@@ -47,7 +47,9 @@ fn careful_run(alloc: Global, run: u16) -> Result<bool, Fail> {
 #[test]
 fn a_thousand_careful_runs(rt: HostRuntime) -> Result<(), Fail> {
     for run in 0..1000u16 {
-        assert!(rt; careful_run(rt.alloc(), run)?, "run {run}");
+        if careful_run(rt.alloc(), run) != Ok(true) {
+            return Err(Fail::new(run));
+        }
     }
     Ok(())
 }

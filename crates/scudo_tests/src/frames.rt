@@ -6,7 +6,7 @@ ghost use Rattle.scudo_heap.specs.Served.{IsServed};
 
 use crate::calls::{Row, make};
 use crate::discipline::next;
-use crate::heap::{HEAP_PAGES, differs};
+use crate::heap::{HEAP_PAGES, answers_anew};
 use crate::shadow::Shadow;
 use crate::tables::{TABLES, Table};
 use mte_arena::Arena;
@@ -16,7 +16,7 @@ use mte_space::{Space, pages_of_a_space};
 use mte_tags::{Paged, Rgsr, TagMode, TagState};
 use mte_translate::{Table as PageTable, Tlb};
 use scudo_heap::Heap;
-use std::alloc::Global;
+use std::alloc::{AllocError, Global};
 use std::test::Fail;
 
 /// Whether random careful calls are answered alike over two memories, and all that has to hold of
@@ -59,6 +59,47 @@ enum Trial {
     Random,
 }
 
+/// Whether a new heap answers random calls as one over a plain memory does.
+fn is_as_over_plain<M: Paged>(
+    alloc: Global,
+    heap: &mut Heap,
+    memory: &mut M,
+    pages: usize,
+    mode: TagMode,
+) -> Result<bool, AllocError>
+    requires some { 0 < pages }
+    requires most { pages ≤ 4096 }
+    requires served { IsServed (M.memory memory.old) heap.old }
+{
+    let mut rgsr = Rgsr { tag: 0, seed: 1 };
+    let mut plain = Flat::new(alloc, pages, mode)?;
+    let mut plain_heap = Heap::new(alloc, 0, HEAP_PAGES)?;
+    let mut plain_rgsr = rgsr;
+    Ok(are_alike(
+        &mut plain_heap,
+        &mut plain_rgsr,
+        &mut plain,
+        heap,
+        &mut rgsr,
+        memory,
+    ))
+}
+
+/// The same of a heap over a memory without pages.
+fn random_are_alike<M: Paged>(
+    alloc: Global,
+    memory: &mut M,
+    pages: usize,
+    mode: TagMode,
+) -> Result<bool, AllocError>
+    requires some { 0 < pages }
+    requires most { pages ≤ 4096 }
+    requires empty { M.memory memory.old ≡ no_pages pages mode }
+{
+    let mut heap = Heap::new(alloc, 0, HEAP_PAGES)?;
+    is_as_over_plain(alloc, &mut heap, memory, pages, mode)
+}
+
 /// Whether a heap over a memory without pages does what is tried.
 fn passes<M: Paged>(
     alloc: Global,
@@ -66,27 +107,46 @@ fn passes<M: Paged>(
     pages: usize,
     mode: TagMode,
     trial: Trial,
-) -> Result<bool, Fail>
+) -> Result<bool, AllocError>
     requires some { 0 < pages }
     requires most { pages ≤ 4096 }
     requires empty { M.memory memory.old ≡ no_pages pages mode }
 {
-    let Trial::Rows(rows) = trial else {
-        let mut heap = Heap::new(alloc, 0, HEAP_PAGES)?;
-        let mut rgsr = Rgsr { tag: 0, seed: 1 };
-        let mut plain = Flat::new(alloc, pages, mode)?;
-        let mut plain_heap = Heap::new(alloc, 0, HEAP_PAGES)?;
-        let mut plain_rgsr = rgsr;
-        return Ok(are_alike(
-            &mut plain_heap,
-            &mut plain_rgsr,
-            &mut plain,
-            &mut heap,
-            &mut rgsr,
-            memory,
-        ));
+    match trial {
+        Trial::Rows(rows) => answers_anew(alloc, memory, pages, mode, rows),
+        Trial::Random => random_are_alike(alloc, memory, pages, mode),
+    }
+}
+
+/// Whether a heap over a new memory of frames of this pool does what is tried.
+fn passes_over_pool(
+    alloc: Global,
+    pool: &mut FramePool,
+    pages: usize,
+    mode: TagMode,
+    trial: Trial,
+) -> Result<bool, AllocError>
+    requires some { 0 < pages }
+    requires most { pages ≤ 4096 }
+{
+    let Ok(mut quota) = pool.reserve(2 * pages + 1) else {
+        return Ok(false);
     };
-    Ok(differs(alloc, memory, pages, mode, rows)?.is_none())
+    if pool.taken(&quota) >= pool.reserved(&quota) {
+        return Ok(false);
+    }
+    let mut table = PageTable::new(pool, &mut quota);
+    if pool.taken(&quota) + 2 * pages > pool.reserved(&quota) {
+        return Ok(false);
+    }
+    let mut tlb = Tlb::new();
+    let mut state = TagState {
+        mode,
+        pending: false,
+    };
+    pages_of_a_space();
+    let mut memory = Space::new(pool, &mut table, &mut quota, &mut tlb, &mut state, 1, pages);
+    passes(alloc, &mut memory, pages, mode, trial)
 }
 
 /// Whether a heap over a new memory of shared frames does what is tried.
@@ -95,55 +155,32 @@ fn passes_over_frames(
     pages: usize,
     mode: TagMode,
     trial: Trial,
-) -> Result<bool, Fail> {
+) -> Result<bool, AllocError> {
     if pages == 0 || pages > 4096 {
-        return Err(Fail::new("no heap is made for so many pages"));
+        return Ok(false);
     }
-    let charge = 2 * pages + 1;
-    let Ok(arena) = Arena::new(alloc, charge) else {
-        return Err(Fail::new("no memory for the arena"));
+    let Ok(arena) = Arena::new(alloc, 2 * pages + 1) else {
+        return Ok(false);
     };
-    let Ok(mut pool) = FramePool::new(alloc, arena) else {
-        return Err(Fail::new("no memory for the pool"));
-    };
-    let Ok(mut quota) = pool.reserve(charge) else {
-        return Err(Fail::new("the quota is refused"));
-    };
-    if pool.taken(&quota) >= pool.reserved(&quota) {
-        return Err(Fail::new("no root"));
+    match FramePool::new(alloc, arena) {
+        Ok(mut pool) => passes_over_pool(alloc, &mut pool, pages, mode, trial),
+        Err(_) => Ok(false),
     }
-    let mut table = PageTable::new(&mut pool, &mut quota);
-    if pool.taken(&quota) + 2 * pages > pool.reserved(&quota) {
-        return Err(Fail::new("the quota has no room"));
-    }
-    let mut tlb = Tlb::new();
-    let mut state = TagState {
-        mode,
-        pending: false,
-    };
-    pages_of_a_space();
-    let mut memory = Space::new(
-        &mut pool, &mut table, &mut quota, &mut tlb, &mut state, 1, pages,
-    );
-    passes(alloc, &mut memory, pages, mode, trial)
 }
 
 #[test]
 fn tables_over_shared_frames(rt: HostRuntime) -> Result<(), Fail> {
-    for table in TABLES {
-        let Table(name, pages, mode, rows) = table;
-        let trial = Trial::Rows(rows);
-        assert!(rt;
-            passes_over_frames(rt.alloc(), pages, mode, trial)?,
-            "{name}"
-        );
+    for table in &TABLES {
+        let Table(name, pages, mode, rows) = *table;
+        if passes_over_frames(rt.alloc(), pages, mode, Trial::Rows(rows)) != Ok(true) {
+            return Err(Fail::new(name));
+        }
     }
     Ok(())
 }
 
 #[test]
-fn random_calls_over_both_memories(rt: HostRuntime) -> Result<(), Fail> {
-    let passed = passes_over_frames(rt.alloc(), 128, TagMode::Sync, Trial::Random)?;
-    assert!(rt; passed);
-    Ok(())
+fn random_calls_over_both_memories(rt: HostRuntime) {
+    let passed = passes_over_frames(rt.alloc(), 128, TagMode::Sync, Trial::Random);
+    assert!(rt; passed == Ok(true));
 }

@@ -18,101 +18,123 @@ const CHUNK: Header = Header {
     offset: 0,
 };
 
-#[test]
-fn sizes_of_classes(rt: HostRuntime) {
+/// Whether the classes from 1 on have these sizes.
+fn have_sizes(sizes: &[u64]) -> bool {
     let mut class = 1u8;
-    for size in CLASS_SIZES {
-        if class > 0 && class <= 44 {
-            assert_eq!(rt; size_of_class(class), size, "class {class}");
-            assert_eq!(rt; class_of(size), Some(class));
-            class += 1;
+    for size in sizes {
+        if class == 0
+            || class > 44
+            || size_of_class(class) != *size
+            || class_of(*size) != Some(class)
+        {
+            return false;
+        }
+        class += 1;
+    }
+    true
+}
+
+/// What is needed, and the least class that has it.
+const NEEDS: [(u64, Option<u8>); 14] = [
+    (0, Some(1)),
+    (1, Some(1)),
+    (32, Some(1)),
+    (33, Some(2)),
+    (256, Some(8)),
+    (257, Some(9)),
+    (320, Some(9)),
+    (321, Some(10)),
+    (512, Some(12)),
+    (513, Some(13)),
+    (114_689, Some(44)),
+    (131_072, Some(44)),
+    (131_073, None),
+    (u64::MAX, None),
+];
+
+fn are_classes(rows: &[(u64, Option<u8>)]) -> bool {
+    for (need, class) in rows {
+        if class_of(*need) != *class {
+            return false;
         }
     }
-    assert_eq!(rt; class, 45);
-    assert_eq!(rt; size_of_class(12), 512);
-    assert_eq!(rt; size_of_class(13), 640);
+    true
 }
 
 #[test]
-fn classes_of_needs(rt: HostRuntime) {
-    for (need, class) in [
-        (0u64, Some(1u8)),
-        (1, Some(1)),
-        (32, Some(1)),
-        (33, Some(2)),
-        (256, Some(8)),
-        (257, Some(9)),
-        (320, Some(9)),
-        (321, Some(10)),
-        (512, Some(12)),
-        (513, Some(13)),
-        (114_689, Some(44)),
-        (131_072, Some(44)),
-        (131_073, None),
-        (u64::MAX, None),
-    ] {
-        assert_eq!(rt; class_of(need), class, "need {need}");
+fn sizes_of_classes(rt: HostRuntime) {
+    assert!(rt; have_sizes(&CLASS_SIZES) && are_classes(&NEEDS));
+}
+
+/// Cookies, pointers and headers with their checksums.
+const CHECKSUMS: [(u32, u64, u64, u16); 6] = [
+    (0, 0x1040_0010, 0x18102, 0x1322),
+    (0, 0x0500_0000_1040_0010, 0x18102, 0x1322),
+    (0, 0x1040_0010, 0xFFFF_0000_0001_8102, 0x1322),
+    (0, 0x1200_0010, 0x18102, 0x1142),
+    (0, 0x1200_0010, 0x18103, 0x1342),
+    (0xDEAD_BEEF, 0x1040_0010, 0x18102, 0xD211),
+];
+
+fn are_checksums(rows: &[(u32, u64, u64, u16)]) -> bool {
+    for (cookie, pointer, header, sum) in rows {
+        if checksum(*cookie, *pointer, *header) != *sum {
+            return false;
+        }
     }
+    true
 }
 
 #[test]
 fn checksums(rt: HostRuntime) {
-    for (cookie, pointer, header, sum) in [
-        (0u32, 0x1040_0010u64, 0x18102u64, 0x1322u16),
-        (0, 0x0500_0000_1040_0010, 0x18102, 0x1322),
-        (0, 0x1040_0010, 0xFFFF_0000_0001_8102, 0x1322),
-        (0, 0x1200_0010, 0x18102, 0x1142),
-        (0, 0x1200_0010, 0x18103, 0x1342),
-        (0xDEAD_BEEF, 0x1040_0010, 0x18102, 0xD211),
-    ] {
-        assert_eq!(rt;
-            checksum(cookie, pointer, header),
-            sum,
-            "header {header:#x} at {pointer:#x}"
-        );
+    assert!(rt; are_checksums(&CHECKSUMS));
+}
+
+const ODD: Header = Header {
+    class_id: 0xAB,
+    state: State::Reserved,
+    origin: Origin::New,
+    size_or_unused_bytes: 0xF_EDCB,
+    offset: 0x1234,
+};
+
+const ALIGNED: Header = Header {
+    class_id: 0,
+    state: State::Allocated,
+    origin: Origin::Memalign,
+    size_or_unused_bytes: 4095,
+    offset: 0,
+};
+
+/// Cookies, pointers and headers with their words.
+const PACKED: [(u32, u64, Header, u64); 4] = [
+    (0, 0x1040_0010, CHUNK, 0x1322_0000_0001_8102),
+    (0, 0x1200_0010, CHUNK, 0x1142_0000_0001_8102),
+    (0xDEAD_BEEF, 0x2000_FFF0, ODD, 0xB8F1_1234_FEDC_B7AB),
+    (7, 0x2000_1010, ALIGNED, 0xEE72_0000_00FF_FD00),
+];
+
+fn are_packed(rows: &[(u32, u64, Header, u64)]) -> bool {
+    for (cookie, pointer, header, word) in rows {
+        if header.size_or_unused_bytes >= 1 << 20
+            || pack(*cookie, *pointer, header) != *word
+            || unpack(*cookie, *pointer, *word) != Some(*header)
+        {
+            return false;
+        }
     }
+    true
 }
 
 #[test]
 fn packed_headers(rt: HostRuntime) {
-    let odd = Header {
-        class_id: 0xAB,
-        state: State::Reserved,
-        origin: Origin::New,
-        size_or_unused_bytes: 0xF_EDCB,
-        offset: 0x1234,
-    };
-    let aligned = Header {
-        class_id: 0,
-        state: State::Allocated,
-        origin: Origin::Memalign,
-        size_or_unused_bytes: 4095,
-        offset: 0,
-    };
-    for (cookie, pointer, header, word) in [
-        (0u32, 0x1040_0010u64, CHUNK, 0x1322_0000_0001_8102u64),
-        (0, 0x1200_0010, CHUNK, 0x1142_0000_0001_8102),
-        (0xDEAD_BEEF, 0x2000_FFF0, odd, 0xB8F1_1234_FEDC_B7AB),
-        (7, 0x2000_1010, aligned, 0xEE72_0000_00FF_FD00),
-    ] {
-        if header.size_or_unused_bytes < 1 << 20 {
-            assert_eq!(rt; pack(cookie, pointer, &header), word);
-            assert_eq!(rt; unpack(cookie, pointer, word), Some(header));
-        }
-    }
+    assert!(rt; are_packed(&PACKED));
 }
 
 #[test]
 fn corrupt_headers(rt: HostRuntime) {
-    for (pointer, word) in [
-        (0x1200_0010u64, 0x1142_0000_0001_8103u64),
-        (0x1200_0010, 0x1143_0000_0001_8102),
-        (0x1200_0020, 0x1142_0000_0001_8102),
-    ] {
-        assert_eq!(rt;
-            unpack(0, pointer, word),
-            None,
-            "word {word:#x} at {pointer:#x}"
-        );
-    }
+    let flipped = unpack(0, 0x1200_0010, 0x1142_0000_0001_8103).is_none();
+    let other_sum = unpack(0, 0x1200_0010, 0x1143_0000_0001_8102).is_none();
+    let elsewhere = unpack(0, 0x1200_0020, 0x1142_0000_0001_8102).is_none();
+    assert!(rt; flipped && other_sum && elsewhere);
 }

@@ -3,25 +3,25 @@
 ghost use Rattle.std.specs.Prelude.{◌≡◌, ◌<◌, ◌≤◌};
 ghost use Rattle.mte_tags.specs.Memory.{no_pages};
 
-use crate::calls::{Answer, Row, first_difference};
+use crate::calls::{Row, answers};
 use crate::tables::{NOT_CAREFUL, TABLES, Table};
 use mte_flat::Flat;
 use mte_tags::{Paged, Rgsr, TagMode};
 use scudo_heap::{Heap, condition_of_calls};
-use std::alloc::Global;
+use std::alloc::{AllocError, Global};
 use std::test::Fail;
 
 /// For how many pages a heap is made.
 pub(crate) const HEAP_PAGES: u64 = 4096;
 
-/// The first row that differs, on a new heap over a memory without pages.
-pub(crate) fn differs<M: Paged>(
+/// Whether a new heap over a memory without pages answers as rows say.
+pub(crate) fn answers_anew<M: Paged>(
     alloc: Global,
     memory: &mut M,
     pages: usize,
     mode: TagMode,
     rows: &[Row],
-) -> Result<Option<(usize, Answer)>, Fail>
+) -> Result<bool, AllocError>
     requires most { pages ≤ 4096 }
     requires empty { M.memory memory.old ≡ no_pages pages mode }
 {
@@ -29,35 +29,37 @@ pub(crate) fn differs<M: Paged>(
     let _ = mode;
     let mut heap = Heap::new(alloc, 0, HEAP_PAGES)?;
     let mut rgsr = Rgsr { tag: 0, seed: 1 };
-    Ok(first_difference(&mut heap, &mut rgsr, memory, rows))
+    Ok(answers(&mut heap, &mut rgsr, memory, rows))
 }
 
-fn differs_over_flat(alloc: Global, table: Table) -> Result<Option<(usize, Answer)>, Fail> {
-    let Table(_, pages, mode, rows) = table;
+fn passes(alloc: Global, table: &Table) -> Result<bool, AllocError> {
+    let Table(_, pages, mode, rows) = *table;
     if pages == 0 || pages > 4096 {
-        return Err(Fail::new("no heap is made for so many pages"));
+        return Ok(false);
     }
     let mut memory = Flat::new(alloc, pages, mode)?;
-    differs(alloc, &mut memory, pages, mode, rows)
+    answers_anew(alloc, &mut memory, pages, mode, rows)
+}
+
+/// Fails with the name of the first table that a heap over a plain memory answers otherwise.
+fn all_pass(alloc: Global, tables: &[Table]) -> Result<(), Fail> {
+    for table in tables {
+        if passes(alloc, table) != Ok(true) {
+            return Err(Fail::new(table.0));
+        }
+    }
+    Ok(())
 }
 
 #[test]
 fn tables_over_a_plain_memory(rt: HostRuntime) -> Result<(), Fail> {
-    for table in TABLES {
-        let name = table.0;
-        assert_eq!(rt; differs_over_flat(rt.alloc(), table)?, None, "{name}");
-    }
-    Ok(())
+    all_pass(rt.alloc(), &TABLES)
 }
 
 /// What the laws of careful runs deny, each by a run that is not careful.
 #[test]
 fn runs_that_are_not_careful(rt: HostRuntime) -> Result<(), Fail> {
-    for table in NOT_CAREFUL {
-        let name = table.0;
-        assert_eq!(rt; differs_over_flat(rt.alloc(), table)?, None, "{name}");
-    }
-    Ok(())
+    all_pass(rt.alloc(), &NOT_CAREFUL)
 }
 
 /// What holds of every heap.

@@ -1,7 +1,7 @@
 //! What a picture says of a row, its pages and its title.
 
 use heap_picture::{GRANULES, Granule, Heading, Kind, Line, Mark, Marked, Owner, Pages, Row};
-use std::test::Fail;
+use std::alloc::Global;
 
 /// The first granules of class 2: a header, a live chunk of two granules with tag 14, and a header.
 fn row() -> Row {
@@ -38,64 +38,94 @@ fn line(marked: Marked, addr: u64) -> Line {
     }
 }
 
-#[test]
-fn an_access_behind_a_chunk(rt: HostRuntime) -> Result<(), Fail> {
-    let line = line(Marked::Access, 0x1200_0038);
-    let text = format!(in rt.alloc(); "{line}")?;
-    for expected in [
-        "<g transform=\"translate(0 52)\">",
-        ">0x12000000</text>",
-        ">class 2</text>",
-        "<use href=\"#t0\" x=\"0\"/><use href=\"#t14\" x=\"16\"/>\
-         <use href=\"#t14\" x=\"32\"/><use href=\"#t0\" x=\"48\"/>",
-        "M0,-4v26M64,-4v26M128,-4v26",
-        "<rect class=\"live\" y=\"1\" height=\"16\" x=\"24\" width=\"32\"/>",
-        "<rect class=\"mark\" x=\"48\" y=\"-1\" width=\"16\" height=\"20\"/>",
-        ">access at 0x12000038 with tag 14, memory has 0</text>",
-    ] {
-        assert!(rt; text.contains(expected));
+/// What the line of an access behind the chunk contains.
+const BEHIND: [&str; 8] = [
+    "<g transform=\"translate(0 52)\">",
+    ">0x12000000</text>",
+    ">class 2</text>",
+    "<use href=\"#t0\" x=\"0\"/><use href=\"#t14\" x=\"16\"/>\
+     <use href=\"#t14\" x=\"32\"/><use href=\"#t0\" x=\"48\"/>",
+    "M0,-4v26M64,-4v26M128,-4v26",
+    "<rect class=\"live\" y=\"1\" height=\"16\" x=\"24\" width=\"32\"/>",
+    "<rect class=\"mark\" x=\"48\" y=\"-1\" width=\"16\" height=\"20\"/>",
+    ">access at 0x12000038 with tag 14, memory has 0</text>",
+];
+
+fn contains_all(text: &str, parts: &[&str]) -> bool {
+    for part in parts {
+        if !text.contains(*part) {
+            return false;
+        }
     }
-    Ok(())
+    true
 }
 
-#[test]
-fn a_pointer_that_was_refused(rt: HostRuntime) -> Result<(), Fail> {
-    let line = line(Marked::Pointer, 0x1200_0010);
-    let text = format!(in rt.alloc(); "{line}")?;
-    assert!(rt; text.contains(">pointer 0x12000010 with tag 14, memory has 14</text>"));
-    Ok(())
-}
-
-#[test]
-fn an_access_in_another_row(rt: HostRuntime) -> Result<(), Fail> {
-    for addr in [0x11FF_FFFF, 0x1200_0400] {
-        let line = line(Marked::Access, addr);
-        let text = format!(in rt.alloc(); "{line}")?;
-        assert!(rt; !text.contains("access at"));
+/// Whether the line of the row with a mark contains all these texts.
+fn shows(alloc: Global, marked: Marked, addr: u64, parts: &[&str]) -> bool {
+    let line = line(marked, addr);
+    match format!(in alloc; "{line}") {
+        Ok(text) => contains_all(&text, parts),
+        Err(_) => false,
     }
-    Ok(())
 }
 
 #[test]
-fn ranges_of_pages(rt: HostRuntime) -> Result<(), Fail> {
+fn a_mark_in_its_row(rt: HostRuntime) {
+    assert!(rt; shows(rt.alloc(), Marked::Access, 0x1200_0038, &BEHIND));
+    let pointer = ">pointer 0x12000010 with tag 14, memory has 14</text>";
+    assert!(rt; shows(rt.alloc(), Marked::Pointer, 0x1200_0010, &[pointer]));
+}
+
+#[test]
+fn an_access_in_another_row(rt: HostRuntime) {
+    let before = shows(rt.alloc(), Marked::Access, 0x11FF_FFFF, &["access at"]);
+    let after = shows(rt.alloc(), Marked::Access, 0x1200_0400, &["access at"]);
+    let class = shows(
+        rt.alloc(),
+        Marked::Access,
+        0x1200_0400,
+        &[">class 2</text>"],
+    );
+    assert!(rt; class && !before && !after);
+}
+
+/// Whether a range of pages is shown by this text.
+fn is_shown_as(alloc: Global, pages: &Pages, expected: &str) -> bool {
+    match format!(in alloc; "{pages}") {
+        Ok(text) => text.as_str() == expected,
+        Err(_) => false,
+    }
+}
+
+#[test]
+fn ranges_of_pages(rt: HostRuntime) {
     let pages = Pages {
         start: 0x1200_0000,
         count: 2,
         kind: Kind::Class(2),
     };
-    let text = format!(in rt.alloc(); "{pages}")?;
-    assert_eq!(rt; text.as_str(), "0x12000000 to 0x12002000: 2 pages, class 2");
-    Ok(())
+    assert!(rt;
+        is_shown_as(
+            rt.alloc(),
+            &pages,
+            "0x12000000 to 0x12002000: 2 pages, class 2"
+        )
+    );
+}
+
+fn has_title(alloc: Global, heading: &Heading, title: &str) -> bool {
+    match format!(in alloc; "{heading}") {
+        Ok(text) => text.contains(title),
+        Err(_) => false,
+    }
 }
 
 #[test]
-fn a_title_is_escaped(rt: HostRuntime) -> Result<(), Fail> {
+fn a_title_is_escaped(rt: HostRuntime) {
     let heading = Heading {
         title: "a<b> & \u{1}c",
         pages: &[],
         rows: 1,
     };
-    let text = format!(in rt.alloc(); "{heading}")?;
-    assert!(rt; text.contains(">a&lt;b&gt; &amp; ?c</text>"));
-    Ok(())
+    assert!(rt; has_title(rt.alloc(), &heading, ">a&lt;b&gt; &amp; ?c</text>"));
 }

@@ -15,82 +15,98 @@ fn start(class: u64) -> u64
     0x1000_0000 + class * 0x100_0000
 }
 
+/// Whether the blocks of a page are popped in their order, and no more.
+fn pops_twelve(pool: &mut Pool) -> bool {
+    for n in 0..12u64 {
+        if pool.pop(9) != Some(0x1900_0000 + 320 * n) {
+            return false;
+        }
+    }
+    pool.pop(9).is_none()
+}
+
+fn has_none(pool: &Pool) -> bool {
+    pool.carved(9) == 0 && !pool.is_block(9, 0x1900_0000)
+}
+
+/// Whether the twelfth block is the last one.
+fn has_twelve(pool: &Pool) -> bool {
+    let last = pool.carved(9) == 12 && pool.is_block(9, 0x1900_0dc0);
+    last && !pool.is_block(9, 0x1900_0f00) && !pool.is_free(9, 0x1900_0f00)
+}
+
 /// Class 9 has 320 bytes: a page holds 12 blocks, two pages 25.
 #[test]
 #[tactic(auto, using(scudo_primary::proofs::PoolLaws::left_laws))]
 fn thirteen_blocks_of_class_9(rt: HostRuntime) -> Result<(), Fail> {
     let mut pool = Pool::new(rt.alloc(), 2)?;
-    let before = (pool.carved(9), pool.pop(9), pool.is_block(9, 0x1900_0000));
-    assert_eq!(rt; before, (0, None, false));
+    let none = has_none(&pool);
     pool.carve(9, 1);
-    let after = (
-        pool.carved(9),
-        pool.is_block(9, 0x1900_0dc0),
-        pool.is_block(9, 0x1900_0f00),
-        pool.is_free(9, 0x1900_0f00),
-    );
-    assert_eq!(rt; after, (12, true, false, false));
-    for n in 0..12u64 {
-        assert_eq!(rt; pool.pop(9), Some(0x1900_0000 + 320 * n));
-    }
-    assert_eq!(rt; pool.pop(9), None);
+    assert!(rt; none && has_twelve(&pool) && pops_twelve(&mut pool));
     Ok(())
 }
 
 /// A class of 640 bytes has six blocks in a page: a batch of four, the lowest of them last, and one
 /// of two.
+fn has_two_batches(pool: &mut Pool) -> bool {
+    let mut buffer = [7u64; MAX_COUNT];
+    let four = pool.pop_batch(13, &mut buffer) == 4 && buffer[3] == start(13);
+    let two = pool.pop_batch(13, &mut buffer) == 2 && buffer[1] == start(13) + 640 * 4;
+    four && two && pool.pop_batch(13, &mut buffer) == 0
+}
+
 #[test]
 #[tactic(auto, using(scudo_primary::proofs::PoolLaws::left_laws))]
 fn batches_of_a_carve(rt: HostRuntime) -> Result<(), Fail> {
     let mut pool = Pool::new(rt.alloc(), 1)?;
-    let mut buffer = [7u64; MAX_COUNT];
     pool.carve(13, 1);
-    for (count, top) in [(4usize, 0), (2, 4), (0, 4)] {
-        assert_eq!(rt; pool.pop_batch(13, &mut buffer), count);
-        if count > 0 {
-            assert_eq!(rt; buffer[count - 1], start(13) + 640 * top);
-        }
-    }
-    assert_eq!(rt; (max_count(12), max_count(13)), (28, 8));
+    assert!(rt; has_two_batches(&mut pool) && max_count(12) == 28 && max_count(13) == 8);
     Ok(())
 }
 
-/// A batch that was taken and put back is taken again in the same order, and its last block comes
-/// first.
+/// Whether a batch that was taken and put back is taken again in the same order, and its last block
+/// comes first.
+fn keeps_order(pool: &mut Pool) -> bool {
+    let mut buffer = [0u64; MAX_COUNT];
+    let count = pool.pop_batch(13, &mut buffer);
+    if count != 4 || !pool.is_free(13, buffer[0]) {
+        return false;
+    }
+    pool.push_batch(13, &buffer[..count]);
+    let mut again = [0u64; MAX_COUNT];
+    let same = pool.pop_batch(13, &mut again) == 4 && again == buffer;
+    same && pool.pop(13) == Some(start(13) + 4 * 640)
+}
+
 #[test]
 #[tactic(auto, using(scudo_primary::proofs::PoolLaws::left_laws))]
 fn a_batch_keeps_its_order(rt: HostRuntime) -> Result<(), Fail> {
     let mut pool = Pool::new(rt.alloc(), 1)?;
     pool.carve(13, 1);
-    let mut buffer = [0u64; MAX_COUNT];
-    let count = pool.pop_batch(13, &mut buffer);
-    assert!(rt; count == 4 && pool.is_free(13, buffer[0]));
-    pool.push_batch(13, &buffer[..count]);
-    let mut again = [0u64; MAX_COUNT];
-    assert!(rt; pool.pop_batch(13, &mut again) == 4 && again == buffer);
-    assert_eq!(rt; pool.pop(13), Some(start(13) + 4 * 640));
+    assert!(rt; keeps_order(&mut pool));
     Ok(())
 }
 
-/// Marks follow `pop` and the two calls that set them.
+/// Whether marks follow `pop` and the two calls that set them.
+fn are_marked(pool: &mut Pool) -> bool {
+    let block = start(44);
+    let new = pool.carved(44) == 1 && pool.is_free(44, block);
+    let Some(popped) = pool.pop(44) else {
+        return false;
+    };
+    pool.mark_used(44, popped);
+    if !new || popped != block || !pool.is_block(44, block) || pool.is_free(44, block) {
+        return false;
+    }
+    pool.mark_free(44, block);
+    pool.is_free(44, block) && pool.pop(44).is_none()
+}
+
 #[test]
 #[tactic(auto, using(scudo_primary::proofs::PoolLaws::left_laws))]
 fn marks(rt: HostRuntime) -> Result<(), Fail> {
     let mut pool = Pool::new(rt.alloc(), 32)?;
     pool.carve(44, 32);
-    let block = start(44);
-    let new = (
-        pool.carved(44),
-        pool.is_block(44, block),
-        pool.is_free(44, block),
-    );
-    let popped = pool.pop(44);
-    assert_eq!(rt; (new, popped), ((1, true, true), Some(block)));
-    if let Some(popped) = popped {
-        pool.mark_used(44, popped);
-    }
-    assert!(rt; pool.is_block(44, block) && !pool.is_free(44, block));
-    pool.mark_free(44, block);
-    assert!(rt; pool.is_free(44, block) && pool.pop(44).is_none());
+    assert!(rt; are_marked(&mut pool));
     Ok(())
 }

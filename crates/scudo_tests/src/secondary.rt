@@ -32,125 +32,99 @@ fn take(maps: &mut Maps, user: u64) -> bool
     true
 }
 
+/// Whether there is a page, 33 pages or all of the range to be had, and no more.
+fn places_whole_range(maps: &Maps) -> bool {
+    let first = Some(0x3D00_1000);
+    let all = maps.place(1) == first && maps.place(33) == first && maps.place(8190) == first;
+    all && maps.place(8191).is_none() && maps.place(u64::MAX).is_none()
+}
+
 #[test]
 fn places_in_the_range(rt: HostRuntime) -> Result<(), Fail> {
     let maps = Maps::new(rt.alloc(), 512)?;
-    assert_eq!(rt;
-        [
-            maps.place(1),
-            maps.place(33),
-            maps.place(8190),
-            maps.place(8191),
-            maps.place(u64::MAX),
-        ],
-        [
-            Some(0x3D00_1000),
-            Some(0x3D00_1000),
-            Some(0x3D00_1000),
-            None,
-            None,
-        ]
-    );
+    assert!(rt; places_whole_range(&maps));
     Ok(())
 }
 
+/// Whether one, two and three pages are put in this order, each after a page between.
+#[tactic(auto, using(crate::proofs::MappingTests::test_rules))]
+fn puts_three(maps: &mut Maps) -> bool
+    requires room { pages_of maps.old.mappings + 6 ≤ maps.old.limit }
+    ensures pages { pages_of maps.new.mappings ≤ pages_of maps.old.mappings + 6 }
+    ensures limit { maps.new.limit ≡ maps.old.limit }
+{
+    let one = put(maps, 1);
+    let two = put(maps, 2);
+    let three = put(maps, 3);
+    one == Some(0x3D00_1000) && two == Some(0x3D00_3000) && three == Some(0x3D00_6000)
+}
+
+/// Whether all of the range behind the three is to be had, and no more.
+fn places_rest(maps: &Maps) -> bool {
+    let (after, last) = (maps.place(1), maps.place(8181));
+    after == Some(0x3D00_A000) && last == after && maps.place(8182).is_none()
+}
+
 #[test]
+#[tactic(auto, using(crate::proofs::MappingTests::test_rules))]
 fn mappings_share_the_page_between_them(rt: HostRuntime) -> Result<(), Fail> {
     let mut maps = Maps::new(rt.alloc(), 8)?;
-    assert_eq!(rt;
-        [
-            put(&mut maps, 1),
-            put(&mut maps, 2),
-            put(&mut maps, 3),
-            maps.place(1),
-            maps.place(8181),
-            maps.place(8182),
-        ],
-        [
-            Some(0x3D00_1000),
-            Some(0x3D00_3000),
-            Some(0x3D00_6000),
-            Some(0x3D00_A000),
-            Some(0x3D00_A000),
-            None,
-        ]
-    );
+    let put = puts_three(&mut maps);
+    assert!(rt; put && places_rest(&maps));
+    maps.are_in_order();
     Ok(())
 }
 
+/// After three were put, whether the second and then the first are taken and put again where they
+/// were, while larger ones come behind all.
+#[tactic(auto, using(crate::proofs::MappingTests::test_rules))]
+fn fills_gaps(maps: &mut Maps) -> bool
+    requires room { pages_of maps.old.mappings + 3 ≤ maps.old.limit }
+{
+    let taken = take(maps, 0x3D00_3010) && !take(maps, 0x3D00_3010);
+    let behind = maps.place(3);
+    let second = put(maps, 2);
+    let gone = take(maps, 0x3D00_1010);
+    let last = maps.place(2);
+    let first = put(maps, 1);
+    let placed = behind == Some(0x3D00_A000) && last == behind;
+    taken && gone && placed && second == Some(0x3D00_3000) && first == Some(0x3D00_1000)
+}
+
 #[test]
+#[tactic(auto, using(crate::proofs::MappingTests::test_rules))]
 fn first_fit_between_two_others(rt: HostRuntime) -> Result<(), Fail> {
     let mut maps = Maps::new(rt.alloc(), 16)?;
-    let all = [put(&mut maps, 1), put(&mut maps, 2), put(&mut maps, 3)];
-    assert_eq!(rt;
-        all,
-        [Some(0x3D00_1000), Some(0x3D00_3000), Some(0x3D00_6000)]
-    );
-    assert_eq!(rt;
-        [take(&mut maps, 0x3D00_3010), take(&mut maps, 0x3D00_3010)],
-        [true, false]
-    );
-    let second = [maps.place(3), put(&mut maps, 2)];
-    let taken = take(&mut maps, 0x3D00_1010);
-    let first = [maps.place(2), put(&mut maps, 1)];
-    assert_eq!(rt;
-        (second, taken, first),
-        (
-            [Some(0x3D00_A000), Some(0x3D00_3000)],
-            true,
-            [Some(0x3D00_A000), Some(0x3D00_1000)]
-        )
-    );
+    let put = puts_three(&mut maps);
+    assert!(rt; put && fills_gaps(&mut maps));
     Ok(())
+}
+
+const FIRST: Mapping = Mapping {
+    start: 0x3D00_1000,
+    pages: 33,
+    user: 0x3D00_1010,
+};
+
+const SECOND: Mapping = Mapping {
+    start: 0x3D02_3000,
+    pages: 40,
+    user: 0x3D02_3010,
+};
+
+/// Whether both are found, each by its user's address alone, and the second once the first is gone.
+fn finds_both(maps: &mut Maps) -> bool {
+    let both = maps.find(0x3D00_1010) == Some(FIRST) && maps.find(0x3D02_3010) == Some(SECOND);
+    let none = maps.find(0x3D00_1000).is_none() && maps.find(0x3D00_1020).is_none();
+    let taken = take(maps, 0x3D00_1010) && maps.find(0x3D00_1010).is_none();
+    both && none && taken && maps.find(0x3D02_3010) == Some(SECOND)
 }
 
 #[test]
 fn mappings_found_and_removed(rt: HostRuntime) -> Result<(), Fail> {
     let mut maps = Maps::new(rt.alloc(), 512)?;
-    assert_eq!(rt;
-        [put(&mut maps, 33), put(&mut maps, 40)],
-        [Some(0x3D00_1000), Some(0x3D02_3000)]
-    );
-    let first = Mapping {
-        start: 0x3D00_1000,
-        pages: 33,
-        user: 0x3D00_1010,
-    };
-    let second = Mapping {
-        start: 0x3D02_3000,
-        pages: 40,
-        user: 0x3D02_3010,
-    };
-    assert_eq!(rt;
-        [
-            maps.find(0x3D00_1010),
-            maps.find(0x3D02_3010),
-            maps.find(0x3D00_1000),
-            maps.find(0x3D00_1020),
-        ],
-        [Some(first), Some(second), None, None]
-    );
-    assert!(rt; take(&mut maps, 0x3D00_1010));
-    assert_eq!(rt;
-        [maps.find(0x3D00_1010), maps.find(0x3D02_3010)],
-        [None, Some(second)]
-    );
-    Ok(())
-}
-
-#[test]
-fn one_page_at_a_time(rt: HostRuntime) -> Result<(), Fail> {
-    let mut maps = Maps::new(rt.alloc(), 3)?;
-    let all = [put(&mut maps, 1), put(&mut maps, 1), put(&mut maps, 1)];
-    assert_eq!(rt;
-        all,
-        [Some(0x3D00_1000), Some(0x3D00_3000), Some(0x3D00_5000)]
-    );
-    assert_eq!(rt;
-        [take(&mut maps, 0x3D00_5010), take(&mut maps, 0x3D00_1010)],
-        [true, true]
-    );
-    assert_eq!(rt; maps.place(2), Some(0x3D00_5000));
-    maps.are_in_order();
+    let first = put(&mut maps, 33);
+    let second = put(&mut maps, 40);
+    assert!(rt; first.is_some() && second.is_some() && finds_both(&mut maps));
     Ok(())
 }

@@ -29,11 +29,8 @@
 //     LOAD           0x000128 0x0000000000012000 0x0000000000012000 0x000020 0x0012e0 RW  0x8
 //     GNU_STACK      0x000000 0x0000000000000000 0x0000000000000000 0x000000 0x000000 RW  0x10
 
-use super::loaded;
-use crate::calls::{Answer, Call, answers};
-use mte_elf::plan;
-use mte_tags::{Paged, Tagged};
-use std::test::Fail;
+use super::{answers_loaded, planned};
+use crate::calls::{Answer, Call};
 
 const SMALL: [u8; 680] = [
     0x7F, 0x45, 0x4C, 0x46, 0x02, 0x01, 0x01, 0x00, 0x00, 0x00, 0x00, 0x00, 0x00, 0x00, 0x00, 0x00,
@@ -102,13 +99,7 @@ const CONTENT: [(Call, Answer); 13] = [
 ];
 
 #[test]
-fn compiled_program(rt: HostRuntime) -> Result<(), Fail> {
-    let plan = plan(rt.alloc(), &SMALL)?;
-    assert_eq!(rt;
-        (plan.entry, plan.pages, plan.segments.len()),
-        (0x10000, 3, 2)
-    );
-    let mut memory = loaded(rt.alloc(), &SMALL)?;
-    assert!(rt; answers(&mut memory, &CONTENT));
-    Ok(())
+fn compiled_program(rt: HostRuntime) {
+    assert!(rt; planned(rt.alloc(), &SMALL) == Ok((0x10000, 3, 2)));
+    assert!(rt; answers_loaded(rt.alloc(), &SMALL, &CONTENT));
 }

@@ -1,9 +1,9 @@
 use Rattle.std.proofs.Common.{◌≢◌, subst, sym, rules}
 use Rattle.mte_translate.specs.Tables.{MapsOnce}
-use Rattle.mte_tests.proofs.space.two_tenants_over_one_pool.Goals as goal
+use Rattle.mte_tests.proofs.space.tenants_answer.Goals as goal
 
-pub are_answered-touched-requires-clause-first : goal.are_answered-touched-requires-clause-first
-are_answered-touched-requires-clause-first g c =
+pub answer_all-requires-clause-first : goal.answer_all-requires-clause-first
+answer_all-requires-clause-first c =
     let apart = subst (λ k. k ≢ c.in-Some.r) (sym c.new_table.ensures.same) c.in-Some.ensures in
     let kept = c.tables_stay.ensures.others _ _ _ _ _ apart c.new_table-2.ensures.others c.in-Some-new_table.ensures.table in
     record {
