@@ -13,7 +13,7 @@ pub struct Flags {
 }
 
 /// A sum in 32 or 64 bits, with the flags that it gives.
-#[derive(Clone, Copy, Debug, PartialEq, Eq)]
+#[derive(Clone, Copy)]
 pub struct Sum {
     pub result: u64,
     pub flags: Flags,

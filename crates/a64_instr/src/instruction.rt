@@ -5,7 +5,7 @@
 ///
 /// Fields are plain numbers; `encode` of `a64_asm` says which values are allowed. Offsets are
 /// signed and count the unit of their instruction (bytes, words, pairs or granules).
-#[derive(Clone, Copy, Debug, PartialEq, Eq)]
+#[derive(Clone, Copy)]
 #[rattlefmt::skip]
 pub enum Instr {
     /// ADD, ADDS, SUB, SUBS (immediate).

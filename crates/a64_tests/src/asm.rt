@@ -5,13 +5,13 @@ use a64_asm::{Instr, encode, is_load_store, is_load_store_pair, may_write_back};
 #[rattlefmt::skip]
 #[test]
 fn fields_that_do_not_fit(rt: HostRuntime) {
-    for instr in [
+    let encoded = [
         Instr::AddSubImm { sf: 1, op: 0, s: 0, sh: 0, imm12: 4096, rn: 0, rd: 0 },
         Instr::Branch { op: 0, imm26: 1 << 25 },
         Instr::Branch { op: 0, imm26: -(1 << 25) - 1 },
-    ] {
-        assert_eq!(rt; encode(&instr), None, "encode {instr:?}");
-    }
+    ]
+    .map(|instr| encode(&instr));
+    assert_eq!(rt; encoded, [None; 3]);
 }
 
 #[test]

@@ -78,7 +78,7 @@ fn line_of(instr: &Instr, pc: Option<u64>) -> Line {
 /// by its distance, as in `b .+0x10`.
 ///
 /// An instruction that `encode` refuses has no syntax: what is written for it says nothing.
-#[derive(Clone, Copy, Debug)]
+#[derive(Clone, Copy)]
 pub struct Text(pub Instr);
 
 impl fmt::Display for Text {
@@ -89,7 +89,7 @@ impl fmt::Display for Text {
 }
 
 /// As [`Text`], of an instruction at an address, from which its targets are counted: `b 0x400010`.
-#[derive(Clone, Copy, Debug)]
+#[derive(Clone, Copy)]
 pub struct TextAt {
     pub instr: Instr,
     pub pc: u64,

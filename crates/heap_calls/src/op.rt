@@ -8,7 +8,7 @@ use scudo_heap::HeapAbort;
 
 /// A call of a heap, or an access to its memory. Sizes are in bytes; a pointer and an address have
 /// their tag in bits 59:56.
-#[derive(Clone, Copy, Debug, PartialEq, Eq)]
+#[derive(Clone, Copy)]
 pub enum HeapOp {
     /// A chunk of `size` bytes.
     Malloc { size: u64 },
@@ -31,7 +31,7 @@ pub enum HeapOp {
 }
 
 /// What an operation answers. One that aborts or faults has changed nothing.
-#[derive(Clone, Copy, Debug, PartialEq, Eq)]
+#[derive(Clone, Copy, PartialEq, Eq)]
 pub enum HeapAnswer {
     /// The pointer to the chunk or 0 where there is none, the size, the number that was read or the
     /// tag; 0 of a free and of a store.

@@ -8,7 +8,7 @@ use crate::part::{Escaped, write_parts};
 use std::fmt;
 
 /// What stands above the rows: the title, what the colours and lines mean, and the pages.
-#[derive(Clone, Copy, Debug)]
+#[derive(Clone, Copy)]
 pub struct Heading<'a> {
     /// The title, any text of one line.
     pub title: &'a str,

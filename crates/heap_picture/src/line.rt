@@ -9,7 +9,7 @@ use crate::run::Chunks;
 use std::fmt;
 
 /// What is marked.
-#[derive(Clone, Copy, Debug, PartialEq, Eq)]
+#[derive(Clone, Copy)]
 pub enum Marked {
     /// An access that faulted.
     Access,
@@ -27,7 +27,7 @@ impl fmt::Display for Marked {
 }
 
 /// An access or a pointer that was refused.
-#[derive(Clone, Copy, Debug)]
+#[derive(Clone, Copy)]
 pub struct Mark {
     /// Which of them it is.
     pub marked: Marked,
@@ -38,7 +38,7 @@ pub struct Mark {
 }
 
 /// A line of a picture, as `{}` writes it.
-#[derive(Clone, Copy, Debug)]
+#[derive(Clone, Copy)]
 pub struct Line {
     /// The row that it shows.
     pub row: Row,

@@ -6,7 +6,7 @@ use address_map::PAGE_SIZE;
 use std::fmt;
 
 /// What a range of pages is for.
-#[derive(Clone, Copy, Debug)]
+#[derive(Clone, Copy)]
 pub enum Kind {
     /// An image's segments.
     Image,
@@ -30,7 +30,7 @@ impl fmt::Display for Kind {
 }
 
 /// Mapped pages that follow each other.
-#[derive(Clone, Copy, Debug)]
+#[derive(Clone, Copy)]
 pub struct Pages {
     /// The address of the first.
     pub start: u64,

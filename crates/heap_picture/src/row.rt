@@ -8,7 +8,7 @@ use address_map::GRANULE_SIZE;
 use std::fmt;
 
 /// Whose a granule is.
-#[derive(Clone, Copy, Debug, PartialEq, Eq)]
+#[derive(Clone, Copy)]
 pub enum Owner {
     /// No chunk's: a header, the rest of a block, or a block that was never given out.
     Nothing,
@@ -19,7 +19,7 @@ pub enum Owner {
 }
 
 /// A granule of memory.
-#[derive(Clone, Copy, Debug)]
+#[derive(Clone, Copy)]
 pub struct Granule {
     /// Its allocation tag, 0 to 15; none where no page is mapped.
     pub tag: Option<u8>,
@@ -28,7 +28,7 @@ pub struct Granule {
 }
 
 /// [`GRANULES`] granules that follow each other.
-#[derive(Clone, Copy, Debug)]
+#[derive(Clone, Copy)]
 pub struct Row {
     /// The address of the first.
     pub address: u64,

@@ -10,7 +10,7 @@ use byteorder::{ByteOrder, LittleEndian};
 use std::alloc::Global;
 
 /// What the loader reads of a program header (Elf64_Phdr).
-#[derive(Clone, Copy, Debug, PartialEq, Eq)]
+#[derive(Clone, Copy)]
 pub struct ProgramHeader {
     /// `p_type`.
     pub kind: u32,

@@ -2,7 +2,7 @@
 
 /// A loadable segment: `memsz` bytes from `vaddr` on, of which the first `filesz` lie in the file
 /// from `offset` on and the others are 0. Its flags are execute 1, write 2 and read 4.
-#[derive(Clone, Copy, Debug, PartialEq, Eq)]
+#[derive(Clone, Copy)]
 pub struct Segment {
     /// The first address.
     pub vaddr: u64,
@@ -18,7 +18,7 @@ pub struct Segment {
 
 /// What the loader does for an image: the pages and bytes of its segments, and where its program
 /// begins.
-#[derive(Debug, Drop)]
+#[derive(Drop)]
 pub struct Plan {
     /// The first instruction's address.
     pub entry: u64,

@@ -6,7 +6,7 @@ ghost use Rattle.std.specs.Prelude.{◌≡◌, ◌<◌};
 use std::alloc::{AllocError, Global};
 
 /// A page and the slot that it was put into.
-#[derive(Clone, Copy, PartialEq, Eq, Debug)]
+#[derive(Clone, Copy)]
 struct Place {
     page: u64,
     slot: usize,

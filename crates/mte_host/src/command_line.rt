@@ -11,7 +11,7 @@ use std::env::{self, Args};
 use std::io;
 
 /// What a command line requests.
-#[derive(Debug, Drop)]
+#[derive(Drop)]
 pub enum Invocation {
     /// A session.
     Run(Program),

@@ -3,7 +3,7 @@
 ghost use Rattle.std.specs.Prelude.{◌≤◌, length};
 
 /// What the program is run on.
-#[derive(Debug, Drop)]
+#[derive(Drop)]
 pub struct Program {
     /// The frames that all tenants share, 1 to 65536.
     pub frames: u32,

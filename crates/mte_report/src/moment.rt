@@ -14,7 +14,7 @@ use std::fmt;
 use std::fmt::Display;
 
 /// What stood before an instruction was attempted.
-#[derive(Clone, Copy, Debug, PartialEq, Eq)]
+#[derive(Clone, Copy)]
 pub struct Moment {
     /// Its number, from 1.
     pub step: u64,

@@ -16,7 +16,7 @@ use std::fmt;
 pub const MAX_LIVE: usize = 255;
 
 /// What a tenant is admitted with.
-#[derive(Clone, Copy, Debug)]
+#[derive(Clone, Copy)]
 pub struct Admission<'a> {
     /// Its number, never admitted before.
     pub id: u16,

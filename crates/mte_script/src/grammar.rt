@@ -18,7 +18,7 @@ const ID_LIMIT: u64 = 65_535;
 const NUMBER_LIMIT: u64 = 4_294_967_295;
 
 /// A line's numbers as they were read, before they are compared with their limits.
-#[derive(Clone, Copy, Debug, PartialEq, Eq)]
+#[derive(Clone, Copy)]
 enum Line {
     Admit {
         id: u64,

@@ -12,7 +12,7 @@ use std::marker::Model;
 pub const KEPT_CALLS: usize = 64;
 
 /// A service of the heap.
-#[derive(Clone, Copy, Debug, PartialEq, Eq)]
+#[derive(Clone, Copy)]
 pub enum HeapService {
     /// 3: a chunk of x0 bytes.
     Malloc,
@@ -29,7 +29,7 @@ pub enum HeapService {
 }
 
 /// A heap call that was answered.
-#[derive(Clone, Copy, Debug, PartialEq, Eq)]
+#[derive(Clone, Copy)]
 pub struct HeapCall {
     /// Which service.
     pub service: HeapService,

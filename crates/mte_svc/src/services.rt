@@ -10,7 +10,7 @@ use mte_tags::{MemFault, Paged, Tagged};
 use scudo_heap::{HeapAbort, condition_of_calls};
 
 /// How a service ends.
-#[derive(Clone, Copy, Debug, PartialEq, Eq)]
+#[derive(Clone, Copy)]
 pub enum SvcEnd {
     /// The tenant resumes after the SVC.
     Go,

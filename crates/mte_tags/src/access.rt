@@ -9,7 +9,7 @@ use crate::fault::{FaultKind, MemFault};
 use crate::tags::tag_of;
 
 /// What an access requires of each of its bytes.
-#[derive(Clone, Copy, PartialEq, Eq, Debug)]
+#[derive(Clone, Copy)]
 pub struct Access {
     /// The bits of `Attrs` that the page must have.
     pub need: u8,

@@ -11,7 +11,7 @@ use scudo_header::Header;
 use scudo_secondary::Mapping;
 
 /// Where a chunk of a size class lies in its block.
-#[derive(Clone, Copy, Debug, PartialEq, Eq)]
+#[derive(Clone, Copy)]
 pub struct Place {
     /// Its size class.
     pub class: u8,
@@ -24,7 +24,7 @@ pub struct Place {
 }
 
 /// A chunk that a call handed out.
-#[derive(Clone, Copy, Debug, PartialEq, Eq)]
+#[derive(Clone, Copy)]
 pub enum Chunk {
     /// In a block, with its tag.
     Small(Place, u8),
@@ -33,7 +33,7 @@ pub enum Chunk {
 }
 
 /// A chunk that the checks of a pointer found, with its header.
-#[derive(Clone, Copy, Debug, PartialEq, Eq)]
+#[derive(Clone, Copy)]
 pub enum Found {
     /// In a block.
     InBlock(Place, Header),

@@ -6,7 +6,7 @@ ghost use Rattle.std.specs.Vec.{vec_ptr};
 ghost use Rattle.scudo_secondary.specs.Mappings.{AreMappings, mapping_of, with_mapping};
 
 /// The pages of a chunk.
-#[derive(Clone, Copy, Debug, PartialEq, Eq)]
+#[derive(Clone, Copy, PartialEq, Eq)]
 pub struct Mapping {
     /// The address of the first page.
     pub start: u64,
