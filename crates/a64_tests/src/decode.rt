@@ -170,7 +170,7 @@ fn decodes_again(rt: HostRuntime) {
         (LAST, BRK, Some(BRK)),
         (LAST, BRK, Some(BRK)),
     ] {
-        let decoded = decoder.decode(address, word).and_then(encode);
+        let decoded = decoder.decode(address, word).and_then(|i| encode(i));
         assert_eq!(rt; decoded, expected, "decode {word:#x} at {address:#x}");
     }
 }

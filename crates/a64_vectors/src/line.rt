@@ -6,7 +6,7 @@ use a64_step::Outcome;
 use mte_tags::{Attrs, FaultKind, MemFault, Rgsr};
 
 /// Sixteen bytes at an address that is a multiple of 16, and their allocation tag, below 16.
-#[derive(Clone, Copy, PartialEq, Eq)]
+#[derive(Clone, Copy, Debug, PartialEq, Eq)]
 pub struct Granule {
     pub address: u64,
     pub bytes: [u8; 16],

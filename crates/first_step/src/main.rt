@@ -1,9 +1,10 @@
-//! An embedder's first program: an instruction is decoded, written into a page of a tagged memory,
-//! and stepped.
+//! An embedder's first program: an instruction is decoded and printed, written into a page of a
+//! tagged memory, and stepped.
 #![tactic(auto)]
 
 use a64_decode::decode;
 use a64_step::{Regs, step};
+use a64_text::Text;
 use anyhow::{Result, bail};
 use mte_flat::Flat;
 use mte_tags::{Attrs, Paged, TagMode, Tagged};
@@ -16,8 +17,10 @@ const CODE: u64 = 0x10000;
 const STACK_END: u64 = 0x4000_0000;
 
 fn main(rt: HostRuntime) -> Result<()> {
-    let instr = decode(WORD);
-    println!(rt; "{instr:?}")?;
+    let Some(instr) = decode(WORD) else {
+        bail!("no instruction has this word");
+    };
+    println!(rt; "{}", Text(instr))?;
 
     let mut memory = Flat::new(rt.alloc(), 1, TagMode::Sync)?;
     if memory.map_pages(CODE / 4096, 1, Attrs::ALL).is_err() {
