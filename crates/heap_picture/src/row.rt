@@ -1,5 +1,9 @@
 //! What a row of a picture shows.
 
+ghost use Rattle.std.specs.Prelude.{◌≡◌, ◌↔◌, ◌⊎◌, ◌+◌, ◌*◌, ◌<◌, ◌≤◌, IfSome, None};
+ghost use Rattle.address_map.specs.declared.limits.TheConstants.{GRANULE_SIZE};
+ghost use Rattle.heap_picture.specs.declared.layout.TheConstants.{GRANULES};
+
 use crate::cell::{CELL_WIDTH, Cell};
 use crate::layout::GRANULES;
 use crate::part::Part::{Number, Text};
@@ -51,7 +55,13 @@ impl Row {
     }
 
     /// The number of the granule that an address is in, where it is one of the row.
-    pub fn index_of(&self, address: u64) -> Option<usize> {
+    pub fn index_of(&self, address: u64) -> Option<usize>
+        ensures inside { IfSome result (λ i. (i < GRANULES)
+            × (self.now.address + GRANULE_SIZE * i ≤ address)
+            × (address < self.now.address + GRANULE_SIZE * i + GRANULE_SIZE)) }
+        ensures outside { result ≡ None ↔ ((address < self.now.address)
+            ⊎ (self.now.address + GRANULE_SIZE * GRANULES ≤ address)) }
+    {
         let index = address.checked_sub(self.address)? / GRANULE_SIZE;
         if index < GRANULES as u64 {
             Some(index as usize)
