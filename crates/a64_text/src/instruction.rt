@@ -12,7 +12,7 @@ use crate::memory::{
     ldg, pair, st_g, st_g_p, sub_p,
 };
 use crate::operand::Line;
-use a64_asm::Instr;
+use a64_instr::Instr;
 use std::fmt;
 
 /// The line of `instr`, at `pc` where that is known.

@@ -1,7 +1,7 @@
 //! An attempted instruction, and what it changed.
 
 use crate::words::Instruction;
-use a64_asm::Instr;
+use a64_instr::Instr;
 use a64_bits::Flags;
 use a64_decode::decode;
 use a64_step::Regs;
