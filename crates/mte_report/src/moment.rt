@@ -1,9 +1,9 @@
 //! An attempted instruction, and what it changed.
 
 use crate::words::Instruction;
-use a64_instr::Instr;
 use a64_bits::Flags;
 use a64_decode::decode;
+use a64_instr::Instr;
 use a64_step::Regs;
 use mte_svc::{
     CALLOC, EXIT, FREE, MALLOC, MEMALIGN, PAGES_LEFT, READ, REALLOC, STEPS_LEFT, USABLE_SIZE,
