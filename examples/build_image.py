@@ -10,19 +10,23 @@ import struct
 import sys
 
 ENTRY = 0x10000
-HEADERS = 64 + 56
+READ_EXECUTE, READ_WRITE = 5, 6
 
 
-def image(words):
+def image(words, data=()):
+    """The image of these words; `data` are further segments of zeros, readable and writable, as (address, size)."""
     body = b"".join(struct.pack("<I", word) for word in words)
+    segments = [(READ_EXECUTE, ENTRY, len(body), len(body))] + [(READ_WRITE, at, 0, size) for at, size in data]
+    offset = 64 + 56 * len(segments)
     identification = b"\x7fELF" + bytes([2, 1, 1]) + bytes(9)
     file_header = identification + struct.pack(
-        "<HHIQQQIHHHHHH", 2, 183, 1, ENTRY, 64, 0, 0, 64, 56, 1, 0, 0, 0
+        "<HHIQQQIHHHHHH", 2, 183, 1, ENTRY, 64, 0, 0, 64, 56, len(segments), 0, 0, 0
     )
-    program_header = struct.pack(
-        "<IIQQQQQQ", 1, 5, HEADERS, ENTRY, ENTRY, len(body), len(body), 1
+    program_headers = b"".join(
+        struct.pack("<IIQQQQQQ", 1, flags, offset, at, at, in_file, in_memory, 1)
+        for flags, at, in_file, in_memory in segments
     )
-    return file_header + program_header + body
+    return file_header + program_headers + body
 
 
 def main():

@@ -1,0 +1,165 @@
+#!/usr/bin/env python3
+"""What a host keeps and what its calls cost, however many tenants there are or were.
+
+    room.py [--only WORD] HOST...
+
+For each built mte_host, one line a figure:
+
+- peak: resident memory in MB (1000 KiB), of 400 tenants with a reservation of 4096 pages and of 3,333 with one of 5
+  pages and room for 65536 bytes that wrote two, each admitted, run to its end and stopped before the next;
+- admission: host instructions of an admission and its stop, by pages of the reservation, and of the one that comes
+  after 4,000 others;
+- slice: those of a slice of one step, by the number of live tenants that have it in turns;
+- loads: those of a round of two loads from two pages, of different hashes in the lookaside buffer or of one, with few
+  or with 64 other translations;
+- refusals: how often a session with 10 and with 10,000 refused events allocates.
+
+A figure in instructions is the difference of two sessions under callgrind, with the reading of the script's lines in
+it. Needed: valgrind.
+"""
+import argparse
+import os
+import pathlib
+import re
+import subprocess
+import sys
+import tempfile
+
+HERE = pathlib.Path(__file__).resolve().parent
+sys.path.insert(0, str(HERE.parent))
+from build_image import image  # noqa: E402
+
+HI = HERE.parent / "hi.elf"
+ROUNDS = 20_000
+STEPS_A_ROUND = 6
+CODE, FIRST, OTHERS = 0x10000, 0x14000, 0x800000
+# Page numbers with the sums 20 and 20 + 3 + 1 of their digits to the base 256 and 1024: one hash, and two.
+SAME_HASH, OTHER_HASH = 0x413000, 0x415000
+
+
+def admit(number, pages, room=16):
+    return f"admit {number} image 1 input 0 seed 0000000000000001 frames {pages} out {room}\n"
+
+
+class Sessions:
+    """Runs sessions of a host in a folder of their own."""
+
+    def __init__(self, host, folder):
+        self.host, self.folder = host, pathlib.Path(folder)
+
+    def command(self, script, frames, image_file=HI):
+        (self.folder / "script").write_text(script)
+        return [self.host, "--frames", str(frames), self.folder / "script", image_file]
+
+    def run(self, command, may_refuse=False):
+        ran = subprocess.run(command, stdout=subprocess.PIPE, stderr=subprocess.PIPE, text=True, check=True)
+        if "refused" in ran.stdout and not may_refuse:
+            sys.exit(f"an event was refused: {ran.stdout[:200]}")
+        return ran
+
+    def instructions(self, *session):
+        tool = ["valgrind", "--tool=callgrind", "--callgrind-out-file=/dev/null"]
+        return int(re.search(r"Collected : (\d+)", self.run([*tool, *self.command(*session)]).stderr)[1])
+
+    def allocations(self, *session):
+        said = self.run(["valgrind", *self.command(*session)], may_refuse=True).stderr
+        return int(re.search(r"total heap usage: ([\d,]+) allocs", said)[1].replace(",", ""))
+
+    def peak(self, *session):
+        """The most resident memory, in KiB, as the kernel counts it for this child alone."""
+        with subprocess.Popen(self.command(*session), stdout=subprocess.PIPE) as child:
+            report = child.stdout.read()
+            _, status, used = os.wait4(child.pid, 0)
+            child.returncode = os.waitstatus_to_exitcode(status)
+        if child.returncode or b"refused" in report:
+            sys.exit(f"the session failed: {child.returncode}")
+        return used.ru_maxrss
+
+
+def one_after_the_other(tenants, pages, room=16):
+    """A script in which each tenant is stopped before the next is admitted."""
+    return "".join(admit(i, pages, room) + f"slice {i} 1000\nstop {i}\n" for i in range(1, tenants + 1))
+
+
+def admissions(first, last, pages):
+    return "".join(admit(i, pages) + f"stop {i}\n" for i in range(first, last + 1))
+
+
+def peaks(sessions):
+    yield "400 of 4096 pages", f"{sessions.peak(one_after_the_other(400, 4096), 8193) / 1000:.1f} MB"
+    yield "3333 of room 65536", f"{sessions.peak(one_after_the_other(3333, 5, 65536), 11) / 1000:.1f} MB"
+
+
+def admission_costs(sessions):
+    for pages in (5, 2000, 4096):
+        costs = [sessions.instructions(admissions(1, tenants, pages), 2 * pages + 1) for tenants in (20, 60)]
+        yield f"{pages} pages", f"{(costs[1] - costs[0]) / 40:.0f} instructions"
+    for before in (0, 4000):
+        costs = [sessions.instructions(admissions(1, before + more, 5), 11) for more in (10, 60)]
+        yield f"after {before} others", f"{(costs[1] - costs[0]) / 50:.0f} instructions"
+
+
+def slice_costs(sessions):
+    for live in (1, 64, 255):
+        start = "".join(admit(i, 6) for i in range(1, live + 1))
+        costs = [
+            sessions.instructions(start + "".join(f"slice {1 + i % live} 1\n" for i in range(slices)), 13 * live)
+            for slices in (1020, 3060)
+        ]
+        yield f"{live} live in turns", f"{(costs[1] - costs[0]) / 2040:.0f} instructions"
+
+
+def constant(register, value):
+    return [0xD2800000 | (value & 0xFFFF) << 5 | register, 0xF2A00000 | (value >> 16) << 5 | register]
+
+
+def two_loads(other, touched):
+    """Loads from FIRST and from `other` for ever, after one from each of `touched` other pages."""
+    words = constant(0, FIRST) + constant(1, other) + constant(7, OTHERS) + [0xD2800000 | 64 << 5 | 8]
+    if touched:
+        # ldr x9, [x7]; add x7, x7, #4096; sub x8, x8, #1; cbnz x8, back
+        words += [0xF94000E9, 0x914004E7, 0xD1000508, 0xB5000000 | (-3 & 0x7FFFF) << 5 | 8]
+    # ldr x2, [x0]; ldr x3, [x1]; add x4, x4, x2; add x5, x5, x3; sub x6, x6, #1; b back
+    words += [0xF9400002, 0xF9400023, 0x8B020084, 0x8B0300A5, 0xD10004C6, 0x14000000 | (-5 & 0x3FFFFFF)]
+    return image(words, [(FIRST, 4096), (other, 4096), (OTHERS, 64 * 4096)])
+
+
+def load_costs(sessions):
+    path = sessions.folder / "loads"
+    for name, other, touched in (
+        ("different hashes", OTHER_HASH, 0), ("one hash", SAME_HASH, 0),
+        ("different hashes, 64 stand", OTHER_HASH, 64), ("one hash, 64 stand", SAME_HASH, 64),
+    ):
+        path.write_bytes(two_loads(other, touched))
+        slice_of = f"slice 1 {STEPS_A_ROUND * ROUNDS}\n"
+        costs = [sessions.instructions(admit(1, 200) + slice_of * slices, 401, path) for slices in (1, 3)]
+        yield name, f"{(costs[1] - costs[0]) / (2 * ROUNDS):.0f} instructions"
+
+
+def refusal_counts(sessions):
+    kinds = {"slices": "slice 7 1\n", "stops": "stop 7\n", "admissions": admit(1, 5)}
+    for kind, line in kinds.items():
+        counts = [sessions.allocations(admit(1, 5) + line * events, 11) for events in (10, 9999)]
+        yield kind, f"{counts[0]} allocations with 10, {counts[1]} with 9999"
+
+
+FIGURES = {
+    "peak": peaks, "admission": admission_costs, "slice": slice_costs, "loads": load_costs, "refusals": refusal_counts,
+}
+
+
+def main():
+    parser = argparse.ArgumentParser(description=__doc__, formatter_class=argparse.RawDescriptionHelpFormatter)
+    parser.add_argument("--only", choices=FIGURES)
+    parser.add_argument("hosts", metavar="HOST", nargs="+")
+    options = parser.parse_args()
+    for host in options.hosts:
+        with tempfile.TemporaryDirectory() as folder:
+            for kind, figures in FIGURES.items():
+                if options.only in (None, kind):
+                    for name, figure in figures(Sessions(host, folder)):
+                        print(f"{host}: {kind}, {name}: {figure}", flush=True)
+
+
+if __name__ == "__main__":
+    main()
