@@ -2,8 +2,8 @@
 
 use crate::doubles::MemorySink;
 use crate::images::{
-    ACROSS, HI, ILLEGAL, LEFT_ON_THE_STACK, PAIR_WITH_TAG, PRE_INDEXED, UNALIGNED, UNTAGGED,
-    UNTAGGED_EXIT, UNTAGGED_WRITE, image,
+    ACROSS, HI, ILLEGAL, LARGE_FREED, LEFT_ON_THE_STACK, PAIR_WITH_TAG, PRE_INDEXED, SEVEN_SIZES,
+    UNALIGNED, UNTAGGED, UNTAGGED_EXIT, UNTAGGED_WRITE, YIELDS, image,
 };
 use mte_session::{ScriptFault, SessionError, run_session};
 use std::alloc::{AllocError, Global};
@@ -45,86 +45,11 @@ fn report_over(
 const ADMIT: &[u8] =
     b"admit 1 image 1 input 0 seed 0000000000000001 frames 5 out 16\nslice 1 100\n";
 
+/// A host that always answers want of memory would meet every contract. This one runs a tenant to
+/// its end, and writes its report.
 #[test]
-fn an_empty_script_has_an_empty_report(rt: HostRuntime) -> Result<(), Fail> {
-    let text = report(rt.alloc(), 1, b"", &[])?;
-    assert_eq!(rt; text.len(), 0);
-    Ok(())
-}
-
-/// Programs with a script and its report.
-const REPORTS: [(&[u32], &[u8], &[u8]); 9] = [
-    (
-        &HI,
-        ADMIT,
-        b"tenant 1\nstatus exit 0\nsteps 8\noutput 2 4869\nheap 0\nend\n",
-    ),
-    (
-        &HI,
-        b"admit 1 image 1 input 0 seed 0000000000000001 frames 5 out 16\nslice 1 3\n",
-        b"tenant 1\nstatus running\nsteps 3\noutput 0\nheap 0\nend\n",
-    ),
-    (
-        &HI,
-        b"admit 1 image 1 input 0 seed 0000000000000001 frames 5 out 1\nslice 1 100\n",
-        b"tenant 1\nstatus exit 0\nsteps 8\noutput 1 48\nheap 0\nend\n",
-    ),
-    (
-        &UNTAGGED,
-        ADMIT,
-        b"tenant 1\nstatus fault TagCheck read addr 0x000000003fffc000 ptr 0 mem 1 pc \
-          0x0000000000010018\nsteps 7\noutput 0\nheap 0\nend\n",
-    ),
-    (
-        &PAIR_WITH_TAG,
-        ADMIT,
-        b"tenant 1\nstatus fault TagCheck read addr 0x000000003fffc010 ptr 0 mem 1 pc \
-          0x0000000000010018\nsteps 7\noutput 0\nheap 0\nend\n",
-    ),
-    (
-        &PRE_INDEXED,
-        ADMIT,
-        b"tenant 1\nstatus fault TagCheck read addr 0x000000003fffffe0 ptr 0 mem 1 pc \
-          0x0000000000010010\nsteps 5\noutput 0\nheap 0\nend\n",
-    ),
-    (
-        &ACROSS,
-        ADMIT,
-        b"tenant 1\nstatus fault TagCheck read addr 0x000000003fffc010 ptr 1 mem 0 pc \
-          0x0000000000010010\nsteps 5\noutput 0\nheap 0\nend\n",
-    ),
-    (
-        &ILLEGAL,
-        ADMIT,
-        b"tenant 1\nstatus illegal 0x00000000 pc 0x0000000000010000\nsteps 1\noutput 0\n\
-          heap 0\nend\n",
-    ),
-    (
-        &UNALIGNED,
-        ADMIT,
-        b"tenant 1\nstatus fault PcAlignment read addr 0x0000000000010001 ptr 0 mem 0 pc \
-          0x0000000000010001\nsteps 4\noutput 0\nheap 0\nend\n",
-    ),
-];
-
-#[test]
-fn one_tenant_alone(rt: HostRuntime) -> Result<(), Fail> {
-    for (words, script, want) in REPORTS {
-        let text = report(rt.alloc(), 11, script, &[words])?;
-        assert_eq!(rt; text.as_slice(), want);
-    }
-    Ok(())
-}
-
-/// The largest reservation has 4096 pages, and is charged 8193 frames.
-#[test]
-fn the_largest_reservation(rt: HostRuntime) -> Result<(), Fail> {
-    let text = report(
-        rt.alloc(),
-        8193,
-        b"admit 1 image 1 input 0 seed 0000000000000001 frames 4096 out 16\nslice 1 100\n",
-        &[&HI],
-    )?;
+fn always_out_of_memory(rt: HostRuntime) -> Result<(), Fail> {
+    let text = report(rt.alloc(), 11, ADMIT, &[&HI])?;
     assert_eq!(rt;
         text.as_slice(),
         b"tenant 1\nstatus exit 0\nsteps 8\noutput 2 4869\nheap 0\nend\n".as_slice()
@@ -132,75 +57,194 @@ fn the_largest_reservation(rt: HostRuntime) -> Result<(), Fail> {
     Ok(())
 }
 
-/// Programs with the end of an admission and a slice, and with the lines after `tenant 1`.
-const MODES: [(&[u32], &[u8], &[u8]); 7] = [
+/// Frames, programs as files, a script and its report.
+const REPORTS: [(u32, &[&[u32]], &[u8], &[u8]); 23] = [
     (
-        &UNTAGGED,
-        b" async\nslice 1 7\n",
-        b"status async pc 0x000000000001001c\nsteps 7\noutput 0\n",
+        11,
+        &[&HI],
+        b"admit 1 image 1 input 0 seed 0000000000000001 frames 5 out 16\nslice 1 3\n",
+        b"tenant 1\nstatus running\nsteps 3\noutput 0\nheap 0\nend\n",
     ),
     (
-        &UNTAGGED,
-        b" async\nslice 1 100\n",
-        b"status illegal 0x00000000 pc 0x000000000001001c\nsteps 8\noutput 0\n",
+        11,
+        &[&HI],
+        b"admit 1 image 1 input 0 seed 0000000000000001 frames 5 out 1\nslice 1 100\n",
+        b"tenant 1\nstatus exit 0\nsteps 8\noutput 1 48\nheap 0\nend\n",
     ),
     (
-        &UNTAGGED_EXIT,
-        b" async\nslice 1 100\n",
-        b"status async pc 0x0000000000010020\nsteps 9\noutput 0\n",
+        11,
+        &[&UNTAGGED],
+        ADMIT,
+        b"tenant 1\nstatus fault TagCheck read addr 0x000000003fffc000 ptr 0 mem 1 pc \
+          0x0000000000010018\nsteps 7\noutput 0\nheap 0\nend\n",
     ),
     (
-        &UNTAGGED_EXIT,
-        b"\nslice 1 100\n",
-        b"status fault TagCheck read addr 0x000000003fffc000 ptr 0 mem 1 pc \
-          0x0000000000010018\nsteps 7\noutput 0\n",
+        11,
+        &[&PAIR_WITH_TAG],
+        ADMIT,
+        b"tenant 1\nstatus fault TagCheck read addr 0x000000003fffc010 ptr 0 mem 1 pc \
+          0x0000000000010018\nsteps 7\noutput 0\nheap 0\nend\n",
     ),
     (
-        &UNTAGGED_WRITE,
-        b" async\nslice 1 100\n",
-        b"status async pc 0x0000000000010020\nsteps 9\n\
-          output 16 00000000000000000000000000000000\n",
+        11,
+        &[&PRE_INDEXED],
+        ADMIT,
+        b"tenant 1\nstatus fault TagCheck read addr 0x000000003fffffe0 ptr 0 mem 1 pc \
+          0x0000000000010010\nsteps 5\noutput 0\nheap 0\nend\n",
     ),
     (
-        &UNTAGGED_WRITE,
-        b" async\nslice 1 7\n",
-        b"status async pc 0x000000000001001c\nsteps 7\n\
-          output 16 00000000000000000000000000000000\n",
+        11,
+        &[&ACROSS],
+        ADMIT,
+        b"tenant 1\nstatus fault TagCheck read addr 0x000000003fffc010 ptr 1 mem 0 pc \
+          0x0000000000010010\nsteps 5\noutput 0\nheap 0\nend\n",
     ),
     (
-        &UNTAGGED_WRITE,
-        b"\nslice 1 100\n",
-        b"status fault TagCheck read addr 0x000000003fffc000 ptr 0 mem 1 pc \
-          0x0000000000010018\nsteps 7\noutput 0\n",
+        11,
+        &[&ILLEGAL],
+        ADMIT,
+        b"tenant 1\nstatus illegal 0x00000000 pc 0x0000000000010000\nsteps 1\noutput 0\n\
+          heap 0\nend\n",
+    ),
+    (
+        11,
+        &[&UNALIGNED],
+        ADMIT,
+        b"tenant 1\nstatus fault PcAlignment read addr 0x0000000000010001 ptr 0 mem 0 pc \
+          0x0000000000010001\nsteps 4\noutput 0\nheap 0\nend\n",
+    ),
+    // the asynchronous mode: an access whose tag differs completes, and the tenant ends at its
+    // next service, or with its slice
+    (
+        11,
+        &[&UNTAGGED],
+        b"admit 1 image 1 input 0 seed 0000000000000001 frames 5 out 16 async\nslice 1 7\n",
+        b"tenant 1\nstatus async pc 0x000000000001001c\nsteps 7\noutput 0\nheap 0\nend\n",
+    ),
+    (
+        11,
+        &[&UNTAGGED],
+        b"admit 1 image 1 input 0 seed 0000000000000001 frames 5 out 16 async\nslice 1 100\n",
+        b"tenant 1\nstatus illegal 0x00000000 pc 0x000000000001001c\nsteps 8\noutput 0\n\
+          heap 0\nend\n",
+    ),
+    (
+        11,
+        &[&UNTAGGED_EXIT],
+        b"admit 1 image 1 input 0 seed 0000000000000001 frames 5 out 16 async\nslice 1 100\n",
+        b"tenant 1\nstatus async pc 0x0000000000010020\nsteps 9\noutput 0\nheap 0\nend\n",
+    ),
+    (
+        11,
+        &[&UNTAGGED_EXIT],
+        b"admit 1 image 1 input 0 seed 0000000000000001 frames 5 out 16\nslice 1 100\n",
+        b"tenant 1\nstatus fault TagCheck read addr 0x000000003fffc000 ptr 0 mem 1 pc \
+          0x0000000000010018\nsteps 7\noutput 0\nheap 0\nend\n",
+    ),
+    (
+        11,
+        &[&UNTAGGED_WRITE],
+        b"admit 1 image 1 input 0 seed 0000000000000001 frames 5 out 16 async\nslice 1 100\n",
+        b"tenant 1\nstatus async pc 0x0000000000010020\nsteps 9\noutput 16 \
+          00000000000000000000000000000000\nheap 0\nend\n",
+    ),
+    (
+        11,
+        &[&UNTAGGED_WRITE],
+        b"admit 1 image 1 input 0 seed 0000000000000001 frames 5 out 16 async\nslice 1 7\n",
+        b"tenant 1\nstatus async pc 0x000000000001001c\nsteps 7\noutput 16 \
+          00000000000000000000000000000000\nheap 0\nend\n",
+    ),
+    (
+        11,
+        &[&UNTAGGED_WRITE],
+        b"admit 1 image 1 input 0 seed 0000000000000001 frames 5 out 16\nslice 1 100\n",
+        b"tenant 1\nstatus fault TagCheck read addr 0x000000003fffc000 ptr 0 mem 1 pc \
+          0x0000000000010018\nsteps 7\noutput 0\nheap 0\nend\n",
+    ),
+    // the empty script has the empty report
+    (1, &[], b"", b""),
+    // the largest reservation has 4096 pages, and is charged 8193 frames
+    (
+        8193,
+        &[&HI],
+        b"admit 1 image 1 input 0 seed 0000000000000001 frames 4096 out 16\nslice 1 100\n",
+        b"tenant 1\nstatus exit 0\nsteps 8\noutput 2 4869\nheap 0\nend\n",
+    ),
+    // files are numbered in their order, from 1
+    (
+        11,
+        &[&HI, &ILLEGAL],
+        b"admit 1 image 2 input 1 seed 0000000000000001 frames 5 out 16\nslice 1 100\n",
+        b"tenant 1\nstatus illegal 0x00000000 pc 0x0000000000010000\nsteps 1\noutput 0\n\
+          heap 0\nend\n",
+    ),
+    // a tenant that leaves a tag and bytes on its stack, and after its stop another that looks
+    // for them there
+    (
+        11,
+        &[&UNTAGGED, &LEFT_ON_THE_STACK],
+        b"admit 1 image 1 input 0 seed 0000000000000001 frames 5 out 16\nslice 1 100\nstop 1\n\
+          admit 2 image 2 input 0 seed 0000000000000001 frames 5 out 16\nslice 2 100\n",
+        b"tenant 1\nstatus fault TagCheck read addr 0x000000003fffc000 ptr 0 mem 1 \
+          pc 0x0000000000010018\nsteps 7\noutput 0\nheap 0\nend\n\
+          tenant 2\nstatus exit 0\nsteps 9\noutput 16 00000000000000000000000000000000\n\
+          heap 0\nend\n",
+    ),
+    // translations of one tenant, beside one with the same pages, and after its stop
+    (
+        300,
+        &[&LARGE_FREED, &LEFT_ON_THE_STACK],
+        b"admit 1 image 1 input 0 seed 0000000000000001 frames 60 out 16\n\
+          admit 2 image 1 input 0 seed 0000000000000001 frames 60 out 16\nslice 1 100\n\
+          slice 2 6\nslice 1 100\nstop 1\n\
+          admit 3 image 2 input 0 seed 0000000000000001 frames 5 out 16\nslice 3 100\n",
+        b"tenant 1\nstatus fault Translation read addr 0x000000003d0012c0 ptr 0 mem 0 \
+          pc 0x0000000000010028\nsteps 11\noutput 0\nheap 2\n\
+          call malloc 0x0000000000030d40 0x0000000000000000 = 0x000000003d0012c0\n\
+          call free 0x000000003d0012c0 0x0000000000000000 = 0x0000000000000000\nend\n\
+          tenant 2\nstatus running\nsteps 6\noutput 0\nheap 1\n\
+          call malloc 0x0000000000030d40 0x0000000000000000 = 0x000000003d0012c0\nend\n\
+          tenant 3\nstatus exit 0\nsteps 9\noutput 16 00000000000000000000000000000000\n\
+          heap 0\nend\n",
+    ),
+    // seven chunks, each in a page and with a leaf of its own, take the last frames
+    (
+        25,
+        &[&SEVEN_SIZES],
+        b"admit 1 image 1 input 0 seed 0000000000000001 frames 12 out 16\nslice 1 100\n",
+        b"tenant 1\nstatus exit 0\nsteps 47\noutput 0\nheap 8\n\
+          call malloc 0x0000000000000030 0x0000000000000000 = 0x0100000012000010\n\
+          call malloc 0x0000000000000050 0x0000000000000000 = 0x0100000013000010\n\
+          call malloc 0x0000000000000070 0x0000000000000000 = 0x0100000014000010\n\
+          call malloc 0x0000000000000090 0x0000000000000000 = 0x0d00000015000010\n\
+          call malloc 0x00000000000000b0 0x0000000000000000 = 0x0f00000016000010\n\
+          call malloc 0x00000000000000d0 0x0000000000000000 = 0x0700000017000010\n\
+          call malloc 0x00000000000000f0 0x0000000000000000 = 0x0f00000018000010\n\
+          call malloc 0x0000000000000010 0x0000000000000000 = 0x0000000000000000\nend\n",
+    ),
+    // a yield in the middle and at the end of a slice
+    (
+        11,
+        &[&YIELDS],
+        b"admit 1 image 1 input 0 seed 0000000000000001 frames 5 out 16\nslice 1 100\n\
+          slice 1 5\n",
+        b"tenant 1\nstatus exit 3\nsteps 6\noutput 0\nheap 0\nend\n",
+    ),
+    (
+        11,
+        &[&YIELDS],
+        b"admit 1 image 1 input 0 seed 0000000000000001 frames 5 out 16\nslice 1 2\n\
+          slice 1 5\n",
+        b"tenant 1\nstatus exit 3\nsteps 6\noutput 0\nheap 0\nend\n",
     ),
 ];
 
-/// The report of a program after an admission that ends so.
-fn report_after(alloc: Global, words: &[u32], rest: &[u8]) -> Result<Vec<u8>, Fail> {
-    let mut script = Vec::from_slice(
-        alloc,
-        b"admit 1 image 1 input 0 seed 0000000000000001 frames 5 out 16",
-    )?;
-    script.extend_from_slice(rest)?;
-    report(alloc, 11, script.as_slice(), &[words])
-}
-
-/// The whole report that has these lines.
-fn whole(alloc: Global, lines: &[u8]) -> Result<Vec<u8>, AllocError> {
-    let mut text = Vec::from_slice(alloc, b"tenant 1\n")?;
-    text.extend_from_slice(lines)?;
-    text.extend_from_slice(b"heap 0\nend\n")?;
-    Ok(text)
-}
-
-/// In the asynchronous mode an access whose tag differs completes. The tenant ends at its next
-/// service, or with its slice.
 #[test]
-fn the_asynchronous_mode(rt: HostRuntime) -> Result<(), Fail> {
-    for (words, rest, lines) in MODES {
-        let text = report_after(rt.alloc(), words, rest)?;
-        let want = whole(rt.alloc(), lines)?;
-        assert_eq!(rt; text.as_slice(), want.as_slice());
+fn reports(rt: HostRuntime) -> Result<(), Fail> {
+    for (frames, programs, script, want) in REPORTS {
+        let text = report(rt.alloc(), frames, script, programs)?;
+        assert_eq!(rt; text.as_slice(), want);
     }
     Ok(())
 }
@@ -282,25 +326,6 @@ fn refused_events(rt: HostRuntime) -> Result<(), Fail> {
     Ok(())
 }
 
-/// A tenant that leaves a tag and bytes on its stack, and after its stop another that looks for
-/// them there.
-#[test]
-fn nothing_is_left_of_a_stopped_tenant(rt: HostRuntime) -> Result<(), Fail> {
-    let text = report(
-        rt.alloc(),
-        11,
-        b"admit 1 image 1 input 0 seed 0000000000000001 frames 5 out 16\nslice 1 100\nstop 1\n\
-          admit 2 image 2 input 0 seed 0000000000000001 frames 5 out 16\nslice 2 100\n",
-        &[&UNTAGGED, &LEFT_ON_THE_STACK],
-    )?;
-    let want = b"tenant 1\nstatus fault TagCheck read addr 0x000000003fffc000 ptr 0 mem 1 \
-          pc 0x0000000000010018\nsteps 7\noutput 0\nheap 0\nend\n\
-          tenant 2\nstatus exit 0\nsteps 9\noutput 16 00000000000000000000000000000000\n\
-          heap 0\nend\n";
-    assert_eq!(rt; text.as_slice(), want.as_slice());
-    Ok(())
-}
-
 #[test]
 fn writers_that_fail(rt: HostRuntime) -> Result<(), Fail> {
     let want = b"tenant 1\nstatus exit 0\nsteps 8\noutput 2 4869\nheap 0\nend\n";
@@ -333,23 +358,5 @@ fn nothing_is_written_of_a_faulty_script(rt: HostRuntime) -> Result<(), Fail> {
     let result = run_session(rt.alloc(), 11, b"admit 1 image 1", &[], &mut out);
     assert!(rt; result == Err(SessionError::Script(1, ScriptFault::Syntax)));
     assert_eq!(rt; out.held.len(), 0);
-    Ok(())
-}
-
-/// Files are numbered in their order, from 1.
-#[test]
-fn the_second_file(rt: HostRuntime) -> Result<(), Fail> {
-    let text = report(
-        rt.alloc(),
-        11,
-        b"admit 1 image 2 input 1 seed 0000000000000001 frames 5 out 16\nslice 1 100\n",
-        &[&HI, &ILLEGAL],
-    )?;
-    assert_eq!(rt;
-        text.as_slice(),
-        b"tenant 1\nstatus illegal 0x00000000 pc 0x0000000000010000\nsteps 1\noutput 0\nheap 0\n\
-          end\n"
-            .as_slice()
-    );
     Ok(())
 }

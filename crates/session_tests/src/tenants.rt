@@ -1,73 +1,10 @@
 //! Sessions of several tenants.
 
 use crate::doubles::MemorySink;
-use crate::images::{
-    ALL, CORRUPTS, LARGE_FREED, LEFT_ON_THE_STACK, SEVEN_SIZES, UNTAGGED, YIELDS, image,
-};
-use crate::sessions::report;
+use crate::images::{ALL, CORRUPTS, LARGE_FREED, UNTAGGED, image};
 use mte_session::{Session, run_both};
 use std::alloc::{AllocError, Global};
 use std::test::Fail;
-
-/// Frames, a script, the programs that it refers to, and the report.
-const REPORTS: [(u32, &[u8], &[&[u32]], &[u8]); 4] = [
-    // translations of one tenant, beside one with the same pages, and after its stop
-    (
-        300,
-        b"admit 1 image 1 input 0 seed 0000000000000001 frames 60 out 16\n\
-          admit 2 image 1 input 0 seed 0000000000000001 frames 60 out 16\nslice 1 100\n\
-          slice 2 6\nslice 1 100\nstop 1\n\
-          admit 3 image 2 input 0 seed 0000000000000001 frames 5 out 16\nslice 3 100\n",
-        &[&LARGE_FREED, &LEFT_ON_THE_STACK],
-        b"tenant 1\nstatus fault Translation read addr 0x000000003d0012c0 ptr 0 mem 0 \
-          pc 0x0000000000010028\nsteps 11\noutput 0\nheap 2\n\
-          call malloc 0x0000000000030d40 0x0000000000000000 = 0x000000003d0012c0\n\
-          call free 0x000000003d0012c0 0x0000000000000000 = 0x0000000000000000\nend\n\
-          tenant 2\nstatus running\nsteps 6\noutput 0\nheap 1\n\
-          call malloc 0x0000000000030d40 0x0000000000000000 = 0x000000003d0012c0\nend\n\
-          tenant 3\nstatus exit 0\nsteps 9\noutput 16 00000000000000000000000000000000\n\
-          heap 0\nend\n",
-    ),
-    // seven chunks, each in a page and with a leaf of its own, take the last frames
-    (
-        25,
-        b"admit 1 image 1 input 0 seed 0000000000000001 frames 12 out 16\nslice 1 100\n",
-        &[&SEVEN_SIZES],
-        b"tenant 1\nstatus exit 0\nsteps 47\noutput 0\nheap 8\n\
-          call malloc 0x0000000000000030 0x0000000000000000 = 0x0100000012000010\n\
-          call malloc 0x0000000000000050 0x0000000000000000 = 0x0100000013000010\n\
-          call malloc 0x0000000000000070 0x0000000000000000 = 0x0100000014000010\n\
-          call malloc 0x0000000000000090 0x0000000000000000 = 0x0d00000015000010\n\
-          call malloc 0x00000000000000b0 0x0000000000000000 = 0x0f00000016000010\n\
-          call malloc 0x00000000000000d0 0x0000000000000000 = 0x0700000017000010\n\
-          call malloc 0x00000000000000f0 0x0000000000000000 = 0x0f00000018000010\n\
-          call malloc 0x0000000000000010 0x0000000000000000 = 0x0000000000000000\nend\n",
-    ),
-    // a yield in the middle and at the end of a slice
-    (
-        11,
-        b"admit 1 image 1 input 0 seed 0000000000000001 frames 5 out 16\nslice 1 100\n\
-          slice 1 5\n",
-        &[&YIELDS],
-        b"tenant 1\nstatus exit 3\nsteps 6\noutput 0\nheap 0\nend\n",
-    ),
-    (
-        11,
-        b"admit 1 image 1 input 0 seed 0000000000000001 frames 5 out 16\nslice 1 2\n\
-          slice 1 5\n",
-        &[&YIELDS],
-        b"tenant 1\nstatus exit 3\nsteps 6\noutput 0\nheap 0\nend\n",
-    ),
-];
-
-#[test]
-fn reports(rt: HostRuntime) -> Result<(), Fail> {
-    for (frames, script, programs, want) in REPORTS {
-        let text = report(rt.alloc(), frames, script, programs)?;
-        assert_eq!(rt; text.as_slice(), want);
-    }
-    Ok(())
-}
 
 /// The image of a program, and those of tenants beside it.
 fn files_of(alloc: Global, words: &[u32]) -> Result<Vec<Vec<u8>>, AllocError> {
