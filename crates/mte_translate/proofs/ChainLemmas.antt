@@ -7,7 +7,7 @@ use Rattle.mte_translate.specs.declared.translation.Translation.{Translation}
 use Rattle.mte_translate.specs.Translations.{is_for, lookup}
 use Rattle.mte_translate.proofs.TlbLemmas.{same-left, same-right}
 use Rattle.mte_translate.specs.Whole.{hash_of, hashes_of, IsChained}
-use Rattle.mte_translate.specs.Windows.{IsHeadWithout, IsGapWithout, Window, IsPlaceOf}
+use Rattle.mte_translate.specs.Windows.{IsHeadWithout, IsGapWithout}
 use Rattle.std.specs.List.{remove}
 use Rattle.std.proofs.lemmas.List.Edits.{length-remove, get_or-remove_below, get_or-remove_above}
 

@@ -1,5 +1,5 @@
 -- What a filter leaves of lists in which one translation stands for each ASID and page.
-use Rattle.std.proofs.Common.{◌≡◌, ℕ, zero, suc, ◌+◌, ◌-◌, ◌<◌, ◌≤◌, ◌==◌, Bool, true, false, not, cond, List, [], ◌∷◌, ◌++◌, length, drop, filter, get_or, Option, Some, None, refl, sym, ap, subst, ◌∙◌, is_some, length-append, arith}
+use Rattle.std.proofs.Common.{◌≡◌, ℕ, zero, suc, ◌+◌, ◌-◌, ◌<◌, ◌≤◌, ◌==◌, Bool, true, false, not, cond, List, [], ◌∷◌, ◌++◌, length, drop, filter, get_or, Option, Some, None, refl, sym, ap, subst, ◌∙◌, length-append, arith}
 use Rattle.std.specs.Prelude.{find, ◌&&◌, option_map}
 use Rattle.std.specs.List.{remove}
 use Rattle.std.proofs.lemmas.List.Elements.{filter-append}

@@ -8,7 +8,6 @@
 --                                       its translation and the next older
 use Rattle.std.specs.Prelude.{◌≡◌, ℕ, ◌+◌, ◌*◌, ◌/◌, ◌%◌, ◌<◌, ◌≤◌, List, length, map, slice_index}
 use Rattle.mte_translate.specs.Translations.{IsOneEach}
-use Rattle.mte_translate.specs.Windows.{Window}
 use Rattle.mte_translate.specs.declared.translation.Translation.{Translation}
 use Rattle.mte_translate.specs.declared.tlb.Tlb.TheInside.{Inside}
 

@@ -1,4 +1,4 @@
-use Rattle.std.proofs.Common.{◌≡◌, ◌≤◌, ◌<◌, ◌+◌, ◌∙◌, sym, ap, length, refl, arith}
+use Rattle.std.proofs.Common.{◌≤◌, ◌<◌, ◌+◌, ap, length, refl, arith}
 use Rattle.mte_translate.specs.Whole.{hashes_of, IsChained}
 use Rattle.mte_translate.proofs.ChainLemmas.{chained-same, chained-drop, hashes-drop, hashes_long}
 use Rattle.mte_translate.proofs.tlb.make_room.Goals.{then-len-eq-TLB_ENTRIES, else-len-eq-TLB_ENTRIES}

@@ -1,4 +1,4 @@
-use Rattle.std.proofs.Common.{◌≡◌, ℕ, ◌-◌, ◌<◌, ◌≤◌, slice_index}
+use Rattle.std.proofs.Common.{◌≡◌, ℕ, ◌<◌, ◌≤◌, slice_index}
 use Rattle.mte_translate.specs.Windows.{IsHeadWithout}
 use Rattle.mte_translate.proofs.chains.Chains.remove_from_heads.Given as goal
 

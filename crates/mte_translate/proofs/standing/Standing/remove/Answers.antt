@@ -1,4 +1,4 @@
-use Rattle.std.proofs.Common.{◌≡◌, ◌∙◌, ◌+◌, ap, length, arith}
+use Rattle.std.proofs.Common.{◌≡◌, ◌∙◌, ap, length, arith}
 use Rattle.std.specs.List.{remove}
 use Rattle.mte_translate.specs.Windows.{Window}
 use Rattle.mte_translate.proofs.WindowLemmas.{window-remove, window-long}

@@ -1,5 +1,4 @@
-use Rattle.std.proofs.Common.{◌∙◌, ◌<◌, ◌-◌, sym, ap, length, arith}
-use Rattle.mte_translate.specs.Windows.{Window}
+use Rattle.std.proofs.Common.{◌∙◌, ◌<◌, ◌-◌, sym, length, arith}
 use Rattle.mte_translate.specs.Whole.{hash_of}
 use Rattle.mte_translate.proofs.TlbLemmas.{lookup-at}
 use Rattle.mte_translate.proofs.ChainLemmas.{hashes_long}
