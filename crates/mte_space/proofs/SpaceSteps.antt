@@ -13,13 +13,12 @@ use Rattle.mte_tags.specs.declared.state.TagState.{TagState}
 use Rattle.mte_arena.specs.Frames.{Frame, AreFrames, frame_at, frame_or, with_run}
 use Rattle.mte_frames.specs.Pool.{Pool, IsOut, IsTaken, IsSound, KeepsOthers}
 use Rattle.mte_translate.specs.Tables.{Root, pages_of, IsCached, Agrees, Stays}
-use Rattle.mte_translate.specs.Translations.{lookup}
 use Rattle.mte_translate.specs.declared.translation.Translation.{Translation}
 use Rattle.mte_space.specs.Spaces.{page_of, space_memory, IsSpace, KeepsRest}
 use Rattle.mte_space.specs.Writes.{with_frame, changed, retagged_frame}
 use Rattle.mte_space.proofs.Memories.{page_at-space, space_written}
 pub use Rattle.mte_space.proofs.Memories.{page_found}
-use Rattle.mte_translate.proofs.KeptTables.{kept-written, page-frame, cached-found}
+use Rattle.mte_translate.proofs.KeptTables.{kept-written, page-frame}
 use Rattle.mte_space.proofs.Taken.{within_frames, frame_at-set, is_frame}
 
 pub found_out : (p : Pool) (k : ℕ) (t : Root) (l q : ℕ) (o : Option (ℕ × Attrs)) → IsSpace p k t l → o ≡ finite.get (pages_of p t.frame) q → IfSome o (λ x. IsOut p x.0 k)
@@ -32,9 +31,6 @@ found_taken p k t l q (Some (f, a)) h e = (k, (page-frame p k q f a t h.table (s
 
 pub page_is : (p : Pool) (t : Root) (l : ℕ) (s : TagState) (q : ℕ) (o : Option (ℕ × Attrs)) → o ≡ finite.get (pages_of p t.frame) q → page_at (space_memory p t l s) q ≡ option_map (page_of p) o
 page_is p t l s q o e = page_at-space p t l s q ∙ ap (option_map (page_of p)) (sym e)
-
-pub cached_hit : (p : Pool) (root asid page frame : ℕ) (attrs : Attrs) (ts : List Translation) → IsCached (pages_of p root) asid ts → lookup asid page ts ≡ Some (frame, attrs) → finite.get (pages_of p root) page ≡ Some (frame, attrs)
-cached_hit p root asid page frame attrs ts c e = cached-found (pages_of p root) asid page frame attrs ts c e
 
 module _ (p : Pool) (k : ℕ) (t : Root) (l q f : ℕ) (a : Attrs) (x : Frame) (h : IsSpace p k t l) (found : finite.get (pages_of p t.frame) q ≡ Some (f, a)) where
   n : Pool

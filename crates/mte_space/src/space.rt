@@ -3,13 +3,15 @@
 ghost use Rattle.std.specs.Prelude.{◌≡◌, ◌≤◌, ◌+◌, ◌-◌, ◌*◌};
 ghost use Rattle.mte_frames.specs.Pool.{taken_by, reserved_by};
 ghost use Rattle.mte_translate.specs.Tables.{pages_of, IsTable, MapsOnce, IsCached};
+ghost use Rattle.mte_space.specs.Places.{IsPlace, ArePlaces};
 ghost use Rattle.mte_space.specs.Spaces.{space_memory, IsSpace};
 
 use crate::accesses::{
     fault_of_run, fetch_word, read_run, retag_run, tag_of_granule, try_read, try_write, write_run,
 };
 use crate::mapping::{map_range, unmap_range};
-use crate::translation::translate;
+use crate::places::{PLACES, Place, find_place, no_places, no_place};
+use crate::translation::{translate, translate_code};
 use a64_bits::plain;
 use mte_frames::{FramePool, Quota};
 use mte_tags::{Access, Attrs, MemFault, NoQuota, PageStore, Paged, TagState, replace_bytes};
@@ -17,7 +19,8 @@ use mte_translate::{Table, Tlb};
 
 /// A tenant's memory: the pages that its table maps, in frames of a pool that it shares with other
 /// tenants, under its quota. Translations of its ASID are remembered in a translation lookaside
-/// buffer, which it shares too. Nothing allocates.
+/// buffer, which it shares too, and where the last accesses found their pages in places of its own:
+/// one for fetches, and eight for data. Nothing allocates.
 #[derive(Drop)]
 pub struct Space<'a> {
     pool: &'a mut FramePool,
@@ -27,8 +30,12 @@ pub struct Space<'a> {
     state: &'a mut TagState,
     asid: usize,
     limit: usize,
+    places: [Place; PLACES],
+    code: Place,
     ghost space: { IsSpace pool.now quota.now table.now limit },
     ghost cached: { IsCached (pages_of pool.now table.now.frame) asid tlb.now },
+    ghost places_are: { ArePlaces (pages_of pool.now table.now.frame) places },
+    ghost code_is: { IsPlace (pages_of pool.now table.now.frame) code },
 }
 
 impl<'a> Space<'a> {
@@ -67,6 +74,8 @@ impl<'a> Space<'a> {
             state,
             asid,
             limit: pages,
+            places: no_places(),
+            code: no_place(),
         }
     }
 }
@@ -96,13 +105,20 @@ impl PageStore for Space<'_> {
     #[inline(always)]
     fn fetch_aligned(&mut self, pc: u64) -> Result<u32, MemFault> {
         let page = plain(pc) / 4096;
-        let found = translate(self.pool, self.table, self.tlb, self.asid, page);
+        let found = translate_code(
+            &mut self.code,
+            self.pool,
+            self.table,
+            self.tlb,
+            self.asid,
+            page,
+        );
         fetch_word(self.pool, found, pc)
     }
 
     #[inline(always)]
     fn try_read(&mut self, at: u64, buffer: &mut [u8], access: &Access) -> bool {
-        match self.tlb.quick_lookup(self.asid, at / 4096) {
+        match find_place(&mut self.places, self.tlb, self.asid, at / 4096) {
             Some((frame, attrs)) => try_read(self.pool, frame, attrs, at, buffer, access),
             None => false,
         }
@@ -120,7 +136,7 @@ impl PageStore for Space<'_> {
 
     #[inline(always)]
     fn try_write(&mut self, at: u64, bytes: &[u8], access: &Access) -> bool {
-        match self.tlb.quick_lookup(self.asid, at / 4096) {
+        match find_place(&mut self.places, self.tlb, self.asid, at / 4096) {
             Some((frame, attrs)) => try_write(self.pool, frame, attrs, at, bytes, access),
             None => false,
         }
@@ -172,6 +188,8 @@ impl Paged for Space<'_> {
     }
 
     fn unmap_pages(&mut self, page: u64, count: usize) {
+        self.places = no_places();
+        self.code = no_place();
         unmap_range(
             self.pool, self.table, self.quota, self.tlb, self.asid, self.limit, page, count,
         );

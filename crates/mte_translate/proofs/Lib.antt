@@ -1,6 +1,7 @@
 pub mod TlbLemmas
 pub mod StandingLaws
 pub mod ChainLemmas
+pub mod WindowLemmas
 pub mod EntryLemmas
 pub mod TreeLemmas
 pub mod TreeUses

@@ -1,6 +1,7 @@
 -- What a filter leaves of lists in which one translation stands for each ASID and page.
-use Rattle.std.proofs.Common.{◌≡◌, ℕ, zero, suc, ◌+◌, ◌-◌, ◌<◌, ◌≤◌, ◌==◌, Bool, true, false, not, cond, List, [], ◌∷◌, ◌++◌, length, drop, filter, get_or, Option, Some, None, refl, sym, ap, subst, ◌∙◌, is_some, length-append, arith}
+use Rattle.std.proofs.Common.{◌≡◌, ℕ, zero, suc, ◌+◌, ◌-◌, ◌<◌, ◌≤◌, ◌==◌, Bool, true, false, not, cond, List, [], ◌∷◌, ◌++◌, length, drop, filter, get_or, Option, Some, None, refl, sym, ap, subst, ◌∙◌, length-append, arith}
 use Rattle.std.specs.Prelude.{find, ◌&&◌, option_map}
+use Rattle.std.specs.List.{remove}
 use Rattle.std.proofs.lemmas.List.Elements.{filter-append}
 use Rattle.mte_tags.specs.declared.attrs.Attrs.{Attrs}
 use Rattle.mte_translate.specs.declared.translation.Translation.{Translation}
@@ -25,14 +26,6 @@ module _ {X : Type 0} where
   others-none p [] e = refl
   others-none p (x ∷ xs) e = grind (arith, others-none p xs)
 
-  fewer-all : (p : X → Bool) (xs : List X) → length (filter p xs) ≤ length xs
-  fewer-all p [] = omega arith
-  fewer-all p (x ∷ xs) = grind (arith, fewer-all p xs)
-
-  pub others-some : (p : X → Bool) (xs : List X) (y : X) → find p xs ≡ Some y → length (filter (λ x. not (p x)) xs) < length xs
-  others-some p [] y e = grind arith
-  others-some p (x ∷ xs) y e = grind (arith, others-some p xs y, fewer-all (λ z. not (p z)) xs)
-
   at-least-one : (p : X → Bool) (xs : List X) (i : ℕ) (d : X) → i < length xs → p (get_or xs i d) ≡ true → 0 < length (filter p xs)
   at-least-one p [] i d l e = absurd (omega (arith, l))
   at-least-one p (x ∷ xs) zero d l e = grind (arith, e)
@@ -51,6 +44,24 @@ module _ {X : Type 0} where
       let rest = the-one p xs i d few inside e in
       grind (arith, one, some, rest)
 
+  -- where one passes at most, all others stand but for it
+  none-passes : (p : X → Bool) (xs : List X) → length (filter p xs) ≤ 0 → filter (λ x. not (p x)) xs ≡ xs
+  none-passes p [] e = refl
+  none-passes p (x ∷ xs) e = grind (arith, none-passes p xs)
+
+  pub others-of : (p : X → Bool) (xs : List X) (i : ℕ) (d : X) → length (filter p xs) ≤ 1 → i < length xs → p (get_or xs i d) ≡ true → filter (λ x. not (p x)) xs ≡ remove xs i
+  others-of p [] i d one l e = absurd (omega (arith, l))
+  others-of p (x ∷ xs) zero d one l e =
+      let none : length (filter p xs) ≤ 0 = grind (arith, one, e) in
+      let rest = none-passes p xs none in
+      grind (arith, e, rest)
+  others-of p (x ∷ xs) (suc i) d one l e =
+      let inside : i < length xs = omega (arith, l) in
+      let some = at-least-one p xs i d inside e in
+      let few : length (filter p xs) ≤ 1 = grind (arith, one) in
+      let rest = others-of p xs i d few inside e in
+      grind (arith, one, some, rest)
+
 pub one-each-filter : (q : Translation → Bool) (ts us : List Translation) → IsOneEach ts → us ≡ filter q ts → IsOneEach us
 one-each-filter q ts us one e asid page =
     let less = fewer-filter (is_for asid page) q ts in
@@ -63,44 +74,13 @@ one-each-drop n ts us one e asid page =
     let most = one asid page in
     rw e (omega (arith, less, most))
 
-newest-few : (ts : List Translation) → length ts ≤ 63 → newest 63 ts ≡ ts
-newest-few ts few =
-    let z : length ts - 63 ≡ 0 = omega arith in
-    ap (λ n. drop n ts) z
-
--- where one stands, there is room without it
-others-fewer : (asid page : ℕ) (ts : List Translation) → is_some (lookup asid page ts) ≡ true → length ts ≤ 64 → length (without asid page ts) ≤ 63
-others-fewer asid page ts there most = found (find (is_for asid page) ts) refl there
-  where
-    found : (o : Option Translation) → find (is_for asid page) ts ≡ o → is_some {T = ℕ × Attrs} (option_map (λ (t : Translation). (t.frame, t.attrs)) o) ≡ true → length (without asid page ts) ≤ 63
-    found None e h = absurd (grind (arith, h))
-    found (Some t) e h = let less = others-some (is_for asid page) ts t e in omega (arith, less, most)
-
-pub room-some : (asid page : ℕ) (ts us : List Translation) → is_some (lookup asid page ts) ≡ true → length ts ≤ 64 → us ≡ without asid page ts → us ≡ newest 63 (without asid page ts)
-room-some asid page ts us there most e = e ∙ sym (newest-few (without asid page ts) (others-fewer asid page ts there most))
-
-pub room-left : (asid page : ℕ) (ts us : List Translation) → is_some (lookup asid page ts) ≡ true → length ts ≤ 64 → us ≡ without asid page ts → length us < 64
-room-left asid page ts us there most e = let few = others-fewer asid page ts there most in rw e (omega (arith, few))
-
 -- where none stands, all are others
-pub others-all : (asid page : ℕ) (ts : List Translation) → is_some (lookup asid page ts) ≡ false → without asid page ts ≡ ts
-others-all asid page ts gone = found (find (is_for asid page) ts) refl gone
+pub others-all : (asid page : ℕ) (ts : List Translation) → lookup asid page ts ≡ None → without asid page ts ≡ ts
+others-all asid page ts none = found (find (is_for asid page) ts) refl none
   where
-    found : (o : Option Translation) → find (is_for asid page) ts ≡ o → is_some {T = ℕ × Attrs} (option_map (λ (t : Translation). (t.frame, t.attrs)) o) ≡ false → without asid page ts ≡ ts
+    found : (o : Option Translation) → find (is_for asid page) ts ≡ o → option_map {U = ℕ × Attrs} (λ (t : Translation). (t.frame, t.attrs)) o ≡ None → without asid page ts ≡ ts
     found None e h = others-none (is_for asid page) ts e
     found (Some t) e h = absurd (grind (arith, h))
-
-pub room-none : (asid page : ℕ) (ts : List Translation) → is_some (lookup asid page ts) ≡ false → length ts ≤ 63 → ts ≡ newest 63 (without asid page ts)
-room-none asid page ts gone few = sym (ap (newest 63) (others-all asid page ts gone) ∙ newest-few ts few)
-
-without-first : (ts : List Translation) → length ts ≡ 64 → drop 1 ts ≡ newest 63 ts
-without-first [] full = absurd (omega (arith, full))
-without-first (t ∷ ts) full =
-    let one : length (t ∷ ts) - 63 ≡ 1 = omega (arith, full) in
-    sym (ap (λ n. drop n (t ∷ ts)) one)
-
-pub room-oldest : (asid page : ℕ) (ts : List Translation) → is_some (lookup asid page ts) ≡ false → length ts ≡ 64 → drop 1 ts ≡ newest 63 (without asid page ts)
-room-oldest asid page ts gone full = without-first ts full ∙ sym (ap (newest 63) (others-all asid page ts gone))
 
 pub same-left : (a b c d : ℕ) → ((a == b) && (c == d)) ≡ true → a ≡ b
 same-left a b c d e = grind arith

@@ -1,4 +1,5 @@
 pub mod Tables
 pub mod TableSteps
 pub mod Translations
+pub mod Windows
 pub mod Whole

@@ -1,35 +1,40 @@
 //! Which translations have the hash of a page, from the newest to the oldest.
 
-ghost use Rattle.std.specs.Prelude.{◌≡◌, ℕ, ◌-◌, ◌<◌, ◌≤◌, List, [], ◌∷◌, ◌++◌, length, drop};
+ghost use Rattle.std.specs.Prelude.{◌≡◌, ℕ, ◌+◌, ◌-◌, ◌<◌, ◌≤◌, List, [], ◌∷◌, ◌++◌, length};
 ghost use Rattle.std.specs.Prelude.{slice_index};
+ghost use Rattle.std.specs.List.{remove};
+ghost use Rattle.mte_translate.specs.Windows.{IsHeadWithout, IsGapWithout};
 ghost use Rattle.mte_translate.specs.Whole.{hash_of, hashes_of, IsChained};
 
-use crate::translation::{TLB_ENTRIES, Translation};
+use crate::standing::PLACES;
+use crate::translation::Translation;
 
 const HASHES: usize = 256;
 
 /// The translations of each hash, as a chain from the newest to the oldest.
 #[derive(Drop)]
 pub(crate) struct Chains {
-    /// For each hash the place behind its newest translation, 0 where it has none.
+    /// For each hash the place behind its newest translation, or one that is not behind any that
+    /// stands.
     heads: [u8; HASHES],
     /// For each translation how many of other hashes stand between it and the next older one of its
-    /// own, or at least all that are older where it is the oldest of its hash. This stays right
-    /// where the oldest translation of all is dropped. What lies behind them says nothing.
-    gaps: [u8; TLB_ENTRIES],
+    /// own, or at least all that are older where it is the oldest of its hash. What lies at other
+    /// places says nothing.
+    gaps: [u8; PLACES],
 }
 
 impl Chains {
     pub(crate) fn new() -> Chains
-        ensures { IsChained result.heads result.gaps [] }
+        ensures { IsChained 0 result.heads result.gaps [] }
     {
         Chains {
             heads: [0; HASHES],
-            gaps: [0; TLB_ENTRIES],
+            gaps: [0; PLACES],
         }
     }
 
-    /// The place behind the newest translation of the page's hash, 0 where there is none.
+    /// The place behind the newest translation of the page's hash; where none stands, at most the
+    /// place of the oldest of all.
     #[inline]
     pub(crate) fn end(&self, asid: usize, page: u64) -> usize
         ensures { result ≡ slice_index self.now.heads (hash_of asid page) }
@@ -37,49 +42,122 @@ impl Chains {
         self.heads[hash(asid, page)] as usize
     }
 
-    /// The place behind the next older translation of the hash of that at a place, 0 where there is
-    /// none.
+    /// The place behind the next older translation of the hash of that at a place; where none
+    /// stands, at most the place of the oldest of all.
     pub(crate) fn end_before(&self, place: usize) -> usize
-        requires { place < 64 }
+        requires { place < 128 }
         ensures { result ≡ place - slice_index self.now.gaps place }
     {
         place.saturating_sub(self.gaps[place] as usize)
     }
 
-    /// A translation of the page comes last, at `place`, which is how many stand.
+    /// A translation of the page comes last, at `place`.
     pub(crate) fn push(&mut self, place: usize, asid: usize, page: u64)
-        requires { place < 64 }
-        ensures { (hs : List ℕ) → length hs ≡ place
-            → IsChained self.old.heads self.old.gaps hs
-            → IsChained self.new.heads self.new.gaps (hs ++ hash_of asid page ∷ []) }
+        requires { place < 128 }
+        ensures { (first : ℕ) (hs : List ℕ) → first + length hs ≡ place
+            → IsChained first self.old.heads self.old.gaps hs
+            → IsChained first self.new.heads self.new.gaps (hs ++ hash_of asid page ∷ []) }
     {
         let head = &mut self.heads[hash(asid, page)];
         self.gaps[place] = (place as u8).saturating_sub(*head);
         *head = place as u8 + 1;
     }
 
-    /// The oldest translation is dropped: each other one stands one place lower.
-    pub(crate) fn drop_oldest(&mut self)
-        ensures { (hs : List ℕ) → length hs ≤ 64
-            → IsChained self.old.heads self.old.gaps hs
-            → IsChained self.new.heads self.new.gaps (drop 1 hs) }
+    /// All translations move to the front of the row, those at `first` and on.
+    pub(crate) fn move_to_front(&mut self, first: usize)
+        requires { first ≤ 128 }
+        ensures { (hs : List ℕ) → first + length hs ≤ 128
+            → IsChained first self.old.heads self.old.gaps hs
+            → IsChained 0 self.new.heads self.new.gaps hs }
     {
-        self.gaps.copy_within(1.., 0);
+        self.gaps.copy_within(first.., 0);
         for head in self.heads.iter_mut() {
-            *head = head.saturating_sub(1);
+            *head = head.saturating_sub(first as u8);
         }
     }
 
-    /// Other translations stand, these.
+    /// The translation at `place` goes, and all younger ones, before `end`, move down by one.
+    pub(crate) fn remove(&mut self, place: usize, end: usize)
+        requires within { place < end }
+        requires most { end ≤ 128 }
+        ensures { (first i : ℕ) (hs : List ℕ) → first + i ≡ place → first + length hs ≡ end
+            → length hs ≤ 64 → IsChained first self.old.heads self.old.gaps hs
+            → IsChained first self.new.heads self.new.gaps (remove hs i) }
+    {
+        self.remove_from_heads(place);
+        self.remove_from_gaps(place, end);
+    }
+
+    fn remove_from_heads(&mut self, place: usize)
+        requires { place < 128 }
+        ensures gaps { self.new.gaps ≡ self.old.gaps }
+        ensures heads { (h : ℕ)
+            → IsHeadWithout place (place - slice_index self.old.gaps place)
+            (slice_index self.old.heads h) (slice_index self.new.heads h) }
+    {
+        let end = self.end_before(place) as u8;
+        for head in self.heads.iter_mut() {
+            *head = head_without(place as u8, end, *head);
+        }
+    }
+
+    fn remove_from_gaps(&mut self, place: usize, end: usize)
+        requires within { place < end }
+        requires most { end ≤ 128 }
+        ensures heads { self.new.heads ≡ self.old.heads }
+        ensures older { (i : ℕ) → i < place
+            → slice_index self.new.gaps i ≡ slice_index self.old.gaps i }
+        ensures younger { (i : ℕ) → place ≤ i → i + 1 < end
+            → IsGapWithout (i - place) (slice_index self.old.gaps place)
+            (slice_index self.old.gaps (i + 1)) (slice_index self.new.gaps i) }
+    {
+        let removed = self.gaps[place];
+        for younger in place + 1..end {
+            let between = (younger - place - 1) as u8;
+            self.gaps[younger - 1] = gap_without(between, removed, self.gaps[younger]);
+        }
+    }
+
+    /// Other translations stand, these, from the front of the row on.
     pub(crate) fn rebuild(&mut self, translations: &[Translation])
         requires { length translations.now ≤ 64 }
-        ensures { IsChained self.new.heads self.new.gaps (hashes_of translations.now) }
+        ensures { IsChained 0 self.new.heads self.new.gaps (hashes_of translations.now) }
     {
         *self = Chains::new();
         for place in 0..translations.len() {
             let translation = translations[place];
             self.push(place, translation.asid, translation.page);
         }
+    }
+}
+
+/// What a head is once the translation at `place` went, behind whose next older one is `end`.
+#[inline]
+fn head_without(place: u8, end: u8, head: u8) -> u8
+    requires { place < 128 }
+    ensures { IsHeadWithout place end head result }
+{
+    if head > place + 1 {
+        head - 1
+    } else if head == place + 1 {
+        end
+    } else {
+        head
+    }
+}
+
+/// What the gap of a translation is once an older one went, with `between` between the two, whose
+/// gap was `removed`. Where it led to that one, it leads on to the next; 255 is beyond the oldest.
+#[inline]
+fn gap_without(between: u8, removed: u8, gap: u8) -> u8
+    ensures { IsGapWithout between removed gap result }
+{
+    if gap > between {
+        gap - 1
+    } else if gap == between {
+        gap.saturating_add(removed)
+    } else {
+        gap
     }
 }
 

@@ -1,11 +1,13 @@
 //! The translation lookaside buffer.
 
-ghost use Rattle.std.specs.Prelude.{◌≡◌, ◌<◌, ◌≤◌, [], length, IfSome, Some};
+ghost use Rattle.std.specs.Prelude.{◌≡◌, ◌+◌, ◌<◌, ◌≤◌, [], length, IfSome, IsNone, Some, None};
 ghost use Rattle.mte_translate.specs.Translations.{lookup, filled, without, without_asid};
 ghost use Rattle.mte_translate.specs.Translations.{newest, IsOneEach};
+ghost use Rattle.mte_translate.specs.Whole.{hashes_of, IsChained};
+ghost use Rattle.mte_translate.specs.Windows.{IsPlaceOf};
 
 use crate::chains::Chains;
-use crate::standing::Standing;
+use crate::standing::{PLACES, Standing};
 use crate::translation::{TLB_ENTRIES, Translation};
 use mte_tags::Attrs;
 use std::marker::Model;
@@ -54,15 +56,9 @@ impl Tlb {
     pub fn lookup(&self, asid: usize, page: u64) -> Option<(usize, Attrs)>
         ensures { result ≡ lookup asid page self.now }
     {
-        let mut end = self.chains.end(asid, page);
-        while end > 0 {
-            let translation = self.translations.get(end - 1);
-            if translation.is_for(asid, page) {
-                return Some((translation.frame, translation.attrs));
-            }
-            end = self.chains.end_before(end - 1);
-        }
-        None
+        let place = find(&self.translations, &self.chains, asid, page)?;
+        let translation = self.translations.get(place);
+        Some((translation.frame, translation.attrs))
     }
 
     /// The same by one comparison; or `None`, perhaps also where one stands.
@@ -71,7 +67,7 @@ impl Tlb {
         ensures { IfSome result (λ found. lookup asid page self.now ≡ Some found) }
     {
         let end = self.chains.end(asid, page);
-        if end == 0 {
+        if end <= self.translations.first() {
             return None;
         }
         let newest = self.translations.get(end - 1);
@@ -88,8 +84,9 @@ impl Tlb {
         ensures { self.new
             ≡ filled (record { asid = asid; page = page; frame = frame; attrs = attrs }) self.old }
     {
-        self.make_room(asid, page);
-        self.chains.push(self.translations.len(), asid, page);
+        self.forget(asid, page);
+        make_room(&mut self.translations, &mut self.chains);
+        self.chains.push(self.translations.end(), asid, page);
         self.translations.push(Translation {
             asid,
             page,
@@ -103,34 +100,58 @@ impl Tlb {
     pub fn forget(&mut self, asid: usize, page: u64)
         ensures { self.new ≡ without asid page self.old }
     {
-        if self.lookup(asid, page).is_none() {
+        let Some(place) = find(&self.translations, &self.chains, asid, page) else {
             return;
-        }
-        self.translations
-            .retain(|translation| !translation.is_for(asid, page));
-        self.chains.rebuild(self.translations.as_slice());
+        };
+        self.chains.remove(place, self.translations.end());
+        self.translations.remove(place);
     }
 
     /// Drops all translations of an address space. The others keep their order.
     pub fn forget_all(&mut self, asid: usize)
         ensures { self.new ≡ without_asid asid self.old }
     {
+        self.translations.move_to_front();
         self.translations
             .retain(|translation| translation.asid != asid);
         self.chains.rebuild(self.translations.as_slice());
     }
+}
 
-    /// Drops an older translation of a page, or else, where 64 stand, the oldest.
-    fn make_room(&mut self, asid: usize, page: u64)
-        ensures rest { self.new ≡ newest 63 (without asid page self.old) }
-        ensures room { length self.new < 64 }
-    {
-        let full = self.translations.len() == TLB_ENTRIES;
-        if self.lookup(asid, page).is_some() {
-            self.forget(asid, page);
-        } else if full {
-            self.translations.drop_oldest();
-            self.chains.drop_oldest();
+/// The place of the translation of a page, if one stands. It looks at the translations of the
+/// page's hash alone.
+#[inline]
+fn find(translations: &Standing, chains: &Chains, asid: usize, page: u64) -> Option<usize>
+    requires chained { IsChained translations.now.first chains.now.heads chains.now.gaps
+        (hashes_of translations.now.items) }
+    ensures found { IfSome result (λ place. IsPlaceOf asid page translations.now place) }
+    ensures none { IsNone result → lookup asid page translations.now.items ≡ None }
+{
+    let mut end = chains.end(asid, page);
+    while end > translations.first() {
+        if translations.get(end - 1).is_for(asid, page) {
+            return Some(end - 1);
         }
+        end = chains.end_before(end - 1);
+    }
+    None
+}
+
+/// Drops the oldest where 64 stand, and sees to it that a place behind the newest is left.
+fn make_room(translations: &mut Standing, chains: &mut Chains)
+    requires chained { IsChained translations.old.first chains.old.heads chains.old.gaps
+        (hashes_of translations.old.items) }
+    ensures chained { IsChained translations.new.first chains.new.heads chains.new.gaps
+        (hashes_of translations.new.items) }
+    ensures items { translations.new.items ≡ newest 63 translations.old.items }
+    ensures room { length translations.new.items < 64 }
+    ensures place { translations.new.first + length translations.new.items < 128 }
+{
+    if translations.len() == TLB_ENTRIES {
+        translations.drop_oldest();
+    }
+    if translations.end() == PLACES {
+        chains.move_to_front(translations.first());
+        translations.move_to_front();
     }
 }

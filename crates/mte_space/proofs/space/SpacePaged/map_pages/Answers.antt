@@ -1,6 +1,8 @@
 use Rattle.std.proofs.Common.{◌≡◌, ◌∙◌, ◌+◌, ◌-◌, sym, ap, arith, refl}
 use Rattle.mte_tags.specs.Memory.{pages_left}
 use Rattle.mte_space.specs.SpaceMemory.{memory_of}
+use Rattle.mte_translate.specs.Tables.{pages_of}
+use Rattle.mte_space.proofs.PlaceSteps.{place_on, places_on}
 use Rattle.mte_space.proofs.Memories.{pages_left-space, page_missing, unmapped_there}
 use Rattle.mte_space.proofs.space.SpacePaged.map_pages.Goals as goal
 
@@ -20,3 +22,13 @@ returns-clause-answer c =
     let s = c.args.self.now in
     let left : pages_left (memory_of s) ≡ s.limit - c.len.result = pages_left-space s.pool.now s.table.now s.limit s.state.now s.space.table.len_is ∙ sym (ap (λ k. s.limit - k) c.len.ensures) in
     ((λ h. omega (arith, left, c.if-count-self.false)), (λ h. refl))
+
+pub invariant_of-self-2 : goal.invariant_of-self-2
+invariant_of-self-2 c =
+    let s = c.args.self.now in
+    record {
+      space = c.map_range.ensures.space;
+      cached = c.map_range.ensures.cached s.asid s.tlb.now s.cached;
+      places_are = places_on (pages_of s.pool.now s.table.now.frame) _ s.places c.map_range.ensures.cached s.places_are;
+      code_is = place_on (pages_of s.pool.now s.table.now.frame) _ c.map_range.ensures.cached s.code s.code_is;
+    }

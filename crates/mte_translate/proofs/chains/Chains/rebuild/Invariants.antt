@@ -4,4 +4,4 @@ use Rattle.mte_translate.proofs.chains.Chains.rebuild.Given as goal
 
 abbrev pub invariant-loop-place : goal.invariant-loop-place
 invariant-loop-place l =
-    IsChained l.self.heads l.self.gaps (hashes_of (take l.place l.translations))
+    IsChained 0 l.self.heads l.self.gaps (hashes_of (take l.place l.translations))

@@ -1,14 +1,14 @@
 use Rattle.std.proofs.Common.{◌∙◌, ap, inl, inr, slice_index, arith}
 use Rattle.std.proofs.lemmas.List.{get_or_past}
 use Rattle.std.proofs.lemmas.Bool.{cases_lt}
-use Rattle.mte_translate.proofs.ChainLemmas.{chained-drop}
-use Rattle.mte_translate.proofs.chains.Chains.drop_oldest.Goals as goal
+use Rattle.mte_translate.proofs.ChainLemmas.{chained-front}
+use Rattle.mte_translate.proofs.chains.Chains.move_to_front.Goals as goal
 
 pub returns : goal.returns
 returns c = λ hs few chained.
-    chained-drop _ _ hs _ _ chained few
+    chained-front c.args.first _ _ hs _ _ chained
     (λ j below.
-    c.copy_within.ensures.by_index.0 j 0 (omega arith) (omega (arith, below, c.copy_within.ensures.len, c.loop-head-test.array_long.1)) ∙ ap (slice_index c.args.self.now.gaps) (omega arith))
+    c.copy_within.ensures.by_index.0 j 0 (omega arith) (omega (arith, below, few, c.copy_within.ensures.len, c.loop-head-test.array_long.1)) ∙ ap (slice_index c.args.self.now.gaps) (omega arith))
     (λ k. elim (cases_lt k c.loop-head.head-index) [
       | inl below ↦ c.loop-head.invariant.done k below
       | inr above ↦
