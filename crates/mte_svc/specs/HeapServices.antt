@@ -5,7 +5,7 @@ use Rattle.mte_tags.specs.Memory.{Memory}
 use Rattle.scudo_heap.specs.declared.abort.HeapAbort.{HeapAbort}
 use Rattle.scudo_heap.specs.Placing.{World, world_of}
 use Rattle.scudo_heap.specs.Allocation.{Made, answer_of, malloc_of, calloc_of, memalign_of}
-use Rattle.scudo_heap.specs.Freeing.{Freed, free_of, usable_size_of}
+use Rattle.scudo_heap.specs.Freeing.{free_of, usable_size_of}
 use Rattle.scudo_heap.specs.Realloc.{Reallocated, realloc_of, answered}
 use Rattle.mte_svc.specs.declared.calls.HeapService.{HeapService}
 use Rattle.mte_svc.specs.declared.calls.HeapService.TheVariants.{Malloc, Free, Calloc, Realloc}

@@ -1,5 +1,5 @@
 -- What a tenant has written, and how much more it may write.
-use Rattle.std.specs.Prelude.{ℕ, ◌-◌, ◌≤◌, List, take, length, refl}
+use Rattle.std.specs.Prelude.{ℕ, ◌-◌, ◌≤◌, List, vec_len, vec_capacity, refl}
 use Rattle.std.specs.Coded.{Coded, code_by, coded×, coded_ℕ, coded_list}
 use Rattle.mte_svc.specs.declared.output.Output.TheInside.{Inside}
 
@@ -13,9 +13,10 @@ coded_written = code_by (List ℕ × ℕ) (coded× (coded_list coded_ℕ) coded_
 
 abbrev pub written_of : Inside → Written
 written_of o = record {
-  bytes = take o.written o.bytes.items;
-  left = length o.bytes.items - o.written;
+  bytes = o.bytes.items;
+  left = o.room - vec_len o.bytes;
 }
 
-abbrev pub IsWithin : Inside → Type 0
-IsWithin o = o.written ≤ length o.bytes.items
+pub record IsWithin (o : Inside) : Type 0 where
+  pub written : vec_len o.bytes ≤ o.room
+  pub room : o.room ≤ vec_capacity o.bytes

@@ -1,5 +1,5 @@
 -- The services, by x8.
-use Rattle.std.specs.Prelude.{ℕ, ◌+◌, ◌-◌, ◌%◌, ◌^◌, ◌==◌, min, List, ◌++◌, length, take, drop}
+use Rattle.std.specs.Prelude.{ℕ, ◌-◌, ◌%◌, ◌^◌, ◌==◌, min, List, ◌++◌, length, take, drop}
 use Rattle.std.specs.Prelude.{true, Option, Some, None, if◌then◌else◌}
 use Rattle.mte_tags.specs.declared.fault.MemFault.{MemFault}
 use Rattle.mte_tags.specs.Memory.{Memory, pages_left}

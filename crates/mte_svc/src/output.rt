@@ -11,8 +11,10 @@ use std::marker::Model;
 /// What a tenant has written, and the room that is left for more.
 #[derive(Drop)]
 pub struct Output {
+    /// What was written, in memory for `room` bytes. No other byte is made, so a tenant that
+    /// stops has nothing more to give back.
     bytes: Vec<u8>,
-    written: usize,
+    room: usize,
 }
 
 impl Model for Output {
@@ -32,22 +34,23 @@ impl Output {
     pub fn new(alloc: Global, room: u32) -> Result<Output, AllocError>
         ensures { IfOk result (λ output. output ≡ record { bytes = []; left = room }) }
     {
-        let bytes = vec![in alloc; 0; room as usize]?;
-        Ok(Output { bytes, written: 0 })
+        let room = room as usize;
+        let bytes = Vec::with_capacity(alloc, room)?;
+        Ok(Output { bytes, room })
     }
 
     /// How many more bytes may be written.
     pub fn left(&self) -> u64
         ensures { result ≡ self.now.left }
     {
-        (self.bytes.len() - self.written) as u64
+        (self.room - self.bytes.len()) as u64
     }
 
     /// What was written.
     pub fn as_slice(&self) -> &[u8]
         ensures { result.now ≡ self.now.bytes }
     {
-        &self.bytes[..self.written]
+        self.bytes.as_slice()
     }
 
     /// Appends the bytes at an address by one checked read, or none where it fails.
@@ -70,9 +73,15 @@ impl Output {
             else M.memory memory.old) }
         ensures kept { M.kept memory.old memory.new }
     {
-        let end = self.written + count as usize;
-        memory.read(addr, &mut self.bytes[self.written..end], true)?;
-        self.written = end;
-        Ok(())
+        let start = self.bytes.len();
+        // There is memory for them, so this takes none.
+        if self.bytes.resize(start + count as usize, 0).is_err() {
+            unreachable!()
+        }
+        let read = memory.read(addr, &mut self.bytes[start..], true);
+        if read.is_err() {
+            self.bytes.truncate(start);
+        }
+        read
     }
 }

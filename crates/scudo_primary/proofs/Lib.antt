@@ -4,6 +4,7 @@ pub mod TableLemmas
 pub mod LinkLemmas
 pub mod ModelLemmas
 pub mod NewLemmas
+pub mod FillLemmas
 pub mod CutLemmas
 pub mod CarveLemmas
 pub mod WidenLemmas

@@ -2,7 +2,7 @@
 use Rattle.std.proofs.Common.{◌≡◌, ℕ, ◌-◌, ◌*◌, ◌≤◌, List, [], length, map, get_or, replicate, sym, ap, subst, ◌∙◌, arith}
 use Rattle.std.proofs.lemmas.List.{get_or-replicate, length-replicate}
 use Rattle.std.proofs.Math.Nat.{zero-div}
-use Rattle.std.specs.Prelude.{vec_len}
+use Rattle.std.specs.Prelude.{vec_capacity}
 use Rattle.std.specs.List.{range_with_len, IsDistinct}
 use Rattle.scudo_header.specs.Classes.{size_of}
 use Rattle.scudo_header.specs.declared.classes.TheConstants.{CLASSES}
@@ -30,7 +30,7 @@ list-empty : (ks : List ClassList) (c : ℕ) → ks ≡ replicate CLASSES no_lis
 unfolding list_at
 list-empty ks c e h = let a = h.low in let b = h.high in ap (λ t. get_or t (c - 1) no_list) e ∙ get_or-replicate CLASSES (c - 1) no_list no_list (omega arith)
 
-pub new-invariant : (f : Inside) (n : ℕ) → f.lists ≡ replicate CLASSES no_list → f.used ≡ 0 → f.limit ≡ n → n ≤ MAX_PAGES → vec_len f.entries ≡ 128 * n → vec_len f.numbers ≡ CLASSES * n → IsPool f
+pub new-invariant : (f : Inside) (n : ℕ) → f.lists ≡ replicate CLASSES no_list → f.used ≡ 0 → f.limit ≡ n → n ≤ MAX_PAGES → 128 * n ≤ vec_capacity f.entries → CLASSES * n ≤ vec_capacity f.numbers → IsPool f
 new-invariant f n e u l m le ln =
     let none : (c : ℕ) → IsClass c → (list_at f.lists c).pages ≡ 0 = λ c h. ap (λ (k : ClassList). k.pages) (list-empty f.lists c e h) in
     record {
@@ -48,8 +48,8 @@ new-invariant f n e u l m le ln =
       few = λ c h. let z = none c h in omega arith;
       below = omega arith;
       most = omega arith;
-      room = le ∙ ap (λ t. 128 * t) (sym l);
-      slots = ln ∙ ap (λ t. CLASSES * t) (sym l);
+      room = subst (λ t. 128 * t ≤ vec_capacity f.entries) (sym l) le;
+      slots = subst (λ t. CLASSES * t ≤ vec_capacity f.numbers) (sym l) ln;
     }
 
 pub new-view : (f : Inside) (n : ℕ) → f.lists ≡ replicate CLASSES no_list → f.used ≡ 0 → f.limit ≡ n → pool_in f ≡ empty_pool n (capacities_in f)

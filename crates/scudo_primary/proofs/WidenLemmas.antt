@@ -3,8 +3,10 @@ use Rattle.std.proofs.Common.{◌≡◌, ◌≢◌, ℕ, ◌+◌, ◌-◌, ◌*�
 use Rattle.std.proofs.lemmas.Bool.{cases_eq, cases_lt}
 use Rattle.std.proofs.lemmas.List.{length-set, with_items_is}
 use Rattle.std.proofs.lemmas.List.FromFn.{take-map-range_with_len}
-use Rattle.std.specs.Prelude.{vec_len}
+use Rattle.std.specs.Prelude.{vec_len, vec_capacity}
 use Rattle.std.specs.Vec.{with_items}
+use Rattle.std.specs.declared.vec.Vec.{Vec}
+use Rattle.std.specs.declared.alloc.Global.{Global}
 use Rattle.scudo_header.specs.Classes.{size_of}
 use Rattle.scudo_header.specs.Regions.{region_of}
 use Rattle.scudo_header.specs.declared.classes.TheConstants.{CLASSES}
@@ -12,24 +14,18 @@ use Rattle.address_map.specs.declared.limits.TheConstants.{PAGE_SIZE, MAX_PAGES}
 use Rattle.scudo_primary.specs.Blocks.{carved_count, block_at, number_of, blocks_from, IsBlock}
 use Rattle.scudo_primary.specs.Batches.{batch_sizes}
 use Rattle.scudo_primary.specs.Pools.{ClassState, PoolState, class_at, with_class, with_pages, carve_in, new_count}
-use Rattle.scudo_primary.specs.Lists.{IsClass, Each, page_number, no_entry, entry_at, list_at, free_in, marks_in, class_in, link_new_in, state_of, capacities_in, pool_in, IsNumbered, IsLinked, IsTable, IsPool, Became}
+use Rattle.scudo_primary.specs.Lists.{IsClass, Each, page_number, no_entry, entry_at, list_at, free_in, marks_in, class_in, link_new_in, state_of, capacities_in, pool_in, IsNumbered, IsNumberedOn, IsFilledUp, IsLinked, IsTable, IsPool, Became}
 use Rattle.scudo_primary.specs.declared.lists.Entry.{Entry}
 use Rattle.scudo_primary.specs.declared.lists.ClassList.{ClassList}
 use Rattle.scudo_primary.specs.declared.pool.Pool.TheInside.{Inside}
 use Rattle.scudo_primary.proofs.BlockLemmas.{block-IsCell, IsBlock-more, carved_count-≤}
 use Rattle.scudo_primary.proofs.ListLemmas.{Each-map}
 use Rattle.scudo_primary.proofs.TableLemmas.{class-kept, list-same, list-other}
+use Rattle.scudo_primary.proofs.FillLemmas.{filled, filled-pool, filled-view}
 use Rattle.scudo_primary.proofs.ModelLemmas.{pool_by-with_class, class_at-state, table-same}
 
 abbrev pub wide : ClassList → ℕ → ClassList
 wide k pages = record { head = k.head; count = k.count; pages = k.pages + pages }
-
--- the numbers after a class got pages
-pub record IsNumberedOn (ns ns' : List ℕ) (c from pages first : ℕ) : Type 0 where
-  pub len : length ns' ≡ length ns
-  pub numbered : (i : ℕ) → i < pages → page_number ns' c (from + i) ≡ first + i
-  pub before : (i : ℕ) → i < from → page_number ns' c i ≡ page_number ns c i
-  pub others : (d i : ℕ) → IsClass d → d ≢ c → page_number ns' d i ≡ page_number ns d i
 
 -- what is asked of the pool's numbers
 pub record IsRoomy (ns : List ℕ) (ks : List ClassList) (entries c pages used limit : ℕ) : Type 0 where
@@ -38,8 +34,8 @@ pub record IsRoomy (ns : List ℕ) (ks : List ClassList) (entries c pages used l
   pub few : (d : ℕ) → IsClass d → (list_at ks d).pages ≤ used
   pub below : used + pages ≤ limit
   pub most : limit ≤ MAX_PAGES
-  pub room : entries ≡ 128 * limit
-  pub slots : length ns ≡ CLASSES * limit
+  pub room : 128 * (used + pages) ≤ entries
+  pub slots : CLASSES * ((list_at ks c).pages + pages) ≤ length ns
 
 pub wide-list : (ks : List ClassList) (c pages : ℕ) → length ks ≡ CLASSES → IsClass c → list_at (set ks (c - 1) (wide (list_at ks c) pages)) c ≡ wide (list_at ks c) pages
 wide-list ks c pages l h = list-same ks c (wide (list_at ks c) pages) h l
@@ -168,9 +164,14 @@ inside_carved f es ns ks used = record { entries = with_items f.entries es; numb
 
 -- ---- the pool
 
-pub roomy : (f : Inside) (v : PoolState) (es : List Entry) (ns : List ℕ) (c pages : ℕ) → pool_in f ≡ v → IsPool f → IsClass c → pages ≤ v.left → length es ≡ vec_len f.entries → ns ≡ f.numbers.items → length ns ≡ vec_len f.numbers
+-- the lists are as long as the pages to come want
+pub record IsLong (f : Inside) (c pages : ℕ) : Type 0 where
+  pub entries : 128 * (f.used + pages) ≤ vec_len f.entries
+  pub numbers : CLASSES * ((list_at f.lists c).pages + pages) ≤ vec_len f.numbers
+
+pub roomy : (f : Inside) (v : PoolState) (es : List Entry) (ns : List ℕ) (c pages : ℕ) → pool_in f ≡ v → IsPool f → IsClass c → pages ≤ v.left → IsLong f c pages → length es ≡ vec_len f.entries → ns ≡ f.numbers.items → length ns ≡ vec_len f.numbers
     → IsRoomy ns f.lists (length es) c pages f.used f.limit
-roomy f v es ns c pages e h hc l le en ln =
+roomy f v es ns c pages e h hc l long le en ln =
     let left : f.limit - f.used ≡ v.left = ap (λ (p : PoolState). p.left) e in
     let b = h.below in
     record {
@@ -179,8 +180,8 @@ roomy f v es ns c pages e h hc l le en ln =
       few = h.few;
       below = omega arith;
       most = h.most;
-      room = le ∙ h.room;
-      slots = ln ∙ h.slots;
+      room = (let q = long.entries in omega arith);
+      slots = (let q = long.numbers in omega arith);
     }
 
 -- everything that stands before the new blocks are put on the list
@@ -192,18 +193,26 @@ pub record IsReady (f : Inside) (v : PoolState) (es : List Entry) (ns ns' ns2 : 
   pub same : (with_items f.numbers ns').items ≡ ns2
   pub entries : length es ≡ vec_len f.entries
 
-pub ready : (f : Inside) (v : PoolState) (es : List Entry) (ns ns' ns2 : List ℕ) (c pages : ℕ) → pool_in f ≡ v → IsPool f → IsClass c → pages ≤ v.left → es ≡ f.entries.items → length es ≡ vec_len f.entries
+pub ready : (f : Inside) (v : PoolState) (es : List Entry) (ns ns' ns2 : List ℕ) (c pages : ℕ) → pool_in f ≡ v → IsPool f → IsClass c → pages ≤ v.left → IsLong f c pages → es ≡ f.entries.items → length es ≡ vec_len f.entries
     → ns ≡ f.numbers.items → length ns ≡ vec_len f.numbers → ns2 ≡ (with_items f.numbers ns').items → IsNumberedOn ns ns' c (list_at f.lists c).pages pages f.used → IsReady f v es ns ns' ns2 c pages
-ready f v es ns ns' ns2 c pages e h hc l ee le en ln e2 m =
+ready f v es ns ns' ns2 c pages e h hc l long ee le en ln e2 m =
     let is : ns2 ≡ ns' = e2 ∙ with_items_is f.numbers ns' (m.len ∙ ln) in
     record {
-      roomy = roomy f v es ns c pages e h hc l le en ln;
+      roomy = roomy f v es ns c pages e h hc l long le en ln;
       table = table-same f es ns h ee en;
       state = ap (λ t. state_of (f.limit - f.used) (capacities_in f) t ns f.lists) ee ∙ ap (λ t. state_of (f.limit - f.used) (capacities_in f) f.entries.items t f.lists) en ∙ e;
       numbered = subst (λ t. IsNumberedOn ns t c (list_at f.lists c).pages pages f.used) (sym is) m;
       same = sym e2;
       entries = le;
     }
+
+-- the same, once the pool's lists were filled up
+pub filled-ready : (f : Inside) (v : PoolState) (entries : Vec Entry Global) (numbers : Vec ℕ Global) (es : List Entry) (ns ns' ns2 : List ℕ) (c pages : ℕ) → pool_in f ≡ v → IsPool f → IsClass c → pages ≤ v.left
+    → IsFilledUp f.entries entries (128 * (f.used + pages)) no_entry → IsFilledUp f.numbers numbers (CLASSES * ((list_at f.lists c).pages + pages)) 0 → es ≡ entries.items → length es ≡ vec_len entries
+    → ns ≡ numbers.items → length ns ≡ vec_len numbers → ns2 ≡ (with_items numbers ns').items → IsNumberedOn ns ns' c (list_at f.lists c).pages pages f.used → IsReady (filled f entries numbers) v es ns ns' ns2 c pages
+filled-ready f v entries numbers es ns ns' ns2 c pages e h hc l fe fn ee le en ln e2 m =
+    let long : IsLong (filled f entries numbers) c pages = record { entries = fe.long; numbers = fn.long } in
+    ready (filled f entries numbers) v es ns ns' ns2 c pages (filled-view f entries numbers _ _ fe fn h v e) (filled-pool f entries numbers _ _ fe fn h) hc l long ee le en ln e2 m
 
 pub ready-wide : (f : Inside) (v : PoolState) (es : List Entry) (ns ns' ns2 : List ℕ) (c pages : ℕ) → IsReady f v es ns ns' ns2 c pages → IsWide es ns ns2 f.lists c pages
 ready-wide f v es ns ns' ns2 c pages r = widened es ns ns2 f.lists c pages f.used f.limit r.table r.roomy r.numbered
@@ -283,7 +292,7 @@ carve-view f v es es' ns ns' ns2 ks'' c pages r b =
 
 pub record CarveBounds (f : Inside) (c pages : ℕ) : Type 0 where
   pub fits : (list_at f.lists c).pages + pages ≤ f.limit
-  pub slots : vec_len f.numbers ≡ CLASSES * f.limit
+  pub slots : CLASSES * f.limit ≤ vec_capacity f.numbers
   pub limit : f.limit ≤ MAX_PAGES
 
 pub carve-bounds : (f : Inside) (v : PoolState) (c pages : ℕ) → pool_in f ≡ v → IsPool f → IsClass c → pages ≤ v.left → CarveBounds f c pages

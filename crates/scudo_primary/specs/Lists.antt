@@ -5,6 +5,7 @@ use Rattle.std.specs.Prelude.{◌≡◌, ◌≢◌, ℕ, zero, suc, ◌==◌, �
 use Rattle.std.specs.Prelude.{Bool, true, false, nat_eq, List, [], ◌∷◌, ◌++◌, length, map, take}
 use Rattle.std.specs.Prelude.{replicate, slice_index, slice_index_or, slice_set, vec_len}
 use Rattle.std.specs.Prelude.{vec_capacity}
+use Rattle.std.specs.declared.vec.Vec.{Vec}
 use Rattle.std.specs.List.{range_with_len, IsDistinct}
 use Rattle.scudo_header.specs.Regions.{region_of}
 use Rattle.scudo_header.specs.declared.classes.TheConstants.{CLASSES}
@@ -167,8 +168,24 @@ pub record IsPool (f : Inside) : Type 0 where
   pub few : (c : ℕ) → IsClass c → (list_at f.lists c).pages ≤ f.used
   pub below : f.used ≤ f.limit
   pub most : f.limit ≤ MAX_PAGES
-  pub room : vec_len f.entries ≡ 128 * f.limit
-  pub slots : vec_len f.numbers ≡ CLASSES * f.limit
+  -- there is memory for what pages that are still to be carved want
+  pub room : 128 * f.limit ≤ vec_capacity f.entries
+  pub slots : CLASSES * f.limit ≤ vec_capacity f.numbers
+
+-- A list that got values at its end, up to n elements or more, in the memory that it had: what is
+-- read past an end is that value, so nothing reads otherwise.
+pub record IsFilledUp {X Z : Type 0} (old new : Vec X Z) (n : ℕ) (value : X) : Type 0 where
+  pub same : (i : ℕ) → slice_index_or new.items i value ≡ slice_index_or old.items i value
+  pub longer : vec_len old ≤ vec_len new
+  pub long : n ≤ vec_len new
+  pub capacity : vec_capacity new ≡ vec_capacity old
+
+-- the numbers after the pages of class c from one on got those from first on
+pub record IsNumberedOn (ns ns' : List ℕ) (c from pages first : ℕ) : Type 0 where
+  pub len : length ns' ≡ length ns
+  pub numbered : (i : ℕ) → i < pages → page_number ns' c (from + i) ≡ first + i
+  pub before : (i : ℕ) → i < from → page_number ns' c i ≡ page_number ns c i
+  pub others : (d i : ℕ) → IsClass d → d ≢ c → page_number ns' d i ≡ page_number ns d i
 
 -- a call changed the class c to k, and no other class
 pub record Became (es :

@@ -2,7 +2,7 @@
 
 ghost use Rattle.std.specs.Prelude.{◌≡◌, ◌≤◌, ◌≢◌, ◌<◌, ◌+◌, ◌-◌, ◌*◌, ◌/◌, ◌++◌, ℕ, Some, false};
 ghost use Rattle.std.specs.Prelude.{length, drop, slice_get, slice_set, nat_eq, nat_lt, not, ◌&&◌};
-ghost use Rattle.std.specs.Prelude.{◌^◌};
+ghost use Rattle.std.specs.Prelude.{◌^◌, vec_capacity};
 ghost use Rattle.std.specs.List.{All, IsDistinct};
 ghost use Rattle.scudo_header.specs.Regions.{region_of};
 ghost use Rattle.scudo_primary.specs.Blocks.{IsBlock, carved_count, number_of};
@@ -37,7 +37,7 @@ pub(crate) struct ClassList {
 
 ghost use Rattle.scudo_primary.specs.Lists.{IsClass, IsTable, Became, Each, joined, is_last_at};
 ghost use Rattle.scudo_primary.specs.Lists.{list_at, entry_at, state_in, link_in, link_new_in};
-ghost use Rattle.scudo_primary.specs.Lists.{place_of, slot_of, page_number};
+ghost use Rattle.scudo_primary.specs.Lists.{IsFilledUp, IsNumberedOn, place_of, slot_of};
 
 /// The first address of a class's region.
 #[inline(always)]
@@ -231,18 +231,22 @@ pub(crate) fn link_batch(
     }
 }
 
+/// Makes a list at least `count` long by values at its end. It has memory for so many.
+pub(crate) fn fill_up<T: Copy>(list: &mut Vec<T>, count: usize, value: T)
+    requires { count ≤ vec_capacity list.old }
+    ensures { IsFilledUp list.old list.new count value }
+{
+    while list.len() < count {
+        list.push_reserved(value);
+    }
+}
+
 /// Gives the pages of a class's region from one on the numbers from `first` on.
 pub(crate) fn number_pages(numbers: &mut [u16], class: u8, from: u64, pages: u64, first: u64)
     requires class { IsClass class }
     requires slots { CLASSES * (from + pages) ≤ length numbers.old }
     requires numbers { first + pages < 2 ^ 16 }
-    ensures numbered { (i : ℕ)
-        → i < pages → page_number numbers.new class (from + i) ≡ first + i }
-    ensures before { (i : ℕ)
-        → i < from → page_number numbers.new class i ≡ page_number numbers.old class i }
-    ensures others { (other i : ℕ)
-        → IsClass other
-        → other ≢ class → page_number numbers.new other i ≡ page_number numbers.old other i }
+    ensures { IsNumberedOn numbers.old numbers.new class from pages first }
 {
     for i in 0..pages {
         numbers[slot(class, from + i)] = (first + i) as u16;

@@ -13,8 +13,8 @@ ghost use Rattle.scudo_primary.specs.Pools.{with_pages};
 
 use crate::batches::MAX_COUNT;
 use crate::lists::{
-    ClassList, Entry, LISTS, link, link_batch, link_new, number_pages, place, region_start,
-    set_mark, unlink, unlink_batch,
+    ClassList, Entry, LISTS, fill_up, link, link_batch, link_new, number_pages, place,
+    region_start, set_mark, unlink, unlink_batch,
 };
 use address_map::{MAX_PAGES, PAGE_SIZE};
 use scudo_header::{CLASSES, size_of_class};
@@ -22,13 +22,15 @@ use std::alloc::{AllocError, Global};
 use std::marker::Model;
 
 /// For each size class the pages of its region that are carved into blocks, one stack of free
-/// blocks, and a mark for each carved block that says whether it is free. After `new` nothing
-/// allocates: no call changes for how many elements the pool's lists have memory.
+/// blocks, and a mark for each carved block that says whether it is free. `new` reserves the pool's
+/// memory and writes none of it; what a page needs is written where it is carved. After `new`
+/// nothing allocates: no call changes for how many elements the pool's lists have memory.
 #[derive(Drop)]
 pub struct Pool {
-    /// 128 for each page, one for each 32 bytes.
+    /// 128 for each carved page, one for each 32 bytes, in memory for `limit` pages.
     entries: Vec<Entry>,
-    /// For each page of a region and each class the number of that page among all carved ones.
+    /// For each page of a region and each class the number of that page among all carved ones, as
+    /// far as any class has pages, in memory for `limit` pages.
     numbers: Vec<u16>,
     lists: [ClassList; LISTS],
     used: u64,
@@ -56,18 +58,13 @@ impl Pool {
         requires high { pages ≤ MAX_PAGES }
         ensures { IfOk result (λ pool. pool ≡ empty_pool pages pool.capacities) }
     {
-        let no_entry = Entry {
-            next: 0,
-            free: false,
-            last: false,
-        };
         let no_list = ClassList {
             head: 0,
             count: 0,
             pages: 0,
         };
-        let entries = vec![in alloc; no_entry; 128 * pages as usize]?;
-        let numbers = vec![in alloc; 0; LISTS * pages as usize]?;
+        let entries = Vec::with_capacity(alloc, 128 * pages as usize)?;
+        let numbers = Vec::with_capacity(alloc, LISTS * pages as usize)?;
         Ok(Pool {
             entries,
             numbers,
@@ -87,9 +84,18 @@ impl Pool {
         ensures { self.new ≡ with_pages self.old class pages }
     {
         let list = self.lists[class as usize - 1];
+        let own = list.pages + pages;
+        let used = self.used + pages;
+        let no_entry = Entry {
+            next: 0,
+            free: false,
+            last: false,
+        };
+        fill_up(&mut self.entries, 128 * used as usize, no_entry);
+        fill_up(&mut self.numbers, LISTS * own as usize, 0);
         number_pages(&mut self.numbers, class, list.pages, pages, self.used);
-        self.used += pages;
-        self.lists[class as usize - 1].pages = list.pages + pages;
+        self.used = used;
+        self.lists[class as usize - 1].pages = own;
         let size = size_of_class(class);
         link_new(
             &mut self.entries,
@@ -97,7 +103,7 @@ impl Pool {
             &mut self.lists,
             class,
             PAGE_SIZE * list.pages / size,
-            PAGE_SIZE * (list.pages + pages) / size,
+            PAGE_SIZE * own / size,
         );
     }
 

@@ -1,12 +1,10 @@
-use Rattle.std.proofs.Common.{◌≡◌, ◌∙◌, sym, ap, subst, Ok, Err, rules, arith}
+use Rattle.std.proofs.Common.{◌∙◌, sym, ap}
 use Rattle.scudo_heap.specs.Placing.{world_of}
-use Rattle.scudo_heap.specs.Allocation.{malloc_of, calloc_of, memalign_of}
-use Rattle.scudo_heap.specs.Freeing.{free_of, usable_size_of}
-use Rattle.mte_svc.specs.declared.calls.HeapService.TheVariants.{Malloc, Free, Calloc, Memalign, UsableSize}
+use Rattle.mte_svc.specs.declared.calls.HeapService.TheVariants.{UsableSize}
 use Rattle.mte_svc.specs.declared.services.SvcEnd.TheVariants.{Abort}
 use Rattle.mte_svc.specs.Results.{x_of}
-use Rattle.mte_svc.specs.HeapServices.{world_in, malloc_by, calloc_by, memalign_by, free_by, freed_by, usable_size_by, found_by}
-use Rattle.mte_svc.proofs.CallLemmas.{made_from, called_from, free_stays, aborted_from}
+use Rattle.mte_svc.specs.HeapServices.{world_in, usable_size_by, found_by}
+use Rattle.mte_svc.proofs.CallLemmas.{called_from, aborted_from}
 use Rattle.mte_svc.proofs.heap_services.usable_size.Goals as goal
 
 pub returns-in-Ok-clause-served : goal.returns-in-Ok-clause-served

@@ -1,4 +1,4 @@
-use Rattle.std.proofs.Common.{◌≡◌, ◌∙◌, ap, true}
+use Rattle.std.proofs.Common.{◌∙◌, ap, true}
 use Rattle.mte_tags.specs.Memory.{attrs_at, pages_left}
 use Rattle.mte_svc.proofs.PageLemmas.{attrs-after_write, left-after_write}
 use Rattle.mte_svc.proofs.services.read.Goals as goal

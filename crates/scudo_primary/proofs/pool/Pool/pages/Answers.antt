@@ -1,7 +1,7 @@
-use Rattle.std.proofs.Common.{◌≤◌, ◌+◌, ◌-◌, ◌≡◌, arith, ap, sym, ◌∙◌}
+use Rattle.std.proofs.Common.{◌-◌, ◌≡◌, arith, ap, sym}
 use Rattle.scudo_primary.specs.Pools.{PoolState}
 use Rattle.scudo_primary.specs.Lists.{list_at}
-use Rattle.scudo_primary.proofs.ModelLemmas.{pages-few, pages-value}
+use Rattle.scudo_primary.proofs.ModelLemmas.{pages-value}
 use Rattle.scudo_primary.proofs.pool.Pool.pages.Goals as goal
 
 pub returns-clause-pages : goal.returns-clause-pages
