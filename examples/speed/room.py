@@ -9,7 +9,7 @@ For each built mte_host, one line a figure:
   pages and room for 65536 bytes that wrote two, each admitted, run to its end and stopped before the next;
 - admission: host instructions of an admission and its stop, by pages of the reservation, and of the one that comes
   after 4,000 others;
-- slice: those of a slice of one step, by the number of live tenants that have it in turns;
+- slice: those of a slice of one step, by the number of live, running tenants that have it in turns;
 - loads: those of a round of two loads from two pages, of different hashes in the lookaside buffer or of one, with few
   or with 64 other translations;
 - refusals: how often a session with 10 and with 10,000 refused events allocates.
@@ -32,6 +32,7 @@ from build_image import image  # noqa: E402
 HI = HERE.parent / "hi.elf"
 ROUNDS = 20_000
 STEPS_A_ROUND = 6
+BRANCH_TO_ITSELF = 0x14000000
 CODE, FIRST, OTHERS = 0x10000, 0x14000, 0x800000
 # Page numbers with the sums 20 and 20 + 3 + 1 of their digits to the base 256 and 1024: one hash, and two.
 SAME_HASH, OTHER_HASH = 0x413000, 0x415000
@@ -100,12 +101,12 @@ def admission_costs(sessions):
 
 
 def slice_costs(sessions):
+    path = sessions.folder / "loop"
+    path.write_bytes(image([BRANCH_TO_ITSELF]))
     for live in (1, 64, 255):
         start = "".join(admit(i, 6) for i in range(1, live + 1))
-        costs = [
-            sessions.instructions(start + "".join(f"slice {1 + i % live} 1\n" for i in range(slices)), 13 * live)
-            for slices in (1020, 3060)
-        ]
+        turns = ["".join(f"slice {1 + i % live} 1\n" for i in range(slices)) for slices in (1020, 3060)]
+        costs = [sessions.instructions(start + slices, 13 * live, path) for slices in turns]
         yield f"{live} live in turns", f"{(costs[1] - costs[0]) / 2040:.0f} instructions"
 
 
