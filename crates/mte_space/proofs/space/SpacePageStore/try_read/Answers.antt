@@ -1,5 +1,4 @@
 use Rattle.std.proofs.Common.{◌/◌, sym, Some}
-use Rattle.mte_translate.specs.Tables.{pages_of}
 use Rattle.mte_space.specs.SpaceMemory.{memory_of}
 use Rattle.mte_space.proofs.SpaceSteps.{found_taken, page_found}
 use Rattle.mte_space.proofs.space.SpacePageStore.try_read.Goals as goal
