@@ -111,6 +111,7 @@ fn turn_to(
 }
 
 /// The same where the place is that of another page.
+#[cold]
 #[inline(never)]
 fn look_up(
     place: &mut Place,
