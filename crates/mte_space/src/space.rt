@@ -10,8 +10,8 @@ use crate::accesses::{
     fault_of_run, fetch_word, read_run, retag_run, tag_of_granule, try_read, try_write, write_run,
 };
 use crate::mapping::{map_range, unmap_range};
-use crate::places::{PLACES, Place, find_place, no_places, no_place};
-use crate::translation::{translate, translate_code};
+use crate::places::{PLACES, Place, no_place, no_places};
+use crate::translation::{translate, translate_at, translate_data};
 use a64_bits::plain;
 use mte_frames::{FramePool, Quota};
 use mte_tags::{Access, Attrs, MemFault, NoQuota, PageStore, Paged, TagState, replace_bytes};
@@ -105,7 +105,7 @@ impl PageStore for Space<'_> {
     #[inline(always)]
     fn fetch_aligned(&mut self, pc: u64) -> Result<u32, MemFault> {
         let page = plain(pc) / 4096;
-        let found = translate_code(
+        let found = translate_at(
             &mut self.code,
             self.pool,
             self.table,
@@ -118,7 +118,15 @@ impl PageStore for Space<'_> {
 
     #[inline(always)]
     fn try_read(&mut self, at: u64, buffer: &mut [u8], access: &Access) -> bool {
-        match find_place(&mut self.places, self.tlb, self.asid, at / 4096) {
+        let found = translate_data(
+            &mut self.places,
+            self.pool,
+            self.table,
+            self.tlb,
+            self.asid,
+            at / 4096,
+        );
+        match found {
             Some((frame, attrs)) => try_read(self.pool, frame, attrs, at, buffer, access),
             None => false,
         }
@@ -136,7 +144,15 @@ impl PageStore for Space<'_> {
 
     #[inline(always)]
     fn try_write(&mut self, at: u64, bytes: &[u8], access: &Access) -> bool {
-        match find_place(&mut self.places, self.tlb, self.asid, at / 4096) {
+        let found = translate_data(
+            &mut self.places,
+            self.pool,
+            self.table,
+            self.tlb,
+            self.asid,
+            at / 4096,
+        );
+        match found {
             Some((frame, attrs)) => try_write(self.pool, frame, attrs, at, bytes, access),
             None => false,
         }

@@ -3,10 +3,10 @@
 ghost use Rattle.std.specs.Prelude.{◌≡◌, ◌<◌, ◌^◌, IsTrue, IsFalse, None};
 ghost use Rattle.std.specs.FinMap.{get};
 ghost use Rattle.mte_translate.specs.Tables.{pages_of, IsSomeTable, IsCached};
-ghost use Rattle.mte_space.specs.Places.{IsPlace};
+ghost use Rattle.mte_space.specs.Places.{IsPlace, ArePlaces};
 ghost use Rattle.mte_space.specs.Spaces.{NoneEnters};
 
-use crate::places::Place;
+use crate::places::{PLACES, Place};
 use mte_frames::FramePool;
 use mte_tags::Attrs;
 use mte_translate::{Table, Tlb, fill_adds_its_own, lookup_returns_what_stands};
@@ -34,9 +34,10 @@ pub(crate) fn translate(
     walk_and_fill(pool, table, tlb, asid, page)
 }
 
-/// The same for a fetch, which first looks at the place of the last one.
+/// The same for a fetch, a read or a write, which first looks at a remembered place, and turns that
+/// to the page where it is mapped.
 #[inline(always)]
-pub(crate) fn translate_code(
+pub(crate) fn translate_at(
     place: &mut Place,
     pool: &FramePool,
     table: &Table,
@@ -53,15 +54,39 @@ pub(crate) fn translate_code(
     ensures place { IsPlace (pages_of pool.now table.now.frame) place.new }
     ensures entries { NoneEnters asid tlb.old tlb.new }
 {
-    if !turn_code_to(place, pool, table, tlb, asid, page) {
+    if !turn_to(place, pool, table, tlb, asid, page) {
         return None;
     }
     Some((place.frame, place.attrs))
 }
 
-/// Turns the place to a page, and says whether that is mapped.
+/// The same for a read or a write: the page has one of the places, which it shares with others.
 #[inline(always)]
-fn turn_code_to(
+pub(crate) fn translate_data(
+    places: &mut [Place; PLACES],
+    pool: &FramePool,
+    table: &Table,
+    tlb: &mut Tlb,
+    asid: usize,
+    page: u64,
+) -> Option<(usize, Attrs)>
+    requires low { page < 2 ^ 44 }
+    requires table { IsSomeTable pool.now table.now }
+    requires cached { IsCached (pages_of pool.now table.now.frame) asid tlb.old }
+    requires places { ArePlaces (pages_of pool.now table.now.frame) places.old }
+    ensures found { result ≡ get (pages_of pool.now table.now.frame) page }
+    ensures cached { IsCached (pages_of pool.now table.now.frame) asid tlb.new }
+    ensures places { ArePlaces (pages_of pool.now table.now.frame) places.new }
+    ensures entries { NoneEnters asid tlb.old tlb.new }
+{
+    let place = &mut places[(page % PLACES as u64) as usize];
+    translate_at(place, pool, table, tlb, asid, page)
+}
+
+/// Turns the place to a page, and says whether that is mapped. (A pair of results from a function
+/// out of line would go through memory, on the quick way too; so the place is read again.)
+#[inline(always)]
+fn turn_to(
     place: &mut Place,
     pool: &FramePool,
     table: &Table,
@@ -82,12 +107,13 @@ fn turn_code_to(
     if place.page == page {
         return true;
     }
-    look_up_code(place, pool, table, tlb, asid, page)
+    look_up(place, pool, table, tlb, asid, page)
 }
 
 /// The same where the place is that of another page.
+#[cold]
 #[inline(never)]
-fn look_up_code(
+fn look_up(
     place: &mut Place,
     pool: &FramePool,
     table: &Table,

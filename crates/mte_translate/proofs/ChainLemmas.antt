@@ -86,8 +86,8 @@ head-cases {place} {end} {old} {new} w = elim (cases_lt (place + 1) old) [
   ]
 ]
 
-gap-cases : {between removed old new : ℕ} → IsGapWithout between removed old new → ((between < old) × (new ≡ old - 1)) ⊎ ((old ≡ between) × (new ≡ min (old + removed) 255)) ⊎ ((old < between) × (new ≡ old))
-gap-cases {between} {removed} {old} {new} w = elim (cases_lt between old) [
+gap-cases : {between older_gap old new : ℕ} → IsGapWithout between older_gap old new → ((between < old) × (new ≡ old - 1)) ⊎ ((old ≡ between) × (new ≡ min (old + older_gap) 255)) ⊎ ((old < between) × (new ≡ old))
+gap-cases {between} {older_gap} {old} {new} w = elim (cases_lt between old) [
   | inl past ↦ inl (past, w.past past)
   | inr least ↦ elim (cases_eq old between) [
     | inl here ↦ inr (inl (here, w.here here))

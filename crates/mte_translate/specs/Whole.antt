@@ -35,4 +35,5 @@ translations_of f = f.translations.items
 
 pub record IsTlb (f : Inside) : Type 0 where
   pub one_each : IsOneEach (translations_of f)
-  pub chained : IsChained f.translations.first f.chains.heads f.chains.gaps (hashes_of (translations_of f))
+  pub chained :
+      IsChained f.translations.first f.chains.heads f.chains.gaps (hashes_of (translations_of f))

@@ -21,9 +21,9 @@ pub record IsHeadWithout (place end old new : ℕ) : Type 0 where
   pub here : old ≡ place + 1 → new ≡ end
   pub below : old ≤ place → new ≡ old
 
--- The same of the gap of a younger translation: between so many stand between it and the one that
--- goes, whose own gap was removed.
-pub record IsGapWithout (between removed old new : ℕ) : Type 0 where
+-- The same of the gap of a younger translation: so many as between stand between it and the one
+-- that goes, whose own gap was older_gap.
+pub record IsGapWithout (between older_gap old new : ℕ) : Type 0 where
   pub past : between < old → new ≡ old - 1
-  pub here : old ≡ between → new ≡ min (old + removed) 255
+  pub here : old ≡ between → new ≡ min (old + older_gap) 255
   pub before : old < between → new ≡ old

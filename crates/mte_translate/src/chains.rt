@@ -88,6 +88,7 @@ impl Chains {
         self.remove_from_gaps(place, end);
     }
 
+    /// Heads that name the place, or a younger one, are mended.
     fn remove_from_heads(&mut self, place: usize)
         requires { place < 128 }
         ensures gaps { self.new.gaps ≡ self.old.gaps }
@@ -101,6 +102,7 @@ impl Chains {
         }
     }
 
+    /// The gaps of the younger ones move down, those mended that lead to the place or across it.
     fn remove_from_gaps(&mut self, place: usize, end: usize)
         requires within { place < end }
         requires most { end ≤ 128 }
@@ -111,10 +113,10 @@ impl Chains {
             → IsGapWithout (i - place) (slice_index self.old.gaps place)
             (slice_index self.old.gaps (i + 1)) (slice_index self.new.gaps i) }
     {
-        let removed = self.gaps[place];
+        let older_gap = self.gaps[place];
         for younger in place + 1..end {
             let between = (younger - place - 1) as u8;
-            self.gaps[younger - 1] = gap_without(between, removed, self.gaps[younger]);
+            self.gaps[younger - 1] = gap_without(between, older_gap, self.gaps[younger]);
         }
     }
 
@@ -147,15 +149,15 @@ fn head_without(place: u8, end: u8, head: u8) -> u8
 }
 
 /// What the gap of a translation is once an older one went, with `between` between the two, whose
-/// gap was `removed`. Where it led to that one, it leads on to the next; 255 is beyond the oldest.
+/// gap was `older_gap`. Where it led to that one, it leads on to the next; 255 is beyond the oldest.
 #[inline]
-fn gap_without(between: u8, removed: u8, gap: u8) -> u8
-    ensures { IsGapWithout between removed gap result }
+fn gap_without(between: u8, older_gap: u8, gap: u8) -> u8
+    ensures { IsGapWithout between older_gap gap result }
 {
     if gap > between {
         gap - 1
     } else if gap == between {
-        gap.saturating_add(removed)
+        gap.saturating_add(older_gap)
     } else {
         gap
     }

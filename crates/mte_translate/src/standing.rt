@@ -29,7 +29,10 @@ impl Model for Standing {
 
     ghost Value = { Window };
 
-    ghost view = { λ s. record { first = s.first; items = take (s.end - s.first) (drop s.first s.places) } };
+    ghost view = { λ s. record {
+      first = s.first;
+      items = take (s.end - s.first) (drop s.first s.places);
+    } };
 
     ghost invariant = { λ s. (s.first ≤ s.end) × (s.end - s.first ≤ 64) × (s.end ≤ 128)
         × (length s.places ≡ 128) };

@@ -3,7 +3,6 @@ use Rattle.mte_translate.specs.Tables.{IsCached, pages_of}
 use Rattle.mte_space.specs.Places.{IsPlace, ArePlaces}
 use Rattle.mte_space.specs.Spaces.{page_of, space_memory, IsSpace, KeepsRest}
 use Rattle.mte_space.specs.SpaceMemory.{memory_of}
-use Rattle.mte_space.specs.KeptSpaces.{none_enters_same}
 use Rattle.mte_space.proofs.PlaceSteps.{place_on, places_on}
 use Rattle.mte_space.proofs.SpaceSteps.{found_taken, found_out, page_found, space_changed, cached_changed, rest_changed, memory_changed}
 use Rattle.mte_arena.specs.Frames.{Frame, make_frame}
@@ -15,23 +14,23 @@ use Rattle.mte_space.proofs.space.SpacePageStore.try_write.Goals as goal
 pub try_write-requires-clause-out : goal.try_write-requires-clause-out
 try_write-requires-clause-out c =
     let s = c.args.self.now in
-    let found = c.in-Some.ensures.found (pages_of s.pool.now s.table.now.frame) s.places_are s.cached in
+    let found = sym c.in-Some.ensures.found in
     found_taken s.pool.now s.quota.now s.table.now s.limit (c.args.at / 4096) (Some (c.in-Some.frame, c.in-Some.attrs)) s.space (sym found)
 
 pub invariant_of-self : goal.invariant_of-self
 invariant_of-self c =
     let s = c.args.self.now in
-    let found = c.in-Some.ensures.found (pages_of s.pool.now s.table.now.frame) s.places_are s.cached in
+    let found = sym c.in-Some.ensures.found in
     let page = page_found s.pool.now s.table.now s.limit s.state.now (c.args.at / 4096) c.in-Some.frame c.in-Some.attrs found in
     let g = λ (x : Frame). make_frame (spliced x.bytes (c.args.at % 4096) c.args.bytes.now) x.tags in
     record {
       space = subst (λ n. IsSpace n s.quota.now s.table.now s.limit) (sym c.try_write.ensures.pool) (space_changed s.pool.now s.quota.now s.table.now s.limit (c.args.at / 4096) g s.space c.try_write.result (Some (c.in-Some.frame, c.in-Some.attrs)) (sym found));
-      cached = subst (λ n. IsCached (pages_of n s.table.now.frame) s.asid s.tlb.now) (sym c.try_write.ensures.pool)
-          (cached_changed s.pool.now s.quota.now s.table.now s.limit (c.args.at / 4096) g s.space c.try_write.result (Some (c.in-Some.frame, c.in-Some.attrs)) (sym found) s.asid s.tlb.now s.cached);
-      places_are = subst (λ n. ArePlaces (pages_of n s.table.now.frame) c.find_place.new.places) (sym c.try_write.ensures.pool)
-          (places_on (pages_of s.pool.now s.table.now.frame) _ c.find_place.new.places
+      cached = subst (λ n. IsCached (pages_of n s.table.now.frame) s.asid c.translate_data-found.new.tlb) (sym c.try_write.ensures.pool)
+          (cached_changed s.pool.now s.quota.now s.table.now s.limit (c.args.at / 4096) g s.space c.try_write.result (Some (c.in-Some.frame, c.in-Some.attrs)) (sym found) s.asid c.translate_data-found.new.tlb c.in-Some.ensures.cached);
+      places_are = subst (λ n. ArePlaces (pages_of n s.table.now.frame) c.translate_data-found.new.places) (sym c.try_write.ensures.pool)
+          (places_on (pages_of s.pool.now s.table.now.frame) _ c.translate_data-found.new.places
           (cached_changed s.pool.now s.quota.now s.table.now s.limit (c.args.at / 4096) g s.space c.try_write.result (Some (c.in-Some.frame, c.in-Some.attrs)) (sym found))
-          (c.in-Some.ensures.places (pages_of s.pool.now s.table.now.frame) s.places_are s.cached));
+          c.in-Some.ensures.places);
       code_is = subst (λ n. IsPlace (pages_of n s.table.now.frame) s.code) (sym c.try_write.ensures.pool)
           (place_on (pages_of s.pool.now s.table.now.frame) _
           (cached_changed s.pool.now s.quota.now s.table.now s.limit (c.args.at / 4096) g s.space c.try_write.result (Some (c.in-Some.frame, c.in-Some.attrs)) (sym found))
@@ -41,14 +40,14 @@ invariant_of-self c =
 pub returns-in-Some-clause-passed : goal.returns-in-Some-clause-passed
 returns-in-Some-clause-passed c = λ t.
     let s = c.args.self.now in
-    let found = c.in-Some.ensures.found (pages_of s.pool.now s.table.now.frame) s.places_are s.cached in
+    let found = sym c.in-Some.ensures.found in
     let page = page_found s.pool.now s.table.now s.limit s.state.now (c.args.at / 4096) c.in-Some.frame c.in-Some.attrs found in
     c.try_write.ensures.passed t (memory_of s) page
 
 pub returns-in-Some-clause-memory : goal.returns-in-Some-clause-memory
 returns-in-Some-clause-memory c =
     let s = c.args.self.now in
-    let found = c.in-Some.ensures.found (pages_of s.pool.now s.table.now.frame) s.places_are s.cached in
+    let found = sym c.in-Some.ensures.found in
     let page = page_found s.pool.now s.table.now s.limit s.state.now (c.args.at / 4096) c.in-Some.frame c.in-Some.attrs found in
     let g = λ (x : Frame). make_frame (spliced x.bytes (c.args.at % 4096) c.args.bytes.now) x.tags in
     ap (λ n. space_memory n s.table.now s.limit s.state.now) c.try_write.ensures.pool
@@ -58,7 +57,7 @@ returns-in-Some-clause-memory c =
 pub returns-in-Some-clause-kept : goal.returns-in-Some-clause-kept
 returns-in-Some-clause-kept c =
     let s = c.args.self.now in
-    let found = c.in-Some.ensures.found (pages_of s.pool.now s.table.now.frame) s.places_are s.cached in
+    let found = sym c.in-Some.ensures.found in
     let page = page_found s.pool.now s.table.now s.limit s.state.now (c.args.at / 4096) c.in-Some.frame c.in-Some.attrs found in
     let g = λ (x : Frame). make_frame (spliced x.bytes (c.args.at % 4096) c.args.bytes.now) x.tags in
     let others = subst (λ n. KeepsOthers s.quota.now s.pool.now n) c.try_write.ensures.pool (c.try_write.ensures.others s.quota.now (found_out s.pool.now s.quota.now s.table.now s.limit (c.args.at / 4096) (Some (c.in-Some.frame, c.in-Some.attrs)) s.space (sym found))) in
@@ -73,5 +72,5 @@ returns-in-Some-clause-kept c =
       quota = refl;
       rest = subst (λ n. KeepsRest s.quota.now s.pool.now n s.table.now s.table.now) (sym c.try_write.ensures.pool)
           (rest_changed s.pool.now s.quota.now s.table.now s.limit (c.args.at / 4096) g s.space c.try_write.result (Some (c.in-Some.frame, c.in-Some.attrs)) others);
-      entries = none_enters_same s.asid s.tlb.now;
+      entries = c.in-Some.ensures.entries;
     }
