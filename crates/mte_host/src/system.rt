@@ -18,6 +18,10 @@ impl<'a> Files for SystemFiles<'a> {
         let Ok(file) = File::open(self.0, name) else {
             return Err(ReadFault::Read);
         };
-        read_whole(alloc, &mut StreamSource(file))
+        let expected = match file.metadata() {
+            Ok(metadata) => metadata.len() as usize,
+            Err(_) => 0,
+        };
+        read_whole(alloc, &mut StreamSource(file), expected)
     }
 }

@@ -194,7 +194,7 @@ fn read_file<'a>(rt: &HostRuntime, name: &'a str) -> Result<Vec<u8>, Failure<'a>
     let Ok(file) = File::open(rt, name) else {
         return Err(Failure::of_read(ReadFault::Read, name));
     };
-    match read_whole(rt.alloc(), &mut StreamSource(file)) {
+    match read_whole(rt.alloc(), &mut StreamSource(file), 0) {
         Ok(bytes) => Ok(bytes),
         Err(fault) => Err(Failure::of_read(fault, name)),
     }

@@ -2,19 +2,21 @@
 use Rattle.std.proofs.Common.{◌≡◌, ℕ, suc, ◌+◌, ◌-◌, ◌*◌, ◌^◌, ◌<◌, ◌≤◌, ◌==◌, ◌&&◌, nat_le, Bool}
 use Rattle.std.proofs.Common.{true, false, List, [], ◌∷◌, ◌++◌, length, take, drop, get_or, Option}
 use Rattle.std.proofs.Common.{Some, None, Result, Ok, Err, IfSome, IsNone, nat_lt, append_assoc}
-use Rattle.std.proofs.Common.{refl, ap, sym, ◌∙◌, arith, add-one, length-drop}
+use Rattle.std.proofs.Common.{refl, ap, sym, ◌∙◌, arith, add-one, length-drop, inl, inr}
 use Rattle.std.specs.List.{list_all}
-use Rattle.std.proofs.lemmas.List.{drop_more, nil_from_length, take_all, append-nil}
+use Rattle.std.proofs.lemmas.List.{drop_more, nil_from_length, take_all, append-nil, take-append-le}
+use Rattle.std.proofs.lemmas.List.{length-take}
 use Rattle.std.specs.Borrow.{Bor}
 use Rattle.std.proofs.Math.Nat.{pow-suc}
-use Rattle.std.proofs.lemmas.Bool.{leb-true, lt-ltb, le-ltb}
+use Rattle.std.proofs.lemmas.Bool.{leb-true, lt-ltb, le-ltb, cases_lt}
 use Rattle.mte_script.specs.declared.event.Event.{Event}
 use Rattle.mte_script.specs.declared.error.ScriptFault.{ScriptFault}
 use Rattle.mte_script.specs.declared.error.ScriptFault.TheVariants.{TooManyEvents}
 use Rattle.mte_script.specs.declared.error.ScriptError.{ScriptError}
 use Rattle.mte_script.specs.Faults.{IsLineFault, IsFirstFault}
 use Rattle.mte_script.specs.Scripts.{after_event, events_from, event_of_line, read_on, pieces_at}
-use Rattle.mte_script.specs.Scripts.{piece_len_of, words_of, digits_value, is_digit}
+use Rattle.mte_script.specs.Scripts.{piece_len_of, words_of, digits_value, is_digit, line_of}
+use Rattle.mte_script.specs.Scripts.{event_by, event_of_words}
 
 -- How much of a text is left to cut.
 abbrev pub measure_of : Option (Bor (List ℕ)) → ℕ
@@ -24,6 +26,34 @@ measure_of (Some text) = 1 + length text.now
 abbrev pub words_left : Option (Bor (List ℕ)) → List (List ℕ)
 words_left None = []
 words_left (Some text) = words_of text.now
+
+-- What follows as many words as are read is passed over.
+pub read_over : (read rest more all : List (List ℕ)) → 14 ≤ length read → take 14 (read ++ rest) ≡ all → take 14 (read ++ more) ≡ all
+read_over read rest more all h e = take-append-le 14 read more h ∙ sym (take-append-le 14 read rest h) ∙ e
+
+pub read_end : (read all : List (List ℕ)) (rest : Option (Bor (List ℕ))) → length read ≤ 14 → ((x : Bor (List ℕ)) → rest ≡ Some x → ⊥) → take 14 (read ++ words_left rest) ≡ all → read ≡ all
+read_end read all None few never h = sym (take_all 14 read few) ∙ ap (take 14) (sym (append-nil read)) ∙ h
+read_end read all (Some x) few never h = absurd (never x refl)
+
+line_of-many : (words : List (List ℕ)) → 14 ≤ length words → line_of words ≡ None
+unfolding line_of
+line_of-many words h =
+    let two : (length words == 2) ≡ false = grind arith in
+    let three : (length words == 3) ≡ false = grind arith in
+    let twelve : (length words == 12) ≡ false = grind arith in
+    let thirteen : (length words == 13) ≡ false = grind arith in
+    rw (two, three, twelve, thirteen) refl
+
+line_of-first : (words : List (List ℕ)) → line_of (take 14 words) ≡ line_of words
+line_of-first words = elim (cases_lt 14 (length words)) [
+  | inl many ↦ line_of-many (take 14 words) (simp length-take (omega arith)) ∙ sym (line_of-many words (omega arith))
+  | inr few ↦ ap line_of (take_all 14 words few)
+]
+
+-- The words that are read say what a line is.
+pub event_of-first : (files : ℕ) (words : List (List ℕ)) → event_of_words files (take 14 words) ≡ event_of_words files words
+event_of-first files [] = refl
+event_of-first files (word ∷ more) = ap (λ t. Some (event_by files t)) (line_of-first (word ∷ more))
 
 pub len_step : (separator : ℕ) (text : List ℕ) (i : ℕ) (d : ℕ) → i < length text → (get_or text i d == separator) ≡ false
     → i + piece_len_of separator (drop i text) ≡ (i + 1) + piece_len_of separator (drop (i + 1) text)

@@ -27,13 +27,14 @@ pub fn parse_script(
         (e ≡ ScriptError.OutOfMemory)
         ⊎ IsFirstFault (script_events (length files.now) script.now) e) }
 {
-    let mut events = Vec::new(alloc);
+    let more_lines = script.iter().filter(|b| **b == b'\n').count();
+    let mut events = Vec::with_capacity(alloc, more_lines.min(EVENT_LIMIT - 1) + 1)?;
     let mut rest = Some(script);
     let mut number = 0;
     while let Some(text) = rest {
         let (line, more) = cut(text, b'\n');
         number += 1;
-        match read_event(alloc, line, number, files.len()) {
+        match read_event(line, number, files.len()) {
             Err(error) => return Err(error),
             Ok(None) => {}
             Ok(Some(event)) => {
@@ -50,20 +51,14 @@ pub fn parse_script(
 
 /// The event of a line, if it is one; `number` is the line's.
 #[tactic(auto, unfolding(crate::specs::Scripts::event_of_line))]
-fn read_event(
-    alloc: Global,
-    line: &[u8],
-    number: u64,
-    files: usize,
-) -> Result<Option<Event>, ScriptError>
+fn read_event(line: &[u8], number: u64, files: usize) -> Result<Option<Event>, ScriptError>
     ensures event { IfOk result (λ event. option_map Ok event ≡ event_of_line files line.now) }
-    ensures fault { IfErr result (λ e.
-        (e ≡ ScriptError.OutOfMemory) ⊎ IsLineFault number (event_of_line files line.now) e) }
+    ensures fault { IfErr result (IsLineFault number (event_of_line files line.now)) }
 {
     if line.starts_with(b"#") {
         return Ok(None);
     }
-    let words = words(alloc, line)?;
+    let words = words(line);
     if words.is_empty() {
         return Ok(None);
     }

@@ -1,13 +1,11 @@
 //! Texts cut at separators, and the numbers of words.
 
-ghost use Rattle.std.specs.Prelude.{◌≡◌, ◌∷◌, [], ◌<◌, ◌≤◌, length, map, IfOk, IfErr, IfSome};
-ghost use Rattle.std.specs.Prelude.{IsNone, true};
+ghost use Rattle.std.specs.Prelude.{◌≡◌, ◌∷◌, [], ◌<◌, ◌≤◌, length, map, take, IfSome, IsNone, true};
 ghost use Rattle.std.specs.List.{list_all};
 ghost use Rattle.mte_script.specs.Scripts.{words_of, pieces_at, piece_len_of, decimal_of};
 ghost use Rattle.mte_script.specs.Scripts.{digits_value, seed_of, is_word, is_digit};
 
-use crate::error::ScriptError;
-use std::alloc::Global;
+use arrayvec::ArrayVec;
 
 /// The part of a text before the first separator, and the text after it, if there is one.
 pub fn cut(text: &[u8], separator: u8) -> (&[u8], Option<&[u8]>)
@@ -36,21 +34,24 @@ fn piece_len(text: &[u8], separator: u8) -> usize
     text.len()
 }
 
-/// The words of a line.
-pub fn words(alloc: Global, line: &[u8]) -> Result<Vec<&[u8]>, ScriptError>
-    ensures words { IfOk result (λ words. map (λ w. w.now) words.items ≡ words_of line.now) }
-    ensures memory { IfErr result (λ e. e ≡ ScriptError.OutOfMemory) }
+/// How many words of a line are read: one more than an event may have, by which a line with too
+/// many is known.
+pub const WORD_LIMIT: usize = 14;
+
+/// The first words of a line, as many as are read.
+pub fn words(line: &[u8]) -> ArrayVec<&[u8], WORD_LIMIT>
+    ensures { map (λ w. w.now) result.items ≡ take WORD_LIMIT (words_of line.now) }
 {
-    let mut words = Vec::new(alloc);
+    let mut words = ArrayVec::new();
     let mut rest = Some(line);
     while let Some(text) = rest {
         let (word, more) = cut(text, b' ');
-        if !word.is_empty() {
-            words.push(word)?;
+        if !word.is_empty() && !words.is_full() {
+            words.push(word);
         }
         rest = more;
     }
-    Ok(words)
+    words
 }
 
 /// Whether a word is a text.

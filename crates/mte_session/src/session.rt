@@ -19,7 +19,7 @@ use mte_sched::{
 };
 use mte_script::{Event, ScriptError, ScriptFault, parse_script};
 use mte_streams::{Sink, WriteFault};
-use std::alloc::{AllocFailed, Global};
+use std::alloc::{AllocError, Global};
 use thiserror::Error;
 
 /// Why a session has no whole report.
@@ -102,7 +102,8 @@ fn write_refusals<W: Sink>(refused: &[Refused], out: &mut W) -> Result<(), Write
     Ok(())
 }
 
-/// Executes the events in order, and returns those that were refused.
+/// Executes the events in order, and returns those that were refused. What it keeps of them is
+/// reserved before the first event, so that none fails for want of it.
 fn run_events(
     alloc: Global,
     host: &mut Host,
@@ -115,7 +116,7 @@ fn run_events(
         ≡ record { content = content_of host.new; refused = refused.items }) }
     ensures memory { IfErr result (λ e. e ≡ SessionError.OutOfMemory) }
 {
-    let mut refused = Vec::new(alloc);
+    let mut refused = Vec::with_capacity(alloc, events.len())?;
     for (before, event) in events.iter().enumerate() {
         match play(alloc, host, event, files) {
             Ok(()) => {}
@@ -124,7 +125,7 @@ fn run_events(
                     return Err(SessionError::OutOfMemory);
                 }
                 let event = before as u64 + 1;
-                refused.push(Refused { event, refusal })?;
+                refused.push_reserved(Refused { event, refusal });
             }
         }
     }
@@ -213,10 +214,10 @@ impl From<ScriptError> for SessionError {
     }
 }
 
-impl<T: Drop> From<AllocFailed<T>> for SessionError {
+impl From<AllocError> for SessionError {
     ghost from_gives = { λ _ r. r ≡ OutOfMemory };
 
-    fn from(_error: AllocFailed<T>) -> SessionError {
+    fn from(_error: AllocError) -> SessionError {
         SessionError::OutOfMemory
     }
 }

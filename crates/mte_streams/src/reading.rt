@@ -42,10 +42,15 @@ pub enum ReadFault {
 }
 
 /// Reads all bytes up to the end. It makes at most 16777217 reads, and none after one that failed.
+/// Memory for as many bytes as are expected is reserved before the first; any number may come.
 ///
 /// `TooLong` comes exactly where more than 16777216 bytes were given. What was read before an error
 /// stays read.
-pub fn read_whole<R: Source>(alloc: Global, reader: &mut R) -> Result<Vec<u8>, ReadFault>
+pub fn read_whole<R: Source>(
+    alloc: Global,
+    reader: &mut R,
+    expected: usize,
+) -> Result<Vec<u8>, ReadFault>
     ensures whole { IfOk result (λ whole.
         ReadAll (R.log reader.old) (R.log reader.new) whole.items) }
     ensures none_failed { (result ≢ Err ReadFault.Read)
@@ -58,7 +63,7 @@ pub fn read_whole<R: Source>(alloc: Global, reader: &mut R) -> Result<Vec<u8>, R
         → GaveAtMost (R.log reader.old) (R.log reader.new) FILE_LIMIT }
     ensures calls { MadeAtMost (R.log reader.old) (R.log reader.new) 16777217 }
 {
-    let mut whole = Vec::new(alloc);
+    let mut whole = Vec::with_capacity(alloc, expected.min(FILE_LIMIT))?;
     let mut chunk = [0; CHUNK];
     for _ in 0..FILE_LIMIT + 1 {
         let wanted = CHUNK.min(FILE_LIMIT + 1 - whole.len());

@@ -11,7 +11,7 @@ use std::test::Fail;
 fn length_read(alloc: Global, left: usize, most: usize, fails_at: u64) -> Result<usize, ReadFault> {
     let mut source = ScriptedSource::new(left, most);
     source.fails_at = fails_at;
-    Ok(read_whole(alloc, &mut source)?.len())
+    Ok(read_whole(alloc, &mut source, 0)?.len())
 }
 
 #[test]

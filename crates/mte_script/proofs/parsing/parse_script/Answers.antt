@@ -1,4 +1,4 @@
-use Rattle.std.proofs.Common.{◌≡◌, ◌+◌, ◌<◌, ◌≤◌, ◌++◌, ◌∷◌, [], length, arith, rules, refl, inl}
+use Rattle.std.proofs.Common.{◌≡◌, ◌+◌, ◌<◌, ◌≤◌, ◌++◌, ◌∷◌, [], length, arith, rules, refl}
 use Rattle.std.proofs.Common.{inr}
 use Rattle.std.proofs.lemmas.List.{length_push}
 use Rattle.mte_script.specs.Scripts.{script_events}
@@ -8,14 +8,14 @@ use Rattle.mte_script.proofs.parsing.parse_script.Goals as goal
 
 pub loop-rest-init : goal.loop-rest-init
 unfolding script_events
-loop-rest-init c = record { rest = rw c.new-events.ensures.items (behind_none _); number = omega arith }
+loop-rest-init c = record { rest = rw c.in_ok-events.ensures.items (behind_none _); number = omega arith }
 
 pub returns-in-Err-clause-fault : goal.returns-in-Err-clause-fault
 returns-in-Err-clause-fault c =
     let lines = next_lines c.in-Some.text.now c.cut.result.0.now c.cut.result.1 c.cut.ensures.some c.cut.ensures.none in
     let inv = rw c.in-Some.is at c.loop-rest.invariant.rest in
     let h = unroll (length c.args.files.now) (c.loop-rest.number + 1) (length c.loop-rest.events.items) c.loop-rest.events.items c.in-Some.text.now c.cut.result.0.now c.cut.result.1 _ lines inv in
-    elim c.in-Err.ensures.fault [ inl m ↦ inl m | inr f ↦ inr (line_fault (c.loop-rest.number + 1) (length c.loop-rest.events.items) c.loop-rest.events.items _ _ _ _ c.in-Err.error h f) ]
+    inr (line_fault (c.loop-rest.number + 1) (length c.loop-rest.events.items) c.loop-rest.events.items _ _ _ _ c.in-Err.error h c.in-Err.ensures.fault)
 
 pub returns-then-len-ge-EVENT_LIMIT-clause-fault : goal.returns-then-len-ge-EVENT_LIMIT-clause-fault
 returns-then-len-ge-EVENT_LIMIT-clause-fault c =
