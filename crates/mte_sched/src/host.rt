@@ -18,7 +18,7 @@ use crate::admission::{Admission, AdmitError, MAX_LIVE, NotLive, charge};
 use crate::hints::Hints;
 use crate::machine::start_parts;
 use crate::place::start_place;
-use crate::tenant::Tenant;
+use crate::tenant::{Holding, Live, Tenant};
 use crate::turns::{slice_at, stop_at};
 use a64_step::Kept;
 use address_map::{MAX_FRAMES, MAX_PAGES, STACK_PAGES};
@@ -95,9 +95,8 @@ impl Host {
         self.hints.set(admission.id, asid);
         let place = start_place(&mut self.pool, &mut self.tlb, asid, admission, &plan);
         self.tenants.push_reserved(Tenant {
-            parts,
-            place: Some(place),
             pages: admission.pages,
+            holding: Holding::Live(Live { parts, place }),
         });
         Ok(())
     }
@@ -184,8 +183,7 @@ impl Host {
         let Some(asid) = self.find_live(id) else {
             return Err(NotLive);
         };
-        let tenants = self.tenants.as_mut_slice();
-        stop_at(&mut self.pool, &mut self.tlb, tenants, asid, id);
+        stop_at(&mut self.pool, &mut self.tlb, &mut self.tenants, asid, id);
         Ok(())
     }
 

@@ -1,4 +1,4 @@
-use Rattle.std.proofs.Common.{◌≡◌, ◌≢◌, ◌∙◌, ◌/◌, ◌^◌, ◌++◌, ◌∷◌, [], ℕ, List, length, Some, ap, sym, subst, rules, arith}
+use Rattle.std.proofs.Common.{◌≡◌, ◌≢◌, ◌∙◌, ◌/◌, ◌^◌, ◌++◌, ◌∷◌, [], ℕ, List, length, ap, sym, subst, rules, arith}
 use Rattle.std.specs.Prelude.{All}
 use Rattle.mte_frames.specs.Pool.{Pool}
 use Rattle.mte_translate.specs.declared.translation.Translation.{Translation}
@@ -7,6 +7,7 @@ use Rattle.scudo_heap.specs.Heaps.{empty_heap}
 use Rattle.scudo_heap.specs.Served.{IsServed}
 use Rattle.mte_sched.specs.declared.place.Place.{Place}
 use Rattle.mte_sched.specs.declared.tenant.Tenant as code
+use Rattle.mte_sched.specs.declared.tenant.Holding.TheVariants as kept
 use Rattle.mte_sched.specs.Contents.{Tenant, Content, admitted, new_tenant}
 use Rattle.mte_sched.specs.Places.{memory_at, IsPlaced}
 use Rattle.mte_sched.specs.Tenants.{tenants_in, terms_of}
@@ -51,7 +52,7 @@ invariant_of-self-2 c =
     let ready = first_ready c.args.admission.now.id terms c.in_ok-parts.parts (memory_at n b pages) c.in_ok-parts.ensures served in
     let number = first_number c.args.admission.now.id terms c.in_ok-parts.parts c.in_ok-parts.ensures in
     let all = entered_sharing h.pool n h.tlb vs ts c.args.admission.now.id b c.in_ok-parts.parts pages h.sharing placed start.unused start.others entries ready start.reserved number c.in_ok-plan.ensures.fresh in
-    let t : code.Tenant = record { parts = c.in_ok-parts.parts; place = Some b; pages = pages } in
+    let t : code.Tenant = record { pages = pages; holding = kept.Live (record { parts = c.in_ok-parts.parts; place = b }) } in
     let pushed : c.push_reserved.new.self.items ≡ ts ++ t ∷ [] = c.push_reserved.ensures.items ∙ ap (λ l. l ++ t ∷ []) c.in_ok-reserve.ensures.items in
     record { sharing = subst (IsSharing n vs) (sym pushed) all }
 
@@ -72,7 +73,7 @@ returns-clause-ok c =
     let asid : c.len-asid.result ≡ length ts = search rules in
     let placed : IsPlaced n vs (length ts) pages b = subst (λ k. IsPlaced n vs k pages b) asid start.placed in
     let entries : NoneEnters (length ts) h.tlb vs = subst (λ k. NoneEnters k h.tlb vs) asid start.entries in
-    let t : code.Tenant = record { parts = c.in_ok-parts.parts; place = Some b; pages = pages } in
+    let t : code.Tenant = record { pages = pages; holding = kept.Live (record { parts = c.in_ok-parts.parts; place = b }) } in
     let pushed : c.push_reserved.new.self.items ≡ ts ++ t ∷ [] = c.push_reserved.ensures.items ∙ ap (λ l. l ++ t ∷ []) c.in_ok-reserve.ensures.items in
     let tenants : tenants_in n c.push_reserved.new.self.items ≡ tenants_in h.pool ts ++ new_tenant c.args.admission.now.id terms ∷ [] =
     ap (tenants_in n) pushed

@@ -1,6 +1,6 @@
 use Rattle.std.proofs.Common.{◌≡◌, ◌∙◌, ◌+◌, ◌<◌, ◌≤◌, ◌==◌, ℕ, List, length, drop, sym, ap, get_or, Some, if◌then◌else◌, false, true}
 use Rattle.mte_sched.specs.declared.tenant.Tenant.{Tenant}
-use Rattle.mte_sched.specs.Tenants.{tenants_in}
+use Rattle.mte_sched.specs.Tenants.{record_in, tenants_in}
 use Rattle.mte_sched.specs.Views.{record_among}
 use Rattle.mte_sched.proofs.EachLemmas.{record_at, record_none}
 use Rattle.mte_sched.proofs.host.Host.view.Goals as goal
@@ -14,10 +14,10 @@ loop-tenant-preserved c =
     let below : i < length ts = rw (← c.deref-tenant-items.ensures.value) c.loop-tenant-test.true in
     let same : get_or ts i t ≡ t = ap (λ l. get_or l i t) (sym c.deref-tenant-items.ensures.value) ∙ sym c.tenant-item.is in
     let rest = record_among c.args.id (tenants_in p (drop (i + 1) ts)) in
-    let step : record_among c.args.id (tenants_in p (drop i ts)) ≡ (if t.parts.account.id == c.args.id then Some t.parts.account else rest) =
-    record_at p c.args.id ts i t below ∙ ap (λ (u : Tenant). if u.parts.account.id == c.args.id then Some u.parts.account else rest) same in
-    let other : (t.parts.account.id == c.args.id) ≡ false = sym c.has_id.ensures ∙ c.if-has_id.false in
-    sym (step ∙ ap (λ b. if b then Some t.parts.account else rest) other) ∙ c.loop-tenant.invariant
+    let step : record_among c.args.id (tenants_in p (drop i ts)) ≡ (if (record_in t).id == c.args.id then Some (record_in t) else rest) =
+    record_at p c.args.id ts i t below ∙ ap (λ (u : Tenant). if (record_in u).id == c.args.id then Some (record_in u) else rest) same in
+    let other : ((record_in t).id == c.args.id) ≡ false = sym c.has_id.ensures ∙ c.if-has_id.false in
+    sym (step ∙ ap (λ b. if b then Some (record_in t) else rest) other) ∙ c.loop-tenant.invariant
 
 pub returns-then-has_id : goal.returns-then-has_id
 returns-then-has_id c =
@@ -28,10 +28,10 @@ returns-then-has_id c =
     let below : i < length ts = rw (← c.deref-tenant-items.ensures.value) c.loop-tenant-test.true in
     let same : get_or ts i t ≡ t = ap (λ l. get_or l i t) (sym c.deref-tenant-items.ensures.value) ∙ sym c.tenant-item.is in
     let rest = record_among c.args.id (tenants_in p (drop (i + 1) ts)) in
-    let step : record_among c.args.id (tenants_in p (drop i ts)) ≡ (if t.parts.account.id == c.args.id then Some t.parts.account else rest) =
-    record_at p c.args.id ts i t below ∙ ap (λ (u : Tenant). if u.parts.account.id == c.args.id then Some u.parts.account else rest) same in
-    let own : (t.parts.account.id == c.args.id) ≡ true = sym c.has_id.ensures ∙ c.if-has_id.true in
-    ap (λ r. Some r) c.record.ensures ∙ sym (step ∙ ap (λ b. if b then Some t.parts.account else rest) own) ∙ c.loop-tenant.invariant
+    let step : record_among c.args.id (tenants_in p (drop i ts)) ≡ (if (record_in t).id == c.args.id then Some (record_in t) else rest) =
+    record_at p c.args.id ts i t below ∙ ap (λ (u : Tenant). if (record_in u).id == c.args.id then Some (record_in u) else rest) same in
+    let own : ((record_in t).id == c.args.id) ≡ true = sym c.has_id.ensures ∙ c.if-has_id.true in
+    ap (λ r. Some r) c.record.ensures ∙ sym (step ∙ ap (λ b. if b then Some (record_in t) else rest) own) ∙ c.loop-tenant.invariant
 
 pub returns : goal.returns
 returns c =
