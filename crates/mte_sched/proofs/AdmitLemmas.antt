@@ -1,6 +1,6 @@
 -- An admission beside the tenants that are there.
 use Rattle.std.proofs.Common.{◌≡◌, ◌≢◌, ℕ, zero, suc, ◌+◌, ◌<◌, ◌/◌, ◌^◌, ◌==◌, ◌||◌, Bool, true, false, List, [], ◌∷◌, ◌++◌, length, sum, sum_by}
-use Rattle.std.proofs.Common.{Some, None, refl, ap, sym, subst, ◌∙◌, arith}
+use Rattle.std.proofs.Common.{Some, cond, count_by, None, refl, ap, sym, subst, ◌∙◌, arith}
 use Rattle.std.specs.Prelude.{All}
 use Rattle.std.specs.List.{list_any, slice_get}
 use Rattle.std.proofs.lemmas.Option.{slice_get_past}
@@ -20,7 +20,7 @@ use Rattle.mte_sched.specs.declared.tenant.Tenant as code
 use Rattle.mte_sched.specs.declared.tenant.Live.{Live}
 use Rattle.mte_sched.specs.declared.tenant.Holding.TheVariants as kept
 use Rattle.mte_sched.specs.Machines.{Terms, first_parts, first_memory, start_of}
-use Rattle.mte_sched.specs.Ledger.{charge_in, charge_of, has_id}
+use Rattle.mte_sched.specs.Ledger.{charge_in, charge_of, has_id, is_live}
 use Rattle.mte_sched.specs.Contents.{new_tenant}
 use Rattle.mte_sched.specs.Places.{memory_at, IsPlaced}
 use Rattle.mte_sched.specs.Ready.{IsReady}
@@ -28,6 +28,7 @@ use Rattle.mte_sched.specs.Tenants.{record_in, tenant_in, tenants_in, entry_in, 
 use Rattle.mte_sched.specs.Sharing.{is_placed, LiesAt, IsSharing}
 use Rattle.mte_sched.proofs.TenantLemmas.{heap_at_first, tag_at_first}
 use Rattle.mte_sched.proofs.PlaceLists.{has_more, some_same, map_same}
+use Rattle.mte_sched.proofs.EachLemmas.{or_left, or_right}
 use Rattle.mte_sched.proofs.TurnLemmas.{live_same}
 use Rattle.mte_sched.proofs.SharingLemmas.{Turn, tenant_stays, cached_after, sharing_after}
 
@@ -37,14 +38,6 @@ fresh_asid p us ts h =
     All-weaker (λ u. is_placed (slice_get ts u.asid) ≡ true) (λ u. u.asid ≢ length ts)
     (λ u placed e. let none : slice_get ts u.asid ≡ None = slice_get_past ts u.asid (omega (arith, e)) in let no : is_placed (slice_get ts u.asid) ≡ false = ap is_placed none in let z : true ≡ false = sym placed ∙ no in cc)
     us h.cached
-
-or_left : (a b : Bool) → (a || b) ≡ false → a ≡ false
-or_left true b e = e
-or_left false b e = refl
-
-or_right : (a b : Bool) → (a || b) ≡ false → b ≡ false
-or_right true b e = absurd cc
-or_right false b e = e
 
 -- A number that was never admitted is no tenant's.
 pub fresh_number : (id : ℕ) (ts : List code.Tenant) (j : ℕ) (u : code.Tenant) → list_any (has_id id) (entries_in ts) ≡ false → slice_get ts j ≡ Some u → (record_in u).id ≢ id
@@ -74,6 +67,9 @@ module _ (p n : Pool) (us vs : List Translation) (ts : List code.Tenant) (id : �
   entered_tenants =
       map-append (tenant_in n) ts (entered ∷ [])
       ∙ ap (λ l. l ++ tenant_in n entered ∷ []) (map_same (tenant_in n) (tenant_in p) ts (λ j u at. tenant_stays p n us vs ts b.quota (length ts) j u turn sharing (λ a h. differs j u a h) at))
+
+  pub entered_count : count_by is_live (entries_in (ts ++ entered ∷ [])) ≡ count_by is_live (entries_in ts) + 1
+  entered_count = ap (count_by is_live) (map-append entry_in ts (entered ∷ [])) ∙ sum_by-append (λ e. cond (is_live e) 1 0) (entries_in ts) (entry_in entered ∷ [])
 
   module _ (ready : IsReady parts (memory_at n b pages)) (reserved : sum n.reserved ≡ sum p.reserved + charge_of pages) (number : parts.account.id ≡ id)
       (fresh : list_any (has_id id) (entries_in ts) ≡ false) where

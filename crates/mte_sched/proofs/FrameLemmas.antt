@@ -5,7 +5,6 @@ use Rattle.std.specs.Prelude.{IfSome}
 use Rattle.std.specs.FinMap.{get}
 use Rattle.std.specs.List.{slice_get}
 use Rattle.std.proofs.lemmas.Bool.{eqb-true}
-use Rattle.std.proofs.lemmas.List.{drop_more, nil_from_length}
 use Rattle.mte_tags.specs.Memory.{Page}
 use Rattle.mte_tags.specs.declared.attrs.Attrs.{Attrs}
 use Rattle.mte_frames.specs.Pool.{Pool, IsOut}
@@ -23,15 +22,6 @@ use Rattle.mte_sched.specs.Sharing.{LiesAt, IsSharing}
 use Rattle.mte_sched.specs.Views.{page_held, page_among, found_by, found_among, HasSomeTable, Holds}
 use Rattle.mte_sched.proofs.PlaceLists.{some_same}
 use Rattle.mte_sched.proofs.TurnLemmas.{live_same}
-
--- ---- one tenant after another
-
-pub found_at : (p : Pool) (id q : ℕ) (ts : List code.Tenant) (i : ℕ) (d : code.Tenant) → i < length ts
-    → found_among p id q (drop i ts) ≡ (if (record_in (get_or ts i d)).id == id then found_by p q (get_or ts i d).holding else found_among p id q (drop (i + 1) ts))
-found_at p id q ts i d below = ap (found_among p id q) (drop_more ts i d below)
-
-pub found_none : (p : Pool) (id q : ℕ) (ts : List code.Tenant) (i : ℕ) → length ts ≤ i → found_among p id q (drop i ts) ≡ None
-found_none p id q ts i over = ap (found_among p id q) (nil_from_length (drop i ts) (simp length-drop (omega arith)))
 
 -- ---- the page
 

@@ -1,6 +1,6 @@
 -- A slice and a stop of one tenant, beside the others.
 use Rattle.std.proofs.Common.{◌≡◌, ◌≢◌, ℕ, zero, suc, ◌+◌, ◌<◌, ◌==◌, ◌&&◌, Bool, true, false, List, [], ◌∷◌, map, length, get_or, slice_set, sum, sum_by}
-use Rattle.std.proofs.Common.{Some, if◌then◌else◌, refl, ap, sym, subst, ◌∙◌, arith}
+use Rattle.std.proofs.Common.{Some, cond, count_by, if◌then◌else◌, refl, ap, sym, subst, ◌∙◌, arith}
 use Rattle.std.specs.List.{slice_get}
 use Rattle.std.proofs.lemmas.Bool.{ne_eqb, eqb-true}
 use Rattle.std.proofs.lemmas.List.Elements.{All-weaker}
@@ -20,11 +20,11 @@ use Rattle.mte_sched.specs.declared.tenant.Live.{Live}
 use Rattle.mte_sched.specs.declared.tenant.Holding.{Holding}
 use Rattle.mte_sched.specs.declared.tenant.Holding.TheVariants as kept
 use Rattle.mte_sched.specs.Machines.{machine_of, advance, halted}
-use Rattle.mte_sched.specs.Ledger.{Entry, charge_in, charge_of, has_live_id}
+use Rattle.mte_sched.specs.Ledger.{Entry, charge_in, charge_of, is_live, has_live_id}
 use Rattle.mte_sched.specs.Contents.{Held, held_sliced, held_stopped, Tenant, tenant_sliced, tenant_stopped}
 use Rattle.mte_sched.specs.Places.{memory_at, IsPlaced}
 use Rattle.mte_sched.specs.Ready.{IsReady}
-use Rattle.mte_sched.specs.Tenants.{held_by, record_by, is_live_by, record_in, tenant_in, tenants_in, entry_in}
+use Rattle.mte_sched.specs.Tenants.{held_by, record_by, is_live_by, record_in, tenant_in, tenants_in, entry_in, entries_in}
 use Rattle.mte_sched.specs.Sharing.{HasLiveAt, LiesAt, IsSharing}
 use Rattle.mte_sched.proofs.TenantLemmas.{number_in, tenant_by, sliced_tenant, stopped_tenant, advance-id, halted-id}
 use Rattle.mte_sched.proofs.PlaceLists.{has_set, some_same, map_turn, map-set_same, sum_turn}
@@ -153,6 +153,13 @@ module _ (p n : Pool) (us vs : List Translation) (ts : List code.Tenant) (i id :
         sharing_after p n us vs ts (slice_set ts i left) a.place.quota i left turn sharing has differs (λ c e. absurd cc) (number left left_number)
         (cached_without p n us vs ts (slice_set ts i left) a.place.quota i left turn sharing has differs (rw gone (forget-asid i us)))
         (omega (arith, charge, sharing.reserved, was_charged, sum_turn charge_in entry_in ts i left t lies.tenant))
+
+    pub stopped_count : count_by is_live (entries_in (slice_set ts i left)) + 1 ≡ count_by is_live (entries_in ts)
+    stopped_count =
+        let one : ℕ → ℕ = λ k. cond (is_live (entry_in t)) 1 k in
+        let was : one 0 ≡ 1 = ap (λ (o : Holding). let k : ℕ = cond (is_live_by o) 1 0 in k) lies.live in
+        let turned : count_by is_live (entries_in (slice_set ts i left)) + one 0 ≡ count_by is_live (entries_in ts) + 0 = sum_turn (λ e. cond (is_live e) 1 0) entry_in ts i left t lies.tenant in
+        omega (arith, was, turned)
 
     pub stopped_tenants : tenants_in n (slice_set ts i left) ≡ map (tenant_stopped id) (tenants_in p ts)
     stopped_tenants =

@@ -1,10 +1,12 @@
 -- What holds of every host: its live tenants share a pool of frames and a translation lookaside
 -- buffer, and have nothing in common in them. A tenant's ASID is its place in the order of the
 -- admissions.
-use Rattle.std.specs.Prelude.{◌≡◌, ℕ, Bool, true, false, List, All, sum, sum_by, Option, Some, None}
+use Rattle.std.specs.Prelude.{◌≡◌, ℕ, Bool, true, false, List, All, length, sum, sum_by, Option, Some}
+use Rattle.std.specs.Prelude.{None}
 use Rattle.std.specs.List.{slice_get}
 use Rattle.mte_frames.specs.Pool.{Pool}
 use Rattle.mte_translate.specs.declared.translation.Translation.{Translation}
+use Rattle.mte_sched.specs.declared.index.TheConstants.{NUMBERS}
 use Rattle.mte_sched.specs.declared.tenant.Live.{Live}
 use Rattle.mte_sched.specs.declared.tenant.Holding.TheVariants as kept
 use Rattle.mte_sched.specs.declared.tenant.Tenant.{Tenant}
@@ -20,6 +22,12 @@ is_placed (Some t) = is_live_by t.holding
 abbrev pub has_live_in : ℕ → Option Tenant → Bool
 has_live_in id None = false
 has_live_in id (Some t) = has_live_id id (entry_in t)
+
+-- t is one of the tenants, and has the number.
+pub record HasId (ts : List Tenant) (id : ℕ) (t : Tenant) : Type 0 where
+  pub at : ℕ
+  pub stands : slice_get ts at ≡ Some t
+  pub number : (record_in t).id ≡ id
 
 -- The i-th tenant is live and has the number.
 abbrev pub HasLiveAt : List Tenant → ℕ → ℕ → Type 0
@@ -47,3 +55,9 @@ pub record IsSharing (p : Pool) (us : List Translation) (ts : List Tenant) : Typ
   pub cached : All (λ u. is_placed (slice_get ts u.asid) ≡ true) us
   -- what is reserved is what live tenants are charged
   pub reserved : sum p.reserved ≡ sum_by charge_in (entries_in ts)
+
+-- A table has a place for each number, and of each number of a list where in the list it stands. So
+-- a number that doesn't stand at its place is none of the list.
+pub record IsIndexed (places ids : List ℕ) : Type 0 where
+  pub numbers : length places ≡ NUMBERS
+  pub place : (i id : ℕ) → slice_get ids i ≡ Some id → slice_get places id ≡ Some i

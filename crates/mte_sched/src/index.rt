@@ -1,37 +1,42 @@
-//! Where a tenant is likely to be found by its number.
+//! Where a tenant stands, by its number.
+
+ghost use Rattle.std.specs.Prelude.{◌≡◌, ◌<◌, length, get_or, slice_set, IfOk};
 
 use std::alloc::{AllocError, Global};
 
 /// How many numbers there are.
-const NUMBERS: usize = 65536;
+pub(crate) const NUMBERS: usize = 65536;
 
-/// For each number, where the tenant that was admitted with it stands. No contract rests on it: the
-/// caller looks whether that tenant is there.
+/// For each number, where the tenant that was admitted with it stands among all tenants. For a
+/// number that was never admitted it has some position, where no tenant with the number stands.
 #[derive(Drop)]
-pub(crate) struct Hints {
+pub(crate) struct Index {
     positions: Vec<u16>,
 }
 
-impl Hints {
+impl Index {
     /// Position 0 for all numbers.
-    pub(crate) fn new(alloc: Global) -> Result<Hints, AllocError> {
+    pub(crate) fn new(alloc: Global) -> Result<Index, AllocError>
+        ensures { IfOk result (λ index. length index.positions.items ≡ NUMBERS) }
+    {
         let positions = Vec::from_elem(alloc, 0, NUMBERS)?;
-        Ok(Hints { positions })
+        Ok(Index { positions })
     }
 
-    /// Where to look first.
-    pub(crate) fn position(&self, id: u16) -> usize {
-        match self.positions.get(usize::from(id)) {
-            Some(position) => usize::from(*position),
-            None => 0,
-        }
+    /// The one place where the tenant with the number can stand.
+    pub(crate) fn position(&self, id: u16) -> usize
+        requires { length self.now.positions.items ≡ NUMBERS }
+        ensures { result ≡ get_or self.now.positions.items id 0 }
+    {
+        usize::from(self.positions[usize::from(id)])
     }
 
-    /// Remembers where the tenant stands.
-    pub(crate) fn set(&mut self, id: u16, position: usize) {
-        let hint = self.positions.get_mut(usize::from(id));
-        if let (Some(hint), Ok(position)) = (hint, u16::try_from(position)) {
-            *hint = position;
-        }
+    /// Enters where the tenant with the number stands.
+    pub(crate) fn enter(&mut self, id: u16, position: usize)
+        requires numbers { length self.old.positions.items ≡ NUMBERS }
+        requires position { position < NUMBERS }
+        ensures { self.new.positions.items ≡ slice_set self.old.positions.items id position }
+    {
+        self.positions[usize::from(id)] = position as u16;
     }
 }

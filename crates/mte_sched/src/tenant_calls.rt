@@ -1,11 +1,10 @@
 //! What a host asks of a tenant.
 
 ghost use Rattle.std.specs.Prelude.{◌≡◌, ◌==◌, ◌&&◌, option_map};
-ghost use Rattle.mte_sched.specs.Ledger.{has_id, has_live_id, charge_in};
+ghost use Rattle.mte_sched.specs.Ledger.{has_id, has_live_id};
 ghost use Rattle.mte_sched.specs.Tenants.{record_in, entry_in};
 ghost use Rattle.mte_sched.specs.Views.{found_by, HasSomeTable};
 
-use crate::admission::charge;
 use crate::tenant::{Holding, Tenant};
 use mte_frames::FramePool;
 use mte_svc::Record;
@@ -43,17 +42,6 @@ impl Tenant {
         ensures { result ≡ has_live_id id (entry_in self.now) }
     {
         self.is_live() && self.has_id(id)
-    }
-
-    /// How many frames it is charged.
-    pub(crate) fn charge(&self) -> u64
-        ensures { result ≡ charge_in (entry_in self.now) }
-    {
-        if self.is_live() {
-            charge(self.pages)
-        } else {
-            0
-        }
     }
 
     /// The frame of a page, by its table.

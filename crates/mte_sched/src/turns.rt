@@ -1,8 +1,9 @@
 //! One tenant's turn, beside the others: a slice, a stop.
 
-ghost use Rattle.std.specs.Prelude.{◌≡◌, map, length};
+ghost use Rattle.std.specs.Prelude.{◌≡◌, ◌+◌, map, length, count_by};
 ghost use Rattle.mte_sched.specs.Contents.{tenant_sliced, tenant_stopped};
-ghost use Rattle.mte_sched.specs.Tenants.{tenants_in};
+ghost use Rattle.mte_sched.specs.Ledger.{is_live};
+ghost use Rattle.mte_sched.specs.Tenants.{tenants_in, entries_in};
 ghost use Rattle.mte_sched.specs.Sharing.{IsSharing, HasLiveAt};
 
 use crate::machine::halt;
@@ -63,6 +64,8 @@ pub(crate) fn stop_at(
     ensures frames { length pool.new.frames ≡ length pool.old.frames }
     ensures tenants { tenants_in pool.new tenants.new.items
         ≡ map (tenant_stopped id) (tenants_in pool.old tenants.old.items) }
+    ensures live { count_by is_live (entries_in tenants.new.items) + 1
+        ≡ count_by is_live (entries_in tenants.old.items) }
 {
     // the last takes its place until it comes back
     let Tenant { pages, holding } = tenants.swap_remove(asid);

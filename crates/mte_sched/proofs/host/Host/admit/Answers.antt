@@ -1,4 +1,4 @@
-use Rattle.std.proofs.Common.{◌≡◌, ◌≢◌, ◌∙◌, ◌/◌, ◌^◌, ◌++◌, ◌∷◌, [], ℕ, List, length, ap, sym, subst, rules, arith}
+use Rattle.std.proofs.Common.{◌≡◌, ◌≢◌, ◌∙◌, ◌/◌, ◌^◌, ◌+◌, ◌++◌, ◌∷◌, [], ℕ, List, length, count_by, slice_set, ap, sym, subst, rules, arith}
 use Rattle.std.specs.Prelude.{All}
 use Rattle.mte_frames.specs.Pool.{Pool}
 use Rattle.mte_translate.specs.declared.translation.Translation.{Translation}
@@ -10,10 +10,12 @@ use Rattle.mte_sched.specs.declared.tenant.Tenant as code
 use Rattle.mte_sched.specs.declared.tenant.Holding.TheVariants as kept
 use Rattle.mte_sched.specs.Contents.{Tenant, Content, admitted, new_tenant}
 use Rattle.mte_sched.specs.Places.{memory_at, IsPlaced}
-use Rattle.mte_sched.specs.Tenants.{tenants_in, terms_of}
-use Rattle.mte_sched.specs.Sharing.{IsSharing}
+use Rattle.mte_sched.specs.Tenants.{record_in, tenants_in, entries_in, terms_of}
+use Rattle.mte_sched.specs.Ledger.{is_live, numbers_of}
+use Rattle.mte_sched.specs.Sharing.{IsSharing, IsIndexed}
 use Rattle.mte_sched.proofs.EachLemmas.{ledger_is}
-use Rattle.mte_sched.proofs.AdmitLemmas.{fresh_asid, entered_sharing, entered_tenants, first_ready, first_number, first_tenant}
+use Rattle.mte_sched.proofs.IndexLemmas.{entered_place, entered_index}
+use Rattle.mte_sched.proofs.AdmitLemmas.{fresh_asid, entered_sharing, entered_tenants, entered_count, first_ready, first_number, first_tenant}
 use Rattle.mte_sched.proofs.host.Host.admit.Goals as goal
 
 pub returns-in_err-plan-clause-refused : goal.returns-in_err-plan-clause-refused
@@ -32,6 +34,12 @@ pub start_place-place-requires-clause-fresh : goal.start_place-place-requires-cl
 start_place-place-requires-clause-fresh c =
     let asid : c.len-asid.result ≡ length c.args.self.now.tenants.items = search rules in
     subst (λ k. All (λ u. u.asid ≢ k) c.args.self.now.tlb) (sym asid) (fresh_asid c.args.self.now.pool c.args.self.now.tlb c.args.self.now.tenants.items c.args.self.now.sharing)
+
+pub enter-requires-clause-position : goal.enter-requires-clause-position
+enter-requires-clause-position c =
+    let h = c.args.self.now in
+    let asid : c.len-asid.result ≡ length h.tenants.items = search rules in
+    rw asid (entered_place h.index.positions.items h.tenants.items c.args.admission.now.id h.indexed (search rules) c.in_ok-plan.ensures.fresh)
 
 pub invariant_of-self-2 : goal.invariant_of-self-2
 invariant_of-self-2 c =
@@ -54,7 +62,18 @@ invariant_of-self-2 c =
     let all = entered_sharing h.pool n h.tlb vs ts c.args.admission.now.id b c.in_ok-parts.parts pages h.sharing placed start.unused start.others entries ready start.reserved number c.in_ok-plan.ensures.fresh in
     let t : code.Tenant = record { pages = pages; holding = kept.Live (record { parts = c.in_ok-parts.parts; place = b }) } in
     let pushed : c.push_reserved.new.self.items ≡ ts ++ t ∷ [] = c.push_reserved.ensures.items ∙ ap (λ l. l ++ t ∷ []) c.in_ok-reserve.ensures.items in
-    record { sharing = subst (IsSharing n vs) (sym pushed) all }
+    let number_of : (record_in t).id ≡ c.args.admission.now.id = number in
+    let index : IsIndexed (slice_set h.index.positions.items c.args.admission.now.id (length ts)) (numbers_of (entries_in (ts ++ t ∷ []))) =
+    entered_index h.index.positions.items ts c.args.admission.now.id h.indexed (search rules) c.in_ok-plan.ensures.fresh t number_of in
+    let places : c.enter.new.self.positions.items ≡ slice_set h.index.positions.items c.args.admission.now.id (length ts) =
+    c.enter.ensures ∙ ap (slice_set h.index.positions.items c.args.admission.now.id) asid in
+    let count : count_by is_live (entries_in (ts ++ t ∷ [])) ≡ count_by is_live (entries_in ts) + 1 =
+    entered_count h.pool n h.tlb vs ts c.args.admission.now.id b c.in_ok-parts.parts pages h.sharing placed start.unused start.others entries in
+    record {
+      sharing = subst (IsSharing n vs) (sym pushed) all;
+      indexed = subst (λ l. IsIndexed c.enter.new.self.positions.items (numbers_of (entries_in l))) (sym pushed) (subst (λ l. IsIndexed l (numbers_of (entries_in (ts ++ t ∷ [])))) (sym places) index);
+      counted = ap (λ k. k + 1) h.counted ∙ sym count ∙ ap (λ l. count_by is_live (entries_in l)) (sym pushed);
+    }
 
 pub returns-clause-accepted : goal.returns-clause-accepted
 returns-clause-accepted c = rw (ledger_is c.args.self.now.pool c.args.self.now.tenants.items) (search rules)
