@@ -1,6 +1,7 @@
 -- An admission beside the tenants that are there.
 use Rattle.std.proofs.Common.{◌≡◌, ◌≢◌, ℕ, zero, suc, ◌+◌, ◌<◌, ◌/◌, ◌^◌, ◌==◌, ◌||◌, Bool, true, false, List, [], ◌∷◌, ◌++◌, length, sum, sum_by}
-use Rattle.std.proofs.Common.{Some, cond, count_by, None, refl, ap, sym, subst, ◌∙◌, arith}
+use Rattle.std.specs.declared.alloc.Global.{Global}
+use Rattle.std.proofs.Common.{Box, Some, cond, count_by, None, refl, ap, sym, subst, ◌∙◌, arith}
 use Rattle.std.specs.Prelude.{All}
 use Rattle.std.specs.List.{list_any, slice_get}
 use Rattle.std.proofs.lemmas.Option.{slice_get_past}
@@ -48,7 +49,7 @@ fresh_number id (t ∷ ts) zero u none at = λ e.
     let z : true ≡ false = sym yes ∙ no in cc
 fresh_number id (t ∷ ts) (suc j) u none at = fresh_number id ts j u (or_right ((record_in t).id == id) _ none) at
 
-module _ (p n : Pool) (us vs : List Translation) (ts : List code.Tenant) (id : ℕ) (b : Place) (parts : TenantParts) (pages : ℕ)
+module _ (p n : Pool) (us vs : List Translation) (ts : List code.Tenant) (id : ℕ) (b : Place) (parts : Box TenantParts Global) (pages : ℕ)
     (sharing : IsSharing p us ts) (placed : IsPlaced n vs (length ts) pages b) (unused : reserved_by p b.quota ≡ 0)
     (others : KeepsOthers b.quota p n) (entries : NoneEnters (length ts) us vs) where
   abbrev pub entered : code.Tenant
@@ -71,11 +72,11 @@ module _ (p n : Pool) (us vs : List Translation) (ts : List code.Tenant) (id : �
   pub entered_count : count_by is_live (entries_in (ts ++ entered ∷ [])) ≡ count_by is_live (entries_in ts) + 1
   entered_count = ap (count_by is_live) (map-append entry_in ts (entered ∷ [])) ∙ sum_by-append (λ e. cond (is_live e) 1 0) (entries_in ts) (entry_in entered ∷ [])
 
-  module _ (ready : IsReady parts (memory_at n b pages)) (reserved : sum n.reserved ≡ sum p.reserved + charge_of pages) (number : parts.account.id ≡ id)
+  module _ (ready : IsReady parts.value (memory_at n b pages)) (reserved : sum n.reserved ≡ sum p.reserved + charge_of pages) (number : parts.value.account.id ≡ id)
       (fresh : list_any (has_id id) (entries_in ts) ≡ false) where
-    own : (c : Live) → entered.holding ≡ kept.Live c → (c.place.quota ≡ b.quota) × IsPlaced n vs (length ts) entered.pages c.place × IsReady c.parts (memory_at n c.place entered.pages)
+    own : (c : Live) → entered.holding ≡ kept.Live c → (c.place.quota ≡ b.quota) × IsPlaced n vs (length ts) entered.pages c.place × IsReady c.parts.value (memory_at n c.place entered.pages)
     own c e =
-        subst (λ (z : Live). (z.place.quota ≡ b.quota) × IsPlaced n vs (length ts) pages z.place × IsReady z.parts (memory_at n z.place pages)) (live_same (record { parts = parts; place = b }) c e) (refl, placed, ready)
+        subst (λ (z : Live). (z.place.quota ≡ b.quota) × IsPlaced n vs (length ts) pages z.place × IsReady z.parts.value (memory_at n z.place pages)) (live_same (record { parts = parts; place = b }) c e) (refl, placed, ready)
 
     sums : sum_by charge_in (entries_in (ts ++ entered ∷ [])) ≡ sum_by charge_in (entries_in ts) + charge_of pages
     sums =
@@ -105,7 +106,7 @@ pub first_number : (id : ℕ) (terms : Terms) (parts : TenantParts) → parts �
 unfolding first_parts
 first_number id terms parts e = ap (λ (q : TenantParts). q.account.id) e
 
-pub first_tenant : (n : Pool) (id : ℕ) (terms : Terms) (parts : TenantParts) (b : Place) → parts ≡ first_parts id terms → memory_at n b terms.pages ≡ first_memory terms.image terms.pages terms.mode
+pub first_tenant : (n : Pool) (id : ℕ) (terms : Terms) (parts : Box TenantParts Global) (b : Place) → parts.value ≡ first_parts id terms → memory_at n b terms.pages ≡ first_memory terms.image terms.pages terms.mode
     → tenant_in n (record { pages = terms.pages; holding = kept.Live (record { parts = parts; place = b }) }) ≡ new_tenant id terms
 unfolding start_of first_parts
 first_tenant n id terms parts b e memory = rw (e, memory) refl

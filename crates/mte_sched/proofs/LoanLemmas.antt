@@ -121,17 +121,17 @@ module _ (p : Pool) (us : List Translation) (ts : List code.Tenant) (sharing : I
       pages_left-space n x.live.place.table x.tenant.pages x.live.place.state placed_lent.space.table.len_is
       ∙ sym (pages_left-space p x.live.place.table x.tenant.pages x.live.place.state placed.space.table.len_is)
 
-  ready_lent : IsReady x.live.parts (memory_at n x.live.place x.tenant.pages)
+  ready_lent : IsReady x.live.parts.value (memory_at n x.live.place x.tenant.pages)
   ready_lent =
       let ready = sharing.ready x.at x.tenant x.live x.lies in
       record {
-        heap = served-same (memory_at p x.live.place x.tenant.pages) (memory_at n x.live.place x.tenant.pages) x.live.parts.heap ready.heap attrs_stay left_stays;
+        heap = served-same (memory_at p x.live.place x.tenant.pages) (memory_at n x.live.place x.tenant.pages) x.live.parts.value.heap ready.heap attrs_stay left_stays;
         tag = ready.tag;
       }
 
-  own : (b : Live) → x.tenant.holding ≡ kept.Live b → (b.place.quota ≡ x.live.place.quota) × IsPlaced n us x.at x.tenant.pages b.place × IsReady b.parts (memory_at n b.place x.tenant.pages)
+  own : (b : Live) → x.tenant.holding ≡ kept.Live b → (b.place.quota ≡ x.live.place.quota) × IsPlaced n us x.at x.tenant.pages b.place × IsReady b.parts.value (memory_at n b.place x.tenant.pages)
   own b e =
-      subst (λ (z : Live). (z.place.quota ≡ x.live.place.quota) × IsPlaced n us x.at x.tenant.pages z.place × IsReady z.parts (memory_at n z.place x.tenant.pages))
+      subst (λ (z : Live). (z.place.quota ≡ x.live.place.quota) × IsPlaced n us x.at x.tenant.pages z.place × IsReady z.parts.value (memory_at n z.place x.tenant.pages))
       (live_same x.live b (sym x.lies.live ∙ e)) (refl, placed_lent, ready_lent)
 
   pub lent_sharing : IsSharing (with_bytes_at p f ws) us ts
@@ -164,7 +164,7 @@ module _ (p : Pool) (us : List Translation) (ts : List code.Tenant) (sharing : I
     tenant_lent : tenant_in n x.tenant ≡ tenant_written id q ws (tenant_in p x.tenant)
     tenant_lent =
         by_live n x.tenant x.live x.lies.live
-        ∙ written_tenant id q x.tenant.pages ws x.live.parts (memory_at p x.live.place x.tenant.pages) (memory_at n x.live.place x.tenant.pages) (eq-eqb x.live.parts.account.id id (sym (ap (λ (r : Record). r.id) (live_record x.tenant x.live x.lies.live)) ∙ x.number)) memory_lent
+        ∙ written_tenant id q x.tenant.pages ws x.live.parts.value (memory_at p x.live.place x.tenant.pages) (memory_at n x.live.place x.tenant.pages) (eq-eqb x.live.parts.value.account.id id (sym (ap (λ (r : Record). r.id) (live_record x.tenant x.live x.lies.live)) ∙ x.number)) memory_lent
         ∙ sym (ap (tenant_written id q ws) (by_live p x.tenant x.live x.lies.live))
 
     other_id : (j : ℕ) (u : code.Tenant) → j ≢ x.at → slice_get ts j ≡ Some u → ((record_in u).id == id) ≡ false

@@ -50,7 +50,7 @@ memory_stays p n us vs k i j pages a turn differs h =
 same_held : (p n : Pool) (pages : ℕ) (o : Holding) → ((a : Live) → o ≡ kept.Live a → memory_at n a.place pages ≡ memory_at p a.place pages)
     → held_by n pages o ≡ held_by p pages o
 same_held p n pages (kept.Gone r) h = refl
-same_held p n pages (kept.Live a) h = ap (λ m. held.Live (machine_of a.parts m)) (h a refl)
+same_held p n pages (kept.Live a) h = ap (λ m. held.Live (machine_of a.parts.value m)) (h a refl)
 
 -- A tenant whose quota is not the turn's is what it was.
 pub tenant_stays : (p n : Pool) (us vs : List Translation) (ts : List code.Tenant) (k i j : ℕ) (u : code.Tenant) → Turn p n us vs k i → IsSharing p us ts
@@ -84,13 +84,13 @@ module _ (p n : Pool) (us vs : List Translation) (ts ns : List code.Tenant) (k i
       All-weaker (λ v. Contains us v × (v.asid ≢ i)) (λ v. is_placed (slice_get ns v.asid) ≡ true)
       (λ v h. ap is_placed (has.other v.asid h.1) ∙ All-contains (λ v. is_placed (slice_get ts v.asid) ≡ true) us v sharing.cached h.0) vs rest
 
-  module _ (own : (a : Live) → t.holding ≡ kept.Live a → (a.place.quota ≡ k) × IsPlaced n vs i t.pages a.place × IsReady a.parts (memory_at n a.place t.pages))
+  module _ (own : (a : Live) → t.holding ≡ kept.Live a → (a.place.quota ≡ k) × IsPlaced n vs i t.pages a.place × IsReady a.parts.value (memory_at n a.place t.pages))
       (number : (j : ℕ) (u : code.Tenant) → j ≢ i → slice_get ts j ≡ Some u → (record_in u).id ≢ (record_in t).id)
       (cached : All (λ v. is_placed (slice_get ns v.asid) ≡ true) vs) (reserved : sum n.reserved ≡ sum_by charge_in (entries_in ns)) where
-    own_at : (j : ℕ) (u : code.Tenant) (a : Live) → j ≡ i → LiesAt ns j u a → (a.place.quota ≡ k) × IsPlaced n vs j u.pages a.place × IsReady a.parts (memory_at n a.place u.pages)
+    own_at : (j : ℕ) (u : code.Tenant) (a : Live) → j ≡ i → LiesAt ns j u a → (a.place.quota ≡ k) × IsPlaced n vs j u.pages a.place × IsReady a.parts.value (memory_at n a.place u.pages)
     own_at j u a e h =
-        subst (λ l. (a.place.quota ≡ k) × IsPlaced n vs l u.pages a.place × IsReady a.parts (memory_at n a.place u.pages)) (sym e)
-        (subst (λ (w : code.Tenant). (a.place.quota ≡ k) × IsPlaced n vs i w.pages a.place × IsReady a.parts (memory_at n a.place w.pages)) (is_new j u e h.tenant)
+        subst (λ l. (a.place.quota ≡ k) × IsPlaced n vs l u.pages a.place × IsReady a.parts.value (memory_at n a.place u.pages)) (sym e)
+        (subst (λ (w : code.Tenant). (a.place.quota ≡ k) × IsPlaced n vs i w.pages a.place × IsReady a.parts.value (memory_at n a.place w.pages)) (is_new j u e h.tenant)
         (own a (ap (λ (w : code.Tenant). w.holding) (is_new j u e h.tenant) ∙ h.live)))
 
     placed_at : (j : ℕ) (u : code.Tenant) (a : Live) → LiesAt ns j u a → IsPlaced n vs j u.pages a.place
@@ -99,12 +99,12 @@ module _ (p n : Pool) (us vs : List Translation) (ts ns : List code.Tenant) (k i
       | inr d ↦ placed_stays p n us vs k i j u.pages a.place turn (differs j u a d (was_at j u a d h)) d (sharing.placed j u a (was_at j u a d h))
     ]
 
-    ready_at : (j : ℕ) (u : code.Tenant) (a : Live) → LiesAt ns j u a → IsReady a.parts (memory_at n a.place u.pages)
+    ready_at : (j : ℕ) (u : code.Tenant) (a : Live) → LiesAt ns j u a → IsReady a.parts.value (memory_at n a.place u.pages)
     ready_at j u a h = elim (cases_eq j i) [
       | inl e ↦ (own_at j u a e h).2
       | inr d ↦
           let was = was_at j u a d h in
-          subst (IsReady a.parts) (sym (memory_stays p n us vs k i j u.pages a.place turn (differs j u a d was) (sharing.placed j u a was))) (sharing.ready j u a was)
+          subst (IsReady a.parts.value) (sym (memory_stays p n us vs k i j u.pages a.place turn (differs j u a d was) (sharing.placed j u a was))) (sharing.ready j u a was)
     ]
 
     quotas_at : (j l : ℕ) (u w : code.Tenant) (a b : Live) → LiesAt ns j u a → LiesAt ns l w b → a.place.quota ≡ b.place.quota → j ≡ l

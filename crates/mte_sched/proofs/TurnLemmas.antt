@@ -1,6 +1,7 @@
 -- A slice and a stop of one tenant, beside the others.
 use Rattle.std.proofs.Common.{◌≡◌, ◌≢◌, ℕ, zero, suc, ◌+◌, ◌<◌, ◌==◌, ◌&&◌, Bool, true, false, List, [], ◌∷◌, map, length, get_or, slice_set, sum, sum_by}
-use Rattle.std.proofs.Common.{Some, cond, count_by, if◌then◌else◌, refl, ap, sym, subst, ◌∙◌, arith}
+use Rattle.std.specs.declared.alloc.Global.{Global}
+use Rattle.std.proofs.Common.{Box, Some, cond, count_by, if◌then◌else◌, refl, ap, sym, subst, ◌∙◌, arith}
 use Rattle.std.specs.List.{slice_get}
 use Rattle.std.proofs.lemmas.Bool.{ne_eqb, eqb-true}
 use Rattle.std.proofs.lemmas.List.Elements.{All-weaker}
@@ -68,10 +69,10 @@ pub held_if : (b : Bool) (t : Tenant) (h : Held) → b ≡ false → (let u : Te
 held_if true t h e = absurd cc
 held_if false t h e = refl
 
-pub by_live : (p : Pool) (t : code.Tenant) (a : Live) → t.holding ≡ kept.Live a → tenant_in p t ≡ tenant_by a.parts (memory_at p a.place t.pages) t.pages
+pub by_live : (p : Pool) (t : code.Tenant) (a : Live) → t.holding ≡ kept.Live a → tenant_in p t ≡ tenant_by a.parts.value (memory_at p a.place t.pages) t.pages
 by_live p t a e = ap (λ (z : Holding). let u : Tenant = record { id = (record_by z).id; pages = t.pages; held = held_by p t.pages z } in u) e
 
-pub live_record : (t : code.Tenant) (a : Live) → t.holding ≡ kept.Live a → record_in t ≡ a.parts.account
+pub live_record : (t : code.Tenant) (a : Live) → t.holding ≡ kept.Live a → record_in t ≡ a.parts.value.account
 live_record t a e = ap record_by e
 
 module _ (p n : Pool) (us vs : List Translation) (ts : List code.Tenant) (i id : ℕ) (t : code.Tenant) (a : Live)
@@ -80,10 +81,10 @@ module _ (p n : Pool) (us vs : List Translation) (ts : List code.Tenant) (i id :
   turn : Turn p n us vs a.place.quota i
   turn = record { others = others; entries = entries }
 
-  own_number : (record_in t).id ≡ a.parts.account.id
+  own_number : (record_in t).id ≡ a.parts.value.account.id
   own_number = ap (λ (r : Record). r.id) (live_record t a lies.live)
 
-  own_same : (a.parts.account.id == id) ≡ true
+  own_same : (a.parts.value.account.id == id) ≡ true
   own_same = ap (λ k. k == id) (sym own_number) ∙ same
 
   differs : (j : ℕ) (u : code.Tenant) (b : Live) → j ≢ i → LiesAt ts j u b → b.place.quota ≢ a.place.quota
@@ -100,23 +101,23 @@ module _ (p n : Pool) (us vs : List Translation) (ts : List code.Tenant) (i id :
 
   -- ---- a slice
 
-  module _ (steps : ℕ) (b : Place) (parts : TenantParts) (rest : KeepsRest a.place.quota p n a.place.table b.table) (quota : b.quota ≡ a.place.quota) (space : IsSpace n b.quota b.table t.pages)
-      (cached : IsCached (pages_of n b.table.frame) i vs) (ready : IsReady parts (memory_at n b t.pages))
-      (step : machine_of parts (memory_at n b t.pages) ≡ advance steps (machine_of a.parts (memory_at p a.place t.pages))) (was : IsSound p) (is : IsSound n) where
+  module _ (steps : ℕ) (b : Place) (parts : Box TenantParts Global) (rest : KeepsRest a.place.quota p n a.place.table b.table) (quota : b.quota ≡ a.place.quota) (space : IsSpace n b.quota b.table t.pages)
+      (cached : IsCached (pages_of n b.table.frame) i vs) (ready : IsReady parts.value (memory_at n b t.pages))
+      (step : machine_of parts.value (memory_at n b t.pages) ≡ advance steps (machine_of a.parts.value (memory_at p a.place t.pages))) (was : IsSound p) (is : IsSound n) where
     abbrev pub after : code.Tenant
     after = record { pages = t.pages; holding = kept.Live (record { parts = parts; place = b }) }
 
-    same_number : parts.account.id ≡ (record_in t).id
-    same_number = ap number_in step ∙ advance-id steps (machine_of a.parts (memory_at p a.place t.pages)) ∙ sym own_number
+    same_number : parts.value.account.id ≡ (record_in t).id
+    same_number = ap number_in step ∙ advance-id steps (machine_of a.parts.value (memory_at p a.place t.pages)) ∙ sym own_number
 
     same_entry : entry_in after ≡ entry_in t
     same_entry =
         ap (λ k. let e : Entry = record { id = k; pages = t.pages; live = true } in e) same_number
         ∙ ap (λ (o : Holding). let e : Entry = record { id = (record_in t).id; pages = t.pages; live = is_live_by o } in e) (sym lies.live)
 
-    own : (c : Live) → after.holding ≡ kept.Live c → (c.place.quota ≡ a.place.quota) × IsPlaced n vs i after.pages c.place × IsReady c.parts (memory_at n c.place after.pages)
+    own : (c : Live) → after.holding ≡ kept.Live c → (c.place.quota ≡ a.place.quota) × IsPlaced n vs i after.pages c.place × IsReady c.parts.value (memory_at n c.place after.pages)
     own c e =
-        subst (λ (z : Live). (z.place.quota ≡ a.place.quota) × IsPlaced n vs i t.pages z.place × IsReady z.parts (memory_at n z.place t.pages)) (live_same (record { parts = parts; place = b }) c e)
+        subst (λ (z : Live). (z.place.quota ≡ a.place.quota) × IsPlaced n vs i t.pages z.place × IsReady z.parts.value (memory_at n z.place t.pages)) (live_same (record { parts = parts; place = b }) c e)
         (quota, placed_after p n us vs i t.pages a.place b (sharing.placed i t a lies) rest quota space cached, ready)
 
     pub sliced_sharing : IsSharing n vs (slice_set ts i after)
@@ -131,18 +132,18 @@ module _ (p n : Pool) (us vs : List Translation) (ts : List code.Tenant) (i id :
     sliced_tenants =
         map_turn (tenant_in n) (tenant_in p) (tenant_sliced id steps) ts i after
         (λ j u d at. stays j u d at ∙ sym (held_if ((record_in u).id == id) (tenant_in p u) (held_sliced steps (tenant_in p u).held) (other_id j u d at)))
-        (λ u e. sliced_tenant id steps t.pages a.parts parts (memory_at p a.place t.pages) (memory_at n b t.pages) own_same step
+        (λ u e. sliced_tenant id steps t.pages a.parts.value parts.value (memory_at p a.place t.pages) (memory_at n b t.pages) own_same step
         ∙ ap (tenant_sliced id steps) (sym (by_live p t a lies.live) ∙ ap (tenant_in p) (some_same t u (sym lies.tenant ∙ e))))
 
   -- ---- a stop
 
   module _ (parts : TenantParts) (gone : vs ≡ without_asid i us) (charge : sum n.reserved + charge_of t.pages ≡ sum p.reserved)
-      (step : (m : Memory) → machine_of parts m ≡ halted (machine_of a.parts m)) where
+      (step : (m : Memory) → machine_of parts m ≡ halted (machine_of a.parts.value m)) where
     abbrev pub left : code.Tenant
     left = record { pages = t.pages; holding = kept.Gone parts.account }
 
     left_number : parts.account.id ≡ (record_in t).id
-    left_number = ap number_in (step (memory_at p a.place t.pages)) ∙ halted-id (machine_of a.parts (memory_at p a.place t.pages)) ∙ sym own_number
+    left_number = ap number_in (step (memory_at p a.place t.pages)) ∙ halted-id (machine_of a.parts.value (memory_at p a.place t.pages)) ∙ sym own_number
 
     was_charged : charge_in (entry_in t) ≡ charge_of t.pages
     was_charged = ap (λ (o : Holding). if is_live_by o then charge_of t.pages else 0) lies.live
@@ -165,7 +166,7 @@ module _ (p n : Pool) (us vs : List Translation) (ts : List code.Tenant) (i id :
     stopped_tenants =
         map_turn (tenant_in n) (tenant_in p) (tenant_stopped id) ts i left
         (λ j u d at. stays j u d at ∙ sym (held_if ((record_in u).id == id) (tenant_in p u) (held_stopped (tenant_in p u).held) (other_id j u d at)))
-        (λ u e. stopped_tenant id t.pages a.parts parts (memory_at p a.place t.pages) own_same step
+        (λ u e. stopped_tenant id t.pages a.parts.value parts (memory_at p a.place t.pages) own_same step
         ∙ ap (tenant_stopped id) (sym (by_live p t a lies.live) ∙ ap (tenant_in p) (some_same t u (sym lies.tenant ∙ e))))
 
 pub gone_enters : (i : ℕ) (us vs : List Translation) → vs ≡ without_asid i us → NoneEnters i us vs

@@ -44,7 +44,7 @@ pub record IsSharing (p : Pool) (us : List Translation) (ts : List Tenant) : Typ
   pub placed : (i : ℕ) (t : Tenant) (a : Live) → LiesAt ts i t a
       → IsPlaced p us i t.pages a.place
   pub ready : (i : ℕ) (t : Tenant) (a : Live) → LiesAt ts i t a
-      → IsReady a.parts (memory_at p a.place t.pages)
+      → IsReady a.parts.value (memory_at p a.place t.pages)
   -- no two have the same quota
   pub quotas : (i j : ℕ) (t u : Tenant) (a b : Live) → LiesAt ts i t a → LiesAt ts j u b
       → a.place.quota ≡ b.place.quota → i ≡ j

@@ -13,11 +13,11 @@ use Rattle.mte_sched.specs.Places.{memory_at}
 
 -- What is kept of a tenant with a reservation.
 abbrev pub held_by : Pool → ℕ → Holding → Held
-held_by p pages (kept.Live l) = Live (machine_of l.parts (memory_at p l.place pages))
+held_by p pages (kept.Live l) = Live (machine_of l.parts.value (memory_at p l.place pages))
 held_by p pages (kept.Gone r) = Gone r
 
 abbrev pub record_by : Holding → Record
-record_by (kept.Live l) = l.parts.account
+record_by (kept.Live l) = l.parts.value.account
 record_by (kept.Gone r) = r
 
 abbrev pub is_live_by : Holding → Bool

@@ -94,7 +94,8 @@ impl Host {
     {
         condition_of_calls();
         let plan = self.accept(alloc, admission)?;
-        let parts = start_parts(alloc, admission, &plan)?;
+        let first = start_parts(alloc, admission, &plan)?;
+        let parts = Box::new(alloc, first)?;
         self.tenants.reserve(1)?;
         let asid = self.tenants.len();
         self.index.enter(admission.id, asid);

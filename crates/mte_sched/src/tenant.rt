@@ -22,8 +22,8 @@ pub(crate) enum Holding {
 /// A machine.
 #[derive(Drop)]
 pub(crate) struct Live {
-    /// All of it but its memory.
-    pub(crate) parts: TenantParts,
+    /// All of it but its memory. It stands apart, so that a stopped tenant needs no room for it.
+    pub(crate) parts: Box<TenantParts>,
     /// Where its memory lies.
     pub(crate) place: Place,
 }

@@ -41,7 +41,7 @@ pub(crate) fn slice_at(
             tlb,
             asid,
             tenant.pages,
-            &mut live.parts,
+            &mut *live.parts,
             &mut live.place,
             steps,
         );
@@ -72,7 +72,8 @@ pub(crate) fn stop_at(
     let Holding::Live(live) = holding else {
         unreachable!();
     };
-    let Live { mut parts, place } = live;
+    let Live { parts, place } = live;
+    let mut parts = Box::into_inner(parts);
     halt(&mut parts);
     stop_place(pool, tlb, asid, pages, place);
     let TenantParts { account, .. } = parts;

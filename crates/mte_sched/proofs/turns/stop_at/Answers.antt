@@ -1,7 +1,10 @@
 use Rattle.std.proofs.Common.{◌≡◌, ◌==◌, ◌∙◌, ◌+◌, ◌<◌, ℕ, true, List, Some, length, get_or, slice_set, count_by, ap, sym, subst, rules, arith}
 use Rattle.std.specs.Prelude.{vec_len}
+use Rattle.mte_tags.specs.Memory.{Memory}
+use Rattle.mte_svc.specs.declared.parts.TenantParts.{TenantParts}
 use Rattle.mte_sched.specs.declared.tenant.Tenant.{Tenant}
 use Rattle.mte_sched.specs.declared.tenant.Holding.TheVariants as kept
+use Rattle.mte_sched.specs.Machines.{machine_of, halted}
 use Rattle.mte_sched.specs.Ledger.{has_live_id, is_live}
 use Rattle.mte_sched.specs.Tenants.{record_in, is_live_by, entry_in, entries_in, tenants_in}
 use Rattle.mte_sched.specs.Sharing.{LiesAt, IsSharing}
@@ -43,12 +46,14 @@ returns c =
     let turn = c.stop_place.ensures in
     let entries = gone_enters i c.args.tlb.now c.stop_place.new.tlb turn.entries in
     let same = both_right (is_live_by t.holding) ((record_in t).id == c.args.id) live in
+    let step : (m : Memory) → machine_of c.halt.new.parts m ≡ halted (machine_of c.in-Live.live.parts.value m) =
+    λ m. c.halt.ensures.machine m ∙ ap (λ (q : TenantParts). halted (machine_of q m)) c.into_inner-parts.ensures in
     record {
       sharing = subst (λ (l : List Tenant). IsSharing c.stop_place.new.pool c.stop_place.new.tlb l) (sym back)
-          (stopped_sharing c.args.pool.now c.stop_place.new.pool c.args.tlb.now c.stop_place.new.tlb ts i c.args.id t c.in-Live.live c.requires.sharing lies same within turn.others entries c.halt.new.parts turn.entries turn.reserved c.halt.ensures.machine);
+          (stopped_sharing c.args.pool.now c.stop_place.new.pool c.args.tlb.now c.stop_place.new.tlb ts i c.args.id t c.in-Live.live c.requires.sharing lies same within turn.others entries c.halt.new.parts turn.entries turn.reserved step);
       frames = turn.others.count;
       tenants = ap (tenants_in c.stop_place.new.pool) back
-          ∙ stopped_tenants c.args.pool.now c.stop_place.new.pool c.args.tlb.now c.stop_place.new.tlb ts i c.args.id t c.in-Live.live c.requires.sharing lies same within turn.others entries c.halt.new.parts turn.entries turn.reserved c.halt.ensures.machine;
+          ∙ stopped_tenants c.args.pool.now c.stop_place.new.pool c.args.tlb.now c.stop_place.new.tlb ts i c.args.id t c.in-Live.live c.requires.sharing lies same within turn.others entries c.halt.new.parts turn.entries turn.reserved step;
       live = ap (λ l. count_by is_live (entries_in l) + 1) back
-          ∙ stopped_count c.args.pool.now c.stop_place.new.pool c.args.tlb.now c.stop_place.new.tlb ts i c.args.id t c.in-Live.live c.requires.sharing lies same within turn.others entries c.halt.new.parts turn.entries turn.reserved c.halt.ensures.machine;
+          ∙ stopped_count c.args.pool.now c.stop_place.new.pool c.args.tlb.now c.stop_place.new.tlb ts i c.args.id t c.in-Live.live c.requires.sharing lies same within turn.others entries c.halt.new.parts turn.entries turn.reserved step;
     }

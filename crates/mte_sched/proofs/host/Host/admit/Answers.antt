@@ -8,6 +8,7 @@ use Rattle.scudo_heap.specs.Served.{IsServed}
 use Rattle.mte_sched.specs.declared.place.Place.{Place}
 use Rattle.mte_sched.specs.declared.tenant.Tenant as code
 use Rattle.mte_sched.specs.declared.tenant.Holding.TheVariants as kept
+use Rattle.mte_sched.specs.Machines.{first_parts}
 use Rattle.mte_sched.specs.Contents.{Tenant, Content, admitted, new_tenant}
 use Rattle.mte_sched.specs.Places.{memory_at, IsPlaced}
 use Rattle.mte_sched.specs.Tenants.{record_in, tenants_in, entries_in, terms_of}
@@ -26,6 +27,9 @@ returns-in_err-plan-clause-memory c = rw (ledger_is c.args.self.now.pool c.args.
 
 pub returns-in_err-parts-clause-memory : goal.returns-in_err-parts-clause-memory
 returns-in_err-parts-clause-memory c = rw (ledger_is c.args.self.now.pool c.args.self.now.tenants.items) (search rules)
+
+pub returns-in_err-first-clause-memory : goal.returns-in_err-first-clause-memory
+returns-in_err-first-clause-memory c = rw (ledger_is c.args.self.now.pool c.args.self.now.tenants.items) (search rules)
 
 pub returns-in_err-reserve-clause-memory : goal.returns-in_err-reserve-clause-memory
 returns-in_err-reserve-clause-memory c = rw (ledger_is c.args.self.now.pool c.args.self.now.tenants.items) (search rules)
@@ -51,14 +55,15 @@ invariant_of-self-2 c =
     let vs : List Translation = c.start_place-place.new.tlb in
     let b : Place = c.start_place-place.result in
     let start = c.start_place-place.ensures in
+    let boxed : c.in_ok-parts.parts.value ≡ first_parts c.args.admission.now.id terms = c.in_ok-parts.ensures.ok ∙ c.in_ok-first.ensures in
     let asid : c.len-asid.result ≡ length ts = search rules in
     let placed : IsPlaced n vs (length ts) pages b = subst (λ k. IsPlaced n vs k pages b) asid start.placed in
     let entries : NoneEnters (length ts) h.tlb vs = subst (λ k. NoneEnters k h.tlb vs) asid start.entries in
     let limit : (memory_at n b pages).limit ≡ pages = start.limit in
     let served : IsServed (memory_at n b pages) (empty_heap (c.args.admission.now.seed / 2 ^ 32) pages) =
     c.condition_of_calls.ensures.first (memory_at n b pages) (c.args.admission.now.seed / 2 ^ 32) pages (omega (arith, limit)) start.untouched in
-    let ready = first_ready c.args.admission.now.id terms c.in_ok-parts.parts (memory_at n b pages) c.in_ok-parts.ensures served in
-    let number = first_number c.args.admission.now.id terms c.in_ok-parts.parts c.in_ok-parts.ensures in
+    let ready = first_ready c.args.admission.now.id terms c.in_ok-parts.parts.value (memory_at n b pages) boxed served in
+    let number = first_number c.args.admission.now.id terms c.in_ok-parts.parts.value boxed in
     let all = entered_sharing h.pool n h.tlb vs ts c.args.admission.now.id b c.in_ok-parts.parts pages h.sharing placed start.unused start.others entries ready start.reserved number c.in_ok-plan.ensures.fresh in
     let t : code.Tenant = record { pages = pages; holding = kept.Live (record { parts = c.in_ok-parts.parts; place = b }) } in
     let pushed : c.push_reserved.new.self.items ≡ ts ++ t ∷ [] = c.push_reserved.ensures.items ∙ ap (λ l. l ++ t ∷ []) c.in_ok-reserve.ensures.items in
@@ -89,6 +94,7 @@ returns-clause-ok c =
     let vs : List Translation = c.start_place-place.new.tlb in
     let b : Place = c.start_place-place.result in
     let start = c.start_place-place.ensures in
+    let boxed : c.in_ok-parts.parts.value ≡ first_parts c.args.admission.now.id terms = c.in_ok-parts.ensures.ok ∙ c.in_ok-first.ensures in
     let asid : c.len-asid.result ≡ length ts = search rules in
     let placed : IsPlaced n vs (length ts) pages b = subst (λ k. IsPlaced n vs k pages b) asid start.placed in
     let entries : NoneEnters (length ts) h.tlb vs = subst (λ k. NoneEnters k h.tlb vs) asid start.entries in
@@ -97,6 +103,6 @@ returns-clause-ok c =
     let tenants : tenants_in n c.push_reserved.new.self.items ≡ tenants_in h.pool ts ++ new_tenant c.args.admission.now.id terms ∷ [] =
     ap (tenants_in n) pushed
     ∙ entered_tenants h.pool n h.tlb vs ts c.args.admission.now.id b c.in_ok-parts.parts pages h.sharing placed start.unused start.others entries
-    ∙ ap (λ u. tenants_in h.pool ts ++ u ∷ []) (first_tenant n c.args.admission.now.id terms c.in_ok-parts.parts b c.in_ok-parts.ensures start.memory) in
+    ∙ ap (λ u. tenants_in h.pool ts ++ u ∷ []) (first_tenant n c.args.admission.now.id terms c.in_ok-parts.parts b boxed start.memory) in
     ap (λ (k : ℕ). let z : Content = record { frames = k; tenants = tenants_in n c.push_reserved.new.self.items } in z) start.others.count
     ∙ ap (λ (l : List Tenant). let z : Content = record { frames = length h.pool.frames; tenants = l } in z) tenants
