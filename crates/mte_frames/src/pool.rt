@@ -107,6 +107,13 @@ impl FramePool {
         self.arena.frames()
     }
 
+    /// How many frames no quota has reserved.
+    pub fn unreserved(&self) -> usize
+        ensures { result ≡ unreserved self.now }
+    {
+        self.unreserved
+    }
+
     /// How many frames the quota has reserved.
     pub fn reserved(&self, quota: &Quota) -> usize
         ensures { result ≡ reserved_by self.now quota.now }

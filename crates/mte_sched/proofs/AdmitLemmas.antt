@@ -1,6 +1,7 @@
 -- An admission beside the tenants that are there.
 use Rattle.std.proofs.Common.{◌≡◌, ◌≢◌, ℕ, zero, suc, ◌+◌, ◌<◌, ◌/◌, ◌^◌, ◌==◌, ◌||◌, Bool, true, false, List, [], ◌∷◌, ◌++◌, length, sum, sum_by}
-use Rattle.std.proofs.Common.{Some, None, refl, ap, sym, subst, ◌∙◌, arith}
+use Rattle.std.specs.declared.alloc.Global.{Global}
+use Rattle.std.proofs.Common.{Box, Some, cond, count_by, None, refl, ap, sym, subst, ◌∙◌, arith}
 use Rattle.std.specs.Prelude.{All}
 use Rattle.std.specs.List.{list_any, slice_get}
 use Rattle.std.proofs.lemmas.Option.{slice_get_past}
@@ -17,15 +18,19 @@ use Rattle.scudo_heap.specs.Served.{IsServed}
 use Rattle.mte_svc.specs.declared.parts.TenantParts.{TenantParts}
 use Rattle.mte_sched.specs.declared.place.Place.{Place}
 use Rattle.mte_sched.specs.declared.tenant.Tenant as code
+use Rattle.mte_sched.specs.declared.tenant.Live.{Live}
+use Rattle.mte_sched.specs.declared.tenant.Holding.TheVariants as kept
 use Rattle.mte_sched.specs.Machines.{Terms, first_parts, first_memory, start_of}
-use Rattle.mte_sched.specs.Ledger.{charge_in, charge_of, has_id}
+use Rattle.mte_sched.specs.Ledger.{charge_in, charge_of, has_id, is_live}
 use Rattle.mte_sched.specs.Contents.{new_tenant}
 use Rattle.mte_sched.specs.Places.{memory_at, IsPlaced}
 use Rattle.mte_sched.specs.Ready.{IsReady}
-use Rattle.mte_sched.specs.Tenants.{tenant_in, tenants_in, entry_in, entries_in}
+use Rattle.mte_sched.specs.Tenants.{record_in, tenant_in, tenants_in, entry_in, entries_in}
 use Rattle.mte_sched.specs.Sharing.{is_placed, LiesAt, IsSharing}
 use Rattle.mte_sched.proofs.TenantLemmas.{heap_at_first, tag_at_first}
 use Rattle.mte_sched.proofs.PlaceLists.{has_more, some_same, map_same}
+use Rattle.mte_sched.proofs.EachLemmas.{or_left, or_right}
+use Rattle.mte_sched.proofs.TurnLemmas.{live_same}
 use Rattle.mte_sched.proofs.SharingLemmas.{Turn, tenant_stays, cached_after, sharing_after}
 
 -- No translation is of an ASID that no tenant has.
@@ -35,36 +40,28 @@ fresh_asid p us ts h =
     (λ u placed e. let none : slice_get ts u.asid ≡ None = slice_get_past ts u.asid (omega (arith, e)) in let no : is_placed (slice_get ts u.asid) ≡ false = ap is_placed none in let z : true ≡ false = sym placed ∙ no in cc)
     us h.cached
 
-or_left : (a b : Bool) → (a || b) ≡ false → a ≡ false
-or_left true b e = e
-or_left false b e = refl
-
-or_right : (a b : Bool) → (a || b) ≡ false → b ≡ false
-or_right true b e = absurd cc
-or_right false b e = e
-
 -- A number that was never admitted is no tenant's.
-pub fresh_number : (id : ℕ) (ts : List code.Tenant) (j : ℕ) (u : code.Tenant) → list_any (has_id id) (entries_in ts) ≡ false → slice_get ts j ≡ Some u → u.parts.account.id ≢ id
+pub fresh_number : (id : ℕ) (ts : List code.Tenant) (j : ℕ) (u : code.Tenant) → list_any (has_id id) (entries_in ts) ≡ false → slice_get ts j ≡ Some u → (record_in u).id ≢ id
 fresh_number id [] j u none at = absurd cc
 fresh_number id (t ∷ ts) zero u none at = λ e.
-    let no : (t.parts.account.id == id) ≡ false = or_left (t.parts.account.id == id) _ none in
-    let yes : (t.parts.account.id == id) ≡ true = eq-eqb t.parts.account.id id (ap (λ (w : code.Tenant). w.parts.account.id) (some_same t u at) ∙ e) in
+    let no : ((record_in t).id == id) ≡ false = or_left ((record_in t).id == id) _ none in
+    let yes : ((record_in t).id == id) ≡ true = eq-eqb (record_in t).id id (ap (λ (w : code.Tenant). (record_in w).id) (some_same t u at) ∙ e) in
     let z : true ≡ false = sym yes ∙ no in cc
-fresh_number id (t ∷ ts) (suc j) u none at = fresh_number id ts j u (or_right (t.parts.account.id == id) _ none) at
+fresh_number id (t ∷ ts) (suc j) u none at = fresh_number id ts j u (or_right ((record_in t).id == id) _ none) at
 
-module _ (p n : Pool) (us vs : List Translation) (ts : List code.Tenant) (id : ℕ) (b : Place) (parts : TenantParts) (pages : ℕ)
+module _ (p n : Pool) (us vs : List Translation) (ts : List code.Tenant) (id : ℕ) (b : Place) (parts : Box TenantParts Global) (pages : ℕ)
     (sharing : IsSharing p us ts) (placed : IsPlaced n vs (length ts) pages b) (unused : reserved_by p b.quota ≡ 0)
     (others : KeepsOthers b.quota p n) (entries : NoneEnters (length ts) us vs) where
   abbrev pub entered : code.Tenant
-  entered = record { parts = parts; place = Some b; pages = pages }
+  entered = record { pages = pages; holding = kept.Live (record { parts = parts; place = b }) }
 
   turn : Turn p n us vs b.quota (length ts)
   turn = record { others = others; entries = entries }
 
-  differs : (j : ℕ) (u : code.Tenant) (a : Place) → LiesAt ts j u a → a.quota ≢ b.quota
+  differs : (j : ℕ) (u : code.Tenant) (a : Live) → LiesAt ts j u a → a.place.quota ≢ b.quota
   differs j u a h = λ e.
-      let charged : reserved_by p a.quota ≡ charge_of u.pages = (sharing.placed j u a h).charged in
-      let same : reserved_by p a.quota ≡ reserved_by p b.quota = ap (reserved_by p) e in
+      let charged : reserved_by p a.place.quota ≡ charge_of u.pages = (sharing.placed j u a h).charged in
+      let same : reserved_by p a.place.quota ≡ reserved_by p b.quota = ap (reserved_by p) e in
       absurd (omega (arith, charged, same, unused))
 
   pub entered_tenants : tenants_in n (ts ++ entered ∷ []) ≡ tenants_in p ts ++ tenant_in n entered ∷ []
@@ -72,11 +69,14 @@ module _ (p n : Pool) (us vs : List Translation) (ts : List code.Tenant) (id : �
       map-append (tenant_in n) ts (entered ∷ [])
       ∙ ap (λ l. l ++ tenant_in n entered ∷ []) (map_same (tenant_in n) (tenant_in p) ts (λ j u at. tenant_stays p n us vs ts b.quota (length ts) j u turn sharing (λ a h. differs j u a h) at))
 
-  module _ (ready : IsReady parts (memory_at n b pages)) (reserved : sum n.reserved ≡ sum p.reserved + charge_of pages) (number : parts.account.id ≡ id)
+  pub entered_count : count_by is_live (entries_in (ts ++ entered ∷ [])) ≡ count_by is_live (entries_in ts) + 1
+  entered_count = ap (count_by is_live) (map-append entry_in ts (entered ∷ [])) ∙ sum_by-append (λ e. cond (is_live e) 1 0) (entries_in ts) (entry_in entered ∷ [])
+
+  module _ (ready : IsReady parts.value (memory_at n b pages)) (reserved : sum n.reserved ≡ sum p.reserved + charge_of pages) (number : parts.value.account.id ≡ id)
       (fresh : list_any (has_id id) (entries_in ts) ≡ false) where
-    own : (c : Place) → entered.place ≡ Some c → (c.quota ≡ b.quota) × IsPlaced n vs (length ts) entered.pages c × IsReady entered.parts (memory_at n c entered.pages)
+    own : (c : Live) → entered.holding ≡ kept.Live c → (c.place.quota ≡ b.quota) × IsPlaced n vs (length ts) entered.pages c.place × IsReady c.parts.value (memory_at n c.place entered.pages)
     own c e =
-        subst (λ (z : Place). (z.quota ≡ b.quota) × IsPlaced n vs (length ts) pages z × IsReady parts (memory_at n z pages)) (some_same b c e) (refl, placed, ready)
+        subst (λ (z : Live). (z.place.quota ≡ b.quota) × IsPlaced n vs (length ts) pages z.place × IsReady z.parts.value (memory_at n z.place pages)) (live_same (record { parts = parts; place = b }) c e) (refl, placed, ready)
 
     sums : sum_by charge_in (entries_in (ts ++ entered ∷ [])) ≡ sum_by charge_in (entries_in ts) + charge_of pages
     sums =
@@ -106,7 +106,7 @@ pub first_number : (id : ℕ) (terms : Terms) (parts : TenantParts) → parts �
 unfolding first_parts
 first_number id terms parts e = ap (λ (q : TenantParts). q.account.id) e
 
-pub first_tenant : (n : Pool) (id : ℕ) (terms : Terms) (parts : TenantParts) (b : Place) → parts ≡ first_parts id terms → memory_at n b terms.pages ≡ first_memory terms.image terms.pages terms.mode
-    → tenant_in n (record { parts = parts; place = Some b; pages = terms.pages }) ≡ new_tenant id terms
+pub first_tenant : (n : Pool) (id : ℕ) (terms : Terms) (parts : Box TenantParts Global) (b : Place) → parts.value ≡ first_parts id terms → memory_at n b terms.pages ≡ first_memory terms.image terms.pages terms.mode
+    → tenant_in n (record { pages = terms.pages; holding = kept.Live (record { parts = parts; place = b }) }) ≡ new_tenant id terms
 unfolding start_of first_parts
 first_tenant n id terms parts b e memory = rw (e, memory) refl

@@ -1,12 +1,12 @@
 -- One attempted instruction of a slice is a run of one step, and what stopped it.
-use Rattle.std.proofs.Common.{◌≡◌, ℕ, zero, suc, ◌+◌, min, true, Option, Some, None, refl, ap, sym, ◌∙◌, if◌then◌else◌}
+use Rattle.std.proofs.Common.{◌≡◌, ℕ, suc, ◌+◌, min, true, Some, None, refl}
 use Rattle.mte_tags.specs.Memory.{Memory}
 use Rattle.a64_step.specs.declared.registers.Regs.{Regs}
 use Rattle.a64_step.specs.declared.outcome.Outcome.{Outcome}
 use Rattle.a64_step.specs.declared.outcome.Outcome.TheVariants as outcome
 use Rattle.a64_step.specs.declared.outcome.Stop.{Stop}
-use Rattle.a64_step.specs.Steps.{step_of, run_of, Ran, goes_on}
-use Rattle.mte_sched.specs.Machines.{Machine, machine_of, runs, Attempted, on, met, counted, with_regs}
+use Rattle.a64_step.specs.Steps.{step_of, run_of, Ran}
+use Rattle.mte_sched.specs.Machines.{Machine, machine_of, runs, Attempted, met, counted, with_regs}
 use Rattle.mte_sched.specs.Machines.{attempted, attempts}
 use Rattle.mte_sched.proofs.MachineLemmas.{met_if, rest_of}
 

@@ -1,63 +1,100 @@
--- Loops over the tenants of a host, and their entries in the ledger.
+-- The tenant with a number, and the entries of tenants in the ledger.
 use Rattle.std.proofs.Common.{◌≡◌, ℕ, ◌+◌, ◌<◌, ◌≤◌, ◌∙◌, ◌||◌, ◌==◌, Bool, true, false, List, [], ◌∷◌, map, drop, length, zero, suc}
-use Rattle.std.proofs.Common.{get_or, Option, Some, None, option_map, is_some, if◌then◌else◌, refl, ap, arith, length-drop}
-use Rattle.std.specs.List.{list_any}
-use Rattle.std.proofs.lemmas.List.{drop_more, nil_from_length}
-use Rattle.mte_svc.specs.declared.parts.TenantParts.{TenantParts}
+use Rattle.std.proofs.Common.{get_or, Option, Some, None, option_map, if◌then◌else◌, refl, ap, arith, length-drop}
+use Rattle.std.specs.List.{list_any, slice_get}
+use Rattle.std.proofs.lemmas.Bool.{eq-eqb, ne_eqb}
 use Rattle.mte_frames.specs.Pool.{Pool}
-use Rattle.mte_sched.specs.declared.place.Place.{Place}
 use Rattle.mte_sched.specs.declared.tenant.Tenant as code
-use Rattle.mte_sched.specs.Ledger.{Entry, has_live_id}
-use Rattle.mte_tags.specs.Memory.{Memory}
+use Rattle.mte_sched.specs.declared.tenant.Holding.{Holding}
+use Rattle.mte_sched.specs.declared.tenant.Holding.TheVariants as kept
+use Rattle.mte_sched.specs.Ledger.{Entry, has_id, has_live_id}
 use Rattle.mte_svc.specs.declared.record.Record.{Record}
 use Rattle.mte_sched.specs.Contents.{Tenant, entry_of, lives_on, record_of}
 use Rattle.mte_sched.specs.Isolation.{tenant_among}
-use Rattle.mte_sched.specs.Views.{record_among}
-use Rattle.mte_sched.specs.Places.{memory_at}
-use Rattle.mte_sched.specs.Tenants.{held_by, memory_in, tenant_in, tenants_in, entry_in, entries_in}
+use Rattle.mte_sched.specs.Views.{record_among, found_by, found_among}
+use Rattle.mte_sched.specs.Tenants.{held_by, record_by, is_live_by, record_in, tenant_in, tenants_in, entry_in, entries_in}
 use Rattle.mte_sched.specs.Sharing.{HasLiveAt}
+use Rattle.mte_sched.proofs.PlaceLists.{some_same}
 
--- The entries from the i-th on, the first of them apart.
-pub entries_at : (ts : List code.Tenant) (i : ℕ) (d : code.Tenant) → i < length ts
-    → entries_in (drop i ts) ≡ entry_in (get_or ts i d) ∷ entries_in (drop (i + 1) ts)
-entries_at ts i d below = ap entries_in (drop_more ts i d below)
+pub or_left : (a b : Bool) → (a || b) ≡ false → a ≡ false
+or_left true b e = e
+or_left false b e = refl
 
-tenant_record : (parts : TenantParts) (o : Option Memory) → record_of (held_by parts o) ≡ parts.account
-tenant_record parts None = refl
-tenant_record parts (Some m) = refl
+pub or_right : (a b : Bool) → (a || b) ≡ false → b ≡ false
+or_right true b e = absurd cc
+or_right false b e = e
+
+tenant_record : (p : Pool) (pages : ℕ) (h : Holding) → record_of (held_by p pages h) ≡ record_by h
+tenant_record p pages (kept.Live l) = refl
+tenant_record p pages (kept.Gone r) = refl
 
 record_if : (b : Bool) (t : code.Tenant) (p : Pool) (more : Option Record) (others : Option Tenant) → option_map (λ u. record_of u.held) others ≡ more
-    → option_map (λ u. record_of u.held) (if b then Some (tenant_in p t) else others) ≡ (if b then Some t.parts.account else more)
-record_if true t p more others e = ap (λ r. Some r) (tenant_record t.parts (memory_in p t))
+    → option_map (λ u. record_of u.held) (if b then Some (tenant_in p t) else others) ≡ (if b then Some (record_in t) else more)
+record_if true t p more others e = ap (λ r. Some r) (tenant_record p t.pages t.holding)
 record_if false t p more others e = e
 
--- The record with a number among the tenants from the i-th on.
-pub record_at : (p : Pool) (id : ℕ) (ts : List code.Tenant) (i : ℕ) (d : code.Tenant) → i < length ts
-    → record_among id (tenants_in p (drop i ts)) ≡ (if (get_or ts i d).parts.account.id == id then Some (get_or ts i d).parts.account else record_among id (tenants_in p (drop (i + 1) ts)))
-record_at p id ts i d below =
-    ap (λ l. record_among id (tenants_in p l)) (drop_more ts i d below)
-    ∙ record_if ((get_or ts i d).parts.account.id == id) (get_or ts i d) p (record_among id (tenants_in p (drop (i + 1) ts))) (tenant_among id (tenants_in p (drop (i + 1) ts))) refl
+record_step : (p : Pool) (id : ℕ) (t : code.Tenant) (ts : List code.Tenant)
+    → record_among id (tenants_in p (t ∷ ts)) ≡ (if (record_in t).id == id then Some (record_in t) else record_among id (tenants_in p ts))
+record_step p id t ts = record_if ((record_in t).id == id) t p (record_among id (tenants_in p ts)) (tenant_among id (tenants_in p ts)) refl
 
-pub record_none : (p : Pool) (id : ℕ) (ts : List code.Tenant) (i : ℕ) → length ts ≤ i → record_among id (tenants_in p (drop i ts)) ≡ None
-record_none p id ts i over = ap (λ l. record_among id (tenants_in p l)) (nil_from_length (drop i ts) (simp length-drop (omega arith)))
+-- ---- the first tenant with a number
 
-lives_by : (parts : TenantParts) (p : Pool) (pages : ℕ) (o : Option Place) → lives_on (held_by parts (option_map (λ a. memory_at p a pages) o)) ≡ is_some o
-lives_by parts p pages None = refl
-lives_by parts p pages (Some a) = refl
+module _ {X : Type 0} (id : ℕ) (F : List code.Tenant → Option X) (g : code.Tenant → Option X) (step : (t : code.Tenant) (ts : List code.Tenant) → F (t ∷ ts) ≡ (if (record_in t).id == id then g t else F ts)) where
+  pub first_at : (ts : List code.Tenant) (i : ℕ) (t : code.Tenant) → slice_get ts i ≡ Some t → (record_in t).id ≡ id
+      → ((j : ℕ) (u : code.Tenant) → slice_get ts j ≡ Some u → (record_in u).id ≡ id → j ≡ i) → F ts ≡ g t
+  first_at [] i t at number alone = absurd cc
+  first_at (u ∷ ts) zero t at number alone =
+      let same : u ≡ t = some_same u t at in
+      step u ts ∙ ap (λ b. if b then g u else F ts) (eq-eqb (record_in u).id id (ap (λ (w : code.Tenant). (record_in w).id) same ∙ number)) ∙ ap g same
+  first_at (u ∷ ts) (suc i) t at number alone =
+      step u ts ∙ ap (λ b. if b then g u else F ts) (ne_eqb (record_in u).id id (λ e. let z : 0 ≡ suc i = alone 0 u refl e in absurd (omega (arith, z))))
+      ∙ first_at ts i t at number (λ j w h e. let z : suc j ≡ suc i = alone (suc j) w h e in omega (arith, z))
+
+  pub first_none : F [] ≡ None → (ts : List code.Tenant) → list_any (has_id id) (entries_in ts) ≡ false → F ts ≡ None
+  first_none empty [] none = empty
+  first_none empty (t ∷ ts) none =
+      step t ts ∙ ap (λ b. if b then g t else F ts) (or_left ((record_in t).id == id) _ none) ∙ first_none empty ts (or_right ((record_in t).id == id) _ none)
+
+pub record_at : (p : Pool) (id : ℕ) (ts : List code.Tenant) (i : ℕ) (t : code.Tenant) → slice_get ts i ≡ Some t → (record_in t).id ≡ id
+    → ((j : ℕ) (u : code.Tenant) → slice_get ts j ≡ Some u → (record_in u).id ≡ id → j ≡ i) → record_among id (tenants_in p ts) ≡ Some (record_in t)
+record_at p id = first_at id (λ ts. record_among id (tenants_in p ts)) (λ t. Some (record_in t)) (record_step p id)
+
+pub record_none : (p : Pool) (id : ℕ) (ts : List code.Tenant) → list_any (has_id id) (entries_in ts) ≡ false → record_among id (tenants_in p ts) ≡ None
+record_none p id = first_none id (λ ts. record_among id (tenants_in p ts)) (λ t. Some (record_in t)) (record_step p id) refl
+
+pub found_at : (p : Pool) (id q : ℕ) (ts : List code.Tenant) (i : ℕ) (t : code.Tenant) → slice_get ts i ≡ Some t → (record_in t).id ≡ id
+    → ((j : ℕ) (u : code.Tenant) → slice_get ts j ≡ Some u → (record_in u).id ≡ id → j ≡ i) → found_among p id q ts ≡ found_by p q t.holding
+found_at p id q = first_at id (found_among p id q) (λ t. found_by p q t.holding) (λ t ts. refl)
+
+pub found_none : (p : Pool) (id q : ℕ) (ts : List code.Tenant) → list_any (has_id id) (entries_in ts) ≡ false → found_among p id q ts ≡ None
+found_none p id q = first_none id (found_among p id q) (λ t. found_by p q t.holding) (λ t ts. refl) refl
+
+-- ---- entries
+
+lives_by : (p : Pool) (pages : ℕ) (h : Holding) → lives_on (held_by p pages h) ≡ is_live_by h
+lives_by p pages (kept.Live l) = refl
+lives_by p pages (kept.Gone r) = refl
 
 -- The ledger of the content is that of the entries.
 pub ledger_is : (p : Pool) (ts : List code.Tenant) → map entry_of (tenants_in p ts) ≡ entries_in ts
 ledger_is p [] = refl
 ledger_is p (t ∷ ts) =
-    ap (λ b. (let e : Entry = record { id = t.parts.account.id; pages = t.pages; live = b } in e) ∷ map entry_of (tenants_in p ts)) (lives_by t.parts p t.pages t.place)
+    ap (λ b. (let e : Entry = record { id = (record_in t).id; pages = t.pages; live = b } in e) ∷ map entry_of (tenants_in p ts)) (lives_by p t.pages t.holding)
     ∙ ap (λ l. entry_in t ∷ l) (ledger_is p ts)
+
+or_true : (a b : Bool) → b ≡ true → (a || b) ≡ true
+or_true true b e = refl
+or_true false b e = e
 
 -- A live tenant with a number stands in the ledger.
 pub live_there : (id : ℕ) (ts : List code.Tenant) (i : ℕ) → HasLiveAt ts i id → list_any (has_live_id id) (entries_in ts) ≡ true
 live_there id [] i h = absurd cc
 live_there id (t ∷ ts) zero h = rw h refl
 live_there id (t ∷ ts) (suc i) h = or_true (has_live_id id (entry_in t)) _ (live_there id ts i h)
-  where
-    or_true : (a b : Bool) → b ≡ true → (a || b) ≡ true
-    or_true true b e = refl
-    or_true false b e = e
+
+pub id_there : (id : ℕ) (ts : List code.Tenant) (i : ℕ) (t : code.Tenant) → slice_get ts i ≡ Some t → ((record_in t).id == id) ≡ true → list_any (has_id id) (entries_in ts) ≡ true
+id_there id [] i t at h = absurd cc
+id_there id (u ∷ ts) zero t at h =
+    let same : ((record_in u).id == id) ≡ true = ap (λ (w : code.Tenant). (record_in w).id == id) (some_same u t at) ∙ h in
+    rw same refl
+id_there id (u ∷ ts) (suc i) t at h = or_true ((record_in u).id == id) _ (id_there id ts i t at h)

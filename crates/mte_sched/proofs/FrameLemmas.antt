@@ -5,8 +5,6 @@ use Rattle.std.specs.Prelude.{IfSome}
 use Rattle.std.specs.FinMap.{get}
 use Rattle.std.specs.List.{slice_get}
 use Rattle.std.proofs.lemmas.Bool.{eqb-true}
-use Rattle.std.proofs.lemmas.List.{drop_more, nil_from_length}
-use Rattle.mte_svc.specs.declared.parts.TenantParts.{TenantParts}
 use Rattle.mte_tags.specs.Memory.{Page}
 use Rattle.mte_tags.specs.declared.attrs.Attrs.{Attrs}
 use Rattle.mte_frames.specs.Pool.{Pool, IsOut}
@@ -15,28 +13,21 @@ use Rattle.mte_translate.specs.declared.translation.Translation.{Translation}
 use Rattle.mte_translate.proofs.KeptTables.{page-frame}
 use Rattle.mte_space.specs.Spaces.{page_of}
 use Rattle.mte_space.proofs.Memories.{page_at-space}
-use Rattle.mte_sched.specs.declared.place.Place.{Place}
 use Rattle.mte_sched.specs.declared.tenant.Tenant as code
-use Rattle.mte_sched.specs.Places.{memory_at}
-use Rattle.mte_sched.specs.Tenants.{held_by, tenants_in}
+use Rattle.mte_sched.specs.declared.tenant.Live.{Live}
+use Rattle.mte_sched.specs.declared.tenant.Holding.{Holding}
+use Rattle.mte_sched.specs.declared.tenant.Holding.TheVariants as kept
+use Rattle.mte_sched.specs.Tenants.{held_by, record_in, tenants_in}
 use Rattle.mte_sched.specs.Sharing.{LiesAt, IsSharing}
-use Rattle.mte_sched.specs.Views.{page_held, page_among, found_by, found_among, Holds}
+use Rattle.mte_sched.specs.Views.{page_held, page_among, found_by, found_among, HasSomeTable, Holds}
 use Rattle.mte_sched.proofs.PlaceLists.{some_same}
-
--- ---- one tenant after another
-
-pub found_at : (p : Pool) (id q : ℕ) (ts : List code.Tenant) (i : ℕ) (d : code.Tenant) → i < length ts
-    → found_among p id q (drop i ts) ≡ (if (get_or ts i d).parts.account.id == id then found_by p q (get_or ts i d).place else found_among p id q (drop (i + 1) ts))
-found_at p id q ts i d below = ap (found_among p id q) (drop_more ts i d below)
-
-pub found_none : (p : Pool) (id q : ℕ) (ts : List code.Tenant) (i : ℕ) → length ts ≤ i → found_among p id q (drop i ts) ≡ None
-found_none p id q ts i over = ap (found_among p id q) (nil_from_length (drop i ts) (simp length-drop (omega arith)))
+use Rattle.mte_sched.proofs.TurnLemmas.{live_same}
 
 -- ---- the page
 
-page_by : (p : Pool) (q pages : ℕ) (parts : TenantParts) (o : Option Place) → page_held q (held_by parts (option_map (λ a. memory_at p a pages) o)) ≡ option_map (page_of p) (found_by p q o)
-page_by p q pages parts None = refl
-page_by p q pages parts (Some a) = page_at-space p a.table pages a.state q
+page_by : (p : Pool) (q pages : ℕ) (o : Holding) → page_held q (held_by p pages o) ≡ option_map (page_of p) (found_by p q o)
+page_by p q pages (kept.Gone r) = refl
+page_by p q pages (kept.Live a) = page_at-space p a.place.table pages a.place.state q
 
 page_if : (b : Bool) (p : Pool) (own others : Option Page) (x rest : Option (ℕ × Attrs)) → own ≡ option_map (page_of p) x → others ≡ option_map (page_of p) rest
     → (if b then own else others) ≡ option_map (page_of p) (if b then x else rest)
@@ -46,45 +37,49 @@ page_if false p own others x rest e f = f
 pub pages_found : (p : Pool) (id q : ℕ) (ts : List code.Tenant) → page_among id q (tenants_in p ts) ≡ option_map (page_of p) (found_among p id q ts)
 pages_found p id q [] = refl
 pages_found p id q (t ∷ ts) =
-    page_if (t.parts.account.id == id) p _ (page_among id q (tenants_in p ts)) (found_by p q t.place) (found_among p id q ts)
-    (page_by p q t.pages t.parts t.place) (pages_found p id q ts)
+    page_if ((record_in t).id == id) p _ (page_among id q (tenants_in p ts)) (found_by p q t.holding) (found_among p id q ts)
+    (page_by p q t.pages t.holding) (pages_found p id q ts)
 
 -- ---- whose it is
 
 pub record Found (p : Pool) (id q : ℕ) (ts : List code.Tenant) (x : ℕ × Attrs) : Type 0 where
   pub at : ℕ
   pub tenant : code.Tenant
-  pub place : Place
-  pub lies : LiesAt ts at tenant place
-  pub number : tenant.parts.account.id ≡ id
-  pub mapped : get (pages_of p place.table.frame) q ≡ Some x
+  pub live : Live
+  pub lies : LiesAt ts at tenant live
+  pub number : (record_in tenant).id ≡ id
+  pub mapped : get (pages_of p live.place.table.frame) q ≡ Some x
 
-found_here : (p : Pool) (id q : ℕ) (ts : List code.Tenant) (t : code.Tenant) (x : ℕ × Attrs) (o : Option Place) → t.place ≡ o → t.parts.account.id ≡ id → found_by p q o ≡ Some x → Found p id q (t ∷ ts) x
-found_here p id q ts t x None is same e = absurd cc
-found_here p id q ts t x (Some a) is same e = record { at = 0; tenant = t; place = a; lies = record { tenant = refl; place = is }; number = same; mapped = e }
+found_here : (p : Pool) (id q : ℕ) (ts : List code.Tenant) (t : code.Tenant) (x : ℕ × Attrs) (o : Holding) → t.holding ≡ o → (record_in t).id ≡ id → found_by p q o ≡ Some x → Found p id q (t ∷ ts) x
+found_here p id q ts t x (kept.Gone r) is same e = absurd cc
+found_here p id q ts t x (kept.Live a) is same e = record { at = 0; tenant = t; live = a; lies = record { tenant = refl; live = is }; number = same; mapped = e }
 
 found_next : (p : Pool) (id q : ℕ) (ts : List code.Tenant) (t : code.Tenant) (x : ℕ × Attrs) → Found p id q ts x → Found p id q (t ∷ ts) x
-found_next p id q ts t x f = record { at = suc f.at; tenant = f.tenant; place = f.place; lies = record { tenant = f.lies.tenant; place = f.lies.place }; number = f.number; mapped = f.mapped }
+found_next p id q ts t x f = record { at = suc f.at; tenant = f.tenant; live = f.live; lies = record { tenant = f.lies.tenant; live = f.lies.live }; number = f.number; mapped = f.mapped }
 
-found_in : (b : Bool) (p : Pool) (id q : ℕ) (ts : List code.Tenant) (t : code.Tenant) (x : ℕ × Attrs) → (t.parts.account.id == id) ≡ b → (found_among p id q ts ≡ Some x → Found p id q ts x)
-    → (if b then found_by p q t.place else found_among p id q ts) ≡ Some x → Found p id q (t ∷ ts) x
-found_in true p id q ts t x same rest e = found_here p id q ts t x t.place refl (eqb-true t.parts.account.id id same) e
+found_in : (b : Bool) (p : Pool) (id q : ℕ) (ts : List code.Tenant) (t : code.Tenant) (x : ℕ × Attrs) → ((record_in t).id == id) ≡ b → (found_among p id q ts ≡ Some x → Found p id q ts x)
+    → (if b then found_by p q t.holding else found_among p id q ts) ≡ Some x → Found p id q (t ∷ ts) x
+found_in true p id q ts t x same rest e = found_here p id q ts t x t.holding refl (eqb-true (record_in t).id id same) e
 found_in false p id q ts t x same rest e = found_next p id q ts t x (rest e)
 
 pub found_where : (p : Pool) (id q : ℕ) (ts : List code.Tenant) (x : ℕ × Attrs) → found_among p id q ts ≡ Some x → Found p id q ts x
 found_where p id q [] x e = absurd cc
-found_where p id q (t ∷ ts) x e = found_in (t.parts.account.id == id) p id q ts t x refl (λ h. found_where p id q ts x h) e
+found_where p id q (t ∷ ts) x e = found_in ((record_in t).id == id) p id q ts t x refl (λ h. found_where p id q ts x h) e
 
 module _ (p : Pool) (us : List Translation) (ts : List code.Tenant) (sharing : IsSharing p us ts) where
-  out_of : (id q f : ℕ) (a : Attrs) (x : Found p id q ts (f, a)) → IsOut p f x.place.quota
-  out_of id q f a x = (page-frame p x.place.quota q f a x.place.table (sharing.placed x.at x.tenant x.place x.lies).space.table x.mapped).1
+  pub some_table : (i : ℕ) (t : code.Tenant) (o : Holding) → slice_get ts i ≡ Some t → t.holding ≡ o → HasSomeTable p o
+  some_table i t (kept.Gone r) at e = tt
+  some_table i t (kept.Live a) at e = (a.place.quota, (sharing.placed i t a (record { tenant = at; live = e })).space.table)
+
+  out_of : (id q f : ℕ) (a : Attrs) (x : Found p id q ts (f, a)) → IsOut p f x.live.place.quota
+  out_of id q f a x = (page-frame p x.live.place.quota q f a x.live.place.table (sharing.placed x.at x.tenant x.live x.lies).space.table x.mapped).1
 
   -- The tables of live tenants are whole.
   holds_by : (id q : ℕ) (x : Option (ℕ × Attrs)) → found_among p id q ts ≡ x → IfSome (option_map (λ y. y.0) x) (λ f. Holds p f (page_among id q (tenants_in p ts)))
   holds_by id q None e = tt
   holds_by id q (Some (f, a)) e =
       let found = found_where p id q ts (f, a) e in
-      record { out = (found.place.quota, out_of id q f a found); attrs = a; page_is = pages_found p id q ts ∙ ap (option_map (page_of p)) e }
+      record { out = (found.live.place.quota, out_of id q f a found); attrs = a; page_is = pages_found p id q ts ∙ ap (option_map (page_of p)) e }
 
   pub holds : (id q : ℕ) → IfSome (option_map (λ y. y.0) (found_among p id q ts)) (λ f. Holds p f (page_among id q (tenants_in p ts)))
   holds id q = holds_by id q (found_among p id q ts) refl
@@ -98,12 +93,12 @@ module _ (p : Pool) (us : List Translation) (ts : List code.Tenant) (sharing : I
 
   same_page : (id q j r f : ℕ) (a b : Attrs) → Found p id q ts (f, a) → Found p j r ts (f, b) → (j ≡ id) × (r ≡ q)
   same_page id q j r f a b x y =
-      let quotas : y.place.quota ≡ x.place.quota = some_same y.place.quota x.place.quota (sym (out_of j r f b y) ∙ out_of id q f a x) in
-      let at : y.at ≡ x.at = sharing.quotas y.at x.at y.tenant x.tenant y.place x.place y.lies x.lies quotas in
+      let quotas : y.live.place.quota ≡ x.live.place.quota = some_same y.live.place.quota x.live.place.quota (sym (out_of j r f b y) ∙ out_of id q f a x) in
+      let at : y.at ≡ x.at = sharing.quotas y.at x.at y.tenant x.tenant y.live x.live y.lies x.lies quotas in
       let tenants : y.tenant ≡ x.tenant = some_same y.tenant x.tenant (sym y.lies.tenant ∙ ap (slice_get ts) at ∙ x.lies.tenant) in
-      let places : y.place ≡ x.place = some_same y.place x.place (sym y.lies.place ∙ ap (λ (t : code.Tenant). t.place) tenants ∙ x.lies.place) in
-      let mapped : get (pages_of p x.place.table.frame) r ≡ Some (f, b) = ap (λ (o : Place). get (pages_of p o.table.frame) r) (sym places) ∙ y.mapped in
-      (sym y.number ∙ ap (λ (t : code.Tenant). t.parts.account.id) tenants ∙ x.number, (sharing.placed x.at x.tenant x.place x.lies).space.once r q f b a mapped x.mapped)
+      let lives : y.live ≡ x.live = live_same y.live x.live (sym y.lies.live ∙ ap (λ (t : code.Tenant). t.holding) tenants ∙ x.lies.live) in
+      let mapped : get (pages_of p x.live.place.table.frame) r ≡ Some (f, b) = ap (λ (o : Live). get (pages_of p o.place.table.frame) r) (sym lives) ∙ y.mapped in
+      (sym y.number ∙ ap (λ (t : code.Tenant). (record_in t).id) tenants ∙ x.number, (sharing.placed x.at x.tenant x.live x.lies).space.once r q f b a mapped x.mapped)
 
   apart_to : (id q j r f : ℕ) (a : Attrs) (y : Option (ℕ × Attrs)) → found_among p id q ts ≡ Some (f, a) → found_among p j r ts ≡ y → option_map (λ z. z.0) y ≡ Some f → (j ≡ id) × (r ≡ q)
   apart_to id q j r f a None e h k = absurd cc

@@ -8,6 +8,7 @@ mod TurnLemmas
 mod AdmitLemmas
 mod FrameLemmas
 mod EachLemmas
+mod IndexLemmas
 mod FlagLemmas
 mod LoanLemmas
 mod AloneLemmas

@@ -8,6 +8,7 @@ use Rattle.std.specs.FinMap.{get}
 use Rattle.std.specs.List.{refill, slice_get}
 use Rattle.std.proofs.lemmas.Bool.{cases_eq, eq-eqb, ne_eqb}
 use Rattle.mte_svc.specs.declared.parts.TenantParts.{TenantParts}
+use Rattle.mte_svc.specs.declared.record.Record.{Record}
 use Rattle.mte_tags.specs.Memory.{Memory, Page, attrs_in, attrs_at, pages_left}
 use Rattle.mte_tags.specs.declared.attrs.Attrs.{Attrs}
 use Rattle.mte_arena.specs.Frames.{Frame, make_frame, frame_at}
@@ -21,18 +22,20 @@ use Rattle.mte_space.specs.KeptSpaces.{none_enters_same}
 use Rattle.mte_space.proofs.Memories.{page_at-space, pages_left-space, page_found}
 use Rattle.mte_space.proofs.SpaceSteps.{space_framed, cached_framed, memory_framed}
 use Rattle.scudo_heap.proofs.FirstLemmas.{served-same}
-use Rattle.mte_sched.specs.declared.place.Place.{Place}
 use Rattle.mte_sched.specs.declared.tenant.Tenant as code
+use Rattle.mte_sched.specs.declared.tenant.Live.{Live}
+use Rattle.mte_sched.specs.declared.tenant.Holding.{Holding}
+use Rattle.mte_sched.specs.declared.tenant.Holding.TheVariants as kept
 use Rattle.mte_sched.specs.Contents.{Content, Tenant, with_bytes_of, with_page_bytes, held_written, tenant_written, written}
 use Rattle.mte_sched.specs.Places.{memory_at, IsPlaced}
 use Rattle.mte_sched.specs.Ready.{IsReady}
-use Rattle.mte_sched.specs.Tenants.{tenant_in, tenants_in}
+use Rattle.mte_sched.specs.Tenants.{record_in, tenant_in, tenants_in}
 use Rattle.mte_sched.specs.Sharing.{LiesAt, IsSharing}
 use Rattle.mte_sched.specs.Views.{page_among, found_by, found_among}
 use Rattle.mte_sched.proofs.TenantLemmas.{tenant_by}
 use Rattle.mte_sched.proofs.PlaceLists.{some_same, map_each}
 use Rattle.mte_sched.proofs.SharingLemmas.{Turn, tenant_stays, sharing_after}
-use Rattle.mte_sched.proofs.TurnLemmas.{held_if, by_place}
+use Rattle.mte_sched.proofs.TurnLemmas.{held_if, by_live, live_record, live_same}
 use Rattle.mte_sched.proofs.FrameLemmas.{Found, found_where, pages_found}
 
 attrs_same : (p n : Pool) (o : Option (ℕ × Attrs)) → attrs_in (option_map (page_of n) o) ≡ attrs_in (option_map (page_of p) o)
@@ -40,7 +43,7 @@ attrs_same p n None = refl
 attrs_same p n (Some x) = refl
 
 written_tenant : (id q pages : ℕ) (ws : List ℕ) (parts : TenantParts) (m n : Memory) → (parts.account.id == id) ≡ true → n ≡ with_page_bytes m q ws
-    → tenant_by parts (Some n) pages ≡ tenant_written id q ws (tenant_by parts (Some m) pages)
+    → tenant_by parts n pages ≡ tenant_written id q ws (tenant_by parts m pages)
 written_tenant id q pages ws parts m n same e = rw (same, e) refl
 
 -- ---- where pages lie
@@ -49,24 +52,24 @@ found_if : (b : Bool) (x y z w : Option (ℕ × Attrs)) → x ≡ y → z ≡ w 
 found_if true x y z w e f = e
 found_if false x y z w e f = f
 
-found_same_by : (p n : Pool) (r : ℕ) (o : Option Place) → ((b : Place) → o ≡ Some b → pages_of n b.table.frame ≡ pages_of p b.table.frame) → found_by n r o ≡ found_by p r o
-found_same_by p n r None h = refl
-found_same_by p n r (Some b) h = ap (λ m. get m r) (h b refl)
+found_same_by : (p n : Pool) (r : ℕ) (o : Holding) → ((b : Live) → o ≡ kept.Live b → pages_of n b.place.table.frame ≡ pages_of p b.place.table.frame) → found_by n r o ≡ found_by p r o
+found_same_by p n r (kept.Gone s) h = refl
+found_same_by p n r (kept.Live b) h = ap (λ m. get m r) (h b refl)
 
-found_same : (p n : Pool) (j r : ℕ) (ts : List code.Tenant) → ((i : ℕ) (t : code.Tenant) (b : Place) → LiesAt ts i t b → pages_of n b.table.frame ≡ pages_of p b.table.frame)
+found_same : (p n : Pool) (j r : ℕ) (ts : List code.Tenant) → ((i : ℕ) (t : code.Tenant) (b : Live) → LiesAt ts i t b → pages_of n b.place.table.frame ≡ pages_of p b.place.table.frame)
     → found_among n j r ts ≡ found_among p j r ts
 found_same p n j r [] h = refl
 found_same p n j r (t ∷ ts) h =
-    found_if (t.parts.account.id == j) _ _ _ _ (found_same_by p n r t.place (λ b e. h 0 t b (record { tenant = refl; place = e })))
-    (found_same p n j r ts (λ i u b l. h (suc i) u b (record { tenant = l.tenant; place = l.place })))
+    found_if ((record_in t).id == j) _ _ _ _ (found_same_by p n r t.holding (λ b e. h 0 t b (record { tenant = refl; live = e })))
+    (found_same p n j r ts (λ i u b l. h (suc i) u b (record { tenant = l.tenant; live = l.live })))
 
 abbrev pub content_in : Pool → List code.Tenant → Content
 content_in p ts = record { frames = length p.frames; tenants = tenants_in p ts }
 
 -- ---- a page that was found
 
-pub lent_out : (p : Pool) (us : List Translation) (ts : List code.Tenant) (sharing : IsSharing p us ts) (id q f : ℕ) (a : Attrs) (x : Found p id q ts (f, a)) → IsOut p f x.place.quota
-lent_out p us ts sharing id q f a x = (page-frame p x.place.quota q f a x.place.table (sharing.placed x.at x.tenant x.place x.lies).space.table x.mapped).1
+pub lent_out : (p : Pool) (us : List Translation) (ts : List code.Tenant) (sharing : IsSharing p us ts) (id q f : ℕ) (a : Attrs) (x : Found p id q ts (f, a)) → IsOut p f x.live.place.quota
+lent_out p us ts sharing id q f a x = (page-frame p x.live.place.quota q f a x.live.place.table (sharing.placed x.at x.tenant x.live x.lies).space.table x.mapped).1
 
 module _ (p : Pool) (us : List Translation) (ts : List code.Tenant) (sharing : IsSharing p us ts) (id q f : ℕ) (a : Attrs) (x : Found p id q ts (f, a)) (ws : List ℕ) where
   abbrev n : Pool
@@ -75,75 +78,75 @@ module _ (p : Pool) (us : List Translation) (ts : List code.Tenant) (sharing : I
   abbrev frame : Frame
   frame = make_frame (refill 4096 (frame_at p.frames f).bytes ws) (frame_at p.frames f).tags
 
-  placed : IsPlaced p us x.at x.tenant.pages x.place
-  placed = sharing.placed x.at x.tenant x.place x.lies
+  placed : IsPlaced p us x.at x.tenant.pages x.live.place
+  placed = sharing.placed x.at x.tenant x.live x.lies
 
-  stays : Stays x.place.quota x.place.table p n
-  stays = kept-written p x.place.quota f (Some frame) x.place.table (page-frame p x.place.quota q f a x.place.table placed.space.table x.mapped).2 placed.space.table
+  stays : Stays x.live.place.quota x.live.place.table p n
+  stays = kept-written p x.live.place.quota f (Some frame) x.live.place.table (page-frame p x.live.place.quota q f a x.live.place.table placed.space.table x.mapped).2 placed.space.table
 
-  others : KeepsOthers x.place.quota p n
-  others = keeps_written x.place.quota f (Some frame) p (lent_out p us ts sharing id q f a x)
+  others : KeepsOthers x.live.place.quota p n
+  others = keeps_written x.live.place.quota f (Some frame) p (lent_out p us ts sharing id q f a x)
 
-  turn : Turn p n us us x.place.quota x.at
+  turn : Turn p n us us x.live.place.quota x.at
   turn = record { others = others; entries = none_enters_same x.at us }
 
-  differs : (j : ℕ) (u : code.Tenant) (b : Place) → j ≢ x.at → LiesAt ts j u b → b.quota ≢ x.place.quota
-  differs j u b d h = λ e. d (sharing.quotas j x.at u x.tenant b x.place h x.lies e)
+  differs : (j : ℕ) (u : code.Tenant) (b : Live) → j ≢ x.at → LiesAt ts j u b → b.place.quota ≢ x.live.place.quota
+  differs j u b d h = λ e. d (sharing.quotas j x.at u x.tenant b x.live h x.lies e)
 
   is_own : (j : ℕ) (u : code.Tenant) → j ≡ x.at → slice_get ts j ≡ Some u → x.tenant ≡ u
   is_own j u e h = some_same x.tenant u (sym x.lies.tenant ∙ ap (slice_get ts) (sym e) ∙ h)
 
   -- ---- what holds of all
 
-  placed_lent : IsPlaced n us x.at x.tenant.pages x.place
+  placed_lent : IsPlaced n us x.at x.tenant.pages x.live.place
   placed_lent = record {
-    space = space_framed p x.place.quota x.place.table x.tenant.pages q f a frame placed.space x.mapped;
+    space = space_framed p x.live.place.quota x.live.place.table x.tenant.pages q f a frame placed.space x.mapped;
     charged = placed.charged;
     counted = placed.counted;
-    cached = cached_framed p x.place.quota x.place.table x.tenant.pages q f a frame placed.space x.mapped x.at us placed.cached;
+    cached = cached_framed p x.live.place.quota x.live.place.table x.tenant.pages q f a frame placed.space x.mapped x.at us placed.cached;
     some = placed.some;
     most = placed.most;
   }
 
-  attrs_stay : (r : ℕ) → attrs_at (memory_at n x.place x.tenant.pages) r ≡ attrs_at (memory_at p x.place x.tenant.pages) r
+  attrs_stay : (r : ℕ) → attrs_at (memory_at n x.live.place x.tenant.pages) r ≡ attrs_at (memory_at p x.live.place x.tenant.pages) r
   unfolding attrs_at
   attrs_stay r =
-      ap attrs_in (page_at-space n x.place.table x.tenant.pages x.place.state r)
+      ap attrs_in (page_at-space n x.live.place.table x.tenant.pages x.live.place.state r)
       ∙ ap (λ m. attrs_in (option_map (page_of n) (get m r))) stays.pages
-      ∙ attrs_same p n (get (pages_of p x.place.table.frame) r)
-      ∙ sym (ap attrs_in (page_at-space p x.place.table x.tenant.pages x.place.state r))
+      ∙ attrs_same p n (get (pages_of p x.live.place.table.frame) r)
+      ∙ sym (ap attrs_in (page_at-space p x.live.place.table x.tenant.pages x.live.place.state r))
 
-  left_stays : pages_left (memory_at n x.place x.tenant.pages) ≡ pages_left (memory_at p x.place x.tenant.pages)
+  left_stays : pages_left (memory_at n x.live.place x.tenant.pages) ≡ pages_left (memory_at p x.live.place x.tenant.pages)
   left_stays =
-      pages_left-space n x.place.table x.tenant.pages x.place.state placed_lent.space.table.len_is
-      ∙ sym (pages_left-space p x.place.table x.tenant.pages x.place.state placed.space.table.len_is)
+      pages_left-space n x.live.place.table x.tenant.pages x.live.place.state placed_lent.space.table.len_is
+      ∙ sym (pages_left-space p x.live.place.table x.tenant.pages x.live.place.state placed.space.table.len_is)
 
-  ready_lent : IsReady x.tenant.parts (memory_at n x.place x.tenant.pages)
+  ready_lent : IsReady x.live.parts.value (memory_at n x.live.place x.tenant.pages)
   ready_lent =
-      let ready = sharing.ready x.at x.tenant x.place x.lies in
+      let ready = sharing.ready x.at x.tenant x.live x.lies in
       record {
-        heap = served-same (memory_at p x.place x.tenant.pages) (memory_at n x.place x.tenant.pages) x.tenant.parts.heap ready.heap attrs_stay left_stays;
+        heap = served-same (memory_at p x.live.place x.tenant.pages) (memory_at n x.live.place x.tenant.pages) x.live.parts.value.heap ready.heap attrs_stay left_stays;
         tag = ready.tag;
       }
 
-  own : (b : Place) → x.tenant.place ≡ Some b → (b.quota ≡ x.place.quota) × IsPlaced n us x.at x.tenant.pages b × IsReady x.tenant.parts (memory_at n b x.tenant.pages)
+  own : (b : Live) → x.tenant.holding ≡ kept.Live b → (b.place.quota ≡ x.live.place.quota) × IsPlaced n us x.at x.tenant.pages b.place × IsReady b.parts.value (memory_at n b.place x.tenant.pages)
   own b e =
-      subst (λ (z : Place). (z.quota ≡ x.place.quota) × IsPlaced n us x.at x.tenant.pages z × IsReady x.tenant.parts (memory_at n z x.tenant.pages))
-      (some_same x.place b (sym x.lies.place ∙ e)) (refl, placed_lent, ready_lent)
+      subst (λ (z : Live). (z.place.quota ≡ x.live.place.quota) × IsPlaced n us x.at x.tenant.pages z.place × IsReady z.parts.value (memory_at n z.place x.tenant.pages))
+      (live_same x.live b (sym x.lies.live ∙ e)) (refl, placed_lent, ready_lent)
 
   pub lent_sharing : IsSharing (with_bytes_at p f ws) us ts
   lent_sharing =
-      sharing_after p n us us ts ts x.place.quota x.at x.tenant turn sharing (record { here = x.lies.tenant; other = λ j d. refl }) differs own
+      sharing_after p n us us ts ts x.live.place.quota x.at x.tenant turn sharing (record { here = x.lies.tenant; other = λ j d. refl }) differs own
       (λ j u d at e. d (sharing.numbers j x.at u x.tenant at x.lies.tenant e)) sharing.cached sharing.reserved
 
   -- ---- the frames
 
-  pages_lent : (i : ℕ) (t : code.Tenant) (b : Place) → LiesAt ts i t b → pages_of n b.table.frame ≡ pages_of p b.table.frame
+  pages_lent : (i : ℕ) (t : code.Tenant) (b : Live) → LiesAt ts i t b → pages_of n b.place.table.frame ≡ pages_of p b.place.table.frame
   pages_lent i t b l = elim (cases_eq i x.at) [
     | inl e ↦
-        let same : x.place ≡ b = some_same x.place b (sym x.lies.place ∙ ap (λ (w : code.Tenant). w.place) (is_own i t e l.tenant) ∙ l.place) in
-        subst (λ (z : Place). pages_of n z.table.frame ≡ pages_of p z.table.frame) same stays.pages
-    | inr d ↦ (kept-others p n x.place.quota b.quota b.table (differs i t b d l) others (sharing.placed i t b l).space.table).pages
+        let same : x.live ≡ b = live_same x.live b (sym x.lies.live ∙ ap (λ (w : code.Tenant). w.holding) (is_own i t e l.tenant) ∙ l.live) in
+        subst (λ (z : Live). pages_of n z.place.table.frame ≡ pages_of p z.place.table.frame) same stays.pages
+    | inr d ↦ (kept-others p n x.live.place.quota b.place.quota b.place.table (differs i t b d l) others (sharing.placed i t b l).space.table).pages
   ]
 
   pub lent_frames : (j r : ℕ) → found_among (with_bytes_at p f ws) j r ts ≡ found_among p j r ts
@@ -152,27 +155,27 @@ module _ (p : Pool) (us : List Translation) (ts : List code.Tenant) (sharing : I
   -- ---- the content
 
   module _ (sound : IsSound p) where
-    memory_lent : memory_at n x.place x.tenant.pages ≡ with_page_bytes (memory_at p x.place x.tenant.pages) q ws
+    memory_lent : memory_at n x.live.place x.tenant.pages ≡ with_page_bytes (memory_at p x.live.place x.tenant.pages) q ws
     unfolding with_page_bytes
     memory_lent =
-        memory_framed p x.place.quota x.place.table x.tenant.pages q f a frame placed.space x.mapped x.place.state sound
-        ∙ sym (ap (with_bytes_of (memory_at p x.place x.tenant.pages) q ws) (page_found p x.place.table x.tenant.pages x.place.state q f a x.mapped))
+        memory_framed p x.live.place.quota x.live.place.table x.tenant.pages q f a frame placed.space x.mapped x.live.place.state sound
+        ∙ sym (ap (with_bytes_of (memory_at p x.live.place x.tenant.pages) q ws) (page_found p x.live.place.table x.tenant.pages x.live.place.state q f a x.mapped))
 
     tenant_lent : tenant_in n x.tenant ≡ tenant_written id q ws (tenant_in p x.tenant)
     tenant_lent =
-        by_place n x.tenant (Some x.place) x.lies.place
-        ∙ written_tenant id q x.tenant.pages ws x.tenant.parts (memory_at p x.place x.tenant.pages) (memory_at n x.place x.tenant.pages) (eq-eqb x.tenant.parts.account.id id x.number) memory_lent
-        ∙ sym (ap (tenant_written id q ws) (by_place p x.tenant (Some x.place) x.lies.place))
+        by_live n x.tenant x.live x.lies.live
+        ∙ written_tenant id q x.tenant.pages ws x.live.parts.value (memory_at p x.live.place x.tenant.pages) (memory_at n x.live.place x.tenant.pages) (eq-eqb x.live.parts.value.account.id id (sym (ap (λ (r : Record). r.id) (live_record x.tenant x.live x.lies.live)) ∙ x.number)) memory_lent
+        ∙ sym (ap (tenant_written id q ws) (by_live p x.tenant x.live x.lies.live))
 
-    other_id : (j : ℕ) (u : code.Tenant) → j ≢ x.at → slice_get ts j ≡ Some u → (u.parts.account.id == id) ≡ false
-    other_id j u d at = ne_eqb u.parts.account.id id (λ e. d (sharing.numbers j x.at u x.tenant at x.lies.tenant (e ∙ sym x.number)))
+    other_id : (j : ℕ) (u : code.Tenant) → j ≢ x.at → slice_get ts j ≡ Some u → ((record_in u).id == id) ≡ false
+    other_id j u d at = ne_eqb (record_in u).id id (λ e. d (sharing.numbers j x.at u x.tenant at x.lies.tenant (e ∙ sym x.number)))
 
     lent_tenants : tenants_in n ts ≡ map (tenant_written id q ws) (tenants_in p ts)
     lent_tenants = map_each (tenant_in n) (tenant_in p) (tenant_written id q ws) ts (λ j u at. elim (cases_eq j x.at) [
       | inl e ↦ subst (λ (w : code.Tenant). tenant_in n w ≡ tenant_written id q ws (tenant_in p w)) (is_own j u e at) tenant_lent
       | inr d ↦
-          tenant_stays p n us us ts x.place.quota x.at j u turn sharing (λ b h. differs j u b d h) at
-          ∙ sym (held_if (u.parts.account.id == id) (tenant_in p u) (held_written q ws (tenant_in p u).held) (other_id j u d at))
+          tenant_stays p n us us ts x.live.place.quota x.at j u turn sharing (λ b h. differs j u b d h) at
+          ∙ sym (held_if ((record_in u).id == id) (tenant_in p u) (held_written q ws (tenant_in p u).held) (other_id j u d at))
     ])
 
     pub lent_content : content_in (with_bytes_at p f ws) ts ≡ written (content_in p ts) id q ws
@@ -213,7 +216,7 @@ module _ (p : Pool) (us : List Translation) (ts : List code.Tenant) (sharing : I
 module _ (p : Pool) (us : List Translation) (ts : List code.Tenant) (sharing : IsSharing p us ts) (id q : ℕ) where
   taken_by_found : (y : Option (ℕ × Attrs)) → found_among p id q ts ≡ y → IfSome (option_map (λ z. z.0) y) (λ g. IsTaken p g)
   taken_by_found None e = tt
-  taken_by_found (Some (f, a)) e = let x = found_where p id q ts (f, a) e in (x.place.quota, lent_out p us ts sharing id q f a x)
+  taken_by_found (Some (f, a)) e = let x = found_where p id q ts (f, a) e in (x.live.place.quota, lent_out p us ts sharing id q f a x)
 
   pub taken_lent : (o : Option ℕ) → o ≡ option_map (λ z. z.0) (found_among p id q ts) → IfSome o (λ g. IsTaken p g)
   taken_lent o e = subst (λ z. IfSome z (λ g. IsTaken p g)) (sym e) (taken_by_found (found_among p id q ts) refl)

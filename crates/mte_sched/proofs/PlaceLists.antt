@@ -1,7 +1,10 @@
 -- Lists by position: one element changes, or one more comes.
 use Rattle.std.proofs.Common.{◌≡◌, ◌≢◌, ℕ, zero, suc, ◌+◌, ◌<◌, List, [], ◌∷◌, ◌++◌, map, length, slice_set, sum_by}
-use Rattle.std.proofs.Common.{Some, refl, ap, ◌∙◌, arith}
+use Rattle.std.proofs.Common.{Some, refl, ap, sym, ◌∙◌, ◌-◌, arith, get_or, take, inl, inr, length-append}
+use Rattle.std.specs.Prelude.{swap_remove}
 use Rattle.std.specs.List.{slice_get}
+use Rattle.std.proofs.lemmas.Bool.{cases_eq}
+use Rattle.std.proofs.lemmas.List.{length-set, length-take-le, get_or-take, get_or-set_same, get_or-set_other, get_or_append_left, get_or_push, get_or_default, ext_get_or}
 use Rattle.std.proofs.lemmas.List.Sums.{sum_by-cons}
 
 pub some_same : {X : Type 0} (x y : X) → Some x ≡ Some y → x ≡ y
@@ -39,6 +42,37 @@ has_set xs i x h = record { here = get-set-same xs i x h; other = λ j d. get-se
 
 pub has_more : {X : Type 0} (xs : List X) (x : X) → HasAt xs (xs ++ x ∷ []) (length xs) x
 has_more xs x = record { here = get-last xs x; other = λ j d. get-before xs x j d }
+
+-- An element is taken out, the last taking its place, and another is put back in that place.
+pub put_back : {X : Type 0} (xs ys zs : List X) (i n : ℕ) (x y : X) → i < length xs → length xs ≡ n + 1 → ys ≡ swap_remove xs i x
+    → zs ≡ slice_set (slice_set (ys ++ y ∷ []) i (get_or (ys ++ y ∷ []) n y)) n (get_or (ys ++ y ∷ []) i y) → zs ≡ slice_set xs i y
+put_back {X} xs ys zs i n x y l len taken back =
+    let more : List X = ys ++ y ∷ [] in
+    let m : length xs - 1 ≡ n = omega arith in
+    let lset : length (slice_set xs i (get_or xs (length xs - 1) x)) ≡ length xs = length-set xs i _ in
+    let rest : length ys ≡ n = ap length taken ∙ length-take-le (length xs - 1) (slice_set xs i (get_or xs (length xs - 1) x)) (omega arith) ∙ m in
+    let lmore : length more ≡ n + 1 = length-append ys (y ∷ []) ∙ omega (arith, rest) in
+    let last : get_or more n y ≡ y = get_or_push ys y y n rest in
+    let at : (k : ℕ) → k < n → get_or more k y ≡ get_or (slice_set xs i (get_or xs n x)) k y = λ k h.
+    get_or_append_left ys (y ∷ []) y k (omega arith) ∙ ap (λ t. get_or t k y) (taken ∙ ap (λ t. take t (slice_set xs i (get_or xs t x))) m) ∙ get_or-take n (slice_set xs i (get_or xs n x)) k y h in
+    let lz : length zs ≡ length xs = ap length back ∙ length-set (slice_set more i _) n _ ∙ length-set more i _ ∙ lmore ∙ sym len in
+    let lw : length (slice_set xs i y) ≡ length xs = length-set xs i y in
+    ext_get_or y zs (slice_set xs i y) (lz ∙ sym lw) (λ k h.
+    ap (λ t. get_or t k y) back ∙ elim (cases_eq k n) [
+      | inl e ↦
+          ap (λ t. get_or (slice_set (slice_set more i (get_or more n y)) n (get_or more i y)) t y) e
+          ∙ get_or-set_same (slice_set more i (get_or more n y)) n (get_or more i y) y (let q = length-set more i (get_or more n y) in omega arith)
+          ∙ elim (cases_eq i n) [
+            | inl f ↦ ap (λ t. get_or more t y) f ∙ last ∙ sym (ap (λ t. get_or (slice_set xs t y) k y) (f ∙ sym e) ∙ get_or-set_same xs k y y (omega arith))
+            | inr d ↦ at i (omega arith) ∙ get_or-set_same xs i (get_or xs n x) y l ∙ get_or_default xs n x y (omega arith) ∙ sym (get_or-set_other xs i k y y (λ q. d (sym q ∙ e)) ∙ ap (λ t. get_or xs t y) e)
+          ]
+      | inr d ↦
+          get_or-set_other (slice_set more i (get_or more n y)) n k (get_or more i y) y d
+          ∙ elim (cases_eq k i) [
+            | inl e ↦ ap (λ t. get_or (slice_set more i (get_or more n y)) t y) e ∙ get_or-set_same more i (get_or more n y) y (omega arith) ∙ last ∙ sym (ap (λ t. get_or (slice_set xs i y) t y) e ∙ get_or-set_same xs i y y l)
+            | inr f ↦ get_or-set_other more i k (get_or more n y) y f ∙ at k (omega arith) ∙ get_or-set_other xs i k (get_or xs n x) y f ∙ sym (get_or-set_other xs i k y y f)
+          ]
+    ])
 
 -- ---- maps
 

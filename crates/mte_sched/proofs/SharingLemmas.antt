@@ -1,22 +1,26 @@
 -- One tenant's turn leaves what holds of all.
 use Rattle.std.proofs.Common.{◌≡◌, ◌≢◌, ℕ, true, List, sum, sum_by}
-use Rattle.std.proofs.Common.{Option, Some, None, option_map, is_some, refl, ap, sym, subst, ◌∙◌, inl, inr}
+use Rattle.std.proofs.Common.{Some, refl, ap, sym, subst, ◌∙◌, inl, inr}
 use Rattle.std.specs.Prelude.{All, Contains}
 use Rattle.std.specs.List.{slice_get}
 use Rattle.std.proofs.lemmas.Bool.{cases_eq}
 use Rattle.std.proofs.lemmas.List.Elements.{All-weaker, All-contains}
-use Rattle.mte_tags.specs.Memory.{Memory}
 use Rattle.mte_frames.specs.Pool.{Pool, KeepsOthers}
 use Rattle.mte_translate.specs.declared.translation.Translation.{Translation}
 use Rattle.mte_space.specs.Spaces.{NoneEnters}
 use Rattle.mte_space.proofs.OtherSpaces.{other_memory, other_space, other_cached}
 use Rattle.mte_sched.specs.declared.place.Place.{Place}
 use Rattle.mte_sched.specs.declared.tenant.Tenant as code
+use Rattle.mte_sched.specs.declared.tenant.Live.{Live}
+use Rattle.mte_sched.specs.declared.tenant.Holding.{Holding}
+use Rattle.mte_sched.specs.declared.tenant.Holding.TheVariants as kept
+use Rattle.mte_sched.specs.Machines.{machine_of}
 use Rattle.mte_sched.specs.Contents.{Tenant}
+use Rattle.mte_sched.specs.Contents as held
 use Rattle.mte_sched.specs.Ledger.{charge_in}
 use Rattle.mte_sched.specs.Places.{memory_at, IsPlaced}
 use Rattle.mte_sched.specs.Ready.{IsReady}
-use Rattle.mte_sched.specs.Tenants.{memory_in, tenant_in, entries_in, held_by}
+use Rattle.mte_sched.specs.Tenants.{record_in, is_live_by, tenant_in, entries_in, held_by}
 use Rattle.mte_sched.specs.Sharing.{is_placed, LiesAt, IsSharing}
 use Rattle.mte_sched.proofs.PlaceLists.{HasAt, some_same}
 
@@ -43,30 +47,31 @@ pub memory_stays : (p n : Pool) (us vs : List Translation) (k i j pages : ℕ) (
 memory_stays p n us vs k i j pages a turn differs h =
     other_memory p n k a.quota pages a.table a.state differs turn.others h.space.table
 
-same_memories : (p n : Pool) (pages : ℕ) (o : Option Place) → ((a : Place) → o ≡ Some a → memory_at n a pages ≡ memory_at p a pages)
-    → option_map (λ a. memory_at n a pages) o ≡ option_map (λ a. memory_at p a pages) o
-same_memories p n pages None h = refl
-same_memories p n pages (Some a) h = ap (λ m. Some m) (h a refl)
+same_held : (p n : Pool) (pages : ℕ) (o : Holding) → ((a : Live) → o ≡ kept.Live a → memory_at n a.place pages ≡ memory_at p a.place pages)
+    → held_by n pages o ≡ held_by p pages o
+same_held p n pages (kept.Gone r) h = refl
+same_held p n pages (kept.Live a) h = ap (λ m. held.Live (machine_of a.parts.value m)) (h a refl)
 
 -- A tenant whose quota is not the turn's is what it was.
 pub tenant_stays : (p n : Pool) (us vs : List Translation) (ts : List code.Tenant) (k i j : ℕ) (u : code.Tenant) → Turn p n us vs k i → IsSharing p us ts
-    → ((a : Place) → LiesAt ts j u a → a.quota ≢ k) → slice_get ts j ≡ Some u → tenant_in n u ≡ tenant_in p u
+    → ((a : Live) → LiesAt ts j u a → a.place.quota ≢ k) → slice_get ts j ≡ Some u → tenant_in n u ≡ tenant_in p u
 tenant_stays p n us vs ts k i j u turn sharing differs at =
-    let same : memory_in n u ≡ memory_in p u = same_memories p n u.pages u.place (λ a e. memory_stays p n us vs k i j u.pages a turn (differs a (record { tenant = at; place = e })) (sharing.placed j u a (record { tenant = at; place = e }))) in
-    ap (λ (m : Option Memory). let t : Tenant = record { id = u.parts.account.id; pages = u.pages; held = held_by u.parts m } in t) same
+    let same : held_by n u.pages u.holding ≡ held_by p u.pages u.holding =
+    same_held p n u.pages u.holding (λ a e. memory_stays p n us vs k i j u.pages a.place turn (differs a (record { tenant = at; live = e })) (sharing.placed j u a (record { tenant = at; live = e }))) in
+    ap (λ (m : held.Held). let t : Tenant = record { id = (record_in u).id; pages = u.pages; held = m } in t) same
 
 -- ---- what holds of all, after a turn
 
 module _ (p n : Pool) (us vs : List Translation) (ts ns : List code.Tenant) (k i : ℕ) (t : code.Tenant) (turn : Turn p n us vs k i) (sharing : IsSharing p us ts)
-    (has : HasAt ts ns i t) (differs : (j : ℕ) (u : code.Tenant) (a : Place) → j ≢ i → LiesAt ts j u a → a.quota ≢ k) where
-  was_at : (j : ℕ) (u : code.Tenant) (a : Place) → j ≢ i → LiesAt ns j u a → LiesAt ts j u a
-  was_at j u a d h = record { tenant = sym (has.other j d) ∙ h.tenant; place = h.place }
+    (has : HasAt ts ns i t) (differs : (j : ℕ) (u : code.Tenant) (a : Live) → j ≢ i → LiesAt ts j u a → a.place.quota ≢ k) where
+  was_at : (j : ℕ) (u : code.Tenant) (a : Live) → j ≢ i → LiesAt ns j u a → LiesAt ts j u a
+  was_at j u a d h = record { tenant = sym (has.other j d) ∙ h.tenant; live = h.live }
 
   is_new : (j : ℕ) (u : code.Tenant) → j ≡ i → slice_get ns j ≡ Some u → t ≡ u
   is_new j u e h = some_same t u (sym has.here ∙ ap (λ l. slice_get ns l) (sym e) ∙ h)
 
   -- a translation of each live tenant
-  pub cached_after : All (λ v. (v.asid ≢ i) → Contains us v) vs → is_some t.place ≡ true → All (λ v. is_placed (slice_get ns v.asid) ≡ true) vs
+  pub cached_after : All (λ v. (v.asid ≢ i) → Contains us v) vs → is_live_by t.holding ≡ true → All (λ v. is_placed (slice_get ns v.asid) ≡ true) vs
   cached_after entered placed =
       All-weaker (λ v. (v.asid ≢ i) → Contains us v) (λ v. is_placed (slice_get ns v.asid) ≡ true)
       (λ v stood. elim (cases_eq v.asid i) [
@@ -79,30 +84,30 @@ module _ (p n : Pool) (us vs : List Translation) (ts ns : List code.Tenant) (k i
       All-weaker (λ v. Contains us v × (v.asid ≢ i)) (λ v. is_placed (slice_get ns v.asid) ≡ true)
       (λ v h. ap is_placed (has.other v.asid h.1) ∙ All-contains (λ v. is_placed (slice_get ts v.asid) ≡ true) us v sharing.cached h.0) vs rest
 
-  module _ (own : (a : Place) → t.place ≡ Some a → (a.quota ≡ k) × IsPlaced n vs i t.pages a × IsReady t.parts (memory_at n a t.pages))
-      (number : (j : ℕ) (u : code.Tenant) → j ≢ i → slice_get ts j ≡ Some u → u.parts.account.id ≢ t.parts.account.id)
+  module _ (own : (a : Live) → t.holding ≡ kept.Live a → (a.place.quota ≡ k) × IsPlaced n vs i t.pages a.place × IsReady a.parts.value (memory_at n a.place t.pages))
+      (number : (j : ℕ) (u : code.Tenant) → j ≢ i → slice_get ts j ≡ Some u → (record_in u).id ≢ (record_in t).id)
       (cached : All (λ v. is_placed (slice_get ns v.asid) ≡ true) vs) (reserved : sum n.reserved ≡ sum_by charge_in (entries_in ns)) where
-    own_at : (j : ℕ) (u : code.Tenant) (a : Place) → j ≡ i → LiesAt ns j u a → (a.quota ≡ k) × IsPlaced n vs j u.pages a × IsReady u.parts (memory_at n a u.pages)
+    own_at : (j : ℕ) (u : code.Tenant) (a : Live) → j ≡ i → LiesAt ns j u a → (a.place.quota ≡ k) × IsPlaced n vs j u.pages a.place × IsReady a.parts.value (memory_at n a.place u.pages)
     own_at j u a e h =
-        subst (λ l. (a.quota ≡ k) × IsPlaced n vs l u.pages a × IsReady u.parts (memory_at n a u.pages)) (sym e)
-        (subst (λ (w : code.Tenant). (a.quota ≡ k) × IsPlaced n vs i w.pages a × IsReady w.parts (memory_at n a w.pages)) (is_new j u e h.tenant)
-        (own a (ap (λ (w : code.Tenant). w.place) (is_new j u e h.tenant) ∙ h.place)))
+        subst (λ l. (a.place.quota ≡ k) × IsPlaced n vs l u.pages a.place × IsReady a.parts.value (memory_at n a.place u.pages)) (sym e)
+        (subst (λ (w : code.Tenant). (a.place.quota ≡ k) × IsPlaced n vs i w.pages a.place × IsReady a.parts.value (memory_at n a.place w.pages)) (is_new j u e h.tenant)
+        (own a (ap (λ (w : code.Tenant). w.holding) (is_new j u e h.tenant) ∙ h.live)))
 
-    placed_at : (j : ℕ) (u : code.Tenant) (a : Place) → LiesAt ns j u a → IsPlaced n vs j u.pages a
+    placed_at : (j : ℕ) (u : code.Tenant) (a : Live) → LiesAt ns j u a → IsPlaced n vs j u.pages a.place
     placed_at j u a h = elim (cases_eq j i) [
       | inl e ↦ (own_at j u a e h).1
-      | inr d ↦ placed_stays p n us vs k i j u.pages a turn (differs j u a d (was_at j u a d h)) d (sharing.placed j u a (was_at j u a d h))
+      | inr d ↦ placed_stays p n us vs k i j u.pages a.place turn (differs j u a d (was_at j u a d h)) d (sharing.placed j u a (was_at j u a d h))
     ]
 
-    ready_at : (j : ℕ) (u : code.Tenant) (a : Place) → LiesAt ns j u a → IsReady u.parts (memory_at n a u.pages)
+    ready_at : (j : ℕ) (u : code.Tenant) (a : Live) → LiesAt ns j u a → IsReady a.parts.value (memory_at n a.place u.pages)
     ready_at j u a h = elim (cases_eq j i) [
       | inl e ↦ (own_at j u a e h).2
       | inr d ↦
           let was = was_at j u a d h in
-          subst (IsReady u.parts) (sym (memory_stays p n us vs k i j u.pages a turn (differs j u a d was) (sharing.placed j u a was))) (sharing.ready j u a was)
+          subst (IsReady a.parts.value) (sym (memory_stays p n us vs k i j u.pages a.place turn (differs j u a d was) (sharing.placed j u a was))) (sharing.ready j u a was)
     ]
 
-    quotas_at : (j l : ℕ) (u w : code.Tenant) (a b : Place) → LiesAt ns j u a → LiesAt ns l w b → a.quota ≡ b.quota → j ≡ l
+    quotas_at : (j l : ℕ) (u w : code.Tenant) (a b : Live) → LiesAt ns j u a → LiesAt ns l w b → a.place.quota ≡ b.place.quota → j ≡ l
     quotas_at j l u w a b g h e = elim (cases_eq j i) [
       | inl x ↦ elim (cases_eq l i) [
         | inl y ↦ x ∙ sym y
@@ -114,14 +119,14 @@ module _ (p n : Pool) (us vs : List Translation) (ts ns : List code.Tenant) (k i
       ]
     ]
 
-    numbers_at : (j l : ℕ) (u w : code.Tenant) → slice_get ns j ≡ Some u → slice_get ns l ≡ Some w → u.parts.account.id ≡ w.parts.account.id → j ≡ l
+    numbers_at : (j l : ℕ) (u w : code.Tenant) → slice_get ns j ≡ Some u → slice_get ns l ≡ Some w → (record_in u).id ≡ (record_in w).id → j ≡ l
     numbers_at j l u w g h e = elim (cases_eq j i) [
       | inl x ↦ elim (cases_eq l i) [
         | inl y ↦ x ∙ sym y
-        | inr d ↦ absurd (number l w d (sym (has.other l d) ∙ h) (sym e ∙ ap (λ (z : code.Tenant). z.parts.account.id) (sym (is_new j u x g))))
+        | inr d ↦ absurd (number l w d (sym (has.other l d) ∙ h) (sym e ∙ ap (λ (z : code.Tenant). (record_in z).id) (sym (is_new j u x g))))
       ]
       | inr c ↦ elim (cases_eq l i) [
-        | inl y ↦ absurd (number j u c (sym (has.other j c) ∙ g) (e ∙ ap (λ (z : code.Tenant). z.parts.account.id) (sym (is_new l w y h))))
+        | inl y ↦ absurd (number j u c (sym (has.other j c) ∙ g) (e ∙ ap (λ (z : code.Tenant). (record_in z).id) (sym (is_new l w y h))))
         | inr d ↦ sharing.numbers j l u w (sym (has.other j c) ∙ g) (sym (has.other l d) ∙ h) e
       ]
     ]

@@ -19,18 +19,17 @@ use Rattle.scudo_heap.specs.Placing.{World}
 use Rattle.scudo_heap.specs.declared.abort.HeapAbort.{HeapAbort}
 use Rattle.mte_svc.specs.Services.{served, by_number, wrote, wrote_by, write_count, read_in, read_by, read_count, none_such}
 use Rattle.mte_svc.specs.declared.parts.TenantParts.{TenantParts}
+use Rattle.mte_svc.specs.declared.record.Record.{Record}
 use Rattle.mte_svc.specs.declared.services.SvcEnd.{SvcEnd}
 use Rattle.mte_svc.specs.declared.services.SvcEnd.TheVariants as end
 use Rattle.mte_svc.specs.declared.services.TheConstants.{EXIT, WRITE, READ, MALLOC, FREE, CALLOC, REALLOC, MEMALIGN, USABLE_SIZE, YIELD, STEPS_LEFT, PAGES_LEFT}
 use Rattle.mte_sched.specs.Machines.{Machine, machine_of, runs, Attempted, on, after_service, with_service, ended_by_tag, met, counted, with_regs}
 use Rattle.mte_sched.specs.Machines.{attempted, attempts, settled, advance, halted}
-use Rattle.mte_sched.specs.Ledger.{has_live_id}
 use Rattle.scudo_heap.specs.Heaps.{empty_heap}
 use Rattle.mte_sched.specs.Machines.{Terms, start_of, first_parts, first_registers}
 use Rattle.mte_sched.specs.Lives.{Own, Sliced, Halted}
 use Rattle.mte_sched.specs.Isolation.{NumbersStay}
-use Rattle.mte_sched.specs.Contents.{Held, Live, Gone, record_of, held_sliced, held_stopped, alone, entry_of, Tenant, tenant_sliced, tenant_stopped}
-use Rattle.mte_sched.specs.Tenants.{held_by}
+use Rattle.mte_sched.specs.Contents.{Held, Live, Gone, record_of, held_sliced, held_stopped, alone, Tenant, tenant_sliced, tenant_stopped}
 
 abbrev pub number_in : Machine → ℕ
 number_in m = m.parts.account.id
@@ -168,21 +167,23 @@ halted-id m = machine_if (runs m) _ m (number_in m) refl refl
 
 -- ---- the tenant
 
-abbrev pub tenant_by : TenantParts → Option Memory → ℕ → Tenant
-tenant_by p o pages = record { id = p.account.id; pages = pages; held = held_by p o }
+abbrev pub tenant_by : TenantParts → Memory → ℕ → Tenant
+tenant_by p m pages = record { id = p.account.id; pages = pages; held = Live (machine_of p m) }
+
+abbrev pub tenant_gone : Record → ℕ → Tenant
+tenant_gone r pages = record { id = r.id; pages = pages; held = Gone r }
 
 pub sliced_tenant : (id steps pages : ℕ) (p p' : TenantParts) (m m' : Memory) → (p.account.id == id) ≡ true
     → machine_of p' m' ≡ advance steps (machine_of p m)
-    → (tenant_by p' (Some m') pages) ≡ tenant_sliced id steps ((tenant_by p (Some m) pages))
+    → tenant_by p' m' pages ≡ tenant_sliced id steps (tenant_by p m pages)
 sliced_tenant id steps pages p p' m m' same step =
     let number : p'.account.id ≡ p.account.id = ap number_in step ∙ advance-id steps (machine_of p m) in
     rw (same, ← step, number) refl
 
-pub stopped_tenant : (id pages : ℕ) (p p' : TenantParts) (o : Option Memory) → has_live_id id (entry_of ((tenant_by p o pages))) ≡ true
+pub stopped_tenant : (id pages : ℕ) (p p' : TenantParts) (m : Memory) → (p.account.id == id) ≡ true
     → ((m : Memory) → machine_of p' m ≡ halted (machine_of p m))
-    → (tenant_by p' None pages) ≡ tenant_stopped id ((tenant_by p o pages))
-stopped_tenant id pages p p' None live step = cc
-stopped_tenant id pages p p' (Some m) live step =
+    → tenant_gone p'.account pages ≡ tenant_stopped id (tenant_by p m pages)
+stopped_tenant id pages p p' m live step =
     let number : p'.account.id ≡ p.account.id = ap number_in (step m) ∙ halted-id (machine_of p m) in
     rw (live, ← step m, number) refl
 

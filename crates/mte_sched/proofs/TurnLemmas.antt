@@ -1,6 +1,7 @@
 -- A slice and a stop of one tenant, beside the others.
 use Rattle.std.proofs.Common.{◌≡◌, ◌≢◌, ℕ, zero, suc, ◌+◌, ◌<◌, ◌==◌, ◌&&◌, Bool, true, false, List, [], ◌∷◌, map, length, get_or, slice_set, sum, sum_by}
-use Rattle.std.proofs.Common.{Option, Some, None, option_map, is_some, if◌then◌else◌, refl, ap, sym, subst, ◌∙◌, arith}
+use Rattle.std.specs.declared.alloc.Global.{Global}
+use Rattle.std.proofs.Common.{Box, Some, cond, count_by, if◌then◌else◌, refl, ap, sym, subst, ◌∙◌, arith}
 use Rattle.std.specs.List.{slice_get}
 use Rattle.std.proofs.lemmas.Bool.{ne_eqb, eqb-true}
 use Rattle.std.proofs.lemmas.List.Elements.{All-weaker}
@@ -13,19 +14,26 @@ use Rattle.mte_translate.specs.declared.translation.Translation.{Translation}
 use Rattle.mte_translate.proofs.StandingLaws.{forget-asid}
 use Rattle.mte_space.specs.Spaces.{IsSpace, KeepsRest, NoneEnters}
 use Rattle.mte_svc.specs.declared.parts.TenantParts.{TenantParts}
+use Rattle.mte_svc.specs.declared.record.Record.{Record}
 use Rattle.mte_sched.specs.declared.place.Place.{Place}
 use Rattle.mte_sched.specs.declared.tenant.Tenant as code
+use Rattle.mte_sched.specs.declared.tenant.Live.{Live}
+use Rattle.mte_sched.specs.declared.tenant.Holding.{Holding}
+use Rattle.mte_sched.specs.declared.tenant.Holding.TheVariants as kept
 use Rattle.mte_sched.specs.Machines.{machine_of, advance, halted}
-use Rattle.mte_sched.specs.Ledger.{Entry, charge_in, charge_of, has_live_id}
+use Rattle.mte_sched.specs.Ledger.{Entry, charge_in, charge_of, is_live, has_live_id}
 use Rattle.mte_sched.specs.Contents.{Held, held_sliced, held_stopped, Tenant, tenant_sliced, tenant_stopped}
 use Rattle.mte_sched.specs.Places.{memory_at, IsPlaced}
 use Rattle.mte_sched.specs.Ready.{IsReady}
-use Rattle.mte_sched.specs.Tenants.{tenant_in, tenants_in, entry_in}
+use Rattle.mte_sched.specs.Tenants.{held_by, record_by, is_live_by, record_in, tenant_in, tenants_in, entry_in, entries_in}
 use Rattle.mte_sched.specs.Sharing.{HasLiveAt, LiesAt, IsSharing}
 use Rattle.mte_sched.proofs.TenantLemmas.{number_in, tenant_by, sliced_tenant, stopped_tenant, advance-id, halted-id}
 use Rattle.mte_sched.proofs.PlaceLists.{has_set, some_same, map_turn, map-set_same, sum_turn}
 use Rattle.mte_sched.proofs.PlaceLemmas.{placed_after, reserved_stays}
 use Rattle.mte_sched.proofs.SharingLemmas.{Turn, tenant_stays, cached_after, cached_without, sharing_after}
+
+pub live_same : (a b : Live) → kept.Live a ≡ kept.Live b → a ≡ b
+live_same a b e = cc
 
 -- ---- the tenant whose turn it is
 
@@ -52,98 +60,114 @@ pub both_right : (a b : Bool) → (a && b) ≡ true → b ≡ true
 both_right true b e = e
 both_right false b e = absurd cc
 
-pub not_none : (o : Option Place) → is_some o ≡ true → o ≢ None
-not_none None e = absurd cc
-not_none (Some a) e = λ f. absurd cc
+pub not_gone : (o : Holding) (r : Record) → is_live_by o ≡ true → o ≢ kept.Gone r
+not_gone (kept.Gone s) r e = absurd cc
+not_gone (kept.Live a) r e = λ f. absurd cc
 
 -- A tenant with another number is no tenant that the turn names.
 pub held_if : (b : Bool) (t : Tenant) (h : Held) → b ≡ false → (let u : Tenant = record t { held = if b then h else t.held } in u) ≡ t
 held_if true t h e = absurd cc
 held_if false t h e = refl
 
-pub by_place : (p : Pool) (t : code.Tenant) (o : Option Place) → t.place ≡ o → tenant_in p t ≡ tenant_by t.parts (option_map (λ a. memory_at p a t.pages) o) t.pages
-by_place p t o e = ap (λ z. tenant_by t.parts (option_map (λ a. memory_at p a t.pages) z) t.pages) e
+pub by_live : (p : Pool) (t : code.Tenant) (a : Live) → t.holding ≡ kept.Live a → tenant_in p t ≡ tenant_by a.parts.value (memory_at p a.place t.pages) t.pages
+by_live p t a e = ap (λ (z : Holding). let u : Tenant = record { id = (record_by z).id; pages = t.pages; held = held_by p t.pages z } in u) e
 
-module _ (p n : Pool) (us vs : List Translation) (ts : List code.Tenant) (i id : ℕ) (t : code.Tenant) (a : Place)
-    (sharing : IsSharing p us ts) (lies : LiesAt ts i t a) (same : (t.parts.account.id == id) ≡ true) (within : i < length ts)
-    (others : KeepsOthers a.quota p n) (entries : NoneEnters i us vs) where
-  turn : Turn p n us vs a.quota i
+pub live_record : (t : code.Tenant) (a : Live) → t.holding ≡ kept.Live a → record_in t ≡ a.parts.value.account
+live_record t a e = ap record_by e
+
+module _ (p n : Pool) (us vs : List Translation) (ts : List code.Tenant) (i id : ℕ) (t : code.Tenant) (a : Live)
+    (sharing : IsSharing p us ts) (lies : LiesAt ts i t a) (same : ((record_in t).id == id) ≡ true) (within : i < length ts)
+    (others : KeepsOthers a.place.quota p n) (entries : NoneEnters i us vs) where
+  turn : Turn p n us vs a.place.quota i
   turn = record { others = others; entries = entries }
 
-  differs : (j : ℕ) (u : code.Tenant) (b : Place) → j ≢ i → LiesAt ts j u b → b.quota ≢ a.quota
+  own_number : (record_in t).id ≡ a.parts.value.account.id
+  own_number = ap (λ (r : Record). r.id) (live_record t a lies.live)
+
+  own_same : (a.parts.value.account.id == id) ≡ true
+  own_same = ap (λ k. k == id) (sym own_number) ∙ same
+
+  differs : (j : ℕ) (u : code.Tenant) (b : Live) → j ≢ i → LiesAt ts j u b → b.place.quota ≢ a.place.quota
   differs j u b d h = λ e. d (sharing.quotas j i u t b a h lies e)
 
-  number : (z : code.Tenant) → z.parts.account.id ≡ t.parts.account.id → (j : ℕ) (u : code.Tenant) → j ≢ i → slice_get ts j ≡ Some u → u.parts.account.id ≢ z.parts.account.id
+  number : (z : code.Tenant) → (record_in z).id ≡ (record_in t).id → (j : ℕ) (u : code.Tenant) → j ≢ i → slice_get ts j ≡ Some u → (record_in u).id ≢ (record_in z).id
   number z k j u d at = λ e. d (sharing.numbers j i u t at lies.tenant (e ∙ k))
 
-  other_id : (j : ℕ) (u : code.Tenant) → j ≢ i → slice_get ts j ≡ Some u → (u.parts.account.id == id) ≡ false
-  other_id j u d at = ne_eqb u.parts.account.id id (λ e. d (sharing.numbers j i u t at lies.tenant (e ∙ sym (eqb-true t.parts.account.id id same))))
+  other_id : (j : ℕ) (u : code.Tenant) → j ≢ i → slice_get ts j ≡ Some u → ((record_in u).id == id) ≡ false
+  other_id j u d at = ne_eqb (record_in u).id id (λ e. d (sharing.numbers j i u t at lies.tenant (e ∙ sym (eqb-true (record_in t).id id same))))
 
   stays : (j : ℕ) (u : code.Tenant) → j ≢ i → slice_get ts j ≡ Some u → tenant_in n u ≡ tenant_in p u
-  stays j u d at = tenant_stays p n us vs ts a.quota i j u turn sharing (λ b h. differs j u b d h) at
+  stays j u d at = tenant_stays p n us vs ts a.place.quota i j u turn sharing (λ b h. differs j u b d h) at
 
   -- ---- a slice
 
-  module _ (steps : ℕ) (b : Place) (parts : TenantParts) (rest : KeepsRest a.quota p n a.table b.table) (quota : b.quota ≡ a.quota) (space : IsSpace n b.quota b.table t.pages)
-      (cached : IsCached (pages_of n b.table.frame) i vs) (ready : IsReady parts (memory_at n b t.pages))
-      (step : machine_of parts (memory_at n b t.pages) ≡ advance steps (machine_of t.parts (memory_at p a t.pages))) (was : IsSound p) (is : IsSound n) where
+  module _ (steps : ℕ) (b : Place) (parts : Box TenantParts Global) (rest : KeepsRest a.place.quota p n a.place.table b.table) (quota : b.quota ≡ a.place.quota) (space : IsSpace n b.quota b.table t.pages)
+      (cached : IsCached (pages_of n b.table.frame) i vs) (ready : IsReady parts.value (memory_at n b t.pages))
+      (step : machine_of parts.value (memory_at n b t.pages) ≡ advance steps (machine_of a.parts.value (memory_at p a.place t.pages))) (was : IsSound p) (is : IsSound n) where
     abbrev pub after : code.Tenant
-    after = record { parts = parts; place = Some b; pages = t.pages }
+    after = record { pages = t.pages; holding = kept.Live (record { parts = parts; place = b }) }
 
-    same_number : parts.account.id ≡ t.parts.account.id
-    same_number = ap number_in step ∙ advance-id steps (machine_of t.parts (memory_at p a t.pages))
+    same_number : parts.value.account.id ≡ (record_in t).id
+    same_number = ap number_in step ∙ advance-id steps (machine_of a.parts.value (memory_at p a.place t.pages)) ∙ sym own_number
 
     same_entry : entry_in after ≡ entry_in t
     same_entry =
         ap (λ k. let e : Entry = record { id = k; pages = t.pages; live = true } in e) same_number
-        ∙ ap (λ (o : Option Place). let e : Entry = record { id = t.parts.account.id; pages = t.pages; live = is_some o } in e) (sym lies.place)
+        ∙ ap (λ (o : Holding). let e : Entry = record { id = (record_in t).id; pages = t.pages; live = is_live_by o } in e) (sym lies.live)
 
-    own : (c : Place) → after.place ≡ Some c → (c.quota ≡ a.quota) × IsPlaced n vs i after.pages c × IsReady after.parts (memory_at n c after.pages)
+    own : (c : Live) → after.holding ≡ kept.Live c → (c.place.quota ≡ a.place.quota) × IsPlaced n vs i after.pages c.place × IsReady c.parts.value (memory_at n c.place after.pages)
     own c e =
-        subst (λ (z : Place). (z.quota ≡ a.quota) × IsPlaced n vs i t.pages z × IsReady parts (memory_at n z t.pages)) (some_same b c e)
-        (quota, placed_after p n us vs i t.pages a b (sharing.placed i t a lies) rest quota space cached, ready)
+        subst (λ (z : Live). (z.place.quota ≡ a.place.quota) × IsPlaced n vs i t.pages z.place × IsReady z.parts.value (memory_at n z.place t.pages)) (live_same (record { parts = parts; place = b }) c e)
+        (quota, placed_after p n us vs i t.pages a.place b (sharing.placed i t a lies) rest quota space cached, ready)
 
     pub sliced_sharing : IsSharing n vs (slice_set ts i after)
     sliced_sharing =
         let has = has_set ts i after within in
-        sharing_after p n us vs ts (slice_set ts i after) a.quota i after turn sharing has differs own (number after same_number)
-        (cached_after p n us vs ts (slice_set ts i after) a.quota i after turn sharing has differs entries refl)
-        (ap sum (reserved_stays p n a.quota was is others rest.reserved) ∙ sharing.reserved
+        sharing_after p n us vs ts (slice_set ts i after) a.place.quota i after turn sharing has differs own (number after same_number)
+        (cached_after p n us vs ts (slice_set ts i after) a.place.quota i after turn sharing has differs entries refl)
+        (ap sum (reserved_stays p n a.place.quota was is others rest.reserved) ∙ sharing.reserved
         ∙ ap (sum_by charge_in) (sym (map-set_same entry_in ts i after (λ u e. same_entry ∙ ap entry_in (some_same t u (sym lies.tenant ∙ e))))))
 
     pub sliced_tenants : tenants_in n (slice_set ts i after) ≡ map (tenant_sliced id steps) (tenants_in p ts)
     sliced_tenants =
         map_turn (tenant_in n) (tenant_in p) (tenant_sliced id steps) ts i after
-        (λ j u d at. stays j u d at ∙ sym (held_if (u.parts.account.id == id) (tenant_in p u) (held_sliced steps (tenant_in p u).held) (other_id j u d at)))
-        (λ u e. sliced_tenant id steps t.pages t.parts parts (memory_at p a t.pages) (memory_at n b t.pages) same step
-        ∙ ap (tenant_sliced id steps) (sym (by_place p t (Some a) lies.place) ∙ ap (tenant_in p) (some_same t u (sym lies.tenant ∙ e))))
+        (λ j u d at. stays j u d at ∙ sym (held_if ((record_in u).id == id) (tenant_in p u) (held_sliced steps (tenant_in p u).held) (other_id j u d at)))
+        (λ u e. sliced_tenant id steps t.pages a.parts.value parts.value (memory_at p a.place t.pages) (memory_at n b t.pages) own_same step
+        ∙ ap (tenant_sliced id steps) (sym (by_live p t a lies.live) ∙ ap (tenant_in p) (some_same t u (sym lies.tenant ∙ e))))
 
   -- ---- a stop
 
   module _ (parts : TenantParts) (gone : vs ≡ without_asid i us) (charge : sum n.reserved + charge_of t.pages ≡ sum p.reserved)
-      (step : (m : Memory) → machine_of parts m ≡ halted (machine_of t.parts m)) where
+      (step : (m : Memory) → machine_of parts m ≡ halted (machine_of a.parts.value m)) where
     abbrev pub left : code.Tenant
-    left = record { parts = parts; place = None; pages = t.pages }
+    left = record { pages = t.pages; holding = kept.Gone parts.account }
 
-    left_number : parts.account.id ≡ t.parts.account.id
-    left_number = ap number_in (step (memory_at p a t.pages)) ∙ halted-id (machine_of t.parts (memory_at p a t.pages))
+    left_number : parts.account.id ≡ (record_in t).id
+    left_number = ap number_in (step (memory_at p a.place t.pages)) ∙ halted-id (machine_of a.parts.value (memory_at p a.place t.pages)) ∙ sym own_number
 
     was_charged : charge_in (entry_in t) ≡ charge_of t.pages
-    was_charged = ap (λ (o : Option Place). if is_some o then charge_of t.pages else 0) lies.place
+    was_charged = ap (λ (o : Holding). if is_live_by o then charge_of t.pages else 0) lies.live
 
     pub stopped_sharing : IsSharing n vs (slice_set ts i left)
     stopped_sharing =
         let has = has_set ts i left within in
-        sharing_after p n us vs ts (slice_set ts i left) a.quota i left turn sharing has differs (λ c e. absurd cc) (number left left_number)
-        (cached_without p n us vs ts (slice_set ts i left) a.quota i left turn sharing has differs (rw gone (forget-asid i us)))
+        sharing_after p n us vs ts (slice_set ts i left) a.place.quota i left turn sharing has differs (λ c e. absurd cc) (number left left_number)
+        (cached_without p n us vs ts (slice_set ts i left) a.place.quota i left turn sharing has differs (rw gone (forget-asid i us)))
         (omega (arith, charge, sharing.reserved, was_charged, sum_turn charge_in entry_in ts i left t lies.tenant))
+
+    pub stopped_count : count_by is_live (entries_in (slice_set ts i left)) + 1 ≡ count_by is_live (entries_in ts)
+    stopped_count =
+        let one : ℕ → ℕ = λ k. cond (is_live (entry_in t)) 1 k in
+        let was : one 0 ≡ 1 = ap (λ (o : Holding). let k : ℕ = cond (is_live_by o) 1 0 in k) lies.live in
+        let turned : count_by is_live (entries_in (slice_set ts i left)) + one 0 ≡ count_by is_live (entries_in ts) + 0 = sum_turn (λ e. cond (is_live e) 1 0) entry_in ts i left t lies.tenant in
+        omega (arith, was, turned)
 
     pub stopped_tenants : tenants_in n (slice_set ts i left) ≡ map (tenant_stopped id) (tenants_in p ts)
     stopped_tenants =
         map_turn (tenant_in n) (tenant_in p) (tenant_stopped id) ts i left
-        (λ j u d at. stays j u d at ∙ sym (held_if (u.parts.account.id == id) (tenant_in p u) (held_stopped (tenant_in p u).held) (other_id j u d at)))
-        (λ u e. stopped_tenant id t.pages t.parts parts (Some (memory_at p a t.pages)) same step
-        ∙ ap (tenant_stopped id) (sym (by_place p t (Some a) lies.place) ∙ ap (tenant_in p) (some_same t u (sym lies.tenant ∙ e))))
+        (λ j u d at. stays j u d at ∙ sym (held_if ((record_in u).id == id) (tenant_in p u) (held_stopped (tenant_in p u).held) (other_id j u d at)))
+        (λ u e. stopped_tenant id t.pages a.parts.value parts (memory_at p a.place t.pages) own_same step
+        ∙ ap (tenant_stopped id) (sym (by_live p t a lies.live) ∙ ap (tenant_in p) (some_same t u (sym lies.tenant ∙ e))))
 
 pub gone_enters : (i : ℕ) (us vs : List Translation) → vs ≡ without_asid i us → NoneEnters i us vs
 gone_enters i us vs e =

@@ -39,6 +39,9 @@ charge_in e = if e.live then charge_of e.pages else 0
 abbrev pub is_live : Entry → Bool
 is_live e = e.live
 
+abbrev pub numbers_of : List Entry → List ℕ
+numbers_of es = map (λ e. e.id) es
+
 abbrev pub has_id : ℕ → Entry → Bool
 has_id id e = e.id == id
 

@@ -6,10 +6,12 @@ use Rattle.mte_svc.specs.declared.record.Record.{Record}
 use Rattle.mte_tags.specs.Memory.{Page, page_at}
 use Rattle.mte_tags.specs.declared.attrs.Attrs.{Attrs}
 use Rattle.mte_frames.specs.Pool.{Pool, IsTaken}
-use Rattle.mte_translate.specs.Tables.{pages_of}
+use Rattle.mte_translate.specs.Tables.{pages_of, IsSomeTable}
 use Rattle.mte_space.specs.Spaces.{page_of}
-use Rattle.mte_sched.specs.declared.place.Place.{Place}
 use Rattle.mte_sched.specs.declared.tenant.Tenant as code
+use Rattle.mte_sched.specs.declared.tenant.Holding.{Holding}
+use Rattle.mte_sched.specs.declared.tenant.Holding.TheVariants as kept
+use Rattle.mte_sched.specs.Tenants.{record_in}
 use Rattle.mte_sched.specs.Contents.{Held, Live, Gone, Tenant, record_of}
 use Rattle.mte_sched.specs.Isolation.{tenant_among}
 
@@ -27,16 +29,20 @@ abbrev pub page_among : ℕ → ℕ → List Tenant → Option Page
 page_among id q [] = None
 page_among id q (t ∷ more) = if t.id == id then page_held q t.held else page_among id q more
 
--- The frame and the attributes of a page that lies at a place.
-abbrev pub found_by : Pool → ℕ → Option Place → Option (ℕ × Attrs)
-found_by p q None = None
-found_by p q (Some a) = get (pages_of p a.table.frame) q
+-- The frame and the attributes of a page of what is kept of a tenant.
+abbrev pub found_by : Pool → ℕ → Holding → Option (ℕ × Attrs)
+found_by p q (kept.Live l) = get (pages_of p l.place.table.frame) q
+found_by p q (kept.Gone r) = None
+
+abbrev pub HasSomeTable : Pool → Holding → Type 0
+HasSomeTable p (kept.Live l) = IsSomeTable p l.place.table
+HasSomeTable p (kept.Gone r) = Unit {0}
 
 -- And of the page q of the tenant that was admitted with a number.
 abbrev pub found_among : Pool → ℕ → ℕ → List code.Tenant → Option (ℕ × Attrs)
 found_among p id q [] = None
 found_among p id q (t ∷ more) =
-    if t.parts.account.id == id then found_by p q t.place else found_among p id q more
+    if (record_in t).id == id then found_by p q t.holding else found_among p id q more
 
 -- The frame f is out, and a page is what it holds.
 pub record Holds (p : Pool) (f : ℕ) (page : Option Page) : Type 0 where

@@ -9,16 +9,16 @@ ghost use Rattle.std.specs.List.{list_any};
 ghost use Rattle.mte_elf.specs.Headers.{entry_of, segments_of};
 ghost use Rattle.mte_elf.specs.Images.{refusal_of, pages_of};
 ghost use Rattle.mte_sched.specs.Ledger.{admission_refusal, has_id, has_live_id, is_bad, charge_in};
-ghost use Rattle.mte_sched.specs.Ledger.{is_live, charge_of};
+ghost use Rattle.mte_sched.specs.Ledger.{is_live, charge_of, numbers_of};
 ghost use Rattle.mte_sched.specs.Tenants.{entries_in, tenants_in, terms_of};
-ghost use Rattle.mte_sched.specs.Sharing.{IsSharing, HasLiveAt};
+ghost use Rattle.mte_sched.specs.Sharing.{IsSharing, IsIndexed, HasId, HasLiveAt};
 
 use crate::accepting::{holds_image, is_bad_reservation, plan_of};
 use crate::admission::{Admission, AdmitError, MAX_LIVE, NotLive, charge};
-use crate::hints::Hints;
+use crate::index::Index;
 use crate::machine::start_parts;
 use crate::place::start_place;
-use crate::tenant::Tenant;
+use crate::tenant::{Holding, Live, Tenant};
 use crate::turns::{slice_at, stop_at};
 use a64_step::Kept;
 use address_map::{MAX_FRAMES, MAX_PAGES, STACK_PAGES};
@@ -36,10 +36,14 @@ pub struct Host {
     pool: FramePool,
     tlb: Tlb,
     tenants: Vec<Tenant>,
-    hints: Hints,
+    index: Index,
+    /// How many tenants are live.
+    live: usize,
     /// What the instructions of tenants mean; it holds for all of them.
     kept: Kept,
     ghost sharing: { IsSharing pool tlb tenants.items },
+    ghost indexed: { IsIndexed index.positions.items (numbers_of (entries_in tenants.items)) },
+    ghost counted: { live ≡ count_by is_live (entries_in tenants.items) },
 }
 
 impl Host {
@@ -59,14 +63,15 @@ impl Host {
         let Ok(pool) = FramePool::new(alloc, arena) else {
             return Err(ArenaError::OutOfMemory);
         };
-        let Ok(hints) = Hints::new(alloc) else {
+        let Ok(index) = Index::new(alloc) else {
             return Err(ArenaError::OutOfMemory);
         };
         Ok(Host {
             pool,
             tlb: Tlb::new(),
             tenants: Vec::new(alloc),
-            hints,
+            index,
+            live: 0,
             kept: Kept::new(),
         })
     }
@@ -89,16 +94,17 @@ impl Host {
     {
         condition_of_calls();
         let plan = self.accept(alloc, admission)?;
-        let parts = start_parts(alloc, admission, &plan)?;
+        let first = start_parts(alloc, admission, &plan)?;
+        let parts = Box::new(alloc, first)?;
         self.tenants.reserve(1)?;
         let asid = self.tenants.len();
-        self.hints.set(admission.id, asid);
+        self.index.enter(admission.id, asid);
         let place = start_place(&mut self.pool, &mut self.tlb, asid, admission, &plan);
         self.tenants.push_reserved(Tenant {
-            parts,
-            place: Some(place),
             pages: admission.pages,
+            holding: Holding::Live(Live { parts, place }),
         });
+        self.live += 1;
         Ok(())
     }
 
@@ -122,6 +128,8 @@ impl Host {
         ensures most { IfOk result (λ p. admission.now.pages ≤ MAX_PAGES) }
         ensures frames { IfOk result (λ p. charge_of admission.now.pages
             ≤ length self.now.pool.frames - sum_by charge_in (entries_in self.now.tenants.items)) }
+        ensures few { IfOk result
+            (λ p. count_by is_live (entries_in self.now.tenants.items) < MAX_LIVE) }
         ensures refused { IfErr result (λ e. (e ≡ AdmitError.OutOfMemory)
             ⊎ (admission_refusal (length self.now.pool.frames)
             (entries_in self.now.tenants.items) admission.now.id (terms_of admission.now)
@@ -143,7 +151,7 @@ impl Host {
         if charge(admission.pages) > self.unreserved() {
             return Err(AdmitError::NoFrames);
         }
-        if self.live() >= MAX_LIVE {
+        if self.live >= MAX_LIVE {
             return Err(AdmitError::TooManyLive);
         }
         Ok(plan)
@@ -184,8 +192,8 @@ impl Host {
         let Some(asid) = self.find_live(id) else {
             return Err(NotLive);
         };
-        let tenants = self.tenants.as_mut_slice();
-        stop_at(&mut self.pool, &mut self.tlb, tenants, asid, id);
+        stop_at(&mut self.pool, &mut self.tlb, &mut self.tenants, asid, id);
+        self.live -= 1;
         Ok(())
     }
 
@@ -194,12 +202,8 @@ impl Host {
     pub fn view(&self, id: u16) -> Option<&Record>
         ensures { option_copied result ≡ record_among id (content_of self.now).tenants }
     {
-        for tenant in &self.tenants {
-            if tenant.has_id(id) {
-                return Some(tenant.record());
-            }
-        }
-        None
+        let tenant = self.find(id)?;
+        Some(tenant.record())
     }
 
     /// The frame that holds a page of the live tenant with the number; `None` where it has no such
@@ -249,12 +253,22 @@ impl Host {
     fn knows(&self, id: u16) -> bool
         ensures { result ≡ list_any (has_id id) (entries_in self.now.tenants.items) }
     {
-        for tenant in &self.tenants {
-            if tenant.has_id(id) {
-                return true;
-            }
+        self.find(id).is_some()
+    }
+
+    /// The tenant that was admitted with the number.
+    fn find(&self, id: u16) -> Option<&Tenant>
+        ensures some { IfSome result (λ t. HasId self.now.tenants.items id t.now) }
+        ensures none { result ≡ None
+            → list_any (has_id id) (entries_in self.now.tenants.items) ≡ false }
+    {
+        let i = self.index.position(id);
+        let tenant = self.tenants.get(i)?;
+        if tenant.has_id(id) {
+            Some(tenant)
+        } else {
+            None
         }
-        false
     }
 
     /// Which tenant is live and has the number.
@@ -263,23 +277,9 @@ impl Host {
         ensures none { result ≡ None
             → list_any (has_live_id id) (entries_in self.now.tenants.items) ≡ false }
     {
-        if let Some(i) = self.hinted(id) {
-            return Some(i);
-        }
-        for i in 0..self.tenants.len() {
-            if self.tenants[i].has_live_id(id) {
-                return Some(i);
-            }
-        }
-        None
-    }
-
-    /// The same, where the hint is right.
-    fn hinted(&self, id: u16) -> Option<usize>
-        ensures { IfSome result (λ i. HasLiveAt self.now.tenants.items i id) }
-    {
-        let i = self.hints.position(id);
-        if self.tenants.get(i)?.has_live_id(id) {
+        let i = self.index.position(id);
+        let tenant = self.tenants.get(i)?;
+        if tenant.has_live_id(id) {
             Some(i)
         } else {
             None
@@ -290,12 +290,8 @@ impl Host {
     fn find_frame(&self, id: u16, page: u64) -> Option<usize>
         ensures { result ≡ frame_in self.now id page }
     {
-        for tenant in &self.tenants {
-            if tenant.has_id(id) {
-                return tenant.find_frame(&self.pool, page);
-            }
-        }
-        None
+        let tenant = self.find(id)?;
+        tenant.find_frame(&self.pool, page)
     }
 
     /// How many frames live tenants leave.
@@ -303,23 +299,6 @@ impl Host {
         ensures { result ≡ length self.now.pool.frames
             - sum_by charge_in (entries_in self.now.tenants.items) }
     {
-        let mut left = self.pool.frames() as u64;
-        for tenant in &self.tenants {
-            left = left.saturating_sub(tenant.charge());
-        }
-        left
-    }
-
-    /// How many tenants are live.
-    fn live(&self) -> usize
-        ensures { result ≡ count_by is_live (entries_in self.now.tenants.items) }
-    {
-        let mut count = 0;
-        for tenant in &self.tenants {
-            if tenant.is_live() {
-                count += 1;
-            }
-        }
-        count
+        self.pool.unreserved() as u64
     }
 }

@@ -4,8 +4,8 @@
 mod accepting;
 mod admission;
 mod alone;
-mod hints;
 mod host;
+mod index;
 mod isolation;
 mod machine;
 mod place;

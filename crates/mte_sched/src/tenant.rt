@@ -1,15 +1,29 @@
 //! An admitted tenant.
 
 use crate::place::Place;
-use mte_svc::TenantParts;
+use mte_svc::{Record, TenantParts};
 
 /// An admitted tenant.
 #[derive(Drop)]
 pub struct Tenant {
-    /// Its machine but for its memory; its record stays when it is stopped.
-    pub(crate) parts: TenantParts,
-    /// Where its memory lies, until it is stopped.
-    pub(crate) place: Option<Place>,
     /// Its reservation.
     pub(crate) pages: u32,
+    /// What is kept of it.
+    pub(crate) holding: Holding,
+}
+
+/// What is kept of a tenant: its machine, and once it was stopped its record alone.
+#[derive(Drop)]
+pub(crate) enum Holding {
+    Live(Live),
+    Gone(Record),
+}
+
+/// A machine.
+#[derive(Drop)]
+pub(crate) struct Live {
+    /// All of it but its memory. It stands apart, so that a stopped tenant needs no room for it.
+    pub(crate) parts: Box<TenantParts>,
+    /// Where its memory lies.
+    pub(crate) place: Place,
 }

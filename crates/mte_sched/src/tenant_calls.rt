@@ -1,14 +1,11 @@
 //! What a host asks of a tenant.
 
-ghost use Rattle.std.specs.Prelude.{◌≡◌, ◌==◌, ◌&&◌, Some, option_map};
-ghost use Rattle.mte_sched.specs.Ledger.{has_id, has_live_id, charge_in};
-ghost use Rattle.mte_translate.specs.Tables.{IsSomeTable};
-ghost use Rattle.mte_sched.specs.declared.place.Place.{Place};
+ghost use Rattle.std.specs.Prelude.{◌≡◌, ◌==◌, ◌&&◌, option_map};
+ghost use Rattle.mte_sched.specs.Ledger.{has_id, has_live_id};
 ghost use Rattle.mte_sched.specs.Tenants.{record_in, entry_in};
-ghost use Rattle.mte_sched.specs.Views.{found_by};
+ghost use Rattle.mte_sched.specs.Views.{found_by, HasSomeTable};
 
-use crate::admission::charge;
-use crate::tenant::Tenant;
+use crate::tenant::{Holding, Tenant};
 use mte_frames::FramePool;
 use mte_svc::Record;
 
@@ -17,21 +14,27 @@ impl Tenant {
     pub fn record(&self) -> &Record
         ensures { result.now ≡ record_in self.now }
     {
-        &self.parts.account
+        match &self.holding {
+            Holding::Live(live) => &live.parts.account,
+            Holding::Gone(record) => record,
+        }
     }
 
     /// Whether it is live: admitted, and not stopped.
     pub fn is_live(&self) -> bool
         ensures { result ≡ (entry_in self.now).live }
     {
-        self.place.is_some()
+        match &self.holding {
+            Holding::Live(_) => true,
+            Holding::Gone(_) => false,
+        }
     }
 
     /// Whether it has the number.
     pub(crate) fn has_id(&self, id: u16) -> bool
         ensures { result ≡ has_id id (entry_in self.now) }
     {
-        self.parts.account.id == id
+        self.record().id == id
     }
 
     /// Whether it is live and has the number.
@@ -41,24 +44,17 @@ impl Tenant {
         self.is_live() && self.has_id(id)
     }
 
-    /// How many frames it is charged.
-    pub(crate) fn charge(&self) -> u64
-        ensures { result ≡ charge_in (entry_in self.now) }
-    {
-        if self.is_live() {
-            charge(self.pages)
-        } else {
-            0
-        }
-    }
-
     /// The frame of a page, by its table.
     pub(crate) fn find_frame(&self, pool: &FramePool, page: u64) -> Option<usize>
-        requires { (a : Place) → self.now.place ≡ Some a → IsSomeTable pool.now a.table }
-        ensures { result ≡ option_map (λ x. x.0) (found_by pool.now page self.now.place) }
+        requires { HasSomeTable pool.now self.now.holding }
+        ensures { result ≡ option_map (λ x. x.0) (found_by pool.now page self.now.holding) }
     {
-        let place = self.place.as_ref()?;
-        let (frame, _) = place.table.walk(pool, page)?;
-        Some(frame)
+        match &self.holding {
+            Holding::Live(live) => {
+                let (frame, _) = live.place.table.walk(pool, page)?;
+                Some(frame)
+            }
+            Holding::Gone(_) => None,
+        }
     }
 }

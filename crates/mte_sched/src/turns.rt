@@ -1,15 +1,17 @@
 //! One tenant's turn, beside the others: a slice, a stop.
 
-ghost use Rattle.std.specs.Prelude.{◌≡◌, map, length};
+ghost use Rattle.std.specs.Prelude.{◌≡◌, ◌+◌, map, length, count_by};
 ghost use Rattle.mte_sched.specs.Contents.{tenant_sliced, tenant_stopped};
-ghost use Rattle.mte_sched.specs.Tenants.{tenants_in};
+ghost use Rattle.mte_sched.specs.Ledger.{is_live};
+ghost use Rattle.mte_sched.specs.Tenants.{tenants_in, entries_in};
 ghost use Rattle.mte_sched.specs.Sharing.{IsSharing, HasLiveAt};
 
 use crate::machine::halt;
 use crate::place::{slice_place, stop_place};
-use crate::tenant::Tenant;
+use crate::tenant::{Holding, Live, Tenant};
 use a64_step::Kept;
 use mte_frames::FramePool;
+use mte_svc::TenantParts;
 use mte_translate::Tlb;
 
 /// A slice of the tenant that has the number, and of no other.
@@ -30,7 +32,7 @@ pub(crate) fn slice_at(
         ≡ map (tenant_sliced id steps) (tenants_in pool.old tenants.old) }
 {
     let tenant = &mut tenants[asid];
-    if let Some(place) = &mut tenant.place {
+    if let Holding::Live(live) = &mut tenant.holding {
         // what holds of every pool is in its contract
         let _ = pool.frames();
         slice_place(
@@ -39,32 +41,46 @@ pub(crate) fn slice_at(
             tlb,
             asid,
             tenant.pages,
-            &mut tenant.parts,
-            place,
+            &mut *live.parts,
+            &mut live.place,
             steps,
         );
         let _ = pool.frames();
     }
 }
 
-/// A stop of the tenant that has the number, and of no other.
+/// A stop of the tenant that has the number, and of no other. Its record stays; all else that it
+/// has is given back.
 pub(crate) fn stop_at(
     pool: &mut FramePool,
     tlb: &mut Tlb,
-    tenants: &mut [Tenant],
+    tenants: &mut Vec<Tenant>,
     asid: usize,
     id: u16,
 )
-    requires sharing { IsSharing pool.old tlb.old tenants.old }
-    requires live { HasLiveAt tenants.old asid id }
-    ensures sharing { IsSharing pool.new tlb.new tenants.new }
+    requires sharing { IsSharing pool.old tlb.old tenants.old.items }
+    requires live { HasLiveAt tenants.old.items asid id }
+    ensures sharing { IsSharing pool.new tlb.new tenants.new.items }
     ensures frames { length pool.new.frames ≡ length pool.old.frames }
-    ensures tenants { tenants_in pool.new tenants.new
-        ≡ map (tenant_stopped id) (tenants_in pool.old tenants.old) }
+    ensures tenants { tenants_in pool.new tenants.new.items
+        ≡ map (tenant_stopped id) (tenants_in pool.old tenants.old.items) }
+    ensures live { count_by is_live (entries_in tenants.new.items) + 1
+        ≡ count_by is_live (entries_in tenants.old.items) }
 {
-    let tenant = &mut tenants[asid];
-    if let Some(place) = tenant.place.take() {
-        halt(&mut tenant.parts);
-        stop_place(pool, tlb, asid, tenant.pages, place);
-    }
+    // the last takes its place until it comes back
+    let Tenant { pages, holding } = tenants.swap_remove(asid);
+    let Holding::Live(live) = holding else {
+        unreachable!();
+    };
+    let Live { parts, place } = live;
+    let mut parts = Box::into_inner(parts);
+    halt(&mut parts);
+    stop_place(pool, tlb, asid, pages, place);
+    let TenantParts { account, .. } = parts;
+    let last = tenants.len();
+    tenants.push_reserved(Tenant {
+        pages,
+        holding: Holding::Gone(account),
+    });
+    tenants.swap(asid, last);
 }

@@ -4,17 +4,17 @@ use Rattle.std.proofs.Common.{Option, Some, None, refl, ap, sym, ◌∙◌, arit
 use Rattle.std.proofs.Common.{append_assoc}
 use Rattle.std.proofs.lemmas.List.{drop_more, nil_from_length, append-nil}
 use Rattle.mte_script.specs.declared.event.Event.{Event}
-use Rattle.mte_svc.specs.declared.parts.TenantParts.{TenantParts}
-use Rattle.mte_tags.specs.Memory.{Memory}
 use Rattle.mte_sched.specs.declared.refusal.Refusal.{Refusal}
 use Rattle.mte_sched.specs.declared.refusal.Refused.{Refused}
 use Rattle.mte_sched.specs.declared.tenant.Tenant as code
+use Rattle.mte_sched.specs.declared.tenant.Holding.{Holding}
+use Rattle.mte_sched.specs.declared.tenant.Holding.TheVariants as kept
 use Rattle.mte_sched.specs.Ledger.{Call, Admit, Slice, Stop, Entry, call_refusal, entered_by}
 use Rattle.mte_sched.specs.Lives.{Session, Life, lives, refused, refused_from, refused_by}
 use Rattle.mte_sched.specs.Contents.{Content, ledger_of, admitted, sliced, stopped, after_call, after_by, played, empty, record_of, tenant_of}
 use Rattle.mte_sched.specs.declared.host.Host.{Host}
 use Rattle.mte_sched.specs.Hosts.{pool_of}
-use Rattle.mte_sched.specs.Tenants.{held_by, memory_in, tenants_in, record_in}
+use Rattle.mte_sched.specs.Tenants.{held_by, record_by, tenants_in, record_in}
 use Rattle.mte_sched.specs.Isolation.{LedgerFollows, TenantsAreAlone, content_after}
 use Rattle.mte_session.specs.Sessions.{call_of, calls_of, session_of, session_text, tenant_texts, life_text, life_texts, refused_texts}
 use Rattle.mte_session.specs.Progress.{Progress, record_texts, refusal_in, run_by, run_on, run_all, progress_text}
@@ -110,12 +110,12 @@ session_text_is law alone frames files events c done h =
 
 -- ---- a tenant's record
 
-tenant_record : (p : TenantParts) (o : Option Memory) → record_of (held_by p o) ≡ p.account
-tenant_record p None = refl
-tenant_record p (Some m) = refl
+tenant_record : (h : Host) (pages : ℕ) (o : Holding) → record_of (held_by (pool_of h) pages o) ≡ record_by o
+tenant_record h pages (kept.Live l) = refl
+tenant_record h pages (kept.Gone r) = refl
 
 pub texts_of_records : (h : Host) (ts : List code.Tenant) → tenant_texts (tenants_in (pool_of h) ts) ≡ record_texts ts
 texts_of_records h [] = refl
 texts_of_records h (t ∷ ts) =
-    ap (λ r. record_text r ++ tenant_texts (tenants_in (pool_of h) ts)) (tenant_record t.parts (memory_in (pool_of h) t))
+    ap (λ r. record_text r ++ tenant_texts (tenants_in (pool_of h) ts)) (tenant_record h t.pages t.holding)
     ∙ ap (λ l. record_text (record_in t) ++ l) (texts_of_records h ts)

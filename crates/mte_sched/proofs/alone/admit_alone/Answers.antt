@@ -1,4 +1,4 @@
-use Rattle.std.proofs.Common.{◌≡◌, ◌∙◌, ◌/◌, ◌^◌, ap, arith}
+use Rattle.std.proofs.Common.{◌∙◌, ◌/◌, ◌^◌, ap, arith}
 use Rattle.scudo_heap.specs.Heaps.{empty_heap}
 use Rattle.scudo_heap.specs.Served.{IsServed}
 use Rattle.mte_svc.specs.declared.parts.TenantParts.{TenantParts}

@@ -1,43 +1,49 @@
-use Rattle.std.proofs.Common.{◌==◌, is_some, get_or}
+use Rattle.std.proofs.Common.{◌≡◌, ◌==◌, ◌∙◌, Box, List, get_or, ap}
+use Rattle.std.specs.declared.alloc.Global.{Global}
+use Rattle.std.specs.Box.{with_value}
+use Rattle.mte_svc.specs.declared.parts.TenantParts.{TenantParts}
+use Rattle.mte_sched.specs.Machines.{machine_of, advance}
+use Rattle.mte_sched.specs.Places.{memory_at}
 use Rattle.mte_sched.specs.declared.tenant.Tenant.{Tenant}
+use Rattle.mte_sched.specs.Tenants.{record_in, is_live_by}
 use Rattle.mte_sched.specs.Sharing.{LiesAt}
-use Rattle.mte_sched.proofs.TurnLemmas.{live_within, live_at, live_id, both_left, both_right, not_none, sliced_sharing, sliced_tenants}
+use Rattle.mte_sched.proofs.TurnLemmas.{live_within, live_at, live_id, both_left, both_right, not_gone, sliced_sharing, sliced_tenants}
 use Rattle.mte_sched.proofs.turns.slice_at.Goals as goal
 
 pub slice_place-requires-clause-placed : goal.slice_place-requires-clause-placed
 slice_place-requires-clause-placed c =
     let t : Tenant = get_or c.args.tenants.now c.args.asid c.index-tenants-asid.result in
-    let lies : LiesAt c.args.tenants.now c.args.asid t c.in-Some.place = record { tenant = live_at c.args.tenants.now c.args.asid c.args.id c.index-tenants-asid.result c.requires.live; place = c.in-Some.is } in
-    c.requires.sharing.placed c.args.asid t c.in-Some.place lies
+    let lies : LiesAt c.args.tenants.now c.args.asid t c.in-Live.live = record { tenant = live_at c.args.tenants.now c.args.asid c.args.id c.index-tenants-asid.result c.requires.live; live = c.in-Live.is } in
+    c.requires.sharing.placed c.args.asid t c.in-Live.live lies
 
 pub slice_place-requires-clause-ready : goal.slice_place-requires-clause-ready
 slice_place-requires-clause-ready c =
     let t : Tenant = get_or c.args.tenants.now c.args.asid c.index-tenants-asid.result in
-    let lies : LiesAt c.args.tenants.now c.args.asid t c.in-Some.place = record { tenant = live_at c.args.tenants.now c.args.asid c.args.id c.index-tenants-asid.result c.requires.live; place = c.in-Some.is } in
-    c.requires.sharing.ready c.args.asid t c.in-Some.place lies
+    let lies : LiesAt c.args.tenants.now c.args.asid t c.in-Live.live = record { tenant = live_at c.args.tenants.now c.args.asid c.args.id c.index-tenants-asid.result c.requires.live; live = c.in-Live.is } in
+    rw c.deref_mut.ensures.value (c.requires.sharing.ready c.args.asid t c.in-Live.live lies)
 
-pub returns-in-Some-clause-sharing : goal.returns-in-Some-clause-sharing
-returns-in-Some-clause-sharing c =
-    let t : Tenant = get_or c.args.tenants.now c.args.asid c.index-tenants-asid.result in
-    let live = live_id c.args.tenants.now c.args.asid c.args.id c.index-tenants-asid.result c.requires.live in
-    let lies : LiesAt c.args.tenants.now c.args.asid t c.in-Some.place = record { tenant = live_at c.args.tenants.now c.args.asid c.args.id c.index-tenants-asid.result c.requires.live; place = c.in-Some.is } in
+pub returns-in-Live : goal.returns-in-Live
+returns-in-Live c =
+    let ts : List Tenant = c.args.tenants.now in
+    let t : Tenant = get_or ts c.args.asid c.index-tenants-asid.result in
+    let live = live_id ts c.args.asid c.args.id c.index-tenants-asid.result c.requires.live in
+    let lies : LiesAt ts c.args.asid t c.in-Live.live = record { tenant = live_at ts c.args.asid c.args.id c.index-tenants-asid.result c.requires.live; live = c.in-Live.is } in
+    let same = both_right (is_live_by t.holding) ((record_in t).id == c.args.id) live in
+    let within = live_within ts c.args.asid c.args.id c.requires.live in
     let turn = c.slice_place.ensures in
-    sliced_sharing c.args.pool.now c.slice_place.new.pool c.args.tlb.now c.slice_place.new.tlb c.args.tenants.now c.args.asid c.args.id t c.in-Some.place c.requires.sharing lies
-    (both_right (is_some t.place) (t.parts.account.id == c.args.id) live) (live_within c.args.tenants.now c.args.asid c.args.id c.requires.live) turn.rest.others turn.entries
-    c.args.steps c.slice_place.new.place c.slice_place.new.parts turn.rest turn.same turn.space turn.cached turn.ready turn.machine c.frames.ensures.sound c.frames-in-Some.ensures.sound
-
-pub returns-in-Some-clause-tenants : goal.returns-in-Some-clause-tenants
-returns-in-Some-clause-tenants c =
-    let t : Tenant = get_or c.args.tenants.now c.args.asid c.index-tenants-asid.result in
-    let live = live_id c.args.tenants.now c.args.asid c.args.id c.index-tenants-asid.result c.requires.live in
-    let lies : LiesAt c.args.tenants.now c.args.asid t c.in-Some.place = record { tenant = live_at c.args.tenants.now c.args.asid c.args.id c.index-tenants-asid.result c.requires.live; place = c.in-Some.is } in
-    let turn = c.slice_place.ensures in
-    sliced_tenants c.args.pool.now c.slice_place.new.pool c.args.tlb.now c.slice_place.new.tlb c.args.tenants.now c.args.asid c.args.id t c.in-Some.place c.requires.sharing lies
-    (both_right (is_some t.place) (t.parts.account.id == c.args.id) live) (live_within c.args.tenants.now c.args.asid c.args.id c.requires.live) turn.rest.others turn.entries
-    c.args.steps c.slice_place.new.place c.slice_place.new.parts turn.rest turn.same turn.space turn.cached turn.ready turn.machine c.frames.ensures.sound c.frames-in-Some.ensures.sound
+    let parts : Box TenantParts Global = with_value c.in-Live.live.parts c.slice_place.new.parts in
+    let machine : machine_of parts.value (memory_at c.slice_place.new.pool c.slice_place.new.place t.pages) ≡ advance c.args.steps (machine_of c.in-Live.live.parts.value (memory_at c.args.pool.now c.in-Live.live.place t.pages)) =
+    turn.machine ∙ ap (λ (q : TenantParts). advance c.args.steps (machine_of q (memory_at c.args.pool.now c.in-Live.live.place t.pages))) c.deref_mut.ensures.value in
+    record {
+      sharing = sliced_sharing c.args.pool.now c.slice_place.new.pool c.args.tlb.now c.slice_place.new.tlb ts c.args.asid c.args.id t c.in-Live.live c.requires.sharing lies same within turn.rest.others turn.entries
+          c.args.steps c.slice_place.new.place parts turn.rest turn.same turn.space turn.cached turn.ready machine c.frames.ensures.sound c.frames-in-Live.ensures.sound;
+      frames = turn.rest.others.count;
+      tenants = sliced_tenants c.args.pool.now c.slice_place.new.pool c.args.tlb.now c.slice_place.new.tlb ts c.args.asid c.args.id t c.in-Live.live c.requires.sharing lies same within turn.rest.others turn.entries
+          c.args.steps c.slice_place.new.place parts turn.rest turn.same turn.space turn.cached turn.ready machine c.frames.ensures.sound c.frames-in-Live.ensures.sound;
+    }
 
 pub returns-in_default-clause-tenants : goal.returns-in_default-clause-tenants
 returns-in_default-clause-tenants c =
     let t : Tenant = get_or c.args.tenants.now c.args.asid c.index-tenants-asid.result in
     let live = live_id c.args.tenants.now c.args.asid c.args.id c.index-tenants-asid.result c.requires.live in
-    absurd (not_none t.place (both_left (is_some t.place) (t.parts.account.id == c.args.id) live) c.in_default.is)
+    absurd (not_gone t.holding c.in_default.field-0 (both_left (is_live_by t.holding) ((record_in t).id == c.args.id) live) c.in_default.is)

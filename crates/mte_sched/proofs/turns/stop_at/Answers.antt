@@ -1,40 +1,59 @@
-use Rattle.std.proofs.Common.{◌==◌, ◌∙◌, sym, is_some, get_or}
+use Rattle.std.proofs.Common.{◌≡◌, ◌==◌, ◌∙◌, ◌+◌, ◌<◌, ℕ, true, List, Some, length, get_or, slice_set, count_by, ap, sym, subst, rules, arith}
+use Rattle.std.specs.Prelude.{vec_len}
+use Rattle.mte_tags.specs.Memory.{Memory}
+use Rattle.mte_svc.specs.declared.parts.TenantParts.{TenantParts}
 use Rattle.mte_sched.specs.declared.tenant.Tenant.{Tenant}
-use Rattle.mte_sched.specs.Sharing.{LiesAt}
-use Rattle.mte_sched.proofs.TurnLemmas.{live_within, live_at, live_id, both_left, both_right, not_none, gone_enters, stopped_sharing, stopped_tenants}
+use Rattle.mte_sched.specs.declared.tenant.Holding.TheVariants as kept
+use Rattle.mte_sched.specs.Machines.{machine_of, halted}
+use Rattle.mte_sched.specs.Ledger.{has_live_id, is_live}
+use Rattle.mte_sched.specs.Tenants.{record_in, is_live_by, entry_in, entries_in, tenants_in}
+use Rattle.mte_sched.specs.Sharing.{LiesAt, IsSharing}
+use Rattle.mte_sched.proofs.PlaceLists.{put_back}
+use Rattle.mte_sched.proofs.TurnLemmas.{live_within, live_at, live_id, both_right, gone_enters, stopped_sharing, stopped_tenants, stopped_count}
 use Rattle.mte_sched.proofs.turns.stop_at.Goals as goal
 
 pub stop_place-requires : goal.stop_place-requires
 stop_place-requires c =
-    let t : Tenant = get_or c.args.tenants.now c.args.asid c.index-tenants-asid.result in
-    let live = live_id c.args.tenants.now c.args.asid c.args.id c.index-tenants-asid.result c.requires.live in
-    let lies : LiesAt c.args.tenants.now c.args.asid t c.in-Some.place = record { tenant = live_at c.args.tenants.now c.args.asid c.args.id c.index-tenants-asid.result c.requires.live; place = sym c.take.ensures.value ∙ c.in-Some.is } in
-    c.requires.sharing.placed c.args.asid t c.in-Some.place lies
+    let ts : List Tenant = c.args.tenants.now.items in
+    let i : ℕ = c.args.asid in
+    let t : Tenant = c.swap_remove-pages.result in
+    let is : t ≡ get_or ts i t = c.swap_remove-pages.ensures.value in
+    let lies : LiesAt ts i t c.in-Live.live = record { tenant = live_at ts i c.args.id t c.requires.live ∙ ap (λ (u : Tenant). Some u) (sym is); live = c.in-Live.is } in
+    c.requires.sharing.placed i t c.in-Live.live lies
 
-pub returns-in-Some-clause-sharing : goal.returns-in-Some-clause-sharing
-returns-in-Some-clause-sharing c =
-    let t : Tenant = get_or c.args.tenants.now c.args.asid c.index-tenants-asid.result in
-    let live = live_id c.args.tenants.now c.args.asid c.args.id c.index-tenants-asid.result c.requires.live in
-    let lies : LiesAt c.args.tenants.now c.args.asid t c.in-Some.place = record { tenant = live_at c.args.tenants.now c.args.asid c.args.id c.index-tenants-asid.result c.requires.live; place = sym c.take.ensures.value ∙ c.in-Some.is } in
+pub swap-requires-clause-i_in_bounds : goal.swap-requires-clause-i_in_bounds
+swap-requires-clause-i_in_bounds c =
+    let ts : List Tenant = c.args.tenants.now.items in
+    let all : vec_len c.args.tenants.now ≡ length ts = search rules in
+    let within : c.args.asid < length ts = live_within ts c.args.asid c.args.id c.requires.live in
+    omega (arith, all, within, c.swap_remove-pages.ensures.len, c.push_reserved.ensures.len)
+
+pub returns : goal.returns
+returns c =
+    let ts : List Tenant = c.args.tenants.now.items in
+    let i : ℕ = c.args.asid in
+    let t : Tenant = c.swap_remove-pages.result in
+    let is : t ≡ get_or ts i t = c.swap_remove-pages.ensures.value in
+    let lies : LiesAt ts i t c.in-Live.live = record { tenant = live_at ts i c.args.id t c.requires.live ∙ ap (λ (u : Tenant). Some u) (sym is); live = c.in-Live.is } in
+    let live : has_live_id c.args.id (entry_in t) ≡ true = subst (λ (u : Tenant). has_live_id c.args.id (entry_in u) ≡ true) (sym is) (live_id ts i c.args.id t c.requires.live) in
+    let all : vec_len c.args.tenants.now ≡ length ts = search rules in
+    let within : i < length ts = live_within ts i c.args.id c.requires.live in
+    let last : ℕ = c.len-last.result in
+    let many : length ts ≡ last + 1 = omega (arith, all, c.swap_remove-pages.ensures.len, c.len-last.ensures) in
+    let left : Tenant = record { pages = t.pages; holding = kept.Gone c.halt.new.parts.account } in
+    let back : c.swap.new.self.items ≡ slice_set ts i left = put_back ts c.swap_remove-pages.new.self.items c.swap.new.self.items i last t left within many c.swap_remove-pages.ensures.items
+    (subst (λ (l : List Tenant). c.swap.new.self.items ≡ slice_set (slice_set l i (get_or l last left)) last (get_or l i left)) c.push_reserved.ensures.items (c.swap.ensures.by_index.3 left)) in
     let turn = c.stop_place.ensures in
-    let entries = gone_enters c.args.asid c.args.tlb.now c.stop_place.new.tlb turn.entries in
-    rw c.take.ensures.after (stopped_sharing c.args.pool.now c.stop_place.new.pool c.args.tlb.now c.stop_place.new.tlb c.args.tenants.now c.args.asid c.args.id t c.in-Some.place c.requires.sharing lies
-    (both_right (is_some t.place) (t.parts.account.id == c.args.id) live) (live_within c.args.tenants.now c.args.asid c.args.id c.requires.live) turn.others entries
-    c.halt.new.parts turn.entries turn.reserved c.halt.ensures.machine)
-
-pub returns-in-Some-clause-tenants : goal.returns-in-Some-clause-tenants
-returns-in-Some-clause-tenants c =
-    let t : Tenant = get_or c.args.tenants.now c.args.asid c.index-tenants-asid.result in
-    let live = live_id c.args.tenants.now c.args.asid c.args.id c.index-tenants-asid.result c.requires.live in
-    let lies : LiesAt c.args.tenants.now c.args.asid t c.in-Some.place = record { tenant = live_at c.args.tenants.now c.args.asid c.args.id c.index-tenants-asid.result c.requires.live; place = sym c.take.ensures.value ∙ c.in-Some.is } in
-    let turn = c.stop_place.ensures in
-    let entries = gone_enters c.args.asid c.args.tlb.now c.stop_place.new.tlb turn.entries in
-    rw c.take.ensures.after (stopped_tenants c.args.pool.now c.stop_place.new.pool c.args.tlb.now c.stop_place.new.tlb c.args.tenants.now c.args.asid c.args.id t c.in-Some.place c.requires.sharing lies
-    (both_right (is_some t.place) (t.parts.account.id == c.args.id) live) (live_within c.args.tenants.now c.args.asid c.args.id c.requires.live) turn.others entries
-    c.halt.new.parts turn.entries turn.reserved c.halt.ensures.machine)
-
-pub returns-in_default-clause-tenants : goal.returns-in_default-clause-tenants
-returns-in_default-clause-tenants c =
-    let t : Tenant = get_or c.args.tenants.now c.args.asid c.index-tenants-asid.result in
-    let live = live_id c.args.tenants.now c.args.asid c.args.id c.index-tenants-asid.result c.requires.live in
-    absurd (not_none t.place (both_left (is_some t.place) (t.parts.account.id == c.args.id) live) (sym c.take.ensures.value ∙ c.in_default.is))
+    let entries = gone_enters i c.args.tlb.now c.stop_place.new.tlb turn.entries in
+    let same = both_right (is_live_by t.holding) ((record_in t).id == c.args.id) live in
+    let step : (m : Memory) → machine_of c.halt.new.parts m ≡ halted (machine_of c.in-Live.live.parts.value m) =
+    λ m. c.halt.ensures.machine m ∙ ap (λ (q : TenantParts). halted (machine_of q m)) c.into_inner-parts.ensures in
+    record {
+      sharing = subst (λ (l : List Tenant). IsSharing c.stop_place.new.pool c.stop_place.new.tlb l) (sym back)
+          (stopped_sharing c.args.pool.now c.stop_place.new.pool c.args.tlb.now c.stop_place.new.tlb ts i c.args.id t c.in-Live.live c.requires.sharing lies same within turn.others entries c.halt.new.parts turn.entries turn.reserved step);
+      frames = turn.others.count;
+      tenants = ap (tenants_in c.stop_place.new.pool) back
+          ∙ stopped_tenants c.args.pool.now c.stop_place.new.pool c.args.tlb.now c.stop_place.new.tlb ts i c.args.id t c.in-Live.live c.requires.sharing lies same within turn.others entries c.halt.new.parts turn.entries turn.reserved step;
+      live = ap (λ l. count_by is_live (entries_in l) + 1) back
+          ∙ stopped_count c.args.pool.now c.stop_place.new.pool c.args.tlb.now c.stop_place.new.tlb ts i c.args.id t c.in-Live.live c.requires.sharing lies same within turn.others entries c.halt.new.parts turn.entries turn.reserved step;
+    }

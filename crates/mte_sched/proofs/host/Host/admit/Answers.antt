@@ -1,4 +1,4 @@
-use Rattle.std.proofs.Common.{◌≡◌, ◌≢◌, ◌∙◌, ◌/◌, ◌^◌, ◌++◌, ◌∷◌, [], ℕ, List, length, Some, ap, sym, subst, rules, arith}
+use Rattle.std.proofs.Common.{◌≡◌, ◌≢◌, ◌∙◌, ◌/◌, ◌^◌, ◌+◌, ◌++◌, ◌∷◌, [], ℕ, List, length, count_by, slice_set, ap, sym, subst, rules, arith}
 use Rattle.std.specs.Prelude.{All}
 use Rattle.mte_frames.specs.Pool.{Pool}
 use Rattle.mte_translate.specs.declared.translation.Translation.{Translation}
@@ -7,12 +7,16 @@ use Rattle.scudo_heap.specs.Heaps.{empty_heap}
 use Rattle.scudo_heap.specs.Served.{IsServed}
 use Rattle.mte_sched.specs.declared.place.Place.{Place}
 use Rattle.mte_sched.specs.declared.tenant.Tenant as code
+use Rattle.mte_sched.specs.declared.tenant.Holding.TheVariants as kept
+use Rattle.mte_sched.specs.Machines.{first_parts}
 use Rattle.mte_sched.specs.Contents.{Tenant, Content, admitted, new_tenant}
 use Rattle.mte_sched.specs.Places.{memory_at, IsPlaced}
-use Rattle.mte_sched.specs.Tenants.{tenants_in, terms_of}
-use Rattle.mte_sched.specs.Sharing.{IsSharing}
+use Rattle.mte_sched.specs.Tenants.{record_in, tenants_in, entries_in, terms_of}
+use Rattle.mte_sched.specs.Ledger.{is_live, numbers_of}
+use Rattle.mte_sched.specs.Sharing.{IsSharing, IsIndexed}
 use Rattle.mte_sched.proofs.EachLemmas.{ledger_is}
-use Rattle.mte_sched.proofs.AdmitLemmas.{fresh_asid, entered_sharing, entered_tenants, first_ready, first_number, first_tenant}
+use Rattle.mte_sched.proofs.IndexLemmas.{entered_place, entered_index}
+use Rattle.mte_sched.proofs.AdmitLemmas.{fresh_asid, entered_sharing, entered_tenants, entered_count, first_ready, first_number, first_tenant}
 use Rattle.mte_sched.proofs.host.Host.admit.Goals as goal
 
 pub returns-in_err-plan-clause-refused : goal.returns-in_err-plan-clause-refused
@@ -24,6 +28,9 @@ returns-in_err-plan-clause-memory c = rw (ledger_is c.args.self.now.pool c.args.
 pub returns-in_err-parts-clause-memory : goal.returns-in_err-parts-clause-memory
 returns-in_err-parts-clause-memory c = rw (ledger_is c.args.self.now.pool c.args.self.now.tenants.items) (search rules)
 
+pub returns-in_err-first-clause-memory : goal.returns-in_err-first-clause-memory
+returns-in_err-first-clause-memory c = rw (ledger_is c.args.self.now.pool c.args.self.now.tenants.items) (search rules)
+
 pub returns-in_err-reserve-clause-memory : goal.returns-in_err-reserve-clause-memory
 returns-in_err-reserve-clause-memory c = rw (ledger_is c.args.self.now.pool c.args.self.now.tenants.items) (search rules)
 
@@ -31,6 +38,12 @@ pub start_place-place-requires-clause-fresh : goal.start_place-place-requires-cl
 start_place-place-requires-clause-fresh c =
     let asid : c.len-asid.result ≡ length c.args.self.now.tenants.items = search rules in
     subst (λ k. All (λ u. u.asid ≢ k) c.args.self.now.tlb) (sym asid) (fresh_asid c.args.self.now.pool c.args.self.now.tlb c.args.self.now.tenants.items c.args.self.now.sharing)
+
+pub enter-requires-clause-position : goal.enter-requires-clause-position
+enter-requires-clause-position c =
+    let h = c.args.self.now in
+    let asid : c.len-asid.result ≡ length h.tenants.items = search rules in
+    rw asid (entered_place h.index.positions.items h.tenants.items c.args.admission.now.id h.indexed (search rules) c.in_ok-plan.ensures.fresh)
 
 pub invariant_of-self-2 : goal.invariant_of-self-2
 invariant_of-self-2 c =
@@ -42,18 +55,30 @@ invariant_of-self-2 c =
     let vs : List Translation = c.start_place-place.new.tlb in
     let b : Place = c.start_place-place.result in
     let start = c.start_place-place.ensures in
+    let boxed : c.in_ok-parts.parts.value ≡ first_parts c.args.admission.now.id terms = c.in_ok-parts.ensures.ok ∙ c.in_ok-first.ensures in
     let asid : c.len-asid.result ≡ length ts = search rules in
     let placed : IsPlaced n vs (length ts) pages b = subst (λ k. IsPlaced n vs k pages b) asid start.placed in
     let entries : NoneEnters (length ts) h.tlb vs = subst (λ k. NoneEnters k h.tlb vs) asid start.entries in
     let limit : (memory_at n b pages).limit ≡ pages = start.limit in
     let served : IsServed (memory_at n b pages) (empty_heap (c.args.admission.now.seed / 2 ^ 32) pages) =
     c.condition_of_calls.ensures.first (memory_at n b pages) (c.args.admission.now.seed / 2 ^ 32) pages (omega (arith, limit)) start.untouched in
-    let ready = first_ready c.args.admission.now.id terms c.in_ok-parts.parts (memory_at n b pages) c.in_ok-parts.ensures served in
-    let number = first_number c.args.admission.now.id terms c.in_ok-parts.parts c.in_ok-parts.ensures in
+    let ready = first_ready c.args.admission.now.id terms c.in_ok-parts.parts.value (memory_at n b pages) boxed served in
+    let number = first_number c.args.admission.now.id terms c.in_ok-parts.parts.value boxed in
     let all = entered_sharing h.pool n h.tlb vs ts c.args.admission.now.id b c.in_ok-parts.parts pages h.sharing placed start.unused start.others entries ready start.reserved number c.in_ok-plan.ensures.fresh in
-    let t : code.Tenant = record { parts = c.in_ok-parts.parts; place = Some b; pages = pages } in
+    let t : code.Tenant = record { pages = pages; holding = kept.Live (record { parts = c.in_ok-parts.parts; place = b }) } in
     let pushed : c.push_reserved.new.self.items ≡ ts ++ t ∷ [] = c.push_reserved.ensures.items ∙ ap (λ l. l ++ t ∷ []) c.in_ok-reserve.ensures.items in
-    record { sharing = subst (IsSharing n vs) (sym pushed) all }
+    let number_of : (record_in t).id ≡ c.args.admission.now.id = number in
+    let index : IsIndexed (slice_set h.index.positions.items c.args.admission.now.id (length ts)) (numbers_of (entries_in (ts ++ t ∷ []))) =
+    entered_index h.index.positions.items ts c.args.admission.now.id h.indexed (search rules) c.in_ok-plan.ensures.fresh t number_of in
+    let places : c.enter.new.self.positions.items ≡ slice_set h.index.positions.items c.args.admission.now.id (length ts) =
+    c.enter.ensures ∙ ap (slice_set h.index.positions.items c.args.admission.now.id) asid in
+    let count : count_by is_live (entries_in (ts ++ t ∷ [])) ≡ count_by is_live (entries_in ts) + 1 =
+    entered_count h.pool n h.tlb vs ts c.args.admission.now.id b c.in_ok-parts.parts pages h.sharing placed start.unused start.others entries in
+    record {
+      sharing = subst (IsSharing n vs) (sym pushed) all;
+      indexed = subst (λ l. IsIndexed c.enter.new.self.positions.items (numbers_of (entries_in l))) (sym pushed) (subst (λ l. IsIndexed l (numbers_of (entries_in (ts ++ t ∷ [])))) (sym places) index);
+      counted = ap (λ k. k + 1) h.counted ∙ sym count ∙ ap (λ l. count_by is_live (entries_in l)) (sym pushed);
+    }
 
 pub returns-clause-accepted : goal.returns-clause-accepted
 returns-clause-accepted c = rw (ledger_is c.args.self.now.pool c.args.self.now.tenants.items) (search rules)
@@ -69,14 +94,15 @@ returns-clause-ok c =
     let vs : List Translation = c.start_place-place.new.tlb in
     let b : Place = c.start_place-place.result in
     let start = c.start_place-place.ensures in
+    let boxed : c.in_ok-parts.parts.value ≡ first_parts c.args.admission.now.id terms = c.in_ok-parts.ensures.ok ∙ c.in_ok-first.ensures in
     let asid : c.len-asid.result ≡ length ts = search rules in
     let placed : IsPlaced n vs (length ts) pages b = subst (λ k. IsPlaced n vs k pages b) asid start.placed in
     let entries : NoneEnters (length ts) h.tlb vs = subst (λ k. NoneEnters k h.tlb vs) asid start.entries in
-    let t : code.Tenant = record { parts = c.in_ok-parts.parts; place = Some b; pages = pages } in
+    let t : code.Tenant = record { pages = pages; holding = kept.Live (record { parts = c.in_ok-parts.parts; place = b }) } in
     let pushed : c.push_reserved.new.self.items ≡ ts ++ t ∷ [] = c.push_reserved.ensures.items ∙ ap (λ l. l ++ t ∷ []) c.in_ok-reserve.ensures.items in
     let tenants : tenants_in n c.push_reserved.new.self.items ≡ tenants_in h.pool ts ++ new_tenant c.args.admission.now.id terms ∷ [] =
     ap (tenants_in n) pushed
     ∙ entered_tenants h.pool n h.tlb vs ts c.args.admission.now.id b c.in_ok-parts.parts pages h.sharing placed start.unused start.others entries
-    ∙ ap (λ u. tenants_in h.pool ts ++ u ∷ []) (first_tenant n c.args.admission.now.id terms c.in_ok-parts.parts b c.in_ok-parts.ensures start.memory) in
+    ∙ ap (λ u. tenants_in h.pool ts ++ u ∷ []) (first_tenant n c.args.admission.now.id terms c.in_ok-parts.parts b boxed start.memory) in
     ap (λ (k : ℕ). let z : Content = record { frames = k; tenants = tenants_in n c.push_reserved.new.self.items } in z) start.others.count
     ∙ ap (λ (l : List Tenant). let z : Content = record { frames = length h.pool.frames; tenants = l } in z) tenants

@@ -1,15 +1,24 @@
-use Rattle.std.proofs.Common.{◌≡◌, ◌∙◌, ◌<◌, ℕ, List, length, get_or, ap, refl, Some}
-use Rattle.std.specs.List.{slice_get}
-use Rattle.std.proofs.lemmas.Option.{slice_get_read}
-use Rattle.mte_sched.specs.declared.tenant.Tenant.{Tenant}
+use Rattle.std.proofs.Common.{◌∙◌, ap, sym, refl}
+use Rattle.std.specs.Prelude.{option_map}
+use Rattle.mte_sched.proofs.EachLemmas.{found_at, found_none}
+use Rattle.mte_sched.proofs.FrameLemmas.{some_table}
 use Rattle.mte_sched.proofs.host.Host.find_frame.Goals as goal
 
+pub returns-in_err-tenant : goal.returns-in_err-tenant
+returns-in_err-tenant c =
+    c.from_residual.ensures
+    ∙ sym (ap (option_map (λ x. x.0)) (found_none c.args.self.now.pool c.args.id c.args.page c.args.self.now.tenants.items (c.in_err-tenant.ensures.none refl)))
+
 pub find_frame-requires : goal.find_frame-requires
-find_frame-requires c = λ a e.
-    let ts : List Tenant = c.args.self.now.tenants.items in
-    let i : ℕ = c.loop-tenant.tenant-index in
-    let t : Tenant = c.tenant-item.result in
-    let below : i < length ts = rw (← c.deref-tenant-items.ensures.value) c.loop-tenant-test.true in
-    let same : t ≡ get_or ts i t = c.tenant-item.is ∙ ap (λ l. get_or l i t) c.deref-tenant-items.ensures.value in
-    let at : slice_get ts i ≡ Some t = slice_get_read ts (length ts) i t refl below same in
-    (a.quota, (c.args.self.now.sharing.placed i t a (record { tenant = at; place = e })).space.table)
+find_frame-requires c =
+    let h = c.args.self.now in
+    let t = c.in_ok-tenant.tenant.now in
+    some_table h.pool h.tlb h.tenants.items h.sharing c.in_ok-tenant.ensures.some.at t t.holding c.in_ok-tenant.ensures.some.stands refl
+
+pub returns : goal.returns
+returns c =
+    let h = c.args.self.now in
+    let t = c.in_ok-tenant.tenant.now in
+    let found = c.in_ok-tenant.ensures.some in
+    c.find_frame.ensures
+    ∙ sym (ap (option_map (λ x. x.0)) (found_at h.pool c.args.id c.args.page h.tenants.items found.at t found.stands found.number (λ j u at e. h.sharing.numbers j found.at u t at found.stands (e ∙ sym found.number))))

@@ -13,8 +13,8 @@ data_mut_if-requires c =
 pub invariant_of-self-lent : goal.invariant_of-self-lent
 invariant_of-self-lent c = λ r.
     let h = c.args.self.now in (
-      λ w. (sharing_lent h.pool h.tlb h.tenants.items h.sharing c.args.id c.args.page w c.find_frame-frame.result c.find_frame-frame.ensures, tt),
-      (h.sharing, tt),
+      λ w. (sharing_lent h.pool h.tlb h.tenants.items h.sharing c.args.id c.args.page w c.find_frame-frame.result c.find_frame-frame.ensures, (h.indexed, (h.counted, tt))),
+      (h.sharing, (h.indexed, (h.counted, tt))),
     )
 
 pub returns : goal.returns
