@@ -5,4 +5,4 @@ pub mod Zeroing
 pub mod SpaceSteps
 pub mod MapSteps
 pub mod OtherSpaces
-pub mod PlaceSteps
+pub mod RememberedSteps

@@ -1,5 +1,5 @@
 pub mod Spaces
-pub mod Places
+pub mod Remembered
 pub mod Writes
 pub mod SpaceMemory
 pub mod KeptSpaces

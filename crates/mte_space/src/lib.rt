@@ -6,7 +6,7 @@ mod clearing;
 mod frame_page;
 mod laws;
 mod mapping;
-mod places;
+mod remembered;
 mod space;
 mod translation;
 mod writing;

@@ -3,14 +3,14 @@
 ghost use Rattle.std.specs.Prelude.{◌≡◌, ◌≤◌, ◌+◌, ◌-◌, ◌*◌};
 ghost use Rattle.mte_frames.specs.Pool.{taken_by, reserved_by};
 ghost use Rattle.mte_translate.specs.Tables.{pages_of, IsTable, MapsOnce, IsCached};
-ghost use Rattle.mte_space.specs.Places.{IsPlace, ArePlaces};
+ghost use Rattle.mte_space.specs.Remembered.{IsUpToDate, AreUpToDate};
 ghost use Rattle.mte_space.specs.Spaces.{space_memory, IsSpace};
 
 use crate::accesses::{
     fault_of_run, fetch_word, read_run, retag_run, tag_of_granule, try_read, try_write, write_run,
 };
 use crate::mapping::{map_range, unmap_range};
-use crate::places::{PLACES, Place, no_place, no_places};
+use crate::remembered::{DATA_PAGES, RememberedPage, no_page, no_pages};
 use crate::translation::{translate, translate_at, translate_data};
 use a64_bits::plain;
 use mte_frames::{FramePool, Quota};
@@ -19,8 +19,8 @@ use mte_translate::{Table, Tlb};
 
 /// A tenant's memory: the pages that its table maps, in frames of a pool that it shares with other
 /// tenants, under its quota. Translations of its ASID are remembered in a translation lookaside
-/// buffer, which it shares too, and where the last accesses found their pages in places of its own:
-/// one for fetches, and eight for data. Nothing allocates.
+/// buffer, which it shares too, and where its last accesses found their pages it remembers itself:
+/// one page for fetches, and eight for data. Nothing allocates.
 #[derive(Drop)]
 pub struct Space<'a> {
     pool: &'a mut FramePool,
@@ -30,12 +30,12 @@ pub struct Space<'a> {
     state: &'a mut TagState,
     asid: usize,
     limit: usize,
-    places: [Place; PLACES],
-    code: Place,
+    data_pages: [RememberedPage; DATA_PAGES],
+    code_page: RememberedPage,
     ghost space: { IsSpace pool.now quota.now table.now limit },
     ghost cached: { IsCached (pages_of pool.now table.now.frame) asid tlb.now },
-    ghost places_are: { ArePlaces (pages_of pool.now table.now.frame) places },
-    ghost code_is: { IsPlace (pages_of pool.now table.now.frame) code },
+    ghost data_up_to_date: { AreUpToDate (pages_of pool.now table.now.frame) data_pages },
+    ghost code_up_to_date: { IsUpToDate (pages_of pool.now table.now.frame) code_page },
 }
 
 impl<'a> Space<'a> {
@@ -74,8 +74,8 @@ impl<'a> Space<'a> {
             state,
             asid,
             limit: pages,
-            places: no_places(),
-            code: no_place(),
+            data_pages: no_pages(),
+            code_page: no_page(),
         }
     }
 }
@@ -106,7 +106,7 @@ impl PageStore for Space<'_> {
     fn fetch_aligned(&mut self, pc: u64) -> Result<u32, MemFault> {
         let page = plain(pc) / 4096;
         let found = translate_at(
-            &mut self.code,
+            &mut self.code_page,
             self.pool,
             self.table,
             self.tlb,
@@ -119,7 +119,7 @@ impl PageStore for Space<'_> {
     #[inline(always)]
     fn try_read(&mut self, at: u64, buffer: &mut [u8], access: &Access) -> bool {
         let found = translate_data(
-            &mut self.places,
+            &mut self.data_pages,
             self.pool,
             self.table,
             self.tlb,
@@ -145,7 +145,7 @@ impl PageStore for Space<'_> {
     #[inline(always)]
     fn try_write(&mut self, at: u64, bytes: &[u8], access: &Access) -> bool {
         let found = translate_data(
-            &mut self.places,
+            &mut self.data_pages,
             self.pool,
             self.table,
             self.tlb,
@@ -204,8 +204,8 @@ impl Paged for Space<'_> {
     }
 
     fn unmap_pages(&mut self, page: u64, count: usize) {
-        self.places = no_places();
-        self.code = no_place();
+        self.data_pages = no_pages();
+        self.code_page = no_page();
         unmap_range(
             self.pool, self.table, self.quota, self.tlb, self.asid, self.limit, page, count,
         );

@@ -3,10 +3,10 @@
 ghost use Rattle.std.specs.Prelude.{◌≡◌, ◌<◌, ◌^◌, IsTrue, IsFalse, None};
 ghost use Rattle.std.specs.FinMap.{get};
 ghost use Rattle.mte_translate.specs.Tables.{pages_of, IsSomeTable, IsCached};
-ghost use Rattle.mte_space.specs.Places.{IsPlace, ArePlaces};
+ghost use Rattle.mte_space.specs.Remembered.{IsUpToDate, AreUpToDate};
 ghost use Rattle.mte_space.specs.Spaces.{NoneEnters};
 
-use crate::places::{PLACES, Place};
+use crate::remembered::{DATA_PAGES, RememberedPage};
 use mte_frames::FramePool;
 use mte_tags::Attrs;
 use mte_translate::{Table, Tlb, fill_adds_its_own, lookup_returns_what_stands};
@@ -34,11 +34,11 @@ pub(crate) fn translate(
     walk_and_fill(pool, table, tlb, asid, page)
 }
 
-/// The same for a fetch, a read or a write, which first looks at a remembered place, and turns that
-/// to the page where it is mapped.
+/// The same for a fetch, a read or a write, which first compares a remembered page, and remembers
+/// the page in its place where it is mapped.
 #[inline(always)]
 pub(crate) fn translate_at(
-    place: &mut Place,
+    remembered: &mut RememberedPage,
     pool: &FramePool,
     table: &Table,
     tlb: &mut Tlb,
@@ -48,22 +48,22 @@ pub(crate) fn translate_at(
     requires low { page < 2 ^ 44 }
     requires table { IsSomeTable pool.now table.now }
     requires cached { IsCached (pages_of pool.now table.now.frame) asid tlb.old }
-    requires place { IsPlace (pages_of pool.now table.now.frame) place.old }
+    requires remembered { IsUpToDate (pages_of pool.now table.now.frame) remembered.old }
     ensures found { result ≡ get (pages_of pool.now table.now.frame) page }
     ensures cached { IsCached (pages_of pool.now table.now.frame) asid tlb.new }
-    ensures place { IsPlace (pages_of pool.now table.now.frame) place.new }
+    ensures remembered { IsUpToDate (pages_of pool.now table.now.frame) remembered.new }
     ensures entries { NoneEnters asid tlb.old tlb.new }
 {
-    if !turn_to(place, pool, table, tlb, asid, page) {
+    if !remember(remembered, pool, table, tlb, asid, page) {
         return None;
     }
-    Some((place.frame, place.attrs))
+    Some((remembered.frame, remembered.attrs))
 }
 
-/// The same for a read or a write: the page has one of the places, which it shares with others.
+/// The same for a read or a write, by the one remembered page that its number selects.
 #[inline(always)]
 pub(crate) fn translate_data(
-    places: &mut [Place; PLACES],
+    pages: &mut [RememberedPage; DATA_PAGES],
     pool: &FramePool,
     table: &Table,
     tlb: &mut Tlb,
@@ -73,21 +73,21 @@ pub(crate) fn translate_data(
     requires low { page < 2 ^ 44 }
     requires table { IsSomeTable pool.now table.now }
     requires cached { IsCached (pages_of pool.now table.now.frame) asid tlb.old }
-    requires places { ArePlaces (pages_of pool.now table.now.frame) places.old }
+    requires pages { AreUpToDate (pages_of pool.now table.now.frame) pages.old }
     ensures found { result ≡ get (pages_of pool.now table.now.frame) page }
     ensures cached { IsCached (pages_of pool.now table.now.frame) asid tlb.new }
-    ensures places { ArePlaces (pages_of pool.now table.now.frame) places.new }
+    ensures pages { AreUpToDate (pages_of pool.now table.now.frame) pages.new }
     ensures entries { NoneEnters asid tlb.old tlb.new }
 {
-    let place = &mut places[(page % PLACES as u64) as usize];
-    translate_at(place, pool, table, tlb, asid, page)
+    let remembered = &mut pages[(page % DATA_PAGES as u64) as usize];
+    translate_at(remembered, pool, table, tlb, asid, page)
 }
 
-/// Turns the place to a page, and says whether that is mapped. (A pair of results from a function
-/// out of line would go through memory, on the quick way too; so the place is read again.)
+/// Sees to it that the page is the remembered one, and says whether it is mapped. (A pair of results
+/// from a function out of line would go through memory, on the quick way too; so it is read again.)
 #[inline(always)]
-fn turn_to(
-    place: &mut Place,
+fn remember(
+    remembered: &mut RememberedPage,
     pool: &FramePool,
     table: &Table,
     tlb: &mut Tlb,
@@ -97,24 +97,24 @@ fn turn_to(
     requires low { page < 2 ^ 44 }
     requires table { IsSomeTable pool.now table.now }
     requires cached { IsCached (pages_of pool.now table.now.frame) asid tlb.old }
-    requires place { IsPlace (pages_of pool.now table.now.frame) place.old }
-    ensures found { IsTrue result → place.new.page ≡ page }
+    requires remembered { IsUpToDate (pages_of pool.now table.now.frame) remembered.old }
+    ensures found { IsTrue result → remembered.new.page ≡ page }
     ensures none { IsFalse result → get (pages_of pool.now table.now.frame) page ≡ None }
     ensures cached { IsCached (pages_of pool.now table.now.frame) asid tlb.new }
-    ensures place { IsPlace (pages_of pool.now table.now.frame) place.new }
+    ensures remembered { IsUpToDate (pages_of pool.now table.now.frame) remembered.new }
     ensures entries { NoneEnters asid tlb.old tlb.new }
 {
-    if place.page == page {
+    if remembered.page == page {
         return true;
     }
-    look_up(place, pool, table, tlb, asid, page)
+    look_up(remembered, pool, table, tlb, asid, page)
 }
 
-/// The same where the place is that of another page.
+/// The same where another page is remembered.
 #[cold]
 #[inline(never)]
 fn look_up(
-    place: &mut Place,
+    remembered: &mut RememberedPage,
     pool: &FramePool,
     table: &Table,
     tlb: &mut Tlb,
@@ -124,17 +124,17 @@ fn look_up(
     requires low { page < 2 ^ 44 }
     requires table { IsSomeTable pool.now table.now }
     requires cached { IsCached (pages_of pool.now table.now.frame) asid tlb.old }
-    requires place { IsPlace (pages_of pool.now table.now.frame) place.old }
-    ensures found { IsTrue result → place.new.page ≡ page }
+    requires remembered { IsUpToDate (pages_of pool.now table.now.frame) remembered.old }
+    ensures found { IsTrue result → remembered.new.page ≡ page }
     ensures none { IsFalse result → get (pages_of pool.now table.now.frame) page ≡ None }
     ensures cached { IsCached (pages_of pool.now table.now.frame) asid tlb.new }
-    ensures place { IsPlace (pages_of pool.now table.now.frame) place.new }
+    ensures remembered { IsUpToDate (pages_of pool.now table.now.frame) remembered.new }
     ensures entries { NoneEnters asid tlb.old tlb.new }
 {
     let Some((frame, attrs)) = translate(pool, table, tlb, asid, page) else {
         return false;
     };
-    *place = Place { page, frame, attrs };
+    *remembered = RememberedPage { page, frame, attrs };
     true
 }
 

@@ -1,9 +1,9 @@
 use Rattle.std.proofs.Common.{◌∙◌, ◌/◌, ◌%◌, sym, ap, subst, refl, is_ok}
 use Rattle.mte_translate.specs.Tables.{IsCached, pages_of}
-use Rattle.mte_space.specs.Places.{IsPlace, ArePlaces}
+use Rattle.mte_space.specs.Remembered.{IsUpToDate, AreUpToDate}
 use Rattle.mte_space.specs.Spaces.{space_memory, IsSpace, KeepsRest}
 use Rattle.mte_space.specs.SpaceMemory.{memory_of}
-use Rattle.mte_space.proofs.PlaceSteps.{place_on, places_on}
+use Rattle.mte_space.proofs.RememberedSteps.{page_stays_up_to_date, pages_stay_up_to_date}
 use Rattle.mte_space.proofs.SpaceSteps.{retagged_is, found_taken, found_out, page_is, space_changed, cached_changed, rest_changed, memory_changed}
 use Rattle.mte_arena.specs.Frames.{Frame}
 use Rattle.mte_space.specs.Writes.{retagged_frame}
@@ -24,14 +24,14 @@ invariant_of-self c =
       space = subst (λ n. IsSpace n s.quota.now s.table.now s.limit) (sym c.retag_run.ensures.pool) (space_changed s.pool.now s.quota.now s.table.now s.limit (c.args.at / 4096) g s.space (is_ok c.retag_run.result) c.translate-found.result c.translate-found.ensures.found);
       cached = subst (λ n. IsCached (pages_of n s.table.now.frame) s.asid c.translate-found.new.tlb) (sym c.retag_run.ensures.pool)
           (cached_changed s.pool.now s.quota.now s.table.now s.limit (c.args.at / 4096) g s.space (is_ok c.retag_run.result) c.translate-found.result c.translate-found.ensures.found s.asid c.translate-found.new.tlb c.translate-found.ensures.cached);
-      places_are = subst (λ n. ArePlaces (pages_of n s.table.now.frame) s.places) (sym c.retag_run.ensures.pool)
-          (places_on (pages_of s.pool.now s.table.now.frame) _ s.places
+      data_up_to_date = subst (λ n. AreUpToDate (pages_of n s.table.now.frame) s.data_pages) (sym c.retag_run.ensures.pool)
+          (pages_stay_up_to_date (pages_of s.pool.now s.table.now.frame) _ s.data_pages
           (cached_changed s.pool.now s.quota.now s.table.now s.limit (c.args.at / 4096) g s.space (is_ok c.retag_run.result) c.translate-found.result c.translate-found.ensures.found)
-          s.places_are);
-      code_is = subst (λ n. IsPlace (pages_of n s.table.now.frame) s.code) (sym c.retag_run.ensures.pool)
-          (place_on (pages_of s.pool.now s.table.now.frame) _
+          s.data_up_to_date);
+      code_up_to_date = subst (λ n. IsUpToDate (pages_of n s.table.now.frame) s.code_page) (sym c.retag_run.ensures.pool)
+          (page_stays_up_to_date (pages_of s.pool.now s.table.now.frame) _
           (cached_changed s.pool.now s.quota.now s.table.now s.limit (c.args.at / 4096) g s.space (is_ok c.retag_run.result) c.translate-found.result c.translate-found.ensures.found)
-          s.code s.code_is);
+          s.code_page s.code_up_to_date);
     }
 
 pub returns-clause-answer : goal.returns-clause-answer

@@ -1,9 +1,9 @@
 use Rattle.std.proofs.Common.{◌∙◌, ◌/◌, ◌%◌, sym, ap, subst, Some, refl, option_map}
 use Rattle.mte_translate.specs.Tables.{IsCached, pages_of}
-use Rattle.mte_space.specs.Places.{IsPlace, ArePlaces}
+use Rattle.mte_space.specs.Remembered.{IsUpToDate, AreUpToDate}
 use Rattle.mte_space.specs.Spaces.{page_of, space_memory, IsSpace, KeepsRest}
 use Rattle.mte_space.specs.SpaceMemory.{memory_of}
-use Rattle.mte_space.proofs.PlaceSteps.{place_on, places_on}
+use Rattle.mte_space.proofs.RememberedSteps.{page_stays_up_to_date, pages_stay_up_to_date}
 use Rattle.mte_space.proofs.SpaceSteps.{found_taken, found_out, page_found, space_changed, cached_changed, rest_changed, memory_changed}
 use Rattle.mte_arena.specs.Frames.{Frame, make_frame}
 use Rattle.mte_tags.specs.Runs.{spliced}
@@ -27,14 +27,14 @@ invariant_of-self c =
       space = subst (λ n. IsSpace n s.quota.now s.table.now s.limit) (sym c.try_write.ensures.pool) (space_changed s.pool.now s.quota.now s.table.now s.limit (c.args.at / 4096) g s.space c.try_write.result (Some (c.in-Some.frame, c.in-Some.attrs)) (sym found));
       cached = subst (λ n. IsCached (pages_of n s.table.now.frame) s.asid c.translate_data-found.new.tlb) (sym c.try_write.ensures.pool)
           (cached_changed s.pool.now s.quota.now s.table.now s.limit (c.args.at / 4096) g s.space c.try_write.result (Some (c.in-Some.frame, c.in-Some.attrs)) (sym found) s.asid c.translate_data-found.new.tlb c.in-Some.ensures.cached);
-      places_are = subst (λ n. ArePlaces (pages_of n s.table.now.frame) c.translate_data-found.new.places) (sym c.try_write.ensures.pool)
-          (places_on (pages_of s.pool.now s.table.now.frame) _ c.translate_data-found.new.places
+      data_up_to_date = subst (λ n. AreUpToDate (pages_of n s.table.now.frame) c.translate_data-found.new.pages) (sym c.try_write.ensures.pool)
+          (pages_stay_up_to_date (pages_of s.pool.now s.table.now.frame) _ c.translate_data-found.new.pages
           (cached_changed s.pool.now s.quota.now s.table.now s.limit (c.args.at / 4096) g s.space c.try_write.result (Some (c.in-Some.frame, c.in-Some.attrs)) (sym found))
-          c.in-Some.ensures.places);
-      code_is = subst (λ n. IsPlace (pages_of n s.table.now.frame) s.code) (sym c.try_write.ensures.pool)
-          (place_on (pages_of s.pool.now s.table.now.frame) _
+          c.in-Some.ensures.pages);
+      code_up_to_date = subst (λ n. IsUpToDate (pages_of n s.table.now.frame) s.code_page) (sym c.try_write.ensures.pool)
+          (page_stays_up_to_date (pages_of s.pool.now s.table.now.frame) _
           (cached_changed s.pool.now s.quota.now s.table.now s.limit (c.args.at / 4096) g s.space c.try_write.result (Some (c.in-Some.frame, c.in-Some.attrs)) (sym found))
-          s.code s.code_is);
+          s.code_page s.code_up_to_date);
     }
 
 pub returns-in-Some-clause-passed : goal.returns-in-Some-clause-passed
