@@ -159,6 +159,6 @@ fn walk_and_fill(
     }
     fill_adds_its_own();
     let (frame, attrs) = table.walk(pool, page)?;
-    tlb.fill(asid, page, frame, attrs);
+    tlb.add(asid, page, frame, attrs);
     Some((frame, attrs))
 }

@@ -21,6 +21,10 @@ module _ {X : Type 0} where
   none-left p [] = refl
   none-left p (x ∷ xs) = grind (arith, none-left p xs)
 
+  pub none-found : (p : X → Bool) (xs : List X) → find p (filter (λ x. not (p x)) xs) ≡ None
+  none-found p [] = refl
+  none-found p (x ∷ xs) = grind (arith, none-found p xs)
+
   -- where none is found, all are others
   pub others-none : (p : X → Bool) (xs : List X) → find p xs ≡ None → filter (λ x. not (p x)) xs ≡ xs
   others-none p [] e = refl
@@ -81,6 +85,10 @@ others-all asid page ts none = found (find (is_for asid page) ts) refl none
     found : (o : Option Translation) → find (is_for asid page) ts ≡ o → option_map {U = ℕ × Attrs} (λ (t : Translation). (t.frame, t.attrs)) o ≡ None → without asid page ts ≡ ts
     found None e h = others-none (is_for asid page) ts e
     found (Some t) e h = absurd (grind (arith, h))
+
+-- No translation stands for a page whose translation was dropped.
+pub none-without : (asid page : ℕ) (ts : List Translation) → lookup asid page (without asid page ts) ≡ None
+none-without asid page ts = ap (option_map (λ (t : Translation). (t.frame, t.attrs))) (none-found (is_for asid page) ts)
 
 pub same-left : (a b c d : ℕ) → ((a == b) && (c == d)) ≡ true → a ≡ b
 same-left a b c d e = grind arith

@@ -85,6 +85,15 @@ impl Tlb {
             ≡ filled (record { asid = asid; page = page; frame = frame; attrs = attrs }) self.old }
     {
         self.forget(asid, page);
+        self.add(asid, page, frame, attrs);
+    }
+
+    /// The same for a page of an address space for which no translation stands.
+    pub fn add(&mut self, asid: usize, page: u64, frame: usize, attrs: Attrs)
+        requires { lookup asid page self.old ≡ None }
+        ensures { self.new
+            ≡ filled (record { asid = asid; page = page; frame = frame; attrs = attrs }) self.old }
+    {
         make_room(&mut self.translations, &mut self.chains);
         self.chains.push(self.translations.end(), asid, page);
         self.translations.push(Translation {

@@ -1,19 +1,14 @@
-use Rattle.std.proofs.Common.{◌≡◌, ◌+◌, ◌-◌, ◌∙◌, ap, length, arith}
+use Rattle.std.proofs.Common.{◌≡◌, ◌∙◌, ◌∷◌, ◌++◌, [], List, ap}
 use Rattle.mte_translate.specs.declared.translation.Translation.{Translation}
-use Rattle.mte_translate.specs.Translations.{newest}
-use Rattle.mte_translate.specs.Whole.{hashes_of}
-use Rattle.mte_translate.proofs.TlbLemmas.{one-each-drop, one-each-push}
-use Rattle.mte_translate.proofs.ChainLemmas.{chained-same, hashes-push, hashes_long}
+use Rattle.mte_translate.specs.Translations.{lookup, newest, without}
+use Rattle.mte_translate.proofs.TlbLemmas.{others-all, none-without}
 use Rattle.mte_translate.proofs.tlb.Tlb.fill.Goals as goal
 
-pub invariant_of-self : goal.invariant_of-self
-invariant_of-self c =
+pub add-requires : goal.add-requires
+add-requires c = ap (lookup c.args.asid c.args.page) c.forget.ensures ∙ none-without c.args.asid c.args.page c.args.self.now
+
+pub returns : goal.returns
+returns c =
     let t : Translation = record { asid = c.args.asid; page = c.args.page; frame = c.args.frame; attrs = c.args.attrs } in
-    let old = c.self.inside.translations.items in
-    let w = c.make_room.new.translations in
-    let long = hashes_long w.items in
-    let end : w.first + length (hashes_of w.items) ≡ c.end.result = omega (arith, long, c.end.ensures.end) in
-    record {
-      one_each = one-each-push t c.args.self.now w.items _ (one-each-drop (length old - 63) old w.items c.self.invariant.one_each c.make_room.ensures.items) (c.make_room.ensures.items ∙ ap (newest 63) (c.self.view_is ∙ c.forget.ensures)) c.push-2.ensures.items;
-      chained = chained-same _ _ _ _ _ _ (c.push.ensures w.first (hashes_of w.items) end c.make_room.ensures.chained) c.push-2.ensures.first (hashes-push _ _ t c.push-2.ensures.items);
-    }
+    c.add.ensures ∙ ap (λ ts. newest 63 (without c.args.asid c.args.page ts) ++ t ∷ []) c.forget.ensures
+    ∙ ap (λ ts. newest 63 ts ++ t ∷ []) (others-all c.args.asid c.args.page (without c.args.asid c.args.page c.args.self.now) (none-without c.args.asid c.args.page c.args.self.now))
