@@ -1,5 +1,5 @@
 -- A tenant stands where the index has its number, and nowhere else.
-use Rattle.std.proofs.Common.{◌≡◌, ◌≢◌, ℕ, zero, suc, ◌+◌, ◌<◌, ◌≤◌, ◌==◌, ◌||◌, Bool, true, false, List, [], ◌∷◌, ◌++◌, map, length}
+use Rattle.std.proofs.Common.{◌≡◌, ◌≢◌, ℕ, zero, suc, ◌<◌, ◌≤◌, ◌==◌, ◌||◌, Bool, true, false, List, [], ◌∷◌, ◌++◌, map, length}
 use Rattle.std.proofs.Common.{IfSome, is_some, option_copied, eqb, get_or, slice_set, Option, Some, None, option_map, if◌then◌else◌, refl, ap, sym, subst, ◌∙◌, arith, inl, inr, length-append}
 use Rattle.std.specs.Borrow.{Bor}
 use Rattle.std.specs.Slice.{IsItemAt}
@@ -11,7 +11,7 @@ use Rattle.std.proofs.lemmas.Option.{slice_get_within, slice_get_past, slice_get
 use Rattle.mte_frames.specs.Pool.{Pool}
 use Rattle.mte_sched.specs.declared.index.TheConstants.{NUMBERS}
 use Rattle.mte_sched.specs.declared.tenant.Tenant as code
-use Rattle.mte_sched.specs.Ledger.{Entry, has_id, has_live_id, ended, numbers_of}
+use Rattle.mte_sched.specs.Ledger.{Entry, has_id, ended, numbers_of}
 use Rattle.mte_sched.specs.Contents.{entry_of, tenant_sliced, tenant_stopped}
 use Rattle.mte_sched.specs.Tenants.{record_in, tenants_in, entry_in, entries_in}
 use Rattle.mte_sched.specs.Sharing.{HasId, IsIndexed}
