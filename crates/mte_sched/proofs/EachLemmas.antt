@@ -1,6 +1,6 @@
 -- The tenant with a number, and the entries of tenants in the ledger.
-use Rattle.std.proofs.Common.{◌≡◌, ℕ, ◌+◌, ◌<◌, ◌≤◌, ◌∙◌, ◌||◌, ◌==◌, Bool, true, false, List, [], ◌∷◌, map, drop, length, zero, suc}
-use Rattle.std.proofs.Common.{get_or, Option, Some, None, option_map, if◌then◌else◌, refl, ap, arith, length-drop}
+use Rattle.std.proofs.Common.{◌≡◌, ℕ, ◌∙◌, ◌||◌, ◌==◌, Bool, true, false, List, [], ◌∷◌, map, zero, suc}
+use Rattle.std.proofs.Common.{Option, Some, None, option_map, if◌then◌else◌, refl, ap, arith}
 use Rattle.std.specs.List.{list_any, slice_get}
 use Rattle.std.proofs.lemmas.Bool.{eq-eqb, ne_eqb}
 use Rattle.mte_frames.specs.Pool.{Pool}

@@ -1,5 +1,5 @@
 -- A tenant stands where the index has its number, and nowhere else.
-use Rattle.std.proofs.Common.{◌≡◌, ◌≢◌, ℕ, zero, suc, ◌+◌, ◌<◌, ◌≤◌, ◌==◌, ◌||◌, Bool, true, false, List, [], ◌∷◌, ◌++◌, map, length}
+use Rattle.std.proofs.Common.{◌≡◌, ◌≢◌, ℕ, zero, suc, ◌<◌, ◌≤◌, ◌==◌, ◌||◌, Bool, true, false, List, [], ◌∷◌, ◌++◌, map, length}
 use Rattle.std.proofs.Common.{IfSome, is_some, option_copied, eqb, get_or, slice_set, Option, Some, None, option_map, if◌then◌else◌, refl, ap, sym, subst, ◌∙◌, arith, inl, inr, length-append}
 use Rattle.std.specs.Borrow.{Bor}
 use Rattle.std.specs.Slice.{IsItemAt}
@@ -11,7 +11,7 @@ use Rattle.std.proofs.lemmas.Option.{slice_get_within, slice_get_past, slice_get
 use Rattle.mte_frames.specs.Pool.{Pool}
 use Rattle.mte_sched.specs.declared.index.TheConstants.{NUMBERS}
 use Rattle.mte_sched.specs.declared.tenant.Tenant as code
-use Rattle.mte_sched.specs.Ledger.{Entry, has_id, has_live_id, ended, numbers_of}
+use Rattle.mte_sched.specs.Ledger.{Entry, has_id, ended, numbers_of}
 use Rattle.mte_sched.specs.Contents.{entry_of, tenant_sliced, tenant_stopped}
 use Rattle.mte_sched.specs.Tenants.{record_in, tenants_in, entry_in, entries_in}
 use Rattle.mte_sched.specs.Sharing.{HasId, IsIndexed}
@@ -44,29 +44,29 @@ number_at : (ts : List code.Tenant) (i : ℕ) (t : code.Tenant) → slice_get ts
 number_at ts i t at =
     slice_get-map (λ (e : Entry). e.id) (entries_in ts) i ∙ ap (option_map (λ (e : Entry). e.id)) (slice_get-map entry_in ts i ∙ ap (option_map entry_in) at)
 
--- A test that only a tenant with the number passes, and that the one at its place doesn't pass.
-pub none_at : (places : List ℕ) (ts : List code.Tenant) (id : ℕ) (f : Entry → Bool) → IsIndexed places (numbers_of (entries_in ts)) → ((e : Entry) → f e ≡ true → e.id ≡ id)
-    → ((t : code.Tenant) → slice_get ts (get_or places id 0) ≡ Some t → f (entry_in t) ≡ false) → list_any f (entries_in ts) ≡ false
-none_at places ts id f indexed own here = not_true (list_any f (entries_in ts)) (λ any.
+-- A test that only a tenant with the number passes, and that the one at its position doesn't pass.
+pub none_at : (positions : List ℕ) (ts : List code.Tenant) (id : ℕ) (f : Entry → Bool) → IsIndexed positions (numbers_of (entries_in ts)) → ((e : Entry) → f e ≡ true → e.id ≡ id)
+    → ((t : code.Tenant) → slice_get ts (get_or positions id 0) ≡ Some t → f (entry_in t) ≡ false) → list_any f (entries_in ts) ≡ false
+none_at positions ts id f indexed own here = not_true (list_any f (entries_in ts)) (λ any.
     let x = passing f ts any in
     let number : slice_get (numbers_of (entries_in ts)) x.at ≡ Some id = number_at ts x.at x.tenant x.stands ∙ ap (λ k. Some k) (own (entry_in x.tenant) x.passes) in
-    let place : get_or places id 0 ≡ x.at = get_or_from_slice_get places id x.at 0 (indexed.place x.at id number) in
-    let z : true ≡ false = sym x.passes ∙ here x.tenant (ap (slice_get ts) place ∙ x.stands) in cc)
+    let position : get_or positions id 0 ≡ x.at = get_or_from_slice_get positions id x.at 0 (indexed.position x.at id number) in
+    let z : true ≡ false = sym x.passes ∙ here x.tenant (ap (slice_get ts) position ∙ x.stands) in cc)
 
 -- What a slice has at an index.
 pub lent_at : {X : Type 0} (xs : List X) (i : ℕ) (r : Option (Bor X)) → IsItemAt xs i r → option_copied r ≡ slice_get xs i
 lent_at xs i None h = sym (slice_get_past xs i h.3)
 lent_at xs i (Some b) h = sym (slice_get_read xs (length xs) i b.now refl h.3.0 h.1)
 
-module _ (places : List ℕ) (ts : List code.Tenant) (id : ℕ) (f : Entry → Bool) (indexed : IsIndexed places (numbers_of (entries_in ts))) (own : (e : Entry) → f e ≡ true → e.id ≡ id)
-    (i : ℕ) (place : i ≡ get_or places id 0) where
+module _ (positions : List ℕ) (ts : List code.Tenant) (id : ℕ) (f : Entry → Bool) (indexed : IsIndexed positions (numbers_of (entries_in ts))) (own : (e : Entry) → f e ≡ true → e.id ≡ id)
+    (i : ℕ) (position : i ≡ get_or positions id 0) where
   pub none_past : IsItemAt {X = code.Tenant} ts i None → list_any f (entries_in ts) ≡ false
-  none_past h = none_at places ts id f indexed own (λ t at.
-      let z : None ≡ Some t = lent_at ts i None h ∙ ap (slice_get ts) place ∙ at in absurd cc)
+  none_past h = none_at positions ts id f indexed own (λ t at.
+      let z : None ≡ Some t = lent_at ts i None h ∙ ap (slice_get ts) position ∙ at in absurd cc)
 
   pub none_other : (b : Bor code.Tenant) → IsItemAt ts i (Some b) → f (entry_in b.now) ≡ false → list_any f (entries_in ts) ≡ false
-  none_other b h other = none_at places ts id f indexed own (λ t at.
-      let same : b.now ≡ t = some_same b.now t (lent_at ts i (Some b) h ∙ ap (slice_get ts) place ∙ at) in
+  none_other b h other = none_at positions ts id f indexed own (λ t at.
+      let same : b.now ≡ t = some_same b.now t (lent_at ts i (Some b) h ∙ ap (slice_get ts) position ∙ at) in
       subst (λ (u : code.Tenant). f (entry_in u) ≡ false) same other)
 
 pub knows_by : (ts : List code.Tenant) (id : ℕ) (o : Option (Bor code.Tenant)) → IfSome o (λ t. HasId ts id t.now) → (o ≡ None → list_any (has_id id) (entries_in ts) ≡ false)
@@ -84,20 +84,20 @@ fresh_at id (t ∷ ts) none zero = λ e.
     let z : true ≡ false = sym yes ∙ no in cc
 fresh_at id (t ∷ ts) none (suc i) = fresh_at id ts (or_right ((record_in t).id == id) _ none) i
 
-more_index : (places ids : List ℕ) (id : ℕ) → IsIndexed places ids → id < NUMBERS → ((i : ℕ) → slice_get ids i ≢ Some id) → IsIndexed (slice_set places id (length ids)) (ids ++ id ∷ [])
-more_index places ids id h within fresh = record {
-  numbers = length-set places id (length ids) ∙ h.numbers;
-  place = λ i k e. elim (cases_eq i (length ids)) [
+more_index : (positions ids : List ℕ) (id : ℕ) → IsIndexed positions ids → id < NUMBERS → ((i : ℕ) → slice_get ids i ≢ Some id) → IsIndexed (slice_set positions id (length ids)) (ids ++ id ∷ [])
+more_index positions ids id h within fresh = record {
+  numbers = length-set positions id (length ids) ∙ h.numbers;
+  position = λ i k e. elim (cases_eq i (length ids)) [
     | inl last ↦
         let same : id ≡ k = some_same id k (sym (get-last ids id) ∙ ap (slice_get (ids ++ id ∷ [])) (sym last) ∙ e) in
-        subst (λ z. slice_get (slice_set places id (length ids)) z ≡ Some i) same (get-set-same places id (length ids) (omega (arith, within, h.numbers)) ∙ ap (λ z. Some z) (sym last))
+        subst (λ z. slice_get (slice_set positions id (length ids)) z ≡ Some i) same (get-set-same positions id (length ids) (omega (arith, within, h.numbers)) ∙ ap (λ z. Some z) (sym last))
     | inr d ↦
         let was : slice_get ids i ≡ Some k = sym (get-before ids id i d) ∙ e in
-        get-set-other places id k (length ids) (λ s. fresh i (was ∙ ap (λ z. Some z) s)) ∙ h.place i k was
+        get-set-other positions id k (length ids) (λ s. fresh i (was ∙ ap (λ z. Some z) s)) ∙ h.position i k was
   ];
 }
 
--- ---- there are as many places as numbers
+-- ---- there are as many positions as numbers
 
 all_apart : (x : ℕ) (xs : List ℕ) → ((j : ℕ) → slice_get xs j ≢ Some x) → AllByRecursion (λ y. eqb x y ≡ false) xs
 all_apart x [] h = tt
@@ -120,30 +120,30 @@ any_at : (q : ℕ) (xs : List ℕ) → list_any (eqb q) xs ≡ true → (i : ℕ
 any_at q [] e = absurd cc
 any_at q (x ∷ xs) e = any_in (eqb q x) q x xs refl (λ h. any_at q xs h) e
 
-few : (places ids : List ℕ) → IsIndexed places ids → length ids ≤ length places
-few places ids h =
-    length-le_from_distinct_below ids (length places) (distinct ids (λ i j k e f. some_same i j (sym (h.place i k e) ∙ h.place j k f)))
-    (λ q any. let x = any_at q ids any in slice_get_within places q x.0 (h.place x.0 q x.1))
+few : (positions ids : List ℕ) → IsIndexed positions ids → length ids ≤ length positions
+few positions ids h =
+    length-le_from_distinct_below ids (length positions) (distinct ids (λ i j k e f. some_same i j (sym (h.position i k e) ∙ h.position j k f)))
+    (λ q any. let x = any_at q ids any in slice_get_within positions q x.0 (h.position x.0 q x.1))
 
 -- ---- an admission
 
-module _ (places : List ℕ) (ts : List code.Tenant) (id : ℕ) (indexed : IsIndexed places (numbers_of (entries_in ts))) (within : id < NUMBERS)
+module _ (positions : List ℕ) (ts : List code.Tenant) (id : ℕ) (indexed : IsIndexed positions (numbers_of (entries_in ts))) (within : id < NUMBERS)
     (none : list_any (has_id id) (entries_in ts) ≡ false) where
   many : length (numbers_of (entries_in ts)) ≡ length ts
   many = length-map (entries_in ts) (λ (e : Entry). e.id) ∙ length-map ts entry_in
 
-  more : IsIndexed (slice_set places id (length ts)) (numbers_of (entries_in ts) ++ id ∷ [])
-  more = subst (λ k. IsIndexed (slice_set places id k) (numbers_of (entries_in ts) ++ id ∷ [])) many (more_index places (numbers_of (entries_in ts)) id indexed within (fresh_at id ts none))
+  more : IsIndexed (slice_set positions id (length ts)) (numbers_of (entries_in ts) ++ id ∷ [])
+  more = subst (λ k. IsIndexed (slice_set positions id k) (numbers_of (entries_in ts) ++ id ∷ [])) many (more_index positions (numbers_of (entries_in ts)) id indexed within (fresh_at id ts none))
 
-  pub entered_place : length ts < NUMBERS
-  entered_place =
-      let all = few (slice_set places id (length ts)) (numbers_of (entries_in ts) ++ id ∷ []) more in
+  pub entered_position : length ts < NUMBERS
+  entered_position =
+      let all = few (slice_set positions id (length ts)) (numbers_of (entries_in ts) ++ id ∷ []) more in
       omega (arith, all, many, length-append (numbers_of (entries_in ts)) (id ∷ []), more.numbers)
 
-  pub entered_index : (t : code.Tenant) → (record_in t).id ≡ id → IsIndexed (slice_set places id (length ts)) (numbers_of (entries_in (ts ++ t ∷ [])))
+  pub entered_index : (t : code.Tenant) → (record_in t).id ≡ id → IsIndexed (slice_set positions id (length ts)) (numbers_of (entries_in (ts ++ t ∷ [])))
   entered_index t number =
       let numbers : numbers_of (entries_in (ts ++ t ∷ [])) ≡ numbers_of (entries_in ts) ++ id ∷ [] = numbers_more ts ∙ ap (λ k. numbers_of (entries_in ts) ++ k ∷ []) number in
-      subst (IsIndexed (slice_set places id (length ts))) (sym numbers) more
+      subst (IsIndexed (slice_set positions id (length ts))) (sym numbers) more
     where
       numbers_more : (us : List code.Tenant) → numbers_of (entries_in (us ++ t ∷ [])) ≡ numbers_of (entries_in us) ++ (record_in t).id ∷ []
       numbers_more [] = refl

@@ -15,7 +15,7 @@ use Rattle.mte_sched.specs.Tenants.{record_in, tenants_in, entries_in, terms_of}
 use Rattle.mte_sched.specs.Ledger.{is_live, numbers_of}
 use Rattle.mte_sched.specs.Sharing.{IsSharing, IsIndexed}
 use Rattle.mte_sched.proofs.EachLemmas.{ledger_is}
-use Rattle.mte_sched.proofs.IndexLemmas.{entered_place, entered_index}
+use Rattle.mte_sched.proofs.IndexLemmas.{entered_position, entered_index}
 use Rattle.mte_sched.proofs.AdmitLemmas.{fresh_asid, entered_sharing, entered_tenants, entered_count, first_ready, first_number, first_tenant}
 use Rattle.mte_sched.proofs.host.Host.admit.Goals as goal
 
@@ -43,7 +43,7 @@ pub enter-requires-clause-position : goal.enter-requires-clause-position
 enter-requires-clause-position c =
     let h = c.args.self.now in
     let asid : c.len-asid.result ≡ length h.tenants.items = search rules in
-    rw asid (entered_place h.index.positions.items h.tenants.items c.args.admission.now.id h.indexed (search rules) c.in_ok-plan.ensures.fresh)
+    rw asid (entered_position h.index.positions.items h.tenants.items c.args.admission.now.id h.indexed (search rules) c.in_ok-plan.ensures.fresh)
 
 pub invariant_of-self-2 : goal.invariant_of-self-2
 invariant_of-self-2 c =
@@ -70,13 +70,13 @@ invariant_of-self-2 c =
     let number_of : (record_in t).id ≡ c.args.admission.now.id = number in
     let index : IsIndexed (slice_set h.index.positions.items c.args.admission.now.id (length ts)) (numbers_of (entries_in (ts ++ t ∷ []))) =
     entered_index h.index.positions.items ts c.args.admission.now.id h.indexed (search rules) c.in_ok-plan.ensures.fresh t number_of in
-    let places : c.enter.new.self.positions.items ≡ slice_set h.index.positions.items c.args.admission.now.id (length ts) =
+    let positions : c.enter.new.self.positions.items ≡ slice_set h.index.positions.items c.args.admission.now.id (length ts) =
     c.enter.ensures ∙ ap (slice_set h.index.positions.items c.args.admission.now.id) asid in
     let count : count_by is_live (entries_in (ts ++ t ∷ [])) ≡ count_by is_live (entries_in ts) + 1 =
     entered_count h.pool n h.tlb vs ts c.args.admission.now.id b c.in_ok-parts.parts pages h.sharing placed start.unused start.others entries in
     record {
       sharing = subst (IsSharing n vs) (sym pushed) all;
-      indexed = subst (λ l. IsIndexed c.enter.new.self.positions.items (numbers_of (entries_in l))) (sym pushed) (subst (λ l. IsIndexed l (numbers_of (entries_in (ts ++ t ∷ [])))) (sym places) index);
+      indexed = subst (λ l. IsIndexed c.enter.new.self.positions.items (numbers_of (entries_in l))) (sym pushed) (subst (λ l. IsIndexed l (numbers_of (entries_in (ts ++ t ∷ [])))) (sym positions) index);
       counted = ap (λ k. k + 1) h.counted ∙ sym count ∙ ap (λ l. count_by is_live (entries_in l)) (sym pushed);
     }
 

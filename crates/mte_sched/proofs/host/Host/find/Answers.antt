@@ -1,10 +1,8 @@
-use Rattle.std.proofs.Common.{◌≡◌, ◌==◌, ◌∙◌, None, Some, ap, sym, subst}
+use Rattle.std.proofs.Common.{◌∙◌, None, Some, sym, subst}
 use Rattle.std.specs.Slice.{IsItemAt}
 use Rattle.std.proofs.lemmas.Bool.{eqb-true}
 use Rattle.mte_sched.specs.Ledger.{has_id}
 use Rattle.mte_sched.specs.Tenants.{record_in}
-use Rattle.mte_sched.specs.Sharing.{has_live_in}
-use Rattle.mte_sched.proofs.TurnLemmas.{both_right}
 use Rattle.mte_sched.proofs.IndexLemmas.{lent_at, none_past, none_other}
 use Rattle.mte_sched.proofs.host.Host.find.Goals as goal
 
