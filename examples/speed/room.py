@@ -15,10 +15,9 @@ For each built mte_host, one line a figure:
 - refusals: how often a session with 10 and with 10,000 refused events allocates.
 
 A figure in instructions is the difference of two sessions under callgrind, with the reading of the script's lines in
-it. Needed: valgrind.
+it. Needed: valgrind, and GNU time.
 """
 import argparse
-import os
 import pathlib
 import re
 import subprocess
@@ -67,14 +66,10 @@ class Sessions:
         return int(re.search(r"total heap usage: ([\d,]+) allocs", said)[1].replace(",", ""))
 
     def peak(self, *session):
-        """The most resident memory, in KiB, as the kernel counts it for this child alone."""
-        with subprocess.Popen(self.command(*session), stdout=subprocess.PIPE) as child:
-            report = child.stdout.read()
-            _, status, used = os.wait4(child.pid, 0)
-            child.returncode = os.waitstatus_to_exitcode(status)
-        if child.returncode or b"refused" in report:
-            sys.exit(f"the session failed: {child.returncode}")
-        return used.ru_maxrss
+        """The most resident memory, in KiB. (What wait4 tells of a child would count this program's own as well.)"""
+        ran = self.run(["/usr/bin/time", "--format=peak %M", *self.command(*session)])
+        return int(re.search(r"^peak (\d+)$", ran.stderr, re.M)[1])
+
 
 
 def one_after_the_other(tenants, pages, room=16):
@@ -104,8 +99,9 @@ def slice_costs(sessions):
     path = sessions.folder / "loop"
     path.write_bytes(image([BRANCH_TO_ITSELF]))
     for live in (1, 64, 255):
-        start = "".join(admit(i, 6) for i in range(1, live + 1))
-        turns = ["".join(f"slice {1 + i % live} 1\n" for i in range(slices)) for slices in (1020, 3060)]
+        # Numbers of three digits, so that all lines of the script are equally long.
+        start = "".join(admit(100 + i, 6) for i in range(live))
+        turns = ["".join(f"slice {100 + i % live} 1\n" for i in range(slices)) for slices in (1020, 3060)]
         costs = [sessions.instructions(start + slices, 13 * live, path) for slices in turns]
         yield f"{live} live in turns", f"{(costs[1] - costs[0]) / 2040:.0f} instructions"
 
