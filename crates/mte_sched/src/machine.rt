@@ -210,7 +210,8 @@ pub(crate) fn halt(parts: &mut TenantParts)
 
 /// Maps the four pages of a stack.
 fn map_stack<M: Paged>(memory: &mut M)
-    requires free { (page : ℕ) → 65536 ≤ page → page_at (M.Tagged.memory memory.old) page ≡ None }
+    requires free { (page : ℕ)
+        → 65536 ≤ page → page_at (M.Tagged.memory memory.old) page ≡ None }
     requires room { STACK_PAGES ≤ pages_left (M.Tagged.memory memory.old) }
     ensures memory { M.Tagged.memory memory.new
         ≡ with_new_pages (M.Tagged.memory memory.old) (STACK_START / PAGE_SIZE) STACK_PAGES

@@ -80,8 +80,9 @@ impl Chains {
     pub(crate) fn remove(&mut self, place: usize, end: usize)
         requires within { place < end }
         requires most { end ≤ 128 }
-        ensures { (first i : ℕ) (hs : List ℕ) → first + i ≡ place → first + length hs ≡ end
-            → length hs ≤ 64 → IsChained first self.old.heads self.old.gaps hs
+        ensures { (first i : ℕ) (hs : List ℕ)
+            → first + i ≡ place → first + length hs ≡ end → length hs ≤ 64
+            → IsChained first self.old.heads self.old.gaps hs
             → IsChained first self.new.heads self.new.gaps (remove hs i) }
     {
         self.remove_from_heads(place);

@@ -17,7 +17,8 @@ use crate::entries::TABLE_PAGES;
 pub fn pages_are_walks()
     ensures below { (p : Pool) (root q : ℕ)
         → q < TABLE_PAGES → get (pages_of p root) q ≡ translation_at p root q }
-    ensures past { (p : Pool) (root q : ℕ) → TABLE_PAGES ≤ q → get (pages_of p root) q ≡ None }
+    ensures past { (p : Pool) (root q : ℕ)
+        → TABLE_PAGES ≤ q → get (pages_of p root) q ≡ None }
 {}
 
 /// A table's root and the frames of its pages are out under its quota, and the frames of pages
