@@ -9,7 +9,8 @@
  *
  * - A place with `mapped` 0 is free; zero bytes are free places and the synchronous mode.
  * - Of several places of one page the first counts.
- * - Of `attrs`, of each tag and of `rgsr_tag` the low four bits count, of `pc` the low 56.
+ * - Of `attrs`, of each tag and of `rgsr_tag` the low four bits count.
+ * - Bits 63 to 56 of `pc` are to be 0: a fetch passes them over, ADR, ADRP and BL do not.
  *
  * Rules that a caller must keep: no pointer is null, also where a count is 0; each points to what
  * its type says, of the count that is passed; what one call is lent in different arguments does not
@@ -147,7 +148,7 @@ typedef struct tb_heap_call {
     uint32_t code;   /* TB_OK, TB_FAULT or TB_ABORT; TB_BAD_ARGUMENT where op is none */
     uint64_t first;
     uint64_t second;
-    uint64_t answer; /* the pointer (0: there is no room), size, number or tag; why, for TB_ABORT */
+    uint64_t answer; /* the pointer (0: none was made), size, number or tag; why, for TB_ABORT */
     tb_fault fault;  /* the fault of TB_FAULT; else zero */
 } tb_heap_call;
 
@@ -167,8 +168,8 @@ uint32_t tb_version(void);
 void tb_memory_init(tb_page *pages, size_t count, tb_tag_state *state, bool asynchronous);
 
 /*
- * Maps a page of zero bytes and tag 0 in the first free place. TB_BAD_ARGUMENT where `number` is
- * not below 2^44 or `attrs` is above 15, TB_ALREADY_MAPPED, TB_NO_ROOM: these change nothing.
+ * Maps a page of zero bytes and tag 0 in a free place. TB_BAD_ARGUMENT where `number` is not below
+ * 2^44 or `attrs` is above 15, TB_ALREADY_MAPPED, TB_NO_ROOM: these change nothing.
  */
 uint32_t tb_map(tb_page *pages, size_t count, uint64_t number, uint32_t attrs);
 
@@ -177,8 +178,9 @@ uint32_t tb_unmap(tb_page *pages, size_t count, uint64_t number);
 
 /*
  * Copies `length` bytes out of pages with TB_READ, and compares the tag of the address with the
- * allocation tags where `check` is set. TB_FAULT changes nothing but `fault`, and tells the first
- * byte that failed. In the asynchronous mode a tag that differs sets state->pending instead.
+ * allocation tags where `check` is set. TB_FAULT leaves the memory and the buffer as they were, and
+ * `fault` tells the first byte that failed. In the asynchronous mode a tag that differs sets
+ * state->pending instead.
  */
 uint32_t tb_read(tb_page *pages, size_t count, tb_tag_state *state, uint64_t addr, uint8_t *buffer,
                  size_t length, bool check, tb_fault *fault);
@@ -204,8 +206,8 @@ uint32_t tb_store_tags(tb_page *pages, size_t count, tb_tag_state *state, uint64
 
 /*
  * Attempts the instruction at regs->pc, and answers stop->code. TB_OK is the only answer after
- * which a register or the memory differs; after any other the PC is still at the instruction. To go
- * on after TB_SVC or TB_BREAKPOINT, add 4 to the PC.
+ * which a register or the memory differs, but for bits that do not count; after any other the PC is
+ * still at the instruction. To go on after TB_SVC or TB_BREAKPOINT, add 4 to the PC.
  */
 uint32_t tb_step(tb_page *pages, size_t count, tb_tag_state *state, tb_regs *regs, tb_stop *stop);
 

@@ -1,5 +1,7 @@
 //! Sizes that the architecture fixes, and the limits of a tenant.
 
+ghost use Rattle.std.specs.Prelude.{◌≡◌};
+
 /// The bytes of a page, and of a frame that holds it.
 pub const PAGE_SIZE: u64 = 4096;
 
@@ -17,3 +19,13 @@ pub const MAX_OUTPUT: u64 = 65536;
 
 /// The most instructions that a slice attempts.
 pub const MAX_STEPS: u64 = 1_048_576;
+
+/// The sizes and the limits in digits.
+pub fn limits_in_digits()
+    ensures page { PAGE_SIZE ≡ 4096 }
+    ensures granule { GRANULE_SIZE ≡ 16 }
+    ensures frames { MAX_FRAMES ≡ 65536 }
+    ensures pages { MAX_PAGES ≡ 4096 }
+    ensures output { MAX_OUTPUT ≡ 65536 }
+    ensures steps { MAX_STEPS ≡ 1048576 }
+{}

@@ -1,6 +1,8 @@
 //! The address map of a tenant: ranges of plain addresses, lowest first. Each range ends before
 //! the address that is named its end.
 
+ghost use Rattle.std.specs.Prelude.{◌≡◌};
+
 use crate::limits::{MAX_PAGES, PAGE_SIZE};
 
 /// The first address that an image may use. Page 0 is never mapped.
@@ -47,3 +49,17 @@ const _: () = prove!(SECONDARY_START < SECONDARY_END && SECONDARY_END <= STACK_S
 const _: () = prove!(STACK_START + STACK_PAGES * PAGE_SIZE == STACK_END);
 
 const _: () = prove!(STACK_END <= ADDRESS_END);
+
+/// The ranges in digits.
+pub fn ranges_in_digits()
+    ensures image_start { IMAGE_START ≡ 4096 }
+    ensures image_end { IMAGE_END ≡ 268435456 }
+    ensures regions_start { REGIONS_START ≡ 268435456 }
+    ensures region_size { REGION_SIZE ≡ 16777216 }
+    ensures secondary_start { SECONDARY_START ≡ 1023410176 }
+    ensures secondary_end { SECONDARY_END ≡ 1056964608 }
+    ensures stack_start { STACK_START ≡ 1073725440 }
+    ensures stack_end { STACK_END ≡ 1073741824 }
+    ensures stack_pages { STACK_PAGES ≡ 4 }
+    ensures address_end { ADDRESS_END ≡ 1073741824 }
+{}

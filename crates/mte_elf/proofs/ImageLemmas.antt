@@ -36,6 +36,16 @@ headers_from-all file at i count xs all over e =
     let none_left : count - i ≡ 0 = omega arith in
     rw (none_left, append-nil) at e
 
+-- a search from one header to the next
+pub any_header-next : (file : List ℕ) (at i count : ℕ) (p : ProgramHeader → Bool) (r : Bool) → i < count → p (header_at file (at + 56 * i)) ≡ false
+    → list_any p (headers_from file (at + 56 * i) (count - i)) ≡ r
+    → list_any p (headers_from file (at + 56 * (i + 1)) (count - (i + 1))) ≡ r
+any_header-next file at i count p r below other e =
+    let one_more : count - i ≡ suc (count - (i + 1)) = omega arith in
+    let next : at + 56 * i + 56 ≡ at + 56 * (i + 1) = omega arith in
+    let f = rw (one_more, other) at e in
+    rw next at f
+
 -- the code looks at the segments behind the one at i
 pub any_share_page-next : (segments : List Segment) (i n : ℕ) (d : Segment) → i < length segments
     → length (drop (i + 1) segments) ≤ n

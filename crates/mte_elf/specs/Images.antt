@@ -59,7 +59,8 @@ abbrev pub first_refusal : List (Bool × ElfError) → Option ElfError
 first_refusal [] = None
 first_refusal (test ∷ more) = if test.0 then Some test.1 else first_refusal more
 
--- what a file's header is tested for, in this order, each test with its refusal
+-- what a file's header and its program headers are tested for, in this order, each test with its
+-- refusal
 abbrev pub header_tests : List ℕ → List (Bool × ElfError)
 header_tests file =
     (nat_lt (length file) 64, Short)
@@ -67,13 +68,13 @@ header_tests file =
     ∷ (not (machine_of file == 183), NotAarch64)
     ∷ (not (file_type_of file == 2), NotExec)
     ∷ (not (has_table file), BadHeaders)
+    ∷ (list_any is_interpreter (headers_of file), Interpreter)
     ∷ []
 
--- and then its program headers and segments
+-- and then its segments
 abbrev pub segment_tests : List ℕ → List (Bool × ElfError)
 segment_tests file =
-    (list_any is_interpreter (headers_of file), Interpreter)
-    ∷ (not (list_all (is_in_range (length file)) (segments_of file)), SegmentRange)
+    (not (list_all (is_in_range (length file)) (segments_of file)), SegmentRange)
     ∷ (any_share_page (segments_of file), Overlap)
     ∷ (not (list_any (is_entry (entry_of file)) (segments_of file)), NoEntry)
     ∷ []
@@ -81,7 +82,7 @@ segment_tests file =
 abbrev pub tests_of : List ℕ → List (Bool × ElfError)
 tests_of file = header_tests file ++ segment_tests file
 
--- why a file is no image by its header alone
+-- why a file is no image by its headers alone
 abbrev pub header_refusal : List ℕ → Option ElfError
 header_refusal file = first_refusal (header_tests file)
 

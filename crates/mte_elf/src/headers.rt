@@ -3,6 +3,8 @@
 ghost use Rattle.std.specs.Prelude.{◌≡◌, ◌+◌, ◌≤◌, length, IfOk, IfErr, map, filter, true};
 ghost use Rattle.mte_elf.specs.Images.{has_table};
 ghost use Rattle.mte_elf.specs.Headers.{number_at, header_at, headers_of, is_loaded, segment_of};
+ghost use Rattle.mte_elf.specs.Headers.{is_interpreter};
+ghost use Rattle.std.specs.List.{list_any};
 
 use crate::error::ElfError;
 use crate::image::Segment;
@@ -28,6 +30,9 @@ pub struct ProgramHeader {
 
 /// PT_LOAD.
 const LOAD: u32 = 1;
+
+/// PT_INTERP.
+const INTERPRETER: u32 = 3;
 
 /// The bytes of a program header.
 pub const HEADER_BYTES: usize = 56;
@@ -118,6 +123,22 @@ fn program_header(file: &[u8], at: usize) -> ProgramHeader
         filesz: double_word_at(file, at + 32),
         memsz: double_word_at(file, at + 40),
     }
+}
+
+/// Whether some program header is PT_INTERP.
+pub fn has_interpreter(file: &[u8]) -> bool
+    requires file_header { 64 ≤ length file.now }
+    requires table { has_table file.now ≡ true }
+    ensures { result ≡ list_any is_interpreter (headers_of file.now) }
+{
+    let at = table_offset(file) as usize;
+    let count = header_count(file) as usize;
+    for i in 0..count {
+        if program_header(file, at + HEADER_BYTES * i).kind == INTERPRETER {
+            return true;
+        }
+    }
+    false
 }
 
 /// The table of program headers. The error is `OutOfMemory`.

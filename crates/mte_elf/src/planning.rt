@@ -3,7 +3,7 @@
 ghost use Rattle.std.specs.Prelude.{◌≡◌, ◌⊎◌, ℕ, ◌+◌, ◌-◌, ◌*◌, ◌/◌, ◌^◌, ◌≤◌, ◌<◌, length, IfOk};
 ghost use Rattle.std.specs.Prelude.{IfErr, Err, Some, None, sum_by, true};
 ghost use Rattle.std.specs.List.{list_any, list_all};
-ghost use Rattle.mte_elf.specs.Headers.{entry_of, segments_of, is_interpreter};
+ghost use Rattle.mte_elf.specs.Headers.{entry_of, segments_of};
 ghost use Rattle.mte_elf.specs.Images.{refusal_of, pages_of, has_table, is_in_range};
 ghost use Rattle.mte_elf.specs.Images.{header_refusal};
 ghost use Rattle.mte_elf.specs.Images.{any_share_page, share_page, is_entry, page_count};
@@ -11,8 +11,8 @@ ghost use Rattle.mte_elf.specs.Images.{first_page, last_page};
 
 use crate::error::ElfError;
 use crate::headers::{
-    ProgramHeader, entry, file_type, header_count, header_size, machine, program_headers, segments,
-    table_offset,
+    entry, file_type, has_interpreter, header_count, header_size, machine, program_headers,
+    segments, table_offset,
 };
 use crate::image::{Plan, Segment};
 use address_map::{IMAGE_END, IMAGE_START, PAGE_SIZE};
@@ -33,14 +33,11 @@ const AARCH64: u16 = 183;
 /// ET_EXEC.
 const EXECUTABLE: u16 = 2;
 
-/// PT_INTERP.
-const INTERPRETER: u32 = 3;
-
 /// Reads an image as a whole, before anything of it is mapped.
 ///
 /// The refusal is the first of [`ElfError`]'s tests that the file fails. Only `OutOfMemory`, where
 /// an allocation was refused, can come in place of another answer, and not in place of a refusal by
-/// the file's header, whose tests need no memory.
+/// the file's headers, whose tests need no memory.
 #[tactic(auto, unfolding(crate::specs::Images::refusal_of))]
 pub fn plan(alloc: Global, file: &[u8]) -> Result<Plan, ElfError>
     ensures image { IfOk result (λ p. refusal_of file.now ≡ None) }
@@ -66,10 +63,10 @@ pub fn plan(alloc: Global, file: &[u8]) -> Result<Plan, ElfError>
     if !holds_table(file) {
         return Err(ElfError::BadHeaders);
     }
-    let headers = program_headers(alloc, file)?;
-    if has_interpreter(headers.as_slice()) {
+    if has_interpreter(file) {
         return Err(ElfError::Interpreter);
     }
+    let headers = program_headers(alloc, file)?;
     let segments = segments(alloc, headers.as_slice())?;
     if !all_lie_in_range(segments.as_slice(), file.len() as u64) {
         return Err(ElfError::SegmentRange);
@@ -102,13 +99,6 @@ fn holds_table(file: &[u8]) -> bool
         && count <= 64
         && table <= size
         && table_offset(file) <= size - table
-}
-
-/// Whether some program header is PT_INTERP.
-fn has_interpreter(headers: &[ProgramHeader]) -> bool
-    ensures { result ≡ list_any is_interpreter headers.now }
-{
-    headers.iter().any(|header| header.kind == INTERPRETER)
 }
 
 /// Whether each segment lies in range.

@@ -1,25 +1,18 @@
 //! The command line.
 
-ghost use Rattle.std.specs.Prelude.{◌≡◌, ◌≤◌};
+ghost use Rattle.std.specs.Prelude.{◌≡◌, ◌≤◌, IfOk, IfSome, false};
+ghost use Rattle.clap.specs.Matches.{found_of};
+ghost use Rattle.clap.specs.Simple.{app_of, matches_of};
+ghost use Rattle.clap.specs.Walk.{rows_of, rule_of};
+ghost use Rattle.mte_program.specs.Reads.{names_of};
+ghost use Rattle.mte_host.specs.CommandLine.{form, frames_rule, script_rule, files_rule, names_in};
 
 use clap::error::ErrorKind;
 use clap::{Arg, ArgAction, ArgMatches, Command, Error, value_parser};
-use mte_program::{Program, StreamSink};
+use mte_program::{Invocation, Program, StreamSink, collect_names, collect_words};
 use mte_session::write_all;
 use std::alloc::{AllocError, Global};
-use std::env::{self, Args};
-use std::io;
-
-/// What a command line requests.
-#[derive(Drop)]
-pub enum Invocation {
-    /// A session.
-    Run(Program),
-    /// Nothing more: help or a usage fault was printed. The exit status.
-    Exit(u8),
-    /// An allocation failed.
-    OutOfMemory,
-}
+use std::{env, io};
 
 /// Reads the process's arguments; prints the help, or what is wrong with them.
 pub fn read_command_line(rt: &HostRuntime) -> Invocation {
@@ -27,7 +20,7 @@ pub fn read_command_line(rt: &HostRuntime) -> Invocation {
         Ok(args) => args,
         Err(error) => return report_unreadable(rt, &error),
     };
-    let Ok(words) = words_of(rt.alloc(), args) else {
+    let Ok(words) = collect_words(rt.alloc(), args) else {
         return Invocation::OutOfMemory;
     };
     match parse(rt.alloc(), words.as_slice()) {
@@ -35,16 +28,6 @@ pub fn read_command_line(rt: &HostRuntime) -> Invocation {
         Ok(None) => Invocation::OutOfMemory,
         Err(error) => print_text(rt, &error),
     }
-}
-
-/// The arguments, in room that is reserved for all of them: a vector that collects would go on with
-/// less where it is refused.
-fn words_of(alloc: Global, args: Args) -> Result<Vec<String>, AllocError> {
-    let mut words = Vec::with_capacity(alloc, args.len())?;
-    for word in args {
-        words.push(word)?;
-    }
-    Ok(words)
 }
 
 /// How to exit if the arguments cannot be read: out of memory, or not UTF-8.
@@ -69,14 +52,19 @@ fn print_text(rt: &HostRuntime, error: &Error) -> Invocation {
 }
 
 /// Reads the words of a command line; `None` where an allocation failed.
-fn parse(alloc: Global, words: &[String]) -> Result<Option<Program>, Error> {
+fn parse(alloc: Global, words: &[String]) -> Result<Option<Program>, Error>
+    ensures names { IfOk result (λ r. IfSome r (λ p.
+        names_of p.names.items ≡ names_in (matches_of form (names_of words.now)))) }
+{
     let matches = command(alloc)?.try_get_matches_from(words)?;
     Ok(program_of(alloc, &matches).ok())
 }
 
 /// The command line's form. Each argument has a function of its own, so that few of them are alive
 /// at once: that makes the proof a third as long.
-fn command<'a>(alloc: Global) -> Result<Command<'a>, Error> {
+fn command<'a>(alloc: Global) -> Result<Command<'a>, Error>
+    ensures { IfOk result (λ c. app_of c ≡ form) }
+{
     let command = Command::new(alloc, "mte_host").about(
         "Runs a script of tenants on an Arm core with memory tagging, and reports on each",
     );
@@ -85,7 +73,10 @@ fn command<'a>(alloc: Global) -> Result<Command<'a>, Error> {
     Ok(command.arg(files(alloc))?)
 }
 
-fn frames<'a>(alloc: Global) -> Arg<'a> {
+fn frames<'a>(alloc: Global) -> Arg<'a>
+    ensures rule { rule_of result ≡ frames_rule }
+    ensures local { result.global ≡ false }
+{
     Arg::new(alloc, "frames")
         .long("frames")
         .value_name("N")
@@ -94,14 +85,20 @@ fn frames<'a>(alloc: Global) -> Arg<'a> {
         .value_parser(value_parser!(u32).range(1..=65536))
 }
 
-fn script<'a>(alloc: Global) -> Arg<'a> {
+fn script<'a>(alloc: Global) -> Arg<'a>
+    ensures rule { rule_of result ≡ script_rule }
+    ensures local { result.global ≡ false }
+{
     Arg::new(alloc, "script")
         .value_name("SCRIPT")
         .help("The script: a line an event")
         .required(true)
 }
 
-fn files<'a>(alloc: Global) -> Arg<'a> {
+fn files<'a>(alloc: Global) -> Arg<'a>
+    ensures rule { rule_of result ≡ files_rule }
+    ensures local { result.global ≡ false }
+{
     Arg::new(alloc, "files")
         .value_name("FILE")
         .help("The images and inputs that the script names by their numbers from 1")
@@ -110,15 +107,16 @@ fn files<'a>(alloc: Global) -> Arg<'a> {
 }
 
 /// The values of a command line that `clap` accepted.
-fn program_of(alloc: Global, matches: &ArgMatches<'_>) -> Result<Program, AllocError> {
+fn program_of(alloc: Global, matches: &ArgMatches<'_>) -> Result<Program, AllocError>
+    ensures names { IfOk result (λ p.
+        names_of p.names.items ≡ names_in (rows_of (found_of matches.now))) }
+{
     let frames = in_range(matches.get_one::<u32>("frames").unwrap_or(1));
-    let mut names = Vec::new(alloc);
-    names.push(String::from_str(alloc, matches.get_str("script").unwrap_or(""))?)?;
-    if let Some(files) = matches.get_strs("files") {
-        for name in files {
-            names.push(String::from_str(alloc, name)?)?;
-        }
-    }
+    let script = matches.get_str("script").unwrap_or("");
+    let names = match matches.get_strs("files") {
+        Some(files) => collect_names(alloc, script, files)?,
+        None => collect_names(alloc, script, &[])?,
+    };
     Ok(Program { frames, names })
 }
 

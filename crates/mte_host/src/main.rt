@@ -4,23 +4,15 @@
 mod command_line;
 mod system;
 
-use command_line::{Invocation, read_command_line};
-use mte_program::{StreamSink, run_program};
-use mte_session::{Ending, finish};
+use command_line::read_command_line;
+use mte_program::{StreamSink, conclude};
 use std::process::ExitCode;
 use system::SystemFiles;
 
 fn main(rt: HostRuntime) -> ExitCode {
     let invocation = read_command_line(&rt);
-    let ending = match &invocation {
-        Invocation::Run(program) => run_program(
-            rt.alloc(),
-            program,
-            &mut SystemFiles(&rt),
-            &mut StreamSink(rt.stdout()),
-        ),
-        Invocation::Exit(status) => return ExitCode::from(*status),
-        Invocation::OutOfMemory => Ending::Memory,
-    };
-    ExitCode::from(finish(&ending, &mut StreamSink(rt.stderr())))
+    let files = &mut SystemFiles(&rt);
+    let out = &mut StreamSink(rt.stdout());
+    let err = &mut StreamSink(rt.stderr());
+    ExitCode::from(conclude(rt.alloc(), &invocation, files, out, err))
 }

@@ -1,3 +1,4 @@
 pub mod Reads
 pub mod Runs
+pub mod Conclusions
 pub mod Streams

@@ -3,11 +3,15 @@
 #![tactic(auto)]
 
 mod files;
+mod invocation;
 mod program;
 mod running;
 mod streams;
+mod words;
 
 pub use files::{Files, read_files};
+pub use invocation::{Invocation, conclude};
 pub use program::Program;
 pub use running::run_program;
 pub use streams::{StreamSink, StreamSource};
+pub use words::{collect_names, collect_words};

@@ -1,10 +1,11 @@
-//! The standard library's readers and writers. What they give and take is not known to any
-//! contract.
+//! The standard library's readers and writers. What passes them is what passes the reader or the
+//! writer inside, as far as the standard library knows it: of a file of the system it knows nothing.
 
-ghost use Rattle.std.specs.Prelude.{◌≡◌};
+ghost use Rattle.std.specs.Prelude.{◌≡◌, ◌≤◌, length, IfOk};
+ghost use Rattle.std.specs.Io.KnownBytes.{ReadConsumes, WriteAppends};
 ghost use Rattle.mte_program.specs.Streams.{count_or_failure};
-ghost use Rattle.mte_streams.specs.Reading.{unknown_reads};
-ghost use Rattle.mte_streams.specs.Writing.{unknown_writes};
+ghost use Rattle.mte_streams.specs.Reading.{unknown_reads, after_read};
+ghost use Rattle.mte_streams.specs.Writing.{unknown_writes, after_write};
 
 use mte_session::{Sink, Source, StreamError};
 use std::io;
@@ -28,7 +29,12 @@ pub struct StreamSource<R: Read + Drop>(pub R);
 impl<R: Read + Drop> Source for StreamSource<R> {
     ghost log = { λ _. unknown_reads };
 
-    fn read(&mut self, buffer: &mut [u8]) -> Result<usize, StreamError> {
+    fn read(&mut self, buffer: &mut [u8]) -> Result<usize, StreamError>
+        ensures count { IfOk result (λ n. n ≤ length buffer.new) }
+        ensures log { unknown_reads ≡ after_read unknown_reads result buffer.new }
+        ensures bytes { ReadConsumes (R.remaining self.old.0) (R.remaining self.new.0) result
+            buffer.new }
+    {
         passed(self.0.read(buffer))
     }
 }
@@ -40,7 +46,12 @@ pub struct StreamSink<W: Write + Drop>(pub W);
 impl<W: Write + Drop> Sink for StreamSink<W> {
     ghost log = { λ _. unknown_writes };
 
-    fn write(&mut self, bytes: &[u8]) -> Result<usize, StreamError> {
+    fn write(&mut self, bytes: &[u8]) -> Result<usize, StreamError>
+        ensures count { IfOk result (λ n. n ≤ length bytes.now) }
+        ensures log { unknown_writes ≡ after_write unknown_writes result bytes.now }
+        ensures bytes { WriteAppends (W.contents self.old.0) (W.contents self.new.0) result
+            bytes.now }
+    {
         passed(self.0.write(bytes))
     }
 }

@@ -1,6 +1,6 @@
 //! A tenant alone on a memory of its own.
 
-ghost use Rattle.std.specs.Prelude.{◌≡◌, ◌<◌, IfOk};
+ghost use Rattle.std.specs.Prelude.{◌≡◌, ◌<◌, ◌⊎◌, [], Some, IfOk, IfErr};
 ghost use Rattle.scudo_heap.specs.Served.{IsServed};
 
 use mte_flat::Flat;
@@ -22,12 +22,16 @@ pub struct Bench {
 impl Bench {
     ghost use Rattle.mte_sched.specs.Machines.{machine_of, start_of, advance, halted};
     ghost use Rattle.mte_sched.specs.Tenants.{terms_of};
+    ghost use Rattle.mte_sched.specs.Ledger.{admission_refusal, charge_of};
 
     /// A tenant at its first instruction, or why it is refused.
     pub fn new(alloc: Global, admission: &Admission<'_>) -> Result<Bench, AdmitError>
         requires { 0 < admission.now.pages }
-        ensures { IfOk result (λ b. machine_of b.parts b.memory
+        ensures machine { IfOk result (λ b. machine_of b.parts b.memory
             ≡ start_of admission.now.id (terms_of admission.now)) }
+        ensures refused { IfErr result (λ e. (e ≡ AdmitError.OutOfMemory)
+            ⊎ (admission_refusal (charge_of admission.now.pages) []
+            admission.now.id (terms_of admission.now) ≡ Some e)) }
     {
         let mut memory = Flat::new(alloc, admission.pages as usize, admission.mode)?;
         let parts = admit_alone(alloc, admission, &mut memory)?;

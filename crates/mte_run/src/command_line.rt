@@ -3,6 +3,7 @@
 use crate::options::{Fault, Options};
 use clap::error::ErrorKind;
 use clap::{Arg, ArgAction, ArgMatches, Command, Error, value_parser};
+use mte_program::collect_words;
 use std::alloc::Global;
 use std::{env, io};
 
@@ -26,7 +27,7 @@ pub fn read_command_line(rt: &HostRuntime) -> Invocation {
         Ok(args) => args,
         Err(error) => return report_unreadable(rt, &error),
     };
-    let Ok(words) = args.collect::<Vec<String>>(rt.alloc()) else {
+    let Ok(words) = collect_words(rt.alloc(), args) else {
         return Invocation::OutOfMemory;
     };
     match parse(rt.alloc(), words.as_slice()) {

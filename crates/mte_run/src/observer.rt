@@ -1,5 +1,7 @@
 //! What is remembered and written of a tenant while it runs.
 
+ghost use Rattle.std.specs.Prelude.{None};
+
 use a64_step::Regs;
 use circular_buffer::HeapCircularBuffer;
 use mte_report::{Book, Line, Moment, Service};
@@ -96,6 +98,8 @@ impl<W: Write + Drop> Observer<W> {
 }
 
 impl<W: Write + Drop> Watch for Observer<W> {
+    ghost log = { λ _. None };
+
     fn before<M: Tagged>(&mut self, parts: &TenantParts, memory: &mut M) {
         self.last.push_back(Moment {
             step: parts.account.steps.saturating_add(1),

@@ -1,5 +1,7 @@
--- A tenant's number stays, and what its machine becomes is what the tenant becomes.
-use Rattle.std.proofs.Common.{◌≡◌, ℕ, zero, suc, ◌/◌, ◌^◌, ◌<◌, ◌==◌, ◌&&◌, ◌∙◌, Bool, true, false, List, [], ◌∷◌, Option, Some, None, Result, Ok, Err}
+-- A tenant's number stays, a slice attempts at most its steps, and what a machine becomes is what
+-- its tenant becomes.
+use Rattle.std.proofs.Common.{◌≡◌, ℕ, zero, suc, ◌+◌, ◌/◌, ◌^◌, ◌<◌, ◌≤◌, ◌==◌, ◌&&◌, ◌∙◌, min, Bool, true, false, List, [], ◌∷◌, map, Option, Some, None, Result, Ok, Err}
+use Rattle.std.specs.Prelude.{option_map}
 use Rattle.std.proofs.Common.{if◌then◌else◌, refl, ap, arith}
 use Rattle.a64_step.specs.declared.outcome.Outcome.{Outcome}
 use Rattle.a64_step.specs.declared.outcome.Outcome.TheVariants as outcome
@@ -29,114 +31,132 @@ use Rattle.scudo_heap.specs.Heaps.{empty_heap}
 use Rattle.mte_sched.specs.Machines.{Terms, start_of, first_parts, first_registers}
 use Rattle.mte_sched.specs.Lives.{Own, Sliced, Halted}
 use Rattle.mte_sched.specs.Isolation.{NumbersStay}
-use Rattle.mte_sched.specs.Contents.{Held, Live, Gone, record_of, held_sliced, held_stopped, alone, Tenant, tenant_sliced, tenant_stopped}
+use Rattle.mte_sched.specs.Contents.{Held, Live, Gone, record_of, held_sliced, held_stopped, alone, Tenant, tenant_sliced, tenant_stopped, sliced}
+use Rattle.mte_sched.specs.Isolation.{tenant_among}
+use Rattle.mte_sched.specs.Views.{record_among}
+use Rattle.mte_sched.specs.Bounds.{SlicesAreBounded, TurnsAreBounded}
 
 abbrev pub number_in : Machine → ℕ
 number_in m = m.parts.account.id
 
--- ---- no service, no instruction and no slice changes it
+abbrev pub steps_in : Machine → ℕ
+steps_in m = m.parts.account.steps
 
-served_if : (b : Bool) (s t : Served) (n : ℕ) → s.parts.account.id ≡ n → t.parts.account.id ≡ n → (if b then s else t).parts.account.id ≡ n
-served_if true s t n h k = h
-served_if false s t n h k = k
+-- what services leave: the number, and the count of attempted instructions
+abbrev pub kept_in : TenantParts → ℕ × ℕ
+kept_in p = (p.account.id, p.account.steps)
 
-wrote-id : (f : Option MemFault) (p : TenantParts) (m : Memory) (n : ℕ) → (wrote_by f p m n).parts.account.id ≡ p.account.id
+abbrev pub kept_of : Machine → ℕ × ℕ
+kept_of m = kept_in m.parts
+
+-- ---- no service changes the number and the count of attempted instructions
+
+served_if : (b : Bool) (s t : Served) (k : ℕ × ℕ) → kept_in s.parts ≡ k → kept_in t.parts ≡ k → kept_in (if b then s else t).parts ≡ k
+served_if true s t k e f = e
+served_if false s t k e f = f
+
+wrote-kept : (f : Option MemFault) (p : TenantParts) (m : Memory) (n : ℕ) → kept_in (wrote_by f p m n).parts ≡ kept_in p
 unfolding answered
-wrote-id (Some f) p m n = refl
-wrote-id None p m n = refl
+wrote-kept (Some f) p m n = refl
+wrote-kept None p m n = refl
 
-read-id : (f : Option MemFault) (p : TenantParts) (m : Memory) (n : ℕ) → (read_by f p m n).parts.account.id ≡ p.account.id
+read-kept : (f : Option MemFault) (p : TenantParts) (m : Memory) (n : ℕ) → kept_in (read_by f p m n).parts ≡ kept_in p
 unfolding answered
-read-id (Some f) p m n = refl
-read-id None p m n = refl
+read-kept (Some f) p m n = refl
+read-kept None p m n = refl
 
-made-id : (p : TenantParts) (s : HeapService) (n : ℕ) (made : Made) → (made_by p s n made).parts.account.id ≡ p.account.id
+made-kept : (p : TenantParts) (s : HeapService) (n : ℕ) (made : Made) → kept_in (made_by p s n made).parts ≡ kept_in p
 unfolding answered entered
-made-id p s n made = refl
+made-kept p s n made = refl
 
-found-id : (p : TenantParts) (m : Memory) (s : HeapService) (n : ℕ) (w : World) (r : Result ℕ HeapAbort) → (found_by p m s n w r).parts.account.id ≡ p.account.id
+found-kept : (p : TenantParts) (m : Memory) (s : HeapService) (n : ℕ) (w : World) (r : Result ℕ HeapAbort) → kept_in (found_by p m s n w r).parts ≡ kept_in p
 unfolding answered entered
-found-id p m s n w (Ok a) = refl
-found-id p m s n w (Err e) = refl
+found-kept p m s n w (Ok a) = refl
+found-kept p m s n w (Err e) = refl
 
-freed-id : (p : TenantParts) (m : Memory) (w : World) (r : Result (Unit {0}) HeapAbort) → (freed_by p m w r).parts.account.id ≡ p.account.id
+freed-kept : (p : TenantParts) (m : Memory) (w : World) (r : Result (Unit {0}) HeapAbort) → kept_in (freed_by p m w r).parts ≡ kept_in p
 unfolding answered entered
-freed-id p m w (Ok a) = refl
-freed-id p m w (Err e) = refl
+freed-kept p m w (Ok a) = refl
+freed-kept p m w (Err e) = refl
 
-malloc-id : (p : TenantParts) (m : Memory) → (malloc_by p m).parts.account.id ≡ p.account.id
+malloc-kept : (p : TenantParts) (m : Memory) → kept_in (malloc_by p m).parts ≡ kept_in p
 unfolding malloc_by
-malloc-id p m = made-id p Malloc 0 (malloc_of (world_in p m) (x_of p 0))
+malloc-kept p m = made-kept p Malloc 0 (malloc_of (world_in p m) (x_of p 0))
 
-calloc-id : (p : TenantParts) (m : Memory) → (calloc_by p m).parts.account.id ≡ p.account.id
+calloc-kept : (p : TenantParts) (m : Memory) → kept_in (calloc_by p m).parts ≡ kept_in p
 unfolding calloc_by
-calloc-id p m = made-id p Calloc (x_of p 1) (calloc_of (world_in p m) (x_of p 0) (x_of p 1))
+calloc-kept p m = made-kept p Calloc (x_of p 1) (calloc_of (world_in p m) (x_of p 0) (x_of p 1))
 
-memalign-id : (p : TenantParts) (m : Memory) → (memalign_by p m).parts.account.id ≡ p.account.id
+memalign-kept : (p : TenantParts) (m : Memory) → kept_in (memalign_by p m).parts ≡ kept_in p
 unfolding memalign_by
-memalign-id p m = made-id p Memalign (x_of p 1) (memalign_of (world_in p m) (x_of p 0) (x_of p 1))
+memalign-kept p m = made-kept p Memalign (x_of p 1) (memalign_of (world_in p m) (x_of p 0) (x_of p 1))
 
-free-id : (p : TenantParts) (m : Memory) → (free_by p m).parts.account.id ≡ p.account.id
+free-kept : (p : TenantParts) (m : Memory) → kept_in (free_by p m).parts ≡ kept_in p
 unfolding free_by
-free-id p m = freed-id p m (free_of (world_in p m) (x_of p 0)).world (free_of (world_in p m) (x_of p 0)).result
+free-kept p m = freed-kept p m (free_of (world_in p m) (x_of p 0)).world (free_of (world_in p m) (x_of p 0)).result
 
-usable-id : (p : TenantParts) (m : Memory) → (usable_size_by p m).parts.account.id ≡ p.account.id
+usable-kept : (p : TenantParts) (m : Memory) → kept_in (usable_size_by p m).parts ≡ kept_in p
 unfolding usable_size_by
-usable-id p m = found-id p m UsableSize 0 (world_in p m) (usable_size_of m p.heap (x_of p 0))
+usable-kept p m = found-kept p m UsableSize 0 (world_in p m) (usable_size_of m p.heap (x_of p 0))
 
-reallocated-id : (p : TenantParts) (m : Memory) (r : Reallocated) → (found_by p m Realloc (x_of p 1) r.world (realloc.answered r.result)).parts.account.id ≡ p.account.id
-reallocated-id p m r = found-id p m Realloc (x_of p 1) r.world (realloc.answered r.result)
+reallocated-kept : (p : TenantParts) (m : Memory) (r : Reallocated) → kept_in (found_by p m Realloc (x_of p 1) r.world (realloc.answered r.result)).parts ≡ kept_in p
+reallocated-kept p m r = found-kept p m Realloc (x_of p 1) r.world (realloc.answered r.result)
 
-realloc-id : (p : TenantParts) (m : Memory) → (realloc_by p m).parts.account.id ≡ p.account.id
+realloc-kept : (p : TenantParts) (m : Memory) → kept_in (realloc_by p m).parts ≡ kept_in p
 unfolding realloc_by
-realloc-id p m = reallocated-id p m (realloc_of (world_in p m) (x_of p 0) (x_of p 1))
+realloc-kept p m = reallocated-kept p m (realloc_of (world_in p m) (x_of p 0) (x_of p 1))
 
-number-id : (n : ℕ) (p : TenantParts) (m : Memory) → (by_number n p m).parts.account.id ≡ p.account.id
+number-kept : (n : ℕ) (p : TenantParts) (m : Memory) → kept_in (by_number n p m).parts ≡ kept_in p
 unfolding wrote read_in answered
-number-id n p m =
-    served_if (n == EXIT) _ _ p.account.id refl
-    (served_if (n == WRITE) _ _ p.account.id (wrote-id (read_fault m (x_of p 0) (write_count p) true) p m (write_count p))
-    (served_if (n == READ) _ _ p.account.id (read-id (write_fault m (x_of p 0) (read_count p) true) p m (read_count p))
-    (served_if (n == MALLOC) _ _ p.account.id (malloc-id p m)
-    (served_if (n == FREE) _ _ p.account.id (free-id p m)
-    (served_if (n == CALLOC) _ _ p.account.id (calloc-id p m)
-    (served_if (n == REALLOC) _ _ p.account.id (realloc-id p m)
-    (served_if (n == MEMALIGN) _ _ p.account.id (memalign-id p m)
-    (served_if (n == USABLE_SIZE) _ _ p.account.id (usable-id p m)
-    (served_if (n == YIELD) _ _ p.account.id refl
-    (served_if (n == STEPS_LEFT) _ _ p.account.id refl
-    (served_if (n == PAGES_LEFT) (goes_on p m (pages_left m)) (goes_on p m none_such) p.account.id refl refl)))))))))))
+number-kept n p m =
+    served_if (n == EXIT) _ _ (kept_in p) refl
+    (served_if (n == WRITE) _ _ (kept_in p) (wrote-kept (read_fault m (x_of p 0) (write_count p) true) p m (write_count p))
+    (served_if (n == READ) _ _ (kept_in p) (read-kept (write_fault m (x_of p 0) (read_count p) true) p m (read_count p))
+    (served_if (n == MALLOC) _ _ (kept_in p) (malloc-kept p m)
+    (served_if (n == FREE) _ _ (kept_in p) (free-kept p m)
+    (served_if (n == CALLOC) _ _ (kept_in p) (calloc-kept p m)
+    (served_if (n == REALLOC) _ _ (kept_in p) (realloc-kept p m)
+    (served_if (n == MEMALIGN) _ _ (kept_in p) (memalign-kept p m)
+    (served_if (n == USABLE_SIZE) _ _ (kept_in p) (usable-kept p m)
+    (served_if (n == YIELD) _ _ (kept_in p) refl
+    (served_if (n == STEPS_LEFT) _ _ (kept_in p) refl
+    (served_if (n == PAGES_LEFT) (goes_on p m (pages_left m)) (goes_on p m none_such) (kept_in p) refl refl)))))))))))
 
-served-id : (p : TenantParts) (m : Memory) → (served p m).parts.account.id ≡ p.account.id
+served-kept : (p : TenantParts) (m : Memory) → kept_in (served p m).parts ≡ kept_in p
 unfolding served
-served-id p m = number-id (x_of p 8) p m
+served-kept p m = number-kept (x_of p 8) p m
 
-service-id : (e : SvcEnd) (m : Machine) → number_in (after_service e m).machine ≡ number_in m
-service-id end.Go m = refl
-service-id end.EndSlice m = refl
-service-id (end.Exit code) m = refl
-service-id (end.Fault f) m = refl
-service-id (end.Abort a p) m = refl
+service-kept : (e : SvcEnd) (m : Machine) → kept_of (after_service e m).machine ≡ kept_of m
+service-kept end.Go m = refl
+service-kept end.EndSlice m = refl
+service-kept (end.Exit code) m = refl
+service-kept (end.Fault f) m = refl
+service-kept (end.Abort a p) m = refl
 
-attempted_if : (b : Bool) (s t : Attempted) (n : ℕ) → number_in s.machine ≡ n → number_in t.machine ≡ n → number_in (if b then s else t).machine ≡ n
-attempted_if true s t n h k = h
-attempted_if false s t n h k = k
+attempted_if : (b : Bool) (s t : Attempted) (k : ℕ × ℕ) → kept_of s.machine ≡ k → kept_of t.machine ≡ k → kept_of (if b then s else t).machine ≡ k
+attempted_if true s t k e f = e
+attempted_if false s t k e f = f
 
-met-id : (o : Outcome) (m : Machine) → number_in (met o m).machine ≡ number_in m
+met-kept : (o : Outcome) (m : Machine) → kept_of (met o m).machine ≡ kept_of m
 unfolding met
-met-id outcome.Next m = refl
-met-id outcome.Svc m =
+met-kept outcome.Next m = refl
+met-kept outcome.Svc m =
     let s = served m.parts m.memory in
-    attempted_if m.memory.state.pending (on (ended_by_tag m)) (with_service s) (number_in m) refl (service-id s.end (machine_of s.parts s.memory) ∙ served-id m.parts m.memory)
-met-id (outcome.Fault f) m = refl
-met-id (outcome.Illegal w) m = refl
-met-id (outcome.Breakpoint k) m = refl
+    attempted_if m.memory.state.pending (on (ended_by_tag m)) (with_service s) (kept_of m) refl (service-kept s.end (machine_of s.parts s.memory) ∙ served-kept m.parts m.memory)
+met-kept (outcome.Fault f) m = refl
+met-kept (outcome.Illegal w) m = refl
+met-kept (outcome.Breakpoint k) m = refl
+
+-- ---- no instruction and no slice changes the number
+
+attempted-kept : (n : ℕ) (m : Machine) → kept_of (attempted n m).machine ≡ (number_in m, min (steps_in m + 1) 18446744073709551615)
+unfolding attempted
+attempted-kept n m =
+    met-kept (step_of m.parts.regs m.memory).outcome
+    (machine_of (counted 1 n (with_regs m.parts (step_of m.parts.regs m.memory).regs)) (step_of m.parts.regs m.memory).memory)
 
 attempted-id : (n : ℕ) (m : Machine) → number_in (attempted n m).machine ≡ number_in m
-unfolding attempted
-attempted-id n m =
-    met-id (step_of m.parts.regs m.memory).outcome
-    (machine_of (counted 1 n (with_regs m.parts (step_of m.parts.regs m.memory).regs)) (step_of m.parts.regs m.memory).memory)
+attempted-id n m = ap (λ k. k.0) (attempted-kept n m)
 
 machine_if : (b : Bool) (s t : Machine) (n : ℕ) → number_in s ≡ n → number_in t ≡ n → number_in (if b then s else t) ≡ n
 machine_if true s t n h k = h
@@ -164,6 +184,71 @@ advance-id n m = settled-id (attempts n m) ∙ attempts-id n m
 pub halted-id : (m : Machine) → number_in (halted m) ≡ number_in m
 unfolding halted
 halted-id m = machine_if (runs m) _ m (number_in m) refl refl
+
+-- ---- a slice attempts at most as many instructions as it has steps
+
+attempted-steps : (n : ℕ) (m : Machine) → steps_in (attempted n m).machine ≡ min (steps_in m + 1) 18446744073709551615
+attempted-steps n m = ap (λ k. k.1) (attempted-kept n m)
+
+most_if : (b : Bool) (s t : Machine) (n : ℕ) → steps_in s ≤ n → steps_in t ≤ n → steps_in (if b then s else t) ≤ n
+most_if true s t n h k = h
+most_if false s t n h k = k
+
+attempts-steps : (n : ℕ) (m : Machine) → steps_in (attempts n m) ≤ steps_in m + n
+unfolding attempts
+attempts-steps zero m = omega arith
+attempts-steps (suc n) m =
+    let next = (attempted n m).machine in
+    let one : steps_in next ≡ min (steps_in m + 1) 18446744073709551615 = attempted-steps n m in
+    let rest : steps_in (attempts n next) ≤ steps_in next + n = attempts-steps n next in
+    most_if (runs m) (if (attempted n m).goes_on then attempts n next else next) m (steps_in m + suc n)
+    (most_if (attempted n m).goes_on (attempts n next) next (steps_in m + suc n) (omega (arith, one, rest)) (omega (arith, one)))
+    (omega arith)
+
+-- no end of a slice changes the count
+settled_if : (b : Bool) (z : Machine) → steps_in (if b then ended_by_tag z else z) ≡ steps_in z
+settled_if true z = refl
+settled_if false z = refl
+
+settled-steps : (m : Machine) → steps_in (settled m) ≡ steps_in m
+unfolding settled
+settled-steps m =
+    let z : Machine = record m { parts = record m.parts { left = 0 } } in
+    settled_if (runs z && z.memory.state.pending) z
+
+pub slice-bounded : SlicesAreBounded
+unfolding advance
+slice-bounded n m =
+    let last : steps_in (settled (attempts n m)) ≡ steps_in (attempts n m) = settled-steps (attempts n m) in
+    omega (arith, last, attempts-steps n m)
+
+held_bounded : (n : ℕ) (h : Held) → (record_of (held_sliced n h)).steps ≤ (record_of h).steps + n
+held_bounded n (Live m) = slice-bounded n m
+held_bounded n (Gone r) = omega arith
+
+abbrev steps_by : Option Record → ℕ
+steps_by None = 0
+steps_by (Some r) = r.steps
+
+bounded_if : (b : Bool) (id n : ℕ) (t : Tenant) (more : List Tenant) (r s : Record)
+    → (record_among id more ≡ Some r → record_among id (map (tenant_sliced id n) more) ≡ Some s → s.steps ≤ r.steps + n)
+    → option_map (λ u. record_of u.held) (if b then Some t else tenant_among id more) ≡ Some r
+    → option_map (λ u. record_of u.held) (if b then Some (let u : Tenant = record t { held = if b then held_sliced n t.held else t.held } in u) else tenant_among id (map (tenant_sliced id n) more)) ≡ Some s
+    → s.steps ≤ r.steps + n
+bounded_if true id n t more r s rest e f =
+    let was : (record_of t.held).steps ≡ r.steps = ap steps_by e in
+    let is : (record_of (held_sliced n t.held)).steps ≡ s.steps = ap steps_by f in
+    omega (arith, was, is, held_bounded n t.held)
+bounded_if false id n t more r s rest e f = rest e f
+
+bounded_among : (id n : ℕ) (ts : List Tenant) (r s : Record) → record_among id ts ≡ Some r
+    → record_among id (map (tenant_sliced id n) ts) ≡ Some s → s.steps ≤ r.steps + n
+bounded_among id n [] r s e f = cc
+bounded_among id n (t ∷ more) r s e f = bounded_if (t.id == id) id n t more r s (bounded_among id n more r s) e f
+
+pub turn-bounded : TurnsAreBounded
+unfolding sliced
+turn-bounded id n c r s e f = bounded_among id n c.tenants r s e f
 
 -- ---- the tenant
 

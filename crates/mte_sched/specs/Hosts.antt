@@ -1,5 +1,5 @@
 -- The content of the host.
-use Rattle.std.specs.Prelude.{ℕ, Option, option_map, List, length}
+use Rattle.std.specs.Prelude.{ℕ, Option, option_map, List, ◌∷◌, length, vec_capacity}
 use Rattle.mte_frames.specs.Pool.{Pool}
 use Rattle.mte_sched.specs.declared.host.Host.{Host}
 use Rattle.mte_sched.specs.Ledger.{Entry}
@@ -21,3 +21,9 @@ frame_in h id q = option_map (λ x. x.0) (found_among (pool_of h) id q h.tenants
 
 abbrev pub ledger_in : Host → List Entry
 ledger_in h = ledger_of (content_of h)
+
+-- For how many elements the host's lists have memory: its tenants, their positions by number, and
+-- its pool's four.
+abbrev pub rooms_of : Host → List ℕ
+rooms_of h =
+    vec_capacity h.tenants ∷ vec_capacity h.index.positions ∷ (pool_of h).capacities

@@ -12,3 +12,5 @@ pub mod Hosts
 pub mod Loans
 pub mod Names
 pub mod Flags
+pub mod Bounds
+pub mod Watched

@@ -15,6 +15,11 @@ use std::fmt;
 /// The most tenants that are live at once.
 pub const MAX_LIVE: usize = 255;
 
+/// The most tenants in digits.
+pub fn live_limit_in_digits()
+    ensures { MAX_LIVE ≡ 255 }
+{}
+
 /// What a tenant is admitted with.
 #[derive(Clone, Copy)]
 pub struct Admission<'a> {

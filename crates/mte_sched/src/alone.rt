@@ -1,13 +1,15 @@
 //! A tenant alone, on a memory of its own, and what watches it.
 
-ghost use Rattle.std.specs.Prelude.{◌≡◌, ◌⊎◌, ◌<◌, [], Some, None, IfOk, IfErr, OnOk, OnErr, true};
+ghost use Rattle.std.specs.Prelude.{◌≡◌, ◌⊎◌, ◌<◌, [], ◌∷◌, Some, None, true, false};
+ghost use Rattle.std.specs.Prelude.{IfOk, IfErr, IsErrOf, OnOk, OnErr};
 ghost use Rattle.mte_tags.specs.Memory.{no_pages};
 ghost use Rattle.mte_elf.specs.Headers.{segments_of, entry_of};
 ghost use Rattle.mte_elf.specs.Images.{refusal_of, pages_of};
 ghost use Rattle.scudo_heap.specs.Served.{IsServed};
 ghost use Rattle.mte_svc.specs.Results.{is_running};
-ghost use Rattle.mte_sched.specs.Ledger.{admission_refusal, charge_of};
-ghost use Rattle.mte_sched.specs.Machines.{machine_of, start_of, attempts, advance};
+ghost use Rattle.mte_sched.specs.Ledger.{admission_refusal, charge_of, is_bad};
+ghost use Rattle.mte_sched.specs.Machines.{machine_of, start_of, attempted, advance};
+ghost use Rattle.mte_sched.specs.Watched.{WatchLog, with_shown, shown_of, Before, After};
 ghost use Rattle.mte_sched.specs.Tenants.{terms_of};
 
 use crate::accepting::{holds_image, is_bad_reservation, plan_of};
@@ -22,13 +24,20 @@ use std::alloc::Global;
 /// What watches a tenant: it is shown the machine before and after each attempt, and changes
 /// nothing of it.
 pub trait Watch {
+    /// What it was shown, as far as it is known.
+    ghost log: { Self → WatchLog };
+
     /// An instruction is attempted next.
     fn before<M: Tagged>(&mut self, parts: &TenantParts, memory: &mut M)
+        ensures log { log self.new ≡ with_shown (log self.old)
+            (Before (machine_of parts.now (M.memory memory.old)) ∷ []) }
         ensures memory { M.memory memory.new ≡ M.memory memory.old }
         ensures kept { M.kept memory.old memory.new };
 
     /// It was attempted, and its service served where it was an SVC.
     fn after<M: Tagged>(&mut self, parts: &TenantParts, memory: &mut M)
+        ensures log { log self.new ≡ with_shown (log self.old)
+            (After (machine_of parts.now (M.memory memory.old)) ∷ []) }
         ensures memory { M.memory memory.new ≡ M.memory memory.old }
         ensures kept { M.kept memory.old memory.new };
 }
@@ -54,6 +63,8 @@ pub fn admit_alone<M: Paged>(
     ensures refused { IfErr result (λ e. (e ≡ AdmitError.OutOfMemory)
         ⊎ (admission_refusal (charge_of admission.now.pages) []
         admission.now.id (terms_of admission.now) ≡ Some e)) }
+    ensures memory { IsErrOf result AdmitError.OutOfMemory
+        → is_bad (terms_of admission.now) ≡ false }
     ensures err { OnErr result (M.Tagged.memory memory.new ≡ M.Tagged.memory memory.old) }
     ensures kept { M.Tagged.kept memory.old memory.new }
 {
@@ -76,7 +87,8 @@ pub fn admit_alone<M: Paged>(
     Ok(parts)
 }
 
-/// A slice that is watched: what `slice` makes of the machine, whatever watches it.
+/// A slice that is watched: what `slice` makes of the machine, whatever watches it. Each attempt is
+/// shown once, in order.
 pub fn slice_watched<M: Paged, W: Watch>(
     watch: &mut W,
     parts: &mut TenantParts,
@@ -87,6 +99,8 @@ pub fn slice_watched<M: Paged, W: Watch>(
     requires tag { parts.old.regs.rgsr.tag < 16 }
     ensures machine { machine_of parts.new (M.Tagged.memory memory.new)
         ≡ advance steps (machine_of parts.old (M.Tagged.memory memory.old)) }
+    ensures shown { W.log watch.new ≡ with_shown (W.log watch.old)
+        (shown_of steps (machine_of parts.old (M.Tagged.memory memory.old))) }
     ensures heap { IsServed (M.Tagged.memory memory.new) parts.new.heap }
     ensures tag { parts.new.regs.rgsr.tag < 16 }
     ensures kept { M.Tagged.kept memory.old memory.new }
@@ -95,27 +109,29 @@ pub fn slice_watched<M: Paged, W: Watch>(
     let mut left = u64::from(steps);
     while left > 0 && parts.is_running() {
         watch.before(parts, memory);
-        left = attempt(&mut decoder, parts, memory, left);
+        let rest = left - 1;
+        let goes_on = attempt(&mut decoder, parts, memory, rest);
         watch.after(parts, memory);
+        left = if goes_on { rest } else { 0 };
     }
     settle(parts, memory);
 }
 
-/// Attempts one instruction of a slice that has `left` of them; returns how many it has then, 0
-/// after a yield.
+/// Attempts one instruction of a slice, which has `left` more; returns whether the slice goes on.
 fn attempt<M: Paged>(
     decoder: &mut Decoder,
     parts: &mut TenantParts,
     memory: &mut M,
     left: u64,
-) -> u64
-    requires some { 0 < left }
+) -> bool
     requires running { is_running parts.old.account.status ≡ true }
     requires heap { IsServed (M.Tagged.memory memory.old) parts.old.heap }
     requires tag { parts.old.regs.rgsr.tag < 16 }
-    ensures rest { attempts result (machine_of parts.new (M.Tagged.memory memory.new))
-        ≡ attempts left (machine_of parts.old (M.Tagged.memory memory.old)) }
-    ensures fewer { result < left }
+    ensures machine { record {
+      machine = machine_of parts.new (M.Tagged.memory memory.new);
+      goes_on = result;
+    }
+        ≡ attempted left (machine_of parts.old (M.Tagged.memory memory.old)) }
     ensures heap { IsServed (M.Tagged.memory memory.new) parts.new.heap }
     ensures tag { parts.new.regs.rgsr.tag < 16 }
     ensures kept { M.Tagged.kept memory.old memory.new }
@@ -123,17 +139,10 @@ fn attempt<M: Paged>(
     steps_keep_pages();
     condition_of_calls();
     let stop = run(decoder, &mut parts.regs, memory, 1);
-    let then = left - 1;
     parts.account.steps = parts.account.steps.saturating_add(1);
-    parts.left = then;
+    parts.left = left;
     match stop.outcome {
-        Some(outcome) => {
-            if handle(outcome, parts, memory) {
-                then
-            } else {
-                0
-            }
-        }
-        None => then,
+        Some(outcome) => handle(outcome, parts, memory),
+        None => true,
     }
 }

@@ -50,7 +50,7 @@ impl Host {
     ghost use Rattle.mte_arena.specs.declared.arena.ArenaError.TheVariants.{BadCount};
     ghost use Rattle.mte_sched.specs.Contents.{admitted, sliced, stopped, empty};
     ghost use Rattle.mte_sched.specs.Views.{record_among, page_among, Holds};
-    ghost use Rattle.mte_sched.specs.Hosts.{pool_of, content_of, frame_in, ledger_in};
+    ghost use Rattle.mte_sched.specs.Hosts.{pool_of, content_of, frame_in, ledger_in, rooms_of};
     ghost use Rattle.mte_sched.specs.Loans.{lends_page};
 
     /// A host of `frames` frames, without tenants. The number is tested before any memory is taken;
@@ -158,12 +158,14 @@ impl Host {
     }
 
     /// Lets a live tenant attempt at most `steps` instructions; one that has ended does nothing. It
-    /// is refused exactly where no live tenant has the number, and then changes nothing.
+    /// is refused exactly where no live tenant has the number, and then changes nothing. No list of
+    /// the host takes memory.
     #[tactic(auto, unfolding(crate::specs::Contents::sliced))]
     pub fn slice(&mut self, id: u16, steps: u32) -> Result<(), NotLive>
         ensures live { IsOk result ↔ (list_any (has_live_id id) (ledger_in self.old) ≡ true) }
         ensures ok { OnOk result (content_of self.new ≡ sliced (content_of self.old) id steps) }
         ensures err { OnErr result (content_of self.new ≡ content_of self.old) }
+        ensures rooms { rooms_of self.new ≡ rooms_of self.old }
     {
         let Some(asid) = self.find_live(id) else {
             return Err(NotLive);
@@ -182,12 +184,13 @@ impl Host {
     }
 
     /// Stops a live tenant; its record stays. It is refused exactly where no live tenant has the
-    /// number, and then changes nothing.
+    /// number, and then changes nothing. No list of the host takes memory.
     #[tactic(auto, unfolding(crate::specs::Contents::stopped))]
     pub fn stop(&mut self, id: u16) -> Result<(), NotLive>
         ensures live { IsOk result ↔ (list_any (has_live_id id) (ledger_in self.old) ≡ true) }
         ensures ok { OnOk result (content_of self.new ≡ stopped (content_of self.old) id) }
         ensures err { OnErr result (content_of self.new ≡ content_of self.old) }
+        ensures rooms { rooms_of self.new ≡ rooms_of self.old }
     {
         let Some(asid) = self.find_live(id) else {
             return Err(NotLive);

@@ -3,6 +3,7 @@
 ghost use Rattle.mte_sched.specs.Isolation.{LedgerFollows, NumbersStay, TenantsAreAlone};
 ghost use Rattle.mte_sched.specs.Isolation.{TenantsAreIsolated};
 ghost use Rattle.mte_sched.specs.Flags.{FlagIsClear};
+ghost use Rattle.mte_sched.specs.Bounds.{SlicesAreBounded, TurnsAreBounded};
 
 /// What a tenant does cannot change who is admitted: a call changes a host's ledger as the ledger
 /// says.
@@ -30,4 +31,10 @@ pub fn tenants_are_isolated()
 /// Between the calls of a session the flag of a tenant that is running is clear.
 pub fn flag_is_clear()
     ensures { FlagIsClear }
+{}
+
+/// A slice of n steps attempts at most n instructions, of a machine alone and of a host's tenant.
+pub fn slices_are_bounded()
+    ensures machine { SlicesAreBounded }
+    ensures host { TurnsAreBounded }
 {}

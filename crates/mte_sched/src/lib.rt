@@ -14,11 +14,12 @@ mod tenant;
 mod tenant_calls;
 mod turns;
 
-pub use admission::{Admission, AdmitError, MAX_LIVE, NotLive};
+pub use admission::{Admission, AdmitError, MAX_LIVE, NotLive, live_limit_in_digits};
 pub use alone::{Watch, admit_alone, slice_watched};
 pub use host::Host;
 pub use isolation::{
-    flag_is_clear, ledger_follows, numbers_stay, tenants_are_alone, tenants_are_isolated,
+    flag_is_clear, ledger_follows, numbers_stay, slices_are_bounded, tenants_are_alone,
+    tenants_are_isolated,
 };
 pub use machine::slice;
 pub use mte_arena::ArenaError;

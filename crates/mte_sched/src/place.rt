@@ -194,6 +194,7 @@ pub(crate) fn stop_place(pool: &mut FramePool, tlb: &mut Tlb, asid: usize, pages
     ensures others { KeepsOthers place.quota pool.old pool.new }
     ensures reserved { sum pool.new.reserved + charge_of pages ≡ sum pool.old.reserved }
     ensures entries { tlb.new ≡ without_asid asid tlb.old }
+    ensures capacities { pool.new.capacities ≡ pool.old.capacities }
 {
     let Place {
         mut table,

@@ -1,6 +1,6 @@
 //! One tenant's turn, beside the others: a slice, a stop.
 
-ghost use Rattle.std.specs.Prelude.{◌≡◌, ◌+◌, map, length, count_by};
+ghost use Rattle.std.specs.Prelude.{◌≡◌, ◌+◌, map, length, count_by, vec_capacity};
 ghost use Rattle.mte_sched.specs.Contents.{tenant_sliced, tenant_stopped};
 ghost use Rattle.mte_sched.specs.Ledger.{is_live};
 ghost use Rattle.mte_sched.specs.Tenants.{tenants_in, entries_in};
@@ -28,6 +28,7 @@ pub(crate) fn slice_at(
     requires live { HasLiveAt tenants.old asid id }
     ensures sharing { IsSharing pool.new tlb.new tenants.new }
     ensures frames { length pool.new.frames ≡ length pool.old.frames }
+    ensures capacities { pool.new.capacities ≡ pool.old.capacities }
     ensures tenants { tenants_in pool.new tenants.new
         ≡ map (tenant_sliced id steps) (tenants_in pool.old tenants.old) }
 {
@@ -62,6 +63,8 @@ pub(crate) fn stop_at(
     requires live { HasLiveAt tenants.old.items asid id }
     ensures sharing { IsSharing pool.new tlb.new tenants.new.items }
     ensures frames { length pool.new.frames ≡ length pool.old.frames }
+    ensures capacities { pool.new.capacities ≡ pool.old.capacities }
+    ensures room { vec_capacity tenants.new ≡ vec_capacity tenants.old }
     ensures tenants { tenants_in pool.new tenants.new.items
         ≡ map (tenant_stopped id) (tenants_in pool.old tenants.old.items) }
     ensures live { count_by is_live (entries_in tenants.new.items) + 1

@@ -1,3 +1,4 @@
 pub mod ReportLemmas
+mod PartLemmas
 pub mod SessionLemmas
 mod HeadlineLemmas

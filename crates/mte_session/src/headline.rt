@@ -1,8 +1,8 @@
 //! Two sessions, and what they wrote of one tenant.
 
-ghost use Rattle.std.specs.Prelude.{◌≡◌, ◌≤◌, OnOk};
+ghost use Rattle.std.specs.Prelude.{◌≡◌, ◌⊎◌, ◌≤◌, OnOk, IfErr};
 ghost use Rattle.mte_session.specs.Headline.{input_of, AgreeFor, WroteAlike};
-ghost use Rattle.mte_session.specs.Outcomes.{Reported};
+ghost use Rattle.mte_session.specs.Outcomes.{Reported, Failed, Unwritten};
 
 use crate::session::{SessionError, run_session};
 use mte_sched::numbers_stay;
@@ -42,6 +42,11 @@ pub fn run_both<W: Sink>(
         (Reported (input_of other.now) (W.log second.old) (W.log second.new)) }
     ensures same { OnOk result (AgreeFor id (input_of one.now) (input_of other.now)
         → WroteAlike id (W.log first.old) (W.log first.new) (W.log second.old) (W.log second.new)) }
+    ensures failed { IfErr result (λ e.
+        (Failed (input_of one.now) (W.log first.old) (W.log first.new) e
+        × Unwritten (W.log second.old) (W.log second.new))
+        ⊎ (Reported (input_of one.now) (W.log first.old) (W.log first.new)
+        × Failed (input_of other.now) (W.log second.old) (W.log second.new) e)) }
 {
     numbers_stay();
     run_session(alloc, one.frames, one.script, one.files, first)?;

@@ -1,24 +1,52 @@
 //! Texts that are written in parts, and hexadecimal digits.
 
-ghost use Rattle.std.specs.Prelude.{◌≡◌, ◌≤◌, length};
+ghost use Rattle.std.specs.Prelude.{◌≡◌, ◌≤◌, ◌++◌, length, OnOk, OnErr};
 ghost use Rattle.hex.specs.Hex.{encode_lower};
-ghost use Rattle.mte_streams.specs.Writing.{Writes};
-ghost use Rattle.mte_session.specs.Parts.{parts_text};
+ghost use Rattle.mte_streams.specs.Writing.{Writes, WrotePart};
+ghost use Rattle.mte_session.specs.Parts.{parts_text, WroteBut};
 ghost use Rattle.mte_session.specs.Report.{sixteen_digits, eight_digits};
 
+use arrayvec::ArrayVec;
 use mte_streams::{Sink, WriteFault, write_all};
 
 /// How many bytes of an output are written at once.
 const CHUNK: usize = 256;
 
-/// Writes parts one after another.
+/// How many bytes of a line are collected before they are written.
+const LINE: usize = 128;
+
+/// Writes parts one after another, by few writes.
 pub fn write_parts<W: Sink>(out: &mut W, parts: &[&[u8]]) -> Result<(), WriteFault>
     ensures { Writes (W.log out.old) (W.log out.new) result (parts_text parts.now) }
 {
+    let mut line = ArrayVec::new();
     for part in parts {
-        write_all(out, part)?;
+        append_part(out, &mut line, part)?;
     }
-    Ok(())
+    write_all(out, line.as_slice())
+}
+
+/// Appends a part to what is collected of a line. Where it does not fit, what is collected is
+/// written first, and with it a part that never fits.
+fn append_part<W: Sink>(
+    out: &mut W,
+    line: &mut ArrayVec<u8, LINE>,
+    part: &[u8],
+) -> Result<(), WriteFault>
+    ensures ok { OnOk result
+        (WroteBut (W.log out.old) (W.log out.new) (line.old.items ++ part.now) line.new.items) }
+    ensures err { OnErr result
+        (WrotePart (W.log out.old) (W.log out.new) (line.old.items ++ part.now)) }
+{
+    if line.try_extend_from_slice(part).is_ok() {
+        return Ok(());
+    }
+    write_all(out, line.as_slice())?;
+    line.clear();
+    if line.try_extend_from_slice(part).is_ok() {
+        return Ok(());
+    }
+    write_all(out, part)
 }
 
 /// The sixteen lower-case hexadecimal digits of a number.

@@ -1,8 +1,9 @@
 //! The translation of a page, by the lookaside buffer and the table.
 
-ghost use Rattle.std.specs.Prelude.{◌≡◌, ◌<◌, ◌^◌, IsTrue, IsFalse, None};
+ghost use Rattle.std.specs.Prelude.{◌≡◌, ◌<◌, ◌^◌, IsTrue, IsFalse, IfSome, Some, None};
 ghost use Rattle.std.specs.FinMap.{get};
 ghost use Rattle.mte_translate.specs.Tables.{pages_of, IsSomeTable, IsCached};
+ghost use Rattle.mte_translate.specs.Translations.{lookup};
 ghost use Rattle.mte_space.specs.Remembered.{IsUpToDate, AreUpToDate};
 ghost use Rattle.mte_space.specs.Spaces.{NoneEnters};
 
@@ -24,6 +25,7 @@ pub(crate) fn translate(
     requires table { IsSomeTable pool.now table.now }
     requires cached { IsCached (pages_of pool.now table.now.frame) asid tlb.old }
     ensures found { result ≡ get (pages_of pool.now table.now.frame) page }
+    ensures filled { IfSome result (λ found. lookup asid page tlb.new ≡ Some found) }
     ensures cached { IsCached (pages_of pool.now table.now.frame) asid tlb.new }
     ensures entries { NoneEnters asid tlb.old tlb.new }
 {
@@ -150,6 +152,7 @@ fn walk_and_fill(
     requires table { IsSomeTable pool.now table.now }
     requires cached { IsCached (pages_of pool.now table.now.frame) asid tlb.old }
     ensures found { result ≡ get (pages_of pool.now table.now.frame) page }
+    ensures filled { IfSome result (λ found. lookup asid page tlb.new ≡ Some found) }
     ensures cached { IsCached (pages_of pool.now table.now.frame) asid tlb.new }
     ensures entries { NoneEnters asid tlb.old tlb.new }
 {

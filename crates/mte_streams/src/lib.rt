@@ -6,5 +6,5 @@ mod reading;
 mod writing;
 
 pub use error::StreamError;
-pub use reading::{FILE_LIMIT, ReadFault, Source, read_whole};
+pub use reading::{FILE_LIMIT, ReadFault, Source, file_limit_in_digits, read_whole};
 pub use writing::{Sink, WriteFault, write_all};

@@ -24,6 +24,11 @@ pub trait Source {
 /// The most bytes that a file may have.
 pub const FILE_LIMIT: usize = 16_777_216;
 
+/// The limit in digits.
+pub fn file_limit_in_digits()
+    ensures { FILE_LIMIT ≡ 16777216 }
+{}
+
 /// How many bytes are read at once.
 const CHUNK: usize = 65_536;
 

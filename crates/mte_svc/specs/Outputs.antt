@@ -1,5 +1,5 @@
 -- What a tenant has written, and how much more it may write.
-use Rattle.std.specs.Prelude.{ℕ, ◌-◌, ◌≤◌, List, vec_len, vec_capacity, refl}
+use Rattle.std.specs.Prelude.{◌≡◌, ℕ, ◌-◌, ◌≤◌, List, vec_len, vec_capacity, refl}
 use Rattle.std.specs.Coded.{Coded, code_by, coded×, coded_ℕ, coded_list}
 use Rattle.mte_svc.specs.declared.output.Output.TheInside.{Inside}
 
@@ -17,6 +17,7 @@ written_of o = record {
   left = o.room - vec_len o.bytes;
 }
 
+-- The room of its admission is what the list has memory for, so it never takes more.
 pub record IsWithin (o : Inside) : Type 0 where
   pub written : vec_len o.bytes ≤ o.room
-  pub room : o.room ≤ vec_capacity o.bytes
+  pub room : vec_capacity o.bytes ≡ o.room

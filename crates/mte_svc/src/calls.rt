@@ -11,6 +11,11 @@ use std::marker::Model;
 /// How many of a tenant's heap calls are kept.
 pub const KEPT_CALLS: usize = 64;
 
+/// How many are kept in digits.
+pub fn kept_calls_in_digits()
+    ensures { KEPT_CALLS ≡ 64 }
+{}
+
 /// A service of the heap.
 #[derive(Clone, Copy)]
 pub enum HeapService {

@@ -9,12 +9,12 @@ mod parts;
 mod record;
 mod services;
 
-pub use calls::{HeapCall, HeapCalls, HeapService, KEPT_CALLS};
+pub use calls::{HeapCall, HeapCalls, HeapService, KEPT_CALLS, kept_calls_in_digits};
 pub use input::Input;
 pub use output::Output;
 pub use parts::TenantParts;
 pub use record::{Record, Status};
 pub use services::{
     CALLOC, EXIT, FREE, MALLOC, MEMALIGN, PAGES_LEFT, READ, REALLOC, STEPS_LEFT, SvcEnd,
-    USABLE_SIZE, WRITE, YIELD, svc,
+    USABLE_SIZE, WRITE, YIELD, services_in_digits, svc,
 };

@@ -1,7 +1,7 @@
 //! What a tenant has written.
 
 ghost use Rattle.std.specs.Prelude.{◌≡◌, ◌≤◌, ◌+◌, ◌-◌, ◌++◌, [], IfOk, OnOk, OnErr, true};
-ghost use Rattle.std.specs.Prelude.{is_ok, if◌then◌else◌};
+ghost use Rattle.std.specs.Prelude.{is_ok, if◌then◌else◌, vec_len, vec_capacity, replicate};
 ghost use Rattle.mte_tags.specs.Accesses.{read_fault, read_bytes, after_read, outcome};
 
 use mte_tags::{MemFault, Tagged};
@@ -11,7 +11,7 @@ use std::marker::Model;
 /// What a tenant has written, and the room that is left for more.
 #[derive(Drop)]
 pub struct Output {
-    /// What was written, in memory for `room` bytes. No other byte is made, so a tenant that
+    /// What was written, in memory for just `room` bytes. No other byte is made, so a tenant that
     /// stops has nothing more to give back.
     bytes: Vec<u8>,
     room: usize,
@@ -74,14 +74,24 @@ impl Output {
         ensures kept { M.kept memory.old memory.new }
     {
         let start = self.bytes.len();
-        // There is memory for them, so this takes none.
-        if self.bytes.resize(start + count as usize, 0).is_err() {
-            unreachable!()
-        }
+        append_zeros(&mut self.bytes, count as usize);
         let read = memory.read(addr, &mut self.bytes[start..], true);
         if read.is_err() {
             self.bytes.truncate(start);
         }
         read
+    }
+}
+
+/// Appends so many zeros to a list that has memory for them.
+fn append_zeros(bytes: &mut Vec<u8>, count: usize)
+    requires { vec_len bytes.old + count ≤ vec_capacity bytes.old }
+    ensures items { bytes.new.items ≡ bytes.old.items ++ replicate count 0 }
+    ensures len { vec_len bytes.new ≡ vec_len bytes.old + count }
+    ensures capacity { vec_capacity bytes.new ≡ vec_capacity bytes.old }
+{
+    let end = bytes.len() + count;
+    while bytes.len() < end {
+        bytes.push_reserved(0);
     }
 }

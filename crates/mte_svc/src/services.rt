@@ -60,6 +60,22 @@ pub const STEPS_LEFT: u64 = 10;
 /// Returns how many more pages may be mapped.
 pub const PAGES_LEFT: u64 = 11;
 
+/// The numbers of the services in digits.
+pub fn services_in_digits()
+    ensures exit { EXIT ≡ 0 }
+    ensures write { WRITE ≡ 1 }
+    ensures read { READ ≡ 2 }
+    ensures malloc { MALLOC ≡ 3 }
+    ensures free { FREE ≡ 4 }
+    ensures calloc { CALLOC ≡ 5 }
+    ensures realloc { REALLOC ≡ 6 }
+    ensures memalign { MEMALIGN ≡ 7 }
+    ensures usable_size { USABLE_SIZE ≡ 8 }
+    ensures yields { YIELD ≡ 9 }
+    ensures steps_left { STEPS_LEFT ≡ 10 }
+    ensures pages_left { PAGES_LEFT ≡ 11 }
+{}
+
 /// The service of an SVC: its number is x8, its arguments are x0 and x1, its result is x0. A number
 /// that no service has returns 2^64 - 1. Where it ends the tenant, PC stays at the SVC.
 #[tactic(auto, unfolding(crate::specs::Services::served))]

@@ -1,7 +1,10 @@
 //! Which translations a lookaside buffer of 64 holds.
 
 use mte_tags::Attrs;
-use mte_translate::{Tlb, fill_adds_its_own, forget_drops_its_own, lookup_returns_what_stands};
+use mte_translate::{
+    Tlb, fill_adds_its_own, forget_drops_its_own, lookup_returns_what_stands,
+    table_pages_in_digits, tlb_entries_in_digits,
+};
 
 /// Fills a page's translation, and tests that it is then returned at once.
 fn fill(tlb: &mut Tlb, asid: usize, page: u64, frame: usize) -> bool {
@@ -79,4 +82,6 @@ fn each_address_space_has_its_own(rt: HostRuntime) {
     fill_adds_its_own();
     forget_drops_its_own();
     lookup_returns_what_stands();
+    table_pages_in_digits();
+    tlb_entries_in_digits();
 }

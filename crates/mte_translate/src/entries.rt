@@ -14,6 +14,11 @@ use mte_tags::Attrs;
 /// A table maps pages below this number.
 pub const TABLE_PAGES: u64 = 262_144;
 
+/// The pages of a table in digits.
+pub fn table_pages_in_digits()
+    ensures { TABLE_PAGES ≡ 262144 }
+{}
+
 const _: () = prove!(TABLE_PAGES * PAGE_SIZE == ADDRESS_END);
 
 /// The entries of a frame.

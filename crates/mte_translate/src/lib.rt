@@ -13,11 +13,11 @@ mod tlb;
 mod translation;
 mod tree;
 
-pub use entries::TABLE_PAGES;
+pub use entries::{TABLE_PAGES, table_pages_in_digits};
 pub use laws::{fill_adds_its_own, forget_drops_its_own, lookup_returns_what_stands};
 pub use table::Table;
 pub use table_laws::{
     cached_translations_stay, frames_of_tables, leaves_are_used, pages_are_walks, tables_stay,
 };
 pub use tlb::Tlb;
-pub use translation::{TLB_ENTRIES, Translation};
+pub use translation::{TLB_ENTRIES, Translation, tlb_entries_in_digits};

@@ -8,6 +8,11 @@ use mte_tags::Attrs;
 /// The most translations that stand at once.
 pub const TLB_ENTRIES: usize = 64;
 
+/// The translations of a buffer in digits.
+pub fn tlb_entries_in_digits()
+    ensures { TLB_ENTRIES ≡ 64 }
+{}
+
 /// The translation of one page of one address space.
 #[derive(Clone, Copy)]
 pub struct Translation {

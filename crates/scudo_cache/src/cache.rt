@@ -41,9 +41,12 @@ impl Cache {
     /// A cache that holds no block. It is refused only where its memory is; no later call takes
     /// any.
     pub fn new(alloc: Global) -> Result<Cache, AllocError>
-        ensures { IfOk result (λ cache. cache ≡ empty_cache cache.capacity) }
+        ensures { IfOk result (λ cache. cache ≡ empty_cache CLASSES) }
     {
-        let entries = vec![in alloc; PerClass::new(); CLASSES as usize]?;
+        let mut entries = Vec::with_capacity(alloc, CLASSES as usize)?;
+        while entries.len() < CLASSES as usize {
+            entries.push_reserved(PerClass::new());
+        }
         Ok(Cache { entries })
     }
 

@@ -1,6 +1,6 @@
 //! The blocks of one class.
 
-ghost use Rattle.std.specs.Prelude.{◌≡◌, ◌<◌, ◌≤◌, ◌==◌, ◌∷◌, ◌++◌, [], ⊤};
+ghost use Rattle.std.specs.Prelude.{◌≡◌, ◌<◌, ◌≤◌, ◌==◌, ◌∷◌, ◌++◌, []};
 ghost use Rattle.std.specs.Prelude.{length, take, drop, IfSome};
 ghost use Rattle.scudo_primary.specs.Pools.{stack_of};
 ghost use Rattle.scudo_cache.specs.Caches.{newest, without_newest, stack_over};
@@ -8,7 +8,6 @@ ghost use Rattle.scudo_cache.specs.Caches.{class_with, refilled, IsHeld};
 
 use scudo_header::CLASSES;
 use scudo_primary::{MAX_COUNT, Pool};
-use std::alloc::AllocError;
 use std::marker::Model;
 
 /// The blocks of one class that are at hand, the oldest first (Scudo, `local_cache.h`, `PerClass`).
@@ -27,19 +26,6 @@ impl Model for PerClass {
     ghost view = { λ c. take c.count c.blocks };
 
     ghost invariant = { λ c. c.count ≤ MAX_COUNT };
-}
-
-impl Clone for PerClass {
-    ghost is_clone = { λ old new. new ≡ old };
-
-    ghost is_infallible = { λ _. ⊤ };
-
-    fn clone(&self) -> Result<PerClass, AllocError> {
-        Ok(PerClass {
-            count: self.count,
-            blocks: self.blocks,
-        })
-    }
 }
 
 impl PerClass {

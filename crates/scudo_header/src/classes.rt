@@ -10,6 +10,12 @@ pub const CLASSES: u8 = 44;
 /// The bytes of the largest class's blocks.
 pub const LARGEST_CLASS_SIZE: u64 = 131_072;
 
+/// The numbers of the classes in digits.
+pub fn classes_in_digits()
+    ensures classes { CLASSES ≡ 44 }
+    ensures largest { LARGEST_CLASS_SIZE ≡ 131072 }
+{}
+
 /// The size up to which the sizes are the multiples of 32.
 const MIDDLE_SIZE: u64 = 256;
 

@@ -1,5 +1,5 @@
 -- The condition of the calls, at the start and after what others do.
-use Rattle.std.proofs.Common.{◌≡◌, ℕ, ◌≤◌, nat_lt, Bool, true, false, Result, is_ok, length, List, None, refl, sym, ap, subst, ◌∙◌, arith}
+use Rattle.std.proofs.Common.{◌≡◌, ℕ, ◌+◌, ◌/◌, ◌<◌, ◌≤◌, nat_lt, Bool, true, false, Result, is_ok, length, List, None, refl, sym, ap, subst, ◌∙◌, arith}
 use Rattle.std.proofs.lemmas.Bool.{cond-false}
 use Rattle.mte_tags.specs.Memory.{Memory, attrs_at, attrs_in, pages_left, no_pages}
 use Rattle.mte_tags.specs.declared.state.TagMode.{TagMode}
@@ -11,8 +11,12 @@ use Rattle.mte_tags.proofs.ModeLaws.{after_access-unchecked}
 use Rattle.mte_tags.proofs.PageLaws.{attrs_at-written, pages_left-written}
 use Rattle.mte_tags.proofs.Pages.{page_at-no_pages}
 use Rattle.scudo_primary.specs.Lists.{IsClass}
-use Rattle.scudo_heap.specs.Stacks.{ClassHeap, empty_class, empty_stacks, class_at}
+use Rattle.scudo_heap.specs.Stacks.{ClassHeap, empty_class, empty_stacks, memory_for, class_at}
 use Rattle.scudo_heap.specs.Heaps.{HeapState, empty_heap}
+use Rattle.address_map.specs.declared.limits.TheConstants.{PAGE_SIZE}
+use Rattle.address_map.specs.declared.ranges.TheConstants.{SECONDARY_END}
+use Rattle.scudo_header.specs.Regions.{region_of}
+use Rattle.scudo_secondary.specs.Mappings.{pages_of}
 use Rattle.scudo_heap.specs.Served.{IsServed, IsUntouched}
 use Rattle.scudo_heap.proofs.StackLemmas.{class_at-stacks_by}
 use Rattle.scudo_heap.proofs.ServedLemmas.{served-on, same-pages, lt-false}
@@ -27,7 +31,7 @@ left-empty n = refl
 
 class-empty : (n : ℕ) (c : ℕ) → IsClass c → class_at (empty_stacks n) c ≡ empty_class
 unfolding empty_stacks
-class-empty n c h = class_at-stacks_by n (λ _. empty_class) c h
+class-empty n c h = class_at-stacks_by n (memory_for n) (λ _. empty_class) c h
 
 pub served-first : (m : Memory) (cookie pages : ℕ) → m.limit ≤ pages → IsUntouched m → IsServed m (empty_heap cookie pages)
 served-first m cookie pages l u =
@@ -37,7 +41,6 @@ served-first m cookie pages l u =
       room = omega arith;
       limit = omega arith;
       few = λ c lo hi. let e = ap (λ (k : ClassHeap). k.pages) (class-empty pages c (record { low = lo; high = hi })) in omega arith;
-      none = λ i k. u _ (omega arith) (omega arith);
       regions = λ c i lo hi k. u _ (omega arith) (omega arith)
           ∙ sym (cond-false _ _ _ (ap (λ (t : ClassHeap). nat_lt i t.pages) (class-empty pages c (record { low = lo; high = hi })) ∙ lt-false i 0 (omega arith)));
       mappings = λ a lo hi. u _ (omega arith) (omega arith);
@@ -59,6 +62,16 @@ served-new m h cookie pages n mode em eh l =
 
 pub served-same : (m m' : Memory) (h : HeapState) → IsServed m h → ((q : ℕ) → attrs_at m' q ≡ attrs_at m q) → pages_left m' ≡ pages_left m → IsServed m' h
 served-same m m' h v a l = served-on m m' h h.stacks h.cookie v a l (same-pages h.stacks)
+
+-- the pages elsewhere may change
+pub served-others : (m m' : Memory) (h : HeapState) → IsServed m h → ((q : ℕ) → region_of 1 / PAGE_SIZE ≤ q → q < SECONDARY_END / PAGE_SIZE → attrs_at m' q ≡ attrs_at m q) → pages_left m' + pages_of h.maps.mappings ≤ h.stacks.left → IsServed m' h
+served-others m m' h v a l = record {
+  room = l;
+  limit = v.limit;
+  few = v.few;
+  regions = λ c i lo hi k. a _ (omega arith) (omega arith) ∙ v.regions c i lo hi k;
+  mappings = λ x lo hi. a _ (omega arith) (omega arith) ∙ v.mappings x lo hi;
+}
 
 -- a write that compares no tags
 written-pages : (b : Bool) (m : Memory) (a : ℕ) (bs : List ℕ) (h : HeapState) → IsServed m h → IsServed (if b then after_write m a bs false else m) h

@@ -98,7 +98,6 @@ served-on m m' h s cookie v a l p =
       room = omega arith;
       limit = omega arith;
       few = λ c lo hi. subst (λ n. n ≤ REGION_SIZE / PAGE_SIZE) (sym (p.pages c)) (v.few c lo hi);
-      none = λ i k. a _ ∙ v.none i k;
       regions = λ c i lo hi k. a _ ∙ v.regions c i lo hi k ∙ ap (λ n. heap_page (nat_lt i n)) (sym (p.pages c));
       mappings = λ x lo hi. a _ ∙ v.mappings x lo hi;
     }
@@ -142,7 +141,6 @@ served-less m h n cookie v k e =
       room = omega arith;
       limit = omega arith;
       few = v.few;
-      none = λ i l. out _ (λ x y. omega arith) ∙ v.none i l;
       regions = λ c i lo hi l. out _ (λ x y. omega arith) ∙ v.regions c i lo hi l;
       mappings = λ a lo hi. elim (is_inside a n) as (λ b. is_inside a n ≡ b → attrs_at (without_pages m (n.start / PAGE_SIZE) n.pages) (a / PAGE_SIZE) ≡ heap_page (list_any (is_inside a) (with_less h.maps n).mappings)) [
         | true ↦ λ t. (elim (cases_lt a n.start) [
@@ -248,7 +246,6 @@ served-grown m s c n cookie ms g v =
       room = omega arith;
       limit = omega arith;
       few = new.few;
-      none = λ i l. new-out m s c n _ (λ x y. omega arith) ∙ v.none i l;
       regions = new.regions;
       mappings = λ a lo hi. new-out m s c n _ (λ x y. omega arith) ∙ v.mappings a lo hi;
     }
@@ -317,7 +314,6 @@ served-more m s ms n cookie w enough v =
       room = omega arith;
       limit = omega arith;
       few = v.few;
-      none = λ i l. out _ (λ x y. omega arith) ∙ v.none i l;
       regions = λ c i lo hi l. out _ (λ x y. omega arith) ∙ v.regions c i lo hi l;
       mappings = λ a lo hi. elim (is_inside a n) as (λ b. is_inside a n ≡ b → attrs_at (with_new_pages m (n.start / PAGE_SIZE) n.pages heap_attrs) (a / PAGE_SIZE) ≡ heap_page (list_any (is_inside a) (with_more ms n).mappings)) [
         | true ↦ λ t. (elim (cases_lt a n.start) [

@@ -1,5 +1,5 @@
 -- The stacks, by class: one of them changes, and the others stay.
-use Rattle.std.proofs.Common.{◌≡◌, ◌≢◌, ℕ, ◌-◌, ◌<◌, List, [], ◌∷◌, ◌++◌, length, drop, map, reverse, replicate, slice_get, Option, Some, None, refl, sym, ap, subst, ◌∙◌, inl, inr, arith, unwrap_or, get_or}
+use Rattle.std.proofs.Common.{◌≡◌, ◌≢◌, ℕ, ◌-◌, ◌*◌, ◌<◌, List, [], ◌∷◌, ◌++◌, length, drop, map, reverse, replicate, slice_get, Option, Some, None, refl, sym, ap, subst, ◌∙◌, inl, inr, arith, unwrap_or, get_or}
 use Rattle.std.proofs.lemmas.Bool.{cases_eq, cond-true, cond-false}
 use Rattle.std.proofs.lemmas.List.{get_or-replicate, length-append, length-reverse}
 use Rattle.std.specs.List.{range_with_len}
@@ -15,43 +15,43 @@ use Rattle.scudo_primary.specs.Blocks.{carved_count, blocks_from}
 use Rattle.scudo_primary.specs.Pools as primary
 use Rattle.scudo_primary.specs.Pools.{ClassState, PoolState, is_member, is_marked, with_pages, new_count, empty_pool}
 use Rattle.scudo_primary.proofs.PoolLaws.{class_at-with_pages, class_at-with_pages_other, left-with_pages, class_at-empty_pool, left-empty_pool}
-use Rattle.scudo_cache.specs.Caches.{entries_of, one_stack}
-use Rattle.scudo_heap.specs.Stacks.{ClassHeap, StackState, empty_class, empty_stacks, stacks_by, class_at, with_class, pages_of, stack_of, popped, pushed, carved_class, carved}
-use Rattle.scudo_heap.specs.Inner.{class_in, stacks_in}
+use Rattle.scudo_cache.specs.Caches.{CacheState, entries_of, one_stack, empty_cache}
+use Rattle.scudo_heap.specs.Stacks.{ClassHeap, StackState, empty_class, empty_stacks, stacks_by, memory_for, class_at, with_class, pages_of, stack_of, popped, pushed, carved_class, carved}
+use Rattle.scudo_heap.specs.Inner.{class_in, capacities_in, stacks_in}
 use Rattle.scudo_heap.specs.declared.stacks.Stacks.TheInside.{Inside}
 
-get-in : (l : ℕ) (f : ℕ → ClassHeap) (c : ℕ) → IsClass c → finite.get (stacks_by l f).classes c ≡ Some (f c)
-get-in l f c h = let a = h.low in let b = h.high in get-from_entries nat_cmp_total (map (λ d. (d, f d)) (range_with_len 1 CLASSES)) c ∙ entries-in f CLASSES 1 c (omega arith) (omega arith)
+get-in : (l : ℕ) (cs : List ℕ) (f : ℕ → ClassHeap) (c : ℕ) → IsClass c → finite.get (stacks_by l cs f).classes c ≡ Some (f c)
+get-in l cs f c h = let a = h.low in let b = h.high in get-from_entries nat_cmp_total (map (λ d. (d, f d)) (range_with_len 1 CLASSES)) c ∙ entries-in f CLASSES 1 c (omega arith) (omega arith)
 
-get-out : (l : ℕ) (f : ℕ → ClassHeap) (c : ℕ) → (IsClass c → ⊥) → finite.get (stacks_by l f).classes c ≡ None
-get-out l f c h =
+get-out : (l : ℕ) (cs : List ℕ) (f : ℕ → ClassHeap) (c : ℕ) → (IsClass c → ⊥) → finite.get (stacks_by l cs f).classes c ≡ None
+get-out l cs f c h =
     get-from_entries nat_cmp_total (map (λ d. (d, f d)) (range_with_len 1 CLASSES)) c ∙ entries-out f CLASSES 1 c (λ t. let l = t.0 in let u = t.1 in h (record { low = omega arith; high = omega arith }))
 
-pub class_at-stacks_by : (l : ℕ) (f : ℕ → ClassHeap) (c : ℕ) → IsClass c → class_at (stacks_by l f) c ≡ f c
+pub class_at-stacks_by : (l : ℕ) (cs : List ℕ) (f : ℕ → ClassHeap) (c : ℕ) → IsClass c → class_at (stacks_by l cs f) c ≡ f c
 unfolding class_at
-class_at-stacks_by l f c h = ap (λ o. unwrap_or o empty_class) (get-in l f c h)
+class_at-stacks_by l cs f c h = ap (λ o. unwrap_or o empty_class) (get-in l cs f c h)
 
-pub stacks_by-agree : (l l' : ℕ) (f g : ℕ → ClassHeap) → l ≡ l' → ((c : ℕ) → IsClass c → f c ≡ g c) → stacks_by l f ≡ stacks_by l' g
-stacks_by-agree l l' f g e h =
-    let same : (q : ℕ) → finite.get (stacks_by l f).classes q ≡ finite.get (stacks_by l g).classes q = λ q.
+pub stacks_by-agree : (l l' : ℕ) (cs ds : List ℕ) (f g : ℕ → ClassHeap) → l ≡ l' → cs ≡ ds → ((c : ℕ) → IsClass c → f c ≡ g c) → stacks_by l cs f ≡ stacks_by l' ds g
+stacks_by-agree l l' cs ds f g e d h =
+    let same : (q : ℕ) → finite.get (stacks_by l cs f).classes q ≡ finite.get (stacks_by l cs g).classes q = λ q.
     elim (is-class q) [
-      | inl hq ↦ get-in l f q hq ∙ ap Some (h q hq) ∙ sym (get-in l g q hq)
-      | inr o ↦ get-out l f q o ∙ sym (get-out l g q o)
+      | inl hq ↦ get-in l cs f q hq ∙ ap Some (h q hq) ∙ sym (get-in l cs g q hq)
+      | inr o ↦ get-out l cs f q o ∙ sym (get-out l cs g q o)
     ] in
-    ap (λ t. record { left = l; classes = t }) (same_map nat_cmp_total nat_cmp-IsAntisymmetric _ _ same) ∙ ap (λ t. stacks_by t g) e
+    ap (λ t. record { left = l; capacities = cs; classes = t }) (same_map nat_cmp_total nat_cmp-IsAntisymmetric _ _ same) ∙ ap (λ t. stacks_by t cs g) e ∙ ap (λ t. stacks_by l' t g) d
 
-pub stacks_by-with_class : (l : ℕ) (f g : ℕ → ClassHeap) (c : ℕ) (k : ClassHeap) → IsClass c → g c ≡ k → ((d : ℕ) → IsClass d → d ≢ c → g d ≡ f d) → stacks_by l g ≡ with_class (stacks_by l f) c k
+pub stacks_by-with_class : (l : ℕ) (cs : List ℕ) (f g : ℕ → ClassHeap) (c : ℕ) (k : ClassHeap) → IsClass c → g c ≡ k → ((d : ℕ) → IsClass d → d ≢ c → g d ≡ f d) → stacks_by l cs g ≡ with_class (stacks_by l cs f) c k
 unfolding with_class
-stacks_by-with_class l f g c k h own other =
-    let same : (q : ℕ) → finite.get (stacks_by l g).classes q ≡ finite.get (finite.insert (stacks_by l f).classes c k) q = λ q.
+stacks_by-with_class l cs f g c k h own other =
+    let same : (q : ℕ) → finite.get (stacks_by l cs g).classes q ≡ finite.get (finite.insert (stacks_by l cs f).classes c k) q = λ q.
     (elim (is-class q) [
-      | inl hq ↦ get-in l g q hq ∙ elim (cases_eq q c) [
+      | inl hq ↦ get-in l cs g q hq ∙ elim (cases_eq q c) [
         | inl s ↦ ap Some (ap g s ∙ own) ∙ sym (cond-true _ _ _ (ap (λ t. eq_by_cmp nat_cmp t c) s ∙ tied-same c))
-        | inr n ↦ ap Some (other q hq n) ∙ sym (get-in l f q hq) ∙ sym (cond-false _ _ _ (tied-other q c n))
+        | inr n ↦ ap Some (other q hq n) ∙ sym (get-in l cs f q hq) ∙ sym (cond-false _ _ _ (tied-other q c n))
       ]
-      | inr o ↦ get-out l g q o ∙ sym (get-out l f q o) ∙ sym (cond-false _ _ _ (tied-other q c (λ e. o (subst IsClass (sym e) h))))
-    ]) ∙ sym (get-insert nat_cmp_total (stacks_by l f).classes c k q) in
-    ap (λ m. record { left = l; classes = m }) (same_map nat_cmp_total nat_cmp-IsAntisymmetric _ _ same)
+      | inr o ↦ get-out l cs g q o ∙ sym (get-out l cs f q o) ∙ sym (cond-false _ _ _ (tied-other q c (λ e. o (subst IsClass (sym e) h))))
+    ]) ∙ sym (get-insert nat_cmp_total (stacks_by l cs f).classes c k q) in
+    ap (λ m. record { left = l; capacities = cs; classes = m }) (same_map nat_cmp_total nat_cmp-IsAntisymmetric _ _ same)
 
 pub class_at-with_class : (s : StackState) (c : ℕ) (k : ClassHeap) → class_at (with_class s c k) c ≡ k
 unfolding class_at with_class
@@ -61,17 +61,17 @@ pub class_at-with_class_other : (s : StackState) (c d : ℕ) (k : ClassHeap) →
 unfolding class_at with_class
 class_at-with_class_other s c d k n = ap (λ o. unwrap_or o empty_class) (get-insert nat_cmp_total s.classes c k d ∙ cond-false _ _ _ (tied-other d c n))
 
-abbrev stacks_with : ℕ → FinMap nat_cmp ClassHeap → StackState
-stacks_with n m = record { left = n; classes = m }
+abbrev stacks_with : ℕ → List ℕ → FinMap nat_cmp ClassHeap → StackState
+stacks_with n cs m = record { left = n; capacities = cs; classes = m }
 
-same-left : (v : StackState) (c : ℕ) (k : ClassHeap) (n : ℕ) → stacks_with n (with_class v c k).classes ≡ record (with_class v c k) { left = n }
+same-left : (v : StackState) (c : ℕ) (k : ClassHeap) (n : ℕ) → stacks_with n v.capacities (with_class v c k).classes ≡ record (with_class v c k) { left = n }
 unfolding with_class
-same-left v c k n = λ i. record { left = n; classes = (with_class v c k).classes }
+same-left v c k n = λ i. record { left = n; capacities = v.capacities; classes = (with_class v c k).classes }
 
 -- ---- the parts
 
 pub at-inside : (f : Inside) (v : StackState) (c : ℕ) → stacks_in f ≡ v → IsClass c → class_at v c ≡ class_in f c
-at-inside f v c e h = ap (λ t. class_at t c) (sym e) ∙ class_at-stacks_by _ (class_in f) c h
+at-inside f v c e h = ap (λ t. class_at t c) (sym e) ∙ class_at-stacks_by _ _ (class_in f) c h
 
 abbrev class_with : ℕ → List ℕ → ClassHeap
 class_with n s = record { pages = n; stack = s }
@@ -79,35 +79,44 @@ class_with n s = record { pages = n; stack = s }
 same-class : (n m : ℕ) (s t : List ℕ) → n ≡ m → s ≡ t → class_with n s ≡ class_with m t
 same-class n m s t e f = λ i. record { pages = e i; stack = f i }
 
-pub view-changed : (f g : Inside) (v : StackState) (c : ℕ) (k : ClassHeap) → stacks_in f ≡ v → IsClass c → g.pool.left ≡ f.pool.left
+pub view-changed : (f g : Inside) (v : StackState) (c : ℕ) (k : ClassHeap) → stacks_in f ≡ v → IsClass c → g.pool.left ≡ f.pool.left → capacities_in g ≡ capacities_in f
     → class_in g c ≡ k → ((d : ℕ) → IsClass d → d ≢ c → class_in g d ≡ class_in f d) → stacks_in g ≡ with_class v c k
-view-changed f g v c k e h l own others =
-    ap (λ n. stacks_by n (class_in g)) l
-    ∙ stacks_by-with_class f.pool.left (class_in f) (class_in g) c k h own others
+view-changed f g v c k e h l m own others =
+    ap (λ n. stacks_by n (capacities_in g) (class_in g)) l
+    ∙ ap (λ n. stacks_by f.pool.left n (class_in g)) m
+    ∙ stacks_by-with_class f.pool.left (capacities_in f) (class_in f) (class_in g) c k h own others
     ∙ ap (λ t. with_class t c k) e
 
+-- the cache's and the pool's lists have the memory that they had
+pub same-memory : (xs ys : List ℕ) (m n : ℕ) → xs ≡ ys → m ≡ n → xs ++ m ∷ [] ≡ ys ++ n ∷ []
+same-memory xs ys m n e f = ap (λ t. t ++ m ∷ []) e ∙ ap (λ t. ys ++ t ∷ []) f
+
 -- a pop and a push
-pub view-popped : (f g : Inside) (v : StackState) (c : ℕ) → stacks_in f ≡ v → IsClass c → g.pool.left ≡ f.pool.left
+pub view-popped : (f g : Inside) (v : StackState) (c : ℕ) → stacks_in f ≡ v → IsClass c → g.pool.left ≡ f.pool.left → capacities_in g ≡ capacities_in f
     → ((d : ℕ) → primary.pages_of g.pool d ≡ primary.pages_of f.pool d) → one_stack g.cache g.pool c ≡ drop 1 (one_stack f.cache f.pool c)
     → ((d : ℕ) → 0 < d → d ≢ c → one_stack g.cache g.pool d ≡ one_stack f.cache f.pool d) → stacks_in g ≡ popped v c
 unfolding popped
-view-popped f g v c e h l pages rest others =
+view-popped f g v c e h l m pages rest others =
     let at = at-inside f v c e h in
-    view-changed f g v c _ e h l
+    view-changed f g v c _ e h l m
     (same-class _ _ _ _ (pages c ∙ ap (λ (k : ClassHeap). k.pages) (sym at)) (rest ∙ ap (λ (k : ClassHeap). drop 1 k.stack) (sym at)))
     (λ d hd n. same-class _ _ _ _ (pages d) (others d hd.low n))
 
-pub view-pushed : (f g : Inside) (v : StackState) (c block : ℕ) → stacks_in f ≡ v → IsClass c → g.pool.left ≡ f.pool.left
+pub view-pushed : (f g : Inside) (v : StackState) (c block : ℕ) → stacks_in f ≡ v → IsClass c → g.pool.left ≡ f.pool.left → capacities_in g ≡ capacities_in f
     → ((d : ℕ) → primary.pages_of g.pool d ≡ primary.pages_of f.pool d) → one_stack g.cache g.pool c ≡ block ∷ one_stack f.cache f.pool c
     → ((d : ℕ) → 0 < d → d ≢ c → one_stack g.cache g.pool d ≡ one_stack f.cache f.pool d) → stacks_in g ≡ pushed v c block
 unfolding pushed
-view-pushed f g v c block e h l pages rest others =
+view-pushed f g v c block e h l m pages rest others =
     let at = at-inside f v c e h in
-    view-changed f g v c _ e h l
+    view-changed f g v c _ e h l m
     (same-class _ _ _ _ (pages c ∙ ap (λ (k : ClassHeap). k.pages) (sym at)) (rest ∙ ap (λ (k : ClassHeap). block ∷ k.stack) (sym at)))
     (λ d hd n. same-class _ _ _ _ (pages d) (others d hd.low n))
 
 -- more pages for a class without free blocks
+capacities-with_pages : (p : PoolState) (c pages : ℕ) → (with_pages p c pages).capacities ≡ p.capacities
+unfolding with_pages primary.with_class
+capacities-with_pages p c pages = refl
+
 none-cached : (xs ys : List ℕ) → reverse xs ++ ys ≡ [] → xs ≡ []
 none-cached [] ys e = refl
 none-cached (x ∷ xs) ys e = let l = ap length e ∙ refl in let m = length-append (reverse (x ∷ xs)) ys in let k = length-reverse (x ∷ xs) in absurd (omega arith)
@@ -129,19 +138,27 @@ view-carved f q v c n e h z eq =
     same-class _ _ _ _ (ap (λ (t : ClassState). t.pages) new) (ap (λ (t : ClassState). reverse (entries_of f.cache c) ++ t.stack) new ∙ ap (λ xs. reverse xs ++ (blocks ++ k.stack)) none ∙ ap (λ xs. blocks ++ (reverse xs ++ k.stack)) (sym none))
     ∙ ap (λ t. carved_class c t n) (sym at) in
     ap (λ t. stacks_in (record { pool = t; cache = f.cache })) eq
-    ∙ ap (λ (t : StackState). record { left = (with_pages f.pool c n).left; classes = t.classes })
-    (stacks_by-with_class f.pool.left (class_in f) (class_in g) c (carved_class c (class_at v c) n) h own
+    ∙ ap (λ xs. stacks_by (with_pages f.pool c n).left (xs ++ f.cache.capacity ∷ []) (class_in g)) (capacities-with_pages f.pool c n)
+    ∙ ap (λ (t : StackState). record { left = (with_pages f.pool c n).left; capacities = capacities_in f; classes = t.classes })
+    (stacks_by-with_class f.pool.left (capacities_in f) (class_in f) (class_in g) c (carved_class c (class_at v c) n) h own
     (λ d hd o. same-class _ _ _ _ (ap (λ (t : ClassState). t.pages) (class_at-with_pages_other f.pool c n d o)) (ap (λ (t : ClassState). reverse (entries_of f.cache d) ++ t.stack) (class_at-with_pages_other f.pool c n d o))))
-    ∙ ap (λ (t : StackState). record { left = (with_pages f.pool c n).left; classes = (with_class t c (carved_class c (class_at v c) n)).classes }) e
-    ∙ ap (λ m. record { left = m; classes = (with_class v c (carved_class c (class_at v c) n)).classes }) (left-with_pages f.pool c n ∙ ap (λ m. m - n) (sym left))
+    ∙ ap (λ (t : StackState). record { left = (with_pages f.pool c n).left; capacities = t.capacities; classes = (with_class t c (carved_class c (class_at v c) n)).classes }) e
+    ∙ ap (λ m. record { left = m; capacities = v.capacities; classes = (with_class v c (carved_class c (class_at v c) n)).classes }) (left-with_pages f.pool c n ∙ ap (λ m. m - n) (sym left))
     ∙ same-left v c (carved_class c (class_at v c) n) (v.left - n)
 
 -- at the start
-pub view-new : (f : Inside) (n : ℕ) (cs : List ℕ) → f.pool ≡ empty_pool n cs → f.cache.lists ≡ replicate CLASSES [] → stacks_in f ≡ empty_stacks n
+capacities-empty_pool : (n : ℕ) (cs : List ℕ) → (empty_pool n cs).capacities ≡ cs
+unfolding empty_pool
+capacities-empty_pool n cs = refl
+
+pub view-new : (f : Inside) (n : ℕ) → f.pool ≡ empty_pool n (128 * n ∷ CLASSES * n ∷ []) → f.cache ≡ empty_cache CLASSES → stacks_in f ≡ empty_stacks n
 unfolding empty_stacks
-view-new f n cs e v =
-    stacks_by-agree f.pool.left n (class_in f) (λ _. empty_class)
+view-new f n e u =
+    let cs = 128 * n ∷ CLASSES * n ∷ [] in
+    let v : f.cache.lists ≡ replicate CLASSES [] = ap (λ (t : CacheState). t.lists) u in
+    stacks_by-agree f.pool.left n (capacities_in f) (memory_for n) (class_in f) (λ _. empty_class)
     (ap (λ (p : PoolState). p.left) e ∙ left-empty_pool n cs)
+    (ap (λ (p : PoolState). p.capacities ++ f.cache.capacity ∷ []) e ∙ ap (λ xs. xs ++ f.cache.capacity ∷ []) (capacities-empty_pool n cs) ∙ ap (λ (t : CacheState). cs ++ t.capacity ∷ []) u)
     (λ c h.
     let a = h.low in
     let b = h.high in
@@ -163,4 +180,4 @@ unfolding popped
 popped-none f v c e h z =
     ap (λ s. with_class v c (class_with (pages_of v c) s)) (drop-none (stack_of v c) z)
     ∙ ap (with_class v c) (at-inside f v c e h) ∙ ap (λ t. with_class t c (class_in f c)) (sym e)
-    ∙ sym (stacks_by-with_class f.pool.left (class_in f) (class_in f) c (class_in f c) h refl (λ d hd n. refl)) ∙ e
+    ∙ sym (stacks_by-with_class f.pool.left (capacities_in f) (class_in f) (class_in f) c (class_in f c) h refl (λ d hd n. refl)) ∙ e

@@ -1,5 +1,5 @@
 -- What the parts of the stacks of free blocks are, and what a chunk is that the checks found.
-use Rattle.std.specs.Prelude.{◌≡◌, ℕ, ◌+◌, ◌-◌, ◌%◌, ◌^◌, ◌<◌, ◌≤◌, ◌⊎◌, Some, false}
+use Rattle.std.specs.Prelude.{◌≡◌, ℕ, ◌+◌, ◌-◌, ◌%◌, ◌^◌, ◌<◌, ◌≤◌, ◌⊎◌, Some, false, List, ◌++◌, ◌∷◌, []}
 use Rattle.scudo_header.specs.declared.classes.TheConstants.{CLASSES}
 use Rattle.scudo_header.specs.declared.headers.Header.{Header}
 use Rattle.scudo_primary.specs.Blocks.{IsBlock}
@@ -24,8 +24,11 @@ abbrev pub class_in : Inside → ℕ → ClassHeap
 class_in f class =
     record { pages = primary.pages_of f.pool class; stack = one_stack f.cache f.pool class }
 
+abbrev pub capacities_in : Inside → List ℕ
+capacities_in f = f.pool.capacities ++ f.cache.capacity ∷ []
+
 abbrev pub stacks_in : Inside → StackState
-stacks_in f = stacks_by f.pool.left (class_in f)
+stacks_in f = stacks_by f.pool.left (capacities_in f) (class_in f)
 
 pub record AreParts (f : Inside) : Type 0 where
   pub above : IsAbove f.cache f.pool

@@ -9,7 +9,7 @@ use Rattle.scudo_header.specs.declared.classes.TheConstants.{CLASSES}
 use Rattle.scudo_secondary.specs.Mappings as secondary
 use Rattle.scudo_secondary.specs.declared.mappings.Mapping.{Mapping}
 use Rattle.address_map.specs.declared.limits.TheConstants.{PAGE_SIZE}
-use Rattle.address_map.specs.declared.ranges.TheConstants.{REGIONS_START, REGION_SIZE}
+use Rattle.address_map.specs.declared.ranges.TheConstants.{REGION_SIZE}
 use Rattle.address_map.specs.declared.ranges.TheConstants.{SECONDARY_START, SECONDARY_END}
 use Rattle.scudo_secondary.specs.Mappings.{MapsState}
 use Rattle.scudo_heap.specs.Stacks.{StackState, pages_of}
@@ -26,7 +26,6 @@ is_inside a m = nat_le m.start a && nat_lt a (secondary.end_of m)
 -- room: the heap has room for all pages that are left in the memory; it is so from the start where
 -- the memory may have at most the pages that the heap was made for
 -- few: a class's pages lie in its region
--- none: no page of the range before the first class's region is mapped
 -- regions: of a class's region exactly its pages are mapped
 -- mappings: of the range of chunks with pages of their own exactly theirs are mapped
 pub record IsServed (m : Memory) (h : HeapState) : Type 0 where
@@ -34,8 +33,6 @@ pub record IsServed (m : Memory) (h : HeapState) : Type 0 where
   pub limit : h.stacks.left ≤ h.maps.limit
   pub few :
       (class : ℕ) → 0 < class → class ≤ CLASSES → pages_of h.stacks class ≤ REGION_SIZE / PAGE_SIZE
-  pub none :
-      (i : ℕ) → i < REGION_SIZE / PAGE_SIZE → attrs_at m (REGIONS_START / PAGE_SIZE + i) ≡ None
   pub regions :
       (class i : ℕ) → 0 < class → class ≤ CLASSES → i < REGION_SIZE / PAGE_SIZE
       → attrs_at m (region_of class / PAGE_SIZE + i)
@@ -49,11 +46,11 @@ pub record IsOpen (m : Memory) (from to : ℕ) : Type 0 where
   pub pages : (a : ℕ) → from ≤ a → a < to → attrs_at m (a / PAGE_SIZE) ≡ Some 11
   pub below : to ≤ 2 ^ 30
 
--- no page lies where those of a heap do: from the range before the first class's region to the end
--- of the range of chunks with pages of their own
+-- no page lies where those of a heap do: from the first class's region to the end of the range of
+-- chunks with pages of their own
 abbrev pub IsUntouched : Memory → Type 0
 IsUntouched m =
-    (page : ℕ) → REGIONS_START / PAGE_SIZE ≤ page → page < SECONDARY_END / PAGE_SIZE
+    (page : ℕ) → region_of 1 / PAGE_SIZE ≤ page → page < SECONDARY_END / PAGE_SIZE
     → attrs_at m page ≡ None
 
 -- what of the condition the size classes need

@@ -4,7 +4,7 @@
 --     pushed s class block          s with a block more on top
 --     carved s class pages          s with pages more for a class, and the new blocks on top, the
 --                                   lowest first
-use Rattle.std.specs.Prelude.{◌≡◌, ℕ, ◌+◌, ◌-◌, ◌<◌, ◌≤◌, true, nat_eq, List, [], ◌∷◌, ◌++◌, drop}
+use Rattle.std.specs.Prelude.{◌≡◌, ℕ, ◌+◌, ◌-◌, ◌*◌, ◌<◌, ◌≤◌, true, nat_eq, List, [], ◌∷◌, ◌++◌, drop}
 use Rattle.std.specs.Prelude.{map, refl, unwrap_or}
 use Rattle.std.specs.List.{range_with_len, IsDistinct}
 use Rattle.std.specs.Ordering.{nat_cmp}
@@ -23,8 +23,10 @@ pub record ClassHeap : Type 0 where
   pub stack : List ℕ
 
 -- left: how many pages more the classes may get
+-- capacities: for how many elements each list has memory
 pub record StackState : Type 0 where
   pub left : ℕ
+  pub capacities : List ℕ
   pub classes : FinMap nat_cmp ClassHeap
 
 abbrev pub coded_class : Coded ClassHeap
@@ -36,24 +38,30 @@ coded_class =
 
 abbrev pub coded_stacks : Coded StackState
 coded_stacks =
-    code_by (ℕ × FinMap nat_cmp ClassHeap) (coded× coded_ℕ (finite.code coded_ℕ coded_class))
-    (λ s. (s.left, s.classes))
-    (λ c. record { left = c.0; classes = c.1 })
+    code_by (ℕ × (List ℕ × FinMap nat_cmp ClassHeap))
+    (coded× coded_ℕ (coded× (coded_list coded_ℕ) (finite.code coded_ℕ coded_class)))
+    (λ s. (s.left, (s.capacities, s.classes)))
+    (λ c. record { left = c.0; capacities = c.1.0; classes = c.1.1 })
     (λ _. refl)
 
 abbrev pub empty_class : ClassHeap
 empty_class = record { pages = 0; stack = [] }
 
 -- the classes, by what each has
-abbrev pub stacks_by : ℕ → (ℕ → ClassHeap) → StackState
-stacks_by left f = record {
+abbrev pub stacks_by : ℕ → List ℕ → (ℕ → ClassHeap) → StackState
+stacks_by left capacities f = record {
   left = left;
+  capacities = capacities;
   classes = finite.from_entries (map (λ class. (class, f class)) (range_with_len 1 CLASSES));
 }
 
+-- The memory of the lists of a heap for so many pages: it is there from the start, and stays.
+abbrev pub memory_for : ℕ → List ℕ
+memory_for pages = 128 * pages ∷ CLASSES * pages ∷ CLASSES ∷ []
+
 -- No blocks, and no pages.
 unfoldable pub empty_stacks : ℕ → StackState
-empty_stacks left = stacks_by left (λ _. empty_class)
+empty_stacks left = stacks_by left (memory_for left) (λ _. empty_class)
 
 unfoldable pub class_at : StackState → ℕ → ClassHeap
 class_at s class = unwrap_or (finite.get s.classes class) empty_class

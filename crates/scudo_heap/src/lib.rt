@@ -23,4 +23,4 @@ pub use abort::HeapAbort;
 pub use chunk::{Chunk, Found, Place};
 pub use heap::Heap;
 pub use laws::condition_of_calls;
-pub use limits::{MAX_ALIGNMENT, MAX_REQUEST};
+pub use limits::{MAX_ALIGNMENT, MAX_REQUEST, requests_in_digits};

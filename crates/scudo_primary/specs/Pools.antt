@@ -22,8 +22,8 @@ use Rattle.scudo_primary.specs.Batches.{batch_sizes, first_size, one_less}
 -- pages: the pages of the class's region that are carved
 -- stack: the free blocks that the pool itself keeps, the top first
 -- sizes: how that stack is cut into batches, from the top on. A batch's last entry is its top, so
--- its own order is the stack's turned round marks: for each carved block, in ascending order,
--- whether it is marked free
+-- its own order is the stack's turned round.
+-- marks: for each carved block, in ascending order, whether it is marked free
 pub record ClassState : Type 0 where
   pub pages : ℕ
   pub stack : List ℕ

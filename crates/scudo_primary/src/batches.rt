@@ -15,6 +15,13 @@ pub const MAX_COUNT: usize = 28;
 /// The same, for the classes of blocks above `SMALL_SIZE` bytes.
 pub const MAX_COUNT_ABOVE: usize = 8;
 
+/// The numbers of blocks in digits.
+pub fn counts_in_digits()
+    ensures size { SMALL_SIZE ≡ 512 }
+    ensures most { MAX_COUNT ≡ 28 }
+    ensures most_above { MAX_COUNT_ABOVE ≡ 8 }
+{}
+
 /// The most blocks of a class that a local cache or a batch holds.
 #[inline]
 pub fn max_count(class: u8) -> usize

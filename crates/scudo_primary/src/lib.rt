@@ -7,5 +7,5 @@ mod batches;
 mod lists;
 mod pool;
 
-pub use batches::{MAX_COUNT, MAX_COUNT_ABOVE, SMALL_SIZE, max_count};
+pub use batches::{MAX_COUNT, MAX_COUNT_ABOVE, SMALL_SIZE, counts_in_digits, max_count};
 pub use pool::Pool;

@@ -1,6 +1,6 @@
 //! The pool of free blocks.
 
-ghost use Rattle.std.specs.Prelude.{◌≡◌, ◌≤◌, ◌<◌, ◌+◌, ◌++◌, ◌↔◌, [], true, false, length, take};
+ghost use Rattle.std.specs.Prelude.{◌≡◌, ◌≤◌, ◌<◌, ◌+◌, ◌*◌, ◌∷◌, ◌++◌, ◌↔◌, [], true, false, length, take};
 ghost use Rattle.std.specs.Prelude.{drop};
 ghost use Rattle.std.specs.Prelude.{reverse, slice_get, nat_eq, IfSome, IfOk, IsTrue};
 ghost use Rattle.std.specs.List.{All, IsDistinct};
@@ -56,7 +56,8 @@ impl Pool {
     pub fn new(alloc: Global, pages: u64) -> Result<Pool, AllocError>
         requires low { 0 < pages }
         requires high { pages ≤ MAX_PAGES }
-        ensures { IfOk result (λ pool. pool ≡ empty_pool pages pool.capacities) }
+        ensures { IfOk result
+            (λ pool. pool ≡ empty_pool pages (128 * pages ∷ CLASSES * pages ∷ [])) }
     {
         let no_list = ClassList {
             head: 0,

@@ -6,7 +6,7 @@ ghost use Rattle.mte_tags.specs.Memory.{no_pages};
 use crate::calls::{Row, answers};
 use crate::tables::{NOT_CAREFUL, TABLES, Table};
 use mte_flat::Flat;
-use mte_tags::{Paged, Rgsr, TagMode};
+use mte_tags::{Attrs, Paged, Rgsr, TagMode, Tagged};
 use scudo_heap::{Heap, condition_of_calls};
 use std::alloc::{AllocError, Global};
 use std::test::Fail;
@@ -60,6 +60,18 @@ fn tables_over_a_plain_memory(rt: HostRuntime) -> Result<(), Fail> {
 #[test]
 fn runs_that_are_not_careful(rt: HostRuntime) -> Result<(), Fail> {
     all_pass(rt.alloc(), &NOT_CAREFUL)
+}
+
+/// A page in the range of chunks with pages of their own that no heap mapped may be read, though no
+/// mapping of a heap holds it.
+#[test]
+fn page_that_no_heap_mapped(rt: HostRuntime) -> Result<(), Fail> {
+    let mut memory = Flat::new(rt.alloc(), 1, TagMode::Sync)?;
+    let mapped = memory.map_pages(0x3D002, 1, Attrs::DATA).is_ok();
+    let mut bytes = [0; 8];
+    let answered = memory.read(0x3D00_2000, &mut bytes, true).is_ok();
+    assert!(rt; mapped && answered);
+    Ok(())
 }
 
 /// What holds of every heap.

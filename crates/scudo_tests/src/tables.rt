@@ -478,8 +478,32 @@ const TAG_OF_A_NEIGHBOUR: [Row; 5] = [
     Row(1, Call::Checked(CHUNK + 64), Answer::Is(0)),
 ];
 
+/// Tags are stored to live chunks, one in a block and one with pages of its own, and the pointers to
+/// them have other tags.
+const TAGS_OF_LIVE_CHUNKS: [Row; 7] = [
+    Row(1, Call::Malloc(24), Answer::Is(CHUNK)),
+    Row(1, Call::StoreTags(0x1200_0010, 2, 7), DONE),
+    Row(1, Call::Tag(CHUNK), Answer::Is(7)),
+    Row(1, Call::Checked(CHUNK), REFUSED),
+    Row(1, Call::Malloc(131_057), Answer::Is(0x3D00_2000)),
+    Row(1, Call::StoreTags(0x3D00_2000, 1, 7), DONE),
+    Row(1, Call::Checked(0x3D00_2000), REFUSED),
+];
+
+/// A free finds no header: the next chunk lies in another block.
+const FREED_WITHOUT_A_HEADER: [Row; 4] = [
+    Row(1, Call::Malloc(24), Answer::Is(CHUNK)),
+    Row(1, Call::Write(0x1200_0000, 0), DONE),
+    Row(
+        1,
+        Call::Free(CHUNK),
+        Answer::Aborts(HeapAbort::HeaderCorrupt),
+    ),
+    Row(1, Call::Malloc(24), Answer::Is(NEXT)),
+];
+
 /// Runs that are not careful.
-pub(crate) const NOT_CAREFUL: [Table; 6] = [
+pub(crate) const NOT_CAREFUL: [Table; 8] = [
     Table(
         "freed by a copied header",
         512,
@@ -505,5 +529,17 @@ pub(crate) const NOT_CAREFUL: [Table; 6] = [
         512,
         TagMode::Sync,
         &TAG_OF_A_NEIGHBOUR,
+    ),
+    Table(
+        "tags of live chunks",
+        512,
+        TagMode::Sync,
+        &TAGS_OF_LIVE_CHUNKS,
+    ),
+    Table(
+        "freed without a header",
+        512,
+        TagMode::Sync,
+        &FREED_WITHOUT_A_HEADER,
     ),
 ];

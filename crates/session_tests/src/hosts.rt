@@ -5,7 +5,7 @@ use crate::images::{HEADERS, HI, ILLEGAL, image};
 use address_map::{PAGE_SIZE, STACK_START};
 use mte_sched::{
     Admission, AdmitError, Host, NotLive, Record, Refusal, Status, flag_is_clear, ledger_follows,
-    tenants_are_alone, tenants_are_isolated,
+    live_limit_in_digits, slices_are_bounded, tenants_are_alone, tenants_are_isolated,
 };
 use mte_session::{ScriptFault, write_report};
 use mte_tags::TagMode;
@@ -86,6 +86,8 @@ fn one_host(rt: HostRuntime) -> Result<(), Fail> {
     tenants_are_alone();
     tenants_are_isolated();
     flag_is_clear();
+    slices_are_bounded();
+    live_limit_in_digits();
     Ok(())
 }
 

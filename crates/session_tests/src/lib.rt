@@ -14,6 +14,8 @@ mod hosts;
 #[cfg(test)]
 mod images;
 #[cfg(test)]
+mod limits;
+#[cfg(test)]
 mod scripts;
 #[cfg(test)]
 mod services;

@@ -24,7 +24,7 @@ use Rattle.scudo_heap.specs.declared.chunk.Chunk.{Chunk}
 use Rattle.scudo_heap.specs.declared.chunk.Chunk.TheVariants.{Small, Large}
 use Rattle.tag_discipline.proofs.Draws.{IsFresh, drawn-fresh}
 use Rattle.tag_discipline.proofs.Blocks.{block-in, apart}
-use Rattle.tag_discipline.specs.Laws.{Freed, IsStale}
+use Rattle.tag_discipline.proofs.Freed.{Freed, IsStale}
 use Rattle.tag_discipline.proofs.Stales.{stale-placed}
 use Rattle.tag_discipline.proofs.BlockSounds.{present, not-top, placed_call, placed_sound}
 use Rattle.tag_discipline.proofs.Grows.{IsGrowth, grown_sound, grown-tags, grown-stale}

@@ -9,7 +9,8 @@ use Rattle.mte_tags.proofs.Whole.{whole-written}
 use Rattle.mte_tags.proofs.PageLaws.{attrs_at-written}
 use Rattle.mte_tags.proofs.ByteLaws.{tag_at-written}
 use Rattle.scudo_header.specs.Classes.{size_of}
-use Rattle.address_map.specs.declared.ranges.TheConstants.{REGIONS_START, SECONDARY_START}
+use Rattle.scudo_header.specs.Regions.{region_of}
+use Rattle.address_map.specs.declared.ranges.TheConstants.{SECONDARY_END}
 use Rattle.scudo_heap.specs.Stacks.{StackState}
 use Rattle.tag_discipline.specs.LiveChunks.{IsCarved, IsPlace, IsTagged, IsOutside}
 use Rattle.scudo_heap.specs.declared.chunk.Place.{Place}
@@ -160,7 +161,7 @@ module _ (m : Memory) (h : StackState) (p : Place) (t : ℕ) (k : IsStacked h) (
       }
 
   fenced_tagged : (m2 : Memory) → IsRetag (tagged m p t) m2 (p.user - 16) p.user 0 → IsClosed m2 (closed m2 p) p → t ≢ 0
-      → ((a : ℕ) → REGIONS_START ≤ a → a < SECONDARY_START + 16 → IsOutside h a → tag_at m a ≡ 0) → IsTagged (closed m2 p) p t
+      → ((a : ℕ) → region_of 1 ≤ a → a < SECONDARY_END → IsOutside h a → tag_at m a ≡ 0) → IsTagged (closed m2 p) p t
   fenced_tagged m2 b c n outside =
       let call = fenced_parts m2 b c in
       let r = room h p k i in
@@ -182,7 +183,7 @@ module _ (m : Memory) (h : StackState) (p : Place) (t : ℕ) (k : IsStacked h) (
         ];
       }
 
-  pub fenced-both : t ≢ 0 → ((a : ℕ) → REGIONS_START ≤ a → a < SECONDARY_START + 16 → IsOutside h a → tag_at m a ≡ 0) → IsCallOn m (fenced m p t) p t × IsTagged (fenced m p t) p t
+  pub fenced-both : t ≢ 0 → ((a : ℕ) → region_of 1 ≤ a → a < SECONDARY_END → IsOutside h a → tag_at m a ≡ 0) → IsCallOn m (fenced m p t) p t × IsTagged (fenced m p t) p t
   unfolding opened
   fenced-both n outside =
       let g = tagged-retag in

@@ -13,7 +13,7 @@ use Rattle.scudo_primary.specs.Pools.{is_member}
 use Rattle.scudo_primary.specs.Lists.{IsClass}
 use Rattle.scudo_primary.proofs.ListLemmas.{member-other, member-first, distinct-head, distinct-tail, distinct-cons}
 use Rattle.scudo_heap.specs.Stacks.{StackState, pages_of, stack_of, with_stack}
-use Rattle.tag_discipline.specs.LiveChunks.{IsCarved, IsPlace, IsHalfTag, BlockChunk, LiveBlocks, chunk_at, with_chunk, without_chunk, new_chunk, resized_chunk, IsHeaderOf, ArePlaced, IsTagged}
+use Rattle.tag_discipline.specs.LiveChunks.{IsCarved, IsPlace, IsHalfTag, BlockChunk, LiveBlocks, chunk_at, with_chunk, without_chunk, new_chunk, IsHeaderOf, ArePlaced, IsTagged}
 use Rattle.scudo_heap.specs.declared.chunk.Place.{Place}
 use Rattle.scudo_heap.specs.Chunks.{with_size, tagged, refitted, headed}
 use Rattle.tag_discipline.proofs.BlockCalls.{fenced}
@@ -25,6 +25,14 @@ use Rattle.tag_discipline.proofs.Keeps.{IsCallOn, IsSamePages, IsStep, keeps-tag
 use Rattle.tag_discipline.proofs.BlockCalls.{fenced-both, tagged-call, written-call, written-tagged}
 use Rattle.tag_discipline.proofs.Refits.{refitted-fits}
 use Rattle.tag_discipline.proofs.ListLaws.{stack-own, stack-other, same-pages, stacked-with, served-same, place-on, chunk_at-with, chunk_at-without}
+
+-- a chunk after it got another size where it is
+abbrev pub resized_chunk : BlockChunk → ℕ → BlockChunk
+resized_chunk x size = record {
+  place = with_size x.place size;
+  tag = x.tag;
+  header = record (x.header) { size_or_unused_bytes = size };
+}
 
 member_on : (d b : ℕ) (more : List ℕ) → is_member more d ≡ true → is_member (b ∷ more) d ≡ true
 member_on d b more e = elim (cases_eq d b) [

@@ -1,6 +1,6 @@
 -- Careful runs keep the live chunks Sound, and what is freed as it is until an allocation takes its block.
 use Rattle.std.proofs.Common.{◌≡◌, ◌≢◌, ℕ, ◌+◌, ◌/◌, ◌%◌, ◌<◌, ◌≤◌, ◌⊎◌, true, cond, Some, None, List, ◌∷◌, refl, sym, ap, subst, ◌∙◌, inl, inr, arith}
-use Rattle.std.proofs.lemmas.Bool.{cases_eq}
+use Rattle.std.proofs.lemmas.Bool.{cases_eq, cases_lt}
 use Rattle.std.specs.Ordering.{nat_cmp, eq_by_cmp}
 use Rattle.std.specs.Cmp.{nat_cmp_total}
 use Rattle.std.specs.FinMap.{get-insert}
@@ -9,7 +9,7 @@ use Rattle.mte_tags.specs.declared.attrs.Attrs.{Attrs}
 use Rattle.mte_tags.specs.Accesses.{written}
 use Rattle.mte_tags.specs.Whole.{IsWhole}
 use Rattle.mte_tags.proofs.Whole.{whole-written, whole-with_new_pages, unmapped}
-use Rattle.mte_tags.proofs.PageLaws.{attrs_at-written, attrs_at-with_new_pages_out, limit-with_new_pages, page_at-without_pages_out}
+use Rattle.mte_tags.proofs.PageLaws.{attrs_at-written, attrs_at-with_new_pages_out, limit-with_new_pages, page_at-without_pages_out, attrs_at-without_pages_in, page_at-no_attrs}
 use Rattle.mte_tags.proofs.ByteLaws.{tag_at-written}
 use Rattle.mte_tags.specs.RandomTags.{drawn}
 use Rattle.scudo_header.specs.declared.headers.Header.{Header}
@@ -19,31 +19,32 @@ use Rattle.scudo_primary.proofs.ListLemmas.{member-other}
 use Rattle.tag_discipline.proofs.Grows.{tag_at-with_new_pages, limit-without_pages}
 use Rattle.scudo_heap.specs.Stacks.{StackState, stack_of, pushed}
 use Rattle.scudo_heap.specs.declared.chunk.Place.{Place}
-use Rattle.tag_discipline.specs.LiveChunks.{IsPlace, IsHalfTag, BlockChunk, LiveBlocks, chunk_at, with_chunk, without_chunk, resized_chunk, IsCarved}
+use Rattle.tag_discipline.specs.LiveChunks.{IsPlace, IsHalfTag, BlockChunk, LiveBlocks, chunk_at, with_chunk, without_chunk, IsCarved}
 use Rattle.scudo_heap.specs.Placing.{World, given_back, resized}
 use Rattle.scudo_heap.specs.Chunks.{with_size, end_of, excluded, headed, tagged, refitted}
 use Rattle.tag_discipline.proofs.Views.{IsStacked, SoundBlocks}
-use Rattle.tag_discipline.specs.Laws.{Freed, IsStale}
+use Rattle.tag_discipline.proofs.Freed.{Freed, IsStale}
 use Rattle.tag_discipline.proofs.Blocks.{block-in, same-class}
 use Rattle.tag_discipline.proofs.BlockCalls.{room}
 use Rattle.tag_discipline.proofs.Draws.{drawn-fresh}
 use Rattle.mte_tags.proofs.StateLaws.{limit-written}
 use Rattle.tag_discipline.proofs.ListLaws.{stack-own, stack-other}
-use Rattle.tag_discipline.proofs.BlockSounds.{present, given_back_call, given_back_sound, resized_call, resized_sound}
+use Rattle.tag_discipline.proofs.BlockSounds.{present, given_back_call, given_back_sound, resized_call, resized_sound, resized_chunk}
 use Rattle.tag_discipline.proofs.Stales.{stale-call, stale-given_back}
 use Rattle.tag_discipline.proofs.Allocations.{IsSoundIn, IsKept}
-use Rattle.address_map.specs.declared.ranges.TheConstants.{SECONDARY_START}
+use Rattle.address_map.specs.declared.ranges.TheConstants.{SECONDARY_START, SECONDARY_END}
 
--- ---- memories that differ in no tag and no attributes below the chunks with pages of their own
+-- ---- memories that differ in no tag and no attributes below the chunks with pages of their own, and there get no tag but 0
 
 pub record IsSameTags (m m' : Memory) : Type 0 where
   pub limit : m'.limit ≡ m.limit
   pub attrs : (a : ℕ) → a < SECONDARY_START + 16 → attrs_at m' (a / 4096) ≡ attrs_at m (a / 4096)
   pub tags : (a : ℕ) → a < SECONDARY_START + 16 → tag_at m' a ≡ tag_at m a
+  pub high : (a : ℕ) → a < SECONDARY_END → (tag_at m' a ≡ tag_at m a) ⊎ (tag_at m' a ≡ 0)
   pub whole : IsWhole m'
 
 pub same-written : (m : Memory) (a : ℕ) (bs : List ℕ) → IsWhole m → IsSameTags m (written m a bs)
-same-written m a bs w = record { limit = limit-written m a bs; attrs = λ x l. attrs_at-written m a bs (x / 4096); tags = λ x l. tag_at-written m a bs x; whole = whole-written m a bs w }
+same-written m a bs w = record { limit = limit-written m a bs; attrs = λ x l. attrs_at-written m a bs (x / 4096); tags = λ x l. tag_at-written m a bs x; high = λ x l. inl (tag_at-written m a bs x); whole = whole-written m a bs w }
 
 -- a place and the granules beside it lie below
 below : (m : Memory) (h : StackState) (p : Place) (a : ℕ) → IsStacked h → IsPlace h p → a < end_of p + 16 → a < SECONDARY_START + 16
@@ -78,7 +79,7 @@ same-tags_sound m m' h l e s = record {
           after = λ a v w. e.tags a (below m h x.place a s.stacked i w) ∙ o.after a v w;
         };
     halves = λ c b a k x y. subst (λ t. (t ≡ 0) ⊎ IsHalfTag c b t) (sym (e.tags a (let i = block-in h c b s.stacked k in let iw = i.within in let few = i.few in let high = i.high in omega arith))) (s.tagged.halves c b a k x y);
-    outside = λ a x y o. e.tags a y ∙ s.tagged.outside a x y o;
+    outside = λ a x y o. elim (e.high a y) [ inl f ↦ f ∙ s.tagged.outside a x y o | inr f ↦ f ];
   };
 }
 
@@ -137,6 +138,7 @@ same-mapped m q n x w f left low = record {
   limit = limit-with_new_pages n m q x;
   attrs = λ a l. attrs_at-with_new_pages_out n m q x (a / 4096) (λ u v. omega arith);
   tags = λ a l. tag_at-with_new_pages m q n a x f;
+  high = λ a l. inl (tag_at-with_new_pages m q n a x f);
   whole = whole-with_new_pages n m q x f left w;
 }
 
@@ -146,5 +148,12 @@ same-unmapped m q n w p low = record {
   limit = limit-without_pages n m q;
   attrs = λ a l. ap attrs_in (page_at-without_pages_out n m q (a / 4096) (λ u v. omega arith));
   tags = λ a l. ap (λ o. tag_in o (a % 4096 / 16)) (page_at-without_pages_out n m q (a / 4096) (λ u v. omega arith));
+  high = λ a l. elim (cases_lt (a / 4096) q) [
+    | inl u ↦ inl (ap (λ o. tag_in o (a % 4096 / 16)) (page_at-without_pages_out n m q (a / 4096) (λ x y. omega arith)))
+    | inr u ↦ elim (cases_lt (a / 4096) (q + n)) [
+      | inl v ↦ inr (ap (λ o. tag_in o (a % 4096 / 16)) (page_at-no_attrs (without_pages m q n) (a / 4096) (attrs_at-without_pages_in n m q (a / 4096) u v)))
+      | inr v ↦ inl (ap (λ o. tag_in o (a % 4096 / 16)) (page_at-without_pages_out n m q (a / 4096) (λ x y. omega arith)))
+    ]
+  ];
   whole = (unmapped n m q p w).0;
 }

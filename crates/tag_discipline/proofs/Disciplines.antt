@@ -1,7 +1,7 @@
 -- The laws of careful runs.
-use Rattle.std.proofs.Common.{◌≡◌, ◌≢◌, ℕ, ◌/◌, ◌%◌, ◌<◌, ◌≤◌, true, false, Some, None, IsSome, Ok, [], refl, sym, ap, subst, ◌∙◌, inl, inr, arith}
+use Rattle.std.proofs.Common.{◌≡◌, ◌≢◌, ℕ, ◌/◌, ◌%◌, ◌<◌, ◌≤◌, true, false, Option, Some, None, IsSome, Ok, [], refl, sym, ap, subst, ◌∙◌, inl, inr, arith}
 use Rattle.std.specs.Prelude.{nat_eq}
-use Rattle.std.specs.List.{IsDistinct}
+use Rattle.std.specs.List.{IsDistinct, list_any}
 use Rattle.std.specs.Ordering.{nat_cmp}
 use Rattle.std.specs.FinMap as finite
 use Rattle.std.specs.FinMap.{get-empty}
@@ -25,20 +25,28 @@ use Rattle.scudo_secondary.specs.declared.mappings.Mapping.{Mapping}
 use Rattle.address_map.specs.declared.limits.TheConstants.{PAGE_SIZE}
 use Rattle.scudo_heap.specs.Chunks.{end_of}
 use Rattle.scudo_heap.specs.declared.chunk.Place.{Place}
+use Rattle.scudo_heap.specs.declared.chunk.Chunk.{Chunk}
 use Rattle.scudo_heap.specs.declared.chunk.Chunk.TheVariants.{Small}
+use Rattle.scudo_heap.specs.Realloc.{moved_to, moved}
+use Rattle.scudo_heap.proofs.MapLemmas.{without}
+use Rattle.scudo_secondary.specs.Mappings.{mapping_of}
+use Rattle.tag_discipline.proofs.Blocks.{block-in}
 use Rattle.scudo_heap.specs.declared.chunk.Found.{Found}
 use Rattle.scudo_heap.specs.declared.chunk.Found.TheVariants.{InPages}
-use Rattle.scudo_heap.specs.Stacks.{ClassHeap, class_at, empty_class, empty_stacks, pages_of, stack_of}
+use Rattle.scudo_heap.specs.Stacks.{ClassHeap, class_at, empty_class, empty_stacks, memory_for, pages_of, stack_of}
 use Rattle.scudo_heap.specs.Placing.{World}
 use Rattle.scudo_heap.specs.Large.{large_given_back}
-use Rattle.scudo_heap.specs.Allocation.{Made}
+use Rattle.scudo_heap.specs.Allocation.{Made, malloc_of}
+use Rattle.scudo_heap.specs.Served.{heap_page, is_inside}
 use Rattle.scudo_heap.specs.Freeing.{without_chunk as freed_world}
 use Rattle.tag_discipline.specs.LiveChunks.{BlockChunk, chunk_at, IsCarved}
 use Rattle.tag_discipline.specs.LivePages.{PageChunk, large_at}
-use Rattle.tag_discipline.specs.Laws.{Freed, IsStale, IsRefused}
+use Rattle.tag_discipline.proofs.Freed.{Freed, IsStale}
+use Rattle.tag_discipline.specs.Laws.{IsRefused}
 use Rattle.tag_discipline.specs.CarefulRuns.{State, HeapRequest, Free, found_at, after_call, IsLiveBlock, IsCareful, HasFree}
 use Rattle.tag_discipline.specs.SoundHeaps.{Sound}
-use Rattle.tag_discipline.specs.Discipline.{StartsSound, StaysSound, MayFree, FreedBlocksAreRefused, IsUnmapped, FreedPagesAreUnmapped, IsFreshIn, NewTagsDiffer, NeighboursDiffer, ChunksAreApart, ChunksAreGuarded, SlicesStaySound, FreedBlocksStayRefused}
+use Rattle.tag_discipline.specs.Discipline.{StartsSound, StaysSound, MayFree, FreedBlocksAreRefused, IsUnmapped, FreedPagesAreUnmapped, IsFreshIn, NewTagsDiffer, NeighboursDiffer, ChunksAreApart, ChunksAreGuarded, SlicesStaySound, FreedBlocksStayRefused, IsNewIn, malloc, calloc, memalign, realloc as realloc_call, ReusedTagsDiffer, ReusedTagsStayDifferent, FreedPagesAreRefused, FreedBlocksAreFree, ChunksAreTagged}
+use Rattle.mte_sched.specs.Machines.{attempted}
 use Rattle.tag_discipline.specs.CarefulTenants.{state_of, stepped}
 use Rattle.tag_discipline.proofs.Tenants.{step-quiet, attempted-kept, attempted-done, advance-sound, steps-sound, steps-stale}
 use Rattle.tag_discipline.proofs.Serving.{blocks-of}
@@ -47,6 +55,7 @@ use Rattle.tag_discipline.proofs.Faults.{AreKept, are-kept, in-sync, touching}
 use Rattle.tag_discipline.proofs.Larges.{found-of, large-apart}
 use Rattle.tag_discipline.proofs.MadeCalls.{malloc-made, calloc-made, memalign-made}
 use Rattle.tag_discipline.proofs.Freeings.{IsStaleAfter, free-world, free-stale, realloc-stale}
+use Rattle.tag_discipline.proofs.PagesGone.{free-gone, realloc-gone}
 use Rattle.tag_discipline.proofs.Runs.{call-kept, run-sound, run-stale}
 
 -- ---- live chunks
@@ -93,17 +102,23 @@ fresh-in : (s : State) (r : Made) → Sound s → ((p : Place) (t : ℕ) → r.c
 fresh-in s r k h = record {
   some = λ p t e. (h p t e).0;
   other = λ p t e. (h p t e).1;
-  reused = λ p t f e st at.
-      let some = st.place.some in
-      let there : tag_at s.world.memory p.user ≡ f.given = st.inside p.user (omega arith) (omega arith) in
-      λ q. (h p t e).1 (q ∙ sym there);
 }
+
+-- a chunk that moves is a new one as of malloc
+moved_to-chunk : (w : World) (f : Found) (size : ℕ) (v : World) (c : Option Chunk) → (moved_to w f size v c).chunk ≡ c
+moved_to-chunk w f size v None = refl
+moved_to-chunk w f size v (Some x) = refl
+
+moved-chunk : (w : World) (f : Found) (size : ℕ) → (moved w f size).chunk ≡ (malloc_of w size).chunk
+unfolding moved
+moved-chunk w f size = moved_to-chunk w f size (malloc_of w size).world (malloc_of w size).chunk
 
 pub fresh : NewTagsDiffer
 fresh = record {
   malloc = λ s size k. fresh-in s _ k (malloc-made s size k).fresh;
   calloc = λ s count size k. fresh-in s _ k (calloc-made s count size k).fresh;
   memalign = λ s align size k. fresh-in s _ k (memalign-made s align size k).fresh;
+  realloc = λ s f size k. fresh-in s _ k (λ p t e. (malloc-made s size k).fresh p t (sym (moved-chunk s.world f size) ∙ e));
 }
 
 -- ---- freed chunks
@@ -113,6 +128,13 @@ block-careful : (s : State) (pointer : ℕ) (c : HeapRequest) (x : BlockChunk) �
 block-careful s pointer c x l (inl e) = subst (IsCareful s) (sym e) (λ n f g. inl (x, l))
 block-careful s pointer c x l (inr e) = subst (IsCareful s) (sym e.1) (λ n f g. inl (x, l))
 
+-- a pointer to a live chunk is not null
+not-zero : (s : State) (pointer : ℕ) (x : BlockChunk) → Sound s → IsLiveBlock s (plain pointer) x → pointer ≢ 0
+not-zero s pointer x k l = λ e.
+    let here : x.place.user ≡ plain pointer = k.placed.user (plain pointer) x l.live in
+    let above = (k.placed.place (plain pointer) x l.live).above in
+    omega arith
+
 pub stale-by : (s : State) (pointer : ℕ) (c : HeapRequest) (x : BlockChunk) → Sound s → pointer ≢ 0 → IsLiveBlock s (plain pointer) x → MayFree pointer c → HasFree x.place.class x.place.block (after_call c s) → IsStaleAfter (after_call c s).world x
 stale-by s pointer c x k n l (inl e) on = subst (λ d. IsStaleAfter (after_call d s).world x) (sym e) (free-stale s pointer x k n l)
 stale-by s pointer c x k n l (inr e) on =
@@ -120,7 +142,11 @@ stale-by s pointer c x k n l (inr e) on =
     subst (λ d. IsStaleAfter (after_call d s).world x) (sym e.1) (realloc-stale s pointer e.0 x k n l on')
 
 pub freed-blocks : FreedBlocksAreRefused
-freed-blocks = λ a b pointer addr c x k n l m on run low high.
+freed-blocks = λ a b pointer addr c x k fr run low high.
+    let l = fr.live in
+    let m = fr.may in
+    let on = fr.free in
+    let n = not-zero a pointer x k l in
     let f : Freed = record { place = x.place; tag = x.tag; given = (after_call c a).world.rgsr.tag } in
     let t = call-kept a c k (block-careful a pointer c x l m) in
     let st = stale-by a pointer c x k n l m on in
@@ -139,21 +165,17 @@ unmapped-refused m a sync e = λ pointer n i check l at. (
   in-sync m (write_access pointer check) (addresses (plain pointer) n) sync (touching n m (write_access pointer check) (plain pointer) i a (omega arith) l at (no_page m (write_access pointer check) a e)),
 )
 
-free-pages-world : (s : State) (pointer : ℕ) (f : Found) → pointer ≢ 0 → found_at s.world pointer ≡ Ok f → freed_world s.world f ≡ (after_call (Free pointer) s).world
-unfolding after_call
-free-pages-world s pointer f n e = free-world s pointer f n e
-
-pages-gone : (w : World) (n : Mapping) (header : Header) (a : ℕ) → n.start % PAGE_SIZE ≡ 0 → n.start ≤ a → a < secondary.end_of n → attrs_at (freed_world w (InPages n header)).memory (a / 4096) ≡ None
-unfolding freed_world large_given_back
-pages-gone w n header a al l u = attrs_at-without_pages_in n.pages w.memory (n.start / PAGE_SIZE) (a / 4096) (omega arith) (omega arith)
-
 pub freed-pages : FreedPagesAreUnmapped
 freed-pages = record {
-  gone = λ s pointer a x k n l low high.
-      let there = k.large.place (plain pointer) x l.live in
-      let f = found-of s.world.heap.maps.mappings (plain pointer) x.mapping k.large.ordered there in
-      let e = large-named s pointer x k l in
-      subst (λ (w : World). attrs_at w.memory (a / 4096) ≡ None) (free-pages-world s pointer (InPages x.mapping x.header) n e) (pages-gone s.world x.mapping x.header a f.aligned low high);
+  gone = λ s pointer a c x k l may none low high.
+      let start = k.large.above (plain pointer) x l.live in
+      let n : pointer ≢ 0 = λ z. omega arith in
+      elim may [
+        | inl e ↦ subst (λ d. list_any (is_inside a) (after_call d s).world.heap.maps.mappings ≡ false) (sym e) (free-gone s pointer x a k n l low high)
+        | inr e ↦
+            let none' = subst (λ d. large_at (after_call d s).live.pages (plain pointer) ≡ None) e.1 none in
+            subst (λ d. list_any (is_inside a) (after_call d s).world.heap.maps.mappings ≡ false) (sym e.1) (realloc-gone s pointer x a k n l low high e.0 none')
+      ];
   refused = unmapped-refused;
 }
 
@@ -161,7 +183,7 @@ freed-pages = record {
 
 class-new : (left c : ℕ) → IsClass c → class_at (empty_stacks left) c ≡ empty_class
 unfolding empty_stacks
-class-new left c k = class_at-stacks_by left (λ d. empty_class) c k
+class-new left c k = class_at-stacks_by left (memory_for left) (λ d. empty_class) c k
 
 chunk-new : (u : ℕ) (x : BlockChunk) → chunk_at finite.empty u ≡ Some x → ⊥
 unfolding chunk_at
@@ -238,8 +260,9 @@ pub slices : SlicesStaySound
 slices = λ n m l k c. advance-sound n m l k c
 
 pub freed-stay : FreedBlocksStayRefused
-freed-stay = λ m k l j n pointer addr c x sound careful e may some live on run low high.
+freed-stay = λ m k l j n pointer addr c x sound careful e may live on run low high.
     let first = step-quiet m l careful.tags sound in
+    let some = not-zero (state_of (stepped m) l) pointer x first.sound live in
     let is = attempted-done n m l c e in
     let on' : HasFree x.place.class x.place.block (after_call c (state_of (stepped m) l)) = subst (HasFree x.place.class x.place.block) is on in
     let st = stale-by (state_of (stepped m) l) pointer c x first.sound some live may on' in
@@ -247,3 +270,72 @@ freed-stay = λ m k l j n pointer addr c x sound careful e may some live on run 
     let after = (attempted-kept n m l sound careful).sound in
     let last = steps-stale f run after (subst (λ (s : State). IsStale s.world.memory s.world.heap.stacks f) (sym is) st) in
     (kept-in (state_of k j) (steps-sound run after)).freed f addr last low high
+
+-- ---- reuse
+
+fresh-new : (s : State) (r : Made) → Sound s → IsNewIn s r → IsFreshIn s r
+fresh-new s r k (malloc size e) = subst (IsFreshIn s) (sym e) (fresh.malloc s size k)
+fresh-new s r k (calloc count size e) = subst (IsFreshIn s) (sym e) (fresh.calloc s count size k)
+fresh-new s r k (memalign align size e) = subst (IsFreshIn s) (sym e) (fresh.memalign s align size k)
+fresh-new s r k (realloc_call f size e) = subst (IsFreshIn s) (sym e) (fresh.realloc s f size k)
+
+pub reused-differ : ReusedTagsDiffer
+reused-differ = λ a b pointer c x r p t k fr run new e at.
+    let l = fr.live in
+    let m = fr.may in
+    let on = fr.free in
+    let n = not-zero a pointer x k l in
+    let f : Freed = record { place = x.place; tag = x.tag; given = (after_call c a).world.rgsr.tag } in
+    let h = call-kept a c k (block-careful a pointer c x l m) in
+    let st = stale-by a pointer c x k n l m on in
+    let last = run-stale f run h.sound st in
+    let some = st.place.some in
+    let there : tag_at (after_call c a).world.memory x.place.user ≡ f.given = st.inside x.place.user (omega arith) (omega arith) in
+    let new' = fresh-new b r (run-sound run h.sound) new in
+    let still : tag_at b.world.memory p.user ≡ f.given = ap (tag_at b.world.memory) at ∙ last.inside x.place.user (omega arith) (omega arith) in
+    λ q. new'.other p t e (q ∙ there ∙ sym still)
+
+pub reused-stay : ReusedTagsStayDifferent
+reused-stay = λ m k l j n pointer c x r p t sound careful e may live on run then new made at.
+    let first = step-quiet m l careful.tags sound in
+    let some = not-zero (state_of (stepped m) l) pointer x first.sound live in
+    let is = attempted-done n m l c e in
+    let on' : HasFree x.place.class x.place.block (after_call c (state_of (stepped m) l)) = subst (HasFree x.place.class x.place.block) is on in
+    let f : Freed = record { place = x.place; tag = x.tag; given = (after_call c (state_of (stepped m) l)).world.rgsr.tag } in
+    let st = subst (λ (s : State). IsStale s.world.memory s.world.heap.stacks f) (sym is) (stale-by (state_of (stepped m) l) pointer c x first.sound some live may on') in
+    let after = (attempted-kept n m l sound careful).sound in
+    let last = steps-stale f run after st in
+    let quiet = step-quiet k j then.tags (steps-sound run after) in
+    let still = quiet.stale f last last.stacked in
+    let some = st.place.some in
+    let there : tag_at (attempted n m).machine.memory x.place.user ≡ f.given = st.inside x.place.user (omega arith) (omega arith) in
+    let new' = fresh-new (state_of (stepped k) j) r quiet.sound new in
+    let here : tag_at (stepped k).memory p.user ≡ f.given = ap (tag_at (stepped k).memory) at ∙ still.inside x.place.user (omega arith) (omega arith) in
+    λ q. new'.other p t made (q ∙ there ∙ sym here)
+
+-- ---- more of live and freed chunks
+
+pub freed-free : FreedBlocksAreFree
+freed-free = λ s pointer x k l. (free-stale s pointer x k (not-zero s pointer x k l) l).stacked
+
+pub chunks-tagged : ChunksAreTagged
+chunks-tagged = record {
+  blocks = λ s u a x k e lo hi. (k.tagged.chunks u x e).inside a lo hi;
+  pages = λ s u a x k e lo hi.
+      let there = k.large.place u x e in
+      let f = found-of s.world.heap.maps.mappings u x.mapping k.large.ordered there in
+      let above = f.above in
+      let w = without s.world.heap.maps.mappings x.mapping k.large.ordered (sym there ∙ ap (mapping_of s.world.heap.maps.mappings) (sym f.user)) in
+      let last = w.last in
+      k.tagged.outside a (omega arith) (omega arith) (λ c b d v y.
+      let i = block-in s.world.heap.stacks c b (blocks-of s k).stacked d in
+      let within = i.within in
+      let few = i.few in
+      let high = i.high in
+      omega arith);
+}
+
+pub freed-pages-refused : FreedPagesAreRefused
+freed-pages-refused = λ s addr k lo hi e.
+    let gone : attrs_at s.world.memory (addr / 4096) ≡ None = k.served.mappings addr lo hi ∙ ap heap_page e in
+    (unmapped-refused s.world.memory addr k.sync gone, λ x. no_page s.world.memory x addr gone)

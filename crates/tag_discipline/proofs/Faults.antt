@@ -16,7 +16,8 @@ use Rattle.scudo_heap.specs.declared.chunk.Place.{Place}
 use Rattle.tag_discipline.specs.LiveChunks.{IsPlace, IsHalfTag, BlockChunk, LiveBlocks, chunk_at}
 use Rattle.scudo_heap.specs.Chunks.{end_of}
 use Rattle.tag_discipline.proofs.Views.{SoundBlocks}
-use Rattle.tag_discipline.specs.Laws.{IsRefused, Freed, IsStale, AreNeighbours}
+use Rattle.tag_discipline.proofs.Freed.{Freed, IsStale}
+use Rattle.tag_discipline.specs.Laws.{IsRefused, AreNeighbours}
 use Rattle.tag_discipline.proofs.Draws.{neighbours-differ}
 use Rattle.tag_discipline.proofs.Blocks.{apart}
 use Rattle.tag_discipline.proofs.BlockCalls.{room}

@@ -16,7 +16,7 @@ use Rattle.tag_discipline.specs.LiveChunks.{BlockChunk, chunk_at}
 use Rattle.tag_discipline.specs.LivePages.{PageChunk, large_at, AreLarge}
 use Rattle.tag_discipline.specs.CarefulRuns.{State, delisted, HasFree}
 use Rattle.tag_discipline.specs.SoundHeaps.{Sound}
-use Rattle.tag_discipline.specs.Laws.{Freed, IsStale}
+use Rattle.tag_discipline.proofs.Freed.{Freed, IsStale}
 use Rattle.tag_discipline.proofs.Serving.{blocks-of}
 use Rattle.tag_discipline.proofs.WorldRests.{IsRest, given_back-rest}
 use Rattle.tag_discipline.proofs.BlockSteps.{IsSameTags, same-written, same-unmapped, same-tags_sound, same-tags_stale, given_back-kept, free-before, stale-other}

@@ -24,7 +24,7 @@ use Rattle.scudo_heap.specs.Realloc.{Reallocated, reallocated_by, realloc_of, us
 use Rattle.tag_discipline.specs.LiveChunks.{BlockChunk, chunk_at}
 use Rattle.tag_discipline.specs.CarefulRuns.{State, Realloc, Free, found_at, listed, after_realloc, after_call, HasHeader, IsLiveBlock}
 use Rattle.tag_discipline.specs.SoundHeaps.{Sound}
-use Rattle.tag_discipline.specs.Laws.{IsStale}
+use Rattle.tag_discipline.proofs.Freed.{IsStale}
 use Rattle.tag_discipline.proofs.Draws.{drawn-fresh}
 use Rattle.tag_discipline.proofs.BlockSounds.{present, present-tag, given_back_call}
 use Rattle.tag_discipline.proofs.Stales.{stale-new}
@@ -117,7 +117,7 @@ named s pointer x k l =
     let header = subst (λ u. HasHeader s.world u x.header) (sym here) l.header in
     (live, ap (found s.world.memory s.world.heap) (sym here) ∙ found-live s.world s.live.blocks x (blocks-of s k) live header)
 
-not-null : (pointer : ℕ) → pointer ≢ 0 → (pointer == 0) ≡ false
+pub not-null : (pointer : ℕ) → pointer ≢ 0 → (pointer == 0) ≡ false
 not-null pointer n = grind (arith, nat_tests)
 
 pub free-world : (s : State) (pointer : ℕ) (f : Found) → pointer ≢ 0 → found_at s.world pointer ≡ Ok f → freed_world s.world f ≡ (free_of s.world pointer).world
@@ -125,7 +125,7 @@ unfolding free_of
 free-world s pointer f n e =
     ap (λ (o : Outcome). o.world) (ap (freed_by s.world) (sym e)) ∙ sym (ap (λ (o : Outcome). o.world) (cond-false (pointer == 0) (record { world = s.world; result = Ok tt }) (freed_by s.world (found_at s.world pointer)) (not-null pointer n)))
 
-realloc-world : (s : State) (pointer size : ℕ) (f : Found) → pointer ≢ 0 → found_at s.world pointer ≡ Ok f → (refound s.world f size).world ≡ (realloc_of s.world pointer size).world
+pub realloc-world : (s : State) (pointer size : ℕ) (f : Found) → pointer ≢ 0 → found_at s.world pointer ≡ Ok f → (refound s.world f size).world ≡ (realloc_of s.world pointer size).world
 unfolding realloc_of
 realloc-world s pointer size f n e =
     ap (λ (o : Reallocated). o.world) (ap (reallocated_by s.world size) (sym e))

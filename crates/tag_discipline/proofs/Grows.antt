@@ -23,7 +23,7 @@ use Rattle.scudo_heap.specs.declared.chunk.Place.{Place}
 use Rattle.scudo_heap.specs.Placing.{heap_attrs}
 use Rattle.tag_discipline.proofs.Views.{IsStacked, IsView, SoundBlocks}
 use Rattle.tag_discipline.proofs.Blocks.{apart, block-in, same-class}
-use Rattle.tag_discipline.specs.Laws.{Freed, IsStale}
+use Rattle.tag_discipline.proofs.Freed.{Freed, IsStale}
 use Rattle.tag_discipline.proofs.Stales.{stale-grown, not-empty}
 use Rattle.scudo_heap.proofs.StackLemmas.{class_at-with_class, class_at-with_class_other}
 use Rattle.scudo_heap.specs.Stacks.{carved_class, with_class}

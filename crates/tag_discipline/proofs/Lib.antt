@@ -7,6 +7,7 @@ pub mod BlockCalls
 pub mod ListLaws
 pub mod Refits
 pub mod BlockSounds
+pub mod Freed
 pub mod Stales
 pub mod Grows
 pub mod Faults
@@ -25,6 +26,7 @@ pub mod FreeStates
 pub mod ReallocStates
 pub mod Runs
 pub mod Freeings
+pub mod PagesGone
 pub mod Tenants
 pub mod Disciplines
 pub mod Starts

@@ -10,7 +10,7 @@ use Rattle.tag_discipline.specs.LiveChunks.{BlockChunk, chunk_at}
 use Rattle.tag_discipline.specs.LivePages.{PageChunk, large_at, AreLarge}
 use Rattle.tag_discipline.specs.CarefulRuns.{State, made, HasFree}
 use Rattle.tag_discipline.specs.SoundHeaps.{Sound}
-use Rattle.tag_discipline.specs.Laws.{Freed, IsStale}
+use Rattle.tag_discipline.proofs.Freed.{Freed, IsStale}
 use Rattle.mte_tags.specs.Memory.{tag_at}
 use Rattle.tag_discipline.proofs.Views.{SoundBlocks}
 use Rattle.tag_discipline.proofs.Serving.{sound-of}

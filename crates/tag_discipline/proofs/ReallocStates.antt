@@ -55,7 +55,7 @@ resized-state s x size k e some fits =
 
 -- ---- elsewhere
 
-large-with : (g : LivePages) (x : PageChunk) (u : ℕ) → x.mapping.user ≢ u → large_at (with_large g x) u ≡ large_at g u
+pub large-with : (g : LivePages) (x : PageChunk) (u : ℕ) → x.mapping.user ≢ u → large_at (with_large g x) u ≡ large_at g u
 unfolding large_at with_large
 large-with g x u n = get-insert nat_cmp_total g x.mapping.user x u ∙ cond-false _ _ _ (tied_other u x.mapping.user (λ q. n (sym q)))
 

@@ -3,7 +3,8 @@ use Rattle.std.proofs.Common.{◌≡◌, ℕ, ◌+◌, ◌-◌, ◌<◌, ◌≤�
 use Rattle.std.proofs.lemmas.Bool.{cases_lt, cond-true, cond-false}
 use Rattle.std.proofs.lemmas.Bool.Decides.{nat_tests}
 use Rattle.mte_tags.specs.Memory.{Memory, tag_at, with_granules}
-use Rattle.address_map.specs.declared.ranges.TheConstants.{REGIONS_START, SECONDARY_START}
+use Rattle.scudo_header.specs.Regions.{region_of}
+use Rattle.address_map.specs.declared.ranges.TheConstants.{SECONDARY_END}
 use Rattle.scudo_heap.specs.Stacks.{StackState}
 use Rattle.scudo_heap.specs.declared.chunk.Place.{Place}
 use Rattle.tag_discipline.specs.LiveChunks.{IsPlace, IsTagged, IsOutside}
@@ -19,7 +20,7 @@ pub record IsFitted (m m' : Memory) (p : Place) (t : ℕ) : Type 0 where
   pub tags : IsTagged m' p t
 
 module _ (m : Memory) (h : StackState) (p : Place) (size t : ℕ) (k : IsStacked h) (s : IsView m h) (i : IsPlace h p) (j : IsPlace h (with_size p size)) (old : IsTagged m p t)
-    (outside : (a : ℕ) → REGIONS_START ≤ a → a < SECONDARY_START + 16 → IsOutside h a → tag_at m a ≡ 0) where
+    (outside : (a : ℕ) → region_of 1 ≤ a → a < SECONDARY_END → IsOutside h a → tag_at m a ≡ 0) where
   new : Place
   new = with_size p size
 

@@ -1,5 +1,5 @@
 -- Careful runs keep the live chunks Sound, and what is freed as it is until an allocation takes its block.
-use Rattle.std.proofs.Common.{◌≡◌, ◌≢◌, ℕ, ◌/◌, ◌==◌, Bool, true, false, cond, Result, Ok, Err, refl, sym, subst, ◌∙◌, arith}
+use Rattle.std.proofs.Common.{◌≡◌, ◌≢◌, ℕ, ◌/◌, ◌==◌, Bool, true, false, cond, Result, Ok, Err, refl, sym, subst, ◌∙◌, inl, arith}
 use Rattle.std.proofs.lemmas.Bool.{cond-false}
 use Rattle.std.proofs.lemmas.Bool.Decides.{nat_tests}
 use Rattle.scudo_heap.specs.declared.abort.HeapAbort.{HeapAbort}
@@ -11,7 +11,7 @@ use Rattle.scudo_heap.proofs.ServedLemmas.{served-on, same-pages}
 use Rattle.scudo_header.specs.declared.headers.Origin.TheVariants as origin
 use Rattle.tag_discipline.specs.CarefulRuns.{State, Live, HeapRequest, Malloc, Calloc, Memalign, Realloc, Free, delisted_by, relisted_by, found_at, after_realloc, after_free, after_call, IsPointerTo, IsCareful, IsQuiet, Step, quiet, call, Run, stop, next, HasFree}
 use Rattle.tag_discipline.specs.SoundHeaps.{Sound}
-use Rattle.tag_discipline.specs.Laws.{Freed, IsStale}
+use Rattle.tag_discipline.proofs.Freed.{Freed, IsStale}
 use Rattle.tag_discipline.proofs.Serving.{blocks-of}
 use Rattle.tag_discipline.proofs.WorldRests.{IsRest}
 use Rattle.tag_discipline.proofs.BlockSteps.{IsSameTags, same-tags_sound, same-tags_stale}
@@ -74,7 +74,7 @@ quiet-kept s t k q =
     let b = blocks-of s k in
     let m = s.world.memory in
     let m' = t.world.memory in
-    let same : IsSameTags m m' = record { limit = q.limit; attrs = λ a l. q.attrs (a / 4096); tags = λ a l. q.tags a; whole = q.whole } in
+    let same : IsSameTags m m' = record { limit = q.limit; attrs = λ a l. q.attrs (a / 4096); tags = λ a l. q.tags a; high = λ a l. inl (q.tags a); whole = q.whole } in
     let u : State = record { world = record s.world { memory = m'; rgsr = t.world.rgsr }; live = s.live } in
     let is : u ≡ t = λ i. record { world = record { memory = m'; heap = sym q.heap i; rgsr = t.world.rgsr }; live = sym q.live i } in
     let rest : IsRest u.world u.world = record {

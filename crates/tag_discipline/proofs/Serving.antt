@@ -33,18 +33,13 @@ in-region m h c a v k l u =
     let e : a / PAGE_SIZE ≡ region_of c / PAGE_SIZE + (a - region_of c) / PAGE_SIZE = omega arith in
     ap (attrs_at m) e ∙ v.regions c ((a - region_of c) / PAGE_SIZE) k.low k.high (omega arith)
 
-others : (m : Memory) (h : HeapState) (a : ℕ) → IsServed m h → AreMappings h.maps.mappings → REGIONS_START ≤ a → a < SECONDARY_START + 16 → (attrs_at m (a / 4096) ≡ None) ⊎ (attrs_at m (a / 4096) ≡ Some 11)
-others m h a v k l u = elim (cases_lt a (REGIONS_START + REGION_SIZE)) [
-  | inl x ↦
-      let e : a / PAGE_SIZE ≡ REGIONS_START / PAGE_SIZE + (a - REGIONS_START) / PAGE_SIZE = omega arith in
-      inl (ap (attrs_at m) e ∙ v.none ((a - REGIONS_START) / PAGE_SIZE) (omega arith))
-  | inr x ↦ elim (cases_lt a SECONDARY_START) [
-    | inl y ↦
-        let c = (a - REGIONS_START) / REGION_SIZE in
-        let class : IsClass c = record { low = omega arith; high = omega arith } in
-        of_heap_page (attrs_at m (a / 4096)) _ (in-region m h c a v class (omega arith) (omega arith))
-    | inr y ↦ inl (before-mappings m h a v k y (omega arith))
-  ]
+others : (m : Memory) (h : HeapState) (a : ℕ) → IsServed m h → AreMappings h.maps.mappings → region_of 1 ≤ a → a < SECONDARY_START + 16 → (attrs_at m (a / 4096) ≡ None) ⊎ (attrs_at m (a / 4096) ≡ Some 11)
+others m h a v k l u = elim (cases_lt a SECONDARY_START) [
+  | inl y ↦
+      let c = (a - REGIONS_START) / REGION_SIZE in
+      let class : IsClass c = record { low = omega arith; high = omega arith } in
+      of_heap_page (attrs_at m (a / 4096)) _ (in-region m h c a v class (omega arith) (omega arith))
+  | inr y ↦ inl (before-mappings m h a v k y (omega arith))
 ]
 
 pub stacked-of : (m : Memory) (h : HeapState) → IsServed m h → AreSound h.stacks → IsStacked h.stacks

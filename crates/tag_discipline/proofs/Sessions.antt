@@ -18,15 +18,16 @@ use Rattle.mte_sched.specs.Contents.{Held, Gone, alone, held_stopped, tenant_of}
 use Rattle.mte_sched.specs.Isolation.{tenant_among}
 use Rattle.mte_sched.proofs.IsolationLemmas.{tenants_are_alone, among_tenants}
 use Rattle.tag_discipline.specs.LiveChunks.{BlockChunk, chunk_at}
-use Rattle.tag_discipline.specs.Laws.{IsStale, IsRefused}
+use Rattle.tag_discipline.proofs.Freed.{IsStale}
+use Rattle.tag_discipline.specs.Laws.{IsRefused}
 use Rattle.tag_discipline.specs.CarefulRuns.{State, Live, no_chunks, HeapRequest, Malloc, Calloc, Memalign, Realloc, Free, found_at, after_call, IsPointerTo, IsLive, IsLiveBlock, HasFree}
 use Rattle.tag_discipline.specs.CarefulRuns as heap
 use Rattle.tag_discipline.specs.CarefulTenants.{state_of, stepped, next_request, live_after, IsCarefulNext, live_through, IsCareful}
 use Rattle.tag_discipline.specs.CarefulSessions.{named_in, named_at, named_by, has_free_block, freed_after, freed_through, live_of, freed_of, AreCareful, machine_held, machine_in, first_machine, IsCarefulIn, state_in, freed_in}
 use Rattle.tag_discipline.specs.SoundHeaps.{Sound}
-use Rattle.tag_discipline.specs.Discipline.{MayFree, TenantsStaySound, FreedBlocksOfTenantsAreRefused, ChunksOfTenantsAreGuarded}
+use Rattle.tag_discipline.specs.Discipline.{MayFree, TenantsStaySound, FreedBlocksOfTenantsAreRefused, ChunksOfTenantsAreGuarded, FreedPagesOfTenantsAreRefused}
 use Rattle.tag_discipline.proofs.Freeings.{IsStaleAfter}
-use Rattle.tag_discipline.proofs.Disciplines.{apart, guarded, stale-by, stale-refused}
+use Rattle.tag_discipline.proofs.Disciplines.{apart, guarded, stale-by, stale-refused, freed-pages-refused}
 use Rattle.tag_discipline.proofs.Starts.{tenants-start}
 use Rattle.tag_discipline.proofs.Tenants.{step-quiet, attempted-kept, attempted-done, advance-sound}
 
@@ -255,3 +256,6 @@ guarded-in-session = record {
   before = λ s life m u addr x h e low high. guarded.before (state_in life m) u addr x (tenants-stay s life m h) e low high;
   after = λ s life m u addr x h e low high. guarded.after (state_in life m) u addr x (tenants-stay s life m h) e low high;
 }
+
+pub pages-in-session : FreedPagesOfTenantsAreRefused
+pages-in-session = λ s life m addr h lo hi e. (freed-pages-refused (state_in life m) addr (tenants-stay s life m h) lo hi e).0

@@ -11,7 +11,7 @@ use Rattle.scudo_heap.specs.Stacks.{StackState, stack_of, with_stack, carved}
 use Rattle.tag_discipline.specs.LiveChunks.{IsCarved, IsPlace}
 use Rattle.scudo_heap.specs.declared.chunk.Place.{Place}
 use Rattle.tag_discipline.proofs.Views.{IsStacked}
-use Rattle.tag_discipline.specs.Laws.{Freed, IsStale}
+use Rattle.tag_discipline.proofs.Freed.{Freed, IsStale}
 use Rattle.tag_discipline.proofs.Keeps.{IsCallOn, IsSamePages, other}
 use Rattle.tag_discipline.proofs.ListLaws.{stack-own, stack-other, same-pages, place-on}
 

@@ -34,7 +34,7 @@ use Rattle.tag_discipline.specs.CarefulRuns.{State, Live, HeapRequest, Malloc, C
 use Rattle.tag_discipline.specs.CarefulRuns as heap
 use Rattle.tag_discipline.specs.CarefulTenants.{state_of, stepped, request_by, request_at, next_request, live_by, live_after, IsCarefulNext, live_through, IsCareful, Steps, stop, next}
 use Rattle.tag_discipline.specs.SoundHeaps.{Sound}
-use Rattle.tag_discipline.specs.Laws.{Freed, IsStale}
+use Rattle.tag_discipline.proofs.Freed.{Freed, IsStale}
 use Rattle.tag_discipline.proofs.FreeStates.{IsKeptOn, kept-same}
 use Rattle.tag_discipline.proofs.Runs.{call-kept, quiet-kept}
 

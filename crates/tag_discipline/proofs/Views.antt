@@ -6,7 +6,7 @@ use Rattle.mte_tags.specs.Memory.{Memory, attrs_at}
 use Rattle.mte_tags.specs.Whole.{IsWhole}
 use Rattle.scudo_header.specs.Regions.{region_of}
 use Rattle.address_map.specs.declared.limits.TheConstants.{PAGE_SIZE, MAX_PAGES}
-use Rattle.address_map.specs.declared.ranges.TheConstants.{REGIONS_START, SECONDARY_START}
+use Rattle.address_map.specs.declared.ranges.TheConstants.{SECONDARY_START}
 use Rattle.scudo_primary.specs.Blocks.{IsBlock}
 use Rattle.scudo_primary.specs.Pools.{is_member}
 use Rattle.scudo_primary.specs.Lists.{IsClass}
@@ -24,7 +24,7 @@ pub record IsView (m : Memory) (h : StackState) : Type 0 where
   pub whole : IsWhole m
   pub limit : m.limit ≤ MAX_PAGES
   pub mapped : (c a : ℕ) → IsClass c → region_of c ≤ a → a < region_of c + PAGE_SIZE * pages_of h c → attrs_at m (a / 4096) ≡ Some 11
-  pub others : (a : ℕ) → REGIONS_START ≤ a → a < SECONDARY_START + 16 → (attrs_at m (a / 4096) ≡ None) ⊎ (attrs_at m (a / 4096) ≡ Some 11)
+  pub others : (a : ℕ) → region_of 1 ≤ a → a < SECONDARY_START + 16 → (attrs_at m (a / 4096) ≡ None) ⊎ (attrs_at m (a / 4096) ≡ Some 11)
   pub free : (c a : ℕ) → IsClass c → region_of c + PAGE_SIZE * pages_of h c ≤ a → a < region_of c + PAGE_SIZE * MAX_PAGES → attrs_at m (a / 4096) ≡ None
 
 pub record SoundBlocks (m : Memory) (h : StackState) (l : LiveBlocks) : Type 0 where

@@ -1,6 +1,10 @@
 -- The tag discipline of careful runs, in the synchronous mode.
 use Rattle.std.specs.Prelude.{◌≡◌, ◌≢◌, ℕ, ◌+◌, ◌/◌, ◌%◌, ◌^◌, ◌<◌, ◌≤◌, ◌⊎◌, Bool}
-use Rattle.std.specs.Prelude.{Some, None, IsSome, List, All}
+use Rattle.std.specs.Prelude.{Some, None, IsSome, List, All, false}
+use Rattle.std.specs.List.{list_any}
+use Rattle.mte_tags.specs.Accesses.{byte_fault}
+use Rattle.mte_tags.specs.declared.access.Access.{Access}
+use Rattle.address_map.specs.declared.ranges.TheConstants.{SECONDARY_START, SECONDARY_END}
 use Rattle.a64_bits.specs.Addresses.{plain}
 use Rattle.mte_tags.specs.Memory.{Memory, attrs_at, tag_at}
 use Rattle.mte_tags.specs.Accesses.{read_fault, write_fault}
@@ -11,17 +15,19 @@ use Rattle.address_map.specs.declared.limits.TheConstants.{MAX_PAGES}
 use Rattle.scudo_secondary.specs.Mappings as secondary
 use Rattle.scudo_heap.specs.declared.chunk.Place.{Place}
 use Rattle.scudo_heap.specs.declared.chunk.Chunk.TheVariants.{Small}
+use Rattle.scudo_heap.specs.declared.chunk.Found.{Found}
+use Rattle.scudo_heap.specs.Realloc.{moved}
 use Rattle.scudo_heap.specs.Heaps.{empty_heap}
 use Rattle.scudo_heap.specs.Chunks.{end_of}
 use Rattle.scudo_heap.specs.Placing.{world_of}
 use Rattle.scudo_heap.specs.Allocation.{Made, malloc_of, calloc_of, memalign_of}
-use Rattle.scudo_heap.specs.Served.{IsUntouched}
+use Rattle.scudo_heap.specs.Served.{IsUntouched, is_inside}
 use Rattle.mte_sched.specs.Machines.{Terms, Machine, start_of, attempted, advance}
 use Rattle.mte_sched.specs.Ledger.{Entry, admission_refusal}
 use Rattle.mte_sched.specs.Lives.{Session, Life}
 use Rattle.tag_discipline.specs.LiveChunks.{BlockChunk, chunk_at}
 use Rattle.tag_discipline.specs.LivePages.{PageChunk, large_at}
-use Rattle.tag_discipline.specs.Laws.{Freed, IsStale, IsRefused, AreNeighbours}
+use Rattle.tag_discipline.specs.Laws.{IsRefused, AreNeighbours}
 use Rattle.tag_discipline.specs.CarefulRuns.{State, Live, no_chunks, HeapRequest, Realloc, Free}
 use Rattle.tag_discipline.specs.CarefulRuns.{after_call, IsLiveBlock, IsLiveLarge, Run, HasFree}
 use Rattle.tag_discipline.specs.CarefulTenants.{state_of, stepped, next_request, live_after}
@@ -60,15 +66,26 @@ StaysSound = (a b : State) → Run (λ s. Unit {0}) a b → Sound a → Sound b
 abbrev pub MayFree : ℕ → HeapRequest → Type 0
 MayFree pointer c = (c ≡ Free pointer) ⊎ ((size : ℕ) × (c ≡ Realloc pointer size))
 
+-- The call frees the live chunk of a size class that a pointer names.
+pub record Frees (a : State) (pointer : ℕ) (c : HeapRequest) (x : BlockChunk) : Type 0 where
+  pub live : IsLiveBlock a (plain pointer) x
+  pub may : MayFree pointer c
+  pub free : HasFree x.place.class x.place.block (after_call c a)
+
 -- From the call that freed a chunk of a size class until an allocation takes its block, each
 -- checked access through the pointer to it that touches one of its granules faults.
 abbrev pub FreedBlocksAreRefused : Type 0
 FreedBlocksAreRefused =
     (a b : State) (pointer addr : ℕ) (c : HeapRequest) (x : BlockChunk)
-    → Sound a → pointer ≢ 0 → IsLiveBlock a (plain pointer) x → MayFree pointer c
-    → HasFree x.place.class x.place.block (after_call c a)
+    → Sound a → Frees a pointer c x
     → Run (HasFree x.place.class x.place.block) (after_call c a) b
     → x.place.user ≤ addr → addr < end_of x.place → IsRefused b.world.memory x.tag addr
+
+-- After the free of a live chunk of a size class its block is free.
+abbrev pub FreedBlocksAreFree : Type 0
+FreedBlocksAreFree =
+    (s : State) (pointer : ℕ) (x : BlockChunk) → Sound s → IsLiveBlock s (plain pointer) x
+    → HasFree x.place.class x.place.block (after_call (Free pointer) s)
 
 -- Each access that touches an address faults, checked or not.
 abbrev pub IsUnmapped : Memory → ℕ → Type 0
@@ -76,29 +93,44 @@ IsUnmapped m a =
     (pointer n i : ℕ) (check : Bool) → i < n → (plain pointer + i) % 2 ^ 56 ≡ a
     → IsSome (read_fault m pointer n check) × IsSome (write_fault m pointer n check)
 
--- After the free of a chunk with pages of its own no page of them is mapped, and as long as one is
--- not, each access to it faults.
+-- A call that frees or moves a chunk with pages of its own leaves no mapping there; as long as a
+-- page is not mapped, each access to it faults.
 pub record FreedPagesAreUnmapped : Type 0 where
   pub gone :
-      (a : State) (pointer addr : ℕ) (x : PageChunk)
-      → Sound a → pointer ≢ 0 → IsLiveLarge a (plain pointer) x
+      (a : State) (pointer addr : ℕ) (c : HeapRequest) (x : PageChunk)
+      → Sound a → IsLiveLarge a (plain pointer) x → MayFree pointer c
+      → large_at (after_call c a).live.pages (plain pointer) ≡ None
       → x.mapping.start ≤ addr → addr < secondary.end_of x.mapping
-      → attrs_at (after_call (Free pointer) a).world.memory (addr / 4096) ≡ None
+      → list_any (is_inside addr) (after_call c a).world.heap.maps.mappings ≡ false
   pub refused :
       (m : Memory) (addr : ℕ)
       → m.state.mode ≡ Sync → attrs_at m (addr / 4096) ≡ None → IsUnmapped m addr
 
+-- Where no mapping of the heap holds an address of the range of chunks with pages of their own, as
+-- after the free or the move of such a chunk until its pages are mapped again, each access to it
+-- faults.
+abbrev pub FreedPagesAreRefused : Type 0
+FreedPagesAreRefused =
+    (s : State) (addr : ℕ) → Sound s → SECONDARY_START ≤ addr → addr < SECONDARY_END
+    → list_any (is_inside addr) s.world.heap.maps.mappings ≡ false
+    → IsUnmapped s.world.memory addr
+    × ((x : Access) → IsSome (byte_fault s.world.memory x addr))
+
+-- The same of each tenant of a session.
+abbrev pub FreedPagesOfTenantsAreRefused : Type 0
+FreedPagesOfTenantsAreRefused =
+    (s : Session) (life : Life) (m : Machine) (addr : ℕ) → IsCarefulIn s life m
+    → SECONDARY_START ≤ addr → addr < SECONDARY_END
+    → list_any (is_inside addr) m.parts.heap.maps.mappings ≡ false
+    → IsUnmapped m.memory addr
+
 -- ---- a new chunk
 
--- A new chunk of a size class has a tag other than 0 and other than the one that was there; where a
--- freed chunk was there, other than the one that its free gave.
+-- A new chunk of a size class has a tag other than 0 and other than the one that was there.
 pub record IsFreshIn (s : State) (r : Made) : Type 0 where
   pub some : (p : Place) (t : ℕ) → r.chunk ≡ Some (Small p t) → t ≢ 0
   pub other :
       (p : Place) (t : ℕ) → r.chunk ≡ Some (Small p t) → t ≢ tag_at s.world.memory p.user
-  pub reused :
-      (p : Place) (t : ℕ) (f : Freed) → r.chunk ≡ Some (Small p t)
-      → IsStale s.world.memory s.world.heap.stacks f → p.user ≡ f.place.user → t ≢ f.given
 
 pub record NewTagsDiffer : Type 0 where
   pub malloc : (s : State) (size : ℕ) → Sound s → IsFreshIn s (malloc_of s.world size)
@@ -106,8 +138,37 @@ pub record NewTagsDiffer : Type 0 where
       (s : State) (count size : ℕ) → Sound s → IsFreshIn s (calloc_of s.world count size)
   pub memalign :
       (s : State) (align size : ℕ) → Sound s → IsFreshIn s (memalign_of s.world align size)
+  pub realloc :
+      (s : State) (f : Found) (size : ℕ) → Sound s → IsFreshIn s (moved s.world f size)
+
+-- A call that makes a new chunk.
+pub data IsNewIn (s : State) (r : Made) : Type 0 where
+  malloc : (size : ℕ) → r ≡ malloc_of s.world size → IsNewIn s r
+  calloc : (count size : ℕ) → r ≡ calloc_of s.world count size → IsNewIn s r
+  memalign : (align size : ℕ) → r ≡ memalign_of s.world align size → IsNewIn s r
+  realloc : (f : Found) (size : ℕ) → r ≡ moved s.world f size → IsNewIn s r
+
+-- The first allocation that takes the block of a freed chunk, where it gives out the same address:
+-- its tag is not the one that the free gave.
+abbrev pub ReusedTagsDiffer : Type 0
+ReusedTagsDiffer =
+    (a b : State) (pointer : ℕ) (c : HeapRequest) (x : BlockChunk) (r : Made) (p : Place) (t : ℕ)
+    → Sound a → Frees a pointer c x
+    → Run (HasFree x.place.class x.place.block) (after_call c a) b
+    → IsNewIn b r → r.chunk ≡ Some (Small p t) → p.user ≡ x.place.user
+    → t ≢ tag_at (after_call c a).world.memory x.place.user
 
 -- ---- live chunks
+
+-- The granules of a live chunk have the tag of the pointer to it: 0 where it has pages of its own.
+pub record ChunksAreTagged : Type 0 where
+  pub blocks :
+      (s : State) (u addr : ℕ) (x : BlockChunk) → Sound s → chunk_at s.live.blocks u ≡ Some x
+      → x.place.user ≤ addr → addr < end_of x.place → tag_at s.world.memory addr ≡ x.tag
+  pub pages :
+      (s : State) (u addr : ℕ) (x : PageChunk) → Sound s → large_at s.live.pages u ≡ Some x
+      → x.mapping.start ≤ addr → addr < secondary.end_of x.mapping
+      → tag_at s.world.memory addr ≡ 0
 
 -- Two live chunks in neighbouring blocks of a class have different tags, so each checked access
 -- through the pointer to one of them that touches a granule of the other faults.
@@ -161,11 +222,27 @@ abbrev pub FreedBlocksStayRefused : Type 0
 FreedBlocksStayRefused =
     (m k : Machine) (l j : Live) (n pointer addr : ℕ) (c : HeapRequest) (x : BlockChunk)
     → Sound (state_of m l) → IsCarefulNext m l
-    → next_request m ≡ Some c → MayFree pointer c → pointer ≢ 0
+    → next_request m ≡ Some c → MayFree pointer c
     → IsLiveBlock (state_of (stepped m) l) (plain pointer) x
     → HasFree x.place.class x.place.block (state_of (attempted n m).machine (live_after m l))
     → Steps (HasFree x.place.class x.place.block) (attempted n m).machine (live_after m l) k j
     → x.place.user ≤ addr → addr < end_of x.place → IsRefused k.memory x.tag addr
+
+-- The first allocation that takes the block of a chunk that a service freed, where it gives out the
+-- same address: its tag is not the one that the free gave, whatever careful instructions come
+-- between.
+abbrev pub ReusedTagsStayDifferent : Type 0
+ReusedTagsStayDifferent =
+    (m k : Machine) (l j : Live) (n pointer : ℕ) (c : HeapRequest) (x : BlockChunk)
+    (r : Made) (p : Place) (t : ℕ)
+    → Sound (state_of m l) → IsCarefulNext m l
+    → next_request m ≡ Some c → MayFree pointer c
+    → IsLiveBlock (state_of (stepped m) l) (plain pointer) x
+    → HasFree x.place.class x.place.block (state_of (attempted n m).machine (live_after m l))
+    → Steps (HasFree x.place.class x.place.block) (attempted n m).machine (live_after m l) k j
+    → IsCarefulNext k j → IsNewIn (state_of (stepped k) j) r
+    → r.chunk ≡ Some (Small p t) → p.user ≡ x.place.user
+    → t ≢ tag_at (attempted n m).machine.memory x.place.user
 
 -- ---- tenants of a session
 

@@ -12,7 +12,8 @@ use Rattle.std.specs.FinMap.{FinMap}
 use Rattle.mte_tags.specs.Memory.{Memory, tag_at}
 use Rattle.mte_tags.specs.TagChoice.{is_allowed}
 use Rattle.scudo_header.specs.Classes.{size_of}
-use Rattle.address_map.specs.declared.ranges.TheConstants.{REGIONS_START, SECONDARY_START}
+use Rattle.scudo_header.specs.Regions.{region_of}
+use Rattle.address_map.specs.declared.ranges.TheConstants.{SECONDARY_END}
 use Rattle.scudo_header.specs.declared.headers.Header.{Header}
 use Rattle.scudo_header.specs.declared.headers.Origin.{Origin}
 use Rattle.scudo_header.specs.declared.headers.State.TheVariants.{Allocated}
@@ -41,16 +42,9 @@ with_chunk l x = finite.insert l x.place.user x
 unfoldable pub without_chunk : LiveBlocks → ℕ → LiveBlocks
 without_chunk l user = finite.remove l user
 
--- A chunk that was made at a place, and one after it got another size there.
+-- A chunk that was made at a place.
 abbrev pub new_chunk : Origin → Place → ℕ → BlockChunk
 new_chunk origin p tag = record { place = p; tag = tag; header = new_header origin p }
-
-abbrev pub resized_chunk : BlockChunk → ℕ → BlockChunk
-resized_chunk x size = record {
-  place = with_size x.place size;
-  tag = x.tag;
-  header = record (x.header) { size_or_unused_bytes = size };
-}
 
 -- ---- where they lie
 
@@ -104,11 +98,12 @@ IsOutside s a = (c b : ℕ) → IsCarved s c b → b + 16 ≤ a → a < b + size
 
 -- chunks: each live chunk has its tag
 -- halves: each granule of a carved block has tag 0 or one that its half allows
--- outside: a block's first granule, and each granule outside the carved blocks, has tag 0
+-- outside: a block's first granule, and each granule outside the carved blocks, has tag 0, those of
+-- chunks with pages of their own included
 pub record AreTagged (m : Memory) (s : StackState) (l : LiveBlocks) : Type 0 where
   pub chunks : (u : ℕ) (x : BlockChunk) → chunk_at l u ≡ Some x → IsTagged m x.place x.tag
   pub halves :
       (c b a : ℕ) → IsCarved s c b → b ≤ a → a < b + size_of c
       → (tag_at m a ≡ 0) ⊎ IsHalfTag c b (tag_at m a)
   pub outside :
-      (a : ℕ) → REGIONS_START ≤ a → a < SECONDARY_START + 16 → IsOutside s a → tag_at m a ≡ 0
+      (a : ℕ) → region_of 1 ≤ a → a < SECONDARY_END → IsOutside s a → tag_at m a ≡ 0

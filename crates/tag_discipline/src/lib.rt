@@ -4,6 +4,7 @@
 mod laws;
 
 pub use laws::{
-    careful_runs_are_sound, chunks_are_apart, chunks_are_guarded, freed_chunks_are_refused,
-    neighbours_differ, new_tags_differ,
+    careful_runs_are_sound, chunks_are_apart, chunks_are_guarded, chunks_are_tagged,
+    freed_chunks_are_refused, freed_pages_are_refused, neighbours_differ, new_tags_differ,
+    reused_tags_differ,
 };

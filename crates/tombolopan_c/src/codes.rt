@@ -1,5 +1,7 @@
 //! What calls answer.
 
+ghost use Rattle.std.specs.Prelude.{◌≡◌};
+
 /// The version of the layouts and calls.
 pub const VERSION: u32 = 1;
 
@@ -74,3 +76,51 @@ pub const ALREADY_FREE: u64 = 6;
 
 /// Page numbers below it have addresses: 2^56 / 4096.
 pub const PAGES: u64 = 1 << 44;
+
+/// The answers in digits, as `tombolopan.h` has them.
+pub fn answers_in_digits()
+    ensures ok { OK ≡ 0 }
+    ensures fault { FAULT ≡ 1 }
+    ensures svc { SVC ≡ 2 }
+    ensures breakpoint { BREAKPOINT ≡ 3 }
+    ensures illegal { ILLEGAL ≡ 4 }
+    ensures not_mapped { NOT_MAPPED ≡ 5 }
+    ensures already_mapped { ALREADY_MAPPED ≡ 6 }
+    ensures no_room { NO_ROOM ≡ 7 }
+    ensures bad_argument { BAD_ARGUMENT ≡ 8 }
+    ensures abort { ABORT ≡ 9 }
+    ensures out_of_memory { OUT_OF_MEMORY ≡ 10 }
+{}
+
+/// The kinds of faults in digits, as `tombolopan.h` has them.
+pub fn faults_in_digits()
+    ensures translation { TRANSLATION ≡ 1 }
+    ensures permission { PERMISSION ≡ 2 }
+    ensures tag_check { TAG_CHECK ≡ 3 }
+    ensures alignment { ALIGNMENT ≡ 4 }
+    ensures sp_alignment { SP_ALIGNMENT ≡ 5 }
+    ensures pc_alignment { PC_ALIGNMENT ≡ 6 }
+{}
+
+/// The calls of the heap in digits, as `tombolopan.h` has them.
+pub fn heap_calls_in_digits()
+    ensures malloc { MALLOC ≡ 1 }
+    ensures free { FREE ≡ 2 }
+    ensures calloc { CALLOC ≡ 3 }
+    ensures realloc { REALLOC ≡ 4 }
+    ensures memalign { MEMALIGN ≡ 5 }
+    ensures usable_size { USABLE_SIZE ≡ 6 }
+    ensures load { LOAD ≡ 7 }
+    ensures store { STORE ≡ 8 }
+    ensures load_tag { LOAD_TAG ≡ 9 }
+{}
+
+/// The checks of a pointer that fail in digits, as `tombolopan.h` has them.
+pub fn aborts_in_digits()
+    ensures misaligned { MISALIGNED ≡ 1 }
+    ensures unmapped { UNMAPPED ≡ 2 }
+    ensures header_corrupt { HEADER_CORRUPT ≡ 3 }
+    ensures invalid_state { INVALID_STATE ≡ 4 }
+    ensures not_a_block { NOT_A_BLOCK ≡ 5 }
+    ensures already_free { ALREADY_FREE ≡ 6 }
+{}

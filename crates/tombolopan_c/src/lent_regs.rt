@@ -16,7 +16,8 @@ pub struct LentRegs {
     pub x: [u64; 31],
     /// The stack pointer.
     pub sp: u64,
-    /// The address of the instruction that is executed next; its low 56 bits count.
+    /// The address of the instruction that is executed next, below 2^56: a fetch passes bits 63 to
+    /// 56 over, ADR, ADRP and BL do not.
     pub pc: u64,
     /// PSTATE.N, Z, C and V in bits 31 to 28; the other bits are ignored, and written as 0.
     pub nzcv: u32,

@@ -16,6 +16,7 @@ mod page_calls;
 mod run_calls;
 mod stops;
 
+pub use codes::{aborts_in_digits, answers_in_digits, faults_in_digits, heap_calls_in_digits};
 pub use faults::FaultReport;
 pub use heap_lists::tb_heap_calls;
 pub use lent::LentTagState;

@@ -1,6 +1,6 @@
 //! The exports that map and unmap pages.
 
-ghost use Rattle.std.specs.Prelude.{◌≡◌, ◌==◌, length, if◌then◌else◌};
+ghost use Rattle.std.specs.Prelude.{◌≡◌, ◌≢◌, ◌==◌, length, if◌then◌else◌};
 ghost use Rattle.mte_tags.specs.Memory.{no_pages, with_page, without_page, new_page};
 ghost use Rattle.mte_tags.specs.declared.state.TagState.{TagState};
 ghost use Rattle.tombolopan_c.specs.LentPages.{lent_memory, state_of, has_room, mode_for};
@@ -48,6 +48,7 @@ pub extern "C" fn tb_map(pages: &mut [LentPage], number: u64, attrs: u32) -> u32
         ≡ (if result == OK
         then with_page (lent_memory s pages.old) number (new_page attrs)
         else lent_memory s pages.old) }
+    ensures same { result ≢ OK → pages.new ≡ pages.old }
 {
     if number >= PAGES || attrs > 15 {
         return BAD_ARGUMENT;
@@ -71,6 +72,7 @@ pub extern "C" fn tb_unmap(pages: &mut [LentPage], number: u64) -> u32
         ≡ (if result == OK
         then without_page (lent_memory s pages.old) number
         else lent_memory s pages.old) }
+    ensures same { result ≢ OK → pages.new ≡ pages.old }
 {
     if !is_mapped(pages, number) {
         return NOT_MAPPED;

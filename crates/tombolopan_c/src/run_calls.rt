@@ -13,7 +13,7 @@ use crate::stops::StopReport;
 use a64_step::{Decoder, Stop, run, step};
 
 /// Attempts the instruction at the PC. OK is the only answer after which a register or the memory
-/// differs; after any other the PC is still at the instruction.
+/// differs, but for bits that do not count; after any other the PC is still at the instruction.
 #[unsafe(no_mangle)]
 pub extern "C" fn tb_step(
     pages: &mut [LentPage],

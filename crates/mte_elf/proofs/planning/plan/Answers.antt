@@ -7,7 +7,7 @@ use Rattle.mte_elf.proofs.planning.plan.Goals as goal
 
 pub count_pages-pages-requires : goal.count_pages-pages-requires
 count_pages-pages-requires c =
-    let items : c.as_slice-6.result.now ≡ map segment_of (filter is_loaded c.in_ok-headers.headers.items) = search rules in
+    let items : c.as_slice-5.result.now ≡ map segment_of (filter is_loaded c.in_ok-headers.headers.items) = search rules in
     let ranges : list_all (is_in_range (length c.args.file.now)) (map segment_of (filter is_loaded c.in_ok-headers.headers.items)) ≡ true = search rules in
     let table : c.in_ok-headers.headers.items ≡ headers_of c.args.file.now = search rules in
     let few : header_count_of c.args.file.now ≤ 64 = header_count-le c.args.file.now (sym c.holds_table.ensures ∙ c.if-not-holds_table.false) in

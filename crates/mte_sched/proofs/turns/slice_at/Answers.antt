@@ -38,6 +38,7 @@ returns-in-Live c =
       sharing = sliced_sharing c.args.pool.now c.slice_place.new.pool c.args.tlb.now c.slice_place.new.tlb ts c.args.asid c.args.id t c.in-Live.live c.requires.sharing lies same within turn.rest.others turn.entries
           c.args.steps c.slice_place.new.place parts turn.rest turn.same turn.space turn.cached turn.ready machine c.frames.ensures.sound c.frames-in-Live.ensures.sound;
       frames = turn.rest.others.count;
+      capacities = turn.rest.capacities;
       tenants = sliced_tenants c.args.pool.now c.slice_place.new.pool c.args.tlb.now c.slice_place.new.tlb ts c.args.asid c.args.id t c.in-Live.live c.requires.sharing lies same within turn.rest.others turn.entries
           c.args.steps c.slice_place.new.place parts turn.rest turn.same turn.space turn.cached turn.ready machine c.frames.ensures.sound c.frames-in-Live.ensures.sound;
     }

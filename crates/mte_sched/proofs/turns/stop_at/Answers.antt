@@ -52,6 +52,8 @@ returns c =
       sharing = subst (λ (l : List Tenant). IsSharing c.stop_place.new.pool c.stop_place.new.tlb l) (sym back)
           (stopped_sharing c.args.pool.now c.stop_place.new.pool c.args.tlb.now c.stop_place.new.tlb ts i c.args.id t c.in-Live.live c.requires.sharing lies same within turn.others entries c.halt.new.parts turn.entries turn.reserved step);
       frames = turn.others.count;
+      capacities = turn.capacities;
+      room = c.swap.ensures.capacity ∙ c.push_reserved.ensures.capacity ∙ c.swap_remove-pages.ensures.capacity;
       tenants = ap (tenants_in c.stop_place.new.pool) back
           ∙ stopped_tenants c.args.pool.now c.stop_place.new.pool c.args.tlb.now c.stop_place.new.tlb ts i c.args.id t c.in-Live.live c.requires.sharing lies same within turn.others entries c.halt.new.parts turn.entries turn.reserved step;
       live = ap (λ l. count_by is_live (entries_in l) + 1) back

@@ -1,4 +1,4 @@
-use Rattle.tag_discipline.proofs.Disciplines.{freed-stay, freed-blocks, freed-pages}
+use Rattle.tag_discipline.proofs.Disciplines.{freed-stay, freed-blocks, freed-pages, freed-free}
 use Rattle.tag_discipline.proofs.Sessions.{freed-of-tenants}
 use Rattle.tag_discipline.proofs.laws.freed_chunks_are_refused.Goals as goal
 
@@ -13,3 +13,6 @@ returns-clause-instructions c = freed-stay
 
 pub returns-clause-sessions : goal.returns-clause-sessions
 returns-clause-sessions c = freed-of-tenants
+
+pub returns-clause-free : goal.returns-clause-free
+returns-clause-free c = freed-free

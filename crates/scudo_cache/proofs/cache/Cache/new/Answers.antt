@@ -1,10 +1,31 @@
-use Rattle.std.proofs.Common.{◌≡◌, [], replicate, ap, rules}
-use Rattle.std.specs.Prelude.{vec_capacity}
+use Rattle.std.proofs.Common.{◌≡◌, ◌∷◌, ◌++◌, ◌∙◌, [], replicate, sym, ap, arith}
+use Rattle.std.specs.Prelude.{vec_len, vec_capacity}
+use Rattle.std.proofs.lemmas.List.{replicate_more}
 use Rattle.scudo_header.specs.declared.classes.TheConstants.{CLASSES}
+use Rattle.scudo_cache.specs.Caches.{CacheState, empty_cache}
 use Rattle.scudo_cache.proofs.CacheLemmas.{new-cache}
 use Rattle.scudo_cache.proofs.cache.Cache.new.Goals as goal
 
+pub loop-entries-preserved : goal.loop-entries-preserved
+loop-entries-preserved c =
+    let i = c.loop-entries.invariant in
+    let push = c.push_reserved.ensures in
+    let n = vec_len c.loop-entries.entries in
+    record {
+      items = push.items ∙ ap (λ x. c.loop-entries.entries.items ++ x ∷ []) c.new.ensures ∙ ap (λ t. t ++ [] ∷ []) i.items ∙ replicate_more n [] ∙ ap (λ k. replicate k []) (sym push.len);
+      few = omega (arith, push.len);
+      capacity = push.capacity ∙ i.capacity;
+    }
+
 pub invariant_of-result : goal.invariant_of-result
 invariant_of-result c =
-    let e : c.in_ok-entries.entries.items ≡ replicate CLASSES [] = search rules in
-    new-cache _ _ (ap (λ t. record { lists = t; capacity = vec_capacity c.in_ok-entries.entries }) e)
+    let i = c.loop-entries.invariant in
+    let all : vec_len c.loop-entries.entries ≡ CLASSES = omega (arith, i.few) in
+    new-cache _ _ (ap (λ t. record { lists = t; capacity = vec_capacity c.loop-entries.entries }) (i.items ∙ ap (λ k. replicate k []) all))
+
+pub returns : goal.returns
+returns c =
+    let i = c.loop-entries.invariant in
+    let all : vec_len c.loop-entries.entries ≡ CLASSES = omega (arith, i.few) in
+    ap (λ t. let s : CacheState = record { lists = t; capacity = vec_capacity c.loop-entries.entries } in s) (i.items ∙ ap (λ k. replicate k []) all)
+    ∙ ap (λ n. empty_cache n) i.capacity

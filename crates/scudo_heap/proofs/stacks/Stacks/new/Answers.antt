@@ -14,4 +14,4 @@ invariant_of-result c =
     }
 
 pub returns : goal.returns
-returns c = view-new (record { pool = c.in_ok-pool.pool; cache = c.in_ok-cache.cache }) c.args.pages _ c.in_ok-pool.ensures (ap (λ (t : CacheState). t.lists) c.in_ok-cache.ensures)
+returns c = view-new (record { pool = c.in_ok-pool.pool; cache = c.in_ok-cache.cache }) c.args.pages c.in_ok-pool.ensures c.in_ok-cache.ensures

@@ -1,0 +1,41 @@
+//! What a command line requests, and what the program does then.
+
+ghost use Rattle.mte_program.specs.Conclusions.{Concluded};
+
+use crate::files::Files;
+use crate::program::Program;
+use crate::running::run_program;
+use mte_session::{Ending, Sink, finish};
+use std::alloc::Global;
+
+/// What a command line requests.
+#[derive(Drop)]
+pub enum Invocation {
+    /// A session.
+    Run(Program),
+    /// Nothing more: help or a usage fault was printed. The exit status.
+    Exit(u8),
+    /// An allocation failed.
+    OutOfMemory,
+}
+
+/// Runs the session that was requested, if one was, writes the line for standard error, if there is
+/// one, and returns the exit status.
+pub fn conclude<F: Files, W: Sink, E: Sink>(
+    alloc: Global,
+    invocation: &Invocation,
+    files: &mut F,
+    out: &mut W,
+    err: &mut E,
+) -> u8
+    ensures { Concluded invocation.now
+        (record { files = F.log files.old; out = W.log out.old; err = E.log err.old })
+        (record { files = F.log files.new; out = W.log out.new; err = E.log err.new }) result }
+{
+    let ending = match invocation {
+        Invocation::Run(program) => run_program(alloc, program, files, out),
+        Invocation::Exit(status) => return *status,
+        Invocation::OutOfMemory => Ending::Memory,
+    };
+    finish(&ending, err)
+}

@@ -1,0 +1,31 @@
+//! The words of a command line, and the names among them.
+
+ghost use Rattle.std.specs.Prelude.{◌≡◌, ◌∷◌, ◌≤◌, map, length, IfOk};
+ghost use Rattle.mte_program.specs.Reads.{names_of};
+
+use std::alloc::{AllocError, Global};
+use std::env::Args;
+
+/// The arguments of the process, all of them or none: their room is reserved first, since a vector
+/// that collects goes on with less where an allocation is refused.
+pub fn collect_words(alloc: Global, args: Args) -> Result<Vec<String>, AllocError> {
+    let mut words = Vec::with_capacity(alloc, args.len())?;
+    for word in args {
+        words.push(word)?;
+    }
+    Ok(words)
+}
+
+/// The names that a program has: its script's, and then those of the files, in order.
+pub fn collect_names(alloc: Global, script: &str, files: &[&str]) -> Result<Vec<String>, AllocError>
+    ensures names { IfOk result (λ names.
+        names_of names.items ≡ script.now ∷ map (λ f. f.now) files.now) }
+    ensures some { IfOk result (λ names. 1 ≤ length names.items) }
+{
+    let mut names = Vec::new(alloc);
+    names.push(String::from_str(alloc, script)?)?;
+    for name in files {
+        names.push(String::from_str(alloc, name)?)?;
+    }
+    Ok(names)
+}
