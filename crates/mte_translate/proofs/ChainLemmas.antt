@@ -1,7 +1,7 @@
 -- The chains of a lookaside buffer: none, one translation more, the oldest dropped.
 use Rattle.std.proofs.Common.{cond, inl, inr, min, ◌⊎◌, ◌≡◌, ℕ, zero, suc, ◌+◌, ◌-◌, ◌<◌, ◌≤◌, Bool, true, false, List, [], ◌∷◌, ◌++◌, length, drop, replicate, get_or, Some, None, refl, sym, ap, subst, ◌∙◌, arith}
 use Rattle.std.specs.Prelude.{find, slice_index, option_map}
-use Rattle.std.proofs.lemmas.List.{length-drop, length-map, get_or-drop, get_or-map, get_or_default, map-append}
+use Rattle.std.proofs.lemmas.List.{length-append, length-drop, length-map, get_or-drop, get_or-map, get_or_default, get_or_push, map-append}
 use Rattle.std.proofs.lemmas.Bool.{cases_lt, cases_eq, false_from_ne_true}
 use Rattle.mte_translate.specs.declared.translation.Translation.{Translation}
 use Rattle.mte_translate.specs.Translations.{is_for, lookup}
@@ -240,6 +240,20 @@ hash_for asid page ts i d l e =
 
 pub hashes_long : (ts : List Translation) → length (hashes_of ts) ≡ length ts
 hashes_long ts = length-map ts (λ (u : Translation). hash_of u.asid u.page)
+
+-- the head of a page's hash is behind the newest translation where that is the page's
+pub newest-head : (asid page first : ℕ) (heads gaps : List ℕ) (ts old : List Translation) (t : Translation) → IsChained first heads gaps (hashes_of ts)
+    → ts ≡ old ++ t ∷ [] → is_for asid page t ≡ true
+    → (slice_index heads (hash_of asid page) ≡ first + length old + 1) × (length ts ≡ length old + 1) × (get_or ts (length old) t ≡ t)
+newest-head asid page first heads gaps ts old t c e is =
+    let long = hashes_long ts in
+    let all : length ts ≡ length old + 1 = ap length e ∙ length-append old (t ∷ []) in
+    let here : get_or ts (length old) t ≡ t = ap (λ l. get_or l (length old) t) e ∙ get_or_push old t t (length old) refl in
+    let same : slice_index (hashes_of ts) (length old) ≡ hash_of asid page = hash_for asid page ts (length old) t (omega (arith, all)) (ap (is_for asid page) here ∙ is) in
+    let past = c.newest (length old) (omega (arith, all, long)) in
+    let above : first + length old < slice_index heads (hash_of asid page) = subst (λ h. first + length old < slice_index heads h) same past in
+    let most = c.most (hash_of asid page) in
+    (omega (arith, above, most, long, all), all, here)
 
 pub passed-none : (asid page first : ℕ) (heads gaps : List ℕ) (ts : List Translation) (end : ℕ) → IsChained first heads gaps (hashes_of ts) → end ≡ slice_index heads (hash_of asid page) → IsPassed asid page first ts end
 passed-none asid page first heads gaps ts end c e =

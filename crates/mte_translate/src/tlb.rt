@@ -1,8 +1,10 @@
 //! The translation lookaside buffer.
 
-ghost use Rattle.std.specs.Prelude.{◌≡◌, ◌+◌, ◌<◌, ◌≤◌, [], length, IfSome, IsNone, Some, None};
+ghost use Rattle.std.specs.Prelude.{◌≡◌, ◌+◌, ◌<◌, ◌≤◌, List, [], ◌∷◌, ◌++◌, length, true};
+ghost use Rattle.std.specs.Prelude.{IfSome, IsNone, Some, None};
 ghost use Rattle.mte_translate.specs.Translations.{lookup, filled, without, without_asid};
-ghost use Rattle.mte_translate.specs.Translations.{newest, IsOneEach};
+ghost use Rattle.mte_translate.specs.Translations.{newest, is_for, IsOneEach};
+ghost use Rattle.mte_translate.specs.declared.translation.Translation.{Translation};
 ghost use Rattle.mte_translate.specs.Whole.{hashes_of, IsChained};
 ghost use Rattle.mte_translate.specs.Windows.{IsPlaceOf};
 
@@ -61,10 +63,14 @@ impl Tlb {
         Some((translation.frame, translation.attrs))
     }
 
-    /// The same by one comparison; or `None`, perhaps also where one stands.
+    /// The same by one comparison; or `None`, perhaps also where one stands, but not where it is the
+    /// one that was put last.
     #[inline(always)]
     pub fn quick_lookup(&self, asid: usize, page: u64) -> Option<(usize, Attrs)>
-        ensures { IfSome result (λ found. lookup asid page self.now ≡ Some found) }
+        ensures found { IfSome result (λ found. lookup asid page self.now ≡ Some found) }
+        ensures newest { (ts : List Translation) (t : Translation)
+            → self.now ≡ ts ++ t ∷ [] → is_for asid page t ≡ true
+            → result ≡ Some (t.frame, t.attrs) }
     {
         let end = self.chains.end(asid, page);
         if end <= self.translations.first() {
