@@ -1,6 +1,6 @@
 #!/usr/bin/env bash
 # Tries command lines of the built mte_host, and compares each exit status and the first line on
-# standard error with what the README says of them.
+# standard error with what docs/HOST.md says of them.
 #     statuses.sh MTE_HOST
 set -euo pipefail
 program=$(realpath "$1")
