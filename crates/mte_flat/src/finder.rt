@@ -30,7 +30,7 @@ fn hash(page: u64) -> usize
 }
 
 impl Finder {
-    /// One with room for `pages` pages; later calls allocate nothing.
+    /// One with room for `pages` pages.
     pub(crate) fn new(alloc: Global, pages: usize) -> Result<Finder, AllocError> {
         Ok(Finder {
             code: 0,

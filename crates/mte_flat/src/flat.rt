@@ -18,8 +18,8 @@ use mte_tags::{
 use std::alloc::{AllocError, Global};
 use std::marker::Model;
 
-/// A tagged memory of its own. It takes all that it will ever need, at most 4500 bytes a page, when
-/// it is made.
+/// A tagged memory of its own: its pages in a list, in the order in which they were mapped, and
+/// where each was put.
 #[derive(Drop)]
 pub struct Flat {
     limit: usize,
@@ -43,7 +43,7 @@ impl Model for Flat {
 
 impl Flat {
     /// A memory of at most `pages` pages, none of them mapped, in a tag mode, its flag clear. It is
-    /// refused only where its memory is; no later call takes any.
+    /// refused only where its memory is.
     pub fn new(alloc: Global, pages: usize, mode: TagMode) -> Result<Flat, AllocError>
         requires { 0 < pages }
         ensures empty { IfOk result (λ memory. memory ≡ no_pages pages mode) }

@@ -42,8 +42,8 @@ impl Model for Quota {
     ghost view = { λ q. q.number };
 }
 
-/// An arena's frames, each out under one quota or under none. After `new` nothing allocates: no
-/// call changes for how many elements the pool's lists have memory.
+/// An arena's frames, each out under one quota or under none. No call changes for how many elements
+/// the pool's lists have memory.
 #[derive(Drop)]
 pub struct FramePool {
     arena: Arena,

@@ -2,7 +2,8 @@
 
 ghost use Rattle.std.specs.Prelude.{◌≡◌, ◌≢◌, ◌≤◌, ◌<◌, ◌+◌, ◌-◌, ℕ, Bool, List, Some, None};
 ghost use Rattle.mte_tags.specs.Memory.{Memory, with_new_pages, without_pages, with_granules};
-ghost use Rattle.mte_tags.specs.Memory.{attrs_at, pages_left, IsFree};
+ghost use Rattle.mte_tags.specs.Memory.{attrs_at, pages_left, IsFree, ArePages};
+ghost use Rattle.mte_tags.specs.Whole.{IsWhole};
 ghost use Rattle.mte_tags.specs.Accesses.{read_fault, write_fault, after_read, after_write};
 ghost use Rattle.mte_tags.specs.Accesses.{written};
 ghost use Rattle.mte_tags.specs.declared.fault.MemFault.{MemFault};
@@ -76,4 +77,8 @@ pub fn pages_after_calls()
         → pages_left (with_new_pages m first n attrs) ≡ pages_left m - n }
     ensures unmap_left { (m : Memory) (first n : ℕ)
         → pages_left (without_pages m first n) ≤ pages_left m + n }
+    ensures unmap_all_left { (m : Memory) (first n : ℕ)
+        → IsWhole m
+        → ArePages m first n
+        → pages_left (without_pages m first n) ≡ pages_left m + n }
 {}

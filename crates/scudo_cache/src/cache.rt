@@ -17,8 +17,8 @@ use std::alloc::{AllocError, Global};
 use std::marker::Model;
 
 /// For each size class the free blocks that are at hand, the oldest first: at most 28 of the
-/// classes up to 512 bytes, and 8 of the others. After `new` nothing allocates: no call changes for
-/// how many classes there is memory.
+/// classes up to 512 bytes, and 8 of the others. No call changes for how many classes there is
+/// memory.
 #[derive(Drop)]
 pub struct Cache {
     entries: Vec<PerClass>,
@@ -38,8 +38,7 @@ impl Model for Cache {
 }
 
 impl Cache {
-    /// A cache that holds no block. It is refused only where its memory is; no later call takes
-    /// any.
+    /// A cache that holds no block. It is refused only where its memory is.
     pub fn new(alloc: Global) -> Result<Cache, AllocError>
         ensures { IfOk result (λ cache. cache ≡ empty_cache CLASSES) }
     {

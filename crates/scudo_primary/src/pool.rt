@@ -23,8 +23,8 @@ use std::marker::Model;
 
 /// For each size class the pages of its region that are carved into blocks, one stack of free
 /// blocks, and a mark for each carved block that says whether it is free. `new` reserves the pool's
-/// memory and writes none of it; what a page needs is written where it is carved. After `new`
-/// nothing allocates: no call changes for how many elements the pool's lists have memory.
+/// memory and writes none of it; what a page needs is written where it is carved. No call changes
+/// for how many elements the pool's lists have memory.
 #[derive(Drop)]
 pub struct Pool {
     /// 128 for each carved page, one for each 32 bytes, in memory for `limit` pages.

@@ -33,7 +33,7 @@ impl Model for Maps {
 
 impl Maps {
     /// No mappings, with room for those of `pages` pages together, 1 to `MAX_PAGES`. It is refused
-    /// only where its memory is; no later call takes any.
+    /// only where its memory is.
     pub fn new(alloc: Global, pages: u64) -> Result<Maps, AllocError>
         requires some { 0 < pages }
         requires most { pages ≤ MAX_PAGES }

@@ -1,5 +1,5 @@
 use Rattle.mte_tags.proofs.PageLaws.{attrs_at-written, attrs_at-with_granules, attrs_at-with_new_pages_in, attrs_at-with_new_pages_out, attrs_at-without_pages_in, attrs_at-without_pages_out, pages_left-written, pages_left-with_granules, pages_left-with_new_pages}
-use Rattle.mte_tags.proofs.Whole.{pages_left-without_pages}
+use Rattle.mte_tags.proofs.Whole.{pages_left-without_pages, unmapped}
 use Rattle.mte_tags.proofs.laws.pages_after_calls.Goals as goal
 
 pub returns-clause-store_tags : goal.returns-clause-store_tags
@@ -31,3 +31,6 @@ returns-clause-map_left c = λ m first n attrs free. pages_left-with_new_pages n
 
 pub returns-clause-unmap_left : goal.returns-clause-unmap_left
 returns-clause-unmap_left c = λ m first n. pages_left-without_pages n m first
+
+pub returns-clause-unmap_all_left : goal.returns-clause-unmap_all_left
+returns-clause-unmap_all_left c = λ m first n whole pages. (unmapped n m first pages whole).1
