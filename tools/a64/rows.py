@@ -1,0 +1,524 @@
+"""The files that the rows of isa/a64.rows give, beside those of crate a64_step."""
+
+from a64.table import ROWS, TableError
+
+COLUMNS = 100  # of a line of what is written
+
+WRITTEN = f"Written by tools/isa.py from {ROWS}. Do not edit."
+
+# What refuses the values that a test of Encoding.antt does not allow, in the code.
+REFUSED = {
+    "equal": "{0} != {1}",
+    "differ": "{0} == {1}",
+    "mask": "!is_mask({0}, {1})",
+    "load_store": "!is_load_store({0}, {1})",
+    "load_store_pair": "!is_load_store_pair({0}, {1}, {2}, {3})",
+    "write_back": "!may_write_back({0}, {1})",
+    "two_source": "!matches!({0}, 2 | 3 | 8 | 9 | 10 | 11)",
+    "offset_register": "!matches!({0}, 2 | 3 | 6 | 7)",
+}
+
+
+def written(rows):
+    """The path of each file, and its text."""
+    rows = list(rows.values())
+    return {
+        "crates/a64_instr/src/instruction.rt": instruction_file(rows),
+        "crates/a64_asm/src/rows.rt": encoder_file(rows),
+        "crates/a64_decode/specs/Fields.antt": fields_file(rows),
+        "crates/a64_decode/src/rows.rt": decoder_file(rows),
+        "crates/a64_decode/proofs/RowLemmas.antt": lemmas_file(rows),
+        "crates/a64_text/src/rows.rt": text_file(rows),
+        "crates/a64_tests/src/row_words.rt": words_file(rows),
+        "examples/disassembly/rows.py": objdump_file(rows),
+    }
+
+
+# ---- lines
+
+
+def filled(parts, start, indent):
+    """The parts, with a space between two of them, in lines: the first begins with `start`, each
+    other with the indent."""
+    lines, line, empty = [], start, True
+    for part in parts:
+        longer = line + part if empty else f"{line} {part}"
+        if len(longer) > COLUMNS and not empty:
+            lines.append(line)
+            longer = indent + part
+        line, empty = longer, False
+    return "\n".join([*lines, line])
+
+
+def with_commas(parts, end=""):
+    """The parts, a comma behind each but the last, which has the end."""
+    return [part + "," for part in parts[:-1]] + [parts[-1] + end]
+
+
+def one_line_or(line, several):
+    """The line where it is short enough, else the several."""
+    return line if len(line) <= COLUMNS else several
+
+
+def names(row, without=()):
+    return [f.name for f in row.fields if f.name not in without]
+
+
+def left_out(row, key):
+    """The fields that a line of the row leaves out (-NAME)."""
+    return [word[1:] for word in row.split(key) if word.startswith("-")]
+
+
+def hexadecimal(word):
+    """A word as Rust has it."""
+    return f"0x{word >> 16:04X}_{word & 0xFFFF:04X}"
+
+
+def applied(row):
+    """The instruction of a row with its fields, in a definition."""
+    text = " ".join([f"instr.{row.name}", *names(row)])
+    return f"({text})" if row.fields else text
+
+
+def pattern(row, unused=()):
+    """The pattern of a row with its fields, in the code."""
+    shown = ", ".join(f"{name}: _" if name in unused else name for name in names(row))
+    return f"Instr::{row.name} {{ {shown} }}" if shown else f"Instr::{row.name}"
+
+
+def arm(left, right):
+    """An arm of a match, whose pattern and value stand in a function."""
+    return one_line_or(f"        {left} => {right},", f"        {left} =>\n            {right},")
+
+
+def fields_of_macro(row):
+    """The fields of a row as the macros `row` take them: each with its lowest bit and its width."""
+    fields = with_commas([f"{f.name} {f.bit}:{f.width}" for f in row.unsigned] or [""])
+    signed = row.signed
+    if signed:
+        fields[-1] += f"; signed {signed.name} {signed.bit}:{signed.width}"
+    return fields
+
+
+def refusal(test):
+    """What refuses what the test does not allow, as an expression of the code."""
+    word, arguments = test
+    if word == "implies":
+        premise, allowed = arguments
+        if premise[0] != "equal":
+            raise TableError(f"{ROWS}: a premise that isn't `equal`: {premise[0]}")
+        return f"{premise[1][0]} == {premise[1][1]} && {refusal(allowed)}"
+    if word == "below":
+        return f"{arguments[0]} > {int(arguments[1]) - 1}"
+    return REFUSED[word].format(*arguments)
+
+
+def call_of_macro(row, first):
+    """The call of a macro `row`: what stands before the fields, the fields and the refusals."""
+    fields = fields_of_macro(row)
+    refusals = [refusal(test) for test in row.allows]
+    start = f"    row!({first}"
+    if not refusals:
+        fields[-1] += ")"
+        return filled(fields, start, " " * 8)
+    line = start + " ".join(fields) + f"; refused {', '.join(refusals)})"
+    fields[-1] += ";"
+    return one_line_or(line, filled(fields, start, " " * 8) + "\n" + filled(
+        with_commas(refusals, ")"), "        refused ", " " * 12))
+
+
+# ---- a64_instr
+
+
+INSTRUCTION_FILE = """\
+// {written}
+//! The instructions (Arm ARM DDI 0487, C4.1): one variant for each row of the table of encodings.
+
+/// An A64 instruction of the profile: its variant is the row of the encoding table, its fields are
+/// the row's fields as encoded in the word (Arm ARM DDI 0487, C4.1 and C6.2).
+///
+/// Fields are plain numbers; `encode` of `a64_asm` says which values are allowed. Offsets are
+/// signed and count the unit of their instruction (bytes, words, pairs or granules).
+#[derive(Clone, Copy)]
+#[rattlefmt::skip]
+pub enum Instr {{
+{variants}
+}}
+"""
+
+
+def variant(row):
+    """The variant of a row, with its mnemonics."""
+    fields = [f"{f.name}: {f.type}" for f in row.fields]
+    shape = f" {{ {', '.join(fields)} }}" if fields else ""
+    return f"    /// {row.said['names']}\n    {row.name}{shape},"
+
+
+def instruction_file(rows):
+    return INSTRUCTION_FILE.format(written=WRITTEN, variants="\n".join(map(variant, rows)))
+
+
+# ---- a64_asm
+
+
+ENCODER_FILE = """\
+// {written}
+//! The word of an instruction by its row (Arm ARM DDI 0487, C4.1): the base, the fields and the
+//! refusals of each.
+
+ghost use Rattle.a64_asm.specs.Encoding.{{Encodes}};
+ghost use Rattle.a64_instr.specs.declared.instruction.Instr.TheVariants as instr;
+
+use crate::refusals::{{is_load_store, is_load_store_pair, may_write_back}};
+use crate::row::row;
+use a64_bits::{{fits_signed, is_mask, signed_bits}};
+use a64_instr::Instr;
+
+/// The word of `instr`, by the function of its row.
+#[rattlefmt::skip]
+pub fn word_by_row(instr: &Instr) -> Option<u32>
+    ensures {{ Encodes result instr.now }}
+{{
+    match *instr {{
+{arms}
+    }}
+}}
+
+{functions}
+"""
+
+
+def encoder_arm(row):
+    if not row.fields:
+        return arm(pattern(row), f"Some({hexadecimal(row.base)})")
+    return arm(pattern(row), f"{row.function}({', '.join(names(row))})")
+
+
+def encoder(row):
+    """The function that encodes a row."""
+    parameters = ", ".join(f"{f.name}: {f.type}" for f in row.fields)
+    head = one_line_or(
+        f"fn {row.function}({parameters}) -> Option<u32>",
+        f"#[rattlefmt::skip]\nfn {row.function}(\n    {parameters},\n) -> Option<u32>")
+    return (f"{head}\n    ensures {{ Encodes result {applied(row)} }}\n{{\n"
+            + call_of_macro(row, f"{hexadecimal(row.base)}, ") + "\n}")
+
+
+def encoder_file(rows):
+    return ENCODER_FILE.format(
+        written=WRITTEN, arms="\n".join(map(encoder_arm, rows)),
+        functions="\n\n".join(encoder(row) for row in rows if row.fields))
+
+
+# ---- a64_decode
+
+
+FIELDS_FILE = """\
+-- {written}
+-- The fields that a word has at the places of each row: the table of encodings read back.
+use Rattle.std.specs.Prelude.{{ℕ, List, [], ◌∷◌}}
+use Rattle.a64_bits.specs.Fields.{{field_of, signed_of}}
+use Rattle.a64_instr.specs.declared.instruction.Instr.{{Instr}}
+use Rattle.a64_instr.specs.declared.instruction.Instr.TheVariants as instr
+
+{readings}
+
+-- All rows.
+abbrev pub rows : ℕ → List Instr
+rows w =
+{rows}
+"""
+
+
+def reading(row):
+    """The definition of the instruction that has the fields of a word."""
+    name = f"{row.function}_at"
+    fields = []
+    for f in row.fields:
+        value = f"field_of {f.bit} {f.width} w"
+        fields.append(f"(signed_of {f.width} ({value}))" if f.signed else f"({value})")
+    parts = [f"instr.{row.name}", *fields]
+    line = one_line_or(f"{name} w = {' '.join(parts)}",
+                       f"{name} w =\n" + filled(parts, " " * 4, " " * 4))
+    return f"abbrev pub {name} : ℕ → Instr\n{line}"
+
+
+def list_of_rows(rows):
+    """All rows of a word, in their order."""
+    parts = [f"{row.function}_at w" if row.fields else f"instr.{row.name}" for row in rows]
+    return filled([parts[0], *(f"∷ {part}" for part in parts[1:]), "∷ []"], " " * 4, " " * 4)
+
+
+def fields_file(rows):
+    return FIELDS_FILE.format(
+        written=WRITTEN, rows=list_of_rows(rows),
+        readings="\n\n".join(reading(row) for row in rows if row.fields))
+
+
+DECODER_FILE = """\
+// {written}
+//! The instruction of a word by its row: the fields and the refusals of each.
+
+ghost use Rattle.std.specs.Prelude.{{Some}};
+ghost use Rattle.a64_decode.specs.Decoded.{{Reads}};
+ghost use Rattle.a64_decode.specs.Fields;
+
+use crate::row::row;
+use a64_asm::{{Instr, is_load_store, is_load_store_pair, may_write_back}};
+use a64_bits::{{field, is_mask, signed_field}};
+
+{functions}
+"""
+
+
+def decoder(row):
+    """The function that reads a row."""
+    return (f"pub fn {row.function}(word: u32) -> Option<Instr>\n"
+            f"    ensures {{ Reads result (Some (Fields.{row.function}_at word)) }}\n{{\n"
+            + call_of_macro(row, f"{row.name} word: ") + "\n}")
+
+
+def decoder_file(rows):
+    return DECODER_FILE.format(
+        written=WRITTEN, functions="\n\n".join(decoder(row) for row in rows if row.fields))
+
+
+LEMMAS_FILE = """\
+-- {written}
+-- For each row: its words are found by their encoding groups, with their fields.
+use Rattle.std.proofs.Common.{{◌≡◌, ℕ, ℤ, refl, subst, arith}}
+use Rattle.std.proofs.lemmas.Bool.{{ne_eqb}}
+use Rattle.a64_bits.specs.Fields.{{field_of}}
+use Rattle.a64_bits.proofs.FieldLemmas.{{twos_complement-lt}}
+use Rattle.a64_instr.specs.declared.instruction.Instr.{{Instr}}
+use Rattle.a64_instr.specs.declared.instruction.Instr.TheVariants as instr
+{groups}
+use Rattle.a64_decode.proofs.Table.{{is, is_signed}}
+use Rattle.a64_decode.proofs.RowPaths.{{IsAt, Found, to_pairs, to_branches, no_tag}}
+
+-- Each row: its place in the table, the fixed bits of its group, and its fields.
+{lemmas}
+
+pub again : (i : Instr) (w : ℕ) → Found w i
+{again}
+"""
+
+
+def groups_of(row):
+    """The definitions of the groups that lead to a row."""
+    return [f"{name}_of" for name in row.said["group"].partition("|")[0].split()]
+
+
+def imports_of_groups(rows):
+    """The lines that import the groups, each once."""
+    start, lines, line = "use Rattle.a64_decode.specs.Groups.{", [], ""
+    for name in dict.fromkeys(name for row in rows for name in groups_of(row)):
+        longer = f"{line}, {name}" if line else start + name
+        if len(longer) >= COLUMNS:
+            lines.append(line + "}")
+            longer = start + name
+        line = longer
+    return "\n".join([*lines, line + "}"])
+
+
+def step_of_path(step, row):
+    """A test on the way to a row, as an equation."""
+    if step in ("branches", "pairs"):
+        return f"to_{step} w (omega arith)"
+    if step == "no_tag":
+        opc, load = row.field("opc"), row.field("l")
+        return (f"no_tag (field_of {opc.bit} {opc.width} w) (field_of {load.bit} {load.width} w)"
+                " (λ p. omega arith)")
+    place, differs, value = step.partition("!=")
+    if not differs:
+        place, _, value = step.partition("=")
+    bits = place.replace(":", " ")
+    if differs:
+        return f"ne_eqb {'w' if place == 'word' else f'(field_of {bits} w)'} {value} (omega arith)"
+    return f"is w {bits} {value} (omega arith)"
+
+
+def binders(row):
+    """The word and the fields of a lemma, with their types."""
+    groups = [["ℕ", "w"]]
+    for f in row.fields:
+        kind = "ℤ" if f.signed else "ℕ"
+        if groups[-1][0] != kind:
+            groups.append([kind])
+        groups[-1].append(f.name)
+    return " ".join(f"({' '.join(group[1:])} : {group[0]})" for group in groups)
+
+
+def field_of_lemma(f):
+    """A field of the word and its value, as an equation."""
+    if f.signed:
+        return f"is_signed w {f.bit} {f.width} {f.name} (omega arith) h.0 (omega arith)"
+    return f"is w {f.bit} {f.width} {f.name} (omega arith)"
+
+
+def proof_of_lemma(row, place):
+    """The proof of a lemma: the place, the path and the fields."""
+    left = " ".join([row.function, "w", *names(row), "h e ="])
+    path = row.said["group"].partition("|")[2].split()
+    if not path:
+        return f"{left} ({place}, subst (λ v. IsAt v {applied(row)} {place}) e (refl, refl))"
+    margin = "      " if row.signed else "  "
+    more = margin + " " * 8
+    steps = [step_of_path(step, row) for step in path]
+    fields = [field_of_lemma(f) for f in row.fields]
+    body = "\n".join([
+        f"{margin}{place},",
+        filled(with_commas(steps, ")"), f"{margin}rw (", more),
+        filled([*with_commas(fields, ")"), "(refl, refl)),"], f"{margin}    (rw (", more)])
+    if not row.signed:
+        return f"{left} (\n{body}\n)"
+    signed = row.signed
+    bits = f"twos_complement-lt {signed.width} (omega arith) {signed.name} h.0"
+    return f"{left}\n    let bits = {bits} in (\n{body}\n    )"
+
+
+def lemma(row, place):
+    """The lemma of a row."""
+    statement = f"{row.function} : {binders(row)}"
+    found = f"→ Found w {applied(row)}"
+    head = one_line_or(f"{statement} {found}", f"{statement}\n    {found}")
+    unfolded = filled(["unfolding", *groups_of(row)], "", " " * 4)
+    return f"{head}\n{unfolded}\n{proof_of_lemma(row, place)}"
+
+
+def again(row):
+    left, right = f"again {applied(row)} w =", " ".join([row.function, "w", *names(row)])
+    return one_line_or(f"{left} {right}", f"{left}\n    {right}")
+
+
+def lemmas_file(rows):
+    return LEMMAS_FILE.format(
+        written=WRITTEN, groups=imports_of_groups(rows),
+        lemmas="\n\n".join(lemma(row, place) for place, row in enumerate(rows)),
+        again="\n".join(map(again, rows)))
+
+
+# ---- a64_text
+
+
+TEXT_FILE = """\
+// {written}
+//! The line of an instruction, by the function of its row.
+
+use crate::control::*;
+use crate::data_processing::*;
+use crate::memory::*;
+use crate::operand::Line;
+use a64_instr::Instr;
+
+/// The line of `instr`, at `pc` where that is known.
+#[rattlefmt::skip]
+pub fn line_of(instr: &Instr, pc: Option<u64>) -> Line {{
+    match *instr {{
+{arms}
+    }}
+}}
+"""
+
+
+def text_arm(row):
+    """The arm of a row: its function, or the call that the row says."""
+    text, unused = row.said.get("text", ""), left_out(row, "text")
+    if "(" in text:
+        return arm(pattern(row), text)
+    first = ["pc"] if "pc" in row.split("text") else []
+    arguments = ", ".join([*first, *names(row, unused)])
+    return arm(pattern(row, unused), f"{row.function}({arguments})")
+
+
+def text_file(rows):
+    return TEXT_FILE.format(written=WRITTEN, arms="\n".join(map(text_arm, rows)))
+
+
+# ---- a64_tests
+
+
+WORDS_FILE = """\
+// {written}
+//! For each row a word as an assembler gives it, with its instruction.
+
+use a64_asm::Instr;
+
+#[rattlefmt::skip]
+pub const ROWS: [(u32, Instr); {count}] = [
+{lines}
+];
+"""
+
+
+def word_of_example(row):
+    """The example of a row: its word, with the fields that stand in it."""
+    digits, _, text = row.said["example"].partition(" ")
+    word = int(digits, 16)
+    fields = ", ".join(f"{name}: {value}" for name, value in row.values(word).items())
+    instr = f"Instr::{row.name} {{ {fields} }}" if fields else f"Instr::{row.name}"
+    line = one_line_or(f"    ({hexadecimal(word)}, {instr}),",
+                       f"    ({hexadecimal(word)},\n        {instr}),")
+    return f"    // {text.strip()}\n{line}"
+
+
+def words_file(rows):
+    return WORDS_FILE.format(
+        written=WRITTEN, count=len(rows), lines="\n".join(map(word_of_example, rows)))
+
+
+# ---- examples/disassembly
+
+
+OBJDUMP_FILE = '''\
+# {written}
+"""The rows of the table of encodings: name, base, fields (NAME BIT:WIDTH), and which fields make
+an instruction."""
+
+from field_tests import {tests}
+
+ROWS = [
+{lines}
+]
+'''
+
+
+def allowed_in_python(test, loose=False):
+    """A test of fields `f`, as an expression of Python; in brackets where `loose` binds less."""
+    word, arguments = test
+    if word == "implies":
+        premise = [value_in_python(argument) for argument in arguments[0][1]]
+        text = f"{premise[0]} != {premise[1]} or {allowed_in_python(arguments[1])}"
+        return f"({text})" if loose else text
+    values = [value_in_python(argument) for argument in arguments]
+    sign = {"below": "<", "equal": "==", "differ": "!="}.get(word)
+    return f"{values[0]} {sign} {values[1]}" if sign else f"{word}({', '.join(values)})"
+
+
+def value_in_python(argument):
+    return argument if argument.isdigit() else f'f["{argument}"]'
+
+
+def row_of_objdump(row):
+    """A row: its name, base, fields, and which of their values make an instruction."""
+    fields = " ".join(f"{f.name} {f.bit}:{f.width}" for f in row.fields)
+    first = f'    ("{row.function}", 0x{row.base:08X},'
+    if not row.allows:
+        return one_line_or(f'{first} "{fields}", None),', f'{first}\n     "{fields}", None),')
+    several = len(row.allows) > 1
+    tests = [allowed_in_python(test, several) for test in row.allows]
+    tests = [tests[0], *(f"and {test}" for test in tests[1:])]
+    tests[-1] += "),"
+    return f'{first}\n     "{fields}",\n' + filled(tests, "     lambda f: ", " " * 8)
+
+
+def named_tests(rows):
+    """The tests that have a name and no sign in Python, each once."""
+    words = {test[0] for row in rows for test in row.allows}
+    return sorted(words - {"implies", "below", "equal", "differ"})
+
+
+def objdump_file(rows):
+    return OBJDUMP_FILE.format(
+        written=WRITTEN, tests=", ".join(named_tests(rows)),
+        lines="\n".join(map(row_of_objdump, rows)))
