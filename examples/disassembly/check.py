@@ -28,12 +28,17 @@ import subprocess
 import sys
 import tempfile
 
+from rows import ROWS
+
 HERE = pathlib.Path(__file__).resolve().parent
 OBJDUMP = "aarch64-linux-gnu-objdump"
 START = 0x400000
 
-# Prefetches, the tag instructions of privileged code, and FEAT_CSSC.
-OTHERS = {"prfm", "prfum", "ldgm", "stgm", "stzgm", "cnt", "ctz"}
+# Prefetches, the tag instructions of privileged code, FEAT_CRC32, FEAT_PAuth and FEAT_CSSC.
+OTHERS = set("""
+    prfm prfum ldgm stgm stzgm crc32b crc32h crc32w crc32x crc32cb crc32ch crc32cw crc32cx pacga
+    abs cnt ctz smax smin umax umin
+""".split())
 
 # Each of the aliases that must occur.
 ALIASES = set("""
@@ -42,111 +47,33 @@ ALIASES = set("""
 """.split())
 
 
-def has_mask(f):
-    """The mask of a logical immediate is not reserved (DecodeBitMasks)."""
-    if f["n"] > f["sf"]:
-        return False
-    pattern = f["n"] << 6 | ~f["imms"] & 63
-    length = pattern.bit_length() - 1
-    return length >= 1 and f["imms"] & ((1 << length) - 1) != (1 << length) - 1
+# Words of `bitfield` of which few come along: bits 12 to 10 of imms are ones, as where the field is
+# a byte, a halfword or a word.
+EXTEND = ("bitfield", 0x13001C00, "sf 31:1 opc 29:2 n 22:1 immr 16:1 imms 13:2 rn 5:5 rd 0:5", None)
 
 
-def in_word(f, name):
-    return f["sf"] == 1 or f[name] < 32
+class Row:
+    """A row of the table: `fields` are (name, bit, width)."""
 
+    def __init__(self, name, base, fields, allows):
+        self.name, self.base, self.allows = name, base, allows
+        words = fields.replace(":", " ").split()
+        self.fields = [(name, int(bit), int(width))
+                       for name, bit, width in zip(words[::3], words[1::3], words[2::3])]
 
-def has_load_store(f):
-    return (f["size"], f["opc"]) not in {(2, 3), (3, 2), (3, 3)}
+    def word(self, values):
+        return self.base + sum(values[name] << bit for name, bit, _ in self.fields)
 
-
-def writes_back(f, *names):
-    return f["rn"] == 31 or all(f["rn"] != f[name] for name in names)
-
-
-def has_pair(f):
-    return f["opc"] != 3 and (f["l"] == 0 or f["rt"] != f["rt2"])
-
-
-def is_of_another_row(f):
-    """The words of STGP among those of pairs, and of LDG among those of tag stores."""
-    return f.get("opc") == 1 and (f.get("l") == 0 or f.get("mode") == 0)
-
-
-# For each row its name, base, fields (NAME BIT:WIDTH), and which fields make an instruction.
-ROWS = [
-    ("add_sub_imm", 0x11000000, "sf 31:1 op 30:1 s 29:1 sh 22:1 imm12 10:12 rn 5:5 rd 0:5", None),
-    ("add_sub_shift", 0x0B000000,
-     "sf 31:1 op 30:1 s 29:1 shift 22:2 rm 16:5 imm6 10:6 rn 5:5 rd 0:5",
-     lambda f: f["shift"] != 3 and in_word(f, "imm6")),
-    ("add_sub_ext", 0x0B200000,
-     "sf 31:1 op 30:1 s 29:1 rm 16:5 option 13:3 imm3 10:3 rn 5:5 rd 0:5",
-     lambda f: f["imm3"] <= 4),
-    ("log_imm", 0x12000000, "sf 31:1 opc 29:2 n 22:1 immr 16:6 imms 10:6 rn 5:5 rd 0:5", has_mask),
-    ("log_shift", 0x0A000000,
-     "sf 31:1 opc 29:2 shift 22:2 n 21:1 rm 16:5 imm6 10:6 rn 5:5 rd 0:5",
-     lambda f: in_word(f, "imm6")),
-    ("move_wide", 0x12800000, "sf 31:1 opc 29:2 hw 21:2 imm16 5:16 rd 0:5",
-     lambda f: f["opc"] != 1 and (f["sf"] == 1 or f["hw"] < 2)),
-    ("bitfield", 0x13000000, "sf 31:1 opc 29:2 n 22:1 immr 16:6 imms 10:6 rn 5:5 rd 0:5",
-     lambda f: f["opc"] != 3 and f["n"] == f["sf"] and in_word(f, "immr") and in_word(f, "imms")),
-    # Bits 12 to 10 of imms are ones, as where the field is a byte, a halfword or a word.
-    ("extend", 0x13001C00, "sf 31:1 opc 29:2 n 22:1 immr 16:1 imms 13:2 rn 5:5 rd 0:5",
-     lambda f: f["opc"] != 3 and f["n"] == f["sf"]),
-    ("extr", 0x13800000, "sf 31:1 n 22:1 rm 16:5 imms 10:6 rn 5:5 rd 0:5",
-     lambda f: f["n"] == f["sf"] and in_word(f, "imms")),
-    ("adr", 0x10000000, "op 31:1 immlo 29:2 immhi 5:19 rd 0:5", None),
-    ("branch", 0x14000000, "op 31:1 imm26 0:26", None),
-    ("branch_cond", 0x54000000, "imm19 5:19 cond 0:4", None),
-    ("cmp_branch", 0x34000000, "sf 31:1 op 24:1 imm19 5:19 rt 0:5", None),
-    ("test_branch", 0x36000000, "b5 31:1 op 24:1 b40 19:5 imm14 5:14 rt 0:5", None),
-    ("branch_reg", 0xD61F0000, "opc 21:2 rn 5:5", lambda f: f["opc"] != 3),
-    ("adc_sbc", 0x1A000000, "sf 31:1 op 30:1 s 29:1 rm 16:5 rn 5:5 rd 0:5", None),
-    ("cond_cmp", 0x3A400000, "sf 31:1 op 30:1 rm 16:5 cond 12:4 i 11:1 rn 5:5 nzcv 0:4", None),
-    ("cond_sel", 0x1A800000, "sf 31:1 op 30:1 rm 16:5 cond 12:4 o2 10:1 rn 5:5 rd 0:5", None),
-    ("two_source", 0x1AC00800, "sf 31:1 rm 16:5 kind 10:1 rn 5:5 rd 0:5", None),
-    ("shift_variable", 0x1AC02000, "sf 31:1 rm 16:5 kind 10:2 rn 5:5 rd 0:5", None),
-    ("one_source", 0x5AC00000, "sf 31:1 opcode 10:3 rn 5:5 rd 0:5",
-     lambda f: f["opcode"] < 6 and (f["sf"] == 1 or f["opcode"] != 3)),
-    ("mul_add", 0x1B000000, "sf 31:1 rm 16:5 o0 15:1 ra 10:5 rn 5:5 rd 0:5", None),
-    ("mul_add_long", 0x9B200000, "u 23:1 rm 16:5 o0 15:1 ra 10:5 rn 5:5 rd 0:5", None),
-    ("mul_high", 0x9B407C00, "u 23:1 rm 16:5 rn 5:5 rd 0:5", None),
-    ("ld_st_imm", 0x39000000, "size 30:2 opc 22:2 imm12 10:12 rn 5:5 rt 0:5", has_load_store),
-    ("ld_st_unscaled", 0x38000000, "size 30:2 opc 22:2 imm9 12:9 rn 5:5 rt 0:5", has_load_store),
-    ("ld_st_post", 0x38000400, "size 30:2 opc 22:2 imm9 12:9 rn 5:5 rt 0:5",
-     lambda f: has_load_store(f) and writes_back(f, "rt")),
-    ("ld_st_pre", 0x38000C00, "size 30:2 opc 22:2 imm9 12:9 rn 5:5 rt 0:5",
-     lambda f: has_load_store(f) and writes_back(f, "rt")),
-    ("ld_st_reg", 0x38200800, "size 30:2 opc 22:2 rm 16:5 option 13:3 s 12:1 rn 5:5 rt 0:5",
-     lambda f: has_load_store(f) and f["option"] in {2, 3, 6, 7}),
-    ("ld_lit", 0x18000000, "opc 30:2 imm19 5:19 rt 0:5", lambda f: f["opc"] != 3),
-    ("pair_post", 0x28800000, "opc 30:2 l 22:1 imm7 15:7 rt2 10:5 rn 5:5 rt 0:5",
-     lambda f: has_pair(f) and writes_back(f, "rt", "rt2")),
-    ("pair_off", 0x29000000, "opc 30:2 l 22:1 imm7 15:7 rt2 10:5 rn 5:5 rt 0:5", has_pair),
-    ("pair_pre", 0x29800000, "opc 30:2 l 22:1 imm7 15:7 rt2 10:5 rn 5:5 rt 0:5",
-     lambda f: has_pair(f) and writes_back(f, "rt", "rt2")),
-    ("svc", 0xD4000001, "", None),
-    ("brk", 0xD4200000, "imm16 5:16", None),
-    ("hint", 0xD503201F, "imm7 5:7", None),
-    ("add_g", 0x91800000, "op 30:1 uimm6 16:6 uimm4 10:4 rn 5:5 rd 0:5", None),
-    ("sub_p", 0x9AC00000, "s 29:1 rm 16:5 rn 5:5 rd 0:5", None),
-    ("irg", 0x9AC01000, "rm 16:5 rn 5:5 rd 0:5", None),
-    ("gmi", 0x9AC01400, "rm 16:5 rn 5:5 rd 0:5", None),
-    ("ldg", 0xD9600000, "imm9 12:9 rn 5:5 rt 0:5", None),
-    ("st_g", 0xD9200000, "opc 22:2 imm9 12:9 mode 10:2 rn 5:5 rt 0:5", lambda f: f["mode"] != 0),
-    ("st_g_p", 0x68000000, "mode 23:2 imm7 15:7 rt2 10:5 rn 5:5 rt 0:5", lambda f: f["mode"] != 0),
-]
-
-
-def parse_fields(text):
-    names = text.split()
-    places = [tuple(map(int, place.split(":"))) for place in names[1::2]]
-    return list(zip(names[::2], places))
+    def has(self, word):
+        """Whether the word is an instruction of this row."""
+        values = {name: word >> bit & ((1 << width) - 1) for name, bit, width in self.fields}
+        return self.word(values) == word and (self.allows is None or self.allows(values))
 
 
 def draw(source, fields):
     """Random fields: often an end of a field's range, and often the value of another field."""
     drawn = {}
-    for name, (_, width) in fields:
+    for name, _, width in fields:
         top = (1 << width) - 1
         alike = [value for value in drawn.values() if value <= top]
         kind = source.random()
@@ -167,18 +94,17 @@ def draw(source, fields):
 
 def make_words(source, count):
     """The words, and for each its row if an instruction of the profile has it, else None."""
+    table = [Row(*row) for row in ROWS]
+    rows = [*table, Row(*EXTEND)]
     made = []
-    for number, (name, base, text, allows) in enumerate(ROWS):
-        fields = parse_fields(text)
-        wanted = count * (number + 1) // len(ROWS) - count * number // len(ROWS)
+    for number, row in enumerate(rows):
+        wanted = count * (number + 1) // len(rows) - count * number // len(rows)
         while wanted > 0:
-            drawn = draw(source, fields)
-            if is_of_another_row(drawn):
-                continue
-            word = base + sum(drawn[field] << bit for field, (bit, _) in fields)
-            good = allows is None or allows(drawn)
-            wanted -= good
-            made.append((word, name if good else None))
+            word = row.word(draw(source, row.fields))
+            found = next((other.name for other in table if other.has(word)), None)
+            if found in (None, row.name):
+                wanted -= found is not None
+                made.append((word, found))
     return made
 
 

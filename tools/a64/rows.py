@@ -1,6 +1,7 @@
 """The files that the rows of isa/a64.rows give, beside those of crate a64_step."""
 
-from a64.table import ROWS, TableError
+from a64.groups import read_groups, way_of
+from a64.table import ONE_OF, ROWS, TableError
 
 COLUMNS = 100  # of a line of what is written
 
@@ -14,20 +15,20 @@ REFUSED = {
     "load_store": "!is_load_store({0}, {1})",
     "load_store_pair": "!is_load_store_pair({0}, {1}, {2}, {3})",
     "write_back": "!may_write_back({0}, {1})",
-    "two_source": "!matches!({0}, 2 | 3 | 8 | 9 | 10 | 11)",
-    "offset_register": "!matches!({0}, 2 | 3 | 6 | 7)",
 }
 
 
 def written(rows):
     """The path of each file, and its text."""
+    classes, groups = read_groups(rows)
+    ways = {name: way_of(row, classes, groups) for name, row in rows.items()}
     rows = list(rows.values())
     return {
         "crates/a64_instr/src/instruction.rt": instruction_file(rows),
         "crates/a64_asm/src/rows.rt": encoder_file(rows),
         "crates/a64_decode/specs/Fields.antt": fields_file(rows),
         "crates/a64_decode/src/rows.rt": decoder_file(rows),
-        "crates/a64_decode/proofs/RowLemmas.antt": lemmas_file(rows),
+        "crates/a64_decode/proofs/RowLemmas.antt": lemmas_file(rows, ways),
         "crates/a64_text/src/rows.rt": text_file(rows),
         "crates/a64_tests/src/row_words.rt": words_file(rows),
         "examples/disassembly/rows.py": objdump_file(rows),
@@ -91,9 +92,11 @@ def arm(left, right):
     return one_line_or(f"        {left} => {right},", f"        {left} =>\n            {right},")
 
 
-def fields_of_macro(row):
-    """The fields of a row as the macros `row` take them: each with its lowest bit and its width."""
-    fields = with_commas([f"{f.name} {f.bit}:{f.width}" for f in row.unsigned] or [""])
+def fields_of_macro(row, first):
+    """What comes first, and the fields of a row as the macros `row` take them: each with its lowest
+    bit and its width."""
+    fields = [*first, *(f"{f.name} {f.bit}:{f.width}" for f in row.unsigned)]
+    fields = with_commas(fields or [""])
     signed = row.signed
     if signed:
         fields[-1] += f"; signed {signed.name} {signed.bit}:{signed.width}"
@@ -110,14 +113,15 @@ def refusal(test):
         return f"{premise[1][0]} == {premise[1][1]} && {refusal(allowed)}"
     if word == "below":
         return f"{arguments[0]} > {int(arguments[1]) - 1}"
+    if word in ONE_OF:
+        return f"!matches!({arguments[0]}, {' | '.join(map(str, ONE_OF[word]))})"
     return REFUSED[word].format(*arguments)
 
 
-def call_of_macro(row, first):
-    """The call of a macro `row`: what stands before the fields, the fields and the refusals."""
-    fields = fields_of_macro(row)
+def call_of_macro(row, start, first=()):
+    """The call of a macro `row`: what comes before the fields, these and the refusals."""
+    fields = fields_of_macro(row, first)
     refusals = [refusal(test) for test in row.allows]
-    start = f"    row!({first}"
     if not refusals:
         fields[-1] += ")"
         return filled(fields, start, " " * 8)
@@ -201,7 +205,7 @@ def encoder(row):
         f"fn {row.function}({parameters}) -> Option<u32>",
         f"#[rattlefmt::skip]\nfn {row.function}(\n    {parameters},\n) -> Option<u32>")
     return (f"{head}\n    ensures {{ Encodes result {applied(row)} }}\n{{\n"
-            + call_of_macro(row, f"{hexadecimal(row.base)}, ") + "\n}")
+            + call_of_macro(row, "    row!(", [hexadecimal(row.base)]) + "\n}")
 
 
 def encoder_file(rows):
@@ -259,7 +263,6 @@ DECODER_FILE = """\
 // {written}
 //! The instruction of a word by its row: the fields and the refusals of each.
 
-ghost use Rattle.std.specs.Prelude.{{Some}};
 ghost use Rattle.a64_decode.specs.Decoded.{{Reads}};
 ghost use Rattle.a64_decode.specs.Fields;
 
@@ -275,7 +278,7 @@ def decoder(row):
     """The function that reads a row."""
     return (f"pub fn {row.function}(word: u32) -> Option<Instr>\n"
             f"    ensures {{ Reads result (Some (Fields.{row.function}_at word)) }}\n{{\n"
-            + call_of_macro(row, f"{row.name} word: ") + "\n}")
+            + call_of_macro(row, f"    row!({row.name} word: ") + "\n}")
 
 
 def decoder_file(rows):
@@ -286,7 +289,7 @@ def decoder_file(rows):
 LEMMAS_FILE = """\
 -- {written}
 -- For each row: its words are found by their encoding groups, with their fields.
-use Rattle.std.proofs.Common.{{◌≡◌, ℕ, ℤ, refl, subst, arith}}
+use Rattle.std.proofs.Common.{{ℕ, ℤ, refl, subst, arith}}
 use Rattle.std.proofs.lemmas.Bool.{{ne_eqb}}
 use Rattle.a64_bits.specs.Fields.{{field_of}}
 use Rattle.a64_bits.proofs.FieldLemmas.{{twos_complement-lt}}
@@ -294,7 +297,8 @@ use Rattle.a64_instr.specs.declared.instruction.Instr.{{Instr}}
 use Rattle.a64_instr.specs.declared.instruction.Instr.TheVariants as instr
 {groups}
 use Rattle.a64_decode.proofs.Table.{{is, is_signed}}
-use Rattle.a64_decode.proofs.RowPaths.{{IsAt, Found, to_pairs, to_branches, no_tag}}
+use Rattle.a64_decode.proofs.RowPaths.{{IsAt, Found, no_tag}}
+use Rattle.a64_decode.proofs.RowPaths.{{to_load_store_pair, to_branches_exceptions_system}}
 
 -- Each row: its place in the table, the fixed bits of its group, and its fields.
 {lemmas}
@@ -304,15 +308,10 @@ pub again : (i : Instr) (w : ℕ) → Found w i
 """
 
 
-def groups_of(row):
-    """The definitions of the groups that lead to a row."""
-    return [f"{name}_of" for name in row.said["group"].partition("|")[0].split()]
-
-
-def imports_of_groups(rows):
+def imports_of_groups(ways):
     """The lines that import the groups, each once."""
     start, lines, line = "use Rattle.a64_decode.specs.Groups.{", [], ""
-    for name in dict.fromkeys(name for row in rows for name in groups_of(row)):
+    for name in dict.fromkeys(f"{name}_of" for groups, _ in ways.values() for name in groups):
         longer = f"{line}, {name}" if line else start + name
         if len(longer) >= COLUMNS:
             lines.append(line + "}")
@@ -323,12 +322,12 @@ def imports_of_groups(rows):
 
 def step_of_path(step, row):
     """A test on the way to a row, as an equation."""
-    if step in ("branches", "pairs"):
-        return f"to_{step} w (omega arith)"
     if step == "no_tag":
         opc, load = row.field("opc"), row.field("l")
         return (f"no_tag (field_of {opc.bit} {opc.width} w) (field_of {load.bit} {load.width} w)"
                 " (λ p. omega arith)")
+    if "=" not in step:
+        return f"to_{step} w (omega arith)"
     place, differs, value = step.partition("!=")
     if not differs:
         place, _, value = step.partition("=")
@@ -356,20 +355,26 @@ def field_of_lemma(f):
     return f"is w {f.bit} {f.width} {f.name} (omega arith)"
 
 
-def proof_of_lemma(row, place):
+def rewriting(margin, start, equations, end):
+    """The equations as the list of a tactic: a line, or a line for each."""
+    return one_line_or(
+        f"{margin}{start} ({', '.join(equations)}){end}",
+        f"{margin}{start} (\n" + "".join(f"{margin}  {equation},\n" for equation in equations)
+        + f"{margin}){end}")
+
+
+def proof_of_lemma(row, place, path):
     """The proof of a lemma: the place, the path and the fields."""
     left = " ".join([row.function, "w", *names(row), "h e ="])
-    path = row.said["group"].partition("|")[2].split()
     if not path:
         return f"{left} ({place}, subst (λ v. IsAt v {applied(row)} {place}) e (refl, refl))"
     margin = "      " if row.signed else "  "
-    more = margin + " " * 8
     steps = [step_of_path(step, row) for step in path]
     fields = [field_of_lemma(f) for f in row.fields]
     body = "\n".join([
         f"{margin}{place},",
-        filled(with_commas(steps, ")"), f"{margin}rw (", more),
-        filled([*with_commas(fields, ")"), "(refl, refl)),"], f"{margin}    (rw (", more)])
+        rewriting(margin, "rw", steps, ""),
+        rewriting(margin + "    ", "(rw", fields, " (refl, refl)),")])
     if not row.signed:
         return f"{left} (\n{body}\n)"
     signed = row.signed
@@ -377,13 +382,14 @@ def proof_of_lemma(row, place):
     return f"{left}\n    let bits = {bits} in (\n{body}\n    )"
 
 
-def lemma(row, place):
+def lemma(row, place, way):
     """The lemma of a row."""
+    groups, path = way
     statement = f"{row.function} : {binders(row)}"
     found = f"→ Found w {applied(row)}"
     head = one_line_or(f"{statement} {found}", f"{statement}\n    {found}")
-    unfolded = filled(["unfolding", *groups_of(row)], "", " " * 4)
-    return f"{head}\n{unfolded}\n{proof_of_lemma(row, place)}"
+    unfolded = filled(["unfolding", *(f"{name}_of" for name in groups)], "", " " * 4)
+    return f"{head}\n{unfolded}\n{proof_of_lemma(row, place, path)}"
 
 
 def again(row):
@@ -391,10 +397,10 @@ def again(row):
     return one_line_or(f"{left} {right}", f"{left}\n    {right}")
 
 
-def lemmas_file(rows):
+def lemmas_file(rows, ways):
     return LEMMAS_FILE.format(
-        written=WRITTEN, groups=imports_of_groups(rows),
-        lemmas="\n\n".join(lemma(row, place) for place, row in enumerate(rows)),
+        written=WRITTEN, groups=imports_of_groups(ways),
+        lemmas="\n\n".join(lemma(row, place, ways[row.name]) for place, row in enumerate(rows)),
         again="\n".join(map(again, rows)))
 
 

@@ -13,7 +13,10 @@ FORMS = "isa/a64.forms"
 TESTS = {"below": 2, "equal": 2, "differ": 2, "mask": 2, "load_store": 2, "load_store_pair": 4,
          "write_back": 2, "two_source": 1, "offset_register": 1}
 
-KEYS = {"names", "allows", "group", "part", "step", "copies", "text", "stores", "overlaps",
+# The values that two of these tests allow.
+ONE_OF = {"two_source": (2, 3, 8, 9, 10, 11), "offset_register": (2, 3, 6, 7)}
+
+KEYS = {"names", "allows", "part", "step", "copies", "text", "stores", "overlaps",
         "example"}
 
 
@@ -132,9 +135,7 @@ def holds(test, values):
         return opc != 3 and not (opc == 1 and load == 0) and not (load == 1 and rt == rt2)
     if word == "write_back":
         return v[0] != v[1] or v[0] == 31
-    if word == "two_source":
-        return v[0] in {2, 3, 8, 9, 10, 11}
-    return v[0] in {2, 3, 6, 7}  # offset_register
+    return v[0] in ONE_OF[word]
 
 
 def fields_of_test(test):
@@ -234,7 +235,7 @@ def read_rows():
 
 def check_row(row, rows):
     """What each row must say."""
-    for key in ("names", "group", "step", "example"):
+    for key in ("names", "step", "example"):
         if not row.said.get(key):
             raise TableError(f"{ROWS}: {row.name} has no line `{key}`")
     if "memory" in row.split("step") and "stores" not in row.said:

@@ -3,6 +3,8 @@
 
 mod instruction;
 mod refusals;
+mod row;
+mod rows;
 
 pub use a64_instr::Instr;
 pub use instruction::encode;

@@ -1,4 +1,5 @@
 pub mod Tested
 pub mod Table
+pub mod RowPaths
 pub mod RowLemmas
 pub mod Words

@@ -1,2 +1,4 @@
+pub mod Fields
+pub mod Groups
 pub mod Decoded
 pub mod DecodeCache

@@ -5,7 +5,7 @@ ghost use Rattle.a64_asm.specs.Encoding.{IsAllowed, IsWordOf, word_of};
 ghost use Rattle.a64_instr.specs.declared.instruction.Instr.{Instr};
 ghost use Rattle.a64_decode.specs.Decoded.{decoded};
 
-use crate::rows::read;
+use crate::groups::read;
 use a64_asm::Instr;
 
 /// The instruction whose word is `word` (Arm ARM DDI 0487, C4.1), `None` exactly where the profile

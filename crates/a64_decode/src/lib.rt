@@ -3,6 +3,8 @@
 
 mod decode_cache;
 mod decoder;
+mod groups;
+mod row;
 mod rows;
 
 pub use decode_cache::Decoder;

@@ -1,3 +1,4 @@
+// Written by tools/isa.py from isa/a64.rows. Do not edit.
 //! The instructions (Arm ARM DDI 0487, C4.1): one variant for each row of the table of encodings.
 
 /// An A64 instruction of the profile: its variant is the row of the encoding table, its fields are

@@ -1,4 +1,5 @@
 pub mod Registers
+pub mod Names
 pub mod Operands
 pub mod Conditions
 pub mod Results
@@ -15,6 +16,7 @@ pub mod MemoryAccess
 pub mod LoadStore
 pub mod LoadStorePair
 pub mod MemoryTagging
+pub mod Parts
 pub mod Steps
 pub mod Fixed
 pub mod Ops

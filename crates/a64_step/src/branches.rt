@@ -48,11 +48,11 @@ pub fn branch(regs: &mut Regs, op: u8, imm26: i32)
 /// B.cond.
 #[inline(always)]
 #[tactic(auto, unfolding(crate::specs::Branches::branch_cond_of))]
-pub fn branch_cond(regs: &mut Regs, imm19: i32, code: u8)
-    requires { code < 16 }
-    ensures { regs.new ≡ branch_cond_of regs.old imm19 code }
+pub fn branch_cond(regs: &mut Regs, imm19: i32, cond: u8)
+    requires { cond < 16 }
+    ensures { regs.new ≡ branch_cond_of regs.old imm19 cond }
 {
-    let taken = condition_holds(regs.flags, code);
+    let taken = condition_holds(regs.flags, cond);
     jump_if(regs, taken, i64::from(imm19));
 }
 

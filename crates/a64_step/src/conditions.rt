@@ -9,11 +9,11 @@ use a64_bits::Flags;
 /// lowest inverts it, but for the last condition, which always holds.
 #[inline(always)]
 #[tactic(auto, unfolding(crate::specs::Conditions::holds))]
-pub fn condition_holds(flags: Flags, code: u8) -> bool
-    requires { code < 16 }
-    ensures { result ≡ holds flags code }
+pub fn condition_holds(flags: Flags, cond: u8) -> bool
+    requires { cond < 16 }
+    ensures { result ≡ holds flags cond }
 {
-    let test = match code / 2 {
+    let test = match cond / 2 {
         0 => flags.z,
         1 => flags.c,
         2 => flags.n,
@@ -23,5 +23,5 @@ pub fn condition_holds(flags: Flags, code: u8) -> bool
         6 => !flags.z && flags.n == flags.v,
         _ => return true,
     };
-    if code % 2 == 1 { !test } else { test }
+    if cond % 2 == 1 { !test } else { test }
 }

@@ -1,16 +1,12 @@
+// Written by tools/isa.py from isa/a64.rows. Do not edit.
 //! The table of instructions.
 
-ghost use Rattle.std.specs.Prelude.{◌≡◌, ◌<◌, true};
+ghost use Rattle.std.specs.Prelude.{◌≡◌, true};
 ghost use Rattle.a64_asm.specs.Encoding.{IsAllowed};
-ghost use Rattle.a64_step.specs.Registers.{advanced};
+ghost use Rattle.a64_step.specs.Parts.{is_branch, is_other_data_processing};
+ghost use Rattle.a64_step.specs.Parts.{is_other_load_or_store, is_system_or_tag};
 ghost use Rattle.a64_step.specs.Results.{Leaves};
-ghost use Rattle.a64_step.specs.Steps.{
-  executed,
-  is_branch,
-  is_other_data_processing,
-  is_other_load_or_store,
-  is_system_or_tag,
-};
+ghost use Rattle.a64_step.specs.Steps.{executed};
 
 use crate::add_subtract::{adc_sbc, add_sub_ext, add_sub_imm, add_sub_shift};
 use crate::bitfield::{bitfield, extr};
@@ -80,12 +76,12 @@ pub fn execute<M: Tagged>(instr: &Instr, regs: &mut Regs, memory: &mut M, outcom
         | Instr::LdLit { .. }
         | Instr::PairPost { .. }
         | Instr::PairOff { .. }
-        | Instr::PairPre { .. } => execute_other_load_store(instr, regs, memory, outcome),
+        | Instr::PairPre { .. } => execute_other_load_or_store(instr, regs, memory, outcome),
         _ => execute_system_or_tag(instr, regs, memory, outcome),
     }
 }
 
-/// The rows of branches.
+/// Executes branches.
 #[rattlefmt::skip]
 #[inline(always)]
 #[tactic(auto, unfolding(crate::specs::Steps::executed))]
@@ -107,7 +103,7 @@ fn execute_branch<M: Tagged>(instr: &Instr, regs: &mut Regs, memory: &mut M, out
     }
 }
 
-/// The rows of data processing of registers but addition without carry, subtraction, logic and moves
+/// Executes data processing of registers but addition without carry, subtraction, logic and moves
 /// of bits.
 #[rattlefmt::skip]
 #[inline(always)]
@@ -133,11 +129,11 @@ fn execute_other_data_processing<M: Tagged>(instr: &Instr, regs: &mut Regs, memo
     }
 }
 
-/// The rows of loads and stores but those of a register at an unsigned offset.
+/// Executes loads and stores but those of a register at an unsigned offset.
 #[rattlefmt::skip]
 #[inline(always)]
 #[tactic(auto, unfolding(crate::specs::Steps::executed))]
-fn execute_other_load_store<M: Tagged>(instr: &Instr, regs: &mut Regs, memory: &mut M, outcome: &mut Outcome)
+fn execute_other_load_or_store<M: Tagged>(instr: &Instr, regs: &mut Regs, memory: &mut M, outcome: &mut Outcome)
     requires allowed { IsAllowed instr.now }
     requires row { is_other_load_or_store instr.now ≡ true }
     requires outcome { outcome.old ≡ Outcome.Next }
@@ -158,7 +154,7 @@ fn execute_other_load_store<M: Tagged>(instr: &Instr, regs: &mut Regs, memory: &
     }
 }
 
-/// The rows of the system and of tags.
+/// Executes SVC, BRK, hints, and what draws, reads, writes or computes with tags.
 #[rattlefmt::skip]
 #[inline(always)]
 #[tactic(auto, unfolding(crate::specs::Steps::executed))]

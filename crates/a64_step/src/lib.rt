@@ -22,7 +22,9 @@ mod op;
 mod op_branches;
 mod op_data;
 mod op_memory;
+mod op_of_constant;
 mod op_of_instr;
+mod op_other;
 mod operands;
 mod outcome;
 mod pc_rel;
@@ -30,8 +32,11 @@ mod registers;
 mod steps;
 
 pub use a64_decode::Decoder;
-pub use kept::{Kept, run_kept};
-pub use laws::{steps_keep_fixed_pages, steps_keep_pages, steps_keep_tag_mode, steps_keep_tags};
+pub use kept::{Kept, run_kept, run_on_kept};
+pub use laws::{
+    known_words_stay, steps_keep_fixed_pages, steps_keep_pages, steps_keep_tag_mode,
+    steps_keep_tags,
+};
 pub use outcome::{Outcome, Stop};
 pub use registers::Regs;
 pub use steps::{run, step};

@@ -11,6 +11,8 @@ mod decode;
 #[cfg(test)]
 mod kept;
 #[cfg(test)]
+mod row_words;
+#[cfg(test)]
 mod step;
 #[cfg(test)]
 mod text;

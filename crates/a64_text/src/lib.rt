@@ -6,5 +6,6 @@ mod data_processing;
 mod instruction;
 mod memory;
 mod operand;
+mod rows;
 
 pub use instruction::{Text, TextAt};

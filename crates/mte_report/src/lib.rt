@@ -11,6 +11,8 @@ mod owner;
 mod pages;
 mod report;
 mod selection;
+mod stored;
+mod stores;
 mod words;
 
 pub use book::Book;

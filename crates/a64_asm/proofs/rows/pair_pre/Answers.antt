@@ -1,5 +1,5 @@
 use Rattle.std.proofs.Common.{rules}
-use Rattle.a64_asm.proofs.instruction.pair_post.Goals as goal
+use Rattle.a64_asm.proofs.rows.pair_pre.Goals as goal
 
 pub returns : goal.returns
 returns c = search rules depth 16

@@ -1,0 +1,91 @@
+"""How lines of the written files are laid out: comments, arms, equations, imports, patterns."""
+
+import textwrap
+
+WIDTH = 100  # of a line
+
+
+def comment(mark, text, indent=""):
+    """A comment of whole lines."""
+    lead = f"{indent}{mark} "
+    return textwrap.fill(text, WIDTH, initial_indent=lead, subsequent_indent=lead,
+                         break_long_words=False, break_on_hyphens=False) + "\n"
+
+
+def sentence(text):
+    return f"{text[0].upper()}{text[1:]}."
+
+
+def alternatives(patterns, result):
+    """An arm of several patterns: on one line if it fits, else a line for each."""
+    line = f"        {' | '.join(patterns)} => {result},\n"
+    if len(line) <= WIDTH + 1:
+        return line
+    return "        " + "\n        | ".join(patterns) + f" => {result},\n"
+
+
+def equation(left, right):
+    """An equation of a definition: on one line if it fits."""
+    line = f"{left} = {right}\n"
+    return line if len(line) <= WIDTH + 1 else f"{left} =\n    {right}\n"
+
+
+def functions_used(uses):
+    """The imports of functions, by their files."""
+    lines = []
+    for module, names in sorted(uses.items()):
+        names = sorted(names)
+        line = f"use crate::{module}::{{{', '.join(names)}}};\n"
+        if len(names) == 1:
+            line = f"use crate::{module}::{names[0]};\n"
+        if len(line) > WIDTH + 1:
+            inner = textwrap.fill(", ".join(names) + ",", WIDTH, initial_indent="    ",
+                                  subsequent_indent="    ")
+            line = f"use crate::{module}::{{\n{inner}\n}};\n"
+        lines.append(line)
+    return "".join(lines)
+
+
+def imported(module, names):
+    """The ghost imports of names, in their order, as many on a line as fit."""
+    room = WIDTH - len(f"ghost use Rattle.{module}.{{}};")
+    return "".join(f"ghost use Rattle.{module}.{{{line.removesuffix(',')}}};\n"
+                   for line in textwrap.wrap(", ".join(names), room))
+
+
+def spec_imported(module, names):
+    """The same in a definition's file."""
+    return imported(module, names).replace("ghost use", "use").replace(";\n", "\n")
+
+
+def braces(name, inside):
+    return f"{name} {{ {', '.join(inside)} }}" if inside else name
+
+
+def row_pattern(row, given, without=()):
+    """The pattern of a row whose constant fields are `given`."""
+    shown = [f"{f.name}: {given[f.name]}" if f.name in given else f.name
+             for f in row.fields if f.name not in without]
+    return braces(f"Instr::{row.name}", [*shown, *[".."][:len(without)]])
+
+
+def any_row(row):
+    return f"Instr::{row.name} {{ .. }}" if row.fields else f"Instr::{row.name}"
+
+
+def row_value(row):
+    """The row with its fields, in a definition."""
+    text = " ".join([f"instr.{row.name}", *(f.name for f in row.fields)])
+    return f"({text})" if row.fields else text
+
+
+def form_names(form):
+    return [name for name, _ in form.kept]
+
+
+def form_pattern(form):
+    return braces(f"Op::{form.name}", form_names(form))
+
+
+def form_value(form):
+    return f"(op.{' '.join([form.name, *form_names(form)])})"

@@ -1,0 +1,85 @@
+#!/usr/bin/env python3
+"""The instruction set as data: writes what follows from the files of isa/.
+
+    isa.py               write the files that follow from the data
+    isa.py --check       exit with 1 where a file isn't what the data give, or where a definition
+                         that is written by hand says something else than the data
+    isa.py --why WORD    the row, fields, refusals and form of a word (hexadecimal)
+    isa.py --overlaps    the rows whose fixed bits overlap, and what keeps them apart
+    isa.py --files       the files that it writes
+
+The files are proved like any others, so nobody has to trust this tool. Only Python's standard
+library is needed.
+"""
+
+import argparse
+import sys
+
+from a64 import compare, forms, groups, pages, rows, stores, table
+
+
+def written_files(all_rows, all_forms):
+    """What every file must be, by its path."""
+    return {**rows.written(all_rows), **groups.written(all_rows), **forms.written(all_rows, all_forms),
+            **stores.written(all_rows), **pages.written(all_rows, all_forms)}
+
+
+def differing_files(files):
+    """The files that aren't what the data give, each with the first line that differs."""
+    for path, text in files.items():
+        place = table.ROOT / path
+        if not place.exists():
+            yield f"{path}: isn't there"
+            continue
+        stands, wanted = place.read_text().split("\n"), text.split("\n")
+        if stands == wanted:
+            continue
+        line = next((n for n, pair in enumerate(zip(stands, wanted)) if pair[0] != pair[1]),
+                    min(len(stands), len(wanted)))
+        yield f"{path}:{line + 1}: isn't what the data give (run tools/isa.py)"
+
+
+def write_files(files):
+    for path, text in files.items():
+        place = table.ROOT / path
+        if not place.exists() or place.read_text() != text:
+            place.parent.mkdir(parents=True, exist_ok=True)
+            place.write_text(text)
+            print(f"wrote {path}")
+
+
+def main():
+    parser = argparse.ArgumentParser(description=__doc__,
+                                     formatter_class=argparse.RawDescriptionHelpFormatter)
+    parser.add_argument("--check", action="store_true", help="compare, and write nothing")
+    parser.add_argument("--why", metavar="WORD", help="tell what a word is")
+    parser.add_argument("--overlaps", action="store_true", help="list the rows that overlap")
+    parser.add_argument("--files", action="store_true", help="list the files")
+    options = parser.parse_args()
+    try:
+        all_rows = table.read_rows()
+        all_forms = table.read_forms(all_rows)
+        if options.why:
+            print(pages.explained(int(options.why, 16), all_rows, all_forms))
+            return 0
+        if options.overlaps:
+            print(pages.overlaps(all_rows))
+            return 0
+        files = written_files(all_rows, all_forms)
+        if options.files:
+            print("\n".join(files))
+            return 0
+        found = list(compare.differences(all_rows, all_forms))
+        if options.check:
+            found = [*differing_files(files), *found]
+        else:
+            write_files(files)
+    except (table.TableError, ValueError) as error:
+        found = [str(error)]
+    for line in found:
+        print(line, file=sys.stderr)
+    return 1 if found else 0
+
+
+if __name__ == "__main__":
+    sys.exit(main())
