@@ -189,6 +189,7 @@ impl Arena {
 
     /// Sets the tags of the `count` granules from `first` on of the frame `f`, which is present.
     /// The frame's bytes, its other tags and all other frames stay as they are.
+    #[inline(always)]
     pub fn set_tags(&mut self, f: usize, first: usize, count: usize, tag: u8)
         requires live { IsLive self.old f }
         requires granules { first + count ≤ FRAME_GRANULES }

@@ -34,6 +34,7 @@ pub(crate) fn set_half(packed: &mut [u8], g: usize, tag: u8)
 }
 
 /// Sets the tags of the `count` granules from `first` on, in whole bytes but for the ends.
+#[inline(always)]
 pub(crate) fn set_run(packed: &mut [u8], first: usize, count: usize, tag: u8)
     requires granules { first + count ≤ length packed.old * 2 }
     requires tag { tag < 16 }

@@ -298,6 +298,7 @@ impl FramePool {
 
     /// Sets the tags of the `count` granules from `first` on of the frame `f`, which is out. The
     /// frame's bytes, its other tags and all other frames stay as they are.
+    #[inline(always)]
     pub fn set_tags(&mut self, f: usize, first: usize, count: usize, tag: u8)
         requires out { IsTaken self.old f }
         requires granules { first + count ≤ FRAME_GRANULES }

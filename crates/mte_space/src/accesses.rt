@@ -203,7 +203,7 @@ pub(crate) fn write_run(
 }
 
 /// The tag of the granule at an address, or how the byte there fails.
-#[inline]
+#[inline(always)]
 pub(crate) fn tag_of_granule(
     pool: &FramePool,
     found: Option<(usize, Attrs)>,
@@ -231,7 +231,7 @@ pub(crate) fn tag_of_granule(
 
 /// Replaces the tags of a run of granules, and makes their bytes zero where `zero` is set, or
 /// returns the fault of the first granule that fails.
-#[inline]
+#[inline(always)]
 pub(crate) fn retag_run(
     pool: &mut FramePool,
     found: Option<(usize, Attrs)>,

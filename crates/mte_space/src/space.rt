@@ -163,13 +163,13 @@ impl PageStore for Space<'_> {
         write_run(self.pool, found, at, bytes, access)
     }
 
-    #[inline]
+    #[inline(always)]
     fn granule_tag(&mut self, at: u64, access: &Access) -> Result<u8, MemFault> {
         let found = translate(self.pool, self.table, self.tlb, self.asid, at / 4096);
         tag_of_granule(self.pool, found, at, access)
     }
 
-    #[inline]
+    #[inline(always)]
     fn store_tags_in_page(
         &mut self,
         at: u64,

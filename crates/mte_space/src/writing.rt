@@ -25,6 +25,7 @@ pub(crate) fn write_frame(pool: &mut FramePool, frame: usize, at: u64, bytes: &[
 
 /// Replaces the tags of `count` granules of a frame from granule `first` on, and makes their bytes
 /// zero where `zero` is set.
+#[inline(always)]
 pub(crate) fn retag_frame(
     pool: &mut FramePool,
     frame: usize,

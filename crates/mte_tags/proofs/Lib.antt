@@ -1,4 +1,5 @@
 mod Choices
+mod Allowed
 mod RandomBits
 pub mod Pages
 pub mod PageLaws

@@ -3,8 +3,9 @@ use Rattle.std.proofs.Common.{◌≡◌, ℕ, zero, suc, ◌+◌, ◌*◌, ◌-�
 use Rattle.std.proofs.lemmas.Bool.{cases_lt}
 use Rattle.std.proofs.Math.Nat.{pow-succ'}
 use Rattle.std.proofs.lemmas.Nat.{mod-pow-add}
-use Rattle.std.proofs.lemmas.Nat.Bits.{bit_at_lowest, bit_at-suc}
+use Rattle.std.proofs.lemmas.Nat.Bits.{bit_at_lowest, bit_at-suc, bit_at_xor}
 use Rattle.std.specs.Int.{bit_at}
+use Rattle.std.specs.Prelude.{bit_xor}
 use Rattle.std.proofs.lemmas.List.{get_or_append_left, get_or_at}
 use Rattle.std.proofs.lemmas.List.FromFn.{get_or-map-range_with_len, length-map-range_with_len}
 use Rattle.mte_tags.specs.RandomTags.{bits_before, next_bit, random_bit, random_number, offset_of, seed_after}
@@ -124,20 +125,47 @@ window_number s k j (suc n) =
     let e : k + (j + 1) ≡ k + j + 1 = omega arith in
     ap (λ b. b + 2 * random_number (random_number s k 16) (j + 1) n) (window s k j) ∙ ap (λ r. random_bit s (k + j) + 2 * r) (window_number s k (j + 1) n ∙ ap (λ x. random_number s x n) e)
 
--- one more bit, as the register takes it in
-pub next_seed : (s : ℕ) → s < 2 ^ 16 → random_number s 1 16 ≡ s / 2 + 32768 * random_bit s 16
-next_seed s h =
-    let low : random_number s 1 15 ≡ s / 2 % 2 ^ 15 =
-    number_of_bits s (s / 2) 1 15 (λ i l. let f : 1 + i ≡ suc i = omega arith in ap (random_bit s) f ∙ random_bit_low s (suc i) (omega arith) ∙ bit_at-suc s i) in
-    number_more s 1 15 ∙ omega (arith, low)
+-- ---- four bits at once
 
-pub top_bit : (s : ℕ) → random_bit s 16 ≡ (s % 2 + s / 4 % 2 + s / 8 % 2 + s / 32 % 2) % 2
-top_bit s =
-    let b0 : random_bit s 0 ≡ s % 2 = random_bit_low s 0 (omega arith) ∙ omega arith in
-    let b2 : random_bit s 2 ≡ s / 4 % 2 = random_bit_low s 2 (omega arith) in
-    let b3 : random_bit s 3 ≡ s / 8 % 2 = random_bit_low s 3 (omega arith) in
-    let b5 : random_bit s 5 ≡ s / 32 % 2 = random_bit_low s 5 (omega arith) in
-    random_bit_next s 0 ∙ rw (b0, b2, b3, b5) refl
+by_2 : (s i : ℕ) → bit_at (s / 4) i ≡ bit_at s (i + 2)
+by_2 s i = let e : s / 4 ≡ s / 2 / 2 = omega arith in let f : suc (suc i) ≡ i + 2 = omega arith in ap (λ x. bit_at x i) e ∙ sym (bit_at-suc (s / 2) i) ∙ sym (bit_at-suc s (suc i)) ∙ ap (bit_at s) f
+
+by_1 : (s i : ℕ) → bit_at (s / 2) i ≡ bit_at s (i + 1)
+by_1 s i = let f : suc i ≡ i + 1 = omega arith in sym (bit_at-suc s i) ∙ ap (bit_at s) f
+
+by_3 : (s i : ℕ) → bit_at (s / 8) i ≡ bit_at s (i + 3)
+by_3 s i = let e : s / 8 ≡ s / 2 / 4 = omega arith in let f : i + 2 + 1 ≡ i + 3 = omega arith in ap (λ x. bit_at x i) e ∙ by_2 (s / 2) i ∙ by_1 s (i + 2) ∙ ap (bit_at s) f
+
+by_4 : (s i : ℕ) → bit_at (s / 16) i ≡ bit_at s (i + 4)
+by_4 s i = let e : s / 16 ≡ s / 4 / 4 = omega arith in let f : i + 2 + 2 ≡ i + 4 = omega arith in ap (λ x. bit_at x i) e ∙ by_2 (s / 4) i ∙ by_2 s (i + 2) ∙ ap (bit_at s) f
+
+by_5 : (s i : ℕ) → bit_at (s / 32) i ≡ bit_at s (i + 5)
+by_5 s i = let e : s / 32 ≡ s / 2 / 16 = omega arith in let f : i + 4 + 1 ≡ i + 5 = omega arith in ap (λ x. bit_at x i) e ∙ by_4 (s / 2) i ∙ by_1 s (i + 4) ∙ ap (bit_at s) f
+
+abbrev pub mixed : ℕ → ℕ
+mixed s = bit_xor (bit_xor (bit_xor s (s / 4)) (s / 8)) (s / 32)
+
+mixed_bit : (s i : ℕ) → i < 8 → random_bit s (16 + i) ≡ bit_at (mixed s) i
+mixed_bit s i h =
+    let f : 16 + i ≡ i + 16 = omega arith in
+    let b0 = random_bit_low s i (omega arith) in
+    let b2 = random_bit_low s (i + 2) (omega arith) in
+    let b3 = random_bit_low s (i + 3) (omega arith) in
+    let b5 = random_bit_low s (i + 5) (omega arith) in
+    let x1 = bit_at_xor s (s / 4) i in
+    let x2 = bit_at_xor (bit_xor s (s / 4)) (s / 8) i in
+    let x3 = bit_at_xor (bit_xor (bit_xor s (s / 4)) (s / 8)) (s / 32) i in
+    ap (random_bit s) f ∙ random_bit_next s i ∙ omega (arith, b0, b2, b3, b5, x1, x2, x3, by_2 s i, by_3 s i, by_5 s i)
+
+pub four_bits : (s : ℕ) → offset_of s 0 ≡ mixed s % 16
+four_bits s = number_of_bits s (mixed s) 16 4 (λ i l. mixed_bit s i (omega arith))
+
+pub four_later : (s : ℕ) → s < 2 ^ 16 → seed_after s 1 ≡ s / 16 + 4096 * (mixed s % 16)
+unfolding random_number
+four_later s h =
+    let low : random_number s 4 12 ≡ s / 16 % 2 ^ 12 =
+    number_of_bits s (s / 16) 4 12 (λ i l. let f : 4 + i ≡ i + 4 = omega arith in ap (random_bit s) f ∙ random_bit_low s (i + 4) (omega arith) ∙ sym (by_4 s i)) in
+    omega (arith, low, number_more s 4 12, number_more s 4 13, number_more s 4 14, number_more s 4 15, four_bits s)
 
 pub seed_after_next : (s d : ℕ) → seed_after (seed_after s d) 1 ≡ seed_after s (d + 1)
 seed_after_next s d = let e : 4 * d + 4 ≡ 4 * (d + 1) = omega arith in window_number s (4 * d) 4 16 ∙ ap (λ k. random_number s k 16) e

@@ -316,7 +316,7 @@ fn unaligned_fetch(pc: u64) -> MemFault
 }
 
 /// The tag of the granule that holds an address.
-#[inline]
+#[inline(always)]
 fn load_granule_tag<S: PageStore>(store: &mut S, addr: u64) -> Result<u8, MemFault>
     ensures small { IfOk result (λ t. t < 16) }
     ensures answer { result
@@ -340,6 +340,8 @@ fn page_has_attrs<S: PageStore>(store: &mut S, addr: u64, attrs: Attrs) -> bool
 }
 
 /// The fault of the first granule that fails of an access without a tag check, if any.
+#[cold]
+#[inline(never)]
 fn check_granules<S: PageStore>(
     store: &mut S,
     at: u64,
@@ -368,6 +370,8 @@ fn check_granules<S: PageStore>(
 }
 
 /// Replaces the tags of granules of mapped pages.
+#[cold]
+#[inline(never)]
 fn tag_granules<S: PageStore>(store: &mut S, at: u64, count: u64, tag: u8, zero: bool)
     requires plain { at < 2 ^ 56 }
     requires aligned { at % 16 ≡ 0 }
@@ -390,7 +394,7 @@ fn tag_granules<S: PageStore>(store: &mut S, at: u64, count: u64, tag: u8, zero:
 
 /// Replaces the tags of granules, or returns the fault of the first that fails.
 #[tactic(auto, unfolding(crate::specs::Accesses::tags_fault))]
-#[inline]
+#[inline(always)]
 fn store_granule_tags<S: PageStore>(
     store: &mut S,
     addr: u64,
@@ -449,12 +453,12 @@ impl<S: PageStore> Tagged for S {
         self.tag_state().pending
     }
 
-    #[inline]
+    #[inline(always)]
     fn load_tag(&mut self, addr: u64) -> Result<u8, MemFault> {
         load_granule_tag(self, addr)
     }
 
-    #[inline]
+    #[inline(always)]
     fn store_tags(
         &mut self,
         addr: u64,

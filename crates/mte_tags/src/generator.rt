@@ -2,7 +2,7 @@
 
 ghost use Rattle.std.specs.Prelude.{◌≡◌, ◌<◌, ◌+◌, ◌^◌, ℕ};
 ghost use Rattle.mte_tags.specs.TagChoice.{chosen_tag};
-ghost use Rattle.mte_tags.specs.RandomTags.{drawn, random_bit, random_number, offset_of};
+ghost use Rattle.mte_tags.specs.RandomTags.{drawn, offset_of};
 ghost use Rattle.mte_tags.specs.RandomTags.{seed_after};
 
 use crate::tags::choose_non_excluded;
@@ -37,28 +37,17 @@ impl Rgsr {
     }
 }
 
-/// The next bit of the sequence: the exclusive or of the seed's bits 0, 2, 3 and 5, which the seed
-/// takes in at its upper end (Arm ARM DDI 0487, AArch64.NextRandomTagBit).
-fn next_bit(seed: &mut u16) -> u8
-    ensures bit { result ≡ random_bit seed.old 16 }
-    ensures small { result < 2 }
-    ensures seed { seed.new ≡ random_number seed.old 1 16 }
-{
-    let now = *seed;
-    let top = (now % 2 + now / 4 % 2 + now / 8 % 2 + now / 32 % 2) % 2;
-    *seed = now / 2 + 32768 * top;
-    top as u8
-}
-
-/// The next four bits of the sequence as a number below 16, the first one lowest.
+/// The next four bits of the sequence as a number below 16, the first one lowest. Each is the
+/// exclusive or of four bits of the seed, which takes it in at its upper end (Arm ARM DDI 0487,
+/// AArch64.NextRandomTagBit): of its bits 0, 2, 3 and 5 the first, and so on.
+#[inline]
 fn random_tag(seed: &mut u16) -> u8
     ensures offset { result ≡ offset_of seed.old 0 }
     ensures below { result < 16 }
     ensures seed { seed.new ≡ seed_after seed.old 1 }
 {
-    let bit0 = next_bit(seed);
-    let bit1 = next_bit(seed);
-    let bit2 = next_bit(seed);
-    let bit3 = next_bit(seed);
-    bit0 + 2 * bit1 + 4 * bit2 + 8 * bit3
+    let now = *seed;
+    let offset = (now ^ (now >> 2) ^ (now >> 3) ^ (now >> 5)) % 16;
+    *seed = now / 16 + 4096 * offset;
+    offset as u8
 }

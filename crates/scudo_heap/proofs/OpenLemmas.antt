@@ -1,14 +1,14 @@
 -- An access of the heap's own to pages of READ, WRITE and TAGGED has no fault.
-use Rattle.std.proofs.Common.{◌≡◌, ℕ, zero, suc, ◌+◌, ◌*◌, ◌/◌, ◌%◌, ◌^◌, ◌<◌, ◌≤◌, Bool, true, false, Option, Some, None, is_some, Result, Ok, is_ok, refl, sym, ap, ◌∙◌, arith, eq-eqb}
+use Rattle.std.proofs.Common.{◌≡◌, ℕ, zero, suc, ◌+◌, ◌*◌, ◌/◌, ◌%◌, ◌^◌, ◌<◌, ◌≤◌, Bool, true, false, List, length, Option, Some, None, is_some, Result, Ok, is_ok, refl, sym, ap, ◌∙◌, arith, eq-eqb}
 use Rattle.std.specs.Prelude.{if◌then◌else◌}
 use Rattle.std.proofs.lemmas.Bool.{cond-true, eqb-true}
 use Rattle.std.proofs.lemmas.Nat.{and_mask}
 use Rattle.a64_bits.specs.Addresses.{plain}
 use Rattle.mte_tags.specs.Memory.{Memory, Page, page_at, attrs_at, attrs_in, page_has, has, has_in, tag_at, with_granules}
-use Rattle.mte_tags.specs.Accesses.{addresses, granules, byte_fault, first_fault, or_else, fault_in, read_access, store_access, load_access, read_fault, tags_fault, tag_load_fault, outcome, loaded, after_read, IsMapped}
+use Rattle.mte_tags.specs.Accesses.{addresses, granules, byte_fault, first_fault, or_else, fault_in, read_access, store_access, load_access, read_fault, tags_fault, tag_load_fault, outcome, loaded, after_read, IsMapped, write_access, write_fault, written, after_write}
 use Rattle.mte_tags.specs.declared.access.Access.{Access}
 use Rattle.mte_tags.specs.declared.fault.MemFault.{MemFault}
-use Rattle.mte_tags.proofs.ModeLaws.{access_fault-none, after_read-unchecked}
+use Rattle.mte_tags.proofs.ModeLaws.{access_fault-none, after_read-unchecked, after_access-unchecked}
 use Rattle.mte_tags.proofs.PageLaws.{page_at-attrs, IsMapped-from_pages}
 use Rattle.scudo_heap.specs.Served.{IsOpen}
 
@@ -70,6 +70,21 @@ tag_loaded m a r e o =
     let below = o.below in
     let same : a % 2 ^ 56 ≡ a = omega arith in
     e ∙ ap (λ f. loaded f (tag_at m (a % 2 ^ 56))) (tag_load_open m a o) ∙ ap (λ p. Ok (tag_at m p)) same
+
+write_open : (m : Memory) (a n : ℕ) → IsOpen m a (a + n) → write_fault m a n false ≡ None
+unfolding write_fault
+write_open m a n o =
+    let b = o.below in
+    let same : a % 2 ^ 56 ≡ a = omega arith in
+    access_fault-none m (write_access a false) (addresses (plain a) n)
+    (ap (λ j. first_fault m (write_access a false) (addresses j n)) same ∙ addresses_open n m (write_access a false) a (a + n) a o (omega arith) (omega arith) refl refl)
+
+pub bytes_written : (m m' : Memory) (a : ℕ) (bs : List ℕ) (r : Result (Unit {0}) MemFault) → r ≡ outcome (write_fault m a (length bs) false) → m' ≡ (if is_ok r then after_write m a bs false else m)
+    → IsOpen m a (a + length bs) → m' ≡ written m a bs
+unfolding after_write
+bytes_written m m' a bs r e s o =
+    s ∙ cond-true _ _ _ (ap is_ok (e ∙ ap outcome (write_open m a (length bs) o)))
+    ∙ ap (λ k. written k a bs) (after_access-unchecked m (write_access a false) (addresses (plain a) (length bs)) refl)
 
 pub open-mapped : (m : Memory) (a n k : ℕ) → n ≡ k → IsOpen m a (a + k) → IsMapped m a n
 open-mapped m a n k e o =
