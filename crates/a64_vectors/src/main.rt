@@ -133,7 +133,7 @@ fn take_all(rt: &HostRuntime, session: &mut Session) -> Result<()> {
 
 fn main(rt: HostRuntime) -> Result<()> {
     let mut session = Session {
-        kept: Kept::new(),
+        kept: Kept::new(rt.alloc())?,
         map: Vec::new(rt.alloc()),
         case: None,
         same: 0,

@@ -63,7 +63,7 @@ pub struct Bench<'a, M> {
 
 impl<'a, M: Paged> Bench<'a, M> {
     /// A memory without pages gets the programs and two pages of tagged data.
-    pub fn new(memory: &'a mut M, lists: &Lists) -> Result<Bench<'a, M>> {
+    pub fn new(alloc: Global, memory: &'a mut M, lists: &Lists) -> Result<Bench<'a, M>> {
         let mapped = map_page(memory, CODE_PAGE, Attrs::TEXT)
             && map_page(memory, CODE_PAGE + 1, Attrs::DATA)
             && map_page(memory, CODE_PAGE + 2, Attrs::DATA)
@@ -83,7 +83,7 @@ impl<'a, M: Paged> Bench<'a, M> {
         }
         Ok(Bench {
             memory,
-            core: Core::new(data, data.wrapping_add(4096)),
+            core: Core::new(alloc, data, data.wrapping_add(4096))?,
         })
     }
 

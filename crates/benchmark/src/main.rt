@@ -105,8 +105,8 @@ fn run_asked(rt: &HostRuntime, asked: Asked) -> Result<()> {
         return report_heap(rt, &mut shared);
     }
     let lists = Lists::new(rt.alloc())?;
-    let mut plain = Bench::new(&mut plain, &lists)?;
-    let mut shared = Bench::new(&mut shared, &lists)?;
+    let mut plain = Bench::new(rt.alloc(), &mut plain, &lists)?;
+    let mut shared = Bench::new(rt.alloc(), &mut shared, &lists)?;
     match asked {
         Asked::One(workload) => report(rt, &lists, &mut plain, &mut shared, workload),
         Asked::Compare => compare(rt, &lists, &mut plain, &mut shared),

@@ -5,6 +5,7 @@ ghost use Rattle.std.specs.Prelude.{◌≡◌, IfSome};
 use crate::measured::Batch;
 use a64_step::{Kept, Outcome, Regs, run_kept};
 use mte_tags::Tagged;
+use std::alloc::{AllocError, Global};
 
 /// A loop of instructions between registers (assembled by llvm-mc).
 pub const ALU: [u32; 16] = [
@@ -84,14 +85,14 @@ pub struct Core {
 
 impl Core {
     /// At the start of the programs, with pointers to two pages of data for the second.
-    pub fn new(first: u64, second: u64) -> Core {
-        Core {
-            kept: Kept::new(),
+    pub fn new(alloc: Global, first: u64, second: u64) -> Result<Core, AllocError> {
+        Ok(Core {
+            kept: Kept::new(alloc)?,
             alu: start(3, 0x0123_4567_89AB_CDEF, CODE),
             alu_writable: start(3, 0x0123_4567_89AB_CDEF, WRITABLE_CODE),
             memory: start(first, second, MEMORY_CODE),
             services: start(0, 1, SERVICES_CODE),
-        }
+        })
     }
 
     /// The steps of a batch of the first program, `None` where it stops.

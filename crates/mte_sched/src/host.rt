@@ -66,13 +66,16 @@ impl Host {
         let Ok(index) = Index::new(alloc) else {
             return Err(ArenaError::OutOfMemory);
         };
+        let Ok(kept) = Kept::new(alloc) else {
+            return Err(ArenaError::OutOfMemory);
+        };
         Ok(Host {
             pool,
             tlb: Tlb::new(),
             tenants: Vec::new(alloc),
             index,
             live: 0,
-            kept: Kept::new(),
+            kept,
         })
     }
 

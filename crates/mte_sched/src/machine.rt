@@ -5,6 +5,8 @@ ghost use Rattle.std.specs.Prelude.{None, ◌/◌};
 ghost use Rattle.mte_tags.specs.Memory.{Memory, page_at, pages_left, no_pages, with_new_pages};
 ghost use Rattle.mte_elf.specs.Headers.{segments_of, entry_of};
 ghost use Rattle.mte_elf.specs.Images.{refusal_of, pages_of};
+ghost use Rattle.a64_step.specs.Fixed.{KeepsFixed};
+ghost use Rattle.a64_step.specs.Kept.{Knows};
 ghost use Rattle.scudo_heap.specs.Served.{IsServed, IsUntouched};
 ghost use Rattle.mte_svc.specs.Results.{is_running};
 ghost use Rattle.mte_svc.specs.Services.{served};
@@ -13,7 +15,7 @@ ghost use Rattle.mte_sched.specs.Tenants.{terms_of};
 ghost use Rattle.mte_sched.specs.Machines.{advance, attempts, settled, met, halted, with_service};
 
 use crate::admission::Admission;
-use a64_step::{Kept, Outcome, Regs, run_kept, steps_keep_pages};
+use a64_step::{Kept, Outcome, Regs, known_words_stay, run_on_kept, steps_keep_pages};
 use address_map::{MAX_PAGES, PAGE_SIZE, STACK_END, STACK_PAGES, STACK_START};
 use mte_elf::{Plan, load};
 use mte_svc::{HeapCalls, Input, Output, Record, Status, SvcEnd, TenantParts, svc};
@@ -75,7 +77,8 @@ pub(crate) fn fill<M: Paged>(plan: &Plan, image: &[u8], pages: u32, mode: TagMod
 }
 
 /// Lets a tenant attempt at most `steps` instructions while it is running and does not yield. It
-/// ends where its flag is set then. A table may serve any number of slices, of any tenants.
+/// ends where its flag is set then. A table may serve any number of slices, of any tenants. A slice
+/// is one run of kept instructions, since no service changes a page without WRITE.
 pub fn slice<M: Paged>(kept: &mut Kept, parts: &mut TenantParts, memory: &mut M, steps: u32)
     requires heap { IsServed (M.Tagged.memory memory.old) parts.old.heap }
     requires tag { parts.old.regs.rgsr.tag < 16 }
@@ -85,6 +88,7 @@ pub fn slice<M: Paged>(kept: &mut Kept, parts: &mut TenantParts, memory: &mut M,
     ensures tag { parts.new.regs.rgsr.tag < 16 }
     ensures kept { M.Tagged.kept memory.old memory.new }
 {
+    kept.begin_run();
     let mut left = u64::from(steps);
     while left > 0 && parts.is_running() {
         left = run_on(kept, parts, memory, left);
@@ -96,11 +100,13 @@ pub fn slice<M: Paged>(kept: &mut Kept, parts: &mut TenantParts, memory: &mut M,
 /// has left, 0 after a yield.
 fn run_on<M: Paged>(kept: &mut Kept, parts: &mut TenantParts, memory: &mut M, left: u64) -> u64
     requires some { 0 < left }
+    requires known { Knows (M.Tagged.memory memory.old) kept.old }
     requires running { is_running parts.old.account.status ≡ true }
     requires heap { IsServed (M.Tagged.memory memory.old) parts.old.heap }
     requires tag { parts.old.regs.rgsr.tag < 16 }
     ensures rest { attempts result (machine_of parts.new (M.Tagged.memory memory.new))
         ≡ attempts left (machine_of parts.old (M.Tagged.memory memory.old)) }
+    ensures known { Knows (M.Tagged.memory memory.new) kept.new }
     ensures fewer { result < left }
     ensures heap { IsServed (M.Tagged.memory memory.new) parts.new.heap }
     ensures tag { parts.new.regs.rgsr.tag < 16 }
@@ -108,7 +114,8 @@ fn run_on<M: Paged>(kept: &mut Kept, parts: &mut TenantParts, memory: &mut M, le
 {
     steps_keep_pages();
     condition_of_calls();
-    let stop = run_kept(kept, &mut parts.regs, memory, left);
+    known_words_stay();
+    let stop = run_on_kept(kept, &mut parts.regs, memory, left);
     parts.account.steps = parts.account.steps.saturating_add(left - stop.left);
     parts.left = stop.left;
     match stop.outcome {
@@ -150,6 +157,7 @@ pub(crate) fn handle<M: Paged>(outcome: Outcome, parts: &mut TenantParts, memory
       goes_on = result;
     }
         ≡ met outcome (machine_of parts.old (M.Tagged.memory memory.old)) }
+    ensures fixed { KeepsFixed (M.Tagged.memory memory.old) (M.Tagged.memory memory.new) }
     ensures heap { IsServed (M.Tagged.memory memory.new) parts.new.heap }
     ensures tag { parts.new.regs.rgsr.tag < 16 }
     ensures kept { M.Tagged.kept memory.old memory.new }
@@ -180,6 +188,7 @@ fn serve<M: Paged>(parts: &mut TenantParts, memory: &mut M) -> bool
       goes_on = result;
     }
         ≡ with_service (served parts.old (M.Tagged.memory memory.old)) }
+    ensures fixed { KeepsFixed (M.Tagged.memory memory.old) (M.Tagged.memory memory.new) }
     ensures heap { IsServed (M.Tagged.memory memory.new) parts.new.heap }
     ensures tag { parts.new.regs.rgsr.tag < 16 }
     ensures kept { M.Tagged.kept memory.old memory.new }

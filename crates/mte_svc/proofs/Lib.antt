@@ -1,2 +1,3 @@
 mod CallLemmas
 mod PageLemmas
+mod FixedServices

@@ -4,6 +4,7 @@
 mod calls;
 mod heap_services;
 mod input;
+mod laws;
 mod output;
 mod parts;
 mod record;
@@ -11,6 +12,7 @@ mod services;
 
 pub use calls::{HeapCall, HeapCalls, HeapService, KEPT_CALLS, kept_calls_in_digits};
 pub use input::Input;
+pub use laws::services_keep_fixed_pages;
 pub use output::Output;
 pub use parts::TenantParts;
 pub use record::{Record, Status};

@@ -1,10 +1,12 @@
 //! The services, by x8.
 
 ghost use Rattle.std.specs.Prelude.{◌≡◌, ◌<◌};
+ghost use Rattle.a64_step.specs.Fixed.{KeepsFixed};
 ghost use Rattle.scudo_heap.specs.Served.{IsServed};
 ghost use Rattle.mte_svc.specs.Services.{served, wrote, read_in};
 
 use crate::heap_services::{calloc, free, malloc, memalign, realloc, usable_size};
+use crate::laws::services_keep_fixed_pages;
 use crate::parts::TenantParts;
 use mte_tags::{MemFault, Paged, Tagged};
 use scudo_heap::{HeapAbort, condition_of_calls};
@@ -77,9 +79,26 @@ pub fn services_in_digits()
 {}
 
 /// The service of an SVC: its number is x8, its arguments are x0 and x1, its result is x0. A number
-/// that no service has returns 2^64 - 1. Where it ends the tenant, PC stays at the SVC.
-#[tactic(auto, unfolding(crate::specs::Services::served))]
+/// that no service has returns 2^64 - 1. Where it ends the tenant, PC stays at the SVC. No service
+/// changes a page that is mapped without WRITE.
 pub fn svc<M: Paged>(parts: &mut TenantParts, memory: &mut M) -> SvcEnd
+    requires heap { IsServed (M.Tagged.memory memory.old) parts.old.heap }
+    requires tag { parts.old.regs.rgsr.tag < 16 }
+    ensures served { record { parts = parts.new; memory = M.Tagged.memory memory.new; end = result }
+        ≡ served parts.old (M.Tagged.memory memory.old) }
+    ensures fixed { KeepsFixed (M.Tagged.memory memory.old) (M.Tagged.memory memory.new) }
+    ensures heap { IsServed (M.Tagged.memory memory.new) parts.new.heap }
+    ensures tag { parts.new.regs.rgsr.tag < 16 }
+    ensures kept { M.Tagged.kept memory.old memory.new }
+{
+    services_keep_fixed_pages();
+    parts.heap.is_sound();
+    by_number(parts, memory)
+}
+
+/// The service with the number in x8.
+#[tactic(auto, unfolding(crate::specs::Services::served))]
+fn by_number<M: Paged>(parts: &mut TenantParts, memory: &mut M) -> SvcEnd
     requires heap { IsServed (M.Tagged.memory memory.old) parts.old.heap }
     requires tag { parts.old.regs.rgsr.tag < 16 }
     ensures served { record { parts = parts.new; memory = M.Tagged.memory memory.new; end = result }

@@ -133,10 +133,10 @@ taken-inside before r x o a z c ch (b ∷ more) es e =
     )
 
 -- a class that is ready has its blocks, and others' stay used
-record IsReady (w r : World) (c : ℕ) : Type 0 where
-  keeps : KeepsUsed w.heap.stacks r.heap.stacks
-  maps : r.heap.maps ≡ w.heap.maps
-  top : (b : ℕ) (more : List ℕ) → stack_of r.heap.stacks c ≡ b ∷ more → IsBlock c (pages_of r.heap.stacks c) b
+pub record IsReady (w r : World) (c : ℕ) : Type 0 where
+  pub keeps : KeepsUsed w.heap.stacks r.heap.stacks
+  pub maps : r.heap.maps ≡ w.heap.maps
+  pub top : (b : ℕ) (more : List ℕ) → stack_of r.heap.stacks c ≡ b ∷ more → IsBlock c (pages_of r.heap.stacks c) b
 
 top-there : (s : StackState) (c b : ℕ) (more : List ℕ) → AreSound s → IsClass c → stack_of s c ≡ b ∷ more → IsBlock c (pages_of s c) b
 top-there s c b more k h e = k.blocks c b h.low h.high (ap (λ t. is_member t b) e ∙ member-first b more)
@@ -157,7 +157,7 @@ is-grown w c k z = record {
   top = λ b more e. carved-top w.heap.stacks c (more_pages c) b more k z e;
 }
 
-is-ready : (w : World) (c : ℕ) → AreSound w.heap.stacks → IsClass c → IsReady w (ready w c) c
+pub is-ready : (w : World) (c : ℕ) → AreSound w.heap.stacks → IsClass c → IsReady w (ready w c) c
 unfolding ready
 is-ready w c s k =
     elim (is_empty (stack_of w.heap.stacks c) && nat_le (more_pages c) (pages_left w.memory)) as (λ b. (is_empty (stack_of w.heap.stacks c) && nat_le (more_pages c) (pages_left w.memory)) ≡ b → IsReady w (cond b (grown w c) w) c) [
@@ -200,7 +200,7 @@ block-beside s s' ms (InPages m header) k c b more kc a e g top h few =
     let above = n.above in
     inr (omega arith)
 
-user-above : (b a : ℕ) → 0 < a → b + 16 ≤ (b + 16 + (a - 1)) / a * a
+pub user-above : (b a : ℕ) → 0 < a → b + 16 ≤ (b + 16 + (a - 1)) / a * a
 user-above b a p = let near : b + 16 + (a - 1) < (b + 16 + (a - 1)) / a * a + a = lt-div-mul-add p in omega arith
 
 class-beside : (w x : World) (o : Origin) (a z c : ℕ) (f : Found) (ch : Chunk) → AreSound w.heap.stacks → AreMappings w.heap.maps.mappings → IsServed x.memory x.heap → IsClass c → IsAlign a → need_of a z ≤ size_of c → IsFound w.heap f
@@ -243,7 +243,7 @@ heap-mapped : (w : World) (o : Origin) (m : Mapping) (z : ℕ) → (large_placed
 unfolding large_placed
 heap-mapped w o m z = refl
 
-place-fits : (ms : List Mapping) (n start : ℕ) → place_of ms n ≡ Some start → is_place ms n start ≡ true
+pub place-fits : (ms : List Mapping) (n start : ℕ) → place_of ms n ≡ Some start → is_place ms n start ≡ true
 place-fits ms n start e = place_of-fits ms n (Some start) (sym e)
 
 mapped-inside : (w x : World) (o : Origin) (a z n : ℕ) (ch : Chunk) (p : Option ℕ) → place_of w.heap.maps.mappings n ≡ p → made_of x (Some ch) ≡ mapped_at w o a z n p → (start : ℕ) × IsMapped w x a z n ch start
@@ -326,10 +326,10 @@ mapping-beside w x o a z n f ch ms v al some small few need e eq =
 
 -- ---- malloc
 
-record IsEnough (c need : ℕ) : Type 0 where
-  low : 0 < c
-  high : c ≤ 44
-  holds : need ≤ size_of c
+pub record IsEnough (c need : ℕ) : Type 0 where
+  pub low : 0 < c
+  pub high : c ≤ 44
+  pub holds : need ≤ size_of c
 
 enough-from : (n from need c : ℕ) → 0 < from → from + n ≤ 45 → find (λ class. nat_le need (size_of class)) (range_with_len from n) ≡ Some c → IsEnough c need
 enough-from zero from need c l h e = cc
@@ -341,7 +341,7 @@ enough-from (suc n) from need c l h e =
       | false ↦ λ t f. enough-from n (from + 1) need c (omega arith) (omega arith) f
     ] refl e
 
-class-enough : (need c : ℕ) → class_for need ≡ Some c → IsEnough c need
+pub class-enough : (need c : ℕ) → class_for need ≡ Some c → IsEnough c need
 unfolding class_for
 class-enough need c e = enough-from 44 1 need c (omega arith) (omega arith) e
 

@@ -13,3 +13,4 @@ pub mod CopyLemmas
 pub mod KeptLemmas
 pub mod BesideLemmas
 pub mod ReallocLemmas
+pub mod OtherPages

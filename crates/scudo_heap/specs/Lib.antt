@@ -9,3 +9,5 @@ pub mod Freeing
 pub mod Realloc
 pub mod Served
 pub mod Inner
+pub mod Others
+pub mod Sound

@@ -1,13 +1,13 @@
 //! The heap's calls.
 
 ghost use Rattle.std.specs.Prelude.{◌≡◌, ◌<◌, ◌≤◌, IfOk};
-ghost use Rattle.scudo_heap.specs.Stacks.{AreSound};
 ghost use Rattle.scudo_heap.specs.Heaps.{HeapState, heap_of, empty_heap};
 ghost use Rattle.scudo_heap.specs.Placing.{world_of};
 ghost use Rattle.scudo_heap.specs.Allocation.{answer_of, malloc_of, calloc_of, memalign_of};
 ghost use Rattle.scudo_heap.specs.Freeing.{free_of, usable_size_of};
 ghost use Rattle.scudo_heap.specs.Realloc.{answered, realloc_of};
 ghost use Rattle.scudo_heap.specs.Served.{IsServed};
+ghost use Rattle.scudo_heap.specs.Sound.{IsSound};
 
 use crate::abort::HeapAbort;
 use crate::allocation::{allocate, is_power};
@@ -247,12 +247,14 @@ impl Heap {
         }
     }
 
-    /// In each stack of free blocks there are carved blocks, none of them twice, whatever the calls
-    /// were.
-    pub fn stacks_are_sound(&self)
-        ensures { AreSound self.now.stacks }
+    /// What holds of every heap, whatever the calls were: in each stack of free blocks there are
+    /// carved blocks, none of them twice, and the mappings are in order, each with pages of its own
+    /// in their range.
+    pub fn is_sound(&self)
+        ensures { IsSound self.now }
     {
         self.stacks.are_sound();
+        self.maps.are_in_order();
     }
 
     /// How many bytes of a chunk its user may use: 0 for the null pointer.

@@ -22,5 +22,5 @@ mod tagging;
 pub use abort::HeapAbort;
 pub use chunk::{Chunk, Found, Place};
 pub use heap::Heap;
-pub use laws::condition_of_calls;
+pub use laws::{calls_keep_other_pages, condition_of_calls};
 pub use limits::{MAX_ALIGNMENT, MAX_REQUEST, requests_in_digits};

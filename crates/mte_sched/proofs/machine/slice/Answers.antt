@@ -13,3 +13,14 @@ returns-clause-machine g c =
       | else-loop-left-test w ↦ attempts_none c.loop-left.left last (omega arith)
     ] in
     c.settle.ensures.machine ∙ ap settled (sym done ∙ c.loop-left.invariant.rest)
+
+pub loop-left-init : goal.loop-left-init
+loop-left-init g c =
+    let m = g.M.Tagged.memory c.args.memory.now in
+    record {
+      rest = ap (λ n. attempts n (machine_of c.args.parts.now m)) c.from-left.ensures;
+      known = c.begin_run.ensures m;
+      heap = c.requires.heap;
+      tag = c.requires.tag;
+      kept = g.met.M.Tagged.kept_same c.args.memory.now;
+    }

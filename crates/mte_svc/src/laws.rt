@@ -1,0 +1,19 @@
+//! What no service changes.
+
+ghost use Rattle.std.specs.Prelude.{◌≡◌};
+ghost use Rattle.mte_tags.specs.Memory.{Memory};
+ghost use Rattle.a64_step.specs.Fixed.{KeepsFixed};
+ghost use Rattle.scudo_heap.specs.Served.{IsServed};
+ghost use Rattle.scudo_heap.specs.Sound.{IsSound};
+ghost use Rattle.mte_svc.specs.Services.{served};
+
+use crate::parts::TenantParts;
+
+/// No service changes a page that is mapped without WRITE: neither its bytes, nor its attributes,
+/// nor whether it is mapped.
+pub fn services_keep_fixed_pages()
+    ensures { (p : TenantParts) (m : Memory)
+        → IsServed m p.heap
+        → IsSound p.heap
+        → KeepsFixed m (served p m).memory }
+{}
