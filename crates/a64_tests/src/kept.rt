@@ -1,8 +1,6 @@
 //! Runs that keep instructions, over plain memories.
 
-use a64_step::{
-    Kept, Outcome, Regs, known_words_stay, run_kept, run_on_kept, steps_keep_fixed_pages,
-};
+use a64_step::{Kept, Outcome, Regs, known_words_stay, run_kept, steps_keep_fixed_pages};
 use mte_flat::Flat;
 use mte_tags::{Attrs, Paged, TagMode, Tagged};
 use std::alloc::Global;
@@ -29,9 +27,7 @@ fn memories_take_turns(rt: HostRuntime) -> Result<(), Fail> {
     let mut regs = Regs::new(CODE, 0);
     for _ in 0..3 {
         run_kept(&mut kept, &mut regs, &mut one, 4);
-        kept.begin_run();
-        run_on_kept(&mut kept, &mut regs, &mut two, 2);
-        run_on_kept(&mut kept, &mut regs, &mut two, 4);
+        run_kept(&mut kept, &mut regs, &mut two, 6);
     }
     assert_eq!(rt; (regs.x[0], regs.pc), (24, CODE));
     steps_keep_fixed_pages();
