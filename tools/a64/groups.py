@@ -334,6 +334,15 @@ def passing_steps(line, row):
     return ["no_tag"]
 
 
+def first_of_each(steps):
+    """The steps without those that say a value of bits, or a difference, a second time."""
+    found = {}
+    for step in steps:
+        place, differs, _ = step.partition("!=")
+        found.setdefault(step if differs else place.partition("=")[0], step)
+    return list(found.values())
+
+
 def way_of(row, classes, groups):
     """The groups on the way to a row, and the steps of the proof that its words take it."""
     (first, last, name), way = find_way(row.name, classes, groups)
@@ -348,7 +357,7 @@ def way_of(row, classes, groups):
         for test in lines[place].tests:
             value = field_text(test, row)
             steps += [value] if value else []
-    return ["row"] * single + [group for group, _ in way], list(dict.fromkeys(steps))
+    return ["row"] * single + [group for group, _ in way], first_of_each(steps)
 
 
 def written(rows):
