@@ -1,8 +1,19 @@
 //! One tenant of a session, without the others.
 
+ghost use Rattle.std.specs.Prelude.{◌≡◌, ℕ, ◌⊎◌, List, [], if◌then◌else◌, OnOk, OnErr, IfOk, IfErr};
+ghost use Rattle.std.specs.Prelude.{IsTrue, ◌↔◌, Some, None};
+ghost use Rattle.mte_sched.specs.Machines.{machine_of};
+ghost use Rattle.mte_sched.specs.Ledger.{call_refusal};
+ghost use Rattle.mte_sched.specs.Contents.{after_call};
+ghost use Rattle.mte_sched.specs.Hosts.{content_of, ledger_in};
+ghost use Rattle.mte_session.specs.Files.{contents};
+ghost use Rattle.mte_session.specs.Sessions.{file_at, call_of, session_of};
+ghost use Rattle.mte_run.specs.Replays.{IsReplay, number_in, unstepped, turned, HasPages};
+ghost use Rattle.mte_run.specs.Replays.{IsStarted, IsPlayed};
+
 use crate::bench::Bench;
 use crate::failure::Failure;
-use mte_sched::{Admission, AdmitError, Host, Refusal, Refused, Watch};
+use mte_sched::{Admission, AdmitError, Host, Refusal, Refused, Watch, ledger_follows};
 use mte_session::{Event, Sink, write_refusal};
 use std::alloc::Global;
 
@@ -16,8 +27,8 @@ pub struct Replayed {
 }
 
 /// Runs what a session does to the tenant with the number, and writes the lines of its refused
-/// events. A host decides which events are refused, and runs no instruction: what a tenant does
-/// cannot change what is refused. `None` where the tenant was never admitted.
+/// events. A host that is new decides which events are refused, and runs no instruction: what a
+/// tenant does cannot change what is refused. `None` where the session never admits the tenant.
 pub fn replay_tenant<'a, W: Sink, O: Watch>(
     alloc: Global,
     host: &mut Host,
@@ -26,23 +37,25 @@ pub fn replay_tenant<'a, W: Sink, O: Watch>(
     files: &[Vec<u8>],
     observer: &mut O,
     out: &mut W,
-) -> Result<Option<Replayed>, Failure<'a>> {
-    let mut bench = None;
-    let mut image = 0;
+) -> Result<Option<Replayed>, Failure<'a>>
+    requires new { (content_of host.old).tenants ≡ [] }
+    ensures { IfOk result (IsReplay id (contents files.now)
+        (session_of (content_of host.old).frames (contents files.now) events.now)) }
+{
+    ledger_follows();
+    let mut replayed = None;
     for (before, event) in events.iter().enumerate() {
         match decide(alloc, host, event, files) {
-            Ok(()) if number_of(event) == id => {
-                image = image_of(event).unwrap_or(image);
-                bench = played(alloc, bench, event, files, observer)?;
+            Ok(()) => {
+                replayed = followed(alloc, id, replayed, event, files, observer)?;
             }
-            Ok(()) => {}
             Err(refusal) => {
                 let event_number = before as u64 + 1;
                 tell_refusal(event_number, refusal, number_of(event) == id, out)?;
             }
         }
     }
-    Ok(bench.map(|bench| Replayed { bench, image }))
+    Ok(replayed)
 }
 
 /// Writes the line of an event that is refused to the tenant itself.
@@ -51,8 +64,10 @@ fn tell_refusal<'a, W: Sink>(
     refusal: Refusal,
     is_own: bool,
     out: &mut W,
-) -> Result<(), Failure<'a>> {
-    if let Refusal::Admit(AdmitError::OutOfMemory) = refusal {
+) -> Result<(), Failure<'a>>
+    ensures { OnOk result ((refusal ≡ Refusal.Admit AdmitError.OutOfMemory) → ⊥) }
+{
+    if is_out_of_memory(&refusal) {
         return Err(Failure::Memory);
     }
     if is_own {
@@ -61,67 +76,32 @@ fn tell_refusal<'a, W: Sink>(
     Ok(())
 }
 
-/// The number of the file with the image, where the event admits a tenant.
-fn image_of(event: &Event) -> Option<u32> {
-    match event {
-        Event::Admit { image, .. } => Some(*image),
-        _ => None,
+/// Whether an event failed because an allocation failed.
+fn is_out_of_memory(refusal: &Refusal) -> bool
+    ensures { IsTrue result ↔ (refusal.now ≡ Refusal.Admit AdmitError.OutOfMemory) }
+{
+    match refusal {
+        Refusal::Admit(AdmitError::OutOfMemory) => true,
+        _ => false,
     }
 }
 
 /// Whether a host accepts an event, whose slices attempt no instruction.
-fn decide(alloc: Global, host: &mut Host, event: &Event, files: &[Vec<u8>]) -> Result<(), Refusal> {
-    let decided = match event {
-        Event::Admit { .. } => match admission_of(event, files) {
-            Some(admission) => return host.admit(alloc, &admission).map_err(Refusal::Admit),
-            None => Ok(()),
-        },
-        Event::Slice { id, .. } => host.slice(*id, 0),
-        Event::Stop { id } => host.stop(*id),
-    };
-    decided.map_err(|_| Refusal::NotLive)
-}
-
-/// What an accepted event makes of the tenant that it names.
-fn played<'a, O: Watch>(
-    alloc: Global,
-    bench: Option<Bench>,
-    event: &Event,
-    files: &[Vec<u8>],
-    observer: &mut O,
-) -> Result<Option<Bench>, Failure<'a>> {
-    let mut bench = match bench {
-        Some(bench) => bench,
-        None => {
-            let Some(admission) = admission_of(event, files) else {
-                return Ok(None);
-            };
-            if admission.pages == 0 {
-                return Ok(None);
-            }
-            return match Bench::new(alloc, &admission) {
-                Ok(bench) => Ok(Some(bench)),
-                Err(_) => Err(Failure::Memory),
-            };
-        }
-    };
-    match event {
-        Event::Admit { .. } => {}
-        Event::Slice { steps, .. } => bench.slice(observer, *steps),
-        Event::Stop { .. } => bench.stop(),
-    }
-    Ok(Some(bench))
-}
-
-/// The number of the tenant that an event names.
-fn number_of(event: &Event) -> u16 {
-    match event {
-        Event::Admit { id, .. } | Event::Slice { id, .. } | Event::Stop { id } => *id,
-    }
-}
-
-/// What an event admits a tenant with.
-fn admission_of<'a>(event: &Event, files: &'a [Vec<u8>]) -> Option<Admission<'a>> {
+#[rattlefmt::skip]
+#[tactic(
+    auto,
+    unfolding(mte_sched::specs::Ledger::call_refusal, mte_sched::specs::Contents::after_call)
+)]
+fn decide(alloc: Global, host: &mut Host, event: &Event, files: &[Vec<u8>]) -> Result<(), Refusal>
+    ensures accepted { OnOk result (call_refusal (content_of host.old).frames (ledger_in host.old)
+        (call_of (contents files.now) event.now) ≡ None) }
+    ensures ok { OnOk result (content_of host.new ≡ after_call (content_of host.old)
+        (unstepped (call_of (contents files.now) event.now))) }
+    ensures refused { IfErr result (λ r. (r ≡ Refusal.Admit AdmitError.OutOfMemory)
+        ⊎ (call_refusal (content_of host.old).frames (ledger_in host.old)
+        (call_of (contents files.now) event.now) ≡ Some r)) }
+    ensures err { OnErr result (content_of host.new ≡ content_of host.old) }
+{
     match *event {
         Event::Admit {
             id,
@@ -131,23 +111,140 @@ fn admission_of<'a>(event: &Event, files: &'a [Vec<u8>]) -> Option<Admission<'a>
             pages,
             room,
             mode,
-        } => Some(Admission {
+        } => {
+            let admission = Admission {
+                id,
+                image: file_of(files, image),
+                input: file_of(files, input),
+                seed,
+                pages,
+                room,
+                mode,
+            };
+            match host.admit(alloc, &admission) {
+                Ok(()) => Ok(()),
+                Err(error) => Err(Refusal::Admit(error)),
+            }
+        }
+        Event::Slice { id, .. } => match host.slice(id, 0) {
+            Ok(()) => Ok(()),
+            Err(_) => Err(Refusal::NotLive),
+        },
+        Event::Stop { id } => match host.stop(id) {
+            Ok(()) => Ok(()),
+            Err(_) => Err(Refusal::NotLive),
+        },
+    }
+}
+
+/// What an accepted event makes of the tenant with the number, whichever tenant it names.
+fn followed<'a, O: Watch>(
+    alloc: Global,
+    id: u16,
+    replayed: Option<Replayed>,
+    event: &Event,
+    files: &[Vec<u8>],
+    observer: &mut O,
+) -> Result<Option<Replayed>, Failure<'a>>
+    requires some { HasPages (call_of (contents files.now) event.now) }
+    ensures own { IfOk result (λ r. number_in (call_of (contents files.now) event.now) ≡ id
+        → IsPlayed (contents files.now) (call_of (contents files.now) event.now) replayed r) }
+    ensures other { IfOk result (λ r.
+        (number_in (call_of (contents files.now) event.now) ≡ id → ⊥) → r ≡ replayed) }
+{
+    if number_of(event) == id {
+        played(alloc, replayed, event, files, observer)
+    } else {
+        Ok(replayed)
+    }
+}
+
+/// What an accepted event makes of the tenant that it names.
+fn played<'a, O: Watch>(
+    alloc: Global,
+    replayed: Option<Replayed>,
+    event: &Event,
+    files: &[Vec<u8>],
+    observer: &mut O,
+) -> Result<Option<Replayed>, Failure<'a>>
+    requires some { HasPages (call_of (contents files.now) event.now) }
+    ensures { IfOk result
+        (IsPlayed (contents files.now) (call_of (contents files.now) event.now) replayed) }
+{
+    match replayed {
+        Some(Replayed { mut bench, image }) => {
+            turn(&mut bench, event, observer);
+            Ok(Some(Replayed { bench, image }))
+        }
+        None => started(alloc, event, files),
+    }
+}
+
+/// Runs what an accepted event does to the tenant that it names.
+fn turn<O: Watch>(bench: &mut Bench, event: &Event, observer: &mut O)
+    ensures { (files : List (List ℕ)) → machine_of bench.new.parts bench.new.memory
+        ≡ turned (call_of files event.now) (machine_of bench.old.parts bench.old.memory) }
+{
+    match *event {
+        Event::Admit { .. } => {}
+        Event::Slice { steps, .. } => bench.slice(observer, steps),
+        Event::Stop { .. } => bench.stop(),
+    }
+}
+
+/// The tenant that an accepted event admits, if it is an admission.
+fn started<'a>(
+    alloc: Global,
+    event: &Event,
+    files: &[Vec<u8>],
+) -> Result<Option<Replayed>, Failure<'a>>
+    requires some { HasPages (call_of (contents files.now) event.now) }
+    ensures { IfOk result
+        (IsStarted (contents files.now) (call_of (contents files.now) event.now)) }
+{
+    match *event {
+        Event::Admit {
             id,
-            image: file_of(files, image),
-            input: file_of(files, input),
+            image,
+            input,
             seed,
             pages,
             room,
             mode,
-        }),
-        _ => None,
+        } => {
+            let admission = Admission {
+                id,
+                image: file_of(files, image),
+                input: file_of(files, input),
+                seed,
+                pages,
+                room,
+                mode,
+            };
+            match Bench::new(alloc, &admission) {
+                Ok(bench) => Ok(Some(Replayed { bench, image })),
+                Err(_) => Err(Failure::Memory),
+            }
+        }
+        Event::Slice { .. } | Event::Stop { .. } => Ok(None),
+    }
+}
+
+/// The number of the tenant that an event names.
+fn number_of(event: &Event) -> u16
+    ensures { (files : List (List ℕ)) → result ≡ number_in (call_of files event.now) }
+{
+    match event {
+        Event::Admit { id, .. } | Event::Slice { id, .. } | Event::Stop { id } => *id,
     }
 }
 
 /// The bytes of a file by its number from 1; none for 0.
-pub fn file_of(files: &[Vec<u8>], number: u32) -> &[u8] {
-    match files.get((number as usize).wrapping_sub(1)) {
-        Some(file) => file.as_slice(),
-        None => &[],
+pub fn file_of(files: &[Vec<u8>], number: u32) -> &[u8]
+    ensures { result.now ≡ file_at (contents files.now) number }
+{
+    if number == 0 || number as usize > files.len() {
+        return &[];
     }
+    files[number as usize - 1].as_slice()
 }

@@ -1,0 +1,289 @@
+-- What calls make of one tenant, and what is known of it while calls are left.
+use Rattle.std.proofs.Common.{◌≡◌, ℕ, zero, suc, ◌<◌, ◌==◌, ◌||◌, ◌&&◌, Bool, true, false, List, [], ◌∷◌, ◌++◌, Option, Some, None}
+use Rattle.std.proofs.Common.{if◌then◌else◌, option_map, refl, ap, sym, ◌∙◌, arith, ne_eqb, eq-eqb, eqb-true}
+use Rattle.mte_svc.specs.declared.record.Record.{Record}
+use Rattle.mte_svc.specs.declared.record.Status.TheVariants.{Stopped}
+use Rattle.mte_svc.specs.Results.{is_running}
+use Rattle.mte_sched.specs.declared.refusal.Refusal.{Refusal}
+use Rattle.mte_sched.specs.declared.refusal.Refusal.TheVariants as refusal
+use Rattle.mte_sched.specs.declared.admission.AdmitError.{AdmitError}
+use Rattle.mte_sched.specs.declared.admission.AdmitError.TheVariants.{Duplicate, BadReservation}
+use Rattle.mte_sched.specs.Machines.{Terms, Machine, runs, start_of, with_status, attempts, ended_where_set, ended_by_tag, settled, advance, halted}
+use Rattle.mte_sched.specs.Ledger.{Call, Admit, Slice, Stop, Entry, first_of, when, is_bad, admission_refusal, call_refusal, entered, entered_by}
+use Rattle.mte_sched.specs.Lives.{Session, Life, lives, lives_from, life_among, own_events}
+use Rattle.mte_sched.specs.Contents.{Content, Held, Live, Gone, held_sliced, held_stopped, alone, tenant_of, ledger_of, admitted, sliced, stopped, after_call}
+use Rattle.mte_sched.specs.Isolation.{LedgerFollows}
+use Rattle.mte_script.specs.declared.event.Event.{Event}
+use Rattle.mte_session.specs.Sessions.{file_at, call_of, calls_of}
+use Rattle.std.proofs.Common.{map, drop, length, get_or, ◌+◌, ◌≤◌, length-drop, subst}
+use Rattle.std.proofs.lemmas.List.{drop_more, nil_from_length}
+use Rattle.mte_run.specs.declared.replay.Replayed.{Replayed}
+use Rattle.mte_run.specs.Replays.{machine_in, IsOf, IsReplay, number_in, unstepped, turned, HasPages, IsStarted, IsPlayed}
+
+-- ---- a tenant that has ended
+
+attempts-ended : (n : ℕ) (m : Machine) → runs m ≡ false → attempts n m ≡ m
+unfolding attempts
+attempts-ended zero m e = refl
+attempts-ended (suc n) m e = rw e refl
+
+ended-as-it-is : (b p : Bool) (m : Machine) → b ≡ false → (if b && p then ended_by_tag m else m) ≡ m
+ended-as-it-is false p m e = refl
+ended-as-it-is true p m e = cc
+
+advance-ended : (n : ℕ) (m : Machine) → runs m ≡ false → (advance n m).parts.account ≡ m.parts.account
+unfolding advance settled
+advance-ended n m e =
+    ap (λ k. (settled k).parts.account) (attempts-ended n m e)
+    ∙ ap (λ (k : Machine). k.parts.account) (ended-as-it-is (runs m) m.memory.state.pending (record m { parts = record m.parts { left = 0 } }) e)
+
+halted-ended : (m : Machine) → runs m ≡ false → halted m ≡ m
+unfolding halted
+halted-ended m e = rw e refl
+
+stops : (b : Bool) (m : Machine) → runs m ≡ b → runs (if b then with_status m Stopped else m) ≡ false
+stops true m e = refl
+stops false m e = e
+
+halted-stops : (m : Machine) → runs (halted m) ≡ false
+unfolding halted
+halted-stops m = stops (runs m) m refl
+
+-- What is kept of a tenant; one that was stopped is not running.
+abbrev pub IsLike : Held → Machine → Type 0
+IsLike (Live m) n = n ≡ m
+IsLike (Gone r) n = (n.parts.account ≡ r) × (runs n ≡ false)
+
+like-sliced : (n : ℕ) (h : Held) (m : Machine) → IsLike h m → IsLike (held_sliced n h) (advance n m)
+like-sliced n (Live k) m h = ap (advance n) h
+like-sliced n (Gone r) m h =
+    let same = advance-ended n m h.1 in
+    (same ∙ h.0, ap (λ (a : Record). is_running a.status) same ∙ h.1)
+
+like-stopped : (h : Held) (m : Machine) → IsLike h m → IsLike (held_stopped h) (halted m)
+like-stopped (Live k) m h = (ap (λ (x : Machine). (halted x).parts.account) h, halted-stops m)
+like-stopped (Gone r) m h =
+    let same = halted-ended m h.1 in
+    (ap (λ (x : Machine). x.parts.account) same ∙ h.0, ap runs same ∙ h.1)
+
+like-is : (h : Held) (m : Machine) → IsLike h m → IsOf h m
+like-is (Live k) m h = h
+like-is (Gone r) m h = h.0
+
+-- ---- the ledger, whose host attempts no instruction
+
+pub ledger_next : (law : LedgerFollows) (c new : Content) (e : Call) → new ≡ after_call c (unstepped e) → ledger_of new ≡ entered (ledger_of c) e
+ledger_next law c new (Admit id terms) h = ap ledger_of h ∙ law c (Admit id terms)
+ledger_next law c new (Slice id n) h = ap ledger_of h ∙ law c (Slice id 0)
+ledger_next law c new (Stop id) h = ap ledger_of h ∙ law c (Stop id)
+
+pub frames_next : (c new : Content) (e : Call) → new ≡ after_call c (unstepped e) → new.frames ≡ c.frames
+unfolding after_call admitted sliced stopped
+frames_next c new (Admit id terms) h = ap (λ (k : Content). k.frames) h
+frames_next c new (Slice id n) h = ap (λ (k : Content). k.frames) h
+frames_next c new (Stop id) h = ap (λ (k : Content). k.frames) h
+
+not_bad : (d b : Bool) (more : List (Option AdmitError)) → option_map refusal.Admit (first_of (when d Duplicate ∷ when b BadReservation ∷ more)) ≡ None → b ≡ false
+not_bad true b more h = cc
+not_bad false true more h = cc
+not_bad false false more h = refl
+
+some_pages : (n : ℕ) (b c : Bool) → ((n == 0) || b || c) ≡ false → 0 < n
+some_pages zero b c h = cc
+some_pages (suc n) b c h = omega arith
+
+pub has_pages : (frames : ℕ) (ledger : List Entry) (e : Call) → call_refusal frames ledger e ≡ None → HasPages e
+unfolding call_refusal admission_refusal
+has_pages frames ledger (Admit id terms) h = some_pages terms.pages _ _ (not_bad _ (is_bad terms) _ h)
+has_pages frames ledger (Slice id n) h = tt
+has_pages frames ledger (Stop id) h = tt
+
+-- ---- what is known of the tenant while calls are left
+
+-- It was admitted, and what is left of its own events makes of it what the session has.
+pub record Grows (id : ℕ) (files : List (List ℕ)) (s : Session) (ledger : List Entry) (calls : List Call) (t : Replayed) : Type 0 where
+  pub life : Life
+  pub admitted : life_among id (lives s) ≡ Some life
+  pub image : file_at files t.image ≡ life.terms.image
+  pub held : Held
+  pub like : IsLike held (machine_in t)
+  pub rest : alone held (own_events s.frames ledger calls id) ≡ (tenant_of life).held
+
+abbrev pub Known : ℕ → List (List ℕ) → Session → List Entry → List Call → Option Replayed → Type 0
+Known id files s ledger calls (Some t) = Grows id files s ledger calls t
+Known id files s ledger calls None = life_among id (lives_from s.frames ledger calls) ≡ life_among id (lives s)
+
+pub known_refused : (id : ℕ) (files : List (List ℕ)) (s : Session) (ledger : List Entry) (e : Call) (more : List Call) (r : Refusal) (o : Option Replayed)
+    → call_refusal s.frames ledger e ≡ Some r → Known id files s ledger (e ∷ more) o → Known id files s ledger more o
+unfolding lives_from own_events
+known_refused id files s ledger e more r None e_some h = rw e_some at h
+known_refused id files s ledger e more r (Some t) e_some h = record {
+  life = h.life;
+  admitted = h.admitted;
+  image = h.image;
+  held = h.held;
+  like = h.like;
+  rest = rw e_some at h.rest;
+}
+
+-- An accepted call that names another tenant.
+none_other : (id : ℕ) (files : List (List ℕ)) (s : Session) (ledger : List Entry) (e : Call) (more : List Call)
+    → call_refusal s.frames ledger e ≡ None → (number_in e ≡ id → ⊥) → Known id files s ledger (e ∷ more) None → Known id files s (entered ledger e) more None
+unfolding lives_from
+none_other id files s ledger (Admit k terms) more e_none other h =
+    let k_differs : (k == id) ≡ false = ne_eqb k id other in
+    let next = rw e_none at h in
+    rw k_differs at next
+none_other id files s ledger (Slice k n) more e_none other h = rw e_none at h
+none_other id files s ledger (Stop k) more e_none other h = rw e_none at h
+
+rest_other : (id f : ℕ) (ledger : List Entry) (e : Call) (more : List Call) (held all : Held)
+    → call_refusal f ledger e ≡ None → (number_in e ≡ id → ⊥) → alone held (own_events f ledger (e ∷ more) id) ≡ all → alone held (own_events f (entered ledger e) more id) ≡ all
+unfolding own_events
+rest_other id f ledger (Admit k terms) more held all e_none other h = rw e_none at h
+rest_other id f ledger (Slice k n) more held all e_none other h =
+    let differs : (id == k) ≡ false = ne_eqb id k (λ e. other (sym e)) in
+    let next = rw e_none at h in
+    rw differs at next
+rest_other id f ledger (Stop k) more held all e_none other h =
+    let differs : (id == k) ≡ false = ne_eqb id k (λ e. other (sym e)) in
+    let next = rw e_none at h in
+    rw differs at next
+
+known_other : (id : ℕ) (files : List (List ℕ)) (s : Session) (ledger : List Entry) (e : Call) (more : List Call) (o : Option Replayed)
+    → call_refusal s.frames ledger e ≡ None → (number_in e ≡ id → ⊥) → Known id files s ledger (e ∷ more) o → Known id files s (entered ledger e) more o
+known_other id files s ledger e more None e_none other h = none_other id files s ledger e more e_none other h
+known_other id files s ledger e more (Some t) e_none other h = record {
+  life = h.life;
+  admitted = h.admitted;
+  image = h.image;
+  held = h.held;
+  like = h.like;
+  rest = rest_other id s.frames ledger e more h.held (tenant_of h.life).held e_none other h.rest;
+}
+
+-- An accepted call that names the tenant.
+pub record Next (id f : ℕ) (ledger : List Entry) (e : Call) (more : List Call) (all : Held) (m : Machine) : Type 0 where
+  pub held : Held
+  pub like : IsLike held (turned e m)
+  pub rest : alone held (own_events f (entered ledger e) more id) ≡ all
+
+next_own : (id f : ℕ) (ledger : List Entry) (e : Call) (more : List Call) (held all : Held) (m : Machine)
+    → call_refusal f ledger e ≡ None → number_in e ≡ id → IsLike held m → alone held (own_events f ledger (e ∷ more) id) ≡ all → Next id f ledger e more all m
+unfolding own_events alone
+next_own id f ledger (Admit k terms) more held all m e_none own like h = record { held = held; like = like; rest = rw e_none at h }
+next_own id f ledger (Slice k n) more held all m e_none own like h =
+    let same : (id == k) ≡ true = eq-eqb id k (sym own) in
+    let next = rw e_none at h in
+    record { held = held_sliced n held; like = like-sliced n held m like; rest = rw same at next }
+next_own id f ledger (Stop k) more held all m e_none own like h =
+    let same : (id == k) ≡ true = eq-eqb id k (sym own) in
+    let next = rw e_none at h in
+    record { held = held_stopped held; like = like-stopped held m like; rest = rw same at next }
+
+grows_own : (id : ℕ) (files : List (List ℕ)) (s : Session) (ledger : List Entry) (e : Call) (more : List Call) (t u : Replayed)
+    → call_refusal s.frames ledger e ≡ None → number_in e ≡ id → IsPlayed files e (Some t) (Some u)
+    → Grows id files s ledger (e ∷ more) t → Grows id files s (entered ledger e) more u
+grows_own id files s ledger e more t u e_none own p h =
+    let next = next_own id s.frames ledger e more h.held (tenant_of h.life).held (machine_in t) e_none own h.like h.rest in
+    record {
+      life = h.life;
+      admitted = h.admitted;
+      image = ap (file_at files) p.1 ∙ h.image;
+      held = next.held;
+      like = rw p.0 next.like;
+      rest = next.rest;
+    }
+
+-- The admission of the tenant.
+grows_first : (id k : ℕ) (files : List (List ℕ)) (s : Session) (ledger : List Entry) (terms : Terms) (more : List Call) (u : Replayed)
+    → call_refusal s.frames ledger (Admit k terms) ≡ None → k ≡ id → IsStarted files (Admit k terms) (Some u)
+    → life_among id (lives_from s.frames ledger (Admit k terms ∷ more)) ≡ life_among id (lives s) → Grows id files s (entered ledger (Admit k terms)) more u
+unfolding lives_from
+grows_first id k files s ledger terms more u e_none own p h =
+    let same : (k == id) ≡ true = eq-eqb k id own in
+    let next = rw e_none at h in
+    let first = rw same at next in
+    record {
+      life = record { id = k; terms = terms; own = own_events s.frames (entered ledger (Admit k terms)) more k };
+      admitted = sym first;
+      image = p.1;
+      held = Live (start_of k terms);
+      like = p.0;
+      rest = ap (λ j. alone (Live (start_of k terms)) (own_events s.frames (entered ledger (Admit k terms)) more j)) (sym own);
+    }
+
+known_first : (id : ℕ) (files : List (List ℕ)) (s : Session) (ledger : List Entry) (e : Call) (more : List Call) (o : Option Replayed)
+    → call_refusal s.frames ledger e ≡ None → number_in e ≡ id → IsStarted files e o
+    → Known id files s ledger (e ∷ more) None → Known id files s (entered ledger e) more o
+unfolding lives_from
+known_first id files s ledger (Admit k terms) more (Some u) e_none own p h = grows_first id k files s ledger terms more u e_none own p h
+known_first id files s ledger (Admit k terms) more None e_none own p h = absurd p
+known_first id files s ledger (Slice k n) more o e_none own p h = rw p (rw e_none at h)
+known_first id files s ledger (Stop k) more o e_none own p h = rw p (rw e_none at h)
+
+known_own : (id : ℕ) (files : List (List ℕ)) (s : Session) (ledger : List Entry) (e : Call) (more : List Call) (o p : Option Replayed)
+    → call_refusal s.frames ledger e ≡ None → number_in e ≡ id → IsPlayed files e o p
+    → Known id files s ledger (e ∷ more) o → Known id files s (entered ledger e) more p
+known_own id files s ledger e more (Some t) (Some u) e_none own is h = grows_own id files s ledger e more t u e_none own is h
+known_own id files s ledger e more (Some t) None e_none own is h = absurd is
+known_own id files s ledger e more None p e_none own is h = known_first id files s ledger e more p e_none own is h
+
+-- An accepted call, whichever tenant it names.
+pub known_next : (id : ℕ) (files : List (List ℕ)) (s : Session) (ledger : List Entry) (e : Call) (more : List Call) (o p : Option Replayed)
+    → call_refusal s.frames ledger e ≡ None → (number_in e ≡ id → IsPlayed files e o p) → ((number_in e ≡ id → ⊥) → p ≡ o)
+    → Known id files s ledger (e ∷ more) o → Known id files s (entered ledger e) more p
+known_next id files s ledger e more o p e_none own other h = by (number_in e == id) refl
+  where
+    by : (b : Bool) → (number_in e == id) ≡ b → Known id files s (entered ledger e) more p
+    by true same = known_own id files s ledger e more o p e_none (eqb-true (number_in e) id same) (own (eqb-true (number_in e) id same)) h
+    by false same =
+        let differs : number_in e ≡ id → ⊥ = λ is. let t : (number_in e == id) ≡ true = eq-eqb (number_in e) id is in let bad : true ≡ false = sym t ∙ same in cc in
+        rw (other differs) (known_other id files s ledger e more o e_none differs h)
+
+-- No call is left.
+pub known_end : (id : ℕ) (files : List (List ℕ)) (s : Session) (ledger : List Entry) (o : Option Replayed)
+    → Known id files s ledger [] o → IsReplay id files s o
+unfolding lives_from own_events alone
+known_end id files s ledger None h = sym h
+known_end id files s ledger (Some t) h = record {
+  life = h.life;
+  admitted = h.admitted;
+  image = h.image;
+  machine = rw (← h.rest) (like-is h.held (machine_in t) h.like);
+}
+
+-- ---- the events in turn
+
+pub accepted_next : (law : LedgerFollows) (id : ℕ) (files : List (List ℕ)) (s : Session) (c new : Content) (events : List Event) (i : ℕ) (d : Event) (o p : Option Replayed)
+    → i < length events → c.frames ≡ s.frames → call_refusal c.frames (ledger_of c) (call_of files (get_or events i d)) ≡ None
+    → new ≡ after_call c (unstepped (call_of files (get_or events i d)))
+    → (number_in (call_of files (get_or events i d)) ≡ id → IsPlayed files (call_of files (get_or events i d)) o p)
+    → ((number_in (call_of files (get_or events i d)) ≡ id → ⊥) → p ≡ o)
+    → Known id files s (ledger_of c) (calls_of files (drop i events)) o
+    → (new.frames ≡ s.frames) × Known id files s (ledger_of new) (calls_of files (drop (i + 1) events)) p
+accepted_next law id files s c new events i d o p below frames accepted is own other h =
+    let e = call_of files (get_or events i d) in
+    let here = subst (λ (l : List Call). Known id files s (ledger_of c) l o) (ap (map (call_of files)) (drop_more events i d below)) h in
+    let none : call_refusal s.frames (ledger_of c) e ≡ None = subst (λ (f : ℕ). call_refusal f (ledger_of c) e ≡ None) frames accepted in
+    let after = known_next id files s (ledger_of c) e (calls_of files (drop (i + 1) events)) o p none own other here in (
+      frames_next c new e is ∙ frames,
+      subst (λ (l : List Entry). Known id files s l (calls_of files (drop (i + 1) events)) p) (sym (ledger_next law c new e is)) after,
+    )
+
+pub refused_next : (id : ℕ) (files : List (List ℕ)) (s : Session) (c new : Content) (events : List Event) (i : ℕ) (d : Event) (r : Refusal) (o : Option Replayed)
+    → i < length events → c.frames ≡ s.frames → call_refusal c.frames (ledger_of c) (call_of files (get_or events i d)) ≡ Some r → new ≡ c
+    → Known id files s (ledger_of c) (calls_of files (drop i events)) o
+    → (new.frames ≡ s.frames) × Known id files s (ledger_of new) (calls_of files (drop (i + 1) events)) o
+refused_next id files s c new events i d r o below frames refused is h =
+    let e = call_of files (get_or events i d) in
+    let here = subst (λ (l : List Call). Known id files s (ledger_of c) l o) (ap (map (call_of files)) (drop_more events i d below)) h in
+    let some : call_refusal s.frames (ledger_of c) e ≡ Some r = subst (λ (f : ℕ). call_refusal f (ledger_of c) e ≡ Some r) frames refused in
+    let after = known_refused id files s (ledger_of c) e (calls_of files (drop (i + 1) events)) r o some here in
+    (ap (λ (k : Content). k.frames) is ∙ frames, subst (λ (k : Content). Known id files s (ledger_of k) (calls_of files (drop (i + 1) events)) o) (sym is) after)
+
+pub all_played : (id : ℕ) (files : List (List ℕ)) (s : Session) (ledger : List Entry) (events : List Event) (i : ℕ) (o : Option Replayed)
+    → length events ≤ i → Known id files s ledger (calls_of files (drop i events)) o → IsReplay id files s o
+all_played id files s ledger events i o over h =
+    let none : drop i events ≡ [] = nil_from_length (drop i events) (simp length-drop (omega arith)) in
+    known_end id files s ledger o (rw none at h)
