@@ -1,6 +1,6 @@
 -- The checksum in two parts, and the fields of a header's word.
 use Rattle.std.proofs.Common.{◌≡◌, ℕ, ◌+◌, ◌*◌, ◌/◌, ◌%◌, ◌^◌, ◌<◌, ◌==◌, ◌++◌, List, [], ◌∷◌, Some, true, refl, sym, ap, subst, ◌∙◌, arith, eq-eqb, lit<}
-use Rattle.std.specs.Int.{to_le_bytes, w64}
+use Rattle.std.specs.Int.{to_le_bytes, w32, w64}
 use Rattle.std.specs.List.{fold}
 use Rattle.std.proofs.lemmas.Bool.{cond-true}
 use Rattle.std.proofs.lemmas.Bool.Decides.{nat_tests}
@@ -18,13 +18,25 @@ use Rattle.scudo_header.proofs.ClassLemmas.{below-true}
 
 -- ---- the checksum
 
-pub checksum_parts : (cookie pointer word p s t : ℕ) (bytes more : List ℕ) → p ≡ plain pointer → bytes ≡ to_le_bytes w64 p → s ≡ fold with_byte (cookie % 2 ^ 16) bytes
-    → more ≡ to_le_bytes w64 (word % 2 ^ 48) → t ≡ fold with_byte s more → t ≡ checksum_of cookie pointer word
+-- a word's bytes are those of its halves
+pub word_halves : (start word lower : ℕ) → lower ≡ fold with_byte start (to_le_bytes w32 (word % 2 ^ 32)) → fold with_byte lower (to_le_bytes w32 (word / 2 ^ 32)) ≡ fold with_byte start (to_le_bytes w64 word)
+word_halves start word lower e =
+    let a : word % 2 ^ 32 % 256 ≡ word % 256 = omega arith in
+    let b : word % 2 ^ 32 / 256 % 256 ≡ word / 256 % 256 = omega arith in
+    let c : word % 2 ^ 32 / 65536 % 256 ≡ word / 65536 % 256 = omega arith in
+    let d : word % 2 ^ 32 / 16777216 % 256 ≡ word / 16777216 % 256 = omega arith in
+    let f : word / 4294967296 / 256 % 256 ≡ word / 1099511627776 % 256 = omega arith in
+    let g : word / 4294967296 / 65536 % 256 ≡ word / 281474976710656 % 256 = omega arith in
+    let h : word / 4294967296 / 16777216 % 256 ≡ word / 72057594037927936 % 256 = omega arith in
+    let low : lower ≡ with_byte (with_byte (with_byte (with_byte start (word % 256)) (word / 256 % 256)) (word / 65536 % 256)) (word / 16777216 % 256) =
+    e ∙ (λ i. with_byte (with_byte (with_byte (with_byte start (a i)) (b i)) (c i)) (d i)) in
+    λ i. with_byte (with_byte (with_byte (with_byte (low i) (word / 4294967296 % 256)) (f i)) (g i)) (h i)
+
+pub checksum_parts : (cookie pointer word p s : ℕ) → p ≡ plain pointer → s ≡ fold with_byte (cookie % 2 ^ 16) (to_le_bytes w64 p)
+    → fold with_byte s (to_le_bytes w64 (word % 2 ^ 48)) ≡ checksum_of cookie pointer word
 unfolding checksum_of
-checksum_parts cookie pointer word p s t bytes more e b f m g =
-    let b' : bytes ≡ to_le_bytes w64 (plain pointer) = b ∙ ap (to_le_bytes w64) e in
-    let f' : s ≡ fold with_byte (cookie % 2 ^ 16) (to_le_bytes w64 (plain pointer)) = f ∙ ap (fold with_byte (cookie % 2 ^ 16)) b' in
-    g ∙ ap (fold with_byte s) m ∙ ap (λ x. fold with_byte x (to_le_bytes w64 (word % 2 ^ 48))) f'
+checksum_parts cookie pointer word p s e f =
+    ap (λ x. fold with_byte x (to_le_bytes w64 (word % 2 ^ 48))) (f ∙ ap (λ x. fold with_byte (cookie % 2 ^ 16) (to_le_bytes w64 x)) e)
     ∙ sym (fold-append with_byte (cookie % 2 ^ 16) (to_le_bytes w64 (plain pointer)) (to_le_bytes w64 (word % 2 ^ 48)))
 
 pub checksum_of-low : (cookie pointer a b : ℕ) → a % 2 ^ 48 ≡ b % 2 ^ 48 → checksum_of cookie pointer a ≡ checksum_of cookie pointer b

@@ -1,6 +1,7 @@
 //! The header in front of each chunk, and its checksum (Scudo, `chunk.h` and `checksum.h`).
 
 ghost use Rattle.std.specs.Prelude.{◌≡◌, ◌≢◌, ◌↔◌, ◌<◌, ◌/◌, ◌^◌, Some, IsNone, IfSome};
+ghost use Rattle.std.specs.Int.{to_le_bytes, w32, w64};
 ghost use Rattle.std.specs.List.{fold};
 ghost use Rattle.scudo_header.specs.Headers.{state_number, state_of, origin_number, origin_of};
 ghost use Rattle.scudo_header.specs.Headers.{header_word, with_byte, checksum_of, packed, unpacked};
@@ -101,15 +102,46 @@ fn origin_from(bits: u64) -> Origin
     }
 }
 
-/// The sum after more bytes.
-fn add_bytes(start: u16, bytes: &[u8]) -> u16
-    ensures { result ≡ fold with_byte start bytes.now }
+/// The sum after one more byte.
+#[inline(always)]
+fn add_byte(sum: u16, byte: u64) -> u16
+    requires { byte < 2 ^ 8 }
+    ensures { result ≡ with_byte sum byte }
 {
-    let mut sum = start;
-    for byte in bytes {
-        sum = ((sum >> 1) + (sum % 2) * 0x8000).wrapping_add(u16::from(*byte));
+    ((sum >> 1) + (sum % 2) * 0x8000).wrapping_add(byte as u16)
+}
+
+/// The sum after the four bytes of a half word.
+#[inline(always)]
+fn add_half(start: u16, half: u64) -> u16
+    requires { half < 2 ^ 32 }
+    ensures { result ≡ fold with_byte start (to_le_bytes w32 half) }
+{
+    let first = add_byte(start, half % (1 << 8));
+    let second = add_byte(first, (half >> 8) % (1 << 8));
+    let third = add_byte(second, (half >> 16) % (1 << 8));
+    add_byte(third, half >> 24)
+}
+
+/// The same for an upper half, which is mostly 0: four zero bytes rotate the sum by four bits.
+#[inline(always)]
+fn add_upper_half(start: u16, half: u64) -> u16
+    requires { half < 2 ^ 32 }
+    ensures { result ≡ fold with_byte start (to_le_bytes w32 half) }
+{
+    if half == 0 {
+        return (start >> 4) + (start % 16) * 0x1000;
     }
-    sum
+    add_half(start, half)
+}
+
+/// The sum after the eight bytes of a word.
+#[inline(always)]
+fn add_word(start: u16, word: u64) -> u16
+    ensures { result ≡ fold with_byte start (to_le_bytes w64 word) }
+{
+    let lower = add_half(start, word % (1 << 32));
+    add_upper_half(lower, word >> 32)
 }
 
 /// The checksum of a header for the chunk at an address (`computeHeaderChecksum` without hardware
@@ -120,8 +152,8 @@ pub fn checksum(cookie: u32, pointer: u64, header: u64) -> u16
     ensures { result ≡ checksum_of cookie pointer header }
 {
     let start = (cookie % (1 << 16)) as u16;
-    let sum = add_bytes(start, &plain(pointer).to_le_bytes());
-    add_bytes(sum, &(header % (1 << 48)).to_le_bytes())
+    let sum = add_word(start, plain(pointer));
+    add_word(sum, header % (1 << 48))
 }
 
 /// The word of a header whose checksum is 0.
