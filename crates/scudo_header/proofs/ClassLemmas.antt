@@ -1,11 +1,11 @@
 -- What the sizes of the classes are, by their table.
-use Rattle.std.proofs.Common.{◌≡◌, ℕ, zero, suc, ◌+◌, ◌-◌, ◌*◌, ◌/◌, ◌%◌, ◌^◌, ◌<◌, ◌≤◌, ◌==◌, ◌&&◌, ◌||◌, Bool, true, false, cond, nat_le, nat_lt, List, [], ◌∷◌, Some, None, refl, sym, ap, subst, ◌∙◌, inl, inr, arith, lit<}
+use Rattle.std.proofs.Common.{◌≡◌, ℕ, zero, suc, ◌+◌, ◌-◌, ◌*◌, ◌/◌, ◌%◌, ◌^◌, ◌<◌, ◌≤◌, ◌==◌, ◌&&◌, ◌||◌, Bool, true, false, cond, nat_le, nat_lt, List, [], ◌∷◌, Some, None, refl, sym, ap, subst, ◌∙◌, inl, inr, arith, eq-eqb, lit<}
 use Rattle.std.specs.Prelude.{slice_index}
 use Rattle.std.specs.List.{find, range_with_len}
 use Rattle.std.proofs.lemmas.Bool.{cases_eq, cases_lt, cond-true, cond-false}
 use Rattle.std.proofs.lemmas.Bool.Decides.{nat_tests}
-use Rattle.std.proofs.lemmas.Nat.{pow-add, pow_pos}
-use Rattle.std.proofs.Math.Nat.{pow-le-pow_right, le-div_iff_mul-le, div-lt_iff_lt-mul, mul-div-le, lt-mul-div-succ}
+use Rattle.std.proofs.lemmas.Nat.{pow-add, pow_pos, div-mul-add}
+use Rattle.std.proofs.Math.Nat.{div-le_self, mul-le-mul, mul-mod_left, pow-le-pow_right, le-div_iff_mul-le, div-lt_iff_lt-mul, mul-div-le, lt-mul-div-succ}
 use Rattle.scudo_header.specs.declared.classes.TheConstants.{CLASSES, LARGEST_CLASS_SIZE}
 use Rattle.scudo_header.specs.Classes.{size_of, power_below, IsLeastClass, class_for}
 
@@ -209,3 +209,72 @@ class_for-some class need l = found_from need class 1 44 l.low (let h : class < 
 pub class_for-none : (need : ℕ) → 131072 < need → class_for need ≡ None
 unfolding class_for
 class_for-none need h = none_from need 1 44 (λ class p q. let s : size_of class ≤ 131072 = (size_of-IsSize class p (omega arith)).most in omega arith)
+
+-- ---- multiples of a size
+
+abbrev reciprocals : List ℕ
+reciprocals = 0 ∷ 68719476736 ∷ 34359738368 ∷ 22906492246 ∷ 17179869184 ∷ 13743895348 ∷ 11453246123 ∷ 9817068106 ∷ 8589934592 ∷
+    6871947674 ∷ 5726623062 ∷ 4908534053 ∷ 4294967296 ∷ 3435973837 ∷ 2863311531 ∷ 2454267027 ∷ 2147483648 ∷ 1717986919 ∷
+    1431655766 ∷ 1227133514 ∷ 1073741824 ∷ 858993460 ∷ 715827883 ∷ 613566757 ∷ 536870912 ∷ 429496730 ∷ 357913942 ∷
+    306783379 ∷ 268435456 ∷ 214748365 ∷ 178956971 ∷ 153391690 ∷ 134217728 ∷ 107374183 ∷ 89478486 ∷ 76695845 ∷
+    67108864 ∷ 53687092 ∷ 44739243 ∷ 38347923 ∷ 33554432 ∷ 26843546 ∷ 22369622 ∷ 19173962 ∷ 16777216 ∷ []
+
+-- a number that is 2^41 by a size, rounded up
+record IsReciprocal (s r : ℕ) : Type 0 where
+  low : 2 ^ 41 ≤ r * s
+  high : r * s < 2 ^ 41 + 2 ^ 17
+
+reciprocal : (c : ℕ) → 0 < c → c ≤ CLASSES → IsReciprocal (slice_index sizes c) (slice_index reciprocals c)
+reciprocal c p b =
+    let h : c < 45 = omega arith in
+    let a : (c == 0 || nat_le 2199023255552 (slice_index reciprocals c * slice_index sizes c)) ≡ true = below-true 45 (λ k. k == 0 || nat_le 2199023255552 (slice_index reciprocals k * slice_index sizes k)) refl c h in
+    let d : nat_lt (slice_index reciprocals c * slice_index sizes c) 2199023386624 ≡ true = below-true 45 (λ k. nat_lt (slice_index reciprocals k * slice_index sizes k) 2199023386624) refl c h in
+    record { low = grind (arith, nat_tests); high = grind (arith, nat_tests) }
+
+reciprocal_small : (c : ℕ) → c ≤ CLASSES → slice_index reciprocals c ≤ 2 ^ 36
+reciprocal_small c b =
+    let h : c < 45 = omega arith in
+    let a : nat_le (slice_index reciprocals c) 68719476736 ≡ true = below-true 45 (λ k. nat_le (slice_index reciprocals k) 68719476736) refl c h in
+    grind (arith, nat_tests)
+
+number_by : (d s r : ℕ) → 0 < s → IsReciprocal s r → d < 2 ^ 24 → d % s ≡ 0 → d * r / 2 ^ 41 * s ≡ d
+number_by d s r p k l e =
+    let q = d / s in
+    let x = r * s - 2 ^ 41 in
+    let low = k.low in
+    let high = k.high in
+    let a : d ≡ q * s = omega arith in
+    let b : d * r ≡ q * (r * s) = ap (λ t. t * r) a ∙ grind arith in
+    let f : r * s ≡ 2 ^ 41 + x = omega arith in
+    let g : d * r ≡ q * 2 ^ 41 + q * x = b ∙ ap (λ t. q * t) f ∙ grind arith in
+    let m : q ≤ 16777215 = let t : q ≤ d = div-le_self d s in omega arith in
+    let n : q * x < 2 ^ 41 = let t : q * x ≤ 16777215 * 131071 = mul-le-mul m (let u : x ≤ 131071 = omega arith in u) in omega arith in
+    ap (λ t. t / 2 ^ 41 * s) g ∙ ap (λ t. t * s) (div-mul-add q (2 ^ 41) (q * x) n) ∙ sym a
+
+-- the test by the number that the product gives
+pub multiple_test : (c d : ℕ) → 0 < c → c ≤ CLASSES → d < 2 ^ 24 → (d * slice_index reciprocals c / 2 ^ 41 * slice_index sizes c == d) ≡ (d % size_of c == 0)
+multiple_test c d p h l =
+    let s = slice_index sizes c in
+    let r = slice_index reciprocals c in
+    let k = table-IsSize c p h in
+    let least = k.least in
+    let size : (d % s == 0) ≡ (d % size_of c == 0) = ap (λ t. d % t == 0) (size_of-table c h) in
+    elim (cases_eq (d % s) 0) [
+      | inl z ↦ eq-eqb _ _ (number_by d s r (omega arith) (reciprocal c p h) l z) ∙ sym (eq-eqb _ _ z) ∙ size
+      | inr n ↦ elim (cases_eq (d * r / 2 ^ 41 * s) d) [
+        | inl z ↦ absurd (n (ap (λ t. t % s) (sym z) ∙ mul-mod_left (d * r / 2 ^ 41) s))
+        | inr o ↦
+            let t : (d * r / 2 ^ 41 * s == d) ≡ false = grind (arith, nat_tests) in
+            let u : (d % s == 0) ≡ false = grind (arith, nat_tests) in
+            t ∙ sym u ∙ size
+      ]
+    ]
+
+pub product_fits : (c d : ℕ) → 0 < c → c ≤ CLASSES → d < 2 ^ 24 → (d * slice_index reciprocals c < 2 ^ 64) × (d * slice_index reciprocals c / 2 ^ 41 * slice_index sizes c < 2 ^ 64)
+product_fits c d p h l =
+    let r = slice_index reciprocals c in
+    let k = table-IsSize c p h in
+    let most = k.most in
+    let a : d * r ≤ 16777216 * 68719476736 = mul-le-mul (let t : d ≤ 16777216 = omega arith in t) (reciprocal_small c h) in
+    let b : d * r / 2 ^ 41 * slice_index sizes c ≤ 524288 * 131072 = mul-le-mul (let t : d * r / 2 ^ 41 ≤ 524288 = omega arith in t) most in
+    (omega arith, omega arith)

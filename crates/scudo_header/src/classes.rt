@@ -1,7 +1,7 @@
 //! The size classes (Scudo, `size_class_map.h`: the fixed map with MinSizeLog 5, MidSizeLog 8, S
 //! 2).
 
-ghost use Rattle.std.specs.Prelude.{◌≡◌, ◌↔◌, ◌≤◌, ◌<◌, ◌%◌, IfSome, IsNone};
+ghost use Rattle.std.specs.Prelude.{◌≡◌, ◌↔◌, ◌≤◌, ◌<◌, ◌%◌, ◌^◌, ◌==◌, IfSome, IsNone};
 ghost use Rattle.scudo_header.specs.Classes.{size_of, class_for, IsLeastClass};
 
 /// The number of size classes: they are 1 to this.
@@ -28,6 +28,17 @@ static SIZES: [u64; 45] = [
     24576, 28672, 32768, 40960, 49152, 57344, 65536, 81920, 98304, 114_688, 131_072,
 ];
 
+/// 2^41 by each size, rounded up.
+static RECIPROCALS: [u64; 45] = [
+    0, 68_719_476_736, 34_359_738_368, 22_906_492_246, 17_179_869_184, 13_743_895_348,
+    11_453_246_123, 9_817_068_106, 8_589_934_592, 6_871_947_674, 5_726_623_062, 4_908_534_053,
+    4_294_967_296, 3_435_973_837, 2_863_311_531, 2_454_267_027, 2_147_483_648, 1_717_986_919,
+    1_431_655_766, 1_227_133_514, 1_073_741_824, 858_993_460, 715_827_883, 613_566_757, 536_870_912,
+    429_496_730, 357_913_942, 306_783_379, 268_435_456, 214_748_365, 178_956_971, 153_391_690,
+    134_217_728, 107_374_183, 89_478_486, 76_695_845, 67_108_864, 53_687_092, 44_739_243,
+    38_347_923, 33_554_432, 26_843_546, 22_369_622, 19_173_962, 16_777_216,
+];
+
 /// The bytes of the blocks of a class, 1 to `CLASSES` (`getSizeByClassId`).
 #[inline]
 pub fn size_of_class(class: u8) -> u64
@@ -39,6 +50,19 @@ pub fn size_of_class(class: u8) -> u64
     ensures multiple { result % 32 ≡ 0 }
 {
     SIZES[class as usize]
+}
+
+/// Whether a distance below 2^24 is a multiple of the bytes of a class's blocks. A product with the
+/// reciprocal gives the one number that it may be the multiple by.
+#[inline]
+pub fn is_multiple(class: u8, distance: u64) -> bool
+    requires low { 0 < class }
+    requires high { class ≤ CLASSES }
+    requires near { distance < 2 ^ 24 }
+    ensures { result ≡ (distance % size_of class == 0) }
+{
+    let number = (distance * RECIPROCALS[class as usize]) >> 41;
+    number * SIZES[class as usize] == distance
 }
 
 /// The least class whose blocks hold `need` bytes (`getClassIdBySize`). There is none where `need`

@@ -5,5 +5,7 @@
 mod classes;
 mod headers;
 
-pub use classes::{CLASSES, LARGEST_CLASS_SIZE, class_of, classes_in_digits, size_of_class};
+pub use classes::{
+    CLASSES, LARGEST_CLASS_SIZE, class_of, classes_in_digits, is_multiple, size_of_class,
+};
 pub use headers::{Header, Origin, State, checksum, pack, unpack};
