@@ -1,5 +1,5 @@
 -- Blocks, their numbers, and where in a region they lie.
-use Rattle.std.proofs.Common.{◌≡◌, ℕ, ◌+◌, ◌-◌, ◌*◌, ◌/◌, ◌%◌, ◌<◌, ◌≤◌, nat_le, sym, ap, subst, ◌∙◌, arith}
+use Rattle.std.proofs.Common.{◌≡◌, ℕ, ◌+◌, ◌-◌, ◌*◌, ◌/◌, ◌%◌, ◌<◌, ◌≤◌, nat_le, ◌==◌, Bool, sym, ap, subst, ◌∙◌, arith}
 use Rattle.std.proofs.Math.Nat.{mul-mod_right, le-div_iff_mul-le, div-mul-le_self, mul-le-mul_right}
 use Rattle.std.proofs.lemmas.Nat.{div-add-mod', div-mul-add, mod-mul-add}
 use Rattle.scudo_header.specs.Classes.{size_of}
@@ -100,12 +100,20 @@ IsBlock-more c m n b h l k =
     let r = k.carved in
     record { inside = k.inside; start = k.start; carved = omega arith }
 
--- the test of a block, by the bytes that are left behind its start
-pub block-test : (c m pages b s start room : ℕ) → IsClass c → m ≡ pages → start ≡ region_of c → s ≡ size_of c → start ≤ b → (b - start) % s ≡ 0 → room ≡ PAGE_SIZE * pages - (b - start)
-    → (IsTrue (nat_le s room) → IsBlock c m b) × (IsBlock c m b → IsTrue (nat_le s room))
-block-test c m pages b s start room h same es ez l e r =
+-- the test of a block that has room behind its start
+pub block-test : (c m pages b s start room : ℕ) (answer : Bool) → IsClass c → m ≡ pages → start ≡ region_of c → s ≡ size_of c → start ≤ b → s ≤ room → room ≡ PAGE_SIZE * pages - (b - start)
+    → answer ≡ ((b - start) % size_of c == 0) → (IsTrue answer → IsBlock c m b) × (IsBlock c m b → IsTrue answer)
+block-test c m pages b s start room answer h same es ez l fits r e =
     let p = (size-IsSize c h).least in
-    let start-is : (b - region_of c) % size_of c ≡ 0 = subst (λ t. (b - region_of c) % t ≡ 0) ez (subst (λ t. (b - t) % s ≡ 0) es e) in (
-      (λ t. let k : s ≤ room = grind (arith, nat_tests) in subst (λ n. IsBlock c n b) (sym same) (IsBlock-from_whole c pages b h (omega arith) start-is (omega arith))),
-      (λ k. let w = block-whole c m b h k in let q : s ≤ room = omega arith in grind (arith, nat_tests)),
+    let from-start : answer ≡ ((b - region_of c) % size_of c == 0) = e ∙ ap (λ t. (b - t) % size_of c == 0) es in (
+      (λ t. let k : (b - region_of c) % size_of c ≡ 0 = grind (arith, nat_tests) in subst (λ n. IsBlock c n b) (sym same) (IsBlock-from_whole c pages b h (omega arith) k (omega arith))),
+      (λ k. let q = k.start in grind (arith, nat_tests)),
+    )
+
+-- there is none without room
+pub no-room : (c m pages b s start room : ℕ) → IsClass c → m ≡ pages → start ≡ region_of c → s ≡ size_of c → start ≤ b → room < s → room ≡ PAGE_SIZE * pages - (b - start)
+    → (IsTrue (nat_le s room) → IsBlock c m b) × (IsBlock c m b → IsTrue (nat_le s room))
+no-room c m pages b s start room h same es ez l few r = (
+      (λ t. let k : s ≤ room = grind (arith, nat_tests) in absurd (omega arith)),
+      (λ k. let w = block-whole c m b h k in let p = (size-IsSize c h).least in absurd (omega arith)),
     )

@@ -17,7 +17,7 @@ use crate::lists::{
     region_start, set_mark, unlink, unlink_batch,
 };
 use address_map::{MAX_PAGES, PAGE_SIZE};
-use scudo_header::{CLASSES, size_of_class};
+use scudo_header::{CLASSES, is_multiple, size_of_class};
 use std::alloc::{AllocError, Global};
 use std::marker::Model;
 
@@ -222,7 +222,7 @@ impl Pool {
         let offset = block - start;
         let bytes = PAGE_SIZE * self.lists[class as usize - 1].pages;
         let size = size_of_class(class);
-        offset % size == 0 && size <= bytes.saturating_sub(offset)
+        size <= bytes.saturating_sub(offset) && is_multiple(class, offset)
     }
 
     /// Whether an address is that of a carved block of a class that is marked free: it is in the
