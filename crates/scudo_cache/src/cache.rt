@@ -123,7 +123,7 @@ impl Cache {
     }
 
     /// Whether a carved block of a class is in its stack.
-    #[inline]
+    #[inline(always)]
     pub fn is_free(&self, class: u8, block: u64, pool: &Pool) -> bool
         requires low { 0 < class }
         requires high { class ≤ CLASSES }

@@ -148,6 +148,7 @@ fn add_word(start: u16, word: u64) -> u16
 /// support): a sum of 16 bits over the bytes of the plain address and of the header. The header's
 /// own checksum counts as 0.
 #[tactic(auto, unfolding(crate::specs::Headers::checksum_of))]
+#[inline(always)]
 pub fn checksum(cookie: u32, pointer: u64, header: u64) -> u16
     ensures { result ≡ checksum_of cookie pointer header }
 {
@@ -157,6 +158,7 @@ pub fn checksum(cookie: u32, pointer: u64, header: u64) -> u16
 }
 
 /// The word of a header whose checksum is 0.
+#[inline(always)]
 fn unchecked_word(header: &Header) -> u64
     requires { header.now.size_or_unused_bytes < 2 ^ 20 }
     ensures word { result ≡ header_word header.now }
@@ -174,6 +176,7 @@ fn unchecked_word(header: &Header) -> u64
 /// The word of a header with its checksum, for the chunk at an address. The size or unused bytes
 /// are below 2^20.
 #[tactic(auto, unfolding(crate::specs::Headers::packed))]
+#[inline(always)]
 pub fn pack(cookie: u32, pointer: u64, header: &Header) -> u64
     requires { header.now.size_or_unused_bytes < 2 ^ 20 }
     ensures word { result ≡ packed cookie pointer header.now }
@@ -186,6 +189,7 @@ pub fn pack(cookie: u32, pointer: u64, header: &Header) -> u64
 /// The header of a word, for the chunk at an address. There is none exactly where the word's
 /// checksum is not that of the rest of it.
 #[tactic(auto, unfolding(crate::specs::Headers::unpacked))]
+#[inline(always)]
 pub fn unpack(cookie: u32, pointer: u64, word: u64) -> Option<Header>
     ensures header { result ≡ unpacked cookie pointer word }
     ensures none { IsNone result ↔ (word / 2 ^ 48 ≢ checksum_of cookie pointer word) }

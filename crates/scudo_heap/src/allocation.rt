@@ -33,6 +33,7 @@ pub(crate) fn is_power(alignment: u64) -> bool
 
 /// A chunk of some bytes: in a block of the least class that holds them, else with pages of its
 /// own.
+#[inline(always)]
 fn make_some<M: Paged>(
     cookie: u32,
     stacks: &mut Stacks,
@@ -69,6 +70,7 @@ fn make_some<M: Paged>(
 
 /// A chunk of so many bytes, or of one where none is requested.
 #[tactic(auto, unfolding(crate::specs::Allocation::allocated))]
+#[inline(always)]
 pub(crate) fn allocate<M: Paged>(
     cookie: u32,
     stacks: &mut Stacks,

@@ -18,6 +18,7 @@ use scudo_header::{CLASSES, Header, State, size_of_class};
 use scudo_secondary::{Mapping, Maps};
 
 /// Whether a chunk in a state is handed out.
+#[inline(always)]
 fn is_handed_out(state: State) -> bool
     ensures { result ≡ is_allocated state }
 {
@@ -28,6 +29,7 @@ fn is_handed_out(state: State) -> bool
 }
 
 /// Whether a chunk of a size, some bytes at least, lies in a carved block of a size class.
+#[inline(always)]
 fn lies_in_block(stacks: &Stacks, place: Place) -> bool
     requires class { 0 < place.class }
     requires user { place.user < 2 ^ 56 }
@@ -43,6 +45,7 @@ fn lies_in_block(stacks: &Stacks, place: Place) -> bool
 }
 
 /// The chunk that a header of a size class gives.
+#[inline(always)]
 fn in_block(stacks: &Stacks, place: Place, header: &Header) -> Result<Found, HeapAbort>
     requires class { 0 < place.class }
     requires user { place.user < 2 ^ 56 }
@@ -61,6 +64,7 @@ fn in_block(stacks: &Stacks, place: Place, header: &Header) -> Result<Found, Hea
 }
 
 /// The chunk of a mapping that is there.
+#[inline(never)]
 fn in_pages(maps: &Maps, user: u64, header: &Header) -> Result<Found, HeapAbort>
     ensures found { result ≡ found_mapping header.now (mapping_of maps.now.mappings user) }
     ensures end { IfOk result HasEnd }
@@ -77,6 +81,7 @@ fn in_pages(maps: &Maps, user: u64, header: &Header) -> Result<Found, HeapAbort>
 
 /// The chunk that a header gives, which is that of a chunk handed out.
 #[tactic(auto, unfolding(crate::specs::Checks::found_chunk))]
+#[inline(always)]
 fn by_header(stacks: &Stacks, maps: &Maps, user: u64, header: &Header) -> Result<Found, HeapAbort>
     requires user { user < 2 ^ 56 }
     requires size { header.now.size_or_unused_bytes < 2 ^ 20 }
@@ -100,6 +105,7 @@ fn by_header(stacks: &Stacks, maps: &Maps, user: u64, header: &Header) -> Result
 }
 
 /// Whether the granule before a user address lies in a mapped page with WRITE.
+#[inline(always)]
 fn has_granule<M: Paged>(memory: &mut M, user: u64) -> bool
     requires { user < 2 ^ 56 }
     ensures answer { result ≡ is_mapped (M.memory memory.old) user }
@@ -113,6 +119,7 @@ fn has_granule<M: Paged>(memory: &mut M, user: u64) -> bool
 }
 
 /// What the checks of a plain address find, or the first that fails.
+#[inline(always)]
 pub(crate) fn find_chunk<M: Paged>(
     cookie: u32,
     stacks: &Stacks,

@@ -91,6 +91,7 @@ impl Found {
 }
 
 /// The address of a chunk, or 0 where there is none.
+#[inline(always)]
 pub(crate) fn address_or_null(chunk: &Option<Chunk>) -> u64
     requires { IfSome chunk.now IsLow }
     ensures { result ≡ answer_of chunk.now }

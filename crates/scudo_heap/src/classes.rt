@@ -1,7 +1,7 @@
 //! Allocation in the size classes.
 
-ghost use Rattle.std.specs.Prelude.{◌≡◌, ◌≢◌, ◌+◌, ◌<◌, ◌≤◌, ◌^◌, [], nat_le, IsNone, IsTrue};
-ghost use Rattle.std.specs.Prelude.{IfSome};
+ghost use Rattle.std.specs.Prelude.{◌≡◌, ◌≢◌, ◌+◌, ◌-◌, ◌*◌, ◌/◌, ◌<◌, ◌≤◌, ◌^◌, [], nat_le, IsNone};
+ghost use Rattle.std.specs.Prelude.{IfSome, IsTrue};
 ghost use Rattle.std.specs.Prelude.{if◌then◌else◌};
 ghost use Rattle.mte_tags.specs.Memory.{pages_left, with_new_pages};
 ghost use Rattle.scudo_header.specs.Classes.{size_of};
@@ -15,13 +15,29 @@ ghost use Rattle.scudo_heap.specs.Served.{AreRegions, KeepsServed};
 ghost use Rattle.scudo_heap.specs.Inner.{IsAlign, IsLow};
 
 use crate::chunk::{Chunk, Place};
+use crate::limits::MIN_ALIGNMENT;
 use crate::placing::make_chunk;
 use crate::stacks::Stacks;
 use address_map::{PAGE_SIZE, REGION_SIZE, REGIONS_START};
 use mte_tags::{Attrs, Paged, Rgsr, Tagged};
 use scudo_header::{CLASSES, Origin, size_of_class};
 
+/// The first multiple of an alignment after a block's header. Most chunks are aligned to a granule,
+/// where it takes no division.
+#[inline(always)]
+fn first_user(block: u64, align: u64) -> u64
+    requires block { block < 2 ^ 32 }
+    requires align { IsAlign align }
+    ensures { result ≡ (block + 16 + (align - 1)) / align * align }
+{
+    if align == MIN_ALIGNMENT {
+        return (block + 31) / 16 * 16;
+    }
+    (block + 16 + (align - 1)) / align * align
+}
+
 /// Where a chunk lies in a block: after the header, at the first multiple of the alignment.
+#[inline(always)]
 fn place(class: u8, block: u64, align: u64, size: u64) -> Place
     requires block { block < 2 ^ 32 }
     requires align { IsAlign align }
@@ -30,12 +46,13 @@ fn place(class: u8, block: u64, align: u64, size: u64) -> Place
     Place {
         class,
         block,
-        user: (block + 16 + (align - 1)) / align * align,
+        user: first_user(block, align),
         size,
     }
 }
 
 /// Makes a chunk in the top of a class's stack, where there is one.
+#[inline(always)]
 fn take_top<M: Paged>(
     cookie: u32,
     stacks: &mut Stacks,
@@ -111,7 +128,46 @@ fn grow<M: Paged>(stacks: &mut Stacks, memory: &mut M, class: u8) -> bool
     true
 }
 
+/// A chunk in the lowest new block of a class without free blocks, where pages for one are left:
+/// apart, so that an allocation in a free block stays short.
+#[inline(never)]
+fn grow_and_take<M: Paged>(
+    cookie: u32,
+    stacks: &mut Stacks,
+    rgsr: &mut Rgsr,
+    memory: &mut M,
+    origin: Origin,
+    align: u64,
+    size: u64,
+    class: u8,
+) -> Option<Chunk>
+    requires low { 0 < class }
+    requires high { class ≤ CLASSES }
+    requires drawn { rgsr.old.tag < 16 }
+    requires align { IsAlign align }
+    requires some { 0 < size }
+    requires small { size < 2 ^ 20 }
+    requires fits { need_of align size ≤ size_of class }
+    requires empty { stack_of stacks.old class ≡ [] }
+    requires regions { AreRegions (M.memory memory.old) stacks.old }
+    ensures made { (ms : MapsState)
+        → made_of (world_of (M.memory memory.new) (heap_of cookie stacks.new ms) rgsr.new) result
+        ≡ in_class (world_of (M.memory memory.old) (heap_of cookie stacks.old ms) rgsr.old)
+        origin align size class }
+    ensures low_chunk { IfSome result IsLow }
+    ensures tag { rgsr.new.tag < 16 }
+    ensures served { KeepsServed (M.memory memory.old) stacks.old (M.memory memory.new)
+        stacks.new }
+    ensures kept { M.kept memory.old memory.new }
+{
+    if !grow(stacks, memory, class) {
+        return None;
+    }
+    take_top(cookie, stacks, rgsr, memory, origin, align, size, class)
+}
+
 /// A chunk in a block of a class, where there is a block or pages for one.
+#[inline(always)]
 pub(crate) fn take_block<M: Paged>(
     cookie: u32,
     stacks: &mut Stacks,
@@ -143,8 +199,5 @@ pub(crate) fn take_block<M: Paged>(
     if let Some(chunk) = take_top(cookie, stacks, rgsr, memory, origin, align, size, class) {
         return Some(chunk);
     }
-    if !grow(stacks, memory, class) {
-        return None;
-    }
-    take_top(cookie, stacks, rgsr, memory, origin, align, size, class)
+    grow_and_take(cookie, stacks, rgsr, memory, origin, align, size, class)
 }

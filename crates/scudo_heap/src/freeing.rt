@@ -23,6 +23,7 @@ use scudo_header::{Header, State};
 use scudo_secondary::{Mapping, Maps};
 
 /// Gives the granules of a chunk another tag, marks its header, and puts its block back.
+#[inline(always)]
 fn free_block<M: Paged>(
     cookie: u32,
     stacks: &mut Stacks,
@@ -55,6 +56,7 @@ fn free_block<M: Paged>(
 }
 
 /// Takes the mapping of a chunk away, and unmaps its pages.
+#[inline(never)]
 fn free_pages<M: Paged>(maps: &mut Maps, memory: &mut M, mapping: Mapping)
     requires there { Some mapping ≡ secondary.mapping_of maps.old.mappings mapping.user }
     requires open { secondary.AreMappings maps.old.mappings
@@ -71,6 +73,7 @@ fn free_pages<M: Paged>(maps: &mut Maps, memory: &mut M, mapping: Mapping)
 
 /// Frees a chunk that the checks found.
 #[tactic(auto, unfolding(crate::specs::Freeing::without_chunk))]
+#[inline(always)]
 pub(crate) fn free_found<M: Paged>(
     cookie: u32,
     stacks: &mut Stacks,

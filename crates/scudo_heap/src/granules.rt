@@ -11,6 +11,7 @@ use mte_tags::{Paged, Tagged};
 use scudo_header::{Header, pack, unpack};
 
 /// Gives granules of the heap's pages a tag, and makes their bytes zero where `zero` is set.
+#[inline(never)]
 pub(crate) fn set_tags<M: Paged>(memory: &mut M, addr: u64, granules: u64, tag: u8, zero: bool)
     requires aligned { addr % 16 ≡ 0 }
     requires tag { tag < 16 }
@@ -27,6 +28,7 @@ pub(crate) fn set_tags<M: Paged>(memory: &mut M, addr: u64, granules: u64, tag: 
 }
 
 /// The tag of a granule of the heap's pages.
+#[inline(always)]
 pub(crate) fn tag_there<M: Paged>(memory: &mut M, addr: u64) -> u8
     requires open { IsOpen (M.memory memory.old) addr (addr + 1) }
     ensures tag { result ≡ tag_at (M.memory memory.old) addr }
@@ -43,6 +45,7 @@ pub(crate) fn tag_there<M: Paged>(memory: &mut M, addr: u64) -> u8
 
 /// Writes the header of a chunk.
 #[tactic(auto, unfolding(crate::specs::Chunks::headed))]
+#[inline(always)]
 pub(crate) fn put_header<M: Paged>(memory: &mut M, cookie: u32, user: u64, header: &Header)
     requires fields { header.now.size_or_unused_bytes < 2 ^ 20 }
     requires above { 16 ≤ user }
@@ -60,6 +63,7 @@ pub(crate) fn put_header<M: Paged>(memory: &mut M, cookie: u32, user: u64, heade
 }
 
 /// The header of the chunk at a user address, if its checksum is right.
+#[inline(always)]
 pub(crate) fn read_header<M: Paged>(memory: &mut M, cookie: u32, user: u64) -> Option<Header>
     requires aligned { user % 16 ≡ 0 }
     requires above { 16 ≤ user }

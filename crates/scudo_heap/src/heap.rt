@@ -68,6 +68,7 @@ impl Heap {
     /// those of its pages where it has its own. It is 0, with nothing changed, where `size` is over
     /// `MAX_REQUEST`, or no block is free and fewer pages are left than are needed, or pages of its
     /// own fit nowhere.
+    #[inline(never)]
     pub fn malloc<M: Paged>(&mut self, rgsr: &mut Rgsr, memory: &mut M, size: u64) -> u64
         requires served { IsServed (M.memory memory.old) self.old }
         requires tag { rgsr.old.tag < 16 }
@@ -96,6 +97,7 @@ impl Heap {
 
     /// A chunk for `count` elements of `size` bytes: as `malloc` of the product, which is 0 where
     /// the product is over `MAX_REQUEST`.
+    #[inline(never)]
     pub fn calloc<M: Paged>(
         &mut self,
         rgsr: &mut Rgsr,
@@ -121,6 +123,7 @@ impl Heap {
 
     /// A chunk at a multiple of an alignment: as `malloc`, and 0 as well where the alignment is not
     /// a power of two up to `MAX_ALIGNMENT`.
+    #[inline(never)]
     pub fn memalign<M: Paged>(
         &mut self,
         rgsr: &mut Rgsr,
@@ -158,6 +161,7 @@ impl Heap {
     }
 
     /// Frees a chunk. The null pointer is ignored.
+    #[inline(never)]
     pub fn free<M: Paged>(
         &mut self,
         rgsr: &mut Rgsr,

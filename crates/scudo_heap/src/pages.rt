@@ -78,6 +78,7 @@ fn map_chunk<M: Paged>(
 }
 
 /// A chunk with pages of its own, where they fit and so many are left.
+#[inline(never)]
 pub(crate) fn take_pages<M: Paged>(
     cookie: u32,
     maps: &mut Maps,

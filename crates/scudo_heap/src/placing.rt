@@ -16,6 +16,7 @@ use scudo_header::{CLASSES, Header, Origin, State, size_of_class};
 
 /// Tag 0 on the granule after a chunk, where its block goes on.
 #[tactic(auto, unfolding(crate::specs::Chunks::closed))]
+#[inline(always)]
 pub(crate) fn close<M: Paged>(memory: &mut M, place: Place)
     requires low { 0 < place.class }
     requires high { place.class ≤ CLASSES }
@@ -39,6 +40,7 @@ pub(crate) fn close<M: Paged>(memory: &mut M, place: Place)
 
 /// Tag 0 on the granule of a chunk's header.
 #[tactic(auto, unfolding(crate::specs::Chunks::opened))]
+#[inline(always)]
 fn open<M: Paged>(memory: &mut M, place: Place)
     requires above { 16 ≤ place.user }
     requires aligned { place.user % 16 ≡ 0 }
@@ -53,6 +55,7 @@ fn open<M: Paged>(memory: &mut M, place: Place)
 }
 
 /// Makes a chunk in its block, and returns its tag.
+#[inline(always)]
 pub(crate) fn make_chunk<M: Paged>(
     cookie: u32,
     rgsr: &mut Rgsr,

@@ -100,7 +100,7 @@ impl Stacks {
     }
 
     /// Whether an address is that of a carved block of a class.
-    #[inline]
+    #[inline(always)]
     pub(crate) fn is_block(&self, class: u8, block: u64) -> bool
         requires low { 0 < class }
         requires high { class ≤ CLASSES }
@@ -110,7 +110,7 @@ impl Stacks {
     }
 
     /// Whether a carved block is in its class's stack.
-    #[inline]
+    #[inline(always)]
     pub(crate) fn is_free(&self, class: u8, block: u64) -> bool
         requires low { 0 < class }
         requires high { class ≤ CLASSES }

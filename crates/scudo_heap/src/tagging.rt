@@ -14,6 +14,7 @@ use mte_tags::{Paged, Rgsr, Tagged};
 use scudo_header::{CLASSES, size_of_class};
 
 /// The tags that a chunk may not get: 0, those of the other half, and the one that is there.
+#[inline(always)]
 fn exclude(place: Place, present: u8) -> u16
     requires low { 0 < place.class }
     requires high { place.class ≤ CLASSES }
@@ -27,6 +28,7 @@ fn exclude(place: Place, present: u8) -> u16
 }
 
 /// How many granules hold so many bytes.
+#[inline(always)]
 pub(crate) fn granules(size: u64) -> u64
     requires { size < 2 ^ 32 }
     ensures { result ≡ granules_of size }
@@ -40,6 +42,7 @@ pub(crate) fn granules(size: u64) -> u64
     crate::specs::Chunks::excluded,
     crate::specs::Chunks::tagged
 ))]
+#[inline(always)]
 pub(crate) fn draw_tag<M: Paged>(rgsr: &mut Rgsr, memory: &mut M, place: Place) -> u8
     requires low { 0 < place.class }
     requires high { place.class ≤ CLASSES }

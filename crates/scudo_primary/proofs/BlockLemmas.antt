@@ -114,6 +114,6 @@ block-test c m pages b s start room answer h same es ez l fits r e =
 pub no-room : (c m pages b s start room : ℕ) → IsClass c → m ≡ pages → start ≡ region_of c → s ≡ size_of c → start ≤ b → room < s → room ≡ PAGE_SIZE * pages - (b - start)
     → (IsTrue (nat_le s room) → IsBlock c m b) × (IsBlock c m b → IsTrue (nat_le s room))
 no-room c m pages b s start room h same es ez l few r = (
-      (λ t. let k : s ≤ room = grind (arith, nat_tests) in absurd (omega arith)),
-      (λ k. let w = block-whole c m b h k in let p = (size-IsSize c h).least in absurd (omega arith)),
-    )
+  (λ t. let k : s ≤ room = grind (arith, nat_tests) in absurd (omega arith)),
+  (λ k. let w = block-whole c m b h k in let p = (size-IsSize c h).least in absurd (omega arith)),
+)

@@ -210,6 +210,7 @@ impl Pool {
     }
 
     /// Whether an address is that of a carved block of a class.
+    #[inline(always)]
     pub fn is_block(&self, class: u8, block: u64) -> bool
         requires low { 0 < class }
         requires high { class ≤ CLASSES }
@@ -227,6 +228,7 @@ impl Pool {
 
     /// Whether an address is that of a carved block of a class that is marked free: it is in the
     /// pool, or in a cache above it.
+    #[inline(always)]
     pub fn is_free(&self, class: u8, block: u64) -> bool
         requires low { 0 < class }
         requires high { class ≤ CLASSES }

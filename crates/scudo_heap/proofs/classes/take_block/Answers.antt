@@ -1,46 +1,15 @@
-use Rattle.std.proofs.Common.{◌≡◌, ◌≢◌, ◌∙◌, [], nat_le, sym, ap, refl}
-use Rattle.std.proofs.lemmas.Bool.{cond-true, cond-false}
-use Rattle.scudo_heap.specs.Stacks.{StackState, stack_of, carved}
+use Rattle.std.proofs.Common.{◌∙◌, refl}
 use Rattle.scudo_heap.specs.Heaps.{heap_of}
-use Rattle.scudo_heap.specs.Placing.{World, world_of, grown, more_pages, next_page, heap_attrs}
-use Rattle.mte_tags.specs.Memory.{pages_left, with_new_pages}
-use Rattle.scudo_heap.specs.Allocation.{nothing, taken}
-use Rattle.scudo_heap.proofs.ClassLemmas.{in_class-first, in_class-refused, in_class-grown}
+use Rattle.scudo_heap.specs.Placing.{world_of}
+use Rattle.scudo_heap.specs.Allocation.{in_class}
+use Rattle.scudo_heap.proofs.ClassLemmas.{in_class-first}
 use Rattle.scudo_heap.proofs.classes.take_block.Goals as goal
 
 pub returns-in-Some-clause-made : goal.returns-in-Some-clause-made
 returns-in-Some-clause-made g c = λ ms. in_class-first _ _ _ _ _ _ _ (c.in-Some.ensures.made ms)
 
-pub returns-then-not-grow-clause-made : goal.returns-then-not-grow-clause-made
-returns-then-not-grow-clause-made g c = λ ms.
-    let m = g.M.Tagged.memory c.args.memory.now in
-    let s = c.args.stacks.now in
-    let e = c.in_default.ensures in
-    let no = c.if-not-grow.true in
-    let memory : g.M.Tagged.memory c.grow.new.memory ≡ m = c.grow.ensures.memory ∙ cond-false _ _ _ no ∙ e.memory refl in
-    let stacks : c.grow.new.stacks ≡ s = c.grow.ensures.stacks ∙ cond-false _ _ _ no ∙ e.stacks refl in
-    let w = world_of m (heap_of c.args.cookie s ms) c.args.rgsr.now in
-    let same : world_of (g.M.Tagged.memory c.grow.new.memory) (heap_of c.args.cookie c.grow.new.stacks ms) c.take_top.new.rgsr ≡ w =
-    λ i. world_of (memory i) (heap_of c.args.cookie (stacks i) ms) (e.rgsr refl i) in
-    ap nothing same
-    ∙ in_class-refused w c.args.origin c.args.align c.args.size c.args.class (e.empty refl) (sym no ∙ c.grow.ensures.answer ∙ ap (λ t. nat_le (more_pages c.args.class) (pages_left t)) (e.memory refl))
-
 pub returns-clause-made : goal.returns-clause-made
-unfolding grown
 returns-clause-made g c = λ ms.
-    let m = g.M.Tagged.memory c.args.memory.now in
-    let s = c.args.stacks.now in
-    let k = c.args.class in
-    let n = more_pages k in
     let e = c.in_default.ensures in
-    let yes = c.if-not-grow.false in
-    let w = world_of m (heap_of c.args.cookie s ms) c.args.rgsr.now in
-    let memory : g.M.Tagged.memory c.grow.new.memory ≡ with_new_pages m (next_page s k) n heap_attrs =
-    c.grow.ensures.memory ∙ cond-true _ _ _ yes ∙ (λ i. with_new_pages (e.memory refl i) (next_page (e.stacks refl i) k) n heap_attrs) in
-    let stacks : c.grow.new.stacks ≡ carved s k n = c.grow.ensures.stacks ∙ cond-true _ _ _ yes ∙ ap (λ t. carved t k n) (e.stacks refl) in
-    let v = world_of (g.M.Tagged.memory c.grow.new.memory) (heap_of c.args.cookie c.grow.new.stacks ms) c.take_top.new.rgsr in
-    let same : v ≡ grown w k = λ i. world_of (memory i) (heap_of c.args.cookie (stacks i) ms) (e.rgsr refl i) in
-    let some : stack_of (grown w k).heap.stacks k ≢ [] = λ z. c.grow.ensures.some yes (ap (λ (t : StackState). stack_of t k) stacks ∙ z) in
-    c.take_top-2.ensures.made ms
-    ∙ ap (λ (t : World). taken t t c.args.origin c.args.align c.args.size k (stack_of t.heap.stacks k)) same
-    ∙ in_class-grown w c.args.origin c.args.align c.args.size k (e.empty refl) (sym yes ∙ c.grow.ensures.answer ∙ ap (λ t. nat_le n (pages_left t)) (e.memory refl)) some
+    c.grow_and_take.ensures.made ms
+    ∙ (λ i. in_class (world_of (e.memory refl i) (heap_of c.args.cookie (e.stacks refl i) ms) (e.rgsr refl i)) c.args.origin c.args.align c.args.size c.args.class)
