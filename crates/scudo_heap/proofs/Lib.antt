@@ -8,6 +8,7 @@ pub mod FreeLemmas
 pub mod ClassLemmas
 pub mod LargeLemmas
 pub mod AllocationLemmas
+pub mod AroundLemmas
 pub mod FirstLemmas
 pub mod CopyLemmas
 pub mod KeptLemmas

@@ -10,7 +10,8 @@ ghost use Rattle.scudo_heap.specs.Served.{IsOpen};
 
 use crate::chunk::Place;
 use crate::granules::{put_header, set_tags};
-use crate::tagging::{draw_tag, granules};
+use crate::tagging::{choose_tag, granules};
+use address_map::PAGE_SIZE;
 use mte_tags::{Paged, Rgsr, Tagged};
 use scudo_header::{CLASSES, Header, Origin, State, size_of_class};
 
@@ -54,6 +55,40 @@ fn open<M: Paged>(memory: &mut M, place: Place)
     set_tags(memory, place.user - 16, 1, 0, false);
 }
 
+/// Gives a chunk's granules a tag and zero bytes, and tag 0 to the granule of its header and to the
+/// one after the chunk, where its block goes on. In one page these three are two runs of granules:
+/// the chunk's tag goes over a run of tag 0.
+#[inline(always)]
+fn tag_around<M: Paged>(memory: &mut M, place: Place, tag: u8)
+    requires low { 0 < place.class }
+    requires high { place.class ≤ CLASSES }
+    requires tag { tag < 16 }
+    requires aligned { place.user % 16 ≡ 0 }
+    requires whole { block_end place % 16 ≡ 0 }
+    requires above { place.block + 16 ≤ place.user }
+    requires small { place.size < 2 ^ 20 }
+    requires within { end_of place ≤ block_end place }
+    requires open { IsOpen (M.memory memory.old) place.block (block_end place) }
+    ensures memory { M.memory memory.new
+        ≡ closed (opened (tagged (M.memory memory.old) place tag) place) place }
+    ensures attrs { (q : ℕ)
+        → attrs_at (M.memory memory.new) q ≡ attrs_at (M.memory memory.old) q }
+    ensures left { pages_left (M.memory memory.new) ≡ pages_left (M.memory memory.old) }
+    ensures kept { M.kept memory.old memory.new }
+{
+    let count = granules(place.size);
+    let (start, end) = (place.user - 16, place.user + 16 * count);
+    let in_one_page = start / PAGE_SIZE == end / PAGE_SIZE;
+    if in_one_page && end < place.block + size_of_class(place.class) {
+        set_tags(memory, start, count + 2, 0, false);
+        set_tags(memory, place.user, count, tag, true);
+        return;
+    }
+    set_tags(memory, place.user, count, tag, true);
+    open(memory, place);
+    close(memory, place);
+}
+
 /// Makes a chunk in its block, and returns its tag.
 #[inline(always)]
 pub(crate) fn make_chunk<M: Paged>(
@@ -91,9 +126,8 @@ pub(crate) fn make_chunk<M: Paged>(
     ensures left { pages_left (M.memory memory.new) ≡ pages_left (M.memory memory.old) }
     ensures kept { M.kept memory.old memory.new }
 {
-    let tag = draw_tag(rgsr, memory, place);
-    open(memory, place);
-    close(memory, place);
+    let tag = choose_tag(rgsr, memory, place);
+    tag_around(memory, place, tag);
     let header = Header {
         class_id: place.class,
         state: State::Allocated,

@@ -36,12 +36,28 @@ pub(crate) fn granules(size: u64) -> u64
     (size + 15) / 16
 }
 
+/// Draws a tag for a chunk.
+#[tactic(auto, unfolding(crate::specs::Chunks::excluded))]
+#[inline(always)]
+pub(crate) fn choose_tag<M: Paged>(rgsr: &mut Rgsr, memory: &mut M, place: Place) -> u8
+    requires low { 0 < place.class }
+    requires high { place.class ≤ CLASSES }
+    requires drawn { rgsr.old.tag < 16 }
+    requires open { IsOpen (M.memory memory.old) place.user (place.user + 1) }
+    ensures tag { result
+        ≡ (drawn rgsr.old (excluded (M.memory memory.old) place)).tag }
+    ensures rgsr { rgsr.new ≡ (drawn rgsr.old (excluded (M.memory memory.old) place)).rgsr }
+    ensures last { rgsr.new.tag ≡ result }
+    ensures below { result < 16 }
+    ensures memory { M.memory memory.new ≡ M.memory memory.old }
+    ensures kept { M.kept memory.old memory.new }
+{
+    let present = tag_there(memory, place.user);
+    rgsr.draw(exclude(place, present))
+}
+
 /// Draws a tag for a chunk and gives it to its granules, whose bytes become zero.
-#[rattlefmt::skip]
-#[tactic(auto, unfolding(
-    crate::specs::Chunks::excluded,
-    crate::specs::Chunks::tagged
-))]
+#[tactic(auto, unfolding(crate::specs::Chunks::tagged))]
 #[inline(always)]
 pub(crate) fn draw_tag<M: Paged>(rgsr: &mut Rgsr, memory: &mut M, place: Place) -> u8
     requires low { 0 < place.class }
@@ -62,8 +78,7 @@ pub(crate) fn draw_tag<M: Paged>(rgsr: &mut Rgsr, memory: &mut M, place: Place) 
     ensures left { pages_left (M.memory memory.new) ≡ pages_left (M.memory memory.old) }
     ensures kept { M.kept memory.old memory.new }
 {
-    let present = tag_there(memory, place.user);
-    let tag = rgsr.draw(exclude(place, present));
+    let tag = choose_tag(rgsr, memory, place);
     set_tags(memory, place.user, granules(place.size), tag, true);
     tag
 }
