@@ -10,7 +10,7 @@ ghost use Rattle.scudo_heap.specs.Allocation.{is_alignment};
 ghost use Rattle.scudo_heap.specs.Served.{IsServed};
 ghost use Rattle.scudo_heap.specs.Inner.{IsAlign, IsLow};
 
-use crate::chunk::Chunk;
+use crate::chunk::{Chunk, by_fields};
 use crate::classes::take_block;
 use crate::limits::MAX_REQUEST;
 use crate::pages::take_pages;
@@ -63,7 +63,8 @@ fn make_some<M: Paged>(
         Some(class) => take_block(cookie, stacks, rgsr, memory, origin, align, size, class),
         None => {
             let pages = (need + (PAGE_SIZE - 1)) / PAGE_SIZE;
-            take_pages(cookie, maps, memory, origin, align, size, pages)
+            let chunk = take_pages(cookie, maps, memory, origin, align, size, pages);
+            by_fields(chunk)
         }
     }
 }

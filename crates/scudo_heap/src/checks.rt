@@ -64,7 +64,7 @@ fn in_block(stacks: &Stacks, place: Place, header: &Header) -> Result<Found, Hea
 }
 
 /// The chunk of a mapping that is there.
-#[inline(never)]
+#[inline(always)]
 fn in_pages(maps: &Maps, user: u64, header: &Header) -> Result<Found, HeapAbort>
     ensures found { result ≡ found_mapping header.now (mapping_of maps.now.mappings user) }
     ensures end { IfOk result HasEnd }

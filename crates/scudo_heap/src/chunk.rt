@@ -101,3 +101,16 @@ pub(crate) fn address_or_null(chunk: &Option<Chunk>) -> u64
         None => 0,
     }
 }
+
+/// The same chunk, field by field: what a call out of line wrote stays apart from the chunks that
+/// are held in registers.
+#[inline(always)]
+pub(crate) fn by_fields(chunk: Option<Chunk>) -> Option<Chunk>
+    ensures { result ≡ chunk }
+{
+    match chunk {
+        None => None,
+        Some(Chunk::Small(place, tag)) => Some(Chunk::Small(place, tag)),
+        Some(Chunk::Large(mapping, size)) => Some(Chunk::Large(mapping, size)),
+    }
+}

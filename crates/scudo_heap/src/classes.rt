@@ -14,7 +14,7 @@ ghost use Rattle.scudo_heap.specs.Allocation.{made_of, place_in, taken, need_of,
 ghost use Rattle.scudo_heap.specs.Served.{AreRegions, KeepsServed};
 ghost use Rattle.scudo_heap.specs.Inner.{IsAlign, IsLow};
 
-use crate::chunk::{Chunk, Place};
+use crate::chunk::{Chunk, Place, by_fields};
 use crate::limits::MIN_ALIGNMENT;
 use crate::placing::make_chunk;
 use crate::stacks::Stacks;
@@ -199,5 +199,6 @@ pub(crate) fn take_block<M: Paged>(
     if let Some(chunk) = take_top(cookie, stacks, rgsr, memory, origin, align, size, class) {
         return Some(chunk);
     }
-    grow_and_take(cookie, stacks, rgsr, memory, origin, align, size, class)
+    let chunk = grow_and_take(cookie, stacks, rgsr, memory, origin, align, size, class);
+    by_fields(chunk)
 }
