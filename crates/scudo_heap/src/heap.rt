@@ -181,17 +181,12 @@ impl Heap {
         if pointer == 0 {
             return Ok(());
         }
-        match find_chunk(
-            self.cookie,
-            &self.stacks,
-            &self.maps,
-            memory,
-            plain(pointer),
-        ) {
+        let cookie = self.cookie;
+        match find_chunk(cookie, &self.stacks, &self.maps, memory, plain(pointer)) {
             Err(abort) => Err(abort),
             Ok(found) => {
                 free_found(
-                    self.cookie,
+                    cookie,
                     &mut self.stacks,
                     &mut self.maps,
                     rgsr,
@@ -228,17 +223,12 @@ impl Heap {
         if pointer == 0 {
             return Ok(self.malloc(rgsr, memory, size));
         }
-        match find_chunk(
-            self.cookie,
-            &self.stacks,
-            &self.maps,
-            memory,
-            plain(pointer),
-        ) {
+        let cookie = self.cookie;
+        match find_chunk(cookie, &self.stacks, &self.maps, memory, plain(pointer)) {
             Err(abort) => Err(abort),
             Ok(found) => {
                 let chunk = reallocate(
-                    self.cookie,
+                    cookie,
                     &mut self.stacks,
                     &mut self.maps,
                     rgsr,
