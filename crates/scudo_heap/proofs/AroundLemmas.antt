@@ -1,6 +1,6 @@
 -- The granules of a chunk and those around it: two runs of tags, of which the second goes over the first, in place of three.
 use Rattle.std.proofs.Common.{◌≡◌, ◌≢◌, ℕ, suc, zero, ◌+◌, ◌-◌, ◌*◌, ◌/◌, ◌%◌, ◌^◌, ◌<◌, ◌≤◌, Bool, true, false, cond, Option, Some, None, set, refl, sym, ap, ◌∙◌, inl, inr, arith}
-use Rattle.std.proofs.lemmas.Bool.{cases_eq, cond-true}
+use Rattle.std.proofs.lemmas.Bool.{cases_eq}
 use Rattle.std.proofs.lemmas.List.{set-set, set_comm}
 use Rattle.mte_tags.specs.Memory.{Memory, Page, page_at, zeroed, with_granule_in, with_granule, with_granules}
 use Rattle.mte_tags.proofs.Pages.{page_at-with_page_same, page_at-with_page_other, rest_of, same_memory}

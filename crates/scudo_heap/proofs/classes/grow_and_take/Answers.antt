@@ -1,9 +1,9 @@
-use Rattle.std.proofs.Common.{◌≡◌, ◌≢◌, ◌∙◌, [], nat_le, sym, ap}
+use Rattle.std.proofs.Common.{◌≡◌, ◌≢◌, ◌∙◌, [], sym, ap}
 use Rattle.std.proofs.lemmas.Bool.{cond-true, cond-false}
 use Rattle.scudo_heap.specs.Stacks.{StackState, stack_of, carved}
 use Rattle.scudo_heap.specs.Heaps.{heap_of}
 use Rattle.scudo_heap.specs.Placing.{World, world_of, grown, more_pages, next_page, heap_attrs}
-use Rattle.mte_tags.specs.Memory.{pages_left, with_new_pages}
+use Rattle.mte_tags.specs.Memory.{with_new_pages}
 use Rattle.scudo_heap.specs.Allocation.{nothing, taken}
 use Rattle.scudo_heap.proofs.ClassLemmas.{in_class-refused, in_class-grown}
 use Rattle.scudo_heap.proofs.classes.grow_and_take.Goals as goal

@@ -1,4 +1,4 @@
-use Rattle.std.proofs.Common.{◌≡◌, ◌-◌, ap, sym, ◌∙◌, length, arith}
+use Rattle.std.proofs.Common.{◌≡◌, ◌-◌, ap, ◌∙◌, length, arith}
 use Rattle.std.specs.Int.{to_le_bytes, w64}
 use Rattle.mte_tags.specs.Memory.{attrs_at, pages_left}
 use Rattle.mte_tags.specs.Accesses.{written}
