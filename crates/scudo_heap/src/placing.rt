@@ -56,8 +56,33 @@ fn open<M: Paged>(memory: &mut M, place: Place)
 }
 
 /// Gives a chunk's granules a tag and zero bytes, and tag 0 to the granule of its header and to the
-/// one after the chunk, where its block goes on. In one page these three are two runs of granules:
-/// the chunk's tag goes over a run of tag 0.
+/// one after the chunk, where its block goes on.
+#[tactic(auto, unfolding(crate::specs::Chunks::tagged))]
+#[inline(never)]
+fn tag_by_three_runs<M: Paged>(memory: &mut M, place: Place, tag: u8)
+    requires low { 0 < place.class }
+    requires high { place.class ≤ CLASSES }
+    requires tag { tag < 16 }
+    requires aligned { place.user % 16 ≡ 0 }
+    requires whole { block_end place % 16 ≡ 0 }
+    requires above { place.block + 16 ≤ place.user }
+    requires small { place.size < 2 ^ 20 }
+    requires within { end_of place ≤ block_end place }
+    requires open { IsOpen (M.memory memory.old) place.block (block_end place) }
+    ensures memory { M.memory memory.new
+        ≡ closed (opened (tagged (M.memory memory.old) place tag) place) place }
+    ensures attrs { (q : ℕ)
+        → attrs_at (M.memory memory.new) q ≡ attrs_at (M.memory memory.old) q }
+    ensures left { pages_left (M.memory memory.new) ≡ pages_left (M.memory memory.old) }
+    ensures kept { M.kept memory.old memory.new }
+{
+    set_tags(memory, place.user, granules(place.size), tag, true);
+    open(memory, place);
+    close(memory, place);
+}
+
+/// The same by two runs where the three lie in one page and the block goes on: the chunk's tag goes
+/// over a run of tag 0.
 #[inline(always)]
 fn tag_around<M: Paged>(memory: &mut M, place: Place, tag: u8)
     requires low { 0 < place.class }
@@ -84,9 +109,7 @@ fn tag_around<M: Paged>(memory: &mut M, place: Place, tag: u8)
         set_tags(memory, place.user, count, tag, true);
         return;
     }
-    set_tags(memory, place.user, count, tag, true);
-    open(memory, place);
-    close(memory, place);
+    tag_by_three_runs(memory, place, tag);
 }
 
 /// Makes a chunk in its block, and returns its tag.
