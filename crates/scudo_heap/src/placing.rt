@@ -58,7 +58,7 @@ fn open<M: Paged>(memory: &mut M, place: Place)
 /// Gives a chunk's granules a tag and zero bytes, and tag 0 to the granule of its header and to the
 /// one after the chunk, where its block goes on.
 #[tactic(auto, unfolding(crate::specs::Chunks::tagged))]
-#[inline(never)]
+#[inline(always)]
 fn tag_by_three_runs<M: Paged>(memory: &mut M, place: Place, tag: u8)
     requires low { 0 < place.class }
     requires high { place.class ≤ CLASSES }
