@@ -1,7 +1,8 @@
 //! The class sizes as the formula of `size_class_map.h` gives them, and worked headers.
 
 use scudo_header::{
-    Header, Origin, State, checksum, class_of, classes_in_digits, pack, size_of_class, unpack,
+    Header, Origin, State, checksum, class_of, classes_in_digits, is_multiple, pack, size_of_class,
+    unpack,
 };
 use scudo_primary::counts_in_digits;
 
@@ -29,6 +30,8 @@ fn have_sizes(sizes: &[u64]) -> bool {
             || class > 44
             || size_of_class(class) != *size
             || class_of(*size) != Some(class)
+            || !is_multiple(class, 3 * size_of_class(class))
+            || is_multiple(class, 3 * size_of_class(class) + 16)
         {
             return false;
         }
