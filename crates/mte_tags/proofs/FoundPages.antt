@@ -8,7 +8,7 @@ use Rattle.std.specs.List.{range_with_len, slice_range}
 use Rattle.mte_tags.specs.Memory.{Memory, Page, page_at, with_page, tag_at, tag_in, with_granules}
 use Rattle.mte_tags.specs.declared.fault.FaultKind.TheVariants.{Translation}
 use Rattle.mte_tags.specs.Accesses.{addresses, granules, byte_fault, first_fault, fault, fault_in, bytes_at, with_bytes, fetched, fetched_by, fetch_access, word_at, read_bytes}
-use Rattle.mte_tags.specs.Runs.{spliced, first_in, retagged}
+use Rattle.mte_tags.specs.Runs.{spliced, with_bytes_in, first_in, retagged}
 use Rattle.mte_tags.specs.declared.access.Access.{Access}
 use Rattle.mte_tags.specs.declared.fault.MemFault.{MemFault}
 use Rattle.mte_tags.proofs.AddressLists.{addresses_in_page}
@@ -69,10 +69,25 @@ pub page_written : (m : Memory) (p : Page) (place : ℕ) (piece : List ℕ) → 
 page_written m p place piece found h u =
     sym (ap (λ xs. with_bytes m xs piece) (addresses_in_page place (length piece) u h) ∙ with_bytes-run piece m p place found h)
 
+-- the same where a place holds the page
+pub page_replaced : (m n : Memory) (q : ℕ) (p : Page) (place : ℕ) (piece : List ℕ) → n ≡ m → q ≡ place / 4096 → page_at m (place / 4096) ≡ Some p → place % 4096 + length piece ≤ 4096 → place < 2 ^ 56
+    → with_page n q (with_bytes_in p (place % 4096) piece) ≡ with_bytes m (addresses place (length piece)) piece
+page_replaced m n q p place piece same number found h u =
+    ap (λ k. with_page k q (with_bytes_in p (place % 4096) piece)) same
+    ∙ ap (λ k. with_page m k (with_bytes_in p (place % 4096) piece)) number
+    ∙ page_written m p place piece found h u
+
 -- a run that was retagged
 pub page_retagged : (m : Memory) (p : Page) (at count t : ℕ) (z : Bool) → page_at m (at / 4096) ≡ Some p → at % 16 ≡ 0 → at % 4096 + 16 * count ≤ 4096 → at < 2 ^ 56 → length p.bytes ≡ 4096
     → with_page m (at / 4096) (retagged p (at % 4096 / 16) count t z) ≡ with_granules m at count t z
 page_retagged m p at count t z found g r u long = sym (with_granules-run count m p at t z found g (omega arith) long u)
+
+pub page_retagged_at : (m n : Memory) (q : ℕ) (p : Page) (at count t : ℕ) (z : Bool) → n ≡ m → q ≡ at / 4096 → page_at m (at / 4096) ≡ Some p → at % 16 ≡ 0 → at % 4096 + 16 * count ≤ 4096 → at < 2 ^ 56 → length p.bytes ≡ 4096
+    → with_page n q (retagged p (at % 4096 / 16) count t z) ≡ with_granules m at count t z
+page_retagged_at m n q p at count t z same number found g r u long =
+    ap (λ k. with_page k q (retagged p (at % 4096 / 16) count t z)) same
+    ∙ ap (λ k. with_page m k (retagged p (at % 4096 / 16) count t z)) number
+    ∙ page_retagged m p at count t z found g r u long
 
 -- the fetch of an aligned word
 fetched_aligned : (m : Memory) (pc at : ℕ) (x : Access) → pc % 4 ≡ 0 → at ≡ plain pc → x ≡ fetch_access pc → fetched m pc ≡ fetched_by m pc (first_fault m x (addresses at 4))

@@ -16,6 +16,10 @@ unfoldable pub spliced : List ℕ → ℕ → List ℕ → List ℕ
 spliced xs o [] = xs
 spliced xs o (b ∷ bs) = spliced (slice_set xs o b) (o + 1) bs
 
+-- a page with a run of its bytes replaced, from a place on
+abbrev pub with_bytes_in : Page → ℕ → List ℕ → Page
+with_bytes_in p o bs = record p { bytes = spliced p.bytes o bs }
+
 -- a page with n granules from granule g on retagged, and their bytes zero where that is wanted
 abbrev pub retagged : Page → ℕ → ℕ → ℕ → Bool → Page
 retagged p g n t zero_it = record {

@@ -17,6 +17,10 @@ use crate::fault::{FaultKind, MemFault, by_fields};
 use crate::page_store::PageStore;
 use crate::state::TagMode;
 use crate::tagged::Tagged;
+use crate::within_page::{
+    fault_of_run, fetch_aligned, granule_tag_at, read_in_page, store_tags_in_page, try_read,
+    try_write, write_in_page,
+};
 use a64_bits::plain;
 
 const ADDRESSES: u64 = 1 << 56;
@@ -38,7 +42,7 @@ fn check_bytes<S: PageStore>(
     let mut left = count;
     while left > 0 {
         let run = left.min((4096 - place % 4096) as usize);
-        if let Some(fault) = store.run_fault(place, run, access) {
+        if let Some(fault) = fault_of_run(store, place, run, access) {
             return Err(fault);
         }
         place = (place + run as u64) % ADDRESSES;
@@ -94,7 +98,7 @@ fn copy_out<S: PageStore>(store: &mut S, at: u64, buffer: &mut [u8])
     while done < buffer.len() {
         let run = (buffer.len() - done).min((4096 - place % 4096) as usize);
         // A mapped page lacks nothing that this access requires.
-        let _ = store.read_in_page(place, &mut buffer[done..done + run], &access);
+        let _ = read_in_page(store, place, &mut buffer[done..done + run], &access);
         place = (place + run as u64) % ADDRESSES;
         done += run;
     }
@@ -115,7 +119,7 @@ pub fn replace_bytes<S: PageStore>(store: &mut S, at: u64, bytes: &[u8])
     while done < bytes.len() {
         let run = (bytes.len() - done).min((4096 - place % 4096) as usize);
         // A mapped page lacks nothing that this access requires.
-        let _ = store.write_in_page(place, &bytes[done..done + run], &access);
+        let _ = write_in_page(store, place, &bytes[done..done + run], &access);
         place = (place + run as u64) % ADDRESSES;
         done += run;
     }
@@ -204,7 +208,7 @@ fn read_at<S: PageStore>(
 {
     let access = Access::reading(addr, checked);
     let at = plain(addr);
-    if store.try_read(at, buffer, &access) {
+    if try_read(store, at, buffer, &access) {
         return Ok(());
     }
     read_slowly(store, at, buffer, &access)
@@ -287,7 +291,7 @@ fn write_at<S: PageStore>(
 {
     let access = Access::writing(addr, checked);
     let at = plain(addr);
-    if store.try_write(at, bytes, &access) {
+    if try_write(store, at, bytes, &access) {
         return Ok(());
     }
     write_slowly(store, at, bytes, &access)
@@ -303,7 +307,7 @@ fn fetch_word<S: PageStore>(store: &mut S, pc: u64) -> Result<u32, MemFault>
     if pc % 4 != 0 {
         return Err(unaligned_fetch(pc));
     }
-    store.fetch_aligned(pc)
+    fetch_aligned(store, pc)
 }
 
 /// The fault of a fetch at an address that is not a multiple of 4.
@@ -326,7 +330,7 @@ fn load_granule_tag<S: PageStore>(store: &mut S, addr: u64) -> Result<u8, MemFau
     ensures kept { S.kept store.old store.new }
 {
     let access = Access::reading(addr, false);
-    store.granule_tag(plain(addr) / 16 * 16, &access)
+    granule_tag_at(store, plain(addr) / 16 * 16, &access)
 }
 
 /// Whether the page of an address is mapped and has these attributes.
@@ -336,7 +340,7 @@ fn page_has_attrs<S: PageStore>(store: &mut S, addr: u64, attrs: Attrs) -> bool
     ensures kept { S.kept store.old store.new }
 {
     let access = Access::needing(attrs);
-    store.run_fault(plain(addr), 1, &access).is_none()
+    fault_of_run(store, plain(addr), 1, &access).is_none()
 }
 
 /// The fault of the first granule that fails of an access without a tag check, if any.
@@ -360,7 +364,7 @@ fn check_granules<S: PageStore>(
     let mut left = count;
     while left > 0 {
         let run = left.min((4096 - place % 4096) / 16);
-        if let Some(fault) = store.run_fault(place, 1, access) {
+        if let Some(fault) = fault_of_run(store, place, 1, access) {
             return Err(fault);
         }
         place = (place + 16 * run) % ADDRESSES;
@@ -386,7 +390,7 @@ fn tag_granules<S: PageStore>(store: &mut S, at: u64, count: u64, tag: u8, zero:
     while left > 0 {
         let run = left.min((4096 - place % 4096) / 16);
         // A mapped page lacks nothing that this access requires.
-        let _ = store.store_tags_in_page(place, run as usize, tag, zero, &access);
+        let _ = store_tags_in_page(store, place, run as usize, tag, zero, &access);
         place = (place + 16 * run) % ADDRESSES;
         left -= run;
     }
@@ -416,7 +420,7 @@ fn store_granule_tags<S: PageStore>(
         return Err(access.fault(FaultKind::Alignment, at, 0));
     }
     if count > 0 && count <= (4096 - at % 4096) / 16 {
-        return store.store_tags_in_page(at, count as usize, tag, zero, &access);
+        return store_tags_in_page(store, at, count as usize, tag, zero, &access);
     }
     check_granules(store, at, count, &access)?;
     tag_granules(store, at, count, tag, zero);

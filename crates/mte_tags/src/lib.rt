@@ -13,6 +13,7 @@ mod page_store;
 mod state;
 mod tagged;
 mod tags;
+mod within_page;
 
 pub use access::Access;
 pub use attrs::Attrs;
@@ -20,9 +21,7 @@ pub use by_page::replace_bytes;
 pub use fault::{FaultKind, MemFault};
 pub use generator::Rgsr;
 pub use laws::{flag_stays_in_sync, mode_stays, no_tag_check_in_async, pages_after_calls};
-pub use page::{
-    MappedPage, copy_in, copy_out, fits_one_page, run_fault, run_passes, tag_in_page, word_in_page,
-};
+pub use page::copy_in;
 pub use page_store::PageStore;
 pub use state::{TagMode, TagState};
 pub use tagged::{NoQuota, Paged, Tagged};

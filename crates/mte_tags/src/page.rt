@@ -1,37 +1,20 @@
-//! What is done within one page, however it is kept.
+//! What is done within the page that a place holds.
 
-ghost use Rattle.std.specs.Prelude.{◌≡◌, ℕ, List, ◌<◌, ◌≤◌, ◌+◌, ◌%◌, ◌/◌, ◌^◌, ◌&&◌, ◌↔◌};
-ghost use Rattle.std.specs.Prelude.{true, Some, IsTrue, is_none, length, slice_index, slice_range};
-ghost use Rattle.std.specs.List.{All, range_with_len};
+ghost use Rattle.std.specs.Prelude.{◌≡◌, ◌<◌, ◌≤◌, ◌+◌, ◌%◌, ◌/◌, ◌^◌, ◌&&◌, ◌↔◌};
+ghost use Rattle.std.specs.Prelude.{true, Some, IsTrue, is_none, length, slice_range};
+ghost use Rattle.std.specs.List.{range_with_len};
 ghost use Rattle.std.specs.Int.{from_le_bytes, w32};
-ghost use Rattle.mte_tags.specs.Memory.{Page, has, tag_in};
+ghost use Rattle.mte_tags.specs.Memory.{has, tag_in};
 ghost use Rattle.mte_tags.specs.Runs.{first_in, spliced};
 
 use crate::access::Access;
 use crate::attrs::Attrs;
 use crate::fault::{FaultKind, MemFault};
-
-/// A mapped page: its attributes, 4096 bytes, and a tag for each of its 256 granules.
-pub trait MappedPage {
-    /// What it holds.
-    ghost page: { Self → Page };
-
-    fn attrs(&self) -> Attrs
-        ensures { result.0 ≡ (page self.now).attrs };
-
-    fn bytes(&self) -> &[u8]
-        ensures value { result.now ≡ (page self.now).bytes }
-        ensures len { length result.now ≡ 4096 };
-
-    /// The allocation tag of a granule, below 256.
-    fn granule_tag(&self, granule: usize) -> u8
-        requires { granule < 256 }
-        ensures { result ≡ slice_index (page self.now).tags granule };
-}
+use crate::page_store::PageStore;
 
 /// Whether some bytes are wanted, and one page holds them.
 #[inline]
-pub fn fits_one_page(at: u64, count: u64) -> bool
+pub(crate) fn fits_one_page(at: u64, count: u64) -> bool
     ensures { IsTrue result ↔ ((0 < count) × (at % 4096 + count ≤ 4096)) }
 {
     count > 0 && count <= 4096 - at % 4096
@@ -39,18 +22,20 @@ pub fn fits_one_page(at: u64, count: u64) -> bool
 
 /// The fault of the first byte of a run that fails, if any.
 #[inline(always)]
-pub fn run_fault<P: MappedPage>(
-    page: &P,
+pub(crate) fn run_fault<S: PageStore>(
+    store: &S,
+    place: usize,
     at: u64,
     count: usize,
     access: &Access,
 ) -> Option<MemFault>
+    requires place { S.is_place store.now place }
     requires some { 0 < count }
     requires inside { at % 4096 + count ≤ 4096 }
     requires plain { at < 2 ^ 56 }
-    ensures { result ≡ first_in access.now (Some (P.page page.now)) (range_with_len at count) }
+    ensures { result ≡ first_in access.now (Some (S.page_in store.now place)) (range_with_len at count) }
 {
-    let attrs = page.attrs();
+    let attrs = store.attrs(place);
     if attrs.0 & access.need != access.need {
         return Some(access.fault(FaultKind::Permission, at, 0));
     }
@@ -60,19 +45,26 @@ pub fn run_fault<P: MappedPage>(
     if !attrs.contains(Attrs::TAGGED) {
         return None;
     }
-    tag_fault(page, at, count, access)
+    tag_fault(store, place, at, count, access)
 }
 
 /// Whether the whole run is permitted: the common case, which builds no fault.
 #[inline(always)]
-pub fn run_passes<P: MappedPage>(page: &P, at: u64, count: usize, access: &Access) -> bool
+pub(crate) fn run_passes<S: PageStore>(
+    store: &S,
+    place: usize,
+    at: u64,
+    count: usize,
+    access: &Access,
+) -> bool
+    requires place { S.is_place store.now place }
     requires some { 0 < count }
     requires inside { at % 4096 + count ≤ 4096 }
     requires plain { at < 2 ^ 56 }
     ensures { result
-        ≡ is_none (first_in access.now (Some (P.page page.now)) (range_with_len at count)) }
+        ≡ is_none (first_in access.now (Some (S.page_in store.now place)) (range_with_len at count)) }
 {
-    let attrs = page.attrs();
+    let attrs = store.attrs(place);
     let permitted = attrs.0 & access.need == access.need;
     if !permitted {
         return false;
@@ -81,7 +73,7 @@ pub fn run_passes<P: MappedPage>(page: &P, at: u64, count: usize, access: &Acces
     if !compared {
         return true;
     }
-    if page.granule_tag((at % 4096 / 16) as usize) != access.tag {
+    if store.granule_tag(place, (at % 4096 / 16) as usize) != access.tag {
         return false;
     }
     if at % 16 + count as u64 <= 16 {
@@ -89,44 +81,52 @@ pub fn run_passes<P: MappedPage>(page: &P, at: u64, count: usize, access: &Acces
     }
     if count <= 16 {
         let last = at + count as u64 - 1;
-        return page.granule_tag((last % 4096 / 16) as usize) == access.tag;
+        return store.granule_tag(place, (last % 4096 / 16) as usize) == access.tag;
     }
-    tags_pass(page, at, count, access)
+    tags_pass(store, place, at, count, access)
 }
 
 /// Whether no byte of a run fails where tags are compared.
 #[inline(never)]
-fn tags_pass<P: MappedPage>(page: &P, at: u64, count: usize, access: &Access) -> bool
+fn tags_pass<S: PageStore>(store: &S, place: usize, at: u64, count: usize, access: &Access) -> bool
+    requires place { S.is_place store.now place }
     requires some { 0 < count }
     requires inside { at % 4096 + count ≤ 4096 }
     requires plain { at < 2 ^ 56 }
-    requires permitted { has (P.page page.now).attrs access.now.need ≡ true }
-    requires checked { (access.now.checked && has (P.page page.now).attrs 8) ≡ true }
+    requires permitted { has (S.page_in store.now place).attrs access.now.need ≡ true }
+    requires checked { (access.now.checked && has (S.page_in store.now place).attrs 8) ≡ true }
     ensures { result
-        ≡ is_none (first_in access.now (Some (P.page page.now)) (range_with_len at count)) }
+        ≡ is_none (first_in access.now (Some (S.page_in store.now place)) (range_with_len at count)) }
 {
-    tag_fault(page, at, count, access).is_none()
+    tag_fault(store, place, at, count, access).is_none()
 }
 
 /// How the first byte of a run fails where tags are compared.
 #[inline]
-fn tag_fault<P: MappedPage>(page: &P, at: u64, count: usize, access: &Access) -> Option<MemFault>
+fn tag_fault<S: PageStore>(
+    store: &S,
+    place: usize,
+    at: u64,
+    count: usize,
+    access: &Access,
+) -> Option<MemFault>
+    requires place { S.is_place store.now place }
     requires some { 0 < count }
     requires inside { at % 4096 + count ≤ 4096 }
     requires plain { at < 2 ^ 56 }
-    requires permitted { has (P.page page.now).attrs access.now.need ≡ true }
-    requires checked { (access.now.checked && has (P.page page.now).attrs 8) ≡ true }
-    ensures { result ≡ first_in access.now (Some (P.page page.now)) (range_with_len at count) }
+    requires permitted { has (S.page_in store.now place).attrs access.now.need ≡ true }
+    requires checked { (access.now.checked && has (S.page_in store.now place).attrs 8) ≡ true }
+    ensures { result ≡ first_in access.now (Some (S.page_in store.now place)) (range_with_len at count) }
 {
-    let mut place = at;
+    let mut address = at;
     let mut left = count;
     while left > 0 {
-        let tag = page.granule_tag((place % 4096 / 16) as usize);
+        let tag = store.granule_tag(place, (address % 4096 / 16) as usize);
         if tag != access.tag {
-            return Some(access.fault(FaultKind::TagCheck, place, tag));
+            return Some(access.fault(FaultKind::TagCheck, address, tag));
         }
-        let run = left.min((16 - place % 16) as usize);
-        place += run as u64;
+        let run = left.min((16 - address % 16) as usize);
+        address += run as u64;
         left -= run;
     }
     None
@@ -134,14 +134,15 @@ fn tag_fault<P: MappedPage>(page: &P, at: u64, count: usize, access: &Access) ->
 
 /// Copies a run of bytes out. Runs of one register have a copy of their own, of a known length.
 #[inline(always)]
-pub fn copy_out<P: MappedPage>(page: &P, at: u64, buffer: &mut [u8])
-    requires { at % 4096 + length buffer.old ≤ 4096 }
-    ensures long { length (P.page page.now).bytes ≡ 4096 }
+pub(crate) fn copy_out<S: PageStore>(store: &S, place: usize, at: u64, buffer: &mut [u8])
+    requires place { S.is_place store.now place }
+    requires inside { at % 4096 + length buffer.old ≤ 4096 }
+    ensures long { length (S.page_in store.now place).bytes ≡ 4096 }
     ensures bytes { buffer.new
-        ≡ slice_range (P.page page.now).bytes (at % 4096) (at % 4096 + length buffer.old) }
+        ≡ slice_range (S.page_in store.now place).bytes (at % 4096) (at % 4096 + length buffer.old) }
 {
     let from = (at % 4096) as usize;
-    let bytes = page.bytes();
+    let bytes = store.bytes(place);
     if buffer.len() == 8 {
         buffer.copy_from_slice(&bytes[from..from + 8]);
     } else if buffer.len() == 4 {
@@ -153,15 +154,16 @@ pub fn copy_out<P: MappedPage>(page: &P, at: u64, buffer: &mut [u8])
 
 /// The instruction word at an address.
 #[inline(always)]
-pub fn word_in_page<P: MappedPage>(page: &P, at: u64) -> u32
-    requires { at % 4096 + 4 ≤ 4096 }
-    ensures long { length (P.page page.now).bytes ≡ 4096 }
+pub(crate) fn word_in_page<S: PageStore>(store: &S, place: usize, at: u64) -> u32
+    requires place { S.is_place store.now place }
+    requires inside { at % 4096 + 4 ≤ 4096 }
+    ensures long { length (S.page_in store.now place).bytes ≡ 4096 }
     ensures word { result
         ≡ from_le_bytes w32
-        (slice_range (P.page page.now).bytes (at % 4096) (at % 4096 + 4)) }
+        (slice_range (S.page_in store.now place).bytes (at % 4096) (at % 4096 + 4)) }
 {
     let mut word = [0; 4];
-    copy_out(page, at, &mut word);
+    copy_out(store, place, at, &mut word);
     u32::from_le_bytes(word)
 }
 
@@ -189,14 +191,14 @@ pub fn copy_in(page: &mut [u8], at: u64, bytes: &[u8])
 
 /// The tag of the granule at a plain address, 0 on a page without TAGGED.
 #[inline]
-pub fn tag_in_page<P: MappedPage>(page: &P, at: u64) -> u8
-    requires { All (λ t. t < 16) (P.page page.now).tags }
+pub(crate) fn tag_in_page<S: PageStore>(store: &S, place: usize, at: u64) -> u8
+    requires { S.is_place store.now place }
     ensures small { result < 16 }
-    ensures tag { result ≡ tag_in (Some (P.page page.now)) (at % 4096 / 16) }
+    ensures tag { result ≡ tag_in (Some (S.page_in store.now place)) (at % 4096 / 16) }
 {
-    let tagged = page.attrs().contains(Attrs::TAGGED);
+    let tagged = store.attrs(place).contains(Attrs::TAGGED);
     if !tagged {
         return 0;
     }
-    page.granule_tag((at % 4096 / 16) as usize)
+    store.granule_tag(place, (at % 4096 / 16) as usize)
 }

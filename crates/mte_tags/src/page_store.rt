@@ -1,26 +1,32 @@
-//! Memories that are reached one page at a time.
+//! Memories that keep their pages in places of their own.
 
-ghost use Rattle.std.specs.Prelude.{◌≡◌, ℕ, ◌<◌, ◌≤◌, ◌+◌, ◌*◌, ◌%◌, ◌^◌, false, None, IfOk};
-ghost use Rattle.std.specs.Prelude.{IsTrue, is_ok, length, if◌then◌else◌};
-ghost use Rattle.mte_tags.specs.Memory.{Memory, tag_at, with_granules, with_pending};
-ghost use Rattle.mte_tags.specs.Accesses.{outcome, loaded, addresses, granules, byte_fault};
-ghost use Rattle.mte_tags.specs.Accesses.{first_fault, bytes_at, with_bytes, fetched};
+ghost use Rattle.std.specs.Prelude.{◌≡◌, ℕ, ◌<◌, ◌≤◌, ◌+◌, ◌%◌, ◌^◌};
+ghost use Rattle.std.specs.Prelude.{IfSome, length, slice_index, option_map};
+ghost use Rattle.mte_tags.specs.Memory.{Memory, Page, page_at, with_page, with_pending};
+ghost use Rattle.mte_tags.specs.Runs.{with_bytes_in, retagged};
 
-use crate::access::Access;
-use crate::fault::MemFault;
+use crate::attrs::Attrs;
 use crate::state::TagState;
 
-/// A tagged memory of which each call reaches one page. It is a `Tagged` memory, whose accesses
-/// over several pages are made of these calls. Each `at` is a plain address, below 2^56; a run of
-/// bytes or granules from there on lies within one page and is not empty. Only the quick calls take
-/// any bytes, and may leave them to the others. The calls know no mode: in each of them a tag that
-/// differs is a fault, and no call but `set_pending` sets the flag.
+/// What a tagged memory of one's own has to do: find the place that holds a page, read what a place
+/// holds, and replace its bytes and tags. It then is a `Tagged` memory, whose accesses are made of
+/// these calls. A place is a number of the store's own; it holds its page until a page is found,
+/// mapped or unmapped. No call looks at attributes or compares tags.
 pub trait PageStore {
     /// What it holds, however it is kept.
     ghost memory: { Self → Memory };
 
     /// What every call leaves of all that is not the memory.
     ghost kept: { Self → Self → Type 0 };
+
+    /// That a place holds a page.
+    ghost is_place: { Self → ℕ → Type 0 };
+
+    /// The number of the page that a place holds.
+    ghost number_in: { Self → ℕ → ℕ };
+
+    /// The page that a place holds.
+    ghost page_in: { Self → ℕ → Page };
 
     /// Its tag mode and its flag.
     fn tag_state(&mut self) -> TagState
@@ -33,109 +39,63 @@ pub trait PageStore {
         ensures memory { memory self.new ≡ with_pending (memory self.old) }
         ensures kept { kept self.old self.new };
 
-    /// The fault of the first byte of a run that fails, if any.
-    fn run_fault(&mut self, at: u64, count: usize, access: &Access) -> Option<MemFault>
-        requires some { 0 < count }
-        requires inside { at % 4096 + count ≤ 4096 }
-        requires plain { at < 2 ^ 56 }
-        ensures answer { result ≡ first_fault (memory self.old) access.now (addresses at count) }
+    /// The place of the page of a number, a plain address divided by 4096, if it is mapped. Data
+    /// are read or written there.
+    fn find(&mut self, page: u64) -> Option<usize>
+        requires { page < 2 ^ 44 }
+        ensures place { IfSome result (λ i. is_place self.new i) }
+        ensures number { IfSome result (λ i. number_in self.new i ≡ page) }
+        ensures page { page_at (memory self.old) page ≡ option_map (page_in self.new) result }
         ensures memory { memory self.new ≡ memory self.old }
         ensures kept { kept self.old self.new };
 
-    /// The instruction word at an aligned address, which one page holds, or how its fetch fails.
-    fn fetch_aligned(&mut self, pc: u64) -> Result<u32, MemFault>
-        requires aligned { pc % 4 ≡ 0 }
-        ensures answer { result ≡ fetched (memory self.old) pc }
+    /// The same for a page whose instructions are fetched. It may be `find`; what is remembered for
+    /// data and for instructions apart is found sooner.
+    fn find_code(&mut self, page: u64) -> Option<usize>
+        requires { page < 2 ^ 44 }
+        ensures place { IfSome result (λ i. is_place self.new i) }
+        ensures number { IfSome result (λ i. number_in self.new i ≡ page) }
+        ensures page { page_at (memory self.old) page ≡ option_map (page_in self.new) result }
         ensures memory { memory self.new ≡ memory self.old }
         ensures kept { kept self.old self.new };
 
-    /// Copies a run of bytes out, or returns the fault of the first that fails.
-    fn read_in_page(&mut self, at: u64, buffer: &mut [u8], access: &Access) -> Result<(), MemFault>
-        requires some { 0 < length buffer.old }
-        requires inside { at % 4096 + length buffer.old ≤ 4096 }
-        requires plain { at < 2 ^ 56 }
-        ensures answer { result
-            ≡ outcome
-            (first_fault (memory self.old) access.now (addresses at (length buffer.old))) }
-        ensures bytes { buffer.new
-            ≡ (if is_ok result
-            then bytes_at (memory self.old) (addresses at (length buffer.old))
-            else buffer.old) }
-        ensures memory { memory self.new ≡ memory self.old }
-        ensures kept { kept self.old self.new };
+    /// The attributes of the page that a place holds.
+    fn attrs(&self, place: usize) -> Attrs
+        requires { is_place self.now place }
+        ensures { result.0 ≡ (page_in self.now place).attrs };
 
-    /// Copies bytes out where that is quick, and returns whether it did. `false` changes nothing,
-    /// and does not say that an access fails.
-    fn try_read(&mut self, at: u64, buffer: &mut [u8], access: &Access) -> bool
-        requires { at < 2 ^ 56 }
-        ensures passed { IsTrue result
-            → first_fault (memory self.old) access.now (addresses at (length buffer.old))
-            ≡ None }
-        ensures bytes { buffer.new
-            ≡ (if result
-            then bytes_at (memory self.old) (addresses at (length buffer.old))
-            else buffer.old) }
-        ensures memory { memory self.new ≡ memory self.old }
-        ensures kept { kept self.old self.new };
+    /// The 4096 bytes of the page that a place holds.
+    fn bytes(&self, place: usize) -> &[u8]
+        requires { is_place self.now place }
+        ensures value { result.now ≡ (page_in self.now place).bytes }
+        ensures len { length result.now ≡ 4096 };
 
-    /// Copies a run of bytes in, or returns the fault of the first that fails.
-    fn write_in_page(&mut self, at: u64, bytes: &[u8], access: &Access) -> Result<(), MemFault>
-        requires some { 0 < length bytes.now }
+    /// The allocation tag of a granule, below 256, of the page that a place holds.
+    fn granule_tag(&self, place: usize, granule: usize) -> u8
+        requires place { is_place self.now place }
+        requires granule { granule < 256 }
+        ensures small { result < 16 }
+        ensures tag { result ≡ slice_index (page_in self.now place).tags granule };
+
+    /// Replaces a run of bytes of the page that a place holds, from the byte of an address on.
+    fn replace_run(&mut self, place: usize, at: u64, bytes: &[u8])
+        requires place { is_place self.old place }
         requires inside { at % 4096 + length bytes.now ≤ 4096 }
-        requires plain { at < 2 ^ 56 }
-        ensures answer { result
-            ≡ outcome
-            (first_fault (memory self.old) access.now (addresses at (length bytes.now))) }
         ensures memory { memory self.new
-            ≡ (if is_ok result
-            then with_bytes (memory self.old) (addresses at (length bytes.now)) bytes.now
-            else memory self.old) }
+            ≡ with_page (memory self.old) (number_in self.old place)
+            (with_bytes_in (page_in self.old place) (at % 4096) bytes.now) }
         ensures kept { kept self.old self.new };
 
-    /// Copies bytes in where that is quick, and returns whether it did. `false` changes nothing,
-    /// and does not say that an access fails.
-    fn try_write(&mut self, at: u64, bytes: &[u8], access: &Access) -> bool
-        requires { at < 2 ^ 56 }
-        ensures passed { IsTrue result
-            → first_fault (memory self.old) access.now (addresses at (length bytes.now)) ≡ None }
-        ensures memory { memory self.new
-            ≡ (if result
-            then with_bytes (memory self.old) (addresses at (length bytes.now)) bytes.now
-            else memory self.old) }
-        ensures kept { kept self.old self.new };
-
-    /// The tag of the granule at an address, or how the byte there fails.
-    fn granule_tag(&mut self, at: u64, access: &Access) -> Result<u8, MemFault>
-        requires { at < 2 ^ 56 }
-        ensures small { IfOk result (λ t. t < 16) }
-        ensures answer { result
-            ≡ loaded (byte_fault (memory self.old) access.now at)
-            (tag_at (memory self.old) at) }
-        ensures memory { memory self.new ≡ memory self.old }
-        ensures kept { kept self.old self.new };
-
-    /// Replaces the tags of a run of granules, and makes their bytes zero where `zero` is set, or
-    /// returns the fault of the first granule that fails. The access is not tag checked.
-    fn store_tags_in_page(
-        &mut self,
-        at: u64,
-        count: usize,
-        tag: u8,
-        zero: bool,
-        access: &Access,
-    ) -> Result<(), MemFault>
-        requires some { 0 < count }
-        requires aligned { at % 16 ≡ 0 }
-        requires inside { at % 4096 + 16 * count ≤ 4096 }
-        requires plain { at < 2 ^ 56 }
+    /// Replaces the tags of `count` granules from granule `first` on of the page that a place holds,
+    /// and makes their bytes zero where `zero` is set.
+    fn retag(&mut self, place: usize, first: usize, count: usize, tag: u8, zero: bool)
+        requires place { is_place self.old place }
+        requires inside { first + count ≤ 256 }
         requires tag { tag < 16 }
-        requires unchecked { access.now.checked ≡ false }
-        ensures answer { result
-            ≡ outcome (first_fault (memory self.old) access.now (granules at count)) }
+        ensures long { length (page_in self.old place).bytes ≡ 4096 }
         ensures memory { memory self.new
-            ≡ (if is_ok result
-            then with_granules (memory self.old) at count tag zero
-            else memory self.old) }
+            ≡ with_page (memory self.old) (number_in self.old place)
+            (retagged (page_in self.old place) first count tag zero) }
         ensures kept { kept self.old self.new };
 
     ghost kept_same: { (a : Self) → kept a a };

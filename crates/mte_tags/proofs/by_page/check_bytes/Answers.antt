@@ -18,11 +18,11 @@ loop-left-preserved g c =
     let x = c.args.access.now in
     let n = c.min-run.result in
     let e = first_fault_run m x c.loop-left.place n c.loop-left.left c.loop-left.invariant.plain (omega (arith, c.min-run.ensures)) in
-    let r = sym c.in_default.is ∙ c.run_fault.ensures.answer ∙ ap (λ k. first_fault k x (addresses c.loop-left.place n)) c.loop-left.invariant.same in
+    let r = sym c.in_default.is ∙ c.fault_of_run.ensures.answer ∙ ap (λ k. first_fault k x (addresses c.loop-left.place n)) c.loop-left.invariant.same in
     record {
       plain = omega arith;
-      same = c.run_fault.ensures.memory ∙ c.loop-left.invariant.same;
-      kept = g.met.S.PageStore.kept_on _ _ _ c.loop-left.invariant.kept c.run_fault.ensures.kept;
+      same = c.fault_of_run.ensures.memory ∙ c.loop-left.invariant.same;
+      kept = g.met.S.PageStore.kept_on _ _ _ c.loop-left.invariant.kept c.fault_of_run.ensures.kept;
       rest = c.loop-left.invariant.rest ∙ e ∙ ap (λ f. or_else f (first_fault m x (addresses ((c.loop-left.place + n) % 2 ^ 56) (c.loop-left.left - n)))) (sym r);
     }
 

@@ -25,13 +25,13 @@ loop-left-preserved g c =
     let e = first_fault_granules m x place n c.loop-left.left c.loop-left.invariant.plain (omega (arith, c.min-run.ensures)) in
     let some : 0 < n = omega (arith, c.min-run.ensures) in
     let fits : place % 4096 + 16 * n ≤ 4096 = omega (arith, c.min-run.ensures) in
-    let r = sym c.in_default.is ∙ c.run_fault.ensures.answer ∙ ap (λ k. first_fault k x (addresses place 1)) c.loop-left.invariant.same
+    let r = sym c.in_default.is ∙ c.fault_of_run.ensures.answer ∙ ap (λ k. first_fault k x (addresses place 1)) c.loop-left.invariant.same
     ∙ first_fault_one m x place ∙ sym (first_fault_in_run m x place n c.requires.unchecked some c.loop-left.invariant.aligned fits c.loop-left.invariant.plain) in
     record {
       plain = omega arith;
       aligned = omega arith;
-      same = c.run_fault.ensures.memory ∙ c.loop-left.invariant.same;
-      kept = g.met.S.PageStore.kept_on _ _ _ c.loop-left.invariant.kept c.run_fault.ensures.kept;
+      same = c.fault_of_run.ensures.memory ∙ c.loop-left.invariant.same;
+      kept = g.met.S.PageStore.kept_on _ _ _ c.loop-left.invariant.kept c.fault_of_run.ensures.kept;
       rest = c.loop-left.invariant.rest ∙ e ∙ ap (λ f. or_else f (first_fault m x (granules ((place + 16 * n) % 2 ^ 56) (c.loop-left.left - n)))) (sym r);
     }
 

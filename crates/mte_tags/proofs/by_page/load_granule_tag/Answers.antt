@@ -9,7 +9,7 @@ pub returns-clause-answer : goal.returns-clause-answer
 unfolding tag_load_fault
 returns-clause-answer g c =
     let m = g.S.PageStore.memory c.args.store.now in
-    c.granule_tag.ensures.answer
+    c.granule_tag_at.ensures.answer
     ∙ ap (λ x. loaded (byte_fault m x (c.plain.result / 16 * 16)) (tag_at m (c.plain.result / 16 * 16))) c.reading-access.ensures
     ∙ ap (λ a. loaded (byte_fault m (read_access c.args.addr false) (a / 16 * 16)) (tag_at m (a / 16 * 16))) c.plain.ensures
     ∙ ap (λ t. loaded (byte_fault m (read_access c.args.addr false) (plain c.args.addr / 16 * 16)) t) (tag_at_granule m (plain c.args.addr))

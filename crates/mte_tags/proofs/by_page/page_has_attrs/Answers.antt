@@ -14,7 +14,7 @@ none (Some f) true e = cc
 pub returns-clause-answer : goal.returns-clause-answer
 returns-clause-answer g c =
     let m = g.S.PageStore.memory c.args.store.now in
-    none c.run_fault.result c.is_none.result c.is_none.ensures
-    ∙ ap is_none (c.run_fault.ensures.answer ∙ ap (λ x. first_fault m x (addresses c.plain.result 1)) c.needing-access.ensures)
+    none c.fault_of_run.result c.is_none.result c.is_none.ensures
+    ∙ ap is_none (c.fault_of_run.ensures.answer ∙ ap (λ x. first_fault m x (addresses c.plain.result 1)) c.needing-access.ensures)
     ∙ first_fault-needing m c.args.attrs.0 c.plain.result
     ∙ ap (λ a. page_has m (a / 4096) c.args.attrs.0) c.plain.ensures

@@ -18,7 +18,7 @@ loop-done-preserved g c =
     let long : length piece ≡ n = length_range c.args.bytes.now c.loop-done.done n within in
     let there = subst (λ k. AreMapped m (addresses place k)) (sym long) both.0 in
     let fine : c.write_in_page.result ≡ Ok tt = c.write_in_page.ensures.answer ∙ ap outcome (no_fault_where_mapped _ _ _ c.mapped-access.ensures there) in
-    let new : g.S.PageStore.memory c.write_in_page.new.self ≡ with_bytes m (addresses place n) piece =
+    let new : g.S.PageStore.memory c.write_in_page.new.store ≡ with_bytes m (addresses place n) piece =
     c.write_in_page.ensures.memory ∙ cond-true _ _ _ (ap is_ok fine) ∙ ap (λ k. with_bytes m (addresses place k) piece) long in
     record {
       plain = omega arith;

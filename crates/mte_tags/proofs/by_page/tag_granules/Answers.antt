@@ -13,7 +13,7 @@ loop-left-preserved g c =
     let place = c.loop-left.place in
     let both = AreMapped_granules m place n c.loop-left.left c.loop-left.invariant.plain (omega (arith, c.min-run.ensures)) c.loop-left.invariant.mapped in
     let fine : c.store_tags_in_page.result ≡ Ok tt = c.store_tags_in_page.ensures.answer ∙ ap outcome (no_fault_where_mapped _ _ _ c.mapped-access.ensures both.0) in
-    let new : g.S.PageStore.memory c.store_tags_in_page.new.self ≡ with_granules m place n c.args.tag c.args.zero = c.store_tags_in_page.ensures.memory ∙ cond-true _ _ _ (ap is_ok fine) in
+    let new : g.S.PageStore.memory c.store_tags_in_page.new.store ≡ with_granules m place n c.args.tag c.args.zero = c.store_tags_in_page.ensures.memory ∙ cond-true _ _ _ (ap is_ok fine) in
     record {
       plain = omega arith;
       aligned = omega arith;

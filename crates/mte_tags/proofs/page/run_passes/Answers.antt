@@ -6,14 +6,14 @@ use Rattle.mte_tags.proofs.page.run_passes.Goals.{then-access, else-access}
 
 pub returns-then-not-permitted : goal.returns-then-not-permitted
 returns-then-not-permitted g c =
-    let p = g.P.MappedPage.page c.args.page.now in
+    let p = g.S.PageStore.page_in c.args.store.now c.args.place in
     let x = c.args.access.now in
     let refused : has p.attrs x.need ≡ false = ap (λ a. has a x.need) (sym c.attrs-attrs.ensures) ∙ grind (arith, c.if-not-permitted.true) in
     sym (ap is_none (first_in-refused x p c.args.at c.args.count c.requires.some refused))
 
 pub returns-then-not-compared : goal.returns-then-not-compared
 returns-then-not-compared g c =
-    let p = g.P.MappedPage.page c.args.page.now in
+    let p = g.S.PageStore.page_in c.args.store.now c.args.place in
     let x = c.args.access.now in
     let same : (need : ℕ) → has c.attrs-attrs.result.0 need ≡ has p.attrs need = λ need. ap (λ a. has a need) c.attrs-attrs.ensures in
     let permitted : has p.attrs x.need ≡ true = sym (same x.need) ∙ eq-eqb _ _ c.if-not-permitted.false in
@@ -25,7 +25,7 @@ returns-then-not-compared g c =
 
 pub returns-then-granule_tag-access : goal.returns-then-granule_tag-access
 returns-then-granule_tag-access g c =
-    let p = g.P.MappedPage.page c.args.page.now in
+    let p = g.S.PageStore.page_in c.args.store.now c.args.place in
     let x = c.args.access.now in
     let same : (need : ℕ) → has c.attrs-attrs.result.0 need ≡ has p.attrs need = λ need. ap (λ a. has a need) c.attrs-attrs.ensures in
     let permitted : has p.attrs x.need ≡ true = sym (same x.need) ∙ eq-eqb _ _ c.if-not-permitted.false in
@@ -33,18 +33,18 @@ returns-then-granule_tag-access g c =
       | then-access w ↦ w.compared-is ∙ w.contains-compared.ensures ∙ same 8 ∙ sym (ap (λ b. b && has p.attrs 8) w.if-access.true)
       | else-access w ↦ w.compared-is ∙ w.if-access.false ∙ sym (ap (λ b. b && has p.attrs 8) w.if-access.false)
     ] in
-    sym (ap is_none (first_in-tag x p c.args.at c.args.count c.requires.some permitted (sym compared ∙ c.if-not-compared.false) (λ e. c.if-granule_tag-access.true (c.granule_tag.ensures ∙ e))))
+    sym (ap is_none (first_in-tag x p c.args.at c.args.count c.requires.some permitted (sym compared ∙ c.if-not-compared.false) (λ e. c.if-granule_tag-access.true (c.granule_tag.ensures.tag ∙ e))))
 
 pub returns-then-at-count-le16 : goal.returns-then-at-count-le16
 returns-then-at-count-le16 g c =
-    let p = g.P.MappedPage.page c.args.page.now in
+    let p = g.S.PageStore.page_in c.args.store.now c.args.place in
     let x = c.args.access.now in
     let permitted : has p.attrs x.need ≡ true = ap (λ a. has a x.need) (sym c.attrs-attrs.ensures) ∙ eq-eqb _ _ c.if-not-permitted.false in
-    sym (ap is_none (first_in-granule x p c.args.at c.args.count c.if-at-count-le16.true permitted (sym c.granule_tag.ensures ∙ c.if-granule_tag-access.false)))
+    sym (ap is_none (first_in-granule x p c.args.at c.args.count c.if-at-count-le16.true permitted (sym c.granule_tag.ensures.tag ∙ c.if-granule_tag-access.false)))
 
 pub returns-then-count-le16 : goal.returns-then-count-le16
 returns-then-count-le16 g c =
-    let p = g.P.MappedPage.page c.args.page.now in
+    let p = g.S.PageStore.page_in c.args.store.now c.args.place in
     let x = c.args.access.now in
     let same : (need : ℕ) → has c.attrs-attrs.result.0 need ≡ has p.attrs need = λ need. ap (λ a. has a need) c.attrs-attrs.ensures in
     let permitted : has p.attrs x.need ≡ true = sym (same x.need) ∙ eq-eqb _ _ c.if-not-permitted.false in
@@ -52,5 +52,5 @@ returns-then-count-le16 g c =
       | then-access w ↦ w.compared-is ∙ w.contains-compared.ensures ∙ same 8 ∙ sym (ap (λ b. b && has p.attrs 8) w.if-access.true)
       | else-access w ↦ w.compared-is ∙ w.if-access.false ∙ sym (ap (λ b. b && has p.attrs 8) w.if-access.false)
     ] in
-    ap (λ t. t == x.tag) c.granule_tag-then-count-le16.ensures
-    ∙ two_granules_pass x p c.args.at c.args.count c.if-at-count-le16.false c.if-count-le16.true c.requires.inside permitted (sym compared ∙ c.if-not-compared.false) (sym c.granule_tag.ensures ∙ c.if-granule_tag-access.false)
+    ap (λ t. t == x.tag) c.granule_tag-then-count-le16.ensures.tag
+    ∙ two_granules_pass x p c.args.at c.args.count c.if-at-count-le16.false c.if-count-le16.true c.requires.inside permitted (sym compared ∙ c.if-not-compared.false) (sym c.granule_tag.ensures.tag ∙ c.if-granule_tag-access.false)

@@ -5,9 +5,9 @@ use Rattle.mte_tags.proofs.page.tag_fault.Given as goal
 
 abbrev pub invariant-loop-left : goal.invariant-loop-left
 invariant-loop-left g l = record {
-  place : l.place + l.left ≡ l.at + l.count;
+  address : l.address + l.left ≡ l.at + l.count;
   whole : l.left ≤ l.count;
-  rest : first_in l.access (Some (g.P.MappedPage.page l.page)) (range_with_len l.at l.count) ≡ first_in l.access (Some (g.P.MappedPage.page l.page)) (range_with_len l.place l.left);
+  rest : first_in l.access (Some (g.S.PageStore.page_in l.store l.place)) (range_with_len l.at l.count) ≡ first_in l.access (Some (g.S.PageStore.page_in l.store l.place)) (range_with_len l.address l.left);
 }
 
 abbrev pub decreases-loop-left : goal.decreases-loop-left

@@ -1,0 +1,235 @@
+//! Accesses that one page holds, made of a memory's places. Each `at` is a plain address, below
+//! 2^56; a run of bytes or granules from there on lies within one page and is not empty. Only the
+//! quick calls take any bytes, and may leave them to the others. The calls know no mode: in each of
+//! them a tag that differs is a fault, and none sets the flag.
+
+ghost use Rattle.std.specs.Prelude.{◌≡◌, ◌<◌, ◌≤◌, ◌+◌, ◌*◌, ◌%◌, ◌^◌, false, None, IfOk};
+ghost use Rattle.std.specs.Prelude.{IsTrue, is_ok, length, if◌then◌else◌};
+ghost use Rattle.mte_tags.specs.Memory.{tag_at, with_granules};
+ghost use Rattle.mte_tags.specs.Accesses.{outcome, loaded, addresses, granules, byte_fault};
+ghost use Rattle.mte_tags.specs.Accesses.{first_fault, bytes_at, with_bytes, fetched};
+
+use crate::access::Access;
+use crate::fault::{FaultKind, MemFault};
+use crate::page::{copy_out, fits_one_page, run_fault, run_passes, tag_in_page, word_in_page};
+use crate::page_store::PageStore;
+use a64_bits::plain;
+
+/// The fault of the first byte of a run that fails, if any.
+#[inline]
+pub(crate) fn fault_of_run<S: PageStore>(
+    store: &mut S,
+    at: u64,
+    count: usize,
+    access: &Access,
+) -> Option<MemFault>
+    requires some { 0 < count }
+    requires inside { at % 4096 + count ≤ 4096 }
+    requires plain { at < 2 ^ 56 }
+    ensures answer { result
+        ≡ first_fault (S.memory store.old) access.now (addresses at count) }
+    ensures memory { S.memory store.new ≡ S.memory store.old }
+    ensures kept { S.kept store.old store.new }
+{
+    match store.find(at / 4096) {
+        None => Some(access.fault(FaultKind::Translation, at, 0)),
+        Some(place) => run_fault(store, place, at, count, access),
+    }
+}
+
+/// The instruction word at an aligned address, which one page holds, or how its fetch fails.
+#[inline(always)]
+pub(crate) fn fetch_aligned<S: PageStore>(store: &mut S, pc: u64) -> Result<u32, MemFault>
+    requires aligned { pc % 4 ≡ 0 }
+    ensures answer { result ≡ fetched (S.memory store.old) pc }
+    ensures memory { S.memory store.new ≡ S.memory store.old }
+    ensures kept { S.kept store.old store.new }
+{
+    let access = Access::fetching(pc);
+    let at = plain(pc);
+    let Some(place) = store.find_code(at / 4096) else {
+        return Err(access.fault(FaultKind::Translation, at, 0));
+    };
+    if let Some(fault) = run_fault(store, place, at, 4, &access) {
+        return Err(fault);
+    }
+    Ok(word_in_page(store, place, at))
+}
+
+/// Copies a run of bytes out, or returns the fault of the first that fails.
+pub(crate) fn read_in_page<S: PageStore>(
+    store: &mut S,
+    at: u64,
+    buffer: &mut [u8],
+    access: &Access,
+) -> Result<(), MemFault>
+    requires some { 0 < length buffer.old }
+    requires inside { at % 4096 + length buffer.old ≤ 4096 }
+    requires plain { at < 2 ^ 56 }
+    ensures answer { result
+        ≡ outcome
+        (first_fault (S.memory store.old) access.now (addresses at (length buffer.old))) }
+    ensures bytes { buffer.new
+        ≡ (if is_ok result
+        then bytes_at (S.memory store.old) (addresses at (length buffer.old))
+        else buffer.old) }
+    ensures memory { S.memory store.new ≡ S.memory store.old }
+    ensures kept { S.kept store.old store.new }
+{
+    let Some(place) = store.find(at / 4096) else {
+        return Err(access.fault(FaultKind::Translation, at, 0));
+    };
+    if let Some(fault) = run_fault(store, place, at, buffer.len(), access) {
+        return Err(fault);
+    }
+    copy_out(store, place, at, buffer);
+    Ok(())
+}
+
+/// Copies bytes out where one page holds them and none fails, and returns whether it did. `false`
+/// changes nothing, and does not say that an access fails.
+#[inline(always)]
+pub(crate) fn try_read<S: PageStore>(
+    store: &mut S,
+    at: u64,
+    buffer: &mut [u8],
+    access: &Access,
+) -> bool
+    requires { at < 2 ^ 56 }
+    ensures passed { IsTrue result
+        → first_fault (S.memory store.old) access.now (addresses at (length buffer.old))
+        ≡ None }
+    ensures bytes { buffer.new
+        ≡ (if result
+        then bytes_at (S.memory store.old) (addresses at (length buffer.old))
+        else buffer.old) }
+    ensures memory { S.memory store.new ≡ S.memory store.old }
+    ensures kept { S.kept store.old store.new }
+{
+    if !fits_one_page(at, buffer.len() as u64) {
+        return false;
+    }
+    let Some(place) = store.find(at / 4096) else {
+        return false;
+    };
+    if !run_passes(store, place, at, buffer.len(), access) {
+        return false;
+    }
+    copy_out(store, place, at, buffer);
+    true
+}
+
+/// Copies a run of bytes in, or returns the fault of the first that fails.
+pub(crate) fn write_in_page<S: PageStore>(
+    store: &mut S,
+    at: u64,
+    bytes: &[u8],
+    access: &Access,
+) -> Result<(), MemFault>
+    requires some { 0 < length bytes.now }
+    requires inside { at % 4096 + length bytes.now ≤ 4096 }
+    requires plain { at < 2 ^ 56 }
+    ensures answer { result
+        ≡ outcome
+        (first_fault (S.memory store.old) access.now (addresses at (length bytes.now))) }
+    ensures memory { S.memory store.new
+        ≡ (if is_ok result
+        then with_bytes (S.memory store.old) (addresses at (length bytes.now)) bytes.now
+        else S.memory store.old) }
+    ensures kept { S.kept store.old store.new }
+{
+    let Some(place) = store.find(at / 4096) else {
+        return Err(access.fault(FaultKind::Translation, at, 0));
+    };
+    if let Some(fault) = run_fault(store, place, at, bytes.len(), access) {
+        return Err(fault);
+    }
+    store.replace_run(place, at, bytes);
+    Ok(())
+}
+
+/// Copies bytes in where one page holds them and none fails, and returns whether it did. `false`
+/// changes nothing, and does not say that an access fails.
+#[inline(always)]
+pub(crate) fn try_write<S: PageStore>(store: &mut S, at: u64, bytes: &[u8], access: &Access) -> bool
+    requires { at < 2 ^ 56 }
+    ensures passed { IsTrue result
+        → first_fault (S.memory store.old) access.now (addresses at (length bytes.now))
+        ≡ None }
+    ensures memory { S.memory store.new
+        ≡ (if result
+        then with_bytes (S.memory store.old) (addresses at (length bytes.now)) bytes.now
+        else S.memory store.old) }
+    ensures kept { S.kept store.old store.new }
+{
+    if !fits_one_page(at, bytes.len() as u64) {
+        return false;
+    }
+    let Some(place) = store.find(at / 4096) else {
+        return false;
+    };
+    if !run_passes(store, place, at, bytes.len(), access) {
+        return false;
+    }
+    store.replace_run(place, at, bytes);
+    true
+}
+
+/// The tag of the granule at an address, or how the byte there fails.
+#[inline(always)]
+pub(crate) fn granule_tag_at<S: PageStore>(
+    store: &mut S,
+    at: u64,
+    access: &Access,
+) -> Result<u8, MemFault>
+    requires { at < 2 ^ 56 }
+    ensures small { IfOk result (λ t. t < 16) }
+    ensures answer { result
+        ≡ loaded (byte_fault (S.memory store.old) access.now at)
+        (tag_at (S.memory store.old) at) }
+    ensures memory { S.memory store.new ≡ S.memory store.old }
+    ensures kept { S.kept store.old store.new }
+{
+    let Some(place) = store.find(at / 4096) else {
+        return Err(access.fault(FaultKind::Translation, at, 0));
+    };
+    if let Some(fault) = run_fault(store, place, at, 1, access) {
+        return Err(fault);
+    }
+    Ok(tag_in_page(store, place, at))
+}
+
+/// Replaces the tags of a run of granules, and makes their bytes zero where `zero` is set, or
+/// returns the fault of the first granule that fails. The access is not tag checked.
+#[inline(always)]
+pub(crate) fn store_tags_in_page<S: PageStore>(
+    store: &mut S,
+    at: u64,
+    count: usize,
+    tag: u8,
+    zero: bool,
+    access: &Access,
+) -> Result<(), MemFault>
+    requires some { 0 < count }
+    requires aligned { at % 16 ≡ 0 }
+    requires inside { at % 4096 + 16 * count ≤ 4096 }
+    requires plain { at < 2 ^ 56 }
+    requires tag { tag < 16 }
+    requires unchecked { access.now.checked ≡ false }
+    ensures answer { result
+        ≡ outcome (first_fault (S.memory store.old) access.now (granules at count)) }
+    ensures memory { S.memory store.new
+        ≡ (if is_ok result
+        then with_granules (S.memory store.old) at count tag zero
+        else S.memory store.old) }
+    ensures kept { S.kept store.old store.new }
+{
+    let Some(place) = store.find(at / 4096) else {
+        return Err(access.fault(FaultKind::Translation, at, 0));
+    };
+    if let Some(fault) = run_fault(store, place, at, 1, access) {
+        return Err(fault);
+    }
+    store.retag(place, (at % 4096 / 16) as usize, count, tag, zero);
+    Ok(())
+}
