@@ -6,3 +6,4 @@ pub mod SpaceSteps
 pub mod MapSteps
 pub mod OtherSpaces
 pub mod RememberedSteps
+pub mod PlaceSteps

@@ -4,18 +4,17 @@ use Rattle.std.proofs.lemmas.List.Elements.{All-weaker}
 use Rattle.std.specs.Prelude.{option_map, IfSome}
 use Rattle.std.specs.FinMap as finite
 use Rattle.std.proofs.lemmas.List.{length-replicate}
-use Rattle.mte_tags.specs.Memory.{Memory, page_at, with_page, with_granules}
-use Rattle.mte_tags.specs.Runs.{spliced}
+use Rattle.mte_tags.specs.Memory.{Page, page_at, with_page}
+use Rattle.mte_tags.specs.Runs.{spliced, retagged}
 use Rattle.mte_tags.proofs.PageRuns.{spliced_is}
-use Rattle.mte_tags.proofs.FoundPages.{page_retagged}
 use Rattle.mte_tags.specs.declared.attrs.Attrs.{Attrs}
 use Rattle.mte_tags.specs.declared.state.TagState.{TagState}
-use Rattle.mte_arena.specs.Frames.{Frame, AreFrames, frame_at, frame_or, with_run}
+use Rattle.mte_arena.specs.Frames.{Frame, AreFrames, frame_at, frame_or, make_frame, with_run}
 use Rattle.mte_frames.specs.Pool.{Pool, IsOut, IsTaken, IsSound, KeepsOthers}
 use Rattle.mte_translate.specs.Tables.{Root, pages_of, IsCached, Agrees, Stays}
 use Rattle.mte_translate.specs.declared.translation.Translation.{Translation}
 use Rattle.mte_space.specs.Spaces.{page_of, space_memory, IsSpace, KeepsRest}
-use Rattle.mte_space.specs.Writes.{with_frame, changed, retagged_frame}
+use Rattle.mte_space.specs.Writes.{with_frame, retagged_frame}
 use Rattle.mte_space.proofs.Memories.{page_at-space, space_written}
 pub use Rattle.mte_space.proofs.Memories.{page_found}
 use Rattle.mte_translate.proofs.KeptTables.{kept-written, page-frame}
@@ -63,42 +62,20 @@ module _ (p : Pool) (k : ℕ) (t : Root) (l q f : ℕ) (a : Attrs) (x : Frame) (
       space_written p n t t l s q f a x found pages (frame_at-set p.frames f x (within_frames p f k sound out))
       (λ r g b d e. ap frame_or (get_or-set_other p.frames f g (Some x) None (λ same. d (h.once r q g b a e (found ∙ ap (λ j. Some (j, a)) (sym same))))))
 
--- the frame that was found is changed, or nothing is
-module _ (p : Pool) (k : ℕ) (t : Root) (l q : ℕ) (g : Frame → Frame) (h : IsSpace p k t l) where
-  pub space_changed : (b : Bool) (o : Option (ℕ × Attrs)) → o ≡ finite.get (pages_of p t.frame) q → IsSpace (cond b (changed g p o) p) k t l
-  space_changed false o e = h
-  space_changed true None e = h
-  space_changed true (Some (f, a)) e = space_framed p k t l q f a (g (frame_at p.frames f)) h (sym e)
+  pub rest_framed : KeepsOthers k p (with_frame p f x) → KeepsRest k p (with_frame p f x) t t
+  rest_framed others = record { others = others; reserved = refl; capacities = refl; root = refl; taken = λ y e. e }
 
-  pub cached_changed : (b : Bool) (o : Option (ℕ × Attrs)) → o ≡ finite.get (pages_of p t.frame) q → (asid : ℕ) (ts : List Translation) → IsCached (pages_of p t.frame) asid ts → IsCached (pages_of (cond b (changed g p o) p) t.frame) asid ts
-  cached_changed false o e asid ts c = c
-  cached_changed true None e asid ts c = c
-  cached_changed true (Some (f, a)) e asid ts c = cached_framed p k t l q f a (g (frame_at p.frames f)) h (sym e) asid ts c
+-- the page of a frame
+abbrev page_with : Attrs → Frame → Page
+page_with a x = record { attrs = a.0; bytes = x.bytes; tags = x.tags }
 
-  pub rest_changed : (b : Bool) (o : Option (ℕ × Attrs)) → KeepsOthers k p (cond b (changed g p o) p) → KeepsRest k p (cond b (changed g p o) p) t t
-  rest_changed false o others = record { others = others; reserved = refl; capacities = refl; root = refl; taken = λ x e. e }
-  rest_changed true None others = record { others = others; reserved = refl; capacities = refl; root = refl; taken = λ x e. e }
-  rest_changed true (Some (f, a)) others = record { others = others; reserved = refl; capacities = refl; root = refl; taken = λ x e. e }
-
-  pub memory_changed : (b : Bool) (o : Option (ℕ × Attrs)) → o ≡ finite.get (pages_of p t.frame) q → (s : TagState) → IsSound p → (b ≡ true → is_some o ≡ true) → (new : Memory)
-      → ((f : ℕ) (a : Attrs) → o ≡ Some (f, a) → b ≡ true → with_page (space_memory p t l s) q (record { attrs = a.0; bytes = (g (frame_at p.frames f)).bytes; tags = (g (frame_at p.frames f)).tags }) ≡ new)
-      → space_memory (cond b (changed g p o) p) t l s ≡ cond b new (space_memory p t l s)
-  memory_changed false o e s sound there new is = refl
-  memory_changed true None e s sound there new is = absurd (let no = there refl in cc)
-  memory_changed true (Some (f, a)) e s sound there new is = memory_framed p k t l q f a (g (frame_at p.frames f)) h (sym e) s sound ∙ is f a refl refl
-
--- a run of granules that was retagged
-pub retagged_is : (p : Pool) (k : ℕ) (t : Root) (l f : ℕ) (a : Attrs) (s : TagState) (at count tag : ℕ) (z : Bool) → IsSpace p k t l → IsSound p → AreFrames p.frames → finite.get (pages_of p t.frame) (at / 4096) ≡ Some (f, a)
-    → at % 16 ≡ 0 → at % 4096 + 16 * count ≤ 4096 → at < 2 ^ 56
-    → with_page (space_memory p t l s) (at / 4096)
-    (record { attrs = a.0; bytes = (retagged_frame (frame_at p.frames f) (at % 4096 / 16) count tag z).bytes; tags = (retagged_frame (frame_at p.frames f) (at % 4096 / 16) count tag z).tags })
-    ≡ with_granules (space_memory p t l s) at count tag z
-retagged_is p k t l f a s at count tag z h sound sized found g r u =
+-- a frame that is retagged is the page retagged
+pub retagged_is : (p : Pool) (f first count tag : ℕ) (a : Attrs) (z : Bool) → IsTaken p f → IsSound p → AreFrames p.frames → first + count ≤ 256
+    → page_with a (retagged_frame (frame_at p.frames f) first count tag z) ≡ retagged (page_of p (f, a)) first count tag z
+retagged_is p f first count tag a z out sound sized h =
     let x = frame_at p.frames f in
-    let frame = is_frame p f (k, (page-frame p k (at / 4096) f a t h.table found).1) sound sized in
-    let first = at % 4096 / 16 in
-    let room : first + length (replicate count tag) ≤ length x.tags = omega (arith, frame.tags, length-replicate count tag, g, r) in
+    let frame = is_frame p f out sound sized in
+    let room : first + length (replicate count tag) ≤ length x.tags = omega (arith, frame.tags, length-replicate count tag) in
     let end : first + length (replicate count tag) ≡ first + count = omega (arith, length-replicate count tag) in
     let tags : with_run x.tags first count tag ≡ spliced x.tags first (replicate count tag) = sym (spliced_is (replicate count tag) x.tags first room ∙ ap (λ i. take first x.tags ++ (replicate count tag ++ drop i x.tags)) end) in
-    ap (λ ts. with_page (space_memory p t l s) (at / 4096) (record { attrs = a.0; bytes = (retagged_frame x first count tag z).bytes; tags = ts })) tags
-    ∙ page_retagged (space_memory p t l s) (page_of p (f, a)) at count tag z (page_found p t l s (at / 4096) f a found) g r u frame.bytes
+    ap (λ ts. page_with a (make_frame (retagged_frame x first count tag z).bytes ts)) tags

@@ -3,3 +3,4 @@ pub mod Remembered
 pub mod Writes
 pub mod SpaceMemory
 pub mod KeptSpaces
+pub mod Places

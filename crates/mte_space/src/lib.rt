@@ -1,9 +1,7 @@
 //! A tenant's memory over frames that it shares with others.
 #![tactic(auto)]
 
-mod accesses;
 mod clearing;
-mod frame_page;
 mod laws;
 mod mapping;
 mod remembered;

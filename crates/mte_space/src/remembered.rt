@@ -1,7 +1,7 @@
 //! Where a space's last accesses found their pages.
 
 ghost use Rattle.mte_translate.specs.Tables.{Pages};
-ghost use Rattle.mte_space.specs.Remembered.{IsUpToDate, AreUpToDate};
+ghost use Rattle.mte_space.specs.Remembered.{AreUpToDate};
 
 use mte_tags::Attrs;
 
@@ -19,21 +19,20 @@ pub(crate) struct RememberedPage {
 /// How many pages of data a space remembers, one for each remainder of their numbers modulo 8.
 pub(crate) const DATA_PAGES: usize = 8;
 
+/// The place of the page that instructions were fetched from, behind those of data.
+pub(crate) const CODE_PLACE: usize = DATA_PAGES;
+
+/// How many pages a space remembers.
+pub(crate) const PLACES: usize = DATA_PAGES + 1;
+
 /// What is remembered where no page was found yet.
-pub(crate) fn no_page() -> RememberedPage
-    ensures { (m : Pages) → IsUpToDate m result }
+pub(crate) fn no_pages() -> [RememberedPage; PLACES]
+    ensures { (m : Pages) → AreUpToDate m result }
 {
-    RememberedPage {
+    let none = RememberedPage {
         page: u64::MAX,
         frame: 0,
         attrs: Attrs::NONE,
-    }
-}
-
-/// The same for all pages of data.
-pub(crate) fn no_pages() -> [RememberedPage; DATA_PAGES]
-    ensures { (m : Pages) → AreUpToDate m result }
-{
-    let first = no_page();
-    [first; DATA_PAGES]
+    };
+    [none; PLACES]
 }

@@ -1,20 +1,19 @@
 //! A tenant's memory over borrowed parts.
 
-ghost use Rattle.std.specs.Prelude.{◌≡◌, ◌≤◌, ◌+◌, ◌-◌, ◌*◌};
+ghost use Rattle.std.specs.Prelude.{◌≡◌, ◌<◌, ◌≤◌, ◌+◌, ◌-◌, ◌*◌, ◌^◌, IfSome, option_map};
+ghost use Rattle.mte_tags.specs.Memory.{page_at};
 ghost use Rattle.mte_frames.specs.Pool.{taken_by, reserved_by};
 ghost use Rattle.mte_translate.specs.Tables.{pages_of, IsTable, MapsOnce, IsCached};
-ghost use Rattle.mte_space.specs.Remembered.{IsUpToDate, AreUpToDate};
+ghost use Rattle.mte_space.specs.Remembered.{AreUpToDate};
 ghost use Rattle.mte_space.specs.Spaces.{space_memory, IsSpace};
 
-use crate::accesses::{
-    fault_of_run, fetch_word, read_run, retag_run, tag_of_granule, try_read, try_write, write_run,
-};
 use crate::mapping::{map_range, unmap_range};
-use crate::remembered::{DATA_PAGES, RememberedPage, no_page, no_pages};
-use crate::translation::{translate, translate_at, translate_data};
+use crate::remembered::{CODE_PLACE, DATA_PAGES, PLACES, RememberedPage, no_pages};
+use crate::translation::remember;
+use crate::writing::{retag_frame, write_frame};
 use a64_bits::plain;
 use mte_frames::{FramePool, Quota};
-use mte_tags::{Access, Attrs, MemFault, NoQuota, PageStore, Paged, TagState, replace_bytes};
+use mte_tags::{Attrs, NoQuota, PageStore, Paged, TagState, replace_bytes};
 use mte_translate::{Table, Tlb};
 
 /// A tenant's memory: the pages that its table maps, in frames of a pool that it shares with other
@@ -30,16 +29,15 @@ pub struct Space<'a> {
     state: &'a mut TagState,
     asid: usize,
     limit: usize,
-    data_pages: [RememberedPage; DATA_PAGES],
-    code_page: RememberedPage,
+    remembered: [RememberedPage; PLACES],
     ghost space: { IsSpace pool.now quota.now table.now limit },
     ghost cached: { IsCached (pages_of pool.now table.now.frame) asid tlb.now },
-    ghost data_up_to_date: { AreUpToDate (pages_of pool.now table.now.frame) data_pages },
-    ghost code_up_to_date: { IsUpToDate (pages_of pool.now table.now.frame) code_page },
+    ghost up_to_date: { AreUpToDate (pages_of pool.now table.now.frame) remembered },
 }
 
 impl<'a> Space<'a> {
-    ghost use Rattle.mte_space.specs.SpaceMemory.{memory_of, IsOver};
+    ghost use Rattle.mte_space.specs.SpaceMemory.{memory_of, IsKept, IsOver};
+    ghost use Rattle.mte_space.specs.Places.{IsPlace, number_in, page_in};
 
     /// A tenant's memory of at most `pages` pages, over its table, its quota and its tag state. The
     /// table maps no more, each in a frame of its own; the quota has a frame left for each page and
@@ -74,19 +72,43 @@ impl<'a> Space<'a> {
             state,
             asid,
             limit: pages,
-            data_pages: no_pages(),
-            code_page: no_page(),
+            remembered: no_pages(),
         }
+    }
+
+    /// Sees to it that a page, if it is mapped, is remembered in a place.
+    #[inline(always)]
+    fn find_at(&mut self, place: usize, page: u64) -> Option<usize>
+        requires low { page < 2 ^ 44 }
+        requires within { place < PLACES }
+        ensures place { IfSome result (λ i. IsPlace self.new i) }
+        ensures number { IfSome result (λ i. number_in self.new i ≡ page) }
+        ensures page { page_at (memory_of self.old) page ≡ option_map (page_in self.new) result }
+        ensures memory { memory_of self.new ≡ memory_of self.old }
+        ensures kept { IsKept self.old self.new }
+    {
+        let remembered = &mut self.remembered[place];
+        if remember(remembered, self.pool, self.table, self.tlb, self.asid, page) {
+            return Some(place);
+        }
+        None
     }
 }
 
 impl PageStore for Space<'_> {
     ghost use Rattle.mte_space.specs.SpaceMemory.{memory_of, IsKept};
     ghost use Rattle.mte_space.specs.KeptSpaces.{kept_same, kept_on};
+    ghost use Rattle.mte_space.specs.Places.{IsPlace, number_in, page_in};
 
     ghost memory = { memory_of };
 
     ghost kept = { IsKept };
+
+    ghost is_place = { IsPlace };
+
+    ghost number_in = { number_in };
+
+    ghost page_in = { page_in };
 
     fn tag_state(&mut self) -> TagState {
         *self.state
@@ -96,90 +118,41 @@ impl PageStore for Space<'_> {
         self.state.pending = true;
     }
 
-    #[inline]
-    fn run_fault(&mut self, at: u64, count: usize, access: &Access) -> Option<MemFault> {
-        let found = translate(self.pool, self.table, self.tlb, self.asid, at / 4096);
-        fault_of_run(self.pool, found, at, count, access)
+    #[inline(always)]
+    fn find(&mut self, page: u64) -> Option<usize> {
+        let place = (page % DATA_PAGES as u64) as usize;
+        self.find_at(place, page)
     }
 
     #[inline(always)]
-    fn fetch_aligned(&mut self, pc: u64) -> Result<u32, MemFault> {
-        let page = plain(pc) / 4096;
-        let found = translate_at(
-            &mut self.code_page,
-            self.pool,
-            self.table,
-            self.tlb,
-            self.asid,
-            page,
-        );
-        fetch_word(self.pool, found, pc)
+    fn find_code(&mut self, page: u64) -> Option<usize> {
+        self.find_at(CODE_PLACE, page)
     }
 
     #[inline(always)]
-    fn try_read(&mut self, at: u64, buffer: &mut [u8], access: &Access) -> bool {
-        let found = translate_data(
-            &mut self.data_pages,
-            self.pool,
-            self.table,
-            self.tlb,
-            self.asid,
-            at / 4096,
-        );
-        match found {
-            Some((frame, attrs)) => try_read(self.pool, frame, attrs, at, buffer, access),
-            None => false,
-        }
-    }
-
-    fn read_in_page(
-        &mut self,
-        at: u64,
-        buffer: &mut [u8],
-        access: &Access,
-    ) -> Result<(), MemFault> {
-        let found = translate(self.pool, self.table, self.tlb, self.asid, at / 4096);
-        read_run(self.pool, found, at, buffer, access)
+    fn attrs(&self, place: usize) -> Attrs {
+        self.remembered[place].attrs
     }
 
     #[inline(always)]
-    fn try_write(&mut self, at: u64, bytes: &[u8], access: &Access) -> bool {
-        let found = translate_data(
-            &mut self.data_pages,
-            self.pool,
-            self.table,
-            self.tlb,
-            self.asid,
-            at / 4096,
-        );
-        match found {
-            Some((frame, attrs)) => try_write(self.pool, frame, attrs, at, bytes, access),
-            None => false,
-        }
-    }
-
-    fn write_in_page(&mut self, at: u64, bytes: &[u8], access: &Access) -> Result<(), MemFault> {
-        let found = translate(self.pool, self.table, self.tlb, self.asid, at / 4096);
-        write_run(self.pool, found, at, bytes, access)
+    fn bytes(&self, place: usize) -> &[u8] {
+        self.pool.bytes(self.remembered[place].frame)
     }
 
     #[inline(always)]
-    fn granule_tag(&mut self, at: u64, access: &Access) -> Result<u8, MemFault> {
-        let found = translate(self.pool, self.table, self.tlb, self.asid, at / 4096);
-        tag_of_granule(self.pool, found, at, access)
+    fn granule_tag(&self, place: usize, granule: usize) -> u8 {
+        self.pool.tag(self.remembered[place].frame, granule)
     }
 
     #[inline(always)]
-    fn store_tags_in_page(
-        &mut self,
-        at: u64,
-        count: usize,
-        tag: u8,
-        zero: bool,
-        access: &Access,
-    ) -> Result<(), MemFault> {
-        let found = translate(self.pool, self.table, self.tlb, self.asid, at / 4096);
-        retag_run(self.pool, found, at, count, tag, zero, access)
+    fn replace_run(&mut self, place: usize, at: u64, bytes: &[u8]) {
+        write_frame(self.pool, self.remembered[place].frame, at, bytes);
+    }
+
+    #[inline(always)]
+    fn retag(&mut self, place: usize, first: usize, count: usize, tag: u8, zero: bool) {
+        let frame = self.remembered[place].frame;
+        retag_frame(self.pool, frame, first, count, tag, zero);
     }
 
     ghost kept_same = { kept_same };
@@ -204,8 +177,7 @@ impl Paged for Space<'_> {
     }
 
     fn unmap_pages(&mut self, page: u64, count: usize) {
-        self.data_pages = no_pages();
-        self.code_page = no_page();
+        self.remembered = no_pages();
         unmap_range(
             self.pool, self.table, self.quota, self.tlb, self.asid, self.limit, page, count,
         );

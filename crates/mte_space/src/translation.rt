@@ -4,10 +4,10 @@ ghost use Rattle.std.specs.Prelude.{◌≡◌, ◌<◌, ◌^◌, IsTrue, IsFalse
 ghost use Rattle.std.specs.FinMap.{get};
 ghost use Rattle.mte_translate.specs.Tables.{pages_of, IsSomeTable, IsCached};
 ghost use Rattle.mte_translate.specs.Translations.{lookup};
-ghost use Rattle.mte_space.specs.Remembered.{IsUpToDate, AreUpToDate};
+ghost use Rattle.mte_space.specs.Remembered.{IsUpToDate};
 ghost use Rattle.mte_space.specs.Spaces.{NoneEnters};
 
-use crate::remembered::{DATA_PAGES, RememberedPage};
+use crate::remembered::RememberedPage;
 use mte_frames::FramePool;
 use mte_tags::Attrs;
 use mte_translate::{Table, Tlb, fill_adds_its_own, lookup_returns_what_stands};
@@ -36,59 +36,11 @@ pub(crate) fn translate(
     walk_and_fill(pool, table, tlb, asid, page)
 }
 
-/// The same for a fetch, a read or a write, which first compares a remembered page, and remembers
-/// the page in its place where it is mapped.
-#[inline(always)]
-pub(crate) fn translate_at(
-    remembered: &mut RememberedPage,
-    pool: &FramePool,
-    table: &Table,
-    tlb: &mut Tlb,
-    asid: usize,
-    page: u64,
-) -> Option<(usize, Attrs)>
-    requires low { page < 2 ^ 44 }
-    requires table { IsSomeTable pool.now table.now }
-    requires cached { IsCached (pages_of pool.now table.now.frame) asid tlb.old }
-    requires remembered { IsUpToDate (pages_of pool.now table.now.frame) remembered.old }
-    ensures found { result ≡ get (pages_of pool.now table.now.frame) page }
-    ensures cached { IsCached (pages_of pool.now table.now.frame) asid tlb.new }
-    ensures remembered { IsUpToDate (pages_of pool.now table.now.frame) remembered.new }
-    ensures entries { NoneEnters asid tlb.old tlb.new }
-{
-    if !remember(remembered, pool, table, tlb, asid, page) {
-        return None;
-    }
-    Some((remembered.frame, remembered.attrs))
-}
-
-/// The same for a read or a write, by the one remembered page that its number selects.
-#[inline(always)]
-pub(crate) fn translate_data(
-    pages: &mut [RememberedPage; DATA_PAGES],
-    pool: &FramePool,
-    table: &Table,
-    tlb: &mut Tlb,
-    asid: usize,
-    page: u64,
-) -> Option<(usize, Attrs)>
-    requires low { page < 2 ^ 44 }
-    requires table { IsSomeTable pool.now table.now }
-    requires cached { IsCached (pages_of pool.now table.now.frame) asid tlb.old }
-    requires pages { AreUpToDate (pages_of pool.now table.now.frame) pages.old }
-    ensures found { result ≡ get (pages_of pool.now table.now.frame) page }
-    ensures cached { IsCached (pages_of pool.now table.now.frame) asid tlb.new }
-    ensures pages { AreUpToDate (pages_of pool.now table.now.frame) pages.new }
-    ensures entries { NoneEnters asid tlb.old tlb.new }
-{
-    let remembered = &mut pages[(page % DATA_PAGES as u64) as usize];
-    translate_at(remembered, pool, table, tlb, asid, page)
-}
-
 /// Sees to it that the page is the remembered one, and says whether it is mapped. (A pair of results
-/// from a function out of line would go through memory, on the quick way too; so it is read again.)
+/// from a function out of line would go through memory, on the quick way too; so the caller reads
+/// what is remembered.)
 #[inline(always)]
-fn remember(
+pub(crate) fn remember(
     remembered: &mut RememberedPage,
     pool: &FramePool,
     table: &Table,

@@ -1,9 +1,9 @@
 //! The writes to a page that a frame holds.
 
 ghost use Rattle.std.specs.Prelude.{◌≡◌, ℕ, ◌+◌, ◌*◌, ◌%◌, ◌<◌, ◌≤◌, length};
-ghost use Rattle.mte_frames.specs.Pool.{IsOut, IsTaken, KeepsOthers};
+ghost use Rattle.mte_frames.specs.Pool.{IsOut, IsTaken, IsSound, KeepsOthers};
 ghost use Rattle.mte_tags.specs.Runs.{spliced};
-ghost use Rattle.mte_arena.specs.Frames.{frame_at, make_frame};
+ghost use Rattle.mte_arena.specs.Frames.{AreFrames, frame_at, make_frame};
 ghost use Rattle.mte_space.specs.Writes.{with_frame, retagged_frame};
 
 use mte_frames::FramePool;
@@ -18,8 +18,11 @@ pub(crate) fn write_frame(pool: &mut FramePool, frame: usize, at: u64, bytes: &[
         ≡ with_frame pool.old frame
         (make_frame (spliced (frame_at pool.old.frames frame).bytes (at % 4096) bytes.now)
         (frame_at pool.old.frames frame).tags) }
+    ensures sound { IsSound pool.old }
     ensures others { (k : ℕ) → IsOut pool.old frame k → KeepsOthers k pool.old pool.new }
 {
+    // what holds of every pool is in its contract
+    let _ = pool.frames();
     copy_in(pool.data_mut(frame), at, bytes);
 }
 
@@ -40,6 +43,8 @@ pub(crate) fn retag_frame(
     ensures pool { pool.new
         ≡ with_frame pool.old frame
         (retagged_frame (frame_at pool.old.frames frame) first count tag zero) }
+    ensures sound { IsSound pool.old }
+    ensures sized { AreFrames pool.old.frames }
     ensures others { (k : ℕ) → IsOut pool.old frame k → KeepsOthers k pool.old pool.new }
 {
     // what holds of every pool is in its contract

@@ -1,15 +1,5 @@
-use Rattle.std.proofs.Common.{◌/◌}
-use Rattle.mte_space.specs.SpaceMemory.{memory_of}
-use Rattle.mte_space.proofs.SpaceSteps.{found_taken, page_is}
+use Rattle.mte_space.proofs.PlaceSteps.{taken_in}
 use Rattle.mte_space.proofs.space.SpacePageStore.granule_tag.Goals as goal
 
-pub tag_of_granule-requires-clause-out : goal.tag_of_granule-requires-clause-out
-tag_of_granule-requires-clause-out c =
-    let s = c.args.self.now in
-    found_taken s.pool.now s.quota.now s.table.now s.limit (c.args.at / 4096) c.translate-found.result s.space c.translate-found.ensures.found
-
-pub returns-clause-answer : goal.returns-clause-answer
-returns-clause-answer c =
-    let s = c.args.self.now in
-    let page = page_is s.pool.now s.table.now s.limit s.state.now (c.args.at / 4096) c.translate-found.result c.translate-found.ensures.found in
-    c.tag_of_granule.ensures.answer (memory_of s) page
+pub tag-requires-clause-out : goal.tag-requires-clause-out
+tag-requires-clause-out c = taken_in c.args.self.now c.args.place c.requires.place

@@ -2,7 +2,7 @@ use Rattle.std.proofs.Common.{◌≡◌, ◌∙◌, ◌+◌, ◌-◌, sym, ap, a
 use Rattle.mte_tags.specs.Memory.{pages_left}
 use Rattle.mte_space.specs.SpaceMemory.{memory_of}
 use Rattle.mte_translate.specs.Tables.{pages_of}
-use Rattle.mte_space.proofs.RememberedSteps.{page_stays_up_to_date, pages_stay_up_to_date}
+use Rattle.mte_space.proofs.RememberedSteps.{pages_stay_up_to_date}
 use Rattle.mte_space.proofs.Memories.{pages_left-space, page_missing, unmapped_there}
 use Rattle.mte_space.proofs.space.SpacePaged.map_pages.Goals as goal
 
@@ -29,6 +29,5 @@ invariant_of-self-2 c =
     record {
       space = c.map_range.ensures.space;
       cached = c.map_range.ensures.cached s.asid s.tlb.now s.cached;
-      data_up_to_date = pages_stay_up_to_date (pages_of s.pool.now s.table.now.frame) _ s.data_pages c.map_range.ensures.cached s.data_up_to_date;
-      code_up_to_date = page_stays_up_to_date (pages_of s.pool.now s.table.now.frame) _ c.map_range.ensures.cached s.code_page s.code_up_to_date;
+      up_to_date = pages_stay_up_to_date (pages_of s.pool.now s.table.now.frame) _ s.remembered c.map_range.ensures.cached s.up_to_date;
     }

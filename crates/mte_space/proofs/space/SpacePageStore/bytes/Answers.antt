@@ -1,0 +1,5 @@
+use Rattle.mte_space.proofs.PlaceSteps.{taken_in}
+use Rattle.mte_space.proofs.space.SpacePageStore.bytes.Goals as goal
+
+pub bytes-requires : goal.bytes-requires
+bytes-requires c = taken_in c.args.self.now c.args.place c.requires

@@ -1,0 +1,23 @@
+-- The places of a space: the pages that it remembers, each in the frame that was found for it.
+use Rattle.std.specs.Prelude.{ℕ, ◌<◌, ◌^◌, get_or, length}
+use Rattle.mte_tags.specs.Memory.{Page}
+use Rattle.mte_space.specs.Spaces.{page_of}
+use Rattle.mte_space.specs.declared.remembered.RememberedPage.{RememberedPage}
+use Rattle.mte_space.specs.declared.space.Space.{Space}
+
+-- for where no place is
+abbrev pub no_page : RememberedPage
+no_page = record { page = 0; frame = 0; attrs = record { 0 = 0 } }
+
+abbrev pub remembered_in : Space → ℕ → RememberedPage
+remembered_in s i = get_or s.remembered i no_page
+
+-- a place in which a page was found
+abbrev pub IsPlace : Space → ℕ → Type 0
+IsPlace s i = (i < length s.remembered) × ((remembered_in s i).page < 2 ^ 44)
+
+abbrev pub number_in : Space → ℕ → ℕ
+number_in s i = (remembered_in s i).page
+
+abbrev pub page_in : Space → ℕ → Page
+page_in s i = page_of s.pool.now ((remembered_in s i).frame, (remembered_in s i).attrs)
