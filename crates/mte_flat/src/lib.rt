@@ -3,6 +3,7 @@
 
 mod finder;
 mod flat;
+mod pages;
 mod slot;
 
 pub use flat::Flat;

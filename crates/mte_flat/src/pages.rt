@@ -1,13 +1,15 @@
 //! The pages of the plain memory, in one list.
 
-ghost use Rattle.std.specs.Prelude.{◌≡◌, ◌<◌, ◌≤◌, ◌+◌, ◌^◌, IfOk, vec_len, vec_capacity};
-ghost use Rattle.mte_tags.specs.Memory.{Memory, no_pages};
+ghost use Rattle.std.specs.Prelude.{◌≡◌, ◌<◌, ◌≤◌, ◌+◌, ◌^◌, None, IfOk, IfSome, IsNone};
+ghost use Rattle.std.specs.Prelude.{length, slice_index_or, vec_len, vec_capacity};
+ghost use Rattle.mte_tags.specs.Memory.{Memory, page_at, no_pages};
 ghost use Rattle.mte_tags.specs.Memory.{with_new_pages, without_pages, IsFree, ArePages};
 ghost use Rattle.mte_flat.specs.Slots.{slots_memory, AreSlots};
 
 use crate::finder::Finder;
 use crate::slot::{Slot, find, holds, new_slot};
-use mte_tags::{Attrs, PageStore, TagMode, TagState};
+use a64_bits::plain;
+use mte_tags::{Attrs, NoQuota, PageStore, Paged, TagMode, TagState, replace_bytes};
 use std::alloc::{AllocError, Global};
 
 /// At most `limit` pages in a list, in the order in which they were mapped, and where each was put.
@@ -17,7 +19,7 @@ pub(crate) struct Pages {
     slots: Vec<Slot>,
     finder: Finder,
     state: TagState,
-    ghost pages: { AreSlots slots.items },
+    ghost are_slots: { AreSlots slots.items },
     ghost below: { vec_len slots ≤ limit },
     ghost room: { limit ≤ vec_capacity slots },
 }
@@ -109,4 +111,85 @@ impl PageStore for Pages {
     ghost kept_same = { λ _. tt };
 
     ghost kept_on = { λ _ _ _ _ _. tt };
+}
+
+/// The slot of a page whose instructions are fetched, where it is another than the last time.
+#[cold]
+#[inline(never)]
+fn find_other_code(slots: &[Slot], finder: &mut Finder, page: u64) -> Option<usize>
+    ensures some { IfSome result
+        (λ s. (s < length slots.now) × ((d : _) → (slice_index_or slots.now s d).page ≡ page)) }
+    ensures none { IsNone result
+        → (m : Memory) → page_at (slots_memory m slots.now) page ≡ None }
+{
+    let s = find(slots, finder, page)?;
+    finder.code = s;
+    Some(s)
+}
+
+/// Adds pages of zero bytes and tag 0.
+fn map_slots(slots: &mut Vec<Slot>, finder: &mut Finder, page: u64, count: usize, attrs: Attrs)
+    requires room { vec_len slots.old + count ≤ vec_capacity slots.old }
+    requires in_range { page + count ≤ 2 ^ 18 }
+    requires slots { AreSlots slots.old.items }
+    requires free { (m : Memory) → IsFree (slots_memory m slots.old.items) page count }
+    ensures memory { (m : Memory)
+        → slots_memory m slots.new.items
+        ≡ with_new_pages (slots_memory m slots.old.items) page count attrs }
+    ensures slots { AreSlots slots.new.items }
+    ensures len { vec_len slots.new ≡ vec_len slots.old + count }
+    ensures capacity { vec_capacity slots.new ≡ vec_capacity slots.old }
+{
+    for i in 0..count {
+        let slot = new_slot(page + i as u64, attrs);
+        finder.put(page + i as u64, slots.len());
+        slots.push_reserved(slot);
+    }
+}
+
+/// Takes pages out that are there.
+fn unmap_slots(slots: &mut Vec<Slot>, finder: &mut Finder, page: u64, count: usize)
+    requires slots { AreSlots slots.old.items }
+    requires mapped { (m : Memory) → ArePages (slots_memory m slots.old.items) page count }
+    ensures memory { (m : Memory)
+        → slots_memory m slots.new.items
+        ≡ without_pages (slots_memory m slots.old.items) page count }
+    ensures slots { AreSlots slots.new.items }
+    ensures len { vec_len slots.new ≤ vec_len slots.old }
+    ensures capacity { vec_capacity slots.new ≡ vec_capacity slots.old }
+{
+    for i in 0..count {
+        let gone = page + i as u64;
+        let Some(s) = find(slots, finder, gone) else {
+            return;
+        };
+        finder.take(gone);
+        slots.swap_remove(s);
+        if s < slots.len() {
+            finder.put(slots[s].page, s);
+        }
+    }
+}
+
+impl Paged for Pages {
+    fn pages_left(&mut self) -> usize {
+        let mapped = self.slots.len();
+        self.limit - mapped
+    }
+
+    fn map_pages(&mut self, page: u64, count: usize, attrs: Attrs) -> Result<(), NoQuota> {
+        if count > self.limit - self.slots.len() {
+            return Err(NoQuota);
+        }
+        map_slots(&mut self.slots, &mut self.finder, page, count, attrs);
+        Ok(())
+    }
+
+    fn unmap_pages(&mut self, page: u64, count: usize) {
+        unmap_slots(&mut self.slots, &mut self.finder, page, count);
+    }
+
+    fn load_bytes(&mut self, addr: u64, bytes: &[u8]) {
+        replace_bytes(self, plain(addr), bytes);
+    }
 }

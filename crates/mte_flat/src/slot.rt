@@ -9,7 +9,7 @@ ghost use Rattle.mte_flat.specs.Slots.{page_of, slots_memory};
 ghost use Rattle.mte_tags.specs.Runs.{spliced, retagged};
 
 use crate::finder::Finder;
-use mte_tags::{Attrs, MappedPage, copy_in};
+use mte_tags::{Attrs, copy_in};
 
 /// A mapped page: its number, its bytes, a tag for each granule, and its attributes. The bytes
 /// stand where an aligned access stays aligned.
@@ -90,25 +90,6 @@ fn search(slots: &[Slot], page: u64) -> Option<usize>
         }
     }
     None
-}
-
-impl MappedPage for Slot {
-    ghost page = { page_of };
-
-    #[inline(always)]
-    fn attrs(&self) -> Attrs {
-        self.attrs
-    }
-
-    #[inline(always)]
-    fn bytes(&self) -> &[u8] {
-        &self.bytes
-    }
-
-    #[inline(always)]
-    fn granule_tag(&self, granule: usize) -> u8 {
-        self.tags[granule]
-    }
 }
 
 impl Slot {

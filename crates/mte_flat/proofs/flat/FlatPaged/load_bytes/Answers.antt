@@ -1,7 +1,0 @@
-use Rattle.std.proofs.Common.{◌∙◌, ap, length}
-use Rattle.mte_tags.specs.Accesses.{addresses, written, with_bytes}
-use Rattle.mte_flat.proofs.flat.FlatPaged.load_bytes.Goals as goal
-
-pub returns-clause-memory : goal.returns-clause-memory
-unfolding written
-returns-clause-memory c = c.replace_bytes.ensures.memory ∙ ap (λ a. with_bytes c.args.self.now (addresses a (length c.args.bytes.now)) c.args.bytes.now) c.plain.ensures

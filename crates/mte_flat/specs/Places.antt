@@ -1,0 +1,29 @@
+-- The places of the plain memory: its slots.
+use Rattle.std.specs.Prelude.{ℕ, ◌<◌, [], get_or, length}
+use Rattle.std.specs.FinMap as map
+use Rattle.mte_tags.specs.Memory.{Memory, Page}
+use Rattle.mte_flat.specs.Slots.{page_of, slots_memory}
+use Rattle.mte_flat.specs.declared.pages.Pages.{Pages}
+use Rattle.mte_flat.specs.declared.slot.Slot.{Slot}
+
+abbrev pub beside_pages : Pages → Memory
+beside_pages p = record { limit = p.limit; pages = map.empty; state = p.state }
+
+abbrev pub memory_of : Pages → Memory
+memory_of p = slots_memory (beside_pages p) p.slots.items
+
+-- for where no place is
+abbrev pub no_slot : Slot
+no_slot = record { page = 0; bytes = []; tags = []; attrs = record { 0 = 0 } }
+
+abbrev pub slot_in : Pages → ℕ → Slot
+slot_in p i = get_or p.slots.items i no_slot
+
+abbrev pub IsPlace : Pages → ℕ → Type 0
+IsPlace p i = i < length p.slots.items
+
+abbrev pub number_in : Pages → ℕ → ℕ
+number_in p i = (slot_in p i).page
+
+abbrev pub page_in : Pages → ℕ → Page
+page_in p i = page_of (slot_in p i)
