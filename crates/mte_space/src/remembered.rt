@@ -16,8 +16,8 @@ pub(crate) struct RememberedPage {
     pub(crate) attrs: Attrs,
 }
 
-/// How many pages of data a space remembers, one for each remainder of their numbers modulo 8.
-pub(crate) const DATA_PAGES: usize = 8;
+/// How many pages of data a space remembers, one for each remainder of their numbers modulo 16.
+pub(crate) const DATA_PAGES: usize = 16;
 
 /// The place of the page that instructions were fetched from, behind those of data.
 pub(crate) const CODE_PLACE: usize = DATA_PAGES;

@@ -19,7 +19,7 @@ use mte_translate::{Table, Tlb};
 /// A tenant's memory: the pages that its table maps, in frames of a pool that it shares with other
 /// tenants, under its quota. Translations of its ASID are remembered in a translation lookaside
 /// buffer, which it shares too, and where its last accesses found their pages it remembers itself:
-/// one page for fetches, and eight for data.
+/// one page for fetches, and sixteen for data.
 #[derive(Drop)]
 pub struct Space<'a> {
     pool: &'a mut FramePool,

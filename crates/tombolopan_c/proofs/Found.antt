@@ -1,16 +1,14 @@
--- What an access is in the place that was found for its page.
-use Rattle.std.proofs.Common.{◌≡◌, ℕ, zero, suc, ◌/◌, ◌%◌, ◌<◌, ◌≤◌, ◌+◌, ◌*◌, ◌^◌, Bool, List, [], ◌∷◌, length, map, get_or, set, replicate, refl, ap, ◌∙◌, arith}
+-- The place that was found for a page, read and written.
+use Rattle.std.proofs.Common.{◌≡◌, ℕ, zero, suc, ◌%◌, ◌<◌, ◌+◌, Bool, Option, Some, None, IfSome, IsNone, List, [], ◌∷◌, length, map, get_or, set, replicate, refl, ap, subst, ◌∙◌, arith}
+use Rattle.std.specs.Prelude.{option_map}
 use Rattle.std.proofs.lemmas.List.{map-set, get_or_default}
-use Rattle.std.proofs.lemmas.List.Elements.{All-map, All-from_get_or}
-use Rattle.std.specs.List.{All}
-use Rattle.mte_tags.specs.Memory.{with_page, with_granules}
-use Rattle.mte_tags.specs.Accesses.{addresses, with_bytes}
-use Rattle.mte_tags.specs.Runs.{spliced, retagged}
+use Rattle.mte_tags.specs.Memory.{page_at, with_page}
+use Rattle.mte_tags.specs.Runs.{spliced, with_bytes_in, retagged}
 use Rattle.mte_tags.specs.declared.state.TagState.{TagState}
-use Rattle.mte_tags.proofs.FoundPages.{page_written, page_retagged}
-use Rattle.tombolopan_c.specs.LentPages.{page_of, lent_memory, IsFirst}
+use Rattle.tombolopan_c.specs.LentPages.{page_of, lent_memory, IsFirst, HasNone}
+use Rattle.tombolopan_c.specs.LentPlaces.{no_page}
 use Rattle.tombolopan_c.specs.declared.lent_page.LentPage.{LentPage}
-use Rattle.tombolopan_c.proofs.Places.{page_at-first}
+use Rattle.tombolopan_c.proofs.Places.{page_at-first, page_at-none}
 use Rattle.tombolopan_c.proofs.Changes.{lent_changed}
 
 -- tags that are stored keep their low four bits
@@ -25,29 +23,37 @@ map-replicate (suc n) t h =
     let e : t % 16 ≡ t = omega arith in
     ap (λ y. y ∷ map (λ (x : ℕ). x % 16) (replicate n t)) e ∙ ap (λ l. t ∷ l) (map-replicate n t h)
 
--- a run that was written
-pub lent_written : (s : TagState) (pages : List LentPage) (i place : ℕ) (d new : LentPage) (piece : List ℕ) → IsFirst pages i (place / 4096) → place % 4096 + length piece ≤ 4096 → place < 2 ^ 56
-    → new ≡ record (get_or pages i d) { bytes = spliced (get_or pages i d).bytes (place % 4096) piece }
-    → lent_memory s (set pages i new) ≡ with_bytes (lent_memory s pages) (addresses place (length piece)) piece
-lent_written s pages i place d new piece h p u e =
+-- what a look-up among places finds is the page's first place
+found_first : (s : TagState) (pages : List LentPage) (q : ℕ) (o : Option ℕ) → IfSome o (λ i. IsFirst pages i q) → (IsNone o → HasNone pages q)
+    → page_at (lent_memory s pages) q ≡ option_map (λ i. page_of (get_or pages i no_page)) o
+found_first s pages q None some none = page_at-none s pages q (none refl)
+found_first s pages q (Some i) some none = page_at-first s pages i q no_page some
+
+pub found_among : (s : TagState) (pages seen : List LentPage) (q : ℕ) (o : Option ℕ) → seen ≡ pages → IfSome o (λ i. IsFirst seen i q) → (IsNone o → HasNone seen q)
+    → page_at (lent_memory s pages) q ≡ option_map (λ i. page_of (get_or pages i no_page)) o
+found_among s pages seen q o e some none =
+    found_first s pages q o (subst (λ xs. IfSome o (λ i. IsFirst xs i q)) e some) (subst (λ xs. IsNone o → HasNone xs q) e none)
+
+-- a place with a run of its bytes replaced
+pub lent_replaced : (s : TagState) (pages : List LentPage) (i at : ℕ) (bs : List ℕ) (d new : LentPage) → IsFirst pages i (get_or pages i no_page).number
+    → new ≡ record (get_or pages i d) { bytes = spliced (get_or pages i d).bytes (at % 4096) bs }
+    → lent_memory s (set pages i new) ≡ with_page (lent_memory s pages) (get_or pages i no_page).number (with_bytes_in (page_of (get_or pages i no_page)) (at % 4096) bs)
+lent_replaced s pages i at bs d new h e =
     let same : get_or pages i d ≡ get_or pages i new = get_or_default pages i d new h.within in
-    lent_changed s pages i (place / 4096) new h
+    let q = (get_or pages i no_page).number in
+    lent_changed s pages i q new h
     (ap (λ (t : LentPage). t.number) e ∙ ap (λ (t : LentPage). t.number) same)
     (ap (λ (t : LentPage). t.mapped) e ∙ ap (λ (t : LentPage). t.mapped) same)
-    ∙ ap (λ t. with_page (lent_memory s pages) (place / 4096) (page_of t)) e
-    ∙ page_written (lent_memory s pages) (page_of (get_or pages i d)) place piece (page_at-first s pages i (place / 4096) d h) p u
+    ∙ ap (λ t. with_page (lent_memory s pages) q (page_of t)) e
+    ∙ ap (λ t. with_page (lent_memory s pages) q (with_bytes_in (page_of t) (at % 4096) bs)) (get_or_default pages i d no_page h.within)
 
--- a run that was retagged
-pub lent_retagged : (s : TagState) (pages : List LentPage) (i at count t : ℕ) (z : Bool) (d new : LentPage) → IsFirst pages i (at / 4096)
-    → at % 16 ≡ 0 → at % 4096 + 16 * count ≤ 4096 → at < 2 ^ 56 → length (get_or pages i d).bytes ≡ 4096 → new.number ≡ (get_or pages i d).number → new.mapped ≡ (get_or pages i d).mapped
-    → page_of new ≡ retagged (page_of (get_or pages i d)) (at % 4096 / 16) count t z
-    → lent_memory s (set pages i new) ≡ with_granules (lent_memory s pages) at count t z
-lent_retagged s pages i at count t z d new h g r u long number mapped e =
+-- a place with granules retagged
+pub lent_retagged : (s : TagState) (pages : List LentPage) (i first count tag : ℕ) (z : Bool) (d new : LentPage) → IsFirst pages i (get_or pages i no_page).number
+    → new.number ≡ (get_or pages i d).number → new.mapped ≡ (get_or pages i d).mapped → page_of new ≡ retagged (page_of (get_or pages i d)) first count tag z
+    → lent_memory s (set pages i new) ≡ with_page (lent_memory s pages) (get_or pages i no_page).number (retagged (page_of (get_or pages i no_page)) first count tag z)
+lent_retagged s pages i first count tag z d new h number mapped e =
     let same : get_or pages i d ≡ get_or pages i new = get_or_default pages i d new h.within in
-    lent_changed s pages i (at / 4096) new h (number ∙ ap (λ (p : LentPage). p.number) same) (mapped ∙ ap (λ (p : LentPage). p.mapped) same)
-    ∙ ap (λ p. with_page (lent_memory s pages) (at / 4096) p) e
-    ∙ page_retagged (lent_memory s pages) (page_of (get_or pages i d)) at count t z (page_at-first s pages i (at / 4096) d h) g r u long
-
--- tags that are read are below 16
-pub low_tags : (xs : List ℕ) → All (λ t. t < 16) (map (λ (x : ℕ). x % 16) xs)
-low_tags xs = All-map (λ t. t < 16) (λ (x : ℕ). x % 16) xs (All-from_get_or (λ (x : ℕ). x % 16 < 16) xs 0 (λ i l. omega arith))
+    let q = (get_or pages i no_page).number in
+    lent_changed s pages i q new h (number ∙ ap (λ (p : LentPage). p.number) same) (mapped ∙ ap (λ (p : LentPage). p.mapped) same)
+    ∙ ap (with_page (lent_memory s pages) q) e
+    ∙ ap (λ t. with_page (lent_memory s pages) q (retagged (page_of t) first count tag z)) (get_or_default pages i d no_page h.within)

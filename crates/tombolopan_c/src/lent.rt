@@ -4,12 +4,9 @@ ghost use Rattle.std.specs.Prelude.{◌≡◌};
 ghost use Rattle.mte_tags.specs.Memory.{Memory};
 ghost use Rattle.tombolopan_c.specs.LentPages.{lent_memory, state_of};
 
-use crate::lent_accesses::{
-    fault_of_run, fetch_word, read_run, retag_run, tag_of_granule, try_read_run, try_write_run,
-    write_run,
-};
+use crate::find::find;
 use crate::lent_page::LentPage;
-use mte_tags::{Access, MemFault, PageStore, TagMode, TagState};
+use mte_tags::{Attrs, PageStore, TagMode, TagState};
 
 /// The tag mode of a memory and its flag; any number but 0 sets either.
 #[repr(C)]
@@ -49,10 +46,17 @@ impl<'a> Lent<'a> {
 
 impl PageStore for Lent<'_> {
     ghost use Rattle.tombolopan_c.specs.LentMemory.{memory_of, IsKept, kept_same, kept_on};
+    ghost use Rattle.tombolopan_c.specs.LentPlaces.{IsPlace, number_in, page_in};
 
     ghost memory = { memory_of };
 
     ghost kept = { IsKept };
+
+    ghost is_place = { IsPlace };
+
+    ghost number_in = { number_in };
+
+    ghost page_in = { page_in };
 
     fn tag_state(&mut self) -> TagState {
         let mode = if self.state.asynchronous == 0 {
@@ -71,51 +75,40 @@ impl PageStore for Lent<'_> {
     }
 
     #[inline]
-    fn run_fault(&mut self, at: u64, count: usize, access: &Access) -> Option<MemFault> {
-        fault_of_run(self.pages(), at, count, access)
+    fn find(&mut self, page: u64) -> Option<usize> {
+        find(self.pages(), page)
     }
 
     #[inline]
-    fn fetch_aligned(&mut self, pc: u64) -> Result<u32, MemFault> {
-        fetch_word(self.pages(), pc)
+    fn find_code(&mut self, page: u64) -> Option<usize> {
+        find(self.pages(), page)
     }
 
     #[inline]
-    fn try_read(&mut self, at: u64, buffer: &mut [u8], access: &Access) -> bool {
-        try_read_run(self.pages(), at, buffer, access)
-    }
-
-    fn read_in_page(
-        &mut self,
-        at: u64,
-        buffer: &mut [u8],
-        access: &Access,
-    ) -> Result<(), MemFault> {
-        read_run(self.pages(), at, buffer, access)
+    fn attrs(&self, place: usize) -> Attrs {
+        self.pages()[place].attrs()
     }
 
     #[inline]
-    fn try_write(&mut self, at: u64, bytes: &[u8], access: &Access) -> bool {
-        try_write_run(self.pages, at, bytes, access)
+    fn bytes(&self, place: usize) -> &[u8] {
+        &self.pages()[place].bytes
     }
 
-    fn write_in_page(&mut self, at: u64, bytes: &[u8], access: &Access) -> Result<(), MemFault> {
-        write_run(self.pages, at, bytes, access)
+    #[inline]
+    fn granule_tag(&self, place: usize, granule: usize) -> u8 {
+        self.pages()[place].tags[granule] % 16
     }
 
-    fn granule_tag(&mut self, at: u64, access: &Access) -> Result<u8, MemFault> {
-        tag_of_granule(self.pages(), at, access)
+    #[inline]
+    fn replace_run(&mut self, place: usize, at: u64, bytes: &[u8]) {
+        let page = &mut self.pages[place];
+        page.copy_in(at, bytes);
     }
 
-    fn store_tags_in_page(
-        &mut self,
-        at: u64,
-        count: usize,
-        tag: u8,
-        zero: bool,
-        access: &Access,
-    ) -> Result<(), MemFault> {
-        retag_run(self.pages, at, count, tag, zero, access)
+    #[inline]
+    fn retag(&mut self, place: usize, first: usize, count: usize, tag: u8, zero: bool) {
+        let page = &mut self.pages[place];
+        page.retag(first, count, tag, zero);
     }
 
     ghost kept_same = { kept_same };

@@ -5,7 +5,7 @@ ghost use Rattle.mte_tags.specs.Memory.{new_page};
 ghost use Rattle.mte_tags.specs.Runs.{spliced, retagged};
 ghost use Rattle.tombolopan_c.specs.LentPages.{page_of, is_place_of};
 
-use mte_tags::{Attrs, MappedPage, copy_in};
+use mte_tags::{Attrs, copy_in};
 
 /// A place for a page. It is free where `mapped` is 0; zero bytes are free places.
 #[repr(C)]
@@ -22,26 +22,15 @@ pub struct LentPage {
     pub tags: [u8; 256],
 }
 
-impl MappedPage for LentPage {
-    ghost page = { page_of };
-
+impl LentPage {
+    /// What may be done with it.
     #[inline(always)]
-    fn attrs(&self) -> Attrs {
+    pub(crate) fn attrs(&self) -> Attrs
+        ensures { result.0 ≡ (page_of self.now).attrs }
+    {
         Attrs((self.attrs % 16) as u8)
     }
 
-    #[inline(always)]
-    fn bytes(&self) -> &[u8] {
-        &self.bytes
-    }
-
-    #[inline(always)]
-    fn granule_tag(&self, granule: usize) -> u8 {
-        self.tags[granule] % 16
-    }
-}
-
-impl LentPage {
     /// Whether it is in use, for the page of a number.
     #[inline(always)]
     pub(crate) fn is_of(&self, number: u64) -> bool

@@ -7,7 +7,6 @@ mod faults;
 mod find;
 mod heap_lists;
 mod lent;
-mod lent_accesses;
 mod lent_heap;
 mod lent_page;
 mod lent_regs;
