@@ -13,8 +13,9 @@ use Rattle.mte_space.specs.Writes.{with_frame}
 use Rattle.mte_space.specs.Places.{IsPlace, remembered_in, number_in, no_page}
 use Rattle.mte_space.specs.declared.remembered.RememberedPage.{RememberedPage}
 use Rattle.mte_space.specs.declared.space.Space.{Space}
+use Rattle.mte_space.proofs.Taken.{within_frames, frame_at-set}
 use Rattle.mte_space.proofs.RememberedSteps.{pages_stay_up_to_date}
-use Rattle.mte_space.proofs.SpaceSteps.{found_taken, found_out, page_found, space_framed, cached_framed, memory_framed, rest_framed}
+use Rattle.mte_space.proofs.SpaceSteps.{found_taken, found_out, page_found, space_framed, cached_framed, memory_framed, rest_framed, page_with}
 
 pub found_in : (s : Space) (i : ℕ) → IsPlace s i
     → finite.get (pages_of s.pool.now s.table.now.frame) (number_in s i) ≡ Some ((remembered_in s i).frame, (remembered_in s i).attrs)
@@ -51,10 +52,19 @@ module _ (s : Space) (i : ℕ) (x : Frame) (n : Pool) (h : IsPlace s i) (new : n
 
   pub memory_in : IsSound s.pool.now
       → space_memory n s.table.now s.limit s.state.now
-      ≡ with_page (memory_of s) (number_in s i) (record { attrs = (remembered_in s i).attrs.0; bytes = x.bytes; tags = x.tags })
+      ≡ with_page (memory_of s) (number_in s i) (page_with (remembered_in s i).attrs x)
   memory_in sound =
       ap (λ p. space_memory p s.table.now s.limit s.state.now) new
       ∙ memory_framed s.pool.now s.quota.now s.table.now s.limit (number_in s i) (remembered_in s i).frame (remembered_in s i).attrs x s.space (found_in s i h) s.state.now sound
+
+  -- what the place holds then
+  pub page_in_new : IsSound s.pool.now
+      → page_of n ((remembered_in s i).frame, (remembered_in s i).attrs)
+      ≡ page_with (remembered_in s i).attrs x
+  page_in_new sound =
+      ap (λ p. page_of p ((remembered_in s i).frame, (remembered_in s i).attrs)) new
+      ∙ ap (page_with (remembered_in s i).attrs)
+      (frame_at-set s.pool.now.frames (remembered_in s i).frame x (within_frames s.pool.now (remembered_in s i).frame s.quota.now sound (out_in s i h)))
 
   pub rest_in : ((k : ℕ) → IsOut s.pool.now (remembered_in s i).frame k → KeepsOthers k s.pool.now n) → KeepsRest s.quota.now s.pool.now n s.table.now s.table.now
   rest_in others =

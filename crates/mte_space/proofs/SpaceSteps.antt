@@ -66,7 +66,7 @@ module _ (p : Pool) (k : ℕ) (t : Root) (l q f : ℕ) (a : Attrs) (x : Frame) (
   rest_framed others = record { others = others; reserved = refl; capacities = refl; root = refl; taken = λ y e. e }
 
 -- the page of a frame
-abbrev page_with : Attrs → Frame → Page
+abbrev pub page_with : Attrs → Frame → Page
 page_with a x = record { attrs = a.0; bytes = x.bytes; tags = x.tags }
 
 -- a frame that is retagged is the page retagged

@@ -84,6 +84,10 @@ pub trait PageStore {
         ensures memory { memory self.new
             ≡ with_page (memory self.old) (number_in self.old place)
             (with_bytes_in (page_in self.old place) (at % 4096) bytes.now) }
+        ensures place { is_place self.new place }
+        ensures number { number_in self.new place ≡ number_in self.old place }
+        ensures page { page_in self.new place
+            ≡ with_bytes_in (page_in self.old place) (at % 4096) bytes.now }
         ensures kept { kept self.old self.new };
 
     /// Replaces the tags of `count` granules from granule `first` on of the page that a place holds,
@@ -96,6 +100,10 @@ pub trait PageStore {
         ensures memory { memory self.new
             ≡ with_page (memory self.old) (number_in self.old place)
             (retagged (page_in self.old place) first count tag zero) }
+        ensures place { is_place self.new place }
+        ensures number { number_in self.new place ≡ number_in self.old place }
+        ensures page { page_in self.new place
+            ≡ retagged (page_in self.old place) first count tag zero }
         ensures kept { kept self.old self.new };
 
     ghost kept_same: { (a : Self) → kept a a };

@@ -1,6 +1,6 @@
 use Rattle.std.proofs.Common.{refl}
 use Rattle.mte_space.specs.KeptSpaces.{none_enters_same}
-use Rattle.mte_space.proofs.PlaceSteps.{taken_in, space_in, cached_in, up_to_date_in, memory_in, rest_in}
+use Rattle.mte_space.proofs.PlaceSteps.{taken_in, space_in, cached_in, up_to_date_in, memory_in, page_in_new, rest_in}
 use Rattle.mte_space.proofs.space.SpacePageStore.replace_run.Goals as goal
 
 pub invariant_of-self : goal.invariant_of-self
@@ -15,6 +15,10 @@ invariant_of-self c =
 pub returns-clause-memory : goal.returns-clause-memory
 returns-clause-memory c =
     memory_in c.args.self.now c.args.place _ _ c.requires.place c.write_frame.ensures.pool c.write_frame.ensures.sound
+
+pub returns-clause-page : goal.returns-clause-page
+returns-clause-page c =
+    page_in_new c.args.self.now c.args.place _ _ c.requires.place c.write_frame.ensures.pool c.write_frame.ensures.sound
 
 pub returns-clause-kept : goal.returns-clause-kept
 returns-clause-kept c =
