@@ -76,6 +76,23 @@ impl Tagged for Flat {
         self.pages.store_tags(addr, granules, tag, zero)
     }
 
+    #[inline(always)]
+    fn read_chunk(&mut self, user: u64) -> Option<([u8; 8], u8)> {
+        self.pages.read_chunk(user)
+    }
+
+    #[inline(always)]
+    fn write_chunk(
+        &mut self,
+        user: u64,
+        around: u64,
+        count: u64,
+        tag: u8,
+        bytes: &[u8; 8],
+    ) -> bool {
+        self.pages.write_chunk(user, around, count, tag, bytes)
+    }
+
     #[inline]
     fn has_attrs(&mut self, addr: u64, attrs: Attrs) -> bool {
         self.pages.has_attrs(addr, attrs)

@@ -15,6 +15,7 @@ use Rattle.mte_tags.proofs.AddressLists.{addresses_in_page}
 use Rattle.mte_tags.proofs.GranuleLists.{first_fault_in_run, first_fault_one}
 use Rattle.mte_tags.proofs.PageRuns.{first_fault_in, first_in-none, bytes_at-run, with_bytes-run}
 use Rattle.mte_tags.proofs.RunSteps.{length_range}
+use Rattle.mte_tags.proofs.Pages.{page_at-with_page_same}
 use Rattle.mte_tags.proofs.TagRuns.{with_granules-run}
 
 -- how a run fails in the page that was found, and where none was
@@ -118,3 +119,55 @@ page_word m p pc at found g e long =
 pub page_tag : (m : Memory) (p : Page) (at : ℕ) → page_at m (at / 4096) ≡ Some p → tag_at m at ≡ tag_in (Some p) (at % 4096 / 16)
 unfolding tag_at
 page_tag m p at e = ap (λ q. tag_in q (at % 4096 / 16)) e
+
+-- a chunk in one page gets tags and its header's bytes
+abbrev tagged_chunk : Memory → ℕ → ℕ → ℕ → ℕ → Memory
+tagged_chunk m start around count t = with_granules (with_granules m start around 0 false) (start + 16) count t true
+
+module _ (m m1 m2 m3 : Memory) (q1 q2 q3 : ℕ) (p p2 p3 : Page) (start around count t : ℕ) (bs : List ℕ)
+    (g : start % 16 ≡ 0) (wide : start % 4096 / 16 + around ≤ 256) (some : 0 < count) (within : start % 4096 / 16 + 1 + count ≤ 256) (u : start + 16 < 2 ^ 56) (eight : length bs ≡ 8)
+    (same : m1 ≡ m) (number : q1 ≡ start / 4096) (found : page_at m (start / 4096) ≡ Some p) (long : length p.bytes ≡ 4096)
+    (first : m2 ≡ with_page m1 q1 (retagged p (start % 4096 / 16) around 0 false)) (page2 : p2 ≡ retagged p (start % 4096 / 16) around 0 false) (number2 : q2 ≡ q1)
+    (second : m3 ≡ with_page m2 q2 (retagged p2 (start % 4096 / 16 + 1) count t true)) (page3 : p3 ≡ retagged p2 (start % 4096 / 16 + 1) count t true) (number3 : q3 ≡ q2) where
+  at2 : q2 ≡ start / 4096
+  at2 = number2 ∙ number
+
+  at3 : q3 ≡ start / 4096
+  at3 = number3 ∙ at2
+
+  cleared : m2 ≡ with_granules m start around 0 false
+  cleared = first ∙ page_retagged_at m m1 q1 p start around 0 false same number found g (omega (arith, wide, g)) (omega (arith, u)) long
+
+  found2 : page_at m2 (start / 4096) ≡ Some p2
+  found2 =
+      ap (λ k. page_at k (start / 4096)) first
+      ∙ ap (λ k. page_at (with_page m1 k (retagged p (start % 4096 / 16) around 0 false)) (start / 4096)) number
+      ∙ page_at-with_page_same m1 (start / 4096) (retagged p (start % 4096 / 16) around 0 false)
+      ∙ ap (λ r. Some r) (sym page2)
+
+  long2 : length p2.bytes ≡ 4096
+  long2 = ap (λ (r : Page). length r.bytes) page2 ∙ long
+
+  next : (start + 16) / 4096 ≡ start / 4096
+  next = omega (arith, some, within, g)
+
+  granule : (start + 16) % 4096 / 16 ≡ start % 4096 / 16 + 1
+  granule = omega (arith, some, within, g)
+
+  retagged_next : m3 ≡ with_granules m2 (start + 16) count t true
+  retagged_next =
+      second
+      ∙ ap (λ i. with_page m2 q2 (retagged p2 i count t true)) (sym granule)
+      ∙ page_retagged_at m2 m2 q2 p2 (start + 16) count t true refl (at2 ∙ sym next) (ap (page_at m2) next ∙ found2) (omega (arith, g)) (omega (arith, some, within, g)) u long2
+
+  found3 : page_at m3 (start / 4096) ≡ Some p3
+  found3 =
+      ap (λ k. page_at k (start / 4096)) second
+      ∙ ap (λ k. page_at (with_page m2 k (retagged p2 (start % 4096 / 16 + 1) count t true)) (start / 4096)) at2
+      ∙ page_at-with_page_same m2 (start / 4096) (retagged p2 (start % 4096 / 16 + 1) count t true)
+      ∙ ap (λ r. Some r) (sym page3)
+
+  pub chunk_written : with_page m3 q3 (with_bytes_in p3 (start % 4096) bs) ≡ with_bytes (tagged_chunk m start around count t) (addresses start (length bs)) bs
+  chunk_written =
+      page_replaced m3 m3 q3 p3 start bs refl at3 found3 (omega (arith, within, eight, g)) (omega (arith, u))
+      ∙ ap (λ k. with_bytes k (addresses start (length bs)) bs) (retagged_next ∙ ap (λ k. with_granules k (start + 16) count t true) cleared)

@@ -13,6 +13,7 @@ ghost use Rattle.mte_tags.specs.Accesses.{tag_load_fault, fault, fetch_access};
 
 use crate::access::Access;
 use crate::attrs::Attrs;
+use crate::chunk::{read_chunk_in_page, write_chunk_in_page};
 use crate::fault::{FaultKind, MemFault, by_fields};
 use crate::page_store::PageStore;
 use crate::state::TagMode;
@@ -445,6 +446,23 @@ impl<S: PageStore> Tagged for S {
     #[inline(always)]
     fn write(&mut self, addr: u64, bytes: &[u8], check: bool) -> Result<(), MemFault> {
         write_at(self, addr, bytes, check)
+    }
+
+    #[inline(always)]
+    fn read_chunk(&mut self, user: u64) -> Option<([u8; 8], u8)> {
+        read_chunk_in_page(self, user)
+    }
+
+    #[inline(always)]
+    fn write_chunk(
+        &mut self,
+        user: u64,
+        around: u64,
+        count: u64,
+        tag: u8,
+        bytes: &[u8; 8],
+    ) -> bool {
+        write_chunk_in_page(self, user, around, count, tag, bytes)
     }
 
     #[inline]

@@ -5,6 +5,7 @@
 mod access;
 mod attrs;
 mod by_page;
+mod chunk;
 mod fault;
 mod generator;
 mod laws;

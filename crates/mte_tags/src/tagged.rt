@@ -1,7 +1,7 @@
 //! The traits of a tagged memory.
 
-ghost use Rattle.std.specs.Prelude.{◌≡◌, ◌<◌, ◌≤◌, ◌+◌, ◌/◌, ◌↔◌, ◌^◌, IsOk, OnErr, OnOk, IfOk};
-ghost use Rattle.std.specs.Prelude.{is_ok};
+ghost use Rattle.std.specs.Prelude.{◌≡◌, ◌<◌, ◌≤◌, ◌+◌, ◌-◌, ◌/◌, ◌%◌, ◌↔◌, ◌^◌, true, false};
+ghost use Rattle.std.specs.Prelude.{IsOk, OnErr, OnOk, IfOk, IfSome, is_ok};
 ghost use Rattle.std.specs.Prelude.{length, if◌then◌else◌, Bool};
 ghost use Rattle.a64_bits.specs.Addresses.{plain};
 ghost use Rattle.mte_tags.specs.Memory.{Memory, pages_left, with_new_pages, without_pages, IsFree};
@@ -79,6 +79,40 @@ pub trait Tagged {
         ensures memory { memory self.new
             ≡ (if is_ok result
             then with_granules (memory self.old) (plain addr) granules tag zero
+            else memory self.old) }
+        ensures kept { kept self.old self.new };
+
+    /// What a heap reads of a chunk in one look-up: the first eight bytes of the granule before an
+    /// address, and the tag of the granule at it. `None` where no page with READ and WRITE holds
+    /// both, or where it would take a second look-up.
+    fn read_chunk(&mut self, user: u64) -> Option<([u8; 8], u8)>
+        requires aligned { user % 16 ≡ 0 }
+        requires above { 16 ≤ user }
+        requires plain { user < 2 ^ 56 }
+        ensures has { IfSome result
+            (λ r. page_has (memory self.old) ((user - 16) / 4096) 3 ≡ true) }
+        ensures bytes { IfSome result (λ r. r.0 ≡ read_bytes (memory self.old) (user - 16) 8) }
+        ensures tag { IfSome result (λ r. r.1 ≡ tag_at (memory self.old) user) }
+        ensures small { IfSome result (λ r. r.1 < 16) }
+        ensures memory { memory self.new ≡ memory self.old }
+        ensures kept { kept self.old self.new };
+
+    /// What a heap does to a chunk in one look-up, whatever the attributes of its page: tag 0 on
+    /// `around` granules from the one before an address on, then a tag and zero bytes on `count`
+    /// granules from the address on, and eight bytes in the granule before it. `false` changes
+    /// nothing: two pages hold the granules, or it would take a second look-up.
+    fn write_chunk(&mut self, user: u64, around: u64, count: u64, tag: u8, bytes: &[u8; 8]) -> bool
+        requires aligned { user % 16 ≡ 0 }
+        requires above { 16 ≤ user }
+        requires plain { user < 2 ^ 56 }
+        requires tag { tag < 16 }
+        ensures memory { memory self.new
+            ≡ (if result
+            then written
+            (with_granules
+            (with_granules (memory self.old) (user - 16) around 0 false)
+            user count tag true)
+            (user - 16) bytes.now
             else memory self.old) }
         ensures kept { kept self.old self.new };
 
