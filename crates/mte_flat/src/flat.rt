@@ -77,7 +77,7 @@ impl Tagged for Flat {
     }
 
     #[inline(always)]
-    fn read_chunk(&mut self, user: u64) -> Option<([u8; 8], u8)> {
+    fn read_chunk(&mut self, user: u64) -> Option<(u64, u8)> {
         self.pages.read_chunk(user)
     }
 

@@ -449,7 +449,7 @@ impl<S: PageStore> Tagged for S {
     }
 
     #[inline(always)]
-    fn read_chunk(&mut self, user: u64) -> Option<([u8; 8], u8)> {
+    fn read_chunk(&mut self, user: u64) -> Option<(u64, u8)> {
         read_chunk_in_page(self, user)
     }
 

@@ -2,6 +2,7 @@
 
 ghost use Rattle.std.specs.Prelude.{◌≡◌, ◌+◌, ◌-◌, ◌/◌, ◌%◌, ◌^◌, ◌<◌, ◌≤◌, IfSome, true, false};
 ghost use Rattle.std.specs.Prelude.{if◌then◌else◌};
+ghost use Rattle.std.specs.Int.{from_le_bytes, w64};
 ghost use Rattle.mte_tags.specs.Memory.{page_has, tag_at, with_granules};
 ghost use Rattle.mte_tags.specs.Accesses.{read_bytes, written};
 
@@ -12,17 +13,17 @@ use crate::page_store::PageStore;
 /// The granules of a page.
 const GRANULES: u64 = 256;
 
-/// The first eight bytes of the granule before an address, and the tag of the granule at it, where
+/// The first eight bytes of the granule before an address, as a number, and the tag of the granule at it, where
 /// one page with READ and WRITE holds both.
 #[inline(always)]
-pub(crate) fn read_chunk_in_page<S: PageStore>(store: &mut S, user: u64) -> Option<([u8; 8], u8)>
+pub(crate) fn read_chunk_in_page<S: PageStore>(store: &mut S, user: u64) -> Option<(u64, u8)>
     requires aligned { user % 16 ≡ 0 }
     requires above { 16 ≤ user }
     requires plain { user < 2 ^ 56 }
     ensures has { IfSome result
         (λ r. page_has (S.memory store.old) ((user - 16) / 4096) 3 ≡ true) }
-    ensures bytes { IfSome result
-        (λ r. r.0 ≡ read_bytes (S.memory store.old) (user - 16) 8) }
+    ensures word { IfSome result
+        (λ r. r.0 ≡ from_le_bytes w64 (read_bytes (S.memory store.old) (user - 16) 8)) }
     ensures tag { IfSome result (λ r. r.1 ≡ tag_at (S.memory store.old) user) }
     ensures small { IfSome result (λ r. r.1 < 16) }
     ensures memory { S.memory store.new ≡ S.memory store.old }
@@ -38,7 +39,7 @@ pub(crate) fn read_chunk_in_page<S: PageStore>(store: &mut S, user: u64) -> Opti
     }
     let mut bytes = [0; 8];
     copy_out(store, place, start, &mut bytes);
-    Some((bytes, tag_in_page(store, place, user)))
+    Some((u64::from_le_bytes(bytes), tag_in_page(store, place, user)))
 }
 
 /// Gives tag 0 to `around` granules from the one before an address on, then a tag and zero bytes to

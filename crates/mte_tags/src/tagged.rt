@@ -3,6 +3,7 @@
 ghost use Rattle.std.specs.Prelude.{◌≡◌, ◌<◌, ◌≤◌, ◌+◌, ◌-◌, ◌/◌, ◌%◌, ◌↔◌, ◌^◌, true, false};
 ghost use Rattle.std.specs.Prelude.{IsOk, OnErr, OnOk, IfOk, IfSome, is_ok};
 ghost use Rattle.std.specs.Prelude.{length, if◌then◌else◌, Bool};
+ghost use Rattle.std.specs.Int.{from_le_bytes, w64};
 ghost use Rattle.a64_bits.specs.Addresses.{plain};
 ghost use Rattle.mte_tags.specs.Memory.{Memory, pages_left, with_new_pages, without_pages, IsFree};
 ghost use Rattle.mte_tags.specs.Memory.{ArePages, tag_at, page_has, with_granules};
@@ -83,15 +84,16 @@ pub trait Tagged {
         ensures kept { kept self.old self.new };
 
     /// What a heap reads of a chunk in one look-up: the first eight bytes of the granule before an
-    /// address, and the tag of the granule at it. `None` where no page with READ and WRITE holds
+    /// address, the lowest first, and the tag of the granule at it. `None` where no page with READ and WRITE holds
     /// both, or where it would take a second look-up.
-    fn read_chunk(&mut self, user: u64) -> Option<([u8; 8], u8)>
+    fn read_chunk(&mut self, user: u64) -> Option<(u64, u8)>
         requires aligned { user % 16 ≡ 0 }
         requires above { 16 ≤ user }
         requires plain { user < 2 ^ 56 }
         ensures has { IfSome result
             (λ r. page_has (memory self.old) ((user - 16) / 4096) 3 ≡ true) }
-        ensures bytes { IfSome result (λ r. r.0 ≡ read_bytes (memory self.old) (user - 16) 8) }
+        ensures word { IfSome result
+            (λ r. r.0 ≡ from_le_bytes w64 (read_bytes (memory self.old) (user - 16) 8)) }
         ensures tag { IfSome result (λ r. r.1 ≡ tag_at (memory self.old) user) }
         ensures small { IfSome result (λ r. r.1 < 16) }
         ensures memory { memory self.new ≡ memory self.old }

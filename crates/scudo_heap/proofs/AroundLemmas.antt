@@ -139,3 +139,14 @@ around m u n t low aligned high =
     ap (λ y. with_granules y u n t true) split
     ∙ run_after n x e u t true (omega arith) (λ i l s. omega arith)
     ∙ ap (λ y. with_granule y e 0 false) (run_twice n (with_granule m b 0 false) u t true (omega arith) ∙ run_after n m b u t true (omega arith) (λ i l s. omega arith))
+
+-- the same where nothing of the block is behind the run
+pub around_before : (m : Memory) (u n t : ℕ) → 16 ≤ u → u % 16 ≡ 0 → u + 16 * n < 2 ^ 56
+    → with_granules (with_granules m (u - 16) (1 + n) 0 false) u n t true ≡ with_granules (with_granules m u n t true) (u - 16) 1 0 false
+unfolding with_granules
+around_before m u n t low aligned high =
+    let b = u - 16 in
+    let first : (b + 16 * 1) % 2 ^ 56 ≡ u = omega arith in
+    ap (λ y. with_granules y u n t true) (with_granules-append m b 1 n 0 false (omega arith) ∙ ap (λ c. with_granules (with_granule m b 0 false) c n 0 false) first)
+    ∙ run_twice n (with_granule m b 0 false) u t true (omega arith)
+    ∙ run_after n m b u t true (omega arith) (λ i l s. omega arith)

@@ -1,6 +1,8 @@
 //! The six checks of a pointer (Scudo, `combined.h`).
 
-ghost use Rattle.std.specs.Prelude.{◌≡◌, ◌+◌, ◌*◌, ◌<◌, ◌≤◌, ◌^◌, IfOk};
+ghost use Rattle.std.specs.Prelude.{◌≡◌, ◌+◌, ◌-◌, ◌*◌, ◌%◌, ◌<◌, ◌≤◌, ◌^◌, IfOk, IfSome, is_some};
+ghost use Rattle.std.specs.Int.{from_le_bytes, w64};
+ghost use Rattle.mte_tags.specs.Accesses.{read_bytes};
 ghost use Rattle.scudo_secondary.specs.Mappings.{mapping_of};
 ghost use Rattle.scudo_heap.specs.Chunks.{end_of, block_end};
 ghost use Rattle.scudo_heap.specs.Heaps.{heap_of};
@@ -10,11 +12,10 @@ ghost use Rattle.scudo_heap.specs.Checks.{found_block, found_mapping, found_chun
 
 use crate::abort::HeapAbort;
 use crate::chunk::{Found, Place};
-use crate::granules::read_header;
 use crate::stacks::Stacks;
 use address_map::PAGE_SIZE;
 use mte_tags::{Attrs, Paged, Tagged};
-use scudo_header::{CLASSES, Header, State, size_of_class};
+use scudo_header::{CLASSES, Header, State, size_of_class, unpack};
 use scudo_secondary::{Mapping, Maps};
 
 /// Whether a chunk in a state is handed out.
@@ -104,18 +105,47 @@ fn by_header(stacks: &Stacks, maps: &Maps, user: u64, header: &Header) -> Result
     in_block(stacks, place, header)
 }
 
-/// Whether the granule before a user address lies in a mapped page with WRITE.
+/// The header's word in the granule before a user address, where that lies in a mapped page with
+/// READ and WRITE.
 #[inline(always)]
-fn has_granule<M: Paged>(memory: &mut M, user: u64) -> bool
-    requires { user < 2 ^ 56 }
-    ensures answer { result ≡ is_mapped (M.memory memory.old) user }
+fn header_word<M: Paged>(memory: &mut M, user: u64) -> Option<u64>
+    requires aligned { user % 16 ≡ 0 }
+    requires plain { user < 2 ^ 56 }
+    ensures some { is_some result ≡ is_mapped (M.memory memory.old) user }
+    ensures word { IfSome result
+        (λ word. word ≡ from_le_bytes w64 (read_bytes (M.memory memory.old) (user - 16) 8)) }
     ensures memory { M.memory memory.new ≡ M.memory memory.old }
     ensures kept { M.kept memory.old memory.new }
 {
     if user < 16 {
-        return false;
+        return None;
     }
-    memory.has_attrs(user - 16, Attrs::READ | Attrs::WRITE)
+    match memory.read_chunk(user) {
+        Some((word, _)) => Some(word),
+        None => header_word_alone(memory, user),
+    }
+}
+
+/// The same where the chunk begins another page, or no page is mapped there.
+#[cold]
+#[inline(never)]
+fn header_word_alone<M: Paged>(memory: &mut M, user: u64) -> Option<u64>
+    requires aligned { user % 16 ≡ 0 }
+    requires above { 16 ≤ user }
+    requires plain { user < 2 ^ 56 }
+    ensures some { is_some result ≡ is_mapped (M.memory memory.old) user }
+    ensures word { IfSome result
+        (λ word. word ≡ from_le_bytes w64 (read_bytes (M.memory memory.old) (user - 16) 8)) }
+    ensures memory { M.memory memory.new ≡ M.memory memory.old }
+    ensures kept { M.kept memory.old memory.new }
+{
+    if !memory.has_attrs(user - 16, Attrs::READ | Attrs::WRITE) {
+        return None;
+    }
+    let mut bytes = [0; 8];
+    // The page can be read.
+    let _ = memory.read(user - 16, &mut bytes, false);
+    Some(u64::from_le_bytes(bytes))
 }
 
 /// What the checks of a plain address find, or the first that fails.
@@ -137,10 +167,10 @@ pub(crate) fn find_chunk<M: Paged>(
     if user % 16 != 0 {
         return Err(HeapAbort::Misaligned);
     }
-    if !has_granule(memory, user) {
+    let Some(word) = header_word(memory, user) else {
         return Err(HeapAbort::Unmapped);
-    }
-    let Some(header) = read_header(memory, cookie, user) else {
+    };
+    let Some(header) = unpack(cookie, user, word) else {
         return Err(HeapAbort::HeaderCorrupt);
     };
     if !is_handed_out(header.state) {

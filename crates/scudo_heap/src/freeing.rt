@@ -1,26 +1,54 @@
 //! What is left after a chunk is freed.
 
-ghost use Rattle.std.specs.Prelude.{◌≡◌, ◌<◌, ◌/◌, ℕ, Some};
+ghost use Rattle.std.specs.Prelude.{◌≡◌, ◌-◌, ◌<◌, ◌≤◌, ◌/◌, ◌%◌, ◌^◌, ℕ, Some};
 ghost use Rattle.mte_tags.specs.Memory.{attrs_at, pages_left, without_pages};
 ghost use Rattle.mte_tags.specs.RandomTags.{drawn};
 ghost use Rattle.scudo_header.specs.declared.headers.State.TheVariants.{Available};
 ghost use Rattle.scudo_secondary.specs.Mappings as secondary;
 ghost use Rattle.scudo_heap.specs.Stacks.{pushed};
 ghost use Rattle.scudo_heap.specs.Heaps.{heap_of, with_less};
-ghost use Rattle.scudo_heap.specs.Chunks.{block_end, excluded, tagged, headed};
+ghost use Rattle.scudo_heap.specs.Chunks.{end_of, block_end, excluded, tagged, headed};
 ghost use Rattle.scudo_heap.specs.Placing.{world_of};
 ghost use Rattle.scudo_heap.specs.Freeing.{without_chunk};
 ghost use Rattle.scudo_heap.specs.Served.{IsServed, IsOpen};
 ghost use Rattle.scudo_heap.specs.Inner.{IsFoundBlock, IsFound};
 
 use crate::chunk::{Found, Place};
-use crate::granules::put_header;
+use crate::granules::{put_header, set_tags};
 use crate::stacks::Stacks;
-use crate::tagging::draw_tag;
+use crate::tagging::{choose_tag, granules};
 use address_map::PAGE_SIZE;
 use mte_tags::{Paged, Rgsr, Tagged};
-use scudo_header::{Header, State};
+use scudo_header::{Header, State, pack};
 use scudo_secondary::{Mapping, Maps};
+
+/// Gives the granules of a chunk a tag and zero bytes, and writes its header, with one look-up where
+/// one page holds all of it.
+#[tactic(auto, unfolding(crate::specs::Chunks::tagged))]
+#[inline(always)]
+fn write_freed<M: Paged>(memory: &mut M, cookie: u32, place: Place, tag: u8, header: &Header)
+    requires tag { tag < 16 }
+    requires aligned { place.user % 16 ≡ 0 }
+    requires above { 16 ≤ place.user }
+    requires some { 0 < place.size }
+    requires small { place.size < 2 ^ 20 }
+    requires fields { header.now.size_or_unused_bytes < 2 ^ 20 }
+    requires open { IsOpen (M.memory memory.old) (place.user - 16) (end_of place) }
+    ensures memory { M.memory memory.new
+        ≡ headed (tagged (M.memory memory.old) place tag) cookie place.user header.now }
+    ensures attrs { (q : ℕ)
+        → attrs_at (M.memory memory.new) q ≡ attrs_at (M.memory memory.old) q }
+    ensures left { pages_left (M.memory memory.new) ≡ pages_left (M.memory memory.old) }
+    ensures kept { M.kept memory.old memory.new }
+{
+    let count = granules(place.size);
+    let bytes = pack(cookie, place.user, header).to_le_bytes();
+    if memory.write_chunk(place.user, 0, count, tag, &bytes) {
+        return;
+    }
+    set_tags(memory, place.user, count, tag, true);
+    put_header(memory, cookie, place.user, header);
+}
 
 /// Gives the granules of a chunk another tag, marks its header, and puts its block back.
 #[inline(always)]
@@ -48,10 +76,10 @@ fn free_block<M: Paged>(
     ensures left { pages_left (M.memory memory.new) ≡ pages_left (M.memory memory.old) }
     ensures kept { M.kept memory.old memory.new }
 {
-    draw_tag(rgsr, memory, place);
+    let tag = choose_tag(rgsr, memory, place);
     let mut freed = *header;
     freed.state = State::Available;
-    put_header(memory, cookie, place.user, &freed);
+    write_freed(memory, cookie, place, tag, &freed);
     stacks.put(place.class, place.block);
 }
 

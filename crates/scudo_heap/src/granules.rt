@@ -1,14 +1,13 @@
 //! What the heap does to its pages of the tenant's memory. No access of the heap's own compares
 //! tags, so none sets the flag of the asynchronous mode.
 
-ghost use Rattle.std.specs.Prelude.{◌≡◌, ◌+◌, ◌-◌, ◌*◌, ◌/◌, ◌%◌, ◌^◌, ◌<◌, ◌≤◌, ℕ, true, IfSome};
-ghost use Rattle.mte_tags.specs.Memory.{attrs_at, pages_left, page_has, tag_at, with_granules};
+ghost use Rattle.std.specs.Prelude.{◌≡◌, ◌+◌, ◌-◌, ◌*◌, ◌%◌, ◌^◌, ◌<◌, ◌≤◌, ℕ};
+ghost use Rattle.mte_tags.specs.Memory.{attrs_at, pages_left, tag_at, with_granules};
 ghost use Rattle.scudo_heap.specs.Chunks.{headed};
-ghost use Rattle.scudo_heap.specs.Checks.{header_at};
 ghost use Rattle.scudo_heap.specs.Served.{IsOpen};
 
 use mte_tags::{Paged, Tagged};
-use scudo_header::{Header, pack, unpack};
+use scudo_header::{Header, pack};
 
 /// Gives granules of the heap's pages a tag, and makes their bytes zero where `zero` is set.
 #[inline(never)]
@@ -60,22 +59,4 @@ pub(crate) fn put_header<M: Paged>(memory: &mut M, cookie: u32, user: u64, heade
     let word = pack(cookie, user, header);
     // The heap's pages lack nothing that it requires.
     let _ = memory.write(user - 16, &word.to_le_bytes(), false);
-}
-
-/// The header of the chunk at a user address, if its checksum is right.
-#[inline(always)]
-pub(crate) fn read_header<M: Paged>(memory: &mut M, cookie: u32, user: u64) -> Option<Header>
-    requires aligned { user % 16 ≡ 0 }
-    requires above { 16 ≤ user }
-    requires plain { user < 2 ^ 56 }
-    requires mapped { page_has (M.memory memory.old) ((user - 16) / 4096) 3 ≡ true }
-    ensures header { result ≡ header_at (M.memory memory.old) cookie user }
-    ensures small { IfSome result (λ header. header.size_or_unused_bytes < 2 ^ 20) }
-    ensures memory { M.memory memory.new ≡ M.memory memory.old }
-    ensures kept { M.kept memory.old memory.new }
-{
-    let mut bytes = [0; 8];
-    // The page can be read.
-    let _ = memory.read(user - 16, &mut bytes, false);
-    unpack(cookie, user, u64::from_le_bytes(bytes))
 }

@@ -11,9 +11,8 @@ ghost use Rattle.scudo_heap.specs.Served.{IsOpen};
 use crate::chunk::Place;
 use crate::granules::{put_header, set_tags};
 use crate::tagging::{choose_tag, granules};
-use address_map::PAGE_SIZE;
 use mte_tags::{Paged, Rgsr, Tagged};
-use scudo_header::{CLASSES, Header, Origin, State, size_of_class};
+use scudo_header::{CLASSES, Header, Origin, State, pack, size_of_class};
 
 /// Tag 0 on the granule after a chunk, where its block goes on.
 #[tactic(auto, unfolding(crate::specs::Chunks::closed))]
@@ -81,10 +80,10 @@ fn tag_by_three_runs<M: Paged>(memory: &mut M, place: Place, tag: u8)
     close(memory, place);
 }
 
-/// The same by two runs where the three lie in one page and the block goes on: the chunk's tag goes
-/// over a run of tag 0.
+/// The same, and the chunk's header, with one look-up where one page holds all of it: the chunk's
+/// tag goes over a run of tag 0.
 #[inline(always)]
-fn tag_around<M: Paged>(memory: &mut M, place: Place, tag: u8)
+fn write_around<M: Paged>(memory: &mut M, cookie: u32, place: Place, tag: u8, header: &Header)
     requires low { 0 < place.class }
     requires high { place.class ≤ CLASSES }
     requires tag { tag < 16 }
@@ -93,23 +92,30 @@ fn tag_around<M: Paged>(memory: &mut M, place: Place, tag: u8)
     requires above { place.block + 16 ≤ place.user }
     requires small { place.size < 2 ^ 20 }
     requires within { end_of place ≤ block_end place }
+    requires fields { header.now.size_or_unused_bytes < 2 ^ 20 }
     requires open { IsOpen (M.memory memory.old) place.block (block_end place) }
     ensures memory { M.memory memory.new
-        ≡ closed (opened (tagged (M.memory memory.old) place tag) place) place }
+        ≡ headed
+        (closed (opened (tagged (M.memory memory.old) place tag) place) place)
+        cookie place.user header.now }
     ensures attrs { (q : ℕ)
         → attrs_at (M.memory memory.new) q ≡ attrs_at (M.memory memory.old) q }
     ensures left { pages_left (M.memory memory.new) ≡ pages_left (M.memory memory.old) }
     ensures kept { M.kept memory.old memory.new }
 {
     let count = granules(place.size);
-    let (start, end) = (place.user - 16, place.user + 16 * count);
-    let in_one_page = start / PAGE_SIZE == end / PAGE_SIZE;
-    if in_one_page && end < place.block + size_of_class(place.class) {
-        set_tags(memory, start, count + 2, 0, false);
-        set_tags(memory, place.user, count, tag, true);
+    let end = place.user + 16 * count;
+    let behind = if end < place.block + size_of_class(place.class) {
+        1
+    } else {
+        0
+    };
+    let bytes = pack(cookie, place.user, header).to_le_bytes();
+    if memory.write_chunk(place.user, 1 + count + behind, count, tag, &bytes) {
         return;
     }
     tag_by_three_runs(memory, place, tag);
+    put_header(memory, cookie, place.user, header);
 }
 
 /// Makes a chunk in its block, and returns its tag.
@@ -150,7 +156,6 @@ pub(crate) fn make_chunk<M: Paged>(
     ensures kept { M.kept memory.old memory.new }
 {
     let tag = choose_tag(rgsr, memory, place);
-    tag_around(memory, place, tag);
     let header = Header {
         class_id: place.class,
         state: State::Allocated,
@@ -158,6 +163,6 @@ pub(crate) fn make_chunk<M: Paged>(
         size_or_unused_bytes: place.size as u32,
         offset: ((place.user - place.block - 16) / 16) as u16,
     };
-    put_header(memory, cookie, place.user, &header);
+    write_around(memory, cookie, place, tag, &header);
     tag
 }

@@ -55,30 +55,3 @@ pub(crate) fn choose_tag<M: Paged>(rgsr: &mut Rgsr, memory: &mut M, place: Place
     let present = tag_there(memory, place.user);
     rgsr.draw(exclude(place, present))
 }
-
-/// Draws a tag for a chunk and gives it to its granules, whose bytes become zero.
-#[tactic(auto, unfolding(crate::specs::Chunks::tagged))]
-#[inline(always)]
-pub(crate) fn draw_tag<M: Paged>(rgsr: &mut Rgsr, memory: &mut M, place: Place) -> u8
-    requires low { 0 < place.class }
-    requires high { place.class ≤ CLASSES }
-    requires drawn { rgsr.old.tag < 16 }
-    requires aligned { place.user % 16 ≡ 0 }
-    requires some { 0 < place.size }
-    requires small { place.size < 2 ^ 20 }
-    requires open { IsOpen (M.memory memory.old) place.user (end_of place) }
-    ensures tag { result
-        ≡ (drawn rgsr.old (excluded (M.memory memory.old) place)).tag }
-    ensures rgsr { rgsr.new ≡ (drawn rgsr.old (excluded (M.memory memory.old) place)).rgsr }
-    ensures last { rgsr.new.tag ≡ result }
-    ensures below { result < 16 }
-    ensures memory { M.memory memory.new ≡ tagged (M.memory memory.old) place result }
-    ensures attrs { (q : ℕ)
-        → attrs_at (M.memory memory.new) q ≡ attrs_at (M.memory memory.old) q }
-    ensures left { pages_left (M.memory memory.new) ≡ pages_left (M.memory memory.old) }
-    ensures kept { M.kept memory.old memory.new }
-{
-    let tag = choose_tag(rgsr, memory, place);
-    set_tags(memory, place.user, granules(place.size), tag, true);
-    tag
-}

@@ -1,4 +1,5 @@
 use Rattle.std.proofs.Common.{◌≡◌, ◌∙◌, ◌-◌, ◌/◌, ◌%◌, ap, sym, refl, length, arith}
+use Rattle.std.specs.Int.{from_le_bytes, w64}
 use Rattle.a64_bits.specs.Addresses.{plain}
 use Rattle.mte_tags.specs.Memory.{page_has, attrs_at, attrs_in, has_in, has, page_at}
 use Rattle.mte_tags.specs.Accesses.{read_bytes, bytes_at, addresses}
@@ -14,14 +15,15 @@ returns-clause-has g c =
     ∙ sym c.contains.ensures
     ∙ c.if-not-contains.false
 
-pub returns-clause-bytes : goal.returns-clause-bytes
+pub returns-clause-word : goal.returns-clause-word
 unfolding read_bytes
-returns-clause-bytes g c =
+returns-clause-word g c =
     let m = g.S.PageStore.memory c.args.store.now in
     let start = c.args.user - 16 in
     let low : start ≡ plain start = omega (arith, c.requires.plain) in
-    page_read m _ start 8 8 c.copy_out.new.buffer c.in_ok-place.ensures.page (omega (arith, c.requires.aligned, c.requires.above)) (omega (arith, c.requires.plain)) c.copy_out.auto.buffer refl c.copy_out.ensures.bytes
-    ∙ ap (λ a. bytes_at m (addresses a 8)) low
+    c.from_le_bytes.ensures
+    ∙ ap (from_le_bytes w64) (page_read m _ start 8 8 c.copy_out.new.buffer c.in_ok-place.ensures.page (omega (arith, c.requires.aligned, c.requires.above)) (omega (arith, c.requires.plain)) c.copy_out.auto.buffer refl c.copy_out.ensures.bytes
+    ∙ ap (λ a. bytes_at m (addresses a 8)) low)
 
 pub returns-clause-tag : goal.returns-clause-tag
 returns-clause-tag g c =

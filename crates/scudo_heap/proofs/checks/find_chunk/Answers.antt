@@ -1,34 +1,44 @@
-use Rattle.std.proofs.Common.{ap, ◌∙◌, sym, Some, None}
+use Rattle.std.proofs.Common.{◌<◌, ◌^◌, ap, ◌∙◌, sym, subst, Option, Some, None}
+use Rattle.std.specs.Option.{IfSome}
+use Rattle.scudo_header.specs.Headers.{unpacked}
+use Rattle.scudo_header.specs.declared.headers.Header.{Header}
 use Rattle.scudo_heap.specs.Heaps.{heap_of}
 use Rattle.scudo_heap.specs.Checks.{header_at}
-use Rattle.scudo_heap.proofs.CheckLemmas.{found-misaligned, found-unmapped, found-header, found-state, found-chunk}
+use Rattle.scudo_heap.proofs.CheckLemmas.{unpacked-small, found-misaligned, found-unmapped, found-header, found-state, found-chunk}
 use Rattle.scudo_heap.proofs.checks.find_chunk.Goals as goal
 
 pub returns-then-user-ne0-clause-answer : goal.returns-then-user-ne0-clause-answer
 returns-then-user-ne0-clause-answer g c = found-misaligned _ _ _ c.if-user-ne0.true
 
-pub returns-then-not-has_granule-clause-answer : goal.returns-then-not-has_granule-clause-answer
-returns-then-not-has_granule-clause-answer g c = found-unmapped _ _ _ c.if-user-ne0.false (sym c.has_granule.ensures.answer ∙ c.if-not-has_granule.true)
-
 pub returns-in_default-clause-answer : goal.returns-in_default-clause-answer
-returns-in_default-clause-answer g c =
-    let m = g.M.Tagged.memory c.args.memory.now in
-    found-header m (heap_of c.args.cookie c.args.stacks.now c.args.maps.now) c.args.user None c.if-user-ne0.false (sym c.has_granule.ensures.answer ∙ c.if-not-has_granule.false)
-    (sym c.in_default.is ∙ c.read_header.ensures.header ∙ ap (λ t. header_at t c.args.cookie c.args.user) c.has_granule.ensures.memory)
+returns-in_default-clause-answer g c = found-unmapped _ _ _ c.if-user-ne0.false (sym c.in_default.ensures.some)
+
+pub returns-in_default-unpack-clause-answer : goal.returns-in_default-unpack-clause-answer
+unfolding header_at
+returns-in_default-unpack-clause-answer g c =
+    found-header (g.M.Tagged.memory c.args.memory.now) (heap_of c.args.cookie c.args.stacks.now c.args.maps.now) c.args.user None c.if-user-ne0.false (sym c.in-Some.ensures.some)
+    (sym c.in_default-unpack.is ∙ c.unpack.ensures.header ∙ ap (unpacked c.args.cookie c.args.user) c.in-Some.ensures.word)
 
 pub returns-then-not-is_handed_out-clause-answer : goal.returns-then-not-is_handed_out-clause-answer
+unfolding header_at
 returns-then-not-is_handed_out-clause-answer g c =
     let m = g.M.Tagged.memory c.args.memory.now in
     let h = heap_of c.args.cookie c.args.stacks.now c.args.maps.now in
-    found-state h c.args.user c.in-Some.header (sym c.is_handed_out.ensures ∙ c.if-not-is_handed_out.true)
-    ∙ found-header m h c.args.user (Some c.in-Some.header) c.if-user-ne0.false (sym c.has_granule.ensures.answer ∙ c.if-not-has_granule.false)
-    (c.in-Some.ensures.header ∙ ap (λ t. header_at t c.args.cookie c.args.user) c.has_granule.ensures.memory)
+    found-state h c.args.user c.in-Some-unpack.header (sym c.is_handed_out.ensures ∙ c.if-not-is_handed_out.true)
+    ∙ found-header m h c.args.user (Some c.in-Some-unpack.header) c.if-user-ne0.false (sym c.in-Some.ensures.some)
+    (sym c.in-Some-unpack.is ∙ c.unpack.ensures.header ∙ ap (unpacked c.args.cookie c.args.user) c.in-Some.ensures.word)
 
 pub returns-clause-answer : goal.returns-clause-answer
+unfolding header_at
 returns-clause-answer g c =
     let m = g.M.Tagged.memory c.args.memory.now in
     let h = heap_of c.args.cookie c.args.stacks.now c.args.maps.now in
     c.by_header.ensures.found
-    ∙ found-chunk h c.args.user c.in-Some.header (sym c.is_handed_out.ensures ∙ c.if-not-is_handed_out.false)
-    ∙ found-header m h c.args.user (Some c.in-Some.header) c.if-user-ne0.false (sym c.has_granule.ensures.answer ∙ c.if-not-has_granule.false)
-    (c.in-Some.ensures.header ∙ ap (λ t. header_at t c.args.cookie c.args.user) c.has_granule.ensures.memory)
+    ∙ found-chunk h c.args.user c.in-Some-unpack.header (sym c.is_handed_out.ensures ∙ c.if-not-is_handed_out.false)
+    ∙ found-header m h c.args.user (Some c.in-Some-unpack.header) c.if-user-ne0.false (sym c.in-Some.ensures.some)
+    (sym c.in-Some-unpack.is ∙ c.unpack.ensures.header ∙ ap (unpacked c.args.cookie c.args.user) c.in-Some.ensures.word)
+
+pub by_header-requires-clause-size : goal.by_header-requires-clause-size
+by_header-requires-clause-size g c =
+    subst (λ (o : Option Header). IfSome o (λ h. h.size_or_unused_bytes < 2 ^ 20)) (sym c.unpack.ensures.header ∙ c.in-Some-unpack.is)
+    (unpacked-small c.args.cookie c.args.user c.in-Some.word)
