@@ -23,6 +23,9 @@ pub enum Call {
     Write(u64, u64, bool),
     LoadTag(u64),
     StoreTags(u64, u64, u8),
+    ReadChunk(u64),
+    /// Two granules of a chunk, with tag 0 on the one before them, and a word there.
+    WriteChunk(u64, u8, u64),
     Fetch(u64),
     /// Whether an access whose tag differs was let pass.
     Pending,
@@ -32,8 +35,10 @@ pub enum Call {
 #[derive(Clone, Copy, PartialEq, Eq)]
 pub enum Answer {
     Number(u64),
+    /// The word before a chunk, and the chunk's tag.
+    Chunk(u64, u8),
     Refused(MemFault),
-    /// A tenant has too few frames for its pages.
+    /// A tenant has too few frames for its pages, or no one page holds a chunk.
     NoRoom,
 }
 
@@ -104,6 +109,24 @@ fn write<M: Tagged>(memory: &mut M, at: u64, value: u64, check: bool) -> Result<
     Ok(0)
 }
 
+/// A call with one look-up of a page.
+fn chunk<M: Tagged>(memory: &mut M, call: Call) -> Answer
+    ensures { M.kept memory.old memory.new }
+{
+    match call {
+        Call::WriteChunk(at, tag, word) => {
+            let user = 16 + at % 0x4000_0000 / 16 * 16;
+            let made = memory.write_chunk(user, 3, 2, tag % 16, &word.to_le_bytes());
+            Answer::Number(u64::from(made))
+        }
+        Call::ReadChunk(at) => match memory.read_chunk(16 + at % 0x4000_0000 / 16 * 16) {
+            Some((word, tag)) => Answer::Chunk(word, tag),
+            None => Answer::NoRoom,
+        },
+        _ => Answer::NoRoom,
+    }
+}
+
 /// A call that maps no page.
 fn access<M: Tagged>(memory: &mut M, call: Call) -> Result<u64, MemFault>
     ensures { M.kept memory.old memory.new }
@@ -134,6 +157,7 @@ pub fn reply<M: Paged>(memory: &mut M, call: Call) -> Answer
             Answer::Number(u64::from(holds(memory, page % 0x4_0000 * 4096, value, tag)))
         }
         Call::PagesLeft => Answer::Number(memory.pages_left() as u64),
+        Call::ReadChunk(_) | Call::WriteChunk(..) => chunk(memory, call),
         _ => of_number(access(memory, call)),
     }
 }
@@ -191,7 +215,7 @@ fn call_of(draw: u64) -> Call {
     let tag = (draw >> 16) % 4;
     let at = (tag << 56) + page * 4096 + (draw >> 20) % 4096;
     let near = (tag << 56) + page * 4096 + 4088 + (draw >> 20) % 8;
-    match draw % 16 {
+    match draw % 18 {
         0..3 => Call::Turn(page),
         3..6 => Call::Read(at, draw & 0x80 == 0),
         6..8 => Call::Read(near, true),
@@ -200,6 +224,8 @@ fn call_of(draw: u64) -> Call {
         11..13 => Call::StoreTags(page * 4096 + at % 256 * 16, (draw >> 40) % 8, tag as u8),
         13 => Call::LoadTag(at),
         14 => Call::Fetch(at & !3),
+        15 => Call::ReadChunk(at),
+        16 => Call::WriteChunk(page * 4096 + at % 4096, tag as u8, draw),
         _ => Call::PagesLeft,
     }
 }

@@ -11,7 +11,7 @@ use mte_arena::Arena;
 use mte_flat::Flat;
 use mte_frames::{FramePool, Quota};
 use mte_space::{Space, other_tenants_stay, pages_of_a_space, written_frames_are_pages};
-use mte_tags::{Attrs, FaultKind, MemFault, TagMode, TagState};
+use mte_tags::{Attrs, FaultKind, MemFault, PageStore, TagMode, TagState};
 use mte_translate::{Table, Tlb, tables_stay};
 use std::alloc::{AllocError, Global};
 use std::test::Fail;
@@ -313,6 +313,44 @@ fn tenants_answer(pool: &mut FramePool, rows: &[Row]) -> bool {
     };
     let mut tlb = Tlb::new();
     answer_all(pool, &mut t, &mut q, &mut u, &mut r, &mut tlb, rows)
+}
+
+/// Whether a page that a memory maps is written and read in its place, and the flag is set.
+fn works_in_place<S: PageStore>(store: &mut S) -> bool {
+    let Some(place) = store.find(PAGE) else {
+        return false;
+    };
+    store.retag(place, 3, 2, 9, true);
+    store.replace_run(place, 62, &[1, 2, 3]);
+    let tags = [2, 3, 4, 5].map(|granule| store.granule_tag(place, granule));
+    let is_written = tags == [0, 9, 9, 0] && store.bytes(place)[60..66] == [0, 0, 1, 2, 3, 0];
+    let is_data = store.attrs(place) == Attrs::DATA;
+    store.set_pending();
+    let state = store.tag_state();
+    let is_apart = store.find_code(PAGE).is_some() && store.find_code(PAGE + 1).is_none();
+    is_written && is_data && is_apart && state.pending && state.mode == TagMode::Sync
+}
+
+fn place_is_written(pool: &mut FramePool) -> bool {
+    let Some((mut quota, _)) = two_quotas(pool) else {
+        return false;
+    };
+    let Some(mut table) = new_table(pool, &mut quota) else {
+        return false;
+    };
+    if !has_room(pool, &table, &quota) {
+        return false;
+    }
+    let (mut tlb, mut state) = (Tlb::new(), SYNC);
+    let mut memory = Space::new(pool, &mut table, &mut quota, &mut tlb, &mut state, 1, PAGES);
+    reply(&mut memory, Call::Turn(PAGE)) == Answer::Number(1) && works_in_place(&mut memory)
+}
+
+#[test]
+fn place_of_a_page(rt: HostRuntime) -> Result<(), Fail> {
+    let mut pool = pool_of(rt.alloc(), 22)?;
+    assert!(rt; place_is_written(&mut pool));
+    Ok(())
 }
 
 /// Two tenants over one pool: the worked calls, and then each answers as a plain memory does, while

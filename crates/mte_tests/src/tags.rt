@@ -5,7 +5,7 @@ ghost use Rattle.std.specs.Prelude.{◌≡◌, ◌+◌, ◌<◌, None};
 use crate::calls::{Answer, Call, answers, flat_answers};
 use mte_flat::Flat;
 use mte_tags::{
-    Attrs, FaultKind, MemFault, PageStore, Paged, Rgsr, TagMode, Tagged, choose_non_excluded,
+    Attrs, FaultKind, MemFault, Paged, Rgsr, TagMode, Tagged, choose_non_excluded,
     flag_stays_in_sync, mode_stays, no_tag_check_in_async, pages_after_calls, tag_of, with_tag,
 };
 use std::test::Fail;
@@ -102,9 +102,32 @@ const MAPPED_AGAIN: [(Call, Answer); 13] = [
     (Call::Read(0x10FFC, true), Answer::Number(0)),
 ];
 
+/// A chunk of two granules at 0x10020, and one that would begin the next page.
+const OF_A_CHUNK: [(Call, Answer); 12] = [
+    (Call::Turn(16), Answer::Number(1)),
+    (Call::Turn(17), Answer::Number(1)),
+    (Call::Fill(16, 0xFF, 7), Answer::Number(1)),
+    (
+        Call::WriteChunk(0x10010, 5, 0x0807_0605_0403_0201),
+        Answer::Number(1),
+    ),
+    (Call::LoadTag(0x10000), Answer::Number(7)),
+    (Call::LoadTag(0x10010), Answer::Number(0)),
+    (Call::LoadTag(0x10030), Answer::Number(5)),
+    (Call::LoadTag(0x10040), Answer::Number(7)),
+    (Call::Read(0x0500_0000_0001_0038, true), Answer::Number(0)),
+    (
+        Call::ReadChunk(0x10010),
+        Answer::Chunk(0x0807_0605_0403_0201, 5),
+    ),
+    (Call::WriteChunk(0x10FF0, 5, 1), Answer::Number(0)),
+    (Call::ReadChunk(0x10FF0), Answer::NoRoom),
+];
+
 #[test]
 fn calls_of_a_plain_memory(rt: HostRuntime) {
     assert!(rt; flat_answers(rt.alloc(), 4, &OVER_TWO_GRANULES));
+    assert!(rt; flat_answers(rt.alloc(), 2, &OF_A_CHUNK));
     assert!(rt; flat_answers(rt.alloc(), 2, &MAPPED_AGAIN));
 }
 
@@ -137,22 +160,16 @@ fn asynchronous_accesses(rt: HostRuntime) -> Result<(), Fail> {
     memory.map_pages(0x3FFFE, 1, Attrs::DATA)?;
     memory.map_pages(0x3FFFF, 1, Attrs::READ)?;
     let answered = answers(&mut memory, &ASYNCHRONOUS);
-    let state = memory.tag_state();
-    assert!(rt; answered && state.mode == TagMode::Async && state.pending);
+    assert!(rt; answered && memory.pending());
     Ok(())
 }
 
-/// The host may set the flag itself.
 #[test]
-fn flag_set_by_hand(rt: HostRuntime) -> Result<(), Fail> {
-    let mut memory = Flat::new(rt.alloc(), 1, TagMode::Sync)?;
-    memory.set_pending();
-    assert!(rt; memory.pending());
+fn laws() {
     flag_stays_in_sync();
     no_tag_check_in_async();
     mode_stays();
     pages_after_calls();
-    Ok(())
 }
 
 /// What a memory whose only page holds instructions answers.
