@@ -322,8 +322,11 @@ fn works_in_place<S: PageStore>(store: &mut S) -> bool {
     };
     store.retag(place, 3, 2, 9, true);
     store.replace_run(place, 62, &[1, 2, 3]);
-    let tags = [2, 3, 4, 5].map(|granule| store.granule_tag(place, granule));
-    let is_written = tags == [0, 9, 9, 0] && store.bytes(place)[60..66] == [0, 0, 1, 2, 3, 0];
+    let before = (store.granule_tag(place, 2), store.granule_tag(place, 3));
+    let after = (store.granule_tag(place, 4), store.granule_tag(place, 5));
+    let is_written = before == (0, 9)
+        && after == (9, 0)
+        && store.bytes(place)[60..66] == [0, 0, 1, 2, 3, 0];
     let is_data = store.attrs(place) == Attrs::DATA;
     store.set_pending();
     let state = store.tag_state();
