@@ -7,7 +7,7 @@ ghost use Rattle.mte_arena.specs.Frames.{with_run};
 pub(crate) fn half_of(byte: u8, g: usize) -> u8
     ensures { result ≡ half byte g }
 {
-    if g % 2 == 0 { byte % 16 } else { byte / 16 }
+    (byte >> (4 * (g % 2))) % 16
 }
 
 /// The byte with another tag for the granule `g`.
