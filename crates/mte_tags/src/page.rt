@@ -33,7 +33,8 @@ pub(crate) fn run_fault<S: PageStore>(
     requires some { 0 < count }
     requires inside { at % 4096 + count ≤ 4096 }
     requires plain { at < 2 ^ 56 }
-    ensures { result ≡ first_in access.now (Some (S.page_in store.now place)) (range_with_len at count) }
+    ensures { result
+        ≡ first_in access.now (Some (S.page_in store.now place)) (range_with_len at count) }
 {
     let attrs = store.attrs(place);
     if attrs.0 & access.need != access.need {
@@ -116,7 +117,8 @@ fn tag_fault<S: PageStore>(
     requires plain { at < 2 ^ 56 }
     requires permitted { has (S.page_in store.now place).attrs access.now.need ≡ true }
     requires checked { (access.now.checked && has (S.page_in store.now place).attrs 8) ≡ true }
-    ensures { result ≡ first_in access.now (Some (S.page_in store.now place)) (range_with_len at count) }
+    ensures { result
+        ≡ first_in access.now (Some (S.page_in store.now place)) (range_with_len at count) }
 {
     let mut address = at;
     let mut left = count;
