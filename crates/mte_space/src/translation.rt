@@ -36,9 +36,9 @@ pub(crate) fn translate(
     walk_and_fill(pool, table, tlb, asid, page)
 }
 
-/// Sees to it that the page is the remembered one, and says whether it is mapped. (A pair of results
-/// from a function out of line would go through memory, on the quick way too; so the caller reads
-/// what is remembered.)
+/// Sees to it that the page is the remembered one, and says whether it is mapped. (A pair of
+/// results from a function out of line would go through memory, on the quick way too; so the caller
+/// reads what is remembered.)
 #[inline(always)]
 pub(crate) fn remember(
     remembered: &mut RememberedPage,

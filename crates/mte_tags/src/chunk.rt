@@ -13,8 +13,8 @@ use crate::page_store::PageStore;
 /// The granules of a page.
 const GRANULES: u64 = 256;
 
-/// The first eight bytes of the granule before an address, as a number, and the tag of the granule at it, where
-/// one page with READ and WRITE holds both.
+/// The first eight bytes of the granule before an address, as a number, and the tag of the granule
+/// at it, where one page with READ and WRITE holds both.
 #[inline(always)]
 pub(crate) fn read_chunk_in_page<S: PageStore>(store: &mut S, user: u64) -> Option<(u64, u8)>
     requires aligned { user % 16 ≡ 0 }

@@ -63,7 +63,8 @@ pub(crate) fn run_passes<S: PageStore>(
     requires inside { at % 4096 + count ≤ 4096 }
     requires plain { at < 2 ^ 56 }
     ensures { result
-        ≡ is_none (first_in access.now (Some (S.page_in store.now place)) (range_with_len at count)) }
+        ≡ is_none
+        (first_in access.now (Some (S.page_in store.now place)) (range_with_len at count)) }
 {
     let attrs = store.attrs(place);
     let permitted = attrs.0 & access.need == access.need;
@@ -97,7 +98,8 @@ fn tags_pass<S: PageStore>(store: &S, place: usize, at: u64, count: usize, acces
     requires permitted { has (S.page_in store.now place).attrs access.now.need ≡ true }
     requires checked { (access.now.checked && has (S.page_in store.now place).attrs 8) ≡ true }
     ensures { result
-        ≡ is_none (first_in access.now (Some (S.page_in store.now place)) (range_with_len at count)) }
+        ≡ is_none
+        (first_in access.now (Some (S.page_in store.now place)) (range_with_len at count)) }
 {
     tag_fault(store, place, at, count, access).is_none()
 }
@@ -141,7 +143,8 @@ pub(crate) fn copy_out<S: PageStore>(store: &S, place: usize, at: u64, buffer: &
     requires inside { at % 4096 + length buffer.old ≤ 4096 }
     ensures long { length (S.page_in store.now place).bytes ≡ 4096 }
     ensures bytes { buffer.new
-        ≡ slice_range (S.page_in store.now place).bytes (at % 4096) (at % 4096 + length buffer.old) }
+        ≡ slice_range (S.page_in store.now place).bytes
+        (at % 4096) (at % 4096 + length buffer.old) }
 {
     let from = (at % 4096) as usize;
     let bytes = store.bytes(place);

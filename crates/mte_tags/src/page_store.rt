@@ -90,8 +90,8 @@ pub trait PageStore {
             ≡ with_bytes_in (page_in self.old place) (at % 4096) bytes.now }
         ensures kept { kept self.old self.new };
 
-    /// Replaces the tags of `count` granules from granule `first` on of the page that a place holds,
-    /// and makes their bytes zero where `zero` is set.
+    /// Replaces the tags of `count` granules from granule `first` on of the page that a place
+    /// holds, and makes their bytes zero where `zero` is set.
     fn retag(&mut self, place: usize, first: usize, count: usize, tag: u8, zero: bool)
         requires place { is_place self.old place }
         requires inside { first + count ≤ 256 }

@@ -84,8 +84,8 @@ pub trait Tagged {
         ensures kept { kept self.old self.new };
 
     /// What a heap reads of a chunk in one look-up: the first eight bytes of the granule before an
-    /// address, the lowest first, and the tag of the granule at it. `None` where no page with READ and WRITE holds
-    /// both, or where it would take a second look-up.
+    /// address, the lowest first, and the tag of the granule at it. `None` where no page with READ
+    /// and WRITE holds both, or where it would take a second look-up.
     fn read_chunk(&mut self, user: u64) -> Option<(u64, u8)>
         requires aligned { user % 16 ≡ 0 }
         requires above { 16 ≤ user }

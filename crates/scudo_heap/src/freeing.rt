@@ -22,8 +22,8 @@ use mte_tags::{Paged, Rgsr, Tagged};
 use scudo_header::{Header, State, pack};
 use scudo_secondary::{Mapping, Maps};
 
-/// Gives the granules of a chunk a tag and zero bytes, and writes its header, with one look-up where
-/// one page holds all of it.
+/// Gives the granules of a chunk a tag and zero bytes, and writes its header, with one look-up
+/// where one page holds all of it.
 #[tactic(auto, unfolding(crate::specs::Chunks::tagged))]
 #[inline(always)]
 fn write_freed<M: Paged>(memory: &mut M, cookie: u32, place: Place, tag: u8, header: &Header)
