@@ -1,7 +1,7 @@
 -- What a write to a page does to the frame that holds it.
 use Rattle.std.specs.Prelude.{ℕ, ◌+◌, ◌*◌, Bool, ◌++◌, take, drop, replicate, slice_set}
 use Rattle.std.specs.Prelude.{Some, if◌then◌else◌}
-use Rattle.mte_arena.specs.Frames.{Frame, make_frame, frame_at, with_run}
+use Rattle.mte_arena.specs.Frames.{Frame, make_frame, with_run}
 use Rattle.mte_frames.specs.Pool.{Pool, make_pool}
 
 -- p with x as the frame f

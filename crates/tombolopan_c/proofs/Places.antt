@@ -8,10 +8,8 @@ use Rattle.mte_tags.specs.Memory.{Page, page_at}
 use Rattle.mte_tags.specs.declared.state.TagState.{TagState}
 use Rattle.mte_tags.proofs.Pages.{tied_same, tied_other}
 use Rattle.tombolopan_c.specs.LentPages.{page_of, is_place_of, entries_of, lent_memory, has_room, NoneBefore, HasNone, IsFirst, IsFree}
+use Rattle.tombolopan_c.specs.LentPlaces.{no_page}
 use Rattle.tombolopan_c.specs.declared.lent_page.LentPage.{LentPage}
-
-abbrev pub any_page : LentPage
-any_page = record { number = 0; mapped = 0; attrs = 0; bytes = []; tags = [] }
 
 -- a place of a page is in use and has its number
 pub used : (p : LentPage) (q : ℕ) → is_place_of p q ≡ true → (p.mapped == 0) ≡ false
@@ -99,4 +97,4 @@ no_room (p ∷ more) h = or_from _ _ (ne_eqb p.mapped 0 (h 0 p (omega arith))) (
 -- what a search for a page's first place found
 pub found_place : (s : TagState) (pages : List LentPage) (q : ℕ) (o : Option ℕ) → IfSome o (λ i. IsFirst pages i q) → (IsNone o → HasNone pages q) → is_some o ≡ is_some (page_at (lent_memory s pages) q)
 found_place s pages q None a b = sym (ap is_some (page_at-none s pages q (b refl)))
-found_place s pages q (Some i) a b = sym (ap is_some (page_at-first s pages i q any_page a))
+found_place s pages q (Some i) a b = sym (ap is_some (page_at-first s pages i q no_page a))

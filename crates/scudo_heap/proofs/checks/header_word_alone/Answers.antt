@@ -1,4 +1,4 @@
-use Rattle.std.proofs.Common.{◌≡◌, ◌∙◌, ◌-◌, ◌/◌, ◌%◌, ◌^◌, is_ok, ap, sym, arith, true}
+use Rattle.std.proofs.Common.{◌≡◌, ◌∙◌, ◌-◌, ◌/◌, is_ok, ap, sym, arith, true}
 use Rattle.std.proofs.lemmas.Bool.{cond-true}
 use Rattle.std.specs.Int.{from_le_bytes, w64}
 use Rattle.a64_bits.specs.Addresses.{plain}

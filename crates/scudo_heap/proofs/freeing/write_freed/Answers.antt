@@ -1,4 +1,4 @@
-use Rattle.std.proofs.Common.{◌-◌, true, false, ap, ◌∙◌}
+use Rattle.std.proofs.Common.{◌-◌, true, ap, ◌∙◌}
 use Rattle.std.specs.Int.{to_le_bytes, w64}
 use Rattle.mte_tags.specs.Memory.{attrs_at, pages_left, with_granules}
 use Rattle.mte_tags.specs.Accesses.{written}
