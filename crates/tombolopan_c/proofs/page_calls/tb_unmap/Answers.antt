@@ -1,7 +1,7 @@
 use Rattle.std.proofs.Common.{◌≡◌, ◌<◌, ◌∙◌, length, length-set, get_or, set, sym, refl, arith}
 use Rattle.std.proofs.lemmas.List.{set-get_or}
 use Rattle.tombolopan_c.specs.LentPages.{is_place_of}
-use Rattle.tombolopan_c.proofs.Places.{any_page}
+use Rattle.tombolopan_c.specs.LentPlaces.{no_page}
 use Rattle.tombolopan_c.proofs.Changes.{lent_freed, freed_none, kept_none, freed_others}
 use Rattle.tombolopan_c.proofs.page_calls.tb_unmap.Goals as goal
 use Rattle.tombolopan_c.proofs.page_calls.tb_unmap.Goals.{then-is_of, else-is_of}
@@ -13,12 +13,12 @@ loop-page-preserved c =
     let q = c.args.number in
     let at : i < length pages = omega (arith, c.loop-page-test.true) in
     let inv = c.loop-page.invariant in
-    let is : c.is_of.result ≡ is_place_of (get_or pages i any_page) q = c.is_of.ensures in
-    let same : set pages i (get_or pages i any_page) ≡ pages = set-get_or pages i any_page in
+    let is : c.is_of.result ≡ is_place_of (get_or pages i no_page) q = c.is_of.ensures in
+    let same : set pages i (get_or pages i no_page) ≡ pages = set-get_or pages i no_page in
     elim c.if-is_of.branch [
       | then-is_of w ↦
-          rw w.pages-is (length-set pages i _ ∙ inv.0, freed_none pages i q _ at inv.1 refl, freed_others pages c.args.pages.now i q any_page _ at inv.2 (sym is ∙ w.if-is_of.true) refl)
-      | else-is_of w ↦ rw (w.pages-is ∙ same) (inv.0, kept_none pages i q any_page at inv.1 (sym is ∙ w.if-is_of.false), inv.2)
+          rw w.pages-is (length-set pages i _ ∙ inv.0, freed_none pages i q _ at inv.1 refl, freed_others pages c.args.pages.now i q no_page _ at inv.2 (sym is ∙ w.if-is_of.true) refl)
+      | else-is_of w ↦ rw (w.pages-is ∙ same) (inv.0, kept_none pages i q no_page at inv.1 (sym is ∙ w.if-is_of.false), inv.2)
     ]
 
 pub returns-clause-memory : goal.returns-clause-memory
