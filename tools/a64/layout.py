@@ -75,8 +75,13 @@ def any_row(row):
 
 def row_value(row):
     """The row with its fields, in a definition."""
-    text = " ".join([f"instr.{row.name}", *(f.name for f in row.fields)])
-    return f"({text})" if row.fields else text
+    return applied("instr", row.name, [f.name for f in row.fields])
+
+
+def applied(type_name, variant, values):
+    """A variant with the values of its fields, in a definition."""
+    text = " ".join([f"{type_name}.{variant}", *values])
+    return f"({text})" if values else text
 
 
 def form_names(form):
@@ -88,4 +93,4 @@ def form_pattern(form):
 
 
 def form_value(form):
-    return f"(op.{' '.join([form.name, *form_names(form)])})"
+    return applied("op", form.name, form_names(form))

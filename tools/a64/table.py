@@ -318,7 +318,7 @@ def parse_form(line, rows, place):
     row, given, effect = None, {}, None
     if rest.startswith("{"):
         fields, _, effect = rest[1:].partition("}")
-        kept = [tuple(part.strip() for part in f.split(":")) for f in fields.split(",")]
+        kept = [tuple(part.strip() for part in f.split(":")) for f in fields.split(",") if f]
         effect = effect.strip()
     else:
         row, *constants = rest.split()
