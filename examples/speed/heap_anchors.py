@@ -1,0 +1,293 @@
+#!/usr/bin/env python3
+"""How long a pair of malloc and free takes, beside other heaps.
+
+    heap_anchors.py [--turns N] [--work FOLDER] HOST...
+
+Each HOST is a built mte_host. The same loop runs as a tenant of each, as a Linux program on LLVM's own Scudo with
+memory tagging (FEAT_MTE) under `qemu-aarch64 -cpu max`, and on this machine's C library, in turns, N times (5). A
+figure is the best user time of a long run less that of a short one, in nanoseconds a round: the calls, and the few
+instructions of the loop. Behind it, what each HOST takes as a multiple of Scudo and of the C library.
+
+Scudo is the one of Debian's source package llvm-toolchain-14 (130 MB), which apt-get fetches from where apt's own
+configuration says; nothing is installed, and the system's own lists of packages stay as they are. FOLDER, outside
+the repository, keeps it for the next time (a temporary one). Where it can't be fetched, the rest is measured.
+The program on Scudo is refused unless its pointers have tags and a read of a freed chunk ends it.
+
+Needed (Debian): clang, lld, gcc-aarch64-linux-gnu, qemu-user, libc6-dev, tar, xz-utils.
+"""
+import argparse
+import os
+import pathlib
+import platform
+import shutil
+import signal
+import subprocess
+import sys
+import tempfile
+
+from measure import SLICE, user_time
+
+HERE = pathlib.Path(__file__).resolve().parent
+TENANTS = HERE.parent / "c"
+PACKAGE = "llvm-toolchain-14"
+PARTS = ["checksum", "common", "crc32_hw", "flags", "flags_parser", "linux", "release", "report", "string_utils"]
+TOOLS = {
+    "clang": "clang", "clang++": "clang", "ld.lld": "lld", "aarch64-linux-gnu-gcc": "gcc-aarch64-linux-gnu",
+    "qemu-aarch64": "qemu-user", "apt-get": "apt", "tar": "tar", "xz": "xz-utils",
+}
+AARCH64 = ["--target=aarch64-linux-gnu", "-O2"]
+TENANT = [*AARCH64, "-fuse-ld=lld", "-ffreestanding", "-nostdlib", "-static", "-mgeneral-regs-only"]
+SCUDO = [
+    *AARCH64, "-march=armv8.5-a+memtag", "-std=c++17", "-fno-exceptions", "-fno-rtti", "-nostdinc++", "-isystem",
+    "/usr/aarch64-linux-gnu/include",
+]
+# A call of the heap is HEAP(name): an own name for each heap, so that a compiler knows none of them.
+CALLS = {
+    "malloc(24), free": "p = HEAP(malloc)(24);",
+    "malloc(1024), free": "p = HEAP(malloc)(1024);",
+    "calloc(3, 8), free": "p = HEAP(calloc)(3, 8);",
+    "malloc(24), realloc(200), free": "p = HEAP(malloc)(24); first = (uintptr_t)p; p = HEAP(realloc)(p, 200);",
+}
+# `q` lies behind the chunk that each round takes first, so that a reallocation moves in every heap; status 3 says
+# that it did not. The empty assembly keeps the calls: it may read and write p and what it points to.
+LOOP = """
+int main(void)
+{
+    void *p = HEAP(malloc)(24), *q = HEAP(malloc)(24);
+    uintptr_t first = 0;
+    HEAP(free)(p);
+    for (unsigned long i = 0; i < ROUNDS; i++) {
+        %s
+        __asm__ volatile("" : "+r"(p), "+r"(q), "+r"(first) :: "memory");
+        HEAP(free)(p);
+    }
+    return (uintptr_t)p == first ? 3 : 0;
+}
+"""
+# Status 2: a pointer without a tag in its bits 59 to 56. With an argument, a read of a freed chunk.
+PROBE = """
+int main(int count, char **words)
+{
+    volatile char *p = HEAP(malloc)(24);
+    (void)words;
+    *p = 1;
+    if (((uintptr_t)p >> 56 & 15) == 0)
+        return 2;
+    HEAP(free)((void *)p);
+    if (count > 1)
+        (void)*p;
+    return 0;
+}
+"""
+PREAMBLES = {
+    "tenant": '#include "tenant.h"\n#define HEAP(name) tenant_##name\n',
+    "scudo": "#include <stddef.h>\n#include <stdint.h>\n#define HEAP(name) scudo_##name\n"
+    "void *scudo_malloc(size_t);\nvoid *scudo_calloc(size_t, size_t);\nvoid *scudo_realloc(void *, size_t);\n"
+    "void scudo_free(void *);\n",
+    "libc": "#include <stdint.h>\n#include <stdlib.h>\n#define HEAP(name) name\n",
+}
+# Rounds of a short and of a long run.
+ROUNDS = {"tenant": (100_000, 5_000_000), "scudo": (100_000, 3_000_000), "libc": (1_000_000, 30_000_000)}
+
+
+def leave(text):
+    print(f"heap_anchors.py: {text}", file=sys.stderr)
+    sys.exit(2)
+
+
+def run_tool(command):
+    """Runs a tool, and ends with what it says where it fails."""
+    ran = subprocess.run(command, stdout=subprocess.PIPE, stderr=subprocess.STDOUT, text=True)
+    if ran.returncode:
+        leave(f"{' '.join(map(str, command))}\n{ran.stdout}")
+
+
+def version(command):
+    return subprocess.run([command, "--version"], stdout=subprocess.PIPE, text=True).stdout.partition("\n")[0]
+
+
+def sources():
+    """The line of a list of sources for apt-get: the release's own archive, as apt's configuration has it."""
+    release = platform.freedesktop_os_release().get("VERSION_CODENAME", "")
+    form = ["--format", "$(SITE) $(RELEASE) $(COMPONENT)", "Created-By: Packages"]
+    listed = subprocess.run(["apt-get", "indextargets", *form], stdout=subprocess.PIPE, text=True).stdout
+    for line in listed.splitlines():
+        if release and line.split()[1:] == [release, "main"]:
+            return f"deb-src {line}\n"
+    return None
+
+
+def fetch(folder):
+    """The folder of Scudo's source, or None where the package is not fetched; `folder` keeps it."""
+    scudo = folder / "compiler-rt" / "lib" / "scudo" / "standalone"
+    if scudo.is_dir():
+        return scudo
+    line = sources()
+    if line is None:
+        print("heap_anchors.py: apt has no source of this release's packages", file=sys.stderr)
+        return None
+    for name in ("lists/partial", "cache/archives/partial"):
+        (folder / name).mkdir(parents=True, exist_ok=True)
+    (folder / "sources.list").write_text(line)
+    apt = [
+        "apt-get", "-qq", "-o", f"Dir::Etc::sourcelist={folder}/sources.list", "-o", "Dir::Etc::sourceparts=-",
+        "-o", f"Dir::State::lists={folder}/lists", "-o", f"Dir::Cache={folder}/cache", "-o", "APT::Sandbox::User=",
+        "-o", "Acquire::http::Timeout=30",
+    ]
+    try:
+        for words in (["update"], ["source", "--download-only", PACKAGE]):
+            subprocess.run([*apt, *words], cwd=folder, stdout=subprocess.DEVNULL, check=True, timeout=900)
+    except (subprocess.CalledProcessError, subprocess.TimeoutExpired) as error:
+        print(f"heap_anchors.py: {PACKAGE} was not fetched (apt-get needs the network): {error}", file=sys.stderr)
+        return None
+    return unpack(folder, scudo)
+
+
+def unpack(folder, scudo):
+    """Scudo alone, out of the package's archive."""
+    archives = list(folder.glob(f"{PACKAGE}_*.orig.tar.xz"))
+    if len(archives) != 1:
+        leave(f"{folder} has {len(archives)} archives of {PACKAGE}, not one")
+    with tempfile.TemporaryDirectory(dir=folder) as name:
+        run_tool(
+            ["tar", "-xf", archives[0], "-C", name, "--strip-components=1", "--wildcards", "*/compiler-rt/lib/scudo"]
+        )
+        (pathlib.Path(name) / "compiler-rt").rename(folder / "compiler-rt")
+    return scudo
+
+
+def build_scudo(scudo, work):
+    """The objects of Scudo and of our wrapper."""
+    objects = []
+    for source in [*(scudo / f"{part}.cpp" for part in PARTS), HERE / "scudo_wrap.cpp"]:
+        objects.append(work / f"{source.stem}.o")
+        run_tool(["clang++", *SCUDO, f"-I{scudo}", f"-I{scudo}/include", "-c", "-o", objects[-1], source])
+    return objects
+
+
+def build_program(kind, text, rounds, objects, out):
+    """A program over the heap of a kind: a tenant, a Linux program on Scudo's objects, one of this machine."""
+    source, flags = out.with_suffix(".c"), ["-fno-builtin", f"-DROUNDS={rounds}UL"]
+    source.write_text(PREAMBLES[kind] + text)
+    if kind == "tenant":
+        run_tool(["clang", *TENANT, *flags, f"-I{TENANTS}", "-o", out, TENANTS / "start.c", source])
+    elif kind == "scudo":
+        part = out.with_suffix(".o")
+        run_tool(["clang", *AARCH64, *flags, "-isystem", "/usr/aarch64-linux-gnu/include", "-c", "-o", part, source])
+        run_tool(["aarch64-linux-gnu-gcc", "-static", "-o", out, part, *objects, "-lpthread"])
+    else:
+        run_tool(["clang", "-O2", *flags, "-o", out, source])
+
+
+def check_tags(objects, work):
+    """Ends unless pointers of Scudo's heap have tags, and a read of a freed chunk ends a program."""
+    probe = work / "probe"
+    build_program("scudo", PROBE, 0, objects, probe)
+    command = ["qemu-aarch64", "-cpu", "max", probe]
+    sound = subprocess.run(command).returncode
+    freed = subprocess.run([*command, "freed"], stderr=subprocess.DEVNULL).returncode
+    if sound == 2:
+        leave("Scudo's pointers have no tags: this QEMU has no memory tagging, or Scudo was built without it")
+    if sound or freed != -signal.SIGSEGV:
+        leave(f"Scudo's program does not check tags: status {sound} where it is sound, {freed} where it reads a "
+              "freed chunk")
+
+
+def run_command(kind, name, program, rounds, work):
+    """The command that runs a program of a kind, a tenant in the host of that name."""
+    if kind == "libc":
+        return [program]
+    if kind == "scudo":
+        return ["qemu-aarch64", "-cpu", "max", program]
+    session = work / f"script.{rounds}"
+    admit = "admit 1 image 1 input 0 seed 0000000000000001 frames 300 out 16\n"
+    session.write_text(admit + f"slice 1 {SLICE}\n" * (rounds * 20 // SLICE + 1))
+    return [name, "--frames", "601", session, program]
+
+
+def check_run(kind, command):
+    """Ends unless the program comes to its end with status 0."""
+    ran = subprocess.run(command, stdout=subprocess.PIPE, text=True)
+    if ran.returncode or kind == "tenant" and "\nstatus exit 0\n" not in ran.stdout:
+        leave(f"{' '.join(map(str, command))}: status {ran.returncode}\n{ran.stdout}")
+
+
+def prepare(text, subjects, objects, work):
+    """The command of each subject, which is a kind and a name (of a tenant its host), and number of rounds."""
+    for kind in {kind for kind, _ in subjects}:
+        for rounds in ROUNDS[kind]:
+            build_program(kind, text, rounds, objects, work / f"{kind}.{rounds}")
+    commands = {}
+    for kind, name in subjects:
+        for rounds in ROUNDS[kind]:
+            commands[kind, name, rounds] = run_command(kind, name, work / f"{kind}.{rounds}", rounds, work)
+            check_run(kind, commands[kind, name, rounds])
+    return commands
+
+
+def measure(commands, subjects, turns):
+    """Nanoseconds a round of each subject."""
+    best = dict.fromkeys(commands, float("inf"))
+    for _ in range(turns):
+        for run, command in commands.items():
+            best[run] = min(user_time(command, 1), best[run])
+    figures = {}
+    for kind, name in subjects:
+        few, many = ROUNDS[kind]
+        figures[kind, name] = (best[kind, name, many] - best[kind, name, few]) / (many - few)
+    return figures
+
+
+def show(call, figures):
+    """A line of a call's figures, and one for each host of what it takes as a multiple of each other heap."""
+    print(f"{call:32}" + "  ".join(f"{name}: {each:.1f} ns" for (_, name), each in figures.items()), flush=True)
+    others = {name: each for (kind, name), each in figures.items() if kind != "tenant"}
+    for (kind, host), each in figures.items():
+        if kind == "tenant":
+            multiples = (f"{host} / {name}: {each / other:.2f}" for name, other in others.items())
+            print(" " * 32 + "  ".join(multiples), flush=True)
+
+
+def arguments():
+    parser = argparse.ArgumentParser(description=__doc__, formatter_class=argparse.RawDescriptionHelpFormatter)
+    parser.add_argument("--turns", type=int, default=5)
+    parser.add_argument("--work", metavar="FOLDER", type=pathlib.Path)
+    parser.add_argument("hosts", metavar="HOST", nargs="+")
+    options = parser.parse_args()
+    for tool, package in TOOLS.items():
+        if not shutil.which(tool):
+            leave(f"{tool} is not there (Debian: {package})")
+    for host in options.hosts:
+        if not os.access(host, os.X_OK):
+            leave(f"{host} is not there: build it by rt run in crates/mte_host")
+    if options.work and HERE.parents[1] in [folder := options.work.resolve(), *folder.parents]:
+        leave(f"{options.work} lies in the repository")
+    return options
+
+
+def main():
+    options = arguments()
+    for name in ("SCUDO_OPTIONS", "GLIBC_TUNABLES", "LD_PRELOAD"):
+        os.environ.pop(name, None)
+    subjects = [("tenant", host) for host in options.hosts]
+    objects = []
+    with tempfile.TemporaryDirectory() as name:
+        work = pathlib.Path(name)
+        folder = (options.work or work / "source").resolve()
+        folder.mkdir(parents=True, exist_ok=True)
+        scudo = fetch(folder)
+        if scudo:
+            objects = build_scudo(scudo, work)
+            check_tags(objects, work)
+            subjects.append(("scudo", "Scudo"))
+        subjects.append(("libc", "libc"))
+        print(f"{version('clang')}; {version('qemu-aarch64')}; {' '.join(platform.libc_ver())}")
+        print(f"load {os.getloadavg()[0]:.1f} at the start")
+        for call, body in CALLS.items():
+            commands = prepare(LOOP % body, subjects, objects, work)
+            show(call, measure(commands, subjects, options.turns))
+        print(f"load {os.getloadavg()[0]:.1f} at the end")
+
+
+if __name__ == "__main__":
+    main()
