@@ -1,3 +1,4 @@
+pub mod Blocks
 pub mod Drawing
 pub mod Effects
 pub mod FixedPages

@@ -4,10 +4,12 @@
 mod add_subtract;
 mod addressing;
 mod bitfield;
+mod block;
 mod branches;
 mod conditional;
 mod conditions;
 mod data_processing;
+mod entry;
 mod execute;
 mod execute_op;
 mod kept;
