@@ -6,7 +6,7 @@
 #     zlib.sh [PROGRAM]
 # Needed: PROGRAM (crates/mte_host/out/mte_host), clang, lld, apt-get, tar, bzip2, python3 and the
 # network; without the network it says so and ends with status 0. Nothing is installed, and the
-# system's own lists of packages stay as they are.
+# system's own lists of packages stay as they are (../debian_source.py).
 set -euo pipefail
 here=$(cd "$(dirname "$0")" && pwd)
 program=$(realpath -m "${1:-$here/../../crates/mte_host/out/mte_host}")
@@ -23,19 +23,6 @@ for tool in clang ld.lld apt-get bzip2 python3; do
         exit 2
     fi
 done
-
-# The source of zlib, as this machine's release of Debian has it, in $work/zlib.
-fetch() {
-    local lists=$work/lists cache=$work/cache release
-    # shellcheck source=/dev/null
-    release=$(. /etc/os-release && echo "$VERSION_CODENAME")
-    mkdir -p "$lists/partial" "$cache/archives/partial" "$work/zlib"
-    echo "deb-src http://deb.debian.org/debian $release main" > "$work/sources.list"
-    local apt=(apt-get -qq -o "Dir::Etc::sourcelist=$work/sources.list" -o Dir::Etc::sourceparts=-
-        -o "Dir::State::lists=$lists" -o "Dir::Cache=$cache" -o APT::Sandbox::User=)
-    (cd "$work" && "${apt[@]}" update && "${apt[@]}" source --download-only zlib) \
-        > "$work/log" 2>&1 && tar -xf "$work"/zlib_*.orig.tar.* -C "$work/zlib" --strip-components 1
-}
 
 # A gzip file whose extra field has 96 bytes.
 make_input() {
@@ -65,8 +52,8 @@ run() {
     "$program" --frames 129 "$work/script" "$1" "$work/input" | tee "$work/report"
 }
 
-if ! fetch; then
-    echo "zlib.sh: the source of zlib was not fetched (apt-get needs the network); nothing was run"
+if ! "$here/../debian_source.py" "$work" zlib > "$work/log" 2>&1; then
+    echo "zlib.sh: the source of zlib was not fetched; nothing was run: $(tail -n 1 "$work/log")"
     exit 0
 fi
 make_input

@@ -19,28 +19,16 @@ import argparse
 import os
 import pathlib
 import platform
-import shutil
-import signal
 import subprocess
-import sys
 import tempfile
 
-from measure import SLICE, user_time
+import scudo
+from commands import SLICE, leave, need_hosts, need_tools, run_tool, user_time, version
 
 HERE = pathlib.Path(__file__).resolve().parent
 TENANTS = HERE.parent / "c"
-PACKAGE = "llvm-toolchain-14"
-PARTS = ["checksum", "common", "crc32_hw", "flags", "flags_parser", "linux", "release", "report", "string_utils"]
-TOOLS = {
-    "clang": "clang", "clang++": "clang", "ld.lld": "lld", "aarch64-linux-gnu-gcc": "gcc-aarch64-linux-gnu",
-    "qemu-aarch64": "qemu-user", "apt-get": "apt", "tar": "tar", "xz": "xz-utils",
-}
-AARCH64 = ["--target=aarch64-linux-gnu", "-O2"]
-TENANT = [*AARCH64, "-fuse-ld=lld", "-ffreestanding", "-nostdlib", "-static", "-mgeneral-regs-only"]
-SCUDO = [
-    *AARCH64, "-march=armv8.5-a+memtag", "-std=c++17", "-fno-exceptions", "-fno-rtti", "-nostdinc++", "-isystem",
-    "/usr/aarch64-linux-gnu/include",
-]
+TOOLS = {**scudo.TOOLS, "ld.lld": "lld"}
+TENANT = [*scudo.AARCH64, "-fuse-ld=lld", "-ffreestanding", "-nostdlib", "-static", "-mgeneral-regs-only"]
 # A call of the heap is HEAP(name): an own name for each heap, so that a compiler knows none of them.
 CALLS = {
     "malloc(24), free": "p = HEAP(malloc)(24);",
@@ -64,105 +52,13 @@ int main(void)
     return (uintptr_t)p == first ? 3 : 0;
 }
 """
-# Status 2: a pointer without a tag in its bits 59 to 56. With an argument, a read of a freed chunk.
-PROBE = """
-int main(int count, char **words)
-{
-    volatile char *p = HEAP(malloc)(24);
-    (void)words;
-    *p = 1;
-    if (((uintptr_t)p >> 56 & 15) == 0)
-        return 2;
-    HEAP(free)((void *)p);
-    if (count > 1)
-        (void)*p;
-    return 0;
-}
-"""
 PREAMBLES = {
     "tenant": '#include "tenant.h"\n#define HEAP(name) tenant_##name\n',
-    "scudo": "#include <stddef.h>\n#include <stdint.h>\n#define HEAP(name) scudo_##name\n"
-    "void *scudo_malloc(size_t);\nvoid *scudo_calloc(size_t, size_t);\nvoid *scudo_realloc(void *, size_t);\n"
-    "void scudo_free(void *);\n",
+    "scudo": scudo.DECLARATIONS + "#define HEAP(name) scudo_##name\n",
     "libc": "#include <stdint.h>\n#include <stdlib.h>\n#define HEAP(name) name\n",
 }
 # Rounds of a short and of a long run.
 ROUNDS = {"tenant": (100_000, 5_000_000), "scudo": (100_000, 3_000_000), "libc": (1_000_000, 30_000_000)}
-
-
-def leave(text):
-    print(f"heap_anchors.py: {text}", file=sys.stderr)
-    sys.exit(2)
-
-
-def run_tool(command):
-    """Runs a tool, and ends with what it says where it fails."""
-    ran = subprocess.run(command, stdout=subprocess.PIPE, stderr=subprocess.STDOUT, text=True)
-    if ran.returncode:
-        leave(f"{' '.join(map(str, command))}\n{ran.stdout}")
-
-
-def version(command):
-    return subprocess.run([command, "--version"], stdout=subprocess.PIPE, text=True).stdout.partition("\n")[0]
-
-
-def sources():
-    """The line of a list of sources for apt-get: the release's own archive, as apt's configuration has it."""
-    release = platform.freedesktop_os_release().get("VERSION_CODENAME", "")
-    form = ["--format", "$(SITE) $(RELEASE) $(COMPONENT)", "Created-By: Packages"]
-    listed = subprocess.run(["apt-get", "indextargets", *form], stdout=subprocess.PIPE, text=True).stdout
-    for line in listed.splitlines():
-        if release and line.split()[1:] == [release, "main"]:
-            return f"deb-src {line}\n"
-    return None
-
-
-def fetch(folder):
-    """The folder of Scudo's source, or None where the package is not fetched; `folder` keeps it."""
-    scudo = folder / "compiler-rt" / "lib" / "scudo" / "standalone"
-    if scudo.is_dir():
-        return scudo
-    line = sources()
-    if line is None:
-        print("heap_anchors.py: apt has no source of this release's packages", file=sys.stderr)
-        return None
-    for name in ("lists/partial", "cache/archives/partial"):
-        (folder / name).mkdir(parents=True, exist_ok=True)
-    (folder / "sources.list").write_text(line)
-    apt = [
-        "apt-get", "-qq", "-o", f"Dir::Etc::sourcelist={folder}/sources.list", "-o", "Dir::Etc::sourceparts=-",
-        "-o", f"Dir::State::lists={folder}/lists", "-o", f"Dir::Cache={folder}/cache", "-o", "APT::Sandbox::User=",
-        "-o", "Acquire::http::Timeout=30",
-    ]
-    try:
-        for words in (["update"], ["source", "--download-only", PACKAGE]):
-            subprocess.run([*apt, *words], cwd=folder, stdout=subprocess.DEVNULL, check=True, timeout=900)
-    except (subprocess.CalledProcessError, subprocess.TimeoutExpired) as error:
-        print(f"heap_anchors.py: {PACKAGE} was not fetched (apt-get needs the network): {error}", file=sys.stderr)
-        return None
-    return unpack(folder, scudo)
-
-
-def unpack(folder, scudo):
-    """Scudo alone, out of the package's archive."""
-    archives = list(folder.glob(f"{PACKAGE}_*.orig.tar.xz"))
-    if len(archives) != 1:
-        leave(f"{folder} has {len(archives)} archives of {PACKAGE}, not one")
-    with tempfile.TemporaryDirectory(dir=folder) as name:
-        run_tool(
-            ["tar", "-xf", archives[0], "-C", name, "--strip-components=1", "--wildcards", "*/compiler-rt/lib/scudo"]
-        )
-        (pathlib.Path(name) / "compiler-rt").rename(folder / "compiler-rt")
-    return scudo
-
-
-def build_scudo(scudo, work):
-    """The objects of Scudo and of our wrapper."""
-    objects = []
-    for source in [*(scudo / f"{part}.cpp" for part in PARTS), HERE / "scudo_wrap.cpp"]:
-        objects.append(work / f"{source.stem}.o")
-        run_tool(["clang++", *SCUDO, f"-I{scudo}", f"-I{scudo}/include", "-c", "-o", objects[-1], source])
-    return objects
 
 
 def build_program(kind, text, rounds, objects, out):
@@ -173,24 +69,10 @@ def build_program(kind, text, rounds, objects, out):
         run_tool(["clang", *TENANT, *flags, f"-I{TENANTS}", "-o", out, TENANTS / "start.c", source])
     elif kind == "scudo":
         part = out.with_suffix(".o")
-        run_tool(["clang", *AARCH64, *flags, "-isystem", "/usr/aarch64-linux-gnu/include", "-c", "-o", part, source])
-        run_tool(["aarch64-linux-gnu-gcc", "-static", "-o", out, part, *objects, "-lpthread"])
+        run_tool(["clang", *scudo.AARCH64, *flags, *scudo.HEADERS, "-c", "-o", part, source])
+        scudo.link([part, *objects], out)
     else:
         run_tool(["clang", "-O2", *flags, "-o", out, source])
-
-
-def check_tags(objects, work):
-    """Ends unless pointers of Scudo's heap have tags, and a read of a freed chunk ends a program."""
-    probe = work / "probe"
-    build_program("scudo", PROBE, 0, objects, probe)
-    command = ["qemu-aarch64", "-cpu", "max", probe]
-    sound = subprocess.run(command).returncode
-    freed = subprocess.run([*command, "freed"], stderr=subprocess.DEVNULL).returncode
-    if sound == 2:
-        leave("Scudo's pointers have no tags: this QEMU has no memory tagging, or Scudo was built without it")
-    if sound or freed != -signal.SIGSEGV:
-        leave(f"Scudo's program does not check tags: status {sound} where it is sound, {freed} where it reads a "
-              "freed chunk")
 
 
 def run_command(kind, name, program, rounds, work):
@@ -198,7 +80,7 @@ def run_command(kind, name, program, rounds, work):
     if kind == "libc":
         return [program]
     if kind == "scudo":
-        return ["qemu-aarch64", "-cpu", "max", program]
+        return scudo.command(program)
     session = work / f"script.{rounds}"
     admit = "admit 1 image 1 input 0 seed 0000000000000001 frames 300 out 16\n"
     session.write_text(admit + f"slice 1 {SLICE}\n" * (rounds * 20 // SLICE + 1))
@@ -230,7 +112,7 @@ def measure(commands, subjects, turns):
     best = dict.fromkeys(commands, float("inf"))
     for _ in range(turns):
         for run, command in commands.items():
-            best[run] = min(user_time(command, 1), best[run])
+            best[run] = min(user_time(command, 1)[0], best[run])
     figures = {}
     for kind, name in subjects:
         few, many = ROUNDS[kind]
@@ -254,12 +136,8 @@ def arguments():
     parser.add_argument("--work", metavar="FOLDER", type=pathlib.Path)
     parser.add_argument("hosts", metavar="HOST", nargs="+")
     options = parser.parse_args()
-    for tool, package in TOOLS.items():
-        if not shutil.which(tool):
-            leave(f"{tool} is not there (Debian: {package})")
-    for host in options.hosts:
-        if not os.access(host, os.X_OK):
-            leave(f"{host} is not there: build it by rt run in crates/mte_host")
+    need_tools(TOOLS)
+    need_hosts(options.hosts)
     if options.work and HERE.parents[1] in [folder := options.work.resolve(), *folder.parents]:
         leave(f"{options.work} lies in the repository")
     return options
@@ -275,10 +153,9 @@ def main():
         work = pathlib.Path(name)
         folder = (options.work or work / "source").resolve()
         folder.mkdir(parents=True, exist_ok=True)
-        scudo = fetch(folder)
-        if scudo:
-            objects = build_scudo(scudo, work)
-            check_tags(objects, work)
+        libraries = scudo.fetch(folder)
+        if libraries:
+            objects = scudo.build(libraries, work)
             subjects.append(("scudo", "Scudo"))
         subjects.append(("libc", "libc"))
         print(f"{version('clang')}; {version('qemu-aarch64')}; {' '.join(platform.libc_ver())}")

@@ -1,6 +1,6 @@
 // The loops of measure.py as programs for Linux, for an emulator of Linux programs: ROUNDS many rounds,
-// then exit 0. MEMORY selects the loop of loads and stores, over two pages mapped with PROT_MTE, tag 5, synchronous
-// checks.
+// then exit 0. MEMORY selects the loop of loads and stores over two pages, OFFSETS the one of register offsets over
+// 64 KiB, both mapped with PROT_MTE, tag 5, synchronous checks.
 
 #define ROUNDS_LOW (ROUNDS & 0xFFFF)
 #define ROUNDS_HIGH (ROUNDS >> 16)
@@ -8,7 +8,7 @@
         .arch   armv8.5-a+memtag
         .globl  _start
 _start:
-#ifdef MEMORY
+#if defined MEMORY || defined OFFSETS
         // prctl(PR_SET_TAGGED_ADDR_CTRL, PR_TAGGED_ADDR_ENABLE | PR_MTE_TCF_SYNC | all tags, 0, 0, 0)
         mov     x0, #55
         mov     x1, #3
@@ -20,9 +20,9 @@ _start:
         mov     x8, #167
         svc     #0
         cbnz    x0, failed
-        // mmap(0, 16384, PROT_READ | PROT_WRITE | PROT_MTE, MAP_PRIVATE | MAP_ANONYMOUS, -1, 0)
+        // mmap(0, 65536, PROT_READ | PROT_WRITE | PROT_MTE, MAP_PRIVATE | MAP_ANONYMOUS, -1, 0)
         mov     x0, #0
-        mov     x1, #16384
+        mov     x1, #65536
         mov     x2, #0x23
         mov     x3, #0x22
         mov     x4, #-1
@@ -32,10 +32,17 @@ _start:
         tbnz    x0, #63, failed
         movk    x0, #0x0500, lsl #48
         mov     x2, x0
-        mov     x3, #512
+        mov     x3, #4096
 1:      stg     x2, [x2], #16
         sub     x3, x3, #1
         cbnz    x3, 1b
+#endif
+#if defined OFFSETS
+        .inst   0xD2800001, 0xD2800002, 0xD2800003, 0xD2820106
+        movz    x28, #ROUNDS_LOW
+        movk    x28, #ROUNDS_HIGH, lsl #16
+2:      .inst   0xF8616804, 0x8B040063, 0xF8226803, 0xCA040065, 0x91002021, 0x927D3021, 0x8B060042, 0x927D3042
+#elif defined MEMORY
         add     x1, x0, #4096
         mov     x3, #0
         movz    x28, #ROUNDS_LOW

@@ -2,29 +2,37 @@
 """How long a step of a tenant takes.
 
     measure.py [--ir] [--qemu] [--rounds N] HOST...
+    measure.py --real [--ir] [--scudo] [--compiler clang|gcc] [--only NAME] [--work FOLDER] [--rounds N] HOST...
 
 Each HOST is a built mte_host. All of them run the same tenants in turns, N times (5), and each workload's line has
 the best user time of each in nanoseconds a step, the time of a start with a short session taken off. `--ir` counts
-host instructions a step under callgrind instead (valgrind). `--qemu` adds, for the two loops, what `qemu-aarch64`
-takes for the same instructions as a Linux program, whose pages have PROT_MTE (qemu-user and a cross compiler).
+host instructions a step under callgrind instead. `--qemu` adds, for the first three, what `qemu-aarch64` takes for
+the same instructions as a Linux program, whose pages have PROT_MTE; the two that end its round count as well.
 
 Workloads: `alu`, a loop of 16 instructions between registers; `memory`, one of 16 with 4 loads and 4 stores through
-tagged pointers; `mix`, compiled code (SHA-256, heap sort, search, CRC, a tree), again and again; `svc18` and
-`svc243`, a service each 18 and each 243 steps; `slices16`, `alu` in slices of 16 steps.
+tagged pointers; `offsets`, one of 9 with a load and a store at register offsets over 64 KiB through a tagged pointer,
+the loads one after the other and each store on another page than the one before; `mix`, compiled code (SHA-256, heap
+sort, search, CRC, a tree), again and again; `svc18` and `svc243`, a service each 18 and each 243 steps; `slices16`,
+`alu` in slices of 16 steps.
+
+REAL
+
+Needed (Debian): clang, lld; valgrind for `--ir`; qemu-user and gcc-aarch64-linux-gnu for `--qemu`; for `--real` all of
+them, libc6-dev-arm64-cross, libc6-dev and what apt-get needs to fetch sources.
 """
 import argparse
 import pathlib
-import re
-import resource
 import subprocess
 import sys
 import tempfile
+
+import real_programs
+from commands import SLICE, instructions, leave, need_hosts, user_time
 
 HERE = pathlib.Path(__file__).resolve().parent
 sys.path.insert(0, str(HERE.parent))
 from build_image import image  # noqa: E402
 
-SLICE = 1048576
 CONSTANTS = [0xD2800060, 0xD299BDE1, 0xF2B13561, 0xF2C8ACE1, 0xF2E02461]
 REGISTERS = [
     0x8B010000, 0xCB030002, 0xCA001C44, 0xD343FC85, 0xAA0100A6, 0x91048CC7, 0x92403CE8, 0xD37BE909,
@@ -38,13 +46,19 @@ ACCESSES = [
     0xF9400002, 0x8B020063, 0xF9000403, 0xCA020064, 0xF9400825, 0xCB0400A6, 0xF9000C26, 0xD345FCC7,
     0xF9440008, 0x8B070109, 0xF9040809, 0xAA03012A, 0xF947F82B, 0x91001D6C, 0xF907FC2C,
 ]
+TAGGED_BYTES = 0x800000, 0x10000
+TAGS = [0xD2A01000, 0xF2E0A000, 0xAA0003E2, 0xD2820003, 0xD9201442, 0xD1000463, 0xB5FFFFC3]
+INDICES = [0xD2800001, 0xD2800002, 0xD2800003, 0xD2820106]
+OFFSETS = [0xF8616804, 0x8B040063, 0xF8226803, 0xCA040065, 0x91002021, 0x927D3021, 0x8B060042, 0x927D3042]
 PAGES_LEFT = [0xD2800168, 0xD4000001]
+# Instructions of a round of the Linux program's loop, which counts in place of the tenant's branch.
+LINUX_STEPS = {"alu": 17, "memory": 17, "offsets": 10}
 
 
-def loop(start, body):
-    """An image: `start`, and then `body` for ever."""
+def loop(start, body, data=()):
+    """An image: `start`, and then `body` for ever; `data` are further segments."""
     back = 0x14000000 | (-len(body) & 0x3FFFFFF)
-    return image(start + body + [back])
+    return image(start + body + [back], data)
 
 
 def mix(work):
@@ -69,6 +83,7 @@ def workloads(work):
     return [
         ("alu", alu, 33, 1, SLICE),
         ("memory", loop(STACK, ACCESSES), 33, 1, SLICE),
+        ("offsets", loop(TAGS + INDICES, OFFSETS, [TAGGED_BYTES]), 33, 1, SLICE),
         ("mix", mix(work), 33, 1, SLICE),
         ("svc18", loop(CONSTANTS, REGISTERS + PAGES_LEFT), 17, 1, SLICE),
         ("svc243", loop(CONSTANTS, REGISTERS * 16 + PAGES_LEFT), 17, 1, SLICE),
@@ -76,70 +91,84 @@ def workloads(work):
     ]
 
 
-def user_time(command, times):
-    before = resource.getrusage(resource.RUSAGE_CHILDREN).ru_utime
-    for _ in range(times):
-        subprocess.run(command, stdout=subprocess.DEVNULL, check=True)
-    return (resource.getrusage(resource.RUSAGE_CHILDREN).ru_utime - before) * 1e9 / times
-
-
-def instructions(command, _times):
-    run = subprocess.run(
-        ["valgrind", "--tool=callgrind", "--callgrind-out-file=/dev/null", *command],
-        stdout=subprocess.DEVNULL, stderr=subprocess.PIPE, text=True, check=True,
-    )
-    return int(re.search(r"Collected : (\d+)", run.stderr)[1])
-
-
 def session(host, work, name, slices):
     return [host, "--frames", "129", work / f"{name}.{slices}", work / f"{name}.image"]
 
 
-def qemu(work, memory):
-    """The commands of a long and of a short run, and the steps between them."""
+def qemu(work, name):
+    """The commands of a long and of a short run of a loop, and the steps between them."""
     commands = []
     for rounds in (2_000_000, 100_000):
-        out = work / f"loop.{memory}.{rounds}"
+        out = work / f"loop.{name}.{rounds}"
         subprocess.run(
-            ["aarch64-linux-gnu-gcc", "-nostdlib", "-static", f"-DROUNDS={rounds}", *(["-DMEMORY"] if memory else []),
-             "-o", out, HERE / "linux_loops.S"],
+            ["aarch64-linux-gnu-gcc", "-nostdlib", "-static", f"-DROUNDS={rounds}", f"-D{name.upper()}", "-o", out,
+             HERE / "linux_loops.S"],
             check=True,
         )
         commands.append(["qemu-aarch64", "-cpu", "max", out])
-    return commands, 1_900_000 * 17
+    return commands, 1_900_000 * LINUX_STEPS[name]
 
 
-def main():
-    parser = argparse.ArgumentParser(description=__doc__, formatter_class=argparse.RawDescriptionHelpFormatter)
+def sessions(options, work, name, counts, steps):
+    """The commands of the sessions of each host, by its path, and the steps between them."""
+    for slices in counts:
+        (work / f"{name}.{slices}").write_text(script(slices, steps))
+    many, few = counts
+    return {
+        host: ([session(host, work, name, slices) for slices in counts], (many - few) * steps)
+        for host in options.hosts
+    }
+
+
+def costs(options, runs, times):
+    """What a step of each run costs: the best long run less the best short one, taken in turns."""
+    best = {}
+    for _ in range(1 if options.ir else options.rounds):
+        for who, (commands, _) in runs.items():
+            for kind, command in enumerate(commands):
+                cost = instructions(command) if options.ir else user_time(command, times)[0]
+                best[who, kind] = min(cost, best.get((who, kind), cost))
+    return {who: (best[who, 0] - best[who, 1]) / count for who, (_, count) in runs.items()}
+
+
+def measure_loops(options, work):
+    unit = "instructions" if options.ir else "ns"
+    for name, body, many, few, steps in workloads(work):
+        if options.ir and many < 1000:
+            many = 3
+        (work / f"{name}.image").write_bytes(body)
+        runs = sessions(options, work, name, (many, few), steps)
+        if options.qemu and not options.ir and name in LINUX_STEPS:
+            runs["qemu"] = qemu(work, name)
+        times = 50 if steps < SLICE else 1  # a session has at most 10,000 events
+        line = "  ".join(f"{who}: {cost:.2f} {unit}" for who, cost in costs(options, runs, times).items())
+        print(f"{name:9}{line}", flush=True)
+
+
+def arguments():
+    text = __doc__.replace("REAL\n", real_programs.__doc__)
+    parser = argparse.ArgumentParser(description=text, formatter_class=argparse.RawDescriptionHelpFormatter)
     parser.add_argument("--ir", action="store_true")
     parser.add_argument("--qemu", action="store_true")
     parser.add_argument("--rounds", type=int, default=5)
+    parser.add_argument("--real", action="store_true")
+    parser.add_argument("--scudo", action="store_true")
+    parser.add_argument("--compiler", choices=real_programs.COMPILERS, default="clang")
+    parser.add_argument("--only", choices=real_programs.PROGRAMS)
+    parser.add_argument("--work", metavar="FOLDER", type=pathlib.Path)
     parser.add_argument("hosts", metavar="HOST", nargs="+")
     options = parser.parse_args()
-    cost = instructions if options.ir else user_time
-    rounds = 1 if options.ir else options.rounds
+    need_hosts(options.hosts)
+    if options.work and HERE.parents[1] in [folder := options.work.resolve(), *folder.parents]:
+        leave(f"{options.work} lies in the repository")
+    return options
+
+
+def main():
+    options = arguments()
     with tempfile.TemporaryDirectory() as name:
-        work = pathlib.Path(name)
-        for name, body, many, few, steps in workloads(work):
-            if options.ir and many < 1000:
-                many = 3
-            (work / f"{name}.image").write_bytes(body)
-            for slices in (many, few):
-                (work / f"{name}.{slices}").write_text(script(slices, steps))
-            runs = {
-                host: ([session(host, work, name, many), session(host, work, name, few)], (many - few) * steps)
-                for host in options.hosts
-            }
-            if options.qemu and not options.ir and name in ("alu", "memory"):
-                runs["qemu"] = qemu(work, name == "memory")
-            times = 50 if steps < SLICE else 1  # a session has at most 10,000 events
-            best = {}
-            for _ in range(rounds):
-                for who, ((long, short), count) in runs.items():
-                    each = (cost(long, times) - cost(short, times)) / count
-                    best[who] = min(each, best.get(who, each))
-            unit = "instructions" if options.ir else "ns"
-            print(f"{name:9}" + "  ".join(f"{who}: {each:.2f} {unit}" for who, each in best.items()), flush=True)
+        measure = real_programs.measure if options.real else measure_loops
+        measure(options, pathlib.Path(name))
 
 
 if __name__ == "__main__":

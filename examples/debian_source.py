@@ -1,0 +1,88 @@
+#!/usr/bin/env python3
+"""Fetches the source of Debian's packages, as this machine's release has it.
+
+    debian_source.py FOLDER PACKAGE [PART...]
+
+Makes FOLDER/PACKAGE of the package's archive, its top folder left out, or of the PARTs of it alone (files or folders),
+and does nothing where they are there. The archive comes by apt-get from where apt's own configuration says, with its
+signatures checked, and stays in FOLDER. Nothing is installed, and the system's own lists of packages stay as they are.
+Exit status 1: it was not fetched, and standard error says why. Needed (Debian): apt, tar, bzip2, xz-utils.
+"""
+import pathlib
+import platform
+import shutil
+import subprocess
+import sys
+import tempfile
+
+SECONDS = 900
+
+
+class NotFetched(Exception):
+    """A package's source was not fetched, with the reason."""
+
+
+def address():
+    """Address, release and component of the release's own archive, in apt's configuration."""
+    release = platform.freedesktop_os_release().get("VERSION_CODENAME", "")
+    form = ["--format", "$(SITE) $(RELEASE) $(COMPONENT)", "Created-By: Packages"]
+    try:
+        listed = subprocess.run(["apt-get", "indextargets", *form], stdout=subprocess.PIPE, text=True, check=True)
+    except (OSError, subprocess.CalledProcessError) as error:
+        raise NotFetched(f"apt-get tells no archive: {error}") from error
+    for line in listed.stdout.splitlines():
+        if release and line.split()[1:] == [release, "main"]:
+            return line
+    raise NotFetched("apt's configuration has no archive of this release")
+
+
+def download(folder, package):
+    """The archive of a package, in `folder`."""
+    for name in ("lists/partial", "cache/archives/partial"):
+        (folder / name).mkdir(parents=True, exist_ok=True)
+    (folder / "sources.list").write_text(f"deb-src {address()}\n")
+    apt = [
+        "apt-get", "-qq", "-o", f"Dir::Etc::sourcelist={folder}/sources.list", "-o", "Dir::Etc::sourceparts=-",
+        "-o", f"Dir::State::lists={folder}/lists", "-o", f"Dir::Cache={folder}/cache", "-o", "APT::Sandbox::User=",
+        "-o", "Acquire::http::Timeout=30",
+    ]
+    words = ["source", "--download-only", package]
+    if not any((folder / "lists").glob("*_Sources*")):
+        subprocess.run([*apt, "update"], cwd=folder, stdout=sys.stderr, check=True, timeout=SECONDS)
+    subprocess.run([*apt, *words], cwd=folder, stdout=sys.stderr, check=True, timeout=SECONDS)
+    archives = [path for path in folder.glob(f"{package}_*.orig.tar.*") if path.suffix != ".asc"]
+    if len(archives) != 1:
+        raise NotFetched(f"{folder} has {len(archives)} archives of {package}, not one")
+    return archives[0]
+
+
+def fetch(folder, package, parts=()):
+    """The folder of a package's source, or of these parts of it; raises NotFetched."""
+    folder = pathlib.Path(folder).resolve()
+    source = folder / package
+    if source.is_dir() and all((source / part).exists() for part in parts):
+        return source
+    try:
+        folder.mkdir(parents=True, exist_ok=True)
+        archive = download(folder, package)
+        with tempfile.TemporaryDirectory(dir=folder) as name:
+            unpack = ["tar", "-xf", archive, "-C", name, "--strip-components=1", "--wildcards"]
+            subprocess.run([*unpack, *(f"*/{part}" for part in parts)], check=True)
+            shutil.rmtree(source, ignore_errors=True)
+            shutil.copytree(name, source, symlinks=True)
+    except (OSError, subprocess.CalledProcessError, subprocess.TimeoutExpired) as error:
+        raise NotFetched(f"{package} was not fetched (apt-get needs the network): {error}") from error
+    return source
+
+
+def main():
+    if len(sys.argv) < 3:
+        sys.exit(__doc__)
+    try:
+        fetch(sys.argv[1], sys.argv[2], sys.argv[3:])
+    except NotFetched as error:
+        sys.exit(f"debian_source.py: {error}")
+
+
+if __name__ == "__main__":
+    main()

@@ -1,0 +1,59 @@
+"""Runs of commands and what they cost, for the scripts of this folder."""
+import os
+import pathlib
+import re
+import resource
+import shutil
+import subprocess
+import sys
+
+# The most steps of a slice.
+SLICE = 1048576
+
+
+def leave(text):
+    print(f"{pathlib.Path(sys.argv[0]).name}: {text}", file=sys.stderr)
+    sys.exit(2)
+
+
+def need_tools(tools):
+    """Ends unless all tools are there, which are given with their Debian packages."""
+    for tool, package in tools.items():
+        if not shutil.which(tool):
+            leave(f"{tool} is not there (Debian: {package})")
+
+
+def need_hosts(hosts):
+    """Ends unless all hosts are there."""
+    for host in hosts:
+        if not os.access(host, os.X_OK):
+            leave(f"{host} is not there: build it by rt run in crates/mte_host")
+
+
+def run_tool(command):
+    """Runs a tool, and ends with what it says where it fails."""
+    ran = subprocess.run(command, stdout=subprocess.PIPE, stderr=subprocess.STDOUT, text=True)
+    if ran.returncode:
+        leave(f"{' '.join(map(str, command))}\n{ran.stdout}")
+
+
+def version(command):
+    return subprocess.run([command, "--version"], stdout=subprocess.PIPE, text=True).stdout.partition("\n")[0]
+
+
+def user_time(command, times, stdin=None):
+    """Nanoseconds of user time of a run, the mean of so many, and what the last one wrote."""
+    before = resource.getrusage(resource.RUSAGE_CHILDREN).ru_utime
+    for _ in range(times):
+        with open(stdin or os.devnull, "rb") as file:
+            wrote = subprocess.run(command, stdin=file, stdout=subprocess.PIPE, check=True).stdout
+    return (resource.getrusage(resource.RUSAGE_CHILDREN).ru_utime - before) * 1e9 / times, wrote.decode()
+
+
+def instructions(command):
+    """Instructions of a run under callgrind."""
+    run = subprocess.run(
+        ["valgrind", "--tool=callgrind", "--callgrind-out-file=/dev/null", *command],
+        stdout=subprocess.DEVNULL, stderr=subprocess.PIPE, text=True, check=True,
+    )
+    return int(re.search(r"Collected : (\d+)", run.stderr)[1])
