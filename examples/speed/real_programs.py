@@ -13,7 +13,7 @@ which has to be that of the same program on this machine. `--ir` has the instruc
 One compiler builds all, with -O2. A tenant has no registers of floating point and SIMD (-mgeneral-regs-only); its C
 library is real/strings.c and real/tenant_libc.c, and Lua's numbers with a fraction are computed by compiler-rt and
 real/tenant_math.c (gcc refuses them, so with it there is no Lua). The Linux programs have all registers and Debian's
-glibc; on Scudo the functions of real/strings.c take the place of glibc's, whose programs die of a tag there.
+glibc.
 
 Sources come by apt-get from where apt's own configuration says, and stay in FOLDER, outside the repository, for the
 next time (a temporary folder): 12 MB, and for Lua and `--scudo` llvm-toolchain-14 of 130 MB. Fetched in half a minute,
@@ -41,7 +41,7 @@ TENANT = ["-mgeneral-regs-only", "-ffunction-sections", "-D__NO_CTYPE"]
 LIBRARY = ["-ffreestanding", "-fno-builtin"]
 HEAP = [f"-D{name}=scudo_{name}" for name in ("malloc", "calloc", "realloc", "free")]
 PAGES, SLICES = 2000, 200
-# Rounds and bytes of a run that is taken off: QEMU's maps of Scudo's regions take it more than a second.
+# Rounds and bytes of the run that is taken off.
 START = 1, 1000
 
 
@@ -127,7 +127,6 @@ class Builder:
     def on_scudo(self, name, heap):
         files, flags = self.parts(name)
         objects = self.compile([*self.compiler, *flags, *HEAP], files, "scudo")
-        objects += self.compile([*self.compiler, *LIBRARY], [REAL / "strings.c"], "scudo")
         program = self.work / f"{name}.scudo"
         scudo.link([*objects, *heap], program)
         return program

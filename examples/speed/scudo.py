@@ -57,14 +57,14 @@ def fetch(folder):
 
 
 def command(program):
-    """The command that runs a program with tag checks."""
-    return ["qemu-aarch64", "-cpu", "max", program]
+    """The command that runs a program with tag checks. Of glibc's `memset` it takes one without DC ZVA, by which QEMU
+    7.2 ends a program (SIGSEGV) where the pointer has a tag."""
+    return ["qemu-aarch64", "-cpu", "max", "-E", "GLIBC_TUNABLES=glibc.cpu.name=kunpeng920", program]
 
 
 def link(parts, out):
-    """Links objects into a static program; their functions take the place of the C library's."""
-    first = "-Wl,--allow-multiple-definition"
-    run_tool(["aarch64-linux-gnu-gcc", "-static", first, "-o", out, *parts, "-lm", "-lpthread"])
+    """Links objects into a static program."""
+    run_tool(["aarch64-linux-gnu-gcc", "-static", "-o", out, *parts, "-lm", "-lpthread"])
 
 
 def build(libraries, work):
