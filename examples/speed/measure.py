@@ -51,8 +51,9 @@ TAGS = [0xD2A01000, 0xF2E0A000, 0xAA0003E2, 0xD2820003, 0xD9201442, 0xD1000463, 
 INDICES = [0xD2800001, 0xD2800002, 0xD2800003, 0xD2820106]
 OFFSETS = [0xF8616804, 0x8B040063, 0xF8226803, 0xCA040065, 0x91002021, 0x927D3021, 0x8B060042, 0x927D3042]
 PAGES_LEFT = [0xD2800168, 0xD4000001]
-# Instructions of a round of the Linux program's loop, which counts in place of the tenant's branch.
-LINUX_STEPS = {"alu": 17, "memory": 17, "offsets": 10}
+# The Linux programs' loops, which count in place of the tenant's branch: instructions of a round, and rounds.
+LINUX_LOOPS = {"alu": (17, 40_000_000), "memory": (17, 2_000_000), "offsets": (10, 8_000_000)}
+FEW_ROUNDS = 100_000
 
 
 def loop(start, body, data=()):
@@ -97,8 +98,8 @@ def session(host, work, name, slices):
 
 def qemu(work, name):
     """The commands of a long and of a short run of a loop, and the steps between them."""
-    commands = []
-    for rounds in (2_000_000, 100_000):
+    commands, (steps, many) = [], LINUX_LOOPS[name]
+    for rounds in (many, FEW_ROUNDS):
         out = work / f"loop.{name}.{rounds}"
         subprocess.run(
             ["aarch64-linux-gnu-gcc", "-nostdlib", "-static", f"-DROUNDS={rounds}", f"-D{name.upper()}", "-o", out,
@@ -106,7 +107,7 @@ def qemu(work, name):
             check=True,
         )
         commands.append(["qemu-aarch64", "-cpu", "max", out])
-    return commands, 1_900_000 * LINUX_STEPS[name]
+    return commands, (many - FEW_ROUNDS) * steps
 
 
 def sessions(options, work, name, counts, steps):
@@ -138,7 +139,7 @@ def measure_loops(options, work):
             many = 3
         (work / f"{name}.image").write_bytes(body)
         runs = sessions(options, work, name, (many, few), steps)
-        if options.qemu and not options.ir and name in LINUX_STEPS:
+        if options.qemu and not options.ir and name in LINUX_LOOPS:
             runs["qemu"] = qemu(work, name)
         times = 50 if steps < SLICE else 1  # a session has at most 10,000 events
         line = "  ".join(f"{who}: {cost:.2f} {unit}" for who, cost in costs(options, runs, times).items())

@@ -170,31 +170,31 @@ def count(host, work, image, name):
 
 
 class Runs:
-    """The ways to run one program over one input: tenants by their hosts, and Linux programs."""
+    """The ways to run one program: as a tenant of each host, and as Linux programs by other commands."""
 
     def __init__(self, work, image, hosts, others, native):
         self.work, self.image, self.hosts, self.others, self.native = work, image, hosts, others, native
 
-    def run(self, who, data):
-        """Seconds of user time, and steps where it is a tenant; ends where another sum is written than natively."""
-        wanted = user_time([self.native], 1, data)[1]
+    def run(self, who, data, wanted):
+        """Seconds of user time, and steps where it is a tenant; ends where another sum is written than is wanted."""
+        steps = None
         if who in self.hosts:
             nanoseconds, report = user_time(session(who, self.work, self.image, data), 1)
             steps, wrote = read_report(report)
         else:
             nanoseconds, wrote = user_time(self.others[who], 1, data)
-            steps = None
         if wrote != wanted:
             leave(f"{who} writes {wrote!r}, and a program of this machine {wanted!r}")
         return nanoseconds / 1e9, steps
 
     def best(self, whole, start, turns):
         """Seconds of the best whole run and of the best start of each, and a tenant's steps between them."""
+        wanted = {data: user_time([self.native], 1, data)[1] for data in (whole, start)}
         best, steps = {}, {}
         for _ in range(turns):
             for who in [*self.hosts, *self.others]:
                 for data in (whole, start):
-                    time, steps[who, data] = self.run(who, data)
+                    time, steps[who, data] = self.run(who, data, wanted[data])
                     best[who, data] = min(time, best.get((who, data), time))
         host = self.hosts[0]
         return best, steps[host, whole] - steps[host, start]
