@@ -7,8 +7,8 @@ Then its whole runs: zlib, lz4, bzip2 and expat once over bytes in chunks of siz
 whose pages Scudo leaves without tags for the most part. Each runs in turns, N times (5), as a tenant of each HOST, as
 the same program of AArch64 Linux under `qemu-aarch64`, and with `--scudo` as one on LLVM's Scudo with memory tagging,
 synchronous checks (`-cpu max`). A figure is the best user time of the whole run less the best of a start, a run over
-next to nothing: under QEMU a program on Scudo starts for more than a second. Each run writes a sum of what it made,
-which has to be that of the same program on this machine. `--ir` has the instructions alone.
+next to nothing: a program on Scudo starts for a tenth of a second. Each run writes a sum of what it made, which has to
+be that of the same program on this machine. `--ir` has the instructions alone.
 
 One compiler builds all, with -O2. A tenant has no registers of floating point and SIMD (-mgeneral-regs-only); its C
 library is real/strings.c and real/tenant_libc.c, and Lua's numbers with a fraction are computed by compiler-rt and
@@ -17,7 +17,7 @@ glibc.
 
 Sources come by apt-get from where apt's own configuration says, and stay in FOLDER, outside the repository, for the
 next time (a temporary folder): 12 MB, and for Lua and `--scudo` llvm-toolchain-14 of 130 MB. Fetched in half a minute,
-all programs with `--scudo` and one HOST take six minutes, with `--ir` two.
+all programs with `--scudo` and one HOST take five minutes, with `--ir` two.
 """
 import pathlib
 import subprocess

@@ -1,7 +1,8 @@
 """LLVM's Scudo with memory tagging (FEAT_MTE), for programs of AArch64 Linux under `qemu-aarch64 -cpu max`.
 
 The source is that of Debian's package llvm-toolchain-14 (130 MB). Its heap stands under names of its own,
-scudo_malloc and so on (scudo_wrap.cpp), so that the C library keeps its own.
+scudo_malloc and so on (scudo_wrap.cpp), so that the C library keeps its own, in the default configuration but for the
+size of its regions.
 """
 import pathlib
 import signal

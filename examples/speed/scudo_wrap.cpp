@@ -12,8 +12,14 @@
 
 extern "C" void scudo_malloc_postinit();
 
+// The default configuration with regions of 256 MiB in place of 4 GiB: QEMU takes more than a second to map those.
+struct Config : scudo::DefaultConfig {
+  typedef scudo::SizeClassAllocator64<Config> Primary;
+  static const scudo::uptr PrimaryRegionSizeLog = 28U;
+};
+
 SCUDO_REQUIRE_CONSTANT_INITIALIZATION
-static scudo::Allocator<scudo::Config, scudo_malloc_postinit> scudo_heap;
+static scudo::Allocator<Config, scudo_malloc_postinit> scudo_heap;
 
 #include "wrappers_c.inc"
 
