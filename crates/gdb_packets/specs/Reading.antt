@@ -1,0 +1,71 @@
+-- What the bytes that came so far are (GDB's documentation, "Remote Protocol", "Overview").
+use Rattle.std.specs.Prelude.{ℕ, ◌+◌, ◌==◌, ◌||◌, nat_lt, not, Bool, false, if◌then◌else◌}
+use Rattle.std.specs.Prelude.{List, [], ◌∷◌, take, drop, length, Option, Some, None}
+use Rattle.std.specs.List.{prefix_len}
+use Rattle.std.specs.Result.{result_ok}
+use Rattle.hex.specs.Hex.{pair_value}
+use Rattle.gdb_packets.specs.declared.input.Input.{Input}
+use Rattle.gdb_packets.specs.declared.input.Input.TheVariants as input
+use Rattle.gdb_packets.specs.declared.input.TheConstants.{PACKET_SIZE}
+use Rattle.gdb_packets.specs.Framing.{checksum_of}
+
+-- A packet has its data as they came and its length in bytes; a bad one has its length.
+pub data Reading : Type 0 where
+  packet : List ℕ → ℕ → Reading
+  bad : ℕ → Reading
+  interrupt : Reading
+  ack : Reading
+  nack : Reading
+  noise : Reading
+  more : Reading
+
+-- An input without where it lies in memory.
+abbrev pub seen : Input → Reading
+seen (input.Packet bytes len) = packet bytes.now len
+seen (input.Bad len) = bad len
+seen input.Interrupt = interrupt
+seen input.Ack = ack
+seen input.Nack = nack
+seen input.Noise = noise
+seen input.More = more
+
+-- Data go on up to a `#`, or to the `$` of another packet.
+abbrev pub is_data : ℕ → Bool
+is_data b = not ((b == 35) || (b == 36))
+
+-- The byte of two hexadecimal digits, if they are some.
+abbrev pub digits_byte : ℕ → ℕ → Option ℕ
+digits_byte high low = result_ok (pair_value high low 0)
+
+abbrev pub is_value : Option ℕ → ℕ → Bool
+is_value (Some v) n = v == n
+is_value None n = false
+
+-- Data, and what follows their `#`: the two digits of their checksum.
+abbrev pub closed : List ℕ → List ℕ → Reading
+closed bytes (high ∷ low ∷ rest) =
+    if is_value (digits_byte high low) (checksum_of bytes) then packet bytes (length bytes + 4)
+    else bad (length bytes + 4)
+closed bytes _ = more
+
+-- Data, and what follows them.
+abbrev pub after_data : List ℕ → List ℕ → Reading
+after_data bytes [] = more
+after_data bytes (b ∷ rest) = if b == 36 then bad (length bytes + 1) else closed bytes rest
+
+-- What follows a `$`.
+abbrev pub after_dollar : List ℕ → Reading
+after_dollar rest =
+    let n = prefix_len is_data rest in
+    let bytes = take n rest in
+    if nat_lt PACKET_SIZE (length bytes) then bad (PACKET_SIZE + 2)
+    else after_data bytes (drop n rest)
+
+abbrev pub reading_of : List ℕ → Reading
+reading_of [] = more
+reading_of (b ∷ rest) =
+    if b == 36 then after_dollar rest
+    else if b == 43 then ack
+    else if b == 45 then nack
+    else if b == 3 then interrupt
+    else noise

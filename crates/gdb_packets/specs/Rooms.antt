@@ -1,0 +1,8 @@
+-- Texts that are put into a buffer that the caller lends.
+use Rattle.std.specs.Prelude.{◌≡◌, ℕ, ◌<◌, List, ◌++◌, drop, length, Option, Some, None}
+
+-- A text stands at the front of the room, before what stood behind that place; or it is longer than
+-- the room, which stays as it was.
+abbrev pub Writes : List ℕ → List ℕ → List ℕ → Option ℕ → Type 0
+Writes text old new (Some n) = (n ≡ length text) × (new ≡ text ++ drop (length text) old)
+Writes text old new None = (length old < length text) × (new ≡ old)

@@ -1,0 +1,104 @@
+//! What the bytes that came so far are.
+
+ghost use Rattle.std.specs.Prelude.{◌≡◌, ◌≤◌, length};
+ghost use Rattle.std.specs.List.{prefix_len};
+ghost use Rattle.gdb_packets.specs.Reading.{seen, reading_of, after_dollar, closed, is_data};
+ghost use Rattle.gdb_packets.specs.Reading.{digits_byte};
+
+use crate::framing::checksum;
+
+/// The most data bytes of a packet, as `PacketSize` of `qSupported` tells it in hexadecimal digits
+/// (4000). A longer packet is bad.
+pub const PACKET_SIZE: usize = 16_384;
+
+/// The most bytes of a packet with its frame: a buffer of so many bytes is never short of room.
+pub const FRAME_LIMIT: usize = PACKET_SIZE + 4;
+
+/// What the first of the bytes that came are.
+#[derive(Clone, Copy, Debug, PartialEq, Eq)]
+pub enum Input<'a> {
+    /// `$data#cc`: the data as they came, with their escapes, and the length of the whole.
+    Packet { bytes: &'a [u8], len: usize },
+    /// A packet with a wrong checksum, one that is too long or that the `$` of another one cuts
+    /// off. It has `len` bytes and is answered by `-`.
+    Bad { len: usize },
+    /// The byte 0x03: GDB's user wants the program to stop.
+    Interrupt,
+    /// `+`: the last packet came well.
+    Ack,
+    /// `-`: the last packet is to be sent again.
+    Nack,
+    /// A byte that begins nothing. It is skipped.
+    Noise,
+    /// More bytes are needed.
+    More,
+}
+
+/// The first input among the bytes that came so far.
+pub fn read_input(bytes: &[u8]) -> Input<'_>
+    ensures { seen result ≡ reading_of bytes.now }
+{
+    let Some((first, rest)) = bytes.split_first() else {
+        return Input::More;
+    };
+    match *first {
+        b'$' => read_packet(rest),
+        b'+' => Input::Ack,
+        b'-' => Input::Nack,
+        0x03 => Input::Interrupt,
+        _ => Input::Noise,
+    }
+}
+
+/// What follows a `$`.
+fn read_packet(rest: &[u8]) -> Input<'_>
+    ensures { seen result ≡ after_dollar rest.now }
+{
+    let (bytes, rest) = rest.split_at(data_len(rest));
+    if bytes.len() > PACKET_SIZE {
+        let len = PACKET_SIZE + 2;
+        return Input::Bad { len };
+    }
+    match rest.split_first() {
+        None => Input::More,
+        Some((b'$', _)) => Input::Bad {
+            len: bytes.len() + 1,
+        },
+        Some((_, rest)) => read_checksum(bytes, rest),
+    }
+}
+
+/// How many bytes stand before the first `#` or `$`, or in all.
+fn data_len(bytes: &[u8]) -> usize
+    ensures len { result ≡ prefix_len is_data bytes.now }
+    ensures within { result ≤ length bytes.now }
+{
+    let is_data = |b: &&u8| **b != b'#' && **b != b'$';
+    bytes.iter().take_while(is_data).count()
+}
+
+/// Data, and what follows their `#`.
+fn read_checksum<'a>(bytes: &'a [u8], rest: &[u8]) -> Input<'a>
+    ensures { seen result ≡ closed bytes.now rest.now }
+{
+    let [high, low, ..] = rest else {
+        return Input::More;
+    };
+    let len = bytes.len() + 4;
+    match byte_of(*high, *low) {
+        Some(sum) if sum == checksum(bytes) => Input::Packet { bytes, len },
+        _ => Input::Bad { len },
+    }
+}
+
+/// The byte of two hexadecimal digits, the high one first.
+#[tactic(auto, using(crate::proofs::DigitLemmas::byte_of_pair))]
+fn byte_of(high: u8, low: u8) -> Option<u8>
+    ensures { result ≡ digits_byte high low }
+{
+    let mut byte = [0];
+    match hex::decode_to_slice([high, low], &mut byte) {
+        Ok(()) => Some(byte[0]),
+        Err(_) => None,
+    }
+}

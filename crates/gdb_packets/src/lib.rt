@@ -1,0 +1,9 @@
+//! Packets of GDB's remote serial protocol (GDB's documentation, appendix "Remote Protocol"): what
+//! came, what a packet asks, and how an answer is framed. It keeps nothing and allocates nothing.
+#![tactic(auto)]
+
+mod framing;
+mod input;
+
+pub use framing::{checksum, unescape, write_packet};
+pub use input::{FRAME_LIMIT, Input, PACKET_SIZE, read_input};
