@@ -1,12 +1,12 @@
 -- What the bytes that came so far are (GDB's documentation, "Remote Protocol", "Overview").
-use Rattle.std.specs.Prelude.{ℕ, ◌+◌, ◌==◌, ◌||◌, nat_lt, not, Bool, false, if◌then◌else◌}
+use Rattle.std.specs.Prelude.{ℕ, ◌+◌, ◌<◌, ◌≤◌, ◌==◌, ◌||◌, nat_lt, not, Bool, false, if◌then◌else◌}
 use Rattle.std.specs.Prelude.{List, [], ◌∷◌, take, drop, length, Option, Some, None}
 use Rattle.std.specs.List.{prefix_len}
 use Rattle.std.specs.Result.{result_ok}
 use Rattle.hex.specs.Hex.{pair_value}
 use Rattle.gdb_packets.specs.declared.input.Input.{Input}
 use Rattle.gdb_packets.specs.declared.input.Input.TheVariants as input
-use Rattle.gdb_packets.specs.declared.input.TheConstants.{PACKET_SIZE}
+use Rattle.gdb_packets.specs.declared.input.TheConstants.{PACKET_SIZE, FRAME_LIMIT}
 use Rattle.gdb_packets.specs.Framing.{checksum_of}
 
 -- A packet has its data as they came and its length in bytes; a bad one has its length.
@@ -28,6 +28,19 @@ seen input.Ack = ack
 seen input.Nack = nack
 seen input.Noise = noise
 seen input.More = more
+
+-- How many bytes an input takes.
+abbrev pub taken : Reading → ℕ
+taken (packet bytes len) = len
+taken (bad len) = len
+taken more = 0
+taken _ = 1
+
+-- It takes at least one byte and no more than came; or more are needed, and fewer came than the
+-- longest packet has with its frame.
+abbrev pub Takes : List ℕ → Reading → Type 0
+Takes bytes more = length bytes < FRAME_LIMIT
+Takes bytes reading = (0 < taken reading) × (taken reading ≤ length bytes)
 
 -- Data go on up to a `#`, or to the `$` of another packet.
 abbrev pub is_data : ℕ → Bool

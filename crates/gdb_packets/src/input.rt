@@ -1,9 +1,10 @@
 //! What the bytes that came so far are.
 
-ghost use Rattle.std.specs.Prelude.{◌≡◌, ◌≤◌, length};
+ghost use Rattle.std.specs.Prelude.{◌≡◌, ◌≢◌, ◌≤◌, ◌++◌, length, ℕ, List};
 ghost use Rattle.std.specs.List.{prefix_len};
 ghost use Rattle.gdb_packets.specs.Reading.{seen, reading_of, after_dollar, closed, is_data};
-ghost use Rattle.gdb_packets.specs.Reading.{digits_byte};
+ghost use Rattle.gdb_packets.specs.Reading.{digits_byte, taken, Takes, packet, more};
+ghost use Rattle.gdb_packets.specs.Framing.{escaped, framed};
 
 use crate::framing::checksum;
 
@@ -34,8 +35,37 @@ pub enum Input<'a> {
     More,
 }
 
+impl Input<'_> {
+    /// How many bytes it takes: 0 where more are needed.
+    pub fn byte_count(&self) -> usize
+        ensures { result ≡ taken (seen self.now) }
+    {
+        match *self {
+            Input::Packet { len, .. } | Input::Bad { len } => len,
+            Input::More => 0,
+            _ => 1,
+        }
+    }
+}
+
 /// The first input among the bytes that came so far.
 pub fn read_input(bytes: &[u8]) -> Input<'_>
+    ensures exact { seen result ≡ reading_of bytes.now }
+
+    // It takes some of the bytes, or a bounded number of bytes is waited for.
+    ensures takes { Takes bytes.now (seen result) }
+    // What was framed is read again, whatever follows it.
+    ensures again { (payload rest : List ℕ) → length (escaped payload) ≤ PACKET_SIZE
+        → bytes.now ≡ framed payload ++ rest
+        → seen result ≡ packet (escaped payload) (length (framed payload)) }
+    // The bytes that come later change nothing of it.
+    ensures settled { (later : List ℕ) → seen result ≢ more
+        → reading_of (bytes.now ++ later) ≡ seen result }
+{
+    first_input(bytes)
+}
+
+fn first_input(bytes: &[u8]) -> Input<'_>
     ensures { seen result ≡ reading_of bytes.now }
 {
     let Some((first, rest)) = bytes.split_first() else {
