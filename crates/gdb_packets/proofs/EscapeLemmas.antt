@@ -1,10 +1,11 @@
 -- Escapes, and texts put into a room piece by piece.
 use Rattle.std.proofs.Common.{◌≡◌, ℕ, ◌+◌, ◌-◌, ◌<◌, ◌≤◌, ◌==◌, ◌||◌, Bool, true, false, cond, List, [], ◌∷◌, ◌++◌}
 use Rattle.std.proofs.Common.{length, take, drop, get_or, set, Option, Some, None, refl, ap, sym, ◌∙◌, arith, append_assoc}
-use Rattle.std.proofs.Common.{length-append, length-drop, bit_xor, option_map}
+use Rattle.std.proofs.Common.{length-append, length-drop, bit_xor, option_map, IfSome, subst}
 use Rattle.std.proofs.lemmas.List.{drop_more, nil_from_length, append-nil, take_at, drop_at, take-append-drop, drop-drop}
 use Rattle.std.proofs.lemmas.List.{length-take-le}
 use Rattle.std.proofs.lemmas.List.{take_rest, drop_all, drop-set-lt, take_more_set}
+use Rattle.std.proofs.lemmas.Bool.{eqb-true}
 use borrow.Rule.Slice.PartMut.{put_mid}
 use Rattle.gdb_packets.specs.Framing.{escape_of, escaped, is_reserved, payload_of, with_first}
 
@@ -120,6 +121,49 @@ module _ (bytes old room : List ℕ) (len i : ℕ) (below : i < length bytes) wh
           ∙ ap (λ z. after_front (take len room) (payload_of (125 ∷ z))) (sym (drop_more bytes i 0 below)) ∙ h.payload;
         rest = rest_step b h.rest;
       }
+
+-- The four bytes that are escaped.
+pub reserved_cases : (P : ℕ → Type 0) → P 35 → P 36 → P 125 → P 42 → (b : ℕ) → is_reserved b ≡ true → P b
+reserved_cases P p q r s b h = by (b == 35) (b == 36) (b == 125) (b == 42) refl refl refl refl h where
+  by : (t u v w : Bool) → (b == 35) ≡ t → (b == 36) ≡ u → (b == 125) ≡ v → (b == 42) ≡ w → (t || u || v || w) ≡ true → P b
+  by true u v w e f g k all = subst P (sym (eqb-true b 35 e)) p
+  by false true v w e f g k all = subst P (sym (eqb-true b 36 f)) q
+  by false false true w e f g k all = subst P (sym (eqb-true b 125 g)) r
+  by false false false true e f g k all = subst P (sym (eqb-true b 42 k)) s
+  by false false false false e f g k all = cc
+
+-- What was escaped comes back.
+twice_turned : (b : ℕ) → is_reserved b ≡ true → bit_xor (bit_xor b 32) 32 ≡ b
+twice_turned = reserved_cases (λ b. bit_xor (bit_xor b 32) 32 ≡ b) refl refl refl refl
+
+no_escape : (b : ℕ) → is_reserved b ≡ false → (b == 125) ≡ false
+no_escape b h = by (b == 35) (b == 36) (b == 125) refl h where
+  by : (t u v : Bool) → (b == 125) ≡ v → (t || u || v || (b == 42)) ≡ false → v ≡ false
+  by true u v e all = cc
+  by false true v e all = cc
+  by false false true e all = cc
+  by false false false e all = refl
+
+again_by : (b : ℕ) (t : Bool) → is_reserved b ≡ t → (rest payload : List ℕ) → payload_of rest ≡ Some payload
+    → payload_of (escape_of b ++ rest) ≡ Some (b ∷ payload)
+unfolding payload_of
+again_by b true h rest payload e = rw (h, e, twice_turned b h) refl
+again_by b false h rest payload e = rw h (payload_of-plain b rest (no_escape b h) ∙ ap (with_first b) e)
+
+pub payload_of-escaped : (payload : List ℕ) → payload_of (escaped payload) ≡ Some payload
+unfolding payload_of
+payload_of-escaped [] = refl
+payload_of-escaped (b ∷ payload) = again_by b (is_reserved b) refl (escaped payload) payload (payload_of-escaped payload)
+
+pub escaped_again : (bytes new : List ℕ) (r : Option ℕ) → payload_of bytes ≡ option_map (λ n. take n new) r → IfSome r (λ n. n ≤ length new)
+    → (payload : List ℕ) → bytes ≡ escaped payload → (r ≡ Some (length payload)) × (take (length payload) new ≡ payload)
+escaped_again bytes new None e fits payload h =
+    let none : Some payload ≡ None = sym (payload_of-escaped payload) ∙ ap payload_of (sym h) ∙ e in cc
+escaped_again bytes new (Some n) e fits payload h =
+    let some : Some payload ≡ Some (take n new) = sym (payload_of-escaped payload) ∙ ap payload_of (sym h) ∙ e in
+    let same : payload ≡ take n new = cc in
+    let len : length payload ≡ n = ap length same ∙ length-take-le n new fits in
+    (ap Some (sym len), ap (λ k. take k new) len ∙ sym same)
 
 -- The end of the data.
 pub plain_end : (bytes front : List ℕ) (i : ℕ) (whole : Option (List ℕ)) → length bytes ≤ i

@@ -11,18 +11,9 @@ use Rattle.hex.proofs.HexLemmas.{decode_sized-encode_lower}
 use Rattle.gdb_packets.specs.Framing.{escape_of, escaped, framed, frame_of, is_reserved, checksum_of}
 use Rattle.gdb_packets.specs.Reading.{Reading, packet, bad, more, is_data, is_value, digits_byte, closed, after_data, after_dollar, reading_of, taken, Takes}
 use Rattle.gdb_packets.specs.declared.input.TheConstants.{PACKET_SIZE, FRAME_LIMIT}
+use Rattle.gdb_packets.proofs.EscapeLemmas.{reserved_cases}
 use Rattle.gdb_packets.proofs.FrameLemmas.{length-frame_of}
 use Rattle.gdb_packets.proofs.DigitLemmas.{first_of, digits_byte-decode_sized}
-
--- The four bytes that are escaped.
-pub reserved_cases : (P : ℕ → Type 0) → P 35 → P 36 → P 125 → P 42 → (b : ℕ) → is_reserved b ≡ true → P b
-reserved_cases P p q r s b h = by (b == 35) (b == 36) (b == 125) (b == 42) refl refl refl refl h where
-  by : (t u v w : Bool) → (b == 35) ≡ t → (b == 36) ≡ u → (b == 125) ≡ v → (b == 42) ≡ w → (t || u || v || w) ≡ true → P b
-  by true u v w e f g k all = subst P (sym (eqb-true b 35 e)) p
-  by false true v w e f g k all = subst P (sym (eqb-true b 36 f)) q
-  by false false true w e f g k all = subst P (sym (eqb-true b 125 g)) r
-  by false false false true e f g k all = subst P (sym (eqb-true b 42 k)) s
-  by false false false false e f g k all = cc
 
 turned_is_data : (b : ℕ) → is_reserved b ≡ true → is_data (bit_xor b 32) ≡ true
 turned_is_data = reserved_cases (λ b. is_data (bit_xor b 32) ≡ true) refl refl refl refl

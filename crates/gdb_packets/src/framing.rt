@@ -1,7 +1,7 @@
 //! Payloads, their escapes and their frames.
 
 ghost use Rattle.std.specs.Prelude.{◌≡◌, ◌+◌, ◌-◌, ◌≤◌, ◌∷◌, [], ◌++◌, length, take, drop};
-ghost use Rattle.std.specs.Prelude.{IfSome, option_map};
+ghost use Rattle.std.specs.Prelude.{IfSome, option_map, List, ℕ};
 ghost use Rattle.std.specs.Option.{SomeIff};
 ghost use Rattle.hex.specs.Hex.{encode_lower};
 ghost use Rattle.gdb_packets.specs.Framing.{checksum_of, escape_of, escaped, payload_of, framed, is_reserved};
@@ -107,6 +107,9 @@ pub fn unescape(bytes: &[u8], room: &mut [u8]) -> Option<usize>
     ensures payload { payload_of bytes.now ≡ option_map (λ n. take n room.new) result }
     ensures len { IfSome result (λ n. n ≤ length bytes.now) }
     ensures rest { IfSome result (λ n. drop n room.new ≡ drop n room.old) }
+    // What was escaped comes back.
+    ensures again { (payload : List ℕ) → bytes.now ≡ escaped payload
+        → (result ≡ Some (length payload)) × (take (length payload) room.new ≡ payload) }
 {
     let mut len = 0;
     let mut escaped = false;

@@ -1,6 +1,6 @@
-use Rattle.std.proofs.Common.{◌≡◌, ◌<◌, ◌==◌, length, take, get_or, arith, false}
+use Rattle.std.proofs.Common.{◌≡◌, ◌<◌, ◌==◌, length, take, get_or, arith, false, Some, None}
 use Rattle.std.proofs.lemmas.Bool.{ne_eqb}
-use Rattle.gdb_packets.proofs.EscapeLemmas.{IsUnescaped, plain_step, escape_step, turned_step, plain_end, turned_end}
+use Rattle.gdb_packets.proofs.EscapeLemmas.{IsUnescaped, plain_step, escape_step, turned_step, plain_end, turned_end, escaped_again}
 use Rattle.gdb_packets.proofs.framing.unescape.Goals as goal
 use Rattle.gdb_packets.proofs.framing.unescape.Goals.{then-escaped, else-escaped+then-byte-eq-ESCAPE, else-escaped+else-byte-eq-ESCAPE}
 
@@ -30,3 +30,11 @@ pub returns-else-escaped-2-clause-payload : goal.returns-else-escaped-2-clause-p
 returns-else-escaped-2-clause-payload c =
     let k = rw c.if-escaped-2.false at c.loop-byte.invariant.payload in
     plain_end c.args.bytes.now _ c.loop-byte.byte-index _ (omega arith) k
+
+pub returns-then-escaped-2-clause-again : goal.returns-then-escaped-2-clause-again
+returns-then-escaped-2-clause-again c =
+    escaped_again c.args.bytes.now c.loop-byte.room None (returns-then-escaped-2-clause-payload c) tt
+
+pub returns-else-escaped-2-clause-again : goal.returns-else-escaped-2-clause-again
+returns-else-escaped-2-clause-again c =
+    escaped_again c.args.bytes.now c.loop-byte.room (Some c.loop-byte.len) (returns-else-escaped-2-clause-payload c) (omega (arith, c.loop-byte.invariant.fits))
