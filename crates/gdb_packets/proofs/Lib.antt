@@ -2,3 +2,4 @@ pub mod DigitLemmas
 pub mod EscapeLemmas
 pub mod FrameLemmas
 pub mod ReadingLemmas
+pub mod NumberLemmas

@@ -1,3 +1,4 @@
 pub mod Framing
 pub mod Reading
 pub mod Rooms
+pub mod Digits

@@ -2,8 +2,10 @@
 //! came, what a packet asks, and how an answer is framed. It keeps nothing and allocates nothing.
 #![tactic(auto)]
 
+mod digits;
 mod framing;
 mod input;
 
+pub use digits::{read_number, write_hex, write_number};
 pub use framing::{checksum, unescape, write_packet};
 pub use input::{FRAME_LIMIT, Input, PACKET_SIZE, read_input};

@@ -1,0 +1,97 @@
+//! Numbers and bytes as hexadecimal digits.
+
+ghost use Rattle.std.specs.Prelude.{◌≡◌, ◌^◌, ◌*◌, ◌<◌, ◌≤◌, length, take, drop, ℕ, List, false};
+ghost use Rattle.std.specs.Option.{SomeIff};
+ghost use Rattle.std.specs.Fmt.{digits, digit_glyph};
+ghost use Rattle.std.specs.Int.{to_le_bytes, w64};
+ghost use Rattle.std.specs.Str.Parse.{digits_value, AllDigits};
+ghost use Rattle.hex.specs.Hex.{encode_lower, IsBytes};
+ghost use Rattle.gdb_packets.specs.Digits.{IsNumber, Puts, hex_bytes};
+ghost use Rattle.gdb_packets.specs.Rooms.{Writes};
+
+/// The most digits of a number.
+const NUMBER_LEN: usize = 16;
+
+/// The number of 1 to 16 digits, the highest first, as GDB writes addresses, lengths and thread ids.
+pub fn read_number(text: &[u8]) -> Option<u64>
+    ensures exact { SomeIff result (IsNumber text.now) (digits_value 16 text.now) }
+    // What was written is read again.
+    ensures again { (value : ℕ) → value < 2 ^ 64 → text.now ≡ digits 16 false value
+        → result ≡ Some value }
+{
+    if text.is_empty() || text.len() > NUMBER_LEN {
+        return None;
+    }
+    digits_number(text)
+}
+
+/// The number of at most 16 digits.
+fn digits_number(text: &[u8]) -> Option<u64>
+    requires { length text.now ≤ 16 }
+    ensures { SomeIff result (AllDigits 16 text.now) (digits_value 16 text.now) }
+{
+    let mut value = 0;
+    for byte in text {
+        let digit = char::from(*byte).to_digit(16)?;
+        value = value * 16 + u64::from(digit);
+    }
+    Some(value)
+}
+
+/// Puts the digits of a number at the front of a room, with no leading zeros. Returns how many
+/// they are, or `None` where they are more than the room has, which then stays as it was.
+pub fn write_number(value: u64, room: &mut [u8]) -> Option<usize>
+    ensures { Writes (digits 16 false value) room.old room.new result }
+{
+    let mut text = [0; NUMBER_LEN];
+    let start = write_backwards(value, &mut text);
+    let len = NUMBER_LEN - start;
+    if len > room.len() {
+        return None;
+    }
+    room[..len].copy_from_slice(&text[start..]);
+    Some(len)
+}
+
+/// Puts the digits of a number at the end of a text, and returns where they start.
+fn write_backwards(value: u64, text: &mut [u8; NUMBER_LEN]) -> usize
+    ensures within { result ≤ 16 }
+    ensures digits { drop result text.new ≡ digits 16 false value }
+{
+    let mut start = NUMBER_LEN;
+    let mut rest = value;
+    while start > 0 {
+        start -= 1;
+        text[start] = digit_of((rest % 16) as u8);
+        rest /= 16;
+        if rest == 0 {
+            break;
+        }
+    }
+    start
+}
+
+/// A digit below 16 as text.
+fn digit_of(value: u8) -> u8
+    requires { value < 16 }
+    ensures { result ≡ digit_glyph false value }
+{
+    if value < 10 {
+        b'0' + value
+    } else {
+        b'a' - 10 + value
+    }
+}
+
+/// Puts two digits for each byte at the front of a room. Returns how many digits they are, or
+/// `None` where they are more than the room has, which then stays as it was.
+pub fn write_hex(bytes: &[u8], room: &mut [u8]) -> Option<usize>
+    ensures { Writes (encode_lower bytes.now) room.old room.new result }
+{
+    let len = bytes.len().checked_mul(2)?;
+    if len > room.len() {
+        return None;
+    }
+    let _ = hex::encode_to_slice(bytes, &mut room[..len]);
+    Some(len)
+}
