@@ -1,8 +1,11 @@
 -- Numbers and bytes as hexadecimal digits.
-use Rattle.std.specs.Prelude.{◌≡◌, ℕ, ◌≤◌, List, [], ◌++◌, drop, length, Option, Some, None}
+use Rattle.std.specs.Prelude.{◌≡◌, ℕ, ◌≤◌, ◌%◌, ◌==◌, nat_lt, nat_le, ◌&&◌, Bool, if◌then◌else◌}
+use Rattle.std.specs.Prelude.{List, ◌++◌, drop, length, Option, Some, None, option_map}
+use Rattle.std.specs.List.{list_all}
+use Rattle.std.specs.Int.{from_le_bytes, w64}
 use Rattle.std.specs.Result.{result_ok}
 use Rattle.std.specs.Str.Parse.{IsNumeral}
-use Rattle.hex.specs.Hex.{decode_of}
+use Rattle.hex.specs.Hex.{decode_of, is_hex_digit}
 
 -- A number of at most 64 bits is 1 to 16 digits of either case.
 pub record IsNumber (text : List ℕ) : Type 0 where
@@ -18,3 +21,13 @@ hex_bytes text = result_ok (decode_of text)
 abbrev pub Puts : Option (List ℕ) → List ℕ → List ℕ → Option ℕ → Type 0
 Puts (Some bytes) old new r = (r ≡ Some (length bytes)) × (new ≡ bytes ++ drop (length bytes) old)
 Puts None old new r = (r ≡ None) × (new ≡ old)
+
+-- The value of a register from the digits of its 1 to 8 bytes, the lowest byte first.
+abbrev pub register_of : List ℕ → Option ℕ
+register_of text =
+    if nat_lt 0 (length text) && nat_le (length text) 16
+    then option_map (from_le_bytes w64) (hex_bytes text) else None
+
+-- Two digits for each byte.
+abbrev pub is_hex_text : List ℕ → Bool
+is_hex_text text = (length text % 2 == 0) && list_all is_hex_digit text

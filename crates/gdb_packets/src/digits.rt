@@ -1,12 +1,13 @@
 //! Numbers and bytes as hexadecimal digits.
 
 ghost use Rattle.std.specs.Prelude.{◌≡◌, ◌^◌, ◌*◌, ◌<◌, ◌≤◌, length, take, drop, ℕ, List, false};
+ghost use Rattle.std.specs.List.{list_all};
 ghost use Rattle.std.specs.Option.{SomeIff};
 ghost use Rattle.std.specs.Fmt.{digits, digit_glyph};
 ghost use Rattle.std.specs.Int.{to_le_bytes, w64};
 ghost use Rattle.std.specs.Str.Parse.{digits_value, AllDigits};
-ghost use Rattle.hex.specs.Hex.{encode_lower, IsBytes};
-ghost use Rattle.gdb_packets.specs.Digits.{IsNumber, Puts, hex_bytes};
+ghost use Rattle.hex.specs.Hex.{encode_lower, IsBytes, is_hex_digit};
+ghost use Rattle.gdb_packets.specs.Digits.{IsNumber, Puts, hex_bytes, is_hex_text, register_of};
 ghost use Rattle.gdb_packets.specs.Rooms.{Writes};
 
 /// The most digits of a number.
@@ -94,4 +95,65 @@ pub fn write_hex(bytes: &[u8], room: &mut [u8]) -> Option<usize>
     }
     let _ = hex::encode_to_slice(bytes, &mut room[..len]);
     Some(len)
+}
+
+/// Whether a text has two digits, of either case, for each of some bytes.
+pub fn is_hex(text: &[u8]) -> bool
+    ensures { result ≡ is_hex_text text.now }
+{
+    text.len() % 2 == 0 && are_digits(text)
+}
+
+fn are_digits(text: &[u8]) -> bool
+    ensures { result ≡ list_all is_hex_digit text.now }
+{
+    text.iter().all(|byte| is_digit(*byte))
+}
+
+fn is_digit(byte: u8) -> bool
+    ensures { result ≡ is_hex_digit byte }
+{
+    matches!(byte, b'0'..=b'9' | b'a'..=b'f' | b'A'..=b'F')
+}
+
+/// Puts the bytes of a text with two digits for each at the front of a room. Returns how many they
+/// are, or `None` where the text is no such text; the room then stays as it was.
+pub fn read_hex(text: &[u8], room: &mut [u8]) -> Option<usize>
+    requires { length text.now ≤ 2 * length room.old }
+    ensures exact { Puts (hex_bytes text.now) room.old room.new result }
+    // What was written is read again.
+    ensures again { (bytes : List ℕ) → IsBytes bytes → text.now ≡ encode_lower bytes
+        → (result ≡ Some (length bytes)) × (take (length bytes) room.new ≡ bytes) }
+{
+    if !is_hex(text) {
+        return None;
+    }
+    let len = text.len() / 2;
+    let _ = hex::decode_to_slice(text, &mut room[..len]);
+    Some(len)
+}
+
+/// Puts the digits of a register's value at the front of a room: those of the `size` low bytes, the
+/// lowest first. Returns how many they are, or `None` where they are more than the room has, which
+/// then stays as it was.
+pub fn write_register(value: u64, size: usize, room: &mut [u8]) -> Option<usize>
+    requires { size ≤ 8 }
+    ensures { Writes (encode_lower (take size (to_le_bytes w64 value))) room.old room.new result }
+{
+    write_hex(&value.to_le_bytes()[..size], room)
+}
+
+/// The value of a register from the digits of its 1 to 8 bytes, the lowest first.
+pub fn read_register(text: &[u8]) -> Option<u64>
+    ensures exact { result ≡ register_of text.now }
+    // What was written is read again.
+    ensures again { (value size : ℕ) → 0 < size → size ≤ 8 → value < 256 ^ size
+        → text.now ≡ encode_lower (take size (to_le_bytes w64 value)) → result ≡ Some value }
+{
+    if text.is_empty() || text.len() > NUMBER_LEN {
+        return None;
+    }
+    let mut bytes = [0; 8];
+    read_hex(text, &mut bytes)?;
+    Some(u64::from_le_bytes(bytes))
 }

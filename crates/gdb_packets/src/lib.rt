@@ -6,6 +6,6 @@ mod digits;
 mod framing;
 mod input;
 
-pub use digits::{read_number, write_hex, write_number};
+pub use digits::{is_hex, read_hex, read_number, read_register, write_hex, write_number, write_register};
 pub use framing::{checksum, unescape, write_packet};
 pub use input::{FRAME_LIMIT, Input, PACKET_SIZE, read_input};
