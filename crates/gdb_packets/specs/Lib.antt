@@ -2,3 +2,4 @@ pub mod Framing
 pub mod Reading
 pub mod Rooms
 pub mod Digits
+pub mod Texts

@@ -2,10 +2,14 @@
 //! came, what a packet asks, and how an answer is framed. It keeps nothing and allocates nothing.
 #![tactic(auto)]
 
+mod command;
 mod digits;
 mod framing;
 mod input;
+mod text;
 
+pub use command::{Action, Command, FileCall, Id, Point, Thread};
 pub use digits::{is_hex, read_hex, read_number, read_register, write_hex, write_number, write_register};
 pub use framing::{checksum, unescape, write_packet};
 pub use input::{FRAME_LIMIT, Input, PACKET_SIZE, read_input};
+pub use text::split_once;

@@ -1,0 +1,15 @@
+-- Texts cut at separators.
+use Rattle.std.specs.Prelude.{ℕ, ◌==◌, nat_lt, Bool, if◌then◌else◌, List, length, Option, Some, None}
+use Rattle.std.specs.Prelude.{option_map}
+use Rattle.std.specs.Borrow.{Bor}
+use Rattle.std.specs.List.{position_or_len, before_first, after_first}
+
+-- What stands before the first byte that passes, and what stands after it, if one passes.
+abbrev pub cut_at : (ℕ → Bool) → List ℕ → Option (List ℕ × List ℕ)
+cut_at p text =
+    if nat_lt (position_or_len p text) (length text)
+    then Some (before_first p text, after_first p text) else None
+
+-- Two parts of a text without where they lie in memory.
+abbrev pub parts : Option (Bor (List ℕ) × Bor (List ℕ)) → Option (List ℕ × List ℕ)
+parts o = option_map (λ p. (p.0.now, p.1.now)) o

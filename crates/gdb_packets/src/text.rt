@@ -1,0 +1,25 @@
+//! Texts cut at separators.
+
+ghost use Rattle.std.specs.Prelude.{◌≡◌, ◌==◌, ◌≤◌, length};
+ghost use Rattle.std.specs.List.{position_or_len};
+ghost use Rattle.gdb_packets.specs.Texts.{cut_at, parts};
+
+/// The text before the first separator and the text after it, if there is one.
+pub fn split_once(text: &[u8], separator: u8) -> Option<(&[u8], &[u8])>
+    ensures { parts result ≡ cut_at (λ b. b == separator) text.now }
+{
+    let end = front_len(text, separator);
+    if end < text.len() {
+        Some((&text[..end], &text[end + 1..]))
+    } else {
+        None
+    }
+}
+
+/// How many bytes stand before the first separator, or in all.
+fn front_len(text: &[u8], separator: u8) -> usize
+    ensures len { result ≡ position_or_len (λ b. b == separator) text.now }
+    ensures within { result ≤ length text.now }
+{
+    text.iter().take_while(|b| **b != separator).count()
+}
