@@ -96,18 +96,18 @@ module _ (bytes old room : List ℕ) (len i : ℕ) (below : i < length bytes) wh
       record {
         fits = omega (arith, h.fits);
         payload = sym (front_step b (payload_of more) within)
-          ∙ ap (after_front (take len room)) (sym (payload_of-plain b more plain) ∙ ap payload_of (sym (drop_more bytes i 0 below)))
-          ∙ h.payload;
+            ∙ ap (after_front (take len room)) (sym (payload_of-plain b more plain) ∙ ap payload_of (sym (drop_more bytes i 0 below)))
+            ∙ h.payload;
         rest = rest_step b h.rest;
       }
 
   pub escape_step : get_or bytes i 0 ≡ 125 → IsUnescaped bytes old room len i false → IsUnescaped bytes old room len (i + 1) true
   escape_step same h = record {
-      fits = omega (arith, h.fits);
-      payload = ap (λ z. after_front (take len room) (payload_of (z ∷ drop (i + 1) bytes))) (sym same)
+    fits = omega (arith, h.fits);
+    payload = ap (λ z. after_front (take len room) (payload_of (z ∷ drop (i + 1) bytes))) (sym same)
         ∙ ap (λ z. after_front (take len room) (payload_of z)) (sym (drop_more bytes i 0 below)) ∙ h.payload;
-      rest = h.rest;
-    }
+    rest = h.rest;
+  }
 
   pub turned_step : len < length room → IsUnescaped bytes old room len i true
       → IsUnescaped bytes old (set room len (bit_xor (get_or bytes i 0) 32)) (len + 1) (i + 1) false
@@ -118,7 +118,7 @@ module _ (bytes old room : List ℕ) (len i : ℕ) (below : i < length bytes) wh
       record {
         fits = omega (arith, h.fits);
         payload = sym (front_step b (payload_of more) within)
-          ∙ ap (λ z. after_front (take len room) (payload_of (125 ∷ z))) (sym (drop_more bytes i 0 below)) ∙ h.payload;
+            ∙ ap (λ z. after_front (take len room) (payload_of (125 ∷ z))) (sym (drop_more bytes i 0 below)) ∙ h.payload;
         rest = rest_step b h.rest;
       }
 

@@ -69,7 +69,7 @@ padded_at : (bytes : List ℕ) (n i : ℕ) → get_or (bytes ++ drop n zeros) i 
 padded_at bytes n i = elim (cases_lt i (length bytes)) [
   | inl below ↦ get_or_append_left bytes (drop n zeros) 0 i below
   | inr past ↦ get_or-append_right bytes (drop n zeros) (length bytes) i 0 refl past
-    ∙ get_or-drop n zeros (i - length bytes) 0 ∙ zeros_at (n + (i - length bytes)) ∙ sym (get_or_past bytes i 0 past)
+      ∙ get_or-drop n zeros (i - length bytes) 0 ∙ zeros_at (n + (i - length bytes)) ∙ sym (get_or_past bytes i 0 past)
 ]
 
 register_by : (text bytes new : List ℕ) (n : ℕ) → hex_bytes text ≡ Some bytes → new ≡ bytes ++ drop (length bytes) zeros
@@ -126,11 +126,11 @@ below_power n i j h small =
 low_at : (size n i : ℕ) → size ≤ 8 → n < 256 ^ size → get_or (bytes_low_first 0 size n) i 0 ≡ get_or (bytes_low_first 0 8 n) i 0
 low_at size n i fits small = elim (cases_lt i size) [
   | inl below ↦
-    ap (λ z. get_or z i 0) (sym (low_bytes 0 size 8 n fits)) ∙ get_or-take size (bytes_low_first 0 8 n) i 0 below
+      ap (λ z. get_or z i 0) (sym (low_bytes 0 size 8 n fits)) ∙ get_or-take size (bytes_low_first 0 8 n) i 0 below
   | inr past ↦
-    let over : length (bytes_low_first 0 size n) ≤ i = omega (arith, length-low 0 size n) in
-    let high : n < 256 ^ (0 + i) = below_power n size (0 + i) (omega arith) small in
-    get_or_past (bytes_low_first 0 size n) i 0 over ∙ sym (high_zero 0 8 n i high)
+      let over : length (bytes_low_first 0 size n) ≤ i = omega (arith, length-low 0 size n) in
+      let high : n < 256 ^ (0 + i) = below_power n size (0 + i) (omega arith) small in
+      get_or_past (bytes_low_first 0 size n) i 0 over ∙ sym (high_zero 0 8 n i high)
 ]
 
 low_value : (size n : ℕ) → size ≤ 8 → n < 256 ^ size → from_le_bytes w64 (bytes_low_first 0 size n) ≡ n
@@ -163,4 +163,4 @@ none_by false u o h = refl
 pub register_none : (text : List ℕ) → (0 < length text → length text ≤ 16 → ⊥) → None ≡ register_of text
 register_none text h =
     none_by (nat_lt 0 (length text)) (nat_le (length text) 16) (option_map (from_le_bytes w64) (hex_bytes text))
-      (λ t u. h (ltb-true 0 (length text) t) (leb-true (length text) 16 u))
+    (λ t u. h (ltb-true 0 (length text) t) (leb-true (length text) 16 u))

@@ -43,7 +43,7 @@ digits_room (suc j) (suc k) n after some fits small =
     let next : n / 16 < 16 ^ j = div_below n 16 (16 ^ j) (omega arith) (rw (← pow-suc 16 j) small) in
     let digit = digit_glyph false (n % 16) in
     same_choice (n / 16 == 0) (digit ∷ after) (digits_onto j 16 false (n / 16) (digit ∷ after)) (digits_onto k 16 false (n / 16) (digit ∷ after))
-      (λ t. digits_room j k (n / 16) (digit ∷ after) (no_digits (n / 16) j next (eqb-false (n / 16) 0 t)) (omega arith) next)
+    (λ t. digits_room j k (n / 16) (digit ∷ after) (no_digits (n / 16) j next (eqb-false (n / 16) 0 t)) (omega arith) next)
 
 pub digits-sixteen : (n : ℕ) → n < 2 ^ 64 → digits_onto 16 16 false n [] ≡ digits 16 false n
 unfolding digits
@@ -53,7 +53,7 @@ length-digits_onto : (k n : ℕ) (after : List ℕ) → length (digits_onto k 16
 length-digits_onto zero n after = omega arith
 length-digits_onto (suc k) n after = by (n / 16 == 0) (length-digits_onto k (n / 16) (digit_glyph false (n % 16) ∷ after)) where
   by : (t : Bool) → length (digits_onto k 16 false (n / 16) (digit_glyph false (n % 16) ∷ after)) ≤ k + length (digit_glyph false (n % 16) ∷ after)
-    → length (cond t (digit_glyph false (n % 16) ∷ after) (digits_onto k 16 false (n / 16) (digit_glyph false (n % 16) ∷ after))) ≤ suc k + length after
+      → length (cond t (digit_glyph false (n % 16) ∷ after) (digits_onto k 16 false (n / 16) (digit_glyph false (n % 16) ∷ after))) ≤ suc k + length after
   by true h = omega arith
   by false h = omega arith
 

@@ -89,13 +89,13 @@ takes_closed all bytes [] e fits = omega arith
 takes_closed all bytes (high ∷ []) e fits = omega arith
 takes_closed all bytes (high ∷ low ∷ rest) e fits =
     takes_choice all (is_value (digits_byte high low) (checksum_of bytes)) (packet bytes (length bytes + 4)) (bad (length bytes + 4))
-      (λ _. (omega arith, omega arith)) (λ _. (omega arith, omega arith))
+    (λ _. (omega arith, omega arith)) (λ _. (omega arith, omega arith))
 
 takes_data : (all bytes rest : List ℕ) → length all ≡ length bytes + 1 + length rest → length bytes ≤ PACKET_SIZE → Takes all (after_data bytes rest)
 takes_data all bytes [] e fits = omega arith
 takes_data all bytes (b ∷ rest) e fits =
     takes_choice all (b == 36) (bad (length bytes + 1)) (closed bytes rest)
-      (λ _. (omega arith, omega arith)) (λ _. takes_closed all bytes rest (omega arith) fits)
+    (λ _. (omega arith, omega arith)) (λ _. takes_closed all bytes rest (omega arith) fits)
 
 takes_dollar : (b : ℕ) (rest : List ℕ) → Takes (b ∷ rest) (after_dollar rest)
 takes_dollar b rest =
@@ -104,16 +104,16 @@ takes_dollar b rest =
     let len : length (take n rest) ≡ n = length-take-le n rest within in
     let left : length (drop n rest) ≡ length rest - n = length-drop n rest in
     takes_choice (b ∷ rest) (nat_lt PACKET_SIZE (length (take n rest))) (bad (PACKET_SIZE + 2)) (after_data (take n rest) (drop n rest))
-      (λ t. let long = ltb-true PACKET_SIZE (length (take n rest)) t in (omega arith, omega arith))
-      (λ t. let short = ltb-false PACKET_SIZE (length (take n rest)) t in takes_data (b ∷ rest) (take n rest) (drop n rest) (omega arith) short)
+    (λ t. let long = ltb-true PACKET_SIZE (length (take n rest)) t in (omega arith, omega arith))
+    (λ t. let short = ltb-false PACKET_SIZE (length (take n rest)) t in takes_data (b ∷ rest) (take n rest) (drop n rest) (omega arith) short)
 
 pub takes : (bytes : List ℕ) → Takes bytes (reading_of bytes)
 takes [] = omega arith
 takes (b ∷ rest) =
     takes_choice (b ∷ rest) (b == 36) (after_dollar rest) _ (λ _. takes_dollar b rest)
-      (λ _. takes_choice (b ∷ rest) (b == 43) _ _ (λ _. (omega arith, omega arith))
-      (λ _. takes_choice (b ∷ rest) (b == 45) _ _ (λ _. (omega arith, omega arith))
-      (λ _. takes_choice (b ∷ rest) (b == 3) _ _ (λ _. (omega arith, omega arith)) (λ _. (omega arith, omega arith)))))
+    (λ _. takes_choice (b ∷ rest) (b == 43) _ _ (λ _. (omega arith, omega arith))
+    (λ _. takes_choice (b ∷ rest) (b == 45) _ _ (λ _. (omega arith, omega arith))
+    (λ _. takes_choice (b ∷ rest) (b == 3) _ _ (λ _. (omega arith, omega arith)) (λ _. (omega arith, omega arith)))))
 
 -- What comes later changes nothing.
 one_more : (t : Bool) (m n k : ℕ) → (n < k → m ≡ n) → cond t (1 + n) 0 < 1 + k → cond t (1 + m) 0 ≡ cond t (1 + n) 0
@@ -157,8 +157,8 @@ settled_begun rest later n m e f below known =
     let left = drop-append-le n rest later (omega arith) in
     let k = rw (← e) at known in
     rw (← f, ← e, same, bytes, left)
-      (settled_choice (nat_lt PACKET_SIZE (length (take n rest))) (bad (PACKET_SIZE + 2)) (after_data (take n rest) (drop n rest))
-        (after_data (take n rest) (drop n rest ++ later)) (settled_data (take n rest) (drop n rest) later) k)
+    (settled_choice (nat_lt PACKET_SIZE (length (take n rest))) (bad (PACKET_SIZE + 2)) (after_data (take n rest) (drop n rest))
+    (after_data (take n rest) (drop n rest ++ later)) (settled_data (take n rest) (drop n rest) later) k)
 
 long_dollar : (rest : List ℕ) → PACKET_SIZE < prefix_len is_data rest → after_dollar rest ≡ bad (PACKET_SIZE + 2)
 long_dollar rest long =
@@ -179,8 +179,8 @@ settled_all : (rest later : List ℕ) → length rest ≤ prefix_len is_data res
     → after_dollar (rest ++ later) ≡ after_dollar rest
 settled_all rest later all known = elim (cases_lt PACKET_SIZE (length rest)) [
   | inl long ↦
-    let more = prefix_all is_data rest later all in
-    long_dollar (rest ++ later) (omega arith) ∙ sym (long_dollar rest (omega arith))
+      let more = prefix_all is_data rest later all in
+      long_dollar (rest ++ later) (omega arith) ∙ sym (long_dollar rest (omega arith))
   | inr short ↦ absurd (known (short_dollar rest all short))
 ]
 

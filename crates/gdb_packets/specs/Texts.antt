@@ -1,5 +1,5 @@
 -- Texts cut at separators.
-use Rattle.std.specs.Prelude.{ℕ, ◌==◌, nat_lt, Bool, if◌then◌else◌, List, length, Option, Some, None}
+use Rattle.std.specs.Prelude.{ℕ, ◌==◌, nat_lt, Bool, if◌then◌else◌, List, [], ◌∷◌, length, Option, Some, None}
 use Rattle.std.specs.Prelude.{option_map}
 use Rattle.std.specs.Borrow.{Bor}
 use Rattle.std.specs.List.{position_or_len, before_first, after_first}
@@ -13,3 +13,11 @@ cut_at p text =
 -- Two parts of a text without where they lie in memory.
 abbrev pub parts : Option (Bor (List ℕ) × Bor (List ℕ)) → Option (List ℕ × List ℕ)
 parts o = option_map (λ p. (p.0.now, p.1.now)) o
+
+-- What stands behind a first byte, if a text begins with it.
+abbrev pub after : ℕ → List ℕ → Option (List ℕ)
+after first [] = None
+after first (b ∷ rest) = if b == first then Some rest else None
+
+abbrev pub rest_of : Option (Bor (List ℕ)) → Option (List ℕ)
+rest_of o = option_map (λ r. r.now) o

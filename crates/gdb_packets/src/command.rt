@@ -10,15 +10,28 @@ pub enum Command<'a> {
     /// `g`: all registers.
     ReadRegisters,
     /// `G XX..`: all registers, in digits.
-    WriteRegisters { digits: &'a [u8] },
+    WriteRegisters {
+        digits: &'a [u8],
+    },
     /// `p N`: one register.
-    ReadRegister { number: u64 },
+    ReadRegister {
+        number: u64,
+    },
     /// `P N=XX..`: one register, in digits.
-    WriteRegister { number: u64, digits: &'a [u8] },
+    WriteRegister {
+        number: u64,
+        digits: &'a [u8],
+    },
     /// `m ADDRESS,LENGTH`: memory, to be answered in digits.
-    ReadMemory { address: u64, len: u64 },
+    ReadMemory {
+        address: u64,
+        len: u64,
+    },
     /// `x ADDRESS,LENGTH`: memory, to be answered in bytes.
-    ReadBytes { address: u64, len: u64 },
+    ReadBytes {
+        address: u64,
+        len: u64,
+    },
     /// `M ADDRESS,LENGTH:XX..`: memory, in digits.
     WriteMemory {
         address: u64,
@@ -61,19 +74,30 @@ pub enum Command<'a> {
         size: u64,
     },
     /// `H c THREAD` where `resumes`, for `c` and `s`; `H g THREAD` for all others.
-    SelectThread { resumes: bool, thread: Thread },
+    SelectThread {
+        resumes: bool,
+        thread: Thread,
+    },
     /// `T THREAD`: whether it lives.
-    IsThreadAlive { thread: Thread },
+    IsThreadAlive {
+        thread: Thread,
+    },
     /// `D` or `D;PROCESS`.
-    Detach { process: Option<u64> },
+    Detach {
+        process: Option<u64>,
+    },
     /// `k`.
     Kill,
     /// `vKill;PROCESS`.
-    KillProcess { process: u64 },
+    KillProcess {
+        process: u64,
+    },
     /// `vMustReplyEmpty`: answered as an unknown packet is.
     MustReplyEmpty,
     /// `qSupported[:FEATURE;FEATURE..]`.
-    Supported { features: &'a [u8] },
+    Supported {
+        features: &'a [u8],
+    },
     /// `qXfer:OBJECT:read:ANNEX:OFFSET,LENGTH`.
     ReadObject {
         object: &'a [u8],
@@ -84,7 +108,11 @@ pub enum Command<'a> {
     /// `vFile:OPERATION:..`.
     File(FileCall<'a>),
     /// `qMemTags:ADDRESS,LENGTH:KIND`.
-    ReadTags { address: u64, len: u64, kind: u64 },
+    ReadTags {
+        address: u64,
+        len: u64,
+        kind: u64,
+    },
     /// `QMemTags:ADDRESS,LENGTH:KIND:XX..`: one tag or more, in digits.
     WriteTags {
         address: u64,
@@ -93,11 +121,15 @@ pub enum Command<'a> {
         digits: &'a [u8],
     },
     /// `qRcmd,XX..`: a user's command, in digits.
-    Monitor { digits: &'a [u8] },
+    Monitor {
+        digits: &'a [u8],
+    },
     /// `QStartNoAckMode`.
     StartNoAckMode,
     /// `qAttached` or `qAttached:PROCESS`: whether the program ran before GDB came.
-    IsAttached { process: Option<u64> },
+    IsAttached {
+        process: Option<u64>,
+    },
     /// `qC`: the current thread.
     CurrentThread,
     /// `qfThreadInfo`: the first threads.
@@ -164,7 +196,9 @@ pub struct Thread {
 #[derive(Clone, Copy, Debug, PartialEq, Eq)]
 pub enum FileCall<'a> {
     /// `setfs:PROCESS`: whose files the later operations mean.
-    SetFilesystem { process: u64 },
+    SetFilesystem {
+        process: u64,
+    },
     /// `open:PATH,FLAGS,MODE`: the path in digits.
     Open {
         path: &'a [u8],
@@ -172,7 +206,9 @@ pub enum FileCall<'a> {
         mode: u64,
     },
     /// `close:DESCRIPTOR`.
-    Close { descriptor: u64 },
+    Close {
+        descriptor: u64,
+    },
     /// `pread:DESCRIPTOR,COUNT,OFFSET`.
     Read {
         descriptor: u64,
@@ -180,7 +216,11 @@ pub enum FileCall<'a> {
         offset: u64,
     },
     /// `fstat:DESCRIPTOR`.
-    Status { descriptor: u64 },
+    Status {
+        descriptor: u64,
+    },
     /// `readlink:PATH`: the path in digits.
-    ReadLink { path: &'a [u8] },
+    ReadLink {
+        path: &'a [u8],
+    },
 }

@@ -2,14 +2,20 @@
 //! came, what a packet asks, and how an answer is framed. It keeps nothing and allocates nothing.
 #![tactic(auto)]
 
+mod arguments;
 mod command;
 mod digits;
 mod framing;
 mod input;
+mod parsing;
+mod queries;
 mod text;
 
 pub use command::{Action, Command, FileCall, Id, Point, Thread};
-pub use digits::{is_hex, read_hex, read_number, read_register, write_hex, write_number, write_register};
+pub use digits::{
+    is_hex, read_hex, read_number, read_register, write_hex, write_number, write_register,
+};
 pub use framing::{checksum, unescape, write_packet};
 pub use input::{FRAME_LIMIT, Input, PACKET_SIZE, read_input};
-pub use text::split_once;
+pub use parsing::parse_command;
+pub use text::{split_once, strip};

@@ -2,7 +2,7 @@
 
 ghost use Rattle.std.specs.Prelude.{◌≡◌, ◌==◌, ◌≤◌, length};
 ghost use Rattle.std.specs.List.{position_or_len};
-ghost use Rattle.gdb_packets.specs.Texts.{cut_at, parts};
+ghost use Rattle.gdb_packets.specs.Texts.{cut_at, parts, rest_of, after};
 
 /// The text before the first separator and the text after it, if there is one.
 pub fn split_once(text: &[u8], separator: u8) -> Option<(&[u8], &[u8])>
@@ -22,4 +22,14 @@ fn front_len(text: &[u8], separator: u8) -> usize
     ensures within { result ≤ length text.now }
 {
     text.iter().take_while(|b| **b != separator).count()
+}
+
+/// What stands behind a first byte, if a text begins with it.
+pub fn strip(text: &[u8], first: u8) -> Option<&[u8]>
+    ensures { rest_of result ≡ after first text.now }
+{
+    match text {
+        [byte, rest @ ..] if *byte == first => Some(rest),
+        _ => None,
+    }
 }

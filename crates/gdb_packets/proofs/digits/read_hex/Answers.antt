@@ -18,9 +18,9 @@ returns-clause-exact c =
     let n = length c.args.text.now / 2 in
     let fits : n ≤ length c.args.room.now = omega arith in
     hex_put c.args.text.now c.decode_to_slice.new.out c.args.room.now n (length (take n c.args.room.now)) c.decode_to_slice.result
-      (sym c.if-not-is_hex.ensures) refl (length-take-le n c.args.room.now fits) c.decode_to_slice.ensures.value
+    (sym c.if-not-is_hex.ensures) refl (length-take-le n c.args.room.now fits) c.decode_to_slice.ensures.value
 
 pub returns-clause-again : goal.returns-clause-again
 returns-clause-again c =
     hex_again c.args.text.now c.args.room.now (c.decode_to_slice.new.out ++ drop (length c.args.text.now / 2) c.args.room.now)
-      (Some (length c.args.text.now / 2)) (returns-clause-exact c)
+    (Some (length c.args.text.now / 2)) (returns-clause-exact c)

@@ -9,7 +9,7 @@ returns-clause-exact c =
     let text = c.args.text.now in
     let some = eqb-false (length text) 0 (sym c.if-is_empty.ensures) in
     ap Some c.from_le_bytes.ensures ∙ register_read text c.read_hex.new.room (hex_bytes text) c.in_ok-read_hex.field-0 refl
-      c.in_ok-read_hex.ensures.exact (omega arith) (omega arith)
+    c.in_ok-read_hex.ensures.exact (omega arith) (omega arith)
 
 pub returns-clause-again : goal.returns-clause-again
 returns-clause-again c =
@@ -20,7 +20,7 @@ returns-then-is_empty-clause-again c =
     let text = c.args.text.now in
     register_again text None (register_none text (λ some short. elim c.then-is_empty.either [
       | inl none ↦
-        let zero = eqb-true (length text) 0 (sym c.is_empty.ensures ∙ none) in
-        omega arith
+          let zero = eqb-true (length text) 0 (sym c.is_empty.ensures ∙ none) in
+          omega arith
       | inr long ↦ omega (arith, long.1)
     ]))

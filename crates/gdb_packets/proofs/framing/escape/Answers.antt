@@ -15,6 +15,6 @@ loop-byte-preserved c =
     record {
       len = omega (arith, ap length split, length-append piece more, put.ensures.len, l.invariant.len);
       text = ap (λ z. z ++ more) (put_front l.room piece put.new.room l.len put.result fits put.ensures.len put.ensures.text)
-        ∙ append_assoc (take l.len l.room) piece more ∙ ap (λ z. take l.len l.room ++ z) (sym split) ∙ l.invariant.text;
+          ∙ append_assoc (take l.len l.room) piece more ∙ ap (λ z. take l.len l.room ++ z) (sym split) ∙ l.invariant.text;
       rest = put_behind l.room piece put.new.room c.args.room.now l.len put.result fits put.ensures.len put.ensures.text l.invariant.rest;
     }

@@ -11,14 +11,14 @@ loop-byte-preserved c =
     let within : l.len < length l.room = omega (arith, l.invariant.fits) in
     elim c.if-escaped.branch [
       | then-escaped w ↦
-        let h = rw w.if-escaped.true at l.invariant in
-        rw (w.room-is, w.len-is, w.escaped-is) (turned_step bytes c.args.room.now l.room l.len l.byte-index c.loop-byte-test.true within h)
+          let h = rw w.if-escaped.true at l.invariant in
+          rw (w.room-is, w.len-is, w.escaped-is) (turned_step bytes c.args.room.now l.room l.len l.byte-index c.loop-byte-test.true within h)
       | else-escaped+then-byte-eq-ESCAPE w ↦
-        let h = rw w.if-escaped.false at l.invariant in
-        rw (w.room-is, w.len-is, w.escaped-is) (escape_step bytes c.args.room.now l.room l.len l.byte-index c.loop-byte-test.true w.if-byte-eq-ESCAPE.true h)
+          let h = rw w.if-escaped.false at l.invariant in
+          rw (w.room-is, w.len-is, w.escaped-is) (escape_step bytes c.args.room.now l.room l.len l.byte-index c.loop-byte-test.true w.if-byte-eq-ESCAPE.true h)
       | else-escaped+else-byte-eq-ESCAPE w ↦
-        let h = rw w.if-escaped.false at l.invariant in
-        rw (w.room-is, w.len-is, w.escaped-is, w.if-escaped.false) (plain_step bytes c.args.room.now l.room l.len l.byte-index c.loop-byte-test.true within (ne_eqb (get_or bytes l.byte-index 0) 125 w.if-byte-eq-ESCAPE.false) h)
+          let h = rw w.if-escaped.false at l.invariant in
+          rw (w.room-is, w.len-is, w.escaped-is, w.if-escaped.false) (plain_step bytes c.args.room.now l.room l.len l.byte-index c.loop-byte-test.true within (ne_eqb (get_or bytes l.byte-index 0) 125 w.if-byte-eq-ESCAPE.false) h)
     ]
 
 pub returns-then-escaped-2-clause-payload : goal.returns-then-escaped-2-clause-payload

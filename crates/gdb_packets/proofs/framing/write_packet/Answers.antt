@@ -20,6 +20,7 @@ returns c =
     let put = c.escape-end.ensures in
     let free = c.in_ok-free.ensures in
     let within = c.in_ok-room_left.ensures in
-    let fits : length bytes + 4 ≤ length c.args.room.now = omega (arith, free.0, free.1, within.0) in
-    (omega (arith, length-frame_of bytes, put.len),
-      frame_put c.args.room.now c.escape-end.new.room bytes c.close.new.room c.escape-end.result put.len fits put.text c.close.ensures)
+    let fits : length bytes + 4 ≤ length c.args.room.now = omega (arith, free.0, free.1, within.0) in (
+      omega (arith, length-frame_of bytes, put.len),
+      frame_put c.args.room.now c.escape-end.new.room bytes c.close.new.room c.escape-end.result put.len fits put.text c.close.ensures,
+    )

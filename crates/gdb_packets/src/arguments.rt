@@ -1,0 +1,71 @@
+//! The arguments of commands.
+
+use crate::command::{Command, Id, Thread};
+use crate::digits::{is_hex, read_number};
+use crate::text::{split_once, strip};
+
+/// A command with nothing behind its name.
+pub fn bare<'a>(rest: &[u8], command: Command<'a>) -> Option<Command<'a>> {
+    if rest.is_empty() { Some(command) } else { None }
+}
+
+/// Digits for one byte or more.
+pub fn some_digits(text: &[u8]) -> Option<&[u8]> {
+    if !text.is_empty() && is_hex(text) {
+        Some(text)
+    } else {
+        None
+    }
+}
+
+/// `ADDRESS,LENGTH` and the like.
+pub fn parse_range(text: &[u8]) -> Option<(u64, u64)> {
+    let (first, second) = split_once(text, b',')?;
+    Some((read_number(first)?, read_number(second)?))
+}
+
+/// A number, or nothing.
+pub fn optional_number(text: &[u8]) -> Option<Option<u64>> {
+    if text.is_empty() {
+        Some(None)
+    } else {
+        Some(Some(read_number(text)?))
+    }
+}
+
+/// A number of one byte.
+pub fn parse_signal(text: &[u8]) -> Option<u8> {
+    let number = read_number(text)?;
+    u8::try_from(number).ok()
+}
+
+/// A thread, as `H`, `T` and `vCont` name it.
+pub fn parse_thread(text: &[u8]) -> Option<Thread> {
+    let Some(rest) = strip(text, b'p') else {
+        let thread = parse_id(text)?;
+        return Some(Thread {
+            process: None,
+            thread,
+        });
+    };
+    match split_once(rest, b'.') {
+        None => Some(Thread {
+            process: Some(parse_id(rest)?),
+            thread: Id::All,
+        }),
+        Some((process, thread)) => Some(Thread {
+            process: Some(parse_id(process)?),
+            thread: parse_id(thread)?,
+        }),
+    }
+}
+
+fn parse_id(text: &[u8]) -> Option<Id> {
+    if text == b"-1".as_slice() {
+        return Some(Id::All);
+    }
+    match read_number(text)? {
+        0 => Some(Id::Any),
+        number => Some(Id::One(number)),
+    }
+}
