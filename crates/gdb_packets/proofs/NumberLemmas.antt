@@ -1,5 +1,5 @@
 -- Numbers as hexadecimal digits.
-use Rattle.std.proofs.Common.{◌≡◌, ℕ, zero, suc, ◌+◌, ◌-◌, ◌*◌, ◌/◌, ◌%◌, ◌^◌, ◌<◌, ◌≤◌, ◌==◌, Bool, true, false, cond}
+use Rattle.std.proofs.Common.{◌≡◌, ℕ, zero, suc, ◌+◌, ◌-◌, ◌*◌, ◌/◌, ◌%◌, ◌^◌, ◌<◌, ◌≤◌, ◌==◌, ◌&&◌, nat_lt, nat_le, Bool, true, false, cond}
 use Rattle.std.proofs.Common.{List, [], ◌∷◌, ◌++◌, length, take, drop, get_or, Option, Some, None, refl, ap, sym, ◌∙◌, arith, SomeIff, add-one}
 use Rattle.std.proofs.Math.Nat.{pow-suc, pow-le-pow_right}
 use Rattle.std.proofs.lemmas.Nat.{div_below}
@@ -8,7 +8,16 @@ use Rattle.std.proofs.lemmas.Fmt.{digits_is_IsNumeral}
 use Rattle.std.specs.Char.{digit_value}
 use Rattle.std.specs.Str.Parse.{AllDigits, digits_value}
 use Rattle.std.specs.Fmt.{digits, digits_onto, digit_glyph}
-use Rattle.gdb_packets.specs.Digits.{IsNumber}
+use Rattle.std.specs.Char.{is_digit}
+use Rattle.std.specs.List.{list_all}
+use Rattle.std.specs.Str.Parse.{IsNumeral}
+use Rattle.std.proofs.lemmas.Bool.{lt-ltb, le-leb, ltb-true, leb-true}
+use Rattle.gdb_packets.specs.Digits.{number_of}
+
+-- A number of at most 64 bits is 1 to 16 digits.
+pub record IsNumber (text : List ℕ) : Type 0 where
+  pub numeral : IsNumeral 16 text
+  pub short : length text ≤ 16
 
 -- Each byte of a numeral is a digit.
 pub AllDigits-at : (text : List ℕ) (i : ℕ) → i < length text → AllDigits 16 text → digit_value (get_or text i 0) < 16
@@ -63,6 +72,47 @@ digits_number n small =
     let both = digits_is_IsNumeral 16 false (omega arith) (omega arith) n large in
     let len : length (digits 16 false n) ≤ 16 = rw (← digits-sixteen n small) (omega (arith, length-digits_onto 16 n [])) in
     (record { numeral = both.0; short = len }, both.1)
+
+both_true : (a b : Bool) → (a && b) ≡ true → (a ≡ true) × (b ≡ true)
+both_true true b h = (refl, h)
+both_true false b h = cc
+
+all_digits : (text : List ℕ) → AllDigits 16 text → list_all (λ c. is_digit c 16) text ≡ true
+all_digits [] h = refl
+all_digits (c ∷ text) h =
+    let first : is_digit c 16 ≡ true = lt-ltb (digit_value c) 16 h.0 in
+    rw (first, all_digits text h.1) refl
+
+each_digit : (text : List ℕ) → list_all (λ c. is_digit c 16) text ≡ true → AllDigits 16 text
+each_digit [] h = tt
+each_digit (c ∷ text) h =
+    let both = both_true (is_digit c 16) (list_all (λ d. is_digit d 16) text) h in
+    (ltb-true (digit_value c) 16 both.0, each_digit text both.1)
+
+number_if : (text : List ℕ) (t : Bool) → t ≡ (nat_lt 0 (length text) && nat_le (length text) 16 && list_all (λ c. is_digit c 16) text)
+    → t ≡ true → IsNumber text
+number_if text t e h =
+    let all = both_true (nat_lt 0 (length text) && nat_le (length text) 16) (list_all (λ c. is_digit c 16) text) (sym e ∙ h) in
+    let sizes = both_true (nat_lt 0 (length text)) (nat_le (length text) 16) all.0 in
+    record {
+      numeral = (ltb-true 0 (length text) sizes.0, each_digit text all.1);
+      short = leb-true (length text) 16 sizes.1;
+    }
+
+none_if : (t : Bool) (v : ℕ) → (t ≡ true → ⊥) → None ≡ cond t (Some v) None
+none_if true v h = absurd (h refl)
+none_if false v h = refl
+
+pub number_is : (text : List ℕ) (r : Option ℕ) → SomeIff r (IsNumber text) (digits_value 16 text) → r ≡ number_of text
+unfolding number_of
+number_is text None h =
+    let t = nat_lt 0 (length text) && nat_le (length text) 16 && list_all (λ c. is_digit c 16) text in
+    none_if t (digits_value 16 text) (λ e. h (number_if text t refl e))
+number_is text (Some v) h =
+    let number = h.0 in
+    let first : nat_lt 0 (length text) ≡ true = lt-ltb 0 (length text) number.numeral.0 in
+    let second : nat_le (length text) 16 ≡ true = le-leb (length text) 16 number.short in
+    rw (first, second, all_digits text number.numeral.1, h.1) refl
 
 some_by : (r : Option ℕ) (P : Type 0) (v : ℕ) → SomeIff r P v → P → r ≡ Some v
 some_by None P v h p = absurd (h p)

@@ -4,13 +4,15 @@ use Rattle.std.specs.Prelude.{List, ◌++◌, drop, length, Option, Some, None, 
 use Rattle.std.specs.List.{list_all}
 use Rattle.std.specs.Int.{from_le_bytes, w64}
 use Rattle.std.specs.Result.{result_ok}
-use Rattle.std.specs.Str.Parse.{IsNumeral}
+use Rattle.std.specs.Char.{is_digit}
+use Rattle.std.specs.Str.Parse.{digits_value}
 use Rattle.hex.specs.Hex.{decode_of, is_hex_digit}
 
--- A number of at most 64 bits is 1 to 16 digits of either case.
-pub record IsNumber (text : List ℕ) : Type 0 where
-  pub numeral : IsNumeral 16 text
-  pub short : length text ≤ 16
+-- The number of 1 to 16 digits of either case, the highest first.
+unfoldable pub number_of : List ℕ → Option ℕ
+number_of text =
+    if nat_lt 0 (length text) && nat_le (length text) 16 && list_all (λ c. is_digit c 16) text
+    then Some (digits_value 16 text) else None
 
 -- The bytes of a text with two digits for each, if it is one.
 abbrev pub hex_bytes : List ℕ → Option (List ℕ)

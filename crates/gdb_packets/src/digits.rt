@@ -7,7 +7,7 @@ ghost use Rattle.std.specs.Fmt.{digits, digit_glyph};
 ghost use Rattle.std.specs.Int.{to_le_bytes, w64};
 ghost use Rattle.std.specs.Str.Parse.{digits_value, AllDigits};
 ghost use Rattle.hex.specs.Hex.{encode_lower, IsBytes, is_hex_digit};
-ghost use Rattle.gdb_packets.specs.Digits.{IsNumber, Puts, hex_bytes, is_hex_text, register_of};
+ghost use Rattle.gdb_packets.specs.Digits.{Puts, number_of, hex_bytes, is_hex_text, register_of};
 ghost use Rattle.gdb_packets.specs.Rooms.{Writes};
 
 /// The most digits of a number.
@@ -15,7 +15,7 @@ const NUMBER_LEN: usize = 16;
 
 /// The number of 1 to 16 digits, the highest first, as GDB writes addresses, lengths and thread ids.
 pub fn read_number(text: &[u8]) -> Option<u64>
-    ensures exact { SomeIff result (IsNumber text.now) (digits_value 16 text.now) }
+    ensures exact { result ≡ number_of text.now }
     // What was written is read again.
     ensures again { (value : ℕ) → value < 2 ^ 64 → text.now ≡ digits 16 false value
         → result ≡ Some value }
