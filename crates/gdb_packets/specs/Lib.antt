@@ -3,3 +3,4 @@ pub mod Reading
 pub mod Rooms
 pub mod Digits
 pub mod Texts
+pub mod Commands

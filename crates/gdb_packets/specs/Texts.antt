@@ -1,5 +1,5 @@
 -- Texts cut at separators.
-use Rattle.std.specs.Prelude.{ℕ, ◌==◌, nat_lt, Bool, if◌then◌else◌, List, [], ◌∷◌, length, Option, Some, None}
+use Rattle.std.specs.Prelude.{ℕ, ◌==◌, ◌||◌, nat_lt, Bool, if◌then◌else◌, List, [], ◌∷◌, length, Option, Some, None}
 use Rattle.std.specs.Prelude.{option_map}
 use Rattle.std.specs.Borrow.{Bor}
 use Rattle.std.specs.List.{position_or_len, before_first, after_first}
@@ -21,3 +21,7 @@ after first (b ∷ rest) = if b == first then Some rest else None
 
 abbrev pub rest_of : Option (Bor (List ℕ)) → Option (List ℕ)
 rest_of o = option_map (λ r. r.now) o
+
+-- A packet's name ends at one of these.
+abbrev pub is_separator : ℕ → Bool
+is_separator b = (b == 58) || (b == 59) || (b == 44)

@@ -1,11 +1,16 @@
 //! The arguments of commands.
 
+ghost use Rattle.std.specs.Prelude.{◌≡◌};
+ghost use Rattle.gdb_packets.specs.Commands.{range_of, alone};
+
 use crate::command::{Command, Id, Thread};
 use crate::digits::{is_hex, read_number};
 use crate::text::{split_once, strip};
 
 /// A command with nothing behind its name.
-pub fn bare<'a>(rest: &[u8], command: Command<'a>) -> Option<Command<'a>> {
+pub fn bare<'a>(rest: &[u8], command: Command<'a>) -> Option<Command<'a>>
+    ensures { result ≡ alone rest.now command.entry }
+{
     if rest.is_empty() { Some(command) } else { None }
 }
 
@@ -19,7 +24,10 @@ pub fn some_digits(text: &[u8]) -> Option<&[u8]> {
 }
 
 /// `ADDRESS,LENGTH` and the like.
-pub fn parse_range(text: &[u8]) -> Option<(u64, u64)> {
+#[tactic(auto, unfolding(crate::specs::Commands::range_of))]
+pub fn parse_range(text: &[u8]) -> Option<(u64, u64)>
+    ensures { result ≡ range_of text.now }
+{
     let (first, second) = split_once(text, b',')?;
     Some((read_number(first)?, read_number(second)?))
 }

@@ -1,5 +1,9 @@
 //! The command of a packet's data.
 
+ghost use Rattle.std.specs.Prelude.{◌≡◌, ◌∷◌, [], ℕ, List, option_map};
+ghost use Rattle.gdb_packets.specs.Commands.{Asks, asked, range_of};
+ghost use Rattle.gdb_packets.specs.Digits.{number_of};
+
 use crate::arguments::{
     bare, optional_number, parse_range, parse_signal, parse_thread, some_digits,
 };
@@ -9,7 +13,11 @@ use crate::queries::{parse_named, parse_query, parse_setting};
 use crate::text::{split_once, strip};
 
 /// The command of a packet's data, without their escapes.
-pub fn parse_command(text: &[u8]) -> Command<'_> {
+pub fn parse_command(text: &[u8]) -> Command<'_>
+    ensures empty { text.now ≡ [] → result ≡ Command.Unknown }
+    ensures letter { (letter : ℕ) (rest : List ℕ) → text.now ≡ letter ∷ rest
+        → Asks letter rest result }
+{
     let command = match text {
         [] => Some(Command::Unknown),
         [b'q', rest @ ..] => parse_query(rest),
@@ -21,14 +29,21 @@ pub fn parse_command(text: &[u8]) -> Command<'_> {
 }
 
 /// The command of one letter and what follows it.
-fn parse_letter(letter: u8, rest: &[u8]) -> Option<Command<'_>> {
+fn parse_letter(letter: u8, rest: &[u8]) -> Option<Command<'_>>
+    ensures { Asks letter rest.now (asked result) }
+{
     match letter {
         b'?' => bare(rest, Command::StopReason),
         b'g' => bare(rest, Command::ReadRegisters),
         b'k' => bare(rest, Command::Kill),
         b'b' => parse_back(rest),
-        b'G' | b'p' | b'P' => parse_registers(letter, rest),
-        b'm' | b'x' | b'M' | b'X' => parse_memory(letter, rest),
+        b'm' => parse_memory(rest),
+        b'M' => parse_memory_writing(rest),
+        b'x' => parse_bytes(rest),
+        b'X' => parse_bytes_writing(rest),
+        b'p' => parse_register(rest),
+        b'P' => parse_register_writing(rest),
+        b'G' => parse_all_registers(rest),
         b'c' | b'C' | b's' | b'S' => parse_resume(letter, rest),
         b'Z' | b'z' => parse_point(letter, rest),
         b'H' => parse_select(rest),
@@ -46,15 +61,16 @@ fn parse_back(rest: &[u8]) -> Option<Command<'_>> {
     }
 }
 
-fn parse_registers(letter: u8, rest: &[u8]) -> Option<Command<'_>> {
-    if letter == b'G' {
-        let digits = some_digits(rest)?;
-        return Some(Command::WriteRegisters { digits });
-    }
-    if letter == b'p' {
-        let number = read_number(rest)?;
-        return Some(Command::ReadRegister { number });
-    }
+/// `N`
+fn parse_register(rest: &[u8]) -> Option<Command<'_>>
+    ensures { result ≡ option_map (λ n. Command.ReadRegister n) (number_of rest.now) }
+{
+    let number = read_number(rest)?;
+    Some(Command::ReadRegister { number })
+}
+
+/// `N=XX..`
+fn parse_register_writing(rest: &[u8]) -> Option<Command<'_>> {
     let (number, digits) = split_once(rest, b'=')?;
     Some(Command::WriteRegister {
         number: read_number(number)?,
@@ -62,26 +78,29 @@ fn parse_registers(letter: u8, rest: &[u8]) -> Option<Command<'_>> {
     })
 }
 
-fn parse_memory(letter: u8, rest: &[u8]) -> Option<Command<'_>> {
-    if letter == b'm' {
-        let (address, len) = parse_range(rest)?;
-        return Some(Command::ReadMemory { address, len });
-    }
-    if letter == b'x' {
-        let (address, len) = parse_range(rest)?;
-        return Some(Command::ReadBytes { address, len });
-    }
-    let (range, bytes) = split_once(rest, b':')?;
-    let (address, len) = parse_range(range)?;
-    if letter == b'X' {
-        parse_bytes(address, len, bytes)
-    } else {
-        parse_digits(address, len, bytes)
-    }
+fn parse_all_registers(rest: &[u8]) -> Option<Command<'_>> {
+    let digits = some_digits(rest)?;
+    Some(Command::WriteRegisters { digits })
 }
 
-/// As many bytes as the length says.
-fn parse_bytes(address: u64, len: u64, bytes: &[u8]) -> Option<Command<'_>> {
+fn parse_memory(rest: &[u8]) -> Option<Command<'_>>
+    ensures { result ≡ option_map (λ r. Command.ReadMemory r.0 r.1) (range_of rest.now) }
+{
+    let (address, len) = parse_range(rest)?;
+    Some(Command::ReadMemory { address, len })
+}
+
+fn parse_bytes(rest: &[u8]) -> Option<Command<'_>>
+    ensures { result ≡ option_map (λ r. Command.ReadBytes r.0 r.1) (range_of rest.now) }
+{
+    let (address, len) = parse_range(rest)?;
+    Some(Command::ReadBytes { address, len })
+}
+
+/// `ADDRESS,LENGTH:BYTES`, with as many bytes as the length says.
+fn parse_bytes_writing(rest: &[u8]) -> Option<Command<'_>> {
+    let (range, bytes) = split_once(rest, b':')?;
+    let (address, len) = parse_range(range)?;
     if bytes.len() as u64 == len {
         Some(Command::WriteBytes {
             address,
@@ -93,8 +112,10 @@ fn parse_bytes(address: u64, len: u64, bytes: &[u8]) -> Option<Command<'_>> {
     }
 }
 
-/// Digits for as many bytes as the length says.
-fn parse_digits(address: u64, len: u64, digits: &[u8]) -> Option<Command<'_>> {
+/// `ADDRESS,LENGTH:XX..`, with digits for as many bytes as the length says.
+fn parse_memory_writing(rest: &[u8]) -> Option<Command<'_>> {
+    let (range, digits) = split_once(rest, b':')?;
+    let (address, len) = parse_range(range)?;
     if is_hex(digits) && digits.len() as u64 / 2 == len {
         Some(Command::WriteMemory {
             address,

@@ -3,13 +3,7 @@
 use crate::arguments::{bare, parse_range, parse_signal, parse_thread, some_digits};
 use crate::command::{Action, Command, FileCall, Thread};
 use crate::digits::{is_hex, read_number};
-use crate::text::{split_once, strip};
-
-/// The name of a packet, and what follows it: nothing, or a `:`, `;` or `,` and more.
-fn split_name(text: &[u8]) -> (&[u8], &[u8]) {
-    let in_name = |b: &&u8| !matches!(**b, b':' | b';' | b',');
-    text.split_at(text.iter().take_while(in_name).count())
-}
+use crate::text::{split_name, split_once, strip};
 
 /// A packet that begins with `q`, without it.
 pub fn parse_query(text: &[u8]) -> Option<Command<'_>> {

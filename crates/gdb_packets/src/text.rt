@@ -1,8 +1,8 @@
 //! Texts cut at separators.
 
-ghost use Rattle.std.specs.Prelude.{◌≡◌, ◌==◌, ◌≤◌, length};
-ghost use Rattle.std.specs.List.{position_or_len};
-ghost use Rattle.gdb_packets.specs.Texts.{cut_at, parts, rest_of, after};
+ghost use Rattle.std.specs.Prelude.{◌≡◌, ◌==◌, ◌≤◌, length, drop};
+ghost use Rattle.std.specs.List.{position_or_len, before_first};
+ghost use Rattle.gdb_packets.specs.Texts.{cut_at, parts, rest_of, after, is_separator};
 
 /// The text before the first separator and the text after it, if there is one.
 pub fn split_once(text: &[u8], separator: u8) -> Option<(&[u8], &[u8])>
@@ -32,4 +32,20 @@ pub fn strip(text: &[u8], first: u8) -> Option<&[u8]>
         [byte, rest @ ..] if *byte == first => Some(rest),
         _ => None,
     }
+}
+
+/// The name of a packet, and what follows it: nothing, or a `:`, `;` or `,` and more.
+pub fn split_name(text: &[u8]) -> (&[u8], &[u8])
+    ensures name { result.0.now ≡ before_first is_separator text.now }
+    ensures rest { result.1.now ≡ drop (position_or_len is_separator text.now) text.now }
+{
+    text.split_at(name_len(text))
+}
+
+fn name_len(text: &[u8]) -> usize
+    ensures len { result ≡ position_or_len is_separator text.now }
+    ensures within { result ≤ length text.now }
+{
+    let is_name = |b: &&u8| **b != b':' && **b != b';' && **b != b',';
+    text.iter().take_while(is_name).count()
 }

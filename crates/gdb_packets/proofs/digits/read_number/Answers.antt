@@ -7,8 +7,8 @@ use Rattle.gdb_packets.proofs.digits.read_number.Goals as goal
 outside : (c : goal.Joined-then-is_empty) → SomeIff {T = ℕ} None (IsNumber c.args.text.now) (digits_value 16 c.args.text.now)
 outside c = λ n. elim c.then-is_empty.either [
   | inl none ↦
-    let zero = eqb-true (length c.args.text.now) 0 (sym c.is_empty.ensures ∙ none) in
-    omega (arith, n.numeral.0)
+      let zero = eqb-true (length c.args.text.now) 0 (sym c.is_empty.ensures ∙ none) in
+      omega (arith, n.numeral.0)
   | inr some ↦ omega (arith, n.short, some.1)
 ]
 
