@@ -2,9 +2,12 @@
 use Rattle.std.specs.Prelude.{◌≡◌, ℕ, ◌==◌, Bool, if◌then◌else◌, List, [], length, Option, Some, None}
 use Rattle.std.specs.Prelude.{option_map, option_and_then, unwrap_or}
 use Rattle.gdb_packets.specs.Digits.{number_of}
-use Rattle.gdb_packets.specs.Texts.{cut_at}
+use Rattle.gdb_packets.specs.Texts.{cut_at, after}
 use Rattle.gdb_packets.specs.declared.command.Command.{Command}
 use Rattle.gdb_packets.specs.declared.command.Command.TheVariants as command
+use Rattle.gdb_packets.specs.declared.command.Action.TheVariants as action
+use Rattle.gdb_packets.specs.declared.command.Point.{Point}
+use Rattle.gdb_packets.specs.declared.command.Point.TheVariants as point
 
 infixl 10 ◌>>=◌
 abbrev pub ◌>>=◌ : {A B : Type 0} → Option A → (A → Option B) → Option B
@@ -17,6 +20,37 @@ range_of text = do
   first ← number_of parts.0
   second ← number_of parts.1
   Some (first, second)
+
+-- Three numbers with commas between them.
+unfoldable pub triple_of : List ℕ → Option (ℕ × ℕ × ℕ)
+triple_of text = do
+  parts ← cut_at (λ b. b == 44) text
+  first ← number_of parts.0
+  others ← range_of parts.1
+  Some (first, others.0, others.1)
+
+-- A number, or nothing.
+abbrev pub optional_of : List ℕ → Option (Option ℕ)
+optional_of text = if length text == 0 then Some None else option_map Some (number_of text)
+
+abbrev pub point_kind : ℕ → Option Point
+point_kind n =
+    if n == 0 then Some point.SoftwareBreakpoint
+    else if n == 1 then Some point.HardwareBreakpoint
+    else if n == 2 then Some point.WriteWatchpoint
+    else if n == 3 then Some point.ReadWatchpoint
+    else if n == 4 then Some point.AccessWatchpoint
+    else None
+
+-- A kind, an address and a size; a kind that is not there makes the packet unknown.
+abbrev pub point_command : (Point → ℕ → ℕ → Command) → ℕ × ℕ × ℕ → Command
+point_command c t = unwrap_or (option_map (λ k. c k t.1 t.2) (point_kind t.0)) command.Unknown
+
+-- All processes, or the one behind a `;`.
+abbrev pub detach_of : List ℕ → Option Command
+detach_of text =
+    if length text == 0 then Some (command.Detach None)
+    else option_map (λ n. command.Detach (Some n)) (option_and_then number_of (after 59 text))
 
 -- A command that is known, or one that has not its form.
 abbrev pub asked : Option Command → Command
@@ -31,6 +65,18 @@ pub record Asks (letter : ℕ) (rest : List ℕ) (c : Command) : Type 0 where
   pub reason : letter ≡ 63 → c ≡ asked (alone rest command.StopReason)
   pub registers : letter ≡ 103 → c ≡ asked (alone rest command.ReadRegisters)
   pub kill : letter ≡ 107 → c ≡ asked (alone rest command.Kill)
-  pub memory : letter ≡ 109 → c ≡ asked (option_map (λ r. command.ReadMemory r.0 r.1) (range_of rest))
-  pub register : letter ≡ 112 → c ≡ asked (option_map (λ n. command.ReadRegister n) (number_of rest))
-  pub bytes : letter ≡ 120 → c ≡ asked (option_map (λ r. command.ReadBytes r.0 r.1) (range_of rest))
+  pub memory : letter ≡ 109
+      → c ≡ asked (option_map (λ r. command.ReadMemory r.0 r.1) (range_of rest))
+  pub register : letter ≡ 112
+      → c ≡ asked (option_map (λ n. command.ReadRegister n) (number_of rest))
+  pub continuation : letter ≡ 99
+      → c ≡ asked (option_map (λ a. command.Resume (action.Continue None) a) (optional_of rest))
+  pub step : letter ≡ 115
+      → c ≡ asked (option_map (λ a. command.Resume (action.Step None) a) (optional_of rest))
+  pub insertion : letter ≡ 90
+      → c ≡ asked (option_map (point_command command.InsertPoint) (triple_of rest))
+  pub removal : letter ≡ 122
+      → c ≡ asked (option_map (point_command command.RemovePoint) (triple_of rest))
+  pub detachment : letter ≡ 68 → c ≡ asked (detach_of rest)
+  pub bytes : letter ≡ 120
+      → c ≡ asked (option_map (λ r. command.ReadBytes r.0 r.1) (range_of rest))

@@ -1,7 +1,7 @@
 //! The arguments of commands.
 
 ghost use Rattle.std.specs.Prelude.{◌≡◌};
-ghost use Rattle.gdb_packets.specs.Commands.{range_of, alone};
+ghost use Rattle.gdb_packets.specs.Commands.{range_of, triple_of, optional_of, alone};
 
 use crate::command::{Command, Id, Thread};
 use crate::digits::{is_hex, read_number};
@@ -32,8 +32,21 @@ pub fn parse_range(text: &[u8]) -> Option<(u64, u64)>
     Some((read_number(first)?, read_number(second)?))
 }
 
+/// Three numbers with commas between them.
+#[tactic(auto, unfolding(crate::specs::Commands::triple_of))]
+pub fn parse_triple(text: &[u8]) -> Option<(u64, u64, u64)>
+    ensures { result ≡ triple_of text.now }
+{
+    let (first, rest) = split_once(text, b',')?;
+    let first = read_number(first)?;
+    let (second, third) = parse_range(rest)?;
+    Some((first, second, third))
+}
+
 /// A number, or nothing.
-pub fn optional_number(text: &[u8]) -> Option<Option<u64>> {
+pub fn optional_number(text: &[u8]) -> Option<Option<u64>>
+    ensures { result ≡ optional_of text.now }
+{
     if text.is_empty() {
         Some(None)
     } else {

@@ -1,11 +1,12 @@
 //! The command of a packet's data.
 
 ghost use Rattle.std.specs.Prelude.{◌≡◌, ◌∷◌, [], ℕ, List, option_map};
-ghost use Rattle.gdb_packets.specs.Commands.{Asks, asked, range_of};
+ghost use Rattle.gdb_packets.specs.Commands.{Asks, asked, range_of, triple_of, optional_of, point_kind, point_command};
+ghost use Rattle.gdb_packets.specs.Commands.{detach_of};
 ghost use Rattle.gdb_packets.specs.Digits.{number_of};
 
 use crate::arguments::{
-    bare, optional_number, parse_range, parse_signal, parse_thread, some_digits,
+    bare, optional_number, parse_range, parse_signal, parse_thread, parse_triple, some_digits,
 };
 use crate::command::{Action, Command, Point};
 use crate::digits::{is_hex, read_number};
@@ -44,8 +45,12 @@ fn parse_letter(letter: u8, rest: &[u8]) -> Option<Command<'_>>
         b'p' => parse_register(rest),
         b'P' => parse_register_writing(rest),
         b'G' => parse_all_registers(rest),
-        b'c' | b'C' | b's' | b'S' => parse_resume(letter, rest),
-        b'Z' | b'z' => parse_point(letter, rest),
+        b'c' => parse_resume(rest, Action::Continue { signal: None }),
+        b's' => parse_resume(rest, Action::Step { signal: None }),
+        b'C' => parse_signal_resume(rest, false),
+        b'S' => parse_signal_resume(rest, true),
+        b'Z' => parse_insertion(rest),
+        b'z' => parse_removal(rest),
         b'H' => parse_select(rest),
         b'T' => parse_thread(rest).map(|thread| Command::IsThreadAlive { thread }),
         b'D' => parse_detach(rest),
@@ -127,54 +132,72 @@ fn parse_memory_writing(rest: &[u8]) -> Option<Command<'_>> {
     }
 }
 
-/// `c [ADDRESS]`, `C SIGNAL[;ADDRESS]` and the same of a step.
-fn parse_resume(letter: u8, rest: &[u8]) -> Option<Command<'_>> {
-    let (signal, address) = if letter == b'c' || letter == b's' {
-        (None, optional_number(rest)?)
-    } else {
-        parse_signal_and_address(rest)?
+/// Nothing or `ADDRESS`.
+fn parse_resume<'a>(rest: &'a [u8], action: Action) -> Option<Command<'a>>
+    ensures { result ≡ option_map (λ a. Command.Resume action a) (optional_of rest.now) }
+{
+    let address = optional_number(rest)?;
+    Some(Command::Resume { action, address })
+}
+
+/// `SIGNAL` or `SIGNAL;ADDRESS`: the signal of a step, or of a continuation.
+fn parse_signal_resume(rest: &[u8], steps: bool) -> Option<Command<'_>> {
+    let (signal, address) = match split_once(rest, b';') {
+        None => (rest, None),
+        Some((signal, address)) => (signal, Some(read_number(address)?)),
     };
-    let action = if letter == b'c' || letter == b'C' {
-        Action::Continue { signal }
-    } else {
+    let signal = Some(parse_signal(signal)?);
+    let action = if steps {
         Action::Step { signal }
+    } else {
+        Action::Continue { signal }
     };
     Some(Command::Resume { action, address })
 }
 
-fn parse_signal_and_address(text: &[u8]) -> Option<(Option<u8>, Option<u64>)> {
-    match split_once(text, b';') {
-        None => Some((Some(parse_signal(text)?), None)),
-        Some((signal, address)) => {
-            Some((Some(parse_signal(signal)?), Some(read_number(address)?)))
-        }
-    }
+/// `KIND,ADDRESS,SIZE` of a point that is put in.
+fn parse_insertion(rest: &[u8]) -> Option<Command<'_>>
+    ensures { result ≡ option_map (point_command (λ k a n. Command.InsertPoint k a n))
+        (triple_of rest.now) }
+{
+    let (kind, address, size) = parse_triple(rest)?;
+    let Some(kind) = point_of(kind) else {
+        return Some(Command::Unknown);
+    };
+    Some(Command::InsertPoint {
+        kind,
+        address,
+        size,
+    })
 }
 
-fn parse_point(letter: u8, rest: &[u8]) -> Option<Command<'_>> {
-    let (kind, place) = split_once(rest, b',')?;
-    let number = read_number(kind)?;
-    let (address, size) = parse_range(place)?;
-    let kind = match number {
-        0 => Point::SoftwareBreakpoint,
-        1 => Point::HardwareBreakpoint,
-        2 => Point::WriteWatchpoint,
-        3 => Point::ReadWatchpoint,
-        4 => Point::AccessWatchpoint,
-        _ => return Some(Command::Unknown),
+/// `KIND,ADDRESS,SIZE` of a point that is taken out.
+fn parse_removal(rest: &[u8]) -> Option<Command<'_>>
+    ensures { result ≡ option_map (point_command (λ k a n. Command.RemovePoint k a n))
+        (triple_of rest.now) }
+{
+    let (kind, address, size) = parse_triple(rest)?;
+    let Some(kind) = point_of(kind) else {
+        return Some(Command::Unknown);
     };
-    if letter == b'Z' {
-        Some(Command::InsertPoint {
-            kind,
-            address,
-            size,
-        })
-    } else {
-        Some(Command::RemovePoint {
-            kind,
-            address,
-            size,
-        })
+    Some(Command::RemovePoint {
+        kind,
+        address,
+        size,
+    })
+}
+
+/// The kind of a point, if it is known.
+fn point_of(number: u64) -> Option<Point>
+    ensures { result ≡ point_kind number }
+{
+    match number {
+        0 => Some(Point::SoftwareBreakpoint),
+        1 => Some(Point::HardwareBreakpoint),
+        2 => Some(Point::WriteWatchpoint),
+        3 => Some(Point::ReadWatchpoint),
+        4 => Some(Point::AccessWatchpoint),
+        _ => None,
     }
 }
 
@@ -194,7 +217,10 @@ fn parse_select(rest: &[u8]) -> Option<Command<'_>> {
     }
 }
 
-fn parse_detach(rest: &[u8]) -> Option<Command<'_>> {
+/// Nothing or `;PROCESS`.
+fn parse_detach(rest: &[u8]) -> Option<Command<'_>>
+    ensures { result ≡ detach_of rest.now }
+{
     if rest.is_empty() {
         return Some(Command::Detach { process: None });
     }
