@@ -1,5 +1,5 @@
 -- The commands whose arguments are numbers (GDB's documentation, "Packets").
-use Rattle.std.specs.Prelude.{◌≡◌, ℕ, ◌==◌, Bool, if◌then◌else◌, List, [], length, Option, Some, None}
+use Rattle.std.specs.Prelude.{◌≡◌, ℕ, ◌==◌, ◌&&◌, Bool, true, false, if◌then◌else◌, List, [], ◌∷◌, length, Option, Some, None}
 use Rattle.std.specs.Prelude.{option_map, option_and_then, unwrap_or}
 use Rattle.gdb_packets.specs.Digits.{number_of}
 use Rattle.gdb_packets.specs.Texts.{cut_at, after}
@@ -8,6 +8,9 @@ use Rattle.gdb_packets.specs.declared.command.Command.TheVariants as command
 use Rattle.gdb_packets.specs.declared.command.Action.TheVariants as action
 use Rattle.gdb_packets.specs.declared.command.Point.{Point}
 use Rattle.gdb_packets.specs.declared.command.Point.TheVariants as point
+use Rattle.gdb_packets.specs.declared.command.Id.{Id}
+use Rattle.gdb_packets.specs.declared.command.Id.TheVariants as id
+use Rattle.gdb_packets.specs.declared.command.Thread.{Thread}
 
 infixl 10 ◌>>=◌
 abbrev pub ◌>>=◌ : {A B : Type 0} → Option A → (A → Option B) → Option B
@@ -60,6 +63,41 @@ asked o = unwrap_or o command.Malformed
 abbrev pub alone : List ℕ → Command → Option Command
 alone rest c = if length rest == 0 then Some c else None
 
+-- The id -1 means all, and 0 any.
+abbrev pub is_minus_one : List ℕ → Bool
+is_minus_one (a ∷ b ∷ []) = (a == 45) && (b == 49)
+is_minus_one _ = false
+
+unfoldable pub id_of : List ℕ → Option Id
+id_of text =
+    if is_minus_one text then Some id.All
+    else option_map (λ n. if n == 0 then id.Any else id.One n) (number_of text)
+
+-- The thread of a process, or all of its threads where no `.` and thread follow.
+unfoldable pub process_thread : Option (List ℕ × List ℕ) → List ℕ → Option Thread
+process_thread None text =
+    option_map (λ p. record { process = Some p; thread = id.All }) (id_of text)
+process_thread (Some parts) text = do
+  p ← id_of parts.0
+  t ← id_of parts.1
+  Some (record { process = Some p; thread = t })
+
+abbrev pub thread_by : Option (List ℕ) → List ℕ → Option Thread
+thread_by None text = option_map (λ t. record { process = None; thread = t }) (id_of text)
+thread_by (Some rest) text = process_thread (cut_at (λ b. b == 46) rest) rest
+
+-- `THREAD`, `pPROCESS` or `pPROCESS.THREAD`.
+unfoldable pub thread_of : List ℕ → Option Thread
+thread_of text = thread_by (after 112 text) text
+
+-- `c` or `g`, and a thread.
+abbrev pub select_of : List ℕ → Option Command
+select_of [] = None
+select_of (b ∷ text) =
+    if b == 99 then option_map (command.SelectThread true) (thread_of text)
+    else if b == 103 then option_map (command.SelectThread false) (thread_of text)
+    else None
+
 -- What these letters ask, with what stands behind them.
 pub record Asks (letter : ℕ) (rest : List ℕ) (c : Command) : Type 0 where
   pub reason : letter ≡ 63 → c ≡ asked (alone rest command.StopReason)
@@ -77,6 +115,8 @@ pub record Asks (letter : ℕ) (rest : List ℕ) (c : Command) : Type 0 where
       → c ≡ asked (option_map (point_command command.InsertPoint) (triple_of rest))
   pub removal : letter ≡ 122
       → c ≡ asked (option_map (point_command command.RemovePoint) (triple_of rest))
+  pub life : letter ≡ 84 → c ≡ asked (option_map command.IsThreadAlive (thread_of rest))
+  pub selection : letter ≡ 72 → c ≡ asked (select_of rest)
   pub detachment : letter ≡ 68 → c ≡ asked (detach_of rest)
   pub bytes : letter ≡ 120
       → c ≡ asked (option_map (λ r. command.ReadBytes r.0 r.1) (range_of rest))

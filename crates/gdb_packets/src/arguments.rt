@@ -1,7 +1,9 @@
 //! The arguments of commands.
 
-ghost use Rattle.std.specs.Prelude.{◌≡◌};
-ghost use Rattle.gdb_packets.specs.Commands.{range_of, triple_of, optional_of, alone};
+ghost use Rattle.std.specs.Prelude.{◌≡◌, ◌==◌};
+ghost use Rattle.gdb_packets.specs.Commands.{range_of, triple_of, optional_of, alone, thread_of, id_of};
+ghost use Rattle.gdb_packets.specs.Commands.{process_thread};
+ghost use Rattle.gdb_packets.specs.Texts.{cut_at};
 
 use crate::command::{Command, Id, Thread};
 use crate::digits::{is_hex, read_number};
@@ -61,7 +63,10 @@ pub fn parse_signal(text: &[u8]) -> Option<u8> {
 }
 
 /// A thread, as `H`, `T` and `vCont` name it.
-pub fn parse_thread(text: &[u8]) -> Option<Thread> {
+#[tactic(auto, unfolding(crate::specs::Commands::thread_of))]
+pub fn parse_thread(text: &[u8]) -> Option<Thread>
+    ensures { result ≡ thread_of text.now }
+{
     let Some(rest) = strip(text, b'p') else {
         let thread = parse_id(text)?;
         return Some(Thread {
@@ -69,9 +74,17 @@ pub fn parse_thread(text: &[u8]) -> Option<Thread> {
             thread,
         });
     };
-    match split_once(rest, b'.') {
+    parse_process_thread(rest)
+}
+
+/// What follows a `p`.
+#[tactic(auto, unfolding(crate::specs::Commands::process_thread))]
+fn parse_process_thread(text: &[u8]) -> Option<Thread>
+    ensures { result ≡ process_thread (cut_at (λ b. b == 46) text.now) text.now }
+{
+    match split_once(text, b'.') {
         None => Some(Thread {
-            process: Some(parse_id(rest)?),
+            process: Some(parse_id(text)?),
             thread: Id::All,
         }),
         Some((process, thread)) => Some(Thread {
@@ -81,8 +94,11 @@ pub fn parse_thread(text: &[u8]) -> Option<Thread> {
     }
 }
 
-fn parse_id(text: &[u8]) -> Option<Id> {
-    if text == b"-1".as_slice() {
+#[tactic(auto, unfolding(crate::specs::Commands::id_of))]
+fn parse_id(text: &[u8]) -> Option<Id>
+    ensures { result ≡ id_of text.now }
+{
+    if let [b'-', b'1'] = text {
         return Some(Id::All);
     }
     match read_number(text)? {

@@ -2,7 +2,7 @@
 
 ghost use Rattle.std.specs.Prelude.{◌≡◌, ◌∷◌, [], ℕ, List, option_map};
 ghost use Rattle.gdb_packets.specs.Commands.{Asks, asked, range_of, triple_of, optional_of, point_kind, point_command};
-ghost use Rattle.gdb_packets.specs.Commands.{detach_of};
+ghost use Rattle.gdb_packets.specs.Commands.{detach_of, thread_of, select_of};
 ghost use Rattle.gdb_packets.specs.Digits.{number_of};
 
 use crate::arguments::{
@@ -52,7 +52,7 @@ fn parse_letter(letter: u8, rest: &[u8]) -> Option<Command<'_>>
         b'Z' => parse_insertion(rest),
         b'z' => parse_removal(rest),
         b'H' => parse_select(rest),
-        b'T' => parse_thread(rest).map(|thread| Command::IsThreadAlive { thread }),
+        b'T' => parse_life(rest),
         b'D' => parse_detach(rest),
         _ => Some(Command::Unknown),
     }
@@ -201,7 +201,17 @@ fn point_of(number: u64) -> Option<Point>
     }
 }
 
-fn parse_select(rest: &[u8]) -> Option<Command<'_>> {
+fn parse_life(rest: &[u8]) -> Option<Command<'_>>
+    ensures { result ≡ option_map (λ t. Command.IsThreadAlive t) (thread_of rest.now) }
+{
+    let thread = parse_thread(rest)?;
+    Some(Command::IsThreadAlive { thread })
+}
+
+/// `c THREAD` or `g THREAD`.
+fn parse_select(rest: &[u8]) -> Option<Command<'_>>
+    ensures { result ≡ select_of rest.now }
+{
     match rest {
         [b'c', text @ ..] => {
             let thread = parse_thread(text)?;

@@ -1,5 +1,10 @@
 //! The packets that have a name: those that begin with `q`, `Q` and `v`.
 
+ghost use Rattle.std.specs.Prelude.{◌≡◌, List, ℕ, codes, drop};
+ghost use Rattle.std.specs.List.{before_first, position_or_len};
+ghost use Rattle.gdb_packets.specs.Texts.{is_separator};
+ghost use Rattle.gdb_packets.specs.Commands.{alone};
+
 use crate::arguments::{bare, parse_range, parse_signal, parse_thread, some_digits};
 use crate::command::{Action, Command, FileCall, Thread};
 use crate::digits::{is_hex, read_number};
@@ -24,7 +29,10 @@ pub fn parse_query(text: &[u8]) -> Option<Command<'_>> {
 }
 
 /// A packet that begins with `Q`, without it.
-pub fn parse_setting(text: &[u8]) -> Option<Command<'_>> {
+pub fn parse_setting(text: &[u8]) -> Option<Command<'_>>
+    ensures { (rest : List ℕ) → before_first is_separator text.now ≡ codes "StartNoAckMode"
+        → result ≡ alone (drop (position_or_len is_separator text.now) text.now) Command.StartNoAckMode }
+{
     let (name, rest) = split_name(text);
     match name {
         b"MemTags" => parse_tag_writing(rest),
