@@ -1,8 +1,9 @@
 -- The commands whose arguments are numbers (GDB's documentation, "Packets").
 use Rattle.std.specs.Prelude.{◌≡◌, ℕ, ◌==◌, ◌&&◌, Bool, true, false, if◌then◌else◌, List, [], ◌∷◌, length, Option, Some, None}
-use Rattle.std.specs.Prelude.{option_map, option_and_then, unwrap_or}
+use Rattle.std.specs.Prelude.{option_map, option_and_then, unwrap_or, codes, drop}
 use Rattle.gdb_packets.specs.Digits.{number_of}
-use Rattle.gdb_packets.specs.Texts.{cut_at, after}
+use Rattle.gdb_packets.specs.Texts.{cut_at, after, is_separator}
+use Rattle.std.specs.List.{before_first, position_or_len}
 use Rattle.gdb_packets.specs.declared.command.Command.{Command}
 use Rattle.gdb_packets.specs.declared.command.Command.TheVariants as command
 use Rattle.gdb_packets.specs.declared.command.Action.TheVariants as action
@@ -49,11 +50,11 @@ point_kind n =
 abbrev pub point_command : (Point → ℕ → ℕ → Command) → ℕ × ℕ × ℕ → Command
 point_command c t = unwrap_or (option_map (λ k. c k t.1 t.2) (point_kind t.0)) command.Unknown
 
--- All processes, or the one behind a `;`.
-abbrev pub detach_of : List ℕ → Option Command
-detach_of text =
-    if length text == 0 then Some (command.Detach None)
-    else option_map (λ n. command.Detach (Some n)) (option_and_then number_of (after 59 text))
+-- All processes, or the one behind a separator.
+abbrev pub process_of : ℕ → List ℕ → Option (Option ℕ)
+process_of separator text =
+    if length text == 0 then Some None
+    else option_map Some (option_and_then number_of (after separator text))
 
 -- A command that is known, or one that has not its form.
 abbrev pub asked : Option Command → Command
@@ -117,6 +118,39 @@ pub record Asks (letter : ℕ) (rest : List ℕ) (c : Command) : Type 0 where
       → c ≡ asked (option_map (point_command command.RemovePoint) (triple_of rest))
   pub life : letter ≡ 84 → c ≡ asked (option_map command.IsThreadAlive (thread_of rest))
   pub selection : letter ≡ 72 → c ≡ asked (select_of rest)
-  pub detachment : letter ≡ 68 → c ≡ asked (detach_of rest)
+  pub detachment : letter ≡ 68 → c ≡ asked (option_map command.Detach (process_of 59 rest))
   pub bytes : letter ≡ 120
       → c ≡ asked (option_map (λ r. command.ReadBytes r.0 r.1) (range_of rest))
+
+-- `:ADDRESS,LENGTH:KIND`
+unfoldable pub tags_of : List ℕ → Option Command
+tags_of text = do
+  arguments ← after 58 text
+  parts ← cut_at (λ b. b == 58) arguments
+  range ← range_of parts.0
+  kind ← number_of parts.1
+  Some (command.ReadTags range.0 range.1 kind)
+
+-- What these names behind a `q` ask, with what stands behind them.
+pub record AsksQuery (name rest : List ℕ) (c : Command) : Type 0 where
+  pub thread : name ≡ codes "C" → c ≡ asked (alone rest command.CurrentThread)
+  pub first_threads : name ≡ codes "fThreadInfo" → c ≡ asked (alone rest command.FirstThreads)
+  pub next_threads : name ≡ codes "sThreadInfo" → c ≡ asked (alone rest command.NextThreads)
+  pub offsets : name ≡ codes "Offsets" → c ≡ asked (alone rest command.Offsets)
+  pub tags : name ≡ codes "MemTags" → c ≡ asked (tags_of rest)
+  pub attached : name ≡ codes "Attached"
+      → c ≡ asked (option_map command.IsAttached (process_of 58 rest))
+
+-- What these names behind a `v` ask.
+pub record AsksNamed (name rest : List ℕ) (c : Command) : Type 0 where
+  pub actions : name ≡ codes "Cont?" → c ≡ asked (alone rest command.ResumeActions)
+  pub nothing : name ≡ codes "MustReplyEmpty" → c ≡ asked (alone rest command.MustReplyEmpty)
+  pub kill : name ≡ codes "Kill"
+      → c ≡ asked (option_map command.KillProcess (option_and_then number_of (after 59 rest)))
+
+-- A name, and what stands behind it.
+abbrev pub name_in : List ℕ → List ℕ
+name_in text = before_first is_separator text
+
+abbrev pub behind_name : List ℕ → List ℕ
+behind_name text = drop (position_or_len is_separator text) text

@@ -2,7 +2,7 @@
 
 ghost use Rattle.std.specs.Prelude.{◌≡◌, ◌==◌};
 ghost use Rattle.gdb_packets.specs.Commands.{range_of, triple_of, optional_of, alone, thread_of, id_of};
-ghost use Rattle.gdb_packets.specs.Commands.{process_thread};
+ghost use Rattle.gdb_packets.specs.Commands.{process_thread, process_of};
 ghost use Rattle.gdb_packets.specs.Texts.{cut_at};
 
 use crate::command::{Command, Id, Thread};
@@ -53,6 +53,17 @@ pub fn optional_number(text: &[u8]) -> Option<Option<u64>>
         Some(None)
     } else {
         Some(Some(read_number(text)?))
+    }
+}
+
+/// Nothing, or a separator and a process.
+pub fn optional_process(text: &[u8], separator: u8) -> Option<Option<u64>>
+    ensures { result ≡ process_of separator text.now }
+{
+    if text.is_empty() {
+        Some(None)
+    } else {
+        Some(Some(read_number(strip(text, separator)?)?))
     }
 }
 

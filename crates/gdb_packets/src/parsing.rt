@@ -1,12 +1,13 @@
 //! The command of a packet's data.
 
-ghost use Rattle.std.specs.Prelude.{◌≡◌, ◌∷◌, [], ℕ, List, option_map};
-ghost use Rattle.gdb_packets.specs.Commands.{Asks, asked, range_of, triple_of, optional_of, point_kind, point_command};
-ghost use Rattle.gdb_packets.specs.Commands.{detach_of, thread_of, select_of};
+ghost use Rattle.std.specs.Prelude.{◌≡◌, ◌∷◌, [], ℕ, List, option_map, codes};
+ghost use Rattle.gdb_packets.specs.Commands.{Asks, asked, alone, range_of, triple_of, optional_of, point_kind, point_command};
+ghost use Rattle.gdb_packets.specs.Commands.{process_of, thread_of, select_of, AsksQuery, AsksNamed, name_in, behind_name};
 ghost use Rattle.gdb_packets.specs.Digits.{number_of};
 
 use crate::arguments::{
-    bare, optional_number, parse_range, parse_signal, parse_thread, parse_triple, some_digits,
+    bare, optional_number, optional_process, parse_range, parse_signal, parse_thread, parse_triple,
+    some_digits,
 };
 use crate::command::{Action, Command, Point};
 use crate::digits::{is_hex, read_number};
@@ -18,6 +19,12 @@ pub fn parse_command(text: &[u8]) -> Command<'_>
     ensures empty { text.now ≡ [] → result ≡ Command.Unknown }
     ensures letter { (letter : ℕ) (rest : List ℕ) → text.now ≡ letter ∷ rest
         → Asks letter rest result }
+    ensures query { (rest : List ℕ) → text.now ≡ 113 ∷ rest
+        → AsksQuery (name_in rest) (behind_name rest) result }
+    ensures named { (rest : List ℕ) → text.now ≡ 118 ∷ rest
+        → AsksNamed (name_in rest) (behind_name rest) result }
+    ensures no_ack { (rest : List ℕ) → text.now ≡ 81 ∷ rest → name_in rest ≡ codes "StartNoAckMode"
+        → result ≡ asked (alone (behind_name rest) Command.StartNoAckMode) }
 {
     let command = match text {
         [] => Some(Command::Unknown),
@@ -229,11 +236,8 @@ fn parse_select(rest: &[u8]) -> Option<Command<'_>>
 
 /// Nothing or `;PROCESS`.
 fn parse_detach(rest: &[u8]) -> Option<Command<'_>>
-    ensures { result ≡ detach_of rest.now }
+    ensures { result ≡ option_map (λ p. Command.Detach p) (process_of 59 rest.now) }
 {
-    if rest.is_empty() {
-        return Some(Command::Detach { process: None });
-    }
-    let process = Some(read_number(strip(rest, b';')?)?);
+    let process = optional_process(rest, b';')?;
     Some(Command::Detach { process })
 }

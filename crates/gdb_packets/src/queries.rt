@@ -1,56 +1,91 @@
 //! The packets that have a name: those that begin with `q`, `Q` and `v`.
 
-ghost use Rattle.std.specs.Prelude.{◌≡◌, List, ℕ, codes, drop};
-ghost use Rattle.std.specs.List.{before_first, position_or_len};
-ghost use Rattle.gdb_packets.specs.Texts.{is_separator};
-ghost use Rattle.gdb_packets.specs.Commands.{alone};
+ghost use Rattle.std.specs.Prelude.{◌≡◌, ◌≢◌, codes, option_map, option_and_then};
+ghost use Rattle.gdb_packets.specs.Digits.{number_of};
+ghost use Rattle.gdb_packets.specs.Texts.{after};
+ghost use Rattle.gdb_packets.specs.Commands.{asked, alone, name_in, behind_name, AsksQuery};
+ghost use Rattle.gdb_packets.specs.Commands.{AsksNamed, tags_of, process_of};
 
-use crate::arguments::{bare, parse_range, parse_signal, parse_thread, some_digits};
+use crate::arguments::{
+    bare, optional_process, parse_range, parse_signal, parse_thread, some_digits,
+};
 use crate::command::{Action, Command, FileCall, Thread};
 use crate::digits::{is_hex, read_number};
-use crate::text::{split_name, split_once, strip};
+use crate::text::{is, split_name, split_once, strip};
 
 /// A packet that begins with `q`, without it.
-pub fn parse_query(text: &[u8]) -> Option<Command<'_>> {
+pub fn parse_query(text: &[u8]) -> Option<Command<'_>>
+    ensures { AsksQuery (name_in text.now) (behind_name text.now) (asked result) }
+{
     let (name, rest) = split_name(text);
-    match name {
-        b"C" => bare(rest, Command::CurrentThread),
-        b"Rcmd" => parse_monitor(rest),
-        b"Xfer" => parse_object(rest),
-        b"Symbol" => bare(strip(rest, b':')?, Command::Symbols),
-        b"Offsets" => bare(rest, Command::Offsets),
-        b"MemTags" => parse_tags(rest),
-        b"Attached" => parse_attached(rest),
-        b"Supported" => parse_supported(rest),
-        b"fThreadInfo" => bare(rest, Command::FirstThreads),
-        b"sThreadInfo" => bare(rest, Command::NextThreads),
-        _ => Some(Command::Unknown),
+    if is(name, b"Supported") {
+        parse_supported(rest)
+    } else if is(name, b"Xfer") {
+        parse_object(rest)
+    } else if is(name, b"MemTags") {
+        parse_tags(rest)
+    } else if is(name, b"Rcmd") {
+        parse_monitor(rest)
+    } else if is(name, b"Attached") {
+        parse_attached(rest)
+    } else if is(name, b"Symbol") {
+        bare(strip(rest, b':')?, Command::Symbols)
+    } else {
+        parse_bare_query(name, rest)
+    }
+}
+
+/// A query with nothing behind its name.
+fn parse_bare_query<'a>(name: &'a [u8], rest: &'a [u8]) -> Option<Command<'a>>
+    requires other { name.now ≢ codes "MemTags" }
+    requires another { name.now ≢ codes "Attached" }
+    ensures { AsksQuery name.now rest.now (asked result) }
+{
+    if is(name, b"C") {
+        bare(rest, Command::CurrentThread)
+    } else if is(name, b"fThreadInfo") {
+        bare(rest, Command::FirstThreads)
+    } else if is(name, b"sThreadInfo") {
+        bare(rest, Command::NextThreads)
+    } else if is(name, b"Offsets") {
+        bare(rest, Command::Offsets)
+    } else {
+        Some(Command::Unknown)
     }
 }
 
 /// A packet that begins with `Q`, without it.
 pub fn parse_setting(text: &[u8]) -> Option<Command<'_>>
-    ensures { (rest : List ℕ) → before_first is_separator text.now ≡ codes "StartNoAckMode"
-        → result ≡ alone (drop (position_or_len is_separator text.now) text.now) Command.StartNoAckMode }
+    ensures { name_in text.now ≡ codes "StartNoAckMode"
+        → result ≡ alone (behind_name text.now) Command.StartNoAckMode }
 {
     let (name, rest) = split_name(text);
-    match name {
-        b"MemTags" => parse_tag_writing(rest),
-        b"StartNoAckMode" => bare(rest, Command::StartNoAckMode),
-        _ => Some(Command::Unknown),
+    if is(name, b"StartNoAckMode") {
+        bare(rest, Command::StartNoAckMode)
+    } else if is(name, b"MemTags") {
+        parse_tag_writing(rest)
+    } else {
+        Some(Command::Unknown)
     }
 }
 
 /// A packet that begins with `v`, without it.
-pub fn parse_named(text: &[u8]) -> Option<Command<'_>> {
+pub fn parse_named(text: &[u8]) -> Option<Command<'_>>
+    ensures { AsksNamed (name_in text.now) (behind_name text.now) (asked result) }
+{
     let (name, rest) = split_name(text);
-    match name {
-        b"Cont" => parse_actions(strip(rest, b';')?),
-        b"Cont?" => bare(rest, Command::ResumeActions),
-        b"File" => parse_file(strip(rest, b':')?),
-        b"Kill" => parse_kill(rest),
-        b"MustReplyEmpty" => bare(rest, Command::MustReplyEmpty),
-        _ => Some(Command::Unknown),
+    if is(name, b"Cont") {
+        parse_actions(strip(rest, b';')?)
+    } else if is(name, b"Cont?") {
+        bare(rest, Command::ResumeActions)
+    } else if is(name, b"File") {
+        parse_file(strip(rest, b':')?)
+    } else if is(name, b"Kill") {
+        parse_kill(rest)
+    } else if is(name, b"MustReplyEmpty") {
+        bare(rest, Command::MustReplyEmpty)
+    } else {
+        Some(Command::Unknown)
     }
 }
 
@@ -68,7 +103,7 @@ fn parse_monitor(rest: &[u8]) -> Option<Command<'_>> {
 fn parse_object(rest: &[u8]) -> Option<Command<'_>> {
     let (object, rest) = split_once(strip(rest, b':')?, b':')?;
     let (operation, rest) = split_once(rest, b':')?;
-    if operation != b"read".as_slice() {
+    if !is(operation, b"read") {
         return Some(Command::Unknown);
     }
     let (annex, range) = split_once(rest, b':')?;
@@ -82,7 +117,10 @@ fn parse_object(rest: &[u8]) -> Option<Command<'_>> {
 }
 
 /// `:ADDRESS,LENGTH:KIND`
-fn parse_tags(rest: &[u8]) -> Option<Command<'_>> {
+#[tactic(auto, unfolding(crate::specs::Commands::tags_of))]
+fn parse_tags(rest: &[u8]) -> Option<Command<'_>>
+    ensures { result ≡ tags_of rest.now }
+{
     let (range, kind) = split_once(strip(rest, b':')?, b':')?;
     let (address, len) = parse_range(range)?;
     let kind = read_number(kind)?;
@@ -103,11 +141,10 @@ fn parse_tag_writing(rest: &[u8]) -> Option<Command<'_>> {
 }
 
 /// Nothing, or `:PROCESS`.
-fn parse_attached(rest: &[u8]) -> Option<Command<'_>> {
-    if rest.is_empty() {
-        return Some(Command::IsAttached { process: None });
-    }
-    let process = Some(read_number(strip(rest, b':')?)?);
+fn parse_attached(rest: &[u8]) -> Option<Command<'_>>
+    ensures { result ≡ option_map (λ p. Command.IsAttached p) (process_of 58 rest.now) }
+{
+    let process = optional_process(rest, b':')?;
     Some(Command::IsAttached { process })
 }
 
@@ -121,7 +158,10 @@ fn parse_supported(rest: &[u8]) -> Option<Command<'_>> {
 }
 
 /// `;PROCESS`
-fn parse_kill(rest: &[u8]) -> Option<Command<'_>> {
+fn parse_kill(rest: &[u8]) -> Option<Command<'_>>
+    ensures { result ≡ option_map (λ p. Command.KillProcess p)
+        (option_and_then number_of (after 59 rest.now)) }
+{
     let process = read_number(strip(rest, b';')?)?;
     Some(Command::KillProcess { process })
 }
@@ -129,22 +169,34 @@ fn parse_kill(rest: &[u8]) -> Option<Command<'_>> {
 /// `OPERATION:..`
 fn parse_file(text: &[u8]) -> Option<Command<'_>> {
     let (operation, rest) = split_once(text, b':')?;
-    let call = match operation {
-        b"open" => parse_open(rest)?,
-        b"pread" => parse_read(rest)?,
-        b"close" => FileCall::Close {
-            descriptor: read_number(rest)?,
-        },
-        b"fstat" => FileCall::Status {
-            descriptor: read_number(rest)?,
-        },
-        b"setfs" => FileCall::SetFilesystem {
-            process: read_number(rest)?,
-        },
-        b"readlink" => FileCall::ReadLink {
-            path: some_digits(rest)?,
-        },
-        _ => return Some(Command::Unknown),
+    let call = if is(operation, b"open") {
+        parse_open(rest)?
+    } else if is(operation, b"pread") {
+        parse_read(rest)?
+    } else if is(operation, b"readlink") {
+        let path = some_digits(rest)?;
+        FileCall::ReadLink { path }
+    } else {
+        return parse_numbered_call(operation, rest);
+    };
+    Some(Command::File(call))
+}
+
+/// An operation with one number.
+fn parse_numbered_call<'a>(operation: &[u8], rest: &'a [u8]) -> Option<Command<'a>> {
+    let number = read_number(rest);
+    let call = if is(operation, b"close") {
+        FileCall::Close {
+            descriptor: number?,
+        }
+    } else if is(operation, b"fstat") {
+        FileCall::Status {
+            descriptor: number?,
+        }
+    } else if is(operation, b"setfs") {
+        FileCall::SetFilesystem { process: number? }
+    } else {
+        return Some(Command::Unknown);
     };
     Some(Command::File(call))
 }

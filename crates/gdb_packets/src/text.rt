@@ -1,6 +1,6 @@
 //! Texts cut at separators.
 
-ghost use Rattle.std.specs.Prelude.{◌≡◌, ◌==◌, ◌≤◌, length, drop};
+ghost use Rattle.std.specs.Prelude.{◌≡◌, ◌==◌, ◌≤◌, ◌↔◌, length, drop, IsTrue};
 ghost use Rattle.std.specs.List.{position_or_len, before_first};
 ghost use Rattle.gdb_packets.specs.Texts.{cut_at, parts, rest_of, after, is_separator};
 
@@ -48,4 +48,11 @@ fn name_len(text: &[u8]) -> usize
 {
     let is_name = |b: &&u8| **b != b':' && **b != b';' && **b != b',';
     text.iter().take_while(is_name).count()
+}
+
+/// Whether a text is a word.
+pub fn is(text: &[u8], word: &[u8]) -> bool
+    ensures { IsTrue result ↔ (text.now ≡ word.now) }
+{
+    text == word
 }
