@@ -29,7 +29,7 @@ pub fn parse_query(text: &[u8]) -> Option<Command<'_>>
     } else if is(name, b"Attached") {
         parse_attached(rest)
     } else if is(name, b"Symbol") {
-        bare(strip(rest, b':')?, Command::Symbols)
+        parse_symbols(rest)
     } else {
         parse_bare_query(name, rest)
     }
@@ -87,6 +87,12 @@ pub fn parse_named(text: &[u8]) -> Option<Command<'_>>
     } else {
         Some(Command::Unknown)
     }
+}
+
+/// `::` or `:VALUE:NAME`
+fn parse_symbols(rest: &[u8]) -> Option<Command<'_>> {
+    let _ = split_once(strip(rest, b':')?, b':')?;
+    Some(Command::Symbols)
 }
 
 /// `,XX..`

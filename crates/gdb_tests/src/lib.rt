@@ -1,0 +1,10 @@
+//! Tests of GDB's packets: frames that GDB 13.1 sent, values of its documentation, and malformed
+//! packets, in a crate at the top: a crate with tests of its own would be proved twice.
+#![tactic(auto)]
+
+#[cfg(test)]
+mod commands;
+#[cfg(test)]
+mod digits;
+#[cfg(test)]
+mod frames;
