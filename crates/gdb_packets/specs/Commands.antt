@@ -1,11 +1,12 @@
 -- The commands whose arguments are numbers (GDB's documentation, "Packets").
 use Rattle.std.specs.Prelude.{◌≡◌, ℕ, ◌==◌, ◌&&◌, Bool, true, false, if◌then◌else◌, List, [], ◌∷◌, length, Option, Some, None}
-use Rattle.std.specs.Prelude.{option_map, option_and_then, unwrap_or, codes, drop}
+use Rattle.std.specs.Prelude.{option_map, option_and_then, unwrap_or, codes, drop, nat_lt, is_some}
 use Rattle.gdb_packets.specs.Digits.{number_of}
 use Rattle.gdb_packets.specs.Texts.{cut_at, after, is_separator}
-use Rattle.std.specs.List.{before_first, position_or_len}
+use Rattle.std.specs.List.{before_first, position_or_len, list_all, slice_split}
 use Rattle.gdb_packets.specs.declared.command.Command.{Command}
 use Rattle.gdb_packets.specs.declared.command.Command.TheVariants as command
+use Rattle.gdb_packets.specs.declared.command.Action.{Action}
 use Rattle.gdb_packets.specs.declared.command.Action.TheVariants as action
 use Rattle.gdb_packets.specs.declared.command.Point.{Point}
 use Rattle.gdb_packets.specs.declared.command.Point.TheVariants as point
@@ -99,6 +100,53 @@ select_of (b ∷ text) =
     else if b == 103 then option_map (command.SelectThread false) (thread_of text)
     else None
 
+-- A signal is a number of one byte.
+abbrev pub signal_of : List ℕ → Option ℕ
+signal_of text = option_and_then (λ n. if nat_lt n 256 then Some n else None) (number_of text)
+
+-- A signal, and an address where one follows behind a `;`.
+abbrev pub signal_by : Option (List ℕ × List ℕ) → List ℕ → Option (ℕ × Option ℕ)
+signal_by None text = option_map (λ s. (s, None)) (signal_of text)
+signal_by (Some parts) text = do
+  address ← number_of parts.1
+  signal ← signal_of parts.0
+  Some (signal, Some address)
+
+unfoldable pub signal_and_address : List ℕ → Option (ℕ × Option ℕ)
+signal_and_address text = signal_by (cut_at (λ b. b == 59) text) text
+
+abbrev pub lone : List ℕ → Action → Option Action
+lone rest a = if length rest == 0 then Some a else None
+
+-- An action of `vCont`.
+unfoldable pub action_of : List ℕ → Option Action
+action_of [] = None
+action_of (b ∷ rest) =
+    if b == 99 then lone rest (action.Continue None)
+    else if b == 115 then lone rest (action.Step None)
+    else if b == 116 then lone rest action.Stop
+    else if b == 67 then option_map (λ s. action.Continue (Some s)) (signal_of rest)
+    else if b == 83 then option_map (λ s. action.Step (Some s)) (signal_of rest)
+    else if b == 114 then option_map (λ r. action.StepRange r.0 r.1) (range_of rest)
+    else None
+
+-- An action, and its thread where one follows behind a `:`.
+abbrev pub thread_action_by : Option (List ℕ × List ℕ) → List ℕ → Option (Action × Option Thread)
+thread_action_by None text = option_map (λ a. (a, None)) (action_of text)
+thread_action_by (Some parts) text = do
+  a ← action_of parts.0
+  t ← thread_of parts.1
+  Some (a, Some t)
+
+unfoldable pub thread_action : List ℕ → Option (Action × Option Thread)
+thread_action text = thread_action_by (cut_at (λ b. b == 58) text) text
+
+-- The first of some actions with a `;` between them, where each is one.
+abbrev pub first_action : List ℕ → Option (Action × Option Thread)
+first_action text =
+    if list_all (λ piece. is_some (thread_action piece)) (slice_split (λ b. b == 59) text)
+    then thread_action (before_first (λ b. b == 59) text) else None
+
 -- What these letters ask, with what stands behind them.
 pub record Asks (letter : ℕ) (rest : List ℕ) (c : Command) : Type 0 where
   pub reason : letter ≡ 63 → c ≡ asked (alone rest command.StopReason)
@@ -116,6 +164,12 @@ pub record Asks (letter : ℕ) (rest : List ℕ) (c : Command) : Type 0 where
       → c ≡ asked (option_map (point_command command.InsertPoint) (triple_of rest))
   pub removal : letter ≡ 122
       → c ≡ asked (option_map (point_command command.RemovePoint) (triple_of rest))
+  pub signal_continuation : letter ≡ 67
+      → c ≡ asked (option_map (λ s. command.Resume (action.Continue (Some s.0)) s.1)
+      (signal_and_address rest))
+  pub signal_step : letter ≡ 83
+      → c ≡ asked (option_map (λ s. command.Resume (action.Step (Some s.0)) s.1)
+      (signal_and_address rest))
   pub life : letter ≡ 84 → c ≡ asked (option_map command.IsThreadAlive (thread_of rest))
   pub selection : letter ≡ 72 → c ≡ asked (select_of rest)
   pub detachment : letter ≡ 68 → c ≡ asked (option_map command.Detach (process_of 59 rest))
@@ -144,6 +198,9 @@ pub record AsksQuery (name rest : List ℕ) (c : Command) : Type 0 where
 -- What these names behind a `v` ask.
 pub record AsksNamed (name rest : List ℕ) (c : Command) : Type 0 where
   pub actions : name ≡ codes "Cont?" → c ≡ asked (alone rest command.ResumeActions)
+  pub resume : name ≡ codes "Cont"
+      → c ≡ asked (option_map (λ a. command.ResumeThread a.0 a.1)
+      (option_and_then first_action (after 59 rest)))
   pub nothing : name ≡ codes "MustReplyEmpty" → c ≡ asked (alone rest command.MustReplyEmpty)
   pub kill : name ≡ codes "Kill"
       → c ≡ asked (option_map command.KillProcess (option_and_then number_of (after 59 rest)))

@@ -2,7 +2,7 @@
 
 ghost use Rattle.std.specs.Prelude.{◌≡◌, ◌==◌};
 ghost use Rattle.gdb_packets.specs.Commands.{range_of, triple_of, optional_of, alone, thread_of, id_of};
-ghost use Rattle.gdb_packets.specs.Commands.{process_thread, process_of};
+ghost use Rattle.gdb_packets.specs.Commands.{process_thread, process_of, signal_of};
 ghost use Rattle.gdb_packets.specs.Texts.{cut_at};
 
 use crate::command::{Command, Id, Thread};
@@ -68,9 +68,15 @@ pub fn optional_process(text: &[u8], separator: u8) -> Option<Option<u64>>
 }
 
 /// A number of one byte.
-pub fn parse_signal(text: &[u8]) -> Option<u8> {
+pub fn parse_signal(text: &[u8]) -> Option<u8>
+    ensures { result ≡ signal_of text.now }
+{
     let number = read_number(text)?;
-    u8::try_from(number).ok()
+    if number < 256 {
+        Some(number as u8)
+    } else {
+        None
+    }
 }
 
 /// A thread, as `H`, `T` and `vCont` name it.

@@ -2,7 +2,7 @@
 
 ghost use Rattle.std.specs.Prelude.{◌≡◌, ◌∷◌, [], ℕ, List, option_map, codes};
 ghost use Rattle.gdb_packets.specs.Commands.{Asks, asked, alone, range_of, triple_of, optional_of, point_kind, point_command};
-ghost use Rattle.gdb_packets.specs.Commands.{process_of, thread_of, select_of, AsksQuery, AsksNamed, name_in, behind_name};
+ghost use Rattle.gdb_packets.specs.Commands.{process_of, thread_of, signal_and_address, select_of, AsksQuery, AsksNamed, name_in, behind_name};
 ghost use Rattle.gdb_packets.specs.Digits.{number_of};
 
 use crate::arguments::{
@@ -54,8 +54,8 @@ fn parse_letter(letter: u8, rest: &[u8]) -> Option<Command<'_>>
         b'G' => parse_all_registers(rest),
         b'c' => parse_resume(rest, Action::Continue { signal: None }),
         b's' => parse_resume(rest, Action::Step { signal: None }),
-        b'C' => parse_signal_resume(rest, false),
-        b'S' => parse_signal_resume(rest, true),
+        b'C' => parse_signal_continuation(rest),
+        b'S' => parse_signal_step(rest),
         b'Z' => parse_insertion(rest),
         b'z' => parse_removal(rest),
         b'H' => parse_select(rest),
@@ -147,19 +147,41 @@ fn parse_resume<'a>(rest: &'a [u8], action: Action) -> Option<Command<'a>>
     Some(Command::Resume { action, address })
 }
 
-/// `SIGNAL` or `SIGNAL;ADDRESS`: the signal of a step, or of a continuation.
-fn parse_signal_resume(rest: &[u8], steps: bool) -> Option<Command<'_>> {
-    let (signal, address) = match split_once(rest, b';') {
-        None => (rest, None),
-        Some((signal, address)) => (signal, Some(read_number(address)?)),
-    };
-    let signal = Some(parse_signal(signal)?);
-    let action = if steps {
-        Action::Step { signal }
-    } else {
-        Action::Continue { signal }
+/// `SIGNAL` or `SIGNAL;ADDRESS` of a continuation.
+fn parse_signal_continuation(rest: &[u8]) -> Option<Command<'_>>
+    ensures { result ≡ option_map (λ s. Command.Resume (Action.Continue (Some s.0)) s.1)
+        (signal_and_address rest.now) }
+{
+    let (signal, address) = parse_signal_and_address(rest)?;
+    let action = Action::Continue {
+        signal: Some(signal),
     };
     Some(Command::Resume { action, address })
+}
+
+/// `SIGNAL` or `SIGNAL;ADDRESS` of a step.
+fn parse_signal_step(rest: &[u8]) -> Option<Command<'_>>
+    ensures { result ≡ option_map (λ s. Command.Resume (Action.Step (Some s.0)) s.1)
+        (signal_and_address rest.now) }
+{
+    let (signal, address) = parse_signal_and_address(rest)?;
+    let action = Action::Step {
+        signal: Some(signal),
+    };
+    Some(Command::Resume { action, address })
+}
+
+#[tactic(auto, unfolding(crate::specs::Commands::signal_and_address))]
+fn parse_signal_and_address(text: &[u8]) -> Option<(u8, Option<u64>)>
+    ensures { result ≡ signal_and_address text.now }
+{
+    match split_once(text, b';') {
+        None => Some((parse_signal(text)?, None)),
+        Some((signal, address)) => {
+            let address = read_number(address)?;
+            Some((parse_signal(signal)?, Some(address)))
+        }
+    }
 }
 
 /// `KIND,ADDRESS,SIZE` of a point that is put in.

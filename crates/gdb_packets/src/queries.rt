@@ -5,13 +5,16 @@ ghost use Rattle.gdb_packets.specs.Digits.{number_of};
 ghost use Rattle.gdb_packets.specs.Texts.{after};
 ghost use Rattle.gdb_packets.specs.Commands.{asked, alone, name_in, behind_name, AsksQuery};
 ghost use Rattle.gdb_packets.specs.Commands.{AsksNamed, tags_of, process_of};
+ghost use Rattle.std.specs.Prelude.{◌==◌, is_some};
+ghost use Rattle.std.specs.List.{list_all, slice_split};
+ghost use Rattle.gdb_packets.specs.Commands.{thread_action, first_action, action_of, lone};
 
 use crate::arguments::{
     bare, optional_process, parse_range, parse_signal, parse_thread, some_digits,
 };
 use crate::command::{Action, Command, FileCall, Thread};
 use crate::digits::{is_hex, read_number};
-use crate::text::{is, split_name, split_once, strip};
+use crate::text::{front, is, split_name, split_once, strip};
 
 /// A packet that begins with `q`, without it.
 pub fn parse_query(text: &[u8]) -> Option<Command<'_>>
@@ -230,37 +233,65 @@ fn parse_read(text: &[u8]) -> Option<FileCall<'_>> {
 }
 
 /// `ACTION[:THREAD];ACTION[:THREAD]..`
-fn parse_actions(text: &[u8]) -> Option<Command<'_>> {
-    let mut pieces = text.split(|b| *b == b';');
-    let (action, thread) = parse_action(pieces.next()?)?;
-    for piece in pieces {
-        parse_action(piece)?;
+fn parse_actions(text: &[u8]) -> Option<Command<'_>>
+    ensures { result ≡ option_map (λ a. Command.ResumeThread a.0 a.1) (first_action text.now) }
+{
+    if !are_actions(text) {
+        return None;
     }
+    let (action, thread) = parse_action(front(text, b';'))?;
     Some(Command::ResumeThread { action, thread })
 }
 
-fn parse_action(text: &[u8]) -> Option<(Action, Option<Thread>)> {
+fn are_actions(text: &[u8]) -> bool
+    ensures { result ≡ list_all (λ piece. is_some (thread_action piece))
+        (slice_split (λ b. b == 59) text.now) }
+{
+    text.split(|b| *b == b';').all(|piece| is_action(piece))
+}
+
+fn is_action(text: &[u8]) -> bool
+    ensures { result ≡ is_some (thread_action text.now) }
+{
+    parse_action(text).is_some()
+}
+
+#[tactic(auto, unfolding(crate::specs::Commands::thread_action))]
+fn parse_action(text: &[u8]) -> Option<(Action, Option<Thread>)>
+    ensures { result ≡ thread_action text.now }
+{
     match split_once(text, b':') {
         None => Some((action_of(text)?, None)),
         Some((action, thread)) => Some((action_of(action)?, Some(parse_thread(thread)?))),
     }
 }
 
-fn action_of(text: &[u8]) -> Option<Action> {
-    match text {
-        b"c" => Some(Action::Continue { signal: None }),
-        b"s" => Some(Action::Step { signal: None }),
-        b"t" => Some(Action::Stop),
-        [b'C', signal @ ..] => Some(Action::Continue {
-            signal: Some(parse_signal(signal)?),
+#[tactic(auto, unfolding(crate::specs::Commands::action_of))]
+fn action_of(text: &[u8]) -> Option<Action>
+    ensures { result ≡ action_of text.now }
+{
+    let (letter, rest) = text.split_first()?;
+    match *letter {
+        b'c' => lone(rest, Action::Continue { signal: None }),
+        b's' => lone(rest, Action::Step { signal: None }),
+        b't' => lone(rest, Action::Stop),
+        b'C' => Some(Action::Continue {
+            signal: Some(parse_signal(rest)?),
         }),
-        [b'S', signal @ ..] => Some(Action::Step {
-            signal: Some(parse_signal(signal)?),
+        b'S' => Some(Action::Step {
+            signal: Some(parse_signal(rest)?),
         }),
-        [b'r', range @ ..] => {
-            let (start, end) = parse_range(range)?;
+        b'r' => {
+            let (start, end) = parse_range(rest)?;
             Some(Action::StepRange { start, end })
         }
         _ => None,
     }
+}
+
+/// An action with nothing behind its letter.
+fn lone(rest: &[u8], action: Action) -> Option<Action>
+    ensures { result ≡ lone rest.now action }
+{
+    if rest.is_empty() { Some(action) } else { None }
 }

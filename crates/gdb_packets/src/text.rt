@@ -16,6 +16,13 @@ pub fn split_once(text: &[u8], separator: u8) -> Option<(&[u8], &[u8])>
     }
 }
 
+/// The text before the first separator, or all of it.
+pub fn front(text: &[u8], separator: u8) -> &[u8]
+    ensures { result.now ≡ before_first (λ b. b == separator) text.now }
+{
+    &text[..front_len(text, separator)]
+}
+
 /// How many bytes stand before the first separator, or in all.
 fn front_len(text: &[u8], separator: u8) -> usize
     ensures len { result ≡ position_or_len (λ b. b == separator) text.now }
