@@ -3,4 +3,4 @@ pub mod EscapeLemmas
 pub mod FrameLemmas
 pub mod ReadingLemmas
 pub mod NumberLemmas
-pub mod HexTexts
+pub mod HexLemmas

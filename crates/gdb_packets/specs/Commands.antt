@@ -1,5 +1,6 @@
 -- The commands whose arguments are numbers (GDB's documentation, "Packets").
-use Rattle.std.specs.Prelude.{◌≡◌, ℕ, ◌==◌, ◌&&◌, Bool, true, false, if◌then◌else◌, List, [], ◌∷◌, length, Option, Some, None}
+use Rattle.std.specs.Prelude.{◌≡◌, ℕ, ◌==◌, ◌&&◌, Bool, true, false}
+use Rattle.std.specs.Prelude.{if◌then◌else◌, List, [], ◌∷◌, length, Option, Some, None}
 use Rattle.std.specs.Prelude.{option_map, option_and_then, unwrap_or, codes, drop, nat_lt, is_some}
 use Rattle.gdb_packets.specs.Digits.{number_of}
 use Rattle.gdb_packets.specs.Texts.{cut_at, after, is_separator}
@@ -10,6 +11,7 @@ use Rattle.gdb_packets.specs.declared.command.Action.{Action}
 use Rattle.gdb_packets.specs.declared.command.Action.TheVariants as action
 use Rattle.gdb_packets.specs.declared.command.Point.{Point}
 use Rattle.gdb_packets.specs.declared.command.Point.TheVariants as point
+use Rattle.gdb_packets.specs.declared.command.FileCall.TheVariants as file
 use Rattle.gdb_packets.specs.declared.command.Id.{Id}
 use Rattle.gdb_packets.specs.declared.command.Id.TheVariants as id
 use Rattle.gdb_packets.specs.declared.command.Thread.{Thread}
@@ -131,7 +133,8 @@ action_of (b ∷ rest) =
     else None
 
 -- An action, and its thread where one follows behind a `:`.
-abbrev pub thread_action_by : Option (List ℕ × List ℕ) → List ℕ → Option (Action × Option Thread)
+abbrev pub thread_action_by : Option (List ℕ × List ℕ) → List ℕ
+    → Option (Action × Option Thread)
 thread_action_by None text = option_map (λ a. (a, None)) (action_of text)
 thread_action_by (Some parts) text = do
   a ← action_of parts.0
@@ -195,6 +198,17 @@ pub record AsksQuery (name rest : List ℕ) (c : Command) : Type 0 where
   pub attached : name ≡ codes "Attached"
       → c ≡ asked (option_map command.IsAttached (process_of 58 rest))
 
+-- What these operations on files ask.
+pub record AsksFile (operation rest : List ℕ) (c : Command) : Type 0 where
+  pub close : operation ≡ codes "close"
+      → c ≡ asked (option_map (λ d. command.File (file.Close d)) (number_of rest))
+  pub status : operation ≡ codes "fstat"
+      → c ≡ asked (option_map (λ d. command.File (file.Status d)) (number_of rest))
+  pub filesystem : operation ≡ codes "setfs"
+      → c ≡ asked (option_map (λ p. command.File (file.SetFilesystem p)) (number_of rest))
+  pub read : operation ≡ codes "pread"
+      → c ≡ asked (option_map (λ t. command.File (file.Read t.0 t.1 t.2)) (triple_of rest))
+
 -- What these names behind a `v` ask.
 pub record AsksNamed (name rest : List ℕ) (c : Command) : Type 0 where
   pub actions : name ≡ codes "Cont?" → c ≡ asked (alone rest command.ResumeActions)
@@ -202,6 +216,9 @@ pub record AsksNamed (name rest : List ℕ) (c : Command) : Type 0 where
       → c ≡ asked (option_map (λ a. command.ResumeThread a.0 a.1)
       (option_and_then first_action (after 59 rest)))
   pub nothing : name ≡ codes "MustReplyEmpty" → c ≡ asked (alone rest command.MustReplyEmpty)
+  pub file : (operation arguments : List ℕ) → name ≡ codes "File"
+      → option_and_then (cut_at (λ b. b == 58)) (after 58 rest) ≡ Some (operation, arguments)
+      → AsksFile operation arguments c
   pub kill : name ≡ codes "Kill"
       → c ≡ asked (option_map command.KillProcess (option_and_then number_of (after 59 rest)))
 

@@ -1,5 +1,6 @@
 -- Numbers and bytes as hexadecimal digits.
-use Rattle.std.specs.Prelude.{◌≡◌, ℕ, ◌≤◌, ◌%◌, ◌==◌, nat_lt, nat_le, ◌&&◌, Bool, if◌then◌else◌}
+use Rattle.std.specs.Prelude.{◌≡◌, ℕ, ◌≤◌, ◌%◌, ◌==◌, nat_lt, nat_le}
+use Rattle.std.specs.Prelude.{◌&&◌, Bool, if◌then◌else◌}
 use Rattle.std.specs.Prelude.{List, ◌++◌, drop, length, Option, Some, None, option_map}
 use Rattle.std.specs.List.{list_all}
 use Rattle.std.specs.Int.{from_le_bytes, w64}
@@ -18,10 +19,11 @@ number_of text =
 abbrev pub hex_bytes : List ℕ → Option (List ℕ)
 hex_bytes text = result_ok (decode_of text)
 
--- Bytes were put at the front of a room, before what stood behind that place; or there are none, and
--- the room stays as it was.
+-- Bytes were put at the front of a room, before what stood behind that place; or there are none,
+-- and the room stays as it was.
 abbrev pub Puts : Option (List ℕ) → List ℕ → List ℕ → Option ℕ → Type 0
-Puts (Some bytes) old new r = (r ≡ Some (length bytes)) × (new ≡ bytes ++ drop (length bytes) old)
+Puts (Some bytes) old new r =
+    (r ≡ Some (length bytes)) × (new ≡ bytes ++ drop (length bytes) old)
 Puts None old new r = (r ≡ None) × (new ≡ old)
 
 -- The value of a register from the digits of its 1 to 8 bytes, the lowest byte first.

@@ -1,5 +1,6 @@
 -- What bytes frame a payload (GDB's documentation, "Remote Protocol", "Overview").
-use Rattle.std.specs.Prelude.{ℕ, ◌%◌, ◌==◌, ◌||◌, Bool, if◌then◌else◌, bit_xor, sum}
+use Rattle.std.specs.Prelude.{ℕ, ◌%◌, ◌==◌, ◌||◌, Bool, if◌then◌else◌, bit_xor}
+use Rattle.std.specs.Prelude.{sum}
 use Rattle.std.specs.Prelude.{List, [], ◌∷◌, ◌++◌, Option, Some, None, option_map}
 use Rattle.std.specs.List.{flat_map}
 use Rattle.hex.specs.Hex.{encode_lower}

@@ -1,5 +1,6 @@
 -- Texts that are put into a buffer that the caller lends.
-use Rattle.std.specs.Prelude.{◌≡◌, ℕ, ◌<◌, List, ◌++◌, drop, length, Option, Some, None}
+use Rattle.std.specs.Prelude.{◌≡◌, ℕ, ◌<◌, List, ◌++◌, drop, length, Option, Some}
+use Rattle.std.specs.Prelude.{None}
 
 -- A text stands at the front of the room, before what stood behind that place; or it is longer than
 -- the room, which stays as it was.

@@ -1,9 +1,10 @@
 //! The arguments of commands.
 
 ghost use Rattle.std.specs.Prelude.{◌≡◌, ◌==◌};
-ghost use Rattle.gdb_packets.specs.Commands.{range_of, triple_of, optional_of, alone, thread_of, id_of};
-ghost use Rattle.gdb_packets.specs.Commands.{process_thread, process_of, signal_of};
 ghost use Rattle.gdb_packets.specs.Texts.{cut_at};
+ghost use Rattle.gdb_packets.specs.Commands.{alone, range_of, triple_of, optional_of};
+ghost use Rattle.gdb_packets.specs.Commands.{process_of, signal_of};
+ghost use Rattle.gdb_packets.specs.Commands.{id_of, process_thread, thread_of};
 
 use crate::command::{Command, Id, Thread};
 use crate::digits::{is_hex, read_number};

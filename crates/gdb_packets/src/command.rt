@@ -1,6 +1,7 @@
 //! What a packet asks.
 
-/// A packet's command (GDB's documentation, "Packets", "General Query Packets", "Host I/O Packets").
+/// A packet's command (GDB's documentation, "Packets", "General Query Packets", "vCont packet",
+/// "Host I/O Packets").
 /// Texts are parts of the packet's data. A text of hexadecimal digits has an even number of them,
 /// of either case, and `read_hex` or `read_register` reads it; other texts are as they came.
 #[derive(Clone, Copy, Debug, PartialEq, Eq)]

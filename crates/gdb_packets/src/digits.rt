@@ -1,6 +1,7 @@
 //! Numbers and bytes as hexadecimal digits.
 
-ghost use Rattle.std.specs.Prelude.{◌≡◌, ◌^◌, ◌*◌, ◌<◌, ◌≤◌, length, take, drop, ℕ, List, false};
+ghost use Rattle.std.specs.Prelude.{◌≡◌, ◌^◌, ◌*◌, ◌<◌, ◌≤◌, ℕ, false};
+ghost use Rattle.std.specs.Prelude.{List, length, take, drop};
 ghost use Rattle.std.specs.List.{list_all};
 ghost use Rattle.std.specs.Option.{SomeIff};
 ghost use Rattle.std.specs.Fmt.{digits, digit_glyph};
@@ -13,7 +14,7 @@ ghost use Rattle.gdb_packets.specs.Rooms.{Writes};
 /// The most digits of a number.
 const NUMBER_LEN: usize = 16;
 
-/// The number of 1 to 16 digits, the highest first, as GDB writes addresses, lengths and thread ids.
+/// The number of 1 to 16 digits, the highest first, as GDB writes addresses, lengths and ids.
 pub fn read_number(text: &[u8]) -> Option<u64>
     ensures exact { result ≡ number_of text.now }
     // What was written is read again.

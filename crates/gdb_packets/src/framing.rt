@@ -1,10 +1,11 @@
 //! Payloads, their escapes and their frames.
 
-ghost use Rattle.std.specs.Prelude.{◌≡◌, ◌+◌, ◌-◌, ◌≤◌, ◌∷◌, [], ◌++◌, length, take, drop};
-ghost use Rattle.std.specs.Prelude.{IfSome, option_map, List, ℕ};
+ghost use Rattle.std.specs.Prelude.{◌≡◌, ◌+◌, ◌-◌, ◌≤◌, ℕ, IfSome, option_map};
+ghost use Rattle.std.specs.Prelude.{List, ◌∷◌, [], ◌++◌, length, take, drop};
 ghost use Rattle.std.specs.Option.{SomeIff};
 ghost use Rattle.hex.specs.Hex.{encode_lower};
-ghost use Rattle.gdb_packets.specs.Framing.{checksum_of, escape_of, escaped, payload_of, framed, is_reserved};
+ghost use Rattle.gdb_packets.specs.Framing.{checksum_of, is_reserved, escape_of, escaped};
+ghost use Rattle.gdb_packets.specs.Framing.{payload_of, framed};
 ghost use Rattle.gdb_packets.specs.Rooms.{Writes};
 
 /// The byte before one that is sent XOR 0x20.

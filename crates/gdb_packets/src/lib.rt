@@ -18,4 +18,3 @@ pub use digits::{
 pub use framing::{checksum, unescape, write_packet};
 pub use input::{FRAME_LIMIT, Input, PACKET_SIZE, read_input};
 pub use parsing::parse_command;
-pub use text::{split_once, strip};

@@ -1,16 +1,17 @@
 //! The packets that have a name: those that begin with `q`, `Q` and `v`.
 
-ghost use Rattle.std.specs.Prelude.{◌≡◌, ◌≢◌, codes, option_map, option_and_then};
-ghost use Rattle.gdb_packets.specs.Digits.{number_of};
-ghost use Rattle.gdb_packets.specs.Texts.{after};
-ghost use Rattle.gdb_packets.specs.Commands.{asked, alone, name_in, behind_name, AsksQuery};
-ghost use Rattle.gdb_packets.specs.Commands.{AsksNamed, tags_of, process_of};
-ghost use Rattle.std.specs.Prelude.{◌==◌, is_some};
+ghost use Rattle.std.specs.Prelude.{◌≡◌, ◌≢◌, ◌==◌, ℕ, List, Some, codes, is_some};
+ghost use Rattle.std.specs.Prelude.{option_map, option_and_then};
 ghost use Rattle.std.specs.List.{list_all, slice_split};
-ghost use Rattle.gdb_packets.specs.Commands.{thread_action, first_action, action_of, lone};
+ghost use Rattle.gdb_packets.specs.Digits.{number_of};
+ghost use Rattle.gdb_packets.specs.Texts.{after, cut_at};
+ghost use Rattle.gdb_packets.specs.Commands.{asked, alone, lone, name_in, behind_name};
+ghost use Rattle.gdb_packets.specs.Commands.{process_of, tags_of, triple_of};
+ghost use Rattle.gdb_packets.specs.Commands.{action_of, thread_action, first_action};
+ghost use Rattle.gdb_packets.specs.Commands.{AsksFile, AsksNamed, AsksQuery};
 
 use crate::arguments::{
-    bare, optional_process, parse_range, parse_signal, parse_thread, some_digits,
+    bare, optional_process, parse_range, parse_signal, parse_thread, parse_triple, some_digits,
 };
 use crate::command::{Action, Command, FileCall, Thread};
 use crate::digits::{is_hex, read_number};
@@ -176,34 +177,34 @@ fn parse_kill(rest: &[u8]) -> Option<Command<'_>>
 }
 
 /// `OPERATION:..`
-fn parse_file(text: &[u8]) -> Option<Command<'_>> {
+fn parse_file(text: &[u8]) -> Option<Command<'_>>
+    ensures { (operation rest : List ℕ)
+        → cut_at (λ b. b == 58) text.now ≡ Some (operation, rest)
+        → AsksFile operation rest (asked result) }
+{
     let (operation, rest) = split_once(text, b':')?;
+    parse_operation(operation, rest)
+}
+
+fn parse_operation<'a>(operation: &'a [u8], rest: &'a [u8]) -> Option<Command<'a>>
+    ensures { AsksFile operation.now rest.now (asked result) }
+{
     let call = if is(operation, b"open") {
         parse_open(rest)?
     } else if is(operation, b"pread") {
         parse_read(rest)?
+    } else if is(operation, b"close") {
+        let descriptor = read_number(rest)?;
+        FileCall::Close { descriptor }
+    } else if is(operation, b"fstat") {
+        let descriptor = read_number(rest)?;
+        FileCall::Status { descriptor }
+    } else if is(operation, b"setfs") {
+        let process = read_number(rest)?;
+        FileCall::SetFilesystem { process }
     } else if is(operation, b"readlink") {
         let path = some_digits(rest)?;
         FileCall::ReadLink { path }
-    } else {
-        return parse_numbered_call(operation, rest);
-    };
-    Some(Command::File(call))
-}
-
-/// An operation with one number.
-fn parse_numbered_call<'a>(operation: &[u8], rest: &'a [u8]) -> Option<Command<'a>> {
-    let number = read_number(rest);
-    let call = if is(operation, b"close") {
-        FileCall::Close {
-            descriptor: number?,
-        }
-    } else if is(operation, b"fstat") {
-        FileCall::Status {
-            descriptor: number?,
-        }
-    } else if is(operation, b"setfs") {
-        FileCall::SetFilesystem { process: number? }
     } else {
         return Some(Command::Unknown);
     };
@@ -222,11 +223,12 @@ fn parse_open(text: &[u8]) -> Option<FileCall<'_>> {
 }
 
 /// `DESCRIPTOR,COUNT,OFFSET`
-fn parse_read(text: &[u8]) -> Option<FileCall<'_>> {
-    let (descriptor, rest) = split_once(text, b',')?;
-    let (count, offset) = parse_range(rest)?;
+fn parse_read(text: &[u8]) -> Option<FileCall<'_>>
+    ensures { result ≡ option_map (λ t. FileCall.Read t.0 t.1 t.2) (triple_of text.now) }
+{
+    let (descriptor, count, offset) = parse_triple(text)?;
     Some(FileCall::Read {
-        descriptor: read_number(descriptor)?,
+        descriptor,
         count,
         offset,
     })

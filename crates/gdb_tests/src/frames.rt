@@ -2,7 +2,8 @@
 
 use gdb_packets::{FRAME_LIMIT, Input, checksum, read_input, unescape, write_packet};
 
-/// What GDB 13.1 sent, each with what came behind it, and the data and the length of the first packet.
+/// What GDB 13.1 sent, each with what came behind it, and the data and the length of the first
+/// packet.
 const SENT: [(&[u8], &[u8], usize); 5] = [
     (b"$?#3f$q", b"?", 5),
     (b"$Hc-1#09", b"Hc-1", 8),

@@ -1,7 +1,7 @@
 use Rattle.std.proofs.Common.{◌≡◌, ◌++◌, ◌/◌, ◌≤◌, drop, length, take, Some, None, refl, sym, ◌∙◌, arith, false}
 use Rattle.std.proofs.lemmas.List.{length-take-le}
 use Rattle.gdb_packets.specs.Digits.{is_hex_text}
-use Rattle.gdb_packets.proofs.HexTexts.{not_hex, hex_put, hex_again}
+use Rattle.gdb_packets.proofs.HexLemmas.{not_hex, hex_put, hex_again}
 use Rattle.gdb_packets.proofs.digits.read_hex.Goals as goal
 
 pub returns-then-not-is_hex-clause-exact : goal.returns-then-not-is_hex-clause-exact
