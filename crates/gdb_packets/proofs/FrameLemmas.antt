@@ -1,6 +1,6 @@
 -- A frame in a room.
 use Rattle.std.proofs.Common.{◌≡◌, ℕ, suc, ◌+◌, ◌-◌, ◌<◌, ◌≤◌, List, [], ◌∷◌, ◌++◌, length, take, drop, set}
-use Rattle.std.proofs.Common.{Option, Some, None, refl, ap, sym, ◌∙◌, arith, length-append, drop-drop}
+use Rattle.std.proofs.Common.{Option, None, refl, ap, sym, ◌∙◌, arith, length-append, drop-drop}
 use Rattle.hex.specs.Hex.{encode_lower}
 use Rattle.hex.proofs.HexLemmas.{length-encode_with}
 use borrow.Rule.Slice.PartMut.{put_mid}

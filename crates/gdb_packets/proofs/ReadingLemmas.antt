@@ -1,16 +1,16 @@
 -- What the bytes that came are: laws.
-use Rattle.std.proofs.Common.{◌≡◌, ◌≢◌, ℕ, zero, suc, ◌+◌, ◌-◌, ◌/◌, ◌%◌, ◌<◌, ◌≤◌, ◌==◌, ◌||◌, ◌&&◌, not, nat_lt, Bool, true, false, cond}
-use Rattle.std.proofs.Common.{List, [], ◌∷◌, ◌++◌, length, take, drop, get_or, Option, Some, None, refl, ap, sym, ◌∙◌, arith}
-use Rattle.std.proofs.Common.{length-append, length-drop, append_assoc, slice_index, bit_xor, subst, inl, inr}
-use Rattle.std.proofs.lemmas.List.{take_at, drop_at, take-append-le, drop-append-le, length-take-le, length-take, drop_all, take_all}
-use Rattle.std.proofs.lemmas.Bool.{lt-ltb, le-ltb, eq-eqb, eqb-true, ltb-true, ltb-false, cases_lt}
+use Rattle.std.proofs.Common.{◌≡◌, ◌≢◌, ℕ, zero, suc, ◌+◌, ◌-◌, ◌/◌, ◌%◌, ◌<◌, ◌≤◌, ◌==◌, ◌||◌, not, nat_lt, Bool, true, false, cond}
+use Rattle.std.proofs.Common.{List, [], ◌∷◌, ◌++◌, length, take, drop, get_or, Some, refl, ap, sym, ◌∙◌, arith}
+use Rattle.std.proofs.Common.{length-append, length-drop, append_assoc, slice_index, bit_xor, inl, inr}
+use Rattle.std.proofs.lemmas.List.{take_at, drop_at, take-append-le, drop-append-le, length-take-le, drop_all, take_all}
+use Rattle.std.proofs.lemmas.Bool.{lt-ltb, le-ltb, eq-eqb, ltb-true, ltb-false, cases_lt}
 use Rattle.std.proofs.lemmas.List.Sums.{prefix_len-le-length}
 use Rattle.std.specs.List.{prefix_len}
-use Rattle.hex.specs.Hex.{encode_lower, encode_with, decode_sized, lower_digits}
+use Rattle.hex.specs.Hex.{encode_lower, encode_with, lower_digits}
 use Rattle.hex.proofs.HexLemmas.{decode_sized-encode_lower}
-use Rattle.gdb_packets.specs.Framing.{escape_of, escaped, framed, frame_of, is_reserved, checksum_of}
-use Rattle.gdb_packets.specs.Reading.{Reading, packet, bad, more, is_data, is_value, digits_byte, closed, after_data, after_dollar, reading_of, taken, Takes}
-use Rattle.gdb_packets.specs.declared.input.TheConstants.{PACKET_SIZE, FRAME_LIMIT}
+use Rattle.gdb_packets.specs.Framing.{escape_of, escaped, framed, is_reserved, checksum_of}
+use Rattle.gdb_packets.specs.Reading.{Reading, packet, bad, more, is_data, is_value, digits_byte, closed, after_data, after_dollar, reading_of, Takes}
+use Rattle.gdb_packets.specs.declared.input.TheConstants.{PACKET_SIZE}
 use Rattle.gdb_packets.proofs.EscapeLemmas.{reserved_cases}
 use Rattle.gdb_packets.proofs.FrameLemmas.{length-frame_of}
 use Rattle.gdb_packets.proofs.DigitLemmas.{first_of, digits_byte-decode_sized}

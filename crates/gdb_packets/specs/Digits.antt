@@ -1,5 +1,5 @@
 -- Numbers and bytes as hexadecimal digits.
-use Rattle.std.specs.Prelude.{◌≡◌, ℕ, ◌≤◌, ◌%◌, ◌==◌, nat_lt, nat_le}
+use Rattle.std.specs.Prelude.{◌≡◌, ℕ, ◌%◌, ◌==◌, nat_lt, nat_le}
 use Rattle.std.specs.Prelude.{◌&&◌, Bool, if◌then◌else◌}
 use Rattle.std.specs.Prelude.{List, ◌++◌, drop, length, Option, Some, None, option_map}
 use Rattle.std.specs.List.{list_all}

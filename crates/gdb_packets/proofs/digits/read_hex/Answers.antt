@@ -1,4 +1,4 @@
-use Rattle.std.proofs.Common.{◌≡◌, ◌++◌, ◌/◌, ◌≤◌, drop, length, take, Some, None, refl, sym, ◌∙◌, arith, false}
+use Rattle.std.proofs.Common.{◌≡◌, ◌++◌, ◌/◌, ◌≤◌, drop, length, take, Some, None, refl, sym, arith, false}
 use Rattle.std.proofs.lemmas.List.{length-take-le}
 use Rattle.gdb_packets.specs.Digits.{is_hex_text}
 use Rattle.gdb_packets.proofs.HexLemmas.{not_hex, hex_put, hex_again}

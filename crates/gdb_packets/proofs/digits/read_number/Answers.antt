@@ -1,4 +1,4 @@
-use Rattle.std.proofs.Common.{◌≡◌, ◌<◌, arith, length, Option, None, sym, ◌∙◌, inl, inr, ℕ, SomeIff}
+use Rattle.std.proofs.Common.{arith, length, None, sym, ◌∙◌, inl, inr, ℕ, SomeIff}
 use Rattle.std.proofs.lemmas.Bool.{eqb-true, eqb-false}
 use Rattle.std.specs.Str.Parse.{digits_value}
 use Rattle.gdb_packets.proofs.NumberLemmas.{IsNumber, number_is, number_again, number_by}

@@ -1,6 +1,6 @@
-use Rattle.std.proofs.Common.{◌≡◌, ◌≤◌, ◌<◌, length, Option, Some, None, refl, sym, ap, ◌∙◌, arith, ℕ, inl, inr}
+use Rattle.std.proofs.Common.{length, Some, None, refl, sym, ap, ◌∙◌, arith, inl, inr}
 use Rattle.std.proofs.lemmas.Bool.{eqb-true, eqb-false}
-use Rattle.gdb_packets.specs.Digits.{hex_bytes, register_of}
+use Rattle.gdb_packets.specs.Digits.{hex_bytes}
 use Rattle.gdb_packets.proofs.HexLemmas.{register_read, register_again, register_none}
 use Rattle.gdb_packets.proofs.digits.read_register.Goals as goal
 

@@ -1,4 +1,4 @@
-use Rattle.std.proofs.Common.{◌≡◌, ◌<◌, ◌^◌, arith, drop, [], false, ap, ◌∙◌}
+use Rattle.std.proofs.Common.{arith, false, ap, ◌∙◌}
 use Rattle.std.proofs.lemmas.List.{drop_all}
 use Rattle.std.specs.Fmt.{digits_onto}
 use Rattle.gdb_packets.proofs.NumberLemmas.{digits-sixteen}

@@ -1,4 +1,4 @@
-use Rattle.std.proofs.Common.{◌≡◌, ◌≤◌, ◌<◌, ◌^◌, drop, length, false}
+use Rattle.std.proofs.Common.{◌≡◌, ◌≤◌, ◌<◌, ◌^◌, drop, false}
 use Rattle.std.specs.Fmt.{digits_onto, digits}
 use Rattle.gdb_packets.proofs.digits.write_backwards.Given as goal
 

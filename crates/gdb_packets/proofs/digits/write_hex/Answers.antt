@@ -1,4 +1,4 @@
-use Rattle.std.proofs.Common.{◌≡◌, ◌<◌, arith, refl}
+use Rattle.std.proofs.Common.{arith, refl}
 use Rattle.hex.proofs.HexLemmas.{length-encode_with}
 use Rattle.gdb_packets.proofs.digits.write_hex.Goals as goal
 

@@ -1,4 +1,4 @@
-use Rattle.std.proofs.Common.{◌≡◌, ◌≤◌, ◌+◌, ◌++◌, drop, length, take, get_or, arith, ap, sym, ◌∙◌, append_assoc, length-append}
+use Rattle.std.proofs.Common.{◌≤◌, ◌+◌, ◌++◌, drop, length, take, get_or, arith, ap, sym, ◌∙◌, append_assoc, length-append}
 use Rattle.gdb_packets.specs.Framing.{escape_of, escaped}
 use Rattle.gdb_packets.proofs.EscapeLemmas.{escaped-drop, put_front, put_behind}
 use Rattle.gdb_packets.proofs.framing.escape.Goals as goal

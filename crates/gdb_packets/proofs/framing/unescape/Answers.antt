@@ -1,6 +1,6 @@
-use Rattle.std.proofs.Common.{◌≡◌, ◌<◌, ◌==◌, length, take, get_or, arith, false, Some, None}
+use Rattle.std.proofs.Common.{◌<◌, length, get_or, arith, Some, None}
 use Rattle.std.proofs.lemmas.Bool.{ne_eqb}
-use Rattle.gdb_packets.proofs.EscapeLemmas.{IsUnescaped, plain_step, escape_step, turned_step, plain_end, turned_end, escaped_again}
+use Rattle.gdb_packets.proofs.EscapeLemmas.{plain_step, escape_step, turned_step, plain_end, turned_end, escaped_again}
 use Rattle.gdb_packets.proofs.framing.unescape.Goals as goal
 use Rattle.gdb_packets.proofs.framing.unescape.Goals.{then-escaped, else-escaped+then-byte-eq-ESCAPE, else-escaped+else-byte-eq-ESCAPE}
 

@@ -1,4 +1,4 @@
-use Rattle.std.proofs.Common.{◌≡◌, ◌≤◌, ◌<◌, ◌+◌, length, arith}
+use Rattle.std.proofs.Common.{◌≤◌, ◌+◌, length, arith}
 use Rattle.gdb_packets.specs.Framing.{escaped}
 use Rattle.gdb_packets.proofs.FrameLemmas.{frame_put, too_long, length-frame_of}
 use Rattle.gdb_packets.proofs.framing.write_packet.Goals as goal

@@ -1,5 +1,5 @@
-use Rattle.std.proofs.Common.{◌≡◌, ◌≢◌, ◌++◌, ◌∙◌, ap, subst, sym}
-use Rattle.gdb_packets.specs.Reading.{reading_of, Takes, more}
+use Rattle.std.proofs.Common.{◌∙◌, ap}
+use Rattle.gdb_packets.specs.Reading.{reading_of}
 use Rattle.gdb_packets.proofs.ReadingLemmas.{takes, read_again, settled}
 use Rattle.gdb_packets.proofs.input.read_input.Goals as goal
 

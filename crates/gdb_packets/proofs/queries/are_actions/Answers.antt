@@ -1,4 +1,4 @@
-use Rattle.std.proofs.Common.{rules, tests, ◌≡◌, ◌==◌, List, ℕ, is_some}
+use Rattle.std.proofs.Common.{rules, tests, ◌==◌, List, ℕ, is_some}
 use Rattle.std.proofs.lemmas.Iterator.Search.{all_from_yields_List}
 use Rattle.std.proofs.lemmas.Iterator.Splits.{YieldsList-from_slice_split}
 use Rattle.gdb_packets.specs.Commands.{thread_action}
