@@ -1,10 +1,10 @@
 -- The commands whose arguments are numbers (GDB's documentation, "Packets").
-use Rattle.std.specs.Prelude.{◌≡◌, ℕ, ◌==◌, ◌&&◌, Bool, true, false}
+use Rattle.std.specs.Prelude.{◌≡◌, ◌≢◌, ℕ, ◌==◌, ◌&&◌, Bool, true, false}
 use Rattle.std.specs.Prelude.{if◌then◌else◌, List, [], ◌∷◌, length, Option, Some, None}
 use Rattle.std.specs.Prelude.{option_map, option_and_then, unwrap_or, codes, drop, nat_lt, is_some}
 use Rattle.gdb_packets.specs.Digits.{number_of}
 use Rattle.gdb_packets.specs.Texts.{cut_at, after, is_separator}
-use Rattle.std.specs.List.{before_first, position_or_len, list_all, slice_split}
+use Rattle.std.specs.List.{before_first, position_or_len, list_all, slice_split, AllByRecursion}
 use Rattle.gdb_packets.specs.declared.command.Command.{Command}
 use Rattle.gdb_packets.specs.declared.command.Command.TheVariants as command
 use Rattle.gdb_packets.specs.declared.command.Action.{Action}
@@ -150,8 +150,17 @@ first_action text =
     if list_all (λ piece. is_some (thread_action piece)) (slice_split (λ b. b == 59) text)
     then thread_action (before_first (λ b. b == 59) text) else None
 
+-- None of some texts or letters: a packet that begins otherwise is unknown.
+abbrev pub IsNoneOf : {A : Type 0} → List A → A → Type 0
+IsNoneOf known x = AllByRecursion (λ k. x ≢ k) known
+
+-- The letters that begin a packet which is known.
+abbrev pub letters : List ℕ
+letters = codes "?bcCDgGHkmMpPqQsSTvxXzZ"
+
 -- What these letters ask, with what stands behind them.
 pub record Asks (letter : ℕ) (rest : List ℕ) (c : Command) : Type 0 where
+  pub other : IsNoneOf letters letter → c ≡ command.Unknown
   pub reason : letter ≡ 63 → c ≡ asked (alone rest command.StopReason)
   pub registers : letter ≡ 103 → c ≡ asked (alone rest command.ReadRegisters)
   pub kill : letter ≡ 107 → c ≡ asked (alone rest command.Kill)
@@ -188,8 +197,15 @@ tags_of text = do
   kind ← number_of parts.1
   Some (command.ReadTags range.0 range.1 kind)
 
+-- The names of queries that are known.
+abbrev pub queries : List (List ℕ)
+queries = codes "Supported" ∷ codes "Xfer" ∷ codes "MemTags" ∷ codes "Rcmd" ∷ codes "Attached"
+    ∷ codes "Symbol" ∷ codes "C" ∷ codes "fThreadInfo" ∷ codes "sThreadInfo" ∷ codes "Offsets"
+    ∷ []
+
 -- What these names behind a `q` ask, with what stands behind them.
 pub record AsksQuery (name rest : List ℕ) (c : Command) : Type 0 where
+  pub other : IsNoneOf queries name → c ≡ command.Unknown
   pub thread : name ≡ codes "C" → c ≡ asked (alone rest command.CurrentThread)
   pub first_threads : name ≡ codes "fThreadInfo" → c ≡ asked (alone rest command.FirstThreads)
   pub next_threads : name ≡ codes "sThreadInfo" → c ≡ asked (alone rest command.NextThreads)
@@ -198,8 +214,20 @@ pub record AsksQuery (name rest : List ℕ) (c : Command) : Type 0 where
   pub attached : name ≡ codes "Attached"
       → c ≡ asked (option_map command.IsAttached (process_of 58 rest))
 
+-- What these names behind a `Q` ask.
+pub record AsksSetting (name rest : List ℕ) (c : Command) : Type 0 where
+  pub other : IsNoneOf (codes "MemTags" ∷ codes "StartNoAckMode" ∷ []) name
+      → c ≡ command.Unknown
+  pub no_ack : name ≡ codes "StartNoAckMode" → c ≡ asked (alone rest command.StartNoAckMode)
+
+-- The operations on files that are known.
+abbrev pub operations : List (List ℕ)
+operations = codes "open" ∷ codes "pread" ∷ codes "close" ∷ codes "fstat" ∷ codes "setfs"
+    ∷ codes "readlink" ∷ []
+
 -- What these operations on files ask.
 pub record AsksFile (operation rest : List ℕ) (c : Command) : Type 0 where
+  pub other : IsNoneOf operations operation → c ≡ command.Unknown
   pub close : operation ≡ codes "close"
       → c ≡ asked (option_map (λ d. command.File (file.Close d)) (number_of rest))
   pub status : operation ≡ codes "fstat"
@@ -209,8 +237,14 @@ pub record AsksFile (operation rest : List ℕ) (c : Command) : Type 0 where
   pub read : operation ≡ codes "pread"
       → c ≡ asked (option_map (λ t. command.File (file.Read t.0 t.1 t.2)) (triple_of rest))
 
+-- The names behind a `v` that are known.
+abbrev pub names : List (List ℕ)
+names = codes "Cont" ∷ codes "Cont?" ∷ codes "File" ∷ codes "Kill" ∷ codes "MustReplyEmpty"
+    ∷ []
+
 -- What these names behind a `v` ask.
 pub record AsksNamed (name rest : List ℕ) (c : Command) : Type 0 where
+  pub other : IsNoneOf names name → c ≡ command.Unknown
   pub actions : name ≡ codes "Cont?" → c ≡ asked (alone rest command.ResumeActions)
   pub resume : name ≡ codes "Cont"
       → c ≡ asked (option_map (λ a. command.ResumeThread a.0 a.1)

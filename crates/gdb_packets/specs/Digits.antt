@@ -35,3 +35,7 @@ register_of text =
 -- Two digits for each byte.
 abbrev pub is_hex_text : List ℕ → Bool
 is_hex_text text = (length text % 2 == 0) && list_all is_hex_digit text
+
+-- A text with two digits for each of one byte or more.
+abbrev pub some_hex : List ℕ → Option (List ℕ)
+some_hex text = if nat_lt 0 (length text) && is_hex_text text then Some text else None

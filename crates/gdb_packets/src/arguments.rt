@@ -1,7 +1,8 @@
 //! The arguments of commands.
 
 ghost use Rattle.std.specs.Prelude.{◌≡◌, ◌==◌};
-ghost use Rattle.gdb_packets.specs.Texts.{cut_at};
+ghost use Rattle.gdb_packets.specs.Digits.{some_hex};
+ghost use Rattle.gdb_packets.specs.Texts.{cut_at, rest_of};
 ghost use Rattle.gdb_packets.specs.Commands.{alone, range_of, triple_of, optional_of};
 ghost use Rattle.gdb_packets.specs.Commands.{process_of, signal_of};
 ghost use Rattle.gdb_packets.specs.Commands.{id_of, process_thread, thread_of};
@@ -18,7 +19,9 @@ pub fn bare<'a>(rest: &[u8], command: Command<'a>) -> Option<Command<'a>>
 }
 
 /// Digits for one byte or more.
-pub fn some_digits(text: &[u8]) -> Option<&[u8]> {
+pub fn some_digits(text: &[u8]) -> Option<&[u8]>
+    ensures { rest_of result ≡ some_hex text.now }
+{
     if !text.is_empty() && is_hex(text) {
         Some(text)
     } else {

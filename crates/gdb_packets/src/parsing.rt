@@ -1,12 +1,12 @@
 //! The command of a packet's data.
 
-ghost use Rattle.std.specs.Prelude.{◌≡◌, ◌∷◌, [], ℕ, List, option_map, codes};
+ghost use Rattle.std.specs.Prelude.{◌≡◌, ◌∷◌, [], ℕ, List, option_map};
 ghost use Rattle.gdb_packets.specs.Digits.{number_of};
-ghost use Rattle.gdb_packets.specs.Commands.{asked, alone, name_in, behind_name};
+ghost use Rattle.gdb_packets.specs.Commands.{asked, name_in, behind_name};
 ghost use Rattle.gdb_packets.specs.Commands.{range_of, triple_of, optional_of, process_of};
 ghost use Rattle.gdb_packets.specs.Commands.{point_kind, point_command, signal_and_address};
 ghost use Rattle.gdb_packets.specs.Commands.{thread_of, select_of};
-ghost use Rattle.gdb_packets.specs.Commands.{Asks, AsksNamed, AsksQuery};
+ghost use Rattle.gdb_packets.specs.Commands.{Asks, AsksNamed, AsksQuery, AsksSetting};
 
 use crate::arguments::{
     bare, optional_number, optional_process, parse_range, parse_signal, parse_thread, parse_triple,
@@ -19,11 +19,9 @@ use crate::text::{split_once, strip};
 
 /// The command of a packet's data, without their escapes. Each text has one.
 ///
-/// The clauses say what every text asks that begins with `?`, `g`, `k`, `m`, `x`, `p`, `c`, `s`,
-/// `C`, `S`, `Z`, `z`, `H`, `T` or `D`, and what the names of `AsksQuery`, `AsksNamed` and
-/// `AsksFile` ask. They do not say it of `b`, nor of commands that hold a part of the text (`P`,
-/// `G`, `M`, `X`, `qSupported`, `qXfer`, `qRcmd`, `qSymbol`, `QMemTags`, `vFile:open`,
-/// `vFile:readlink`), nor that all others are unknown: tests do.
+/// The clauses say which texts are unknown by their beginning, and what all others ask, but for `b`
+/// and the commands that hold a part of the text (`P`, `G`, `M`, `X`, `qSupported`, `qXfer`,
+/// `qRcmd`, `qSymbol`, `QMemTags`, `vFile:open`, `vFile:readlink`): of those tests tell.
 pub fn parse_command(text: &[u8]) -> Command<'_>
     ensures empty { text.now ≡ [] → result ≡ Command.Unknown }
     ensures letter { (letter : ℕ) (rest : List ℕ) → text.now ≡ letter ∷ rest
@@ -32,9 +30,8 @@ pub fn parse_command(text: &[u8]) -> Command<'_>
         → AsksQuery (name_in rest) (behind_name rest) result }
     ensures named { (rest : List ℕ) → text.now ≡ 118 ∷ rest
         → AsksNamed (name_in rest) (behind_name rest) result }
-    ensures no_ack { (rest : List ℕ) → text.now ≡ 81 ∷ rest
-        → name_in rest ≡ codes "StartNoAckMode"
-        → result ≡ asked (alone (behind_name rest) Command.StartNoAckMode) }
+    ensures setting { (rest : List ℕ) → text.now ≡ 81 ∷ rest
+        → AsksSetting (name_in rest) (behind_name rest) result }
 {
     let command = match text {
         [] => Some(Command::Unknown),

@@ -5,10 +5,10 @@ ghost use Rattle.std.specs.Prelude.{option_map, option_and_then};
 ghost use Rattle.std.specs.List.{list_all, slice_split};
 ghost use Rattle.gdb_packets.specs.Digits.{number_of};
 ghost use Rattle.gdb_packets.specs.Texts.{after, cut_at};
-ghost use Rattle.gdb_packets.specs.Commands.{asked, alone, lone, name_in, behind_name};
+ghost use Rattle.gdb_packets.specs.Commands.{asked, lone, name_in, behind_name};
 ghost use Rattle.gdb_packets.specs.Commands.{process_of, tags_of, triple_of};
 ghost use Rattle.gdb_packets.specs.Commands.{action_of, thread_action, first_action};
-ghost use Rattle.gdb_packets.specs.Commands.{AsksFile, AsksNamed, AsksQuery};
+ghost use Rattle.gdb_packets.specs.Commands.{AsksFile, AsksNamed, AsksQuery, AsksSetting};
 
 use crate::arguments::{
     bare, optional_process, parse_range, parse_signal, parse_thread, parse_triple, some_digits,
@@ -60,8 +60,7 @@ fn parse_bare_query<'a>(name: &'a [u8], rest: &'a [u8]) -> Option<Command<'a>>
 
 /// A packet that begins with `Q`, without it.
 pub fn parse_setting(text: &[u8]) -> Option<Command<'_>>
-    ensures { name_in text.now ≡ codes "StartNoAckMode"
-        → result ≡ alone (behind_name text.now) Command.StartNoAckMode }
+    ensures { AsksSetting (name_in text.now) (behind_name text.now) (asked result) }
 {
     let (name, rest) = split_name(text);
     if is(name, b"StartNoAckMode") {
