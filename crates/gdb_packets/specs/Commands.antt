@@ -150,6 +150,13 @@ first_action text =
     if list_all (λ piece. is_some (thread_action piece)) (slice_split (λ b. b == 59) text)
     then thread_action (before_first (λ b. b == 59) text) else None
 
+-- `s` or `c` behind a `b`.
+abbrev pub back_of : List ℕ → Command
+back_of (b ∷ []) =
+    if b == 115 then command.StepBack else if b == 99 then command.ContinueBack
+    else command.Unknown
+back_of _ = command.Unknown
+
 -- None of some texts or letters: a packet that begins otherwise is unknown.
 abbrev pub IsNoneOf : {A : Type 0} → List A → A → Type 0
 IsNoneOf known x = AllByRecursion (λ k. x ≢ k) known
@@ -161,6 +168,7 @@ letters = codes "?bcCDgGHkmMpPqQsSTvxXzZ"
 -- What these letters ask, with what stands behind them.
 pub record Asks (letter : ℕ) (rest : List ℕ) (c : Command) : Type 0 where
   pub other : IsNoneOf letters letter → c ≡ command.Unknown
+  pub back : letter ≡ 98 → c ≡ back_of rest
   pub reason : letter ≡ 63 → c ≡ asked (alone rest command.StopReason)
   pub registers : letter ≡ 103 → c ≡ asked (alone rest command.ReadRegisters)
   pub kill : letter ≡ 107 → c ≡ asked (alone rest command.Kill)

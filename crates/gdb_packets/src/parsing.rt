@@ -5,7 +5,7 @@ ghost use Rattle.gdb_packets.specs.Digits.{number_of};
 ghost use Rattle.gdb_packets.specs.Commands.{asked, name_in, behind_name};
 ghost use Rattle.gdb_packets.specs.Commands.{range_of, triple_of, optional_of, process_of};
 ghost use Rattle.gdb_packets.specs.Commands.{point_kind, point_command, signal_and_address};
-ghost use Rattle.gdb_packets.specs.Commands.{thread_of, select_of};
+ghost use Rattle.gdb_packets.specs.Commands.{back_of, thread_of, select_of};
 ghost use Rattle.gdb_packets.specs.Commands.{Asks, AsksNamed, AsksQuery, AsksSetting};
 
 use crate::arguments::{
@@ -19,9 +19,9 @@ use crate::text::{split_once, strip};
 
 /// The command of a packet's data, without their escapes. Each text has one.
 ///
-/// The clauses say which texts are unknown by their beginning, and what all others ask, but for `b`
-/// and the commands that hold a part of the text (`P`, `G`, `M`, `X`, `qSupported`, `qXfer`,
-/// `qRcmd`, `qSymbol`, `QMemTags`, `vFile:open`, `vFile:readlink`): of those tests tell.
+/// The clauses say which texts are unknown by their beginning, and what all others ask, but for the
+/// commands that hold a part of the text (`P`, `G`, `M`, `X`, `qSupported`, `qXfer`, `qRcmd`,
+/// `QMemTags`, `vFile:open`, `vFile:readlink`) and `qSymbol`: of those tests tell.
 pub fn parse_command(text: &[u8]) -> Command<'_>
     ensures empty { text.now ≡ [] → result ≡ Command.Unknown }
     ensures letter { (letter : ℕ) (rest : List ℕ) → text.now ≡ letter ∷ rest
@@ -51,7 +51,7 @@ fn parse_letter(letter: u8, rest: &[u8]) -> Option<Command<'_>>
         b'?' => bare(rest, Command::StopReason),
         b'g' => bare(rest, Command::ReadRegisters),
         b'k' => bare(rest, Command::Kill),
-        b'b' => parse_back(rest),
+        b'b' => Some(parse_back(rest)),
         b'm' => parse_memory(rest),
         b'M' => parse_memory_writing(rest),
         b'x' => parse_bytes(rest),
@@ -72,11 +72,14 @@ fn parse_letter(letter: u8, rest: &[u8]) -> Option<Command<'_>>
     }
 }
 
-fn parse_back(rest: &[u8]) -> Option<Command<'_>> {
+/// `s` or `c`.
+fn parse_back<'a>(rest: &[u8]) -> Command<'a>
+    ensures { result ≡ back_of rest.now }
+{
     match rest {
-        b"s" => Some(Command::StepBack),
-        b"c" => Some(Command::ContinueBack),
-        _ => Some(Command::Unknown),
+        b"s" => Command::StepBack,
+        b"c" => Command::ContinueBack,
+        _ => Command::Unknown,
     }
 }
 
