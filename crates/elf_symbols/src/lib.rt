@@ -1,6 +1,9 @@
-//! The names of an image's addresses.
+//! The sections of an image, and the names of its addresses.
 #![tactic(auto)]
 
+mod fields;
+mod sections;
 mod symbols;
 
+pub use sections::{Section, Sections};
 pub use symbols::{Place, Symbols};

@@ -1,14 +1,13 @@
 //! The names of an image's addresses, by its symbol table (System V ABI, Object Files:
-//! `Elf64_Shdr`, `Elf64_Sym`). A file without one, or with one that does not lie in it, has no
+//! `Elf64_Sym`). A file without one, or with one that does not lie in it, has no
 //! names.
 
+use crate::fields::{double_word, half, word};
+use crate::sections::Sections;
 use std::{fmt, str};
 
 /// SHT_SYMTAB.
 const SYMBOL_TABLE: u32 = 2;
-
-/// The bytes of a section header.
-const HEADER: usize = 64;
 
 /// The bytes of a symbol.
 const SYMBOL: usize = 24;
@@ -37,22 +36,12 @@ impl<'a> Symbols<'a> {
 
     /// The first symbol table that the section headers name, and its names.
     fn in_sections(file: &'a [u8]) -> Option<Symbols<'a>> {
-        let at = double_word(file, 40)?;
-        let sections = file.get(at as usize..)?;
-        let count = usize::from(half(file, 60)?);
-        if half(file, 58)? != HEADER as u16 {
-            return None;
-        }
-        let (headers, _) = sections.as_chunks::<HEADER>();
-        let table = headers
-            .iter()
-            .take(count)
-            .find(|header| word(header.as_slice(), 4) == Some(SYMBOL_TABLE))?;
-        let link = word(table.as_slice(), 40)?;
-        let names = headers.get(link as usize)?;
+        let sections = Sections::of(file);
+        let table = sections.of_type(SYMBOL_TABLE)?;
+        let names = sections.at(table.link()?)?;
         Some(Symbols {
-            table: contents(file, table.as_slice())?,
-            names: contents(file, names.as_slice())?,
+            table: table.contents()?,
+            names: names.contents()?,
         })
     }
 
@@ -82,30 +71,6 @@ impl<'a> Symbols<'a> {
             addr,
         }
     }
-}
-
-/// The bytes of a section.
-fn contents<'a>(file: &'a [u8], header: &[u8]) -> Option<&'a [u8]> {
-    let (offset, size) = (double_word(header, 24)?, double_word(header, 32)?);
-    file.get(offset as usize..)?.get(..size as usize)
-}
-
-/// A number of two bytes.
-fn half(bytes: &[u8], at: usize) -> Option<u16> {
-    let field = bytes.get(at..)?.first_chunk::<2>()?;
-    Some(u16::from_le_bytes(*field))
-}
-
-/// A number of four bytes.
-fn word(bytes: &[u8], at: usize) -> Option<u32> {
-    let field = bytes.get(at..)?.first_chunk::<4>()?;
-    Some(u32::from_le_bytes(*field))
-}
-
-/// A number of eight bytes.
-fn double_word(bytes: &[u8], at: usize) -> Option<u64> {
-    let field = bytes.get(at..)?.first_chunk::<8>()?;
-    Some(u64::from_le_bytes(*field))
 }
 
 /// A name of an image's addresses.
