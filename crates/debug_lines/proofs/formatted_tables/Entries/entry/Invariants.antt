@@ -1,0 +1,5 @@
+use Rattle.std.proofs.Common.{◌+◌, ◌<◌, ◌≤◌, length}
+use Rattle.debug_lines.proofs.formatted_tables.Entries.entry.Given as goal
+
+abbrev pub invariant-loop : goal.invariant-loop
+invariant-loop l = (0 < l.end) × (l.counter + length l.self.table.rest.now ≤ length l.initial.self.table.rest.now)

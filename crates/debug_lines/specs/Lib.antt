@@ -1,0 +1,5 @@
+pub mod Encodings
+pub mod Numbers
+pub mod Programs
+pub mod Readings
+pub mod SignedBytes

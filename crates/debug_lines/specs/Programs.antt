@@ -1,0 +1,49 @@
+-- What an operation does to the registers, and the row that it makes (DWARF 5, 6.2.5).
+use Rattle.std.specs.Prelude.{ℕ, ◌+◌, ◌-◌, ◌%◌, ◌^◌, ◌==◌, ◌&&◌, not, Bool, true, false}
+use Rattle.std.specs.Prelude.{Option, Some, None}
+use Rattle.debug_lines.specs.declared.operation.Advance.{Advance}
+use Rattle.debug_lines.specs.declared.operation.Operation.{Operation}
+use Rattle.debug_lines.specs.declared.operation.Operation.TheVariants as op
+use Rattle.debug_lines.specs.declared.registers.Registers.{Registers}
+use Rattle.debug_lines.specs.declared.row.Row.{Row}
+
+abbrev pub advanced : Registers → Advance → Registers
+advanced r by = record r {
+  address = (r.address + by.address) % 2 ^ 64;
+  line = (r.line + by.line) % 2 ^ 32;
+}
+
+-- the row of the registers' values
+abbrev pub row_of : Registers → Bool → Row
+row_of r ends = record {
+  address = r.address;
+  file = r.file;
+  line = r.line;
+  ends_sequence = ends;
+  is_placed = r.is_placed;
+}
+
+-- the registers at the start of a sequence (6.2.2, table 6.4)
+abbrev pub start : Registers
+start = record { address = 0; file = 1; line = 1; is_placed = false }
+
+-- an address that a linker gives no code is 0 or the highest
+abbrev pub is_place : ℕ → Bool
+is_place address = not (address == 0) && not (address == 2 ^ 64 - 1)
+
+abbrev pub registers_by : Operation → Registers → Registers
+registers_by (op.Special by) r = advanced r by
+registers_by (op.Advance by) r = advanced r by
+registers_by (op.SetAddress address) r = record r { address = address; is_placed = is_place address }
+registers_by (op.SetFile file) r = record r { file = file }
+registers_by op.Copy r = r
+registers_by op.EndSequence r = start
+
+-- special opcodes, copies and ends of sequences make rows
+abbrev pub row_by : Operation → Registers → Option Row
+row_by (op.Special by) r = Some (row_of (advanced r by) false)
+row_by (op.Advance by) r = None
+row_by (op.SetAddress address) r = None
+row_by (op.SetFile file) r = None
+row_by op.Copy r = Some (row_of r false)
+row_by op.EndSequence r = Some (row_of r true)

@@ -1,0 +1,19 @@
+//! The source lines of an image's addresses, by `.debug_line` (DWARF 5 and DWARF 4, 6.2).
+#![tactic(auto)]
+
+mod encoding;
+mod fixed_tables;
+mod form;
+mod formatted_tables;
+mod leb128;
+mod lines;
+mod operation;
+mod reader;
+mod registers;
+mod row;
+mod source_line;
+mod tables;
+mod unit;
+
+pub use lines::{DebugLines, Origin};
+pub use source_line::SourceLine;

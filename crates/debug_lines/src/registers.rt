@@ -1,0 +1,79 @@
+//! The machine that a line number program runs on (DWARF 5, 6.2.2).
+
+ghost use Rattle.std.specs.Prelude.{◌≡◌};
+ghost use Rattle.debug_lines.specs.Programs.{advanced, row_of, row_by, registers_by};
+
+use crate::operation::{Advance, Operation};
+use crate::row::Row;
+
+/// Its registers, as far as an address's line needs them.
+#[derive(Clone, Copy)]
+pub struct Registers {
+    pub address: u64,
+    pub file: u64,
+    pub line: u32,
+    pub is_placed: bool,
+}
+
+impl Registers {
+    /// The registers at the start of a sequence.
+    pub const START: Registers = Registers {
+        address: 0,
+        file: 1,
+        line: 1,
+        is_placed: false,
+    };
+
+    /// Does an operation, and gives the row that it makes, if any.
+    pub fn run(&mut self, operation: Operation) -> Option<Row>
+        ensures row { result ≡ row_by operation self.old }
+        ensures registers { self.new ≡ registers_by operation self.old }
+    {
+        match operation {
+            Operation::Special(advance) => {
+                self.advance(advance);
+                Some(self.row(false))
+            }
+            Operation::Copy => Some(self.row(false)),
+            Operation::EndSequence => {
+                let row = self.row(true);
+                *self = Registers::START;
+                Some(row)
+            }
+            Operation::Advance(advance) => {
+                self.advance(advance);
+                None
+            }
+            Operation::SetAddress(address) => {
+                self.address = address;
+                self.is_placed = address != 0 && address != u64::MAX;
+                None
+            }
+            Operation::SetFile(file) => {
+                self.file = file;
+                None
+            }
+        }
+    }
+
+    /// Adds to the address and the line, modulo 2^64 and 2^32.
+    fn advance(&mut self, by: Advance)
+        ensures { self.new ≡ advanced self.old by }
+    {
+        self.address = self.address.wrapping_add(by.address);
+        self.line = self.line.wrapping_add(by.line);
+    }
+
+    /// The row of the registers' values.
+    fn row(&self, ends_sequence: bool) -> Row
+        ensures { result ≡ row_of self.now ends_sequence }
+    {
+        Row {
+            address: self.address,
+            file: self.file,
+            line: self.line,
+            ends_sequence,
+            is_placed: self.is_placed,
+        }
+    }
+}

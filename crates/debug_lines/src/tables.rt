@@ -1,0 +1,45 @@
+//! The directories and files of a unit.
+
+use crate::fixed_tables::{Directories, Files};
+use crate::form::Strings;
+use crate::formatted_tables::Entries;
+use crate::unit::Unit;
+
+/// A directory or a file.
+#[derive(Clone, Copy)]
+pub struct Entry<'a> {
+    /// Its path, where the table has one.
+    pub path: Option<&'a [u8]>,
+    /// Of a file the number of the directory that its path goes out from.
+    pub directory: u64,
+}
+
+impl<'a> Entry<'a> {
+    /// An entry without a path.
+    pub const NOTHING: Entry<'static> = Entry {
+        path: None,
+        directory: 0,
+    };
+}
+
+impl<'a> Unit<'a> {
+    /// The file of a number.
+    pub fn file(&self, number: u64, strings: Strings<'a>) -> Option<Entry<'a>> {
+        if self.version == 5 {
+            let directories = Entries::read(self.tables, strings)?;
+            return directories.next_list()?.nth(number as usize);
+        }
+        let directories = Directories { table: self.tables };
+        Files::behind(directories).nth(number.checked_sub(1)? as usize)
+    }
+
+    /// The path of the directory of a number. In versions 2 to 4 number 0, the directory of the
+    /// compilation, has none.
+    pub fn directory(&self, number: u64, strings: Strings<'a>) -> Option<&'a [u8]> {
+        if self.version == 5 {
+            return Entries::read(self.tables, strings)?.nth(number as usize)?.path;
+        }
+        let mut directories = Directories { table: self.tables };
+        directories.nth(number.checked_sub(1)? as usize)
+    }
+}
