@@ -1,5 +1,5 @@
 -- A LEB128 number from its last byte to its first.
-use Rattle.std.proofs.Common.{◌≡◌, ℕ, suc, ◌+◌, ◌*◌, ◌%◌, ◌^◌, ◌<◌, List, [], ◌∷◌, length, drop, get_or, arith, refl, ap, sym, ◌∙◌, add-one, add-zero, zero-add, drop-cons, true, false, ◌-◌}
+use Rattle.std.proofs.Common.{◌≡◌, ℕ, suc, ◌+◌, ◌*◌, ◌%◌, ◌^◌, ◌<◌, List, [], ◌∷◌, length, drop, get_or, arith, ap, sym, ◌∙◌, add-one, add-zero, zero-add, drop-cons, true, false, ◌-◌}
 use Rattle.std.proofs.Math.Nat.{mod-add-mod, pow-succ', mod-eq_of_lt, one-mul, mul-zero}
 use Rattle.std.proofs.Math.Seq.{drop-length}
 use Rattle.std.proofs.lemmas.Nat.{mul-mod_first}

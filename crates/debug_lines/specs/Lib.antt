@@ -3,3 +3,4 @@ pub mod Numbers
 pub mod Programs
 pub mod Readings
 pub mod SignedBytes
+pub mod Texts

@@ -34,7 +34,7 @@ is_place address = not (address == 0) && not (address == 2 ^ 64 - 1)
 abbrev pub registers_by : Operation → Registers → Registers
 registers_by (op.Special by) r = advanced r by
 registers_by (op.Advance by) r = advanced r by
-registers_by (op.SetAddress address) r = record r { address = address; is_placed = is_place address }
+registers_by (op.SetAddress a) r = record r { address = a; is_placed = is_place a }
 registers_by (op.SetFile file) r = record r { file = file }
 registers_by op.Copy r = r
 registers_by op.EndSequence r = start

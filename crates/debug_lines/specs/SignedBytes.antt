@@ -1,5 +1,5 @@
 -- Signed bytes.
-use Rattle.std.specs.Prelude.{ℕ, ◌+◌, ◌-◌, ◌^◌, nat_lt, if◌then◌else◌}
+use Rattle.std.specs.Prelude.{ℕ, ◌-◌, ◌^◌, nat_lt, if◌then◌else◌}
 
 -- a byte in two's complement, modulo 2^32
 abbrev pub signed_byte : ℕ → ℕ

@@ -1,6 +1,6 @@
 //! How the opcodes of a line number program are encoded (DWARF 5, 6.2.4 and 6.2.5).
 
-ghost use Rattle.std.specs.Prelude.{◌≡◌, ◌*◌, ◌%◌, ◌^◌, ◌<◌, ◌≤◌, ◌↔◌, IsTrue};
+ghost use Rattle.std.specs.Prelude.{◌≡◌, ◌-◌, ◌*◌, ◌%◌, ◌^◌, ◌<◌, ◌≤◌, ◌↔◌, IsTrue, slice_get};
 ghost use Rattle.debug_lines.specs.SignedBytes.{signed_byte};
 
 use crate::operation::Advance;
@@ -89,8 +89,11 @@ impl<'a> Encoding<'a> {
     }
 
     /// How many numbers follow a standard opcode.
-    pub fn length_of(&self, opcode: u8) -> Option<u8> {
-        self.lengths.get(usize::from(opcode.checked_sub(1)?)).copied()
+    pub fn length_of(&self, opcode: u8) -> Option<u8>
+        requires { 0 < opcode }
+        ensures { result ≡ slice_get self.now.lengths.now (opcode - 1) }
+    {
+        self.lengths.get(usize::from(opcode - 1)).copied()
     }
 }
 
@@ -99,5 +102,9 @@ fn sign_extended(byte: u8) -> u32
     ensures { result ≡ signed_byte byte }
 {
     let low = u32::from(byte);
-    if byte < 128 { low } else { low.wrapping_sub(256) }
+    if byte < 128 {
+        low
+    } else {
+        low.wrapping_sub(256)
+    }
 }

@@ -1,6 +1,6 @@
 //! The directories and files of version 5 (DWARF 5, 6.2.4), whose layout the table tells itself.
 
-ghost use Rattle.std.specs.Prelude.{◌<◌, length, IfSome};
+ghost use Rattle.std.specs.Prelude.{◌≡◌, ◌<◌, length, IfSome};
 ghost use Rattle.std.specs.Iterator.{at_most};
 
 use crate::form::{Strings, Value};
@@ -19,17 +19,17 @@ pub struct Entries<'a> {
     strings: Strings<'a>,
     /// The types and forms of an entry's values.
     formats: Reader<'a>,
-    /// How many values an entry has: one at least, so that entries come to an end.
+    /// How many values an entry has: one at least, so that each entry takes some bytes.
     values: u8,
     /// How many entries are left.
     count: u64,
     /// The entries, and what stands behind them.
     table: Reader<'a>,
-    ghost takes_bytes: { 0 < values },
+    ghost takes_bytes: { 0 < count → 0 < values },
 }
 
 impl<'a> Entries<'a> {
-    /// The entries that a table begins with. There are none where they have no values.
+    /// The entries that a table begins with. Entries without values are refused.
     pub fn read(mut table: Reader<'a>, strings: Strings<'a>) -> Option<Entries<'a>> {
         let values = table.byte()?;
         let formats = table;
@@ -38,7 +38,7 @@ impl<'a> Entries<'a> {
             table.unsigned()?;
         }
         let count = table.unsigned()?;
-        if values == 0 {
+        if values == 0 && count > 0 {
             return None;
         }
         Some(Entries {
@@ -61,8 +61,10 @@ impl<'a> Entries<'a> {
 
     /// Reads the values of an entry, of which each takes some bytes.
     fn entry(&mut self) -> Option<Entry<'a>>
-        ensures { IfSome result
+        requires { 0 < self.old.values }
+        ensures shorter { IfSome result
             (λ _. length self.new.table.rest.now < length self.old.table.rest.now) }
+        ensures values { self.new.values ≡ self.old.values }
     {
         let mut formats = self.formats;
         let mut entry = Entry::NOTHING;

@@ -1,8 +1,8 @@
 //! LEB128 numbers (DWARF 5, 7.6): seven bits in each byte, the lowest first, and 128 added in all
 //! but the last.
 
-ghost use Rattle.std.specs.Prelude.{◌≡◌, ◌+◌, ◌*◌, ◌^◌, ◌%◌, ◌<◌, ℕ, length, option_map, MatchOption};
-ghost use Rattle.std.specs.Prelude.{IfSome};
+ghost use Rattle.std.specs.Prelude.{◌≡◌, ◌+◌, ◌*◌, ◌^◌, ◌%◌, ◌<◌, length, option_map};
+ghost use Rattle.std.specs.Prelude.{MatchOption, IfSome};
 ghost use Rattle.debug_lines.specs.Numbers.{number_bytes, number_end, after_number, bits_of};
 ghost use Rattle.debug_lines.specs.Numbers.{is_negative, unsigned_of, signed_of};
 
@@ -66,7 +66,9 @@ fn joined(number: &[u8], above: u64) -> u64
 {
     let mut value = above;
     for i in (0..number.len()).rev() {
-        value = value.wrapping_mul(128).wrapping_add(u64::from(number[i] % 128));
+        value = value
+            .wrapping_mul(128)
+            .wrapping_add(u64::from(number[i] % 128));
     }
     value
 }

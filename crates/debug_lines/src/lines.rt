@@ -1,6 +1,7 @@
 //! The source lines of an image.
 
-ghost use Rattle.std.specs.Prelude.{◌≡◌, ◌<◌, IfSome};
+ghost use Rattle.std.specs.Prelude.{◌≡◌, ◌<◌, false, IfSome};
+ghost use Rattle.debug_lines.specs.Texts.{has_control};
 
 use crate::form::Strings;
 use crate::reader::Reader;
@@ -35,7 +36,11 @@ impl<'a> DebugLines<'a> {
     /// a table covers the address, where the row's line is 0, and where its file has no path that
     /// may be told: 1 to 4096 bytes of UTF-8 without control characters.
     pub fn line_of(&self, address: u64) -> Option<SourceLine<'a>>
-        ensures { IfSome result (λ line. 0 < line.line) }
+        ensures line { IfSome result (λ line. 0 < line.line) }
+        ensures file { IfSome result (λ line. has_control line.file.now ≡ false) }
+        ensures path { IfSome result (λ line. has_control line.path.now ≡ false) }
+        ensures directory { IfSome result
+            (λ line. IfSome line.directory (λ text. has_control text.now ≡ false)) }
     {
         let section = Reader { rest: self.tables };
         for bytes in (Units { section }) {
@@ -53,7 +58,11 @@ impl<'a> DebugLines<'a> {
 
     /// The source line that a row tells of.
     fn source_line(&self, unit: &Unit<'a>, row: &Row) -> Option<SourceLine<'a>>
-        ensures { IfSome result (λ line. (line.line ≡ row.now.line) × (0 < line.line)) }
+        ensures line { IfSome result (λ line. (line.line ≡ row.now.line) × (0 < line.line)) }
+        ensures file { IfSome result (λ line. has_control line.file.now ≡ false) }
+        ensures path { IfSome result (λ line. has_control line.path.now ≡ false) }
+        ensures directory { IfSome result
+            (λ line. IfSome line.directory (λ text. has_control text.now ≡ false)) }
     {
         if row.line == 0 {
             return None;
@@ -70,7 +79,9 @@ impl<'a> DebugLines<'a> {
     }
 
     /// The directory that a path goes out from.
-    fn directory(&self, unit: &Unit<'a>, path: &str, number: u64) -> Option<&'a str> {
+    fn directory(&self, unit: &Unit<'a>, path: &str, number: u64) -> Option<&'a str>
+        ensures { IfSome result (λ text. has_control text.now ≡ false) }
+    {
         if path.starts_with('/') {
             return None;
         }
@@ -105,3 +116,6 @@ impl<'a> fmt::Display for Origin<'a> {
         }
     }
 }
+
+#[cfg(test)]
+mod tests;

@@ -1,6 +1,6 @@
 //! The operations of a line number program (DWARF 5, 6.2.5).
 
-ghost use Rattle.std.specs.Prelude.{◌≡◌, ◌%◌, ◌^◌, ◌≤◌, length};
+ghost use Rattle.std.specs.Prelude.{◌≡◌, ◌%◌, ◌^◌, ◌<◌, ◌≤◌, length};
 ghost use Rattle.std.specs.Iterator.{at_most};
 
 use crate::encoding::Encoding;
@@ -78,6 +78,7 @@ impl<'a> Iterator for Operations<'a> {
 impl<'a> Operations<'a> {
     /// What a standard opcode does (6.2.5.2), with the numbers that follow it.
     fn standard(&mut self, opcode: u8) -> Option<Operation>
+        requires { 0 < opcode }
         ensures { length self.new.program.rest.now ≤ length self.old.program.rest.now }
     {
         let program = &mut self.program;
@@ -110,6 +111,7 @@ impl<'a> Operations<'a> {
     /// Passes over the numbers of a standard opcode that changes neither address, file nor line, or
     /// that isn't known.
     fn unused(&mut self, opcode: u8) -> Option<Operation>
+        requires { 0 < opcode }
         ensures { length self.new.program.rest.now ≤ length self.old.program.rest.now }
     {
         for _ in 0..self.encoding.length_of(opcode)? {

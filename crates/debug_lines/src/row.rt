@@ -21,8 +21,8 @@ pub struct Row {
 impl Row {
     /// Whether an address is among those from this row's up to the next row's.
     pub fn covers(&self, next: &Row, address: u64) -> bool
-        ensures { IsTrue result
-            ↔ (IsTrue self.now.is_placed × (self.now.address ≤ address) × (address < next.now.address)) }
+        ensures { IsTrue result ↔ (IsTrue self.now.is_placed
+            × (self.now.address ≤ address) × (address < next.now.address)) }
     {
         self.is_placed && self.address <= address && address < next.address
     }

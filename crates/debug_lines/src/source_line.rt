@@ -1,7 +1,8 @@
 //! A source line.
 
-ghost use Rattle.std.specs.Prelude.{◌≡◌, ◌-◌, ◌≤◌, ◌==◌, not, length};
+ghost use Rattle.std.specs.Prelude.{◌≡◌, ◌-◌, ◌≤◌, ◌==◌, not, length, false, IfSome};
 ghost use Rattle.std.specs.List.{after_last, suffix_len};
+ghost use Rattle.debug_lines.specs.Texts.{has_control};
 
 use std::{fmt, str};
 
@@ -55,13 +56,23 @@ fn last_part_start(path: &[u8]) -> usize
 }
 
 /// A path that may be told: 1 to 4096 bytes of UTF-8 without control characters.
-pub fn text_of(path: &[u8]) -> Option<&str> {
+pub fn text_of(path: &[u8]) -> Option<&str>
+    ensures same { IfSome result (λ text. text.now ≡ path.now) }
+    ensures told { IfSome result (λ text. has_control text.now ≡ false) }
+{
     if path.is_empty() || path.len() > LONGEST {
         return None;
     }
     let text = str::from_utf8(path).ok()?;
-    if text.chars().any(|c| c.is_control()) {
+    if has_control(text) {
         return None;
     }
     Some(text)
+}
+
+/// Whether a text has a control character.
+fn has_control(text: &str) -> bool
+    ensures { result ≡ has_control text.now }
+{
+    text.chars().any(|c| c.is_control())
 }

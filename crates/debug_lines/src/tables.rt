@@ -37,7 +37,9 @@ impl<'a> Unit<'a> {
     /// compilation, has none.
     pub fn directory(&self, number: u64, strings: Strings<'a>) -> Option<&'a [u8]> {
         if self.version == 5 {
-            return Entries::read(self.tables, strings)?.nth(number as usize)?.path;
+            return Entries::read(self.tables, strings)?
+                .nth(number as usize)?
+                .path;
         }
         let mut directories = Directories { table: self.tables };
         directories.nth(number.checked_sub(1)? as usize)

@@ -97,7 +97,8 @@ impl<'a> Unit<'a> {
 
 /// Whether a row, if there is one, covers an address.
 fn is_between(row: &Option<Row>, next: &Row, address: u64) -> bool
-    ensures row { OnTrue result (IfSome row.now (λ row. IsTrue row.is_placed × (row.address ≤ address))) }
+    ensures row { OnTrue result
+        (IfSome row.now (λ row. IsTrue row.is_placed × (row.address ≤ address))) }
 {
     match row {
         Some(row) => row.covers(next, address),

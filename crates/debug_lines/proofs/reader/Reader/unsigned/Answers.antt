@@ -1,4 +1,3 @@
-use Rattle.std.proofs.Common.{ap, sym}
 use Rattle.debug_lines.proofs.NumberLemmas.{unsigned_of-bits}
 use Rattle.debug_lines.proofs.reader.Reader.unsigned.Goals as goal
 
