@@ -30,6 +30,13 @@ def need_hosts(hosts):
             leave(f"{host} is not there: build it by rt run in crates/mte_host")
 
 
+def need_outside(folder):
+    """Ends where a folder lies in the repository."""
+    folder = folder.resolve()
+    if pathlib.Path(__file__).resolve().parents[2] in [folder, *folder.parents]:
+        leave(f"{folder} lies in the repository")
+
+
 def run_tool(command):
     """Runs a tool, and ends with what it says where it fails."""
     ran = subprocess.run(command, stdout=subprocess.PIPE, stderr=subprocess.STDOUT, text=True)

@@ -23,7 +23,7 @@ import subprocess
 import tempfile
 
 import scudo
-from commands import SLICE, leave, need_hosts, need_tools, run_tool, user_time, version
+from commands import SLICE, leave, need_hosts, need_outside, need_tools, run_tool, user_time, version
 
 HERE = pathlib.Path(__file__).resolve().parent
 TENANTS = HERE.parent / "c"
@@ -138,8 +138,8 @@ def arguments():
     options = parser.parse_args()
     need_tools(TOOLS)
     need_hosts(options.hosts)
-    if options.work and HERE.parents[1] in [folder := options.work.resolve(), *folder.parents]:
-        leave(f"{options.work} lies in the repository")
+    if options.work:
+        need_outside(options.work)
     return options
 
 

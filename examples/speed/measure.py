@@ -27,7 +27,7 @@ import sys
 import tempfile
 
 import real_programs
-from commands import SLICE, instructions, leave, need_hosts, user_time
+from commands import SLICE, instructions, need_hosts, need_outside, user_time
 
 HERE = pathlib.Path(__file__).resolve().parent
 sys.path.insert(0, str(HERE.parent))
@@ -160,8 +160,8 @@ def arguments():
     parser.add_argument("hosts", metavar="HOST", nargs="+")
     options = parser.parse_args()
     need_hosts(options.hosts)
-    if options.work and HERE.parents[1] in [folder := options.work.resolve(), *folder.parents]:
-        leave(f"{options.work} lies in the repository")
+    if options.work:
+        need_outside(options.work)
     return options
 
 
