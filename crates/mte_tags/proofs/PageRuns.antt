@@ -2,7 +2,7 @@
 use Rattle.std.proofs.Common.{◌≡◌, ◌≢◌, ℕ, suc, zero, ◌+◌, ◌-◌, ◌/◌, ◌%◌, ◌<◌, ◌≤◌, ◌==◌, ◌&&◌, Bool, true, false, cond, Option, Some, None, is_none, List, [], ◌∷◌, ◌++◌, length, take, drop, set, replicate, refl, sym, ap, ◌∙◌, inl, inr, arith, eq-eqb}
 use Rattle.std.proofs.lemmas.List.{ext_get_or, get_or-take, get_or-drop, length-take-le, length-set, drop-set-lt, append_assoc, take_more_set, take-append-drop, drop-drop, length-replicate}
 use Rattle.std.proofs.lemmas.List.FromFn.{get_or-map-range_with_len, length-map-range_with_len}
-use Rattle.std.proofs.lemmas.Bool.{cases_eq, cond-true, cond-false}
+use Rattle.std.proofs.lemmas.Bool.{cases_eq, cases_lt, cond-true, cond-false}
 use Rattle.std.specs.List.{range_with_len, slice_range}
 use Rattle.std.specs.Prelude.{slice_index}
 use Rattle.mte_tags.specs.Memory.{Memory, Page, page_at, with_page, has, byte_in, byte_at, with_byte_in, with_byte}
@@ -82,6 +82,10 @@ first_in-tag x p a (suc n) h e f d =
     let t : (granule_tag p a == x.tag) ≡ false = grind arith in
     ap (λ g. or_else g (first_in x (Some p) (range_with_len (a + 1) n))) (cond-true _ _ _ e ∙ cond-true _ _ _ f ∙ cond-false _ _ _ t)
 
+-- a run within one granule is one within its page
+pub granule_in_page : (a n : ℕ) → a % 16 + n ≤ 16 → a % 4096 + n ≤ 4096
+granule_in_page a n h = omega arith
+
 -- whether a run within one granule passes
 pub granule_passes : (x : Access) (p : Page) (a n : ℕ) → 0 < n → a % 16 + n ≤ 16 → has p.attrs x.need ≡ true → (x.checked && has p.attrs 8) ≡ true → (granule_tag p a == x.tag) ≡ is_none (first_in x (Some p) (range_with_len a n))
 granule_passes x p a n h k e f = elim (cases_eq (granule_tag p a) x.tag) [
@@ -109,7 +113,7 @@ first_in-next x p a n left h l e f =
     ap (λ j. first_in x (Some p) (range_with_len a j)) k ∙ first_in-append x p a n (left - n) (first_in-granule x p a n h e f)
 
 -- the same of a run whose first granule passed, and which ends in the next one
-pub two_granules_pass : (x : Access) (p : Page) (a n : ℕ) → 16 < a % 16 + n → n ≤ 16 → a % 4096 + n ≤ 4096 → has p.attrs x.need ≡ true → (x.checked && has p.attrs 8) ≡ true → granule_tag p a ≡ x.tag
+two_granules_pass : (x : Access) (p : Page) (a n : ℕ) → 16 < a % 16 + n → n ≤ 16 → a % 4096 + n ≤ 4096 → has p.attrs x.need ≡ true → (x.checked && has p.attrs 8) ≡ true → granule_tag p a ≡ x.tag
     → (granule_tag p (a + n - 1) == x.tag) ≡ is_none (first_in x (Some p) (range_with_len a n))
 two_granules_pass x p a n h k inside e f same =
     let first = 16 - a % 16 in
@@ -117,6 +121,16 @@ two_granules_pass x p a n h k inside e f same =
     ap (λ o. slice_index p.tags o == x.tag) place
     ∙ granule_passes x p (a + first) (n - first) (omega arith) (omega arith) e f
     ∙ sym (ap is_none (first_in-next x p a first n (omega arith) (omega arith) e same))
+
+-- whether a run of at most 16 bytes passes whose first granule does
+pub short_run_passes : (x : Access) (p : Page) (a n : ℕ) → 0 < n → n ≤ 16 → a % 4096 + n ≤ 4096 → has p.attrs x.need ≡ true → (x.checked && has p.attrs 8) ≡ true → granule_tag p a ≡ x.tag
+    → (granule_tag p (a + n - 1) == x.tag) ≡ is_none (first_in x (Some p) (range_with_len a n))
+short_run_passes x p a n h k inside e f same = elim (cases_lt 16 (a % 16 + n)) [
+  | inl two ↦ two_granules_pass x p a n two k inside e f same
+  | inr one ↦
+      let place : (a + n - 1) % 4096 / 16 ≡ a % 4096 / 16 = omega (arith, one, h) in
+      ap (λ o. slice_index p.tags o == x.tag) place ∙ granule_passes x p a n h one e f
+]
 
 -- what a run in a page holds
 pub bytes_at-run : (m : Memory) (p : Page) (a n : ℕ) → page_at m (a / 4096) ≡ Some p → n ≤ length (drop (a % 4096) p.bytes) → a % 4096 + n ≤ 4096

@@ -19,8 +19,8 @@ use crate::page_store::PageStore;
 use crate::state::TagMode;
 use crate::tagged::Tagged;
 use crate::within_page::{
-    fault_of_run, fetch_aligned, granule_tag_at, read_in_page, store_tags_in_page, try_read,
-    try_write, write_in_page,
+    code_has_attrs, fault_of_run, fetch_aligned, granule_tag_at, read_in_page, store_tags_in_page,
+    try_read, try_read_in_page, try_write, try_write_in_page, write_in_page,
 };
 use a64_bits::plain;
 
@@ -154,8 +154,36 @@ fn read_across_pages<S: PageStore>(
     Ok(())
 }
 
-/// Reads where that was not quick. A copy of the access goes along, and the result comes back field
-/// by field, so that quick accesses hold both in registers.
+/// Copies bytes out where not one granule holds them all or the first fails.
+#[inline(never)]
+fn read_out_of_line<S: PageStore>(
+    store: &mut S,
+    at: u64,
+    buffer: &mut [u8],
+    access: &Access,
+) -> Result<(), MemFault>
+    requires plain { at < 2 ^ 56 }
+    ensures answer { result
+        ≡ outcome
+        (access_fault (S.memory store.old) access.now (addresses at (length buffer.old))) }
+    ensures bytes { buffer.new
+        ≡ (if is_ok result
+        then bytes_at (S.memory store.old) (addresses at (length buffer.old))
+        else buffer.old) }
+    ensures memory { S.memory store.new
+        ≡ (if is_ok result
+        then after_access (S.memory store.old) access.now (addresses at (length buffer.old))
+        else S.memory store.old) }
+    ensures kept { S.kept store.old store.new }
+{
+    if try_read_in_page(store, at, buffer, access) {
+        return Ok(());
+    }
+    read_across_pages(store, at, buffer, access)
+}
+
+/// Reads where that was not quick. Copies of the access and of a short buffer go along, and the result
+/// comes back field by field, so that quick accesses hold all of them in registers.
 #[inline(always)]
 fn read_slowly<S: PageStore>(
     store: &mut S,
@@ -178,7 +206,16 @@ fn read_slowly<S: PageStore>(
     ensures kept { S.kept store.old store.new }
 {
     let own = *access;
-    by_fields(read_across_pages(store, at, buffer, &own))
+    let len = buffer.len();
+    if len > 8 {
+        return by_fields(read_out_of_line(store, at, buffer, &own));
+    }
+    let mut bytes = [0; 8];
+    let result = by_fields(read_out_of_line(store, at, &mut bytes[..len], &own));
+    if result.is_ok() {
+        buffer.copy_from_slice(&bytes[..len]);
+    }
+    result
 }
 
 /// Copies bytes out, or returns the fault of the first that fails.
@@ -242,6 +279,33 @@ fn write_across_pages<S: PageStore>(
     Ok(())
 }
 
+/// Copies bytes in where not one granule holds them all or the first fails.
+#[inline(never)]
+fn write_out_of_line<S: PageStore>(
+    store: &mut S,
+    at: u64,
+    bytes: &[u8],
+    access: &Access,
+) -> Result<(), MemFault>
+    requires plain { at < 2 ^ 56 }
+    ensures answer { result
+        ≡ outcome
+        (access_fault (S.memory store.old) access.now (addresses at (length bytes.now))) }
+    ensures memory { S.memory store.new
+        ≡ (if is_ok result
+        then with_bytes
+        (after_access (S.memory store.old) access.now (addresses at (length bytes.now)))
+        (addresses at (length bytes.now))
+        bytes.now
+        else S.memory store.old) }
+    ensures kept { S.kept store.old store.new }
+{
+    if try_write_in_page(store, at, bytes, access) {
+        return Ok(());
+    }
+    write_across_pages(store, at, bytes, access)
+}
+
 /// Writes where that was not quick. A copy of the access goes along, and the result comes back
 /// field by field, so that quick accesses hold both in registers.
 #[inline(always)]
@@ -265,7 +329,7 @@ fn write_slowly<S: PageStore>(
     ensures kept { S.kept store.old store.new }
 {
     let own = *access;
-    by_fields(write_across_pages(store, at, bytes, &own))
+    by_fields(write_out_of_line(store, at, bytes, &own))
 }
 
 /// Copies bytes in, or returns the fault of the first that fails.
@@ -340,8 +404,12 @@ fn page_has_attrs<S: PageStore>(store: &mut S, addr: u64, attrs: Attrs) -> bool
     ensures memory { S.memory store.new ≡ S.memory store.old }
     ensures kept { S.kept store.old store.new }
 {
+    let at = plain(addr);
+    if attrs.contains(Attrs::EXEC) {
+        return code_has_attrs(store, at, attrs);
+    }
     let access = Access::needing(attrs);
-    fault_of_run(store, plain(addr), 1, &access).is_none()
+    fault_of_run(store, at, 1, &access).is_none()
 }
 
 /// The fault of the first granule that fails of an access without a tag check, if any.

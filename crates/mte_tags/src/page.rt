@@ -20,6 +20,14 @@ pub(crate) fn fits_one_page(at: u64, count: u64) -> bool
     count > 0 && count <= 4096 - at % 4096
 }
 
+/// Whether some bytes are wanted, and one granule holds them.
+#[inline(always)]
+pub(crate) fn fits_one_granule(at: u64, count: u64) -> bool
+    ensures { IsTrue result ↔ ((0 < count) × (at % 16 + count ≤ 16)) }
+{
+    count > 0 && count <= 16 - at % 16
+}
+
 /// The fault of the first byte of a run that fails, if any.
 #[inline(always)]
 pub(crate) fn run_fault<S: PageStore>(
@@ -49,8 +57,36 @@ pub(crate) fn run_fault<S: PageStore>(
     tag_fault(store, place, at, count, access)
 }
 
-/// Whether the whole run is permitted: the common case, which builds no fault.
+/// Whether a run within one granule is permitted: the common case, which builds no fault.
 #[inline(always)]
+pub(crate) fn granule_passes<S: PageStore>(
+    store: &S,
+    place: usize,
+    at: u64,
+    count: usize,
+    access: &Access,
+) -> bool
+    requires place { S.is_place store.now place }
+    requires some { 0 < count }
+    requires inside { at % 16 + count ≤ 16 }
+    requires plain { at < 2 ^ 56 }
+    ensures { result
+        ≡ is_none
+        (first_in access.now (Some (S.page_in store.now place)) (range_with_len at count)) }
+{
+    let attrs = store.attrs(place);
+    let permitted = attrs.0 & access.need == access.need;
+    if !permitted {
+        return false;
+    }
+    let compared = access.checked && attrs.contains(Attrs::TAGGED);
+    if !compared {
+        return true;
+    }
+    store.granule_tag(place, (at % 4096 / 16) as usize) == access.tag
+}
+
+/// Whether the whole run is permitted. It builds no fault.
 pub(crate) fn run_passes<S: PageStore>(
     store: &S,
     place: usize,
@@ -77,9 +113,6 @@ pub(crate) fn run_passes<S: PageStore>(
     }
     if store.granule_tag(place, (at % 4096 / 16) as usize) != access.tag {
         return false;
-    }
-    if at % 16 + count as u64 <= 16 {
-        return true;
     }
     if count <= 16 {
         let last = at + count as u64 - 1;

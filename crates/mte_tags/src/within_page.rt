@@ -3,15 +3,19 @@
 //! quick calls take any bytes, and may leave them to the others. The calls know no mode: in each of
 //! them a tag that differs is a fault, and none sets the flag.
 
-ghost use Rattle.std.specs.Prelude.{◌≡◌, ◌<◌, ◌≤◌, ◌+◌, ◌*◌, ◌%◌, ◌^◌, false, None, IfOk};
+ghost use Rattle.std.specs.Prelude.{◌≡◌, ◌<◌, ◌≤◌, ◌+◌, ◌*◌, ◌/◌, ◌%◌, ◌^◌, false, None, IfOk};
 ghost use Rattle.std.specs.Prelude.{IsTrue, is_ok, length, if◌then◌else◌};
-ghost use Rattle.mte_tags.specs.Memory.{tag_at, with_granules};
+ghost use Rattle.mte_tags.specs.Memory.{tag_at, page_has, with_granules};
 ghost use Rattle.mte_tags.specs.Accesses.{outcome, loaded, addresses, granules, byte_fault};
 ghost use Rattle.mte_tags.specs.Accesses.{first_fault, bytes_at, with_bytes, fetched};
 
 use crate::access::Access;
+use crate::attrs::Attrs;
 use crate::fault::{FaultKind, MemFault};
-use crate::page::{copy_out, fits_one_page, run_fault, run_passes, tag_in_page, word_in_page};
+use crate::page::{
+    copy_out, fits_one_granule, fits_one_page, granule_passes, run_fault, run_passes, tag_in_page,
+    word_in_page,
+};
 use crate::page_store::PageStore;
 use a64_bits::plain;
 
@@ -56,6 +60,20 @@ pub(crate) fn fetch_aligned<S: PageStore>(store: &mut S, pc: u64) -> Result<u32,
     Ok(word_in_page(store, place, at))
 }
 
+/// Whether the page of an address, where code is looked for, is mapped and has these attributes.
+#[inline(always)]
+pub(crate) fn code_has_attrs<S: PageStore>(store: &mut S, at: u64, attrs: Attrs) -> bool
+    requires { at < 2 ^ 56 }
+    ensures answer { result ≡ page_has (S.memory store.old) (at / 4096) attrs.0 }
+    ensures memory { S.memory store.new ≡ S.memory store.old }
+    ensures kept { S.kept store.old store.new }
+{
+    match store.find_code(at / 4096) {
+        None => false,
+        Some(place) => store.attrs(place).contains(attrs),
+    }
+}
+
 /// Copies a run of bytes out, or returns the fault of the first that fails.
 pub(crate) fn read_in_page<S: PageStore>(
     store: &mut S,
@@ -86,10 +104,42 @@ pub(crate) fn read_in_page<S: PageStore>(
     Ok(())
 }
 
-/// Copies bytes out where one page holds them and none fails, and returns whether it did. `false`
+/// Copies bytes out where one granule holds them and none fails, and returns whether it did. `false`
 /// changes nothing, and does not say that an access fails.
 #[inline(always)]
 pub(crate) fn try_read<S: PageStore>(
+    store: &mut S,
+    at: u64,
+    buffer: &mut [u8],
+    access: &Access,
+) -> bool
+    requires { at < 2 ^ 56 }
+    ensures passed { IsTrue result
+        → first_fault (S.memory store.old) access.now (addresses at (length buffer.old))
+        ≡ None }
+    ensures bytes { buffer.new
+        ≡ (if result
+        then bytes_at (S.memory store.old) (addresses at (length buffer.old))
+        else buffer.old) }
+    ensures memory { S.memory store.new ≡ S.memory store.old }
+    ensures kept { S.kept store.old store.new }
+{
+    if !fits_one_granule(at, buffer.len() as u64) {
+        return false;
+    }
+    let Some(place) = store.find(at / 4096) else {
+        return false;
+    };
+    if !granule_passes(store, place, at, buffer.len(), access) {
+        return false;
+    }
+    copy_out(store, place, at, buffer);
+    true
+}
+
+/// Copies bytes out where one page holds them and none fails, and returns whether it did. `false`
+/// changes nothing, and does not say that an access fails.
+pub(crate) fn try_read_in_page<S: PageStore>(
     store: &mut S,
     at: u64,
     buffer: &mut [u8],
@@ -148,10 +198,41 @@ pub(crate) fn write_in_page<S: PageStore>(
     Ok(())
 }
 
-/// Copies bytes in where one page holds them and none fails, and returns whether it did. `false`
+/// Copies bytes in where one granule holds them and none fails, and returns whether it did. `false`
 /// changes nothing, and does not say that an access fails.
 #[inline(always)]
 pub(crate) fn try_write<S: PageStore>(store: &mut S, at: u64, bytes: &[u8], access: &Access) -> bool
+    requires { at < 2 ^ 56 }
+    ensures passed { IsTrue result
+        → first_fault (S.memory store.old) access.now (addresses at (length bytes.now))
+        ≡ None }
+    ensures memory { S.memory store.new
+        ≡ (if result
+        then with_bytes (S.memory store.old) (addresses at (length bytes.now)) bytes.now
+        else S.memory store.old) }
+    ensures kept { S.kept store.old store.new }
+{
+    if !fits_one_granule(at, bytes.len() as u64) {
+        return false;
+    }
+    let Some(place) = store.find(at / 4096) else {
+        return false;
+    };
+    if !granule_passes(store, place, at, bytes.len(), access) {
+        return false;
+    }
+    store.replace_run(place, at, bytes);
+    true
+}
+
+/// Copies bytes in where one page holds them and none fails, and returns whether it did. `false`
+/// changes nothing, and does not say that an access fails.
+pub(crate) fn try_write_in_page<S: PageStore>(
+    store: &mut S,
+    at: u64,
+    bytes: &[u8],
+    access: &Access,
+) -> bool
     requires { at < 2 ^ 56 }
     ensures passed { IsTrue result
         → first_fault (S.memory store.old) access.now (addresses at (length bytes.now))

@@ -15,6 +15,11 @@ pub returns-clause-answer : goal.returns-clause-answer
 returns-clause-answer g c =
     let m = g.S.PageStore.memory c.args.store.now in
     none c.fault_of_run.result c.is_none.result c.is_none.ensures
-    ∙ ap is_none (c.fault_of_run.ensures.answer ∙ ap (λ x. first_fault m x (addresses c.plain.result 1)) c.needing-access.ensures)
-    ∙ first_fault-needing m c.args.attrs.0 c.plain.result
-    ∙ ap (λ a. page_has m (a / 4096) c.args.attrs.0) c.plain.ensures
+    ∙ ap is_none (c.fault_of_run.ensures.answer ∙ ap (λ x. first_fault m x (addresses c.plain-at.result 1)) c.needing-access.ensures)
+    ∙ first_fault-needing m c.args.attrs.0 c.plain-at.result
+    ∙ ap (λ a. page_has m (a / 4096) c.args.attrs.0) c.plain-at.ensures
+
+pub returns-then-contains-clause-answer : goal.returns-then-contains-clause-answer
+returns-then-contains-clause-answer g c =
+    c.code_has_attrs.ensures.answer
+    ∙ ap (λ a. page_has (g.S.PageStore.memory c.args.store.now) (a / 4096) c.args.attrs.0) c.plain-at.ensures

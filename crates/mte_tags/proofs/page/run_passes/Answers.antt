@@ -1,6 +1,6 @@
 use Rattle.std.proofs.Common.{◌≡◌, ◌==◌, ◌&&◌, ℕ, true, false, ◌∙◌, sym, ap, is_none, arith, eq-eqb}
 use Rattle.mte_tags.specs.Memory.{has}
-use Rattle.mte_tags.proofs.PageRuns.{first_in-refused, first_in-untagged, first_in-tag, first_in-granule, two_granules_pass}
+use Rattle.mte_tags.proofs.PageRuns.{first_in-refused, first_in-untagged, first_in-tag, short_run_passes}
 use Rattle.mte_tags.proofs.page.run_passes.Goals as goal
 use Rattle.mte_tags.proofs.page.run_passes.Goals.{then-access, else-access}
 
@@ -35,13 +35,6 @@ returns-then-granule_tag-access g c =
     ] in
     sym (ap is_none (first_in-tag x p c.args.at c.args.count c.requires.some permitted (sym compared ∙ c.if-not-compared.false) (λ e. c.if-granule_tag-access.true (c.granule_tag.ensures.tag ∙ e))))
 
-pub returns-then-at-count-le16 : goal.returns-then-at-count-le16
-returns-then-at-count-le16 g c =
-    let p = g.S.PageStore.page_in c.args.store.now c.args.place in
-    let x = c.args.access.now in
-    let permitted : has p.attrs x.need ≡ true = ap (λ a. has a x.need) (sym c.attrs-attrs.ensures) ∙ eq-eqb _ _ c.if-not-permitted.false in
-    sym (ap is_none (first_in-granule x p c.args.at c.args.count c.if-at-count-le16.true permitted (sym c.granule_tag.ensures.tag ∙ c.if-granule_tag-access.false)))
-
 pub returns-then-count-le16 : goal.returns-then-count-le16
 returns-then-count-le16 g c =
     let p = g.S.PageStore.page_in c.args.store.now c.args.place in
@@ -53,4 +46,4 @@ returns-then-count-le16 g c =
       | else-access w ↦ w.compared-is ∙ w.if-access.false ∙ sym (ap (λ b. b && has p.attrs 8) w.if-access.false)
     ] in
     ap (λ t. t == x.tag) c.granule_tag-then-count-le16.ensures.tag
-    ∙ two_granules_pass x p c.args.at c.args.count c.if-at-count-le16.false c.if-count-le16.true c.requires.inside permitted (sym compared ∙ c.if-not-compared.false) (sym c.granule_tag.ensures.tag ∙ c.if-granule_tag-access.false)
+    ∙ short_run_passes x p c.args.at c.args.count c.requires.some c.if-count-le16.true c.requires.inside permitted (sym compared ∙ c.if-not-compared.false) (sym c.granule_tag.ensures.tag ∙ c.if-granule_tag-access.false)
