@@ -8,7 +8,7 @@ use Rattle.std.proofs.lemmas.List.{drop_more, nil_from_length, take_all, append-
 use Rattle.std.proofs.lemmas.List.{length-take}
 use Rattle.std.specs.Borrow.{Bor}
 use Rattle.std.proofs.Math.Nat.{pow-suc}
-use Rattle.std.proofs.lemmas.Bool.{leb-true, lt-ltb, le-ltb, cases_lt}
+use Rattle.std.proofs.lemmas.Bool.{leb-true, lt-ltb, le-ltb, cases_lt, cond-false}
 use Rattle.mte_script.specs.declared.event.Event.{Event}
 use Rattle.mte_script.specs.declared.error.ScriptFault.{ScriptFault}
 use Rattle.mte_script.specs.declared.error.ScriptFault.TheVariants.{TooManyEvents}
@@ -16,7 +16,7 @@ use Rattle.mte_script.specs.declared.error.ScriptError.{ScriptError}
 use Rattle.mte_script.specs.Faults.{IsLineFault, IsFirstFault}
 use Rattle.mte_script.specs.Scripts.{after_event, events_from, event_of_line, read_on, pieces_at}
 use Rattle.mte_script.specs.Scripts.{piece_len_of, words_of, digits_value, is_digit, line_of}
-use Rattle.mte_script.specs.Scripts.{event_by, event_of_words}
+use Rattle.mte_script.specs.Scripts.{event_by, event_of_words, starts_comment}
 
 -- How much of a text is left to cut.
 abbrev pub measure_of : Option (Bor (List ℕ)) → ℕ
@@ -54,6 +54,21 @@ line_of-first words = elim (cases_lt 14 (length words)) [
 pub event_of-first : (files : ℕ) (words : List (List ℕ)) → event_of_words files (take 14 words) ≡ event_of_words files words
 event_of-first files [] = refl
 event_of-first files (word ∷ more) = ap (λ t. Some (event_by files t)) (line_of-first (word ∷ more))
+
+words_event : (files : ℕ) (ws : List (List ℕ)) → 0 < length ws → event_of_words files ws ≡ Some (event_by files (line_of ws))
+words_event files [] some = absurd (omega (arith, some))
+words_event files (word ∷ more) some = refl
+
+-- the event of a line whose first words were read
+pub line_event : (files : ℕ) (line : List ℕ) (ws : List (List ℕ)) (r : Result Event ScriptFault) → starts_comment line ≡ false → ws ≡ take 14 (words_of line) → 0 < length ws
+    → r ≡ event_by files (line_of ws) → event_of_line files line ≡ Some r
+unfolding event_of_line
+line_event files line ws r other first some is =
+    cond-false _ _ _ other
+    ∙ sym (event_of-first files (words_of line))
+    ∙ sym (ap (event_of_words files) first)
+    ∙ words_event files ws some
+    ∙ ap (λ e. Some e) (sym is)
 
 pub len_step : (separator : ℕ) (text : List ℕ) (i : ℕ) (d : ℕ) → i < length text → (get_or text i d == separator) ≡ false
     → i + piece_len_of separator (drop i text) ≡ (i + 1) + piece_len_of separator (drop (i + 1) text)

@@ -7,11 +7,15 @@ ghost use Rattle.mte_script.specs.Faults.{IsFirstFault, IsLineFault};
 use crate::error::{ScriptError, ScriptFault};
 use crate::event::Event;
 use crate::grammar::event_of;
-use crate::text::{cut, words};
+use crate::text::{WORD_LIMIT, cut, read_words};
+use arrayvec::ArrayVec;
 use std::alloc::Global;
 
 /// The most events of a script.
 const EVENT_LIMIT: usize = 10_000;
+
+/// The fewest bytes of a line that is an event, with the LF that ends it: `stop 1`.
+const SHORTEST_LINE: usize = 7;
 
 /// Reads a script: lines ended by LF, which the last may lack; in a line words separated by one or
 /// more spaces. Lines without a word and lines whose first byte is `#` are skipped. `files` are
@@ -27,14 +31,15 @@ pub fn parse_script(
         (e ≡ ScriptError.OutOfMemory)
         ⊎ IsFirstFault (script_events (length files.now) script.now) e) }
 {
-    let more_lines = script.iter().filter(|b| **b == b'\n').count();
-    let mut events = Vec::with_capacity(alloc, more_lines.min(EVENT_LIMIT - 1) + 1)?;
+    let most = (script.len() / SHORTEST_LINE + 1).min(EVENT_LIMIT);
+    let mut events = Vec::with_capacity(alloc, most)?;
+    let mut words = ArrayVec::new();
     let mut rest = Some(script);
     let mut number = 0;
     while let Some(text) = rest {
         let (line, more) = cut(text, b'\n');
         number += 1;
-        match read_event(line, number, files.len()) {
+        match read_event(line, &mut words, number, files.len()) {
             Err(error) => return Err(error),
             Ok(None) => {}
             Ok(Some(event)) => {
@@ -49,16 +54,22 @@ pub fn parse_script(
     Ok(events)
 }
 
-/// The event of a line, if it is one; `number` is the line's.
+/// The event of a line, if it is one; `number` is the line's. Its words go into a list that serves
+/// all lines.
 #[tactic(auto, unfolding(crate::specs::Scripts::event_of_line))]
-fn read_event(line: &[u8], number: u64, files: usize) -> Result<Option<Event>, ScriptError>
+fn read_event<'a>(
+    line: &'a [u8],
+    words: &mut ArrayVec<&'a [u8], WORD_LIMIT>,
+    number: u64,
+    files: usize,
+) -> Result<Option<Event>, ScriptError>
     ensures event { IfOk result (λ event. option_map Ok event ≡ event_of_line files line.now) }
     ensures fault { IfErr result (IsLineFault number (event_of_line files line.now)) }
 {
     if line.starts_with(b"#") {
         return Ok(None);
     }
-    let words = words(line);
+    read_words(line, words);
     if words.is_empty() {
         return Ok(None);
     }

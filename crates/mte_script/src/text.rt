@@ -38,11 +38,11 @@ fn piece_len(text: &[u8], separator: u8) -> usize
 /// many is known.
 pub const WORD_LIMIT: usize = 14;
 
-/// The first words of a line, as many as are read.
-pub fn words(line: &[u8]) -> ArrayVec<&[u8], WORD_LIMIT>
-    ensures { map (λ w. w.now) result.items ≡ take WORD_LIMIT (words_of line.now) }
+/// Makes a list the first words of a line, as many as are read.
+pub fn read_words<'a>(line: &'a [u8], words: &mut ArrayVec<&'a [u8], WORD_LIMIT>)
+    ensures { map (λ w. w.now) words.new.items ≡ take WORD_LIMIT (words_of line.now) }
 {
-    let mut words = ArrayVec::new();
+    words.clear();
     let mut rest = Some(line);
     while let Some(text) = rest {
         let (word, more) = cut(text, b' ');
@@ -51,7 +51,6 @@ pub fn words(line: &[u8]) -> ArrayVec<&[u8], WORD_LIMIT>
         }
         rest = more;
     }
-    words
 }
 
 /// Whether a word is a text.

@@ -2,8 +2,8 @@ use Rattle.std.proofs.Common.{arith, rules, map, take}
 use Rattle.std.proofs.lemmas.List.{length-map}
 use Rattle.mte_script.proofs.ScriptLemmas.{read_over, read_end, words_left}
 use Rattle.mte_script.specs.Scripts.{words_of}
-use Rattle.mte_script.proofs.text.words.Goals.{else-not-is_empty-via-then-not-is_empty+else-not-is_full, else-not-is_empty-via-else-not-is_empty}
-use Rattle.mte_script.proofs.text.words.Goals as goal
+use Rattle.mte_script.proofs.text.read_words.Goals.{else-not-is_empty-via-then-not-is_empty+else-not-is_full, else-not-is_empty-via-else-not-is_empty}
+use Rattle.mte_script.proofs.text.read_words.Goals as goal
 
 pub loop-rest-preserved : goal.loop-rest-preserved
 loop-rest-preserved c = elim c.else-not-is_empty.branch [

@@ -1,7 +1,7 @@
 use Rattle.std.proofs.Common.{◌≡◌, ◌≤◌, ◌++◌, length, map, take}
 use Rattle.mte_script.specs.Scripts.{words_of}
 use Rattle.mte_script.proofs.ScriptLemmas.{measure_of, words_left}
-use Rattle.mte_script.proofs.text.words.Given as goal
+use Rattle.mte_script.proofs.text.read_words.Given as goal
 
 abbrev pub decreases-loop-rest : goal.decreases-loop-rest
 decreases-loop-rest l = measure_of l.rest
