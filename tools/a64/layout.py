@@ -39,7 +39,7 @@ def functions_used(uses):
         if len(names) == 1:
             line = f"use crate::{module}::{names[0]};\n"
         if len(line) > WIDTH + 1:
-            inner = textwrap.fill(", ".join(names) + ",", WIDTH, initial_indent="    ",
+            inner = textwrap.fill(", ".join(names) + ",", WIDTH - 1, initial_indent="    ",
                                   subsequent_indent="    ")
             line = f"use crate::{module}::{{\n{inner}\n}};\n"
         lines.append(line)

@@ -7,3 +7,4 @@ mod GranuleWrites
 pub mod Knowing
 pub mod Modes
 pub mod Running
+mod Shifts
