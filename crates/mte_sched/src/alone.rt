@@ -117,8 +117,9 @@ pub fn slice_watched<M: Paged, W: Watch>(
     settle(parts, memory);
 }
 
-/// Attempts one instruction of a slice, which has `left` more; returns whether the slice goes on.
-fn attempt<M: Paged>(
+/// Attempts one instruction of a slice, which has `left` more; returns whether the slice goes on. A
+/// slice is such attempts while it goes on, has steps left and the tenant is running, and `settle`.
+pub fn attempt<M: Paged>(
     decoder: &mut Decoder,
     parts: &mut TenantParts,
     memory: &mut M,

@@ -132,7 +132,7 @@ fn run_on<M: Paged>(kept: &mut Kept, parts: &mut TenantParts, memory: &mut M, le
 
 /// Ends the slice, and the tenant where it is running and its flag is set.
 #[tactic(auto, unfolding(crate::specs::Machines::settled))]
-pub(crate) fn settle<M: Tagged>(parts: &mut TenantParts, memory: &mut M)
+pub fn settle<M: Tagged>(parts: &mut TenantParts, memory: &mut M)
     ensures machine { machine_of parts.new (M.memory memory.new)
         ≡ settled (machine_of parts.old (M.memory memory.old)) }
     ensures heap { parts.new.heap ≡ parts.old.heap }
