@@ -22,7 +22,7 @@ import debian_source  # noqa: E402
 CLANG = ["clang", "--target=aarch64-linux-gnu", "-mgeneral-regs-only", "-Xclang", "-mlong-double-64"]
 COMMON = [
     "-O2", "-g1", "-w", "-ffunction-sections", "-fdata-sections", "-fno-asynchronous-unwind-tables",
-    "-fno-omit-frame-pointer", "-fno-stack-protector", "-moutline-atomics", "-ffp-contract=off",
+    "-fno-omit-frame-pointer", "-fno-stack-protector", "-fdebug-compilation-dir=.", "-moutline-atomics", "-ffp-contract=off",
 ]
 MUSL = ["-std=c99", "-ffreestanding", "-nostdinc", "-frounding-math", "-D_XOPEN_SOURCE=700"]
 # What this folder has in musl's place, or a tenant has no use for.
@@ -30,6 +30,7 @@ LEFT_OUT = {
     "env/__libc_start_main.c", "env/__init_tls.c", "env/__stack_chk_fail.c", "exit/abort.c", "thread/pthread_create.c",
     "thread/__set_thread_area.c", "thread/clone.c", "thread/__unmapself.c", "thread/syscall_cp.c", "process/vfork.c",
     "setjmp/setjmp.c", "setjmp/longjmp.c", "signal/restore.c", "signal/sigsetjmp.c", "internal/vdso.c",
+    "stdio/__stdout_write.c",
 }
 FOLDERS_LEFT_OUT = {"malloc", "ldso", "network", "ipc", "mq", "aio", "linux"}
 # compiler-rt's helpers in C that are about a system or another machine, or have no use here.

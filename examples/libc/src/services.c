@@ -2,7 +2,6 @@
    and standard error are both its output. There is no other file, one process and thread, and no clock: time is 0. */
 #include <errno.h>
 #include <signal.h>
-#include <sys/ioctl.h>
 #include <sys/uio.h>
 #include <time.h>
 #include "syscall.h"
@@ -50,12 +49,6 @@ static long read_parts(long file, const struct iovec *parts, long count)
     return sum;
 }
 
-/* Output is as to a terminal: stdio writes each line when it ends, so that it is there if the next one faults. */
-static long control(long file, long request)
-{
-    return request == TIOCGWINSZ && (file == 1 || file == 2) ? 0 : -ENOTTY;
-}
-
 static long tell_time(struct timespec *time)
 {
     time->tv_sec = time->tv_nsec = 0;
@@ -86,7 +79,7 @@ long __tenant_system(long number, long a, long b, long c)
     case SYS_readv:
         return read_parts(a, (const struct iovec *)b, c);
     case SYS_ioctl:
-        return control(a, b);
+        return -ENOTTY;
     case SYS_lseek:
         return a >= 0 && a <= 2 ? -ESPIPE : -EBADF;
     case SYS_close:
@@ -105,6 +98,7 @@ long __tenant_system(long number, long a, long b, long c)
     case SYS_sched_yield:
         tenant_yield();
         return 0;
+    case SYS_rt_sigaction:
     case SYS_rt_sigprocmask:
         return 0;
     case SYS_tkill:
@@ -114,4 +108,28 @@ long __tenant_system(long number, long a, long b, long c)
     default:
         return -ENOSYS;
     }
+}
+
+/* What musl has in assembler for another thread or process, which a tenant never gets, and for the return from a signal,
+   which none of it ever receives. */
+int __clone(int (*body)(void *), void *stack, int flags, void *argument, ...)
+{
+    (void)body, (void)stack, (void)flags, (void)argument;
+    return -ENOSYS;
+}
+
+int vfork(void)
+{
+    errno = ENOSYS;
+    return -1;
+}
+
+void __restore(void)
+{
+    raise_signal(SIGILL);
+}
+
+void __restore_rt(void)
+{
+    raise_signal(SIGILL);
 }

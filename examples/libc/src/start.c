@@ -1,5 +1,6 @@
 /* Where a tenant begins: the one thread of the C library, constructors, main. A tenant linked with the symbol
-   tenant_stack_size (tenant-cc --stack) gets a chunk of so many bytes as its stack. */
+   tenant_stack_size (tenant-cc --stack) gets a chunk of so many bytes as its stack, and one with tenant_arguments
+   (tenant-cc --arguments) these words as argv; else argv has the one word `tenant`. */
 #include <stdlib.h>
 #include "libc.h"
 #include "pthread_impl.h"
@@ -10,6 +11,7 @@ struct pthread __tenant_thread;
 
 extern weak hidden void (*const __init_array_start[])(void), (*const __init_array_end[])(void);
 extern char **__environ;
+extern weak char *tenant_arguments[];
 
 int main(int, char **, char **);
 
@@ -50,11 +52,15 @@ static void start_thread(void)
 hidden _Noreturn void __tenant_begin(void)
 {
     static char name[] = "tenant";
-    static char *words[] = {name, 0, 0};
+    static char *alone[] = {name, 0};
+    char **words = tenant_arguments ? tenant_arguments : alone;
+    int count = 0;
+    while (words[count])
+        count++;
     start_thread();
-    __environ = words + 2;
-    __progname = __progname_full = name;
+    __environ = words + count;
+    __progname = __progname_full = words[0];
     for (void (*const *at)(void) = __init_array_start; at < __init_array_end; at++)
         (*at)();
-    exit(main(1, words, words + 2));
+    exit(main(count, words, words + count));
 }
