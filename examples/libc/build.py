@@ -32,7 +32,7 @@ LEFT_OUT = {
     "setjmp/setjmp.c", "setjmp/longjmp.c", "signal/restore.c", "signal/sigsetjmp.c", "internal/vdso.c",
     "stdio/__stdout_write.c",
 }
-FOLDERS_LEFT_OUT = {"malloc", "ldso", "network", "ipc", "mq", "aio", "linux"}
+FOLDERS_LEFT_OUT = {"malloc", "ldso"}
 # compiler-rt's helpers in C that are about a system or another machine, or have no use here.
 BUILTINS_LEFT_OUT = {
     "clear_cache", "cpu_model", "emutls", "enable_execute_stack", "gcc_personality_v0", "trampoline_setup", "atomic",
