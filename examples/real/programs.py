@@ -1,7 +1,7 @@
 #!/usr/bin/env python3
 """Runs six programs that others wrote as tenants, and writes a table of what came of it.
 
-    programs.py [--host HOST] [--alone ALONE] [--work FOLDER] [--only NAME] [--table FILE]
+    programs.py [--host HOST] [--alone ALONE] [--work FOLDER] [--only NAME] [--table FILE] [--note TEXT]
 
 zlib's minigzip, bzip2, Expat's outline, Lua, Duktape (JavaScript) and SQLite's shell are built from Debian's sources,
 unchanged, by ../libc/tenant-cc. Each runs over an input of its kind: as a tenant alone, as twenty tenants of one
@@ -9,7 +9,7 @@ session, as a program of AArch64 Linux under qemu-aarch64, and as one of this ma
 has to write. Then each is built once more with a bug of memory, and what ALONE says of that is noted.
 
 HOST is crates/mte_host/out/mte_host and ALONE crates/mte_run/out/mte_run. FOLDER keeps the sources and what is built
-(a temporary folder). FILE gets the table, in Markdown. It takes six minutes, most of it to compile SQLite four times.
+(a temporary folder). FILE gets the table, in Markdown, with TEXT at its end. It takes six minutes, most of it to compile SQLite four times.
 Needed (Debian): clang, lld, llvm, cc, aarch64-linux-gnu-gcc, qemu-user, tclsh, make, apt and the network the first time.
 """
 import argparse
@@ -219,7 +219,7 @@ def version_of(folder, package):
     return names[0].split("_")[1].removesuffix(".dsc") if names else "?"
 
 
-def table(rows, bugs, sources):
+def table(rows, bugs, sources, note):
     """The page."""
     versions = ", ".join(f"{package} {version_of(sources, package)}" for package in PACKAGES)
     return "\n".join([
@@ -242,7 +242,7 @@ def table(rows, bugs, sources):
         "Each program once more, by clang, with a bug of memory: one that it had once, with its correction undone, or "
         "one that was planted. `mte_run` says:", "",
         "| Program | Bug | Cause, and where it ended |", "|---|---|---|", *bugs, "",
-        f"Sources: {versions}.", "",
+        f"Sources: {versions}.{' ' + note if note else ''}", "",
     ])
 
 
@@ -260,6 +260,7 @@ def arguments():
     parser.add_argument("--work", type=pathlib.Path)
     parser.add_argument("--only", choices=[program.name for program in PROGRAMS])
     parser.add_argument("--table", type=pathlib.Path)
+    parser.add_argument("--note", default="")
     options = parser.parse_args()
     for path in (options.host, options.alone):
         if not path.exists():
@@ -284,7 +285,7 @@ def main():
             prepare_sqlite(sources["sqlite3"])
         rows, bugs = zip(*(measure(program, sources, options, work) for program in chosen))
         if options.table:
-            options.table.write_text(table(rows, bugs, work / "sources"))
+            options.table.write_text(table(rows, bugs, work / "sources", options.note))
 
 
 if __name__ == "__main__":
