@@ -1,7 +1,7 @@
 #!/usr/bin/env bash
-# Builds what stands in tests/ by tenant-cc, by clang and gcc at -O0, -O2 and -Os, and runs it alone.
-# A test without `ends` has to write and return what the same source does on this machine; one with
-# it has to end so, and what is told of it has the text behind `tells`.
+# Builds what stands in tests/ by tenant-cc, with clang and gcc at -O0, -O2 and -Os, and runs it
+# alone. A test without `ends` has to write and return what the same source does on this machine;
+# one with it has to end so, and what is told of it has the text behind `tells`.
 #     check.sh [ALONE]
 set -euo pipefail
 here=$(cd "$(dirname "$0")" && pwd)
@@ -15,7 +15,7 @@ trap 'rm -rf "$work"' EXIT
 passed=0 failed=0
 
 # What the first comment of a test gives under a name.
-value() { sed -n "1,/\*\//s/^[ /*]*$2: *\(.*[^ ]\) *\(\*\/\)\{0,1\}$/\1/p" "$1" | sed 's/ *\*\/$//' | head -n 1; }
+value() { sed -n "1,/\*\//s/^[ /*]*$2: *\([^ ].*\)$/\1/p" "$1" | sed 's/ *\*\/$//' | head -n 1; }
 
 # Runs a command; its output and status go to the file.
 run() {
@@ -39,17 +39,20 @@ is_right() {
 }
 
 for source in "$here"/tests/*.c "$here"/tests/*.cpp; do
+    compilers=(clang)
+    if [[ $source != *.cpp ]] || command -v aarch64-linux-gnu-g++ > /dev/null; then
+        grep -q "for clang" "$source" || compilers+=(gcc)
+    fi
     [[ $source == *.cpp ]] && native=c++ || native=cc
     read -ra flags <<< "$(value "$source" flags)"
     if [[ -z $(value "$source" ends) ]]; then
         "$native" -O1 -w -ffp-contract=off -o "$work/native" "$source" -lm
         run "$work/wanted" "$work/native"
     fi
-    for compiler in clang gcc; do
-        [[ $compiler == gcc ]] && grep -q "for clang" "$source" && continue
-        [[ $compiler == gcc && $native == c++ ]] && ! command -v aarch64-linux-gnu-g++ > /dev/null && continue
+    for compiler in "${compilers[@]}"; do
         for level in -O0 -O2 -Os; do
-            "$here/tenant-cc" --compiler=$compiler $level -g -w "${flags[@]}" -o "$work/image" "$source" 2> "$work/said" || true
+            "$here/tenant-cc" --compiler="$compiler" "$level" -g -w "${flags[@]}" -o "$work/image" \
+                "$source" 2> "$work/said" || true
             if [[ ! -s $work/said ]] && is_right "$source"; then
                 passed=$((passed + 1))
             else

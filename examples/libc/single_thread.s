@@ -1,5 +1,6 @@
-// What the host's table lacks and a tenant of one thread does not need, for GNU as in front of a compiler's text:
-// loads and stores that order others are plain ones, exclusive stores succeed, barriers and prefetches do nothing.
+// What the host's table lacks and a tenant of one thread does not need, for GNU's assembler in
+// front of a compiler's text: loads and stores that order others are plain ones, exclusive stores
+// succeed, barriers and prefetches do nothing.
     .arch armv8.5-a+memtag
     .macro ldar rt, rn:vararg
     ldr \rt, \rn

@@ -1,4 +1,4 @@
-/* Writes its input in base 64 (RFC 4648), 64 characters a line, and decodes that again to compare. */
+/* Writes its input in base 64 (RFC 4648), 64 characters a line, and decodes it again to compare. */
 #include <assert.h>
 #include <stdint.h>
 #include <stdio.h>

@@ -1,4 +1,5 @@
-/* Works out a line at a time: integers, names, + - * / % and brackets; `name = expression` sets a name. */
+/* Works out a line at a time: integers, names, + - * / % and brackets; `name = expression` sets a
+   name. */
 #include <ctype.h>
 #include <errno.h>
 #include <stdio.h>

@@ -1,9 +1,9 @@
 #!/usr/bin/env bash
-# Builds each program of this folder by tenant-cc, with the compilers that are there, at -O0, -O2 and
-# -Os, runs it as a tenant over NAME.txt, and compares output and exit status with those of the same
-# source built for this machine. gcc has no `double` without registers of floating point, so what
-# says in its first comment that it is clang's alone is built by clang only. Then the tenants of
-# ../c are built the same way, and what their comments expect must be told of them (../c/check.sh).
+# Builds each program of this folder by tenant-cc, with the compilers that are there, at -O0, -O2
+# and -Os, runs it as a tenant over NAME.txt, and compares output and exit status with those of the
+# same source built for this machine. gcc has no `double` without registers of floating point, so
+# what says that it is clang's alone is built by clang only. Then the tenants of ../c are built the
+# same way, and what their comments expect must be told of them (../c/check.sh).
 #     check.sh [ALONE [HOST]]
 # Needed: ALONE (crates/mte_run/out/mte_run) and HOST (crates/mte_host/out/mte_host), a compiler for
 # this machine (cc), and the library of ../libc/build.py.
@@ -42,7 +42,8 @@ for source in "$here"/*.c; do
     for compiler in "${compilers[@]}"; do
         [[ $compiler == gcc ]] && grep -q "clang's alone" "$source" && continue
         for level in -O0 -O2 -Os; do
-            "$tenant_cc" --compiler="$compiler" "$level" -g -Wall -Wextra -o "$work/image" "$source" 2> "$work/said"
+            "$tenant_cc" --compiler="$compiler" "$level" -g -Wall -Wextra -o "$work/image" \
+                "$source" 2> "$work/said"
             run /dev/null "$work/got" "$alone" --input "$input" --steps 100000000 "$work/image"
             if cmp -s "$work/wanted" "$work/got" && [[ ! -s $work/said ]]; then
                 passed=$((passed + 1))

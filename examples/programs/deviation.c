@@ -1,5 +1,5 @@
-/* Reads numbers with a fraction and writes their mean, standard deviation and a line of least squares. Needs `double`,
-   so it is clang's alone. */
+/* Reads numbers with a fraction and writes their mean, standard deviation and a line of least
+   squares. Needs `double`, so it is clang's alone. */
 #include <math.h>
 #include <stdio.h>
 

@@ -1,5 +1,5 @@
-/* Reads a JSON value and writes it with a member a line, the members of each object in the order of their names. Numbers
-   are kept as they were written. */
+/* Reads a JSON value and writes it with a member a line, the members of each object in the order of
+   their names. Numbers are kept as they were written. */
 #include <ctype.h>
 #include <setjmp.h>
 #include <stdio.h>
@@ -140,7 +140,9 @@ static struct value *read_value(void)
         value->text = read_string();
         break;
     default:
-        value->kind = input[at] == 'n' ? NULL_VALUE : isalpha((unsigned char)input[at]) ? BOOLEAN : NUMBER;
+        value->kind = isalpha((unsigned char)input[at]) ? BOOLEAN : NUMBER;
+        if (input[at] == 'n')
+            value->kind = NULL_VALUE;
         value->text = read_word();
     }
     return value;

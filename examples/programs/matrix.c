@@ -1,5 +1,5 @@
-/* Reads two square matrices of integers, writes their product and the determinant of each (Bareiss's algorithm, in
-   which every division has no remainder). */
+/* Reads two square matrices of integers, writes their product and the determinant of each (by
+   Bareiss's algorithm, in which no division leaves a remainder). */
 #include <stdio.h>
 #include <stdlib.h>
 
@@ -77,11 +77,13 @@ int main(void)
     int size;
     if (scanf("%d", &size) != 1 || size < 1 || size > 100)
         return 1;
-    entry **left = read_matrix(size), **right = read_matrix(size), **product = multiply(left, right, size);
+    entry **left = read_matrix(size), **right = read_matrix(size);
+    entry **product = multiply(left, right, size);
     for (int i = 0; i < size; i++)
         for (int j = 0; j < size; j++)
             printf("%10lld%c", product[i][j], j + 1 < size ? ' ' : '\n');
-    entry a = determinant(left, size), b = determinant(right, size), c = determinant(product, size);
+    entry a = determinant(left, size), b = determinant(right, size);
+    entry c = determinant(product, size);
     printf("%lld * %lld = %lld\n", a, b, c);
     free_matrix(left, size);
     free_matrix(right, size);

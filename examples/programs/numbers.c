@@ -1,4 +1,5 @@
-/* Reads integers and writes how many there are, their sum, the smallest, the largest and the median. */
+/* Reads integers and writes how many there are, their sum, the smallest, the largest and the
+   median. */
 #include <stdio.h>
 #include <stdlib.h>
 

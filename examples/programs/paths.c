@@ -1,5 +1,5 @@
-/* Reads towns and roads, `from to length` a line, and writes the shortest way from the first town to each other one
-   (Dijkstra's algorithm with a heap; the towns are found by binary search trees). */
+/* Reads towns and roads, `from to length` a line, and writes the shortest way from the first town
+   to each other one (Dijkstra's algorithm with a heap; the towns are a binary search tree). */
 #include <limits.h>
 #include <stdio.h>
 #include <stdlib.h>

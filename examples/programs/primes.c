@@ -1,4 +1,5 @@
-/* Finds the primes below the first number of its input by a sieve of bits, and writes the others as products. */
+/* Finds the primes below the first number of its input by a sieve of bits, and writes the others as
+   products. */
 #include <inttypes.h>
 #include <stdbool.h>
 #include <stdint.h>

@@ -1,4 +1,5 @@
-/* Sorts the lines of its input, however long they are, and writes each once, with how often it came. */
+/* Sorts the lines of its input, however long they are, and writes each once, with how often it
+   came. */
 #include <stdio.h>
 #include <stdlib.h>
 #include <string.h>

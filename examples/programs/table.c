@@ -1,5 +1,5 @@
-/* Reads comma-separated values with a line of titles (quotes as in RFC 4180) and writes them as a table with aligned
-   columns, the sum of each column of integers below it. */
+/* Reads comma-separated values with a line of titles (quotes as in RFC 4180) and writes them as a
+   table with aligned columns, the sum of each column of integers below it. */
 #include <stdio.h>
 #include <stdlib.h>
 #include <string.h>

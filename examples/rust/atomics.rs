@@ -1,4 +1,4 @@
-//! Atomic operations, which the compiler makes plain ones: the host has none, and a tenant one thread.
+//! Atomic operations, which the compiler makes plain ones: a tenant has one thread.
 //! output: 8 true Err(8) 5 [1, 2, 3] 2
 //! ends: 4
 #![no_std]
@@ -23,6 +23,14 @@ fn main() -> u8 {
     let shared = Arc::new(vec![1, 2, 3]);
     let other = Arc::clone(&shared);
     let (count, flag) = (COUNT.load(Ordering::Acquire), FLAG.load(Ordering::Acquire));
-    println!("{} {} {:?} {} {:?} {}", count, flag, failed, before, other, Arc::strong_count(&shared));
+    println!(
+        "{} {} {:?} {} {:?} {}",
+        count,
+        flag,
+        failed,
+        before,
+        other,
+        Arc::strong_count(&shared)
+    );
     4
 }

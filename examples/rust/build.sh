@@ -30,15 +30,17 @@ if [[ ! -f $library ]]; then
 fi
 
 mkdir -p "$out"
-flags=(--edition 2021 --target aarch64-unknown-none-softfloat -C opt-level=2 -C panic=abort -C passes=loweratomic
-    -C relocation-model=static -C force-frame-pointers=yes -L "$out")
+flags=(--edition 2021 --target aarch64-unknown-none-softfloat -C opt-level=2 -C panic=abort
+    -C passes=loweratomic -C relocation-model=static -C force-frame-pointers=yes -L "$out")
+
+# Builds a crate: its name, and what rustc takes.
 crate() { "$rustc" --crate-type rlib --crate-name "$1" "${flags[@]}" --out-dir "$out" "${@:2}"; }
 
 # What the compiler calls by itself comes at the link, so its crate of that has nothing.
 if [[ ! -f $out/liballoc.rlib ]]; then
     echo "build.sh: building core and alloc, one minute"
     kept=(--cap-lints allow -Z force-unstable-if-unmarked)
-    printf '%s\n' '#![feature(compiler_builtins)]' '#![compiler_builtins]' '#![no_std]' > "$out/nothing.rs"
+    printf '#![%s]\n' 'feature(compiler_builtins)' compiler_builtins no_std > "$out/nothing.rs"
     crate core "${kept[@]}" "$source/core/src/lib.rs"
     crate compiler_builtins "${kept[@]}" "$out/nothing.rs"
     crate alloc "${kept[@]}" "$source/alloc/src/lib.rs"
@@ -46,8 +48,9 @@ fi
 cd "$here"
 crate tenant -C debuginfo=2 tenant.rs
 for program in "$@"; do
-    "$rustc" --crate-type bin "${flags[@]}" -C debuginfo=2 -C linker=ld.lld -C linker-flavor=ld.lld \
-        -C link-args="--gc-sections -z norelro $library" --extern tenant="$out/libtenant.rlib" \
-        -o "$out/$(basename "$program" .rs).elf" "$program"
-    "$here/../libc/words.py" "$out/$(basename "$program" .rs).elf"
+    image=$out/$(basename "$program" .rs).elf
+    "$rustc" --crate-type bin "${flags[@]}" -C debuginfo=2 -C linker=ld.lld \
+        -C linker-flavor=ld.lld -C link-args="--gc-sections -z norelro $library" \
+        --extern tenant="$out/libtenant.rlib" -o "$image" "$program"
+    "$here/../libc/words.py" "$image"
 done

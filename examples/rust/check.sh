@@ -22,7 +22,8 @@ for name in "${programs[@]}"; do
     values "$name" input > "$work/input"
     values "$name" output > "$work/wanted"
     status=0
-    "$alone" --input "$work/input" "$here/out/$name.elf" > "$work/output" 2> "$work/story" || status=$?
+    "$alone" --input "$work/input" "$here/out/$name.elf" \
+        > "$work/output" 2> "$work/story" || status=$?
     wanted=$(values "$name" ends)
     cause=$(values "$name" cause)
     if [[ $status -eq ${wanted:-0} && $(cat "$work/story") == *"$cause"* ]] &&

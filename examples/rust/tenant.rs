@@ -1,7 +1,9 @@
-//! What a tenant in Rust stands on: the services of the host, a global allocator over its heap, start, output, panics.
+//! What a tenant in Rust stands on: the services of the host, a global allocator over its heap,
+//! start, output and panics.
 //!
-//! The target is `aarch64-unknown-none-softfloat`. A program says `tenant::start!(main)`, where `main` returns the exit
-//! status. There is one thread, so the compiler is asked to make plain accesses of atomic ones (build.sh).
+//! The target is `aarch64-unknown-none-softfloat`. A program says `tenant::start!(main)`, where
+//! `main` returns the exit status. There is one thread, so the compiler is asked to make plain
+//! accesses of atomic ones (build.sh).
 #![no_std]
 #![feature(alloc_error_handler)]
 
@@ -21,7 +23,13 @@ const GRANULE: usize = 16;
 fn call(number: usize, first: usize, second: usize) -> usize {
     let result;
     unsafe {
-        asm!("svc #0", inlateout("x0") first => result, in("x1") second, in("x8") number, options(nostack));
+        asm!(
+            "svc #0",
+            inlateout("x0") first => result,
+            in("x1") second,
+            in("x8") number,
+            options(nostack)
+        );
     }
     result
 }
@@ -56,7 +64,8 @@ pub fn read_all() -> Vec<u8> {
     }
 }
 
-/// The heap of the host: services 3 to 7. A pointer has its chunk's tag in bits 59 to 56, which Rust carries along.
+/// The heap of the host: services 3 to 7. A pointer has its chunk's tag in bits 59 to 56, which
+/// Rust carries along.
 struct Heap;
 
 unsafe impl GlobalAlloc for Heap {

@@ -1,5 +1,4 @@
-//! A reference that `unsafe` code keeps over the life of its vector: the push moved the numbers, and the old chunk has
-//! another tag.
+//! A pointer that `unsafe` code keeps while its vector moves: the old chunk has another tag then.
 //! ends: 129
 //! cause: Use After Free, 8 bytes into a 32-byte allocation
 #![no_std]

@@ -1,6 +1,6 @@
-/* <stdarg.h> of a tenant. Without registers of floating point a variadic `double` is passed in the next general
-   register or on the stack, as an integer of its size; clang 14 still looks for it in a floating-point register
-   (of AAPCS64's two save areas it takes the wrong one), so va_arg asks for the integer. */
+/* <stdarg.h> of a tenant. Without registers of floating point a variadic `double` is passed in the
+   next general register or on the stack, as an integer of its size; clang 14 still looks for it in
+   the save area of the other registers (AAPCS64), so va_arg asks for the integer. */
 #ifndef _STDARG_H
 #define _STDARG_H
 
@@ -25,7 +25,10 @@ template <> struct __tenant_argument<double> {
     }
 };
 template <> struct __tenant_argument<long double> {
-    static long double next(__builtin_va_list &list) { return __tenant_argument<double>::next(list); }
+    static long double next(__builtin_va_list &list)
+    {
+        return __tenant_argument<double>::next(list);
+    }
 };
 }
 #define va_arg(list, type) (__tenant_argument<type>::next(list))

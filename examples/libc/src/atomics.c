@@ -1,4 +1,5 @@
-/* The functions that compilers call for atomic operations (-moutline-atomics): there is one thread, so plain ones. */
+/* What compilers call for atomic operations (-moutline-atomics): there is one thread, so plain
+   accesses. */
 #include <stdint.h>
 
 typedef unsigned __int128 uint128_t;

@@ -1,4 +1,5 @@
-/* C++'s new and delete, and the guards of its local static objects, by their names in the Itanium ABI. */
+/* C++'s new and delete, and the guards of its local static objects, by their names in the Itanium
+   C++ ABI. */
 #include <stddef.h>
 #include <stdint.h>
 #include <stdlib.h>

@@ -58,7 +58,22 @@ size_t malloc_usable_size(void *chunk)
 }
 
 /* The names by which musl calls its own. */
-void *__libc_malloc(size_t size) __attribute__((alias("malloc")));
-void *__libc_calloc(size_t count, size_t size) __attribute__((alias("calloc")));
-void *__libc_realloc(void *chunk, size_t size) __attribute__((alias("realloc")));
-void __libc_free(void *chunk) __attribute__((alias("free")));
+void *__libc_malloc(size_t size)
+{
+    return malloc(size);
+}
+
+void *__libc_calloc(size_t count, size_t size)
+{
+    return calloc(count, size);
+}
+
+void *__libc_realloc(void *chunk, size_t size)
+{
+    return realloc(chunk, size);
+}
+
+void __libc_free(void *chunk)
+{
+    free(chunk);
+}

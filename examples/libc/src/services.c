@@ -1,5 +1,6 @@
-/* What musl asks its system for, by the services of the host. Standard input is the tenant's input; standard output
-   and standard error are both its output. There is no other file, one process and thread, and no clock: time is 0. */
+/* What musl asks its system for, by the services of the host. Standard input is the tenant's input;
+   standard output and standard error are both its output. There is no other file, one process and
+   thread, and no clock: time is 0. */
 #include <errno.h>
 #include <signal.h>
 #include <sys/uio.h>
@@ -55,7 +56,7 @@ static long tell_time(struct timespec *time)
     return 0;
 }
 
-/* A signal that a tenant sends itself ends it, with the signal's number as that of a breakpoint where it is known. */
+/* A signal that a tenant sends itself ends it by a breakpoint. */
 static long raise_signal(long number)
 {
     if (number == SIGABRT)
@@ -110,8 +111,8 @@ long __tenant_system(long number, long a, long b, long c)
     }
 }
 
-/* What musl has in assembler for another thread or process, which a tenant never gets, and for the return from a signal,
-   which none of it ever receives. */
+/* What musl has in assembler for another thread or process, which a tenant never gets, and for the
+   return from a signal, which it never receives. */
 int __clone(int (*body)(void *), void *stack, int flags, void *argument, ...)
 {
     (void)body, (void)stack, (void)flags, (void)argument;

@@ -1,6 +1,7 @@
-/* Where a tenant begins: the one thread of the C library, constructors, main. A tenant linked with the symbol
-   tenant_stack_size (tenant-cc --stack) gets a chunk of so many bytes as its stack, and one with tenant_arguments
-   (tenant-cc --arguments) these words as argv; else argv has the one word `tenant`. */
+/* Where a tenant begins: the one thread of the C library, constructors, main. A tenant linked with
+   the symbol tenant_stack_size (tenant-cc --stack) gets a chunk of so many bytes as its stack, and
+   one with tenant_arguments (tenant-cc --arguments) these words as argv; else argv has the one word
+   `tenant`. */
 #include <stdlib.h>
 #include "libc.h"
 #include "pthread_impl.h"

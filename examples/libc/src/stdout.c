@@ -1,4 +1,5 @@
-/* Standard output is written a line at a time, so that a tenant's lines are there where a later one faults. */
+/* Standard output is written a line at a time, so that a tenant's lines are there where it faults
+   later. */
 #include "stdio_impl.h"
 
 size_t __stdout_write(FILE *file, const unsigned char *bytes, size_t count)

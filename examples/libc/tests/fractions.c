@@ -1,4 +1,4 @@
-/* Numbers with a fraction, for clang: arithmetic, conversions, variadic arguments, text and the functions of math.h. */
+/* Numbers with a fraction, for clang: arithmetic, conversions, variadic arguments, text, math.h. */
 #include <math.h>
 #include <stdarg.h>
 #include <stdio.h>
@@ -28,13 +28,14 @@ int main(void)
     double value;
     int whole;
     printf("%.17g %.17g %d\n", point.x, point.y, (int)(point.x * 1000));
-    printf("%g %g %d %g\n", mean(3, 1.0, 2.0, 4.5), mean(9, 1., 2., 3., 4., 5., 6., 7., 8., 9.), 12, 1e100);
+    printf("%g %g\n", mean(3, 1.0, 2.0, 4.5), mean(9, 1., 2., 3., 4., 5., 6., 7., 8., 9.));
     printf("%.10f %.12g %e %a\n", sqrt(2.0), sin(1.0), exp(-20.5), 0.1);
     printf("%.15g %.15g %.3f\n", pow(1.0001, 10000), log(3), fmod(-7.5, 2));
     if (sscanf("6.02214e23 -0.5e-3 17", "%lf %lg %d", &value, &point.x, &whole) == 3)
         printf("%g %g %d %.20g\n", value, point.x, whole, strtod("0.3", NULL));
     printf("%d %d %d\n", !!isnan(NAN), !!isinf(-1.0 / 0.0), 0.1 + 0.2 == 0.3);
-    printf("%lld %llu %g %.9g\n", llround(2.5e15), (unsigned long long)1.8e19, (double)-3LL, (double)(1.0f / 3));
+    printf("%lld %llu\n", llround(2.5e15), (unsigned long long)1.8e19);
+    printf("%d %g %g %.9g\n", 12, 1e100, (double)-3LL, (double)(1.0f / 3));
     printf("%g %g %g %ld\n", floor(-2.5), ceil(2.1), fabs(-0.0), lrint(3.5));
     return 0;
 }

@@ -1,4 +1,4 @@
-// C++ without exceptions: new and delete, virtual calls, static objects with constructors and destructors.
+// C++ without exceptions: new and delete, virtual calls, constructors of static objects.
 #include <stdio.h>
 #include <stdlib.h>
 

@@ -1,5 +1,6 @@
 /* What compilers ask of a library, or emit beyond the host's table of instructions. */
 #include <errno.h>
+#include <limits.h>
 #include <setjmp.h>
 #include <stdarg.h>
 #include <stdatomic.h>
@@ -52,9 +53,10 @@ static void atomics(void)
 
 static void wide_numbers(char **words)
 {
-    unsigned __int128 number = (unsigned __int128)strtoull(words[0] ? "18446744073709551557" : "1", NULL, 10) << 60;
-    number += own;
-    unsigned long long high = (unsigned long long)(number / 1000000007), low = (unsigned long long)(number % 1000000007);
+    const char *text = words[0] ? "18446744073709551557" : "1";
+    unsigned __int128 number = ((unsigned __int128)strtoull(text, NULL, 10) << 60) + own;
+    unsigned long long high = (unsigned long long)(number / 1000000007);
+    unsigned long long low = (unsigned long long)(number % 1000000007);
     printf("%llu %llu %d %d\n", high, low, __builtin_popcountll(high), __builtin_clzll(low));
 }
 
@@ -69,10 +71,10 @@ static void jumps(void)
 
 static void heap(void)
 {
+    void *volatile none = malloc((size_t)1 << 60);
     errno = 0;
-    volatile size_t terabyte = (size_t)1 << 40;
-    void *volatile none = malloc(terabyte);
-    printf("%d %d\n", none == NULL, errno == ENOMEM);
+    printf("%d", none == NULL && strtol("99999999999999999999", NULL, 10) == LONG_MAX);
+    printf(" %d\n", errno == ERANGE);
     char *chunk = aligned_alloc(256, 512);
     printf("%d\n", (int)((uintptr_t)chunk % 256));
     strcpy(chunk, "a chunk");
@@ -94,7 +96,7 @@ int main(int argc, char **argv)
     jumps();
     heap();
     snprintf(name, sizeof name, "%-6s|%05d|%#x|%c", "ab", -42, 255, 'z');
-    printf("%s %d %s\n", name, memcmp(&first, &second, sizeof first), getenv("HOME") ? "" : "");
+    printf("%s %d\n", name, memcmp(&first, &second, sizeof first));
     printf("%ld %d\n", strtol("-0x7f", NULL, 16), fflush(stdout));
     return 7;
 }

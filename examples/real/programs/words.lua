@@ -1,8 +1,10 @@
--- Splits a text into words, counts them, encodes the counts as JSON and reads that back; then permutations by a coroutine.
+-- Splits a text into words, counts them, encodes the counts as JSON and reads that back; then
+-- permutations by a coroutine, and garbage.
 local text = [[
-A tenant is a program. A host runs the programs of several tenants, each for a slice of steps, on one machine whose
-memory has tags. A pointer has a tag; a granule of the memory has one too; a load whose pointer has another tag than the
-memory faults. Where a chunk is freed it is given another tag, and so the next load through an old pointer faults.
+A tenant is a program. A host runs the programs of several tenants, each for a slice of steps, on
+one machine whose memory has tags. A pointer has a tag; a granule of the memory has one too; a load
+whose pointer has another tag than the memory faults. Where a chunk is freed it is given another
+tag, and so the next load through an old pointer faults.
 ]]
 
 local counts, order = {}, {}
@@ -14,7 +16,10 @@ table.sort(order, function(a, b)
   if counts[a] ~= counts[b] then return counts[a] > counts[b] end
   return a < b
 end)
-for i = 1, 8 do print(("%-8s %3d %5.1f%%"):format(order[i], counts[order[i]], 100 * counts[order[i]] / #order)) end
+for i = 1, 8 do
+  local count = counts[order[i]]
+  print(("%-8s %3d %5.1f%%"):format(order[i], count, 100 * count / #order))
+end
 
 local function encode(value)
   if type(value) == "table" then
@@ -73,7 +78,8 @@ local function permutations(items, count)
   end
 end
 local seen = 0
-for items in coroutine.wrap(function() permutations({ "a", "b", "c", "d", "e", "f", "g" }, 7) end) do
+local letters = { "a", "b", "c", "d", "e", "f", "g" }
+for items in coroutine.wrap(function() permutations(letters, #letters) end) do
   seen = seen + 1
   if seen % 1000 == 0 then io.write(table.concat(items), " ") end
 end
@@ -83,7 +89,10 @@ print(seen)
 local kept, sum = {}, 0
 for i = 1, 20000 do
   kept[i % 500 + 1] = { name = "item " .. i, share = i / 7 }
-  if i > 500 and i % 100 == 0 then sum = sum + #kept[i % 500 + 1].name + kept[(i * 7) % 500 + 1].share end
+  if i > 500 and i % 100 == 0 then
+    sum = sum + #kept[i % 500 + 1].name + kept[(i * 7) % 500 + 1].share
+  end
 end
 print(("%.6f %d %s"):format(sum, collectgarbage("count") > 0 and 1 or 0, math.maxinteger // 3))
-print(pcall(error, { 1 }) == false, select("#", table.unpack({}, 1, 20)), string.rep("-", 20), 2 ^ 0.5, 10 // 0.3)
+print(pcall(error, { 1 }) == false, select("#", table.unpack({}, 1, 20)))
+print(string.rep("-", 20), 2 ^ 0.5, 10 // 0.3)
