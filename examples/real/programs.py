@@ -10,12 +10,14 @@ alone, as twenty tenants of one session, as a program of AArch64 Linux under qem
 one of this machine, whose output is what each other has to write. Then each is built once more with
 a bug of memory, and what ALONE says of that is noted.
 
-HOST is crates/mte_host/out/mte_host and ALONE crates/mte_run/out/mte_run. FOLDER keeps the sources
-and what is built (a temporary folder). FILE gets the table, in Markdown, with TEXT at its end. It
+HOST is crates/mte_host/out/mte_host and ALONE crates/mte_run/out/mte_run. FOLDER keeps the sources,
+what is built and what was measured (a temporary folder). FILE gets the table, in Markdown, with
+TEXT at its end; with --only NAME its other rows are those that FOLDER has of earlier calls. All
 takes eight minutes, most of it to compile SQLite four times. Needed (Debian): clang, lld, llvm, cc,
 aarch64-linux-gnu-gcc, qemu-user, tclsh, make, apt, and the network the first time.
 """
 import argparse
+import json
 import pathlib
 import re
 import resource
@@ -216,7 +218,7 @@ def explain_bug(alone, built):
 
 
 def measure(program, source, options, work):
-    """The rows of a program in the two tables."""
+    """Measures a program, and keeps its rows of the two tables."""
     built = Built(program, source, work)
     words = program.arguments.split()
     wanted, native = timed([built.other("native", ["cc"]), *words], built.input)
@@ -236,16 +238,32 @@ def measure(program, source, options, work):
     does = f"{program.does}, {built.input.stat().st_size:,} bytes | {len(wanted):,}"
     told = explain_bug(options.alone, built)
     print(f"{program.name}: {told}", flush=True)
-    return (
-        f"| {program.title} | {does} | {', '.join(program.compilers)} | {rows[0]} |",
+    compilers = ", ".join(program.compilers)
+    kept = [
+        f"| {program.title} | {does} | {compilers} | {rows[0]} |",
         f"| {program.title} | {program.bug.title} | {told} |",
-    )
+    ]
+    rows_of(program, work).write_text(json.dumps(kept))
+
+
+def rows_of(program, work):
+    """The file that keeps the rows of a program."""
+    return work / program.name / "rows"
 
 
 def version_of(folder, package):
     """The version of a package whose source was fetched."""
     found = sorted(folder.glob(f"{package}_*.dsc"))
     return f"{package} {found[0].stem.split('_')[1]}" if found else package
+
+
+def page(work, note):
+    """The page of the programs that were measured in a folder."""
+    measured = [program for program in PROGRAMS if rows_of(program, work).exists()]
+    kept = [json.loads(rows_of(program, work).read_text()) for program in measured]
+    rows, bugs = ("\n".join(part) for part in zip(*kept))
+    versions = ", ".join(version_of(work / "sources", program.package) for program in measured)
+    return PAGE.format(rows=rows, bugs=bugs, versions=versions, note=f" {note}" if note else "")
 
 
 def prepare(sources):
@@ -289,13 +307,10 @@ def main():
         except debian_source.NotFetched as error:
             leave(error)
         prepare(sources)
-        found = [measure(program, sources[program.package], options, work) for program in chosen]
+        for program in chosen:
+            measure(program, sources[program.package], options, work)
         if options.table:
-            rows, bugs = ("\n".join(part) for part in zip(*found))
-            versions = ", ".join(version_of(folder, package) for package in packages)
-            note = f" {options.note}" if options.note else ""
-            text = PAGE.format(rows=rows, bugs=bugs, versions=versions, note=note)
-            options.table.write_text(text)
+            options.table.write_text(page(work, options.note))
 
 
 if __name__ == "__main__":
