@@ -159,12 +159,12 @@ DUKTAPE = Program(
     ),
 )
 SQLITE = Program(
-    name="sqlite", package="sqlite3", title="SQLite (shell)",
+    name="sqlite", package="sqlite3", title="SQLite (shell, -O0)",
     does="runs `programs/runs.sql` over tables in memory",
     files=["{source}/sqlite3.c", "{source}/shell.c", "{here}/programs/sqlite_home.c"],
     flags=["-DSQLITE_THREADSAFE=0", "-DSQLITE_OMIT_LOAD_EXTENSION", "-DSQLITE_OMIT_WAL",
            "-DSQLITE_MAX_MMAP_SIZE=0", "-DSQLITE_OMIT_LOOKASIDE"],
-    input=own("runs.sql"), arguments=":memory:", stack=262144, level="-O1",
+    input=own("runs.sql"), arguments=":memory:", stack=262144, level="-O0",
     bug=Bug(
         title="planted: where the program of a statement moves, the pointer to it does not",
         file="sqlite3.c",

@@ -65,12 +65,10 @@ static long raise_signal(long number)
     return 0;
 }
 
-long __tenant_system(long number, long a, long b, long c)
+/* The calls about files, or -ENOSYS. */
+static long call_of_file(long number, long a, long b, long c)
 {
     switch (number) {
-    case SYS_exit:
-    case SYS_exit_group:
-        tenant_exit((int)a);
     case SYS_write:
         return write_all(a, (const void *)b, (size_t)c);
     case SYS_read:
@@ -91,6 +89,17 @@ long __tenant_system(long number, long a, long b, long c)
     case SYS_readlinkat:
     case SYS_unlinkat:
         return -ENOENT;
+    default:
+        return -ENOSYS;
+    }
+}
+
+long __tenant_system(long number, long a, long b, long c)
+{
+    switch (number) {
+    case SYS_exit:
+    case SYS_exit_group:
+        tenant_exit((int)a);
     case SYS_clock_gettime:
         return tell_time((struct timespec *)b);
     case SYS_getpid:
@@ -102,12 +111,11 @@ long __tenant_system(long number, long a, long b, long c)
     case SYS_rt_sigaction:
     case SYS_rt_sigprocmask:
         return 0;
+    case SYS_kill:
     case SYS_tkill:
         return raise_signal(b);
-    case SYS_kill:
-        return raise_signal(b);
     default:
-        return -ENOSYS;
+        return call_of_file(number, a, b, c);
     }
 }
 
