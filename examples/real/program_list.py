@@ -44,7 +44,7 @@ class Program:
     main: str = ""
     flags: list = field(default_factory=list)
     arguments: str = ""
-    stack: int = 65536
+    stack: int = 131072
     level: str = "-O2"
     compilers: tuple = ("clang",)
 
