@@ -87,7 +87,7 @@ print(seen)
 
 -- Strings and tables that become garbage, with a table that is kept and changed meanwhile.
 local kept, sum = {}, 0
-for i = 1, 20000 do
+for i = 1, 6000 do
   kept[i % 500 + 1] = { name = "item " .. i, share = i / 7 }
   if i > 500 and i % 100 == 0 then
     sum = sum + #kept[i % 500 + 1].name + kept[(i * 7) % 500 + 1].share
