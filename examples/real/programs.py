@@ -1,7 +1,7 @@
 #!/usr/bin/env python3
 """Runs six programs that others wrote as tenants, and writes a table of what came of it.
 
-    programs.py [--host HOST] [--alone ALONE] [--work FOLDER] [--only NAME] [--table FILE]
+    programs.py [--host HOST] [--alone ALONE] [--work FOLDER] [--only NAME|none] [--table FILE]
                 [--note TEXT]
 
 zlib's minigzip, bzip2, Expat's outline, Lua, Duktape (JavaScript) and SQLite's shell are built from
@@ -12,8 +12,8 @@ a bug of memory, and what ALONE says of that is noted.
 
 HOST is crates/mte_host/out/mte_host and ALONE crates/mte_run/out/mte_run. FOLDER keeps the sources,
 what is built and what was measured (a temporary folder). FILE gets the table, in Markdown, with
-TEXT at its end; with --only NAME its other rows are those that FOLDER has of earlier calls. All
-takes eight minutes, most of it to compile SQLite four times. Needed (Debian): clang, lld, llvm, cc,
+TEXT at its end; with --only its other rows are those that FOLDER has of earlier calls. All takes
+eight minutes, half of it to compile SQLite four times. Needed (Debian): clang, lld, llvm, cc,
 aarch64-linux-gnu-gcc, qemu-user, tclsh, make, apt, and the network the first time.
 """
 import argparse
@@ -281,7 +281,7 @@ def arguments():
     parser.add_argument("--host", type=pathlib.Path, default=crates / "mte_host/out/mte_host")
     parser.add_argument("--alone", type=pathlib.Path, default=crates / "mte_run/out/mte_run")
     parser.add_argument("--work", type=pathlib.Path)
-    parser.add_argument("--only", choices=[program.name for program in PROGRAMS])
+    parser.add_argument("--only", choices=[*(program.name for program in PROGRAMS), "none"])
     parser.add_argument("--table", type=pathlib.Path)
     parser.add_argument("--note", default="")
     options = parser.parse_args()
