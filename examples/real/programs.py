@@ -43,7 +43,7 @@ FAULT = 129
 PAGE = """<!-- Written by examples/real/programs.py. Do not edit. -->
 # Programs that others wrote, as tenants
 
-`examples/real/programs.py` fetches the sources of six programs as Debian has them, builds each \
+`examples/real/programs.py` fetches the sources of programs as Debian has them, builds each \
 unchanged by `examples/libc/tenant-cc`, and runs it. What it writes as a tenant is what the same \
 source writes on this machine, byte for byte, by each compiler that is named, and each of twenty \
 tenants in one session has the lines of one alone (status, steps, output and heap calls). Steps \
@@ -68,9 +68,9 @@ undone, or one that was planted. `mte_run` says:
 |---|---|---|
 {bugs}
 
-SQLite is built without its pool of small objects (`SQLITE_OMIT_LOOKASIDE`): what a program gives \
-out of a chunk of its own has the tag of that chunk, and so no bug between two such objects is \
-found.
+What a program gives out of a chunk of its own has the tag of that chunk, so no bug between two \
+such objects is found. SQLite therefore has to be built without its pool of small objects \
+(`SQLITE_OMIT_LOOKASIDE`).
 
 Sources: {versions}.{note}
 """
