@@ -1,5 +1,5 @@
 CREATE TABLE runs(id INTEGER PRIMARY KEY, tenant TEXT, steps INT, share REAL);
-WITH RECURSIVE n(i) AS (SELECT 1 UNION ALL SELECT i + 1 FROM n WHERE i < 4000)
+WITH RECURSIVE n(i) AS (SELECT 1 UNION ALL SELECT i + 1 FROM n WHERE i < 1500)
 INSERT INTO runs SELECT i, 'tenant ' || (i % 7), (i * 7919) % 1009, i / 3.0 FROM n;
 CREATE INDEX by_tenant ON runs(tenant, steps);
 SELECT tenant, count(*), sum(steps), printf('%.3f', avg(share)) FROM runs
