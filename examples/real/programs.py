@@ -2,7 +2,7 @@
 """Runs six programs that others wrote as tenants, and writes a table of what came of it.
 
     programs.py [--host HOST] [--alone ALONE] [--work FOLDER] [--only NAME|none] [--table FILE]
-                [--note TEXT]
+                [--built] [--note TEXT]
 
 zlib's minigzip, bzip2, Expat's outline, Lua, Duktape (JavaScript) and SQLite's shell are built from
 Debian's sources, unchanged, by ../libc/tenant-cc. Each runs over an input of its kind: as a tenant
@@ -12,9 +12,10 @@ a bug of memory, and what ALONE says of that is noted.
 
 HOST is crates/mte_host/out/mte_host and ALONE crates/mte_run/out/mte_run. FOLDER keeps the sources,
 what is built and what was measured (a temporary folder). FILE gets the table, in Markdown, with
-TEXT at its end; with --only its other rows are those that FOLDER has of earlier calls. All takes
-eight minutes, half of it to compile SQLite four times. Needed (Debian): clang, lld, llvm, cc,
-aarch64-linux-gnu-gcc, qemu-user, tclsh, make, apt, and the network the first time.
+TEXT at its end. With --only its other rows are those that FOLDER has of earlier calls, and with
+--built no image that FOLDER has is built anew. All takes eight minutes, half of it to compile
+SQLite four times. Needed (Debian): clang, lld, llvm, cc, aarch64-linux-gnu-gcc, qemu-user, tclsh,
+make, apt, and the network the first time.
 """
 import argparse
 import json
@@ -109,8 +110,9 @@ def timed(command, data=None, turns=TURNS):
 class Built:
     """The images of one program, in a folder of its own."""
 
-    def __init__(self, program, source, work):
+    def __init__(self, program, source, work, built):
         self.program, self.source, self.folder = program, source, work / program.name
+        self.built = built
         self.folder.mkdir(exist_ok=True)
         self.input = self.folder / "input"
         self.input.write_bytes(program.input(source))
@@ -123,6 +125,8 @@ class Built:
 
     def tenant(self, compiler, name, words, arguments):
         made = self.folder / name
+        if self.built and made.exists():
+            return made
         own = [f"--stack={self.program.stack}", f"--arguments={arguments}"]
         run_tool([TENANT_CC, f"--compiler={compiler}", *own, "-g", "-o", made, *words])
         return made
@@ -134,7 +138,8 @@ class Built:
     def other(self, name, command):
         """The program by a compiler of a system."""
         made = self.folder / name
-        run_tool([*command, "-o", made, *self.words(self.source), "-lm"])
+        if not self.built or not made.exists():
+            run_tool([*command, "-o", made, *self.words(self.source), "-lm"])
         return made
 
     def with_bug(self):
@@ -219,7 +224,7 @@ def explain_bug(alone, built):
 
 def measure(program, source, options, work):
     """Measures a program, and keeps its rows of the two tables."""
-    built = Built(program, source, work)
+    built = Built(program, source, work, options.built)
     words = program.arguments.split()
     wanted, native = timed([built.other("native", ["cc"]), *words], built.input)
     if len(wanted) > ROOM:
@@ -283,6 +288,7 @@ def arguments():
     parser.add_argument("--work", type=pathlib.Path)
     parser.add_argument("--only", choices=[*(program.name for program in PROGRAMS), "none"])
     parser.add_argument("--table", type=pathlib.Path)
+    parser.add_argument("--built", action="store_true")
     parser.add_argument("--note", default="")
     options = parser.parse_args()
     for path in (options.host, options.alone):
