@@ -6,18 +6,23 @@
 # and have a red frame where an address was refused (ends 129 or 131). The comment may also give the
 # tenant its input, its pages (frames, 8) and how many slices of 1048576 steps it gets (1).
 #     check.sh [HOST [ALONE]]
+# With the variable TENANT_CC (../libc/tenant-cc) that program builds them, over its C library.
 set -euo pipefail
 here=$(cd "$(dirname "$0")" && pwd)
 program=${1:-$here/../../crates/mte_host/out/mte_host}
 alone=${2:-$here/../../crates/mte_run/out/mte_run}
 work=$(mktemp -d)
 trap 'rm -rf "$work"' EXIT
-flags=(-ffreestanding -nostdlib -static -mgeneral-regs-only -Wall -Wextra)
+flags=(-ffreestanding -nostdlib -static -mgeneral-regs-only -Wall -Wextra "$here/start.c")
+clang="clang --target=aarch64-linux-gnu -fuse-ld=lld" gcc=aarch64-linux-gnu-gcc
+if [[ -n ${TENANT_CC:-} ]]; then
+    flags=(-Wall -Wextra)
+    clang="$TENANT_CC --compiler=clang" gcc="$TENANT_CC --compiler=gcc"
+fi
 
 compilers=()
-command -v clang > /dev/null && command -v ld.lld > /dev/null &&
-    compilers+=("clang --target=aarch64-linux-gnu -fuse-ld=lld")
-command -v aarch64-linux-gnu-gcc > /dev/null && compilers+=("aarch64-linux-gnu-gcc")
+command -v clang > /dev/null && command -v ld.lld > /dev/null && compilers+=("$clang")
+command -v aarch64-linux-gnu-gcc > /dev/null && compilers+=("$gcc")
 if [[ ${#compilers[@]} -eq 0 ]]; then
     echo "check.sh: no cross compiler: install clang and lld, or gcc-aarch64-linux-gnu" >&2
     exit 2
@@ -72,7 +77,7 @@ for compiler in "${compilers[@]}"; do
         for source in "$here"/*.c; do
             [[ $(basename "$source") == start.c ]] && continue
             # shellcheck disable=SC2086
-            $compiler "$level" "${flags[@]}" -o "$work/image" "$here/start.c" "$source"
+            $compiler "$level" "${flags[@]}" -o "$work/image" "$source"
             run "$source" "$work/image"
             good=1
             while read -r line; do
@@ -89,7 +94,7 @@ for compiler in "${compilers[@]}"; do
                 passed=$((passed + 1))
             else
                 failed=$((failed + 1))
-                echo "$(basename "$source") by ${compiler%% *} $level:" >&2
+                echo "$(basename "$source") by ${compiler##*/} $level:" >&2
                 cat "$work/report" "$work/story" >&2
             fi
         done

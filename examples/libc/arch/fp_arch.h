@@ -1,0 +1,1 @@
+/* No register of floating point: musl's own plain C holds values back. */

@@ -1,0 +1,67 @@
+/* Where a tenant begins: the one thread of the C library, constructors, main. A tenant linked with
+   the symbol tenant_stack_size (tenant-cc --stack) gets a chunk of so many bytes as its stack, and
+   one with tenant_arguments (tenant-cc --arguments) these words as argv; else argv has the one word
+   `tenant`. */
+#include <stdlib.h>
+#include "libc.h"
+#include "pthread_impl.h"
+
+enum { PAGE = 4096 };
+
+struct pthread __tenant_thread;
+
+extern weak hidden void (*const __init_array_start[])(void), (*const __init_array_end[])(void);
+extern char **__environ;
+extern weak char *tenant_arguments[];
+
+int main(int, char **, char **);
+
+/* SP is the end of the host's stack here. Without a chunk the tenant ends by its breakpoint 3. */
+__asm__(
+    ".weak tenant_stack_size\n"
+    ".text\n"
+    ".globl _start\n"
+    ".type _start, %function\n"
+    "_start:\n"
+    "mov x29, #0\n"
+    "mov x30, #0\n"
+    "movz x1, #:abs_g1:tenant_stack_size\n"
+    "movk x1, #:abs_g0_nc:tenant_stack_size\n"
+    "cbz x1, 1f\n"
+    "mov x0, x1\n"
+    "mov x8, #3\n"
+    "svc #0\n"
+    "cbz x0, 2f\n"
+    "add x0, x0, x1\n"
+    "mov sp, x0\n"
+    "1:\n"
+    "bl __tenant_begin\n"
+    "2:\n"
+    "brk #3\n"
+    ".size _start, . - _start\n");
+
+static void start_thread(void)
+{
+    __tenant_thread.self = __tenant_thread.next = __tenant_thread.prev = &__tenant_thread;
+    __tenant_thread.tid = 1;
+    __tenant_thread.detach_state = DT_JOINABLE;
+    __tenant_thread.locale = &libc.global_locale;
+    __tenant_thread.robust_list.head = &__tenant_thread.robust_list.head;
+    libc.page_size = PAGE;
+}
+
+hidden _Noreturn void __tenant_begin(void)
+{
+    static char name[] = "tenant";
+    static char *alone[] = {name, 0};
+    char **words = tenant_arguments ? tenant_arguments : alone;
+    int count = 0;
+    while (words[count])
+        count++;
+    start_thread();
+    __environ = words + count;
+    __progname = __progname_full = words[0];
+    for (void (*const *at)(void) = __init_array_start; at < __init_array_end; at++)
+        (*at)();
+    exit(main(count, words, words + count));
+}
