@@ -12,7 +12,7 @@ program=${1:-$here/../../crates/mte_host/out/mte_host}
 alone=${2:-$here/../../crates/mte_run/out/mte_run}
 work=$(mktemp -d)
 trap 'rm -rf "$work"' EXIT
-flags=(-ffreestanding -nostdlib -static -mgeneral-regs-only -Wall -Wextra)
+flags=(-g -ffreestanding -nostdlib -static -mgeneral-regs-only -Wall -Wextra)
 
 compilers=()
 command -v clang > /dev/null && command -v ld.lld > /dev/null &&

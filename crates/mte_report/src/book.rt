@@ -1,11 +1,14 @@
 //! The book of a tenant's heap calls.
 
+ghost use Rattle.std.specs.Prelude.{◌≡◌};
+
 use crate::extent::Extent;
 use a64_bits::plain;
 use circular_buffer::HeapCircularBuffer;
+use mte_backtrace::Callers;
 use mte_sched::TenantParts;
 use mte_svc::{HeapCall, HeapService};
-use mte_tags::tag_of;
+use mte_tags::{Tagged, tag_of};
 use std::alloc::{AllocError, Global};
 use std::collections::BTreeMap;
 
@@ -23,6 +26,8 @@ pub struct Entry {
     pub pc: u64,
     /// The call.
     pub call: HeapCall,
+    /// The calls that led to it.
+    pub callers: Callers,
 }
 
 /// A chunk that a heap call returned.
@@ -162,8 +167,12 @@ impl Book {
         Ok(Book { entries, seen: 0 })
     }
 
-    /// Enters the heap call that the last step made, if it made one.
-    pub fn note(&mut self, parts: &TenantParts) {
+    /// Enters the heap call that the last step made, if it made one, with at most eight return
+    /// addresses, which are read from the tenant's memory.
+    pub fn note<M: Tagged>(&mut self, parts: &TenantParts, memory: &mut M)
+        ensures memory { M.memory memory.new ≡ M.memory memory.old }
+        ensures kept { M.kept memory.old memory.new }
+    {
         let calls = &parts.account.calls;
         if calls.count() == self.seen {
             return;
@@ -175,6 +184,7 @@ impl Book {
                 step: parts.account.steps,
                 pc: parts.regs.pc.wrapping_sub(4),
                 call,
+                callers: Callers::of(memory, &parts.regs),
             });
         }
     }

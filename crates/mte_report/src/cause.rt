@@ -1,6 +1,6 @@
 //! What most likely went wrong, in the manner of the reports of Android's memory tagging.
 
-use crate::book::{Book, Chunk, Wanted};
+use crate::book::{Book, Chunk, Entry, Wanted};
 use crate::words::Bytes;
 use a64_bits::plain;
 use address_map::{IMAGE_START, STACK_START};
@@ -145,6 +145,17 @@ impl Cause {
         }
     }
 
+    /// The calls that made and freed the chunks that it names, in the order in which they are told.
+    pub fn calls(&self) -> [Option<&Entry>; 4] {
+        let (chunk, young) = (self.chunk(), self.young());
+        [
+            made_of(chunk),
+            freed_of(chunk),
+            made_of(young),
+            freed_of(young),
+        ]
+    }
+
     /// What it is called.
     fn name(&self) -> &'static str {
         match self {
@@ -192,6 +203,16 @@ impl Cause {
             _ => " of a ",
         }
     }
+}
+
+/// The call that made a chunk.
+fn made_of(chunk: Option<&Chunk>) -> Option<&Entry> {
+    Some(&chunk?.made)
+}
+
+/// The call that freed a chunk.
+fn freed_of(chunk: Option<&Chunk>) -> Option<&Entry> {
+    chunk?.freed.as_ref()
 }
 
 impl fmt::Display for Cause {

@@ -11,6 +11,7 @@ mod owner;
 mod pages;
 mod report;
 mod selection;
+mod stacks;
 mod stored;
 mod stores;
 mod words;

@@ -1,16 +1,17 @@
 //! What happened to a tenant that did not exit, in words.
 
-use crate::book::{Book, Chunk, Entry, Wanted};
+use crate::book::{Book, Wanted};
 use crate::cause::Cause;
 use crate::moment::{Line, Moment, Nzcv};
 use crate::owner::{Owner, Range};
 use crate::pages::{Pages, attrs_at, page_map};
-use crate::words::{Call, Instruction, abort_words, fault_words};
+use crate::words::{Instruction, abort_words, fault_words};
 use a64_bits::plain;
 use a64_step::Regs;
 use address_map::GRANULE_SIZE;
 use circular_buffer::HeapCircularBuffer;
-use elf_symbols::{Place, Symbols};
+use elf_symbols::Place;
+use mte_backtrace::Names;
 use mte_flat::Flat;
 use mte_sched::{Status, TenantParts};
 use mte_tags::{FaultKind, MemFault, Tagged};
@@ -33,27 +34,37 @@ pub struct Report<'a> {
     pub last: Option<&'a HeapCircularBuffer<Moment>>,
     /// The steps that it could have.
     pub limit: u64,
-    /// The names of its image's addresses.
-    pub symbols: Symbols<'a>,
+    /// What the addresses of its image are called.
+    pub names: Names<'a>,
+    /// The name of its image's file.
+    pub image: &'a str,
 }
 
 impl<'a> Report<'a> {
     /// Writes what happened, the cause first.
     pub fn write<W: Write>(&self, alloc: Global, out: &mut W, memory: &mut Flat) -> io::Result<()> {
-        self.write_end(out)?;
+        write!(out, "mte_run: ")?;
+        tell_status(out, self)?;
+        let cause = self.cause();
+        self.tell_calls(alloc, out, cause.as_ref(), memory)?;
         tell_place(out, self, memory)?;
         self.write_machine(alloc, out, memory)?;
+        self.tell_symbolizer(alloc, out, cause.as_ref(), memory)?;
         out.flush()
     }
 
-    /// Writes what ended it, and why.
-    fn write_end<W: Write>(&self, out: &mut W) -> io::Result<()> {
-        write!(out, "mte_run: ")?;
-        tell_status(out, self)?;
-        tell_cause(out, self)
+    /// What most likely went wrong, where a fault or a refused pointer ended it.
+    pub(crate) fn cause(&self) -> Option<Cause> {
+        let status = &self.parts.account.status;
+        match status {
+            Status::Faulted(_, _) | Status::Aborted(_, _, _) => {
+                Some(Cause::of(self.book, status, self.parts.regs.x[8]))
+            }
+            _ => None,
+        }
     }
 
-    /// Writes the registers, the pages and the last instructions.
+    /// Writes the last instructions, the registers and the pages.
     fn write_machine<W: Write>(
         &self,
         alloc: Global,
@@ -62,12 +73,11 @@ impl<'a> Report<'a> {
     ) -> io::Result<()> {
         let regs = &self.parts.regs;
         tell_instruction(out, self.here(), memory)?;
-        tell_registers(out, regs)?;
-        tell_pages(alloc, out, memory)?;
-        match self.last {
-            Some(last) => tell_last(out, last, regs),
-            None => Ok(()),
+        if let Some(last) = self.last {
+            tell_last(out, last, regs)?;
         }
+        tell_registers(out, regs)?;
+        tell_pages(alloc, out, memory)
     }
 
     /// The next instruction's address.
@@ -77,7 +87,7 @@ impl<'a> Report<'a> {
 
     /// An address, at the place of the next instruction.
     fn at(&self, pc: u64) -> At<'a> {
-        let place = self.symbols.place(self.parts.regs.pc);
+        let place = self.names.symbols.place(self.parts.regs.pc);
         At { pc, place }
     }
 }
@@ -186,65 +196,6 @@ fn tell_running<W: Write>(out: &mut W, report: &Report<'_>) -> io::Result<()> {
     }
 }
 
-/// What most likely went wrong, and the calls that made and freed the chunk.
-fn tell_cause<W: Write>(out: &mut W, report: &Report<'_>) -> io::Result<()> {
-    let parts = report.parts;
-    let status = &parts.account.status;
-    if !matches!(status, Status::Faulted(_, _) | Status::Aborted(_, _, _)) {
-        return Ok(());
-    }
-    let cause = Cause::of(report.book, status, parts.regs.x[8]);
-    writeln!(out, "Cause: {cause}")?;
-    tell_chunks(out, &cause, &report.symbols)?;
-    tell_short(out, report.book)
-}
-
-/// That older calls are forgotten, if any are.
-fn tell_short<W: Write>(out: &mut W, book: &Book) -> io::Result<()> {
-    if !book.is_short() {
-        return Ok(());
-    }
-    writeln!(out, "  (older heap calls are no longer kept)")
-}
-
-/// The chunks that a cause names.
-fn tell_chunks<W: Write>(out: &mut W, cause: &Cause, symbols: &Symbols<'_>) -> io::Result<()> {
-    if let Some(chunk) = cause.chunk() {
-        tell_chunk(out, chunk, symbols)?;
-    }
-    match cause.young() {
-        Some(young) => tell_young(out, young, symbols),
-        None => Ok(()),
-    }
-}
-
-/// The chunk that a freed block was given to.
-fn tell_young<W: Write>(out: &mut W, young: &Chunk, symbols: &Symbols<'_>) -> io::Result<()> {
-    writeln!(out, "  its block was given again, as the {young}:")?;
-    tell_chunk(out, young, symbols)
-}
-
-/// The calls that made and freed a chunk.
-fn tell_chunk<W: Write>(out: &mut W, chunk: &Chunk, symbols: &Symbols<'_>) -> io::Result<()> {
-    tell_call(out, "allocated", &chunk.made, symbols)?;
-    match &chunk.freed {
-        Some(entry) => tell_call(out, "freed", entry, symbols),
-        None => Ok(()),
-    }
-}
-
-/// A call, and what it did.
-fn tell_call<W: Write>(
-    out: &mut W,
-    did: &str,
-    entry: &Entry,
-    symbols: &Symbols<'_>,
-) -> io::Result<()> {
-    let place = symbols.place(entry.pc);
-    let call = Call { entry, place };
-    writeln!(out, "  {did} by {call}")
-}
-
 /// Whose granule the address is in that a status names, and the tags around it.
 fn tell_place<W: Write>(out: &mut W, report: &Report<'_>, memory: &mut Flat) -> io::Result<()> {
     let addr = match report.parts.account.status {
@@ -258,7 +209,7 @@ fn tell_place<W: Write>(out: &mut W, report: &Report<'_>, memory: &mut Flat) -> 
         chunk: report.book.newest(&Wanted::InGranules(addr)),
     };
     let place = match Range::of(addr) {
-        Range::Image => report.symbols.place(addr),
+        Range::Image => report.names.symbols.place(addr),
         _ => Place::unnamed(addr),
     };
     writeln!(out, "{owner}{place}")?;
@@ -310,11 +261,16 @@ fn tell_instruction<W: Write>(out: &mut W, at: At<'_>, memory: &mut Flat) -> io:
     writeln!(out, "instruction at {at}: {word:08x}  {instruction}")
 }
 
-/// The registers, the flags and the generator.
+/// The registers that are not 0, the flags and the generator.
 fn tell_registers<W: Write>(out: &mut W, regs: &Regs) -> io::Result<()> {
+    write!(out, "registers that are not 0:")?;
+    let mut told = 0u32;
     for (n, value) in regs.x.iter().enumerate() {
-        let end = if n % 4 == 3 { "\n" } else { "" };
-        write!(out, "  x{n:<2} {value:016x}{end}")?;
+        if *value != 0 {
+            let start = if told % 4 == 0 { "\n" } else { "" };
+            write!(out, "{start}  x{n:<2} {value:016x}")?;
+            told = told.saturating_add(1);
+        }
     }
     let Regs { sp, pc, .. } = regs;
     let flags = Nzcv(regs.flags);

@@ -3,7 +3,6 @@
 use crate::book::{Chunk, Entry};
 use a64_decode::decode;
 use a64_text::TextAt;
-use elf_symbols::Place;
 use mte_svc::{HeapCall, HeapService};
 use mte_tags::{Attrs, FaultKind};
 use scudo_heap::HeapAbort;
@@ -28,28 +27,20 @@ impl fmt::Display for Instruction {
     }
 }
 
-/// A heap call: its number, its arguments and result, and where and when it was made.
+/// A heap call: its number, its arguments and result, and when it was made.
 #[derive(Clone, Copy)]
-pub struct Call<'a> {
-    /// The call.
-    pub entry: &'a Entry,
-    /// The address of its SVC.
-    pub place: Place<'a>,
-}
+pub struct Call<'a>(pub &'a Entry);
 
 impl<'a> fmt::Display for Call<'a> {
     fn fmt<W: fmt::Write>(&self, f: &mut fmt::Formatter<W>) -> fmt::Result {
         let Entry {
             number,
             step,
-            pc,
             call,
-        } = self.entry;
-        let (request, answer, place) = (Request(call), call.answer, self.place);
-        write!(
-            f,
-            "call {number}, {request} = {answer:#x} by the SVC at {pc:#x}{place}, step {step}"
-        )
+            ..
+        } = self.0;
+        let (request, answer) = (Request(call), call.answer);
+        write!(f, "call {number}, {request} = {answer:#x}, step {step}")
     }
 }
 

@@ -108,8 +108,8 @@ impl<W: Write + Drop> Watch for Observer<W> {
         });
     }
 
-    fn after<M: Tagged>(&mut self, parts: &TenantParts, _memory: &mut M) {
-        self.book.note(parts);
+    fn after<M: Tagged>(&mut self, parts: &TenantParts, memory: &mut M) {
+        self.book.note(parts, memory);
         if let Some(tracer) = &mut self.tracer {
             if let Some(moment) = self.last.back() {
                 tracer.note(moment, &parts.regs);

@@ -139,6 +139,12 @@ impl Options {
         })
     }
 
+    /// The name of the file with a number from 1.
+    pub fn file_name(&self, number: u32) -> &str {
+        let index = (number as usize).saturating_sub(1);
+        self.files.get(index).map_or("", |name| name.as_str())
+    }
+
     /// The steps after which the tenant is given up.
     pub fn limit(&self) -> u64 {
         match self.replay {

@@ -8,7 +8,7 @@ use crate::observer::{Observer, Tracer};
 use crate::options::{Options, Replay, Traced};
 use crate::replay::{Replayed, file_of, replay_tenant};
 use address_map::MAX_STEPS;
-use elf_symbols::Symbols;
+use mte_backtrace::Names;
 use mte_flat::Flat;
 use mte_program::{StreamSink, StreamSource};
 use mte_report::Report;
@@ -42,10 +42,29 @@ pub fn run_program<'a>(rt: &HostRuntime, options: &'a Options) -> Result<u8, Fai
     let mut observer = Observer::new(rt.alloc(), options.told.last, tracer)?;
     match &options.replay {
         Some(replay) => run_replay(rt, options, replay, files.as_slice(), &mut observer),
-        None => match files.first() {
-            Some(image) => run_alone(rt, options, image.as_slice(), &mut observer),
-            None => Ok(REFUSED),
-        },
+        None => run_alone(
+            rt,
+            options,
+            &image_of(options, files.as_slice(), 1),
+            &mut observer,
+        ),
+    }
+}
+
+/// An image.
+#[derive(Clone, Copy)]
+pub struct Image<'a> {
+    /// The name of its file.
+    pub name: &'a str,
+    /// Its bytes.
+    pub bytes: &'a [u8],
+}
+
+/// The image in the file with a number from 1.
+fn image_of<'a>(options: &'a Options, files: &'a [Vec<u8>], number: u32) -> Image<'a> {
+    Image {
+        name: options.file_name(number),
+        bytes: file_of(files, number),
     }
 }
 
@@ -53,13 +72,13 @@ pub fn run_program<'a>(rt: &HostRuntime, options: &'a Options) -> Result<u8, Fai
 fn run_alone<'a>(
     rt: &HostRuntime,
     options: &'a Options,
-    image: &[u8],
+    image: &Image<'_>,
     observer: &mut Observer<Log>,
 ) -> Result<u8, Failure<'a>> {
     let input = read_input(rt, options)?;
     let admission = Admission {
         id: ID,
-        image,
+        image: image.bytes,
         input: input.as_slice(),
         seed: options.terms.seed,
         pages: options.terms.pages,
@@ -90,7 +109,7 @@ fn run_bench<'a>(
     options: &'a Options,
     bench: Bench,
     observer: &mut Observer<Log>,
-    image: &[u8],
+    image: &Image<'_>,
 ) -> Result<u8, Failure<'a>> {
     let mut bench = bench;
     run_slices(&mut bench, observer, options);
@@ -98,7 +117,7 @@ fn run_bench<'a>(
         &mut StreamSink(rt.stdout()),
         bench.parts.account.output.as_slice(),
     )?;
-    tell_end(rt, bench, observer, options, Symbols::of(image))
+    tell_end(rt, bench, observer, options, image)
 }
 
 /// Runs what a session does to one tenant, and writes its lines of the report.
@@ -112,8 +131,13 @@ fn run_replay<'a>(
     match replayed(rt, replay, files, observer)? {
         Some(Replayed { bench, image }) => {
             write_report(&bench.parts.account, &mut StreamSink(rt.stdout()))?;
-            let symbols = Symbols::of(file_of(files, image));
-            tell_end(rt, bench, observer, options, symbols)
+            tell_end(
+                rt,
+                bench,
+                observer,
+                options,
+                &image_of(options, files, image),
+            )
         }
         None => {
             let _ = eprintln!(rt; "mte_run: the session never admits the tenant");
@@ -151,7 +175,7 @@ fn tell_end<'a>(
     bench: Bench,
     observer: &mut Observer<Log>,
     options: &'a Options,
-    symbols: Symbols<'_>,
+    image: &Image<'_>,
 ) -> Result<u8, Failure<'a>> {
     if !observer.finish() {
         return Err(Failure::Write);
@@ -162,7 +186,8 @@ fn tell_end<'a>(
         book: &observer.book,
         last: observer.last(options.told.last),
         limit: options.limit(),
-        symbols,
+        names: Names::of(image.bytes),
+        image: image.name,
     };
     tell_whole(rt, &report, options, &mut memory)
 }
