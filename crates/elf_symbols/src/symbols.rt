@@ -150,6 +150,20 @@ impl<'a> Place<'a> {
         Place { symbol: None, addr }
     }
 
+    /// The name of the symbol that tells it, if one does.
+    pub fn name(&self) -> Option<&'a str> {
+        let symbol = self.symbol.as_ref()?;
+        Some(symbol.name)
+    }
+
+    /// How far it is from the symbol that tells it; 0 where none does.
+    pub fn offset(&self) -> u64 {
+        match &self.symbol {
+            Some(symbol) => self.addr.saturating_sub(symbol.value),
+            None => 0,
+        }
+    }
+
     /// The same without brackets, and with the address where no symbol tells it.
     pub fn label(&self) -> Label<'a> {
         Label(*self)
@@ -173,8 +187,8 @@ impl<'a> Place<'a> {
 impl<'a> fmt::Display for Place<'a> {
     fn fmt<W: fmt::Write>(&self, f: &mut fmt::Formatter<W>) -> fmt::Result {
         match &self.symbol {
-            Some(Symbol { name, value, .. }) => {
-                let offset = self.addr.saturating_sub(*value);
+            Some(Symbol { name, .. }) => {
+                let offset = self.offset();
                 write!(f, " ({name}+{offset:#x})")
             }
             None => Ok(()),
@@ -188,13 +202,13 @@ pub struct Label<'a>(Place<'a>);
 
 impl<'a> fmt::Display for Label<'a> {
     fn fmt<W: fmt::Write>(&self, f: &mut fmt::Formatter<W>) -> fmt::Result {
-        let Place { symbol, addr } = &self.0;
-        match symbol {
-            Some(Symbol { name, value, .. }) => {
-                let offset = addr.saturating_sub(*value);
+        let place = &self.0;
+        match place.name() {
+            Some(name) => {
+                let offset = place.offset();
                 write!(f, "{name}+{offset:#x}")
             }
-            None => write!(f, "{addr:#x}"),
+            None => write!(f, "{:#x}", place.addr),
         }
     }
 }

@@ -10,7 +10,7 @@ use mte_tags::Tagged;
 const DEPTH: usize = 7;
 
 /// The return addresses of a heap call, at most eight.
-#[derive(Clone, Copy)]
+#[derive(Clone, Copy, PartialEq, Eq)]
 pub struct Callers {
     /// x30, or 0 where it tells no caller that a record does not.
     pub(crate) link: u64,

@@ -3,9 +3,11 @@
 
 mod call_stack;
 mod callers;
+mod json;
 mod names;
 mod walk;
 
 pub use call_stack::CallStack;
 pub use callers::Callers;
+pub use json::Quoted;
 pub use names::{Frame, Names};

@@ -1,5 +1,6 @@
 //! What the addresses of an image are called.
 
+use crate::json::FrameObject;
 use debug_lines::{DebugLines, Origin};
 use elf_symbols::{Label, Symbols};
 use std::fmt;
@@ -40,6 +41,24 @@ impl<'a> Names<'a> {
         Frame {
             label: self.symbols.place_after(return_address, CALL).label(),
             origin: self.lines.origin(call),
+        }
+    }
+
+    /// An instruction, for JSON.
+    pub(crate) fn instruction_object(&self, address: u64) -> FrameObject<'a> {
+        FrameObject {
+            address,
+            place: self.symbols.place(address),
+            line: self.lines.line_of(address),
+        }
+    }
+
+    /// A call by its return address, for JSON.
+    pub(crate) fn call_object(&self, return_address: u64) -> FrameObject<'a> {
+        FrameObject {
+            address: return_address,
+            place: self.symbols.place_after(return_address, CALL),
+            line: self.lines.line_of(return_address.wrapping_sub(CALL)),
         }
     }
 }

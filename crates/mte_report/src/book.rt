@@ -5,9 +5,10 @@ ghost use Rattle.std.specs.Prelude.{◌≡◌};
 use crate::extent::Extent;
 use a64_bits::plain;
 use circular_buffer::HeapCircularBuffer;
+use heap_bounds::{Allocation, Block, freed_by, made_by};
 use mte_backtrace::Callers;
 use mte_sched::TenantParts;
-use mte_svc::{HeapCall, HeapService};
+use mte_svc::HeapCall;
 use mte_tags::{Tagged, tag_of};
 use std::alloc::{AllocError, Global};
 use std::collections::BTreeMap;
@@ -61,6 +62,8 @@ pub enum Wanted {
     InGranules(u64),
     /// One that begins at an address.
     At(u64),
+    /// One in a block that begins at an address.
+    InBlock(u64),
 }
 
 impl Wanted {
@@ -71,6 +74,7 @@ impl Wanted {
             Wanted::Tagged(addr, tag) => chunk.distance(*addr) == 0 && chunk.tag() == *tag,
             Wanted::InGranules(addr) => chunk.start() <= *addr && *addr < chunk.granules_end(),
             Wanted::At(start) => chunk.start() == *start,
+            Wanted::InBlock(start) => chunk.is_in_block(*start),
         }
     }
 }
@@ -78,23 +82,9 @@ impl Wanted {
 impl Entry {
     /// The chunk that the call returned, as it was then.
     fn made(&self) -> Option<Chunk> {
-        let HeapCall {
-            service,
-            first,
-            second,
-            answer,
-        } = self.call;
-        let size = match service {
-            HeapService::Malloc => first,
-            HeapService::Calloc => first.wrapping_mul(second),
-            HeapService::Realloc | HeapService::Memalign => second,
-            HeapService::Free | HeapService::UsableSize => return None,
-        };
-        if answer == 0 {
-            return None;
-        }
+        let Allocation { pointer, size } = made_by(&self.call)?;
         Some(Chunk {
-            pointer: answer,
+            pointer,
             size,
             made: *self,
             freed: None,
@@ -103,17 +93,7 @@ impl Entry {
 
     /// The plain address of the chunk that the call freed, or gave another size.
     fn ended(&self) -> Option<u64> {
-        let HeapCall {
-            service,
-            first,
-            second,
-            answer,
-        } = self.call;
-        match service {
-            HeapService::Free => Some(plain(first)),
-            HeapService::Realloc if answer != 0 || second == 0 => Some(plain(first)),
-            _ => None,
-        }
+        freed_by(&self.call)
     }
 }
 
@@ -142,6 +122,11 @@ impl Chunk {
         }
     }
 
+    /// Whether it lies in the block of a size class that begins at an address.
+    fn is_in_block(&self, start: u64) -> bool {
+        Block::of(self.start()).is_some_and(|block| block.start == start)
+    }
+
     /// The tag of its pointer.
     pub fn tag(&self) -> u8 {
         tag_of(self.pointer)
@@ -168,25 +153,26 @@ impl Book {
     }
 
     /// Enters the heap call that the last step made, if it made one, with at most eight return
-    /// addresses, which are read from the tenant's memory.
-    pub fn note<M: Tagged>(&mut self, parts: &TenantParts, memory: &mut M)
+    /// addresses, which are read from the tenant's memory. Returns that call.
+    pub fn note<M: Tagged>(&mut self, parts: &TenantParts, memory: &mut M) -> Option<HeapCall>
         ensures memory { M.memory memory.new ≡ M.memory memory.old }
         ensures kept { M.kept memory.old memory.new }
     {
         let calls = &parts.account.calls;
         if calls.count() == self.seen {
-            return;
+            return None;
         }
         self.seen = calls.count();
-        if let Some(call) = calls.get(calls.kept().saturating_sub(1)) {
-            self.entries.push_back(Entry {
-                number: self.seen,
-                step: parts.account.steps,
-                pc: parts.regs.pc.wrapping_sub(4),
-                call,
-                callers: Callers::of(memory, &parts.regs),
-            });
-        }
+        let call = calls.get(calls.kept().saturating_sub(1))?;
+        let callers = Callers::of(memory, &parts.regs);
+        self.entries.push_back(Entry {
+            number: self.seen,
+            step: parts.account.steps,
+            pc: parts.regs.pc.wrapping_sub(4),
+            call,
+            callers,
+        });
+        Some(call)
     }
 
     /// Whether calls were made that are no longer kept.
@@ -236,6 +222,20 @@ impl Book {
             .find(|entry| entry.ended() == Some(start))
             .copied();
         Chunk { freed, ..chunk }
+    }
+
+    /// The chunks that are live, by their addresses.
+    pub fn live(&self, alloc: Global) -> Result<Vec<Chunk>, AllocError> {
+        let mut live: BTreeMap<u64, Chunk> = BTreeMap::new(alloc);
+        for entry in self.entries.iter() {
+            if let Some(start) = entry.ended() {
+                live.remove(&start);
+            }
+            if let Some(chunk) = entry.made() {
+                live.insert(chunk.start(), chunk)?;
+            }
+        }
+        live.values().copied().collect(alloc)
     }
 
     /// The granules of each chunk that was made, the oldest first.

@@ -1,13 +1,12 @@
 //! The heap and its tags at the end of a tenant, as a picture.
 
-use crate::cause::Cause;
 use crate::extent::Extent;
-use crate::owner::Range;
 use crate::pages::{Pages, page_map};
 use crate::report::Report;
 use crate::selection::{Place, Window, places, row_at};
 use a64_bits::plain;
 use address_map::PAGE_SIZE;
+use heap_bounds::Range;
 use heap_picture::{END, Heading, Kind, Line, Mark, Marked};
 use mte_flat::Flat;
 use mte_sched::Status;
@@ -47,7 +46,7 @@ impl<'a> Report<'a> {
             title,
             map,
             extents: extents.as_slice(),
-            mark: mark_of(&self.parts.account.status),
+            mark: self.mark(),
         };
         self.draw_scene(alloc, out, memory, &scene)
     }
@@ -193,6 +192,20 @@ fn kind_of(range: Range) -> Option<Kind> {
     }
 }
 
+impl<'a> Report<'a> {
+    /// The access or pointer that is framed.
+    fn mark(&self) -> Option<Mark> {
+        match self.finding {
+            Some(finding) => Some(Mark {
+                marked: Marked::Access,
+                addr: finding.wrong.addr,
+                tag: tag_of(finding.wrong.span.addr),
+            }),
+            None => mark_of(&self.parts.account.status),
+        }
+    }
+}
+
 /// The access or pointer that a status names.
 fn mark_of(status: &Status) -> Option<Mark> {
     match status {
@@ -257,25 +270,27 @@ struct Ending<'a>(&'a Report<'a>);
 
 impl<'a> fmt::Display for Ending<'a> {
     fn fmt<W: fmt::Write>(&self, f: &mut fmt::Formatter<W>) -> fmt::Result {
-        let Report { parts, book, .. } = self.0;
-        match &parts.account.status {
+        let report = self.0;
+        if let Some(cause) = &report.cause() {
+            return report.found(cause).fmt(f);
+        }
+        match &report.parts.account.status {
             Status::Exited(code) => write!(f, "exit {code}"),
-            status => match ending_words(status) {
-                Some(words) => f.write_str(words),
-                None => Cause::of(book, status, parts.regs.x[8]).fmt(f),
-            },
+            status => f.write_str(ending_words(status)),
         }
     }
 }
 
-/// What a status is called; none where an exit code or a cause tells more.
-fn ending_words(status: &Status) -> Option<&'static str> {
+/// What a status is called, where no cause tells more.
+fn ending_words(status: &Status) -> &'static str {
     match status {
-        Status::Exited(_) | Status::Faulted(_, _) | Status::Aborted(_, _, _) => None,
-        Status::Illegal(_, _) => Some("a word that is no instruction"),
-        Status::Breakpoint(_, _) => Some("breakpoint"),
-        Status::AsyncTag(_) => Some("an access had another tag than its memory"),
-        Status::Running => Some("still running"),
-        Status::Stopped => Some("stopped"),
+        Status::Exited(_) => "exit",
+        Status::Faulted(_, _) => "fault",
+        Status::Aborted(_, _, _) => "abort",
+        Status::Illegal(_, _) => "a word that is no instruction",
+        Status::Breakpoint(_, _) => "breakpoint",
+        Status::AsyncTag(_) => "an access had another tag than its memory",
+        Status::Running => "still running",
+        Status::Stopped => "stopped",
     }
 }

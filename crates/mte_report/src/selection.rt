@@ -1,9 +1,9 @@
 //! Which rows a picture has, and what they show.
 
 use crate::extent::{Extent, ROW_SIZE, paint_all};
-use crate::owner::{Block, Range};
 use crate::pages::Pages;
 use address_map::{ADDRESS_END, GRANULE_SIZE, REGION_SIZE, REGIONS_START};
+use heap_bounds::{Block, Range};
 use heap_picture::{GRANULES, Granule, Owner, ROWS, Row};
 use mte_tags::{FaultKind, Tagged};
 use std::alloc::{AllocError, Global};

@@ -1,7 +1,8 @@
 //! The calls that led to the end of a tenant, and to the heap calls that its cause names.
 
 use crate::book::{Book, Chunk, Entry};
-use crate::cause::Cause;
+use crate::cause::{Cause, Found};
+use crate::exact::Finding;
 use crate::report::Report;
 use crate::words::Call;
 use mte_backtrace::{CallStack, Names};
@@ -25,7 +26,8 @@ impl<'a> Report<'a> {
         let Some(cause) = cause else {
             return Ok(());
         };
-        writeln!(out, "Cause: {cause}")?;
+        let found = self.found(cause);
+        writeln!(out, "Cause: {found}")?;
         tell_chunks(alloc, out, cause, &self.names)?;
         tell_short(out, self.book)
     }
@@ -36,7 +38,25 @@ impl<'a> Report<'a> {
         alloc: Global,
         memory: &mut Flat,
     ) -> Result<CallStack, AllocError> {
-        CallStack::of_next(alloc, memory, &self.parts.regs, &self.names.symbols)
+        let symbols = &self.names.symbols;
+        match self.finding {
+            Some(
+                Finding {
+                    before,
+                    callers,
+                    ..
+                },
+            ) => CallStack::of_heap_call(alloc, before.pc, callers, symbols),
+            None => CallStack::of_next(alloc, memory, &self.parts.regs, symbols),
+        }
+    }
+
+    /// A cause, behind what found it.
+    pub(crate) fn found<'b>(&self, cause: &'b Cause) -> Found<'b> {
+        Found {
+            cause,
+            is_exact: self.finding.is_some(),
+        }
     }
 
     /// Writes a command that tells the source lines of all calls that were told, in their order,

@@ -3,6 +3,7 @@
 use crate::book::{Chunk, Entry};
 use a64_decode::decode;
 use a64_text::TextAt;
+use heap_bounds::Trespass;
 use mte_svc::{HeapCall, HeapService};
 use mte_tags::{Attrs, FaultKind};
 use scudo_heap::HeapAbort;
@@ -46,7 +47,7 @@ impl<'a> fmt::Display for Call<'a> {
 
 /// A heap call's service and its arguments.
 #[derive(Clone, Copy)]
-struct Request<'a>(&'a HeapCall);
+pub struct Request<'a>(pub &'a HeapCall);
 
 impl<'a> fmt::Display for Request<'a> {
     fn fmt<W: fmt::Write>(&self, f: &mut fmt::Formatter<W>) -> fmt::Result {
@@ -134,5 +135,14 @@ pub fn abort_words(abort: HeapAbort) -> &'static str {
         HeapAbort::InvalidState => "its header says that it is free",
         HeapAbort::NotABlock => "its header names no block of the heap",
         HeapAbort::AlreadyFree => "its block is free",
+    }
+}
+
+/// What an access does that a chunk's bounds forbid.
+pub fn trespass_words(trespass: Trespass) -> &'static str {
+    match trespass {
+        Trespass::PastSize => "is past the size of its chunk",
+        Trespass::Freed => "is of a chunk that was freed",
+        Trespass::NoChunk => "is of no chunk",
     }
 }
