@@ -8,7 +8,7 @@ use circular_buffer::HeapCircularBuffer;
 use heap_bounds::{Allocation, Block, freed_by, made_by};
 use mte_backtrace::Callers;
 use mte_sched::TenantParts;
-use mte_svc::HeapCall;
+use mte_svc::{HeapCall, HeapService};
 use mte_tags::{Tagged, tag_of};
 use std::alloc::{AllocError, Global};
 use std::collections::BTreeMap;
@@ -89,6 +89,22 @@ impl Entry {
             made: *self,
             freed: None,
         })
+    }
+
+    /// Whether the call asked for a chunk and returned none.
+    fn is_refused(&self) -> bool {
+        let HeapCall {
+            service,
+            second,
+            answer,
+            ..
+        } = self.call;
+        let asks = match service {
+            HeapService::Malloc | HeapService::Calloc | HeapService::Memalign => true,
+            HeapService::Realloc => second != 0,
+            HeapService::Free | HeapService::UsableSize => false,
+        };
+        asks && answer == 0
     }
 
     /// The plain address of the chunk that the call freed, or gave another size.
@@ -210,6 +226,17 @@ impl Book {
         }
         let (i, chunk) = found?;
         Some(self.with_end(i, chunk))
+    }
+
+    /// The newest call that asked for a chunk and returned none.
+    pub fn newest_refused(&self) -> Option<Entry> {
+        let mut found = None;
+        for entry in self.entries.iter() {
+            if entry.is_refused() {
+                found = Some(*entry);
+            }
+        }
+        found
     }
 
     /// A chunk that the call at an index made, with the call that freed it.

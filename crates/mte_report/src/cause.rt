@@ -4,7 +4,7 @@ use crate::book::{Book, Chunk, Entry, Wanted};
 use crate::exact::Wrong;
 use crate::words::Bytes;
 use a64_bits::plain;
-use address_map::{IMAGE_START, STACK_START};
+use address_map::{IMAGE_START, PAGE_SIZE, STACK_END, STACK_START};
 use heap_bounds::{Block, Trespass};
 use mte_sched::Status;
 use mte_svc::FREE;
@@ -46,6 +46,12 @@ pub enum Cause {
     NoChunk,
     /// An access to bytes of the heap that no chunk has.
     NoChunkThere,
+    /// An access to the stack by a pointer with the tag of another object.
+    StackObject,
+    /// An access just above the stack, where a program for Linux looks for its arguments.
+    AboveStack,
+    /// A jump to an address that is no code.
+    WildJump,
     /// Nothing that the heap calls tell.
     Unknown,
 }
@@ -54,6 +60,7 @@ impl Cause {
     /// The cause of a status, where `service` is what x8 was.
     pub fn of(book: &Book, status: &Status, service: u64) -> Cause {
         match status {
+            Status::Faulted(fault, pc) if fault.addr == plain(*pc) => Cause::WildJump,
             Status::Faulted(fault, _) => match fault.kind {
                 FaultKind::Translation | FaultKind::TagCheck => Cause::of_access(book, fault),
                 _ => Cause::Unknown,
@@ -77,8 +84,8 @@ impl Cause {
                 return Cause::of_neighbour(addr, chunk);
             }
         }
-        if addr < STACK_START && STACK_START - addr <= NEAR {
-            return Cause::StackOverflow(STACK_START - addr);
+        if let Some(cause) = Cause::of_stack(addr) {
+            return cause;
         }
         match book.newest(&Wanted::Holding(addr)) {
             Some(chunk) => Cause::ForeignPointer(chunk),
@@ -103,6 +110,19 @@ impl Cause {
             }
             Some(chunk) => Cause::of_neighbour(addr, chunk),
             None => Cause::NoChunkThere,
+        }
+    }
+
+    /// The cause of an access to the stack, below it or above.
+    fn of_stack(addr: u64) -> Option<Cause> {
+        if addr < STACK_START && STACK_START - addr <= NEAR {
+            Some(Cause::StackOverflow(STACK_START - addr))
+        } else if addr >= STACK_START && addr < STACK_END {
+            Some(Cause::StackObject)
+        } else if addr >= STACK_END && addr - STACK_END < PAGE_SIZE {
+            Some(Cause::AboveStack)
+        } else {
+            None
         }
     }
 
@@ -197,6 +217,12 @@ impl Cause {
             Cause::InsideChunk(_, _) => "Invalid Pointer",
             Cause::NoChunk => "Invalid Pointer, which no heap call returned",
             Cause::NoChunkThere => "Invalid Access, to bytes of no chunk",
+            Cause::StackObject => "Buffer Overflow of an object on the stack, or Use After Return",
+            Cause::AboveStack => {
+                "an access above the stack, where a program for Linux finds its arguments: a \
+                 tenant has none (docs/TENANTS.md)"
+            }
+            Cause::WildJump => "Wild Jump: the address is no code",
             Cause::Unknown => "unknown",
         }
     }
@@ -208,7 +234,8 @@ impl Cause {
             | Cause::StalePointer(_, _, _)
             | Cause::Overflow(_, _)
             | Cause::Underflow(_, _)
-            | Cause::ForeignPointer(_) => "[MTE]: ",
+            | Cause::ForeignPointer(_)
+            | Cause::StackObject => "[MTE]: ",
             _ => "",
         }
     }
@@ -236,8 +263,11 @@ impl Cause {
             Cause::Overflow(_, _) => " right of a ",
             Cause::Underflow(_, _) => " left of a ",
             Cause::StackOverflow(_) => " below the stack",
-            Cause::NullPointer | Cause::NoChunk | Cause::NoChunkThere | Cause::Unknown => "",
-            _ => " of a ",
+            Cause::TagsChanged(_)
+            | Cause::DoubleFree(_)
+            | Cause::FreedPointer(_)
+            | Cause::HeaderOverwritten(_) => " of a ",
+            _ => "",
         }
     }
 }

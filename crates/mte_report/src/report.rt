@@ -3,6 +3,7 @@
 use crate::book::{Book, Wanted};
 use crate::cause::Cause;
 use crate::exact::{Finding, Wrong};
+use crate::families::{breakpoint_words, family_of};
 use crate::moment::{Line, Moment, Nzcv};
 use crate::owner::Owner;
 use crate::pages::{Pages, attrs_at, page_map};
@@ -248,15 +249,32 @@ impl<'a> fmt::Display for Tags<'a> {
 
 /// A word at an address that is no instruction.
 fn tell_illegal<W: Write>(out: &mut W, word: u32, at: At<'_>) -> io::Result<()> {
+    let family = Family(word);
     writeln!(
         out,
-        "illegal word {word:#010x} at {at}: no instruction of the table"
+        "illegal word {word:#010x} at {at}: no instruction of the table{family}"
     )
+}
+
+/// The family of a word, where it is known.
+#[derive(Clone, Copy)]
+struct Family(u32);
+
+impl fmt::Display for Family {
+    fn fmt<W: fmt::Write>(&self, f: &mut fmt::Formatter<W>) -> fmt::Result {
+        match family_of(self.0) {
+            Some(family) => { write!(f, ", but {family} (docs/TENANTS.md has what avoids it)") }
+            None => Ok(()),
+        }
+    }
 }
 
 /// A breakpoint at an address.
 fn tell_breakpoint<W: Write>(out: &mut W, number: u16, at: At<'_>) -> io::Result<()> {
-    writeln!(out, "breakpoint {number} at {at}")
+    match breakpoint_words(number) {
+        Some(words) => writeln!(out, "breakpoint {number} at {at}: {words}"),
+        None => writeln!(out, "breakpoint {number} at {at}"),
+    }
 }
 
 /// A tag that differed before an address.

@@ -29,6 +29,7 @@ impl<'a> Report<'a> {
         let found = self.found(cause);
         writeln!(out, "Cause: {found}")?;
         tell_chunks(alloc, out, cause, &self.names)?;
+        self.tell_hint(out, cause)?;
         tell_short(out, self.book)
     }
 

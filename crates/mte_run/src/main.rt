@@ -9,6 +9,7 @@ mod files;
 mod map;
 mod observer;
 mod options;
+mod refusal;
 mod replay;
 mod running;
 mod seeds;

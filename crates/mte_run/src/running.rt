@@ -8,6 +8,7 @@ use crate::failure::Failure;
 use crate::files::{Image, image_of, read_file, read_files, read_input};
 use crate::observer::Observer;
 use crate::options::{Options, Replay, Told};
+use crate::refusal::remedy_of;
 use crate::replay::{Replayed, replay_tenant};
 use crate::survey::Survey;
 use crate::telling::tell_end;
@@ -111,7 +112,8 @@ fn admitted(
 
 /// Tells why an image is refused, and returns the exit status.
 fn refuse(rt: &HostRuntime, error: AdmitError) -> u8 {
-    let _ = eprintln!(rt; "mte_run: the tenant is refused: {error}");
+    let remedy = remedy_of(error.name());
+    let _ = eprintln!(rt; "mte_run: the tenant is refused: {error}{remedy}");
     let _ = eprintln!(rt; "mte_run: ended by refusal, status {REFUSED}");
     REFUSED
 }
