@@ -50,7 +50,7 @@ impl Places {
 }
 
 /// The place of a call.
-fn find(places: &mut [Place], entry: &Entry) -> Option<&mut Place> {
+fn find<'a>(places: &'a mut [Place], entry: &Entry) -> Option<&'a mut Place> {
     places.iter_mut().find(|place| place.entry.pc == entry.pc
         && place.entry.callers == entry.callers)
 }
