@@ -3,6 +3,7 @@
 ghost use Rattle.std.specs.Prelude.{◌≡◌};
 
 use crate::extent::Extent;
+use crate::history::History;
 use a64_bits::plain;
 use circular_buffer::HeapCircularBuffer;
 use heap_bounds::{Allocation, Block, freed_by, made_by};
@@ -129,18 +130,15 @@ impl Chunk {
         self.end().saturating_add(15) / 16 * 16
     }
 
-    /// Its granules, while it is in use.
-    fn extent(&self) -> Extent {
-        Extent {
-            start: self.start(),
-            end: self.granules_end(),
-            live: true,
-        }
+    /// Where the block of the chunk at a plain address begins; of one with pages of its own, the
+    /// address.
+    pub fn block_of(start: u64) -> u64 {
+        Block::of(start).map_or(start, |block| block.start)
     }
 
     /// Whether it lies in the block of a size class that begins at an address.
     fn is_in_block(&self, start: u64) -> bool {
-        Block::of(self.start()).is_some_and(|block| block.start == start)
+        Chunk::block_of(self.start()) == start
     }
 
     /// The tag of its pointer.
@@ -267,20 +265,15 @@ impl Book {
 
     /// The granules of each chunk that was made, the oldest first.
     pub fn extents(&self, alloc: Global) -> Result<Vec<Extent>, AllocError> {
-        let mut extents: Vec<Extent> = Vec::new(alloc);
-        let mut newest: BTreeMap<u64, usize> = BTreeMap::new(alloc);
+        let mut history = History::new(alloc);
         for entry in self.entries.iter() {
             if let Some(start) = entry.ended() {
-                let index = newest.remove(&start);
-                if let Some(extent) = index.and_then(|index| extents.get_mut(index)) {
-                    extent.live = false;
-                }
+                history.end(start, entry);
             }
             if let Some(chunk) = entry.made() {
-                newest.insert(chunk.start(), extents.len())?;
-                extents.push(chunk.extent())?;
+                history.make(&chunk)?;
             }
         }
-        Ok(extents)
+        Ok(history.extents)
     }
 }

@@ -1,6 +1,7 @@
 //! The heap and its tags at the end of a tenant, as a picture.
 
 use crate::extent::Extent;
+use crate::notes::Notes;
 use crate::pages::{Pages, page_map};
 use crate::report::Report;
 use crate::selection::{Place, Window, places, row_at};
@@ -67,7 +68,16 @@ impl<'a> Report<'a> {
             window: Window::around(places.as_slice(), addr),
         };
         self.write_heading(alloc, out, &rows)?;
-        rows.write(out, memory)
+        let cause = self.cause();
+        let notes = Notes {
+            extents: scene.extents,
+            names: &self.names,
+            cause: cause
+                .as_ref()
+                .and_then(|cause| cause.chunk())
+                .map(|chunk| chunk.made.number),
+        };
+        rows.write(alloc, out, memory, &notes)
     }
 
     /// Writes what stands above the rows of a picture.
@@ -80,6 +90,10 @@ impl<'a> Report<'a> {
         let title = Title {
             name: rows.scene.title,
             ending: Ending(self),
+            run: Run {
+                step: self.step(),
+                seed: self.seed,
+            },
             left_out: rows.left_out(),
         };
         let title = format!(in alloc; "{title}")?;
@@ -144,21 +158,33 @@ impl<'a> Rows<'a> {
     }
 
     /// Writes those that are shown, and the end of the picture.
-    fn write<W: Write>(&self, out: &mut W, memory: &mut Flat) -> io::Result<()> {
+    fn write<W: Write>(
+        &self,
+        alloc: Global,
+        out: &mut W,
+        memory: &mut Flat,
+        notes: &Notes<'_>,
+    ) -> io::Result<()> {
         for place in self.places {
-            self.write_row(out, memory, place)?;
+            if let Some(number) = self.window.number(place) {
+                self.write_row(out, memory, place.address, number)?;
+                notes.write(alloc, out, place.address, number)?;
+            }
         }
         write!(out, "{END}")?;
         out.flush()
     }
 
-    /// Writes a row, if it is shown.
-    fn write_row<W: Write>(&self, out: &mut W, memory: &mut Flat, place: &Place) -> io::Result<()> {
-        let Some(number) = self.window.number(place) else {
-            return Ok(());
-        };
+    /// Writes the row at an address, under a number.
+    fn write_row<W: Write>(
+        &self,
+        out: &mut W,
+        memory: &mut Flat,
+        address: u64,
+        number: usize,
+    ) -> io::Result<()> {
         let line = Line {
-            row: row_at(memory, self.scene.extents, place.address),
+            row: row_at(memory, self.scene.extents, address),
             number,
             mark: self.scene.mark,
         };
@@ -230,8 +256,28 @@ struct Title<'a> {
     name: &'a str,
     /// What ended it.
     ending: Ending<'a>,
+    /// How it can be run again.
+    run: Run,
     /// How many rows are shown, where not all are.
     left_out: LeftOut,
+}
+
+/// The last step of a run, and its seed.
+#[derive(Clone, Copy)]
+struct Run {
+    step: u64,
+    seed: Option<u64>,
+}
+
+impl fmt::Display for Run {
+    fn fmt<W: fmt::Write>(&self, f: &mut fmt::Formatter<W>) -> fmt::Result {
+        let step = self.step;
+        write!(f, ", step {step}")?;
+        match self.seed {
+            Some(seed) => write!(f, ", seed {seed:016x}"),
+            None => Ok(()),
+        }
+    }
 }
 
 impl<'a> fmt::Display for Title<'a> {
@@ -239,9 +285,10 @@ impl<'a> fmt::Display for Title<'a> {
         let Title {
             name,
             ending,
+            run,
             left_out,
         } = self;
-        write!(f, "{name}: {ending}{left_out}")
+        write!(f, "{name}: {ending}{run}{left_out}")
     }
 }
 

@@ -39,11 +39,7 @@ impl<'a> Report<'a> {
 
     /// Writes what was run.
     fn write_run<W: Write>(&self, out: &mut W, exit_status: u8) -> io::Result<()> {
-        let steps = match self.finding {
-            Some(finding) => finding.step,
-            None => self.parts.account.steps,
-        };
-        let image = Quoted(self.image);
+        let (image, steps) = (Quoted(self.image), self.step());
         writeln!(out, "{{\"image\":{image},")?;
         if let Some(seed) = self.seed {
             writeln!(out, "\"seed\":\"{seed:016x}\",")?;

@@ -3,9 +3,10 @@
 use crate::book::Entry;
 use crate::report::Report;
 use crate::stacks::stack_of;
+use crate::words::Bytes;
 use std::alloc::{AllocError, Global};
-use std::io;
 use std::io::Write;
+use std::{fmt, io};
 
 /// How many places are told.
 const PLACES: usize = 256;
@@ -49,6 +50,21 @@ impl Places {
     }
 }
 
+/// A number of chunks.
+#[derive(Clone, Copy)]
+struct Chunks(u64);
+
+impl fmt::Display for Chunks {
+    fn fmt<W: fmt::Write>(&self, f: &mut fmt::Formatter<W>) -> fmt::Result {
+        let Chunks(count) = self;
+        if *count == 1 {
+            f.write_str("1 chunk")
+        } else {
+            write!(f, "{count} chunks")
+        }
+    }
+}
+
 /// The place of a call.
 fn find<'a>(places: &'a mut [Place], entry: &Entry) -> Option<&'a mut Place> {
     places.iter_mut().find(|place| place.entry.pc == entry.pc
@@ -61,7 +77,8 @@ impl<'a> Report<'a> {
     pub fn write_leaks<W: Write>(&self, alloc: Global, out: &mut W) -> io::Result<()> {
         let places = self.live_places(alloc)?;
         let (chunks, bytes) = (places.chunks, places.bytes);
-        writeln!(out, "live at the end: {chunks} chunks, {bytes} bytes")?;
+        let (chunks, bytes) = (Chunks(chunks), Bytes(bytes));
+        writeln!(out, "live at the end: {chunks}, {bytes}")?;
         for place in &places.places {
             self.write_place(alloc, out, place)?;
         }

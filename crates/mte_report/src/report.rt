@@ -91,6 +91,14 @@ impl<'a> Report<'a> {
         }
     }
 
+    /// The number of the instruction that ended it.
+    pub(crate) fn step(&self) -> u64 {
+        match self.finding {
+            Some(finding) => finding.step,
+            None => self.parts.account.steps,
+        }
+    }
+
     /// The plain address that the status names, if it names one.
     pub(crate) fn address(&self) -> Option<u64> {
         if let Some(finding) = self.finding {

@@ -9,7 +9,7 @@ use mte_tags::{FaultKind, Tagged};
 use std::alloc::{AllocError, Global};
 
 /// How many rows are shown one after another in which nothing changes.
-const PLAIN: u32 = 3;
+const PLAIN: u32 = 1;
 
 /// A row that may be shown.
 #[derive(Clone, Copy)]
