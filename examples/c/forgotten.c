@@ -54,7 +54,7 @@ static void forget_longest(struct list *list)
     forget(list, longest);
 }
 
-static size_t use(struct list *list)
+static __attribute__((noinline)) size_t use(struct list *list)
 {
     return list->last_used->length;
 }

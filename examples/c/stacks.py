@@ -42,7 +42,7 @@ def ours(path):
     for kind in ("end", "allocated", "freed"):
         frames = blocks[at : at + counts.get(kind, 0)]
         at += counts.get(kind, 0)
-        names[kind] = [name for frame in frames for name in frame if not WRAPPERS.match(name)]
+        names[kind] = [name.split(".")[0] for frame in frames for name in frame if not WRAPPERS.match(name)]
     return names
 
 
@@ -68,11 +68,13 @@ def main():
     if len(sys.argv) != 3:
         sys.exit(__doc__)
     mine, other = ours(sys.argv[1]), theirs(sys.argv[2])
-    if not other["end"]:
+    # Calls that don't begin in main are of the C library: the next chunk to a wild access was its own.
+    other = {kind: names for kind, names in other.items() if "main" in names}
+    if "end" not in other:
         sys.exit("stacks.py: AddressSanitizer tells nothing")
     differs = False
     for kind, names in other.items():
-        if names and mine.get(kind) != names:
+        if mine.get(kind) != names:
             differs = True
             print(f"{kind}: {' < '.join(mine.get(kind, []))}, AddressSanitizer: {' < '.join(names)}")
     sys.exit(1 if differs else 0)

@@ -56,7 +56,7 @@ const BOX: &str = "\" viewBox=\"0 0 1600 ";
 const FONT: &str = "\" font-family=\"monospace\" font-size=\"12\">\n";
 
 /// The most letters of a title that has its usual width.
-const LONGEST: usize = 140;
+const LONGEST: usize = 130;
 
 /// What makes a longer title as wide as the picture.
 const FIT: &str = " textLength=\"1560\" lengthAdjust=\"spacingAndGlyphs\"";
