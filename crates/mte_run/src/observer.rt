@@ -4,8 +4,9 @@ ghost use Rattle.std.specs.Prelude.{None};
 
 use crate::tracer::Tracer;
 use circular_buffer::HeapCircularBuffer;
-use mte_report::{Book, Exact, Finding, Moment, Turn};
+use mte_report::{Book, Exact, Finding, Moment, SVC, Turn};
 use mte_sched::{TenantParts, Watch};
+use mte_svc::WRITE;
 use mte_tags::Tagged;
 use std::alloc::{AllocError, Global};
 use std::io::Write;
@@ -24,6 +25,8 @@ pub struct Observer<'a, W: Write + Drop> {
     tracer: Option<Tracer<'a, W>>,
     /// The bounds of chunks, where accesses are to keep to them.
     exact: Option<Exact>,
+    /// Whether a service wrote fewer bytes than it was handed.
+    pub is_cut: bool,
 }
 
 impl<'a, W: Write + Drop> Observer<'a, W> {
@@ -40,6 +43,7 @@ impl<'a, W: Write + Drop> Observer<'a, W> {
             turns: None,
             tracer,
             exact,
+            is_cut: false,
         })
     }
 
@@ -113,6 +117,7 @@ impl<'a, W: Write + Drop> Watch for Observer<'a, W> {
             tracer.note(moment, &parts.regs);
         }
         note_turn(&mut self.turns, moment, parts);
+        self.is_cut = self.is_cut || cuts_output(moment, parts);
         if let Some(exact) = &mut self.exact {
             exact.note(moment, parts, call.as_ref(), memory);
         }
@@ -127,4 +132,13 @@ fn note_turn(turns: &mut Option<HeapCircularBuffer<Turn>>, moment: &Moment, part
     if let Some(turn) = Turn::of(moment, &parts.regs) {
         turns.push_back(turn);
     }
+}
+
+/// Whether an instruction requested a write of more bytes than there was room for.
+fn cuts_output(moment: &Moment, parts: &TenantParts) -> bool {
+    let (before, after) = (&moment.regs, &parts.regs);
+    moment.word == Some(SVC)
+        && before.x[8] == WRITE
+        && before.pc != after.pc
+        && after.x[0] < before.x[1]
 }

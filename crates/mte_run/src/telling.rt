@@ -30,6 +30,9 @@ pub fn tell_end<'a>(
     if !observer.is_complete() {
         return Err(Failure::Memory);
     }
+    if observer.is_cut {
+        let _ = eprintln!(rt; "mte_run: output was cut: there was no more room (--out)");
+    }
     let Bench { parts, mut memory } = bench;
     let report = Report {
         parts: &parts,
