@@ -11,4 +11,4 @@ either_way false m a n = refl
 
 pub returns-clause-memory : goal.returns-clause-memory
 returns-clause-memory g c =
-    c.read.ensures.memory ∙ either_way (is_ok c.read.result) (g.M.Tagged.memory c.args.memory.now) c.args.addr 8
+    c.read.ensures.memory ∙ either_way (is_ok c.read.result) (g.M.Tagged.memory c.args.memory.now) c.args.addr _
