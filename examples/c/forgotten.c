@@ -1,9 +1,9 @@
 /* Words in a list; the longest is forgotten and freed, and is still the one that was used last.
+   ends: 129
    expect: status fault TagCheck read
    cause: [MTE]: Use After Free, 0 bytes into a 32-byte allocation at
    cause: allocated by call 2, calloc(1, 32)
-   cause: freed by call 4, free(
-   ends: 129 */
+   cause: freed by call 4, free( */
 #include "tenant.h"
 
 struct word {

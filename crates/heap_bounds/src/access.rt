@@ -46,8 +46,13 @@ pub fn access_of(instr: &Instr, regs: &Regs) -> Option<Access> {
             imm9,
             rn,
             rt,
-        }
-        | Instr::LdStPre {
+        } => Some(single(
+            regs,
+            rn,
+            signed_offset(i64::from(imm9)),
+            Form { size, opc, rt },
+        )),
+        Instr::LdStPre {
             size,
             opc,
             imm9,
@@ -92,7 +97,7 @@ fn pair_of(instr: &Instr, regs: &Regs) -> Option<Access> {
             rn,
             rt,
             ..
-        } => Some(pair(regs, rn, 0, Pair { opc, l, rt, rt2 })),
+        } => Some(pair(regs, rn, 0, PairForm { opc, l, rt, rt2 })),
         Instr::PairOff {
             opc,
             l,
@@ -100,15 +105,15 @@ fn pair_of(instr: &Instr, regs: &Regs) -> Option<Access> {
             rt2,
             rn,
             rt,
-        }
-        | Instr::PairPre {
+        } => Some(pair(regs, rn, i64::from(imm7), PairForm { opc, l, rt, rt2 })),
+        Instr::PairPre {
             opc,
             l,
             imm7,
             rt2,
             rn,
             rt,
-        } => Some(pair(regs, rn, i64::from(imm7), Pair { opc, l, rt, rt2 })),
+        } => Some(pair(regs, rn, i64::from(imm7), PairForm { opc, l, rt, rt2 })),
         Instr::LdLit { opc, imm19, rt } => Some(literal(regs, opc, imm19, rt)),
         _ => None,
     }
@@ -136,7 +141,7 @@ fn single(regs: &Regs, rn: u8, offset: u64, form: Form) -> Access {
 
 /// The fields of a load or store of two registers.
 #[derive(Clone, Copy)]
-struct Pair {
+struct PairForm {
     opc: u8,
     l: u8,
     rt: u8,
@@ -144,8 +149,8 @@ struct Pair {
 }
 
 /// A load or store of two registers, of eight bytes each or four; the offset counts them.
-fn pair(regs: &Regs, rn: u8, imm7: i64, fields: Pair) -> Access {
-    let Pair { opc, l, rt, rt2 } = fields;
+fn pair(regs: &Regs, rn: u8, imm7: i64, fields: PairForm) -> Access {
+    let PairForm { opc, l, rt, rt2 } = fields;
     let bytes = if opc >= 2 { 8 } else { 4 };
     let offset = signed_offset(imm7).wrapping_mul(bytes);
     Access {

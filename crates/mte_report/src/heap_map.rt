@@ -163,7 +163,7 @@ impl<'a> Rows<'a> {
         alloc: Global,
         out: &mut W,
         memory: &mut Flat,
-        notes: &Notes<'_>,
+        notes: &Notes<'_, '_>,
     ) -> io::Result<()> {
         for place in self.places {
             if let Some(number) = self.window.number(place) {

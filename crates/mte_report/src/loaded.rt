@@ -17,7 +17,7 @@ pub struct Loaded {
 }
 
 /// What the instruction loads, by the registers before and after it; `None` where it loads nothing.
-pub fn loaded(instr: &Instr, before: &Regs, after: &Regs) -> Option<Loaded> {
+pub fn load_of(instr: &Instr, before: &Regs, after: &Regs) -> Option<Loaded> {
     let access = access_of(instr, before)?;
     if access.is_write {
         return None;

@@ -1,6 +1,6 @@
 //! An attempted instruction, and what it changed.
 
-use crate::loaded::loaded;
+use crate::loaded::load_of;
 use crate::stores::stored;
 use crate::words::Instruction;
 use a64_bits::Flags;
@@ -75,7 +75,7 @@ impl<'a> fmt::Display for Effect<'a> {
         if let Some(stored) = stored(&instr, before) {
             return write!(f, "; {stored}");
         }
-        match loaded(&instr, before, after) {
+        match load_of(&instr, before, after) {
             Some(loaded) => write!(f, "; {loaded}"),
             None => Ok(()),
         }

@@ -11,16 +11,16 @@ use std::{fmt, io};
 
 /// What is said of the chunks of a picture.
 #[derive(Clone, Copy)]
-pub struct Notes<'a> {
+pub struct Notes<'e, 'n> {
     /// The granules of the chunks.
-    pub extents: &'a [Extent],
+    pub extents: &'e [Extent],
     /// What the addresses of the image are called.
-    pub names: &'a Names<'a>,
+    pub names: &'n Names<'n>,
     /// The number of the call that made the chunk that the cause names.
     pub cause: Option<u64>,
 }
 
-impl<'a> Notes<'a> {
+impl<'e, 'n> Notes<'e, 'n> {
     /// Writes what is said of the chunks in the row with a number, by the row's address.
     pub fn write<W: Write>(
         &self,
