@@ -68,16 +68,30 @@ impl<'a> Report<'a> {
             window: Window::around(places.as_slice(), addr),
         };
         self.write_heading(alloc, out, &rows)?;
-        let cause = self.cause();
+        self.write_rows(alloc, out, memory, &rows)
+    }
+
+    /// Writes the rows of a picture, and what is said of their chunks.
+    fn write_rows<W: Write>(
+        &self,
+        alloc: Global,
+        out: &mut W,
+        memory: &mut Flat,
+        rows: &Rows<'_>,
+    ) -> io::Result<()> {
         let notes = Notes {
-            extents: scene.extents,
+            extents: rows.scene.extents,
             names: &self.names,
-            cause: cause
-                .as_ref()
-                .and_then(|cause| cause.chunk())
-                .map(|chunk| chunk.made.number),
+            cause: self.cause_number(),
         };
         rows.write(alloc, out, memory, &notes)
+    }
+
+    /// The number of the call that made the chunk that the cause names.
+    fn cause_number(&self) -> Option<u64> {
+        let cause = self.cause()?;
+        let chunk = cause.chunk()?;
+        Some(chunk.made.number)
     }
 
     /// Writes what stands above the rows of a picture.

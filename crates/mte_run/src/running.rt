@@ -99,11 +99,11 @@ fn run_alone<'a>(
 }
 
 /// An image at its first instruction, and the seed of the run that is told.
-fn admitted(
+fn admitted<'x>(
     rt: &HostRuntime,
     options: &Options,
-    image: &[u8],
-    input: &[u8],
+    image: &'x [u8],
+    input: &'x [u8],
 ) -> Result<(Bench, u64), AdmitError> {
     let seed = seed_of(rt, options, image, input)?;
     let bench = Bench::new(rt.alloc(), &admission_of(options, image, input, seed))?;
@@ -120,11 +120,11 @@ fn refuse(rt: &HostRuntime, error: AdmitError) -> u8 {
 
 /// The seed of the run that is told: of several the first under which the tenant does not exit. A
 /// line says how they ended.
-fn seed_of(
+fn seed_of<'x>(
     rt: &HostRuntime,
     options: &Options,
-    image: &[u8],
-    input: &[u8],
+    image: &'x [u8],
+    input: &'x [u8],
 ) -> Result<u64, AdmitError> {
     let given = options.terms.seed;
     if options.terms.seeds < 2 {

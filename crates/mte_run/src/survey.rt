@@ -23,11 +23,11 @@ pub struct Survey {
 
 impl Survey {
     /// The runs of an image under the seeds that are requested.
-    pub fn of(
+    pub fn of<'x>(
         alloc: Global,
         options: &Options,
-        image: &[u8],
-        input: &[u8],
+        image: &'x [u8],
+        input: &'x [u8],
     ) -> Result<Survey, AdmitError> {
         let mut survey = Survey {
             runs: 0,
@@ -60,11 +60,11 @@ impl Survey {
 }
 
 /// How an image ends under a seed.
-fn ending_under(
+fn ending_under<'x>(
     alloc: Global,
     options: &Options,
-    image: &[u8],
-    input: &[u8],
+    image: &'x [u8],
+    input: &'x [u8],
     seed: u64,
 ) -> Result<Ending, AdmitError> {
     let exact = options.told.exact(alloc);
