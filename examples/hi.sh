@@ -8,6 +8,6 @@ host="$crate/out/mte_host"
 if [[ -x $host ]] && [[ -z $(find "$here"/../crates/*/src "$here/../crates.txt" -newer "$host" -print -quit) ]]; then
     exec "$host" --frames 11 "$here/hi.script" "$here/hi.elf"
 fi
-echo "hi.sh: compiling the program without proving it; this takes most of a minute" >&2
+echo "hi.sh: compiling the program without proving it; this takes one to two minutes" >&2
 cd "$crate"
 exec rt try -- --frames 11 "$here/hi.script" "$here/hi.elf"

@@ -3,8 +3,10 @@
 # by the host and compares the report with the lines that the tenant's first comment expects. Then
 # it runs the tenant alone and compares what that program tells with the lines under cause, its exit
 # status with ends (0), and its output with that of the host. The picture of its heap must be whole,
-# and have a red frame where an address was refused (ends 129 or 131). The comment may also give the
-# tenant its input, its pages (frames, 8) and how many slices of 1048576 steps it gets (1).
+# and have a red frame where an address was refused (ends 129 or 131), and the calls that led to the
+# end, the allocation and the free must be those that AddressSanitizer tells of the same program,
+# where a compiler of this machine has it. The comment may also give the tenant its input, its pages
+# (frames, 8) and how many slices of 1048576 steps it gets (1).
 #     check.sh [HOST [ALONE]]
 # With the variable TENANT_CC (../libc/tenant-cc) that program builds them, over its C library.
 set -euo pipefail
@@ -13,12 +15,19 @@ program=${1:-$here/../../crates/mte_host/out/mte_host}
 alone=${2:-$here/../../crates/mte_run/out/mte_run}
 work=$(mktemp -d)
 trap 'rm -rf "$work"' EXIT
-flags=(-ffreestanding -nostdlib -static -mgeneral-regs-only -Wall -Wextra "$here/start.c")
+flags=(-g -ffreestanding -nostdlib -static -mgeneral-regs-only -Wall -Wextra "$here/start.c")
 clang="clang --target=aarch64-linux-gnu -fuse-ld=lld" gcc=aarch64-linux-gnu-gcc
 if [[ -n ${TENANT_CC:-} ]]; then
-    flags=(-Wall -Wextra)
+    flags=(-g -Wall -Wextra)
     clang="$TENANT_CC --compiler=clang" gcc="$TENANT_CC --compiler=gcc"
 fi
+
+for it in "$program" "$alone"; do
+    if [[ ! -x $it ]]; then
+        echo "check.sh: $it is not there. Build it: (cd crates/$(basename "$it") && rt run -- --help)" >&2
+        exit 2
+    fi
+done
 
 compilers=()
 command -v clang > /dev/null && command -v ld.lld > /dev/null && compilers+=("$clang")
@@ -68,8 +77,37 @@ is_drawn() {
     esac
 }
 
+# A compiler of this machine that has AddressSanitizer, if one has.
+native=
+command -v llvm-symbolizer > /dev/null && for it in clang gcc; do
+    if echo 'int main(void) { return 0; }' | "$it" -fsanitize=address -x c -o "$work/empty" - 2> /dev/null; then
+        native=$it
+        break
+    fi
+done
+[[ -n $native ]] || echo "check.sh: no llvm-symbolizer and compiler with AddressSanitizer: calls aren't compared" >&2
+
+# Runs a tenant that ends by an access or a heap call natively, under AddressSanitizer.
+sanitize() {
+    local source=$1 name
+    name=$(basename "$source" .c)
+    case $(value "$source" ends 0) in 129 | 131) ;; *) return ;; esac
+    if [[ -n $native ]] && "$native" -g -O0 -fsanitize=address -o "$work/$name.native" "$source"; then
+        "$work/$name.native" > /dev/null 2> "$work/$name.asan" || true
+    fi
+}
+
+# Whether the calls that were told are those of AddressSanitizer, where it told any.
+same_calls() {
+    local told=$work/$(basename "$1" .c).asan
+    [[ ! -e $told ]] || "$here/stacks.py" "$work/story" "$told" >&2
+}
+
 # The output that the report has, in hexadecimal.
 report_output() { sed -n 's/^output [0-9]* *//p' "$work/report"; }
+
+# Under the C library's start other calls lead to main.
+[[ -n ${TENANT_CC:-} ]] || for source in "$here"/*.c; do sanitize "$source"; done
 
 passed=0 failed=0
 for compiler in "${compilers[@]}"; do
@@ -89,6 +127,7 @@ for compiler in "${compilers[@]}"; do
             done < <(sed -n '1,/\*\//s/^ *cause: \(.*[^ ]\) *$/\1/p' "$source" | sed 's/ *\*\/$//')
             [[ $ended -eq $(value "$source" ends 0) ]] || good=0
             is_drawn || good=0
+            same_calls "$source" || good=0
             [[ $(od -An -v -tx1 "$work/output" | tr -d ' \n') == "$(report_output)" ]] || good=0
             if [[ $good -eq 1 ]]; then
                 passed=$((passed + 1))

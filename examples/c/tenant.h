@@ -1,9 +1,12 @@
-/* The services of the host, by their numbers in x8, for tenants in C. */
+/* The services of the host, by their numbers in x8, for tenants in C. Compiled for another machine
+   than AArch64 they are calls of its C library, so that other tools can look for the same bugs. */
 #ifndef TENANT_H
 #define TENANT_H
 
 #include <stddef.h>
 #include <stdint.h>
+
+#ifdef __aarch64__
 
 static inline int64_t tenant_call(int64_t number, int64_t first, int64_t second)
 {
@@ -80,5 +83,73 @@ static inline uint64_t tenant_pages_left(void)
 {
     return (uint64_t)tenant_call(11, 0, 0);
 }
+
+#else
+
+#include <malloc.h>
+#include <stdio.h>
+#include <stdlib.h>
+
+static inline _Noreturn void tenant_exit(int code)
+{
+    exit(code & 255);
+}
+
+static inline size_t tenant_write(const void *bytes, size_t count)
+{
+    return fwrite(bytes, 1, count, stdout);
+}
+
+static inline size_t tenant_read(void *bytes, size_t count)
+{
+    return fread(bytes, 1, count, stdin);
+}
+
+static inline void *tenant_malloc(size_t size)
+{
+    return malloc(size);
+}
+
+static inline void tenant_free(void *chunk)
+{
+    free(chunk);
+}
+
+static inline void *tenant_calloc(size_t count, size_t size)
+{
+    return calloc(count, size);
+}
+
+static inline void *tenant_realloc(void *chunk, size_t size)
+{
+    return realloc(chunk, size);
+}
+
+static inline void *tenant_memalign(size_t alignment, size_t size)
+{
+    return memalign(alignment, size);
+}
+
+static inline size_t tenant_usable_size(void *chunk)
+{
+    return malloc_usable_size(chunk);
+}
+
+static inline void tenant_yield(void)
+{
+}
+
+/* As if there were always some. */
+static inline uint64_t tenant_steps_left(void)
+{
+    return 1048576;
+}
+
+static inline uint64_t tenant_pages_left(void)
+{
+    return 4096;
+}
+
+#endif
 
 #endif

@@ -40,7 +40,11 @@ def session(draw):
 
 
 def main():
+    if len(sys.argv) != 3 or not sys.argv[2].isdigit():
+        sys.exit(__doc__)
     folder, count = sys.argv[1], int(sys.argv[2])
+    if os.path.isdir(folder) and os.listdir(folder):
+        sys.exit(f"make_sessions.py: {folder} is not empty")
     image = os.path.join(os.path.dirname(os.path.abspath(__file__)), "..", "hi.elf")
     draw = random.Random(1)
     for number in range(1, count + 1):

@@ -4,8 +4,9 @@
 # what is wanted of them. Sessions share nothing, so any number may run at once, in any order.
 #     run.sh PROGRAM FOLDER [OPTIONS OF GNU PARALLEL]
 # Options are, for example, `--jobs 2`, `--timeout 60`, or `--sshlogin one,two` for other machines
-# that have PROGRAM, FOLDER and this repository under the same paths. The job log is FOLDER/joblog:
-# a run that was broken off goes on with the sessions that are left; without it all are run.
+# that have PROGRAM, FOLDER and this repository under the same paths. A run that was broken off goes
+# on with the sessions that are left, by the job log FOLDER/joblog-SUM: the sum is of PROGRAM and of
+# what each session reads and wants, so that another program, or files that changed, begin anew.
 set -euo pipefail
 here=$(cd "$(dirname "$0")" && pwd)
 if [[ $# -lt 2 || ! -x $1 || ! -d $2 ]]; then
@@ -20,8 +21,16 @@ program=$(realpath "$1")
 folder=$(realpath "$2")
 shift 2
 
+# Neither what the sessions wrote nor a job log counts.
+sum=$({
+    sha256sum < "$program"
+    cd "$folder"
+    find . -mindepth 2 -type f ! -name 'got.*' -print0 | sort -z | xargs -0 -r sha256sum
+} | sha256sum | cut -c 1-16)
+log=$folder/joblog-$sum
+
 find "$folder" -mindepth 2 -name args -printf '%h\n' | sort |
-    parallel --joblog "$folder/joblog" --resume "$@" "$here/session.sh" "$program" {} || true
+    parallel --joblog "$log" --resume "$@" "$here/session.sh" "$program" {} || true
 
 # A line of the job log has the exit status in its 7th column and the command from the 9th on.
 awk -v FS='\t' 'NR > 1 {
@@ -30,4 +39,4 @@ awk -v FS='\t' 'NR > 1 {
 END {
     print same + 0 " as wanted, " different + 0 " different"
     exit different > 0
-}' "$folder/joblog"
+}' "$log"

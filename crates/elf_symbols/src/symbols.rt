@@ -71,6 +71,15 @@ impl<'a> Symbols<'a> {
             addr,
         }
     }
+
+    /// An address, to be told by the symbol of the address that lies some bytes in front of it, as
+    /// a return address by that of its call.
+    pub fn place_after(&self, addr: u64, bytes: u64) -> Place<'a> {
+        Place {
+            symbol: self.nearest(addr.wrapping_sub(bytes)),
+            addr,
+        }
+    }
 }
 
 /// A name of an image's addresses.
@@ -95,10 +104,24 @@ impl<'a> Symbol<'a> {
         })
     }
 
+    /// Whether it is of the same function as another.
+    fn shares_function(&self, other: &Symbol<'_>) -> bool {
+        let is_part = self.name != other.name && stem(self.name) == stem(other.name);
+        self.value == other.value || is_part
+    }
+
     /// Whether an address is told by it.
     fn reaches(&self, addr: u64) -> bool {
         let bytes = if self.size == 0 { REACH } else { self.size };
         self.value <= addr && addr - self.value < bytes
+    }
+}
+
+/// A name up to its first dot.
+fn stem(name: &str) -> &str {
+    match name.split_once('.') {
+        Some((stem, _)) => stem,
+        None => name,
     }
 }
 
@@ -126,16 +149,66 @@ impl<'a> Place<'a> {
     pub fn unnamed(addr: u64) -> Place<'a> {
         Place { symbol: None, addr }
     }
+
+    /// The name of the symbol that tells it, if one does.
+    pub fn name(&self) -> Option<&'a str> {
+        let symbol = self.symbol.as_ref()?;
+        Some(symbol.name)
+    }
+
+    /// How far it is from the symbol that tells it; 0 where none does.
+    pub fn offset(&self) -> u64 {
+        match &self.symbol {
+            Some(symbol) => self.addr.saturating_sub(symbol.value),
+            None => 0,
+        }
+    }
+
+    /// The same without brackets, and with the address where no symbol tells it.
+    pub fn label(&self) -> Label<'a> {
+        Label(*self)
+    }
+
+    /// Whether another address lies in the same function: it has the same symbol, or one whose name
+    /// is the same up to the first dot, as the parts of a function that gcc splits have. `None`
+    /// where the symbol has no size, or there is none.
+    pub fn shares_function(&self, other: &Place<'_>) -> Option<bool> {
+        let symbol = self.symbol.as_ref()?;
+        if symbol.size == 0 {
+            return None;
+        }
+        match &other.symbol {
+            Some(other) => Some(symbol.shares_function(other)),
+            None => Some(false),
+        }
+    }
 }
 
 impl<'a> fmt::Display for Place<'a> {
     fn fmt<W: fmt::Write>(&self, f: &mut fmt::Formatter<W>) -> fmt::Result {
         match &self.symbol {
-            Some(Symbol { name, value, .. }) => {
-                let offset = self.addr.saturating_sub(*value);
+            Some(Symbol { name, .. }) => {
+                let offset = self.offset();
                 write!(f, " ({name}+{offset:#x})")
             }
             None => Ok(()),
+        }
+    }
+}
+
+/// Where an address lies in an image: `NAME+OFFSET`, or the address where no symbol tells it.
+#[derive(Clone, Copy)]
+pub struct Label<'a>(Place<'a>);
+
+impl<'a> fmt::Display for Label<'a> {
+    fn fmt<W: fmt::Write>(&self, f: &mut fmt::Formatter<W>) -> fmt::Result {
+        let place = &self.0;
+        match place.name() {
+            Some(name) => {
+                let offset = place.offset();
+                write!(f, "{name}+{offset:#x}")
+            }
+            None => write!(f, "{:#x}", place.addr),
         }
     }
 }

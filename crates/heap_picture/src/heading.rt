@@ -31,9 +31,10 @@ impl<'a> fmt::Display for Heading<'a> {
         write_parts(f, &[Text(OPEN), height, Text(BOX), height, Text(FONT)])?;
         write!(f, "{definitions}")?;
         f.write_str("<rect width=\"100%\" height=\"100%\" fill=\"#fff\"/>\n")?;
+        let fit = if self.title.len() > LONGEST { FIT } else { "" };
         write!(
             f,
-            "<text class=\"title\" x=\"20\" y=\"32\">{title}</text>\n"
+            "<text class=\"title\" x=\"20\" y=\"32\"{fit}>{title}</text>\n"
         )?;
         write!(f, "<g transform=\"translate(170 54)\">{legend}</g>\n")?;
         write!(
@@ -53,6 +54,12 @@ const BOX: &str = "\" viewBox=\"0 0 1600 ";
 
 /// The rest of the element.
 const FONT: &str = "\" font-family=\"monospace\" font-size=\"12\">\n";
+
+/// The most letters of a title that has its usual width.
+const LONGEST: usize = 130;
+
+/// What makes a longer title as wide as the picture.
+const FIT: &str = " textLength=\"1560\" lengthAdjust=\"spacingAndGlyphs\"";
 
 /// What stands beside the list of pages.
 const PAGES: &str = "<text class=\"at\" x=\"-10\">pages</text>\n";

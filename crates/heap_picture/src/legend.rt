@@ -52,12 +52,15 @@ const STYLE: &str = "<style>\n\
     .band{fill:#ffe3e3}\n\
     .mark{fill:none;stroke:#e00000;stroke-width:3}\n\
     .says{fill:#d00000;font-weight:bold}\n\
+    .note{fill:none;pointer-events:all}\n\
+    .cause{fill:none;stroke:#e00000;stroke-width:1.5;pointer-events:all}\n\
+    .label{font-size:8px;fill:#555}\n\
     </style>\n";
 
 /// The cell of memory that is not mapped, the hatches of freed chunks, and where a row ends.
 const PATTERNS: &str = "<g id=\"u\"><rect width=\"16\" height=\"18\" fill=\"#bbb\"/></g>\n\
     <pattern id=\"hatch\" width=\"6\" height=\"6\" patternUnits=\"userSpaceOnUse\" \
-    patternTransform=\"rotate(45)\"><path d=\"M1,0v6\" stroke=\"#333\" stroke-opacity=\"0.3\" \
+    patternTransform=\"rotate(45)\"><path d=\"M1,0v6\" stroke=\"#333\" stroke-opacity=\"0.2\" \
     stroke-width=\"1.5\"/></pattern>\n\
     <clipPath id=\"row\"><rect x=\"7\" y=\"-4\" width=\"1026\" height=\"26\"/></clipPath>\n";
 

@@ -1,7 +1,8 @@
 //! A heap and its tags as a picture in SVG: rows of granules, each in the colour of its tag, with
 //! the blocks, the chunks that are live or freed, and the access or pointer that was refused.
 //!
-//! A picture is the text of a [`Heading`], of its [`Line`]s in order, and [`END`].
+//! A picture is the text of a [`Heading`], of its [`Line`]s in order, each with its [`Note`]s behind
+//! it, and [`END`].
 #![tactic(auto)]
 
 mod cell;
@@ -9,6 +10,7 @@ mod heading;
 mod layout;
 mod legend;
 mod line;
+mod note;
 mod pages;
 mod part;
 mod row;
@@ -17,5 +19,6 @@ mod run;
 pub use heading::{END, Heading};
 pub use layout::{GRANULES, ROWS};
 pub use line::{Line, Mark, Marked};
+pub use note::Note;
 pub use pages::{Kind, Pages};
 pub use row::{Granule, Owner, Row};

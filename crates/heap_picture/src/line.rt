@@ -76,6 +76,8 @@ impl fmt::Display for Line {
         if let Some(class) = row.class {
             let start = Text("<text class=\"of\" x=\"-110\" y=\"13\">class ");
             write_parts(f, &[start, Number(u64::from(class)), Text("</text>")])?;
+            let start = Text("<text class=\"label at\" x=\"-110\" y=\"23\">");
+            write_parts(f, &[start, Number(row.size), Text(" B</text>")])?;
         }
         let (cells, boundaries, chunks) = (Cells(row), Boundaries(row), Chunks(row));
         write!(f, "{cells}{boundaries}{chunks}")?;

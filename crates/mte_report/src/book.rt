@@ -1,11 +1,16 @@
 //! The book of a tenant's heap calls.
 
+ghost use Rattle.std.specs.Prelude.{◌≡◌};
+
 use crate::extent::Extent;
+use crate::history::History;
 use a64_bits::plain;
 use circular_buffer::HeapCircularBuffer;
+use heap_bounds::{Allocation, Block, freed_by, made_by};
+use mte_backtrace::Callers;
 use mte_sched::TenantParts;
 use mte_svc::{HeapCall, HeapService};
-use mte_tags::tag_of;
+use mte_tags::{Tagged, tag_of};
 use std::alloc::{AllocError, Global};
 use std::collections::BTreeMap;
 
@@ -23,6 +28,8 @@ pub struct Entry {
     pub pc: u64,
     /// The call.
     pub call: HeapCall,
+    /// The calls that led to it.
+    pub callers: Callers,
 }
 
 /// A chunk that a heap call returned.
@@ -56,6 +63,8 @@ pub enum Wanted {
     InGranules(u64),
     /// One that begins at an address.
     At(u64),
+    /// One in a block that begins at an address.
+    InBlock(u64),
 }
 
 impl Wanted {
@@ -66,6 +75,7 @@ impl Wanted {
             Wanted::Tagged(addr, tag) => chunk.distance(*addr) == 0 && chunk.tag() == *tag,
             Wanted::InGranules(addr) => chunk.start() <= *addr && *addr < chunk.granules_end(),
             Wanted::At(start) => chunk.start() == *start,
+            Wanted::InBlock(start) => chunk.is_in_block(*start),
         }
     }
 }
@@ -73,42 +83,34 @@ impl Wanted {
 impl Entry {
     /// The chunk that the call returned, as it was then.
     fn made(&self) -> Option<Chunk> {
-        let HeapCall {
-            service,
-            first,
-            second,
-            answer,
-        } = self.call;
-        let size = match service {
-            HeapService::Malloc => first,
-            HeapService::Calloc => first.wrapping_mul(second),
-            HeapService::Realloc | HeapService::Memalign => second,
-            HeapService::Free | HeapService::UsableSize => return None,
-        };
-        if answer == 0 {
-            return None;
-        }
+        let Allocation { pointer, size } = made_by(&self.call)?;
         Some(Chunk {
-            pointer: answer,
+            pointer,
             size,
             made: *self,
             freed: None,
         })
     }
 
-    /// The plain address of the chunk that the call freed, or gave another size.
-    fn ended(&self) -> Option<u64> {
+    /// Whether the call asked for a chunk and returned none.
+    fn is_refused(&self) -> bool {
         let HeapCall {
             service,
-            first,
             second,
             answer,
+            ..
         } = self.call;
-        match service {
-            HeapService::Free => Some(plain(first)),
-            HeapService::Realloc if answer != 0 || second == 0 => Some(plain(first)),
-            _ => None,
-        }
+        let asks = match service {
+            HeapService::Malloc | HeapService::Calloc | HeapService::Memalign => true,
+            HeapService::Realloc => second != 0,
+            HeapService::Free | HeapService::UsableSize => false,
+        };
+        asks && answer == 0
+    }
+
+    /// The plain address of the chunk that the call freed, or gave another size.
+    fn ended(&self) -> Option<u64> {
+        freed_by(&self.call)
     }
 }
 
@@ -128,13 +130,15 @@ impl Chunk {
         self.end().saturating_add(15) / 16 * 16
     }
 
-    /// Its granules, while it is in use.
-    fn extent(&self) -> Extent {
-        Extent {
-            start: self.start(),
-            end: self.granules_end(),
-            live: true,
-        }
+    /// Where the block of the chunk at a plain address begins; of one with pages of its own, the
+    /// address.
+    pub fn block_of(start: u64) -> u64 {
+        Block::of(start).map_or(start, |block| block.start)
+    }
+
+    /// Whether it lies in the block of a size class that begins at an address.
+    fn is_in_block(&self, start: u64) -> bool {
+        Chunk::block_of(self.start()) == start
     }
 
     /// The tag of its pointer.
@@ -162,21 +166,27 @@ impl Book {
         Ok(Book { entries, seen: 0 })
     }
 
-    /// Enters the heap call that the last step made, if it made one.
-    pub fn note(&mut self, parts: &TenantParts) {
+    /// Enters the heap call that the last step made, if it made one, with at most eight return
+    /// addresses, which are read from the tenant's memory. Returns that call.
+    pub fn note<M: Tagged>(&mut self, parts: &TenantParts, memory: &mut M) -> Option<HeapCall>
+        ensures memory { M.memory memory.new ≡ M.memory memory.old }
+        ensures kept { M.kept memory.old memory.new }
+    {
         let calls = &parts.account.calls;
         if calls.count() == self.seen {
-            return;
+            return None;
         }
         self.seen = calls.count();
-        if let Some(call) = calls.get(calls.kept().saturating_sub(1)) {
-            self.entries.push_back(Entry {
-                number: self.seen,
-                step: parts.account.steps,
-                pc: parts.regs.pc.wrapping_sub(4),
-                call,
-            });
-        }
+        let call = calls.get(calls.kept().saturating_sub(1))?;
+        let callers = Callers::of(memory, &parts.regs);
+        self.entries.push_back(Entry {
+            number: self.seen,
+            step: parts.account.steps,
+            pc: parts.regs.pc.wrapping_sub(4),
+            call,
+            callers,
+        });
+        Some(call)
     }
 
     /// Whether calls were made that are no longer kept.
@@ -216,6 +226,17 @@ impl Book {
         Some(self.with_end(i, chunk))
     }
 
+    /// The newest call that asked for a chunk and returned none.
+    pub fn newest_refused(&self) -> Option<Entry> {
+        let mut found = None;
+        for entry in self.entries.iter() {
+            if entry.is_refused() {
+                found = Some(*entry);
+            }
+        }
+        found
+    }
+
     /// A chunk that the call at an index made, with the call that freed it.
     fn with_end(&self, index: usize, chunk: Chunk) -> Chunk {
         let start = chunk.start();
@@ -228,22 +249,31 @@ impl Book {
         Chunk { freed, ..chunk }
     }
 
-    /// The granules of each chunk that was made, the oldest first.
-    pub fn extents(&self, alloc: Global) -> Result<Vec<Extent>, AllocError> {
-        let mut extents: Vec<Extent> = Vec::new(alloc);
-        let mut newest: BTreeMap<u64, usize> = BTreeMap::new(alloc);
+    /// The chunks that are live, by their addresses.
+    pub fn live(&self, alloc: Global) -> Result<Vec<Chunk>, AllocError> {
+        let mut live: BTreeMap<u64, Chunk> = BTreeMap::new(alloc);
         for entry in self.entries.iter() {
             if let Some(start) = entry.ended() {
-                let index = newest.remove(&start);
-                if let Some(extent) = index.and_then(|index| extents.get_mut(index)) {
-                    extent.live = false;
-                }
+                live.remove(&start);
             }
             if let Some(chunk) = entry.made() {
-                newest.insert(chunk.start(), extents.len())?;
-                extents.push(chunk.extent())?;
+                live.insert(chunk.start(), chunk)?;
             }
         }
-        Ok(extents)
+        live.values().copied().collect(alloc)
+    }
+
+    /// The granules of each chunk that was made, the oldest first.
+    pub fn extents(&self, alloc: Global) -> Result<Vec<Extent>, AllocError> {
+        let mut history = History::new(alloc);
+        for entry in self.entries.iter() {
+            if let Some(start) = entry.ended() {
+                history.end(start, entry);
+            }
+            if let Some(chunk) = entry.made() {
+                history.make(&chunk)?;
+            }
+        }
+        Ok(history.extents)
     }
 }

@@ -1,9 +1,11 @@
 //! What most likely went wrong, in the manner of the reports of Android's memory tagging.
 
-use crate::book::{Book, Chunk, Wanted};
+use crate::book::{Book, Chunk, Entry, Wanted};
+use crate::exact::Wrong;
 use crate::words::Bytes;
 use a64_bits::plain;
-use address_map::{IMAGE_START, STACK_START};
+use address_map::{IMAGE_START, PAGE_SIZE, STACK_END, STACK_START};
+use heap_bounds::{Block, Trespass};
 use mte_sched::Status;
 use mte_svc::FREE;
 use mte_tags::{FaultKind, MemFault};
@@ -42,6 +44,14 @@ pub enum Cause {
     InsideChunk(Chunk, u64),
     /// A pointer that no call returned is handed to the heap.
     NoChunk,
+    /// An access to bytes of the heap that no chunk has.
+    NoChunkThere,
+    /// An access to the stack by a pointer with the tag of another object.
+    StackObject,
+    /// An access just above the stack, where a program for Linux looks for its arguments.
+    AboveStack,
+    /// A jump to an address that is no code.
+    WildJump,
     /// Nothing that the heap calls tell.
     Unknown,
 }
@@ -50,6 +60,7 @@ impl Cause {
     /// The cause of a status, where `service` is what x8 was.
     pub fn of(book: &Book, status: &Status, service: u64) -> Cause {
         match status {
+            Status::Faulted(fault, pc) if fault.addr == plain(*pc) => Cause::WildJump,
             Status::Faulted(fault, _) => match fault.kind {
                 FaultKind::Translation | FaultKind::TagCheck => Cause::of_access(book, fault),
                 _ => Cause::Unknown,
@@ -73,12 +84,45 @@ impl Cause {
                 return Cause::of_neighbour(addr, chunk);
             }
         }
-        if addr < STACK_START && STACK_START - addr <= NEAR {
-            return Cause::StackOverflow(STACK_START - addr);
+        if let Some(cause) = Cause::of_stack(addr) {
+            return cause;
         }
         match book.newest(&Wanted::Holding(addr)) {
             Some(chunk) => Cause::ForeignPointer(chunk),
             None => Cause::Unknown,
+        }
+    }
+
+    /// The cause of an access that a chunk's bounds forbid.
+    pub fn of_wrong(book: &Book, wrong: &Wrong) -> Cause {
+        let addr = wrong.addr;
+        let wanted = match wrong.trespass {
+            Trespass::PastSize | Trespass::Freed => Wanted::InGranules(addr),
+            Trespass::NoChunk => match Block::of(addr) {
+                Some(block) => Wanted::InBlock(block.start),
+                None => return Cause::NoChunkThere,
+            },
+        };
+        match book.newest(&wanted) {
+            Some(chunk) if wrong.trespass == Trespass::Freed => {
+                let offset = addr.saturating_sub(chunk.start());
+                Cause::UseAfterFree(chunk, offset)
+            }
+            Some(chunk) => Cause::of_neighbour(addr, chunk),
+            None => Cause::NoChunkThere,
+        }
+    }
+
+    /// The cause of an access to the stack, below it or above.
+    fn of_stack(addr: u64) -> Option<Cause> {
+        if addr < STACK_START && STACK_START - addr <= NEAR {
+            Some(Cause::StackOverflow(STACK_START - addr))
+        } else if addr >= STACK_START && addr < STACK_END {
+            Some(Cause::StackObject)
+        } else if addr >= STACK_END && addr - STACK_END < PAGE_SIZE {
+            Some(Cause::AboveStack)
+        } else {
+            None
         }
     }
 
@@ -133,7 +177,7 @@ impl Cause {
             | Cause::FreedPointer(chunk)
             | Cause::HeaderOverwritten(chunk)
             | Cause::InsideChunk(chunk, _) => Some(chunk),
-            Cause::NullPointer | Cause::StackOverflow(_) | Cause::NoChunk | Cause::Unknown => None,
+            _ => None,
         }
     }
 
@@ -145,15 +189,26 @@ impl Cause {
         }
     }
 
+    /// The calls that made and freed the chunks that it names, in the order in which they are told.
+    pub fn calls(&self) -> [Option<&Entry>; 4] {
+        let (chunk, young) = (self.chunk(), self.young());
+        [
+            made_of(chunk),
+            freed_of(chunk),
+            made_of(young),
+            freed_of(young),
+        ]
+    }
+
     /// What it is called.
     fn name(&self) -> &'static str {
         match self {
-            Cause::UseAfterFree(_, _) => "[MTE]: Use After Free",
-            Cause::StalePointer(_, _, _) => "[MTE]: Use After Free by a stale pointer",
-            Cause::Overflow(_, _) => "[MTE]: Buffer Overflow",
-            Cause::Underflow(_, _) => "[MTE]: Buffer Underflow",
+            Cause::UseAfterFree(_, _) => "Use After Free",
+            Cause::StalePointer(_, _, _) => "Use After Free by a stale pointer",
+            Cause::Overflow(_, _) => "Buffer Overflow",
+            Cause::Underflow(_, _) => "Buffer Underflow",
             Cause::TagsChanged(_) => "the tags were changed",
-            Cause::ForeignPointer(_) => "[MTE]: a pointer of another tag",
+            Cause::ForeignPointer(_) => "a pointer of another tag",
             Cause::NullPointer => "Null Pointer",
             Cause::StackOverflow(_) => "Stack Overflow",
             Cause::DoubleFree(_) => "Double Free",
@@ -161,7 +216,27 @@ impl Cause {
             Cause::HeaderOverwritten(_) => "Corrupt Header: something was written in front",
             Cause::InsideChunk(_, _) => "Invalid Pointer",
             Cause::NoChunk => "Invalid Pointer, which no heap call returned",
+            Cause::NoChunkThere => "Invalid Access, to bytes of no chunk",
+            Cause::StackObject => "Buffer Overflow of an object on the stack, or Use After Return",
+            Cause::AboveStack => {
+                "an access above the stack, where a program for Linux finds its arguments: a \
+                 tenant has none (docs/TENANTS.md)"
+            }
+            Cause::WildJump => "Wild Jump: the address is no code",
             Cause::Unknown => "unknown",
+        }
+    }
+
+    /// `[MTE]: ` where a tag found it.
+    fn finder(&self) -> &'static str {
+        match self {
+            Cause::UseAfterFree(_, _)
+            | Cause::StalePointer(_, _, _)
+            | Cause::Overflow(_, _)
+            | Cause::Underflow(_, _)
+            | Cause::ForeignPointer(_)
+            | Cause::StackObject => "[MTE]: ",
+            _ => "",
         }
     }
 
@@ -188,12 +263,26 @@ impl Cause {
             Cause::Overflow(_, _) => " right of a ",
             Cause::Underflow(_, _) => " left of a ",
             Cause::StackOverflow(_) => " below the stack",
-            Cause::NullPointer | Cause::NoChunk | Cause::Unknown => "",
-            _ => " of a ",
+            Cause::TagsChanged(_)
+            | Cause::DoubleFree(_)
+            | Cause::FreedPointer(_)
+            | Cause::HeaderOverwritten(_) => " of a ",
+            _ => "",
         }
     }
 }
 
+/// The call that made a chunk.
+fn made_of(chunk: Option<&Chunk>) -> Option<&Entry> {
+    Some(&chunk?.made)
+}
+
+/// The call that freed a chunk.
+fn freed_of(chunk: Option<&Chunk>) -> Option<&Entry> {
+    chunk?.freed.as_ref()
+}
+
+/// A cause: what it is called, how far the address lies from the chunk, and the chunk.
 impl fmt::Display for Cause {
     fn fmt<W: fmt::Write>(&self, f: &mut fmt::Formatter<W>) -> fmt::Result {
         f.write_str(self.name())?;
@@ -205,5 +294,26 @@ impl fmt::Display for Cause {
             Some(chunk) => chunk.fmt(f),
             None => Ok(()),
         }
+    }
+}
+
+/// A cause, behind what found it: a tag, a chunk's bounds or neither.
+#[derive(Clone, Copy)]
+pub struct Found<'a> {
+    /// The cause.
+    pub cause: &'a Cause,
+    /// Whether the bounds of chunks found it.
+    pub is_exact: bool,
+}
+
+impl<'a> fmt::Display for Found<'a> {
+    fn fmt<W: fmt::Write>(&self, f: &mut fmt::Formatter<W>) -> fmt::Result {
+        let Found { cause, is_exact } = *self;
+        let finder = if is_exact {
+            "[exact]: "
+        } else {
+            cause.finder()
+        };
+        write!(f, "{finder}{cause}")
     }
 }

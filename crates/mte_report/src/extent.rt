@@ -1,5 +1,6 @@
 //! The granules of a chunk, as a picture shows them.
 
+use crate::book::Chunk;
 use address_map::GRANULE_SIZE;
 use heap_picture::{GRANULES, Owner, Row};
 
@@ -15,9 +16,25 @@ pub struct Extent {
     pub end: u64,
     /// Whether the chunk is in use.
     pub live: bool,
+    /// The chunk, with the call that freed it.
+    pub chunk: Chunk,
+    /// The number of the call that gave its block before.
+    pub earlier: Option<u64>,
+    /// Whether no newer chunk has its block.
+    pub is_newest: bool,
 }
 
 impl Extent {
+    /// The granules of a row that it holds: the number of the first, and that after the last.
+    pub fn in_row(&self, address: u64) -> Option<(usize, usize)> {
+        if self.end <= address || address.saturating_add(ROW_SIZE) <= self.start {
+            return None;
+        }
+        let start = self.start.saturating_sub(address) / GRANULE_SIZE;
+        let end = self.end.saturating_sub(address).div_ceil(GRANULE_SIZE);
+        Some((start as usize, (end as usize).min(GRANULES)))
+    }
+
     /// Whose its granules are.
     fn owner(&self) -> Owner {
         if self.live { Owner::Live } else { Owner::Freed }

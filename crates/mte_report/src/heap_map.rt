@@ -1,13 +1,13 @@
 //! The heap and its tags at the end of a tenant, as a picture.
 
-use crate::cause::Cause;
 use crate::extent::Extent;
-use crate::owner::Range;
+use crate::notes::Notes;
 use crate::pages::{Pages, page_map};
 use crate::report::Report;
 use crate::selection::{Place, Window, places, row_at};
 use a64_bits::plain;
 use address_map::PAGE_SIZE;
+use heap_bounds::Range;
 use heap_picture::{END, Heading, Kind, Line, Mark, Marked};
 use mte_flat::Flat;
 use mte_sched::Status;
@@ -47,7 +47,7 @@ impl<'a> Report<'a> {
             title,
             map,
             extents: extents.as_slice(),
-            mark: mark_of(&self.parts.account.status),
+            mark: self.mark(),
         };
         self.draw_scene(alloc, out, memory, &scene)
     }
@@ -68,7 +68,30 @@ impl<'a> Report<'a> {
             window: Window::around(places.as_slice(), addr),
         };
         self.write_heading(alloc, out, &rows)?;
-        rows.write(out, memory)
+        self.write_rows(alloc, out, memory, &rows)
+    }
+
+    /// Writes the rows of a picture, and what is said of their chunks.
+    fn write_rows<W: Write>(
+        &self,
+        alloc: Global,
+        out: &mut W,
+        memory: &mut Flat,
+        rows: &Rows<'_>,
+    ) -> io::Result<()> {
+        let notes = Notes {
+            extents: rows.scene.extents,
+            names: &self.names,
+            cause: self.cause_number(),
+        };
+        rows.write(alloc, out, memory, &notes)
+    }
+
+    /// The number of the call that made the chunk that the cause names.
+    fn cause_number(&self) -> Option<u64> {
+        let cause = self.cause()?;
+        let chunk = cause.chunk()?;
+        Some(chunk.made.number)
     }
 
     /// Writes what stands above the rows of a picture.
@@ -81,6 +104,10 @@ impl<'a> Report<'a> {
         let title = Title {
             name: rows.scene.title,
             ending: Ending(self),
+            run: Run {
+                step: self.step(),
+                seed: self.seed,
+            },
             left_out: rows.left_out(),
         };
         let title = format!(in alloc; "{title}")?;
@@ -145,21 +172,33 @@ impl<'a> Rows<'a> {
     }
 
     /// Writes those that are shown, and the end of the picture.
-    fn write<W: Write>(&self, out: &mut W, memory: &mut Flat) -> io::Result<()> {
+    fn write<W: Write>(
+        &self,
+        alloc: Global,
+        out: &mut W,
+        memory: &mut Flat,
+        notes: &Notes<'_, '_>,
+    ) -> io::Result<()> {
         for place in self.places {
-            self.write_row(out, memory, place)?;
+            if let Some(number) = self.window.number(place) {
+                self.write_row(out, memory, place.address, number)?;
+                notes.write(alloc, out, place.address, number)?;
+            }
         }
         write!(out, "{END}")?;
         out.flush()
     }
 
-    /// Writes a row, if it is shown.
-    fn write_row<W: Write>(&self, out: &mut W, memory: &mut Flat, place: &Place) -> io::Result<()> {
-        let Some(number) = self.window.number(place) else {
-            return Ok(());
-        };
+    /// Writes the row at an address, under a number.
+    fn write_row<W: Write>(
+        &self,
+        out: &mut W,
+        memory: &mut Flat,
+        address: u64,
+        number: usize,
+    ) -> io::Result<()> {
         let line = Line {
-            row: row_at(memory, self.scene.extents, place.address),
+            row: row_at(memory, self.scene.extents, address),
             number,
             mark: self.scene.mark,
         };
@@ -193,6 +232,20 @@ fn kind_of(range: Range) -> Option<Kind> {
     }
 }
 
+impl<'a> Report<'a> {
+    /// The access or pointer that is framed.
+    fn mark(&self) -> Option<Mark> {
+        match self.finding {
+            Some(finding) => Some(Mark {
+                marked: Marked::Access,
+                addr: finding.wrong.addr,
+                tag: tag_of(finding.wrong.span.addr),
+            }),
+            None => mark_of(&self.parts.account.status),
+        }
+    }
+}
+
 /// The access or pointer that a status names.
 fn mark_of(status: &Status) -> Option<Mark> {
     match status {
@@ -217,8 +270,28 @@ struct Title<'a> {
     name: &'a str,
     /// What ended it.
     ending: Ending<'a>,
+    /// How it can be run again.
+    run: Run,
     /// How many rows are shown, where not all are.
     left_out: LeftOut,
+}
+
+/// The last step of a run, and its seed.
+#[derive(Clone, Copy)]
+struct Run {
+    step: u64,
+    seed: Option<u64>,
+}
+
+impl fmt::Display for Run {
+    fn fmt<W: fmt::Write>(&self, f: &mut fmt::Formatter<W>) -> fmt::Result {
+        let step = self.step;
+        write!(f, ", step {step}")?;
+        match self.seed {
+            Some(seed) => write!(f, ", seed {seed:016x}"),
+            None => Ok(()),
+        }
+    }
 }
 
 impl<'a> fmt::Display for Title<'a> {
@@ -226,9 +299,10 @@ impl<'a> fmt::Display for Title<'a> {
         let Title {
             name,
             ending,
+            run,
             left_out,
         } = self;
-        write!(f, "{name}: {ending}{left_out}")
+        write!(f, "{name}: {ending}{run}{left_out}")
     }
 }
 
@@ -257,25 +331,27 @@ struct Ending<'a>(&'a Report<'a>);
 
 impl<'a> fmt::Display for Ending<'a> {
     fn fmt<W: fmt::Write>(&self, f: &mut fmt::Formatter<W>) -> fmt::Result {
-        let Report { parts, book, .. } = self.0;
-        match &parts.account.status {
+        let report = self.0;
+        if let Some(cause) = &report.cause() {
+            return report.found(cause).fmt(f);
+        }
+        match &report.parts.account.status {
             Status::Exited(code) => write!(f, "exit {code}"),
-            status => match ending_words(status) {
-                Some(words) => f.write_str(words),
-                None => Cause::of(book, status, parts.regs.x[8]).fmt(f),
-            },
+            status => f.write_str(ending_words(status)),
         }
     }
 }
 
-/// What a status is called; none where an exit code or a cause tells more.
-fn ending_words(status: &Status) -> Option<&'static str> {
+/// What a status is called, where no cause tells more.
+fn ending_words(status: &Status) -> &'static str {
     match status {
-        Status::Exited(_) | Status::Faulted(_, _) | Status::Aborted(_, _, _) => None,
-        Status::Illegal(_, _) => Some("a word that is no instruction"),
-        Status::Breakpoint(_, _) => Some("breakpoint"),
-        Status::AsyncTag(_) => Some("an access had another tag than its memory"),
-        Status::Running => Some("still running"),
-        Status::Stopped => Some("stopped"),
+        Status::Exited(_) => "exit",
+        Status::Faulted(_, _) => "fault",
+        Status::Aborted(_, _, _) => "abort",
+        Status::Illegal(_, _) => "a word that is no instruction",
+        Status::Breakpoint(_, _) => "breakpoint",
+        Status::AsyncTag(_) => "an access had another tag than its memory",
+        Status::Running => "still running",
+        Status::Stopped => "stopped",
     }
 }

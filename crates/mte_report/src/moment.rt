@@ -1,15 +1,11 @@
 //! An attempted instruction, and what it changed.
 
-use crate::stored::Stored;
+use crate::loaded::load_of;
 use crate::stores::stored;
 use crate::words::Instruction;
 use a64_bits::Flags;
 use a64_decode::decode;
 use a64_step::Regs;
-use mte_svc::{
-    CALLOC, EXIT, FREE, MALLOC, MEMALIGN, PAGES_LEFT, READ, REALLOC, STEPS_LEFT, USABLE_SIZE,
-    WRITE, YIELD,
-};
 use std::fmt;
 use std::fmt::Display;
 
@@ -72,71 +68,17 @@ impl<'a> fmt::Display for Effect<'a> {
             return Ok(());
         }
         let changes = Changes { before, after };
-        match stored_by(word, before) {
-            Some(stored) => write!(f, "{changes}; {stored}"),
-            None => changes.fmt(f),
+        changes.fmt(f)?;
+        let Some(instr) = decode(word) else {
+            return Ok(());
+        };
+        if let Some(stored) = stored(&instr, before) {
+            return write!(f, "; {stored}");
         }
-    }
-}
-
-/// What the instruction with a word stores, by the registers before it.
-fn stored_by(word: u32, regs: &Regs) -> Option<Stored> {
-    let instr = decode(word)?;
-    stored(&instr, regs)
-}
-
-/// A service's line: what was requested, and its result.
-#[derive(Clone, Copy)]
-pub struct Service<'a> {
-    /// The registers before it.
-    pub before: &'a Regs,
-    /// The registers after it.
-    pub after: &'a Regs,
-}
-
-impl<'a> fmt::Display for Service<'a> {
-    fn fmt<W: fmt::Write>(&self, f: &mut fmt::Formatter<W>) -> fmt::Result {
-        let Regs { x, .. } = self.before;
-        let (number, first, second) = (x[8], x[0], x[1]);
-        let name = service_name(number);
-        let answer = Answer(*self);
-        write!(
-            f,
-            "service {number} {name}, x0 {first:#x}, x1 {second:#x}{answer}"
-        )
-    }
-}
-
-/// The result of a service.
-#[derive(Clone, Copy)]
-struct Answer<'a>(Service<'a>);
-
-impl<'a> fmt::Display for Answer<'a> {
-    fn fmt<W: fmt::Write>(&self, f: &mut fmt::Formatter<W>) -> fmt::Result {
-        let Service { before, after } = self.0;
-        if before.pc == after.pc {
-            return f.write_str(", which ends it");
+        match load_of(&instr, before, after) {
+            Some(loaded) => write!(f, "; {loaded}"),
+            None => Ok(()),
         }
-        write!(f, " = {:#x}", after.x[0])
-    }
-}
-
-/// The name of a service, by its number.
-fn service_name(number: u64) -> &'static str {
-    match number {
-        EXIT => "exit",
-        WRITE => "write",
-        READ => "read",
-        MALLOC => "malloc",
-        FREE => "free",
-        CALLOC => "calloc",
-        REALLOC => "realloc",
-        MEMALIGN => "memalign",
-        USABLE_SIZE => "usable_size",
-        YIELD => "yield",
-        STEPS_LEFT => "steps_left",
-        PAGES_LEFT => "pages_left",
-        _ => "of no name",
     }
 }
 

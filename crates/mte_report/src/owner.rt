@@ -1,85 +1,8 @@
-//! What an address is for.
+//! Whose granule an address is in.
 
 use crate::book::Chunk;
-use address_map::{
-    IMAGE_END, IMAGE_START, REGION_SIZE, REGIONS_START, SECONDARY_END, SECONDARY_START, STACK_END,
-    STACK_START,
-};
-use scudo_header::{CLASSES, size_of_class};
+use heap_bounds::{Block, Range};
 use std::fmt;
-
-/// What a range of addresses is for.
-#[derive(Clone, Copy, PartialEq, Eq)]
-pub enum Range {
-    /// An image's segments.
-    Image,
-    /// The blocks of a size class.
-    Class(u8),
-    /// Chunks with pages of their own.
-    Large,
-    /// The stack.
-    Stack,
-    /// Nothing.
-    Nothing,
-}
-
-impl Range {
-    /// The range of a plain address.
-    pub fn of(addr: u64) -> Range {
-        match addr {
-            IMAGE_START..IMAGE_END => Range::Image,
-            REGIONS_START..SECONDARY_START => {
-                let class = (addr - REGIONS_START) / REGION_SIZE;
-                if class == 0 || class > u64::from(CLASSES) {
-                    return Range::Nothing;
-                }
-                Range::Class(class as u8)
-            }
-            SECONDARY_START..SECONDARY_END => Range::Large,
-            STACK_START..STACK_END => Range::Stack,
-            _ => Range::Nothing,
-        }
-    }
-}
-
-impl fmt::Display for Range {
-    fn fmt<W: fmt::Write>(&self, f: &mut fmt::Formatter<W>) -> fmt::Result {
-        match self {
-            Range::Image => f.write_str("image"),
-            Range::Class(class) => write!(f, "heap, class {class}"),
-            Range::Large => f.write_str("heap, a large chunk"),
-            Range::Stack => f.write_str("stack"),
-            Range::Nothing => f.write_str("nothing"),
-        }
-    }
-}
-
-/// A block of a size class.
-#[derive(Clone, Copy)]
-pub struct Block {
-    /// The class.
-    pub class: u8,
-    /// The first address.
-    pub start: u64,
-    /// Its bytes.
-    pub size: u64,
-}
-
-impl Block {
-    /// The block of a plain address.
-    pub fn of(addr: u64) -> Option<Block> {
-        let Range::Class(class) = Range::of(addr) else {
-            return None;
-        };
-        if class == 0 || class > CLASSES {
-            return None;
-        }
-        let size = size_of_class(class);
-        let region = REGIONS_START + u64::from(class) * REGION_SIZE;
-        let start = region + addr.saturating_sub(region) / size * size;
-        Some(Block { class, start, size })
-    }
-}
 
 /// Whose granule an address is in.
 #[derive(Clone, Copy)]

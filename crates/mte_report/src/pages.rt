@@ -1,8 +1,8 @@
 //! The page map.
 
-use crate::owner::Range;
 use crate::words::Letters;
 use address_map::{ADDRESS_END, PAGE_SIZE};
+use heap_bounds::Range;
 use mte_tags::{Attrs, Tagged};
 use std::alloc::{AllocError, Global};
 use std::fmt;

@@ -1,16 +1,22 @@
 //! What happened to a tenant that did not exit, in words.
 
-use crate::book::{Book, Chunk, Entry, Wanted};
+use crate::book::{Book, Wanted};
 use crate::cause::Cause;
+use crate::exact::{Finding, Wrong};
+use crate::families::{breakpoint_words, family_of};
 use crate::moment::{Line, Moment, Nzcv};
-use crate::owner::{Owner, Range};
+use crate::owner::Owner;
 use crate::pages::{Pages, attrs_at, page_map};
-use crate::words::{Call, Instruction, abort_words, fault_words};
+use crate::tags::tell_tags;
+use crate::turns::{Turn, tell_turns};
+use crate::words::{Bytes, Instruction, abort_words, fault_words, trespass_words};
 use a64_bits::plain;
+use a64_decode::decode;
 use a64_step::Regs;
-use address_map::GRANULE_SIZE;
 use circular_buffer::HeapCircularBuffer;
-use elf_symbols::{Place, Symbols};
+use elf_symbols::Place;
+use heap_bounds::{Range, access_of};
+use mte_backtrace::Names;
 use mte_flat::Flat;
 use mte_sched::{Status, TenantParts};
 use mte_tags::{FaultKind, MemFault, Tagged};
@@ -18,9 +24,6 @@ use scudo_heap::HeapAbort;
 use std::alloc::Global;
 use std::io::Write;
 use std::{fmt, io};
-
-/// How many granules are shown in front of an address, and how many from it on.
-const GRANULES: u64 = 8;
 
 /// A tenant that ran, and what was remembered of it.
 #[derive(Clone, Copy)]
@@ -31,53 +34,109 @@ pub struct Report<'a> {
     pub book: &'a Book,
     /// Its last instructions, the oldest first, where they are wanted.
     pub last: Option<&'a HeapCircularBuffer<Moment>>,
+    /// Its last calls and returns, the oldest first, where they are wanted.
+    pub turns: Option<&'a HeapCircularBuffer<Turn>>,
     /// The steps that it could have.
     pub limit: u64,
-    /// The names of its image's addresses.
-    pub symbols: Symbols<'a>,
+    /// What the addresses of its image are called.
+    pub names: Names<'a>,
+    /// The name of its image's file.
+    pub image: &'a str,
+    /// Its seed, where it ran alone.
+    pub seed: Option<u64>,
+    /// The access that ended it beyond what its tags forbid, if one did.
+    pub finding: Option<&'a Finding>,
 }
 
 impl<'a> Report<'a> {
     /// Writes what happened, the cause first.
     pub fn write<W: Write>(&self, alloc: Global, out: &mut W, memory: &mut Flat) -> io::Result<()> {
-        self.write_end(out)?;
+        write!(out, "mte_run: ")?;
+        tell_status(out, self, memory)?;
+        let cause = self.cause();
+        self.tell_calls(alloc, out, cause.as_ref(), memory)?;
         tell_place(out, self, memory)?;
         self.write_machine(alloc, out, memory)?;
+        self.tell_symbolizer(alloc, out, cause.as_ref(), memory)?;
         out.flush()
     }
 
-    /// Writes what ended it, and why.
-    fn write_end<W: Write>(&self, out: &mut W) -> io::Result<()> {
-        write!(out, "mte_run: ")?;
-        tell_status(out, self)?;
-        tell_cause(out, self)
+    /// What most likely went wrong, where a fault or a refused pointer ended it.
+    pub(crate) fn cause(&self) -> Option<Cause> {
+        if let Some(finding) = self.finding {
+            return Some(Cause::of_wrong(self.book, &finding.wrong));
+        }
+        let status = &self.parts.account.status;
+        match status {
+            Status::Faulted(_, _) | Status::Aborted(_, _, _) => {
+                Some(Cause::of(self.book, status, self.parts.regs.x[8]))
+            }
+            _ => None,
+        }
     }
 
-    /// Writes the registers, the pages and the last instructions.
+    /// The registers before the instruction that ended it.
+    pub(crate) fn regs(&self) -> &'a Regs {
+        match self.finding {
+            Some(finding) => &finding.before,
+            None => &self.parts.regs,
+        }
+    }
+
+    /// The registers after the last instruction that is told.
+    fn after(&self) -> &'a Regs {
+        match self.finding {
+            Some(finding) => &finding.after,
+            None => &self.parts.regs,
+        }
+    }
+
+    /// The number of the instruction that ended it.
+    pub(crate) fn step(&self) -> u64 {
+        match self.finding {
+            Some(finding) => finding.step,
+            None => self.parts.account.steps,
+        }
+    }
+
+    /// The plain address that the status names, if it names one.
+    pub(crate) fn address(&self) -> Option<u64> {
+        if let Some(finding) = self.finding {
+            return Some(finding.wrong.addr);
+        }
+        match self.parts.account.status {
+            Status::Faulted(fault, _) => Some(fault.addr),
+            Status::Aborted(_, pointer, _) => Some(plain(pointer)),
+            _ => None,
+        }
+    }
+
+    /// Writes the last instructions, the registers and the pages.
     fn write_machine<W: Write>(
         &self,
         alloc: Global,
         out: &mut W,
         memory: &mut Flat,
     ) -> io::Result<()> {
-        let regs = &self.parts.regs;
         tell_instruction(out, self.here(), memory)?;
-        tell_registers(out, regs)?;
-        tell_pages(alloc, out, memory)?;
-        match self.last {
-            Some(last) => tell_last(out, last, regs),
-            None => Ok(()),
+        if let Some(turns) = self.turns {
+            tell_turns(out, turns, &self.names)?;
         }
+        if let Some(last) = self.last {
+            tell_last(out, last, self.after())?;
+        }
+        tell_registers(out, self.regs())?;
+        tell_pages(alloc, out, memory)
     }
 
     /// The next instruction's address.
     fn here(&self) -> At<'a> {
-        self.at(self.parts.regs.pc)
+        self.at(self.regs().pc)
     }
 
-    /// An address, at the place of the next instruction.
+    /// An address, at the place of the instruction that ended it.
     fn at(&self, pc: u64) -> At<'a> {
-        let place = self.symbols.place(self.parts.regs.pc);
+        let place = self.names.symbols.place(self.regs().pc);
         At { pc, place }
     }
 }
@@ -97,10 +156,16 @@ impl<'a> fmt::Display for At<'a> {
 }
 
 /// What ended it.
-fn tell_status<W: Write>(out: &mut W, report: &Report<'_>) -> io::Result<()> {
+fn tell_status<W: Write>(out: &mut W, report: &Report<'_>, memory: &mut Flat) -> io::Result<()> {
+    if let Some(finding) = report.finding {
+        return tell_wrong(out, &finding.wrong, report.here());
+    }
     match &report.parts.account.status {
         Status::Exited(code) => writeln!(out, "it exited with {code}"),
-        Status::Faulted(fault, pc) => tell_fault(out, fault, report.at(*pc)),
+        Status::Faulted(fault, pc) => {
+            let size = size_of_access(memory, report.regs(), fault.addr);
+            tell_fault(out, fault, size, report.at(*pc))
+        }
         Status::Illegal(word, pc) => tell_illegal(out, *word, report.at(*pc)),
         Status::Breakpoint(number, pc) => tell_breakpoint(out, *number, report.at(*pc)),
         Status::AsyncTag(pc) => tell_async(out, *pc),
@@ -110,10 +175,59 @@ fn tell_status<W: Write>(out: &mut W, report: &Report<'_>) -> io::Result<()> {
     }
 }
 
+/// An access that a chunk's bounds forbid, of the instruction at an address.
+fn tell_wrong<W: Write>(out: &mut W, wrong: &Wrong, at: At<'_>) -> io::Result<()> {
+    let access = Accessing(wrong.span.is_write, Size(Some(wrong.span.bytes)));
+    let (addr, first) = (wrong.addr, plain(wrong.span.addr));
+    let why = trespass_words(wrong.trespass);
+    write!(
+        out,
+        "exact: a {access} from {first:#018x} by the instruction at {at}: "
+    )?;
+    writeln!(out, "the byte at {addr:#018x} {why}")
+}
+
+/// How many bytes the instruction at PC accesses, where the first is the one at a plain address.
+fn size_of_access(memory: &mut Flat, regs: &Regs, addr: u64) -> Size {
+    let Ok(word) = memory.fetch(regs.pc) else {
+        return Size(None);
+    };
+    Size(
+        decode(word)
+            .and_then(|instr| access_of(&instr, regs))
+            .filter(|access| plain(access.addr) == addr)
+            .map(|access| access.len()),
+    )
+}
+
+/// What an access is called, and its size.
+#[derive(Clone, Copy)]
+struct Accessing(bool, Size);
+
+impl fmt::Display for Accessing {
+    fn fmt<W: fmt::Write>(&self, f: &mut fmt::Formatter<W>) -> fmt::Result {
+        let (name, size) = (if self.0 { "write" } else { "read" }, self.1);
+        write!(f, "{name}{size}")
+    }
+}
+
+/// How many bytes an access has: ` of 4 bytes`, or nothing where it isn't known.
+#[derive(Clone, Copy)]
+struct Size(Option<u64>);
+
+impl fmt::Display for Size {
+    fn fmt<W: fmt::Write>(&self, f: &mut fmt::Formatter<W>) -> fmt::Result {
+        match self.0 {
+            Some(bytes) => write!(f, " of {}", Bytes(bytes)),
+            None => Ok(()),
+        }
+    }
+}
+
 /// An access that failed, of the instruction at an address.
-fn tell_fault<W: Write>(out: &mut W, fault: &MemFault, at: At<'_>) -> io::Result<()> {
+fn tell_fault<W: Write>(out: &mut W, fault: &MemFault, size: Size, at: At<'_>) -> io::Result<()> {
     let MemFault { addr, kind, .. } = fault;
-    let access = if fault.write { "write" } else { "read" };
+    let access = Accessing(fault.write, size);
     write!(
         out,
         "fault {kind:?}: a {access} at {addr:#018x} by the instruction at "
@@ -143,15 +257,32 @@ impl<'a> fmt::Display for Tags<'a> {
 
 /// A word at an address that is no instruction.
 fn tell_illegal<W: Write>(out: &mut W, word: u32, at: At<'_>) -> io::Result<()> {
+    let family = Family(word);
     writeln!(
         out,
-        "illegal word {word:#010x} at {at}: no instruction of the table"
+        "illegal word {word:#010x} at {at}: no instruction of the table{family}"
     )
+}
+
+/// The family of a word, where it is known.
+#[derive(Clone, Copy)]
+struct Family(u32);
+
+impl fmt::Display for Family {
+    fn fmt<W: fmt::Write>(&self, f: &mut fmt::Formatter<W>) -> fmt::Result {
+        match family_of(self.0) {
+            Some(family) => { write!(f, ", but {family} (docs/TENANTS.md has what avoids it)") }
+            None => Ok(()),
+        }
+    }
 }
 
 /// A breakpoint at an address.
 fn tell_breakpoint<W: Write>(out: &mut W, number: u16, at: At<'_>) -> io::Result<()> {
-    writeln!(out, "breakpoint {number} at {at}")
+    match breakpoint_words(number) {
+        Some(words) => writeln!(out, "breakpoint {number} at {at}: {words}"),
+        None => writeln!(out, "breakpoint {number} at {at}"),
+    }
 }
 
 /// A tag that differed before an address.
@@ -186,71 +317,10 @@ fn tell_running<W: Write>(out: &mut W, report: &Report<'_>) -> io::Result<()> {
     }
 }
 
-/// What most likely went wrong, and the calls that made and freed the chunk.
-fn tell_cause<W: Write>(out: &mut W, report: &Report<'_>) -> io::Result<()> {
-    let parts = report.parts;
-    let status = &parts.account.status;
-    if !matches!(status, Status::Faulted(_, _) | Status::Aborted(_, _, _)) {
-        return Ok(());
-    }
-    let cause = Cause::of(report.book, status, parts.regs.x[8]);
-    writeln!(out, "Cause: {cause}")?;
-    tell_chunks(out, &cause, &report.symbols)?;
-    tell_short(out, report.book)
-}
-
-/// That older calls are forgotten, if any are.
-fn tell_short<W: Write>(out: &mut W, book: &Book) -> io::Result<()> {
-    if !book.is_short() {
-        return Ok(());
-    }
-    writeln!(out, "  (older heap calls are no longer kept)")
-}
-
-/// The chunks that a cause names.
-fn tell_chunks<W: Write>(out: &mut W, cause: &Cause, symbols: &Symbols<'_>) -> io::Result<()> {
-    if let Some(chunk) = cause.chunk() {
-        tell_chunk(out, chunk, symbols)?;
-    }
-    match cause.young() {
-        Some(young) => tell_young(out, young, symbols),
-        None => Ok(()),
-    }
-}
-
-/// The chunk that a freed block was given to.
-fn tell_young<W: Write>(out: &mut W, young: &Chunk, symbols: &Symbols<'_>) -> io::Result<()> {
-    writeln!(out, "  its block was given again, as the {young}:")?;
-    tell_chunk(out, young, symbols)
-}
-
-/// The calls that made and freed a chunk.
-fn tell_chunk<W: Write>(out: &mut W, chunk: &Chunk, symbols: &Symbols<'_>) -> io::Result<()> {
-    tell_call(out, "allocated", &chunk.made, symbols)?;
-    match &chunk.freed {
-        Some(entry) => tell_call(out, "freed", entry, symbols),
-        None => Ok(()),
-    }
-}
-
-/// A call, and what it did.
-fn tell_call<W: Write>(
-    out: &mut W,
-    did: &str,
-    entry: &Entry,
-    symbols: &Symbols<'_>,
-) -> io::Result<()> {
-    let place = symbols.place(entry.pc);
-    let call = Call { entry, place };
-    writeln!(out, "  {did} by {call}")
-}
-
 /// Whose granule the address is in that a status names, and the tags around it.
 fn tell_place<W: Write>(out: &mut W, report: &Report<'_>, memory: &mut Flat) -> io::Result<()> {
-    let addr = match report.parts.account.status {
-        Status::Faulted(fault, _) => fault.addr,
-        Status::Aborted(_, pointer, _) => plain(pointer),
-        _ => return Ok(()),
+    let Some(addr) = report.address() else {
+        return Ok(());
     };
     let owner = Owner {
         addr,
@@ -258,46 +328,11 @@ fn tell_place<W: Write>(out: &mut W, report: &Report<'_>, memory: &mut Flat) -> 
         chunk: report.book.newest(&Wanted::InGranules(addr)),
     };
     let place = match Range::of(addr) {
-        Range::Image => report.symbols.place(addr),
+        Range::Image => report.names.symbols.place(addr),
         _ => Place::unnamed(addr),
     };
     writeln!(out, "{owner}{place}")?;
     tell_tags(out, memory, addr)
-}
-
-/// The tags of the granules around an address, its own in brackets.
-fn tell_tags<W: Write, M: Tagged>(out: &mut W, memory: &mut M, addr: u64) -> io::Result<()> {
-    let own = addr / GRANULE_SIZE * GRANULE_SIZE;
-    let first = own.saturating_sub(GRANULES * GRANULE_SIZE);
-    write!(out, "tags from {first:#x}, of 16 bytes each:")?;
-    for i in 0..2 * GRANULES {
-        let at = first.wrapping_add(i * GRANULE_SIZE);
-        let tag = Tag(memory.load_tag(at).ok());
-        tell_tag(out, tag, at == own)?;
-    }
-    writeln!(out)
-}
-
-/// The tag of a granule, in brackets where it is the address's own.
-fn tell_tag<W: Write>(out: &mut W, tag: Tag, is_own: bool) -> io::Result<()> {
-    if is_own {
-        write!(out, " [{tag}]")
-    } else {
-        write!(out, " {tag}")
-    }
-}
-
-/// A granule's tag, or a dash where it has none.
-#[derive(Clone, Copy)]
-struct Tag(Option<u8>);
-
-impl fmt::Display for Tag {
-    fn fmt<W: fmt::Write>(&self, f: &mut fmt::Formatter<W>) -> fmt::Result {
-        match self.0 {
-            Some(tag) => write!(f, "{tag:x}"),
-            None => f.write_str("-"),
-        }
-    }
 }
 
 /// The instruction at an address, if it can be fetched.
@@ -310,11 +345,16 @@ fn tell_instruction<W: Write>(out: &mut W, at: At<'_>, memory: &mut Flat) -> io:
     writeln!(out, "instruction at {at}: {word:08x}  {instruction}")
 }
 
-/// The registers, the flags and the generator.
+/// The registers that are not 0, the flags and the generator.
 fn tell_registers<W: Write>(out: &mut W, regs: &Regs) -> io::Result<()> {
+    write!(out, "registers that are not 0:")?;
+    let mut told = 0u32;
     for (n, value) in regs.x.iter().enumerate() {
-        let end = if n % 4 == 3 { "\n" } else { "" };
-        write!(out, "  x{n:<2} {value:016x}{end}")?;
+        if *value != 0 {
+            let start = if told % 4 == 0 { "\n" } else { "" };
+            write!(out, "{start}  x{n:<2} {value:016x}")?;
+            told = told.saturating_add(1);
+        }
     }
     let Regs { sp, pc, .. } = regs;
     let flags = Nzcv(regs.flags);

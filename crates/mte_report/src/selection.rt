@@ -1,15 +1,15 @@
 //! Which rows a picture has, and what they show.
 
 use crate::extent::{Extent, ROW_SIZE, paint_all};
-use crate::owner::{Block, Range};
 use crate::pages::Pages;
 use address_map::{ADDRESS_END, GRANULE_SIZE, REGION_SIZE, REGIONS_START};
+use heap_bounds::{Block, Range};
 use heap_picture::{GRANULES, Granule, Owner, ROWS, Row};
 use mte_tags::{FaultKind, Tagged};
 use std::alloc::{AllocError, Global};
 
 /// How many rows are shown one after another in which nothing changes.
-const PLAIN: u32 = 3;
+const PLAIN: u32 = 1;
 
 /// A row that may be shown.
 #[derive(Clone, Copy)]

@@ -1,6 +1,7 @@
 //! What a store leaves in memory.
 
 use a64_step::Regs;
+use heap_bounds::{base, unit, zero_or};
 use mte_tags::tag_of;
 use std::fmt;
 
@@ -28,21 +29,12 @@ pub(crate) enum Stored {
     },
 }
 
+pub(crate) use heap_bounds::{register_offset, scaled_offset, signed_offset};
+
 /// How many granules from the base a store of tags begins: by its offset, unless it is post-indexed
 /// (mode 1).
 pub(crate) fn granules_on(mode: u8, offset: i64) -> i64 {
     if mode == 1 { 0 } else { offset }
-}
-
-/// The offset that a constant gives to the base, in units of the access.
-pub(crate) fn scaled_offset(imm12: u16, size: u8) -> u64 {
-    u64::from(imm12).wrapping_mul(unit(size))
-}
-
-/// The offset that a register gives to the base.
-pub(crate) fn register_offset(regs: &Regs, rm: u8, option: u8, s: u8, size: u8) -> u64 {
-    let offset = extended(zero_or(regs, rm), option);
-    offset.wrapping_mul(if s == 1 { unit(size) } else { 1 })
 }
 
 /// A store of one register, of 2 to the power of `size` bytes.
@@ -77,48 +69,12 @@ pub(crate) fn tags(regs: &Regs, opc: u8, rn: u8, granules: i64, rt: u8) -> Store
     }
 }
 
-/// A register, or SP for number 31.
-fn base(regs: &Regs, n: u8) -> u64 {
-    regs.x.get(n as usize).copied().unwrap_or(regs.sp)
-}
-
-/// A register, or 0 for number 31.
-fn zero_or(regs: &Regs, n: u8) -> u64 {
-    regs.x.get(n as usize).copied().unwrap_or(0)
-}
-
-/// The bytes of a size: 1, 2, 4, 8.
-fn unit(size: u8) -> u64 {
-    match size {
-        0 => 1,
-        1 => 2,
-        2 => 4,
-        _ => 8,
-    }
-}
-
 /// The lowest bytes of a number.
 fn low_bytes(value: u64, bytes: u64) -> u64 {
     match bytes {
         1 => value % 256,
         2 => value % 65_536,
         4 => value % 4_294_967_296,
-        _ => value,
-    }
-}
-
-/// A signed number as one that is added modulo 2^64.
-pub(crate) fn signed_offset(offset: i64) -> u64 {
-    u64::from_le_bytes(offset.to_le_bytes())
-}
-
-/// An offset register as its option extends it: UXTW 2, LSL 3, SXTW 6, SXTX 7.
-fn extended(value: u64, option: u8) -> u64 {
-    let low = value % 4_294_967_296;
-    match option {
-        2 => low,
-        6 if low >= 2_147_483_648 => low.wrapping_sub(4_294_967_296),
-        6 => low,
         _ => value,
     }
 }

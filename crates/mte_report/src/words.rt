@@ -3,7 +3,7 @@
 use crate::book::{Chunk, Entry};
 use a64_decode::decode;
 use a64_text::TextAt;
-use elf_symbols::Place;
+use heap_bounds::Trespass;
 use mte_svc::{HeapCall, HeapService};
 use mte_tags::{Attrs, FaultKind};
 use scudo_heap::HeapAbort;
@@ -28,34 +28,26 @@ impl fmt::Display for Instruction {
     }
 }
 
-/// A heap call: its number, its arguments and result, and where and when it was made.
+/// A heap call: its number, its arguments and result, and when it was made.
 #[derive(Clone, Copy)]
-pub struct Call<'a> {
-    /// The call.
-    pub entry: &'a Entry,
-    /// The address of its SVC.
-    pub place: Place<'a>,
-}
+pub struct Call<'a>(pub &'a Entry);
 
 impl<'a> fmt::Display for Call<'a> {
     fn fmt<W: fmt::Write>(&self, f: &mut fmt::Formatter<W>) -> fmt::Result {
         let Entry {
             number,
             step,
-            pc,
             call,
-        } = self.entry;
-        let (request, answer, place) = (Request(call), call.answer, self.place);
-        write!(
-            f,
-            "call {number}, {request} = {answer:#x} by the SVC at {pc:#x}{place}, step {step}"
-        )
+            ..
+        } = self.0;
+        let (request, answer) = (Request(call), call.answer);
+        write!(f, "call {number}, {request} = {answer:#x}, step {step}")
     }
 }
 
 /// A heap call's service and its arguments.
 #[derive(Clone, Copy)]
-struct Request<'a>(&'a HeapCall);
+pub struct Request<'a>(pub &'a HeapCall);
 
 impl<'a> fmt::Display for Request<'a> {
     fn fmt<W: fmt::Write>(&self, f: &mut fmt::Formatter<W>) -> fmt::Result {
@@ -143,5 +135,14 @@ pub fn abort_words(abort: HeapAbort) -> &'static str {
         HeapAbort::InvalidState => "its header says that it is free",
         HeapAbort::NotABlock => "its header names no block of the heap",
         HeapAbort::AlreadyFree => "its block is free",
+    }
+}
+
+/// What an access does that a chunk's bounds forbid.
+pub fn trespass_words(trespass: Trespass) -> &'static str {
+    match trespass {
+        Trespass::PastSize => "is past the size of its chunk",
+        Trespass::Freed => "is of a chunk that was freed",
+        Trespass::NoChunk => "is of no chunk",
     }
 }

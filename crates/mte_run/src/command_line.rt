@@ -131,7 +131,10 @@ fn terms_options<'a>(alloc: Global, command: Command<'a>) -> Result<Command<'a>,
     let command = command.arg(pages(alloc))?;
     let command = command.arg(room(alloc))?;
     let command = command.arg(seed(alloc))?;
-    Ok(command.arg(mode(alloc))?)
+    let command = command.arg(seeds(alloc))?;
+    let command = command.arg(exact(alloc))?;
+    let help = "The asynchronous tag mode";
+    Ok(command.arg(flag(alloc, "async", help))?)
 }
 
 fn pages<'a>(alloc: Global) -> Arg<'a> {
@@ -146,15 +149,22 @@ fn room<'a>(alloc: Global) -> Arg<'a> {
 }
 
 fn seed<'a>(alloc: Global) -> Arg<'a> {
-    let help = "16 digits, which seed tags and checksums";
-    named(alloc, "seed", "HEX16", help).default_value("0000000000000001")
+    let help = "Up to 16 digits, which seed tags and checksums";
+    named(alloc, "seed", "HEX", help).default_value("0000000000000001")
 }
 
-fn mode<'a>(alloc: Global) -> Arg<'a> {
-    Arg::new(alloc, "async")
-        .long("async")
-        .help("The asynchronous tag mode")
-        .action(ArgAction::SetTrue)
+fn seeds<'a>(alloc: Global) -> Arg<'a> {
+    let help = "Runs it under N seeds, and tells the first run that does not exit";
+    number(alloc, "seeds", "1", help).value_parser(value_parser!(u32).range(1..=65536))
+}
+
+fn exact<'a>(alloc: Global) -> Arg<'a> {
+    let help = "Ends it at the first access to heap bytes that no live chunk has";
+    named(alloc, "exact", "all|writes", help)
+        .value_parser(["all", "writes"].as_slice())
+        .num_args(0..=1)
+        .require_equals(true)
+        .default_missing_value("all")
 }
 
 /// The arguments that say how long it runs.
@@ -178,14 +188,33 @@ fn slices<'a>(alloc: Global) -> Arg<'a> {
 /// The arguments that say what is told.
 fn told_options<'a>(alloc: Global, command: Command<'a>) -> Result<Command<'a>, Error> {
     let command = command.arg(last(alloc))?;
-    let command = command.arg(trace(alloc))?;
+    let command = command.arg(calls(alloc))?;
+    let help = "Tells the live chunks at the end, by the calls that made them";
+    let command = command.arg(flag(alloc, "leaks", help))?;
     let help = "Draws the heap and its tags at the end into an SVG file";
-    Ok(command.arg(named(alloc, "map", "FILE", help))?)
+    let command = command.arg(named(alloc, "map", "FILE", help))?;
+    let help = "Writes what happened into a file, as JSON";
+    let command = command.arg(named(alloc, "json", "FILE", help))?;
+    line_options(alloc, command)
+}
+
+/// The arguments that say which lines are written while it runs.
+fn line_options<'a>(alloc: Global, command: Command<'a>) -> Result<Command<'a>, Error> {
+    let help = "Writes a line a service";
+    let command = command.arg(flag(alloc, "services", help))?;
+    let command = command.arg(trace(alloc))?;
+    let help = "Where the lines of --services and --trace go";
+    Ok(command.arg(named(alloc, "trace-file", "FILE", help))?)
 }
 
 fn last<'a>(alloc: Global) -> Arg<'a> {
     let help = "How many of the last instructions are told";
     number(alloc, "last", "16", help).value_parser(value_parser!(u32).range(0..=65536))
+}
+
+fn calls<'a>(alloc: Global) -> Arg<'a> {
+    let help = "How many of the last calls and returns are told";
+    number(alloc, "calls", "0", help).value_parser(value_parser!(u32).range(0..=65536))
 }
 
 fn trace<'a>(alloc: Global) -> Arg<'a> {
@@ -194,6 +223,14 @@ fn trace<'a>(alloc: Global) -> Arg<'a> {
         .num_args(0..=1)
         .require_equals(true)
         .default_missing_value("-")
+}
+
+/// An option that is given or not.
+fn flag<'a>(alloc: Global, name: &'a str, help: &'a str) -> Arg<'a> {
+    Arg::new(alloc, name)
+        .long(name)
+        .help(help)
+        .action(ArgAction::SetTrue)
 }
 
 /// An option with a value.

@@ -1,41 +1,128 @@
 //! How a tenant ended, and the exit status that says so.
 
-use mte_sched::Status;
+use mte_sched::{Record, Status};
+use std::fmt;
 
-/// An access failed.
-const FAULT: u8 = 129;
+/// How a tenant ended. The exit status is 128 and the number of the way, or the tenant's own.
+#[derive(Clone, Copy, PartialEq, Eq)]
+pub enum Ending {
+    /// It exited.
+    Exit = 0,
+    /// An access failed.
+    Fault = 1,
+    /// In the asynchronous mode a tag differed.
+    AsyncTag = 2,
+    /// A check of a pointer that was handed to the heap failed.
+    Abort = 3,
+    /// A word is no instruction of the table.
+    Illegal = 4,
+    /// A breakpoint.
+    Breakpoint = 5,
+    /// The limit of steps was reached.
+    StepLimit = 6,
+    /// The slices were over, or it was stopped.
+    NotEnded = 7,
+    /// The image is refused, or the session never admits the tenant.
+    Refused = 8,
+    /// An access went beyond its chunk, where accesses are to keep to them.
+    Exact = 9,
+}
 
-/// In the asynchronous mode a tag differed.
-const ASYNC_TAG: u8 = 130;
+/// How many ways there are.
+pub const ENDINGS: usize = 10;
 
-/// A check of a pointer that was handed to the heap failed.
-const ABORT: u8 = 131;
-
-/// A word is no instruction of the table.
-const ILLEGAL: u8 = 132;
-
-/// A breakpoint.
-const BREAKPOINT: u8 = 133;
-
-/// The limit of steps was reached.
-const STEP_LIMIT: u8 = 134;
-
-/// The slices were over, or it was stopped.
-const NOT_ENDED: u8 = 135;
-
-/// The image is refused.
+/// The exit status of a tenant that is refused.
 pub const REFUSED: u8 = 136;
 
-/// The exit status of a tenant whose steps may be `limit`: its own where it exited.
-pub fn exit_status(status: &Status, steps: u64, limit: u64) -> u8 {
-    match status {
-        Status::Exited(code) => *code,
-        Status::Faulted(_, _) => FAULT,
-        Status::AsyncTag(_) => ASYNC_TAG,
-        Status::Aborted(_, _, _) => ABORT,
-        Status::Illegal(_, _) => ILLEGAL,
-        Status::Breakpoint(_, _) => BREAKPOINT,
-        Status::Running if steps >= limit => STEP_LIMIT,
-        Status::Running | Status::Stopped => NOT_ENDED,
+impl Ending {
+    /// That of a tenant whose steps may be `limit`.
+    pub fn of(account: &Record, limit: u64) -> Ending {
+        match account.status {
+            Status::Exited(_) => Ending::Exit,
+            Status::Faulted(_, _) => Ending::Fault,
+            Status::AsyncTag(_) => Ending::AsyncTag,
+            Status::Aborted(_, _, _) => Ending::Abort,
+            Status::Illegal(_, _) => Ending::Illegal,
+            Status::Breakpoint(_, _) => Ending::Breakpoint,
+            Status::Running if account.steps >= limit => Ending::StepLimit,
+            Status::Running | Status::Stopped => Ending::NotEnded,
+        }
+    }
+
+    /// The exit status.
+    pub fn status(self, account: &Record) -> u8 {
+        match account.status {
+            Status::Exited(code) if self == Ending::Exit => code,
+            _ => 128 + self as u8,
+        }
+    }
+}
+
+impl fmt::Display for Ending {
+    fn fmt<W: fmt::Write>(&self, f: &mut fmt::Formatter<W>) -> fmt::Result {
+        f.write_str(match self {
+            Ending::Exit => "exit",
+            Ending::Fault => "fault",
+            Ending::AsyncTag => "async",
+            Ending::Abort => "abort",
+            Ending::Illegal => "illegal word",
+            Ending::Breakpoint => "breakpoint",
+            Ending::StepLimit => "limit of steps",
+            Ending::NotEnded => "end of its slices",
+            Ending::Refused => "refusal",
+            Ending::Exact => "exact",
+        })
+    }
+}
+
+/// The way with a number.
+pub fn ending_at(index: usize) -> Ending {
+    match index {
+        0 => Ending::Exit,
+        1 => Ending::Fault,
+        2 => Ending::AsyncTag,
+        3 => Ending::Abort,
+        4 => Ending::Illegal,
+        5 => Ending::Breakpoint,
+        6 => Ending::StepLimit,
+        7 => Ending::NotEnded,
+        8 => Ending::Refused,
+        _ => Ending::Exact,
+    }
+}
+
+/// The last line of standard error: `ended by fault TagCheck, status 129`, and `exited with 129`
+/// where the tenant's own exit status is one of the program's.
+#[derive(Clone, Copy)]
+pub struct LastLine<'a> {
+    /// How it ended.
+    pub ending: Ending,
+    /// Its record.
+    pub account: &'a Record,
+}
+
+impl<'a> LastLine<'a> {
+    /// Whether it is written: not for an exit status that only a tenant has.
+    pub fn is_told(&self) -> bool {
+        let status = self.ending.status(self.account);
+        self.ending != Ending::Exit || matches!(status, 2..=6 | 129..=137)
+    }
+}
+
+impl<'a> fmt::Display for LastLine<'a> {
+    fn fmt<W: fmt::Write>(&self, f: &mut fmt::Formatter<W>) -> fmt::Result {
+        let (ending, status) = (self.ending, self.ending.status(self.account));
+        match &self.account.status {
+            _ if ending == Ending::Exact => write!(f, "ended by {ending}, status {status}"),
+            Status::Exited(_) => write!(f, "exited with {status}"),
+            Status::Faulted(fault, _) => {
+                let kind = fault.kind;
+                write!(f, "ended by {ending} {kind:?}, status {status}")
+            }
+            Status::Aborted(abort, _, _) => {
+                write!(f, "ended by {ending} {abort}, status {status}")
+            }
+            _ => write!(f, "ended by {ending}, status {status}"),
+        }
     }
 }

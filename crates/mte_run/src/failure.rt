@@ -66,7 +66,24 @@ fn write_script_fault<W: fmt::Write>(
     line: u64,
     fault: &ScriptFault,
 ) -> fmt::Result {
-    write!(f, "script line {line}: {fault}")
+    let wanted = wanted_of(fault);
+    write!(f, "script line {line}: {fault}{wanted}")
+}
+
+/// What a script's line should be.
+fn wanted_of(fault: &ScriptFault) -> &'static str {
+    match fault {
+        ScriptFault::Syntax => {
+            ": wanted is `admit ID image I input J seed HEX16 frames R out O`, with `async` behind \
+             it or not, `slice ID STEPS` or `stop ID`: one blank between words, none around \
+             them, the seed in 16 digits, and no carriage return"
+        }
+        ScriptFault::BadNumber => {
+            ": a number is over its limit: 65535 of tenants, 1048576 of steps, 2^32 - 1 of others"
+        }
+        ScriptFault::NoSuchFile => ": files are counted from 1 as they follow the options",
+        ScriptFault::TooManyEvents => ": a script has at most 10,000 events",
+    }
 }
 
 impl<'a> From<AllocError> for Failure<'a> {

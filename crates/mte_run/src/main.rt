@@ -5,11 +5,17 @@ mod bench;
 mod command_line;
 mod ending;
 mod failure;
+mod files;
 mod map;
 mod observer;
 mod options;
+mod refusal;
 mod replay;
 mod running;
+mod seeds;
+mod survey;
+mod telling;
+mod tracer;
 
 use command_line::{Invocation, read_command_line};
 use failure::{Failure, report};

@@ -2,6 +2,7 @@
 
 use crate::failure::Failure;
 use crate::options::Options;
+use either::Either;
 use mte_flat::Flat;
 use mte_report::Report;
 use std::fs::File;
@@ -26,7 +27,7 @@ pub fn draw_map<'a>(
     }
 }
 
-/// Draws the heap and its tags into the file with a name.
+/// Draws the heap and its tags into the file with a name, or to standard output for `-`.
 fn draw_file(
     rt: &HostRuntime,
     report: &Report<'_>,
@@ -34,7 +35,12 @@ fn draw_file(
     name: &str,
     memory: &mut Flat,
 ) -> io::Result<()> {
-    let mut out = BufWriter::new(rt.alloc(), File::create(rt, name)?)?;
+    let file = if name == "-" {
+        Either::Left(rt.stdout())
+    } else {
+        Either::Right(File::create(rt, name)?)
+    };
+    let mut out = BufWriter::new(rt.alloc(), file)?;
     let subject = Subject(options);
     let title = format!(in rt.alloc(); "{subject}")?;
     report.draw(rt.alloc(), &mut out, title.as_str(), memory)

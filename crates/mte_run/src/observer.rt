@@ -2,85 +2,61 @@
 
 ghost use Rattle.std.specs.Prelude.{None};
 
-use a64_step::Regs;
+use crate::tracer::Tracer;
 use circular_buffer::HeapCircularBuffer;
-use mte_report::{Book, Line, Moment, Service};
+use mte_report::{Book, Exact, Finding, Moment, SVC, Turn};
 use mte_sched::{TenantParts, Watch};
+use mte_svc::WRITE;
 use mte_tags::Tagged;
 use std::alloc::{AllocError, Global};
-use std::io;
 use std::io::Write;
 
-/// The word of SVC #0.
-const SVC: u32 = 0xD400_0001;
-
-/// Writes a line an instruction, from one step to another.
+/// Remembers the heap calls and the last instructions, and writes lines, up to the first access
+/// that goes beyond its chunk where accesses are to keep to them.
 #[derive(Drop)]
-pub struct Tracer<W: Write + Drop> {
-    /// The first step.
-    pub from: u64,
-    /// The last step.
-    pub to: u64,
-    /// Where the lines go.
-    pub out: W,
-    /// Whether a write failed; after that there are no more.
-    pub failed: bool,
-}
-
-impl<W: Write + Drop> Tracer<W> {
-    /// Writes the lines of an instruction, where it is one of the steps.
-    fn note(&mut self, moment: &Moment, after: &Regs) {
-        if self.failed || moment.step < self.from || moment.step > self.to {
-            return;
-        }
-        if self.write_lines(moment, after).is_err() {
-            self.failed = true;
-        }
-    }
-
-    /// The line of an instruction, and that of the service that it requests.
-    fn write_lines(&mut self, moment: &Moment, after: &Regs) -> io::Result<()> {
-        let line = Line { moment, after };
-        writeln!(self.out, "{line}")?;
-        if moment.word == Some(SVC) {
-            let service = Service {
-                before: &moment.regs,
-                after,
-            };
-            writeln!(self.out, "           {service}")?;
-        }
-        Ok(())
-    }
-
-    /// Writes what is still held; whether every line could be written.
-    pub fn finish(&mut self) -> bool {
-        self.out.flush().is_ok() && !self.failed
-    }
-}
-
-/// Remembers the heap calls and the last instructions, and traces where it is to.
-#[derive(Drop)]
-pub struct Observer<W: Write + Drop> {
+pub struct Observer<'a, W: Write + Drop> {
     /// The heap calls.
     pub book: Book,
     /// The last instructions, the oldest first.
-    pub last: HeapCircularBuffer<Moment>,
-    /// The trace.
-    pub tracer: Option<Tracer<W>>,
+    last: HeapCircularBuffer<Moment>,
+    /// The last calls and returns, the oldest first, where they are wanted.
+    turns: Option<HeapCircularBuffer<Turn>>,
+    /// The lines.
+    tracer: Option<Tracer<'a, W>>,
+    /// The bounds of chunks, where accesses are to keep to them.
+    exact: Option<Exact>,
+    /// Whether a service wrote fewer bytes than it was handed.
+    pub is_cut: bool,
 }
 
-impl<W: Write + Drop> Observer<W> {
+impl<'a, W: Write + Drop> Observer<'a, W> {
     /// One that remembers the last `count` instructions, at least one.
     pub fn new(
         alloc: Global,
         count: usize,
-        tracer: Option<Tracer<W>>,
-    ) -> Result<Observer<W>, AllocError> {
+        exact: Option<Exact>,
+        tracer: Option<Tracer<'a, W>>,
+    ) -> Result<Observer<'a, W>, AllocError> {
         Ok(Observer {
             book: Book::new(alloc)?,
             last: HeapCircularBuffer::with_capacity(alloc, count.max(1))?,
+            turns: None,
             tracer,
+            exact,
+            is_cut: false,
         })
+    }
+
+    /// The same that also remembers the last `count` calls and returns, where there are any.
+    pub fn with_turns(
+        mut self,
+        alloc: Global,
+        count: usize,
+    ) -> Result<Observer<'a, W>, AllocError> {
+        if count > 0 {
+            self.turns = Some(HeapCircularBuffer::with_capacity(alloc, count)?);
+        }
+        Ok(self)
     }
 
     /// The last instructions, unless their number is 0.
@@ -88,7 +64,25 @@ impl<W: Write + Drop> Observer<W> {
         if count > 0 { Some(&self.last) } else { None }
     }
 
-    /// Writes what is held of the trace; whether all of it could be written.
+    /// The last calls and returns, where they are wanted.
+    pub fn turns(&self) -> Option<&HeapCircularBuffer<Turn>> {
+        self.turns.as_ref()
+    }
+
+    /// The access that ended the tenant beyond what its tags forbid, if one did.
+    pub fn finding(&self) -> Option<&Finding> {
+        self.exact.as_ref()?.finding()
+    }
+
+    /// Whether no chunk was missed for want of memory.
+    pub fn is_complete(&self) -> bool {
+        match &self.exact {
+            Some(exact) => exact.is_complete(),
+            None => true,
+        }
+    }
+
+    /// Writes what is held of the lines; whether all of them could be written.
     pub fn finish(&mut self) -> bool {
         match &mut self.tracer {
             Some(tracer) => tracer.finish(),
@@ -97,10 +91,13 @@ impl<W: Write + Drop> Observer<W> {
     }
 }
 
-impl<W: Write + Drop> Watch for Observer<W> {
+impl<'a, W: Write + Drop> Watch for Observer<'a, W> {
     ghost log = { λ _. None };
 
     fn before<M: Tagged>(&mut self, parts: &TenantParts, memory: &mut M) {
+        if self.finding().is_some() {
+            return;
+        }
         self.last.push_back(Moment {
             step: parts.account.steps.saturating_add(1),
             word: memory.fetch(parts.regs.pc).ok(),
@@ -108,12 +105,40 @@ impl<W: Write + Drop> Watch for Observer<W> {
         });
     }
 
-    fn after<M: Tagged>(&mut self, parts: &TenantParts, _memory: &mut M) {
-        self.book.note(parts);
+    fn after<M: Tagged>(&mut self, parts: &TenantParts, memory: &mut M) {
+        if self.finding().is_some() {
+            return;
+        }
+        let call = self.book.note(parts, memory);
+        let Some(moment) = self.last.back() else {
+            return;
+        };
         if let Some(tracer) = &mut self.tracer {
-            if let Some(moment) = self.last.back() {
-                tracer.note(moment, &parts.regs);
-            }
+            tracer.note(moment, &parts.regs);
+        }
+        note_turn(&mut self.turns, moment, parts);
+        self.is_cut = self.is_cut || cuts_output(moment, parts);
+        if let Some(exact) = &mut self.exact {
+            exact.note(moment, parts, call.as_ref(), memory);
         }
     }
+}
+
+/// Remembers the call or return that an instruction made, where they are wanted.
+fn note_turn(turns: &mut Option<HeapCircularBuffer<Turn>>, moment: &Moment, parts: &TenantParts) {
+    let Some(turns) = turns else {
+        return;
+    };
+    if let Some(turn) = Turn::of(moment, &parts.regs) {
+        turns.push_back(turn);
+    }
+}
+
+/// Whether an instruction requested a write of more bytes than there was room for.
+fn cuts_output(moment: &Moment, parts: &TenantParts) -> bool {
+    let (before, after) = (&moment.regs, &parts.regs);
+    moment.word == Some(SVC)
+        && before.x[8] == WRITE
+        && before.pc != after.pc
+        && after.x[0] < before.x[1]
 }

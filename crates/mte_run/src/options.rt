@@ -2,7 +2,9 @@
 
 ghost use Rattle.std.specs.Prelude.{◌<◌, ◌≤◌};
 
+use crate::tracer::Traced;
 use clap::ArgMatches;
+use mte_report::Exact;
 use mte_tags::TagMode;
 use std::alloc::{AllocError, AllocFailed, Global};
 
@@ -28,6 +30,8 @@ pub struct Terms {
     pub room: u32,
     /// The seed of tags and of the heap's cookie.
     pub seed: u64,
+    /// Under how many seeds it is run, the first of them that one.
+    pub seeds: u32,
     /// What a tag that differs does.
     pub mode: TagMode,
     ghost some: { 0 < pages },
@@ -43,24 +47,36 @@ pub struct Length {
     pub slices: Option<Vec<u32>>,
 }
 
-/// The steps whose instructions are traced.
-#[derive(Clone, Copy)]
-pub struct Traced {
-    /// The first.
-    pub from: u64,
-    /// The last.
-    pub to: u64,
-}
-
 /// What is told of a run.
 #[derive(Drop)]
 pub struct Told {
     /// How many of the last instructions are told.
     pub last: usize,
-    /// The trace.
+    /// How many of the last calls and returns are told.
+    pub turns: usize,
+    /// The lines that are written while it runs.
     pub traced: Option<Traced>,
+    /// The name of the file that they are written into, in place of standard error.
+    pub trace_file: Option<String>,
+    /// Whether the live chunks are told.
+    pub leaks: bool,
     /// The name of the file that the heap is drawn into.
     pub map: Option<String>,
+    /// The name of the file that what happened is written into, for a program to read.
+    pub json: Option<String>,
+    /// Whether accesses are to keep to the bytes of chunks.
+    pub exact: Exactness,
+}
+
+/// Which accesses are to keep to the bytes of chunks.
+#[derive(Clone, Copy, PartialEq, Eq)]
+pub enum Exactness {
+    /// None: the tags alone decide.
+    Tags,
+    /// Those that write.
+    Writes,
+    /// All.
+    All,
 }
 
 /// What the program is run on.
@@ -83,7 +99,7 @@ pub struct Options {
 pub enum Fault {
     /// An allocation failed.
     Memory,
-    /// The seed is no number of 16 digits.
+    /// The seed is no number of up to 16 digits.
     Seed,
     /// The trace is not from one step to another.
     Trace,
@@ -98,7 +114,7 @@ impl Fault {
     pub fn text(self) -> &'static str {
         match self {
             Fault::Memory => "out of memory",
-            Fault::Seed => "the seed is not 16 hexadecimal digits",
+            Fault::Seed => "the seed is not a number of 1 to 16 hexadecimal digits",
             Fault::Trace => "the trace is not FROM-TO, two step numbers",
             Fault::Script => {
                 "--script has two values, a file and a tenant's number, and wants --frames"
@@ -137,6 +153,12 @@ impl Options {
             length: Length::of(alloc, matches)?,
             told,
         })
+    }
+
+    /// The name of the file with a number from 1.
+    pub fn file_name(&self, number: u32) -> &str {
+        let index = (number as usize).saturating_sub(1);
+        self.files.get(index).map_or("", |name| name.as_str())
     }
 
     /// The steps after which the tenant is given up.
@@ -200,6 +222,7 @@ impl Terms {
             pages: pages.max(1).min(4096),
             room: matches.get_one::<u32>("out").unwrap_or(65536),
             seed,
+            seeds: matches.get_one::<u32>("seeds").unwrap_or(1),
             mode: mode_of(matches),
         })
     }
@@ -214,12 +237,13 @@ fn mode_of(matches: &ArgMatches<'_>) -> TagMode {
     }
 }
 
-/// The number of 16 hexadecimal digits.
+/// The number of 1 to 16 hexadecimal digits, which may stand behind `0x`.
 fn seed_of(text: &str) -> Option<u64> {
-    if text.len() != 16 || text.starts_with('+') {
+    let digits = text.strip_prefix("0x").unwrap_or(text);
+    if digits.is_empty() || digits.len() > 16 || digits.starts_with('+') {
         return None;
     }
-    u64::from_str_radix(text, 16).ok()
+    u64::from_str_radix(digits, 16).ok()
 }
 
 impl Length {
@@ -239,33 +263,58 @@ impl Length {
 impl Told {
     /// What is told of a run.
     fn of(alloc: Global, matches: &ArgMatches<'_>) -> Result<Told, Fault> {
-        let traced = match matches.get_str("trace") {
-            Some(text) => Some(Traced::of(text).ok_or(Fault::Trace)?),
-            None => None,
-        };
         Ok(Told {
             last: matches.get_one::<u32>("last").unwrap_or(16) as usize,
-            traced,
+            turns: matches.get_one::<u32>("calls").unwrap_or(0) as usize,
+            traced: traced_by(matches.get_str("trace"), matches.get_flag("services"))?,
+            trace_file: name_of(alloc, matches, "trace-file")?,
+            leaks: matches.get_flag("leaks"),
             map: name_of(alloc, matches, "map")?,
+            json: name_of(alloc, matches, "json")?,
+            exact: match matches.get_str("exact") {
+                None => Exactness::Tags,
+                Some("writes") => Exactness::Writes,
+                Some(_) => Exactness::All,
+            },
         })
+    }
+
+    /// What watches that accesses keep to the bytes of chunks, where they are to.
+    pub fn exact(&self, alloc: Global) -> Option<Exact> {
+        match self.exact {
+            Exactness::Tags => None,
+            Exactness::Writes => Some(Exact::new(alloc, true)),
+            Exactness::All => Some(Exact::new(alloc, false)),
+        }
     }
 }
 
-impl Traced {
-    /// The steps from one to another; the first and the last where a number is left out.
-    fn of(text: &str) -> Option<Traced> {
-        let (from, to) = text.split_once('-')?;
-        Some(Traced {
-            from: if from.is_empty() {
-                1
-            } else {
-                from.parse().ok()?
-            },
-            to: if to.is_empty() {
-                u64::MAX
-            } else {
-                to.parse().ok()?
-            },
-        })
+/// The lines that are written while it runs, by the values of two options.
+fn traced_by(steps: Option<&str>, services: bool) -> Result<Option<Traced>, Fault> {
+    match steps {
+        Some(text) => {
+            let (from, to) = steps_of(text).ok_or(Fault::Trace)?;
+            Ok(Some(Traced { from, to, services }))
+        }
+        None if services => Ok(Some(Traced {
+            from: 1,
+            to: 0,
+            services,
+        })),
+        None => Ok(None),
     }
+}
+
+/// The steps from one to another; the first and the last where a number is left out.
+fn steps_of(text: &str) -> Option<(u64, u64)> {
+    let (from, to) = text.split_once('-')?;
+    Some((step_of(from, 1)?, step_of(to, u64::MAX)?))
+}
+
+/// A step's number, or the one that stands for none.
+fn step_of(text: &str, none: u64) -> Option<u64> {
+    if text.is_empty() {
+        return Some(none);
+    }
+    text.parse().ok()
 }

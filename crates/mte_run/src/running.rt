@@ -1,19 +1,24 @@
-//! A run of one tenant: its files are read, its slices run, and what happened is told.
+//! A run of one tenant.
+
+ghost use Rattle.std.specs.Prelude.{◌<◌};
 
 use crate::bench::Bench;
-use crate::ending::{REFUSED, exit_status};
+use crate::ending::REFUSED;
 use crate::failure::Failure;
-use crate::map::draw_map;
-use crate::observer::{Observer, Tracer};
-use crate::options::{Options, Replay, Traced};
-use crate::replay::{Replayed, file_of, replay_tenant};
+use crate::files::{Image, image_of, read_file, read_files, read_input};
+use crate::observer::Observer;
+use crate::options::{Options, Replay, Told};
+use crate::refusal::remedy_of;
+use crate::replay::{Replayed, replay_tenant};
+use crate::survey::Survey;
+use crate::telling::tell_end;
+use crate::tracer::Tracer;
 use address_map::MAX_STEPS;
+use either::Either;
 use elf_symbols::Symbols;
-use mte_flat::Flat;
-use mte_program::{StreamSink, StreamSource};
-use mte_report::Report;
-use mte_sched::{Admission, AdmitError, Host, Status, Watch};
-use mte_session::{ReadFault, parse_script, read_whole, write_all, write_report};
+use mte_program::StreamSink;
+use mte_sched::{Admission, AdmitError, Host};
+use mte_session::{parse_script, write_all, write_report};
 use std::fs::File;
 use std::io;
 use std::io::{BufWriter, Stderr};
@@ -21,31 +26,61 @@ use std::io::{BufWriter, Stderr};
 /// The number of a tenant that is alone.
 const ID: u16 = 1;
 
-/// What is written to standard error while a tenant runs, and after it.
-type Log = BufWriter<Stderr>;
+/// Where the lines go that are written while a tenant runs.
+pub type Log = BufWriter<Either<Stderr, File>>;
 
 /// Runs the tenant, writes its output and tells why it ended; returns the exit status.
 pub fn run_program<'a>(rt: &HostRuntime, options: &'a Options) -> Result<u8, Failure<'a>> {
-    let mut files = Vec::new(rt.alloc());
-    for name in &options.files {
-        files.push(read_file(rt, name.as_str())?)?;
+    let files = read_files(rt, options)?;
+    match &options.replay {
+        Some(replay) => run_replay(rt, options, replay, files.as_slice()),
+        None => run_alone(rt, options, &image_of(options, files.as_slice(), 1)),
     }
-    let tracer = match options.told.traced {
-        Some(Traced { from, to }) => Some(Tracer {
-            from,
-            to,
-            out: BufWriter::new(rt.alloc(), rt.stderr())?,
-            failed: false,
-        }),
+}
+
+/// What is remembered and written of a tenant, as the options request it: with the names of an
+/// image's functions, where it is known before the run.
+fn observer_of<'i>(
+    rt: &HostRuntime,
+    options: &Options,
+    image: &'i [u8],
+) -> io::Result<Observer<'i, Log>> {
+    let told = &options.told;
+    let tracer = match told.traced {
+        Some(traced) => Some(Tracer::new(traced, Symbols::of(image), open_log(rt, told)?)),
         None => None,
     };
-    let mut observer = Observer::new(rt.alloc(), options.told.last, tracer)?;
-    match &options.replay {
-        Some(replay) => run_replay(rt, options, replay, files.as_slice(), &mut observer),
-        None => match files.first() {
-            Some(image) => run_alone(rt, options, image.as_slice(), &mut observer),
-            None => Ok(REFUSED),
-        },
+    let exact = told.exact(rt.alloc());
+    let observer = Observer::new(rt.alloc(), told.last, exact, tracer)?;
+    Ok(observer.with_turns(rt.alloc(), told.turns)?)
+}
+
+/// Where the lines go that are written while a tenant runs.
+fn open_log(rt: &HostRuntime, told: &Told) -> io::Result<Log> {
+    let out = match &told.trace_file {
+        Some(name) => Either::Right(File::create(rt, name.as_str())?),
+        None => Either::Left(rt.stderr()),
+    };
+    BufWriter::new(rt.alloc(), out)
+}
+
+/// What an image is admitted with under a seed.
+pub fn admission_of<'a>(
+    options: &Options,
+    image: &'a [u8],
+    input: &'a [u8],
+    seed: u64,
+) -> Admission<'a>
+    ensures { 0 < result.pages }
+{
+    Admission {
+        id: ID,
+        image,
+        input,
+        seed,
+        pages: options.terms.pages,
+        room: options.terms.room,
+        mode: options.terms.mode,
     }
 }
 
@@ -53,35 +88,51 @@ pub fn run_program<'a>(rt: &HostRuntime, options: &'a Options) -> Result<u8, Fai
 fn run_alone<'a>(
     rt: &HostRuntime,
     options: &'a Options,
-    image: &[u8],
-    observer: &mut Observer<Log>,
+    image: &Image<'_>,
 ) -> Result<u8, Failure<'a>> {
     let input = read_input(rt, options)?;
-    let admission = Admission {
-        id: ID,
-        image,
-        input: input.as_slice(),
-        seed: options.terms.seed,
-        pages: options.terms.pages,
-        room: options.terms.room,
-        mode: options.terms.mode,
-    };
-    match Bench::new(rt.alloc(), &admission) {
-        Ok(bench) => run_bench(rt, options, bench, observer, image),
+    match admitted(rt, options, image.bytes, input.as_slice()) {
+        Ok((bench, seed)) => run_bench(rt, options, bench, image, seed),
         Err(AdmitError::OutOfMemory) => Err(Failure::Memory),
-        Err(error) => {
-            let _ = eprintln!(rt; "mte_run: the tenant is refused: {error}");
-            Ok(REFUSED)
-        }
+        Err(error) => Ok(refuse(rt, error)),
     }
 }
 
-/// All bytes of the input, if one is named.
-fn read_input<'a>(rt: &HostRuntime, options: &'a Options) -> Result<Vec<u8>, Failure<'a>> {
-    match &options.terms.input {
-        Some(name) => read_file(rt, name.as_str()),
-        None => Ok(Vec::new(rt.alloc())),
+/// An image at its first instruction, and the seed of the run that is told.
+fn admitted<'x>(
+    rt: &HostRuntime,
+    options: &Options,
+    image: &'x [u8],
+    input: &'x [u8],
+) -> Result<(Bench, u64), AdmitError> {
+    let seed = seed_of(rt, options, image, input)?;
+    let bench = Bench::new(rt.alloc(), &admission_of(options, image, input, seed))?;
+    Ok((bench, seed))
+}
+
+/// Tells why an image is refused, and returns the exit status.
+fn refuse(rt: &HostRuntime, error: AdmitError) -> u8 {
+    let remedy = remedy_of(error.name());
+    let _ = eprintln!(rt; "mte_run: the tenant is refused: {error}{remedy}");
+    let _ = eprintln!(rt; "mte_run: ended by refusal, status {REFUSED}");
+    REFUSED
+}
+
+/// The seed of the run that is told: of several the first under which the tenant does not exit. A
+/// line says how they ended.
+fn seed_of<'x>(
+    rt: &HostRuntime,
+    options: &Options,
+    image: &'x [u8],
+    input: &'x [u8],
+) -> Result<u64, AdmitError> {
+    let given = options.terms.seed;
+    if options.terms.seeds < 2 {
+        return Ok(given);
     }
+    let survey = Survey::of(rt.alloc(), options, image, input)?;
+    let _ = eprintln!(rt; "mte_run: {survey}");
+    Ok(survey.seed(given))
 }
 
 /// Runs a tenant of an image, and writes its output.
@@ -89,16 +140,17 @@ fn run_bench<'a>(
     rt: &HostRuntime,
     options: &'a Options,
     bench: Bench,
-    observer: &mut Observer<Log>,
-    image: &[u8],
+    image: &Image<'_>,
+    seed: u64,
 ) -> Result<u8, Failure<'a>> {
     let mut bench = bench;
-    run_slices(&mut bench, observer, options);
+    let mut observer = observer_of(rt, options, image.bytes)?;
+    run_slices(&mut bench, &mut observer, options);
     write_all(
         &mut StreamSink(rt.stdout()),
         bench.parts.account.output.as_slice(),
     )?;
-    tell_end(rt, bench, observer, options, Symbols::of(image))
+    tell_end(rt, bench, &mut observer, options, image, Some(seed))
 }
 
 /// Runs what a session does to one tenant, and writes its lines of the report.
@@ -107,16 +159,17 @@ fn run_replay<'a>(
     options: &'a Options,
     replay: &'a Replay,
     files: &[Vec<u8>],
-    observer: &mut Observer<Log>,
 ) -> Result<u8, Failure<'a>> {
-    match replayed(rt, replay, files, observer)? {
+    let mut observer = observer_of(rt, options, &[])?;
+    match replayed(rt, replay, files, &mut observer)? {
         Some(Replayed { bench, image }) => {
             write_report(&bench.parts.account, &mut StreamSink(rt.stdout()))?;
-            let symbols = Symbols::of(file_of(files, image));
-            tell_end(rt, bench, observer, options, symbols)
+            let image = image_of(options, files, image);
+            tell_end(rt, bench, &mut observer, options, &image, None)
         }
         None => {
             let _ = eprintln!(rt; "mte_run: the session never admits the tenant");
+            let _ = eprintln!(rt; "mte_run: ended by refusal, status {REFUSED}");
             Ok(REFUSED)
         }
     }
@@ -127,7 +180,7 @@ fn replayed<'a>(
     rt: &HostRuntime,
     replay: &'a Replay,
     files: &[Vec<u8>],
-    observer: &mut Observer<Log>,
+    observer: &mut Observer<'_, Log>,
 ) -> Result<Option<Replayed>, Failure<'a>> {
     let script = read_file(rt, replay.script.as_str())?;
     let events = parse_script(rt.alloc(), script.as_slice(), files)?;
@@ -145,63 +198,8 @@ fn replayed<'a>(
     )
 }
 
-/// Tells what happened, draws the heap where that is wanted, and returns the exit status.
-fn tell_end<'a>(
-    rt: &HostRuntime,
-    bench: Bench,
-    observer: &mut Observer<Log>,
-    options: &'a Options,
-    symbols: Symbols<'_>,
-) -> Result<u8, Failure<'a>> {
-    if !observer.finish() {
-        return Err(Failure::Write);
-    }
-    let Bench { parts, mut memory } = bench;
-    let report = Report {
-        parts: &parts,
-        book: &observer.book,
-        last: observer.last(options.told.last),
-        limit: options.limit(),
-        symbols,
-    };
-    tell_whole(rt, &report, options, &mut memory)
-}
-
-/// Tells what happened, and draws the heap where that is wanted.
-fn tell_whole<'a>(
-    rt: &HostRuntime,
-    report: &Report<'_>,
-    options: &'a Options,
-    memory: &mut Flat,
-) -> Result<u8, Failure<'a>> {
-    tell_report(rt, report, memory)?;
-    draw_map(rt, report, options, memory)?;
-    let account = &report.parts.account;
-    Ok(exit_status(&account.status, account.steps, options.limit()))
-}
-
-/// Tells what happened, on standard error, unless the tenant exited.
-fn tell_report(rt: &HostRuntime, report: &Report<'_>, memory: &mut Flat) -> io::Result<()> {
-    if let Status::Exited(_) = report.parts.account.status {
-        return Ok(());
-    }
-    let mut out = BufWriter::new(rt.alloc(), rt.stderr())?;
-    report.write(rt.alloc(), &mut out, memory)
-}
-
-/// All bytes of the file with a name.
-fn read_file<'a>(rt: &HostRuntime, name: &'a str) -> Result<Vec<u8>, Failure<'a>> {
-    let Ok(file) = File::open(rt, name) else {
-        return Err(Failure::of_read(ReadFault::Read, name));
-    };
-    match read_whole(rt.alloc(), &mut StreamSource(file), 0) {
-        Ok(bytes) => Ok(bytes),
-        Err(fault) => Err(Failure::of_read(fault, name)),
-    }
-}
-
 /// Runs the slices that are named, or as many as the limit of steps holds.
-fn run_slices<O: Watch>(bench: &mut Bench, observer: &mut O, options: &Options) {
+pub fn run_slices(bench: &mut Bench, observer: &mut Observer<'_, Log>, options: &Options) {
     match &options.length.slices {
         Some(slices) => {
             for steps in slices {
@@ -210,7 +208,7 @@ fn run_slices<O: Watch>(bench: &mut Bench, observer: &mut O, options: &Options) 
         }
         None => {
             for _ in 0..options.length.steps {
-                if !bench.parts.is_running() || bench.parts.account.steps >= options.length.steps {
+                if is_over(bench, observer, options) {
                     return;
                 }
                 run_slice(bench, observer, MAX_STEPS as u32, options.length.steps);
@@ -219,8 +217,15 @@ fn run_slices<O: Watch>(bench: &mut Bench, observer: &mut O, options: &Options) 
     }
 }
 
+/// Whether no slice follows.
+fn is_over(bench: &Bench, observer: &Observer<'_, Log>, options: &Options) -> bool {
+    observer.finding().is_some()
+        || !bench.parts.is_running()
+        || bench.parts.account.steps >= options.length.steps
+}
+
 /// Runs a slice, or what the limit of steps leaves of it.
-fn run_slice<O: Watch>(bench: &mut Bench, observer: &mut O, steps: u32, limit: u64) {
+fn run_slice(bench: &mut Bench, observer: &mut Observer<'_, Log>, steps: u32, limit: u64) {
     let left = limit.saturating_sub(bench.parts.account.steps);
     bench.slice(observer, left.min(u64::from(steps)) as u32);
 }

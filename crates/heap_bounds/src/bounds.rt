@@ -1,0 +1,159 @@
+//! The bytes that a tenant may access in its heap: those of its live chunks, to the byte.
+
+use crate::blocks::{Block, Range};
+use crate::calls::{Allocation, freed_by, made_by};
+use a64_bits::plain;
+use mte_svc::HeapCall;
+use std::alloc::{AllocError, Global};
+use std::collections::BTreeMap;
+
+/// What an access does that a chunk's bounds forbid.
+#[derive(Clone, Copy, PartialEq, Eq, Debug)]
+pub enum Trespass {
+    /// It goes past the size of a live chunk, in the chunk's last granule.
+    PastSize,
+    /// It touches a chunk that was freed.
+    Freed,
+    /// It touches bytes of the heap that are no chunk's.
+    NoChunk,
+}
+
+/// A chunk by its plain addresses.
+#[derive(Clone, Copy)]
+struct Extent {
+    start: u64,
+    /// The address after its last byte.
+    end: u64,
+    live: bool,
+}
+
+impl Extent {
+    /// The extent of a chunk that was made. A chunk of 0 bytes has one.
+    fn of(made: &Allocation) -> Extent {
+        let start = plain(made.pointer);
+        Extent {
+            start,
+            end: start.saturating_add(made.size.max(1)),
+            live: true,
+        }
+    }
+
+    /// Whether a byte is in one of its granules.
+    fn covers(&self, addr: u64) -> bool {
+        self.start <= addr && addr < self.end.saturating_add(15) / 16 * 16
+    }
+
+    /// What an access to a byte does, where it is wrong.
+    fn trespass(&self, addr: u64) -> Option<Trespass> {
+        if !self.covers(addr) {
+            Some(Trespass::NoChunk)
+        } else if !self.live {
+            Some(Trespass::Freed)
+        } else if addr >= self.end {
+            Some(Trespass::PastSize)
+        } else {
+            None
+        }
+    }
+}
+
+/// The chunks of a tenant: of each block of a size class the newest one, and the live ones that
+/// have pages of their own.
+#[derive(Drop)]
+pub struct Bounds {
+    blocks: BTreeMap<u64, Extent>,
+    large: Vec<Extent>,
+}
+
+impl Bounds {
+    /// Those of a tenant without chunks.
+    pub fn new(alloc: Global) -> Bounds {
+        Bounds {
+            blocks: BTreeMap::new(alloc),
+            large: Vec::new(alloc),
+        }
+    }
+
+    /// Enters what a heap call did.
+    pub fn note(&mut self, call: &HeapCall) -> Result<(), AllocError> {
+        if let Some(start) = freed_by(call) {
+            self.free(start);
+        }
+        match made_by(call) {
+            Some(made) => self.make(&Extent::of(&made)),
+            None => Ok(()),
+        }
+    }
+
+    /// Enters that the chunk at an address was freed.
+    fn free(&mut self, start: u64) {
+        match Block::of(start) {
+            Some(block) => self.free_block(&block),
+            None => self.large.retain(|extent| extent.start != start),
+        }
+    }
+
+    /// Enters that the chunk of a block was freed.
+    fn free_block(&mut self, block: &Block) {
+        if let Some(extent) = self.blocks.get_mut(&block.start) {
+            extent.live = false;
+        }
+    }
+
+    /// Enters that a chunk was made.
+    fn make(&mut self, extent: &Extent) -> Result<(), AllocError> {
+        match Block::of(extent.start) {
+            Some(block) => {
+                self.blocks.insert(block.start, *extent)?;
+            }
+            None => self.large.push(*extent)?,
+        }
+        Ok(())
+    }
+
+    /// The first byte of an access to the heap that it may not touch, by its plain address, and
+    /// what it does there.
+    pub fn check(&self, addr: u64, bytes: u64) -> Option<(u64, Trespass)> {
+        let first = plain(addr);
+        if bytes == 0 {
+            return None;
+        }
+        if let Some(trespass) = self.check_byte(first) {
+            return Some((first, trespass));
+        }
+        let end = self.end_of(first)?;
+        if bytes <= end.saturating_sub(first) {
+            return None;
+        }
+        Some((end, self.check_byte(end).unwrap_or(Trespass::NoChunk)))
+    }
+
+    /// What an access to the byte at a plain address does, where it is wrong.
+    fn check_byte(&self, addr: u64) -> Option<Trespass> {
+        match Range::of(addr) {
+            Range::Class(_) | Range::Large => match self.extent_at(addr) {
+                Some(extent) => extent.trespass(addr),
+                None => Some(Trespass::NoChunk),
+            },
+            _ => None,
+        }
+    }
+
+    /// The end of the chunk that holds a byte; none outside the heap.
+    fn end_of(&self, addr: u64) -> Option<u64> {
+        let extent = self.extent_at(addr)?;
+        Some(extent.end)
+    }
+
+    /// The chunk whose block or pages an address is in.
+    fn extent_at(&self, addr: u64) -> Option<Extent> {
+        match Block::of(addr) {
+            Some(block) => self.blocks.get(&block.start).copied(),
+            None => self
+                .large
+                .iter()
+                .find(|extent| extent.covers(addr))
+                .copied(),
+        }
+    }
+}

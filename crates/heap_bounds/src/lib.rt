@@ -1,0 +1,14 @@
+//! What a tenant's loads and stores access, and whether they keep to the bytes of its chunks.
+#![tactic(auto)]
+
+mod access;
+mod addressing;
+mod blocks;
+mod bounds;
+mod calls;
+
+pub use access::{Access, access_of};
+pub use addressing::{base, register_offset, scaled_offset, signed_offset, unit, zero_or};
+pub use blocks::{Block, Range};
+pub use bounds::{Bounds, Trespass};
+pub use calls::{Allocation, freed_by, made_by};

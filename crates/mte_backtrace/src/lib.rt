@@ -1,0 +1,13 @@
+//! The calls that led to an instruction, by frame records, symbols and line tables.
+#![tactic(auto)]
+
+mod call_stack;
+mod callers;
+mod json;
+mod names;
+mod walk;
+
+pub use call_stack::CallStack;
+pub use callers::Callers;
+pub use json::Quoted;
+pub use names::{Frame, Names};

@@ -1,0 +1,164 @@
+//! Whether a tenant's accesses keep to the bytes of its chunks, whatever the tags.
+
+ghost use Rattle.std.specs.Prelude.{◌≡◌};
+
+use crate::moment::Moment;
+use a64_decode::decode;
+use a64_step::Regs;
+use heap_bounds::{Bounds, Trespass, access_of};
+use mte_backtrace::Callers;
+use mte_sched::TenantParts;
+use mte_svc::{HeapCall, READ, WRITE};
+use mte_tags::Tagged;
+use std::alloc::Global;
+
+/// The word of SVC #0.
+pub const SVC: u32 = 0xD400_0001;
+
+/// The bytes that an instruction or a service accesses.
+#[derive(Clone, Copy)]
+pub struct Span {
+    /// The address of the first, with the pointer's tag.
+    pub addr: u64,
+    /// How many there are.
+    pub bytes: u64,
+    /// Whether they are written.
+    pub is_write: bool,
+}
+
+/// An access to bytes of the heap that no live chunk has.
+#[derive(Clone, Copy)]
+pub struct Wrong {
+    /// What it does there.
+    pub trespass: Trespass,
+    /// The plain address of the first such byte.
+    pub addr: u64,
+    /// The access.
+    pub span: Span,
+}
+
+/// An instruction that completed with such an access.
+#[derive(Clone, Copy)]
+pub struct Finding {
+    /// The access.
+    pub wrong: Wrong,
+    /// The number of the instruction, from 1.
+    pub step: u64,
+    /// The registers before it.
+    pub before: Regs,
+    /// The registers after it.
+    pub after: Regs,
+    /// The calls that led to it.
+    pub callers: Callers,
+}
+
+/// Watches a tenant up to the first such access.
+#[derive(Drop)]
+pub struct Exact {
+    bounds: Bounds,
+    writes_alone: bool,
+    finding: Option<Finding>,
+    is_complete: bool,
+}
+
+impl Exact {
+    /// Watches a tenant without chunks; its reads are free where `writes_alone` is set.
+    pub fn new(alloc: Global, writes_alone: bool) -> Exact {
+        Exact {
+            bounds: Bounds::new(alloc),
+            writes_alone,
+            finding: None,
+            is_complete: true,
+        }
+    }
+
+    /// The first such access, if there was one.
+    pub fn finding(&self) -> Option<&Finding> {
+        self.finding.as_ref()
+    }
+
+    /// Whether each chunk could be entered, so that no access was missed.
+    pub fn is_complete(&self) -> bool {
+        self.is_complete
+    }
+
+    /// Enters the heap call that an instruction made, or judges what it accessed.
+    pub fn note<M: Tagged>(
+        &mut self,
+        moment: &Moment,
+        parts: &TenantParts,
+        call: Option<&HeapCall>,
+        memory: &mut M,
+    )
+        ensures memory { M.memory memory.new ≡ M.memory memory.old }
+        ensures kept { M.kept memory.old memory.new }
+    {
+        match call {
+            Some(call) => self.enter(call),
+            None => {
+                if let Some(wrong) = self.check(moment, parts) {
+                    let callers = Callers::of(memory, &moment.regs);
+                    self.finding = Some(Finding {
+                        wrong,
+                        step: moment.step,
+                        before: moment.regs,
+                        after: parts.regs,
+                        callers,
+                    });
+                }
+            }
+        }
+    }
+
+    /// What an instruction that completed accessed and may not.
+    fn check(&self, moment: &Moment, parts: &TenantParts) -> Option<Wrong> {
+        if self.finding.is_some() || !parts.is_running() {
+            return None;
+        }
+        let span = span_of(moment, &parts.regs)?;
+        if self.writes_alone && !span.is_write {
+            return None;
+        }
+        let (addr, trespass) = self.bounds.check(span.addr, span.bytes)?;
+        Some(Wrong {
+            trespass,
+            addr,
+            span,
+        })
+    }
+
+    /// Enters what a heap call did to chunks.
+    fn enter(&mut self, call: &HeapCall) {
+        if self.bounds.note(call).is_err() {
+            self.is_complete = false;
+        }
+    }
+}
+
+/// What an instruction or the service that it requested accessed, by the registers before and after
+/// it. A service's result says how many bytes it took.
+pub fn span_of(moment: &Moment, after: &Regs) -> Option<Span> {
+    let word = moment.word?;
+    if word == SVC {
+        return span_of_service(&moment.regs, after);
+    }
+    let access = access_of(&decode(word)?, &moment.regs)?;
+    Some(Span {
+        addr: access.addr,
+        bytes: access.len(),
+        is_write: access.is_write,
+    })
+}
+
+/// What the service accessed that reads or writes for the tenant.
+fn span_of_service(before: &Regs, after: &Regs) -> Option<Span> {
+    let service = before.x[8];
+    if service != WRITE && service != READ {
+        return None;
+    }
+    Some(Span {
+        addr: before.x[0],
+        bytes: after.x[0],
+        is_write: service == READ,
+    })
+}

@@ -1,0 +1,112 @@
+//! The chunks that are live at the end, by the calls that made them.
+
+use crate::book::Entry;
+use crate::report::Report;
+use crate::stacks::stack_of;
+use crate::words::Bytes;
+use std::alloc::{AllocError, Global};
+use std::io::Write;
+use std::{fmt, io};
+
+/// How many places are told.
+const PLACES: usize = 256;
+
+/// Chunks that were made at one place, by the same calls.
+#[derive(Clone, Copy)]
+struct Place {
+    /// The call that made the first of them.
+    entry: Entry,
+    chunks: u64,
+    bytes: u64,
+}
+
+/// All places, and what no longer has room among them.
+#[derive(Drop)]
+struct Places {
+    places: Vec<Place>,
+    chunks: u64,
+    bytes: u64,
+}
+
+impl Places {
+    /// Enters a chunk of some bytes that a call made.
+    fn enter(&mut self, entry: &Entry, bytes: u64) -> Result<(), AllocError> {
+        self.chunks = self.chunks.saturating_add(1);
+        self.bytes = self.bytes.saturating_add(bytes);
+        if let Some(place) = find(self.places.as_mut_slice(), entry) {
+            place.chunks = place.chunks.saturating_add(1);
+            place.bytes = place.bytes.saturating_add(bytes);
+            return Ok(());
+        }
+        if self.places.len() >= PLACES {
+            return Ok(());
+        }
+        self.places.push(Place {
+            entry: *entry,
+            chunks: 1,
+            bytes,
+        })?;
+        Ok(())
+    }
+}
+
+/// A number of chunks.
+#[derive(Clone, Copy)]
+struct Chunks(u64);
+
+impl fmt::Display for Chunks {
+    fn fmt<W: fmt::Write>(&self, f: &mut fmt::Formatter<W>) -> fmt::Result {
+        let Chunks(count) = self;
+        if *count == 1 {
+            f.write_str("1 chunk")
+        } else {
+            write!(f, "{count} chunks")
+        }
+    }
+}
+
+/// The place of a call.
+fn find<'a>(places: &'a mut [Place], entry: &Entry) -> Option<&'a mut Place> {
+    places.iter_mut().find(|place| place.entry.pc == entry.pc
+        && place.entry.callers == entry.callers)
+}
+
+impl<'a> Report<'a> {
+    /// Writes the chunks that are live at the end, by the calls that made them: the first 256
+    /// places.
+    pub fn write_leaks<W: Write>(&self, alloc: Global, out: &mut W) -> io::Result<()> {
+        let places = self.live_places(alloc)?;
+        let (chunks, bytes) = (places.chunks, places.bytes);
+        let (chunks, bytes) = (Chunks(chunks), Bytes(bytes));
+        writeln!(out, "live at the end: {chunks}, {bytes}")?;
+        for place in &places.places {
+            self.write_place(alloc, out, place)?;
+        }
+        out.flush()
+    }
+
+    /// The places of the chunks that are live.
+    fn live_places(&self, alloc: Global) -> Result<Places, AllocError> {
+        let live = self.book.live(alloc)?;
+        let mut places = Places {
+            places: Vec::new(alloc),
+            chunks: 0,
+            bytes: 0,
+        };
+        for chunk in &live {
+            places.enter(&chunk.made, chunk.size)?;
+        }
+        Ok(places)
+    }
+
+    /// Writes a place.
+    fn write_place<W: Write>(&self, alloc: Global, out: &mut W, place: &Place) -> io::Result<()> {
+        let (chunks, bytes, number) = (place.chunks, place.bytes, place.entry.number);
+        writeln!(
+            out,
+            "  {chunks} chunks, {bytes} bytes, the first by call {number}"
+        )?;
+        let stack = stack_of(alloc, &place.entry, &self.names)?;
+        stack.write(out, &self.names, "    ")
+    }
+}

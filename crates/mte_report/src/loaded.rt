@@ -1,0 +1,51 @@
+//! What a load brings into registers.
+
+use a64_instr::Instr;
+use a64_step::Regs;
+use heap_bounds::{access_of, zero_or};
+use std::fmt;
+
+/// What a load brings into registers.
+#[derive(Clone, Copy)]
+pub struct Loaded {
+    addr: u64,
+    /// How many bytes of each register.
+    bytes: u64,
+    first: u64,
+    /// The second register of a pair.
+    second: Option<u64>,
+}
+
+/// What the instruction loads, by the registers before and after it; `None` where it loads nothing.
+pub fn load_of(instr: &Instr, before: &Regs, after: &Regs) -> Option<Loaded> {
+    let access = access_of(instr, before)?;
+    if access.is_write {
+        return None;
+    }
+    Some(Loaded {
+        addr: access.addr,
+        bytes: access.bytes,
+        first: zero_or(after, access.first),
+        second: access.second.map(|register| zero_or(after, register)),
+    })
+}
+
+impl fmt::Display for Loaded {
+    fn fmt<W: fmt::Write>(&self, f: &mut fmt::Formatter<W>) -> fmt::Result {
+        let Loaded {
+            addr,
+            bytes,
+            first,
+            ..
+        } = self;
+        match &self.second {
+            Some(second) => {
+                write!(
+                    f,
+                    "from [{addr:#x}] {first:#x}, {second:#x} of {bytes} each"
+                )
+            }
+            None => write!(f, "from [{addr:#x}] {first:#x} of {bytes}"),
+        }
+    }
+}

@@ -1,0 +1,112 @@
+//! What a picture says of chunks.
+
+use crate::book::Chunk;
+use crate::extent::Extent;
+use crate::words::{Bytes, Call};
+use heap_picture::Note;
+use mte_backtrace::Names;
+use std::alloc::Global;
+use std::io::Write;
+use std::{fmt, io};
+
+/// What is said of the chunks of a picture.
+#[derive(Clone, Copy)]
+pub struct Notes<'e, 'n> {
+    /// The granules of the chunks.
+    pub extents: &'e [Extent],
+    /// What the addresses of the image are called.
+    pub names: &'n Names<'n>,
+    /// The number of the call that made the chunk that the cause names.
+    pub cause: Option<u64>,
+}
+
+impl<'e, 'n> Notes<'e, 'n> {
+    /// Writes what is said of the chunks in the row with a number, by the row's address.
+    pub fn write<W: Write>(
+        &self,
+        alloc: Global,
+        out: &mut W,
+        address: u64,
+        row: usize,
+    ) -> io::Result<()> {
+        for extent in self.extents {
+            if extent.is_newest {
+                if let Some(place) = extent.in_row(address) {
+                    self.write_note(alloc, out, extent, place, row)?;
+                }
+            }
+        }
+        Ok(())
+    }
+
+    /// Writes what is said of a chunk at its place in a row.
+    fn write_note<W: Write>(
+        &self,
+        alloc: Global,
+        out: &mut W,
+        extent: &Extent,
+        place: (usize, usize),
+        row: usize,
+    ) -> io::Result<()> {
+        let number = extent.chunk.made.number;
+        let label = format!(in alloc; "#{number} {}", Size(extent.chunk.size))?;
+        let title = Title {
+            extent,
+            names: self.names,
+        };
+        let title = format!(in alloc; "{title}")?;
+        let note = Note {
+            row,
+            start: place.0,
+            end: place.1,
+            label: label.as_str(),
+            title: title.as_str(),
+            is_cause: self.cause == Some(number),
+        };
+        write!(out, "{note}")
+    }
+}
+
+/// A number of bytes: `57 B`, and from 10 KB on `196 KB`.
+#[derive(Clone, Copy)]
+struct Size(u64);
+
+impl fmt::Display for Size {
+    fn fmt<W: fmt::Write>(&self, f: &mut fmt::Formatter<W>) -> fmt::Result {
+        let bytes = self.0;
+        if bytes < 10_240 {
+            write!(f, "{bytes} B")
+        } else {
+            write!(f, "{} KB", bytes / 1024)
+        }
+    }
+}
+
+/// What is said of a chunk: its size, its calls, where it was made, and that its block had another
+/// chunk before.
+#[derive(Clone, Copy)]
+struct Title<'a> {
+    extent: &'a Extent,
+    names: &'a Names<'a>,
+}
+
+impl<'a> fmt::Display for Title<'a> {
+    fn fmt<W: fmt::Write>(&self, f: &mut fmt::Formatter<W>) -> fmt::Result {
+        let Chunk {
+            size,
+            made,
+            freed,
+            ..
+        } = &self.extent.chunk;
+        let (size, call, place) = (Bytes(*size), Call(made), self.names.instruction(made.pc));
+        write!(f, "{size}, {call}, {place}")?;
+        if let Some(entry) = freed {
+            let number = entry.number;
+            write!(f, "; freed by call {number}")?;
+        }
+        match self.extent.earlier {
+            Some(number) => write!(f, "; its block was given before, by call {number}"),
+            None => Ok(()),
+        }
+    }
+}

@@ -1,0 +1,53 @@
+//! The files that are read.
+
+use crate::failure::Failure;
+use crate::options::Options;
+use crate::replay::file_of;
+use mte_program::StreamSource;
+use mte_session::{ReadFault, read_whole};
+use std::fs::File;
+
+/// An image.
+#[derive(Clone, Copy)]
+pub struct Image<'a> {
+    /// The name of its file.
+    pub name: &'a str,
+    /// Its bytes.
+    pub bytes: &'a [u8],
+}
+
+/// The image in the file with a number from 1.
+pub fn image_of<'a>(options: &'a Options, files: &'a [Vec<u8>], number: u32) -> Image<'a> {
+    Image {
+        name: options.file_name(number),
+        bytes: file_of(files, number),
+    }
+}
+
+/// All bytes of the files that are named.
+pub fn read_files<'a>(rt: &HostRuntime, options: &'a Options) -> Result<Vec<Vec<u8>>, Failure<'a>> {
+    let mut files = Vec::new(rt.alloc());
+    for name in &options.files {
+        files.push(read_file(rt, name.as_str())?)?;
+    }
+    Ok(files)
+}
+
+/// All bytes of the input, if one is named.
+pub fn read_input<'a>(rt: &HostRuntime, options: &'a Options) -> Result<Vec<u8>, Failure<'a>> {
+    match &options.terms.input {
+        Some(name) => read_file(rt, name.as_str()),
+        None => Ok(Vec::new(rt.alloc())),
+    }
+}
+
+/// All bytes of the file with a name.
+pub fn read_file<'a>(rt: &HostRuntime, name: &'a str) -> Result<Vec<u8>, Failure<'a>> {
+    let Ok(file) = File::open(rt, name) else {
+        return Err(Failure::of_read(ReadFault::Read, name));
+    };
+    match read_whole(rt.alloc(), &mut StreamSource(file), 0) {
+        Ok(bytes) => Ok(bytes),
+        Err(fault) => Err(Failure::of_read(fault, name)),
+    }
+}

@@ -1,0 +1,95 @@
+//! How a tenant ends under several seeds.
+
+use crate::bench::Bench;
+use crate::ending::{ENDINGS, Ending, ending_at};
+use crate::observer::Observer;
+use crate::options::Options;
+use crate::running::{Log, admission_of, run_slices};
+use crate::seeds::seed_of_run;
+use mte_sched::AdmitError;
+use std::alloc::Global;
+use std::fmt;
+
+/// How runs under several seeds ended.
+#[derive(Clone, Copy)]
+pub struct Survey {
+    /// How many there were.
+    runs: u32,
+    /// How many ended in each way, by its number.
+    counts: [u32; ENDINGS],
+    /// The first seed under which the tenant did not exit, if there is one.
+    found: Option<u64>,
+}
+
+impl Survey {
+    /// The runs of an image under the seeds that are requested.
+    pub fn of<'x>(
+        alloc: Global,
+        options: &Options,
+        image: &'x [u8],
+        input: &'x [u8],
+    ) -> Result<Survey, AdmitError> {
+        let mut survey = Survey {
+            runs: 0,
+            counts: [0; ENDINGS],
+            found: None,
+        };
+        for number in 0..options.terms.seeds {
+            let seed = seed_of_run(options.terms.seed, number);
+            let ending = ending_under(alloc, options, image, input, seed)?;
+            survey.enter(seed, ending);
+        }
+        Ok(survey)
+    }
+
+    /// Enters how a run under a seed ended.
+    fn enter(&mut self, seed: u64, ending: Ending) {
+        self.runs = self.runs.saturating_add(1);
+        if let Some(count) = self.counts.get_mut(ending as usize) {
+            *count = count.saturating_add(1);
+        }
+        if ending != Ending::Exit && self.found.is_none() {
+            self.found = Some(seed);
+        }
+    }
+
+    /// The seed that is told: the first under which the tenant did not exit, or the given one.
+    pub fn seed(&self, given: u64) -> u64 {
+        self.found.unwrap_or(given)
+    }
+}
+
+/// How an image ends under a seed.
+fn ending_under<'x>(
+    alloc: Global,
+    options: &Options,
+    image: &'x [u8],
+    input: &'x [u8],
+    seed: u64,
+) -> Result<Ending, AdmitError> {
+    let exact = options.told.exact(alloc);
+    let mut observer: Observer<'_, Log> = Observer::new(alloc, 1, exact, None)?;
+    let mut bench = Bench::new(alloc, &admission_of(options, image, input, seed))?;
+    run_slices(&mut bench, &mut observer, options);
+    if observer.finding().is_some() {
+        return Ok(Ending::Exact);
+    }
+    Ok(Ending::of(&bench.parts.account, options.limit()))
+}
+
+impl fmt::Display for Survey {
+    fn fmt<W: fmt::Write>(&self, f: &mut fmt::Formatter<W>) -> fmt::Result {
+        let runs = self.runs;
+        write!(f, "{runs} seeds:")?;
+        for (index, count) in self.counts.iter().enumerate() {
+            if *count > 0 {
+                let ending = ending_at(index);
+                write!(f, " {count} ended by {ending},")?;
+            }
+        }
+        match self.found {
+            Some(seed) => write!(f, " told is seed {seed:016x}"),
+            None => f.write_str(" none is told"),
+        }
+    }
+}

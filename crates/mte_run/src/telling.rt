@@ -1,0 +1,120 @@
+//! What is told of a tenant at its end.
+
+use crate::bench::Bench;
+use crate::ending::{Ending, LastLine};
+use crate::failure::Failure;
+use crate::files::Image;
+use crate::map::draw_map;
+use crate::observer::Observer;
+use crate::options::Options;
+use crate::running::Log;
+use mte_backtrace::Names;
+use mte_flat::Flat;
+use mte_report::Report;
+use std::fs::File;
+use std::io;
+use std::io::BufWriter;
+
+/// Tells what happened, as the options request it, and returns the exit status.
+pub fn tell_end<'a>(
+    rt: &HostRuntime,
+    bench: Bench,
+    observer: &mut Observer<'_, Log>,
+    options: &'a Options,
+    image: &Image<'_>,
+    seed: Option<u64>,
+) -> Result<u8, Failure<'a>> {
+    if !observer.finish() {
+        return Err(Failure::Write);
+    }
+    if !observer.is_complete() {
+        return Err(Failure::Memory);
+    }
+    if observer.is_cut {
+        let _ = eprintln!(rt; "mte_run: output was cut: there was no more room (--out)");
+    }
+    let Bench { parts, mut memory } = bench;
+    let report = Report {
+        parts: &parts,
+        book: &observer.book,
+        last: observer.last(options.told.last),
+        turns: observer.turns(),
+        limit: options.limit(),
+        names: Names::of(image.bytes),
+        image: image.name,
+        seed,
+        finding: observer.finding(),
+    };
+    tell_report(rt, &report, &mut memory)?;
+    tell_leaks(rt, &report, options)?;
+    write_json(rt, &report, options, &mut memory)?;
+    draw_map(rt, &report, options, &mut memory)?;
+    Ok(tell_last_line(rt, &report))
+}
+
+/// How the tenant ended.
+fn ending_of(report: &Report<'_>) -> Ending {
+    match report.finding {
+        Some(_) => Ending::Exact,
+        None => Ending::of(&report.parts.account, report.limit),
+    }
+}
+
+/// Tells what happened, on standard error, unless the tenant exited.
+fn tell_report(rt: &HostRuntime, report: &Report<'_>, memory: &mut Flat) -> io::Result<()> {
+    if ending_of(report) == Ending::Exit {
+        return Ok(());
+    }
+    let mut out = BufWriter::new(rt.alloc(), rt.stderr())?;
+    report.write(rt.alloc(), &mut out, memory)
+}
+
+/// Tells the live chunks, on standard error, where that is wanted.
+fn tell_leaks(rt: &HostRuntime, report: &Report<'_>, options: &Options) -> io::Result<()> {
+    if !options.told.leaks {
+        return Ok(());
+    }
+    let mut out = BufWriter::new(rt.alloc(), rt.stderr())?;
+    report.write_leaks(rt.alloc(), &mut out)
+}
+
+/// Writes what happened into the file that is named, if one is, for a program to read.
+fn write_json<'a>(
+    rt: &HostRuntime,
+    report: &Report<'_>,
+    options: &'a Options,
+    memory: &mut Flat,
+) -> Result<(), Failure<'a>> {
+    match &options.told.json {
+        Some(name) => {
+            let name = name.as_str();
+            write_json_file(rt, report, name, memory).map_err(|error| Failure::of_write(
+                &error, name,
+            ))
+        }
+        None => Ok(()),
+    }
+}
+
+/// Writes what happened into the file with a name, for a program to read.
+fn write_json_file(
+    rt: &HostRuntime,
+    report: &Report<'_>,
+    name: &str,
+    memory: &mut Flat,
+) -> io::Result<()> {
+    let mut out = BufWriter::new(rt.alloc(), File::create(rt, name)?)?;
+    let status = ending_of(report).status(&report.parts.account);
+    report.write_json(rt.alloc(), &mut out, status, memory)
+}
+
+/// Writes the last line, and returns the exit status.
+fn tell_last_line(rt: &HostRuntime, report: &Report<'_>) -> u8 {
+    let account = &report.parts.account;
+    let ending = ending_of(report);
+    let line = LastLine { ending, account };
+    if line.is_told() {
+        let _ = eprintln!(rt; "mte_run: {line}");
+    }
+    ending.status(account)
+}

@@ -1,0 +1,98 @@
+//! Lines that are written while a tenant runs.
+
+use a64_step::Regs;
+use elf_symbols::Symbols;
+use mte_report::{Line, Moment, SVC, Service};
+use std::io;
+use std::io::Write;
+
+/// Which lines are written.
+#[derive(Clone, Copy)]
+pub struct Traced {
+    /// The first step whose instruction has a line.
+    pub from: u64,
+    /// The last one.
+    pub to: u64,
+    /// Whether each service has a line.
+    pub services: bool,
+}
+
+/// Writes a line an instruction or a service.
+#[derive(Drop)]
+pub struct Tracer<'a, W: Write + Drop> {
+    traced: Traced,
+    symbols: Symbols<'a>,
+    /// Where the function begins whose name was written last.
+    function: u64,
+    out: W,
+    /// Whether a write failed; after that there are no more.
+    failed: bool,
+}
+
+impl<'a, W: Write + Drop> Tracer<'a, W> {
+    /// One that writes some lines, with the names of functions.
+    pub fn new(traced: Traced, symbols: Symbols<'a>, out: W) -> Tracer<'a, W> {
+        Tracer {
+            traced,
+            symbols,
+            function: 0,
+            out,
+            failed: false,
+        }
+    }
+
+    /// Writes the lines of an instruction.
+    pub fn note(&mut self, moment: &Moment, after: &Regs) {
+        if !self.failed && self.write_lines(moment, after).is_err() {
+            self.failed = true;
+        }
+    }
+
+    /// Writes the line of an instruction, and that of the service that it requests, where they are
+    /// wanted.
+    fn write_lines(&mut self, moment: &Moment, after: &Regs) -> io::Result<()> {
+        let Traced { from, to, services } = self.traced;
+        let is_service = moment.word == Some(SVC);
+        if from <= moment.step && moment.step <= to {
+            self.write_instruction(moment, after)?;
+            if is_service {
+                write!(self.out, "           ")?;
+                self.write_service(moment, after)?;
+            }
+        } else if services && is_service {
+            write!(self.out, "{:>9}  ", moment.step)?;
+            self.write_service(moment, after)?;
+        }
+        Ok(())
+    }
+
+    /// Writes the line of an instruction, behind the name of its function where that is another
+    /// one.
+    fn write_instruction(&mut self, moment: &Moment, after: &Regs) -> io::Result<()> {
+        let pc = moment.regs.pc;
+        let place = self.symbols.place(pc);
+        let function = pc.wrapping_sub(place.offset());
+        if let Some(name) = place.name() {
+            if function != self.function {
+                self.function = function;
+                writeln!(self.out, "{name}:")?;
+            }
+        }
+        let line = Line { moment, after };
+        writeln!(self.out, "{line}")
+    }
+
+    /// Writes the rest of a service's line.
+    fn write_service(&mut self, moment: &Moment, after: &Regs) -> io::Result<()> {
+        let service = Service {
+            before: &moment.regs,
+            after,
+        };
+        writeln!(self.out, "{service}")
+    }
+
+    /// Writes what is still held; whether every line could be written.
+    pub fn finish(&mut self) -> bool {
+        self.out.flush().is_ok() && !self.failed
+    }
+}
