@@ -1,0 +1,2 @@
+mod CourseLemmas
+mod MemoryLemmas

@@ -1,0 +1,8 @@
+use Rattle.std.proofs.Common.{ap, ◌∙◌}
+use Rattle.mte_sched.specs.Machines.{machine_of}
+use Rattle.debuggee.proofs.CourseLemmas.{at_start}
+use Rattle.debuggee.proofs.tenant.Debuggee.new.Goals as goal
+
+pub invariant_of-result-clause-law : goal.invariant_of-result-clause-law
+invariant_of-result-clause-law c =
+    ∣ at_start _ _ _ _ (ap (machine_of c.in_ok-parts.parts) c.new-3.ensures ∙ c.in_ok-parts.ensures.machine) c.next-cut.ensures ∣₁

@@ -1,0 +1,26 @@
+//! How a run is cut into slices.
+
+ghost use Rattle.std.specs.Prelude.{◌≡◌, ◌-◌, min, slice_get, unwrap_or};
+
+/// The steps of a run's slices.
+#[derive(Clone, Copy)]
+pub struct Cuts<'a> {
+    /// Those of the first slices.
+    pub listed: &'a [u32],
+    /// Those of each slice after these; 0 where there are no more.
+    pub others: u32,
+    /// After so many steps in all there are no more.
+    pub limit: u64,
+}
+
+impl Cuts<'_> {
+    /// The steps of the slice that comes next, after so many slices and steps; 0 where none does.
+    pub fn next(&self, slices: u64, steps: u64) -> u32
+        ensures { result ≡ min (self.now.limit - steps)
+            (unwrap_or (slice_get self.now.listed.now slices) self.now.others) }
+    {
+        let listed = self.listed.get(slices as usize).copied();
+        let wanted = listed.unwrap_or(self.others);
+        self.limit.saturating_sub(steps).min(u64::from(wanted)) as u32
+    }
+}

@@ -1,0 +1,11 @@
+//! A tenant that a debugger drives: it attempts instructions one at a time or a slice at a time, is
+//! where the definition has it after them, and tells which accesses met a watchpoint.
+#![tactic(auto)]
+
+mod cuts;
+mod tenant;
+mod watched;
+
+pub use cuts::Cuts;
+pub use tenant::Debuggee;
+pub use watched::{Access, Hit, Watchpoint};

@@ -1,0 +1,199 @@
+//! The tenant that is debugged.
+
+ghost use Rattle.std.specs.Prelude.{◌≡◌, ◌<◌};
+ghost use Rattle.scudo_heap.specs.Served.{IsServed};
+ghost use Rattle.mte_sched.specs.Machines.{machine_of, start_of};
+ghost use Rattle.mte_sched.specs.Tenants.{terms_of};
+ghost use Rattle.debuggee.specs.Courses.{IsAt};
+
+use crate::cuts::Cuts;
+use crate::watched::{Hit, Watched, Watchpoint};
+use a64_step::{Decoder, Kept, Regs};
+use elf_core::Region;
+use mte_flat::Flat;
+use mte_report::Book;
+use mte_sched::{Admission, AdmitError, TenantParts, admit_alone, attempt, settle, slice};
+use mte_tags::TagMode;
+use std::alloc::{AllocError, Global};
+
+/// A tenant alone, which attempts its instructions one at a time, or a slice at a time, and can
+/// begin anew. Nothing else changes it.
+#[derive(Drop)]
+pub struct Debuggee<'a> {
+    terms: Admission<'a>,
+    cuts: Cuts<'a>,
+    parts: TenantParts,
+    memory: Watched,
+    decoder: Decoder,
+    words: Kept,
+    /// The slices that have ended.
+    slices: u64,
+    /// The steps of the slice that goes on or comes next.
+    cut: u32,
+    /// How many of them were attempted.
+    done: u32,
+    ghost served: { IsServed memory.flat parts.heap },
+    ghost tag: { parts.regs.rgsr.tag < 16 },
+    ghost some: { 0 < terms.pages },
+    // It is where the definition has it after these slices and attempts, whatever was done before.
+    ghost law: { ∥ IsAt cuts (start_of terms.id (terms_of terms)) slices cut done
+        (machine_of parts memory.flat) ∥₁ },
+}
+
+impl<'a> Debuggee<'a> {
+    /// A tenant at its first instruction, or why it is refused.
+    pub fn new(
+        alloc: Global,
+        terms: &Admission<'a>,
+        cuts: &Cuts<'a>,
+    ) -> Result<Debuggee<'a>, AdmitError>
+        requires { 0 < terms.now.pages }
+    {
+        let words = Kept::new(alloc)?;
+        let mut memory = Flat::new(alloc, terms.pages as usize, terms.mode)?;
+        let parts = admit_alone(alloc, terms, &mut memory)?;
+        let cut = cuts.next(0, parts.account.steps);
+        Ok(Debuggee {
+            terms: *terms,
+            cuts: *cuts,
+            parts,
+            memory: Watched::new(alloc, memory),
+            decoder: Decoder::new(),
+            words,
+            slices: 0,
+            cut,
+            done: 0,
+        })
+    }
+
+    /// The same tenant at its first instruction.
+    pub fn anew(&self, alloc: Global) -> Result<Debuggee<'a>, AllocError> {
+        match Debuggee::new(alloc, &self.terms, &self.cuts) {
+            Ok(debuggee) => Ok(debuggee),
+            Err(_) => Err(AllocError),
+        }
+    }
+
+    /// After how many steps in all no more come.
+    pub fn limit(&self) -> u64 {
+        self.cuts.limit
+    }
+
+    /// All of its machine but the memory.
+    pub fn parts(&self) -> &TenantParts {
+        &self.parts
+    }
+
+    /// Its registers.
+    pub fn regs(&self) -> &Regs {
+        &self.parts.regs
+    }
+
+    /// How many instructions it has attempted.
+    pub fn steps(&self) -> u64 {
+        self.parts.account.steps
+    }
+
+    /// How many of its slices have ended.
+    pub fn slices(&self) -> u64 {
+        self.slices
+    }
+
+    /// Whether no slice goes on.
+    pub fn is_between_slices(&self) -> bool {
+        self.done == 0
+    }
+
+    /// What a tag that differs does.
+    pub fn mode(&self) -> TagMode {
+        self.terms.mode
+    }
+
+    /// Whether it is running, and has steps left.
+    pub fn can_go_on(&self) -> bool {
+        self.parts.is_running() && self.done < self.cut && self.slices < u64::MAX
+    }
+
+    /// Attempts one instruction, and ends the slice where it is over. `false` where it cannot go on.
+    pub fn attempt(&mut self) -> bool {
+        if !self.parts.is_running() || self.done >= self.cut || self.slices == u64::MAX {
+            return false;
+        }
+        let left = self.cut - self.done - 1;
+        let goes_on = attempt(
+            &mut self.decoder,
+            &mut self.parts,
+            &mut self.memory,
+            u64::from(left),
+        );
+        self.done += 1;
+        if goes_on && left > 0 && self.parts.is_running() {
+            return true;
+        }
+        settle(&mut self.parts, &mut self.memory);
+        self.slices += 1;
+        self.done = 0;
+        self.cut = self.cuts.next(self.slices, self.parts.account.steps);
+        true
+    }
+
+    /// Attempts the whole slice that comes next. `false` where one goes on, or none comes.
+    pub fn attempt_slice(&mut self) -> bool {
+        if !self.parts.is_running() || self.done > 0 || self.slices == u64::MAX {
+            return false;
+        }
+        if self.cut == 0 {
+            return false;
+        }
+        slice(
+            &mut self.words,
+            &mut self.parts,
+            &mut self.memory.flat,
+            self.cut,
+        );
+        self.slices += 1;
+        self.cut = self.cuts.next(self.slices, self.parts.account.steps);
+        true
+    }
+
+    /// Watches these points and no others.
+    pub fn watch(&mut self, points: &[Watchpoint]) -> Result<(), AllocError> {
+        self.memory.watch(points)
+    }
+
+    /// Forgets which watchpoint was met.
+    pub fn forget_hit(&mut self) {
+        self.memory.forget();
+    }
+
+    /// The first watchpoint that was met.
+    pub fn hit(&self) -> Option<Hit> {
+        self.memory.hit()
+    }
+
+    /// Reads bytes of pages with READ, whatever their tags; whether it could.
+    pub fn read(&mut self, addr: u64, buffer: &mut [u8]) -> bool {
+        self.memory.peek(addr, buffer)
+    }
+
+    /// The tag of the granule of an address, if it can be read.
+    pub fn tag_at(&mut self, addr: u64) -> Option<u8> {
+        self.memory.tag_at(addr)
+    }
+
+    /// Enters the heap call that the last step made into a book, if it made one.
+    pub fn note_in(&mut self, book: &mut Book) {
+        let _ = book.note(&self.parts, &mut self.memory.flat);
+    }
+
+    /// The regions of its memory, the lowest first.
+    pub fn regions(&mut self, alloc: Global) -> Result<Vec<Region>, AllocError> {
+        self.memory.regions(alloc)
+    }
+
+    /// Its machine alone.
+    pub fn into_machine(self) -> (TenantParts, Flat) {
+        let Debuggee { parts, memory, .. } = self;
+        (parts, memory.into_flat())
+    }
+}
