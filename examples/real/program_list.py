@@ -158,19 +158,5 @@ DUKTAPE = Program(
         cause="Use After Free",
     ),
 )
-SQLITE = Program(
-    name="sqlite", package="sqlite3", title="SQLite (shell, -O0)",
-    does="runs `programs/runs.sql` over tables in memory",
-    files=["{source}/sqlite3.c", "{source}/shell.c", "{here}/programs/sqlite_home.c"],
-    flags=["-DSQLITE_THREADSAFE=0", "-DSQLITE_OMIT_LOAD_EXTENSION", "-DSQLITE_OMIT_WAL",
-           "-DSQLITE_MAX_MMAP_SIZE=0", "-DSQLITE_OMIT_LOOKASIDE"],
-    input=own("runs.sql"), arguments=":memory:", stack=262144, level="-O0",
-    bug=Bug(
-        title="planted: where the program of a statement moves, the pointer to it does not",
-        file="sqlite3.c",
-        right="    v->nOpAlloc = p->szOpAlloc/sizeof(Op);\n    v->aOp = pNew;\n",
-        wrong="    v->nOpAlloc = p->szOpAlloc/sizeof(Op);\n    if( !v->aOp ) v->aOp = pNew;\n",
-        cause="Use After Free",
-    ),
-)
-PROGRAMS = [ZLIB, BZIP2, EXPAT, LUA, DUKTAPE, SQLITE]
+
+PROGRAMS = [ZLIB, BZIP2, EXPAT, LUA, DUKTAPE]

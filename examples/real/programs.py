@@ -1,11 +1,11 @@
 #!/usr/bin/env python3
-"""Runs six programs that others wrote as tenants, and writes a table of what came of it.
+"""Runs five programs that others wrote as tenants, and writes a table of what came of it.
 
     programs.py [--host HOST] [--alone ALONE] [--work FOLDER] [--only NAME|none] [--table FILE]
                 [--built] [--note TEXT]
 
-zlib's minigzip, bzip2, Expat's outline, Lua, Duktape (JavaScript) and SQLite's shell are built from
-Debian's sources, unchanged, by ../libc/tenant-cc. Each runs over an input of its kind: as a tenant
+zlib's minigzip, bzip2, Expat's outline, Lua and Duktape (JavaScript) are built from Debian's
+sources, unchanged, by ../libc/tenant-cc. Each runs over an input of its kind: as a tenant
 alone, as twenty tenants of one session, as a program of AArch64 Linux under qemu-aarch64, and as
 one of this machine, whose output is what each other has to write. Then each is built once more with
 a bug of memory, and what ALONE says of that is noted.
@@ -13,9 +13,8 @@ a bug of memory, and what ALONE says of that is noted.
 HOST is crates/mte_host/out/mte_host and ALONE crates/mte_run/out/mte_run. FOLDER keeps the sources,
 what is built and what was measured (a temporary folder). FILE gets the table, in Markdown, with
 TEXT at its end. With --only its other rows are those that FOLDER has of earlier calls, and with
---built no image that FOLDER has is built anew. All takes eight minutes, half of it to compile
-SQLite four times. Needed (Debian): clang, lld, llvm, cc, aarch64-linux-gnu-gcc, qemu-user, tclsh,
-make, apt, and the network the first time.
+--built no image that FOLDER has is built anew. All takes four minutes. Needed (Debian): clang,
+lld, llvm, cc, aarch64-linux-gnu-gcc, qemu-user, make, apt, and the network the first time.
 """
 import argparse
 import json
@@ -36,7 +35,7 @@ import debian_source  # noqa: E402
 
 TENANT_CC = HERE.parent / "libc/tenant-cc"
 LINUX_GCC = "aarch64-linux-gnu-gcc"
-TOOLS = ["clang", "ld.lld", "cc", LINUX_GCC, "qemu-aarch64", "tclsh", "make", "apt-get"]
+TOOLS = ["clang", "ld.lld", "cc", LINUX_GCC, "qemu-aarch64", "make", "apt-get"]
 # The most steps of a slice; tenants of a session, pages of each and its room for output; runs of
 # which the fastest counts; slices for a tenant whose steps are not known.
 SLICE, TENANTS, PAGES, ROOM, TURNS, MANY = 1048576, 20, 1600, 65536, 3, 400
@@ -70,8 +69,7 @@ undone, or one that was planted. `mte_run` says:
 {bugs}
 
 What a program gives out of a chunk of its own has the tag of that chunk, so no bug between two \
-such objects is found. SQLite therefore has to be built without its pool of small objects \
-(`SQLITE_OMIT_LOOKASIDE`).
+such objects is found.
 
 Sources: {versions}.{note}
 """
@@ -271,14 +269,6 @@ def page(work, note):
     return PAGE.format(rows=rows, bugs=bugs, versions=versions, note=f" {note}" if note else "")
 
 
-def prepare(sources):
-    """SQLite's source in one file, which its own makefile makes."""
-    source = sources.get("sqlite3")
-    if source and not (source / "sqlite3.c").exists():
-        run_tool([source / "configure", "--disable-tcl", "--disable-readline"], cwd=source)
-        run_tool(["make", "sqlite3.c", "shell.c"], cwd=source)
-
-
 def arguments():
     form = argparse.RawDescriptionHelpFormatter
     parser = argparse.ArgumentParser(description=__doc__, formatter_class=form)
@@ -312,7 +302,6 @@ def main():
             sources = {package: debian_source.fetch(folder, package) for package in packages}
         except debian_source.NotFetched as error:
             leave(error)
-        prepare(sources)
         for program in chosen:
             measure(program, sources[program.package], options, work)
         if options.table:
