@@ -11,7 +11,9 @@ import subprocess
 import sys
 
 OPTIONS = ["--pages", "--out", "--seed", "--async", "--steps", "--slices", "--last", "--trace",
-           "--trace=2-9", "--input", "--script", "--frames", "--map", "--help", "--version"]
+           "--trace=2-9", "--trace-file", "--input", "--script", "--frames", "--map", "--json",
+           "--seeds=3", "--exact", "--exact=writes", "--leaks", "--services", "--calls", "--help",
+           "--version"]
 VALUES = ["0", "1", "5", "64", "4096", "4097", "65536", "-1", "18446744073709551615",
           "18446744073709551616", "00000000000000ff", "zz", "", "1,2,3", "7-", "/dev/null", "é"]
 

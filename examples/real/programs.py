@@ -14,7 +14,7 @@ HOST is crates/mte_host/out/mte_host and ALONE crates/mte_run/out/mte_run. FOLDE
 what is built and what was measured (a temporary folder). FILE gets the table, in Markdown, with
 TEXT at its end. With --only its other rows are those that FOLDER has of earlier calls, and with
 --built no image that FOLDER has is built anew. All takes four minutes. Needed (Debian): clang,
-lld, llvm, cc, aarch64-linux-gnu-gcc, qemu-user, make, apt, and the network the first time.
+lld, llvm, cc, aarch64-linux-gnu-gcc, qemu-user, apt, and the network the first time.
 """
 import argparse
 import json
@@ -35,7 +35,7 @@ import debian_source  # noqa: E402
 
 TENANT_CC = HERE.parent / "libc/tenant-cc"
 LINUX_GCC = "aarch64-linux-gnu-gcc"
-TOOLS = ["clang", "ld.lld", "cc", LINUX_GCC, "qemu-aarch64", "make", "apt-get"]
+TOOLS = ["clang", "ld.lld", "cc", LINUX_GCC, "qemu-aarch64", "apt-get"]
 # The most steps of a slice; tenants of a session, pages of each and its room for output; runs of
 # which the fastest counts; slices for a tenant whose steps are not known.
 SLICE, TENANTS, PAGES, ROOM, TURNS, MANY = 1048576, 20, 1600, 65536, 3, 400

@@ -91,7 +91,7 @@ def written(rows, forms):
     sections = [row_page(row, forms) for row in rows.values()]
     own = [f"`{form.name}` ({form.text.rstrip('.')})" for form in forms if not form.row]
     worked_out = ("## Forms with a value that is worked out\n\n"
-                  f"Made of logical immediates and of moves of constants: {', '.join(own)}.")
+                  f"Made of logical immediates, of moves of constants and of UBFM, whose fields are worked out: {', '.join(own)}.")
     text = "\n\n".join([HEAD.format(rows=len(rows), forms=len(forms)).rstrip("\n"), "## The rows",
                         *sections, worked_out])
     return {PATH: text + "\n" + TAIL.format(overlaps=overlaps(rows))}
