@@ -17,11 +17,11 @@ import sys
 import tempfile
 
 ROOT = pathlib.Path(__file__).resolve().parents[1]
-FOLDERS = ["isa", "tools", "docs", "examples/disassembly",
+FOLDERS = ["isa", "tools", "docs",
            *(f"crates/{name}" for name in ("a64_instr", "a64_asm", "a64_decode", "a64_step",
-                                           "a64_text", "a64_tests", "mte_report"))]
+                                           "a64_text", "a64_tests", "instruction_trace"))]
 DEFINITIONS = {"crates/a64_asm/specs/Encoding.antt": r"^(word_of|tests) |^    ",
-               "crates/a64_step/specs/Steps.antt": r"^executed \(instr"}
+               "crates/a64_step/specs/Steps.antt": r"^step_of_instr \(instr"}
 
 
 def copied():

@@ -114,7 +114,7 @@ EXPAT = Program(
     name="expat", package="expat", title="Expat (outline)",
     does="outlines the first hundred elements of the codebook of a survey, of its own tests",
     files=files("expat/", "examples/outline lib/xmlparse lib/xmlrole lib/xmltok"),
-    flags=["-I{here}/../speed/real", "-I{source}/expat/lib"],
+    flags=["-I{here}/../../tools/speed/real", "-I{source}/expat/lib"],
     input=codebook, compilers=("clang", "gcc"),
     bug=Bug(
         title="planted: the array of attributes does not grow with those of an element",

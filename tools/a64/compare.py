@@ -1,6 +1,6 @@
 """Compares the data with the definitions that are written by hand.
 
-`word_of` and `tests` (Encoding.antt) and `executed` (Steps.antt) are what a reader must believe.
+`word_of` and `tests` (Encoding.antt) and `step_of_instr` (Steps.antt) are what a reader must believe.
 They come from another hand than the data, so that a slip in a row can't prove itself.
 """
 
@@ -50,7 +50,7 @@ def tests_equation(row):
 
 
 def executed_head(row):
-    return f"executed {applied(row)} r m"
+    return f"step_of_instr {applied(row)} r m"
 
 
 def compared(path, name, wanted, stands):
@@ -72,5 +72,5 @@ def differences(rows, forms):
     tests = {row.name: tests_equation(row) for row in rows.values()}
     yield from compared(ENCODING, "tests", tests, equations(ENCODING, "tests"))
     heads = {row.name: executed_head(row) for row in rows.values()}
-    stands = {name: text.split(" = ")[0] for name, text in equations(STEPS, "executed").items()}
-    yield from compared(STEPS, "executed", heads, stands)
+    stands = {name: text.split(" = ")[0] for name, text in equations(STEPS, "step_of_instr").items()}
+    yield from compared(STEPS, "step_of_instr", heads, stands)

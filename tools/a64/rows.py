@@ -31,7 +31,7 @@ def written(rows):
         "crates/a64_decode/proofs/RowLemmas.antt": lemmas_file(rows, ways),
         "crates/a64_text/src/rows.rt": text_file(rows),
         "crates/a64_tests/src/row_words.rt": words_file(rows),
-        "examples/disassembly/rows.py": objdump_file(rows),
+        "tools/disassembly/rows.py": objdump_file(rows),
     }
 
 
@@ -414,12 +414,12 @@ TEXT_FILE = """\
 use crate::control::*;
 use crate::data_processing::*;
 use crate::memory::*;
-use crate::operand::Line;
+use crate::operand::TextLine;
 use a64_instr::Instr;
 
 /// The line of `instr`, at `pc` where that is known.
 #[rattlefmt::skip]
-pub fn line_of(instr: &Instr, pc: Option<u64>) -> Line {{
+pub fn line_of(instr: &Instr, pc: Option<u64>) -> TextLine {{
     match *instr {{
 {arms}
     }}
@@ -473,7 +473,7 @@ def words_file(rows):
         written=WRITTEN, count=len(rows), lines="\n".join(map(word_of_example, rows)))
 
 
-# ---- examples/disassembly
+# ---- tools/disassembly
 
 
 OBJDUMP_FILE = '''\

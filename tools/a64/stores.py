@@ -1,6 +1,6 @@
 """Writes what each row stores, which `mte_run` tells."""
 
-PATH = "crates/mte_report/src/stores.rt"
+PATH = "crates/instruction_trace/src/stores.rt"
 
 HEAD = """\
 // Written by tools/isa.py from isa/a64.rows. Do not edit.

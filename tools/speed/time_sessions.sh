@@ -3,7 +3,7 @@
 # a process of its own, and prints the mean wall time of one from start to end, in milliseconds.
 set -euo pipefail
 here=$(cd "$(dirname "$0")" && pwd)
-crate="$here/../crates/mte_host"
+crate="$here/../../crates/mte_host"
 host="$crate/out/mte_host"
 runs=${1:-200}
 
@@ -19,16 +19,16 @@ now() {
 }
 
 session() {
-    "$host" --frames 11 "$here/hi.script" "$here/hi.elf"
+    "$host" --frames 11 "$here/../../examples/hi.script" "$here/../../examples/hi.elf"
 }
 
 # Builds the program, which `rt run` leaves in out/, where there is none or a source is newer.
 needed() {
-    [[ ! -x $host ]] || [[ -n $(find "$here"/../crates/*/src "$here/../crates.txt" -newer "$host" -print -quit) ]]
+    [[ ! -x $host ]] || [[ -n $(find "$here"/../../crates/*/src "$here/../../crates.txt" -newer "$host" -print -quit) ]]
 }
 
 if needed; then
-    (cd "$crate" && rt run -- --frames 11 "$here/hi.script" "$here/hi.elf") >&2
+    (cd "$crate" && rt run -- --frames 11 "$here/../../examples/hi.script" "$here/../../examples/hi.elf") >&2
 fi
 
 # Once before the clock starts, so that the files are in memory, and to see that the session is a good one.

@@ -4,7 +4,7 @@
 # registers; a quarter of `memory` are loads and a quarter stores, through tagged pointers into the stack pages.
 set -euo pipefail
 here=$(cd "$(dirname "$0")" && pwd)
-crate="$here/../crates/mte_host"
+crate="$here/../../crates/mte_host"
 host="$crate/out/mte_host"
 slices=100
 
@@ -38,18 +38,18 @@ now() {
 
 # Builds the program, which `rt run` leaves in out/, where there is none or a source is newer.
 needed() {
-    [[ ! -x $host ]] || [[ -n $(find "$here"/../crates/*/src "$here/../crates.txt" -newer "$host" -print -quit) ]]
+    [[ ! -x $host ]] || [[ -n $(find "$here"/../../crates/*/src "$here/../../crates.txt" -newer "$host" -print -quit) ]]
 }
 
 if needed; then
-    (cd "$crate" && rt run -- --frames 11 "$here/hi.script" "$here/hi.elf") >&2
+    (cd "$crate" && rt run -- --frames 11 "$here/../../examples/hi.script" "$here/../../examples/hi.elf") >&2
 fi
 
 # Runs a loop, sees that it ran to the end, and prints its rate.
 run() {
     local name=$1
     shift
-    python3 "$here/build_image.py" "$work/$name.elf" "$@"
+    python3 "$here/../../examples/build_image.py" "$work/$name.elf" "$@"
     local begin end tenths
     begin=$(now)
     "$host" --frames 11 "$work/script" "$work/$name.elf" >"$work/report"

@@ -30,7 +30,7 @@ import real_programs
 from commands import SLICE, instructions, need_hosts, need_outside, user_time
 
 HERE = pathlib.Path(__file__).resolve().parent
-sys.path.insert(0, str(HERE.parent))
+sys.path.insert(0, str(HERE.parents[1] / "examples"))
 from build_image import image  # noqa: E402
 
 CONSTANTS = [0xD2800060, 0xD299BDE1, 0xF2B13561, 0xF2C8ACE1, 0xF2E02461]

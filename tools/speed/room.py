@@ -25,10 +25,10 @@ import sys
 import tempfile
 
 HERE = pathlib.Path(__file__).resolve().parent
-sys.path.insert(0, str(HERE.parent))
+sys.path.insert(0, str(HERE.parents[1] / "examples"))
 from build_image import image  # noqa: E402
 
-HI = HERE.parent / "hi.elf"
+HI = HERE.parents[1] / "examples" / "hi.elf"
 ROUNDS = 20_000
 STEPS_A_ROUND = 6
 BRANCH_TO_ITSELF = 0x14000000

@@ -12,7 +12,7 @@ import sys
 from commands import leave, run_tool
 
 HERE = pathlib.Path(__file__).resolve().parent
-sys.path.insert(0, str(HERE.parent))
+sys.path.insert(0, str(HERE.parents[1] / "examples"))
 import debian_source  # noqa: E402
 
 PACKAGE = "llvm-toolchain-14"

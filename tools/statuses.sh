@@ -8,7 +8,7 @@ here=$(cd "$(dirname "$0")" && pwd)
 work=$(mktemp -d)
 trap 'rm -rf "$work"' EXIT
 cd "$work"
-cp "$here/hi.elf" "$here/hi.script" .
+cp "$here/../examples/hi.elf" "$here/../examples/hi.script" .
 printf 'admit 1 image 2 input 0 seed 0000000000000001 frames 5 out 16\n' > second.script
 printf 'slice 1\n' > faulty.script
 head -c 16777217 /dev/zero > long.elf

@@ -3,7 +3,7 @@
 
     forms.py HOST
 
-HOST is a built mte_host. Builds each tenant of ../c by clang and gcc at -O0, -O2 and -Os (the hash over 32 KiB and
+HOST is a built mte_host. Builds each tenant of examples/c by clang and gcc at -O0, -O2 and -Os (the hash over 32 KiB and
 the sort of 4,096 numbers), runs each to its end under callgrind, and counts the calls of `execute_other`, by which
 an instruction without a form is executed. A line a compiler and level: steps, and the share of them with a form.
 """
@@ -14,7 +14,7 @@ import sys
 import tempfile
 
 HERE = pathlib.Path(__file__).resolve().parent
-TENANTS = HERE.parent / "c"
+TENANTS = HERE.parents[1] / "examples" / "c"
 FLAGS = ["-ffreestanding", "-nostdlib", "-static", "-mgeneral-regs-only"]
 COMPILERS = {"clang": ["clang", "--target=aarch64-linux-gnu", "-fuse-ld=lld"], "gcc": ["aarch64-linux-gnu-gcc"]}
 SMALLER = [("1 << 20", "1 << 15"), ("131072", "4096")]

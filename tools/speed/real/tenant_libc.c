@@ -3,7 +3,7 @@
 #include <stdarg.h>
 #include <stdint.h>
 #include <string.h>
-#include "../../c/tenant.h"
+#include "../../../examples/c/tenant.h"
 
 enum { UNSUPPORTED = 99, DIGITS = 24 };
 

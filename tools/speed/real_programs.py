@@ -28,7 +28,7 @@ from commands import SLICE, instructions, leave, need_tools, run_tool, user_time
 
 HERE = pathlib.Path(__file__).resolve().parent
 REAL = HERE / "real"
-sys.path.insert(0, str(HERE.parent))
+sys.path.insert(0, str(HERE.parents[1] / "examples"))
 import debian_source  # noqa: E402
 
 TOOLS = {**scudo.TOOLS, "ld.lld": "lld", "valgrind": "valgrind"}

@@ -26,7 +26,7 @@ import scudo
 from commands import SLICE, leave, need_hosts, need_outside, need_tools, run_tool, user_time, version
 
 HERE = pathlib.Path(__file__).resolve().parent
-TENANTS = HERE.parent / "c"
+TENANTS = HERE.parents[1] / "examples" / "c"
 TOOLS = {**scudo.TOOLS, "ld.lld": "lld"}
 TENANT = [*scudo.AARCH64, "-fuse-ld=lld", "-ffreestanding", "-nostdlib", "-static", "-mgeneral-regs-only"]
 # A call of the heap is HEAP(name): an own name for each heap, so that a compiler knows none of them.
