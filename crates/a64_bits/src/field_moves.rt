@@ -2,7 +2,7 @@
 
 ghost use Rattle.std.specs.Prelude.{◌≡◌, ◌+◌, ◌%◌, ◌^◌, ◌<◌, ◌≤◌};
 ghost use Rattle.a64_bits.specs.Arithmetic.{IsRegisterSize};
-ghost use Rattle.a64_bits.specs.FieldMoves.{extracted, placed_field, moved_field};
+ghost use Rattle.a64_bits.specs.FieldMoves.{extr_value, placed_field, moved_field};
 
 use crate::powers::{low_bits, ones, power_of_two};
 
@@ -13,7 +13,7 @@ pub fn extract(high: u64, low: u64, lsb: u32, size: u32) -> u64
     requires high { high < 2 ^ size }
     requires low { low < 2 ^ size }
     requires lsb { lsb < size }
-    ensures { result ≡ extracted size high low lsb }
+    ensures { result ≡ extr_value size high low lsb }
 {
     if lsb == 0 {
         return low;

@@ -22,7 +22,7 @@ pub fn field(word: u32, position: u32, width: u32) -> u32
     (word >> position) & ((1 << width) - 1)
 }
 
-/// The same bits as a number in two's complement, from -2^(width-1) to 2^(width-1) - 1.
+/// A field's bits as a number in two's complement, from -2^(width-1) to 2^(width-1) - 1.
 #[inline(always)]
 pub fn signed_field(word: u32, position: u32, width: u32) -> i32
     requires in_word { position + width ≤ 32 }

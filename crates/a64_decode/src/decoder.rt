@@ -3,7 +3,7 @@
 ghost use Rattle.std.specs.Prelude.{◌≡◌, ◌↔◌, ℕ, IfSome};
 ghost use Rattle.a64_asm.specs.Encoding.{IsAllowed, IsWordOf, word_of};
 ghost use Rattle.a64_instr.specs.declared.instruction.Instr.{Instr};
-ghost use Rattle.a64_decode.specs.Decoded.{decoded};
+ghost use Rattle.a64_decode.specs.Decoded.{instr_of_word};
 
 use crate::groups::read;
 use a64_asm::Instr;
@@ -14,7 +14,7 @@ use a64_asm::Instr;
 pub fn decode(word: u32) -> Option<Instr>
     ensures means { (i : Instr) → ((result ≡ Some i) ↔ IsWordOf word i) }
     // The same as a function of the word, for those who have to name the instruction.
-    ensures value { result ≡ decoded word }
+    ensures value { result ≡ instr_of_word word }
     ensures fits { IfSome result IsAllowed }
 {
     let mut found = None;
@@ -24,7 +24,7 @@ pub fn decode(word: u32) -> Option<Instr>
 
 /// A word means the instruction that it is the word of, and nothing where there is none.
 pub fn words_mean()
-    ensures { (w : ℕ) (i : Instr) → ((decoded w ≡ Some i) ↔ IsWordOf w i) }
+    ensures { (w : ℕ) (i : Instr) → ((instr_of_word w ≡ Some i) ↔ IsWordOf w i) }
 {}
 
 /// No two instructions have the same word.

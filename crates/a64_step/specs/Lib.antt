@@ -21,4 +21,4 @@ pub mod Steps
 pub mod Fixed
 pub mod Ops
 pub mod OpFamilies
-pub mod Kept
+pub mod OpCaches

@@ -102,13 +102,13 @@ impl Target {
     }
 }
 
-ghost use Rattle.a64_step.specs.Addressing.{moved, with_new_base, stack_fault};
+ghost use Rattle.a64_step.specs.Addressing.{offset_address, with_new_base, stack_fault};
 
 /// An address plus an offset that counts units, modulo 2^64.
 #[inline(always)]
-#[tactic(auto, unfolding(crate::specs::Addressing::moved))]
+#[tactic(auto, unfolding(crate::specs::Addressing::offset_address))]
 pub fn moved_by(address: u64, unit: u64, offset: i64) -> u64
-    ensures { result ≡ moved address unit offset }
+    ensures { result ≡ offset_address address unit offset }
 {
     address.wrapping_add(offset.cast_unsigned().wrapping_mul(unit))
 }

@@ -2,7 +2,7 @@
 
 ghost use Rattle.std.specs.Prelude.{◌≡◌, ◌<◌, ◌+◌, ◌*◌, ◌/◌, ◌%◌, ◌^◌, ◌==◌};
 ghost use Rattle.a64_step.specs.Branches.{branch_cond_of, branch_of, branch_reg_of, cmp_branch_of};
-ghost use Rattle.a64_step.specs.Branches.{jumped_if, linked, test_branch_of};
+ghost use Rattle.a64_step.specs.Branches.{branch_cases, with_link, test_branch_of};
 
 use crate::addressing::moved_by;
 use crate::conditions::condition_holds;
@@ -11,9 +11,9 @@ use crate::registers::Regs;
 
 /// Writes the address of the next instruction to x30.
 #[inline(always)]
-#[tactic(auto, unfolding(crate::specs::Branches::linked))]
+#[tactic(auto, unfolding(crate::specs::Branches::with_link))]
 fn link(regs: &mut Regs)
-    ensures { regs.new ≡ linked regs.old }
+    ensures { regs.new ≡ with_link regs.old }
 {
     regs.set(30, regs.pc.wrapping_add(4));
 }
@@ -21,9 +21,9 @@ fn link(regs: &mut Regs)
 /// Moves the program counter by `offset` words where the branch is taken, else to the next
 /// instruction.
 #[inline(always)]
-#[tactic(auto, unfolding(crate::specs::Branches::jumped_if))]
+#[tactic(auto, unfolding(crate::specs::Branches::branch_cases))]
 fn jump_if(regs: &mut Regs, taken: bool, offset: i64)
-    ensures { regs.new ≡ jumped_if regs.old taken offset }
+    ensures { regs.new ≡ branch_cases regs.old taken offset }
 {
     if taken {
         regs.jump(moved_by(regs.pc, 4, offset));

@@ -5,7 +5,7 @@ ghost use Rattle.a64_step.specs.DataProcessing.{long_operand, mul_add_long_of, m
 ghost use Rattle.a64_step.specs.DataProcessing.{mul_high_of, multiplied_sum, one_source_of};
 ghost use Rattle.a64_step.specs.DataProcessing.{two_source_of};
 ghost use Rattle.a64_step.specs.Operands.{size_of};
-ghost use Rattle.a64_step.specs.Registers.{advanced};
+ghost use Rattle.a64_step.specs.Registers.{with_next_pc};
 
 use crate::operands::{shift_by, size_of_operands, truncate};
 use crate::registers::Regs;
@@ -26,7 +26,7 @@ pub fn one_source(regs: &mut Regs, sf: u8, opcode: u8, rn: u8, rd: u8)
     requires wide { sf ≡ 0 → opcode ≢ 3 }
     requires rn { rn < 32 }
     requires rd { rd < 32 }
-    ensures { regs.new ≡ advanced (one_source_of regs.old sf opcode rn rd) }
+    ensures { regs.new ≡ with_next_pc (one_source_of regs.old sf opcode rn rd) }
 {
     let x = truncate(sf, regs.get(rn));
     let size = size_of_operands(sf);
@@ -56,7 +56,7 @@ pub fn two_source(regs: &mut Regs, sf: u8, rm: u8, opcode: u8, rn: u8, rd: u8)
         ⊎ (opcode ≡ 10) ⊎ (opcode ≡ 11) }
     requires rn { rn < 32 }
     requires rd { rd < 32 }
-    ensures { regs.new ≡ advanced (two_source_of regs.old sf rm opcode rn rd) }
+    ensures { regs.new ≡ with_next_pc (two_source_of regs.old sf rm opcode rn rd) }
 {
     let x = truncate(sf, regs.get(rn));
     let y = truncate(sf, regs.get(rm));
@@ -92,7 +92,7 @@ pub fn mul_add(regs: &mut Regs, sf: u8, rm: u8, o0: u8, ra: u8, rn: u8, rd: u8)
     requires ra { ra < 32 }
     requires rn { rn < 32 }
     requires rd { rd < 32 }
-    ensures { regs.new ≡ advanced (mul_add_of regs.old sf rm o0 ra rn rd) }
+    ensures { regs.new ≡ with_next_pc (mul_add_of regs.old sf rm o0 ra rn rd) }
 {
     let a = truncate(sf, regs.get(ra));
     let x = truncate(sf, regs.get(rn));
@@ -122,7 +122,7 @@ pub fn mul_add_long(regs: &mut Regs, u: u8, rm: u8, o0: u8, ra: u8, rn: u8, rd: 
     requires ra { ra < 32 }
     requires rn { rn < 32 }
     requires rd { rd < 32 }
-    ensures { regs.new ≡ advanced (mul_add_long_of regs.old u rm o0 ra rn rd) }
+    ensures { regs.new ≡ with_next_pc (mul_add_long_of regs.old u rm o0 ra rn rd) }
 {
     let x = low_half(u, regs.get(rn));
     let y = low_half(u, regs.get(rm));
@@ -137,7 +137,7 @@ pub fn mul_high(regs: &mut Regs, u: u8, rm: u8, rn: u8, rd: u8)
     requires rm { rm < 32 }
     requires rn { rn < 32 }
     requires rd { rd < 32 }
-    ensures { regs.new ≡ advanced (mul_high_of regs.old u rm rn rd) }
+    ensures { regs.new ≡ with_next_pc (mul_high_of regs.old u rm rn rd) }
 {
     regs.set(rd, multiply_high(regs.get(rn), regs.get(rm), u == 0));
     regs.advance();

@@ -6,7 +6,7 @@ ghost use Rattle.a64_asm.specs.Encoding.{IsAllowed};
 ghost use Rattle.a64_step.specs.Parts.{is_branch, is_other_data_processing};
 ghost use Rattle.a64_step.specs.Parts.{is_other_load_or_store, is_system_or_tag};
 ghost use Rattle.a64_step.specs.Results.{Leaves};
-ghost use Rattle.a64_step.specs.Steps.{executed};
+ghost use Rattle.a64_step.specs.Steps.{step_of_instr};
 
 use crate::add_subtract::{adc_sbc, add_sub_ext, add_sub_imm, add_sub_shift};
 use crate::bitfield::{bitfield, extr};
@@ -29,11 +29,11 @@ use mte_tags::Tagged;
 /// next to one another in `Instr`: so the compiler makes one jump of both matches.
 #[rattlefmt::skip]
 #[inline(always)]
-#[tactic(auto, unfolding(crate::specs::Steps::executed))]
+#[tactic(auto, unfolding(crate::specs::Steps::step_of_instr))]
 pub fn execute<M: Tagged>(instr: &Instr, regs: &mut Regs, memory: &mut M, outcome: &mut Outcome)
     requires allowed { IsAllowed instr.now }
     requires outcome { outcome.old ≡ Outcome.Next }
-    ensures leaves { Leaves (executed instr.now regs.old (M.memory memory.old))
+    ensures leaves { Leaves (step_of_instr instr.now regs.old (M.memory memory.old))
         outcome.new regs.new (M.memory memory.new) }
     ensures kept { M.kept memory.old memory.new }
 {
@@ -84,12 +84,12 @@ pub fn execute<M: Tagged>(instr: &Instr, regs: &mut Regs, memory: &mut M, outcom
 /// Executes branches.
 #[rattlefmt::skip]
 #[inline(always)]
-#[tactic(auto, unfolding(crate::specs::Steps::executed))]
+#[tactic(auto, unfolding(crate::specs::Steps::step_of_instr))]
 fn execute_branch<M: Tagged>(instr: &Instr, regs: &mut Regs, memory: &mut M, outcome: &mut Outcome)
     requires allowed { IsAllowed instr.now }
     requires row { is_branch instr.now ≡ true }
     requires outcome { outcome.old ≡ Outcome.Next }
-    ensures leaves { Leaves (executed instr.now regs.old (M.memory memory.old))
+    ensures leaves { Leaves (step_of_instr instr.now regs.old (M.memory memory.old))
         outcome.new regs.new (M.memory memory.new) }
     ensures kept { M.kept memory.old memory.new }
 {
@@ -107,12 +107,12 @@ fn execute_branch<M: Tagged>(instr: &Instr, regs: &mut Regs, memory: &mut M, out
 /// of bits.
 #[rattlefmt::skip]
 #[inline(always)]
-#[tactic(auto, unfolding(crate::specs::Steps::executed))]
+#[tactic(auto, unfolding(crate::specs::Steps::step_of_instr))]
 fn execute_other_data_processing<M: Tagged>(instr: &Instr, regs: &mut Regs, memory: &mut M, outcome: &mut Outcome)
     requires allowed { IsAllowed instr.now }
     requires row { is_other_data_processing instr.now ≡ true }
     requires outcome { outcome.old ≡ Outcome.Next }
-    ensures leaves { Leaves (executed instr.now regs.old (M.memory memory.old))
+    ensures leaves { Leaves (step_of_instr instr.now regs.old (M.memory memory.old))
         outcome.new regs.new (M.memory memory.new) }
     ensures kept { M.kept memory.old memory.new }
 {
@@ -132,12 +132,12 @@ fn execute_other_data_processing<M: Tagged>(instr: &Instr, regs: &mut Regs, memo
 /// Executes loads and stores but those of a register at an unsigned offset.
 #[rattlefmt::skip]
 #[inline(always)]
-#[tactic(auto, unfolding(crate::specs::Steps::executed))]
+#[tactic(auto, unfolding(crate::specs::Steps::step_of_instr))]
 fn execute_other_load_or_store<M: Tagged>(instr: &Instr, regs: &mut Regs, memory: &mut M, outcome: &mut Outcome)
     requires allowed { IsAllowed instr.now }
     requires row { is_other_load_or_store instr.now ≡ true }
     requires outcome { outcome.old ≡ Outcome.Next }
-    ensures leaves { Leaves (executed instr.now regs.old (M.memory memory.old))
+    ensures leaves { Leaves (step_of_instr instr.now regs.old (M.memory memory.old))
         outcome.new regs.new (M.memory memory.new) }
     ensures kept { M.kept memory.old memory.new }
 {
@@ -157,12 +157,12 @@ fn execute_other_load_or_store<M: Tagged>(instr: &Instr, regs: &mut Regs, memory
 /// Executes SVC, BRK, hints, and what draws, reads, writes or computes with tags.
 #[rattlefmt::skip]
 #[inline(always)]
-#[tactic(auto, unfolding(crate::specs::Steps::executed))]
+#[tactic(auto, unfolding(crate::specs::Steps::step_of_instr))]
 fn execute_system_or_tag<M: Tagged>(instr: &Instr, regs: &mut Regs, memory: &mut M, outcome: &mut Outcome)
     requires allowed { IsAllowed instr.now }
     requires row { is_system_or_tag instr.now ≡ true }
     requires outcome { outcome.old ≡ Outcome.Next }
-    ensures leaves { Leaves (executed instr.now regs.old (M.memory memory.old))
+    ensures leaves { Leaves (step_of_instr instr.now regs.old (M.memory memory.old))
         outcome.new regs.new (M.memory memory.new) }
     ensures kept { M.kept memory.old memory.new }
 {

@@ -12,7 +12,6 @@ mod data_processing;
 mod entry;
 mod execute;
 mod execute_op;
-mod kept;
 mod laws;
 mod load_store;
 mod load_store_pair;
@@ -22,6 +21,7 @@ mod memory_tagging;
 mod move_wide;
 mod op;
 mod op_branches;
+mod op_cache;
 mod op_data;
 mod op_memory;
 mod op_of_constant;
@@ -34,11 +34,11 @@ mod registers;
 mod steps;
 
 pub use a64_decode::Decoder;
-pub use kept::{Kept, run_kept, run_on_kept};
 pub use laws::{
     known_words_stay, steps_keep_fixed_pages, steps_keep_pages, steps_keep_tag_mode,
     steps_keep_tags,
 };
+pub use op_cache::{OpCache, run_cached, run_on_cache};
 pub use outcome::{Outcome, Stop};
 pub use registers::Regs;
 pub use steps::{run, step};

@@ -1,7 +1,7 @@
 //! Memory accesses of 1, 2, 4 or 8 bytes.
 
 ghost use Rattle.std.specs.Prelude.{◌≡◌, false, ◌<◌, ◌≤◌, ◌+◌, ◌*◌, ◌%◌, ◌^◌, is_ok, if◌then◌else◌};
-ghost use Rattle.mte_tags.specs.Accesses.{outcome, after_read, write_fault, after_write};
+ghost use Rattle.mte_tags.specs.Accesses.{result_of, after_read, write_fault, after_write};
 ghost use Rattle.a64_step.specs.MemoryAccess.{number_read, stored_bytes};
 ghost use Rattle.a64_step.specs.Operands.{bytes_of};
 
@@ -22,7 +22,7 @@ pub fn write_number<M: Tagged>(
     checked: bool,
 ) -> Result<(), MemFault>
     ensures answer { result
-        ≡ outcome (write_fault (M.memory memory.old) address (bytes_of size) checked) }
+        ≡ result_of (write_fault (M.memory memory.old) address (bytes_of size) checked) }
     ensures memory { M.memory memory.new
         ≡ (if is_ok result
         then after_write (M.memory memory.old) address (stored_bytes size value) checked

@@ -5,13 +5,13 @@ ghost use Rattle.std.specs.Prelude.{if◌then◌else◌};
 ghost use Rattle.std.specs.Int.RustNames.{bit_or};
 ghost use Rattle.a64_bits.specs.Addresses.{plain, address_tag};
 ghost use Rattle.mte_tags.specs.Memory.{with_granules};
-ghost use Rattle.mte_tags.specs.Accesses.{outcome, tags_fault, written};
+ghost use Rattle.mte_tags.specs.Accesses.{result_of, tags_fault, with_bytes_at};
 ghost use Rattle.a64_step.specs.LoadStorePair.{pair_bytes};
 ghost use Rattle.a64_step.specs.MemoryTagging.{add_g_of, gmi_of, granule_count, irg_of, is_zeroing};
 ghost use Rattle.a64_step.specs.MemoryTagging.{ldg_of, st_g_at, st_g_of, st_g_p_at, st_g_p_of};
 ghost use Rattle.a64_step.specs.MemoryTagging.{sub_p_of, tag_target};
 ghost use Rattle.a64_step.specs.MemoryTagging.{with_address_tag};
-ghost use Rattle.a64_step.specs.Registers.{advanced};
+ghost use Rattle.a64_step.specs.Registers.{with_next_pc};
 ghost use Rattle.a64_step.specs.Results.{Leaves};
 
 use crate::add_subtract::{add_into, add_or_subtract};
@@ -33,7 +33,7 @@ pub fn add_g(regs: &mut Regs, op: u8, uimm6: u8, uimm4: u8, rn: u8, rd: u8)
     requires uimm4 { uimm4 < 16 }
     requires rn { rn < 32 }
     requires rd { rd < 32 }
-    ensures { regs.new ≡ advanced (add_g_of regs.old op uimm6 uimm4 rn rd) }
+    ensures { regs.new ≡ with_next_pc (add_g_of regs.old op uimm6 uimm4 rn rd) }
 {
     let base = regs.get_or_sp(rn);
     let sum = add_or_subtract(1, op, base, 16 * u64::from(uimm6));
@@ -49,7 +49,7 @@ pub fn sub_p(regs: &mut Regs, s: u8, rm: u8, rn: u8, rd: u8)
     requires rm { rm < 32 }
     requires rn { rn < 32 }
     requires rd { rd < 32 }
-    ensures { regs.new ≡ advanced (sub_p_of regs.old s rm rn rd) }
+    ensures { regs.new ≡ with_next_pc (sub_p_of regs.old s rm rn rd) }
 {
     let x = sign_extend(regs.get_or_sp(rn), 56);
     let y = sign_extend(regs.get_or_sp(rm), 56);
@@ -64,7 +64,7 @@ pub fn irg(regs: &mut Regs, rm: u8, rn: u8, rd: u8)
     requires rm { rm < 32 }
     requires rn { rn < 32 }
     requires rd { rd < 32 }
-    ensures { regs.new ≡ advanced (irg_of regs.old rm rn rd) }
+    ensures { regs.new ≡ with_next_pc (irg_of regs.old rm rn rd) }
 {
     let base = regs.get_or_sp(rn);
     let exclude = (regs.get(rm) % (1 << 16)) as u16 | EXCLUDED;
@@ -81,7 +81,7 @@ pub fn gmi(regs: &mut Regs, rm: u8, rn: u8, rd: u8)
     requires rm { rm < 32 }
     requires rn { rn < 32 }
     requires rd { rd < 32 }
-    ensures { regs.new ≡ advanced (gmi_of regs.old rm rn rd) }
+    ensures { regs.new ≡ with_next_pc (gmi_of regs.old rm rn rd) }
 {
     let bit = 1u64 << tag_of(regs.get_or_sp(rn));
     regs.set(rd, regs.get(rm) | bit);
@@ -252,10 +252,10 @@ fn store_pair_at<M: Tagged>(
 
 /// Stores the address's tag and two numbers as one granule, all or nothing.
 fn store_granule<M: Tagged>(memory: &mut M, address: u64, values: Pair) -> Result<(), MemFault>
-    ensures answer { result ≡ outcome (tags_fault (M.memory memory.old) address 1) }
+    ensures answer { result ≡ result_of (tags_fault (M.memory memory.old) address 1) }
     ensures memory { M.memory memory.new
         ≡ (if is_ok result
-        then written
+        then with_bytes_at
         (with_granules (M.memory memory.old) (plain address) 1 (address_tag address) false)
         address
         (pair_bytes 2 values.first values.second)

@@ -2,7 +2,7 @@
 
 ghost use Rattle.std.specs.Prelude.{◌≡◌, ◌<◌, ◌+◌, ◌-◌, ◌*◌, ◌/◌, ◌%◌, ◌^◌};
 ghost use Rattle.a64_step.specs.MoveWide.{move_wide_of};
-ghost use Rattle.a64_step.specs.Registers.{advanced};
+ghost use Rattle.a64_step.specs.Registers.{with_next_pc};
 
 use crate::operands::{inverted, truncate};
 use crate::registers::Regs;
@@ -48,7 +48,7 @@ pub fn move_wide(regs: &mut Regs, sf: u8, opc: u8, hw: u8, imm16: u16, rd: u8)
     requires hw { hw < 4 }
     requires narrow { sf ≡ 0 → hw < 2 }
     requires rd { rd < 32 }
-    ensures { regs.new ≡ advanced (move_wide_of regs.old sf opc hw imm16 rd) }
+    ensures { regs.new ≡ with_next_pc (move_wide_of regs.old sf opc hw imm16 rd) }
 {
     let old = truncate(sf, regs.get(rd));
     let value = match opc {

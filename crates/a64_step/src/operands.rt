@@ -2,7 +2,7 @@
 
 ghost use Rattle.std.specs.Prelude.{◌≡◌, ◌<◌, ◌≤◌, ◌+◌, ◌-◌, ◌*◌, ◌%◌, ◌^◌};
 ghost use Rattle.a64_bits.specs.Arithmetic.{IsRegisterSize};
-ghost use Rattle.a64_step.specs.Operands.{bytes_of, extended_by, operand, shifted_by, size_of};
+ghost use Rattle.a64_step.specs.Operands.{bytes_of, extend_value, operand, shift_value, size_of};
 
 use a64_bits::{rotate_right, shift_left, shift_right, shift_right_signed, sign_extend};
 
@@ -44,7 +44,7 @@ pub fn inverted(sf: u8, value: u64) -> u64
 #[inline(always)]
 #[rattlefmt::skip]
 #[tactic(auto, unfolding(
-    crate::specs::Operands::shifted_by,
+    crate::specs::Operands::shift_value,
     a64_bits::specs::Shifts::shifted_left,
     a64_bits::specs::Shifts::shifted_right,
     a64_bits::specs::Shifts::shifted_right_signed,
@@ -55,7 +55,7 @@ pub fn shift_by(kind: u8, value: u64, amount: u32, size: u32) -> u64
     requires size { IsRegisterSize size }
     requires within { amount < size }
     requires fits { value < 2 ^ size }
-    ensures { result ≡ shifted_by size kind amount value }
+    ensures { result ≡ shift_value size kind amount value }
 {
     // Most operands are not shifted.
     if amount == 0 {
@@ -97,10 +97,10 @@ pub fn bit_count(size: u8) -> u32
 
 /// The low 8, 16, 32 or 64 bits, extended with zeros or with the sign (ExtendReg).
 #[inline(always)]
-#[tactic(auto, unfolding(crate::specs::Operands::extended_by, crate::specs::Operands::bytes_of))]
+#[tactic(auto, unfolding(crate::specs::Operands::extend_value, crate::specs::Operands::bytes_of))]
 pub fn extend(option: u8, value: u64) -> u64
     requires { option < 8 }
-    ensures { result ≡ extended_by option value }
+    ensures { result ≡ extend_value option value }
 {
     match option {
         0 => value % (1 << 8),

@@ -2,7 +2,7 @@
 
 ghost use Rattle.std.specs.Prelude.{◌≡◌, ◌<◌};
 ghost use Rattle.a64_step.specs.PcRel.{adr_of};
-ghost use Rattle.a64_step.specs.Registers.{advanced};
+ghost use Rattle.a64_step.specs.Registers.{with_next_pc};
 
 use crate::addressing::moved_by;
 use crate::registers::Regs;
@@ -12,7 +12,7 @@ use crate::registers::Regs;
 #[tactic(auto, unfolding(crate::specs::PcRel::adr_of))]
 pub fn adr(regs: &mut Regs, op: u8, immlo: u8, immhi: i32, rd: u8)
     requires rd { rd < 32 }
-    ensures { regs.new ≡ advanced (adr_of regs.old op immlo immhi rd) }
+    ensures { regs.new ≡ with_next_pc (adr_of regs.old op immlo immhi rd) }
 {
     let low = u64::from(immlo);
     let value = if op == 0 {

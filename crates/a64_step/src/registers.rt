@@ -23,7 +23,7 @@ pub struct Regs {
 
 impl Regs {
     ghost use Rattle.a64_step.specs.Registers.{fresh, register, register_or_sp, with_register};
-    ghost use Rattle.a64_step.specs.Registers.{with_register_or_sp, advanced, jumped};
+    ghost use Rattle.a64_step.specs.Registers.{with_register_or_sp, with_next_pc, with_pc};
 
     /// Registers with PC and SP as given, and zero in all else: the flags, and RGSR_EL1 too.
     pub fn new(pc: u64, sp: u64) -> Regs
@@ -122,10 +122,10 @@ impl Regs {
 
     /// Moves the program counter, which the caller has at hand, to the next instruction.
     #[inline(always)]
-    #[tactic(auto, unfolding(crate::specs::Registers::advanced))]
+    #[tactic(auto, unfolding(crate::specs::Registers::with_next_pc))]
     pub(crate) fn advance_from(&mut self, pc: u64) -> u64
         requires { pc ≡ self.old.pc }
-        ensures regs { self.new ≡ advanced self.old }
+        ensures regs { self.new ≡ with_next_pc self.old }
         ensures pc { result ≡ self.new.pc }
     {
         let next = pc.wrapping_add(4) % (1 << 56);
@@ -135,9 +135,9 @@ impl Regs {
 
     /// Moves the program counter to an address, and returns what it is then.
     #[inline(always)]
-    #[tactic(auto, unfolding(crate::specs::Registers::jumped))]
+    #[tactic(auto, unfolding(crate::specs::Registers::with_pc))]
     pub(crate) fn jump_to(&mut self, target: u64) -> u64
-        ensures regs { self.new ≡ jumped self.old target }
+        ensures regs { self.new ≡ with_pc self.old target }
         ensures pc { result ≡ self.new.pc }
     {
         let next = target % (1 << 56);
@@ -147,18 +147,18 @@ impl Regs {
 
     /// Moves the program counter to the next instruction.
     #[inline(always)]
-    #[tactic(auto, unfolding(crate::specs::Registers::advanced))]
+    #[tactic(auto, unfolding(crate::specs::Registers::with_next_pc))]
     pub(crate) fn advance(&mut self)
-        ensures { self.new ≡ advanced self.old }
+        ensures { self.new ≡ with_next_pc self.old }
     {
         self.pc = self.pc.wrapping_add(4) % (1 << 56);
     }
 
     /// Moves the program counter to an address.
     #[inline(always)]
-    #[tactic(auto, unfolding(crate::specs::Registers::jumped))]
+    #[tactic(auto, unfolding(crate::specs::Registers::with_pc))]
     pub(crate) fn jump(&mut self, target: u64)
-        ensures { self.new ≡ jumped self.old target }
+        ensures { self.new ≡ with_pc self.old target }
     {
         self.pc = target % (1 << 56);
     }

@@ -5,7 +5,7 @@ ghost use Rattle.std.specs.Prelude.{◌≡◌, ◌<◌, ◌^◌, IsTrue, IsSome,
 ghost use Rattle.mte_tags.specs.Accesses.{IsPageAttrs};
 ghost use Rattle.mte_tags.specs.Memory.{page_at};
 
-use a64_step::{Kept, Outcome, Regs, run_kept, step};
+use a64_step::{OpCache, Outcome, Regs, run_cached, step};
 use mte_flat::Flat;
 use mte_tags::{Attrs, Paged, TagMode, Tagged};
 use std::alloc::Global;
@@ -118,8 +118,8 @@ fn make_machine(
 }
 
 /// Whether a run that keeps instructions leaves what steps one by one leave.
-fn agree(kept: &mut Kept, run: &mut Machine, other: &mut Machine, steps: u64) -> bool {
-    let stop = run_kept(kept, &mut run.regs, &mut run.memory, steps);
+fn agree(kept: &mut OpCache, run: &mut Machine, other: &mut Machine, steps: u64) -> bool {
+    let stop = run_cached(kept, &mut run.regs, &mut run.memory, steps);
     let mut left = steps;
     let mut outcome = Outcome::Next;
     while left > 0 && outcome == Outcome::Next {
@@ -142,7 +142,7 @@ fn agree(kept: &mut Kept, run: &mut Machine, other: &mut Machine, steps: u64) ->
 fn blocks_are_cut_at_each_step(rt: HostRuntime) -> Result<(), Fail> {
     let mut run = make_machine(rt.alloc(), &LOOP, &LOOP, Attrs::TEXT)?;
     let mut other = make_machine(rt.alloc(), &LOOP, &LOOP, Attrs::TEXT)?;
-    let mut kept = Kept::new(rt.alloc())?;
+    let mut kept = OpCache::new(rt.alloc())?;
     for steps in 1..40 {
         assert!(rt; agree(&mut kept, &mut run, &mut other, steps));
     }
@@ -160,7 +160,7 @@ fn entries_of_a_block_are_replaced(rt: HostRuntime) -> Result<(), Fail> {
     others[13] = 0x17FF_FEF3;
     let mut run = make_machine(rt.alloc(), &words, &others, Attrs::TEXT)?;
     let mut other = make_machine(rt.alloc(), &words, &others, Attrs::TEXT)?;
-    let mut kept = Kept::new(rt.alloc())?;
+    let mut kept = OpCache::new(rt.alloc())?;
     for steps in 1..60 {
         assert!(rt; agree(&mut kept, &mut run, &mut other, steps));
     }
@@ -174,7 +174,7 @@ fn a_block_ends_at_a_page_that_cannot_be_executed(rt: HostRuntime) -> Result<(),
     words[15] = SVC;
     let mut run = make_machine(rt.alloc(), &words, &words, Attrs::TEXT)?;
     let mut other = make_machine(rt.alloc(), &words, &words, Attrs::TEXT)?;
-    let mut kept = Kept::new(rt.alloc())?;
+    let mut kept = OpCache::new(rt.alloc())?;
     for _ in 0..3 {
         run.regs.pc = CODE + 0xFE0;
         other.regs.pc = CODE + 0xFE0;
@@ -200,7 +200,7 @@ fn a_block_is_written_while_it_runs(rt: HostRuntime) -> Result<(), Fail> {
     words[4] = STORE;
     let mut run = make_machine(rt.alloc(), &words, &words, Attrs::ALL)?;
     let mut other = make_machine(rt.alloc(), &words, &words, Attrs::ALL)?;
-    let mut kept = Kept::new(rt.alloc())?;
+    let mut kept = OpCache::new(rt.alloc())?;
     for word in [ADD, SUM, SVC] {
         for behind in 5..9 {
             run.regs.x[2] = CODE + 4 * behind;
@@ -218,7 +218,7 @@ fn a_block_is_written_while_it_runs(rt: HostRuntime) -> Result<(), Fail> {
 fn words_change_between_runs(rt: HostRuntime) -> Result<(), Fail> {
     let mut run = make_machine(rt.alloc(), &LOOP, &LOOP, Attrs::TEXT)?;
     let mut other = make_machine(rt.alloc(), &LOOP, &LOOP, Attrs::TEXT)?;
-    let mut kept = Kept::new(rt.alloc())?;
+    let mut kept = OpCache::new(rt.alloc())?;
     assert!(rt; agree(&mut kept, &mut run, &mut other, 50));
     let mut words = LOOP;
     words[7] = ADD;

@@ -1,6 +1,6 @@
 //! Runs that keep instructions, over plain memories.
 
-use a64_step::{Kept, Outcome, Regs, known_words_stay, run_kept, steps_keep_fixed_pages};
+use a64_step::{OpCache, Outcome, Regs, known_words_stay, run_cached, steps_keep_fixed_pages};
 use mte_flat::Flat;
 use mte_tags::{Attrs, Paged, TagMode, Tagged};
 use std::alloc::Global;
@@ -23,11 +23,11 @@ fn text_of(alloc: Global, second: u8) -> Result<Flat, Fail> {
 fn memories_take_turns(rt: HostRuntime) -> Result<(), Fail> {
     let mut one = text_of(rt.alloc(), 4)?;
     let mut two = text_of(rt.alloc(), 8)?;
-    let mut kept = Kept::new(rt.alloc())?;
+    let mut kept = OpCache::new(rt.alloc())?;
     let mut regs = Regs::new(CODE, 0);
     for _ in 0..3 {
-        run_kept(&mut kept, &mut regs, &mut one, 4);
-        run_kept(&mut kept, &mut regs, &mut two, 6);
+        run_cached(&mut kept, &mut regs, &mut one, 4);
+        run_cached(&mut kept, &mut regs, &mut two, 6);
     }
     assert_eq!(rt; (regs.x[0], regs.pc), (24, CODE));
     steps_keep_fixed_pages();
@@ -45,16 +45,16 @@ fn changed_code_is_executed(rt: HostRuntime) -> Result<(), Fail> {
         0x00, 0x04, 0x00, 0x91, 0x41, 0x00, 0x00, 0xB9, 0xFE, 0xFF, 0xFF, 0x17,
     ];
     memory.write(CODE, &program, false)?;
-    let mut kept = Kept::new(rt.alloc())?;
+    let mut kept = OpCache::new(rt.alloc())?;
     let mut regs = Regs::new(CODE, 0);
     // add x0, x0, #2
     regs.x[1] = 0x91000800;
     regs.x[2] = CODE;
-    run_kept(&mut kept, &mut regs, &mut memory, 7);
+    run_cached(&mut kept, &mut regs, &mut memory, 7);
     assert_eq!(rt; (regs.x[0], regs.pc), (5, CODE + 4));
     // svc #0
     regs.x[1] = 0xD4000001;
-    let stop = run_kept(&mut kept, &mut regs, &mut memory, 9);
+    let stop = run_cached(&mut kept, &mut regs, &mut memory, 9);
     assert_eq!(rt;
         (stop.outcome, stop.left, regs.pc),
         (Some(Outcome::Svc), 6, CODE)

@@ -2,7 +2,7 @@
 //! (Arm ARM DDI 0487, C6.2).
 
 use crate::data_processing::condition;
-use crate::operand::{Line, Operand, alone, general, one, three, two};
+use crate::operand::{Operand, TextLine, alone, general, one, three, two};
 
 /// The address at a distance from an instruction: as such where it is known where the instruction
 /// is, else as the distance.
@@ -13,7 +13,7 @@ pub fn target(pc: Option<u64>, distance: i64) -> Operand {
     }
 }
 
-pub fn adr(pc: Option<u64>, op: u8, immlo: u8, immhi: i32, rd: u8) -> Line {
+pub fn adr(pc: Option<u64>, op: u8, immlo: u8, immhi: i32, rd: u8) -> TextLine {
     let distance = 4 * i64::from(immhi) + i64::from(immlo);
     if op == 0 {
         return two("adr", general(1, rd), target(pc, distance));
@@ -22,29 +22,29 @@ pub fn adr(pc: Option<u64>, op: u8, immlo: u8, immhi: i32, rd: u8) -> Line {
     two("adrp", general(1, rd), target(page, 4096 * distance))
 }
 
-pub fn branch(pc: Option<u64>, op: u8, imm26: i32) -> Line {
+pub fn branch(pc: Option<u64>, op: u8, imm26: i32) -> TextLine {
     one(
         if op == 0 { "b" } else { "bl" },
         target(pc, 4 * i64::from(imm26)),
     )
 }
 
-pub fn branch_cond(pc: Option<u64>, imm19: i32, cond: u8) -> Line {
+pub fn branch_cond(pc: Option<u64>, imm19: i32, cond: u8) -> TextLine {
     one("b.", target(pc, 4 * i64::from(imm19))).with_suffix(condition(cond))
 }
 
-pub fn cmp_branch(pc: Option<u64>, sf: u8, op: u8, imm19: i32, rt: u8) -> Line {
+pub fn cmp_branch(pc: Option<u64>, sf: u8, op: u8, imm19: i32, rt: u8) -> TextLine {
     let name = if op == 0 { "cbz" } else { "cbnz" };
     two(name, general(sf, rt), target(pc, 4 * i64::from(imm19)))
 }
 
-pub fn test_branch(pc: Option<u64>, b5: u8, op: u8, b40: u8, imm14: i16, rt: u8) -> Line {
+pub fn test_branch(pc: Option<u64>, b5: u8, op: u8, b40: u8, imm14: i16, rt: u8) -> TextLine {
     let name = if op == 0 { "tbz" } else { "tbnz" };
     let bit = Operand::Decimal(32 * i64::from(b5) + i64::from(b40));
     three(name, general(b5, rt), bit, target(pc, 4 * i64::from(imm14)))
 }
 
-pub fn branch_reg(opc: u8, rn: u8) -> Line {
+pub fn branch_reg(opc: u8, rn: u8) -> TextLine {
     match opc {
         0 => one("br", general(1, rn)),
         1 => one("blr", general(1, rn)),
@@ -53,16 +53,16 @@ pub fn branch_reg(opc: u8, rn: u8) -> Line {
     }
 }
 
-pub fn svc() -> Line {
+pub fn svc() -> TextLine {
     one("svc", Operand::Hexadecimal(0))
 }
 
-pub fn brk(imm16: u16) -> Line {
+pub fn brk(imm16: u16) -> TextLine {
     one("brk", Operand::Hexadecimal(u64::from(imm16)))
 }
 
 /// The hints that have a name, and `hint` with its number.
-pub fn hint(imm7: u8) -> Line {
+pub fn hint(imm7: u8) -> TextLine {
     let name = match imm7 {
         0 => "nop",
         1 => "yield",

@@ -1,7 +1,9 @@
 //! The lines of data-processing instructions, with the aliases that the manual prefers
 //! (Arm ARM DDI 0487, C6.2).
 
-use crate::operand::{Line, Modifier, Operand, four, general, general_or_sp, shifted, three, two};
+use crate::operand::{
+    Modifier, Operand, TextLine, four, general, general_or_sp, shifted, three, two,
+};
 use a64_bits::bit_masks;
 
 /// The zero register, or the stack pointer.
@@ -16,7 +18,7 @@ fn add_sub_name(op: u8, s: u8) -> &'static str {
     }
 }
 
-pub fn add_sub_imm(sf: u8, op: u8, s: u8, sh: u8, imm12: u16, rn: u8, rd: u8) -> Line {
+pub fn add_sub_imm(sf: u8, op: u8, s: u8, sh: u8, imm12: u16, rn: u8, rd: u8) -> TextLine {
     let (destination, source) = (general_or_sp(sf, rd), general_or_sp(sf, rn));
     let immediate = Operand::Hexadecimal(u64::from(imm12));
     let shift = shifted(0, if sh == 1 { 12 } else { 0 });
@@ -33,7 +35,7 @@ pub fn add_sub_imm(sf: u8, op: u8, s: u8, sh: u8, imm12: u16, rn: u8, rd: u8) ->
 #[rattlefmt::skip]
 pub fn add_sub_shift(
     sf: u8, op: u8, s: u8, shift: u8, rm: u8, imm6: u8, rn: u8, rd: u8,
-) -> Line {
+) -> TextLine {
     let destination = general(sf, rd);
     let (first, second) = (general(sf, rn), general(sf, rm));
     let shift = shifted(shift, imm6);
@@ -69,7 +71,7 @@ fn extension(sf: u8, option: u8, amount: u8, with_sp: bool) -> Operand {
 #[rattlefmt::skip]
 pub fn add_sub_ext(
     sf: u8, op: u8, s: u8, rm: u8, option: u8, imm3: u8, rn: u8, rd: u8,
-) -> Line {
+) -> TextLine {
     let (destination, first) = (general_or_sp(sf, rd), general_or_sp(sf, rn));
     let second = general(if option % 4 == 3 { sf } else { 0 }, rm);
     let extension = extension(sf, option, imm3, rn == LAST || rd == LAST && s == 0);
@@ -93,7 +95,7 @@ fn ones(sf: u8) -> u64 {
     if sf == 1 { u64::MAX } else { 0xFFFF_FFFF }
 }
 
-pub fn log_imm(sf: u8, opc: u8, n: u8, immr: u8, imms: u8, rn: u8, rd: u8) -> Line {
+pub fn log_imm(sf: u8, opc: u8, n: u8, immr: u8, imms: u8, rn: u8, rd: u8) -> TextLine {
     let size = if sf == 1 { 64 } else { 32 };
     let mask = bit_masks(n % 2, imms % 64, immr % 64, size).unwrap_or(0);
     let by_move = is_one_halfword(mask) || is_one_halfword(mask ^ ones(sf));
@@ -109,7 +111,7 @@ pub fn log_imm(sf: u8, opc: u8, n: u8, immr: u8, imms: u8, rn: u8, rd: u8) -> Li
     }
 }
 
-pub fn log_shift(sf: u8, opc: u8, shift: u8, n: u8, rm: u8, imm6: u8, rn: u8, rd: u8) -> Line {
+pub fn log_shift(sf: u8, opc: u8, shift: u8, n: u8, rm: u8, imm6: u8, rn: u8, rd: u8) -> TextLine {
     let destination = general(sf, rd);
     let (first, second) = (general(sf, rn), general(sf, rm));
     let plain = shift == 0 && imm6 == 0;
@@ -130,7 +132,7 @@ pub fn log_shift(sf: u8, opc: u8, shift: u8, n: u8, rm: u8, imm6: u8, rn: u8, rd
     four(name, destination, first, second, shift)
 }
 
-pub fn move_wide(sf: u8, opc: u8, hw: u8, imm16: u16, rd: u8) -> Line {
+pub fn move_wide(sf: u8, opc: u8, hw: u8, imm16: u16, rd: u8) -> TextLine {
     let destination = general(sf, rd);
     let amount = 16 * (hw % 4);
     let value = u64::from(imm16) << amount;
@@ -153,7 +155,7 @@ pub fn move_wide(sf: u8, opc: u8, hw: u8, imm16: u16, rd: u8) -> Line {
 }
 
 /// The line of a field of `width` bits from bit `lsb` on.
-fn field(name: &'static str, to: Operand, from: Operand, lsb: i64, width: i64) -> Line {
+fn field(name: &'static str, to: Operand, from: Operand, lsb: i64, width: i64) -> TextLine {
     four(
         name,
         to,
@@ -163,7 +165,7 @@ fn field(name: &'static str, to: Operand, from: Operand, lsb: i64, width: i64) -
     )
 }
 
-fn signed_bitfield(sf: u8, immr: u8, imms: u8, rn: u8, rd: u8) -> Line {
+fn signed_bitfield(sf: u8, immr: u8, imms: u8, rn: u8, rd: u8) -> TextLine {
     let (immr, imms) = (i64::from(immr), i64::from(imms));
     let (to, from, half) = (general(sf, rd), general(sf, rn), general(0, rn));
     let size = if sf == 1 { 64 } else { 32 };
@@ -177,7 +179,7 @@ fn signed_bitfield(sf: u8, immr: u8, imms: u8, rn: u8, rd: u8) -> Line {
     }
 }
 
-fn unsigned_bitfield(sf: u8, immr: u8, imms: u8, rn: u8, rd: u8) -> Line {
+fn unsigned_bitfield(sf: u8, immr: u8, imms: u8, rn: u8, rd: u8) -> TextLine {
     let (immr, imms) = (i64::from(immr), i64::from(imms));
     let (to, from) = (general(sf, rd), general(sf, rn));
     let size = if sf == 1 { 64 } else { 32 };
@@ -191,7 +193,7 @@ fn unsigned_bitfield(sf: u8, immr: u8, imms: u8, rn: u8, rd: u8) -> Line {
     }
 }
 
-fn inserted_bitfield(sf: u8, immr: u8, imms: u8, rn: u8, rd: u8) -> Line {
+fn inserted_bitfield(sf: u8, immr: u8, imms: u8, rn: u8, rd: u8) -> TextLine {
     let (immr, imms) = (i64::from(immr), i64::from(imms));
     let (to, from) = (general(sf, rd), general(sf, rn));
     let size = if sf == 1 { 64 } else { 32 };
@@ -205,7 +207,7 @@ fn inserted_bitfield(sf: u8, immr: u8, imms: u8, rn: u8, rd: u8) -> Line {
     field("bfi", to, from, lsb, width)
 }
 
-pub fn bitfield(sf: u8, opc: u8, immr: u8, imms: u8, rn: u8, rd: u8) -> Line {
+pub fn bitfield(sf: u8, opc: u8, immr: u8, imms: u8, rn: u8, rd: u8) -> TextLine {
     match opc {
         0 => signed_bitfield(sf, immr, imms, rn, rd),
         1 => inserted_bitfield(sf, immr, imms, rn, rd),
@@ -213,7 +215,7 @@ pub fn bitfield(sf: u8, opc: u8, immr: u8, imms: u8, rn: u8, rd: u8) -> Line {
     }
 }
 
-pub fn extr(sf: u8, rm: u8, imms: u8, rn: u8, rd: u8) -> Line {
+pub fn extr(sf: u8, rm: u8, imms: u8, rn: u8, rd: u8) -> TextLine {
     let (destination, high, low) = (general(sf, rd), general(sf, rn), general(sf, rm));
     let lsb = Operand::Decimal(i64::from(imms));
     if rn == rm {
@@ -223,7 +225,7 @@ pub fn extr(sf: u8, rm: u8, imms: u8, rn: u8, rd: u8) -> Line {
     }
 }
 
-pub fn adc_sbc(sf: u8, op: u8, s: u8, rm: u8, rn: u8, rd: u8) -> Line {
+pub fn adc_sbc(sf: u8, op: u8, s: u8, rm: u8, rn: u8, rd: u8) -> TextLine {
     let (destination, first, second) = (general(sf, rd), general(sf, rn), general(sf, rm));
     let line = match op {
         0 => three("adc", destination, first, second),
@@ -255,7 +257,7 @@ pub fn condition(code: u8) -> &'static str {
     }
 }
 
-pub fn cond_cmp(sf: u8, op: u8, rm: u8, cond: u8, i: u8, rn: u8, nzcv: u8) -> Line {
+pub fn cond_cmp(sf: u8, op: u8, rm: u8, cond: u8, i: u8, rn: u8, nzcv: u8) -> TextLine {
     let second = match i {
         0 => general(sf, rm),
         _ => Operand::Hexadecimal(u64::from(rm)),
@@ -271,7 +273,7 @@ pub fn cond_cmp(sf: u8, op: u8, rm: u8, cond: u8, i: u8, rn: u8, nzcv: u8) -> Li
     )
 }
 
-pub fn cond_sel(sf: u8, op: u8, rm: u8, cond: u8, o2: u8, rn: u8, rd: u8) -> Line {
+pub fn cond_sel(sf: u8, op: u8, rm: u8, cond: u8, o2: u8, rn: u8, rd: u8) -> TextLine {
     let (destination, first, second) = (general(sf, rd), general(sf, rn), general(sf, rm));
     // The aliases write the other condition. AL and NV, which always hold, have none.
     let inverted = Operand::Word(condition(cond ^ 1));
@@ -296,7 +298,7 @@ pub fn cond_sel(sf: u8, op: u8, rm: u8, cond: u8, o2: u8, rn: u8, rd: u8) -> Lin
     )
 }
 
-pub fn two_source(sf: u8, rm: u8, opcode: u8, rn: u8, rd: u8) -> Line {
+pub fn two_source(sf: u8, rm: u8, opcode: u8, rn: u8, rd: u8) -> TextLine {
     let name = match opcode {
         2 => "udiv",
         3 => "sdiv",
@@ -308,7 +310,7 @@ pub fn two_source(sf: u8, rm: u8, opcode: u8, rn: u8, rd: u8) -> Line {
     three(name, general(sf, rd), general(sf, rn), general(sf, rm))
 }
 
-pub fn one_source(sf: u8, opcode: u8, rn: u8, rd: u8) -> Line {
+pub fn one_source(sf: u8, opcode: u8, rn: u8, rd: u8) -> TextLine {
     let name = match opcode {
         0 => "rbit",
         1 => "rev16",
@@ -320,7 +322,7 @@ pub fn one_source(sf: u8, opcode: u8, rn: u8, rd: u8) -> Line {
     two(name, general(sf, rd), general(sf, rn))
 }
 
-pub fn mul_add(sf: u8, rm: u8, o0: u8, ra: u8, rn: u8, rd: u8) -> Line {
+pub fn mul_add(sf: u8, rm: u8, o0: u8, ra: u8, rn: u8, rd: u8) -> TextLine {
     let (destination, addend) = (general(sf, rd), general(sf, ra));
     let (first, second) = (general(sf, rn), general(sf, rm));
     match o0 {
@@ -331,7 +333,7 @@ pub fn mul_add(sf: u8, rm: u8, o0: u8, ra: u8, rn: u8, rd: u8) -> Line {
     }
 }
 
-pub fn mul_add_long(u: u8, rm: u8, o0: u8, ra: u8, rn: u8, rd: u8) -> Line {
+pub fn mul_add_long(u: u8, rm: u8, o0: u8, ra: u8, rn: u8, rd: u8) -> TextLine {
     let (destination, addend) = (general(1, rd), general(1, ra));
     let (first, second) = (general(0, rn), general(0, rm));
     if ra == LAST {
@@ -352,7 +354,7 @@ pub fn mul_add_long(u: u8, rm: u8, o0: u8, ra: u8, rn: u8, rd: u8) -> Line {
     four(name, destination, first, second, addend)
 }
 
-pub fn mul_high(u: u8, rm: u8, rn: u8, rd: u8) -> Line {
+pub fn mul_high(u: u8, rm: u8, rn: u8, rd: u8) -> TextLine {
     let name = if u == 0 { "smulh" } else { "umulh" };
     three(name, general(1, rd), general(1, rn), general(1, rm))
 }

@@ -1,7 +1,9 @@
 //! The lines of loads, stores and memory tagging (Arm ARM DDI 0487, C6.2).
 
 use crate::control::target;
-use crate::operand::{Line, Modifier, Operand, Register, four, general, general_or_sp, three, two};
+use crate::operand::{
+    Modifier, Operand, Register, TextLine, four, general, general_or_sp, three, two,
+};
 
 /// Bytes of a granule.
 const GRANULE: u8 = 16;
@@ -30,12 +32,12 @@ fn base(rn: u8) -> Register {
 
 /// A load or store of a register at an address of one operand, or of two where the base is written
 /// back after the access.
-fn load_store(size: u8, opc: u8, rt: u8, address: Operand, after: Operand) -> Line {
+fn load_store(size: u8, opc: u8, rt: u8, address: Operand, after: Operand) -> TextLine {
     let stem = if opc == 0 { "str" } else { "ldr" };
     three(stem, transferred(size, opc, rt), address, after).with_suffix(suffix(size, opc))
 }
 
-pub fn ld_st_imm(size: u8, opc: u8, imm12: u16, rn: u8, rt: u8) -> Line {
+pub fn ld_st_imm(size: u8, opc: u8, imm12: u16, rn: u8, rt: u8) -> TextLine {
     let bytes = match size {
         0 => 1,
         1 => 2,
@@ -46,23 +48,23 @@ pub fn ld_st_imm(size: u8, opc: u8, imm12: u16, rn: u8, rt: u8) -> Line {
     load_store(size, opc, rt, address, Operand::Absent)
 }
 
-pub fn ld_st_unscaled(size: u8, opc: u8, imm9: i16, rn: u8, rt: u8) -> Line {
+pub fn ld_st_unscaled(size: u8, opc: u8, imm9: i16, rn: u8, rt: u8) -> TextLine {
     let address = Operand::Offset(base(rn), i64::from(imm9));
     let stem = if opc == 0 { "stur" } else { "ldur" };
     two(stem, transferred(size, opc, rt), address).with_suffix(suffix(size, opc))
 }
 
-pub fn ld_st_post(size: u8, opc: u8, imm9: i16, rn: u8, rt: u8) -> Line {
+pub fn ld_st_post(size: u8, opc: u8, imm9: i16, rn: u8, rt: u8) -> TextLine {
     let address = Operand::Offset(base(rn), 0);
     load_store(size, opc, rt, address, Operand::Decimal(i64::from(imm9)))
 }
 
-pub fn ld_st_pre(size: u8, opc: u8, imm9: i16, rn: u8, rt: u8) -> Line {
+pub fn ld_st_pre(size: u8, opc: u8, imm9: i16, rn: u8, rt: u8) -> TextLine {
     let address = Operand::PreIndexed(base(rn), i64::from(imm9));
     load_store(size, opc, rt, address, Operand::Absent)
 }
 
-pub fn ld_st_reg(size: u8, opc: u8, rm: u8, option: u8, s: u8, rn: u8, rt: u8) -> Line {
+pub fn ld_st_reg(size: u8, opc: u8, rm: u8, option: u8, s: u8, rn: u8, rt: u8) -> TextLine {
     let index = if option % 2 == 1 {
         Register::X(rm)
     } else {
@@ -83,7 +85,7 @@ pub fn ld_st_reg(size: u8, opc: u8, rm: u8, option: u8, s: u8, rn: u8, rt: u8) -
     load_store(size, opc, rt, address, Operand::Absent)
 }
 
-pub fn ld_lit(pc: Option<u64>, opc: u8, imm19: i32, rt: u8) -> Line {
+pub fn ld_lit(pc: Option<u64>, opc: u8, imm19: i32, rt: u8) -> TextLine {
     let (name, sf) = match opc {
         0 => ("ldr", 0),
         1 => ("ldr", 1),
@@ -102,7 +104,7 @@ pub enum Indexing {
 }
 
 impl Indexing {
-    /// That of the codes of tag stores: 1 after, 2 without writing back, 3 before.
+    /// The indexing by the codes of tag stores: 1 after, 2 without writing back, 3 before.
     pub fn of_mode(mode: u8) -> Indexing {
         match mode {
             1 => Indexing::After,
@@ -121,7 +123,7 @@ impl Indexing {
     }
 }
 
-pub fn pair(indexing: Indexing, opc: u8, l: u8, imm7: i8, rt2: u8, rn: u8, rt: u8) -> Line {
+pub fn pair(indexing: Indexing, opc: u8, l: u8, imm7: i8, rt2: u8, rn: u8, rt: u8) -> TextLine {
     let (sf, bytes) = match opc {
         0 => (0, 4),
         1 => (1, 4),
@@ -133,7 +135,7 @@ pub fn pair(indexing: Indexing, opc: u8, l: u8, imm7: i8, rt2: u8, rn: u8, rt: u
     four(stem, general(sf, rt), general(sf, rt2), address, after).with_suffix(kind)
 }
 
-pub fn add_g(op: u8, uimm6: u8, uimm4: u8, rn: u8, rd: u8) -> Line {
+pub fn add_g(op: u8, uimm6: u8, uimm4: u8, rn: u8, rd: u8) -> TextLine {
     let bytes = Operand::Hexadecimal(u64::from(GRANULE) * u64::from(uimm6));
     let tags = Operand::Hexadecimal(u64::from(uimm4));
     let name = if op == 0 { "addg" } else { "subg" };
@@ -146,7 +148,7 @@ pub fn add_g(op: u8, uimm6: u8, uimm4: u8, rn: u8, rd: u8) -> Line {
     )
 }
 
-pub fn sub_p(s: u8, rm: u8, rn: u8, rd: u8) -> Line {
+pub fn sub_p(s: u8, rm: u8, rn: u8, rd: u8) -> TextLine {
     let (first, second) = (general_or_sp(1, rn), general_or_sp(1, rm));
     match s {
         0 => three("subp", general(1, rd), first, second),
@@ -155,7 +157,7 @@ pub fn sub_p(s: u8, rm: u8, rn: u8, rd: u8) -> Line {
     }
 }
 
-pub fn irg(rm: u8, rn: u8, rd: u8) -> Line {
+pub fn irg(rm: u8, rn: u8, rd: u8) -> TextLine {
     let excluded = if rm == 31 {
         Operand::Absent
     } else {
@@ -164,11 +166,11 @@ pub fn irg(rm: u8, rn: u8, rd: u8) -> Line {
     three("irg", general_or_sp(1, rd), general_or_sp(1, rn), excluded)
 }
 
-pub fn gmi(rm: u8, rn: u8, rd: u8) -> Line {
+pub fn gmi(rm: u8, rn: u8, rd: u8) -> TextLine {
     three("gmi", general(1, rd), general_or_sp(1, rn), general(1, rm))
 }
 
-pub fn ldg(imm9: i16, rn: u8, rt: u8) -> Line {
+pub fn ldg(imm9: i16, rn: u8, rt: u8) -> TextLine {
     two(
         "ldg",
         general(1, rt),
@@ -176,7 +178,7 @@ pub fn ldg(imm9: i16, rn: u8, rt: u8) -> Line {
     )
 }
 
-pub fn st_g(opc: u8, imm9: i16, mode: u8, rn: u8, rt: u8) -> Line {
+pub fn st_g(opc: u8, imm9: i16, mode: u8, rn: u8, rt: u8) -> TextLine {
     let name = match opc {
         0 => "stg",
         1 => "stzg",
@@ -190,7 +192,7 @@ pub fn st_g(opc: u8, imm9: i16, mode: u8, rn: u8, rt: u8) -> Line {
     three(name, general_or_sp(1, rt), address, after)
 }
 
-pub fn st_g_p(mode: u8, imm7: i8, rt2: u8, rn: u8, rt: u8) -> Line {
+pub fn st_g_p(mode: u8, imm7: i8, rt2: u8, rn: u8, rt: u8) -> TextLine {
     let (address, after) = Indexing::of_mode(mode).operands(
         rn,
         i64::from(GRANULE) * i64::from(imm7),

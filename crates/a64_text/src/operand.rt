@@ -133,31 +133,31 @@ pub fn general_or_sp(sf: u8, number: u8) -> Operand {
 
 /// A line: the mnemonic in two parts, `ldr` and `sb`, and the operands.
 #[derive(Clone, Copy)]
-pub struct Line {
+pub struct TextLine {
     stem: &'static str,
     suffix: &'static str,
     operands: [Operand; 4],
 }
 
-impl Line {
-    pub fn with_suffix(self, suffix: &'static str) -> Line {
-        Line { suffix, ..self }
+impl TextLine {
+    pub fn with_suffix(self, suffix: &'static str) -> TextLine {
+        TextLine { suffix, ..self }
     }
 }
 
-pub fn alone(stem: &'static str) -> Line {
+pub fn alone(stem: &'static str) -> TextLine {
     one(stem, Operand::Absent)
 }
 
-pub fn one(stem: &'static str, first: Operand) -> Line {
+pub fn one(stem: &'static str, first: Operand) -> TextLine {
     two(stem, first, Operand::Absent)
 }
 
-pub fn two(stem: &'static str, first: Operand, second: Operand) -> Line {
+pub fn two(stem: &'static str, first: Operand, second: Operand) -> TextLine {
     three(stem, first, second, Operand::Absent)
 }
 
-pub fn three(stem: &'static str, first: Operand, second: Operand, third: Operand) -> Line {
+pub fn three(stem: &'static str, first: Operand, second: Operand, third: Operand) -> TextLine {
     four(stem, first, second, third, Operand::Absent)
 }
 
@@ -167,15 +167,15 @@ pub fn four(
     second: Operand,
     third: Operand,
     fourth: Operand,
-) -> Line {
-    Line {
+) -> TextLine {
+    TextLine {
         stem,
         suffix: "",
         operands: [first, second, third, fourth],
     }
 }
 
-impl fmt::Display for Line {
+impl fmt::Display for TextLine {
     fn fmt<W: fmt::Write>(&self, f: &mut fmt::Formatter<W>) -> fmt::Result {
         f.write_str(self.stem)?;
         f.write_str(self.suffix)?;

@@ -4,12 +4,12 @@
 use crate::control::*;
 use crate::data_processing::*;
 use crate::memory::*;
-use crate::operand::Line;
+use crate::operand::TextLine;
 use a64_instr::Instr;
 
 /// The line of `instr`, at `pc` where that is known.
 #[rattlefmt::skip]
-pub fn line_of(instr: &Instr, pc: Option<u64>) -> Line {
+pub fn line_of(instr: &Instr, pc: Option<u64>) -> TextLine {
     match *instr {
         Instr::AddSubImm { sf, op, s, sh, imm12, rn, rd } =>
             add_sub_imm(sf, op, s, sh, imm12, rn, rd),

@@ -1,6 +1,6 @@
 //! A case: what stands before a step, and what stands after it.
 
-use crate::line::{Ending, Granule, Line};
+use crate::line::{Granule, VectorEnding, VectorLine};
 use a64_bits::Flags;
 use a64_step::Regs;
 use mte_tags::Attrs;
@@ -21,7 +21,7 @@ pub struct Case {
     pub word: u32,
     pub before: Regs,
     pub granules_before: Vec<Granule>,
-    pub ending: Option<Ending>,
+    pub ending: Option<VectorEnding>,
     pub after: Regs,
     pub granules_after: Vec<Granule>,
 }
@@ -48,7 +48,7 @@ impl Case {
     }
 
     /// Takes in a line of the case; `false` where it has no place here.
-    pub fn take(&mut self, line: Line) -> Result<bool, AllocError> {
+    pub fn take(&mut self, line: VectorLine) -> Result<bool, AllocError> {
         if self.ending.is_none() {
             self.take_before(line)
         } else {
@@ -56,11 +56,11 @@ impl Case {
         }
     }
 
-    fn take_before(&mut self, line: Line) -> Result<bool, AllocError> {
+    fn take_before(&mut self, line: VectorLine) -> Result<bool, AllocError> {
         match line {
-            Line::Word(word) => self.word = word,
-            Line::Granule(granule) => self.granules_before.push(granule)?,
-            Line::Then(ending) => {
+            VectorLine::Word(word) => self.word = word,
+            VectorLine::Granule(granule) => self.granules_before.push(granule)?,
+            VectorLine::Then(ending) => {
                 self.after = self.before;
                 self.ending = Some(ending);
             }
@@ -69,9 +69,9 @@ impl Case {
         Ok(true)
     }
 
-    fn take_after(&mut self, line: Line) -> Result<bool, AllocError> {
+    fn take_after(&mut self, line: VectorLine) -> Result<bool, AllocError> {
         match line {
-            Line::Granule(granule) => {
+            VectorLine::Granule(granule) => {
                 self.granules_after.push(granule)?;
                 Ok(true)
             }
@@ -81,23 +81,23 @@ impl Case {
 }
 
 /// Sets the register that a line names; `false` where it names none.
-fn set(regs: &mut Regs, line: Line) -> bool {
+fn set(regs: &mut Regs, line: VectorLine) -> bool {
     match line {
-        Line::Register { number, value } => {
+        VectorLine::Register { number, value } => {
             if number < 31 {
                 regs.x[number] = value;
             }
             number < 31
         }
-        Line::StackPointer(value) => {
+        VectorLine::StackPointer(value) => {
             regs.sp = value;
             true
         }
-        Line::ProgramCounter(value) => {
+        VectorLine::ProgramCounter(value) => {
             regs.pc = value;
             true
         }
-        Line::Nzcv(nzcv) => {
+        VectorLine::Nzcv(nzcv) => {
             regs.flags = Flags {
                 n: nzcv & 8 != 0,
                 z: nzcv & 4 != 0,
@@ -106,7 +106,7 @@ fn set(regs: &mut Regs, line: Line) -> bool {
             };
             true
         }
-        Line::Rgsr(rgsr) => {
+        VectorLine::Rgsr(rgsr) => {
             regs.rgsr = rgsr;
             true
         }

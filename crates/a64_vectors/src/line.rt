@@ -15,28 +15,28 @@ pub struct Granule {
 
 /// How a step is to end; an illegal word is not named again.
 #[derive(Clone, Copy)]
-pub enum Ending {
+pub enum VectorEnding {
     Next,
     Illegal,
     Breakpoint(u16),
     Fault(MemFault),
 }
 
-impl Ending {
+impl VectorEnding {
     /// The outcome of a step over a word.
     pub fn outcome(&self, word: u32) -> Outcome {
         match *self {
-            Ending::Next => Outcome::Next,
-            Ending::Illegal => Outcome::Illegal(word),
-            Ending::Breakpoint(number) => Outcome::Breakpoint(number),
-            Ending::Fault(fault) => Outcome::Fault(fault),
+            VectorEnding::Next => Outcome::Next,
+            VectorEnding::Illegal => Outcome::Illegal(word),
+            VectorEnding::Breakpoint(number) => Outcome::Breakpoint(number),
+            VectorEnding::Fault(fault) => Outcome::Fault(fault),
         }
     }
 }
 
 /// What a line says.
 #[derive(Clone, Copy)]
-pub enum Line {
+pub enum VectorLine {
     Page { page: u64, count: u64, attrs: Attrs },
     Case(u64),
     Word(u32),
@@ -46,7 +46,7 @@ pub enum Line {
     Nzcv(u8),
     Rgsr(Rgsr),
     Granule(Granule),
-    Then(Ending),
+    Then(VectorEnding),
 }
 
 /// The words of a line, which one space separates.
@@ -102,7 +102,7 @@ impl<'a> Words<'a> {
 }
 
 /// What a line says, or `None` where it is malformed.
-pub fn parse(text: &str) -> Option<Line> {
+pub fn parse(text: &str) -> Option<VectorLine> {
     let mut words = Words { rest: Some(text) };
     let kind = words.next()?;
     let line = read_line(kind, &mut words)?;
@@ -110,23 +110,23 @@ pub fn parse(text: &str) -> Option<Line> {
     Some(line)
 }
 
-fn read_line(kind: &str, words: &mut Words<'_>) -> Option<Line> {
+fn read_line(kind: &str, words: &mut Words<'_>) -> Option<VectorLine> {
     match kind {
         "page" => read_page(words),
         "case" => read_case(words),
-        "word" => words.word().map(Line::Word),
+        "word" => words.word().map(VectorLine::Word),
         "x" => read_register(words),
-        "sp" => words.hex(u64::MAX).map(Line::StackPointer),
-        "pc" => words.hex((1 << 56) - 1).map(Line::ProgramCounter),
-        "nzcv" => words.small(15).map(Line::Nzcv),
+        "sp" => words.hex(u64::MAX).map(VectorLine::StackPointer),
+        "pc" => words.hex((1 << 56) - 1).map(VectorLine::ProgramCounter),
+        "nzcv" => words.small(15).map(VectorLine::Nzcv),
         "rgsr" => read_rgsr(words),
         "granule" => read_granule(words),
-        "then" => read_ending(words).map(Line::Then),
+        "then" => read_ending(words).map(VectorLine::Then),
         _ => None,
     }
 }
 
-fn read_page(words: &mut Words<'_>) -> Option<Line> {
+fn read_page(words: &mut Words<'_>) -> Option<VectorLine> {
     let page = words.hex((1 << 18) - 1)?;
     let count = words.decimal(512)?;
     let mut bits = 0u8;
@@ -146,32 +146,32 @@ fn read_page(words: &mut Words<'_>) -> Option<Line> {
     if written != tagged || (written && bits & 1 == 0) {
         return None;
     }
-    Some(Line::Page {
+    Some(VectorLine::Page {
         page,
         count,
         attrs: Attrs(bits),
     })
 }
 
-fn read_case(words: &mut Words<'_>) -> Option<Line> {
+fn read_case(words: &mut Words<'_>) -> Option<VectorLine> {
     let id = words.decimal(u64::MAX)?;
     words.next()?;
-    Some(Line::Case(id))
+    Some(VectorLine::Case(id))
 }
 
-fn read_register(words: &mut Words<'_>) -> Option<Line> {
+fn read_register(words: &mut Words<'_>) -> Option<VectorLine> {
     let number = usize::try_from(words.decimal(30)?).ok()?;
     let value = words.hex(u64::MAX)?;
-    Some(Line::Register { number, value })
+    Some(VectorLine::Register { number, value })
 }
 
-fn read_rgsr(words: &mut Words<'_>) -> Option<Line> {
+fn read_rgsr(words: &mut Words<'_>) -> Option<VectorLine> {
     let tag = words.small(15)?;
     let seed = u16::try_from(words.hex(0xffff)?).ok()?;
-    Some(Line::Rgsr(Rgsr { tag, seed }))
+    Some(VectorLine::Rgsr(Rgsr { tag, seed }))
 }
 
-fn read_granule(words: &mut Words<'_>) -> Option<Line> {
+fn read_granule(words: &mut Words<'_>) -> Option<VectorLine> {
     let address = words.hex((1 << 30) - 1)?;
     let text = words.next()?.as_bytes();
     if address % 16 != 0 || text.len() != 32 {
@@ -184,7 +184,7 @@ fn read_granule(words: &mut Words<'_>) -> Option<Line> {
         }
     }
     let tag = words.small(15)?;
-    Some(Line::Granule(Granule {
+    Some(VectorLine::Granule(Granule {
         address,
         bytes,
         tag,
@@ -201,17 +201,17 @@ fn digit(byte: u8) -> Option<u8>
     }
 }
 
-fn read_ending(words: &mut Words<'_>) -> Option<Ending> {
+fn read_ending(words: &mut Words<'_>) -> Option<VectorEnding> {
     match words.next()? {
-        "next" => Some(Ending::Next),
-        "illegal" => Some(Ending::Illegal),
-        "break" => Some(Ending::Breakpoint(u16::try_from(words.decimal(0xffff)?).ok()?)),
+        "next" => Some(VectorEnding::Next),
+        "illegal" => Some(VectorEnding::Illegal),
+        "break" => Some(VectorEnding::Breakpoint(u16::try_from(words.decimal(0xffff)?).ok()?)),
         "fault" => read_fault(words),
         _ => None,
     }
 }
 
-fn read_fault(words: &mut Words<'_>) -> Option<Ending> {
+fn read_fault(words: &mut Words<'_>) -> Option<VectorEnding> {
     let kind = match words.decimal(6)? {
         1 => FaultKind::Translation,
         2 => FaultKind::Permission,
@@ -229,7 +229,7 @@ fn read_fault(words: &mut Words<'_>) -> Option<Ending> {
     let addr = words.hex((1 << 56) - 1)?;
     let ptr_tag = words.small(15)?;
     let mem_tag = words.small(15)?;
-    Some(Ending::Fault(MemFault {
+    Some(VectorEnding::Fault(MemFault {
         kind,
         addr,
         write,

@@ -25,10 +25,10 @@ mod line;
 mod place;
 mod report;
 
-use a64_step::{Kept, Outcome, run_kept};
+use a64_step::{OpCache, Outcome, run_cached};
 use anyhow::{Result, bail};
 use case::{Case, Pages};
-use line::{Line, parse};
+use line::{VectorLine, parse};
 use mte_flat::Flat;
 use mte_tags::TagMode;
 use std::alloc::{AllocError, Global};
@@ -38,7 +38,7 @@ use std::io::{BufRead, BufReader};
 /// cases.
 #[derive(Drop)]
 struct Session {
-    kept: Kept,
+    kept: OpCache,
     map: Vec<Pages>,
     case: Option<Case>,
     same: u64,
@@ -48,7 +48,7 @@ struct Session {
 /// Runs a case that was read whole; what differs, or `None` where its parts don't fit together.
 fn differences(
     alloc: Global,
-    kept: &mut Kept,
+    kept: &mut OpCache,
     map: &[Pages],
     case: &Case,
 ) -> Result<Option<String>, AllocError> {
@@ -62,7 +62,7 @@ fn differences(
         return Ok(None);
     }
     let mut regs = case.before;
-    let outcome = run_kept(kept, &mut regs, &mut ours, 1)
+    let outcome = run_cached(kept, &mut regs, &mut ours, 1)
         .outcome
         .unwrap_or(Outcome::Next);
     Ok(Some(report::differences(alloc, case, outcome, &regs, map, &mut ours, &mut theirs)?))
@@ -93,14 +93,14 @@ impl Session {
             return Ok(false);
         };
         match line {
-            Line::Case(id) => {
+            VectorLine::Case(id) => {
                 if !self.finish(rt)? {
                     return Ok(false);
                 }
                 self.case = Some(Case::new(rt.alloc(), id));
                 Ok(true)
             }
-            Line::Page { page, count, attrs } => {
+            VectorLine::Page { page, count, attrs } => {
                 self.map.push(Pages {
                     first: page,
                     count,
@@ -133,7 +133,7 @@ fn take_all(rt: &HostRuntime, session: &mut Session) -> Result<()> {
 
 fn main(rt: HostRuntime) -> Result<()> {
     let mut session = Session {
-        kept: Kept::new(rt.alloc())?,
+        kept: OpCache::new(rt.alloc())?,
         map: Vec::new(rt.alloc()),
         case: None,
         same: 0,

@@ -2,7 +2,7 @@
 
 ghost use Rattle.std.specs.Prelude.{◌≡◌, ◌<◌, IfSome};
 ghost use Rattle.mte_tags.specs.Memory.{no_pages};
-ghost use Rattle.scudo_heap.specs.Served.{IsServed};
+ghost use Rattle.scudo_heap.specs.Served.{HeapOwnsItsPages};
 
 use crate::measured::{Batch, Measured};
 use anyhow::{Result, bail};
@@ -62,9 +62,9 @@ fn measure_pairs<M: Paged>(
     memory: &mut M,
     size: u64,
 ) -> Result<Measured>
-    requires served { IsServed (M.memory memory.old) heap.old }
+    requires served { HeapOwnsItsPages (M.memory memory.old) heap.old }
     requires tag { rgsr.old.tag < 16 }
-    ensures served { IsServed (M.memory memory.new) heap.new }
+    ensures served { HeapOwnsItsPages (M.memory memory.new) heap.new }
     ensures tag { rgsr.new.tag < 16 }
 {
     let mut measured = Measured::default();
@@ -84,10 +84,10 @@ fn measure_pairs<M: Paged>(
 
 /// Frees each chunk before the next is made; `None` where one is refused.
 fn pair_each<M: Paged>(heap: &mut Heap, rgsr: &mut Rgsr, memory: &mut M, size: u64) -> Option<Batch>
-    requires served { IsServed (M.memory memory.old) heap.old }
+    requires served { HeapOwnsItsPages (M.memory memory.old) heap.old }
     requires tag { rgsr.old.tag < 16 }
     ensures count { IfSome result (λ b. b.count ≡ 64) }
-    ensures served { IsServed (M.memory memory.new) heap.new }
+    ensures served { HeapOwnsItsPages (M.memory memory.new) heap.new }
     ensures tag { rgsr.new.tag < 16 }
 {
     let mut sum: u64 = 0;
@@ -103,9 +103,9 @@ fn pair_each<M: Paged>(heap: &mut Heap, rgsr: &mut Rgsr, memory: &mut M, size: u
 
 /// Makes chunks of 24 bytes that stay; `false` where one is refused.
 fn fill_heap<M: Paged>(heap: &mut Heap, rgsr: &mut Rgsr, memory: &mut M, count: u64) -> bool
-    requires served { IsServed (M.memory memory.old) heap.old }
+    requires served { HeapOwnsItsPages (M.memory memory.old) heap.old }
     requires tag { rgsr.old.tag < 16 }
-    ensures served { IsServed (M.memory memory.new) heap.new }
+    ensures served { HeapOwnsItsPages (M.memory memory.new) heap.new }
     ensures tag { rgsr.new.tag < 16 }
 {
     for _ in 0..count {

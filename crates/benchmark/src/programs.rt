@@ -3,7 +3,7 @@
 ghost use Rattle.std.specs.Prelude.{◌≡◌, IfSome};
 
 use crate::measured::Batch;
-use a64_step::{Kept, Outcome, Regs, run_kept};
+use a64_step::{OpCache, Outcome, Regs, run_cached};
 use mte_tags::Tagged;
 use std::alloc::{AllocError, Global};
 
@@ -76,7 +76,7 @@ pub const WRITABLE_CODE: u64 = 0x1_4000;
 /// of each program.
 #[derive(Drop)]
 pub struct Core {
-    kept: Kept,
+    kept: OpCache,
     alu: Regs,
     alu_writable: Regs,
     memory: Regs,
@@ -87,7 +87,7 @@ impl Core {
     /// At the start of the programs, with pointers to two pages of data for the second.
     pub fn new(alloc: Global, first: u64, second: u64) -> Result<Core, AllocError> {
         Ok(Core {
-            kept: Kept::new(alloc)?,
+            kept: OpCache::new(alloc)?,
             alu: start(3, 0x0123_4567_89AB_CDEF, CODE),
             alu_writable: start(3, 0x0123_4567_89AB_CDEF, WRITABLE_CODE),
             memory: start(first, second, MEMORY_CODE),
@@ -102,21 +102,21 @@ impl Core {
         run_on(&mut self.kept, &mut self.alu, memory)
     }
 
-    /// The same on a page with WRITE.
+    /// The first program, on a page with WRITE.
     pub fn run_alu_writable<M: Tagged>(&mut self, memory: &mut M) -> Option<Batch>
         ensures { IfSome result (λ b. b.count ≡ 65536) }
     {
         run_on(&mut self.kept, &mut self.alu_writable, memory)
     }
 
-    /// Those of the second.
+    /// Steps of the second program.
     pub fn run_memory<M: Tagged>(&mut self, memory: &mut M) -> Option<Batch>
         ensures { IfSome result (λ b. b.count ≡ 65536) }
     {
         run_on(&mut self.kept, &mut self.memory, memory)
     }
 
-    /// Those of the third.
+    /// Steps of the third program.
     pub fn run_services<M: Tagged>(&mut self, memory: &mut M) -> Option<Batch>
         ensures { IfSome result (λ b. b.count ≡ 65536) }
     {
@@ -141,7 +141,7 @@ fn start(x0: u64, x1: u64, pc: u64) -> Regs {
 }
 
 /// Goes on with a program as a host does, past each SVC; `None` where it stops otherwise.
-fn run_on<M: Tagged>(kept: &mut Kept, regs: &mut Regs, memory: &mut M) -> Option<Batch>
+fn run_on<M: Tagged>(kept: &mut OpCache, regs: &mut Regs, memory: &mut M) -> Option<Batch>
     ensures { IfSome result (λ b. b.count ≡ 65536) }
 {
     let mut left = STEPS;
@@ -149,7 +149,7 @@ fn run_on<M: Tagged>(kept: &mut Kept, regs: &mut Regs, memory: &mut M) -> Option
         if left == 0 {
             break;
         }
-        let stop = run_kept(kept, regs, memory, left);
+        let stop = run_cached(kept, regs, memory, left);
         match stop.outcome {
             None => {}
             Some(Outcome::Svc) => regs.pc = regs.pc.wrapping_add(4),

@@ -1,6 +1,6 @@
 //! The text of a compiled program.
 
-/// The words of examples/mix.c in their order, as Debian's clang 14 and lld 14 make them:
+/// The words of tools/speed/mix.c in their order, as Debian's clang 14 and lld 14 make them:
 ///
 /// ```text
 /// clang --target=aarch64-none-elf -O2 -mgeneral-regs-only -ffreestanding -fno-vectorize \

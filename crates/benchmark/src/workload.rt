@@ -19,7 +19,7 @@ pub enum Workload {
     Fetch,
     /// Steps of a loop of instructions between registers.
     Alu,
-    /// The same on a page with WRITE.
+    /// The loop between registers, on a page with WRITE.
     AluWritable,
     /// Steps of a loop half of which reaches memory.
     Memory,

@@ -2,7 +2,7 @@
 use Rattle.std.specs.Prelude.{ℕ, ◌+◌, ◌-◌, ◌*◌, ◌%◌, ◌^◌, nat_lt, nat_le, Bool, List, [], ◌∷◌}
 use Rattle.std.specs.Prelude.{length, take, position, slice_index, Option, option_map}
 use Rattle.std.specs.Prelude.{if◌then◌else◌}
-use Rattle.debug_lines.specs.Readings.{rest_from}
+use Rattle.debug_lines.specs.Readings.{rest_cases}
 
 -- where a number's last byte stands
 abbrev pub number_end : List ℕ → Option ℕ
@@ -14,7 +14,7 @@ number_bytes bytes = option_map (λ last. take (last + 1) bytes) (number_end byt
 
 -- what stands behind it, or all where there is none
 abbrev pub after_number : List ℕ → List ℕ
-after_number bytes = rest_from bytes (number_end bytes)
+after_number bytes = rest_cases bytes (number_end bytes)
 
 -- seven bits in each byte, the lowest first
 unfoldable pub bits_of : List ℕ → ℕ

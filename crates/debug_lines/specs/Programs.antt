@@ -7,8 +7,8 @@ use Rattle.debug_lines.specs.declared.operation.Operation.TheVariants as op
 use Rattle.debug_lines.specs.declared.registers.Registers.{Registers}
 use Rattle.debug_lines.specs.declared.row.Row.{Row}
 
-abbrev pub advanced : Registers → Advance → Registers
-advanced r by = record r {
+abbrev pub after_advance : Registers → Advance → Registers
+after_advance r by = record r {
   address = (r.address + by.address) % 2 ^ 64;
   line = (r.line + by.line) % 2 ^ 32;
 }
@@ -31,19 +31,19 @@ start = record { address = 0; file = 1; line = 1; is_placed = false }
 abbrev pub is_place : ℕ → Bool
 is_place address = not (address == 0) && not (address == 2 ^ 64 - 1)
 
-abbrev pub registers_by : Operation → Registers → Registers
-registers_by (op.Special by) r = advanced r by
-registers_by (op.Advance by) r = advanced r by
-registers_by (op.SetAddress a) r = record r { address = a; is_placed = is_place a }
-registers_by (op.SetFile file) r = record r { file = file }
-registers_by op.Copy r = r
-registers_by op.EndSequence r = start
+abbrev pub registers_after : Operation → Registers → Registers
+registers_after (op.Special by) r = after_advance r by
+registers_after (op.Advance by) r = after_advance r by
+registers_after (op.SetAddress a) r = record r { address = a; is_placed = is_place a }
+registers_after (op.SetFile file) r = record r { file = file }
+registers_after op.Copy r = r
+registers_after op.EndSequence r = start
 
 -- special opcodes, copies and ends of sequences make rows
-abbrev pub row_by : Operation → Registers → Option Row
-row_by (op.Special by) r = Some (row_of (advanced r by) false)
-row_by (op.Advance by) r = None
-row_by (op.SetAddress address) r = None
-row_by (op.SetFile file) r = None
-row_by op.Copy r = Some (row_of r false)
-row_by op.EndSequence r = Some (row_of r true)
+abbrev pub row_after : Operation → Registers → Option Row
+row_after (op.Special by) r = Some (row_of (after_advance r by) false)
+row_after (op.Advance by) r = None
+row_after (op.SetAddress address) r = None
+row_after (op.SetFile file) r = None
+row_after op.Copy r = Some (row_of r false)
+row_after op.EndSequence r = Some (row_of r true)

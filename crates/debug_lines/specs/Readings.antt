@@ -20,9 +20,9 @@ abbrev pub text_in : List ℕ → Option (List ℕ)
 text_in bytes = option_map (λ end. take end bytes) (text_end bytes)
 
 -- what stands behind it, or all where there is none
-abbrev pub rest_from : List ℕ → Option ℕ → List ℕ
-rest_from bytes None = bytes
-rest_from bytes (Some last) = drop (last + 1) bytes
+abbrev pub rest_cases : List ℕ → Option ℕ → List ℕ
+rest_cases bytes None = bytes
+rest_cases bytes (Some last) = drop (last + 1) bytes
 
 abbrev pub after_text : List ℕ → List ℕ
-after_text bytes = rest_from bytes (text_end bytes)
+after_text bytes = rest_cases bytes (text_end bytes)

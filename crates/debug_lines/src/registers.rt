@@ -1,7 +1,7 @@
 //! The machine that a line number program runs on (DWARF 5, 6.2.2).
 
 ghost use Rattle.std.specs.Prelude.{◌≡◌};
-ghost use Rattle.debug_lines.specs.Programs.{advanced, row_of, row_by, registers_by};
+ghost use Rattle.debug_lines.specs.Programs.{after_advance, row_of, row_after, registers_after};
 
 use crate::operation::{Advance, Operation};
 use crate::row::Row;
@@ -26,8 +26,8 @@ impl Registers {
 
     /// Does an operation, and gives the row that it makes, if any.
     pub fn run(&mut self, operation: Operation) -> Option<Row>
-        ensures row { result ≡ row_by operation self.old }
-        ensures registers { self.new ≡ registers_by operation self.old }
+        ensures row { result ≡ row_after operation self.old }
+        ensures registers { self.new ≡ registers_after operation self.old }
     {
         match operation {
             Operation::Special(advance) => {
@@ -58,7 +58,7 @@ impl Registers {
 
     /// Adds to the address and the line, modulo 2^64 and 2^32.
     fn advance(&mut self, by: Advance)
-        ensures { self.new ≡ advanced self.old by }
+        ensures { self.new ≡ after_advance self.old by }
     {
         self.address = self.address.wrapping_add(by.address);
         self.line = self.line.wrapping_add(by.line);

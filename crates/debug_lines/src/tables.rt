@@ -10,7 +10,7 @@ use crate::unit::Unit;
 pub struct Entry<'a> {
     /// Its path, where the table has one.
     pub path: Option<&'a [u8]>,
-    /// Of a file the number of the directory that its path goes out from.
+    /// The number of the directory that a file's path begins in.
     pub directory: u64,
 }
 

@@ -6,4 +6,4 @@ mod sections;
 mod symbols;
 
 pub use sections::{Section, Sections};
-pub use symbols::{Label, Place, Symbols};
+pub use symbols::{Label, SymbolOffset, Symbols};

@@ -65,8 +65,8 @@ impl<'a> Symbols<'a> {
     }
 
     /// An address, to be told by a symbol.
-    pub fn place(&self, addr: u64) -> Place<'a> {
-        Place {
+    pub fn place(&self, addr: u64) -> SymbolOffset<'a> {
+        SymbolOffset {
             symbol: self.nearest(addr),
             addr,
         }
@@ -74,8 +74,8 @@ impl<'a> Symbols<'a> {
 
     /// An address, to be told by the symbol of the address that lies some bytes in front of it, as
     /// a return address by that of its call.
-    pub fn place_after(&self, addr: u64, bytes: u64) -> Place<'a> {
-        Place {
+    pub fn place_after(&self, addr: u64, bytes: u64) -> SymbolOffset<'a> {
+        SymbolOffset {
             symbol: self.nearest(addr.wrapping_sub(bytes)),
             addr,
         }
@@ -139,15 +139,15 @@ fn name_at(names: &[u8], at: usize) -> Option<&str> {
 
 /// Where an address lies in an image: ` (NAME+OFFSET)`, or nothing where no symbol tells it.
 #[derive(Clone, Copy)]
-pub struct Place<'a> {
+pub struct SymbolOffset<'a> {
     symbol: Option<Symbol<'a>>,
     addr: u64,
 }
 
-impl<'a> Place<'a> {
+impl<'a> SymbolOffset<'a> {
     /// An address that no symbol tells.
-    pub fn unnamed(addr: u64) -> Place<'a> {
-        Place { symbol: None, addr }
+    pub fn unnamed(addr: u64) -> SymbolOffset<'a> {
+        SymbolOffset { symbol: None, addr }
     }
 
     /// The name of the symbol that tells it, if one does.
@@ -164,7 +164,7 @@ impl<'a> Place<'a> {
         }
     }
 
-    /// The same without brackets, and with the address where no symbol tells it.
+    /// The label without brackets, and with the address where no symbol tells it.
     pub fn label(&self) -> Label<'a> {
         Label(*self)
     }
@@ -172,7 +172,7 @@ impl<'a> Place<'a> {
     /// Whether another address lies in the same function: it has the same symbol, or one whose name
     /// is the same up to the first dot, as the parts of a function that gcc splits have. `None`
     /// where the symbol has no size, or there is none.
-    pub fn shares_function(&self, other: &Place<'_>) -> Option<bool> {
+    pub fn shares_function(&self, other: &SymbolOffset<'_>) -> Option<bool> {
         let symbol = self.symbol.as_ref()?;
         if symbol.size == 0 {
             return None;
@@ -184,7 +184,7 @@ impl<'a> Place<'a> {
     }
 }
 
-impl<'a> fmt::Display for Place<'a> {
+impl<'a> fmt::Display for SymbolOffset<'a> {
     fn fmt<W: fmt::Write>(&self, f: &mut fmt::Formatter<W>) -> fmt::Result {
         match &self.symbol {
             Some(Symbol { name, .. }) => {
@@ -198,7 +198,7 @@ impl<'a> fmt::Display for Place<'a> {
 
 /// Where an address lies in an image: `NAME+OFFSET`, or the address where no symbol tells it.
 #[derive(Clone, Copy)]
-pub struct Label<'a>(Place<'a>);
+pub struct Label<'a>(SymbolOffset<'a>);
 
 impl<'a> fmt::Display for Label<'a> {
     fn fmt<W: fmt::Write>(&self, f: &mut fmt::Formatter<W>) -> fmt::Result {

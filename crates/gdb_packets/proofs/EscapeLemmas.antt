@@ -7,15 +7,15 @@ use Rattle.std.proofs.lemmas.List.{length-take-le}
 use Rattle.std.proofs.lemmas.List.{take_rest, drop_all, drop-set-lt, take_more_set}
 use Rattle.std.proofs.lemmas.Bool.{eqb-true}
 use borrow.Rule.Slice.PartMut.{put_mid}
-use Rattle.gdb_packets.specs.Framing.{escape_of, escaped, is_reserved, payload_of, with_first}
+use Rattle.gdb_packets.specs.Framing.{escape_of, with_escapes, is_reserved, payload_of, with_first}
 
 -- One more byte of a payload.
-pub escaped-drop : (payload : List ℕ) (i d : ℕ) → i < length payload
-    → escaped (drop i payload) ≡ escape_of (get_or payload i d) ++ escaped (drop (i + 1) payload)
-escaped-drop payload i d below = ap escaped (drop_more payload i d below)
+pub with-escapes-drop : (payload : List ℕ) (i d : ℕ) → i < length payload
+    → with_escapes (drop i payload) ≡ escape_of (get_or payload i d) ++ with_escapes (drop (i + 1) payload)
+with-escapes-drop payload i d below = ap with_escapes (drop_more payload i d below)
 
-pub escaped_end : (payload : List ℕ) (i : ℕ) → length payload ≤ i → escaped (drop i payload) ≡ []
-escaped_end payload i over = ap escaped (nil_from_length (drop i payload) (rw length-drop (omega arith)))
+pub escaped_end : (payload : List ℕ) (i : ℕ) → length payload ≤ i → with_escapes (drop i payload) ≡ []
+escaped_end payload i over = ap with_escapes (nil_from_length (drop i payload) (rw length-drop (omega arith)))
 
 -- A piece after the first n bytes of a room, whose end was lent for it.
 front_long : (room piece : List ℕ) (n : ℕ) → n ≤ length room → length (take n room ++ piece) ≡ n + length piece
@@ -150,17 +150,17 @@ unfolding payload_of
 again_by b true h rest payload e = rw (h, e, twice_turned b h) refl
 again_by b false h rest payload e = rw h (payload_of-plain b rest (no_escape b h) ∙ ap (with_first b) e)
 
-pub payload_of-escaped : (payload : List ℕ) → payload_of (escaped payload) ≡ Some payload
+pub payload_of-with-escapes : (payload : List ℕ) → payload_of (with_escapes payload) ≡ Some payload
 unfolding payload_of
-payload_of-escaped [] = refl
-payload_of-escaped (b ∷ payload) = again_by b (is_reserved b) refl (escaped payload) payload (payload_of-escaped payload)
+payload_of-with-escapes [] = refl
+payload_of-with-escapes (b ∷ payload) = again_by b (is_reserved b) refl (with_escapes payload) payload (payload_of-with-escapes payload)
 
 pub escaped_again : (bytes new : List ℕ) (r : Option ℕ) → payload_of bytes ≡ option_map (λ n. take n new) r → IfSome r (λ n. n ≤ length new)
-    → (payload : List ℕ) → bytes ≡ escaped payload → (r ≡ Some (length payload)) × (take (length payload) new ≡ payload)
+    → (payload : List ℕ) → bytes ≡ with_escapes payload → (r ≡ Some (length payload)) × (take (length payload) new ≡ payload)
 escaped_again bytes new None e fits payload h =
-    let none : Some payload ≡ None = sym (payload_of-escaped payload) ∙ ap payload_of (sym h) ∙ e in cc
+    let none : Some payload ≡ None = sym (payload_of-with-escapes payload) ∙ ap payload_of (sym h) ∙ e in cc
 escaped_again bytes new (Some n) e fits payload h =
-    let some : Some payload ≡ Some (take n new) = sym (payload_of-escaped payload) ∙ ap payload_of (sym h) ∙ e in
+    let some : Some payload ≡ Some (take n new) = sym (payload_of-with-escapes payload) ∙ ap payload_of (sym h) ∙ e in
     let same : payload ≡ take n new = cc in
     let len : length payload ≡ n = ap length same ∙ length-take-le n new fits in
     (ap Some (sym len), ap (λ k. take k new) len ∙ sym same)

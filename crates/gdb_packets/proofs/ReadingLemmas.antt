@@ -8,8 +8,8 @@ use Rattle.std.proofs.lemmas.List.Sums.{prefix_len-le-length}
 use Rattle.std.specs.List.{prefix_len}
 use Rattle.hex.specs.Hex.{encode_lower, encode_with, lower_digits}
 use Rattle.hex.proofs.HexLemmas.{decode_sized-encode_lower}
-use Rattle.gdb_packets.specs.Framing.{escape_of, escaped, framed, is_reserved, checksum_of}
-use Rattle.gdb_packets.specs.Reading.{Reading, packet, bad, more, is_data, is_value, digits_byte, closed, after_data, after_dollar, reading_of, Takes}
+use Rattle.gdb_packets.specs.Framing.{escape_of, with_escapes, frame_of_payload, is_reserved, checksum_of}
+use Rattle.gdb_packets.specs.Reading.{Reading, packet, bad, more, is_data, is_value, digits_byte, check_packet, after_data, after_dollar, reading_of, Takes}
 use Rattle.gdb_packets.specs.declared.input.TheConstants.{PACKET_SIZE}
 use Rattle.gdb_packets.proofs.EscapeLemmas.{reserved_cases}
 use Rattle.gdb_packets.proofs.FrameLemmas.{length-frame_of}
@@ -34,12 +34,12 @@ escaped_more : (b : ℕ) (t : Bool) → is_reserved b ≡ t → (rest : List ℕ
 escaped_more b true h rest n e = rw h (data_before 125 (bit_xor b 32 ∷ rest) (1 + n) refl (data_before (bit_xor b 32) rest n (turned_is_data b h) e) ∙ omega arith)
 escaped_more b false h rest n e = rw h (data_before b rest n (plain_is_data b h) e)
 
-pub escaped_prefix : (payload rest : List ℕ) → prefix_len is_data (escaped payload ++ 35 ∷ rest) ≡ length (escaped payload)
+pub escaped_prefix : (payload rest : List ℕ) → prefix_len is_data (with_escapes payload ++ 35 ∷ rest) ≡ length (with_escapes payload)
 escaped_prefix [] rest = refl
 escaped_prefix (b ∷ payload) rest =
-    ap (prefix_len is_data) (append_assoc (escape_of b) (escaped payload) (35 ∷ rest))
-    ∙ escaped_more b (is_reserved b) refl (escaped payload ++ 35 ∷ rest) (length (escaped payload)) (escaped_prefix payload rest)
-    ∙ sym (length-append (escape_of b) (escaped payload))
+    ap (prefix_len is_data) (append_assoc (escape_of b) (with_escapes payload) (35 ∷ rest))
+    ∙ escaped_more b (is_reserved b) refl (with_escapes payload ++ 35 ∷ rest) (length (with_escapes payload)) (escaped_prefix payload rest)
+    ∙ sym (length-append (escape_of b) (with_escapes payload))
 
 -- The digits of a checksum are read as the checksum.
 small_byte : (n i : ℕ) → n < 256 → get_or (n ∷ []) i 0 < 256
@@ -47,13 +47,13 @@ small_byte n zero h = h
 small_byte n (suc i) h = omega arith
 
 closed_by : (bytes rest : List ℕ) (high low : ℕ) → digits_byte high low ≡ Some (checksum_of bytes)
-    → closed bytes (high ∷ low ∷ rest) ≡ packet bytes (length bytes + 4)
+    → check_packet bytes (high ∷ low ∷ rest) ≡ packet bytes (length bytes + 4)
 closed_by bytes rest high low e =
     let n = checksum_of bytes in
     let same : is_value (digits_byte high low) n ≡ true = ap (λ v. is_value v n) e ∙ eq-eqb n n refl in
     ap (λ t. cond t (packet bytes (length bytes + 4)) (bad (length bytes + 4))) same
 
-digits_again : (bytes rest : List ℕ) → closed bytes (encode_lower (checksum_of bytes ∷ []) ++ rest) ≡ packet bytes (length bytes + 4)
+digits_again : (bytes rest : List ℕ) → check_packet bytes (encode_lower (checksum_of bytes ∷ []) ++ rest) ≡ packet bytes (length bytes + 4)
 unfolding encode_with
 digits_again bytes rest =
     let n = checksum_of bytes in
@@ -69,10 +69,10 @@ after_dollar-data bytes rest e fits =
     let short : nat_lt PACKET_SIZE (length bytes) ≡ false = le-ltb PACKET_SIZE (length bytes) fits in
     rw (e, take_at bytes rest (length bytes) refl, drop_at bytes rest (length bytes) refl, short) refl
 
-pub read_again : (payload rest : List ℕ) → length (escaped payload) ≤ PACKET_SIZE
-    → reading_of (framed payload ++ rest) ≡ packet (escaped payload) (length (framed payload))
+pub read_again : (payload rest : List ℕ) → length (with_escapes payload) ≤ PACKET_SIZE
+    → reading_of (frame_of_payload payload ++ rest) ≡ packet (with_escapes payload) (length (frame_of_payload payload))
 read_again payload rest fits =
-    let bytes = escaped payload in
+    let bytes = with_escapes payload in
     let digits = encode_lower (checksum_of bytes ∷ []) in
     ap after_dollar (append_assoc bytes (35 ∷ digits) rest)
     ∙ after_dollar-data bytes (35 ∷ (digits ++ rest)) (escaped_prefix payload (digits ++ rest)) fits
@@ -84,7 +84,7 @@ takes_choice : (bytes : List ℕ) (t : Bool) (x y : Reading) → (t ≡ true →
 takes_choice bytes true x y p q = p refl
 takes_choice bytes false x y p q = q refl
 
-takes_closed : (all bytes rest : List ℕ) → length all ≡ length bytes + 2 + length rest → length bytes ≤ PACKET_SIZE → Takes all (closed bytes rest)
+takes_closed : (all bytes rest : List ℕ) → length all ≡ length bytes + 2 + length rest → length bytes ≤ PACKET_SIZE → Takes all (check_packet bytes rest)
 takes_closed all bytes [] e fits = omega arith
 takes_closed all bytes (high ∷ []) e fits = omega arith
 takes_closed all bytes (high ∷ low ∷ rest) e fits =
@@ -94,7 +94,7 @@ takes_closed all bytes (high ∷ low ∷ rest) e fits =
 takes_data : (all bytes rest : List ℕ) → length all ≡ length bytes + 1 + length rest → length bytes ≤ PACKET_SIZE → Takes all (after_data bytes rest)
 takes_data all bytes [] e fits = omega arith
 takes_data all bytes (b ∷ rest) e fits =
-    takes_choice all (b == 36) (bad (length bytes + 1)) (closed bytes rest)
+    takes_choice all (b == 36) (bad (length bytes + 1)) (check_packet bytes rest)
     (λ _. (omega arith, omega arith)) (λ _. takes_closed all bytes rest (omega arith) fits)
 
 takes_dollar : (b : ℕ) (rest : List ℕ) → Takes (b ∷ rest) (after_dollar rest)
@@ -135,7 +135,7 @@ prefix_all p (x ∷ xs) ys h =
     let all = all_more (p x) (prefix_len p (xs ++ ys)) (prefix_len p xs) (length xs) (prefix_all p xs ys) (omega arith) in
     omega arith
 
-settled_closed : (bytes rest later : List ℕ) → closed bytes rest ≢ more → closed bytes (rest ++ later) ≡ closed bytes rest
+settled_closed : (bytes rest later : List ℕ) → check_packet bytes rest ≢ more → check_packet bytes (rest ++ later) ≡ check_packet bytes rest
 settled_closed bytes [] later known = absurd (known refl)
 settled_closed bytes (high ∷ []) later known = absurd (known refl)
 settled_closed bytes (high ∷ low ∷ rest) later known = refl
@@ -147,7 +147,7 @@ settled_choice false x y z h known = h known
 settled_data : (bytes rest later : List ℕ) → after_data bytes rest ≢ more → after_data bytes (rest ++ later) ≡ after_data bytes rest
 settled_data bytes [] later known = absurd (known refl)
 settled_data bytes (b ∷ rest) later known =
-    settled_choice (b == 36) (bad (length bytes + 1)) (closed bytes rest) (closed bytes (rest ++ later)) (settled_closed bytes rest later) known
+    settled_choice (b == 36) (bad (length bytes + 1)) (check_packet bytes rest) (check_packet bytes (rest ++ later)) (settled_closed bytes rest later) known
 
 settled_begun : (rest later : List ℕ) (n m : ℕ) → n ≡ prefix_len is_data rest → m ≡ prefix_len is_data (rest ++ later) → n < length rest
     → after_dollar rest ≢ more → after_dollar (rest ++ later) ≡ after_dollar rest

@@ -60,8 +60,8 @@ process_of separator text =
     else option_map Some (option_and_then number_of (after separator text))
 
 -- A command that is known, or one that has not its form.
-abbrev pub asked : Option Command → Command
-asked o = unwrap_or o command.Malformed
+abbrev pub command_or_malformed : Option Command → Command
+command_or_malformed o = unwrap_or o command.Malformed
 
 -- A command with nothing behind its name.
 abbrev pub alone : List ℕ → Command → Option Command
@@ -86,13 +86,13 @@ process_thread (Some parts) text = do
   t ← id_of parts.1
   Some (record { process = Some p; thread = t })
 
-abbrev pub thread_by : Option (List ℕ) → List ℕ → Option Thread
-thread_by None text = option_map (λ t. record { process = None; thread = t }) (id_of text)
-thread_by (Some rest) text = process_thread (cut_at (λ b. b == 46) rest) rest
+abbrev pub thread_cases : Option (List ℕ) → List ℕ → Option Thread
+thread_cases None text = option_map (λ t. record { process = None; thread = t }) (id_of text)
+thread_cases (Some rest) text = process_thread (cut_at (λ b. b == 46) rest) rest
 
 -- `THREAD`, `pPROCESS` or `pPROCESS.THREAD`.
 unfoldable pub thread_of : List ℕ → Option Thread
-thread_of text = thread_by (after 112 text) text
+thread_of text = thread_cases (after 112 text) text
 
 -- `c` or `g`, and a thread.
 abbrev pub select_of : List ℕ → Option Command
@@ -107,15 +107,15 @@ abbrev pub signal_of : List ℕ → Option ℕ
 signal_of text = option_and_then (λ n. if nat_lt n 256 then Some n else None) (number_of text)
 
 -- A signal, and an address where one follows behind a `;`.
-abbrev pub signal_by : Option (List ℕ × List ℕ) → List ℕ → Option (ℕ × Option ℕ)
-signal_by None text = option_map (λ s. (s, None)) (signal_of text)
-signal_by (Some parts) text = do
+abbrev pub signal_cases : Option (List ℕ × List ℕ) → List ℕ → Option (ℕ × Option ℕ)
+signal_cases None text = option_map (λ s. (s, None)) (signal_of text)
+signal_cases (Some parts) text = do
   address ← number_of parts.1
   signal ← signal_of parts.0
   Some (signal, Some address)
 
 unfoldable pub signal_and_address : List ℕ → Option (ℕ × Option ℕ)
-signal_and_address text = signal_by (cut_at (λ b. b == 59) text) text
+signal_and_address text = signal_cases (cut_at (λ b. b == 59) text) text
 
 abbrev pub lone : List ℕ → Action → Option Action
 lone rest a = if length rest == 0 then Some a else None
@@ -169,32 +169,36 @@ letters = codes "?bcCDgGHkmMpPqQsSTvxXzZ"
 pub record Asks (letter : ℕ) (rest : List ℕ) (c : Command) : Type 0 where
   pub other : IsNoneOf letters letter → c ≡ command.Unknown
   pub back : letter ≡ 98 → c ≡ back_of rest
-  pub reason : letter ≡ 63 → c ≡ asked (alone rest command.StopReason)
-  pub registers : letter ≡ 103 → c ≡ asked (alone rest command.ReadRegisters)
-  pub kill : letter ≡ 107 → c ≡ asked (alone rest command.Kill)
+  pub reason : letter ≡ 63 → c ≡ command_or_malformed (alone rest command.StopReason)
+  pub registers : letter ≡ 103 → c ≡ command_or_malformed (alone rest command.ReadRegisters)
+  pub kill : letter ≡ 107 → c ≡ command_or_malformed (alone rest command.Kill)
   pub memory : letter ≡ 109
-      → c ≡ asked (option_map (λ r. command.ReadMemory r.0 r.1) (range_of rest))
+      → c ≡ command_or_malformed (option_map (λ r. command.ReadMemory r.0 r.1) (range_of rest))
   pub register : letter ≡ 112
-      → c ≡ asked (option_map (λ n. command.ReadRegister n) (number_of rest))
+      → c ≡ command_or_malformed (option_map (λ n. command.ReadRegister n) (number_of rest))
   pub continuation : letter ≡ 99
-      → c ≡ asked (option_map (λ a. command.Resume (action.Continue None) a) (optional_of rest))
+      → c ≡ command_or_malformed (option_map (λ a. command.Resume (action.Continue None) a)
+      (optional_of rest))
   pub step : letter ≡ 115
-      → c ≡ asked (option_map (λ a. command.Resume (action.Step None) a) (optional_of rest))
+      → c ≡ command_or_malformed (option_map (λ a. command.Resume (action.Step None) a)
+      (optional_of rest))
   pub insertion : letter ≡ 90
-      → c ≡ asked (option_map (point_command command.InsertPoint) (triple_of rest))
+      → c ≡ command_or_malformed (option_map (point_command command.InsertPoint) (triple_of rest))
   pub removal : letter ≡ 122
-      → c ≡ asked (option_map (point_command command.RemovePoint) (triple_of rest))
+      → c ≡ command_or_malformed (option_map (point_command command.RemovePoint) (triple_of rest))
   pub signal_continuation : letter ≡ 67
-      → c ≡ asked (option_map (λ s. command.Resume (action.Continue (Some s.0)) s.1)
+      → c ≡ command_or_malformed (option_map (λ s. command.Resume (action.Continue (Some s.0)) s.1)
       (signal_and_address rest))
   pub signal_step : letter ≡ 83
-      → c ≡ asked (option_map (λ s. command.Resume (action.Step (Some s.0)) s.1)
+      → c ≡ command_or_malformed (option_map (λ s. command.Resume (action.Step (Some s.0)) s.1)
       (signal_and_address rest))
-  pub life : letter ≡ 84 → c ≡ asked (option_map command.IsThreadAlive (thread_of rest))
-  pub selection : letter ≡ 72 → c ≡ asked (select_of rest)
-  pub detachment : letter ≡ 68 → c ≡ asked (option_map command.Detach (process_of 59 rest))
+  pub life : letter ≡ 84 → c ≡ command_or_malformed
+      (option_map command.IsThreadAlive (thread_of rest))
+  pub selection : letter ≡ 72 → c ≡ command_or_malformed (select_of rest)
+  pub detachment : letter ≡ 68 → c ≡ command_or_malformed
+      (option_map command.Detach (process_of 59 rest))
   pub bytes : letter ≡ 120
-      → c ≡ asked (option_map (λ r. command.ReadBytes r.0 r.1) (range_of rest))
+      → c ≡ command_or_malformed (option_map (λ r. command.ReadBytes r.0 r.1) (range_of rest))
 
 -- `:ADDRESS,LENGTH:KIND`
 unfoldable pub tags_of : List ℕ → Option Command
@@ -214,19 +218,22 @@ queries = codes "Supported" ∷ codes "Xfer" ∷ codes "MemTags" ∷ codes "Rcmd
 -- What these names behind a `q` ask, with what stands behind them.
 pub record AsksQuery (name rest : List ℕ) (c : Command) : Type 0 where
   pub other : IsNoneOf queries name → c ≡ command.Unknown
-  pub thread : name ≡ codes "C" → c ≡ asked (alone rest command.CurrentThread)
-  pub first_threads : name ≡ codes "fThreadInfo" → c ≡ asked (alone rest command.FirstThreads)
-  pub next_threads : name ≡ codes "sThreadInfo" → c ≡ asked (alone rest command.NextThreads)
-  pub offsets : name ≡ codes "Offsets" → c ≡ asked (alone rest command.Offsets)
-  pub tags : name ≡ codes "MemTags" → c ≡ asked (tags_of rest)
+  pub thread : name ≡ codes "C" → c ≡ command_or_malformed (alone rest command.CurrentThread)
+  pub first_threads : name ≡ codes "fThreadInfo"
+      → c ≡ command_or_malformed (alone rest command.FirstThreads)
+  pub next_threads : name ≡ codes "sThreadInfo"
+      → c ≡ command_or_malformed (alone rest command.NextThreads)
+  pub offsets : name ≡ codes "Offsets" → c ≡ command_or_malformed (alone rest command.Offsets)
+  pub tags : name ≡ codes "MemTags" → c ≡ command_or_malformed (tags_of rest)
   pub attached : name ≡ codes "Attached"
-      → c ≡ asked (option_map command.IsAttached (process_of 58 rest))
+      → c ≡ command_or_malformed (option_map command.IsAttached (process_of 58 rest))
 
 -- What these names behind a `Q` ask.
 pub record AsksSetting (name rest : List ℕ) (c : Command) : Type 0 where
   pub other : IsNoneOf (codes "MemTags" ∷ codes "StartNoAckMode" ∷ []) name
       → c ≡ command.Unknown
-  pub no_ack : name ≡ codes "StartNoAckMode" → c ≡ asked (alone rest command.StartNoAckMode)
+  pub no_ack : name ≡ codes "StartNoAckMode"
+      → c ≡ command_or_malformed (alone rest command.StartNoAckMode)
 
 -- The operations on files that are known.
 abbrev pub operations : List (List ℕ)
@@ -237,13 +244,15 @@ operations = codes "open" ∷ codes "pread" ∷ codes "close" ∷ codes "fstat" 
 pub record AsksFile (operation rest : List ℕ) (c : Command) : Type 0 where
   pub other : IsNoneOf operations operation → c ≡ command.Unknown
   pub close : operation ≡ codes "close"
-      → c ≡ asked (option_map (λ d. command.File (file.Close d)) (number_of rest))
+      → c ≡ command_or_malformed (option_map (λ d. command.File (file.Close d)) (number_of rest))
   pub status : operation ≡ codes "fstat"
-      → c ≡ asked (option_map (λ d. command.File (file.Status d)) (number_of rest))
+      → c ≡ command_or_malformed (option_map (λ d. command.File (file.Status d)) (number_of rest))
   pub filesystem : operation ≡ codes "setfs"
-      → c ≡ asked (option_map (λ p. command.File (file.SetFilesystem p)) (number_of rest))
+      → c ≡ command_or_malformed (option_map (λ p. command.File (file.SetFilesystem p))
+      (number_of rest))
   pub read : operation ≡ codes "pread"
-      → c ≡ asked (option_map (λ t. command.File (file.Read t.0 t.1 t.2)) (triple_of rest))
+      → c ≡ command_or_malformed (option_map (λ t. command.File (file.Read t.0 t.1 t.2))
+      (triple_of rest))
 
 -- The names behind a `v` that are known.
 abbrev pub names : List (List ℕ)
@@ -253,16 +262,18 @@ names = codes "Cont" ∷ codes "Cont?" ∷ codes "File" ∷ codes "Kill" ∷ cod
 -- What these names behind a `v` ask.
 pub record AsksNamed (name rest : List ℕ) (c : Command) : Type 0 where
   pub other : IsNoneOf names name → c ≡ command.Unknown
-  pub actions : name ≡ codes "Cont?" → c ≡ asked (alone rest command.ResumeActions)
+  pub actions : name ≡ codes "Cont?" → c ≡ command_or_malformed (alone rest command.ResumeActions)
   pub resume : name ≡ codes "Cont"
-      → c ≡ asked (option_map (λ a. command.ResumeThread a.0 a.1)
+      → c ≡ command_or_malformed (option_map (λ a. command.ResumeThread a.0 a.1)
       (option_and_then first_action (after 59 rest)))
-  pub nothing : name ≡ codes "MustReplyEmpty" → c ≡ asked (alone rest command.MustReplyEmpty)
+  pub nothing : name ≡ codes "MustReplyEmpty"
+      → c ≡ command_or_malformed (alone rest command.MustReplyEmpty)
   pub file : (operation arguments : List ℕ) → name ≡ codes "File"
       → option_and_then (cut_at (λ b. b == 58)) (after 58 rest) ≡ Some (operation, arguments)
       → AsksFile operation arguments c
   pub kill : name ≡ codes "Kill"
-      → c ≡ asked (option_map command.KillProcess (option_and_then number_of (after 59 rest)))
+      → c ≡ command_or_malformed (option_map command.KillProcess
+      (option_and_then number_of (after 59 rest)))
 
 -- A name, and what stands behind it.
 abbrev pub name_in : List ℕ → List ℕ

@@ -13,8 +13,8 @@ is_reserved b = (b == 35) || (b == 36) || (b == 125) || (b == 42)
 abbrev pub escape_of : ℕ → List ℕ
 escape_of b = if is_reserved b then 125 ∷ bit_xor b 32 ∷ [] else b ∷ []
 
-abbrev pub escaped : List ℕ → List ℕ
-escaped payload = flat_map escape_of payload
+abbrev pub with_escapes : List ℕ → List ℕ
+with_escapes payload = flat_map escape_of payload
 
 -- The checksum of data as they are sent: their sum modulo 256.
 abbrev pub checksum_of : List ℕ → ℕ
@@ -24,8 +24,8 @@ checksum_of bytes = sum bytes % 256
 abbrev pub frame_of : List ℕ → List ℕ
 frame_of bytes = 36 ∷ bytes ++ 35 ∷ encode_lower (checksum_of bytes ∷ [])
 
-abbrev pub framed : List ℕ → List ℕ
-framed payload = frame_of (escaped payload)
+abbrev pub frame_of_payload : List ℕ → List ℕ
+frame_of_payload payload = frame_of (with_escapes payload)
 
 abbrev pub with_first : ℕ → Option (List ℕ) → Option (List ℕ)
 with_first b more = option_map (λ bytes. b ∷ bytes) more

@@ -31,17 +31,17 @@ seen input.Noise = noise
 seen input.More = more
 
 -- How many bytes an input takes.
-abbrev pub taken : Reading → ℕ
-taken (packet bytes len) = len
-taken (bad len) = len
-taken more = 0
-taken _ = 1
+abbrev pub packet_length : Reading → ℕ
+packet_length (packet bytes len) = len
+packet_length (bad len) = len
+packet_length more = 0
+packet_length _ = 1
 
 -- It takes at least one byte and no more than came; or more are needed, and fewer came than the
 -- longest packet has with its frame.
 abbrev pub Takes : List ℕ → Reading → Type 0
 Takes bytes more = length bytes < FRAME_LIMIT
-Takes bytes reading = (0 < taken reading) × (taken reading ≤ length bytes)
+Takes bytes reading = (0 < packet_length reading) × (packet_length reading ≤ length bytes)
 
 -- Data go on up to a `#`, or to the `$` of another packet.
 abbrev pub is_data : ℕ → Bool
@@ -56,16 +56,16 @@ is_value (Some v) n = v == n
 is_value None n = false
 
 -- Data, and what follows their `#`: the two digits of their checksum.
-abbrev pub closed : List ℕ → List ℕ → Reading
-closed bytes (high ∷ low ∷ rest) =
+abbrev pub check_packet : List ℕ → List ℕ → Reading
+check_packet bytes (high ∷ low ∷ rest) =
     if is_value (digits_byte high low) (checksum_of bytes) then packet bytes (length bytes + 4)
     else bad (length bytes + 4)
-closed bytes _ = more
+check_packet bytes _ = more
 
 -- Data, and what follows them.
 abbrev pub after_data : List ℕ → List ℕ → Reading
 after_data bytes [] = more
-after_data bytes (b ∷ rest) = if b == 36 then bad (length bytes + 1) else closed bytes rest
+after_data bytes (b ∷ rest) = if b == 36 then bad (length bytes + 1) else check_packet bytes rest
 
 -- What follows a `$`.
 abbrev pub after_dollar : List ℕ → Reading

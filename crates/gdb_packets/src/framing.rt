@@ -4,8 +4,8 @@ ghost use Rattle.std.specs.Prelude.{◌≡◌, ◌+◌, ◌-◌, ◌≤◌, ℕ,
 ghost use Rattle.std.specs.Prelude.{List, ◌∷◌, [], ◌++◌, length, take, drop};
 ghost use Rattle.std.specs.Option.{SomeIff};
 ghost use Rattle.hex.specs.Hex.{encode_lower};
-ghost use Rattle.gdb_packets.specs.Framing.{checksum_of, is_reserved, escape_of, escaped};
-ghost use Rattle.gdb_packets.specs.Framing.{payload_of, framed};
+ghost use Rattle.gdb_packets.specs.Framing.{checksum_of, is_reserved, escape_of, with_escapes};
+ghost use Rattle.gdb_packets.specs.Framing.{payload_of, frame_of_payload};
 ghost use Rattle.gdb_packets.specs.Rooms.{Writes};
 
 /// The byte before one that is sent XOR 0x20.
@@ -29,7 +29,7 @@ pub fn checksum(bytes: &[u8]) -> u8
 /// the checksum. Returns its length, or `None` where it is longer than the room, which then stays
 /// as it was.
 pub fn write_packet(payload: &[u8], room: &mut [u8]) -> Option<usize>
-    ensures { Writes (framed payload.now) room.old room.new result }
+    ensures { Writes (frame_of_payload payload.now) room.old room.new result }
 {
     let free = room.len().checked_sub(4)?;
     room_left(payload, free)?;
@@ -41,8 +41,8 @@ pub fn write_packet(payload: &[u8], room: &mut [u8]) -> Option<usize>
 
 /// How much of a room the escaped payload leaves, if it fits.
 fn room_left(payload: &[u8], room: usize) -> Option<usize>
-    ensures { SomeIff result (length (escaped payload.now) ≤ room)
-        (room - length (escaped payload.now)) }
+    ensures { SomeIff result (length (with_escapes payload.now) ≤ room)
+        (room - length (with_escapes payload.now)) }
 {
     let mut left = room;
     for byte in payload {
@@ -53,9 +53,10 @@ fn room_left(payload: &[u8], room: usize) -> Option<usize>
 
 /// Puts the escaped payload at the front of a room, and returns its length.
 fn escape(payload: &[u8], room: &mut [u8]) -> usize
-    requires { length (escaped payload.now) ≤ length room.old }
-    ensures len { result ≡ length (escaped payload.now) }
-    ensures text { room.new ≡ escaped payload.now ++ drop (length (escaped payload.now)) room.old }
+    requires { length (with_escapes payload.now) ≤ length room.old }
+    ensures len { result ≡ length (with_escapes payload.now) }
+    ensures text { room.new ≡ with_escapes payload.now
+        ++ drop (length (with_escapes payload.now)) room.old }
 {
     let mut len = 0;
     for byte in payload {
@@ -109,7 +110,7 @@ pub fn unescape(bytes: &[u8], room: &mut [u8]) -> Option<usize>
     ensures len { IfSome result (λ n. n ≤ length bytes.now) }
     ensures rest { IfSome result (λ n. drop n room.new ≡ drop n room.old) }
     // What was escaped comes back.
-    ensures again { (payload : List ℕ) → bytes.now ≡ escaped payload
+    ensures again { (payload : List ℕ) → bytes.now ≡ with_escapes payload
         → (result ≡ Some (length payload)) × (take (length payload) room.new ≡ payload) }
 {
     let mut len = 0;

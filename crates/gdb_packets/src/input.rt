@@ -2,9 +2,9 @@
 
 ghost use Rattle.std.specs.Prelude.{◌≡◌, ◌≢◌, ◌≤◌, ◌++◌, length, ℕ, List};
 ghost use Rattle.std.specs.List.{prefix_len};
-ghost use Rattle.gdb_packets.specs.Reading.{seen, reading_of, after_dollar, closed, is_data};
-ghost use Rattle.gdb_packets.specs.Reading.{digits_byte, taken, Takes, packet, more};
-ghost use Rattle.gdb_packets.specs.Framing.{escaped, framed};
+ghost use Rattle.gdb_packets.specs.Reading.{seen, reading_of, after_dollar, check_packet, is_data};
+ghost use Rattle.gdb_packets.specs.Reading.{digits_byte, packet_length, Takes, packet, more};
+ghost use Rattle.gdb_packets.specs.Framing.{with_escapes, frame_of_payload};
 
 use crate::framing::checksum;
 
@@ -38,7 +38,7 @@ pub enum Input<'a> {
 impl Input<'_> {
     /// How many bytes it takes: 0 where more are needed.
     pub fn byte_count(&self) -> usize
-        ensures { result ≡ taken (seen self.now) }
+        ensures { result ≡ packet_length (seen self.now) }
     {
         match *self {
             Input::Packet { len, .. } | Input::Bad { len } => len,
@@ -55,9 +55,9 @@ pub fn read_input(bytes: &[u8]) -> Input<'_>
     // It takes some of the bytes, or a bounded number of bytes is waited for.
     ensures takes { Takes bytes.now (seen result) }
     // What was framed is read again, whatever follows it.
-    ensures again { (payload rest : List ℕ) → length (escaped payload) ≤ PACKET_SIZE
-        → bytes.now ≡ framed payload ++ rest
-        → seen result ≡ packet (escaped payload) (length (framed payload)) }
+    ensures again { (payload rest : List ℕ) → length (with_escapes payload) ≤ PACKET_SIZE
+        → bytes.now ≡ frame_of_payload payload ++ rest
+        → seen result ≡ packet (with_escapes payload) (length (frame_of_payload payload)) }
     // The bytes that come later change nothing of it.
     ensures settled { (later : List ℕ) → seen result ≢ more
         → reading_of (bytes.now ++ later) ≡ seen result }
@@ -109,7 +109,7 @@ fn data_len(bytes: &[u8]) -> usize
 
 /// Data, and what follows their `#`.
 fn read_checksum<'a>(bytes: &'a [u8], rest: &[u8]) -> Input<'a>
-    ensures { seen result ≡ closed bytes.now rest.now }
+    ensures { seen result ≡ check_packet bytes.now rest.now }
 {
     let [high, low, ..] = rest else {
         return Input::More;

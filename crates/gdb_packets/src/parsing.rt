@@ -2,7 +2,7 @@
 
 ghost use Rattle.std.specs.Prelude.{◌≡◌, ◌∷◌, [], ℕ, List, option_map};
 ghost use Rattle.gdb_packets.specs.Digits.{number_of};
-ghost use Rattle.gdb_packets.specs.Commands.{asked, name_in, behind_name};
+ghost use Rattle.gdb_packets.specs.Commands.{command_or_malformed, name_in, behind_name};
 ghost use Rattle.gdb_packets.specs.Commands.{range_of, triple_of, optional_of, process_of};
 ghost use Rattle.gdb_packets.specs.Commands.{point_kind, point_command, signal_and_address};
 ghost use Rattle.gdb_packets.specs.Commands.{back_of, thread_of, select_of};
@@ -45,7 +45,7 @@ pub fn parse_command(text: &[u8]) -> Command<'_>
 
 /// The command of one letter and what follows it.
 fn parse_letter(letter: u8, rest: &[u8]) -> Option<Command<'_>>
-    ensures { Asks letter rest.now (asked result) }
+    ensures { Asks letter rest.now (command_or_malformed result) }
 {
     match letter {
         b'?' => bare(rest, Command::StopReason),

@@ -5,7 +5,7 @@ ghost use Rattle.std.specs.Prelude.{option_map, option_and_then};
 ghost use Rattle.std.specs.List.{list_all, slice_split};
 ghost use Rattle.gdb_packets.specs.Digits.{number_of};
 ghost use Rattle.gdb_packets.specs.Texts.{after, cut_at};
-ghost use Rattle.gdb_packets.specs.Commands.{asked, lone, name_in, behind_name};
+ghost use Rattle.gdb_packets.specs.Commands.{command_or_malformed, lone, name_in, behind_name};
 ghost use Rattle.gdb_packets.specs.Commands.{process_of, tags_of, triple_of};
 ghost use Rattle.gdb_packets.specs.Commands.{action_of, thread_action, first_action};
 ghost use Rattle.gdb_packets.specs.Commands.{AsksFile, AsksNamed, AsksQuery, AsksSetting};
@@ -19,7 +19,7 @@ use crate::text::{front, is, split_name, split_once, strip};
 
 /// A packet that begins with `q`, without it.
 pub fn parse_query(text: &[u8]) -> Option<Command<'_>>
-    ensures { AsksQuery (name_in text.now) (behind_name text.now) (asked result) }
+    ensures { AsksQuery (name_in text.now) (behind_name text.now) (command_or_malformed result) }
 {
     let (name, rest) = split_name(text);
     if is(name, b"Supported") {
@@ -43,7 +43,7 @@ pub fn parse_query(text: &[u8]) -> Option<Command<'_>>
 fn parse_bare_query<'a>(name: &'a [u8], rest: &'a [u8]) -> Option<Command<'a>>
     requires other { name.now ≢ codes "MemTags" }
     requires another { name.now ≢ codes "Attached" }
-    ensures { AsksQuery name.now rest.now (asked result) }
+    ensures { AsksQuery name.now rest.now (command_or_malformed result) }
 {
     if is(name, b"C") {
         bare(rest, Command::CurrentThread)
@@ -60,7 +60,7 @@ fn parse_bare_query<'a>(name: &'a [u8], rest: &'a [u8]) -> Option<Command<'a>>
 
 /// A packet that begins with `Q`, without it.
 pub fn parse_setting(text: &[u8]) -> Option<Command<'_>>
-    ensures { AsksSetting (name_in text.now) (behind_name text.now) (asked result) }
+    ensures { AsksSetting (name_in text.now) (behind_name text.now) (command_or_malformed result) }
 {
     let (name, rest) = split_name(text);
     if is(name, b"StartNoAckMode") {
@@ -74,7 +74,7 @@ pub fn parse_setting(text: &[u8]) -> Option<Command<'_>>
 
 /// A packet that begins with `v`, without it.
 pub fn parse_named(text: &[u8]) -> Option<Command<'_>>
-    ensures { AsksNamed (name_in text.now) (behind_name text.now) (asked result) }
+    ensures { AsksNamed (name_in text.now) (behind_name text.now) (command_or_malformed result) }
 {
     let (name, rest) = split_name(text);
     if is(name, b"Cont") {
@@ -179,14 +179,14 @@ fn parse_kill(rest: &[u8]) -> Option<Command<'_>>
 fn parse_file(text: &[u8]) -> Option<Command<'_>>
     ensures { (operation rest : List ℕ)
         → cut_at (λ b. b == 58) text.now ≡ Some (operation, rest)
-        → AsksFile operation rest (asked result) }
+        → AsksFile operation rest (command_or_malformed result) }
 {
     let (operation, rest) = split_once(text, b':')?;
     parse_operation(operation, rest)
 }
 
 fn parse_operation<'a>(operation: &'a [u8], rest: &'a [u8]) -> Option<Command<'a>>
-    ensures { AsksFile operation.now rest.now (asked result) }
+    ensures { AsksFile operation.now rest.now (command_or_malformed result) }
 {
     let call = if is(operation, b"open") {
         parse_open(rest)?

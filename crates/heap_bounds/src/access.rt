@@ -87,7 +87,7 @@ pub fn access_of(instr: &Instr, regs: &Regs) -> Option<Access> {
     }
 }
 
-/// The same for pairs, and for loads relative to PC.
+/// What a pair accesses, and a load relative to PC.
 fn pair_of(instr: &Instr, regs: &Regs) -> Option<Access> {
     match *instr {
         Instr::PairPost {

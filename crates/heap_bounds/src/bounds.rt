@@ -66,7 +66,7 @@ pub struct Bounds {
 }
 
 impl Bounds {
-    /// Those of a tenant without chunks.
+    /// The bounds of a tenant without chunks.
     pub fn new(alloc: Global) -> Bounds {
         Bounds {
             blocks: BTreeMap::new(alloc),

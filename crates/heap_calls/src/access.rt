@@ -2,7 +2,7 @@
 
 ghost use Rattle.std.specs.Prelude.{◌≡◌};
 ghost use Rattle.scudo_heap.specs.Heaps.{HeapState};
-ghost use Rattle.scudo_heap.specs.Served.{IsServed};
+ghost use Rattle.scudo_heap.specs.Served.{HeapOwnsItsPages};
 ghost use Rattle.heap_calls.specs.Answers.{load_of, store_of, load_tag_of};
 
 use crate::op::HeapAnswer;
@@ -14,7 +14,7 @@ pub(crate) fn load<M: Tagged>(memory: &mut M, addr: u64) -> HeapAnswer
     ensures answer { result ≡ (load_of (M.memory memory.old) addr).answer }
     ensures memory { M.memory memory.new ≡ (load_of (M.memory memory.old) addr).memory }
     ensures served { (h : HeapState)
-        → IsServed (M.memory memory.old) h → IsServed (M.memory memory.new) h }
+        → HeapOwnsItsPages (M.memory memory.old) h → HeapOwnsItsPages (M.memory memory.new) h }
     ensures kept { M.kept memory.old memory.new }
 {
     let mut bytes = [0; 8];
@@ -30,7 +30,7 @@ pub(crate) fn store<M: Tagged>(memory: &mut M, addr: u64, value: u64) -> HeapAns
     ensures answer { result ≡ (store_of (M.memory memory.old) addr value).answer }
     ensures memory { M.memory memory.new ≡ (store_of (M.memory memory.old) addr value).memory }
     ensures served { (h : HeapState)
-        → IsServed (M.memory memory.old) h → IsServed (M.memory memory.new) h }
+        → HeapOwnsItsPages (M.memory memory.old) h → HeapOwnsItsPages (M.memory memory.new) h }
     ensures kept { M.kept memory.old memory.new }
 {
     match memory.write(addr, &value.to_le_bytes(), true) {

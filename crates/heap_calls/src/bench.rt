@@ -4,7 +4,7 @@ ghost use Rattle.std.specs.Prelude.{◌≡◌, ◌<◌, ◌≤◌, IfOk};
 ghost use Rattle.mte_tags.specs.Memory.{no_pages};
 ghost use Rattle.scudo_heap.specs.Heaps.{empty_heap};
 ghost use Rattle.scudo_heap.specs.Placing.{world_of};
-ghost use Rattle.heap_calls.specs.Answers.{answered};
+ghost use Rattle.heap_calls.specs.Answers.{after_operation};
 
 use crate::calls::answer;
 use crate::op::{HeapAnswer, HeapOp};
@@ -26,7 +26,7 @@ pub struct HeapBench {
 impl Model for HeapBench {
     ghost use Rattle.std.specs.Prelude.{◌<◌};
     ghost use Rattle.scudo_heap.specs.Placing.{World, world_of};
-    ghost use Rattle.scudo_heap.specs.Served.{IsServed};
+    ghost use Rattle.scudo_heap.specs.Served.{HeapOwnsItsPages};
     ghost use Rattle.heap_calls.specs.Worlds.{coded_world};
 
     ghost Value = { World };
@@ -35,7 +35,7 @@ impl Model for HeapBench {
 
     ghost view = { λ b. world_of b.memory b.heap b.rgsr };
 
-    ghost invariant = { λ b. IsServed b.memory b.heap × (b.rgsr.tag < 16) };
+    ghost invariant = { λ b. HeapOwnsItsPages b.memory b.heap × (b.rgsr.tag < 16) };
 }
 
 impl HeapBench {
@@ -62,8 +62,8 @@ impl HeapBench {
 
     /// Makes a call or an access, and returns its answer.
     pub fn answer(&mut self, op: &HeapOp) -> HeapAnswer
-        ensures answer { result ≡ (answered self.old op.now).answer }
-        ensures world { self.new ≡ (answered self.old op.now).world }
+        ensures answer { result ≡ (after_operation self.old op.now).answer }
+        ensures world { self.new ≡ (after_operation self.old op.now).world }
     {
         answer(&mut self.heap, &mut self.rgsr, &mut self.memory, op)
     }

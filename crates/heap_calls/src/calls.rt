@@ -2,8 +2,8 @@
 
 ghost use Rattle.std.specs.Prelude.{◌≡◌, ◌<◌};
 ghost use Rattle.scudo_heap.specs.Placing.{world_of};
-ghost use Rattle.scudo_heap.specs.Served.{IsServed};
-ghost use Rattle.heap_calls.specs.Answers.{answered};
+ghost use Rattle.scudo_heap.specs.Served.{HeapOwnsItsPages};
+ghost use Rattle.heap_calls.specs.Answers.{after_operation};
 
 use crate::access::{load, load_tag, store};
 use crate::op::{HeapAnswer, HeapOp};
@@ -11,15 +11,15 @@ use mte_tags::{Paged, Rgsr};
 use scudo_heap::Heap;
 
 /// Makes a call of a heap or an access to its memory, and returns its answer.
-#[tactic(auto, unfolding(crate::specs::Answers::answered))]
+#[tactic(auto, unfolding(crate::specs::Answers::after_operation))]
 pub fn answer<M: Paged>(heap: &mut Heap, rgsr: &mut Rgsr, memory: &mut M, op: &HeapOp) -> HeapAnswer
-    requires served { IsServed (M.Tagged.memory memory.old) heap.old }
+    requires served { HeapOwnsItsPages (M.Tagged.memory memory.old) heap.old }
     requires tag { rgsr.old.tag < 16 }
     ensures answer { let w = world_of (M.Tagged.memory memory.old) heap.old rgsr.old in
-        result ≡ (answered w op.now).answer }
+        result ≡ (after_operation w op.now).answer }
     ensures world { let w = world_of (M.Tagged.memory memory.old) heap.old rgsr.old in
-        world_of (M.Tagged.memory memory.new) heap.new rgsr.new ≡ (answered w op.now).world }
-    ensures served { IsServed (M.Tagged.memory memory.new) heap.new }
+        world_of (M.Tagged.memory memory.new) heap.new rgsr.new ≡ (after_operation w op.now).world }
+    ensures served { HeapOwnsItsPages (M.Tagged.memory memory.new) heap.new }
     ensures tag { rgsr.new.tag < 16 }
     ensures kept { M.Tagged.kept memory.old memory.new }
 {

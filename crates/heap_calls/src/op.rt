@@ -43,7 +43,7 @@ pub enum HeapAnswer {
 }
 
 impl HeapAnswer {
-    /// That of a heap call which checks a pointer.
+    /// The answer of a heap call that checks a pointer.
     pub(crate) fn of_call(outcome: Result<u64, HeapAbort>) -> HeapAnswer
         ensures answer { result ≡ of_call outcome }
     {

@@ -4,9 +4,9 @@ use Rattle.std.proofs.Math.Seq.{map-set_same}
 use Rattle.std.proofs.lemmas.List.{take-replicate}
 use Rattle.std.proofs.Common.{◌≡◌, ℕ, zero, suc, ◌+◌, ◌<◌, List, [], ◌∷◌, length, drop, get_or, slice_set, slice_index_or, replicate, Option, Some, None, Bool, IsTrue, ◌↔◌, map, refl, sym, ap, ◌∙◌, subst, arith, length-take, length-drop, ◌⊎◌, inl, inr}
 use Rattle.std.specs.Prelude.{◌≢◌}
-use Rattle.mte_arena.specs.Blocks.{unpacked, frame_of, frame_if, frames_of, is_there, presence, block_or, zero_block, IsPresent, AreBlocks}
+use Rattle.mte_arena.specs.Blocks.{tags_of_bytes, frame_of, frame_cases, frames_of, is_there, presence, block_or, zero_block, IsPresent, AreBlocks}
 use Rattle.mte_arena.specs.Frames.{Frame, make_frame, IsLive, IsFrame, AreFrames, frame_at, frame_or, zero_frame}
-use Rattle.mte_arena.proofs.Tags.{length-unpacked, unpacked-small, unpacked-zero}
+use Rattle.mte_arena.proofs.Tags.{length-tags-of-bytes, tags-of-bytes-small, tags-of-bytes-zero}
 
 pub within_of : {X : Type 0} (cs : List (Option X)) (f : ℕ) (x : X) → get_or cs f None ≡ Some x → f < length cs
 within_of [] f x e = cc
@@ -23,10 +23,10 @@ pub map-replicate : {X Y : Type 0} (h : X → Y) (n : ℕ) (x : X) → map h (re
 map-replicate h zero x = refl
 map-replicate h (suc n) x = ap (λ l. h x ∷ l) (map-replicate h n x)
 
-frame_get : (cs : List (Option (List ℕ))) (f : ℕ) → get_or (frames_of cs) f None ≡ frame_if (get_or cs f None)
-frame_get cs f = get_or-map frame_if cs f None
+frame_get : (cs : List (Option (List ℕ))) (f : ℕ) → get_or (frames_of cs) f None ≡ frame_cases (get_or cs f None)
+frame_get cs f = get_or-map frame_cases cs f None
 
-present_if : (c : Option (List ℕ)) (p : Frame) → frame_if c ≡ Some p → (xs : List ℕ) × ((c ≡ Some xs) × (frame_of xs ≡ p))
+present_if : (c : Option (List ℕ)) (p : Frame) → frame_cases c ≡ Some p → (xs : List ℕ) × ((c ≡ Some xs) × (frame_of xs ≡ p))
 present_if (Some xs) p e = (xs, (refl, some_same e))
   where
     some_same : Some (frame_of xs) ≡ Some p → frame_of xs ≡ p
@@ -37,17 +37,17 @@ pub present : (cs : List (Option (List ℕ))) (f : ℕ) → IsLive (frames_of cs
 present cs f live = let found = present_if (get_or cs f None) live.0 (sym (frame_get cs f) ∙ live.1) in (found.0, found.1.0)
 
 pub frame_at-is : (cs : List (Option (List ℕ))) (f : ℕ) (xs : List ℕ) → get_or cs f None ≡ Some xs → frame_at (frames_of cs) f ≡ frame_of xs
-frame_at-is cs f xs e = ap frame_or (frame_get cs f ∙ ap frame_if e)
+frame_at-is cs f xs e = ap frame_or (frame_get cs f ∙ ap frame_cases e)
 
 -- a frame that is present stays so where it is written
 pub presence-written : (cs : List (Option (List ℕ))) (f : ℕ) (xs ws : List ℕ) → get_or cs f None ≡ Some xs → presence (slice_set cs f (Some ws)) ≡ presence cs
 presence-written cs f xs ws e = map-set_same is_there cs f (Some ws) None (sym (ap is_there e))
 
-true_live : (c : Option (List ℕ)) → IsTrue (is_there c) → (p : Frame) × (frame_if c ≡ Some p)
+true_live : (c : Option (List ℕ)) → IsTrue (is_there c) → (p : Frame) × (frame_cases c ≡ Some p)
 true_live (Some xs) h = (frame_of xs, refl)
 true_live None h = cc
 
-live_true : (c : Option (List ℕ)) (p : Frame) → frame_if c ≡ Some p → IsTrue (is_there c)
+live_true : (c : Option (List ℕ)) (p : Frame) → frame_cases c ≡ Some p → IsTrue (is_there c)
 live_true (Some xs) p e = refl
 live_true None p e = cc
 
@@ -64,7 +64,7 @@ live-iff cs f d b within e = let at = e ∙ presence_get cs f d within in (
 
 pub frame_of-zero : frame_of zero_block ≡ zero_frame
 unfolding zero_block zero_frame
-frame_of-zero = λ i. make_frame (take-replicate 4096 4224 0 (omega arith) i) ((ap unpacked (drop_zeros 4096 128) ∙ unpacked-zero 128) i)
+frame_of-zero = λ i. make_frame (take-replicate 4096 4224 0 (omega arith) i) ((ap tags_of_bytes (drop_zeros 4096 128) ∙ tags-of-bytes-zero 128) i)
   where
     drop_zeros : (n m : ℕ) → drop n (replicate {A = ℕ} (n + m) 0) ≡ replicate m 0
     drop_zeros zero m = let e : 0 + m ≡ m = omega arith in ap (λ k. replicate {A = ℕ} k 0) e
@@ -74,8 +74,8 @@ frame_of-zero = λ i. make_frame (take-replicate 4096 4224 0 (omega arith) i) ((
 is_frame : (xs : List ℕ) → length xs ≡ 4224 → IsFrame (frame_of xs)
 is_frame xs long = record {
   bytes = omega (arith, long, length-take 4096 xs);
-  tags = omega (arith, long, length-unpacked (drop 4096 xs), length-drop 4096 xs);
-  small = unpacked-small (drop 4096 xs);
+  tags = omega (arith, long, length-tags-of-bytes (drop 4096 xs), length-drop 4096 xs);
+  small = tags-of-bytes-small (drop 4096 xs);
 }
 
 pub are_frames : (cs : List (Option (List ℕ))) → AreBlocks cs → AreFrames (frames_of cs)

@@ -1,9 +1,9 @@
 -- A run of tags: one more at its end, one more before it, and a run of whole bytes.
 use Rattle.std.proofs.Common.{◌≡◌, ℕ, zero, suc, ◌+◌, ◌*◌, ◌/◌, ◌%◌, ◌<◌, ◌≤◌, List, [], ◌∷◌, ◌++◌, length, take, drop, replicate, slice_set, refl, sym, ap, ◌∙◌, arith}
 use Rattle.std.proofs.lemmas.List.{length-set, drop-drop}
-use Rattle.mte_arena.specs.Blocks.{unpacked}
+use Rattle.mte_arena.specs.Blocks.{tags_of_bytes}
 use Rattle.mte_arena.specs.Frames.{with_run}
-use Rattle.mte_arena.proofs.Tags.{unpacked-append, unpacked-take, unpacked-drop}
+use Rattle.mte_arena.proofs.Tags.{tags-of-bytes-append, tags-of-bytes-take, tags-of-bytes-drop}
 
 -- the same list, by recursion
 abbrev filled : List ℕ → ℕ → ℕ → ℕ → List ℕ
@@ -61,14 +61,14 @@ pub run_after : (ts : List ℕ) (g n t : ℕ) → g + suc n ≤ length ts → sl
 run_after ts g n t h =
     ap (λ l. slice_set l (g + n) t) (run_is ts g n t (omega (arith, h))) ∙ filled_after ts g n (g + n) t refl (omega (arith, h)) ∙ sym (run_is ts g (suc n) t h)
 
-pub pairs-replicate : (n v t : ℕ) → v % 16 ≡ t → v / 16 % 16 ≡ t → unpacked (replicate n v) ≡ replicate (n * 2) t
+pub pairs-replicate : (n v t : ℕ) → v % 16 ≡ t → v / 16 % 16 ≡ t → tags_of_bytes (replicate n v) ≡ replicate (n * 2) t
 pairs-replicate zero v t low high = refl
 pairs-replicate (suc n) v t low high = let more : suc n * 2 ≡ suc (suc (n * 2)) = omega arith in
     rw more (λ i. low i ∷ high i ∷ pairs-replicate n v t low high i)
 
 -- n bytes from k on that hold the tag t twice
-pub run_of_pairs : (bs : List ℕ) (k n v t : ℕ) → v % 16 ≡ t → v / 16 % 16 ≡ t → unpacked (take k bs ++ (replicate n v ++ drop n (drop k bs))) ≡ with_run (unpacked bs) (k * 2) (n * 2) t
+pub run_of_pairs : (bs : List ℕ) (k n v t : ℕ) → v % 16 ≡ t → v / 16 % 16 ≡ t → tags_of_bytes (take k bs ++ (replicate n v ++ drop n (drop k bs))) ≡ with_run (tags_of_bytes bs) (k * 2) (n * 2) t
 run_of_pairs bs k n v t low high =
-    unpacked-append (take k bs) (replicate n v ++ drop n (drop k bs)) ∙
-    (λ i. unpacked-take k bs i ++ (unpacked-append (replicate n v) (drop n (drop k bs)) ∙
-    (λ j. pairs-replicate n v t low high j ++ (unpacked-drop n (drop k bs) ∙ ap (drop (n * 2)) (unpacked-drop k bs) ∙ drop-drop (n * 2) (k * 2) (unpacked bs)) j)) i)
+    tags-of-bytes-append (take k bs) (replicate n v ++ drop n (drop k bs)) ∙
+    (λ i. tags-of-bytes-take k bs i ++ (tags-of-bytes-append (replicate n v) (drop n (drop k bs)) ∙
+    (λ j. pairs-replicate n v t low high j ++ (tags-of-bytes-drop n (drop k bs) ∙ ap (drop (n * 2)) (tags-of-bytes-drop k bs) ∙ drop-drop (n * 2) (k * 2) (tags_of_bytes bs)) j)) i)

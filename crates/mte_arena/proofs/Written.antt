@@ -3,13 +3,13 @@ use lib.Seq.{take_at, drop_at}
 use Rattle.std.proofs.lemmas.List.{length-set, map-set}
 use Rattle.std.proofs.Common.{◌≡◌, ℕ, zero, suc, ◌+◌, ◌*◌, ◌≤◌, List, [], ◌∷◌, ◌++◌, length, take, drop, slice_set, Option, Some, refl, sym, ap, ◌∙◌, arith, length-take, length-drop, append-nil}
 use Rattle.std.specs.List.{refill}
-use Rattle.mte_arena.specs.Blocks.{unpacked, frame_of, frame_if, frames_of, block_or, block_at, with_part, IsPresent, AreBlocks}
+use Rattle.mte_arena.specs.Blocks.{tags_of_bytes, frame_of, frame_cases, frames_of, block_or, block_at, with_part, IsPresent, AreBlocks}
 use Rattle.mte_arena.specs.Frames.{Frame, make_frame, frame_at}
 use Rattle.mte_arena.specs.RegionLends.{with_blocks}
 use Rattle.mte_arena.specs.Whole.{IsArena}
 use Rattle.mte_arena.specs.declared.arena.Arena.TheInside.{Inside}
 use Rattle.mte_arena.proofs.Frames.{frame_at-is, presence-written, written_sized}
-use Rattle.mte_arena.proofs.Tags.{length-unpacked, unpacked-append, unpacked-take, unpacked-drop}
+use Rattle.mte_arena.proofs.Tags.{length-tags-of-bytes, tags-of-bytes-append, tags-of-bytes-take, tags-of-bytes-drop}
 use Rattle.mte_arena.proofs.Parts.{length-refill, refill-same, length-with_part}
 
 pub block_long : (cs : List (Option (List ℕ))) (f : ℕ) → AreBlocks cs → IsPresent cs f → length (block_at cs f) ≡ 4224
@@ -39,15 +39,15 @@ nothing_left (x ∷ xs) e = absurd (omega (arith, e))
 pub frame_with_data : (xs ws : List ℕ) → length xs ≡ 4224 → frame_of (with_part xs 0 4096 ws) ≡ make_frame (refill 4096 (frame_of xs).bytes ws) (frame_of xs).tags
 frame_with_data xs ws long =
     let front = refill 4096 (take 4096 xs) ws in let front_long : length front ≡ 4096 = length-refill 4096 (take 4096 xs) ws (omega (arith, long, length-take 4096 xs)) in
-    λ i. make_frame (take_at front (drop 4096 xs) 4096 front_long i) (unpacked (drop_at front (drop 4096 xs) 4096 front_long i))
+    λ i. make_frame (take_at front (drop 4096 xs) 4096 front_long i) (tags_of_bytes (drop_at front (drop 4096 xs) 4096 front_long i))
 
-pub frame_with_tags : (xs ws : List ℕ) → length xs ≡ 4224 → length ws ≡ 128 → frame_of (with_part xs 4096 128 ws) ≡ make_frame (frame_of xs).bytes (unpacked ws)
+pub frame_with_tags : (xs ws : List ℕ) → length xs ≡ 4224 → length ws ≡ 128 → frame_of (with_part xs 4096 128 ws) ≡ make_frame (frame_of xs).bytes (tags_of_bytes ws)
 frame_with_tags xs ws long count =
     let front : length (take 4096 xs) ≡ 4096 = omega (arith, long, length-take 4096 xs) in
     let last : drop 4224 xs ≡ [] = nothing_left (drop 4224 xs) (omega (arith, long, length-drop 4224 xs)) in
     let tags : refill 128 (take 128 (drop 4096 xs)) ws ++ drop 4224 xs ≡ ws = (λ i. refill-same 128 (take 128 (drop 4096 xs)) ws count i ++ last i) ∙ append-nil ws in
     let back = refill 128 (take 128 (drop 4096 xs)) ws ++ drop 4224 xs in
-    λ i. make_frame (take_at (take 4096 xs) back 4096 front i) (unpacked ((drop_at (take 4096 xs) back 4096 front ∙ tags) i))
+    λ i. make_frame (take_at (take 4096 xs) back 4096 front i) (tags_of_bytes ((drop_at (take 4096 xs) back 4096 front ∙ tags) i))
 
 pub taken_whole : (n : ℕ) (xs : List ℕ) → length xs ≡ n → take n xs ≡ xs
 taken_whole n xs long = sym (ap (take n) (append-nil xs)) ∙ take_at xs [] n long
@@ -57,7 +57,7 @@ pub tag_bytes : (xs : List ℕ) → length xs ≡ 4224 → take 128 (drop 4096 x
 tag_bytes xs long = taken_whole 128 (drop 4096 xs) (omega (arith, long, length-drop 4096 xs))
 
 pub frames_written : (cs : List (Option (List ℕ))) (f : ℕ) (xs : List ℕ) (p : Frame) → frame_of xs ≡ p → frames_of (slice_set cs f (Some xs)) ≡ slice_set (frames_of cs) f (Some p)
-frames_written cs f xs p e = map-set frame_if cs f (Some xs) ∙ ap (λ q. slice_set (frames_of cs) f (Some q)) e
+frames_written cs f xs p e = map-set frame_cases cs f (Some xs) ∙ ap (λ q. slice_set (frames_of cs) f (Some q)) e
 
 -- ---- a block that is replaced as a whole
 take_less : (n m : ℕ) (xs : List ℕ) → n ≤ m → take n (take m xs) ≡ take n xs
@@ -98,10 +98,10 @@ drop_over (suc n) (x ∷ xs) (w ∷ ws) = drop_over n xs ws
 back_of : (xs ws : List ℕ) → drop 4096 (refill 4224 xs ws) ≡ refill 128 (drop 4096 xs) (drop 4096 ws)
 back_of xs ws = drop_taken 4096 128 (ws ++ drop (length ws) xs) ∙ ap (take 128) (drop_over 4096 xs ws)
 
-tags_of : (bs ts : List ℕ) → unpacked (refill 128 bs ts) ≡ refill 256 (unpacked bs) (unpacked ts)
-tags_of bs ts = unpacked-take 128 (ts ++ drop (length ts) bs) ∙ ap (take 256) (unpacked-append ts (drop (length ts) bs) ∙ ap (λ l. unpacked ts ++ l) (unpacked-drop (length ts) bs ∙ ap (λ n. drop n (unpacked bs)) (let twice : length ts * 2 ≡ length (unpacked ts) = omega (arith, length-unpacked ts) in twice)))
+tags_of : (bs ts : List ℕ) → tags_of_bytes (refill 128 bs ts) ≡ refill 256 (tags_of_bytes bs) (tags_of_bytes ts)
+tags_of bs ts = tags-of-bytes-take 128 (ts ++ drop (length ts) bs) ∙ ap (take 256) (tags-of-bytes-append ts (drop (length ts) bs) ∙ ap (λ l. tags_of_bytes ts ++ l) (tags-of-bytes-drop (length ts) bs ∙ ap (λ n. drop n (tags_of_bytes bs)) (let twice : length ts * 2 ≡ length (tags_of_bytes ts) = omega (arith, length-tags-of-bytes ts) in twice)))
 
-pub frame_with_block : (xs ws : List ℕ) → length xs ≡ 4224 → frame_of (with_part xs 0 4224 ws) ≡ make_frame (refill 4096 (frame_of xs).bytes ws) (refill 256 (frame_of xs).tags (unpacked (drop 4096 ws)))
+pub frame_with_block : (xs ws : List ℕ) → length xs ≡ 4224 → frame_of (with_part xs 0 4224 ws) ≡ make_frame (refill 4096 (frame_of xs).bytes ws) (refill 256 (frame_of xs).tags (tags_of_bytes (drop 4096 ws)))
 frame_with_block xs ws long =
     let all : with_part xs 0 4224 ws ≡ refill 4224 xs ws = (λ i. refill 4224 (taken_whole 4224 xs long i) ws ++ nothing_left (drop 4224 xs) (omega (arith, long, length-drop 4224 xs)) i) ∙ append-nil (refill 4224 xs ws) in
-    ap frame_of all ∙ (λ i. make_frame (front_of xs ws i) ((ap unpacked (back_of xs ws) ∙ tags_of (drop 4096 xs) (drop 4096 ws)) i))
+    ap frame_of all ∙ (λ i. make_frame (front_of xs ws i) ((ap tags_of_bytes (back_of xs ws) ∙ tags_of (drop 4096 xs) (drop 4096 ws)) i))

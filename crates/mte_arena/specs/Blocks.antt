@@ -15,19 +15,19 @@ abbrev pub half : ℕ → ℕ → ℕ
 half b g = if nat_eq (g % 2) 0 then b % 16 else b / 16 % 16
 
 -- two tags a byte
-abbrev pub unpacked : List ℕ → List ℕ
-unpacked [] = []
-unpacked (b ∷ bs) = b % 16 ∷ b / 16 % 16 ∷ unpacked bs
+abbrev pub tags_of_bytes : List ℕ → List ℕ
+tags_of_bytes [] = []
+tags_of_bytes (b ∷ bs) = b % 16 ∷ b / 16 % 16 ∷ tags_of_bytes bs
 
 abbrev pub frame_of : List ℕ → Frame
-frame_of xs = make_frame (take 4096 xs) (unpacked (drop 4096 xs))
+frame_of xs = make_frame (take 4096 xs) (tags_of_bytes (drop 4096 xs))
 
-abbrev pub frame_if : Option (List ℕ) → Option Frame
-frame_if (Some xs) = Some (frame_of xs)
-frame_if None = None
+abbrev pub frame_cases : Option (List ℕ) → Option Frame
+frame_cases (Some xs) = Some (frame_of xs)
+frame_cases None = None
 
 abbrev pub frames_of : List (Option (List ℕ)) → List (Option Frame)
-frames_of = map frame_if
+frames_of = map frame_cases
 
 abbrev pub is_there : Option (List ℕ) → Bool
 is_there (Some xs) = true
@@ -63,5 +63,5 @@ AreBlocks cs = (f : ℕ) (xs : List ℕ) → get_or cs f None ≡ Some xs → le
 abbrev pub with_block : List (Option Frame) → ℕ → List ℕ → List (Option Frame)
 with_block fs f ws =
     let bytes = refill 4096 (frame_at fs f).bytes ws in
-    let tags = refill 256 (frame_at fs f).tags (unpacked (drop 4096 ws)) in
+    let tags = refill 256 (frame_at fs f).tags (tags_of_bytes (drop 4096 ws)) in
     slice_set fs f (Some (make_frame bytes tags))

@@ -1,7 +1,7 @@
 -- What an arena ends as, once a loan of a frame's bytes has ended.
 use Rattle.std.specs.Prelude.{ℕ, List, Option}
 use Rattle.std.specs.Borrow.{Fml, MutBor, Lends, LendsIf, Array, u8}
-use Rattle.mte_arena.specs.Frames.{Frame, with_bytes, with_bytes_if}
+use Rattle.mte_arena.specs.Frames.{Frame, with_bytes, with_bytes_cases}
 use Rattle.mte_arena.specs.Blocks.{with_block}
 use Rattle.mte_arena.specs.contracts.arena.Arena.{the_row}
 
@@ -10,7 +10,7 @@ lends_bytes s f r = Lends the_row (Array u8 0) s r (with_bytes s.now f)
 
 abbrev pub lends_bytes_if :
     MutBor (List (Option Frame)) → Option ℕ → Option (MutBor (List ℕ)) → Fml
-lends_bytes_if s f r = LendsIf the_row (Array u8 0) s r (with_bytes_if s.now f) s.now
+lends_bytes_if s f r = LendsIf the_row (Array u8 0) s r (with_bytes_cases s.now f) s.now
 
 abbrev pub lends_block : MutBor (List (Option Frame)) → ℕ → MutBor (List ℕ) → Fml
 lends_block s f r = Lends the_row (Array u8 0) s r (with_block s.now f)

@@ -1,13 +1,13 @@
 -- What a contract sees of an arena: a list of optional frames. A frame that is absent has no bytes
 -- and no tags.
---     IsLive fs f       the frame f is present
---     frame_at fs f     the frame f, where it is present
---     zero_frame        4096 zero bytes and 256 tags 0
---     with_bytes fs f ws        fs with other bytes in the frame f
---     with_bytes_if fs f ws     the same where f is an `Option`, and fs at `None`
---     retagged fs f g t         fs with another tag there
---     retagged_run fs f g n t   fs with another tag at the n granules from g on
---     AreFrames fs      each frame that is present has 4096 bytes and 256 tags, each below 16
+--     IsLive fs f                the frame f is present
+--     frame_at fs f              the frame f, where it is present
+--     zero_frame                 4096 zero bytes and 256 tags 0
+--     with_bytes fs f ws         fs with other bytes in the frame f
+--     with_bytes_cases fs f ws   the same where f is an `Option`, and fs at `None`
+--     with_granule_tag fs f g t  fs with another tag there
+--     retagged_run fs f g n t    fs with another tag at the n granules from g on
+--     AreFrames fs               each frame that is present has 4096 bytes and 256 tags below 16
 use Rattle.std.specs.Prelude.{◌≡◌, ℕ, ◌+◌, ◌<◌, List, ◌++◌, length, take, drop, replicate, get_or}
 use Rattle.std.specs.Prelude.{slice_set, Option, Some, None}
 use Rattle.std.specs.List.{refill}
@@ -47,13 +47,13 @@ with_bytes fs f ws =
     slice_set fs f (Some (make_frame (refill 4096 (frame_at fs f).bytes ws) (frame_at fs f).tags))
 
 -- the same of the frame in f, if any
-abbrev pub with_bytes_if : List (Option Frame) → Option ℕ → List ℕ → List (Option Frame)
-with_bytes_if fs None ws = fs
-with_bytes_if fs (Some f) ws = with_bytes fs f ws
+abbrev pub with_bytes_cases : List (Option Frame) → Option ℕ → List ℕ → List (Option Frame)
+with_bytes_cases fs None ws = fs
+with_bytes_cases fs (Some f) ws = with_bytes fs f ws
 
 -- the granule g of the frame f has the tag t, and all else is as it was
-abbrev pub retagged : List (Option Frame) → ℕ → ℕ → ℕ → List (Option Frame)
-retagged fs f g t =
+abbrev pub with_granule_tag : List (Option Frame) → ℕ → ℕ → ℕ → List (Option Frame)
+with_granule_tag fs f g t =
     slice_set fs f (Some (make_frame (frame_at fs f).bytes (slice_set (frame_at fs f).tags g t)))
 
 -- the list with t in the place of its n elements from g on

@@ -5,7 +5,7 @@ ghost use Rattle.std.specs.Prelude.{replicate, get_or, slice_set, slice_index, I
 ghost use Rattle.std.specs.Prelude.{IfSome, option_map};
 ghost use Rattle.std.specs.Option.{option_copied_mut};
 ghost use Rattle.std.specs.Borrow.{sem};
-ghost use Rattle.mte_arena.specs.Frames.{Frame, IsLive, AreFrames, frame_at, retagged};
+ghost use Rattle.mte_arena.specs.Frames.{Frame, IsLive, AreFrames, frame_at, with_granule_tag};
 ghost use Rattle.mte_arena.specs.Frames.{retagged_run, zero_frame};
 ghost use Rattle.mte_arena.specs.Blocks.{frame_of};
 
@@ -128,7 +128,7 @@ impl Arena {
         &block[..FRAME_BYTES]
     }
 
-    /// The same, to be written. The frame's tags and all other frames stay as they are.
+    /// The bytes of a frame, to be written. The frame's tags and all other frames stay as they are.
     pub fn data_mut(&mut self, f: usize) -> &mut [u8]
         requires { IsLive self.old f }
         ensures* writes_back { sem 𝓛 (lends_bytes self.entry f result) }
@@ -138,8 +138,8 @@ impl Arena {
         self.region.part_mut(self.start, f, 0, FRAME_BYTES)
     }
 
-    /// The same of the frame in `f`, which is present. Where `f` is `None` nothing is lent, and all
-    /// frames stay as they are.
+    /// The bytes of the frame in `f`, which is present, to be written. If `f` is `None`, nothing is
+    /// lent, and all frames stay as they are.
     pub fn data_mut_if(&mut self, f: Option<usize>) -> Option<&mut [u8; FRAME_BYTES]>
         requires { IfSome f (λ g. IsLive self.old g) }
         ensures* writes_back { sem 𝓛 (lends_bytes_if self.entry f result) }
@@ -181,7 +181,7 @@ impl Arena {
         requires live { IsLive self.old f }
         requires granule { g < FRAME_GRANULES }
         requires tag { tag < 16 }
-        ensures { self.new ≡ retagged self.old f g tag }
+        ensures { self.new ≡ with_granule_tag self.old f g tag }
     {
         let packed = self.region.part_mut(self.start, f, FRAME_BYTES, TAG_BYTES);
         set_half(packed, g, tag);

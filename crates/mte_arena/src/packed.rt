@@ -1,7 +1,7 @@
 //! Tags of granules, two a byte: an even granule's in the low half, an odd one's in the high half.
 
 ghost use Rattle.std.specs.Prelude.{◌≡◌, ◌+◌, ◌*◌, ◌%◌, ◌<◌, ◌≤◌, length, slice_set};
-ghost use Rattle.mte_arena.specs.Blocks.{half, unpacked};
+ghost use Rattle.mte_arena.specs.Blocks.{half, tags_of_bytes};
 ghost use Rattle.mte_arena.specs.Frames.{with_run};
 
 pub(crate) fn half_of(byte: u8, g: usize) -> u8
@@ -27,7 +27,7 @@ fn with_half(byte: u8, g: usize, tag: u8) -> u8
 pub(crate) fn set_half(packed: &mut [u8], g: usize, tag: u8)
     requires granule { g < length packed.old * 2 }
     requires tag { tag < 16 }
-    ensures tags { unpacked packed.new ≡ slice_set (unpacked packed.old) g tag }
+    ensures tags { tags_of_bytes packed.new ≡ slice_set (tags_of_bytes packed.old) g tag }
     ensures len { length packed.new ≡ length packed.old }
 {
     packed[g / 2] = with_half(packed[g / 2], g, tag);
@@ -38,7 +38,7 @@ pub(crate) fn set_half(packed: &mut [u8], g: usize, tag: u8)
 pub(crate) fn set_run(packed: &mut [u8], first: usize, count: usize, tag: u8)
     requires granules { first + count ≤ length packed.old * 2 }
     requires tag { tag < 16 }
-    ensures tags { unpacked packed.new ≡ with_run (unpacked packed.old) first count tag }
+    ensures tags { tags_of_bytes packed.new ≡ with_run (tags_of_bytes packed.old) first count tag }
     ensures len { length packed.new ≡ length packed.old }
 {
     if count == 0 {
@@ -52,12 +52,12 @@ pub(crate) fn set_run(packed: &mut [u8], first: usize, count: usize, tag: u8)
     }
 }
 
-/// The same for a run that begins at an even granule.
+/// Writes a run that begins at an even granule.
 fn set_even_run(packed: &mut [u8], first: usize, count: usize, tag: u8)
     requires granules { first + count ≤ length packed.old * 2 }
     requires even { first % 2 ≡ 0 }
     requires tag { tag < 16 }
-    ensures tags { unpacked packed.new ≡ with_run (unpacked packed.old) first count tag }
+    ensures tags { tags_of_bytes packed.new ≡ with_run (tags_of_bytes packed.old) first count tag }
     ensures len { length packed.new ≡ length packed.old }
 {
     set_pairs(packed, first / 2, count / 2, tag);
@@ -70,8 +70,8 @@ fn set_even_run(packed: &mut [u8], first: usize, count: usize, tag: u8)
 fn set_pairs(packed: &mut [u8], from: usize, count: usize, tag: u8)
     requires bytes { from + count ≤ length packed.old }
     requires tag { tag < 16 }
-    ensures tags { unpacked packed.new
-        ≡ with_run (unpacked packed.old) (from * 2) (count * 2) tag }
+    ensures tags { tags_of_bytes packed.new
+        ≡ with_run (tags_of_bytes packed.old) (from * 2) (count * 2) tag }
     ensures len { length packed.new ≡ length packed.old }
 {
     packed[from..from + count].fill(tag * 17);

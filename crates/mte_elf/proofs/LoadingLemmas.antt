@@ -7,9 +7,9 @@ use Rattle.std.proofs.lemmas.List.{drop_more, nil_from_length}
 use Rattle.std.proofs.lemmas.List.Sums.{sum_by-cons}
 use Rattle.a64_bits.specs.Addresses.{plain}
 use Rattle.mte_tags.specs.Memory.{Memory, page_at, attrs_at, pages_left, with_new_pages, IsFree, new_page}
-use Rattle.mte_tags.specs.Accesses.{written, addresses, AreMapped, IsMapped}
+use Rattle.mte_tags.specs.Accesses.{with_bytes_at, addresses, AreMapped, IsMapped}
 use Rattle.mte_tags.specs.declared.attrs.Attrs.{Attrs}
-use Rattle.mte_tags.proofs.PageLaws.{page_at-with_new_pages_in, page_at-with_new_pages_out, pages_left-with_new_pages, pages_left-written, attrs_at-written, page_at-no_attrs}
+use Rattle.mte_tags.proofs.PageLaws.{page_at-with_new_pages_in, page_at-with_new_pages_out, pages_left-with_new_pages, pages_left-with-bytes-at, attrs_at-with-bytes-at, page_at-no_attrs}
 use Rattle.mte_elf.specs.Images.{is_in_range, first_page, last_page, page_count, share_page, any_share_page, refusal_of, pages_of, tests_of, first_refusal}
 use Rattle.mte_elf.specs.Headers.{is_loaded, segment_of, segments_of, headers_of}
 use Rattle.mte_elf.specs.declared.error.ElfError.{ElfError}
@@ -95,8 +95,8 @@ free_after file m s t some_s some_t apart free i below =
     cc in
     let mapped = with_new_pages m (first_page s) (page_count s) (attrs_of s.flags) in
     let before : page_at mapped (first_page t + i) ≡ None = page_at-with_new_pages_out (page_count s) m (first_page s) (attrs_of s.flags) (first_page t + i) out ∙ free i below in
-    page_at-no_attrs (written mapped s.vaddr (file_part file s)) (first_page t + i)
-    (attrs_at-written mapped s.vaddr (file_part file s) (first_page t + i) ∙ has_no_attrs mapped (first_page t + i) before)
+    page_at-no_attrs (with_bytes_at mapped s.vaddr (file_part file s)) (first_page t + i)
+    (attrs_at-with-bytes-at mapped s.vaddr (file_part file s) (first_page t + i) ∙ has_no_attrs mapped (first_page t + i) before)
 
 pub all_free_after : (file : List ℕ) (m : Memory) (s : Segment) (more : List Segment) → 0 < s.memsz → list_all has_bytes more ≡ true
     → list_any (share_page s) more ≡ false → AreFree m more → AreFree (with_segment file m s) more
@@ -124,7 +124,7 @@ ready_next file size m s more h =
     let bytes = and_true (has_bytes s) (list_all has_bytes more) h.some in
     let apart = or_false (list_any (share_page s) more) (any_share_page more) h.apart in
     let left : pages_left (with_segment file m s) ≡ pages_left m - page_count s =
-    pages_left-written (with_new_pages m (first_page s) (page_count s) (attrs_of s.flags)) s.vaddr (file_part file s)
+    pages_left-with-bytes-at (with_new_pages m (first_page s) (page_count s) (attrs_of s.flags)) s.vaddr (file_part file s)
     ∙ pages_left-with_new_pages (page_count s) m (first_page s) (attrs_of s.flags) h.free.0 in
     record {
       in_range = (and_true (is_in_range size s) (list_all (is_in_range size) more) h.in_range).1;
@@ -233,7 +233,7 @@ free_above file size (s ∷ more) m q range some high free =
     let mapped = with_new_pages m (first_page s) (page_count s) (attrs_of s.flags) in
     let before : page_at mapped q ≡ None = page_at-with_new_pages_out (page_count s) m (first_page s) (attrs_of s.flags) q out ∙ free in
     let after : page_at (with_segment file m s) q ≡ None =
-    page_at-no_attrs (written mapped s.vaddr (file_part file s)) q (attrs_at-written mapped s.vaddr (file_part file s) q ∙ has_no_attrs mapped q before) in
+    page_at-no_attrs (with_bytes_at mapped s.vaddr (file_part file s)) q (attrs_at-with-bytes-at mapped s.vaddr (file_part file s) q ∙ has_no_attrs mapped q before) in
     free_above file size more (with_segment file m s) q all.1 bytes.1 high after
 
 pub left_after : (file : List ℕ) (size : ℕ) (segments : List Segment) (m : Memory) → IsReady size m segments
@@ -243,7 +243,7 @@ left_after file size [] m ready = omega arith
 left_after file size (s ∷ more) m ready =
     let total = sum_by-cons page_count s more in
     let left : pages_left (with_segment file m s) ≡ pages_left m - page_count s =
-    pages_left-written (with_new_pages m (first_page s) (page_count s) (attrs_of s.flags)) s.vaddr (file_part file s)
+    pages_left-with-bytes-at (with_new_pages m (first_page s) (page_count s) (attrs_of s.flags)) s.vaddr (file_part file s)
     ∙ pages_left-with_new_pages (page_count s) m (first_page s) (attrs_of s.flags) ready.free.0 in
     let rest = left_after file size more (with_segment file m s) (ready_next file size m s more ready) in
     omega arith

@@ -6,8 +6,8 @@ use borrow.Author.Tests.{ltb-true}
 use Rattle.std.proofs.lemmas.List.{ext_get_or, length-set, length-replicate, get_or-replicate, get_or-take, get_or-drop, length-take-le}
 use Rattle.std.proofs.lemmas.List.FromFn.{length-map-range_with_len, get_or-map-range_with_len}
 use Rattle.a64_bits.specs.Addresses.{plain}
-use Rattle.mte_tags.specs.Memory.{Memory, Page, page_at, with_byte_in, with_byte, with_new_pages, new_page}
-use Rattle.mte_tags.specs.Accesses.{written, with_bytes, addresses}
+use Rattle.mte_tags.specs.Memory.{Memory, Page, page_at, with_byte_cases, with_byte, with_new_pages, new_page}
+use Rattle.mte_tags.specs.Accesses.{with_bytes_at, with_bytes, addresses}
 use Rattle.mte_tags.proofs.Pages.{page_at-with_page_same, page_at-with_page_other}
 use Rattle.mte_tags.proofs.PageLaws.{page_at-with_new_pages_in, page_at-with_new_pages_out}
 use Rattle.mte_elf.specs.Images.{is_in_range, first_page, last_page, page_count, share_page, any_share_page, refusal_of}
@@ -19,7 +19,7 @@ use Rattle.mte_elf.proofs.ImageLemmas.{and_true}
 use Rattle.mte_elf.proofs.LoadingLemmas.{ranges, has_bytes, or_false, accepted, loaded_have_bytes}
 
 -- a byte that is written to another page leaves a page
-other_in : (m : Memory) (r o b q : ℕ) (p : Option Page) → q ≢ r → page_at (with_byte_in m r o b p) q ≡ page_at m q
+other_in : (m : Memory) (r o b q : ℕ) (p : Option Page) → q ≢ r → page_at (with_byte_cases m r o b p) q ≡ page_at m q
 other_in m r o b q None n = refl
 other_in m r o b q (Some p) n = page_at-with_page_other m r _ q n
 
@@ -30,7 +30,7 @@ page_at-with_byte_other m a b q n = other_in m (a / 4096) (a % 4096) b q (page_a
 pub page_at-with_byte_same : (m : Memory) (a b : ℕ) (p : Page) → page_at m (a / 4096) ≡ Some p → page_at (with_byte m a b) (a / 4096) ≡ Some (record p { bytes = set p.bytes (a % 4096) b })
 unfolding with_byte
 page_at-with_byte_same m a b p e =
-    ap (λ o. page_at (with_byte_in m (a / 4096) (a % 4096) b o) (a / 4096)) e
+    ap (λ o. page_at (with_byte_cases m (a / 4096) (a % 4096) b o) (a / 4096)) e
     ∙ page_at-with_page_same m (a / 4096) (record p { bytes = set p.bytes (a % 4096) b })
 
 -- bytes that are written to other pages leave a page
@@ -216,7 +216,7 @@ page_in_written file m s q part w =
 
 page_in : (file : List ℕ) (m : Memory) (s : Segment) (q : ℕ) → is_in_range (length file) s ≡ true → touches_page s q ≡ true
     → page_at (with_segment file m s) q ≡ Some (segment_page file s q)
-unfolding with_segment written
+unfolding with_segment with_bytes_at
 page_in file m s q range touched =
     let r = ranges (length file) s range in
     let small : s.filesz ≤ s.memsz = r.file in
@@ -243,7 +243,7 @@ touched_not s q low high f =
 
 page_out : (file : List ℕ) (m : Memory) (s : Segment) (q : ℕ) → is_in_range (length file) s ≡ true → 0 < s.memsz → touches_page s q ≡ false
     → page_at (with_segment file m s) q ≡ page_at m q
-unfolding with_segment written
+unfolding with_segment with_bytes_at
 page_out file m s q range some untouched =
     let r = ranges (length file) s range in
     let small : s.filesz ≤ s.memsz = r.file in

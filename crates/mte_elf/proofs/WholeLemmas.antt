@@ -3,8 +3,8 @@ use Rattle.std.proofs.Common.{◌≡◌, ℕ, ◌<◌, ◌≤◌, List, [], ◌�
 use Rattle.mte_tags.specs.Memory.{Memory, page_at, pages_left}
 use Rattle.mte_tags.specs.Whole.{IsWhole}
 use Rattle.mte_tags.proofs.PageLaws.{limit-with_new_pages}
-use Rattle.mte_tags.proofs.StateLaws.{state-written, state-with_new_pages, limit-written}
-use Rattle.mte_tags.proofs.Whole.{whole-written, whole-with_new_pages}
+use Rattle.mte_tags.proofs.StateLaws.{state-with-bytes-at, state-with_new_pages, limit-with-bytes-at}
+use Rattle.mte_tags.proofs.Whole.{whole-with-bytes-at, whole-with_new_pages}
 use Rattle.mte_elf.specs.Headers.{segments_of}
 use Rattle.mte_elf.specs.Images.{first_page, page_count, refusal_of, pages_of}
 use Rattle.mte_elf.specs.Loading.{attrs_of, file_part, with_segment, with_segments}
@@ -16,7 +16,7 @@ unfolding with_segments with_segment
 limit-with_segments file m [] = refl
 limit-with_segments file m (s ∷ more) =
     limit-with_segments file (with_segment file m s) more
-    ∙ limit-written _ s.vaddr (file_part file s)
+    ∙ limit-with-bytes-at _ s.vaddr (file_part file s)
     ∙ limit-with_new_pages (page_count s) m (first_page s) (attrs_of s.flags)
 
 pub state-with_segments : (file : List ℕ) (m : Memory) (segments : List Segment) → (with_segments file m segments).state ≡ m.state
@@ -24,7 +24,7 @@ unfolding with_segments with_segment
 state-with_segments file m [] = refl
 state-with_segments file m (s ∷ more) =
     state-with_segments file (with_segment file m s) more
-    ∙ state-written _ s.vaddr (file_part file s)
+    ∙ state-with-bytes-at _ s.vaddr (file_part file s)
     ∙ state-with_new_pages (page_count s) m (first_page s) (attrs_of s.flags)
 
 whole_after : (file : List ℕ) (size : ℕ) (segments : List Segment) (m : Memory) → IsReady size m segments → IsWhole m → IsWhole (with_segments file m segments)
@@ -33,7 +33,7 @@ whole_after file size [] m ready w = w
 whole_after file size (s ∷ more) m ready w =
     let first = ready_first size m s more ready in
     whole_after file size more (with_segment file m s) (ready_next file size m s more ready)
-    (whole-written _ s.vaddr (file_part file s) (whole-with_new_pages (page_count s) m (first_page s) (attrs_of s.flags) first.2 first.3 w))
+    (whole-with-bytes-at _ s.vaddr (file_part file s) (whole-with_new_pages (page_count s) m (first_page s) (attrs_of s.flags) first.2 first.3 w))
 
 pub image_whole : (file : List ℕ) (m : Memory) → refusal_of file ≡ None → ((page : ℕ) → page < 65536 → page_at m page ≡ None)
     → pages_of file ≤ pages_left m → IsWhole m → IsWhole (with_segments file m (segments_of file))

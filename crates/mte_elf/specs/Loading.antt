@@ -2,7 +2,7 @@
 use Rattle.std.specs.Prelude.{ℕ, ◌+◌, ◌*◌, ◌/◌, ◌%◌, ◌==◌, List, [], ◌∷◌, if◌then◌else◌}
 use Rattle.std.specs.Prelude.{slice_range}
 use Rattle.mte_tags.specs.Memory.{Memory, with_new_pages}
-use Rattle.mte_tags.specs.Accesses.{written}
+use Rattle.mte_tags.specs.Accesses.{with_bytes_at}
 use Rattle.mte_tags.specs.declared.attrs.Attrs.{Attrs}
 use Rattle.mte_elf.specs.Images.{first_page, page_count}
 use Rattle.mte_elf.specs.declared.image.Segment.{Segment}
@@ -18,7 +18,7 @@ file_part file s = if s.filesz == 0 then [] else slice_range file s.offset (s.of
 -- a memory with a segment's pages, which hold the segment's part of the file and zeros
 unfoldable pub with_segment : List ℕ → Memory → Segment → Memory
 with_segment file m s =
-    written (with_new_pages m (first_page s) (page_count s) (attrs_of s.flags)) s.vaddr
+    with_bytes_at (with_new_pages m (first_page s) (page_count s) (attrs_of s.flags)) s.vaddr
     (file_part file s)
 
 -- a memory with the pages of segments

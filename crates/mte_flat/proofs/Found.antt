@@ -6,7 +6,7 @@ use Rattle.std.specs.List.{All}
 use Rattle.mte_tags.specs.Memory.{Memory, page_at, with_page}
 use Rattle.mte_flat.specs.Slots.{page_of, slots_memory, AreSlots}
 use Rattle.mte_flat.specs.Places.{no_slot}
-use Rattle.mte_tags.specs.Runs.{spliced, with_bytes_in, retagged}
+use Rattle.mte_tags.specs.Runs.{with_bytes_run, with_bytes_in, with_granule_tags}
 use Rattle.mte_flat.specs.declared.slot.Slot.{Slot}
 use Rattle.mte_flat.proofs.Places.{page_at-slots_some, slots_memory-set}
 
@@ -36,7 +36,7 @@ slot_changed n slots i old new h l e page small =
 
 -- a slot with a run of its bytes replaced
 pub slot_replaced : (n : Memory) (slots : List Slot) (i at : ℕ) (bs : List ℕ) (old new : Slot) → AreSlots slots → i < length slots → old ≡ get_or slots i no_slot
-    → new ≡ record old { bytes = spliced old.bytes (at % 4096) bs }
+    → new ≡ record old { bytes = with_bytes_run old.bytes (at % 4096) bs }
     → slots_memory n (set slots i new) ≡ with_page (slots_memory n slots) (get_or slots i no_slot).page (with_bytes_in (page_of (get_or slots i no_slot)) (at % 4096) bs)
 slot_replaced n slots i at bs old new h l e is =
     let tags : new.tags ≡ (get_or slots i no_slot).tags = ap (λ (t : Slot). t.tags) is ∙ ap (λ (t : Slot). t.tags) e in
@@ -47,8 +47,8 @@ slot_replaced n slots i at bs old new h l e is =
 
 -- a slot with granules retagged
 pub slot_retagged : (n : Memory) (slots : List Slot) (i first count tag : ℕ) (z : Bool) (old new : Slot) → AreSlots slots → i < length slots → old ≡ get_or slots i no_slot
-    → new.page ≡ old.page → All (λ t. t < 16) new.tags → page_of new ≡ retagged (page_of old) first count tag z
-    → slots_memory n (set slots i new) ≡ with_page (slots_memory n slots) (get_or slots i no_slot).page (retagged (page_of (get_or slots i no_slot)) first count tag z)
+    → new.page ≡ old.page → All (λ t. t < 16) new.tags → page_of new ≡ with_granule_tags (page_of old) first count tag z
+    → slots_memory n (set slots i new) ≡ with_page (slots_memory n slots) (get_or slots i no_slot).page (with_granule_tags (page_of (get_or slots i no_slot)) first count tag z)
 slot_retagged n slots i first count tag z old new h l e page small is =
     slot_changed n slots i old new h l e page small
-    ∙ ap (with_page (slots_memory n slots) (get_or slots i no_slot).page) (is ∙ ap (λ (t : Slot). retagged (page_of t) first count tag z) e)
+    ∙ ap (with_page (slots_memory n slots) (get_or slots i no_slot).page) (is ∙ ap (λ (t : Slot). with_granule_tags (page_of t) first count tag z) e)

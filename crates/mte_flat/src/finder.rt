@@ -7,7 +7,7 @@ use std::alloc::{AllocError, Global};
 
 /// A page and the slot that it was put into.
 #[derive(Clone, Copy)]
-struct Place {
+struct PageSlot {
     page: u64,
     slot: usize,
 }
@@ -19,7 +19,7 @@ pub struct Finder {
     /// No address leads to it, so a fetch need not wait for one.
     pub(crate) code: usize,
     last: [usize; 64],
-    places: Vec<Place>,
+    places: Vec<PageSlot>,
 }
 
 /// The first pages of two regions of 4096 pages differ in it.
@@ -61,7 +61,7 @@ impl Finder {
 
     /// A page was put into a slot.
     pub(crate) fn put(&mut self, page: u64, slot: usize) {
-        let place = Place { page, slot };
+        let place = PageSlot { page, slot };
         match self.places.binary_search_by_key(&page, |place| place.page) {
             Ok(at) => self.places[at] = place,
             Err(at) => {

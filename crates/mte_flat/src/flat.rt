@@ -4,7 +4,7 @@ ghost use Rattle.std.specs.Prelude.{◌≡◌, ℕ, ◌<◌, IfOk, None};
 ghost use Rattle.mte_tags.specs.Memory.{page_at, no_pages};
 
 use crate::pages::Pages;
-use mte_tags::{Attrs, MemFault, NoQuota, Paged, TagMode, Tagged};
+use mte_tags::{Attrs, MemFault, NoPagesLeft, Paged, TagMode, Tagged};
 use std::alloc::{AllocError, Global};
 use std::marker::Model;
 
@@ -113,7 +113,7 @@ impl Paged for Flat {
         self.pages.pages_left()
     }
 
-    fn map_pages(&mut self, page: u64, count: usize, attrs: Attrs) -> Result<(), NoQuota> {
+    fn map_pages(&mut self, page: u64, count: usize, attrs: Attrs) -> Result<(), NoPagesLeft> {
         self.pages.map_pages(page, count, attrs)
     }
 

@@ -9,7 +9,7 @@ ghost use Rattle.mte_flat.specs.Slots.{slots_memory, AreSlots};
 use crate::finder::Finder;
 use crate::slot::{Slot, find, holds, new_slot};
 use a64_bits::plain;
-use mte_tags::{Attrs, NoQuota, PageStore, Paged, TagMode, TagState, replace_bytes};
+use mte_tags::{Attrs, NoPagesLeft, PageStore, Paged, TagMode, TagState, replace_bytes};
 use std::alloc::{AllocError, Global};
 
 /// At most `limit` pages in a list, in the order in which they were mapped, and where each was put.
@@ -177,9 +177,9 @@ impl Paged for Pages {
         self.limit - mapped
     }
 
-    fn map_pages(&mut self, page: u64, count: usize, attrs: Attrs) -> Result<(), NoQuota> {
+    fn map_pages(&mut self, page: u64, count: usize, attrs: Attrs) -> Result<(), NoPagesLeft> {
         if count > self.limit - self.slots.len() {
-            return Err(NoQuota);
+            return Err(NoPagesLeft);
         }
         map_slots(&mut self.slots, &mut self.finder, page, count, attrs);
         Ok(())

@@ -6,7 +6,7 @@ ghost use Rattle.std.specs.Prelude.{length, slice_index_or};
 ghost use Rattle.std.specs.List.{All};
 ghost use Rattle.mte_tags.specs.Memory.{Memory, page_at, new_page};
 ghost use Rattle.mte_flat.specs.Slots.{page_of, slots_memory};
-ghost use Rattle.mte_tags.specs.Runs.{spliced, retagged};
+ghost use Rattle.mte_tags.specs.Runs.{with_bytes_run, with_granule_tags};
 
 use crate::finder::Finder;
 use mte_tags::{Attrs, copy_in};
@@ -98,7 +98,7 @@ impl Slot {
     pub(crate) fn copy_in(&mut self, at: u64, bytes: &[u8])
         requires { at % 4096 + length bytes.now ≤ 4096 }
         ensures { self.new
-            ≡ record self.old { bytes = spliced self.old.bytes (at % 4096) bytes.now } }
+            ≡ record self.old { bytes = with_bytes_run self.old.bytes (at % 4096) bytes.now } }
     {
         copy_in(&mut self.bytes, at, bytes);
     }
@@ -114,7 +114,8 @@ impl Slot {
         ensures long { length self.old.bytes ≡ 4096 }
         ensures page { self.new.page ≡ self.old.page }
         ensures attrs { self.new.attrs ≡ self.old.attrs }
-        ensures holds { page_of self.new ≡ retagged (page_of self.old) first count tag zero }
+        ensures holds { page_of self.new
+            ≡ with_granule_tags (page_of self.old) first count tag zero }
     {
         self.tags[first..first + count].fill(tag);
         if zero {

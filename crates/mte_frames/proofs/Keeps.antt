@@ -5,7 +5,7 @@ use Rattle.std.specs.List.{refill}
 use Rattle.std.specs.Prelude.{◌≢◌, IfSome}
 use Rattle.std.proofs.Common.{◌≡◌, ℕ, ◌<◌, List, length, get_or, slice_set, Option, Some, None, refl, sym, ap, ◌∙◌, inl, inr, get_or-set_same, get_or-set_other}
 use Rattle.mte_arena.specs.Frames.{Frame, make_frame, frame_at}
-use Rattle.mte_frames.specs.Pool.{Pool, make_pool, with_bytes_at_if, IsOut, KeepsOthers}
+use Rattle.mte_frames.specs.Pool.{Pool, make_pool, with_bytes_at_cases, IsHeldBy, KeepsOthers}
 use Rattle.mte_frames.proofs.Counts.{same_or_not, any_default}
 
 pub keeps_self : (q : ℕ) (p : Pool) → KeepsOthers q p p
@@ -35,7 +35,7 @@ keeps_counts q r t p = record {
 }
 
 -- a frame that is out under q is written
-pub keeps_written : (q f : ℕ) (c : Option Frame) (p : Pool) → IsOut p f q → KeepsOthers q p (make_pool p.capacities (slice_set p.frames f c) p.owners p.reserved p.taken)
+pub keeps_written : (q f : ℕ) (c : Option Frame) (p : Pool) → IsHeldBy p f q → KeepsOthers q p (make_pool p.capacities (slice_set p.frames f c) p.owners p.reserved p.taken)
 keeps_written q f c p out = record {
   count = length-set p.frames f c;
   counts = λ k n. (refl, refl);
@@ -44,7 +44,7 @@ keeps_written q f c p out = record {
 }
 
 -- the same where the bytes of the frame in f are written, if any
-pub keeps_written_if : (q : ℕ) (f : Option ℕ) (w : List ℕ) (p : Pool) → IfSome f (λ g. IsOut p g q) → KeepsOthers q p (with_bytes_at_if p f w)
+pub keeps_written_if : (q : ℕ) (f : Option ℕ) (w : List ℕ) (p : Pool) → IfSome f (λ g. IsHeldBy p g q) → KeepsOthers q p (with_bytes_at_cases p f w)
 keeps_written_if q None w p out = keeps_self q p
 keeps_written_if q (Some f) w p out = keeps_written q f (Some (make_frame (refill 4096 (frame_at p.frames f).bytes w) (frame_at p.frames f).tags)) p out
 

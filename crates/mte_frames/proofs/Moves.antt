@@ -4,8 +4,8 @@ use Rattle.std.specs.List.{refill}
 use Rattle.std.specs.Prelude.{◌≢◌, sum, get_or, slice_set}
 use Rattle.std.proofs.Common.{◌≡◌, ℕ, zero, suc, ◌+◌, ◌-◌, ◌<◌, ◌≤◌, List, [], ◌∷◌, ◌++◌, length, replicate, Option, Some, None, refl, sym, ap, ◌∙◌, subst, arith, inl, inr, get_or-set_same, get_or-set_other}
 use Rattle.address_map.specs.declared.limits.TheConstants.{MAX_FRAMES}
-use Rattle.mte_arena.specs.Frames.{Frame, IsLive, zero_frame, make_frame, frame_at, with_bytes_if}
-use Rattle.mte_frames.specs.Pool.{Pool, make_pool, unreserved, reserved_by, taken_by, IsOut, IsSound, is_owned, owned_by}
+use Rattle.mte_arena.specs.Frames.{Frame, IsLive, zero_frame, make_frame, frame_at, with_bytes_cases}
+use Rattle.mte_frames.specs.Pool.{Pool, make_pool, frames_left, reserved_by, taken_by, IsHeldBy, IsSound, is_owned, owned_by}
 use Rattle.mte_frames.specs.Whole.{times, vacant, pool_of, IsPool}
 use Rattle.mte_frames.specs.declared.pool.FramePool.TheInside.{Inside}
 use Rattle.mte_frames.proofs.Counts.{same_or_not, times-push, once, never, owned_by-set, owned_by-some, self_owned, owner_within, vacant_within, any_default, within_of, sum-set, sum-less, sum-zeros, vacant_none, zero_at, none_owned, none_at}
@@ -45,7 +45,7 @@ other_owned : (k q : ℕ) → k ≢ q → is_owned k None ≡ is_owned k (Some q
 other_owned k q d = sym (never k q d)
 
 module _ (p : Pool) (h : IsSound p) (q : ℕ) where
-  pub reserve_sound : (count : ℕ) → q < length p.reserved → reserved_by p q ≡ 0 → count ≤ unreserved p → IsSound (make_pool p.capacities p.frames p.owners (slice_set p.reserved q count) p.taken)
+  pub reserve_sound : (count : ℕ) → q < length p.reserved → reserved_by p q ≡ 0 → count ≤ frames_left p → IsSound (make_pool p.capacities p.frames p.owners (slice_set p.reserved q count) p.taken)
   reserve_sound count within unused fits = record {
     few = h.few;
     owners_len = h.owners_len;
@@ -91,7 +91,7 @@ module _ (p : Pool) (h : IsSound p) (q : ℕ) where
         ];
       }
 
-  module _ (f : ℕ) (out : IsOut p f q) where
+  module _ (f : ℕ) (out : IsHeldBy p f q) where
     held : f < length p.owners
     held = owner_within p.owners f q out
 
@@ -184,7 +184,7 @@ written_pool a f c h = let long = length-set a.arena f (Some c) in record {
 }
 
 -- the same where the bytes of the frame in f are written, if any
-pub written_pool_if : (a : Inside) (f : Option ℕ) (w : List ℕ) → IsPool a → IsPool (record a { arena = with_bytes_if a.arena f w })
+pub written_pool_if : (a : Inside) (f : Option ℕ) (w : List ℕ) → IsPool a → IsPool (record a { arena = with_bytes_cases a.arena f w })
 written_pool_if a None w h = h
 written_pool_if a (Some f) w h = written_pool a f (make_frame (refill 4096 (frame_at a.arena f).bytes w) (frame_at a.arena f).tags) h
 

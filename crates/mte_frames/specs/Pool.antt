@@ -1,19 +1,19 @@
 -- What a contract sees of a pool of frames: the arena's frames, the quota that each is out under,
 -- and what each quota has reserved and taken. A quota is known by its number; a number of which
 -- nothing is reserved is no quota's.
---     unreserved p          how many frames no quota has reserved
---     with_bytes_at p f ws  p with other bytes in the frame f
---     with_bytes_at_if p f ws  the same where f is an `Option`, and p at `None`
---     with_block_at p f ws  p with other bytes and tags in the frame f
---     IsOut p f q           the frame f is out under the quota q
---     IsTaken p f           the frame f is out under some quota
---     IsSound p             what holds of every pool
---     KeepsOthers q p n     from p to n all other quotas, and the frames out under them, stay
+--     frames_left p               how many frames no quota has reserved
+--     with_bytes_at p f ws        p with other bytes in the frame f
+--     with_bytes_at_cases p f ws  the same where f is an `Option`, and p at `None`
+--     with_block_at p f ws        p with other bytes and tags in the frame f
+--     IsHeldBy p f q              the frame f is out under the quota q
+--     IsTaken p f                 the frame f is out under some quota
+--     IsSound p                   what holds of every pool
+--     KeepsOthers q p n           from p to n all other quotas, and the frames out under them, stay
 use Rattle.std.specs.Prelude.{◌≡◌, ◌≢◌, ◌↔◌, ℕ, ◌+◌, ◌-◌, ◌≤◌, if◌then◌else◌, nat_eq, List, [], ◌∷◌}
 use Rattle.std.specs.Prelude.{length, sum, get_or, Option, Some, None}
 use Rattle.address_map.specs.declared.limits.TheConstants.{MAX_FRAMES}
 use Rattle.mte_arena.specs.Blocks.{with_block}
-use Rattle.mte_arena.specs.Frames.{Frame, IsLive, with_bytes, with_bytes_if}
+use Rattle.mte_arena.specs.Frames.{Frame, IsLive, with_bytes, with_bytes_cases}
 
 pub record Pool : Type 0 where
   pub frames : List (Option Frame)
@@ -33,17 +33,17 @@ with_bytes_at p f ws =
     make_pool p.capacities (with_bytes p.frames f ws) p.owners p.reserved p.taken
 
 -- the same of the frame in f, if any
-abbrev pub with_bytes_at_if : Pool → Option ℕ → List ℕ → Pool
-with_bytes_at_if p f ws =
-    make_pool p.capacities (with_bytes_if p.frames f ws) p.owners p.reserved p.taken
+abbrev pub with_bytes_at_cases : Pool → Option ℕ → List ℕ → Pool
+with_bytes_at_cases p f ws =
+    make_pool p.capacities (with_bytes_cases p.frames f ws) p.owners p.reserved p.taken
 
 -- the frame f with the bytes and tags of the block ws
 abbrev pub with_block_at : Pool → ℕ → List ℕ → Pool
 with_block_at p f ws =
     make_pool p.capacities (with_block p.frames f ws) p.owners p.reserved p.taken
 
-abbrev pub unreserved : Pool → ℕ
-unreserved p = length p.frames - sum p.reserved
+abbrev pub frames_left : Pool → ℕ
+frames_left p = length p.frames - sum p.reserved
 
 abbrev pub reserved_by : Pool → ℕ → ℕ
 reserved_by p q = get_or p.reserved q 0
@@ -51,11 +51,11 @@ reserved_by p q = get_or p.reserved q 0
 abbrev pub taken_by : Pool → ℕ → ℕ
 taken_by p q = get_or p.taken q 0
 
-abbrev pub IsOut : Pool → ℕ → ℕ → Type 0
-IsOut p f q = get_or p.owners f None ≡ Some q
+abbrev pub IsHeldBy : Pool → ℕ → ℕ → Type 0
+IsHeldBy p f q = get_or p.owners f None ≡ Some q
 
 abbrev pub IsTaken : Pool → ℕ → Type 0
-IsTaken p f = (q : ℕ) × IsOut p f q
+IsTaken p f = (q : ℕ) × IsHeldBy p f q
 
 -- 1 for a frame that is out under q
 abbrev pub is_owned : ℕ → Option ℕ → ℕ
@@ -78,7 +78,7 @@ pub record IsSound (p : Pool) : Type 0 where
   pub taken_within : (q : ℕ) → taken_by p q ≤ reserved_by p q
   pub taken_count : (q : ℕ) → taken_by p q ≡ owned_by q p.owners
   -- a frame that is out is present
-  pub live : (f q : ℕ) → IsOut p f q → IsLive p.frames f
+  pub live : (f q : ℕ) → IsHeldBy p f q → IsLive p.frames f
 
 pub record KeepsOthers (q : ℕ) (p n : Pool) : Type 0 where
   -- how many frames there are
@@ -86,6 +86,6 @@ pub record KeepsOthers (q : ℕ) (p n : Pool) : Type 0 where
   -- their counts
   pub counts : (k : ℕ) → k ≢ q → (reserved_by n k ≡ reserved_by p k) × (taken_by n k ≡ taken_by p k)
   -- which frames are out under them
-  pub out : (f k : ℕ) → k ≢ q → IsOut p f k ↔ IsOut n f k
+  pub out : (f k : ℕ) → k ≢ q → IsHeldBy p f k ↔ IsHeldBy n f k
   -- the bytes and tags of those
-  pub frames : (f k : ℕ) → k ≢ q → IsOut p f k → get_or n.frames f None ≡ get_or p.frames f None
+  pub frames : (f k : ℕ) → k ≢ q → IsHeldBy p f k → get_or n.frames f None ≡ get_or p.frames f None

@@ -5,12 +5,12 @@ ghost use Rattle.std.specs.Prelude.{length, replicate, get_or, slice_set, sum, I
 ghost use Rattle.std.specs.Prelude.{OnErr, IfSome, IsTrue, vec_capacity, option_map};
 ghost use Rattle.std.specs.Option.{option_copied_mut};
 ghost use Rattle.std.specs.Borrow.{sem};
-ghost use Rattle.mte_arena.specs.Frames.{frame_at, AreFrames, retagged, retagged_run};
+ghost use Rattle.mte_arena.specs.Frames.{frame_at, AreFrames, with_granule_tag, retagged_run};
 ghost use Rattle.mte_arena.specs.Frames.{zero_frame};
 ghost use Rattle.mte_arena.specs.Blocks.{frame_of};
-ghost use Rattle.mte_frames.specs.Pool.{Pool, make_pool, with_bytes_at, with_block_at, unreserved};
-ghost use Rattle.mte_frames.specs.Pool.{with_bytes_at_if};
-ghost use Rattle.mte_frames.specs.Pool.{reserved_by, taken_by, IsOut, IsTaken, IsSound};
+ghost use Rattle.mte_frames.specs.Pool.{Pool, make_pool, with_bytes_at, with_block_at, frames_left};
+ghost use Rattle.mte_frames.specs.Pool.{with_bytes_at_cases};
+ghost use Rattle.mte_frames.specs.Pool.{reserved_by, taken_by, IsHeldBy, IsTaken, IsSound};
 ghost use Rattle.mte_frames.specs.Pool.{KeepsOthers};
 
 use mte_arena::{Arena, BLOCK_BYTES, FRAME_BYTES, FRAME_GRANULES};
@@ -107,9 +107,17 @@ impl FramePool {
         self.arena.frames()
     }
 
+    /// Does nothing. Its contract recalls what holds of every pool, for a proof of the caller.
+    pub fn recall(&self)
+        ensures sized { AreFrames self.now.frames }
+        ensures sound { IsSound self.now }
+    {
+        let _ = self.frames();
+    }
+
     /// How many frames no quota has reserved.
     pub fn unreserved(&self) -> usize
-        ensures { result ≡ unreserved self.now }
+        ensures { result ≡ frames_left self.now }
     {
         self.unreserved
     }
@@ -136,7 +144,7 @@ impl FramePool {
 
     /// Whether the frame `f` is out under the quota.
     pub fn is_out(&self, quota: &Quota, f: usize) -> bool
-        ensures { IsTrue result ↔ IsOut self.now f quota.now }
+        ensures { IsTrue result ↔ IsHeldBy self.now f quota.now }
     {
         match self.owners.get(f) {
             Some(Some(number)) => *number == quota.number,
@@ -148,7 +156,7 @@ impl FramePool {
     /// unreserved.
     pub fn reserve(&mut self, count: usize) -> Result<Quota, NoFrames>
         requires { 0 < count }
-        ensures refused { IsErr result ↔ (unreserved self.old < count) }
+        ensures refused { IsErr result ↔ (frames_left self.old < count) }
         ensures err { OnErr result (self.new ≡ self.old) }
         ensures number { IfOk result
             (λ q. (q < length self.old.frames)
@@ -195,8 +203,8 @@ impl FramePool {
             ≡ make_pool self.old.capacities (slice_set self.old.frames result (Some zero_frame))
             (slice_set self.old.owners result (Some quota.old)) self.old.reserved
             (slice_set self.old.taken quota.old (taken_by self.old quota.old + 1)) }
-        ensures out { IsOut self.new result quota.old }
-        ensures still_out { (f k : ℕ) → IsOut self.old f k → IsOut self.new f k }
+        ensures out { IsHeldBy self.new result quota.old }
+        ensures still_out { (f k : ℕ) → IsHeldBy self.old f k → IsHeldBy self.new f k }
         ensures others { KeepsOthers quota.old self.old self.new }
     {
         let Some(f) = self.free.pop() else {
@@ -210,13 +218,13 @@ impl FramePool {
 
     /// Gives back the frame `f`, which is out under the quota. What else was out stays out.
     pub fn give(&mut self, quota: &mut Quota, f: usize)
-        requires { IsOut self.old f quota.old }
+        requires { IsHeldBy self.old f quota.old }
         ensures same { quota.new ≡ quota.old }
         ensures pool { self.new
             ≡ make_pool self.old.capacities self.old.frames (slice_set self.old.owners f None)
             self.old.reserved
             (slice_set self.old.taken quota.old (taken_by self.old quota.old - 1)) }
-        ensures still_out { (g k : ℕ) → g ≢ f → IsOut self.old g k → IsOut self.new g k }
+        ensures still_out { (g k : ℕ) → g ≢ f → IsHeldBy self.old g k → IsHeldBy self.new g k }
         ensures others { KeepsOthers quota.old self.old self.new }
     {
         self.owners[f] = None;
@@ -233,26 +241,26 @@ impl FramePool {
         self.arena.bytes(f)
     }
 
-    /// The same, to be written. The frame's tags and all other frames stay as they are.
+    /// The bytes of a frame, to be written. The frame's tags and all other frames stay as they are.
     pub fn data_mut(&mut self, f: usize) -> &mut [u8]
         requires { IsTaken self.old f }
         ensures* writes_back { sem 𝓛 (lends_bytes self.entry f result) }
         ensures others { (q : ℕ) (ws : List ℕ)
-            → IsOut self.old f q → KeepsOthers q self.old (with_bytes_at self.old f ws) }
+            → IsHeldBy self.old f q → KeepsOthers q self.old (with_bytes_at self.old f ws) }
         ensures value { result.now ≡ (frame_at self.old.frames f).bytes }
         ensures len { length result.now ≡ FRAME_BYTES }
     {
         self.arena.data_mut(f)
     }
 
-    /// The same of the frame in `f`, which is out. Where `f` is `None` nothing is lent, and the
-    /// pool stays as it is.
+    /// The bytes of the frame in `f`, which is out, to be written. If `f` is `None`, nothing is
+    /// lent, and the pool stays as it is.
     pub fn data_mut_if(&mut self, f: Option<usize>) -> Option<&mut [u8; FRAME_BYTES]>
         requires { IfSome f (λ g. IsTaken self.old g) }
         ensures* writes_back { sem 𝓛 (lends_bytes_if self.entry f result) }
         ensures others { (q : ℕ) (ws : List ℕ)
-            → IfSome f (λ g. IsOut self.old g q)
-            → KeepsOthers q self.old (with_bytes_at_if self.old f ws) }
+            → IfSome f (λ g. IsHeldBy self.old g q)
+            → KeepsOthers q self.old (with_bytes_at_cases self.old f ws) }
         ensures value { option_copied_mut result
             ≡ option_map (λ g. (frame_at self.old.frames g).bytes) f }
     {
@@ -265,7 +273,7 @@ impl FramePool {
         requires { IsTaken self.old f }
         ensures* writes_back { sem 𝓛 (lends_block self.entry f result) }
         ensures others { (q : ℕ) (ws : List ℕ)
-            → IsOut self.old f q → KeepsOthers q self.old (with_block_at self.old f ws) }
+            → IsHeldBy self.old f q → KeepsOthers q self.old (with_block_at self.old f ws) }
         ensures value { frame_of result.now ≡ frame_at self.old.frames f }
         ensures len { length result.now ≡ BLOCK_BYTES }
     {
@@ -289,9 +297,10 @@ impl FramePool {
         requires granule { g < FRAME_GRANULES }
         requires tag { tag < 16 }
         ensures pool { self.new
-            ≡ make_pool self.old.capacities (retagged self.old.frames f g tag) self.old.owners
+            ≡ make_pool self.old.capacities
+            (with_granule_tag self.old.frames f g tag) self.old.owners
             self.old.reserved self.old.taken }
-        ensures others { (q : ℕ) → IsOut self.old f q → KeepsOthers q self.old self.new }
+        ensures others { (q : ℕ) → IsHeldBy self.old f q → KeepsOthers q self.old self.new }
     {
         self.arena.set_tag(f, g, tag);
     }
@@ -306,7 +315,7 @@ impl FramePool {
         ensures pool { self.new
             ≡ make_pool self.old.capacities (retagged_run self.old.frames f first count tag)
             self.old.owners self.old.reserved self.old.taken }
-        ensures others { (q : ℕ) → IsOut self.old f q → KeepsOthers q self.old self.new }
+        ensures others { (q : ℕ) → IsHeldBy self.old f q → KeepsOthers q self.old self.new }
     {
         self.arena.set_tags(f, first, count, tag);
     }
@@ -320,7 +329,7 @@ pub fn others_are_kept()
     ensures on { (q : ℕ) (p n m : Pool)
         → KeepsOthers q p n → KeepsOthers q n m → KeepsOthers q p m }
     ensures lent { (q f : ℕ) (ws : List ℕ) (p : Pool)
-        → IsOut p f q
+        → IsHeldBy p f q
         → KeepsOthers q p (with_bytes_at p f ws) × KeepsOthers q p (with_block_at p f ws) }
 {}
 

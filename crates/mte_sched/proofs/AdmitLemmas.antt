@@ -9,25 +9,21 @@ use Rattle.std.proofs.lemmas.Bool.{eq-eqb}
 use Rattle.std.proofs.lemmas.List.{map-append}
 use Rattle.std.proofs.lemmas.List.Sums.{sum_by-append, sum_by-cons}
 use Rattle.std.proofs.lemmas.List.Elements.{All-weaker}
-use Rattle.mte_tags.specs.Memory.{Memory}
 use Rattle.mte_frames.specs.Pool.{Pool, KeepsOthers, reserved_by}
 use Rattle.mte_translate.specs.declared.translation.Translation.{Translation}
 use Rattle.mte_space.specs.Spaces.{NoneEnters}
-use Rattle.scudo_heap.specs.Heaps.{empty_heap}
-use Rattle.scudo_heap.specs.Served.{IsServed}
 use Rattle.mte_svc.specs.declared.parts.TenantParts.{TenantParts}
-use Rattle.mte_sched.specs.declared.place.Place.{Place}
+use Rattle.mte_sched.specs.declared.place.TenantMemory.{TenantMemory}
 use Rattle.mte_sched.specs.declared.tenant.Tenant as code
 use Rattle.mte_sched.specs.declared.tenant.Live.{Live}
 use Rattle.mte_sched.specs.declared.tenant.Holding.TheVariants as kept
-use Rattle.mte_sched.specs.Machines.{Terms, first_parts, first_memory, start_of}
-use Rattle.mte_sched.specs.Ledger.{charge_in, charge_of, has_id, is_live}
+use Rattle.mte_tenant.specs.Machines.{Terms, first_parts, first_memory, start_of}
+use Rattle.mte_tenant.specs.Ledger.{charge_of_entry, charge_of, has_id, is_live}
 use Rattle.mte_sched.specs.Contents.{new_tenant}
 use Rattle.mte_sched.specs.Places.{memory_at, IsPlaced}
-use Rattle.mte_sched.specs.Ready.{IsReady}
+use Rattle.mte_tenant.specs.Ready.{IsReady}
 use Rattle.mte_sched.specs.Tenants.{record_in, tenant_in, tenants_in, entry_in, entries_in}
 use Rattle.mte_sched.specs.Sharing.{is_placed, LiesAt, IsSharing}
-use Rattle.mte_sched.proofs.TenantLemmas.{heap_at_first, tag_at_first}
 use Rattle.mte_sched.proofs.PlaceLists.{has_more, some_same, map_same}
 use Rattle.mte_sched.proofs.EachLemmas.{or_left, or_right}
 use Rattle.mte_sched.proofs.TurnLemmas.{live_same}
@@ -49,7 +45,7 @@ fresh_number id (t ∷ ts) zero u none at = λ e.
     let z : true ≡ false = sym yes ∙ no in cc
 fresh_number id (t ∷ ts) (suc j) u none at = fresh_number id ts j u (or_right ((record_in t).id == id) _ none) at
 
-module _ (p n : Pool) (us vs : List Translation) (ts : List code.Tenant) (id : ℕ) (b : Place) (parts : Box TenantParts Global) (pages : ℕ)
+module _ (p n : Pool) (us vs : List Translation) (ts : List code.Tenant) (id : ℕ) (b : TenantMemory) (parts : Box TenantParts Global) (pages : ℕ)
     (sharing : IsSharing p us ts) (placed : IsPlaced n vs (length ts) pages b) (unused : reserved_by p b.quota ≡ 0)
     (others : KeepsOthers b.quota p n) (entries : NoneEnters (length ts) us vs) where
   abbrev pub entered : code.Tenant
@@ -72,18 +68,18 @@ module _ (p n : Pool) (us vs : List Translation) (ts : List code.Tenant) (id : �
   pub entered_count : count_by is_live (entries_in (ts ++ entered ∷ [])) ≡ count_by is_live (entries_in ts) + 1
   entered_count = ap (count_by is_live) (map-append entry_in ts (entered ∷ [])) ∙ sum_by-append (λ e. cond (is_live e) 1 0) (entries_in ts) (entry_in entered ∷ [])
 
-  module _ (ready : IsReady parts.value (memory_at n b pages)) (reserved : sum n.reserved ≡ sum p.reserved + charge_of pages) (number : parts.value.account.id ≡ id)
+  module _ (ready : IsReady parts.value (memory_at n b pages)) (reserved : sum n.reserved ≡ sum p.reserved + charge_of pages) (number : parts.value.log.id ≡ id)
       (fresh : list_any (has_id id) (entries_in ts) ≡ false) where
     own : (c : Live) → entered.holding ≡ kept.Live c → (c.place.quota ≡ b.quota) × IsPlaced n vs (length ts) entered.pages c.place × IsReady c.parts.value (memory_at n c.place entered.pages)
     own c e =
         subst (λ (z : Live). (z.place.quota ≡ b.quota) × IsPlaced n vs (length ts) pages z.place × IsReady z.parts.value (memory_at n z.place pages)) (live_same (record { parts = parts; place = b }) c e) (refl, placed, ready)
 
-    sums : sum_by charge_in (entries_in (ts ++ entered ∷ [])) ≡ sum_by charge_in (entries_in ts) + charge_of pages
+    sums : sum_by charge_of_entry (entries_in (ts ++ entered ∷ [])) ≡ sum_by charge_of_entry (entries_in ts) + charge_of pages
     sums =
-        let more : sum_by charge_in (entries_in (ts ++ entered ∷ [])) ≡ sum_by charge_in (entries_in ts) + sum_by charge_in (entry_in entered ∷ []) =
-        ap (sum_by charge_in) (map-append entry_in ts (entered ∷ [])) ∙ sum_by-append charge_in (entries_in ts) (entry_in entered ∷ []) in
-        let one : sum_by charge_in (entry_in entered ∷ []) ≡ charge_of pages + sum_by charge_in [] = sum_by-cons charge_in (entry_in entered) [] in
-        let none : sum_by charge_in [] ≡ 0 = refl in
+        let more : sum_by charge_of_entry (entries_in (ts ++ entered ∷ [])) ≡ sum_by charge_of_entry (entries_in ts) + sum_by charge_of_entry (entry_in entered ∷ []) =
+        ap (sum_by charge_of_entry) (map-append entry_in ts (entered ∷ [])) ∙ sum_by-append charge_of_entry (entries_in ts) (entry_in entered ∷ []) in
+        let one : sum_by charge_of_entry (entry_in entered ∷ []) ≡ charge_of pages + sum_by charge_of_entry [] = sum_by-cons charge_of_entry (entry_in entered) [] in
+        let none : sum_by charge_of_entry [] ≡ 0 = refl in
         omega (arith, more, one, none)
 
     pub entered_sharing : IsSharing n vs (ts ++ entered ∷ [])
@@ -96,17 +92,11 @@ module _ (p n : Pool) (us vs : List Translation) (ts : List code.Tenant) (id : �
 
 -- ---- the first machine
 
-pub first_ready : (id : ℕ) (terms : Terms) (parts : TenantParts) (m : Memory) → parts ≡ first_parts id terms → IsServed m (empty_heap (terms.seed / 2 ^ 32) terms.pages) → IsReady parts m
-first_ready id terms parts m e served = record {
-  heap = subst (λ h. IsServed m h) (sym (ap (λ (q : TenantParts). q.heap) e ∙ heap_at_first id terms)) served;
-  tag = subst (λ (q : TenantParts). q.regs.rgsr.tag < 16) (sym e) (tag_at_first id terms);
-}
-
-pub first_number : (id : ℕ) (terms : Terms) (parts : TenantParts) → parts ≡ first_parts id terms → parts.account.id ≡ id
+pub first_number : (id : ℕ) (terms : Terms) (parts : TenantParts) → parts ≡ first_parts id terms → parts.log.id ≡ id
 unfolding first_parts
-first_number id terms parts e = ap (λ (q : TenantParts). q.account.id) e
+first_number id terms parts e = ap (λ (q : TenantParts). q.log.id) e
 
-pub first_tenant : (n : Pool) (id : ℕ) (terms : Terms) (parts : Box TenantParts Global) (b : Place) → parts.value ≡ first_parts id terms → memory_at n b terms.pages ≡ first_memory terms.image terms.pages terms.mode
+pub first_tenant : (n : Pool) (id : ℕ) (terms : Terms) (parts : Box TenantParts Global) (b : TenantMemory) → parts.value ≡ first_parts id terms → memory_at n b terms.pages ≡ first_memory terms.image terms.pages terms.mode
     → tenant_in n (record { pages = terms.pages; holding = kept.Live (record { parts = parts; place = b }) }) ≡ new_tenant id terms
 unfolding start_of first_parts
 first_tenant n id terms parts b e memory = rw (e, memory) refl

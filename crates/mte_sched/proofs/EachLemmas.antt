@@ -7,12 +7,12 @@ use Rattle.mte_frames.specs.Pool.{Pool}
 use Rattle.mte_sched.specs.declared.tenant.Tenant as code
 use Rattle.mte_sched.specs.declared.tenant.Holding.{Holding}
 use Rattle.mte_sched.specs.declared.tenant.Holding.TheVariants as kept
-use Rattle.mte_sched.specs.Ledger.{Entry, has_id, has_live_id}
+use Rattle.mte_tenant.specs.Ledger.{LedgerEntry, has_id, has_live_id}
 use Rattle.mte_svc.specs.declared.record.Record.{Record}
 use Rattle.mte_sched.specs.Contents.{Tenant, entry_of, lives_on, record_of}
 use Rattle.mte_sched.specs.Isolation.{tenant_among}
-use Rattle.mte_sched.specs.Views.{record_among, found_by, found_among}
-use Rattle.mte_sched.specs.Tenants.{held_by, record_by, is_live_by, record_in, tenant_in, tenants_in, entry_in, entries_in}
+use Rattle.mte_sched.specs.Views.{record_among, find_page_cases, found_among}
+use Rattle.mte_sched.specs.Tenants.{state_of_holding, record_of_holding, is_live_holding, record_in, tenant_in, tenants_in, entry_in, entries_in}
 use Rattle.mte_sched.specs.Sharing.{HasLiveAt}
 use Rattle.mte_sched.proofs.PlaceLists.{some_same}
 
@@ -24,7 +24,7 @@ pub or_right : (a b : Bool) → (a || b) ≡ false → b ≡ false
 or_right true b e = absurd cc
 or_right false b e = e
 
-tenant_record : (p : Pool) (pages : ℕ) (h : Holding) → record_of (held_by p pages h) ≡ record_by h
+tenant_record : (p : Pool) (pages : ℕ) (h : Holding) → record_of (state_of_holding p pages h) ≡ record_of_holding h
 tenant_record p pages (kept.Live l) = refl
 tenant_record p pages (kept.Gone r) = refl
 
@@ -63,15 +63,15 @@ pub record_none : (p : Pool) (id : ℕ) (ts : List code.Tenant) → list_any (ha
 record_none p id = first_none id (λ ts. record_among id (tenants_in p ts)) (λ t. Some (record_in t)) (record_step p id) refl
 
 pub found_at : (p : Pool) (id q : ℕ) (ts : List code.Tenant) (i : ℕ) (t : code.Tenant) → slice_get ts i ≡ Some t → (record_in t).id ≡ id
-    → ((j : ℕ) (u : code.Tenant) → slice_get ts j ≡ Some u → (record_in u).id ≡ id → j ≡ i) → found_among p id q ts ≡ found_by p q t.holding
-found_at p id q = first_at id (found_among p id q) (λ t. found_by p q t.holding) (λ t ts. refl)
+    → ((j : ℕ) (u : code.Tenant) → slice_get ts j ≡ Some u → (record_in u).id ≡ id → j ≡ i) → found_among p id q ts ≡ find_page_cases p q t.holding
+found_at p id q = first_at id (found_among p id q) (λ t. find_page_cases p q t.holding) (λ t ts. refl)
 
 pub found_none : (p : Pool) (id q : ℕ) (ts : List code.Tenant) → list_any (has_id id) (entries_in ts) ≡ false → found_among p id q ts ≡ None
-found_none p id q = first_none id (found_among p id q) (λ t. found_by p q t.holding) (λ t ts. refl) refl
+found_none p id q = first_none id (found_among p id q) (λ t. find_page_cases p q t.holding) (λ t ts. refl) refl
 
 -- ---- entries
 
-lives_by : (p : Pool) (pages : ℕ) (h : Holding) → lives_on (held_by p pages h) ≡ is_live_by h
+lives_by : (p : Pool) (pages : ℕ) (h : Holding) → lives_on (state_of_holding p pages h) ≡ is_live_holding h
 lives_by p pages (kept.Live l) = refl
 lives_by p pages (kept.Gone r) = refl
 
@@ -79,7 +79,7 @@ lives_by p pages (kept.Gone r) = refl
 pub ledger_is : (p : Pool) (ts : List code.Tenant) → map entry_of (tenants_in p ts) ≡ entries_in ts
 ledger_is p [] = refl
 ledger_is p (t ∷ ts) =
-    ap (λ b. (let e : Entry = record { id = (record_in t).id; pages = t.pages; live = b } in e) ∷ map entry_of (tenants_in p ts)) (lives_by p t.pages t.holding)
+    ap (λ b. (let e : LedgerEntry = record { id = (record_in t).id; pages = t.pages; live = b } in e) ∷ map entry_of (tenants_in p ts)) (lives_by p t.pages t.holding)
     ∙ ap (λ l. entry_in t ∷ l) (ledger_is p ts)
 
 or_true : (a b : Bool) → b ≡ true → (a || b) ≡ true

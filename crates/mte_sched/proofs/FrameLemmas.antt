@@ -7,7 +7,7 @@ use Rattle.std.specs.List.{slice_get}
 use Rattle.std.proofs.lemmas.Bool.{eqb-true}
 use Rattle.mte_tags.specs.Memory.{Page}
 use Rattle.mte_tags.specs.declared.attrs.Attrs.{Attrs}
-use Rattle.mte_frames.specs.Pool.{Pool, IsOut}
+use Rattle.mte_frames.specs.Pool.{Pool, IsHeldBy}
 use Rattle.mte_translate.specs.Tables.{pages_of}
 use Rattle.mte_translate.specs.declared.translation.Translation.{Translation}
 use Rattle.mte_translate.proofs.KeptTables.{page-frame}
@@ -17,15 +17,15 @@ use Rattle.mte_sched.specs.declared.tenant.Tenant as code
 use Rattle.mte_sched.specs.declared.tenant.Live.{Live}
 use Rattle.mte_sched.specs.declared.tenant.Holding.{Holding}
 use Rattle.mte_sched.specs.declared.tenant.Holding.TheVariants as kept
-use Rattle.mte_sched.specs.Tenants.{held_by, record_in, tenants_in}
+use Rattle.mte_sched.specs.Tenants.{state_of_holding, record_in, tenants_in}
 use Rattle.mte_sched.specs.Sharing.{LiesAt, IsSharing}
-use Rattle.mte_sched.specs.Views.{page_held, page_among, found_by, found_among, HasSomeTable, Holds}
+use Rattle.mte_sched.specs.Views.{page_held, page_among, find_page_cases, found_among, HasSomeTable, Holds}
 use Rattle.mte_sched.proofs.PlaceLists.{some_same}
 use Rattle.mte_sched.proofs.TurnLemmas.{live_same}
 
 -- ---- the page
 
-page_by : (p : Pool) (q pages : ℕ) (o : Holding) → page_held q (held_by p pages o) ≡ option_map (page_of p) (found_by p q o)
+page_by : (p : Pool) (q pages : ℕ) (o : Holding) → page_held q (state_of_holding p pages o) ≡ option_map (page_of p) (find_page_cases p q o)
 page_by p q pages (kept.Gone r) = refl
 page_by p q pages (kept.Live a) = page_at-space p a.place.table pages a.place.state q
 
@@ -37,7 +37,7 @@ page_if false p own others x rest e f = f
 pub pages_found : (p : Pool) (id q : ℕ) (ts : List code.Tenant) → page_among id q (tenants_in p ts) ≡ option_map (page_of p) (found_among p id q ts)
 pages_found p id q [] = refl
 pages_found p id q (t ∷ ts) =
-    page_if ((record_in t).id == id) p _ (page_among id q (tenants_in p ts)) (found_by p q t.holding) (found_among p id q ts)
+    page_if ((record_in t).id == id) p _ (page_among id q (tenants_in p ts)) (find_page_cases p q t.holding) (found_among p id q ts)
     (page_by p q t.pages t.holding) (pages_found p id q ts)
 
 -- ---- whose it is
@@ -50,7 +50,7 @@ pub record Found (p : Pool) (id q : ℕ) (ts : List code.Tenant) (x : ℕ × Att
   pub number : (record_in tenant).id ≡ id
   pub mapped : get (pages_of p live.place.table.frame) q ≡ Some x
 
-found_here : (p : Pool) (id q : ℕ) (ts : List code.Tenant) (t : code.Tenant) (x : ℕ × Attrs) (o : Holding) → t.holding ≡ o → (record_in t).id ≡ id → found_by p q o ≡ Some x → Found p id q (t ∷ ts) x
+found_here : (p : Pool) (id q : ℕ) (ts : List code.Tenant) (t : code.Tenant) (x : ℕ × Attrs) (o : Holding) → t.holding ≡ o → (record_in t).id ≡ id → find_page_cases p q o ≡ Some x → Found p id q (t ∷ ts) x
 found_here p id q ts t x (kept.Gone r) is same e = absurd cc
 found_here p id q ts t x (kept.Live a) is same e = record { at = 0; tenant = t; live = a; lies = record { tenant = refl; live = is }; number = same; mapped = e }
 
@@ -58,7 +58,7 @@ found_next : (p : Pool) (id q : ℕ) (ts : List code.Tenant) (t : code.Tenant) (
 found_next p id q ts t x f = record { at = suc f.at; tenant = f.tenant; live = f.live; lies = record { tenant = f.lies.tenant; live = f.lies.live }; number = f.number; mapped = f.mapped }
 
 found_in : (b : Bool) (p : Pool) (id q : ℕ) (ts : List code.Tenant) (t : code.Tenant) (x : ℕ × Attrs) → ((record_in t).id == id) ≡ b → (found_among p id q ts ≡ Some x → Found p id q ts x)
-    → (if b then found_by p q t.holding else found_among p id q ts) ≡ Some x → Found p id q (t ∷ ts) x
+    → (if b then find_page_cases p q t.holding else found_among p id q ts) ≡ Some x → Found p id q (t ∷ ts) x
 found_in true p id q ts t x same rest e = found_here p id q ts t x t.holding refl (eqb-true (record_in t).id id same) e
 found_in false p id q ts t x same rest e = found_next p id q ts t x (rest e)
 
@@ -71,7 +71,7 @@ module _ (p : Pool) (us : List Translation) (ts : List code.Tenant) (sharing : I
   some_table i t (kept.Gone r) at e = tt
   some_table i t (kept.Live a) at e = (a.place.quota, (sharing.placed i t a (record { tenant = at; live = e })).space.table)
 
-  out_of : (id q f : ℕ) (a : Attrs) (x : Found p id q ts (f, a)) → IsOut p f x.live.place.quota
+  out_of : (id q f : ℕ) (a : Attrs) (x : Found p id q ts (f, a)) → IsHeldBy p f x.live.place.quota
   out_of id q f a x = (page-frame p x.live.place.quota q f a x.live.place.table (sharing.placed x.at x.tenant x.live x.lies).space.table x.mapped).1
 
   -- The tables of live tenants are whole.

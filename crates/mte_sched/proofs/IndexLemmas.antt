@@ -11,8 +11,8 @@ use Rattle.std.proofs.lemmas.Option.{slice_get_within, slice_get_past, slice_get
 use Rattle.mte_frames.specs.Pool.{Pool}
 use Rattle.mte_sched.specs.declared.index.TheConstants.{NUMBERS}
 use Rattle.mte_sched.specs.declared.tenant.Tenant as code
-use Rattle.mte_sched.specs.Ledger.{Entry, has_id, ended, numbers_of}
-use Rattle.mte_sched.specs.Contents.{entry_of, tenant_sliced, tenant_stopped}
+use Rattle.mte_tenant.specs.Ledger.{LedgerEntry, has_id, without_live, numbers_of}
+use Rattle.mte_sched.specs.Contents.{entry_of, tenant_after_slice, tenant_after_stop}
 use Rattle.mte_sched.specs.Tenants.{record_in, tenants_in, entry_in, entries_in}
 use Rattle.mte_sched.specs.Sharing.{HasId, IsIndexed}
 use Rattle.mte_sched.proofs.PlaceLists.{some_same, get-set-same, get-set-other, get-last, get-before}
@@ -21,18 +21,18 @@ use Rattle.mte_sched.proofs.IsolationLemmas.{ledger_sliced, ledger_stopped}
 
 -- ---- a tenant that passes a test
 
-pub record Passing (f : Entry → Bool) (ts : List code.Tenant) : Type 0 where
+pub record Passing (f : LedgerEntry → Bool) (ts : List code.Tenant) : Type 0 where
   pub at : ℕ
   pub tenant : code.Tenant
   pub stands : slice_get ts at ≡ Some tenant
   pub passes : f (entry_in tenant) ≡ true
 
-passing_in : (b : Bool) (f : Entry → Bool) (t : code.Tenant) (ts : List code.Tenant) → f (entry_in t) ≡ b → (list_any f (entries_in ts) ≡ true → Passing f ts)
+passing_in : (b : Bool) (f : LedgerEntry → Bool) (t : code.Tenant) (ts : List code.Tenant) → f (entry_in t) ≡ b → (list_any f (entries_in ts) ≡ true → Passing f ts)
     → (b || list_any f (entries_in ts)) ≡ true → Passing f (t ∷ ts)
 passing_in true f t ts same rest e = record { at = 0; tenant = t; stands = refl; passes = same }
 passing_in false f t ts same rest e = let x = rest e in record { at = suc x.at; tenant = x.tenant; stands = x.stands; passes = x.passes }
 
-passing : (f : Entry → Bool) (ts : List code.Tenant) → list_any f (entries_in ts) ≡ true → Passing f ts
+passing : (f : LedgerEntry → Bool) (ts : List code.Tenant) → list_any f (entries_in ts) ≡ true → Passing f ts
 passing f [] e = absurd cc
 passing f (t ∷ ts) e = passing_in (f (entry_in t)) f t ts refl (λ h. passing f ts h) e
 
@@ -42,10 +42,10 @@ not_true false h = refl
 
 number_at : (ts : List code.Tenant) (i : ℕ) (t : code.Tenant) → slice_get ts i ≡ Some t → slice_get (numbers_of (entries_in ts)) i ≡ Some (record_in t).id
 number_at ts i t at =
-    slice_get-map (λ (e : Entry). e.id) (entries_in ts) i ∙ ap (option_map (λ (e : Entry). e.id)) (slice_get-map entry_in ts i ∙ ap (option_map entry_in) at)
+    slice_get-map (λ (e : LedgerEntry). e.id) (entries_in ts) i ∙ ap (option_map (λ (e : LedgerEntry). e.id)) (slice_get-map entry_in ts i ∙ ap (option_map entry_in) at)
 
 -- A test that only a tenant with the number passes, and that the one at its position doesn't pass.
-pub none_at : (positions : List ℕ) (ts : List code.Tenant) (id : ℕ) (f : Entry → Bool) → IsIndexed positions (numbers_of (entries_in ts)) → ((e : Entry) → f e ≡ true → e.id ≡ id)
+pub none_at : (positions : List ℕ) (ts : List code.Tenant) (id : ℕ) (f : LedgerEntry → Bool) → IsIndexed positions (numbers_of (entries_in ts)) → ((e : LedgerEntry) → f e ≡ true → e.id ≡ id)
     → ((t : code.Tenant) → slice_get ts (get_or positions id 0) ≡ Some t → f (entry_in t) ≡ false) → list_any f (entries_in ts) ≡ false
 none_at positions ts id f indexed own here = not_true (list_any f (entries_in ts)) (λ any.
     let x = passing f ts any in
@@ -58,7 +58,7 @@ pub lent_at : {X : Type 0} (xs : List X) (i : ℕ) (r : Option (Bor X)) → IsIt
 lent_at xs i None h = sym (slice_get_past xs i h.3)
 lent_at xs i (Some b) h = sym (slice_get_read xs (length xs) i b.now refl h.3.0 h.1)
 
-module _ (positions : List ℕ) (ts : List code.Tenant) (id : ℕ) (f : Entry → Bool) (indexed : IsIndexed positions (numbers_of (entries_in ts))) (own : (e : Entry) → f e ≡ true → e.id ≡ id)
+module _ (positions : List ℕ) (ts : List code.Tenant) (id : ℕ) (f : LedgerEntry → Bool) (indexed : IsIndexed positions (numbers_of (entries_in ts))) (own : (e : LedgerEntry) → f e ≡ true → e.id ≡ id)
     (i : ℕ) (position : i ≡ get_or positions id 0) where
   pub none_past : IsItemAt {X = code.Tenant} ts i None → list_any f (entries_in ts) ≡ false
   none_past h = none_at positions ts id f indexed own (λ t at.
@@ -130,7 +130,7 @@ few positions ids h =
 module _ (positions : List ℕ) (ts : List code.Tenant) (id : ℕ) (indexed : IsIndexed positions (numbers_of (entries_in ts))) (within : id < NUMBERS)
     (none : list_any (has_id id) (entries_in ts) ≡ false) where
   many : length (numbers_of (entries_in ts)) ≡ length ts
-  many = length-map (entries_in ts) (λ (e : Entry). e.id) ∙ length-map ts entry_in
+  many = length-map (entries_in ts) (λ (e : LedgerEntry). e.id) ∙ length-map ts entry_in
 
   more : IsIndexed (slice_set positions id (length ts)) (numbers_of (entries_in ts) ++ id ∷ [])
   more = subst (λ k. IsIndexed (slice_set positions id k) (numbers_of (entries_in ts) ++ id ∷ [])) many (more_index positions (numbers_of (entries_in ts)) id indexed within (fresh_at id ts none))
@@ -151,17 +151,17 @@ module _ (positions : List ℕ) (ts : List code.Tenant) (id : ℕ) (indexed : Is
 
 -- ---- a slice and a stop
 
-pub sliced_entries : (p n : Pool) (ts us : List code.Tenant) (id steps : ℕ) → tenants_in n us ≡ map (tenant_sliced id steps) (tenants_in p ts) → entries_in us ≡ entries_in ts
+pub sliced_entries : (p n : Pool) (ts us : List code.Tenant) (id steps : ℕ) → tenants_in n us ≡ map (tenant_after_slice id steps) (tenants_in p ts) → entries_in us ≡ entries_in ts
 sliced_entries p n ts us id steps e = sym (ledger_is n us) ∙ ap (map entry_of) e ∙ ledger_sliced id steps (tenants_in p ts) ∙ ledger_is p ts
 
-ended_number : (b : Bool) (e : Entry) → (if b then (let u : Entry = record e { live = false } in u) else e).id ≡ e.id
+ended_number : (b : Bool) (e : LedgerEntry) → (if b then (let u : LedgerEntry = record e { live = false } in u) else e).id ≡ e.id
 ended_number true e = refl
 ended_number false e = refl
 
-ended_numbers : (id : ℕ) (es : List Entry) → numbers_of (map (ended id) es) ≡ numbers_of es
+ended_numbers : (id : ℕ) (es : List LedgerEntry) → numbers_of (map (without_live id) es) ≡ numbers_of es
 ended_numbers id [] = refl
-ended_numbers id (e ∷ es) = ap (λ k. k ∷ numbers_of (map (ended id) es)) (ended_number (e.id == id) e) ∙ ap (λ l. e.id ∷ l) (ended_numbers id es)
+ended_numbers id (e ∷ es) = ap (λ k. k ∷ numbers_of (map (without_live id) es)) (ended_number (e.id == id) e) ∙ ap (λ l. e.id ∷ l) (ended_numbers id es)
 
-pub stopped_numbers : (p n : Pool) (ts us : List code.Tenant) (id : ℕ) → tenants_in n us ≡ map (tenant_stopped id) (tenants_in p ts) → numbers_of (entries_in us) ≡ numbers_of (entries_in ts)
+pub stopped_numbers : (p n : Pool) (ts us : List code.Tenant) (id : ℕ) → tenants_in n us ≡ map (tenant_after_stop id) (tenants_in p ts) → numbers_of (entries_in us) ≡ numbers_of (entries_in ts)
 stopped_numbers p n ts us id e =
-    ap numbers_of (sym (ledger_is n us) ∙ ap (map entry_of) e ∙ ledger_stopped id (tenants_in p ts) ∙ ap (map (ended id)) (ledger_is p ts)) ∙ ended_numbers id (entries_in ts)
+    ap numbers_of (sym (ledger_is n us) ∙ ap (map entry_of) e ∙ ledger_stopped id (tenants_in p ts) ∙ ap (map (without_live id)) (ledger_is p ts)) ∙ ended_numbers id (entries_in ts)

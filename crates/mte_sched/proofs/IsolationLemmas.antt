@@ -1,43 +1,43 @@
 -- A host's content after calls is its tenants alone, and those that the calls admit.
 use Rattle.std.proofs.Common.{◌≡◌, ℕ, ◌==◌, Bool, true, false, List, [], ◌∷◌, ◌++◌, map}
 use Rattle.std.proofs.Common.{Option, Some, None, if◌then◌else◌, refl, ap, sym, ◌∙◌}
-use Rattle.mte_sched.specs.Ledger.{Call, Admit, Slice, Stop, Entry, call_refusal, ended, entered_by}
-use Rattle.mte_sched.specs.Lives.{Own, Sliced, Halted, Life, own_by, own_events}
-use Rattle.mte_sched.specs.Lives.{life_by, lives_from, lives, life_among}
-use Rattle.mte_sched.specs.Contents.{Held, Live, Gone, lives_on, held_sliced, held_stopped, alone}
-use Rattle.mte_sched.specs.Contents.{Tenant, Content, entry_of, ledger_of, tenant_sliced}
-use Rattle.mte_sched.specs.Contents.{tenant_stopped, admitted, sliced, stopped, after_call, after_by, played}
+use Rattle.mte_tenant.specs.Ledger.{Call, Admit, Slice, Stop, LedgerEntry, call_refusal, without_live, ledger_cases}
+use Rattle.mte_sched.specs.Lives.{TenantEvent, OwnSlice, OwnStop, Life, own_event_cases, own_events}
+use Rattle.mte_sched.specs.Lives.{life_cases, lives_from, lives, life_among}
+use Rattle.mte_sched.specs.Contents.{TenantState, Live, Gone, lives_on, state_after_slice, state_after_stop, after_own_events}
+use Rattle.mte_sched.specs.Contents.{Tenant, Content, entry_of, ledger_of, tenant_after_slice}
+use Rattle.mte_sched.specs.Contents.{tenant_after_stop, after_admit, after_slice_of, after_stop_of, after_call, after_call_cases, after_calls}
 use Rattle.mte_sched.specs.Contents.{empty, tenant_of, new_tenant}
 use Rattle.mte_sched.specs.Isolation.{LedgerFollows, TenantsAreAlone, TenantsAreIsolated, tenant_among}
-use Rattle.mte_sched.specs.declared.refusal.Refusal.{Refusal}
+use Rattle.mte_tenant.specs.declared.refusal.Refusal.{Refusal}
 
 -- a tenant after its own events among more
-abbrev pub grown : ℕ → List Entry → List Call → Tenant → Tenant
-grown frames ledger events t = record t { held = alone t.held (own_events frames ledger events t.id) }
+abbrev pub grown : ℕ → List LedgerEntry → List Call → Tenant → Tenant
+grown frames ledger events t = record t { held = after_own_events t.held (own_events frames ledger events t.id) }
 
-pub sliced_is_live : (n : ℕ) (h : Held) → lives_on (held_sliced n h) ≡ lives_on h
+pub sliced_is_live : (n : ℕ) (h : TenantState) → lives_on (state_after_slice n h) ≡ lives_on h
 sliced_is_live n (Live m) = refl
 sliced_is_live n (Gone r) = refl
 
-pub entry_sliced : (id n : ℕ) (b : Bool) (t : Tenant) → (let u : Tenant = record t { held = if b then held_sliced n t.held else t.held } in entry_of u) ≡ entry_of t
-entry_sliced id n true t = ap (λ (l : Bool). let e : Entry = record { id = t.id; pages = t.pages; live = l } in e) (sliced_is_live n t.held)
+pub entry_sliced : (id n : ℕ) (b : Bool) (t : Tenant) → (let u : Tenant = record t { held = if b then state_after_slice n t.held else t.held } in entry_of u) ≡ entry_of t
+entry_sliced id n true t = ap (λ (l : Bool). let e : LedgerEntry = record { id = t.id; pages = t.pages; live = l } in e) (sliced_is_live n t.held)
 entry_sliced id n false t = refl
 
-pub ledger_sliced : (id n : ℕ) (ts : List Tenant) → map entry_of (map (tenant_sliced id n) ts) ≡ map entry_of ts
+pub ledger_sliced : (id n : ℕ) (ts : List Tenant) → map entry_of (map (tenant_after_slice id n) ts) ≡ map entry_of ts
 ledger_sliced id n [] = refl
 ledger_sliced id n (t ∷ ts) = rw (entry_sliced id n (t.id == id) t, ledger_sliced id n ts) refl
 
-pub stopped_is_live : (h : Held) → lives_on (held_stopped h) ≡ false
+pub stopped_is_live : (h : TenantState) → lives_on (state_after_stop h) ≡ false
 stopped_is_live (Live m) = refl
 stopped_is_live (Gone r) = refl
 
 pub entry_stopped : (b : Bool) (t : Tenant)
-    → (let u : Tenant = record t { held = if b then held_stopped t.held else t.held } in entry_of u)
-    ≡ (if b then (let e : Entry = record { id = t.id; pages = t.pages; live = false } in e) else entry_of t)
-entry_stopped true t = ap (λ (l : Bool). let e : Entry = record { id = t.id; pages = t.pages; live = l } in e) (stopped_is_live t.held)
+    → (let u : Tenant = record t { held = if b then state_after_stop t.held else t.held } in entry_of u)
+    ≡ (if b then (let e : LedgerEntry = record { id = t.id; pages = t.pages; live = false } in e) else entry_of t)
+entry_stopped true t = ap (λ (l : Bool). let e : LedgerEntry = record { id = t.id; pages = t.pages; live = l } in e) (stopped_is_live t.held)
 entry_stopped false t = refl
 
-pub ledger_stopped : (id : ℕ) (ts : List Tenant) → map entry_of (map (tenant_stopped id) ts) ≡ map (ended id) (map entry_of ts)
+pub ledger_stopped : (id : ℕ) (ts : List Tenant) → map entry_of (map (tenant_after_stop id) ts) ≡ map (without_live id) (map entry_of ts)
 ledger_stopped id [] = refl
 ledger_stopped id (t ∷ ts) = rw (entry_stopped (t.id == id) t, ledger_stopped id ts) refl
 
@@ -66,59 +66,59 @@ append_twice [] ys zs = refl
 append_twice (x ∷ xs) ys zs = ap (λ l. x ∷ l) (append_twice xs ys zs)
 
 -- an own event, or another's
-pub sliced_own : (b : Bool) (n : ℕ) (h : Held) (own : List Own) → alone (if b then held_sliced n h else h) own ≡ alone h ((if b then Sliced n ∷ [] else []) ++ own)
-unfolding alone
+pub sliced_own : (b : Bool) (n : ℕ) (h : TenantState) (own : List TenantEvent) → after_own_events (if b then state_after_slice n h else h) own ≡ after_own_events h ((if b then OwnSlice n ∷ [] else []) ++ own)
+unfolding after_own_events
 sliced_own true n h own = refl
 sliced_own false n h own = refl
 
-pub stopped_own : (b : Bool) (h : Held) (own : List Own) → alone (if b then held_stopped h else h) own ≡ alone h ((if b then Halted ∷ [] else []) ++ own)
-unfolding alone
+pub stopped_own : (b : Bool) (h : TenantState) (own : List TenantEvent) → after_own_events (if b then state_after_stop h else h) own ≡ after_own_events h ((if b then OwnStop ∷ [] else []) ++ own)
+unfolding after_own_events
 stopped_own true h own = refl
 stopped_own false h own = refl
 
 abbrev pub Grown : List Call → Content → Type 0
-Grown events c = (played c events).tenants ≡ map (grown c.frames (ledger_of c) events) c.tenants ++ map tenant_of (lives_from c.frames (ledger_of c) events)
+Grown events c = (after_calls c events).tenants ≡ map (grown c.frames (ledger_of c) events) c.tenants ++ map tenant_of (lives_from c.frames (ledger_of c) events)
 
 -- what an event and others make of a tenant
-abbrev pub grown_on : Option Refusal → ℕ → List Entry → Call → List Call → Tenant → Tenant
-grown_on r frames ledger e more t = record t { held = alone t.held (own_by r t.id e ++ own_events frames (entered_by r ledger e) more t.id) }
+abbrev pub grown_on : Option Refusal → ℕ → List LedgerEntry → Call → List Call → Tenant → Tenant
+grown_on r frames ledger e more t = record t { held = after_own_events t.held (own_event_cases r t.id e ++ own_events frames (ledger_cases r ledger e) more t.id) }
 
 abbrev pub GrownOn : Option Refusal → Call → List Call → Content → Type 0
-GrownOn r e more c = (played (after_by r c e) more).tenants
+GrownOn r e more c = (after_calls (after_call_cases r c e) more).tenants
     ≡ map (grown_on r c.frames (ledger_of c) e more) c.tenants
-    ++ map tenant_of (life_by r e (own_events c.frames (entered_by r (ledger_of c) e) more) ++ lives_from c.frames (entered_by r (ledger_of c) e) more)
+    ++ map tenant_of (life_cases r e (own_events c.frames (ledger_cases r (ledger_of c) e) more) ++ lives_from c.frames (ledger_cases r (ledger_of c) e) more)
 
 pub next_grown : (r : Option Refusal) (e : Call) (more : List Call) (c : Content) → ((d : Content) → Grown more d) → GrownOn r e more c
-unfolding sliced stopped admitted after_call
+unfolding after_slice_of after_stop_of after_admit after_call
 next_grown (Some r) e more c rest = rest c
 next_grown None (Slice id n) more c rest =
-    let ledger : ledger_of (sliced c id n) ≡ ledger_of c = ledger_sliced id n c.tenants in
-    let step = rw ledger at (rest (sliced c id n)) in
-    let own = fused (grown c.frames (ledger_of c) more) (tenant_sliced id n) (grown_on None c.frames (ledger_of c) (Slice id n) more)
-    (λ t. ap (λ (h : Held). let u : Tenant = record t { held = h } in u) (sliced_own (t.id == id) n t.held (own_events c.frames (ledger_of c) more t.id))) c.tenants in
+    let ledger : ledger_of (after_slice_of c id n) ≡ ledger_of c = ledger_sliced id n c.tenants in
+    let step = rw ledger at (rest (after_slice_of c id n)) in
+    let own = fused (grown c.frames (ledger_of c) more) (tenant_after_slice id n) (grown_on None c.frames (ledger_of c) (Slice id n) more)
+    (λ t. ap (λ (h : TenantState). let u : Tenant = record t { held = h } in u) (sliced_own (t.id == id) n t.held (own_events c.frames (ledger_of c) more t.id))) c.tenants in
     step ∙ ap (λ ts. ts ++ map tenant_of (lives_from c.frames (ledger_of c) more)) own
 next_grown None (Stop id) more c rest =
-    let ledger : ledger_of (stopped c id) ≡ map (ended id) (ledger_of c) = ledger_stopped id c.tenants in
-    let step = rw ledger at (rest (stopped c id)) in
-    let own = fused (grown c.frames (map (ended id) (ledger_of c)) more) (tenant_stopped id) (grown_on None c.frames (ledger_of c) (Stop id) more)
-    (λ t. ap (λ (h : Held). let u : Tenant = record t { held = h } in u) (stopped_own (t.id == id) t.held (own_events c.frames (map (ended id) (ledger_of c)) more t.id))) c.tenants in
-    step ∙ ap (λ ts. ts ++ map tenant_of (lives_from c.frames (map (ended id) (ledger_of c)) more)) own
+    let ledger : ledger_of (after_stop_of c id) ≡ map (without_live id) (ledger_of c) = ledger_stopped id c.tenants in
+    let step = rw ledger at (rest (after_stop_of c id)) in
+    let own = fused (grown c.frames (map (without_live id) (ledger_of c)) more) (tenant_after_stop id) (grown_on None c.frames (ledger_of c) (Stop id) more)
+    (λ t. ap (λ (h : TenantState). let u : Tenant = record t { held = h } in u) (stopped_own (t.id == id) t.held (own_events c.frames (map (without_live id) (ledger_of c)) more t.id))) c.tenants in
+    step ∙ ap (λ ts. ts ++ map tenant_of (lives_from c.frames (map (without_live id) (ledger_of c)) more)) own
 next_grown None (Admit id terms) more c rest =
     let new : Tenant = new_tenant id terms in
     let after = ledger_of c ++ (entry_of new) ∷ [] in
-    let ledger : ledger_of (admitted c id terms) ≡ after = map_append entry_of c.tenants (new ∷ []) in
-    let step = rw ledger at (rest (admitted c id terms)) in
+    let ledger : ledger_of (after_admit c id terms) ≡ after = map_append entry_of c.tenants (new ∷ []) in
+    let step = rw ledger at (rest (after_admit c id terms)) in
     let f = grown c.frames after more in
     step ∙ ap (λ ts. ts ++ map tenant_of (lives_from c.frames after more)) (map_append f c.tenants (new ∷ []))
     ∙ append_one (map f c.tenants) (f new) (map tenant_of (lives_from c.frames after more))
 
 pub all_grown : (events : List Call) (c : Content) → Grown events c
-unfolding played own_events lives_from alone
+unfolding after_calls own_events lives_from after_own_events
 all_grown [] c = sym (append_none (map (grown c.frames (ledger_of c) []) c.tenants) ∙ map_same (grown c.frames (ledger_of c) []) (λ t. refl) c.tenants)
 all_grown (e ∷ more) c = next_grown (call_refusal c.frames (ledger_of c) e) e more c (λ d. all_grown more d)
 
 pub ledger_follows : LedgerFollows
-unfolding after_call admitted sliced stopped
+unfolding after_call after_admit after_slice_of after_stop_of
 ledger_follows c (Admit id terms) = map_append entry_of c.tenants (new_tenant id terms ∷ [])
 ledger_follows c (Slice id n) = ledger_sliced id n c.tenants
 ledger_follows c (Stop id) = ledger_stopped id c.tenants

@@ -1,4 +1,3 @@
-pub mod MachineLemmas
 pub mod IsolationLemmas
 pub mod TenantLemmas
 mod PlaceLists
@@ -11,4 +10,3 @@ mod EachLemmas
 mod IndexLemmas
 mod FlagLemmas
 mod LoanLemmas
-mod AloneLemmas

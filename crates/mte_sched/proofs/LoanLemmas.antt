@@ -9,14 +9,14 @@ use Rattle.std.specs.List.{refill, slice_get}
 use Rattle.std.proofs.lemmas.Bool.{cases_eq, eq-eqb, ne_eqb}
 use Rattle.mte_svc.specs.declared.parts.TenantParts.{TenantParts}
 use Rattle.mte_svc.specs.declared.record.Record.{Record}
-use Rattle.mte_tags.specs.Memory.{Memory, Page, attrs_in, attrs_at, pages_left}
+use Rattle.mte_tags.specs.Memory.{Memory, Page, attrs_cases, attrs_at, pages_left}
 use Rattle.mte_tags.specs.declared.attrs.Attrs.{Attrs}
 use Rattle.mte_arena.specs.Frames.{Frame, make_frame, frame_at}
-use Rattle.mte_frames.specs.Pool.{Pool, IsOut, IsTaken, IsSound, KeepsOthers, with_bytes_at, with_bytes_at_if}
+use Rattle.mte_frames.specs.Pool.{Pool, IsHeldBy, IsTaken, IsSound, KeepsOthers, with_bytes_at, with_bytes_at_cases}
 use Rattle.mte_frames.proofs.Keeps.{keeps_written}
 use Rattle.mte_translate.specs.Tables.{pages_of, Stays}
 use Rattle.mte_translate.specs.declared.translation.Translation.{Translation}
-use Rattle.mte_translate.proofs.KeptTables.{kept-others, kept-written, page-frame}
+use Rattle.mte_translate.proofs.KeptTables.{kept-others, kept-after-write-of, page-frame}
 use Rattle.mte_space.specs.Spaces.{page_of}
 use Rattle.mte_space.specs.KeptSpaces.{none_enters_same}
 use Rattle.mte_space.proofs.Memories.{page_at-space, pages_left-space, page_found}
@@ -26,24 +26,24 @@ use Rattle.mte_sched.specs.declared.tenant.Tenant as code
 use Rattle.mte_sched.specs.declared.tenant.Live.{Live}
 use Rattle.mte_sched.specs.declared.tenant.Holding.{Holding}
 use Rattle.mte_sched.specs.declared.tenant.Holding.TheVariants as kept
-use Rattle.mte_sched.specs.Contents.{Content, Tenant, with_bytes_of, with_page_bytes, held_written, tenant_written, written}
+use Rattle.mte_sched.specs.Contents.{Content, Tenant, with_bytes_of, with_page_bytes, state_after_write, tenant_after_write, after_write_of}
 use Rattle.mte_sched.specs.Places.{memory_at, IsPlaced}
-use Rattle.mte_sched.specs.Ready.{IsReady}
+use Rattle.mte_tenant.specs.Ready.{IsReady}
 use Rattle.mte_sched.specs.Tenants.{record_in, tenant_in, tenants_in}
 use Rattle.mte_sched.specs.Sharing.{LiesAt, IsSharing}
-use Rattle.mte_sched.specs.Views.{page_among, found_by, found_among}
+use Rattle.mte_sched.specs.Views.{page_among, find_page_cases, found_among}
 use Rattle.mte_sched.proofs.TenantLemmas.{tenant_by}
 use Rattle.mte_sched.proofs.PlaceLists.{some_same, map_each}
 use Rattle.mte_sched.proofs.SharingLemmas.{Turn, tenant_stays, sharing_after}
 use Rattle.mte_sched.proofs.TurnLemmas.{held_if, by_live, live_record, live_same}
 use Rattle.mte_sched.proofs.FrameLemmas.{Found, found_where, pages_found}
 
-attrs_same : (p n : Pool) (o : Option (ℕ × Attrs)) → attrs_in (option_map (page_of n) o) ≡ attrs_in (option_map (page_of p) o)
+attrs_same : (p n : Pool) (o : Option (ℕ × Attrs)) → attrs_cases (option_map (page_of n) o) ≡ attrs_cases (option_map (page_of p) o)
 attrs_same p n None = refl
 attrs_same p n (Some x) = refl
 
-written_tenant : (id q pages : ℕ) (ws : List ℕ) (parts : TenantParts) (m n : Memory) → (parts.account.id == id) ≡ true → n ≡ with_page_bytes m q ws
-    → tenant_by parts n pages ≡ tenant_written id q ws (tenant_by parts m pages)
+written_tenant : (id q pages : ℕ) (ws : List ℕ) (parts : TenantParts) (m n : Memory) → (parts.log.id == id) ≡ true → n ≡ with_page_bytes m q ws
+    → tenant_by parts n pages ≡ tenant_after_write id q ws (tenant_by parts m pages)
 written_tenant id q pages ws parts m n same e = rw (same, e) refl
 
 -- ---- where pages lie
@@ -52,7 +52,7 @@ found_if : (b : Bool) (x y z w : Option (ℕ × Attrs)) → x ≡ y → z ≡ w 
 found_if true x y z w e f = e
 found_if false x y z w e f = f
 
-found_same_by : (p n : Pool) (r : ℕ) (o : Holding) → ((b : Live) → o ≡ kept.Live b → pages_of n b.place.table.frame ≡ pages_of p b.place.table.frame) → found_by n r o ≡ found_by p r o
+found_same_by : (p n : Pool) (r : ℕ) (o : Holding) → ((b : Live) → o ≡ kept.Live b → pages_of n b.place.table.frame ≡ pages_of p b.place.table.frame) → find_page_cases n r o ≡ find_page_cases p r o
 found_same_by p n r (kept.Gone s) h = refl
 found_same_by p n r (kept.Live b) h = ap (λ m. get m r) (h b refl)
 
@@ -68,7 +68,7 @@ content_in p ts = record { frames = length p.frames; tenants = tenants_in p ts }
 
 -- ---- a page that was found
 
-pub lent_out : (p : Pool) (us : List Translation) (ts : List code.Tenant) (sharing : IsSharing p us ts) (id q f : ℕ) (a : Attrs) (x : Found p id q ts (f, a)) → IsOut p f x.live.place.quota
+pub lent_out : (p : Pool) (us : List Translation) (ts : List code.Tenant) (sharing : IsSharing p us ts) (id q f : ℕ) (a : Attrs) (x : Found p id q ts (f, a)) → IsHeldBy p f x.live.place.quota
 lent_out p us ts sharing id q f a x = (page-frame p x.live.place.quota q f a x.live.place.table (sharing.placed x.at x.tenant x.live x.lies).space.table x.mapped).1
 
 module _ (p : Pool) (us : List Translation) (ts : List code.Tenant) (sharing : IsSharing p us ts) (id q f : ℕ) (a : Attrs) (x : Found p id q ts (f, a)) (ws : List ℕ) where
@@ -82,7 +82,7 @@ module _ (p : Pool) (us : List Translation) (ts : List code.Tenant) (sharing : I
   placed = sharing.placed x.at x.tenant x.live x.lies
 
   stays : Stays x.live.place.quota x.live.place.table p n
-  stays = kept-written p x.live.place.quota f (Some frame) x.live.place.table (page-frame p x.live.place.quota q f a x.live.place.table placed.space.table x.mapped).2 placed.space.table
+  stays = kept-after-write-of p x.live.place.quota f (Some frame) x.live.place.table (page-frame p x.live.place.quota q f a x.live.place.table placed.space.table x.mapped).2 placed.space.table
 
   others : KeepsOthers x.live.place.quota p n
   others = keeps_written x.live.place.quota f (Some frame) p (lent_out p us ts sharing id q f a x)
@@ -111,10 +111,10 @@ module _ (p : Pool) (us : List Translation) (ts : List code.Tenant) (sharing : I
   attrs_stay : (r : ℕ) → attrs_at (memory_at n x.live.place x.tenant.pages) r ≡ attrs_at (memory_at p x.live.place x.tenant.pages) r
   unfolding attrs_at
   attrs_stay r =
-      ap attrs_in (page_at-space n x.live.place.table x.tenant.pages x.live.place.state r)
-      ∙ ap (λ m. attrs_in (option_map (page_of n) (get m r))) stays.pages
+      ap attrs_cases (page_at-space n x.live.place.table x.tenant.pages x.live.place.state r)
+      ∙ ap (λ m. attrs_cases (option_map (page_of n) (get m r))) stays.pages
       ∙ attrs_same p n (get (pages_of p x.live.place.table.frame) r)
-      ∙ sym (ap attrs_in (page_at-space p x.live.place.table x.tenant.pages x.live.place.state r))
+      ∙ sym (ap attrs_cases (page_at-space p x.live.place.table x.tenant.pages x.live.place.state r))
 
   left_stays : pages_left (memory_at n x.live.place x.tenant.pages) ≡ pages_left (memory_at p x.live.place x.tenant.pages)
   left_stays =
@@ -161,25 +161,25 @@ module _ (p : Pool) (us : List Translation) (ts : List code.Tenant) (sharing : I
         memory_framed p x.live.place.quota x.live.place.table x.tenant.pages q f a frame placed.space x.mapped x.live.place.state sound
         ∙ sym (ap (with_bytes_of (memory_at p x.live.place x.tenant.pages) q ws) (page_found p x.live.place.table x.tenant.pages x.live.place.state q f a x.mapped))
 
-    tenant_lent : tenant_in n x.tenant ≡ tenant_written id q ws (tenant_in p x.tenant)
+    tenant_lent : tenant_in n x.tenant ≡ tenant_after_write id q ws (tenant_in p x.tenant)
     tenant_lent =
         by_live n x.tenant x.live x.lies.live
-        ∙ written_tenant id q x.tenant.pages ws x.live.parts.value (memory_at p x.live.place x.tenant.pages) (memory_at n x.live.place x.tenant.pages) (eq-eqb x.live.parts.value.account.id id (sym (ap (λ (r : Record). r.id) (live_record x.tenant x.live x.lies.live)) ∙ x.number)) memory_lent
-        ∙ sym (ap (tenant_written id q ws) (by_live p x.tenant x.live x.lies.live))
+        ∙ written_tenant id q x.tenant.pages ws x.live.parts.value (memory_at p x.live.place x.tenant.pages) (memory_at n x.live.place x.tenant.pages) (eq-eqb x.live.parts.value.log.id id (sym (ap (λ (r : Record). r.id) (live_record x.tenant x.live x.lies.live)) ∙ x.number)) memory_lent
+        ∙ sym (ap (tenant_after_write id q ws) (by_live p x.tenant x.live x.lies.live))
 
     other_id : (j : ℕ) (u : code.Tenant) → j ≢ x.at → slice_get ts j ≡ Some u → ((record_in u).id == id) ≡ false
     other_id j u d at = ne_eqb (record_in u).id id (λ e. d (sharing.numbers j x.at u x.tenant at x.lies.tenant (e ∙ sym x.number)))
 
-    lent_tenants : tenants_in n ts ≡ map (tenant_written id q ws) (tenants_in p ts)
-    lent_tenants = map_each (tenant_in n) (tenant_in p) (tenant_written id q ws) ts (λ j u at. elim (cases_eq j x.at) [
-      | inl e ↦ subst (λ (w : code.Tenant). tenant_in n w ≡ tenant_written id q ws (tenant_in p w)) (is_own j u e at) tenant_lent
+    lent_tenants : tenants_in n ts ≡ map (tenant_after_write id q ws) (tenants_in p ts)
+    lent_tenants = map_each (tenant_in n) (tenant_in p) (tenant_after_write id q ws) ts (λ j u at. elim (cases_eq j x.at) [
+      | inl e ↦ subst (λ (w : code.Tenant). tenant_in n w ≡ tenant_after_write id q ws (tenant_in p w)) (is_own j u e at) tenant_lent
       | inr d ↦
           tenant_stays p n us us ts x.live.place.quota x.at j u turn sharing (λ b h. differs j u b d h) at
-          ∙ sym (held_if ((record_in u).id == id) (tenant_in p u) (held_written q ws (tenant_in p u).held) (other_id j u d at))
+          ∙ sym (held_if ((record_in u).id == id) (tenant_in p u) (state_after_write q ws (tenant_in p u).held) (other_id j u d at))
     ])
 
-    pub lent_content : content_in (with_bytes_at p f ws) ts ≡ written (content_in p ts) id q ws
-    unfolding written
+    pub lent_content : content_in (with_bytes_at p f ws) ts ≡ after_write_of (content_in p ts) id q ws
+    unfolding after_write_of
     lent_content =
         ap (λ (k : ℕ). let z : Content = record { frames = k; tenants = tenants_in n ts } in z) others.count
         ∙ ap (λ (l : List Tenant). let z : Content = record { frames = length p.frames; tenants = l } in z) lent_tenants
@@ -187,29 +187,29 @@ module _ (p : Pool) (us : List Translation) (ts : List code.Tenant) (sharing : I
 -- ---- whether one was found or not
 
 module _ (p : Pool) (us : List Translation) (ts : List code.Tenant) (sharing : IsSharing p us ts) (id q : ℕ) (ws : List ℕ) where
-  lent_by : (y : Option (ℕ × Attrs)) → found_among p id q ts ≡ y → IsSharing (with_bytes_at_if p (option_map (λ z. z.0) y) ws) us ts
+  lent_by : (y : Option (ℕ × Attrs)) → found_among p id q ts ≡ y → IsSharing (with_bytes_at_cases p (option_map (λ z. z.0) y) ws) us ts
   lent_by None e = sharing
   lent_by (Some (f, a)) e = lent_sharing p us ts sharing id q f a (found_where p id q ts (f, a) e) ws
 
-  pub sharing_lent : (o : Option ℕ) → o ≡ option_map (λ z. z.0) (found_among p id q ts) → IsSharing (with_bytes_at_if p o ws) us ts
-  sharing_lent o e = subst (λ z. IsSharing (with_bytes_at_if p z ws) us ts) (sym e) (lent_by (found_among p id q ts) refl)
+  pub sharing_lent : (o : Option ℕ) → o ≡ option_map (λ z. z.0) (found_among p id q ts) → IsSharing (with_bytes_at_cases p o ws) us ts
+  sharing_lent o e = subst (λ z. IsSharing (with_bytes_at_cases p z ws) us ts) (sym e) (lent_by (found_among p id q ts) refl)
 
   content_by : (y : Option (ℕ × Attrs)) → found_among p id q ts ≡ y → (f : ℕ) → option_map {U = ℕ} (λ z. z.0) y ≡ Some f → IsSound p
-      → content_in (with_bytes_at_if p (option_map (λ z. z.0) y) ws) ts ≡ written (content_in p ts) id q ws
+      → content_in (with_bytes_at_cases p (option_map (λ z. z.0) y) ws) ts ≡ after_write_of (content_in p ts) id q ws
   content_by None e f k sound = absurd cc
   content_by (Some (g, a)) e f k sound = lent_content p us ts sharing id q g a (found_where p id q ts (g, a) e) ws sound
 
   pub content_lent : (o : Option ℕ) → o ≡ option_map (λ z. z.0) (found_among p id q ts) → (f : ℕ) → o ≡ Some f → IsSound p
-      → content_in (with_bytes_at_if p o ws) ts ≡ written (content_in p ts) id q ws
+      → content_in (with_bytes_at_cases p o ws) ts ≡ after_write_of (content_in p ts) id q ws
   content_lent o e f k sound =
-      subst (λ z. content_in (with_bytes_at_if p z ws) ts ≡ written (content_in p ts) id q ws) (sym e) (content_by (found_among p id q ts) refl f (sym e ∙ k) sound)
+      subst (λ z. content_in (with_bytes_at_cases p z ws) ts ≡ after_write_of (content_in p ts) id q ws) (sym e) (content_by (found_among p id q ts) refl f (sym e ∙ k) sound)
 
-  frames_by : (y : Option (ℕ × Attrs)) → found_among p id q ts ≡ y → (j r : ℕ) → found_among (with_bytes_at_if p (option_map (λ z. z.0) y) ws) j r ts ≡ found_among p j r ts
+  frames_by : (y : Option (ℕ × Attrs)) → found_among p id q ts ≡ y → (j r : ℕ) → found_among (with_bytes_at_cases p (option_map (λ z. z.0) y) ws) j r ts ≡ found_among p j r ts
   frames_by None e j r = refl
   frames_by (Some (f, a)) e j r = lent_frames p us ts sharing id q f a (found_where p id q ts (f, a) e) ws j r
 
-  pub frames_lent : (o : Option ℕ) → o ≡ option_map (λ z. z.0) (found_among p id q ts) → (j r : ℕ) → found_among (with_bytes_at_if p o ws) j r ts ≡ found_among p j r ts
-  frames_lent o e j r = subst (λ z. found_among (with_bytes_at_if p z ws) j r ts ≡ found_among p j r ts) (sym e) (frames_by (found_among p id q ts) refl j r)
+  pub frames_lent : (o : Option ℕ) → o ≡ option_map (λ z. z.0) (found_among p id q ts) → (j r : ℕ) → found_among (with_bytes_at_cases p o ws) j r ts ≡ found_among p j r ts
+  frames_lent o e j r = subst (λ z. found_among (with_bytes_at_cases p z ws) j r ts ≡ found_among p j r ts) (sym e) (frames_by (found_among p id q ts) refl j r)
 
 -- ---- what is lent
 

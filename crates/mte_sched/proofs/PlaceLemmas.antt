@@ -9,17 +9,17 @@ use Rattle.mte_translate.specs.Tables.{Root, pages_of, IsTable, IsCached}
 use Rattle.mte_translate.specs.declared.translation.Translation.{Translation}
 use Rattle.mte_translate.proofs.TableLemmas.{leaves-len}
 use Rattle.mte_space.specs.Spaces.{IsSpace, KeepsRest}
-use Rattle.mte_sched.specs.declared.place.Place.{Place}
-use Rattle.mte_sched.specs.Ledger.{charge_of}
+use Rattle.mte_sched.specs.declared.place.TenantMemory.{TenantMemory}
+use Rattle.mte_tenant.specs.Ledger.{charge_of}
 use Rattle.mte_sched.specs.Places.{IsPlaced}
 
-pub room_of : (p : Pool) (us : List Translation) (i pages : ℕ) (a : Place) → IsPlaced p us i pages a
+pub room_of : (p : Pool) (us : List Translation) (i pages : ℕ) (a : TenantMemory) → IsPlaced p us i pages a
     → taken_by p a.quota + (2 * pages - a.table.len - a.table.leaves) ≤ reserved_by p a.quota
 room_of p us i pages a h =
     let few : a.table.leaves ≤ a.table.len = leaves-len p a.quota a.table h.space.table in
     omega (arith, h.charged, h.counted, h.space.below, few)
 
-pub placed_after : (p n : Pool) (us vs : List Translation) (i pages : ℕ) (a b : Place) → IsPlaced p us i pages a
+pub placed_after : (p n : Pool) (us vs : List Translation) (i pages : ℕ) (a b : TenantMemory) → IsPlaced p us i pages a
     → KeepsRest a.quota p n a.table b.table → b.quota ≡ a.quota → IsSpace n b.quota b.table pages → IsCached (pages_of n b.table.frame) i vs
     → IsPlaced n vs i pages b
 placed_after p n us vs i pages a b h rest same space cached = record {
@@ -48,7 +48,7 @@ zeroed (t ∷ ts) zero = refl
 zeroed (t ∷ ts) (suc k) = zeroed ts k
 
 -- Once no page is mapped, the root alone is out.
-pub root_left : (p n : Pool) (us : List Translation) (i pages : ℕ) (a : Place) (u : Root) → IsPlaced p us i pages a
+pub root_left : (p n : Pool) (us : List Translation) (i pages : ℕ) (a : TenantMemory) (u : Root) → IsPlaced p us i pages a
     → KeepsRest a.quota p n a.table u → IsTable n a.quota u → u.len ≡ 0 → taken_by n a.quota ≡ 1
 root_left p n us i pages a u h rest table none =
     let few : u.leaves ≤ u.len = leaves-len n a.quota u table in
@@ -74,7 +74,7 @@ sum_more p m k c inside sound none e =
 
 -- ---- a place that begins
 
-pub first_placed : (p n : Pool) (vs : List Translation) (i pages : ℕ) (a b : Place) → taken_by p a.quota ≡ 1 → reserved_by p a.quota ≡ charge_of pages
+pub first_placed : (p n : Pool) (vs : List Translation) (i pages : ℕ) (a b : TenantMemory) → taken_by p a.quota ≡ 1 → reserved_by p a.quota ≡ charge_of pages
     → a.table.len ≡ 0 → a.table.leaves ≡ 0 → KeepsRest a.quota p n a.table b.table → b.quota ≡ a.quota → IsSpace n b.quota b.table pages → IsCached (pages_of n b.table.frame) i vs
     → 0 < pages → pages ≤ MAX_PAGES → IsPlaced n vs i pages b
 first_placed p n vs i pages a b taken charged len leaves rest same space cached some most = record {

@@ -9,18 +9,18 @@ use Rattle.mte_frames.specs.Pool.{Pool, KeepsOthers}
 use Rattle.mte_translate.specs.declared.translation.Translation.{Translation}
 use Rattle.mte_space.specs.Spaces.{NoneEnters}
 use Rattle.mte_space.proofs.OtherSpaces.{other_memory, other_space, other_cached}
-use Rattle.mte_sched.specs.declared.place.Place.{Place}
+use Rattle.mte_sched.specs.declared.place.TenantMemory.{TenantMemory}
 use Rattle.mte_sched.specs.declared.tenant.Tenant as code
 use Rattle.mte_sched.specs.declared.tenant.Live.{Live}
 use Rattle.mte_sched.specs.declared.tenant.Holding.{Holding}
 use Rattle.mte_sched.specs.declared.tenant.Holding.TheVariants as kept
-use Rattle.mte_sched.specs.Machines.{machine_of}
+use Rattle.mte_tenant.specs.Machines.{machine_of}
 use Rattle.mte_sched.specs.Contents.{Tenant}
 use Rattle.mte_sched.specs.Contents as held
-use Rattle.mte_sched.specs.Ledger.{charge_in}
+use Rattle.mte_tenant.specs.Ledger.{charge_of_entry}
 use Rattle.mte_sched.specs.Places.{memory_at, IsPlaced}
-use Rattle.mte_sched.specs.Ready.{IsReady}
-use Rattle.mte_sched.specs.Tenants.{record_in, is_live_by, tenant_in, entries_in, held_by}
+use Rattle.mte_tenant.specs.Ready.{IsReady}
+use Rattle.mte_sched.specs.Tenants.{record_in, is_live_holding, tenant_in, entries_in, state_of_holding}
 use Rattle.mte_sched.specs.Sharing.{is_placed, LiesAt, IsSharing}
 use Rattle.mte_sched.proofs.PlaceLists.{HasAt, some_same}
 
@@ -31,7 +31,7 @@ pub record Turn (p n : Pool) (us vs : List Translation) (k i : ℕ) : Type 0 whe
 
 -- ---- a tenant of another quota and another ASID
 
-pub placed_stays : (p n : Pool) (us vs : List Translation) (k i j pages : ℕ) (a : Place) → Turn p n us vs k i
+pub placed_stays : (p n : Pool) (us vs : List Translation) (k i j pages : ℕ) (a : TenantMemory) → Turn p n us vs k i
     → a.quota ≢ k → j ≢ i → IsPlaced p us j pages a → IsPlaced n vs j pages a
 placed_stays p n us vs k i j pages a turn differs apart h = record {
   space = other_space p n k a.quota pages a.table differs turn.others h.space;
@@ -42,13 +42,13 @@ placed_stays p n us vs k i j pages a turn differs apart h = record {
   most = h.most;
 }
 
-pub memory_stays : (p n : Pool) (us vs : List Translation) (k i j pages : ℕ) (a : Place) → Turn p n us vs k i
+pub memory_stays : (p n : Pool) (us vs : List Translation) (k i j pages : ℕ) (a : TenantMemory) → Turn p n us vs k i
     → a.quota ≢ k → IsPlaced p us j pages a → memory_at n a pages ≡ memory_at p a pages
 memory_stays p n us vs k i j pages a turn differs h =
     other_memory p n k a.quota pages a.table a.state differs turn.others h.space.table
 
 same_held : (p n : Pool) (pages : ℕ) (o : Holding) → ((a : Live) → o ≡ kept.Live a → memory_at n a.place pages ≡ memory_at p a.place pages)
-    → held_by n pages o ≡ held_by p pages o
+    → state_of_holding n pages o ≡ state_of_holding p pages o
 same_held p n pages (kept.Gone r) h = refl
 same_held p n pages (kept.Live a) h = ap (λ m. held.Live (machine_of a.parts.value m)) (h a refl)
 
@@ -56,9 +56,9 @@ same_held p n pages (kept.Live a) h = ap (λ m. held.Live (machine_of a.parts.va
 pub tenant_stays : (p n : Pool) (us vs : List Translation) (ts : List code.Tenant) (k i j : ℕ) (u : code.Tenant) → Turn p n us vs k i → IsSharing p us ts
     → ((a : Live) → LiesAt ts j u a → a.place.quota ≢ k) → slice_get ts j ≡ Some u → tenant_in n u ≡ tenant_in p u
 tenant_stays p n us vs ts k i j u turn sharing differs at =
-    let same : held_by n u.pages u.holding ≡ held_by p u.pages u.holding =
+    let same : state_of_holding n u.pages u.holding ≡ state_of_holding p u.pages u.holding =
     same_held p n u.pages u.holding (λ a e. memory_stays p n us vs k i j u.pages a.place turn (differs a (record { tenant = at; live = e })) (sharing.placed j u a (record { tenant = at; live = e }))) in
-    ap (λ (m : held.Held). let t : Tenant = record { id = (record_in u).id; pages = u.pages; held = m } in t) same
+    ap (λ (m : held.TenantState). let t : Tenant = record { id = (record_in u).id; pages = u.pages; held = m } in t) same
 
 -- ---- what holds of all, after a turn
 
@@ -71,7 +71,7 @@ module _ (p n : Pool) (us vs : List Translation) (ts ns : List code.Tenant) (k i
   is_new j u e h = some_same t u (sym has.here ∙ ap (λ l. slice_get ns l) (sym e) ∙ h)
 
   -- a translation of each live tenant
-  pub cached_after : All (λ v. (v.asid ≢ i) → Contains us v) vs → is_live_by t.holding ≡ true → All (λ v. is_placed (slice_get ns v.asid) ≡ true) vs
+  pub cached_after : All (λ v. (v.asid ≢ i) → Contains us v) vs → is_live_holding t.holding ≡ true → All (λ v. is_placed (slice_get ns v.asid) ≡ true) vs
   cached_after entered placed =
       All-weaker (λ v. (v.asid ≢ i) → Contains us v) (λ v. is_placed (slice_get ns v.asid) ≡ true)
       (λ v stood. elim (cases_eq v.asid i) [
@@ -86,7 +86,7 @@ module _ (p n : Pool) (us vs : List Translation) (ts ns : List code.Tenant) (k i
 
   module _ (own : (a : Live) → t.holding ≡ kept.Live a → (a.place.quota ≡ k) × IsPlaced n vs i t.pages a.place × IsReady a.parts.value (memory_at n a.place t.pages))
       (number : (j : ℕ) (u : code.Tenant) → j ≢ i → slice_get ts j ≡ Some u → (record_in u).id ≢ (record_in t).id)
-      (cached : All (λ v. is_placed (slice_get ns v.asid) ≡ true) vs) (reserved : sum n.reserved ≡ sum_by charge_in (entries_in ns)) where
+      (cached : All (λ v. is_placed (slice_get ns v.asid) ≡ true) vs) (reserved : sum n.reserved ≡ sum_by charge_of_entry (entries_in ns)) where
     own_at : (j : ℕ) (u : code.Tenant) (a : Live) → j ≡ i → LiesAt ns j u a → (a.place.quota ≡ k) × IsPlaced n vs j u.pages a.place × IsReady a.parts.value (memory_at n a.place u.pages)
     own_at j u a e h =
         subst (λ l. (a.place.quota ≡ k) × IsPlaced n vs l u.pages a.place × IsReady a.parts.value (memory_at n a.place u.pages)) (sym e)

@@ -1,16 +1,16 @@
 -- Between the calls of a session the flag of a tenant that is running is clear: no tag differed in
 -- what it did so far.
 use Rattle.std.specs.Prelude.{◌≡◌, true, false, List, [], ◌∷◌}
-use Rattle.mte_sched.specs.Machines.{Machine, runs}
+use Rattle.mte_tenant.specs.Machines.{Machine, runs}
 use Rattle.mte_sched.specs.Lives.{Session}
-use Rattle.mte_sched.specs.Contents.{Held, Live, Gone, Tenant}
+use Rattle.mte_sched.specs.Contents.{TenantState, Live, Gone, Tenant}
 use Rattle.mte_sched.specs.Isolation.{content_after}
 
 abbrev pub HasClearFlag : Machine → Type 0
 HasClearFlag m = runs m ≡ true → m.memory.state.pending ≡ false
 
--- Of a tenant that was not stopped.
-abbrev pub IsClear : Held → Type 0
+-- A tenant that was not stopped has a clear flag.
+abbrev pub IsClear : TenantState → Type 0
 IsClear (Gone r) = Unit {0}
 IsClear (Live m) = HasClearFlag m
 

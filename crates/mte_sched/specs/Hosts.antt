@@ -2,7 +2,7 @@
 use Rattle.std.specs.Prelude.{ℕ, Option, option_map, List, ◌∷◌, length, vec_capacity}
 use Rattle.mte_frames.specs.Pool.{Pool}
 use Rattle.mte_sched.specs.declared.host.Host.{Host}
-use Rattle.mte_sched.specs.Ledger.{Entry}
+use Rattle.mte_tenant.specs.Ledger.{LedgerEntry}
 use Rattle.mte_sched.specs.Contents.{Content, ledger_of}
 use Rattle.mte_sched.specs.Tenants.{tenants_in}
 use Rattle.mte_sched.specs.Views.{found_among}
@@ -19,7 +19,7 @@ content_of h =
 abbrev pub frame_in : Host → ℕ → ℕ → Option ℕ
 frame_in h id q = option_map (λ x. x.0) (found_among (pool_of h) id q h.tenants.items)
 
-abbrev pub ledger_in : Host → List Entry
+abbrev pub ledger_in : Host → List LedgerEntry
 ledger_in h = ledger_of (content_of h)
 
 -- For how many elements the host's lists have memory: its tenants, their positions by number, and

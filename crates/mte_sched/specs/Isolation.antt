@@ -1,18 +1,18 @@
--- What several tenants are to each other: nothing.
+-- Isolation: no tenant can observe another.
 use Rattle.std.specs.Prelude.{◌≡◌, ℕ, ◌==◌, List, [], ◌∷◌, map, Option, Some, None}
 use Rattle.std.specs.Prelude.{if◌then◌else◌}
 use Rattle.mte_sched.specs.Lives.{Session, Life, Agree, lives}
-use Rattle.mte_sched.specs.Ledger.{Call, entered}
-use Rattle.mte_sched.specs.Contents.{Tenant, Content, ledger_of, after_call, played, empty}
+use Rattle.mte_tenant.specs.Ledger.{Call, ledger_after}
+use Rattle.mte_sched.specs.Contents.{Tenant, Content, ledger_of, after_call, after_calls, empty}
 use Rattle.mte_sched.specs.Contents.{tenant_of, record_of}
 
 -- What a session's host has after all its calls.
 abbrev pub content_after : Session → Content
-content_after s = played (empty s.frames) s.calls
+content_after s = after_calls (empty s.frames) s.calls
 
 -- What a tenant does cannot change who is admitted: a call changes the ledger as the ledger says.
 abbrev pub LedgerFollows : Type 0
-LedgerFollows = (c : Content) (e : Call) → ledger_of (after_call c e) ≡ entered (ledger_of c) e
+LedgerFollows = (c : Content) (e : Call) → ledger_of (after_call c e) ≡ ledger_after (ledger_of c) e
 
 -- Nothing changes the number in a tenant's record.
 abbrev pub NumbersStay : Type 0

@@ -1,8 +1,5 @@
-pub mod Machines
-pub mod Ledger
 pub mod Lives
 pub mod Contents
-pub mod Ready
 pub mod Places
 pub mod Tenants
 pub mod Sharing
@@ -10,7 +7,5 @@ pub mod Isolation
 pub mod Views
 pub mod Hosts
 pub mod Loans
-pub mod Names
 pub mod Flags
 pub mod Bounds
-pub mod Watched

@@ -2,10 +2,10 @@
 use Rattle.std.specs.Prelude.{◌≡◌, ℕ, List, Option}
 use Rattle.std.specs.Option.{OnSome}
 use Rattle.std.specs.Borrow.{Fml, MutBor, LendsSo, Array, u8}
-use Rattle.mte_frames.specs.Pool.{with_bytes_at_if}
+use Rattle.mte_frames.specs.Pool.{with_bytes_at_cases}
 use Rattle.mte_sched.specs.declared.host.Host.{Host}
 use Rattle.mte_sched.specs.contracts.host.Host.{the_row}
-use Rattle.mte_sched.specs.Contents.{written}
+use Rattle.mte_sched.specs.Contents.{after_write_of}
 use Rattle.mte_sched.specs.Hosts.{pool_of, content_of, frame_in, rooms_of}
 
 -- From h to n each page lies in the frame in which it lay.
@@ -15,8 +15,8 @@ KeepsFrames h n = (id q : ℕ) → frame_in n id q ≡ frame_in h id q
 -- The bytes ws were left behind the loan of the page q of the tenant with a number: they are its
 -- frame's, and that page's in the tenant's machine. All else is as it was, and no list took memory.
 pub record Wrote (h n : Host) (id q : ℕ) (ws : List ℕ) : Type 0 where
-  pub content : content_of n ≡ written (content_of h) id q ws
-  pub pool : pool_of n ≡ with_bytes_at_if (pool_of h) (frame_in h id q) ws
+  pub content : content_of n ≡ after_write_of (content_of h) id q ws
+  pub pool : pool_of n ≡ with_bytes_at_cases (pool_of h) (frame_in h id q) ws
   pub frames : KeepsFrames h n
   pub rooms : rooms_of n ≡ rooms_of h
 

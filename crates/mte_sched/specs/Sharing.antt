@@ -10,14 +10,14 @@ use Rattle.mte_sched.specs.declared.index.TheConstants.{NUMBERS}
 use Rattle.mte_sched.specs.declared.tenant.Live.{Live}
 use Rattle.mte_sched.specs.declared.tenant.Holding.TheVariants as kept
 use Rattle.mte_sched.specs.declared.tenant.Tenant.{Tenant}
-use Rattle.mte_sched.specs.Ledger.{charge_in, has_live_id}
+use Rattle.mte_tenant.specs.Ledger.{charge_of_entry, has_live_id}
 use Rattle.mte_sched.specs.Places.{memory_at, IsPlaced}
-use Rattle.mte_sched.specs.Ready.{IsReady}
-use Rattle.mte_sched.specs.Tenants.{record_in, is_live_by, entry_in, entries_in}
+use Rattle.mte_tenant.specs.Ready.{IsReady}
+use Rattle.mte_sched.specs.Tenants.{record_in, is_live_holding, entry_in, entries_in}
 
 abbrev pub is_placed : Option Tenant → Bool
 is_placed None = false
-is_placed (Some t) = is_live_by t.holding
+is_placed (Some t) = is_live_holding t.holding
 
 abbrev pub has_live_in : ℕ → Option Tenant → Bool
 has_live_in id None = false
@@ -54,7 +54,7 @@ pub record IsSharing (p : Pool) (us : List Translation) (ts : List Tenant) : Typ
   -- each translation is of a live tenant
   pub cached : All (λ u. is_placed (slice_get ts u.asid) ≡ true) us
   -- what is reserved is what live tenants are charged
-  pub reserved : sum p.reserved ≡ sum_by charge_in (entries_in ts)
+  pub reserved : sum p.reserved ≡ sum_by charge_of_entry (entries_in ts)
 
 -- A table has a position for each number, and of each number of a list the one where it stands. So
 -- a number that doesn't stand at its position is none of the list.

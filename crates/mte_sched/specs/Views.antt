@@ -12,7 +12,7 @@ use Rattle.mte_sched.specs.declared.tenant.Tenant as code
 use Rattle.mte_sched.specs.declared.tenant.Holding.{Holding}
 use Rattle.mte_sched.specs.declared.tenant.Holding.TheVariants as kept
 use Rattle.mte_sched.specs.Tenants.{record_in}
-use Rattle.mte_sched.specs.Contents.{Held, Live, Gone, Tenant, record_of}
+use Rattle.mte_sched.specs.Contents.{TenantState, Live, Gone, Tenant, record_of}
 use Rattle.mte_sched.specs.Isolation.{tenant_among}
 
 -- The record of the tenant that was admitted with a number.
@@ -20,7 +20,7 @@ abbrev pub record_among : ℕ → List Tenant → Option Record
 record_among id ts = option_map (λ t. record_of t.held) (tenant_among id ts)
 
 -- A page of a tenant's machine; one that was stopped has none.
-abbrev pub page_held : ℕ → Held → Option Page
+abbrev pub page_held : ℕ → TenantState → Option Page
 page_held q (Live m) = page_at m.memory q
 page_held q (Gone r) = None
 
@@ -30,9 +30,9 @@ page_among id q [] = None
 page_among id q (t ∷ more) = if t.id == id then page_held q t.held else page_among id q more
 
 -- The frame and the attributes of a page of what is kept of a tenant.
-abbrev pub found_by : Pool → ℕ → Holding → Option (ℕ × Attrs)
-found_by p q (kept.Live l) = get (pages_of p l.place.table.frame) q
-found_by p q (kept.Gone r) = None
+abbrev pub find_page_cases : Pool → ℕ → Holding → Option (ℕ × Attrs)
+find_page_cases p q (kept.Live l) = get (pages_of p l.place.table.frame) q
+find_page_cases p q (kept.Gone r) = None
 
 abbrev pub HasSomeTable : Pool → Holding → Type 0
 HasSomeTable p (kept.Live l) = IsSomeTable p l.place.table
@@ -42,7 +42,7 @@ HasSomeTable p (kept.Gone r) = Unit {0}
 abbrev pub found_among : Pool → ℕ → ℕ → List code.Tenant → Option (ℕ × Attrs)
 found_among p id q [] = None
 found_among p id q (t ∷ more) =
-    if (record_in t).id == id then found_by p q t.holding else found_among p id q more
+    if (record_in t).id == id then find_page_cases p q t.holding else found_among p id q more
 
 -- The frame f is out, and a page is what it holds.
 pub record Holds (p : Pool) (f : ℕ) (page : Option Page) : Type 0 where

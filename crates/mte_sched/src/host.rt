@@ -8,24 +8,27 @@ ghost use Rattle.std.specs.Borrow.{sem};
 ghost use Rattle.std.specs.List.{list_any};
 ghost use Rattle.mte_elf.specs.Headers.{entry_of, segments_of};
 ghost use Rattle.mte_elf.specs.Images.{refusal_of, pages_of};
-ghost use Rattle.mte_sched.specs.Ledger.{admission_refusal, has_id, has_live_id, is_bad, charge_in};
-ghost use Rattle.mte_sched.specs.Ledger.{is_live, charge_of, numbers_of};
-ghost use Rattle.mte_sched.specs.Tenants.{entries_in, tenants_in, terms_of};
+ghost use Rattle.mte_tenant.specs.Ledger.{admission_refusal, has_id, has_live_id, is_bad};
+ghost use Rattle.mte_tenant.specs.Ledger.{charge_of_entry};
+ghost use Rattle.mte_tenant.specs.Ledger.{is_live, charge_of, numbers_of};
+ghost use Rattle.mte_sched.specs.Tenants.{entries_in, tenants_in};
+ghost use Rattle.mte_tenant.specs.Admissions.{terms_of};
 ghost use Rattle.mte_sched.specs.Sharing.{IsSharing, IsIndexed, HasId, HasLiveAt};
 
-use crate::accepting::{holds_image, is_bad_reservation, plan_of};
-use crate::admission::{Admission, AdmitError, MAX_LIVE, NotLive, charge};
 use crate::index::Index;
-use crate::machine::start_parts;
 use crate::place::start_place;
 use crate::tenant::{Holding, Live, Tenant};
 use crate::turns::{slice_at, stop_at};
-use a64_step::Kept;
+use a64_step::OpCache;
 use address_map::{MAX_FRAMES, MAX_PAGES, STACK_PAGES};
 use mte_arena::{Arena, ArenaError, FRAME_BYTES};
 use mte_elf::Plan;
 use mte_frames::FramePool;
 use mte_svc::Record;
+use mte_tenant::{
+    Admission, AdmitError, MAX_LIVE, NotLive, charge, holds_image, is_bad_reservation, plan_of,
+    start_parts,
+};
 use mte_translate::Tlb;
 use scudo_heap::condition_of_calls;
 use std::alloc::Global;
@@ -40,7 +43,7 @@ pub struct Host {
     /// How many tenants are live.
     live: usize,
     /// What the instructions of tenants mean; it holds for all of them.
-    kept: Kept,
+    kept: OpCache,
     ghost sharing: { IsSharing pool tlb tenants.items },
     ghost indexed: { IsIndexed index.positions.items (numbers_of (entries_in tenants.items)) },
     ghost counted: { live ≡ count_by is_live (entries_in tenants.items) },
@@ -48,7 +51,7 @@ pub struct Host {
 
 impl Host {
     ghost use Rattle.mte_arena.specs.declared.arena.ArenaError.TheVariants.{BadCount};
-    ghost use Rattle.mte_sched.specs.Contents.{admitted, sliced, stopped, empty};
+    ghost use Rattle.mte_sched.specs.Contents.{after_admit, after_slice_of, after_stop_of, empty};
     ghost use Rattle.mte_sched.specs.Views.{record_among, page_among, Holds};
     ghost use Rattle.mte_sched.specs.Hosts.{pool_of, content_of, frame_in, ledger_in, rooms_of};
     ghost use Rattle.mte_sched.specs.Loans.{lends_page};
@@ -66,7 +69,7 @@ impl Host {
         let Ok(index) = Index::new(alloc) else {
             return Err(ArenaError::OutOfMemory);
         };
-        let Ok(kept) = Kept::new(alloc) else {
+        let Ok(kept) = OpCache::new(alloc) else {
             return Err(ArenaError::OutOfMemory);
         };
         Ok(Host {
@@ -81,12 +84,12 @@ impl Host {
 
     /// Admits a tenant, or returns the first refusal that applies. Only `OutOfMemory`, where an
     /// allocation failed, can come in place of the refusals from `Image` on.
-    #[tactic(auto, unfolding(crate::specs::Contents::admitted))]
+    #[tactic(auto, unfolding(crate::specs::Contents::after_admit))]
     pub fn admit(&mut self, alloc: Global, admission: &Admission<'_>) -> Result<(), AdmitError>
         ensures accepted { OnOk result (admission_refusal (content_of self.old).frames
             (ledger_in self.old) admission.now.id (terms_of admission.now) ≡ None) }
         ensures ok { OnOk result (content_of self.new
-            ≡ admitted (content_of self.old) admission.now.id (terms_of admission.now)) }
+            ≡ after_admit (content_of self.old) admission.now.id (terms_of admission.now)) }
         ensures refused { IfErr result (λ e. (e ≡ AdmitError.OutOfMemory)
             ⊎ (admission_refusal (content_of self.old).frames (ledger_in self.old)
             admission.now.id (terms_of admission.now) ≡ Some e)) }
@@ -112,7 +115,7 @@ impl Host {
     }
 
     /// The plan of an admission's image, or the first refusal that applies.
-    #[tactic(auto, unfolding(crate::specs::Ledger::admission_refusal))]
+    #[tactic(auto, unfolding(mte_tenant::specs::Ledger::admission_refusal))]
     fn accept(&self, alloc: Global, admission: &Admission<'_>) -> Result<Plan, AdmitError>
         ensures accepted { OnOk result (admission_refusal (length self.now.pool.frames)
             (entries_in self.now.tenants.items) admission.now.id (terms_of admission.now)
@@ -130,7 +133,8 @@ impl Host {
         ensures some { IfOk result (λ p. 0 < admission.now.pages) }
         ensures most { IfOk result (λ p. admission.now.pages ≤ MAX_PAGES) }
         ensures frames { IfOk result (λ p. charge_of admission.now.pages
-            ≤ length self.now.pool.frames - sum_by charge_in (entries_in self.now.tenants.items)) }
+            ≤ length self.now.pool.frames - sum_by charge_of_entry
+            (entries_in self.now.tenants.items)) }
         ensures few { IfOk result
             (λ p. count_by is_live (entries_in self.now.tenants.items) < MAX_LIVE) }
         ensures refused { IfErr result (λ e. (e ≡ AdmitError.OutOfMemory)
@@ -163,10 +167,11 @@ impl Host {
     /// Lets a live tenant attempt at most `steps` instructions; one that has ended does nothing. It
     /// is refused exactly where no live tenant has the number, and then changes nothing. No list of
     /// the host takes memory.
-    #[tactic(auto, unfolding(crate::specs::Contents::sliced))]
+    #[tactic(auto, unfolding(crate::specs::Contents::after_slice_of))]
     pub fn slice(&mut self, id: u16, steps: u32) -> Result<(), NotLive>
         ensures live { IsOk result ↔ (list_any (has_live_id id) (ledger_in self.old) ≡ true) }
-        ensures ok { OnOk result (content_of self.new ≡ sliced (content_of self.old) id steps) }
+        ensures ok { OnOk result (content_of self.new
+            ≡ after_slice_of (content_of self.old) id steps) }
         ensures err { OnErr result (content_of self.new ≡ content_of self.old) }
         ensures rooms { rooms_of self.new ≡ rooms_of self.old }
     {
@@ -188,10 +193,10 @@ impl Host {
 
     /// Stops a live tenant; its record stays. It is refused exactly where no live tenant has the
     /// number, and then changes nothing. No list of the host takes memory.
-    #[tactic(auto, unfolding(crate::specs::Contents::stopped))]
+    #[tactic(auto, unfolding(crate::specs::Contents::after_stop_of))]
     pub fn stop(&mut self, id: u16) -> Result<(), NotLive>
         ensures live { IsOk result ↔ (list_any (has_live_id id) (ledger_in self.old) ≡ true) }
-        ensures ok { OnOk result (content_of self.new ≡ stopped (content_of self.old) id) }
+        ensures ok { OnOk result (content_of self.new ≡ after_stop_of (content_of self.old) id) }
         ensures err { OnErr result (content_of self.new ≡ content_of self.old) }
         ensures rooms { rooms_of self.new ≡ rooms_of self.old }
     {
@@ -234,8 +239,7 @@ impl Host {
         ensures value { option_copied_mut result
             ≡ option_map (λ p. p.bytes) (page_among id page (content_of self.old).tenants) }
     {
-        // what holds of every pool is in its contract
-        let _ = self.pool.frames();
+        self.pool.recall();
         let frame = self.find_frame(id, page);
         self.pool.data_mut_if(frame)
     }
@@ -303,7 +307,7 @@ impl Host {
     /// How many frames live tenants leave.
     fn unreserved(&self) -> u64
         ensures { result ≡ length self.now.pool.frames
-            - sum_by charge_in (entries_in self.now.tenants.items) }
+            - sum_by charge_of_entry (entries_in self.now.tenants.items) }
     {
         self.pool.unreserved() as u64
     }

@@ -5,31 +5,30 @@ ghost use Rattle.std.specs.Prelude.{◌≡◌, ◌≢◌, ◌+◌, ◌-◌, ◌*
 ghost use Rattle.std.specs.FinMap.{empty};
 ghost use Rattle.mte_elf.specs.Headers.{segments_of};
 ghost use Rattle.mte_elf.specs.Images.{refusal_of, pages_of as image_pages};
-ghost use Rattle.mte_frames.specs.Pool.{unreserved, reserved_by, taken_by, KeepsOthers};
+ghost use Rattle.mte_frames.specs.Pool.{frames_left, reserved_by, taken_by, KeepsOthers};
 ghost use Rattle.mte_space.specs.Spaces.{IsSpace, KeepsRest, NoneEnters};
 ghost use Rattle.mte_tags.specs.Memory.{no_pages};
 ghost use Rattle.mte_translate.specs.Tables.{pages_of, IsTable, MapsOnce, IsCached};
 ghost use Rattle.mte_translate.specs.Translations.{without_asid};
 ghost use Rattle.scudo_heap.specs.Served.{IsUntouched};
-ghost use Rattle.mte_sched.specs.Ledger.{charge_of};
-ghost use Rattle.mte_sched.specs.Machines.{machine_of, first_memory, advance};
+ghost use Rattle.mte_tenant.specs.Ledger.{charge_of};
+ghost use Rattle.mte_tenant.specs.Machines.{machine_of, first_memory, after_slice};
 ghost use Rattle.mte_sched.specs.Places.{memory_at, IsPlaced};
-ghost use Rattle.mte_sched.specs.Ready.{IsReady};
+ghost use Rattle.mte_tenant.specs.Ready.{IsReady};
 
-use crate::admission::{Admission, charge};
-use crate::machine::{fill, slice};
-use a64_step::Kept;
+use a64_step::OpCache;
 use address_map::{MAX_PAGES, STACK_PAGES};
 use mte_elf::Plan;
 use mte_frames::{FramePool, Quota};
 use mte_space::{Space, pages_of_a_space, unmap_all};
 use mte_svc::TenantParts;
 use mte_tags::{TagMode, TagState};
+use mte_tenant::{Admission, charge, fill, slice};
 use mte_translate::{Table, Tlb};
 
 /// A live tenant's table, its quota and its tag state.
 #[derive(Drop)]
-pub struct Place {
+pub struct TenantMemory {
     pub(crate) table: Table,
     pub(crate) quota: Quota,
     pub(crate) state: TagState,
@@ -42,13 +41,13 @@ pub(crate) fn start_place(
     asid: usize,
     admission: &Admission<'_>,
     plan: &Plan,
-) -> Place
+) -> TenantMemory
     requires image { refusal_of admission.now.image.now ≡ None }
     requires segments { plan.now.segments.items ≡ segments_of admission.now.image.now }
     requires room { image_pages admission.now.image.now + STACK_PAGES ≤ admission.now.pages }
     requires some { 0 < admission.now.pages }
     requires most { admission.now.pages ≤ MAX_PAGES }
-    requires frames { charge_of admission.now.pages ≤ unreserved pool.old }
+    requires frames { charge_of admission.now.pages ≤ frames_left pool.old }
     requires fresh { All (λ u. u.asid ≢ asid) tlb.old }
     ensures placed { IsPlaced pool.new tlb.new asid admission.now.pages result }
     ensures memory { memory_at pool.new result admission.now.pages
@@ -64,16 +63,15 @@ pub(crate) fn start_place(
 {
     pages_of_a_space();
     let mut place = reserve_place(pool, admission.pages, admission.mode);
-    // what holds of every pool is in its contract
-    let _ = pool.frames();
+    pool.recall();
     fill_place(pool, tlb, asid, admission, plan, &mut place);
-    let _ = pool.frames();
+    pool.recall();
     place
 }
 
 /// Reserves a new tenant's charge, and makes a table that maps nothing.
-fn reserve_place(pool: &mut FramePool, pages: u32, mode: TagMode) -> Place
-    requires frames { charge_of pages ≤ unreserved pool.old }
+fn reserve_place(pool: &mut FramePool, pages: u32, mode: TagMode) -> TenantMemory
+    requires frames { charge_of pages ≤ frames_left pool.old }
     ensures table { IsTable pool.new result.quota result.table }
     ensures none { pages_of pool.new result.table.frame ≡ empty }
     ensures once { MapsOnce (pages_of pool.new result.table.frame) }
@@ -86,8 +84,7 @@ fn reserve_place(pool: &mut FramePool, pages: u32, mode: TagMode) -> Place
     ensures reserved { sum pool.new.reserved ≡ sum pool.old.reserved + charge_of pages }
     ensures others { KeepsOthers result.quota pool.old pool.new }
 {
-    // what holds of every pool is in its contract
-    let _ = pool.frames();
+    pool.recall();
     let mut quota = match pool.reserve(charge(pages) as usize) {
         Ok(quota) => quota,
         Err(_) => unreachable!(),
@@ -97,7 +94,7 @@ fn reserve_place(pool: &mut FramePool, pages: u32, mode: TagMode) -> Place
         mode,
         pending: false,
     };
-    Place {
+    TenantMemory {
         table,
         quota,
         state,
@@ -111,7 +108,7 @@ fn fill_place(
     asid: usize,
     admission: &Admission<'_>,
     plan: &Plan,
-    place: &mut Place,
+    place: &mut TenantMemory,
 )
     requires image { refusal_of admission.now.image.now ≡ None }
     requires segments { plan.now.segments.items ≡ segments_of admission.now.image.now }
@@ -156,20 +153,20 @@ fn fill_place(
 
 /// Lets a tenant attempt at most `steps` instructions over its place.
 pub(crate) fn slice_place(
-    kept: &mut Kept,
+    kept: &mut OpCache,
     pool: &mut FramePool,
     tlb: &mut Tlb,
     asid: usize,
     pages: u32,
     parts: &mut TenantParts,
-    place: &mut Place,
+    place: &mut TenantMemory,
     steps: u32,
 )
     requires placed { IsPlaced pool.old tlb.old asid pages place.old }
     requires ready { IsReady parts.old (memory_at pool.old place.old pages) }
     ensures ready { IsReady parts.new (memory_at pool.new place.new pages) }
     ensures machine { machine_of parts.new (memory_at pool.new place.new pages)
-        ≡ advance steps (machine_of parts.old (memory_at pool.old place.old pages)) }
+        ≡ after_slice steps (machine_of parts.old (memory_at pool.old place.old pages)) }
     ensures space { IsSpace pool.new place.new.quota place.new.table pages }
     ensures cached { IsCached (pages_of pool.new place.new.table.frame) asid tlb.new }
     ensures rest { KeepsRest place.old.quota pool.old pool.new place.old.table place.new.table }
@@ -189,22 +186,27 @@ pub(crate) fn slice_place(
 }
 
 /// Gives all frames of a place back, ends its quota, and forgets its translations.
-pub(crate) fn stop_place(pool: &mut FramePool, tlb: &mut Tlb, asid: usize, pages: u32, place: Place)
+pub(crate) fn stop_place(
+    pool: &mut FramePool,
+    tlb: &mut Tlb,
+    asid: usize,
+    pages: u32,
+    place: TenantMemory,
+)
     requires { IsPlaced pool.old tlb.old asid pages place }
     ensures others { KeepsOthers place.quota pool.old pool.new }
     ensures reserved { sum pool.new.reserved + charge_of pages ≡ sum pool.old.reserved }
     ensures entries { tlb.new ≡ without_asid asid tlb.old }
     ensures capacities { pool.new.capacities ≡ pool.old.capacities }
 {
-    let Place {
+    let TenantMemory {
         mut table,
         mut quota,
         ..
     } = place;
-    // what holds of every pool is in its contract
-    let _ = pool.frames();
+    pool.recall();
     unmap_all(pool, &mut table, &mut quota, pages as usize);
-    let _ = pool.frames();
+    pool.recall();
     tlb.forget_all(asid);
     table.close(pool, &mut quota);
     pool.release(quota);

@@ -1,9 +1,9 @@
 //! What a host asks of a tenant.
 
 ghost use Rattle.std.specs.Prelude.{◌≡◌, ◌==◌, ◌&&◌, option_map};
-ghost use Rattle.mte_sched.specs.Ledger.{has_id, has_live_id};
+ghost use Rattle.mte_tenant.specs.Ledger.{has_id, has_live_id};
 ghost use Rattle.mte_sched.specs.Tenants.{record_in, entry_in};
-ghost use Rattle.mte_sched.specs.Views.{found_by, HasSomeTable};
+ghost use Rattle.mte_sched.specs.Views.{find_page_cases, HasSomeTable};
 
 use crate::tenant::{Holding, Tenant};
 use mte_frames::FramePool;
@@ -15,7 +15,7 @@ impl Tenant {
         ensures { result.now ≡ record_in self.now }
     {
         match &self.holding {
-            Holding::Live(live) => &live.parts.account,
+            Holding::Live(live) => &live.parts.log,
             Holding::Gone(record) => record,
         }
     }
@@ -47,7 +47,7 @@ impl Tenant {
     /// The frame of a page, by its table.
     pub(crate) fn find_frame(&self, pool: &FramePool, page: u64) -> Option<usize>
         requires { HasSomeTable pool.now self.now.holding }
-        ensures { result ≡ option_map (λ x. x.0) (found_by pool.now page self.now.holding) }
+        ensures { result ≡ option_map (λ x. x.0) (find_page_cases pool.now page self.now.holding) }
     {
         match &self.holding {
             Holding::Live(live) => {

@@ -1,22 +1,22 @@
 //! One tenant's turn, beside the others: a slice, a stop.
 
 ghost use Rattle.std.specs.Prelude.{◌≡◌, ◌+◌, map, length, count_by, vec_capacity};
-ghost use Rattle.mte_sched.specs.Contents.{tenant_sliced, tenant_stopped};
-ghost use Rattle.mte_sched.specs.Ledger.{is_live};
+ghost use Rattle.mte_sched.specs.Contents.{tenant_after_slice, tenant_after_stop};
+ghost use Rattle.mte_tenant.specs.Ledger.{is_live};
 ghost use Rattle.mte_sched.specs.Tenants.{tenants_in, entries_in};
 ghost use Rattle.mte_sched.specs.Sharing.{IsSharing, HasLiveAt};
 
-use crate::machine::halt;
 use crate::place::{slice_place, stop_place};
 use crate::tenant::{Holding, Live, Tenant};
-use a64_step::Kept;
+use a64_step::OpCache;
 use mte_frames::FramePool;
 use mte_svc::TenantParts;
+use mte_tenant::halt;
 use mte_translate::Tlb;
 
 /// A slice of the tenant that has the number, and of no other.
 pub(crate) fn slice_at(
-    kept: &mut Kept,
+    kept: &mut OpCache,
     pool: &mut FramePool,
     tlb: &mut Tlb,
     tenants: &mut [Tenant],
@@ -30,12 +30,11 @@ pub(crate) fn slice_at(
     ensures frames { length pool.new.frames ≡ length pool.old.frames }
     ensures capacities { pool.new.capacities ≡ pool.old.capacities }
     ensures tenants { tenants_in pool.new tenants.new
-        ≡ map (tenant_sliced id steps) (tenants_in pool.old tenants.old) }
+        ≡ map (tenant_after_slice id steps) (tenants_in pool.old tenants.old) }
 {
     let tenant = &mut tenants[asid];
     if let Holding::Live(live) = &mut tenant.holding {
-        // what holds of every pool is in its contract
-        let _ = pool.frames();
+        pool.recall();
         slice_place(
             kept,
             pool,
@@ -46,7 +45,7 @@ pub(crate) fn slice_at(
             &mut live.place,
             steps,
         );
-        let _ = pool.frames();
+        pool.recall();
     }
 }
 
@@ -66,7 +65,7 @@ pub(crate) fn stop_at(
     ensures capacities { pool.new.capacities ≡ pool.old.capacities }
     ensures room { vec_capacity tenants.new ≡ vec_capacity tenants.old }
     ensures tenants { tenants_in pool.new tenants.new.items
-        ≡ map (tenant_stopped id) (tenants_in pool.old tenants.old.items) }
+        ≡ map (tenant_after_stop id) (tenants_in pool.old tenants.old.items) }
     ensures live { count_by is_live (entries_in tenants.new.items) + 1
         ≡ count_by is_live (entries_in tenants.old.items) }
 {
@@ -79,11 +78,11 @@ pub(crate) fn stop_at(
     let mut parts = Box::into_inner(parts);
     halt(&mut parts);
     stop_place(pool, tlb, asid, pages, place);
-    let TenantParts { account, .. } = parts;
+    let TenantParts { log, .. } = parts;
     let last = tenants.len();
     tenants.push_reserved(Tenant {
         pages,
-        holding: Holding::Gone(account),
+        holding: Holding::Gone(log),
     });
     tenants.swap(asid, last);
 }

@@ -14,9 +14,9 @@ use Rattle.mte_script.specs.declared.error.ScriptFault.{ScriptFault}
 use Rattle.mte_script.specs.declared.error.ScriptFault.TheVariants.{TooManyEvents}
 use Rattle.mte_script.specs.declared.error.ScriptError.{ScriptError}
 use Rattle.mte_script.specs.Faults.{IsLineFault, IsFirstFault}
-use Rattle.mte_script.specs.Scripts.{after_event, events_from, event_of_line, read_on, pieces_at}
+use Rattle.mte_script.specs.Scripts.{after_event, events_from, event_of_line, read_cases, pieces_at}
 use Rattle.mte_script.specs.Scripts.{piece_len_of, words_of, digits_value, is_digit, line_of}
-use Rattle.mte_script.specs.Scripts.{event_by, event_of_words, starts_comment}
+use Rattle.mte_script.specs.Scripts.{event_cases, event_of_words, starts_comment}
 
 -- How much of a text is left to cut.
 abbrev pub measure_of : Option (Bor (List ℕ)) → ℕ
@@ -53,15 +53,15 @@ line_of-first words = elim (cases_lt 14 (length words)) [
 -- The words that are read say what a line is.
 pub event_of-first : (files : ℕ) (words : List (List ℕ)) → event_of_words files (take 14 words) ≡ event_of_words files words
 event_of-first files [] = refl
-event_of-first files (word ∷ more) = ap (λ t. Some (event_by files t)) (line_of-first (word ∷ more))
+event_of-first files (word ∷ more) = ap (λ t. Some (event_cases files t)) (line_of-first (word ∷ more))
 
-words_event : (files : ℕ) (ws : List (List ℕ)) → 0 < length ws → event_of_words files ws ≡ Some (event_by files (line_of ws))
+words_event : (files : ℕ) (ws : List (List ℕ)) → 0 < length ws → event_of_words files ws ≡ Some (event_cases files (line_of ws))
 words_event files [] some = absurd (omega (arith, some))
 words_event files (word ∷ more) some = refl
 
 -- the event of a line whose first words were read
 pub line_event : (files : ℕ) (line : List ℕ) (ws : List (List ℕ)) (r : Result Event ScriptFault) → starts_comment line ≡ false → ws ≡ take 14 (words_of line) → 0 < length ws
-    → r ≡ event_by files (line_of ws) → event_of_line files line ≡ Some r
+    → r ≡ event_cases files (line_of ws) → event_of_line files line ≡ Some r
 unfolding event_of_line
 line_event files line ws r other first some is =
     cond-false _ _ _ other
@@ -215,30 +215,30 @@ fewer_left text (Some rest) h = let k : length rest.now < length text.now = h in
 -- The first line of what is left of a script.
 pub unroll : (files n k : ℕ) (events : List Event) (text line : List ℕ) (more : Option (Bor (List ℕ))) (all : Result (List Event) (ℕ × ScriptFault))
     → pieces_at 10 text ≡ line ∷ lines_left more → behind events (events_from files (pieces_at 10 text) n k) ≡ all
-    → behind events (read_on (event_of_line files line) n k (events_from files (lines_left more) (n + 1) k) (events_from files (lines_left more) (n + 1) (k + 1))) ≡ all
+    → behind events (read_cases (event_of_line files line) n k (events_from files (lines_left more) (n + 1) k) (events_from files (lines_left more) (n + 1) (k + 1))) ≡ all
 unfolding events_from
 unroll files n k events text line more all e h = rw e at h
 
 -- A line's fault is the script's first.
 pub line_fault : (n k : ℕ) (events : List Event) (o : Option (Result Event ScriptFault)) (x y all : Result (List Event) (ℕ × ScriptFault)) (error : ScriptError)
-    → behind events (read_on o n k x y) ≡ all → IsLineFault n o error → IsFirstFault all error
+    → behind events (read_cases o n k x y) ≡ all → IsLineFault n o error → IsFirstFault all error
 line_fault n k events None x y all error h bad = absurd bad
 line_fault n k events (Some (Ok e)) x y all error h bad = absurd bad
 line_fault n k events (Some (Err fault)) x y all error h bad = rw (← h) bad
 
 pub line_skipped : (n k : ℕ) (events : List Event) (o : Option (Result Event ScriptFault)) (x y all : Result (List Event) (ℕ × ScriptFault))
-    → behind events (read_on o n k x y) ≡ all → None ≡ o → behind events x ≡ all
+    → behind events (read_cases o n k x y) ≡ all → None ≡ o → behind events x ≡ all
 line_skipped n k events o x y all h e = rw (← e) at h
 
 pub line_taken : (n k : ℕ) (events : List Event) (o : Option (Result Event ScriptFault)) (x y all : Result (List Event) (ℕ × ScriptFault)) (e : Event)
-    → behind events (read_on o n k x y) ≡ all → Some (Ok e) ≡ o → k < 10000 → behind (events ++ e ∷ []) y ≡ all
+    → behind events (read_cases o n k x y) ≡ all → Some (Ok e) ≡ o → k < 10000 → behind (events ++ e ∷ []) y ≡ all
 line_taken n k events o x y all e h same few =
     let test : nat_lt k 10000 ≡ true = lt-ltb k 10000 few in
     let at = rw (← same, test) at h in
     sym (behind_push events e y) ∙ at
 
 pub line_over : (n k : ℕ) (events : List Event) (o : Option (Result Event ScriptFault)) (x y all : Result (List Event) (ℕ × ScriptFault)) (e : Event)
-    → behind events (read_on o n k x y) ≡ all → Some (Ok e) ≡ o → 10000 ≤ k → Err (n, TooManyEvents) ≡ all
+    → behind events (read_cases o n k x y) ≡ all → Some (Ok e) ≡ o → 10000 ≤ k → Err (n, TooManyEvents) ≡ all
 line_over n k events o x y all e h same many =
     let test : nat_lt k 10000 ≡ false = le-ltb k 10000 many in
     rw (← same, test) at h

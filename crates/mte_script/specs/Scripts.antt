@@ -59,24 +59,24 @@ decimal_of word =
     if nat_lt 0 (length word) && nat_le (length word) 10 && list_all is_digit word
     then Some (digits_value word) else None
 
-abbrev pub seed_by : Result (List ℕ) FromHexError → Option ℕ
-seed_by (Ok bytes) = Some (from_be_bytes w64 bytes)
-seed_by (Err e) = None
+abbrev pub seed_cases : Result (List ℕ) FromHexError → Option ℕ
+seed_cases (Ok bytes) = Some (from_be_bytes w64 bytes)
+seed_cases (Err e) = None
 
 -- The number of 16 hexadecimal digits of either case.
 unfoldable pub seed_of : List ℕ → Option ℕ
-seed_of word = seed_by (decode_sized word 8)
+seed_of word = seed_cases (decode_sized word 8)
 
 abbrev pub is_word : List ℕ → List ℕ → Bool
 is_word word text = (length word == length text) && starts_with nat_eq word text
 
-abbrev pub stop_by : Option ℕ → Option Line
-stop_by id = option_map raw.Stop id
+abbrev pub stop_cases : Option ℕ → Option Line
+stop_cases id = option_map raw.Stop id
 
-abbrev pub slice_by : Option ℕ → Option ℕ → Option Line
-slice_by (Some id) (Some steps) = Some (raw.Slice id steps)
-slice_by (Some id) None = None
-slice_by None steps = None
+abbrev pub slice_cases : Option ℕ → Option ℕ → Option Line
+slice_cases (Some id) (Some steps) = Some (raw.Slice id steps)
+slice_cases (Some id) None = None
+slice_cases None steps = None
 
 abbrev pub admit_by : Option ℕ → Option ℕ → Option ℕ → Option ℕ → Option ℕ → Option ℕ
     → TagMode → Option Line
@@ -92,11 +92,11 @@ admit_by None image input seed pages room mode = None
 -- `stop ID`, `slice ID STEPS`, and `admit ID image I input J seed HEX16 frames R out O`, after
 -- which one more word `async` may follow: the mode is synchronous without it.
 unfoldable pub stop_line : List ℕ → List ℕ → Option Line
-stop_line verb id = if is_word verb (codes "stop") then stop_by (decimal_of id) else None
+stop_line verb id = if is_word verb (codes "stop") then stop_cases (decimal_of id) else None
 
 unfoldable pub slice_line : List ℕ → List ℕ → List ℕ → Option Line
 slice_line verb id steps =
-    if is_word verb (codes "slice") then slice_by (decimal_of id) (decimal_of steps) else None
+    if is_word verb (codes "slice") then slice_cases (decimal_of id) (decimal_of steps) else None
 
 unfoldable pub admit_line : List ℕ → List ℕ → List ℕ → List ℕ → List ℕ → List ℕ
     → List ℕ → List ℕ → List ℕ → List ℕ → List ℕ → List ℕ → TagMode → Option Line
@@ -141,13 +141,13 @@ event_or None e = Ok e
 event_or (Some fault) e = Err fault
 
 -- A line's event, or the first limit that it breaks; `files` is how many files there are.
-unfoldable pub limited_of : ℕ → Line → Result Event ScriptFault
-limited_of files (raw.Stop id) =
+unfoldable pub checked_event : ℕ → Line → Result Event ScriptFault
+checked_event files (raw.Stop id) =
     event_or (first_fault_of ((nat_lt 65535 id, BadNumber) ∷ [])) (event.Stop id)
-limited_of files (raw.Slice id steps) = event_or
+checked_event files (raw.Slice id steps) = event_or
     (first_fault_of ((nat_lt 65535 id, BadNumber) ∷ (nat_lt MAX_STEPS steps, BadNumber) ∷ []))
     (event.Slice id steps)
-limited_of files (raw.Admit id image input seed pages room mode) = event_or
+checked_event files (raw.Admit id image input seed pages room mode) = event_or
     (first_fault_of (
     (nat_lt 65535 id, BadNumber)
     ∷ (nat_lt 4294967295 image, BadNumber) ∷ (nat_lt 4294967295 input, BadNumber)
@@ -155,9 +155,9 @@ limited_of files (raw.Admit id image input seed pages room mode) = event_or
     ∷ ((image == 0) || nat_lt files image || nat_lt files input, NoSuchFile) ∷ []))
     (event.Admit id image input seed pages room mode)
 
-abbrev pub event_by : ℕ → Option Line → Result Event ScriptFault
-event_by files None = Err Syntax
-event_by files (Some line) = limited_of files line
+abbrev pub event_cases : ℕ → Option Line → Result Event ScriptFault
+event_cases files None = Err Syntax
+event_cases files (Some line) = checked_event files line
 
 abbrev pub starts_comment : List ℕ → Bool
 starts_comment [] = false
@@ -167,7 +167,7 @@ starts_comment (b ∷ more) = b == 35
 -- `#` have none.
 abbrev pub event_of_words : ℕ → List (List ℕ) → Option (Result Event ScriptFault)
 event_of_words files [] = None
-event_of_words files (word ∷ more) = Some (event_by files (line_of (word ∷ more)))
+event_of_words files (word ∷ more) = Some (event_cases files (line_of (word ∷ more)))
 
 unfoldable pub event_of_line : ℕ → List ℕ → Option (Result Event ScriptFault)
 event_of_line files line =
@@ -182,15 +182,15 @@ after_event e (Ok more) = Ok (e ∷ more)
 after_event e (Err fault) = Err fault
 
 -- The line's number is n, and k events stand before it: a script has at most 10000.
-abbrev pub read_on : Option (Result Event ScriptFault) → ℕ → ℕ → Parsed → Parsed → Parsed
-read_on None n k skipped taken = skipped
-read_on (Some (Err fault)) n k skipped taken = Err (n, fault)
-read_on (Some (Ok e)) n k skipped taken =
+abbrev pub read_cases : Option (Result Event ScriptFault) → ℕ → ℕ → Parsed → Parsed → Parsed
+read_cases None n k skipped taken = skipped
+read_cases (Some (Err fault)) n k skipped taken = Err (n, fault)
+read_cases (Some (Ok e)) n k skipped taken =
     if nat_lt k 10000 then after_event e taken else Err (n, TooManyEvents)
 
 unfoldable pub events_from : ℕ → List (List ℕ) → ℕ → ℕ → Parsed
 events_from files [] n k = Ok []
-events_from files (line ∷ more) n k = read_on (event_of_line files line) n k
+events_from files (line ∷ more) n k = read_cases (event_of_line files line) n k
     (events_from files more (n + 1) k) (events_from files more (n + 1) (k + 1))
 
 -- A script's events, or the number of its first faulty line and its first fault; `files` is how

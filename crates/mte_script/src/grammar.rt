@@ -1,8 +1,8 @@
 //! The event of a line's words.
 
 ghost use Rattle.std.specs.Prelude.{◌≡◌, ◌≤◌, length, map};
-ghost use Rattle.mte_script.specs.Scripts.{event_by, line_of, decimal_of, seed_of, stop_line};
-ghost use Rattle.mte_script.specs.Scripts.{slice_line, admit_by, limited_of};
+ghost use Rattle.mte_script.specs.Scripts.{event_cases, line_of, decimal_of, seed_of, stop_line};
+ghost use Rattle.mte_script.specs.Scripts.{slice_line, admit_by, checked_event};
 ghost use Rattle.mte_script.specs.Scripts.{admission_of, admission_in};
 
 use crate::error::ScriptFault;
@@ -40,7 +40,7 @@ enum Line {
 
 /// The event of some words.
 pub fn event_of(words: &[&[u8]], files: usize) -> Result<Event, ScriptFault>
-    ensures { result ≡ event_by files (line_of (map (λ w. w.now) words.now)) }
+    ensures { result ≡ event_cases files (line_of (map (λ w. w.now) words.now)) }
 {
     match read_line(words) {
         None => Err(ScriptFault::Syntax),
@@ -151,9 +151,9 @@ fn read_admit(
 }
 
 /// A line's event, or the first limit that it breaks.
-#[tactic(auto, unfolding(crate::specs::Scripts::limited_of))]
+#[tactic(auto, unfolding(crate::specs::Scripts::checked_event))]
 fn limited(line: Line, files: usize) -> Result<Event, ScriptFault>
-    ensures { result ≡ limited_of files line }
+    ensures { result ≡ checked_event files line }
 {
     match line {
         Line::Stop { id } => {

@@ -7,15 +7,15 @@ use Rattle.mte_svc.specs.declared.record.Record.{Record}
 use Rattle.std.specs.List.{concat}
 use Rattle.std.proofs.lemmas.List.{append-nil, take-append-drop, take_more, map-append}
 use Rattle.mte_streams.specs.declared.writing.WriteFault.{WriteFault}
-use Rattle.mte_streams.specs.Known.{appended, counted}
+use Rattle.mte_streams.specs.Known.{append_known, add_known}
 use Rattle.mte_streams.specs.Writing.{WriteLog, WroteAll, WrotePart, Writes}
-use Rattle.mte_streams.proofs.KnownLemmas.{appended-appended, appended-nil}
+use Rattle.mte_streams.proofs.KnownLemmas.{append-known-append-known, append-known-nil}
 use Rattle.hex.specs.Hex.{encode_lower, encode_with, lower_digits}
 use Rattle.std.proofs.Math.Seq.{take-add}
 
 pub then_all : (a b c : WriteLog) (s t : List ℕ) → WroteAll a b s → WroteAll b c t → WroteAll a c (s ++ t)
 then_all a b c s t p q = record {
-  taken = q.taken ∙ ap (λ k. appended k t) p.taken ∙ appended-appended a.taken s t;
+  taken = q.taken ∙ ap (λ k. append_known k t) p.taken ∙ append-known-append-known a.taken s t;
   failures = q.failures ∙ p.failures;
 }
 
@@ -24,8 +24,8 @@ then_part a b c s t p q = record {
   done = s ++ q.done;
   rest = q.rest;
   whole = ap (λ k. s ++ k) q.whole ∙ sym (append_assoc s q.done q.rest);
-  taken = q.taken ∙ ap (λ k. appended k q.done) p.taken ∙ appended-appended a.taken s q.done;
-  failures = q.failures ∙ ap (λ k. counted k 1) p.failures;
+  taken = q.taken ∙ ap (λ k. append_known k q.done) p.taken ∙ append-known-append-known a.taken s q.done;
+  failures = q.failures ∙ ap (λ k. add_known k 1) p.failures;
 }
 
 -- A text after one that was written, by the second's result.
@@ -78,7 +78,7 @@ then_part_more a b c f xs i d below p q =
     rw whole (part_more a c _ (concat (map f (drop (i + 1) xs))) (then_part a b c (concat (map f (take i xs))) (f (get_or xs i d)) p q))
 
 pub wrote_none : (a : WriteLog) → WroteAll a a []
-wrote_none a = record { taken = sym (appended-nil a.taken); failures = refl }
+wrote_none a = record { taken = sym (append-known-nil a.taken); failures = refl }
 
 pub encode_lower-append : (xs ys : List ℕ) → encode_lower (xs ++ ys) ≡ encode_lower xs ++ encode_lower ys
 unfolding encode_with

@@ -4,48 +4,48 @@ use Rattle.std.proofs.Common.{Option, Some, None, refl, ap, sym, ◌∙◌, arit
 use Rattle.std.proofs.Common.{append_assoc}
 use Rattle.std.proofs.lemmas.List.{drop_more, nil_from_length, append-nil}
 use Rattle.mte_script.specs.declared.event.Event.{Event}
-use Rattle.mte_sched.specs.declared.refusal.Refusal.{Refusal}
-use Rattle.mte_sched.specs.declared.refusal.Refused.{Refused}
+use Rattle.mte_tenant.specs.declared.refusal.Refusal.{Refusal}
+use Rattle.mte_tenant.specs.declared.refusal.Refused.{Refused}
 use Rattle.mte_sched.specs.declared.tenant.Tenant as code
 use Rattle.mte_sched.specs.declared.tenant.Holding.{Holding}
 use Rattle.mte_sched.specs.declared.tenant.Holding.TheVariants as kept
-use Rattle.mte_sched.specs.Ledger.{Call, Admit, Slice, Stop, Entry, call_refusal, entered_by}
-use Rattle.mte_sched.specs.Lives.{Session, Life, lives, refused, refused_from, refused_by}
-use Rattle.mte_sched.specs.Contents.{Content, ledger_of, admitted, sliced, stopped, after_call, after_by, played, empty, record_of, tenant_of}
+use Rattle.mte_tenant.specs.Ledger.{Call, Admit, Slice, Stop, LedgerEntry, call_refusal, ledger_cases}
+use Rattle.mte_sched.specs.Lives.{Session, Life, lives, refusals, refusals_from, refusal_cases}
+use Rattle.mte_sched.specs.Contents.{Content, ledger_of, after_admit, after_slice_of, after_stop_of, after_call, after_call_cases, after_calls, empty, record_of, tenant_of}
 use Rattle.mte_sched.specs.declared.host.Host.{Host}
 use Rattle.mte_sched.specs.Hosts.{pool_of}
-use Rattle.mte_sched.specs.Tenants.{held_by, record_by, tenants_in, record_in}
+use Rattle.mte_sched.specs.Tenants.{state_of_holding, record_of_holding, tenants_in, record_in}
 use Rattle.mte_sched.specs.Isolation.{LedgerFollows, TenantsAreAlone, content_after}
 use Rattle.mte_session.specs.Sessions.{call_of, calls_of, session_of, session_text, tenant_texts, life_text, life_texts, refused_texts}
-use Rattle.mte_session.specs.Progress.{Progress, record_texts, refusal_in, run_by, run_on, run_all, progress_text}
+use Rattle.mte_session.specs.Progress.{Progress, record_texts, refusal_in, play_cases, after_event, run_all, progress_text}
 use Rattle.mte_session.specs.Report.{record_text}
 
 abbrev pub at : Content → List Refused → Progress
-at c refused = record { content = c; refused = refused }
+at c refusals = record { content = c; refused = refusals }
 
 pub run_step : (files : List (List ℕ)) (p : Progress) (events : List Event) (i : ℕ) (d : Event) → i < length events
-    → run_all p (calls_of files (drop i events)) (i + 1) ≡ run_all (run_on p (call_of files (get_or events i d)) (i + 1)) (calls_of files (drop (i + 1) events)) (i + 1 + 1)
+    → run_all p (calls_of files (drop i events)) (i + 1) ≡ run_all (after_event p (call_of files (get_or events i d)) (i + 1)) (calls_of files (drop (i + 1) events)) (i + 1 + 1)
 unfolding run_all
 run_step files p events i d below = rw (drop_more events i d below) refl
 
 -- A call that is not refused.
-pub run_accepted : (files : List (List ℕ)) (c new : Content) (refused : List Refused) (events : List Event) (i : ℕ) (d : Event) (all : Progress) → i < length events
+pub run_accepted : (files : List (List ℕ)) (c new : Content) (refusals : List Refused) (events : List Event) (i : ℕ) (d : Event) (all : Progress) → i < length events
     → refusal_in c (call_of files (get_or events i d)) ≡ None → new ≡ after_call c (call_of files (get_or events i d))
-    → run_all (at c refused) (calls_of files (drop i events)) (i + 1) ≡ all → run_all (at new refused) (calls_of files (drop (i + 1) events)) (i + 1 + 1) ≡ all
-unfolding run_on
-run_accepted files c new refused events i d all below e_none e_new h =
-    let step = sym (run_step files (at c refused) events i d below) ∙ h in
+    → run_all (at c refusals) (calls_of files (drop i events)) (i + 1) ≡ all → run_all (at new refusals) (calls_of files (drop (i + 1) events)) (i + 1 + 1) ≡ all
+unfolding after_event
+run_accepted files c new refusals events i d all below e_none e_new h =
+    let step = sym (run_step files (at c refusals) events i d below) ∙ h in
     let k = rw e_none at step in
     rw e_new k
 
 -- And one that is.
-pub run_refused : (files : List (List ℕ)) (c new : Content) (refused : List Refused) (r : Refusal) (events : List Event) (i : ℕ) (d : Event) (all : Progress) → i < length events
+pub run_refused : (files : List (List ℕ)) (c new : Content) (refusals : List Refused) (r : Refusal) (events : List Event) (i : ℕ) (d : Event) (all : Progress) → i < length events
     → refusal_in c (call_of files (get_or events i d)) ≡ Some r → new ≡ c
-    → run_all (at c refused) (calls_of files (drop i events)) (i + 1) ≡ all
-    → run_all (at new (refused ++ (record { event = i + 1; refusal = r }) ∷ [])) (calls_of files (drop (i + 1) events)) (i + 1 + 1) ≡ all
-unfolding run_on
-run_refused files c new refused r events i d all below e_some e_new h =
-    let step = sym (run_step files (at c refused) events i d below) ∙ h in
+    → run_all (at c refusals) (calls_of files (drop i events)) (i + 1) ≡ all
+    → run_all (at new (refusals ++ (record { event = i + 1; refusal = r }) ∷ [])) (calls_of files (drop (i + 1) events)) (i + 1 + 1) ≡ all
+unfolding after_event
+run_refused files c new refusals r events i d all below e_some e_new h =
+    let step = sym (run_step files (at c refusals) events i d below) ∙ h in
     let k = rw e_some at step in
     rw e_new k
 
@@ -63,30 +63,30 @@ not_first (inr b) f = b
 
 abbrev pub Ends : LedgerFollows → Content → List Refused → List Call → ℕ → Type 0
 Ends law c done calls n =
-    run_all (at c done) calls n ≡ at (played c calls) (done ++ refused_from c.frames (ledger_of c) calls n)
+    run_all (at c done) calls n ≡ at (after_calls c calls) (done ++ refusals_from c.frames (ledger_of c) calls n)
 
 kept_frames : (c : Content) (e : Call) → (after_call c e).frames ≡ c.frames
-unfolding after_call admitted sliced stopped
+unfolding after_call after_admit after_slice_of after_stop_of
 kept_frames c (Admit id terms) = refl
 kept_frames c (Slice id n) = refl
 kept_frames c (Stop id) = refl
 
 ends_next : (law : LedgerFollows) (r : Option Refusal) (e : Call) (more : List Call) (c : Content) (done : List Refused) (n : ℕ)
     → ((d : Content) (l : List Refused) → Ends law d l more (n + 1))
-    → run_all (run_by r (at c done) e n) more (n + 1)
-    ≡ at (played (after_by r c e) more) (done ++ (refused_by r n ++ refused_from c.frames (entered_by r (ledger_of c) e) more (n + 1)))
+    → run_all (play_cases r (at c done) e n) more (n + 1)
+    ≡ at (after_calls (after_call_cases r c e) more) (done ++ (refusal_cases r n ++ refusals_from c.frames (ledger_cases r (ledger_of c) e) more (n + 1)))
 ends_next law (Some r) e more c done n rest =
     rest c (done ++ (record { event = n; refusal = r }) ∷ [])
-    ∙ ap (λ l. at (played c more) l) (append_assoc done ((record { event = n; refusal = r }) ∷ []) (refused_from c.frames (ledger_of c) more (n + 1)))
+    ∙ ap (λ l. at (after_calls c more) l) (append_assoc done ((record { event = n; refusal = r }) ∷ []) (refusals_from c.frames (ledger_of c) more (n + 1)))
 ends_next law None e more c done n rest =
     let follows = law c e in
     let frames : (after_call c e).frames ≡ c.frames = kept_frames c e in
     rest (after_call c e) done
-    ∙ ap (λ (f : ℕ). at (played (after_call c e) more) (done ++ refused_from f (ledger_of (after_call c e)) more (n + 1))) frames
-    ∙ ap (λ (l : List Entry). at (played (after_call c e) more) (done ++ refused_from c.frames l more (n + 1))) follows
+    ∙ ap (λ (f : ℕ). at (after_calls (after_call c e) more) (done ++ refusals_from f (ledger_of (after_call c e)) more (n + 1))) frames
+    ∙ ap (λ (l : List LedgerEntry). at (after_calls (after_call c e) more) (done ++ refusals_from c.frames l more (n + 1))) follows
 
 pub ends : (law : LedgerFollows) (calls : List Call) (c : Content) (done : List Refused) (n : ℕ) → Ends law c done calls n
-unfolding run_all run_on played refused_from
+unfolding run_all after_event after_calls refusals_from
 ends law [] c done n = ap (λ l. at c l) (sym (append-nil done))
 ends law (e ∷ more) c done n =
     ends_next law (call_refusal c.frames (ledger_of c) e) e more c done n (λ d l. ends law more d l (n + 1))
@@ -105,12 +105,12 @@ pub session_text_is : (law : LedgerFollows) (alone : TenantsAreAlone) (frames : 
 unfolding session_text
 session_text_is law alone frames files events c done h =
     let s = session_of frames files events in
-    let whole : at (content_after s) (refused s) ≡ at c done = sym (ends law s.calls (empty frames) [] 1) ∙ h in
-    ap (λ t. refused_texts (refused s) ++ t) (sym (concat_lives s alone)) ∙ ap progress_text whole
+    let whole : at (content_after s) (refusals s) ≡ at c done = sym (ends law s.calls (empty frames) [] 1) ∙ h in
+    ap (λ t. refused_texts (refusals s) ++ t) (sym (concat_lives s alone)) ∙ ap progress_text whole
 
 -- ---- a tenant's record
 
-tenant_record : (h : Host) (pages : ℕ) (o : Holding) → record_of (held_by (pool_of h) pages o) ≡ record_by o
+tenant_record : (h : Host) (pages : ℕ) (o : Holding) → record_of (state_of_holding (pool_of h) pages o) ≡ record_of_holding o
 tenant_record h pages (kept.Live l) = refl
 tenant_record h pages (kept.Gone r) = refl
 

@@ -2,10 +2,10 @@
 -- function that makes the calls cites it.
 use Rattle.std.specs.Prelude.{ℕ, ◌+◌, List, [], ◌∷◌, ◌++◌, map, Option, Some, None}
 use Rattle.std.specs.List.{concat}
-use Rattle.mte_sched.specs.declared.refusal.Refusal.{Refusal}
-use Rattle.mte_sched.specs.declared.refusal.Refused.{Refused}
+use Rattle.mte_tenant.specs.declared.refusal.Refusal.{Refusal}
+use Rattle.mte_tenant.specs.declared.refusal.Refused.{Refused}
 use Rattle.mte_sched.specs.declared.tenant.Tenant as code
-use Rattle.mte_sched.specs.Ledger.{Call, call_refusal}
+use Rattle.mte_tenant.specs.Ledger.{Call, call_refusal}
 use Rattle.mte_sched.specs.Contents.{Content, ledger_of, after_call}
 use Rattle.mte_sched.specs.Tenants.{record_in}
 use Rattle.mte_session.specs.Report.{record_text}
@@ -18,19 +18,19 @@ pub record Progress : Type 0 where
 abbrev pub refusal_in : Content → Call → Option Refusal
 refusal_in c e = call_refusal c.frames (ledger_of c) e
 
-abbrev pub run_by : Option Refusal → Progress → Call → ℕ → Progress
-run_by (Some r) p e n =
+abbrev pub play_cases : Option Refusal → Progress → Call → ℕ → Progress
+play_cases (Some r) p e n =
     record p { refused = p.refused ++ (record { event = n; refusal = r }) ∷ [] }
-run_by None p e n = record p { content = after_call p.content e }
+play_cases None p e n = record p { content = after_call p.content e }
 
 -- One call, the n-th, after others.
-unfoldable pub run_on : Progress → Call → ℕ → Progress
-run_on p e n = run_by (refusal_in p.content e) p e n
+unfoldable pub after_event : Progress → Call → ℕ → Progress
+after_event p e n = play_cases (refusal_in p.content e) p e n
 
 -- Calls in order, the first of them the n-th.
 unfoldable pub run_all : Progress → List Call → ℕ → Progress
 run_all p [] n = p
-run_all p (e ∷ more) n = run_all (run_on p e n) more (n + 1)
+run_all p (e ∷ more) n = run_all (after_event p e n) more (n + 1)
 
 abbrev pub progress_text : Progress → List ℕ
 progress_text p = refused_texts p.refused ++ tenant_texts p.content.tenants

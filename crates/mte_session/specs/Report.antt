@@ -4,23 +4,14 @@ use Rattle.std.specs.Prelude.{codes, decimal}
 use Rattle.std.specs.List.{concat}
 use Rattle.std.specs.Int.{to_be_bytes, w32, w64}
 use Rattle.hex.specs.Hex.{encode_lower}
-use Rattle.mte_tags.specs.declared.fault.FaultKind.{FaultKind}
-use Rattle.mte_tags.specs.declared.fault.FaultKind.TheVariants.{Translation, Permission, TagCheck}
-use Rattle.mte_tags.specs.declared.fault.FaultKind.TheVariants.{Alignment, SpAlignment}
-use Rattle.mte_tags.specs.declared.fault.FaultKind.TheVariants.{PcAlignment}
+use Rattle.mte_tags.specs.FaultNames.{kind_name}
+use Rattle.scudo_heap.specs.AbortNames.{abort_name}
 use Rattle.mte_svc.specs.declared.record.Status.{Status}
 use Rattle.mte_svc.specs.declared.record.Status.TheVariants.{Running, Exited, Faulted, Illegal}
 use Rattle.mte_svc.specs.declared.record.Status.TheVariants.{Breakpoint, AsyncTag, Aborted, Stopped}
-use Rattle.scudo_heap.specs.declared.abort.HeapAbort.{HeapAbort}
-use Rattle.scudo_heap.specs.declared.abort.HeapAbort.TheVariants.{Misaligned, Unmapped}
-use Rattle.scudo_heap.specs.declared.abort.HeapAbort.TheVariants.{HeaderCorrupt, InvalidState}
-use Rattle.scudo_heap.specs.declared.abort.HeapAbort.TheVariants.{NotABlock, AlreadyFree}
 use Rattle.mte_svc.specs.declared.record.Record.{Record}
 use Rattle.mte_svc.specs.declared.calls.HeapCall.{HeapCall}
-use Rattle.mte_svc.specs.declared.calls.HeapService.{HeapService}
-use Rattle.mte_svc.specs.declared.calls.HeapService.TheVariants.{Malloc, Free, Calloc, Realloc}
-use Rattle.mte_svc.specs.declared.calls.HeapService.TheVariants.{Memalign, UsableSize}
-use Rattle.mte_svc.specs.Calls.{Calls}
+use Rattle.mte_svc.specs.Calls.{Calls, service_name}
 
 -- Parts in a row, and the end of the line.
 abbrev pub line : List (List ℕ) → List ℕ
@@ -33,25 +24,9 @@ sixteen_digits n = encode_lower (to_be_bytes w64 n)
 abbrev pub eight_digits : ℕ → List ℕ
 eight_digits n = encode_lower (to_be_bytes w32 n)
 
-abbrev pub kind_name : FaultKind → List ℕ
-kind_name Translation = codes "Translation"
-kind_name Permission = codes "Permission"
-kind_name TagCheck = codes "TagCheck"
-kind_name Alignment = codes "Alignment"
-kind_name SpAlignment = codes "SpAlignment"
-kind_name PcAlignment = codes "PcAlignment"
-
 abbrev pub access_name : Bool → List ℕ
 access_name true = codes "write"
 access_name false = codes "read"
-
-abbrev pub abort_name : HeapAbort → List ℕ
-abort_name Misaligned = codes "Misaligned"
-abort_name Unmapped = codes "Unmapped"
-abort_name HeaderCorrupt = codes "HeaderCorrupt"
-abort_name InvalidState = codes "InvalidState"
-abort_name NotABlock = codes "NotABlock"
-abort_name AlreadyFree = codes "AlreadyFree"
 
 -- A tenant's status, in parts.
 abbrev pub status_parts : Status → List (List ℕ)
@@ -92,14 +67,6 @@ abbrev pub long_output_line : List ℕ → List ℕ
 long_output_line bytes =
     concat (codes "output " ∷ decimal (length bytes) ∷ codes " " ∷ [])
     ++ encode_lower bytes ++ concat (codes "\n" ∷ [])
-
-abbrev pub service_name : HeapService → List ℕ
-service_name Malloc = codes "malloc"
-service_name Free = codes "free"
-service_name Calloc = codes "calloc"
-service_name Realloc = codes "realloc"
-service_name Memalign = codes "memalign"
-service_name UsableSize = codes "usable_size"
 
 -- A heap call: its service, its two arguments, its result.
 unfoldable pub call_line : HeapCall → List ℕ

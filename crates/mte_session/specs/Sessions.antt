@@ -4,13 +4,13 @@ use Rattle.std.specs.Prelude.{unwrap_or, if◌then◌else◌}
 use Rattle.std.specs.List.{concat}
 use Rattle.mte_script.specs.declared.event.Event.{Event}
 use Rattle.mte_script.specs.declared.event.Event.TheVariants as event
-use Rattle.mte_sched.specs.declared.admission.AdmitError.TheVariants.{Image}
-use Rattle.mte_sched.specs.declared.refusal.Refusal.{Refusal}
-use Rattle.mte_sched.specs.declared.refusal.Refusal.TheVariants as refusal
-use Rattle.mte_sched.specs.declared.refusal.Refused.{Refused}
-use Rattle.mte_sched.specs.Names.{refusal_name}
-use Rattle.mte_sched.specs.Ledger.{Call, Admit, Slice, Stop}
-use Rattle.mte_sched.specs.Lives.{Session, Life, lives, refused}
+use Rattle.mte_tenant.specs.declared.admission.AdmitError.TheVariants.{Image}
+use Rattle.mte_tenant.specs.declared.refusal.Refusal.{Refusal}
+use Rattle.mte_tenant.specs.declared.refusal.Refusal.TheVariants as refusal
+use Rattle.mte_tenant.specs.declared.refusal.Refused.{Refused}
+use Rattle.mte_tenant.specs.Names.{refusal_name}
+use Rattle.mte_tenant.specs.Ledger.{Call, Admit, Slice, Stop}
+use Rattle.mte_sched.specs.Lives.{Session, Life, lives, refusals}
 use Rattle.mte_sched.specs.Contents.{Tenant, record_of, tenant_of}
 use Rattle.mte_session.specs.Report.{line, record_text}
 
@@ -54,7 +54,7 @@ refused_text r =
     ∷ prefix_of r.refusal ∷ refusal_name r.refusal ∷ [])
 
 abbrev pub refused_texts : List Refused → List ℕ
-refused_texts refused = concat (map refused_text refused)
+refused_texts refusals = concat (map refused_text refusals)
 
 abbrev pub tenant_text : Tenant → List ℕ
 tenant_text t = record_text (record_of t.held)
@@ -71,4 +71,4 @@ life_texts all = concat (map life_text all)
 
 -- A line for each refused call, then the lines of each admitted tenant.
 unfoldable pub session_text : Session → List ℕ
-session_text s = refused_texts (refused s) ++ life_texts (lives s)
+session_text s = refused_texts (refusals s) ++ life_texts (lives s)

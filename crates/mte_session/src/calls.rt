@@ -3,12 +3,12 @@
 ghost use Rattle.std.specs.Prelude.{◌≡◌, map};
 ghost use Rattle.std.specs.List.{concat};
 ghost use Rattle.mte_streams.specs.Writing.{Writes};
-ghost use Rattle.mte_session.specs.Report.{calls_text, call_line, service_name};
+ghost use Rattle.mte_session.specs.Report.{calls_text, call_line};
 
 use crate::report::write_number_line;
 use crate::text::{sixteen_hex, write_parts};
 use mte_streams::{Sink, WriteFault};
-use mte_svc::{HeapCall, HeapCalls, HeapService};
+use mte_svc::{HeapCall, HeapCalls};
 
 /// Writes how many heap calls there were, and those that are kept.
 pub fn write_calls<W: Sink>(out: &mut W, calls: &HeapCalls) -> Result<(), WriteFault>
@@ -43,7 +43,7 @@ fn write_call<W: Sink>(out: &mut W, call: &HeapCall) -> Result<(), WriteFault>
         out,
         &[
             b"call ",
-            service_text(call.service),
+            call.service.name().as_bytes(),
             b" 0x",
             &sixteen_hex(call.first),
             b" 0x",
@@ -53,18 +53,4 @@ fn write_call<W: Sink>(out: &mut W, call: &HeapCall) -> Result<(), WriteFault>
             b"\n",
         ],
     )
-}
-
-/// The name of a service of the heap.
-fn service_text(service: HeapService) -> &'static [u8]
-    ensures { result.now ≡ service_name service }
-{
-    match service {
-        HeapService::Malloc => b"malloc",
-        HeapService::Free => b"free",
-        HeapService::Calloc => b"calloc",
-        HeapService::Realloc => b"realloc",
-        HeapService::Memalign => b"memalign",
-        HeapService::UsableSize => b"usable_size",
-    }
 }

@@ -147,7 +147,7 @@ fn is_out_of_memory(refusal: &Refusal) -> bool
 #[rattlefmt::skip]
 #[tactic(
     auto,
-    unfolding(mte_sched::specs::Ledger::call_refusal, mte_sched::specs::Contents::after_call)
+    unfolding(mte_tenant::specs::Ledger::call_refusal, mte_sched::specs::Contents::after_call)
 )]
 fn play(alloc: Global, host: &mut Host, event: &Event, files: &[Vec<u8>]) -> Result<(), Refusal>
     ensures accepted { OnOk result

@@ -4,13 +4,13 @@ ghost use Rattle.std.specs.Prelude.{◌≡◌};
 ghost use Rattle.mte_svc.specs.declared.record.Status.TheVariants.{Exited, Faulted, Illegal};
 ghost use Rattle.mte_svc.specs.declared.record.Status.TheVariants.{Breakpoint, AsyncTag, Aborted};
 ghost use Rattle.mte_streams.specs.Writing.{Writes};
-ghost use Rattle.mte_session.specs.Report.{kind_name, access_name, abort_name, status_line};
+ghost use Rattle.mte_session.specs.Report.{access_name, status_line};
 
 use crate::text::{eight_hex, sixteen_hex, write_parts};
 use itoa::Buffer;
 use mte_sched::Status;
 use mte_streams::{Sink, WriteFault};
-use mte_tags::{FaultKind, MemFault};
+use mte_tags::MemFault;
 use scudo_heap::HeapAbort;
 
 /// Writes the line of a status.
@@ -51,7 +51,7 @@ fn write_fault_line<W: Sink>(out: &mut W, fault: &MemFault, pc: u64) -> Result<(
         &[
             b"status ",
             b"fault ",
-            kind_text(fault.kind),
+            fault.kind.name().as_bytes(),
             b" ",
             access_text(fault.write),
             b" addr 0x",
@@ -125,7 +125,7 @@ fn write_abort_line<W: Sink>(
         &[
             b"status ",
             b"abort ",
-            abort_text(abort),
+            abort.name().as_bytes(),
             b" ptr 0x",
             &sixteen_hex(pointer),
             b" pc 0x",
@@ -133,34 +133,6 @@ fn write_abort_line<W: Sink>(
             b"\n",
         ],
     )
-}
-
-/// The name of a check of a pointer.
-fn abort_text(abort: HeapAbort) -> &'static [u8]
-    ensures { result.now ≡ abort_name abort }
-{
-    match abort {
-        HeapAbort::Misaligned => b"Misaligned",
-        HeapAbort::Unmapped => b"Unmapped",
-        HeapAbort::HeaderCorrupt => b"HeaderCorrupt",
-        HeapAbort::InvalidState => b"InvalidState",
-        HeapAbort::NotABlock => b"NotABlock",
-        HeapAbort::AlreadyFree => b"AlreadyFree",
-    }
-}
-
-/// The name of a kind of fault.
-fn kind_text(kind: FaultKind) -> &'static [u8]
-    ensures { result.now ≡ kind_name kind }
-{
-    match kind {
-        FaultKind::Translation => b"Translation",
-        FaultKind::Permission => b"Permission",
-        FaultKind::TagCheck => b"TagCheck",
-        FaultKind::Alignment => b"Alignment",
-        FaultKind::SpAlignment => b"SpAlignment",
-        FaultKind::PcAlignment => b"PcAlignment",
-    }
 }
 
 /// The name of an access: a write or a read.

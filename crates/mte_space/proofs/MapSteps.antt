@@ -9,7 +9,7 @@ use Rattle.mte_tags.specs.declared.attrs.Attrs.{Attrs}
 use Rattle.mte_tags.specs.declared.state.TagState.{TagState}
 use Rattle.mte_tags.proofs.Pages.{tied_other}
 use Rattle.mte_arena.specs.Frames.{frame_at, frame_or, zero_frame}
-use Rattle.mte_frames.specs.Pool.{Pool, make_pool, IsOut, IsSound, KeepsOthers, taken_by, reserved_by}
+use Rattle.mte_frames.specs.Pool.{Pool, make_pool, IsHeldBy, IsSound, KeepsOthers, taken_by, reserved_by}
 use Rattle.mte_frames.proofs.Counts.{within_of}
 use Rattle.mte_frames.proofs.Keeps.{keeps_on}
 use Rattle.mte_translate.specs.Tables.{Root, valid_in, pages_of, missing_leaf, IsApart, IsTable, MapsOnce, MapsNever, KeepsData, Stays, IsCached}
@@ -77,7 +77,7 @@ module _ (p n : Pool) (k f q l : ℕ) (t : Root) (h : IsSpace p k t l) (sound : 
 
   -- and m is n with the page q mapped to it
   module _ (m : Pool) (a : Attrs) (u : Root) (unmapped : finite.get (pages_of p t.frame) q ≡ None)
-      (out : IsOut n f k) (still : (g j : ℕ) → IsOut p g j → IsOut n g j)
+      (out : IsHeldBy n f k) (still : (g j : ℕ) → IsHeldBy p g j → IsHeldBy n g j)
       (table : IsTable m k u) (pages : pages_of m u.frame ≡ finite.insert (pages_of n t.frame) q (f, a))
       (counts : u ≡ record { frame = t.frame; len = t.len + 1; leaves = t.leaves + missing_leaf n t.frame q })
       (once : MapsNever (pages_of n t.frame) f → MapsOnce (pages_of n t.frame) → MapsOnce (pages_of m u.frame))
@@ -141,7 +141,7 @@ some_leaf p k q f a t h e =
 
 -- m is p with the page q unmapped, and n is m with its frame f given back
 module _ (p m n : Pool) (k f q l : ℕ) (a : Attrs) (t u : Root) (h : IsSpace p k t l) (sound : IsSound m) (found : finite.get (pages_of p t.frame) q ≡ Some (f, a))
-    (table : IsTable m k u) (pages : pages_of m u.frame ≡ finite.remove (pages_of p t.frame) q) (out : IsOut m f k) (apart : IsApart m u.frame f) (never : MapsNever (pages_of m u.frame) f)
+    (table : IsTable m k u) (pages : pages_of m u.frame ≡ finite.remove (pages_of p t.frame) q) (out : IsHeldBy m f k) (apart : IsApart m u.frame f) (never : MapsNever (pages_of m u.frame) f)
     (counts : u ≡ record { frame = t.frame; len = t.len - 1; leaves = t.leaves - missing_leaf m t.frame q })
     (once : MapsOnce (pages_of m u.frame)) (taken : taken_by m k + missing_leaf m t.frame q ≡ taken_by p k) (reserved : reserved_by m k ≡ reserved_by p k)
     (kept : KeepsData k t.frame p m)

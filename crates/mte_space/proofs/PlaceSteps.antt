@@ -3,7 +3,7 @@ use Rattle.std.proofs.Common.{◌≡◌, ◌∙◌, ℕ, ◌<◌, ◌^◌, List,
 use Rattle.std.specs.FinMap as finite
 use Rattle.mte_tags.specs.Memory.{page_at, with_page}
 use Rattle.mte_arena.specs.Frames.{Frame}
-use Rattle.mte_frames.specs.Pool.{Pool, IsTaken, IsOut, IsSound, KeepsOthers}
+use Rattle.mte_frames.specs.Pool.{Pool, IsTaken, IsHeldBy, IsSound, KeepsOthers}
 use Rattle.mte_translate.specs.Tables.{pages_of, IsCached}
 use Rattle.mte_translate.specs.declared.translation.Translation.{Translation}
 use Rattle.mte_space.specs.Spaces.{page_of, space_memory, IsSpace, KeepsRest}
@@ -24,7 +24,7 @@ found_in s i h = s.up_to_date i no_page h.0 h.1
 pub taken_in : (s : Space) (i : ℕ) → IsPlace s i → IsTaken s.pool.now (remembered_in s i).frame
 taken_in s i h = found_taken s.pool.now s.quota.now s.table.now s.limit (number_in s i) (Some ((remembered_in s i).frame, (remembered_in s i).attrs)) s.space (sym (found_in s i h))
 
-pub out_in : (s : Space) (i : ℕ) → IsPlace s i → IsOut s.pool.now (remembered_in s i).frame s.quota.now
+pub out_in : (s : Space) (i : ℕ) → IsPlace s i → IsHeldBy s.pool.now (remembered_in s i).frame s.quota.now
 out_in s i h = found_out s.pool.now s.quota.now s.table.now s.limit (number_in s i) (Some ((remembered_in s i).frame, (remembered_in s i).attrs)) s.space (sym (found_in s i h))
 
 -- the page that was found stands in its place
@@ -66,7 +66,7 @@ module _ (s : Space) (i : ℕ) (x : Frame) (n : Pool) (h : IsPlace s i) (new : n
       ∙ ap (page_with (remembered_in s i).attrs)
       (frame_at-set s.pool.now.frames (remembered_in s i).frame x (within_frames s.pool.now (remembered_in s i).frame s.quota.now sound (out_in s i h)))
 
-  pub rest_in : ((k : ℕ) → IsOut s.pool.now (remembered_in s i).frame k → KeepsOthers k s.pool.now n) → KeepsRest s.quota.now s.pool.now n s.table.now s.table.now
+  pub rest_in : ((k : ℕ) → IsHeldBy s.pool.now (remembered_in s i).frame k → KeepsOthers k s.pool.now n) → KeepsRest s.quota.now s.pool.now n s.table.now s.table.now
   rest_in others =
       subst (λ p. KeepsRest s.quota.now s.pool.now p s.table.now s.table.now) (sym new)
       (rest_framed s.pool.now s.quota.now s.table.now s.limit (number_in s i) (remembered_in s i).frame (remembered_in s i).attrs x s.space (found_in s i h)

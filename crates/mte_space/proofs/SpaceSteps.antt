@@ -5,22 +5,22 @@ use Rattle.std.specs.Prelude.{option_map, IfSome}
 use Rattle.std.specs.FinMap as finite
 use Rattle.std.proofs.lemmas.List.{length-replicate}
 use Rattle.mte_tags.specs.Memory.{Page, page_at, with_page}
-use Rattle.mte_tags.specs.Runs.{spliced, retagged}
+use Rattle.mte_tags.specs.Runs.{with_bytes_run, with_granule_tags}
 use Rattle.mte_tags.proofs.PageRuns.{spliced_is}
 use Rattle.mte_tags.specs.declared.attrs.Attrs.{Attrs}
 use Rattle.mte_tags.specs.declared.state.TagState.{TagState}
 use Rattle.mte_arena.specs.Frames.{Frame, AreFrames, frame_at, frame_or, make_frame, with_run}
-use Rattle.mte_frames.specs.Pool.{Pool, IsOut, IsTaken, IsSound, KeepsOthers}
+use Rattle.mte_frames.specs.Pool.{Pool, IsHeldBy, IsTaken, IsSound, KeepsOthers}
 use Rattle.mte_translate.specs.Tables.{Root, pages_of, IsCached, Agrees, Stays}
 use Rattle.mte_translate.specs.declared.translation.Translation.{Translation}
 use Rattle.mte_space.specs.Spaces.{page_of, space_memory, IsSpace, KeepsRest}
 use Rattle.mte_space.specs.Writes.{with_frame, retagged_frame}
 use Rattle.mte_space.proofs.Memories.{page_at-space, space_written}
 pub use Rattle.mte_space.proofs.Memories.{page_found}
-use Rattle.mte_translate.proofs.KeptTables.{kept-written, page-frame}
+use Rattle.mte_translate.proofs.KeptTables.{kept-after-write-of, page-frame}
 use Rattle.mte_space.proofs.Taken.{within_frames, frame_at-set, is_frame}
 
-pub found_out : (p : Pool) (k : ℕ) (t : Root) (l q : ℕ) (o : Option (ℕ × Attrs)) → IsSpace p k t l → o ≡ finite.get (pages_of p t.frame) q → IfSome o (λ x. IsOut p x.0 k)
+pub found_out : (p : Pool) (k : ℕ) (t : Root) (l q : ℕ) (o : Option (ℕ × Attrs)) → IsSpace p k t l → o ≡ finite.get (pages_of p t.frame) q → IfSome o (λ x. IsHeldBy p x.0 k)
 found_out p k t l q None h e = tt
 found_out p k t l q (Some (f, a)) h e = (page-frame p k q f a t h.table (sym e)).1
 
@@ -37,7 +37,7 @@ module _ (p : Pool) (k : ℕ) (t : Root) (l q f : ℕ) (a : Attrs) (x : Frame) (
 
   stays : Stays k t p n
   unfolding n
-  stays = kept-written p k f (Some x) t (page-frame p k q f a t h.table found).2 h.table
+  stays = kept-after-write-of p k f (Some x) t (page-frame p k q f a t h.table found).2 h.table
 
   pages : pages_of n t.frame ≡ pages_of p t.frame
   pages = stays.pages
@@ -71,11 +71,11 @@ page_with a x = record { attrs = a.0; bytes = x.bytes; tags = x.tags }
 
 -- a frame that is retagged is the page retagged
 pub retagged_is : (p : Pool) (f first count tag : ℕ) (a : Attrs) (z : Bool) → IsTaken p f → IsSound p → AreFrames p.frames → first + count ≤ 256
-    → page_with a (retagged_frame (frame_at p.frames f) first count tag z) ≡ retagged (page_of p (f, a)) first count tag z
+    → page_with a (retagged_frame (frame_at p.frames f) first count tag z) ≡ with_granule_tags (page_of p (f, a)) first count tag z
 retagged_is p f first count tag a z out sound sized h =
     let x = frame_at p.frames f in
     let frame = is_frame p f out sound sized in
     let room : first + length (replicate count tag) ≤ length x.tags = omega (arith, frame.tags, length-replicate count tag) in
     let end : first + length (replicate count tag) ≡ first + count = omega (arith, length-replicate count tag) in
-    let tags : with_run x.tags first count tag ≡ spliced x.tags first (replicate count tag) = sym (spliced_is (replicate count tag) x.tags first room ∙ ap (λ i. take first x.tags ++ (replicate count tag ++ drop i x.tags)) end) in
+    let tags : with_run x.tags first count tag ≡ with_bytes_run x.tags first (replicate count tag) = sym (spliced_is (replicate count tag) x.tags first room ∙ ap (λ i. take first x.tags ++ (replicate count tag ++ drop i x.tags)) end) in
     ap (λ ts. page_with a (make_frame (retagged_frame x first count tag z).bytes ts)) tags

@@ -3,7 +3,7 @@ use Rattle.std.specs.Prelude.{All}
 use Rattle.std.proofs.Common.{◌≡◌, ℕ, subst, sym, ◌<◌, List, length, Option, Some, None, get_or, slice_set, refl, ap, is_some, true, get_or-set_same}
 use Rattle.mte_arena.specs.Frames.{Frame, AreFrames, IsFrame, frame_at, frame_or}
 use Rattle.mte_arena.proofs.Frames.{within_of}
-use Rattle.mte_frames.specs.Pool.{Pool, IsTaken, IsOut, IsSound}
+use Rattle.mte_frames.specs.Pool.{Pool, IsTaken, IsHeldBy, IsSound}
 use Rattle.mte_frames.proofs.Counts.{any_default}
 
 some_of : (o : Option ℕ) → is_some o ≡ true → (q : ℕ) × (o ≡ Some q)
@@ -13,7 +13,7 @@ some_of (Some q) e = (q, refl)
 pub taken_of : (p : Pool) (f : ℕ) → is_some (get_or p.owners f None) ≡ true → IsTaken p f
 taken_of p f e = some_of (get_or p.owners f None) e
 
-pub within_frames : (p : Pool) (f k : ℕ) → IsSound p → IsOut p f k → f < length p.frames
+pub within_frames : (p : Pool) (f k : ℕ) → IsSound p → IsHeldBy p f k → f < length p.frames
 within_frames p f k sound out = let live = sound.live f k out in within_of p.frames f live.0 live.1
 
 pub frame_at-set : (fs : List (Option Frame)) (f : ℕ) (x : Frame) → f < length fs → frame_at (slice_set fs f (Some x)) f ≡ x

@@ -43,8 +43,7 @@ fn map_page(
     ensures same { quota.new ≡ quota.old }
 {
     let _ = limit;
-    // what holds of every pool is in its contract
-    let _ = pool.frames();
+    pool.recall();
     let frame = pool.take(quota);
     table.map(pool, quota, page, frame, attrs);
 }
@@ -108,8 +107,7 @@ pub(crate) fn unmap_page(
     let Some(frame) = table.unmap(pool, quota, page) else {
         return;
     };
-    // what holds of every pool is in its contract
-    let _ = pool.frames();
+    pool.recall();
     pool.give(quota, frame);
 }
 

@@ -13,7 +13,7 @@ use crate::translation::remember;
 use crate::writing::{retag_frame, write_frame};
 use a64_bits::plain;
 use mte_frames::{FramePool, Quota};
-use mte_tags::{Attrs, NoQuota, PageStore, Paged, TagState, replace_bytes};
+use mte_tags::{Attrs, NoPagesLeft, PageStore, Paged, TagState, replace_bytes};
 use mte_translate::{Table, Tlb};
 
 /// A tenant's memory: the pages that its table maps, in frames of a pool that it shares with other
@@ -166,9 +166,9 @@ impl Paged for Space<'_> {
         self.limit - mapped
     }
 
-    fn map_pages(&mut self, page: u64, count: usize, attrs: Attrs) -> Result<(), NoQuota> {
+    fn map_pages(&mut self, page: u64, count: usize, attrs: Attrs) -> Result<(), NoPagesLeft> {
         if count > self.limit - self.table.len() {
-            return Err(NoQuota);
+            return Err(NoPagesLeft);
         }
         map_range(
             self.pool, self.table, self.quota, self.limit, page, count, attrs,

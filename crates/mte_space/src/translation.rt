@@ -64,7 +64,7 @@ pub(crate) fn remember(
     look_up(remembered, pool, table, tlb, asid, page)
 }
 
-/// The same where another page is remembered.
+/// Slow path: another page is remembered.
 #[cold]
 #[inline(never)]
 fn look_up(
@@ -92,7 +92,7 @@ fn look_up(
     true
 }
 
-/// The same by all translations of the page's hash, and then by the table.
+/// Slow path: asks all translations of the page's hash, and then the table.
 #[inline(never)]
 fn walk_and_fill(
     pool: &FramePool,

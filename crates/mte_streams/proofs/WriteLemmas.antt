@@ -4,9 +4,9 @@ use Rattle.std.proofs.Common.{sym, ◌∙◌, arith, take-take, length-drop, len
 use Rattle.std.proofs.lemmas.List.{take-append-drop}
 use Rattle.std.proofs.Math.Seq.{take-add}
 use Rattle.mte_streams.specs.declared.error.StreamError.{StreamError}
-use Rattle.mte_streams.specs.Known.{appended, counted}
+use Rattle.mte_streams.specs.Known.{append_known, add_known}
 use Rattle.mte_streams.specs.Writing.{WriteLog, WroteAll, WrotePart, after_write}
-use Rattle.mte_streams.proofs.KnownLemmas.{appended-appended, appended-nil, none_counts}
+use Rattle.mte_streams.proofs.KnownLemmas.{append-known-append-known, append-known-nil, none_counts}
 use Rattle.mte_streams.proofs.KnownLemmas.{some_counts}
 
 -- A write that fails after the first d bytes of a text.
@@ -17,7 +17,7 @@ part_after old mid new text d e before same = record {
   rest = drop d text;
   whole = sym (take-append-drop d text);
   taken = rw same before.taken;
-  failures = rw same (ap (λ f. counted f 1) before.failures);
+  failures = rw same (ap (λ f. add_known f 1) before.failures);
 }
 
 -- What is left of a text after its first d bytes.
@@ -33,8 +33,8 @@ none_after old mid new text d n none left before same =
       done = take d text;
       rest = drop d text;
       whole = sym (take-append-drop d text);
-      taken = rw (same, none) (appended-nil mid.taken ∙ before.taken);
-      failures = rw same (none_counts mid.failures n (left_after text d) none long ∙ ap (λ f. counted f 1) before.failures);
+      taken = rw (same, none) (append-known-nil mid.taken ∙ before.taken);
+      failures = rw same (none_counts mid.failures n (left_after text d) none long ∙ ap (λ f. add_known f 1) before.failures);
     }
 
 -- A write that takes n more bytes.
@@ -44,7 +44,7 @@ pub more_after : (old mid new : WriteLog) (text : List ℕ) (d n : ℕ) → n �
 more_after old mid new text d n some fits before same =
     let short : take n (left_after text d) ≡ take n (drop d text) = take-take n (length text - d) (drop d text) fits in
     record {
-      taken = rw same (ap (appended mid.taken) short ∙ ap (λ k. appended k (take n (drop d text))) before.taken
-          ∙ appended-appended old.taken (take d text) (take n (drop d text)) ∙ ap (appended old.taken) (sym (take-add d n text)));
+      taken = rw same (ap (append_known mid.taken) short ∙ ap (λ k. append_known k (take n (drop d text))) before.taken
+          ∙ append-known-append-known old.taken (take d text) (take n (drop d text)) ∙ ap (append_known old.taken) (sym (take-add d n text)));
       failures = rw same (some_counts mid.failures n (left_after text d) some ∙ before.failures);
     }

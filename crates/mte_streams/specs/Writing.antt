@@ -3,7 +3,7 @@ use Rattle.std.specs.Prelude.{◌≡◌, ℕ, List, ◌++◌, take, Option, None
 use Rattle.std.specs.Prelude.{if◌then◌else◌}
 use Rattle.mte_streams.specs.declared.error.StreamError.{StreamError}
 use Rattle.mte_streams.specs.declared.writing.WriteFault.{WriteFault}
-use Rattle.mte_streams.specs.Known.{appended, counted, none_passed}
+use Rattle.mte_streams.specs.Known.{append_known, add_known, none_passed}
 
 -- The bytes that writes took; how many writes were made; and how many of them failed: returned an
 -- error, or took none of some bytes.
@@ -19,16 +19,16 @@ unknown_writes = record { taken = None; calls = None; failures = None }
 -- A write takes the first of its bytes, or fails.
 abbrev pub after_write : WriteLog → Result ℕ StreamError → List ℕ → WriteLog
 after_write log (Ok n) bytes = record {
-  taken = appended log.taken (take n bytes);
-  calls = counted log.calls 1;
-  failures = counted log.failures (if none_passed n bytes then 1 else 0);
+  taken = append_known log.taken (take n bytes);
+  calls = add_known log.calls 1;
+  failures = add_known log.failures (if none_passed n bytes then 1 else 0);
 }
 after_write log (Err e) bytes =
-    record log { calls = counted log.calls 1; failures = counted log.failures 1 }
+    record log { calls = add_known log.calls 1; failures = add_known log.failures 1 }
 
 -- All of a text was written, and no write failed.
 pub record WroteAll (old new : WriteLog) (text : List ℕ) : Type 0 where
-  pub taken : new.taken ≡ appended old.taken text
+  pub taken : new.taken ≡ append_known old.taken text
   pub failures : new.failures ≡ old.failures
 
 -- A write failed, and what was written is a prefix of a text.
@@ -36,8 +36,8 @@ pub record WrotePart (old new : WriteLog) (text : List ℕ) : Type 0 where
   pub done : List ℕ
   pub rest : List ℕ
   pub whole : text ≡ done ++ rest
-  pub taken : new.taken ≡ appended old.taken done
-  pub failures : new.failures ≡ counted old.failures 1
+  pub taken : new.taken ≡ append_known old.taken done
+  pub failures : new.failures ≡ add_known old.failures 1
 
 -- What writing a text leaves, by its result.
 abbrev pub Writes : WriteLog → WriteLog → Result (Unit {0}) WriteFault → List ℕ → Type 0

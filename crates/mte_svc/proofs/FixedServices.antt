@@ -10,8 +10,8 @@ use Rattle.scudo_heap.specs.declared.abort.HeapAbort.{HeapAbort}
 use Rattle.scudo_heap.specs.Heaps.{HeapState}
 use Rattle.scudo_heap.specs.Placing.{World}
 use Rattle.scudo_heap.specs.Freeing.{free_of, usable_size_of}
-use Rattle.scudo_heap.specs.Realloc.{realloc_of, answered}
-use Rattle.scudo_heap.specs.Served.{IsServed}
+use Rattle.scudo_heap.specs.Realloc.{after_realloc, realloc_answer}
+use Rattle.scudo_heap.specs.Served.{HeapOwnsItsPages}
 use Rattle.scudo_heap.specs.Others.{KeepsOthers}
 use Rattle.scudo_heap.specs.Sound.{IsSound}
 use Rattle.scudo_heap.proofs.OtherPages.{range_pages, malloc_others, calloc_others, memalign_others, free_others, realloc_others}
@@ -19,77 +19,77 @@ use Rattle.mte_svc.specs.declared.calls.HeapService.{HeapService}
 use Rattle.mte_svc.specs.declared.parts.TenantParts.{TenantParts}
 use Rattle.mte_svc.specs.declared.services.TheConstants.{EXIT, WRITE, READ, MALLOC, FREE, CALLOC, REALLOC, MEMALIGN, USABLE_SIZE, YIELD, STEPS_LEFT, PAGES_LEFT}
 use Rattle.mte_svc.specs.Results.{Served, x_of}
-use Rattle.mte_svc.specs.HeapServices.{world_in, freed_by, found_by, malloc_by, calloc_by, memalign_by, free_by, realloc_by, usable_size_by}
-use Rattle.mte_svc.specs.Services.{wrote_by, write_count, wrote, read_by, read_count, read_in, by_number, served}
+use Rattle.mte_svc.specs.HeapServices.{world_in, free_answer_cases, answer_cases, malloc_service, calloc_service, memalign_service, free_service, realloc_service, usable_size_service}
+use Rattle.mte_svc.specs.Services.{write_cases, write_count, after_write_service, read_cases, read_count, after_read_service, by_number, after_svc}
 
 -- a page of the heap's ranges has WRITE, if it is mapped
 has-write : (o : Option ℕ) → (o ≡ None) ⊎ (o ≡ Some 11) → lacks_write o ≡ true → ⊥
 has-write o (inl e) h = let f : lacks_write o ≡ false = ap lacks_write e in cc
 has-write o (inr e) h = let f : lacks_write o ≡ false = ap lacks_write e in cc
 
-fixed_others : (m n : Memory) (h : HeapState) → IsServed m h → KeepsOthers m n → KeepsFixed m n
+fixed_others : (m n : Memory) (h : HeapState) → HeapOwnsItsPages m h → KeepsOthers m n → KeepsFixed m n
 unfolding is_fixed
 fixed_others m n h v k = λ q f. k q (λ l u. has-write (attrs_at m q) (range_pages m h q v l u) f)
 
 -- ---- write and read
 
-fixed-wrote_by : (f : Option MemFault) (p : TenantParts) (m : Memory) (n : ℕ) → KeepsFixed m (wrote_by f p m n).memory
-fixed-wrote_by (Some f) p m n = fixed_same m
-fixed-wrote_by None p m n = fixed-after_read m (x_of p 0) n true
+fixed-write-cases : (f : Option MemFault) (p : TenantParts) (m : Memory) (n : ℕ) → KeepsFixed m (write_cases f p m n).memory
+fixed-write-cases (Some f) p m n = fixed_same m
+fixed-write-cases None p m n = fixed-after_read m (x_of p 0) n true
 
-fixed-wrote : (p : TenantParts) (m : Memory) → KeepsFixed m (wrote p m).memory
-unfolding wrote
-fixed-wrote p m = fixed-wrote_by (read_fault m (x_of p 0) (write_count p) true) p m (write_count p)
+fixed-after-write-service : (p : TenantParts) (m : Memory) → KeepsFixed m (after_write_service p m).memory
+unfolding after_write_service
+fixed-after-write-service p m = fixed-write-cases (read_fault m (x_of p 0) (write_count p) true) p m (write_count p)
 
-fixed-read_by : (f : Option MemFault) (p : TenantParts) (m : Memory) (n : ℕ) → write_fault m (x_of p 0) n true ≡ f → n ≤ length p.input → KeepsFixed m (read_by f p m n).memory
-fixed-read_by (Some f) p m n e l = fixed_same m
-fixed-read_by None p m n e l =
+fixed-read-cases : (f : Option MemFault) (p : TenantParts) (m : Memory) (n : ℕ) → write_fault m (x_of p 0) n true ≡ f → n ≤ length p.input → KeepsFixed m (read_cases f p m n).memory
+fixed-read-cases (Some f) p m n e l = fixed_same m
+fixed-read-cases None p m n e l =
     fixed-after_write m (x_of p 0) (take n p.input) true
     (ap (λ k. write_fault m (x_of p 0) k true) (length-take-le n p.input l) ∙ e)
 
 least : (a b : ℕ) → min a b ≤ b
 least a b = omega arith
 
-fixed-read : (p : TenantParts) (m : Memory) → KeepsFixed m (read_in p m).memory
-unfolding read_in
-fixed-read p m = fixed-read_by (write_fault m (x_of p 0) (read_count p) true) p m (read_count p) refl (least (x_of p 1) (length p.input))
+fixed-read : (p : TenantParts) (m : Memory) → KeepsFixed m (after_read_service p m).memory
+unfolding after_read_service
+fixed-read p m = fixed-read-cases (write_fault m (x_of p 0) (read_count p) true) p m (read_count p) refl (least (x_of p 1) (length p.input))
 
 -- ---- the heap
 
-fixed-freed : (p : TenantParts) (m : Memory) (w : World) (r : Result (Unit {0}) HeapAbort) → KeepsFixed m w.memory → KeepsFixed m (freed_by p m w r).memory
+fixed-freed : (p : TenantParts) (m : Memory) (w : World) (r : Result (Unit {0}) HeapAbort) → KeepsFixed m w.memory → KeepsFixed m (free_answer_cases p m w r).memory
 fixed-freed p m w (Err e) k = fixed_same m
 fixed-freed p m w (Ok u) k = k
 
-fixed-found : (p : TenantParts) (m : Memory) (s : HeapService) (n : ℕ) (w : World) (r : Result ℕ HeapAbort) → KeepsFixed m w.memory → KeepsFixed m (found_by p m s n w r).memory
+fixed-found : (p : TenantParts) (m : Memory) (s : HeapService) (n : ℕ) (w : World) (r : Result ℕ HeapAbort) → KeepsFixed m w.memory → KeepsFixed m (answer_cases p m s n w r).memory
 fixed-found p m s n w (Err e) k = fixed_same m
 fixed-found p m s n w (Ok a) k = k
 
-fixed-malloc : (p : TenantParts) (m : Memory) → IsServed m p.heap → IsSound p.heap → KeepsFixed m (malloc_by p m).memory
-unfolding malloc_by
+fixed-malloc : (p : TenantParts) (m : Memory) → HeapOwnsItsPages m p.heap → IsSound p.heap → KeepsFixed m (malloc_service p m).memory
+unfolding malloc_service
 fixed-malloc p m v s = fixed_others m _ p.heap v (malloc_others (world_in p m) (x_of p 0) v s)
 
-fixed-calloc : (p : TenantParts) (m : Memory) → IsServed m p.heap → IsSound p.heap → KeepsFixed m (calloc_by p m).memory
-unfolding calloc_by
+fixed-calloc : (p : TenantParts) (m : Memory) → HeapOwnsItsPages m p.heap → IsSound p.heap → KeepsFixed m (calloc_service p m).memory
+unfolding calloc_service
 fixed-calloc p m v s = fixed_others m _ p.heap v (calloc_others (world_in p m) (x_of p 0) (x_of p 1) v s)
 
-fixed-memalign : (p : TenantParts) (m : Memory) → IsServed m p.heap → IsSound p.heap → KeepsFixed m (memalign_by p m).memory
-unfolding memalign_by
+fixed-memalign : (p : TenantParts) (m : Memory) → HeapOwnsItsPages m p.heap → IsSound p.heap → KeepsFixed m (memalign_service p m).memory
+unfolding memalign_service
 fixed-memalign p m v s = fixed_others m _ p.heap v (memalign_others (world_in p m) (x_of p 0) (x_of p 1) v s)
 
-fixed-free : (p : TenantParts) (m : Memory) → IsServed m p.heap → IsSound p.heap → KeepsFixed m (free_by p m).memory
-unfolding free_by
+fixed-free : (p : TenantParts) (m : Memory) → HeapOwnsItsPages m p.heap → IsSound p.heap → KeepsFixed m (free_service p m).memory
+unfolding free_service
 fixed-free p m v k =
     let f = free_of (world_in p m) (x_of p 0) in
     fixed-freed p m f.world f.result (fixed_others m _ p.heap v (free_others (world_in p m) (x_of p 0) v k))
 
-fixed-realloc : (p : TenantParts) (m : Memory) → IsServed m p.heap → IsSound p.heap → KeepsFixed m (realloc_by p m).memory
-unfolding realloc_by
+fixed-realloc : (p : TenantParts) (m : Memory) → HeapOwnsItsPages m p.heap → IsSound p.heap → KeepsFixed m (realloc_service p m).memory
+unfolding realloc_service
 fixed-realloc p m v s =
-    let r = realloc_of (world_in p m) (x_of p 0) (x_of p 1) in
-    fixed-found p m _ (x_of p 1) r.world (answered r.result) (fixed_others m _ p.heap v (realloc_others (world_in p m) (x_of p 0) (x_of p 1) v s))
+    let r = after_realloc (world_in p m) (x_of p 0) (x_of p 1) in
+    fixed-found p m _ (x_of p 1) r.world (realloc_answer r.result) (fixed_others m _ p.heap v (realloc_others (world_in p m) (x_of p 0) (x_of p 1) v s))
 
-fixed-usable : (p : TenantParts) (m : Memory) → KeepsFixed m (usable_size_by p m).memory
-unfolding usable_size_by
+fixed-usable : (p : TenantParts) (m : Memory) → KeepsFixed m (usable_size_service p m).memory
+unfolding usable_size_service
 fixed-usable p m = fixed-found p m _ 0 (world_in p m) (usable_size_of m p.heap (x_of p 0)) (fixed_same m)
 
 -- ---- all services
@@ -98,10 +98,10 @@ either : (b : Bool) (m : Memory) (s t : Served) → KeepsFixed m s.memory → Ke
 either true m s t h k = h
 either false m s t h k = k
 
-fixed-by_number : (n : ℕ) (p : TenantParts) (m : Memory) → IsServed m p.heap → IsSound p.heap → KeepsFixed m (by_number n p m).memory
+fixed-by_number : (n : ℕ) (p : TenantParts) (m : Memory) → HeapOwnsItsPages m p.heap → IsSound p.heap → KeepsFixed m (by_number n p m).memory
 fixed-by_number n p m v s =
     either (n == EXIT) m _ _ (fixed_same m)
-    (either (n == WRITE) m _ _ (fixed-wrote p m)
+    (either (n == WRITE) m _ _ (fixed-after-write-service p m)
     (either (n == READ) m _ _ (fixed-read p m)
     (either (n == MALLOC) m _ _ (fixed-malloc p m v s)
     (either (n == FREE) m _ _ (fixed-free p m v s)
@@ -113,6 +113,6 @@ fixed-by_number n p m v s =
     (either (n == STEPS_LEFT) m _ _ (fixed_same m)
     (either (n == PAGES_LEFT) m _ _ (fixed_same m) (fixed_same m))))))))))))
 
-pub services_fixed : (p : TenantParts) (m : Memory) → IsServed m p.heap → IsSound p.heap → KeepsFixed m (served p m).memory
-unfolding served
+pub services_fixed : (p : TenantParts) (m : Memory) → HeapOwnsItsPages m p.heap → IsSound p.heap → KeepsFixed m (after_svc p m).memory
+unfolding after_svc
 services_fixed p m v s = fixed-by_number (x_of p 8) p m v s

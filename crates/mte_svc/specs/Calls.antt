@@ -1,6 +1,6 @@
 -- The heap calls of a tenant: the last of them, the oldest first, and how many there were.
 use Rattle.std.specs.Prelude.{◌≡◌, ℕ, ◌+◌, ◌-◌, ◌==◌, min, List, [], ◌∷◌, ◌++◌, drop, length, refl}
-use Rattle.std.specs.Prelude.{if◌then◌else◌}
+use Rattle.std.specs.Prelude.{if◌then◌else◌, codes}
 use Rattle.std.specs.Coded.{Coded, code_by, coded×, coded_ℕ, coded_list}
 use Rattle.mte_svc.specs.declared.calls.TheConstants.{KEPT_CALLS}
 use Rattle.mte_svc.specs.declared.calls.HeapCall.{HeapCall}
@@ -14,11 +14,20 @@ pub record Calls : Type 0 where
   pub count : ℕ
 
 -- The last 64, and a count that stops at 2^64 - 1.
-unfoldable pub noted : Calls → HeapCall → Calls
-noted c call = record {
+unfoldable pub with_call : Calls → HeapCall → Calls
+with_call c call = record {
   last = drop (length (c.last ++ call ∷ []) - KEPT_CALLS) (c.last ++ call ∷ []);
   count = min (c.count + 1) 18446744073709551615;
 }
+
+-- A service's name in a report.
+abbrev pub service_name : HeapService → List ℕ
+service_name Malloc = codes "malloc"
+service_name Free = codes "free"
+service_name Calloc = codes "calloc"
+service_name Realloc = codes "realloc"
+service_name Memalign = codes "memalign"
+service_name UsableSize = codes "usable_size"
 
 -- A service's number, in x8.
 abbrev pub number_of : HeapService → ℕ

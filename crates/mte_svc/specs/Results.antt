@@ -6,8 +6,8 @@ use Rattle.mte_svc.specs.declared.parts.TenantParts.{TenantParts}
 use Rattle.mte_svc.specs.declared.record.Status.{Status}
 use Rattle.mte_svc.specs.declared.record.Status.TheVariants.{Running}
 use Rattle.mte_svc.specs.declared.services.SvcEnd.{SvcEnd}
-use Rattle.mte_svc.specs.declared.services.SvcEnd.TheVariants.{Go}
-use Rattle.mte_svc.specs.Calls.{noted}
+use Rattle.mte_svc.specs.declared.services.SvcEnd.TheVariants.{Resume}
+use Rattle.mte_svc.specs.Calls.{with_call}
 
 abbrev pub is_running : Status → Bool
 is_running Running = true
@@ -22,19 +22,19 @@ abbrev pub x_of : TenantParts → ℕ → ℕ
 x_of p n = slice_index p.regs.x n
 
 -- The result in x0; the tenant resumes after the SVC.
-unfoldable pub answered : TenantParts → ℕ → TenantParts
-answered p value = record p {
+unfoldable pub with_answer : TenantParts → ℕ → TenantParts
+with_answer p value = record p {
   regs = record p.regs { x = slice_set p.regs.x 0 value; pc = (p.regs.pc + 4) % 2 ^ 56 };
 }
 
-abbrev pub goes_on : TenantParts → Memory → ℕ → Served
-goes_on p m value = record { parts = answered p value; memory = m; end = Go }
+abbrev pub resume_with : TenantParts → Memory → ℕ → Served
+resume_with p m value = record { parts = with_answer p value; memory = m; end = Resume }
 
 -- A service that ends the tenant changes nothing.
 abbrev pub ends : TenantParts → Memory → SvcEnd → Served
 ends p m end = record { parts = p; memory = m; end = end }
 
 -- A heap call that was answered is entered.
-unfoldable pub entered : TenantParts → HeapCall → TenantParts
-entered p call =
-    record p { account = record p.account { calls = noted p.account.calls call } }
+unfoldable pub with_logged_call : TenantParts → HeapCall → TenantParts
+with_logged_call p call =
+    record p { log = record p.log { calls = with_call p.log.calls call } }

@@ -2,7 +2,7 @@
 
 ghost use Rattle.std.specs.Prelude.{◌≡◌, ◌+◌, [], ◌∷◌, ◌++◌, ◌≤◌, min, length, slice_get};
 ghost use Rattle.std.specs.Prelude.{IfOk};
-ghost use Rattle.mte_svc.specs.Calls.{noted};
+ghost use Rattle.mte_svc.specs.Calls.{with_call, service_name};
 
 use circular_buffer::HeapCircularBuffer;
 use std::alloc::{AllocError, Global};
@@ -31,6 +31,22 @@ pub enum HeapService {
     Memalign,
     /// 8: the size of the chunk at x0.
     UsableSize,
+}
+
+impl HeapService {
+    /// Its name in a report.
+    pub fn name(self) -> &'static str
+        ensures { result.now ≡ service_name self }
+    {
+        match self {
+            HeapService::Malloc => "malloc",
+            HeapService::Free => "free",
+            HeapService::Calloc => "calloc",
+            HeapService::Realloc => "realloc",
+            HeapService::Memalign => "memalign",
+            HeapService::UsableSize => "usable_size",
+        }
+    }
 }
 
 /// A heap call that was answered.
@@ -98,9 +114,9 @@ impl HeapCalls {
     }
 
     /// Enters a call.
-    #[tactic(auto, unfolding(crate::specs::Calls::noted))]
+    #[tactic(auto, unfolding(crate::specs::Calls::with_call))]
     pub(crate) fn note(&mut self, call: HeapCall)
-        ensures { self.new ≡ noted self.old call }
+        ensures { self.new ≡ with_call self.old call }
     {
         self.last.push_back(call);
         self.count = self.count.saturating_add(1);

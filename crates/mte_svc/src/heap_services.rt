@@ -1,9 +1,10 @@
 //! The services of the heap.
 
 ghost use Rattle.std.specs.Prelude.{◌≡◌, ◌<◌};
-ghost use Rattle.scudo_heap.specs.Served.{IsServed};
-ghost use Rattle.mte_svc.specs.HeapServices.{malloc_by, free_by, calloc_by, realloc_by};
-ghost use Rattle.mte_svc.specs.HeapServices.{memalign_by, usable_size_by};
+ghost use Rattle.scudo_heap.specs.Served.{HeapOwnsItsPages};
+ghost use Rattle.mte_svc.specs.HeapServices.{malloc_service, free_service, calloc_service};
+ghost use Rattle.mte_svc.specs.HeapServices.{realloc_service};
+ghost use Rattle.mte_svc.specs.HeapServices.{memalign_service, usable_size_service};
 
 use crate::calls::{HeapCall, HeapService};
 use crate::parts::TenantParts;
@@ -12,11 +13,11 @@ use mte_tags::{Paged, Tagged};
 
 /// A chunk of x0 bytes.
 pub(crate) fn malloc<M: Paged>(parts: &mut TenantParts, memory: &mut M) -> SvcEnd
-    requires heap { IsServed (M.Tagged.memory memory.old) parts.old.heap }
+    requires heap { HeapOwnsItsPages (M.Tagged.memory memory.old) parts.old.heap }
     requires tag { parts.old.regs.rgsr.tag < 16 }
     ensures served { record { parts = parts.new; memory = M.Tagged.memory memory.new; end = result }
-        ≡ malloc_by parts.old (M.Tagged.memory memory.old) }
-    ensures heap { IsServed (M.Tagged.memory memory.new) parts.new.heap }
+        ≡ malloc_service parts.old (M.Tagged.memory memory.old) }
+    ensures heap { HeapOwnsItsPages (M.Tagged.memory memory.new) parts.new.heap }
     ensures tag { parts.new.regs.rgsr.tag < 16 }
     ensures kept { M.Tagged.kept memory.old memory.new }
 {
@@ -28,16 +29,16 @@ pub(crate) fn malloc<M: Paged>(parts: &mut TenantParts, memory: &mut M) -> SvcEn
         second,
         answer,
     });
-    SvcEnd::Go
+    SvcEnd::Resume
 }
 
 /// Frees the chunk at x0.
 pub(crate) fn free<M: Paged>(parts: &mut TenantParts, memory: &mut M) -> SvcEnd
-    requires heap { IsServed (M.Tagged.memory memory.old) parts.old.heap }
+    requires heap { HeapOwnsItsPages (M.Tagged.memory memory.old) parts.old.heap }
     requires tag { parts.old.regs.rgsr.tag < 16 }
     ensures served { record { parts = parts.new; memory = M.Tagged.memory memory.new; end = result }
-        ≡ free_by parts.old (M.Tagged.memory memory.old) }
-    ensures heap { IsServed (M.Tagged.memory memory.new) parts.new.heap }
+        ≡ free_service parts.old (M.Tagged.memory memory.old) }
+    ensures heap { HeapOwnsItsPages (M.Tagged.memory memory.new) parts.new.heap }
     ensures tag { parts.new.regs.rgsr.tag < 16 }
     ensures kept { M.Tagged.kept memory.old memory.new }
 {
@@ -50,7 +51,7 @@ pub(crate) fn free<M: Paged>(parts: &mut TenantParts, memory: &mut M) -> SvcEnd
                 second,
                 answer: 0,
             });
-            SvcEnd::Go
+            SvcEnd::Resume
         }
         Err(abort) => SvcEnd::Abort(abort, first),
     }
@@ -58,11 +59,11 @@ pub(crate) fn free<M: Paged>(parts: &mut TenantParts, memory: &mut M) -> SvcEnd
 
 /// A chunk for x0 elements of x1 bytes.
 pub(crate) fn calloc<M: Paged>(parts: &mut TenantParts, memory: &mut M) -> SvcEnd
-    requires heap { IsServed (M.Tagged.memory memory.old) parts.old.heap }
+    requires heap { HeapOwnsItsPages (M.Tagged.memory memory.old) parts.old.heap }
     requires tag { parts.old.regs.rgsr.tag < 16 }
     ensures served { record { parts = parts.new; memory = M.Tagged.memory memory.new; end = result }
-        ≡ calloc_by parts.old (M.Tagged.memory memory.old) }
-    ensures heap { IsServed (M.Tagged.memory memory.new) parts.new.heap }
+        ≡ calloc_service parts.old (M.Tagged.memory memory.old) }
+    ensures heap { HeapOwnsItsPages (M.Tagged.memory memory.new) parts.new.heap }
     ensures tag { parts.new.regs.rgsr.tag < 16 }
     ensures kept { M.Tagged.kept memory.old memory.new }
 {
@@ -76,16 +77,16 @@ pub(crate) fn calloc<M: Paged>(parts: &mut TenantParts, memory: &mut M) -> SvcEn
         second,
         answer,
     });
-    SvcEnd::Go
+    SvcEnd::Resume
 }
 
 /// Gives the chunk at x0 a size of x1 bytes.
 pub(crate) fn realloc<M: Paged>(parts: &mut TenantParts, memory: &mut M) -> SvcEnd
-    requires heap { IsServed (M.Tagged.memory memory.old) parts.old.heap }
+    requires heap { HeapOwnsItsPages (M.Tagged.memory memory.old) parts.old.heap }
     requires tag { parts.old.regs.rgsr.tag < 16 }
     ensures served { record { parts = parts.new; memory = M.Tagged.memory memory.new; end = result }
-        ≡ realloc_by parts.old (M.Tagged.memory memory.old) }
-    ensures heap { IsServed (M.Tagged.memory memory.new) parts.new.heap }
+        ≡ realloc_service parts.old (M.Tagged.memory memory.old) }
+    ensures heap { HeapOwnsItsPages (M.Tagged.memory memory.new) parts.new.heap }
     ensures tag { parts.new.regs.rgsr.tag < 16 }
     ensures kept { M.Tagged.kept memory.old memory.new }
 {
@@ -101,7 +102,7 @@ pub(crate) fn realloc<M: Paged>(parts: &mut TenantParts, memory: &mut M) -> SvcE
                 second,
                 answer,
             });
-            SvcEnd::Go
+            SvcEnd::Resume
         }
         Err(abort) => SvcEnd::Abort(abort, first),
     }
@@ -109,11 +110,11 @@ pub(crate) fn realloc<M: Paged>(parts: &mut TenantParts, memory: &mut M) -> SvcE
 
 /// A chunk of x1 bytes at a multiple of x0.
 pub(crate) fn memalign<M: Paged>(parts: &mut TenantParts, memory: &mut M) -> SvcEnd
-    requires heap { IsServed (M.Tagged.memory memory.old) parts.old.heap }
+    requires heap { HeapOwnsItsPages (M.Tagged.memory memory.old) parts.old.heap }
     requires tag { parts.old.regs.rgsr.tag < 16 }
     ensures served { record { parts = parts.new; memory = M.Tagged.memory memory.new; end = result }
-        ≡ memalign_by parts.old (M.Tagged.memory memory.old) }
-    ensures heap { IsServed (M.Tagged.memory memory.new) parts.new.heap }
+        ≡ memalign_service parts.old (M.Tagged.memory memory.old) }
+    ensures heap { HeapOwnsItsPages (M.Tagged.memory memory.new) parts.new.heap }
     ensures tag { parts.new.regs.rgsr.tag < 16 }
     ensures kept { M.Tagged.kept memory.old memory.new }
 {
@@ -127,16 +128,16 @@ pub(crate) fn memalign<M: Paged>(parts: &mut TenantParts, memory: &mut M) -> Svc
         second,
         answer,
     });
-    SvcEnd::Go
+    SvcEnd::Resume
 }
 
 /// The size of the chunk at x0.
 pub(crate) fn usable_size<M: Paged>(parts: &mut TenantParts, memory: &mut M) -> SvcEnd
-    requires heap { IsServed (M.Tagged.memory memory.old) parts.old.heap }
+    requires heap { HeapOwnsItsPages (M.Tagged.memory memory.old) parts.old.heap }
     requires tag { parts.old.regs.rgsr.tag < 16 }
     ensures served { record { parts = parts.new; memory = M.Tagged.memory memory.new; end = result }
-        ≡ usable_size_by parts.old (M.Tagged.memory memory.old) }
-    ensures heap { IsServed (M.Tagged.memory memory.new) parts.new.heap }
+        ≡ usable_size_service parts.old (M.Tagged.memory memory.old) }
+    ensures heap { HeapOwnsItsPages (M.Tagged.memory memory.new) parts.new.heap }
     ensures tag { parts.new.regs.rgsr.tag < 16 }
     ensures kept { M.Tagged.kept memory.old memory.new }
 {
@@ -149,7 +150,7 @@ pub(crate) fn usable_size<M: Paged>(parts: &mut TenantParts, memory: &mut M) -> 
                 second,
                 answer,
             });
-            SvcEnd::Go
+            SvcEnd::Resume
         }
         Err(abort) => SvcEnd::Abort(abort, first),
     }

@@ -2,7 +2,7 @@
 
 ghost use Rattle.std.specs.Prelude.{◌≡◌, ◌≤◌, length, take, drop, IfOk, OnOk, OnErr, is_ok};
 ghost use Rattle.std.specs.Prelude.{if◌then◌else◌, true};
-ghost use Rattle.mte_tags.specs.Accesses.{write_fault, after_write, outcome};
+ghost use Rattle.mte_tags.specs.Accesses.{write_fault, after_write, result_of};
 
 use mte_tags::{MemFault, Tagged};
 use std::alloc::{AllocError, Global};
@@ -55,7 +55,7 @@ impl Input {
         count: u64,
     ) -> Result<(), MemFault>
         requires { count ≤ length self.old }
-        ensures answer { result ≡ outcome (write_fault (M.memory memory.old) addr count true) }
+        ensures answer { result ≡ result_of (write_fault (M.memory memory.old) addr count true) }
         ensures ok { OnOk result (self.new ≡ drop count self.old) }
         ensures err { OnErr result (self.new ≡ self.old) }
         ensures memory { M.memory memory.new

@@ -3,9 +3,9 @@
 ghost use Rattle.std.specs.Prelude.{◌≡◌};
 ghost use Rattle.mte_tags.specs.Memory.{Memory};
 ghost use Rattle.a64_step.specs.Fixed.{KeepsFixed};
-ghost use Rattle.scudo_heap.specs.Served.{IsServed};
+ghost use Rattle.scudo_heap.specs.Served.{HeapOwnsItsPages};
 ghost use Rattle.scudo_heap.specs.Sound.{IsSound};
-ghost use Rattle.mte_svc.specs.Services.{served};
+ghost use Rattle.mte_svc.specs.Services.{after_svc};
 
 use crate::parts::TenantParts;
 
@@ -13,7 +13,7 @@ use crate::parts::TenantParts;
 /// nor whether it is mapped.
 pub fn services_keep_fixed_pages()
     ensures { (p : TenantParts) (m : Memory)
-        → IsServed m p.heap
+        → HeapOwnsItsPages m p.heap
         → IsSound p.heap
-        → KeepsFixed m (served p m).memory }
+        → KeepsFixed m (after_svc p m).memory }
 {}

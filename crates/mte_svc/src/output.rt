@@ -2,7 +2,7 @@
 
 ghost use Rattle.std.specs.Prelude.{◌≡◌, ◌≤◌, ◌+◌, ◌-◌, ◌++◌, [], IfOk, OnOk, OnErr, true};
 ghost use Rattle.std.specs.Prelude.{is_ok, if◌then◌else◌, vec_len, vec_capacity, replicate};
-ghost use Rattle.mte_tags.specs.Accesses.{read_fault, read_bytes, after_read, outcome};
+ghost use Rattle.mte_tags.specs.Accesses.{read_fault, read_bytes, after_read, result_of};
 
 use mte_tags::{MemFault, Tagged};
 use std::alloc::{AllocError, Global};
@@ -61,7 +61,7 @@ impl Output {
         count: u64,
     ) -> Result<(), MemFault>
         requires { count ≤ self.old.left }
-        ensures answer { result ≡ outcome (read_fault (M.memory memory.old) addr count true) }
+        ensures answer { result ≡ result_of (read_fault (M.memory memory.old) addr count true) }
         ensures ok { OnOk result (self.new ≡ record {
           bytes = self.old.bytes ++ read_bytes (M.memory memory.old) addr count;
           left = self.old.left - count;

@@ -1,7 +1,7 @@
 //! The parts of a tenant's machine beside its memory.
 
 ghost use Rattle.std.specs.Prelude.{◌≡◌};
-ghost use Rattle.mte_svc.specs.Results.{answered, entered, is_running};
+ghost use Rattle.mte_svc.specs.Results.{with_answer, with_logged_call, is_running};
 
 use crate::calls::HeapCall;
 use crate::input::Input;
@@ -13,7 +13,7 @@ use scudo_heap::Heap;
 #[derive(Drop)]
 pub struct TenantParts {
     /// Its record.
-    pub account: Record,
+    pub log: Record,
     /// Its registers.
     pub regs: Regs,
     /// Its heap.
@@ -27,29 +27,29 @@ pub struct TenantParts {
 impl TenantParts {
     /// Whether it is running.
     pub fn is_running(&self) -> bool
-        ensures { result ≡ is_running self.now.account.status }
+        ensures { result ≡ is_running self.now.log.status }
     {
-        match self.account.status {
+        match self.log.status {
             Status::Running => true,
             _ => false,
         }
     }
 
     /// Enters a heap call that was answered, and returns its result.
-    #[tactic(auto, unfolding(crate::specs::Results::entered))]
+    #[tactic(auto, unfolding(crate::specs::Results::with_logged_call))]
     pub(crate) fn enter(&mut self, call: HeapCall)
-        ensures parts { self.new ≡ answered (entered self.old call) call.answer }
+        ensures parts { self.new ≡ with_answer (with_logged_call self.old call) call.answer }
         ensures heap { self.new.heap ≡ self.old.heap }
         ensures rgsr { self.new.regs.rgsr ≡ self.old.regs.rgsr }
     {
-        self.account.calls.note(call);
+        self.log.calls.note(call);
         self.answer(call.answer);
     }
 
     /// Returns a service's result in x0, and resumes after the SVC.
-    #[tactic(auto, unfolding(crate::specs::Results::answered))]
+    #[tactic(auto, unfolding(crate::specs::Results::with_answer))]
     pub(crate) fn answer(&mut self, value: u64)
-        ensures parts { self.new ≡ answered self.old value }
+        ensures parts { self.new ≡ with_answer self.old value }
         ensures heap { self.new.heap ≡ self.old.heap }
         ensures rgsr { self.new.regs.rgsr ≡ self.old.regs.rgsr }
     {

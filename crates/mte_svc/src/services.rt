@@ -2,8 +2,8 @@
 
 ghost use Rattle.std.specs.Prelude.{◌≡◌, ◌<◌};
 ghost use Rattle.a64_step.specs.Fixed.{KeepsFixed};
-ghost use Rattle.scudo_heap.specs.Served.{IsServed};
-ghost use Rattle.mte_svc.specs.Services.{served, wrote, read_in};
+ghost use Rattle.scudo_heap.specs.Served.{HeapOwnsItsPages};
+ghost use Rattle.mte_svc.specs.Services.{after_svc, after_write_service, after_read_service};
 
 use crate::heap_services::{calloc, free, malloc, memalign, realloc, usable_size};
 use crate::laws::services_keep_fixed_pages;
@@ -15,9 +15,9 @@ use scudo_heap::{HeapAbort, condition_of_calls};
 #[derive(Clone, Copy)]
 pub enum SvcEnd {
     /// The tenant resumes after the SVC.
-    Go,
-    /// So it does, with its next slice.
-    EndSlice,
+    Resume,
+    /// The tenant resumes in its next slice.
+    Yield,
     /// It ended itself, with a code.
     Exit(u8),
     /// An access of the service failed.
@@ -82,12 +82,12 @@ pub fn services_in_digits()
 /// that no service has returns 2^64 - 1. Where it ends the tenant, PC stays at the SVC. No service
 /// changes a page that is mapped without WRITE.
 pub fn svc<M: Paged>(parts: &mut TenantParts, memory: &mut M) -> SvcEnd
-    requires heap { IsServed (M.Tagged.memory memory.old) parts.old.heap }
+    requires heap { HeapOwnsItsPages (M.Tagged.memory memory.old) parts.old.heap }
     requires tag { parts.old.regs.rgsr.tag < 16 }
     ensures served { record { parts = parts.new; memory = M.Tagged.memory memory.new; end = result }
-        ≡ served parts.old (M.Tagged.memory memory.old) }
+        ≡ after_svc parts.old (M.Tagged.memory memory.old) }
     ensures fixed { KeepsFixed (M.Tagged.memory memory.old) (M.Tagged.memory memory.new) }
-    ensures heap { IsServed (M.Tagged.memory memory.new) parts.new.heap }
+    ensures heap { HeapOwnsItsPages (M.Tagged.memory memory.new) parts.new.heap }
     ensures tag { parts.new.regs.rgsr.tag < 16 }
     ensures kept { M.Tagged.kept memory.old memory.new }
 {
@@ -97,13 +97,13 @@ pub fn svc<M: Paged>(parts: &mut TenantParts, memory: &mut M) -> SvcEnd
 }
 
 /// The service with the number in x8.
-#[tactic(auto, unfolding(crate::specs::Services::served))]
+#[tactic(auto, unfolding(crate::specs::Services::after_svc))]
 fn by_number<M: Paged>(parts: &mut TenantParts, memory: &mut M) -> SvcEnd
-    requires heap { IsServed (M.Tagged.memory memory.old) parts.old.heap }
+    requires heap { HeapOwnsItsPages (M.Tagged.memory memory.old) parts.old.heap }
     requires tag { parts.old.regs.rgsr.tag < 16 }
     ensures served { record { parts = parts.new; memory = M.Tagged.memory memory.new; end = result }
-        ≡ served parts.old (M.Tagged.memory memory.old) }
-    ensures heap { IsServed (M.Tagged.memory memory.new) parts.new.heap }
+        ≡ after_svc parts.old (M.Tagged.memory memory.old) }
+    ensures heap { HeapOwnsItsPages (M.Tagged.memory memory.new) parts.new.heap }
     ensures tag { parts.new.regs.rgsr.tag < 16 }
     ensures kept { M.Tagged.kept memory.old memory.new }
 {
@@ -119,56 +119,56 @@ fn by_number<M: Paged>(parts: &mut TenantParts, memory: &mut M) -> SvcEnd
         USABLE_SIZE => usable_size(parts, memory),
         YIELD => {
             parts.answer(0);
-            SvcEnd::EndSlice
+            SvcEnd::Yield
         }
         STEPS_LEFT => {
             let left = parts.left;
             parts.answer(left);
-            SvcEnd::Go
+            SvcEnd::Resume
         }
         PAGES_LEFT => {
             let left = memory.pages_left() as u64;
             parts.answer(left);
-            SvcEnd::Go
+            SvcEnd::Resume
         }
         _ => {
             parts.answer(u64::MAX);
-            SvcEnd::Go
+            SvcEnd::Resume
         }
     }
 }
 
 /// Appends the x1 bytes at x0, or as many as there is room for, to the output.
-#[tactic(auto, unfolding(crate::specs::Services::wrote))]
+#[tactic(auto, unfolding(crate::specs::Services::after_write_service))]
 fn write<M: Tagged>(parts: &mut TenantParts, memory: &mut M) -> SvcEnd
-    requires heap { IsServed (M.memory memory.old) parts.old.heap }
+    requires heap { HeapOwnsItsPages (M.memory memory.old) parts.old.heap }
     requires tag { parts.old.regs.rgsr.tag < 16 }
     ensures served { record { parts = parts.new; memory = M.memory memory.new; end = result }
-        ≡ wrote parts.old (M.memory memory.old) }
-    ensures heap { IsServed (M.memory memory.new) parts.new.heap }
+        ≡ after_write_service parts.old (M.memory memory.old) }
+    ensures heap { HeapOwnsItsPages (M.memory memory.new) parts.new.heap }
     ensures tag { parts.new.regs.rgsr.tag < 16 }
     ensures kept { M.kept memory.old memory.new }
 {
     condition_of_calls();
-    let count = parts.regs.x[1].min(parts.account.output.left());
+    let count = parts.regs.x[1].min(parts.log.output.left());
     let addr = parts.regs.x[0];
-    match parts.account.output.append_from(memory, addr, count) {
+    match parts.log.output.append_from(memory, addr, count) {
         Ok(()) => {
             parts.answer(count);
-            SvcEnd::Go
+            SvcEnd::Resume
         }
         Err(fault) => SvcEnd::Fault(fault),
     }
 }
 
 /// Reads the next x1 bytes of the input, or as many as are left, to x0.
-#[tactic(auto, unfolding(crate::specs::Services::read_in))]
+#[tactic(auto, unfolding(crate::specs::Services::after_read_service))]
 fn read<M: Tagged>(parts: &mut TenantParts, memory: &mut M) -> SvcEnd
-    requires heap { IsServed (M.memory memory.old) parts.old.heap }
+    requires heap { HeapOwnsItsPages (M.memory memory.old) parts.old.heap }
     requires tag { parts.old.regs.rgsr.tag < 16 }
     ensures served { record { parts = parts.new; memory = M.memory memory.new; end = result }
-        ≡ read_in parts.old (M.memory memory.old) }
-    ensures heap { IsServed (M.memory memory.new) parts.new.heap }
+        ≡ after_read_service parts.old (M.memory memory.old) }
+    ensures heap { HeapOwnsItsPages (M.memory memory.new) parts.new.heap }
     ensures tag { parts.new.regs.rgsr.tag < 16 }
     ensures kept { M.kept memory.old memory.new }
 {
@@ -178,7 +178,7 @@ fn read<M: Tagged>(parts: &mut TenantParts, memory: &mut M) -> SvcEnd
     match parts.input.copy_to(memory, addr, count) {
         Ok(()) => {
             parts.answer(count);
-            SvcEnd::Go
+            SvcEnd::Resume
         }
         Err(fault) => SvcEnd::Fault(fault),
     }

@@ -3,7 +3,7 @@ use Rattle.std.proofs.Common.{◌≡◌, ℕ, suc, zero, ◌+◌, ◌/◌, ◌%�
 use Rattle.std.proofs.lemmas.Bool.{cases_eq}
 use Rattle.std.specs.List.{range_with_len}
 use Rattle.mte_tags.specs.Memory.{Memory, Page, page_at, with_page, with_byte}
-use Rattle.mte_tags.specs.Accesses.{addresses, byte_fault, first_fault, or_else, fault_in, outcome, with_bytes, AreMapped}
+use Rattle.mte_tags.specs.Accesses.{addresses, byte_fault, first_fault, or_else, fault_cases, result_of, with_bytes, AreMapped}
 use Rattle.mte_tags.specs.declared.fault.MemFault.{MemFault}
 use Rattle.mte_tags.specs.declared.access.Access.{Access}
 use Rattle.mte_tags.proofs.Pages.{page_at-with_page_same, page_at-with_page_other}
@@ -53,7 +53,7 @@ first_fault-append m x [] ys = refl
 first_fault-append m x (a ∷ xs) ys = ap (or_else (byte_fault m x a)) (first_fault-append m x xs ys) ∙ sym (or_else_assoc (byte_fault m x a) (first_fault m x xs) (first_fault m x ys))
 
 -- where no byte fails each is mapped
-mapped_of : (x : Access) (p : Option Page) (a : ℕ) → fault_in x p a ≡ None → IsSome p
+mapped_of : (x : Access) (p : Option Page) (a : ℕ) → fault_cases x p a ≡ None → IsSome p
 mapped_of x None a e = cc
 mapped_of x (Some p) a e = refl
 
@@ -90,10 +90,10 @@ with_bytes-append m [] ys (b ∷ bs) cs e = absurd (omega arith)
 with_bytes-append m (x ∷ xs) ys [] cs e = absurd (omega arith)
 with_bytes-append m (x ∷ xs) ys (b ∷ bs) cs e = with_bytes-append (with_byte m x b) xs ys bs cs (omega arith)
 
-pub none_from_ok : (u : Unit {0}) (o : Option MemFault) → Ok u ≡ outcome o → o ≡ None
+pub none_from_ok : (u : Unit {0}) (o : Option MemFault) → Ok u ≡ result_of o → o ≡ None
 none_from_ok u None e = refl
 none_from_ok u (Some f) e = cc
 
-pub some_from_err : (f : MemFault) (o : Option MemFault) → Err f ≡ outcome o → o ≡ Some f
+pub some_from_err : (f : MemFault) (o : Option MemFault) → Err f ≡ result_of o → o ≡ Some f
 some_from_err f None e = cc
 some_from_err f (Some g) e = cc

@@ -2,17 +2,17 @@
 use Rattle.std.proofs.Common.{◌≡◌, ℕ, ◌/◌, ◌%◌, ◌==◌, ◌&&◌, Bool, true, false, cond, Option, Some, None, is_none, List, [], ◌∷◌, refl, sym, ap, ◌∙◌, eq-eqb}
 use Rattle.std.proofs.lemmas.Bool.{cond-true}
 use Rattle.a64_bits.specs.Addresses.{plain}
-use Rattle.mte_tags.specs.Memory.{Memory, Page, page_at, has, has_in, attrs_at, attrs_in, page_has, tag_at, tag_in}
-use Rattle.mte_tags.specs.Accesses.{addresses, granules, byte_fault, first_fault, or_else, fault, fault_in, granule_tag, unchecked, ending_in, access_fault, read_fault, write_fault, tags_fault, store_access, written}
+use Rattle.mte_tags.specs.Memory.{Memory, Page, page_at, has, has_cases, attrs_at, attrs_cases, page_has, tag_at, tag_cases}
+use Rattle.mte_tags.specs.Accesses.{addresses, granules, byte_fault, first_fault, or_else, fault, fault_cases, granule_tag, without_check, access_cases, access_fault, read_fault, write_fault, tags_fault, store_access, with_bytes_at}
 use Rattle.mte_tags.specs.declared.fault.MemFault.{MemFault}
 use Rattle.mte_tags.specs.declared.access.Access.{Access}
 use Rattle.mte_tags.specs.declared.fault.FaultKind.TheVariants.{Translation, Permission, TagCheck, Alignment}
 use Rattle.mte_tags.specs.declared.state.TagMode.{TagMode}
 use Rattle.mte_tags.specs.declared.state.TagMode.TheVariants.{Sync, Async}
 use Rattle.mte_tags.specs.declared.state.TagState.{TagState}
-use Rattle.mte_tags.proofs.PageLaws.{attrs_at-written}
-use Rattle.mte_tags.proofs.StateLaws.{state-written}
-use Rattle.mte_tags.proofs.ByteLaws.{tag_at-written}
+use Rattle.mte_tags.proofs.PageLaws.{attrs_at-with-bytes-at}
+use Rattle.mte_tags.proofs.StateLaws.{state-with-bytes-at}
+use Rattle.mte_tags.proofs.ByteLaws.{tag_at-with-bytes-at}
 
 -- how a byte fails, by its page's attributes and its granule's tag
 pub fault_by : Access → ℕ → Option ℕ → ℕ → Option MemFault
@@ -27,7 +27,7 @@ tagged_case true true f t = refl
 tagged_case true false f t = refl
 tagged_case false h f t = refl
 
-in_page : (x : Access) (o : Option Page) (a : ℕ) → fault_in x o a ≡ fault_by x a (attrs_in o) (tag_in o (a % 4096 / 16))
+in_page : (x : Access) (o : Option Page) (a : ℕ) → fault_cases x o a ≡ fault_by x a (attrs_cases o) (tag_cases o (a % 4096 / 16))
 unfolding fault_by
 in_page x None a = refl
 in_page x (Some p) a =
@@ -47,29 +47,29 @@ first_fault-same m m' x (a ∷ xs) e f =
     ∙ ap (or_else (byte_fault m' x a)) (first_fault-same m m' x xs e f)
 
 -- a write changes no fault
-pub first_fault-written : (m : Memory) (a : ℕ) (bs : List ℕ) (x : Access) (xs : List ℕ) → first_fault (written m a bs) x xs ≡ first_fault m x xs
-first_fault-written m a bs x xs = first_fault-same (written m a bs) m x xs (attrs_at-written m a bs) (tag_at-written m a bs)
+pub first_fault-with-bytes-at : (m : Memory) (a : ℕ) (bs : List ℕ) (x : Access) (xs : List ℕ) → first_fault (with_bytes_at m a bs) x xs ≡ first_fault m x xs
+first_fault-with-bytes-at m a bs x xs = first_fault-same (with_bytes_at m a bs) m x xs (attrs_at-with-bytes-at m a bs) (tag_at-with-bytes-at m a bs)
 
-ending-written : (mode : TagMode) (m : Memory) (a : ℕ) (bs : List ℕ) (x : Access) (xs : List ℕ) → (ending_in mode (written m a bs) x xs).fault ≡ (ending_in mode m x xs).fault
-ending-written Sync m a bs x xs = first_fault-written m a bs x xs
-ending-written Async m a bs x xs = first_fault-written m a bs (unchecked x) xs
+ending-with-bytes-at : (mode : TagMode) (m : Memory) (a : ℕ) (bs : List ℕ) (x : Access) (xs : List ℕ) → (access_cases mode (with_bytes_at m a bs) x xs).fault ≡ (access_cases mode m x xs).fault
+ending-with-bytes-at Sync m a bs x xs = first_fault-with-bytes-at m a bs x xs
+ending-with-bytes-at Async m a bs x xs = first_fault-with-bytes-at m a bs (without_check x) xs
 
-pub access_fault-written : (m : Memory) (a : ℕ) (bs : List ℕ) (x : Access) (xs : List ℕ) → access_fault (written m a bs) x xs ≡ access_fault m x xs
+pub access_fault-with-bytes-at : (m : Memory) (a : ℕ) (bs : List ℕ) (x : Access) (xs : List ℕ) → access_fault (with_bytes_at m a bs) x xs ≡ access_fault m x xs
 unfolding access_fault
-access_fault-written m a bs x xs =
-    ap (λ (s : TagState). (ending_in s.mode (written m a bs) x xs).fault) (state-written m a bs) ∙ ending-written m.state.mode m a bs x xs
+access_fault-with-bytes-at m a bs x xs =
+    ap (λ (s : TagState). (access_cases s.mode (with_bytes_at m a bs) x xs).fault) (state-with-bytes-at m a bs) ∙ ending-with-bytes-at m.state.mode m a bs x xs
 
-pub read_fault-written : (m : Memory) (a : ℕ) (bs : List ℕ) (b n : ℕ) (check : Bool) → read_fault (written m a bs) b n check ≡ read_fault m b n check
+pub read_fault-with-bytes-at : (m : Memory) (a : ℕ) (bs : List ℕ) (b n : ℕ) (check : Bool) → read_fault (with_bytes_at m a bs) b n check ≡ read_fault m b n check
 unfolding read_fault
-read_fault-written m a bs b n check = access_fault-written m a bs _ _
+read_fault-with-bytes-at m a bs b n check = access_fault-with-bytes-at m a bs _ _
 
-pub write_fault-written : (m : Memory) (a : ℕ) (bs : List ℕ) (b n : ℕ) (check : Bool) → write_fault (written m a bs) b n check ≡ write_fault m b n check
+pub write_fault-with-bytes-at : (m : Memory) (a : ℕ) (bs : List ℕ) (b n : ℕ) (check : Bool) → write_fault (with_bytes_at m a bs) b n check ≡ write_fault m b n check
 unfolding write_fault
-write_fault-written m a bs b n check = access_fault-written m a bs _ _
+write_fault-with-bytes-at m a bs b n check = access_fault-with-bytes-at m a bs _ _
 
-pub tags_fault-written : (m : Memory) (a : ℕ) (bs : List ℕ) (b n : ℕ) → tags_fault (written m a bs) b n ≡ tags_fault m b n
+pub tags_fault-with-bytes-at : (m : Memory) (a : ℕ) (bs : List ℕ) (b n : ℕ) → tags_fault (with_bytes_at m a bs) b n ≡ tags_fault m b n
 unfolding tags_fault
-tags_fault-written m a bs b n = ap (λ f. cond (b % 16 == 0) f (Some (fault Alignment (store_access b) (plain b) 0))) (first_fault-written m a bs (store_access b) (granules (plain b) n))
+tags_fault-with-bytes-at m a bs b n = ap (λ f. cond (b % 16 == 0) f (Some (fault Alignment (store_access b) (plain b) 0))) (first_fault-with-bytes-at m a bs (store_access b) (granules (plain b) n))
 
 -- an access has no fault where each byte's page has what it needs, and its tag where tags are after_access
 fits_tag : (F : MemFault) (c : Bool) (b : Bool) → (c ≡ true → b ≡ true) → cond c (cond b None (Some F)) None ≡ None
@@ -96,7 +96,7 @@ first_fault-none m x (a ∷ xs) attrs e h =
 needing : ℕ → Access
 needing need = record { need = need; write = false; checked = false; tag = 0 }
 
-needing_fault : (need a : ℕ) (o : Option Page) → is_none (or_else (fault_in (needing need) o a) None) ≡ has_in (attrs_in o) need
+needing_fault : (need a : ℕ) (o : Option Page) → is_none (or_else (fault_cases (needing need) o a) None) ≡ has_cases (attrs_cases o) need
 unfolding needing
 needing_fault need a None = refl
 needing_fault need a (Some p) = elim (has p.attrs need) as (λ b. is_none (or_else (cond b None (Some (fault Permission (needing need) a 0))) None) ≡ b) [ true ↦ refl | false ↦ refl ]

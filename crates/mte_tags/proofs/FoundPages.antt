@@ -5,10 +5,10 @@ use Rattle.std.proofs.lemmas.List.{length-take}
 use Rattle.std.specs.Int.{from_le_bytes, w32}
 use Rattle.a64_bits.specs.Addresses.{plain}
 use Rattle.std.specs.List.{range_with_len, slice_range}
-use Rattle.mte_tags.specs.Memory.{Memory, Page, page_at, with_page, tag_at, tag_in, with_granules}
+use Rattle.mte_tags.specs.Memory.{Memory, Page, page_at, with_page, tag_at, tag_cases, with_granules}
 use Rattle.mte_tags.specs.declared.fault.FaultKind.TheVariants.{Translation}
-use Rattle.mte_tags.specs.Accesses.{addresses, granules, byte_fault, first_fault, fault, fault_in, bytes_at, with_bytes, fetched, fetched_by, fetch_access, word_at, read_bytes}
-use Rattle.mte_tags.specs.Runs.{spliced, with_bytes_in, first_in, retagged}
+use Rattle.mte_tags.specs.Accesses.{addresses, granules, byte_fault, first_fault, fault, fault_cases, bytes_at, with_bytes, fetch_result, fetch_cases, fetch_access, word_at, read_bytes}
+use Rattle.mte_tags.specs.Runs.{with_bytes_run, with_bytes_in, first_in, with_granule_tags}
 use Rattle.mte_tags.specs.declared.access.Access.{Access}
 use Rattle.mte_tags.specs.declared.fault.MemFault.{MemFault}
 use Rattle.mte_tags.proofs.AddressLists.{addresses_in_page}
@@ -42,7 +42,7 @@ page_byte m p at x e u = page_run m p at 1 x e (omega arith) u ∙ first_fault_o
 
 pub byte_fault_missing : (m : Memory) (at : ℕ) (x : Access) → page_at m (at / 4096) ≡ None → byte_fault m x at ≡ Some (fault Translation x at 0)
 unfolding byte_fault
-byte_fault_missing m at x e = ap (λ p. fault_in x p at) e
+byte_fault_missing m at x e = ap (λ p. fault_cases x p at) e
 
 pub page_granules : (m : Memory) (p : Page) (at count : ℕ) (x : Access) → page_at m (at / 4096) ≡ Some p
     → x.checked ≡ false → 0 < count → at % 16 ≡ 0 → at % 4096 + 16 * count ≤ 4096 → at < 2 ^ 56
@@ -66,7 +66,7 @@ page_read m p place k l piece found h u long q was =
 
 -- a run that was written
 pub page_written : (m : Memory) (p : Page) (place : ℕ) (piece : List ℕ) → page_at m (place / 4096) ≡ Some p → place % 4096 + length piece ≤ 4096 → place < 2 ^ 56
-    → with_page m (place / 4096) (record p { bytes = spliced p.bytes (place % 4096) piece }) ≡ with_bytes m (addresses place (length piece)) piece
+    → with_page m (place / 4096) (record p { bytes = with_bytes_run p.bytes (place % 4096) piece }) ≡ with_bytes m (addresses place (length piece)) piece
 page_written m p place piece found h u =
     sym (ap (λ xs. with_bytes m xs piece) (addresses_in_page place (length piece) u h) ∙ with_bytes-run piece m p place found h)
 
@@ -80,32 +80,32 @@ page_replaced m n q p place piece same number found h u =
 
 -- a run that was retagged
 pub page_retagged : (m : Memory) (p : Page) (at count t : ℕ) (z : Bool) → page_at m (at / 4096) ≡ Some p → at % 16 ≡ 0 → at % 4096 + 16 * count ≤ 4096 → at < 2 ^ 56 → length p.bytes ≡ 4096
-    → with_page m (at / 4096) (retagged p (at % 4096 / 16) count t z) ≡ with_granules m at count t z
+    → with_page m (at / 4096) (with_granule_tags p (at % 4096 / 16) count t z) ≡ with_granules m at count t z
 page_retagged m p at count t z found g r u long = sym (with_granules-run count m p at t z found g (omega arith) long u)
 
 pub page_retagged_at : (m n : Memory) (q : ℕ) (p : Page) (at count t : ℕ) (z : Bool) → n ≡ m → q ≡ at / 4096 → page_at m (at / 4096) ≡ Some p → at % 16 ≡ 0 → at % 4096 + 16 * count ≤ 4096 → at < 2 ^ 56 → length p.bytes ≡ 4096
-    → with_page n q (retagged p (at % 4096 / 16) count t z) ≡ with_granules m at count t z
+    → with_page n q (with_granule_tags p (at % 4096 / 16) count t z) ≡ with_granules m at count t z
 page_retagged_at m n q p at count t z same number found g r u long =
-    ap (λ k. with_page k q (retagged p (at % 4096 / 16) count t z)) same
-    ∙ ap (λ k. with_page m k (retagged p (at % 4096 / 16) count t z)) number
+    ap (λ k. with_page k q (with_granule_tags p (at % 4096 / 16) count t z)) same
+    ∙ ap (λ k. with_page m k (with_granule_tags p (at % 4096 / 16) count t z)) number
     ∙ page_retagged m p at count t z found g r u long
 
 -- the fetch of an aligned word
-fetched_aligned : (m : Memory) (pc at : ℕ) (x : Access) → pc % 4 ≡ 0 → at ≡ plain pc → x ≡ fetch_access pc → fetched m pc ≡ fetched_by m pc (first_fault m x (addresses at 4))
-unfolding fetched
+fetched_aligned : (m : Memory) (pc at : ℕ) (x : Access) → pc % 4 ≡ 0 → at ≡ plain pc → x ≡ fetch_access pc → fetch_result m pc ≡ fetch_cases m pc (first_fault m x (addresses at 4))
+unfolding fetch_result
 fetched_aligned m pc at x g p e =
     cond-true _ _ _ (eq-eqb _ _ g)
-    ∙ ap (λ a. fetched_by m pc (first_fault m (fetch_access pc) (addresses a 4))) (sym p)
-    ∙ ap (λ y. fetched_by m pc (first_fault m y (addresses at 4))) (sym e)
+    ∙ ap (λ a. fetch_cases m pc (first_fault m (fetch_access pc) (addresses a 4))) (sym p)
+    ∙ ap (λ y. fetch_cases m pc (first_fault m y (addresses at 4))) (sym e)
 
-pub fetch_missing : (m : Memory) (pc at : ℕ) (x : Access) → pc % 4 ≡ 0 → at ≡ plain pc → x ≡ fetch_access pc → page_at m (at / 4096) ≡ None → Err (fault Translation x at 0) ≡ fetched m pc
+pub fetch_missing : (m : Memory) (pc at : ℕ) (x : Access) → pc % 4 ≡ 0 → at ≡ plain pc → x ≡ fetch_access pc → page_at m (at / 4096) ≡ None → Err (fault Translation x at 0) ≡ fetch_result m pc
 fetch_missing m pc at x g p e away =
-    sym (fetched_aligned m pc at x g p e ∙ ap (fetched_by m pc) (fault_missing m at 4 x (omega arith) (omega arith) (omega arith) away))
+    sym (fetched_aligned m pc at x g p e ∙ ap (fetch_cases m pc) (fault_missing m at 4 x (omega arith) (omega arith) (omega arith) away))
 
 pub page_fetched : (m : Memory) (p : Page) (pc at : ℕ) (x : Access) → page_at m (at / 4096) ≡ Some p → pc % 4 ≡ 0 → at ≡ plain pc → x ≡ fetch_access pc
-    → fetched_by m pc (first_in x (Some p) (range_with_len at 4)) ≡ fetched m pc
+    → fetch_cases m pc (first_in x (Some p) (range_with_len at 4)) ≡ fetch_result m pc
 page_fetched m p pc at x found g e f =
-    ap (fetched_by m pc) (page_run m p at 4 x found (omega arith) (omega arith)) ∙ sym (fetched_aligned m pc at x g e f)
+    ap (fetch_cases m pc) (page_run m p at 4 x found (omega arith) (omega arith)) ∙ sym (fetched_aligned m pc at x g e f)
 
 pub page_word : (m : Memory) (p : Page) (pc at : ℕ) → page_at m (at / 4096) ≡ Some p → pc % 4 ≡ 0 → at ≡ plain pc → length p.bytes ≡ 4096
     → from_le_bytes w32 (slice_range p.bytes (at % 4096) (at % 4096 + 4)) ≡ word_at m pc
@@ -116,9 +116,9 @@ page_word m p pc at found g e long =
     ap (from_le_bytes w32) (page_read m p at 4 4 (slice_range bs (at % 4096) (at % 4096 + 4)) found (omega arith) (omega arith) size refl refl)
     ∙ ap (λ a. from_le_bytes w32 (bytes_at m (addresses a 4))) e
 
-pub page_tag : (m : Memory) (p : Page) (at : ℕ) → page_at m (at / 4096) ≡ Some p → tag_at m at ≡ tag_in (Some p) (at % 4096 / 16)
+pub page_tag : (m : Memory) (p : Page) (at : ℕ) → page_at m (at / 4096) ≡ Some p → tag_at m at ≡ tag_cases (Some p) (at % 4096 / 16)
 unfolding tag_at
-page_tag m p at e = ap (λ q. tag_in q (at % 4096 / 16)) e
+page_tag m p at e = ap (λ q. tag_cases q (at % 4096 / 16)) e
 
 -- a chunk in one page gets tags and its header's bytes
 abbrev tagged_chunk : Memory → ℕ → ℕ → ℕ → ℕ → Memory
@@ -127,8 +127,8 @@ tagged_chunk m start around count t = with_granules (with_granules m start aroun
 module _ (m m1 m2 m3 : Memory) (q1 q2 q3 : ℕ) (p p2 p3 : Page) (start around count t : ℕ) (bs : List ℕ)
     (g : start % 16 ≡ 0) (wide : start % 4096 / 16 + around ≤ 256) (some : 0 < count) (within : start % 4096 / 16 + 1 + count ≤ 256) (u : start + 16 < 2 ^ 56) (eight : length bs ≡ 8)
     (same : m1 ≡ m) (number : q1 ≡ start / 4096) (found : page_at m (start / 4096) ≡ Some p) (long : length p.bytes ≡ 4096)
-    (first : m2 ≡ with_page m1 q1 (retagged p (start % 4096 / 16) around 0 false)) (page2 : p2 ≡ retagged p (start % 4096 / 16) around 0 false) (number2 : q2 ≡ q1)
-    (second : m3 ≡ with_page m2 q2 (retagged p2 (start % 4096 / 16 + 1) count t true)) (page3 : p3 ≡ retagged p2 (start % 4096 / 16 + 1) count t true) (number3 : q3 ≡ q2) where
+    (first : m2 ≡ with_page m1 q1 (with_granule_tags p (start % 4096 / 16) around 0 false)) (page2 : p2 ≡ with_granule_tags p (start % 4096 / 16) around 0 false) (number2 : q2 ≡ q1)
+    (second : m3 ≡ with_page m2 q2 (with_granule_tags p2 (start % 4096 / 16 + 1) count t true)) (page3 : p3 ≡ with_granule_tags p2 (start % 4096 / 16 + 1) count t true) (number3 : q3 ≡ q2) where
   at2 : q2 ≡ start / 4096
   at2 = number2 ∙ number
 
@@ -141,8 +141,8 @@ module _ (m m1 m2 m3 : Memory) (q1 q2 q3 : ℕ) (p p2 p3 : Page) (start around c
   found2 : page_at m2 (start / 4096) ≡ Some p2
   found2 =
       ap (λ k. page_at k (start / 4096)) first
-      ∙ ap (λ k. page_at (with_page m1 k (retagged p (start % 4096 / 16) around 0 false)) (start / 4096)) number
-      ∙ page_at-with_page_same m1 (start / 4096) (retagged p (start % 4096 / 16) around 0 false)
+      ∙ ap (λ k. page_at (with_page m1 k (with_granule_tags p (start % 4096 / 16) around 0 false)) (start / 4096)) number
+      ∙ page_at-with_page_same m1 (start / 4096) (with_granule_tags p (start % 4096 / 16) around 0 false)
       ∙ ap (λ r. Some r) (sym page2)
 
   long2 : length p2.bytes ≡ 4096
@@ -157,14 +157,14 @@ module _ (m m1 m2 m3 : Memory) (q1 q2 q3 : ℕ) (p p2 p3 : Page) (start around c
   retagged_next : m3 ≡ with_granules m2 (start + 16) count t true
   retagged_next =
       second
-      ∙ ap (λ i. with_page m2 q2 (retagged p2 i count t true)) (sym granule)
+      ∙ ap (λ i. with_page m2 q2 (with_granule_tags p2 i count t true)) (sym granule)
       ∙ page_retagged_at m2 m2 q2 p2 (start + 16) count t true refl (at2 ∙ sym next) (ap (page_at m2) next ∙ found2) (omega (arith, g)) (omega (arith, some, within, g)) u long2
 
   found3 : page_at m3 (start / 4096) ≡ Some p3
   found3 =
       ap (λ k. page_at k (start / 4096)) second
-      ∙ ap (λ k. page_at (with_page m2 k (retagged p2 (start % 4096 / 16 + 1) count t true)) (start / 4096)) at2
-      ∙ page_at-with_page_same m2 (start / 4096) (retagged p2 (start % 4096 / 16 + 1) count t true)
+      ∙ ap (λ k. page_at (with_page m2 k (with_granule_tags p2 (start % 4096 / 16 + 1) count t true)) (start / 4096)) at2
+      ∙ page_at-with_page_same m2 (start / 4096) (with_granule_tags p2 (start % 4096 / 16 + 1) count t true)
       ∙ ap (λ r. Some r) (sym page3)
 
   pub chunk_written : with_page m3 q3 (with_bytes_in p3 (start % 4096) bs) ≡ with_bytes (tagged_chunk m start around count t) (addresses start (length bs)) bs

@@ -1,7 +1,7 @@
 -- Lists of granules: an access to tags that is made in runs is the access to the list of its granules.
 use Rattle.std.proofs.Common.{◌≡◌, ℕ, suc, zero, ◌+◌, ◌-◌, ◌*◌, ◌/◌, ◌%◌, ◌^◌, ◌<◌, ◌≤◌, Bool, true, false, cond, Option, Some, None, List, ◌∷◌, ◌++◌, refl, sym, ap, subst, ◌∙◌, arith}
-use Rattle.mte_tags.specs.Memory.{Memory, Page, page_at, has, with_granule_in, with_granule, with_granules, tag_at, tag_in}
-use Rattle.mte_tags.specs.Accesses.{addresses, granules, byte_fault, first_fault, or_else, fault, page_fault, fault_in, AreMapped}
+use Rattle.mte_tags.specs.Memory.{Memory, Page, page_at, has, with_granule_cases, with_granule, with_granules, tag_at, tag_cases}
+use Rattle.mte_tags.specs.Accesses.{addresses, granules, byte_fault, first_fault, or_else, fault, page_fault, fault_cases, AreMapped}
 use Rattle.mte_tags.specs.declared.fault.FaultKind.TheVariants.{Permission}
 use Rattle.mte_tags.specs.declared.fault.MemFault.{MemFault}
 use Rattle.mte_tags.specs.declared.access.Access.{Access}
@@ -43,13 +43,13 @@ refused_alike true f g e = refl
 refused_alike false f g e = cc
 
 -- without a tag check the places of one page fail alike
-passes_alike : (x : Access) (p : Option Page) (a b : ℕ) → x.checked ≡ false → fault_in x p a ≡ None → fault_in x p b ≡ None
+passes_alike : (x : Access) (p : Option Page) (a b : ℕ) → x.checked ≡ false → fault_cases x p a ≡ None → fault_cases x p b ≡ None
 passes_alike x None a b u e = cc
 passes_alike x (Some p) a b u e = without_check x p b u ∙ refused_alike (has p.attrs x.need) (fault Permission x a 0) (fault Permission x b 0) (sym (without_check x p a u) ∙ e)
 
 byte_passes_alike : (m : Memory) (x : Access) (a b : ℕ) → x.checked ≡ false → b / 4096 ≡ a / 4096 → byte_fault m x a ≡ None → byte_fault m x b ≡ None
 unfolding byte_fault
-byte_passes_alike m x a b u q e = ap (λ k. fault_in x (page_at m k) b) q ∙ passes_alike x (page_at m (a / 4096)) a b u e
+byte_passes_alike m x a b u q e = ap (λ k. fault_cases x (page_at m k) b) q ∙ passes_alike x (page_at m (a / 4096)) a b u e
 
 granules_pass : (m : Memory) (x : Access) (a b n : ℕ) → x.checked ≡ false → byte_fault m x a ≡ None → 0 < n → b / 4096 ≡ a / 4096 → b % 16 ≡ 0 → b % 4096 + 16 * n ≤ 4096 → b < 2 ^ 56
     → first_fault m x (granules b n) ≡ None
@@ -98,7 +98,7 @@ pub with_granules_run : (m : Memory) (a n left t : ℕ) (z : Bool) → a < 2 ^ 5
     → with_granules m a left t z ≡ with_granules (with_granules m a n t z) ((a + 16 * n) % 2 ^ 56) (left - n) t z
 with_granules_run m a n left t z h l = let e : left ≡ n + (left - n) = omega arith in ap (λ j. with_granules m a j t z) e ∙ with_granules-append m a n (left - n) t z h
 
-kept_mapped : (m : Memory) (q g t : ℕ) (z : Bool) (p : Option Page) (ys : List ℕ) → AreMapped m ys → AreMapped (with_granule_in m q g t z p) ys
+kept_mapped : (m : Memory) (q g t : ℕ) (z : Bool) (p : Option Page) (ys : List ℕ) → AreMapped m ys → AreMapped (with_granule_cases m q g t z p) ys
 kept_mapped m q g t z None ys h = h
 kept_mapped m q g t z (Some p) ys h = AreMapped-with_page m q _ ys h
 
@@ -114,4 +114,4 @@ unfolding tag_at
 tag_at_granule m a =
     let q : a / 16 * 16 / 4096 ≡ a / 4096 = omega arith in
     let g : a / 16 * 16 % 4096 / 16 ≡ a % 4096 / 16 = omega arith in
-    ap (λ k. tag_in (page_at m k) (a / 16 * 16 % 4096 / 16)) q ∙ ap (λ k. tag_in (page_at m (a / 4096)) k) g
+    ap (λ k. tag_cases (page_at m k) (a / 16 * 16 % 4096 / 16)) q ∙ ap (λ k. tag_cases (page_at m (a / 4096)) k) g

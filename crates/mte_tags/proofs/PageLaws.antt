@@ -1,9 +1,9 @@
 -- What holds of pages and attributes after a memory was changed: mapping, unmapping, bytes, tags.
 use Rattle.std.proofs.Common.{◌≡◌, ℕ, suc, zero, ◌+◌, ◌-◌, ◌/◌, ◌%◌, ◌^◌, ◌<◌, ◌≤◌, Bool, Option, Some, None, IsSome, is_some, List, [], ◌∷◌, refl, sym, ap, subst, ◌∙◌, inl, inr, arith}
 use Rattle.std.proofs.lemmas.Bool.{cases_eq}
-use Rattle.mte_tags.specs.Memory.{Memory, Page, page_at, with_page, without_page, pages_left, new_page, with_new_pages, without_pages, IsFree, ArePages, attrs_in, attrs_at, with_byte_in, with_byte, with_granule_in, with_granule, with_granules}
+use Rattle.mte_tags.specs.Memory.{Memory, Page, page_at, with_page, without_page, pages_left, new_page, with_new_pages, without_pages, IsFree, ArePages, attrs_cases, attrs_at, with_byte_cases, with_byte, with_granule_cases, with_granule, with_granules}
 use Rattle.mte_tags.specs.declared.attrs.Attrs.{Attrs}
-use Rattle.mte_tags.specs.Accesses.{addresses, with_bytes, written, AreMapped, IsMapped}
+use Rattle.mte_tags.specs.Accesses.{addresses, with_bytes, with_bytes_at, AreMapped, IsMapped}
 use Rattle.a64_bits.specs.Addresses.{plain}
 use Rattle.mte_tags.proofs.Pages.{page_at-with_page_same, page_at-with_page_other, page_at-without_page_same, page_at-without_page_other, pages_left-with_old, pages_left-with_new}
 
@@ -63,51 +63,51 @@ pages_left-with_new_pages (suc n) m q x h =
 attrs_at-with_page : (m : Memory) (q : ℕ) (old new : Page) (r : ℕ) → page_at m q ≡ Some old → new.attrs ≡ old.attrs → attrs_at (with_page m q new) r ≡ attrs_at m r
 unfolding attrs_at
 attrs_at-with_page m q old new r h e = elim (cases_eq r q) [
-  | inl s ↦ rw s (ap attrs_in (page_at-with_page_same m q new) ∙ ap Some e ∙ sym (ap attrs_in h))
-  | inr n ↦ ap attrs_in (page_at-with_page_other m q new r n)
+  | inl s ↦ rw s (ap attrs_cases (page_at-with_page_same m q new) ∙ ap Some e ∙ sym (ap attrs_cases h))
+  | inr n ↦ ap attrs_cases (page_at-with_page_other m q new r n)
 ]
 
-attrs_at-with_byte_in : (m : Memory) (q o b : ℕ) (p : Option Page) (r : ℕ) → page_at m q ≡ p → attrs_at (with_byte_in m q o b p) r ≡ attrs_at m r
-attrs_at-with_byte_in m q o b None r h = refl
-attrs_at-with_byte_in m q o b (Some p) r h = attrs_at-with_page m q p _ r h refl
+attrs_at-with-byte-cases : (m : Memory) (q o b : ℕ) (p : Option Page) (r : ℕ) → page_at m q ≡ p → attrs_at (with_byte_cases m q o b p) r ≡ attrs_at m r
+attrs_at-with-byte-cases m q o b None r h = refl
+attrs_at-with-byte-cases m q o b (Some p) r h = attrs_at-with_page m q p _ r h refl
 
 pub attrs_at-with_bytes : (xs bs : List ℕ) (m : Memory) (r : ℕ) → attrs_at (with_bytes m xs bs) r ≡ attrs_at m r
 unfolding with_bytes with_byte
-attrs_at-with_bytes (a ∷ more) (b ∷ bs) m r = attrs_at-with_bytes more bs (with_byte m a b) r ∙ attrs_at-with_byte_in m (a / 4096) (a % 4096) b (page_at m (a / 4096)) r refl
+attrs_at-with_bytes (a ∷ more) (b ∷ bs) m r = attrs_at-with_bytes more bs (with_byte m a b) r ∙ attrs_at-with-byte-cases m (a / 4096) (a % 4096) b (page_at m (a / 4096)) r refl
 attrs_at-with_bytes [] bs m r = refl
 attrs_at-with_bytes (a ∷ more) [] m r = refl
 
-pub attrs_at-written : (m : Memory) (a : ℕ) (bs : List ℕ) (r : ℕ) → attrs_at (written m a bs) r ≡ attrs_at m r
-unfolding written
-attrs_at-written m a bs r = attrs_at-with_bytes _ bs m r
+pub attrs_at-with-bytes-at : (m : Memory) (a : ℕ) (bs : List ℕ) (r : ℕ) → attrs_at (with_bytes_at m a bs) r ≡ attrs_at m r
+unfolding with_bytes_at
+attrs_at-with-bytes-at m a bs r = attrs_at-with_bytes _ bs m r
 
-attrs_at-with_granule_in : (m : Memory) (q g t : ℕ) (z : Bool) (p : Option Page) (r : ℕ) → page_at m q ≡ p → attrs_at (with_granule_in m q g t z p) r ≡ attrs_at m r
-attrs_at-with_granule_in m q g t z None r h = refl
-attrs_at-with_granule_in m q g t z (Some p) r h = attrs_at-with_page m q p _ r h refl
+attrs_at-with-granule-cases : (m : Memory) (q g t : ℕ) (z : Bool) (p : Option Page) (r : ℕ) → page_at m q ≡ p → attrs_at (with_granule_cases m q g t z p) r ≡ attrs_at m r
+attrs_at-with-granule-cases m q g t z None r h = refl
+attrs_at-with-granule-cases m q g t z (Some p) r h = attrs_at-with_page m q p _ r h refl
 
 pub attrs_at-with_granules : (n : ℕ) (m : Memory) (a t : ℕ) (z : Bool) (r : ℕ) → attrs_at (with_granules m a n t z) r ≡ attrs_at m r
 unfolding with_granules with_granule
 attrs_at-with_granules zero m a t z r = refl
 attrs_at-with_granules (suc n) m a t z r =
-    attrs_at-with_granules n (with_granule m a t z) ((a + 16) % 2 ^ 56) t z r ∙ attrs_at-with_granule_in m (a / 4096) (a % 4096 / 16) t z (page_at m (a / 4096)) r refl
+    attrs_at-with_granules n (with_granule m a t z) ((a + 16) % 2 ^ 56) t z r ∙ attrs_at-with-granule-cases m (a / 4096) (a % 4096 / 16) t z (page_at m (a / 4096)) r refl
 
 pub attrs_at-with_new_pages_in : (n : ℕ) (m : Memory) (q : ℕ) (x : Attrs) (r : ℕ) → q ≤ r → r < q + n → attrs_at (with_new_pages m q n x) r ≡ Some x.0
 unfolding attrs_at new_page
-attrs_at-with_new_pages_in n m q x r a b = ap attrs_in (page_at-with_new_pages_in n m q x r a b)
+attrs_at-with_new_pages_in n m q x r a b = ap attrs_cases (page_at-with_new_pages_in n m q x r a b)
 
 pub attrs_at-with_new_pages_out : (n : ℕ) (m : Memory) (q : ℕ) (x : Attrs) (r : ℕ) → (q ≤ r → r < q + n → ⊥) → attrs_at (with_new_pages m q n x) r ≡ attrs_at m r
 unfolding attrs_at
-attrs_at-with_new_pages_out n m q x r o = ap attrs_in (page_at-with_new_pages_out n m q x r o)
+attrs_at-with_new_pages_out n m q x r o = ap attrs_cases (page_at-with_new_pages_out n m q x r o)
 
 pub attrs_at-without_pages_in : (n : ℕ) (m : Memory) (q r : ℕ) → q ≤ r → r < q + n → attrs_at (without_pages m q n) r ≡ None
 unfolding attrs_at
-attrs_at-without_pages_in n m q r a b = ap attrs_in (page_at-without_pages_in n m q r a b)
+attrs_at-without_pages_in n m q r a b = ap attrs_cases (page_at-without_pages_in n m q r a b)
 
 pub attrs_at-without_pages_out : (n : ℕ) (m : Memory) (q r : ℕ) → (q ≤ r → r < q + n → ⊥) → attrs_at (without_pages m q n) r ≡ attrs_at m r
 unfolding attrs_at
-attrs_at-without_pages_out n m q r o = ap attrs_in (page_at-without_pages_out n m q r o)
+attrs_at-without_pages_out n m q r o = ap attrs_cases (page_at-without_pages_out n m q r o)
 
-none_of : (p : Option Page) → attrs_in p ≡ None → p ≡ None
+none_of : (p : Option Page) → attrs_cases p ≡ None → p ≡ None
 none_of None e = refl
 none_of (Some p) e = cc
 
@@ -116,7 +116,7 @@ pub page_at-no_attrs : (m : Memory) (q : ℕ) → attrs_at m q ≡ None → page
 unfolding attrs_at
 page_at-no_attrs m q e = none_of (page_at m q) e
 
-some_of : (p : Option Page) (x : ℕ) → attrs_in p ≡ Some x → (r : Page) × ((p ≡ Some r) × (r.attrs ≡ x))
+some_of : (p : Option Page) (x : ℕ) → attrs_cases p ≡ Some x → (r : Page) × ((p ≡ Some r) × (r.attrs ≡ x))
 some_of None x e = cc
 some_of (Some p) x e = (p, (refl, cc))
 
@@ -126,29 +126,29 @@ unfolding attrs_at
 page_at-attrs m q x e = some_of (page_at m q) x e
 
 -- bytes and tags take no page
-left-with_byte_in : (m : Memory) (q o b : ℕ) (p : Option Page) → page_at m q ≡ p → pages_left (with_byte_in m q o b p) ≡ pages_left m
-left-with_byte_in m q o b None h = refl
-left-with_byte_in m q o b (Some p) h = pages_left-with_old m q _ p h
+left-with-byte-cases : (m : Memory) (q o b : ℕ) (p : Option Page) → page_at m q ≡ p → pages_left (with_byte_cases m q o b p) ≡ pages_left m
+left-with-byte-cases m q o b None h = refl
+left-with-byte-cases m q o b (Some p) h = pages_left-with_old m q _ p h
 
 left-with_bytes : (xs bs : List ℕ) (m : Memory) → pages_left (with_bytes m xs bs) ≡ pages_left m
 unfolding with_bytes with_byte
-left-with_bytes (a ∷ more) (b ∷ bs) m = left-with_bytes more bs (with_byte m a b) ∙ left-with_byte_in m (a / 4096) (a % 4096) b (page_at m (a / 4096)) refl
+left-with_bytes (a ∷ more) (b ∷ bs) m = left-with_bytes more bs (with_byte m a b) ∙ left-with-byte-cases m (a / 4096) (a % 4096) b (page_at m (a / 4096)) refl
 left-with_bytes [] bs m = refl
 left-with_bytes (a ∷ more) [] m = refl
 
-pub pages_left-written : (m : Memory) (a : ℕ) (bs : List ℕ) → pages_left (written m a bs) ≡ pages_left m
-unfolding written
-pages_left-written m a bs = left-with_bytes _ bs m
+pub pages_left-with-bytes-at : (m : Memory) (a : ℕ) (bs : List ℕ) → pages_left (with_bytes_at m a bs) ≡ pages_left m
+unfolding with_bytes_at
+pages_left-with-bytes-at m a bs = left-with_bytes _ bs m
 
-left-with_granule_in : (m : Memory) (q g t : ℕ) (z : Bool) (p : Option Page) → page_at m q ≡ p → pages_left (with_granule_in m q g t z p) ≡ pages_left m
-left-with_granule_in m q g t z None h = refl
-left-with_granule_in m q g t z (Some p) h = pages_left-with_old m q _ p h
+left-with-granule-cases : (m : Memory) (q g t : ℕ) (z : Bool) (p : Option Page) → page_at m q ≡ p → pages_left (with_granule_cases m q g t z p) ≡ pages_left m
+left-with-granule-cases m q g t z None h = refl
+left-with-granule-cases m q g t z (Some p) h = pages_left-with_old m q _ p h
 
 pub pages_left-with_granules : (n : ℕ) (m : Memory) (a t : ℕ) (z : Bool) → pages_left (with_granules m a n t z) ≡ pages_left m
 unfolding with_granules with_granule
 pages_left-with_granules zero m a t z = refl
 pages_left-with_granules (suc n) m a t z =
-    pages_left-with_granules n (with_granule m a t z) ((a + 16) % 2 ^ 56) t z ∙ left-with_granule_in m (a / 4096) (a % 4096 / 16) t z (page_at m (a / 4096)) refl
+    pages_left-with_granules n (with_granule m a t z) ((a + 16) % 2 ^ 56) t z ∙ left-with-granule-cases m (a / 4096) (a % 4096 / 16) t z (page_at m (a / 4096)) refl
 
 some_mapped : (o : Option Page) (p : Page) → o ≡ Some p → IsSome o
 some_mapped o p e = ap is_some e

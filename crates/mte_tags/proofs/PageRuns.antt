@@ -5,12 +5,12 @@ use Rattle.std.proofs.lemmas.List.FromFn.{get_or-map-range_with_len, length-map-
 use Rattle.std.proofs.lemmas.Bool.{cases_eq, cases_lt, cond-true, cond-false}
 use Rattle.std.specs.List.{range_with_len, slice_range}
 use Rattle.std.specs.Prelude.{slice_index}
-use Rattle.mte_tags.specs.Memory.{Memory, Page, page_at, with_page, has, byte_in, byte_at, with_byte_in, with_byte}
-use Rattle.mte_tags.specs.Accesses.{byte_fault, first_fault, or_else, fault, fault_in, page_fault, granule_tag, bytes_at, with_bytes}
+use Rattle.mte_tags.specs.Memory.{Memory, Page, page_at, with_page, has, byte_cases, byte_at, with_byte_cases, with_byte}
+use Rattle.mte_tags.specs.Accesses.{byte_fault, first_fault, or_else, fault, fault_cases, page_fault, granule_tag, bytes_at, with_bytes}
 use Rattle.mte_tags.specs.declared.fault.MemFault.{MemFault}
 use Rattle.mte_tags.specs.declared.access.Access.{Access}
 use Rattle.mte_tags.specs.declared.fault.FaultKind.TheVariants.{Translation, Permission, TagCheck}
-use Rattle.mte_tags.specs.Runs.{first_in, spliced}
+use Rattle.mte_tags.specs.Runs.{first_in, with_bytes_run}
 use Rattle.mte_tags.proofs.Pages.{with_page_twice, with_page_kept, page_at-with_page_same}
 use Rattle.mte_tags.proofs.AddressLists.{first_none}
 use Rattle.mte_tags.proofs.RunSteps.{length_range}
@@ -29,7 +29,7 @@ first_fault_in m x a (suc zero) h = refl
 first_fault_in m x a (suc (suc n)) h =
     let l : (a + 1) % 4096 + suc n ≤ 4096 = omega arith in
     let e : (a + 1) / 4096 ≡ a / 4096 = omega arith in
-    ap (or_else (fault_in x (page_at m (a / 4096)) a)) (first_fault_in m x (a + 1) (suc n) l ∙ ap (λ q. first_in x (page_at m q) (range_with_len (a + 1) (suc n))) e)
+    ap (or_else (fault_cases x (page_at m (a / 4096)) a)) (first_fault_in m x (a + 1) (suc n) l ∙ ap (λ q. first_in x (page_at m q) (range_with_len (a + 1) (suc n))) e)
 
 -- in a page that isn't there the first byte fails
 pub first_in-none : (x : Access) (a n : ℕ) → 0 < n → first_in x None (range_with_len a n) ≡ Some (fault Translation x a 0)
@@ -142,30 +142,30 @@ bytes_at-run m p a n e room h =
     (λ i li.
     let below : i < n = omega (arith, length-map-range_with_len (byte_at m) a n, li) in
     get_or-map-range_with_len (byte_at m) a n i (a + i) 0 below refl
-    ∙ ap (λ q. byte_in (page_at m q) ((a + i) % 4096)) (same_page a i (omega arith))
-    ∙ ap (λ q. byte_in q ((a + i) % 4096)) e
+    ∙ ap (λ q. byte_cases (page_at m q) ((a + i) % 4096)) (same_page a i (omega arith))
+    ∙ ap (λ q. byte_cases q ((a + i) % 4096)) e
     ∙ ap (slice_index p.bytes) (place_in_page a i (omega arith))
     ∙ sym (get_or-take n (drop (a % 4096) p.bytes) i 0 below ∙ get_or-drop (a % 4096) p.bytes i 0))
     ∙ ap (λ j. take j (drop (a % 4096) p.bytes)) (sym k)
 
 pub with_bytes-run : (bs : List ℕ) (m : Memory) (p : Page) (a : ℕ) → page_at m (a / 4096) ≡ Some p → a % 4096 + length bs ≤ 4096
-    → with_bytes m (range_with_len a (length bs)) bs ≡ with_page m (a / 4096) (record p { bytes = spliced p.bytes (a % 4096) bs })
-unfolding with_bytes with_byte spliced
+    → with_bytes m (range_with_len a (length bs)) bs ≡ with_page m (a / 4096) (record p { bytes = with_bytes_run p.bytes (a % 4096) bs })
+unfolding with_bytes with_byte with_bytes_run
 with_bytes-run [] m p a e h = sym (with_page_kept m (a / 4096) p e)
-with_bytes-run (b ∷ []) m p a e h = ap (with_byte_in m (a / 4096) (a % 4096) b) e
+with_bytes-run (b ∷ []) m p a e h = ap (with_byte_cases m (a / 4096) (a % 4096) b) e
 with_bytes-run (b ∷ c ∷ bs) m p a e h =
     let r : Page = record p { bytes = set p.bytes (a % 4096) b } in
     let q : (a + 1) / 4096 ≡ a / 4096 = omega arith in
     let o : (a + 1) % 4096 ≡ a % 4096 + 1 = omega arith in
-    let w : with_byte m a b ≡ with_page m (a / 4096) r = ap (with_byte_in m (a / 4096) (a % 4096) b) e in
+    let w : with_byte m a b ≡ with_page m (a / 4096) r = ap (with_byte_cases m (a / 4096) (a % 4096) b) e in
     ap (λ k. with_bytes k (range_with_len (a + 1) (length (c ∷ bs))) (c ∷ bs)) w
     ∙ with_bytes-run (c ∷ bs) (with_page m (a / 4096) r) r (a + 1) (rw q (page_at-with_page_same m (a / 4096) r)) (omega arith)
-    ∙ ap (λ k. with_page (with_page m (a / 4096) r) k (record r { bytes = spliced r.bytes ((a + 1) % 4096) (c ∷ bs) })) q
-    ∙ with_page_twice m (a / 4096) r (record r { bytes = spliced r.bytes ((a + 1) % 4096) (c ∷ bs) })
-    ∙ ap (λ k. with_page m (a / 4096) (record p { bytes = spliced r.bytes k (c ∷ bs) })) o
+    ∙ ap (λ k. with_page (with_page m (a / 4096) r) k (record r { bytes = with_bytes_run r.bytes ((a + 1) % 4096) (c ∷ bs) })) q
+    ∙ with_page_twice m (a / 4096) r (record r { bytes = with_bytes_run r.bytes ((a + 1) % 4096) (c ∷ bs) })
+    ∙ ap (λ k. with_page m (a / 4096) (record p { bytes = with_bytes_run r.bytes k (c ∷ bs) })) o
 
-pub spliced_is : (bs xs : List ℕ) (o : ℕ) → o + length bs ≤ length xs → spliced xs o bs ≡ take o xs ++ (bs ++ drop (o + length bs) xs)
-unfolding spliced
+pub spliced_is : (bs xs : List ℕ) (o : ℕ) → o + length bs ≤ length xs → with_bytes_run xs o bs ≡ take o xs ++ (bs ++ drop (o + length bs) xs)
+unfolding with_bytes_run
 spliced_is [] xs o h = let e : o + 0 ≡ o = omega arith in rw e (sym (take-append-drop o xs))
 spliced_is (b ∷ bs) xs o h =
     let l : o + 1 + length bs ≤ length (set xs o b) = omega (arith, length-set xs o b) in
@@ -178,7 +178,7 @@ spliced_is (b ∷ bs) xs o h =
     ∙ ap (λ t. take o xs ++ (b ∷ (bs ++ t))) (ap (λ k. drop k (set xs o b)) e ∙ drop-set-lt (o + suc (length bs)) xs o b lt')
 
 -- a run that was copied in
-pub copied_in : (bs ys xs : List ℕ) (o n : ℕ) → ys ≡ bs → length bs ≡ n → o + length bs ≤ length xs → take o xs ++ (ys ++ drop (o + n - o) (drop o xs)) ≡ spliced xs o bs
+pub copied_in : (bs ys xs : List ℕ) (o n : ℕ) → ys ≡ bs → length bs ≡ n → o + length bs ≤ length xs → take o xs ++ (ys ++ drop (o + n - o) (drop o xs)) ≡ with_bytes_run xs o bs
 copied_in bs ys xs o n same e h =
     let k : o + n - o ≡ length bs = omega arith in
     ap (λ l. take o xs ++ (l ++ drop (o + n - o) (drop o xs))) same
@@ -196,7 +196,7 @@ filled xs ys o n v h e =
     ∙ ap (λ l. take o xs ++ (replicate n v ++ l)) (drop-drop n o xs)
 
 pub filled_spliced : (xs ys : List ℕ) (o n v : ℕ) → o + n ≤ length xs → ys ≡ replicate (length (slice_range xs o (o + n))) v
-    → take o xs ++ (ys ++ drop (o + n - o) (drop o xs)) ≡ spliced xs o (replicate n v)
+    → take o xs ++ (ys ++ drop (o + n - o) (drop o xs)) ≡ with_bytes_run xs o (replicate n v)
 filled_spliced xs ys o n v h e =
     let l : length (replicate n v) ≡ n = length-replicate n v in
     filled xs ys o n v h e

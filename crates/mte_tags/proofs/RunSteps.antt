@@ -5,8 +5,8 @@ use Rattle.std.proofs.lemmas.Slice.{take-put_mid}
 use borrow.Rule.Slice.PartMut.{put_mid}
 use Rattle.std.specs.List.{slice_range}
 use Rattle.std.specs.Int.Bits.{and_zero_r}
-use Rattle.mte_tags.specs.Memory.{Memory, Page, page_at, with_byte_in, with_byte, has}
-use Rattle.mte_tags.specs.Accesses.{addresses, first_fault, byte_fault, fault_in, or_else, bytes_at, with_bytes, AreMapped}
+use Rattle.mte_tags.specs.Memory.{Memory, Page, page_at, with_byte_cases, with_byte, has}
+use Rattle.mte_tags.specs.Accesses.{addresses, first_fault, byte_fault, fault_cases, or_else, bytes_at, with_bytes, AreMapped}
 use Rattle.mte_tags.specs.declared.access.Access.{Access}
 use Rattle.mte_tags.proofs.AddressLists.{addresses-append, length-addresses, first_fault-append, AreMapped-append, with_bytes-append, AreMapped-with_page}
 
@@ -28,7 +28,7 @@ pub AreMapped_run : (m : Memory) (a n left : ℕ) → a < 2 ^ 56 → n ≤ left 
 AreMapped_run m a n left h l k = AreMapped-append m (addresses a n) _ (subst (AreMapped m) (addresses_run a n left h l) k)
 
 -- an access that asks for nothing but a mapped page has no fault where the pages are mapped
-no_fault_in : (x : Access) (p : Option Page) (a : ℕ) → ((attrs : ℕ) → has attrs x.need ≡ true) → x.checked ≡ false → IsSome p → fault_in x p a ≡ None
+no_fault_in : (x : Access) (p : Option Page) (a : ℕ) → ((attrs : ℕ) → has attrs x.need ≡ true) → x.checked ≡ false → IsSome p → fault_cases x p a ≡ None
 no_fault_in x None a n u h = cc
 no_fault_in x (Some p) a n u h = rw (n p.attrs, u) refl
 
@@ -76,7 +76,7 @@ length_range xs o n h =
     let k : o + n - o ≡ n = omega arith in
     ap (λ j. length (take j (drop o xs))) k ∙ length-take-le n (drop o xs) (omega (arith, length-drop o xs))
 
-kept_mapped : (m : Memory) (q o b : ℕ) (p : Option Page) (ys : List ℕ) → AreMapped m ys → AreMapped (with_byte_in m q o b p) ys
+kept_mapped : (m : Memory) (q o b : ℕ) (p : Option Page) (ys : List ℕ) → AreMapped m ys → AreMapped (with_byte_cases m q o b p) ys
 kept_mapped m q o b None ys h = h
 kept_mapped m q o b (Some p) ys h = AreMapped-with_page m q (record p { bytes = set p.bytes o b }) ys h
 

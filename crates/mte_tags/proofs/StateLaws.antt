@@ -1,40 +1,40 @@
 -- Mode and flag: mapping, unmapping, bytes and tags leave both; an access leaves the mode, and all tags.
 use Rattle.std.proofs.Common.{◌≡◌, ℕ, suc, zero, ◌+◌, ◌/◌, ◌%◌, ◌^◌, Bool, true, false, cond, Option, Some, None, List, [], ◌∷◌, refl, ap, ◌∙◌}
-use Rattle.mte_tags.specs.Memory.{Memory, Page, page_at, with_page, without_page, with_new_pages, without_pages, new_page, with_byte_in, with_byte, with_granule_in, with_granule, with_granules, with_pending, tag_at}
-use Rattle.mte_tags.specs.Accesses.{with_bytes, written, ending_in, after_access, write_access, after_read, after_write}
+use Rattle.mte_tags.specs.Memory.{Memory, Page, page_at, with_page, without_page, with_new_pages, without_pages, new_page, with_byte_cases, with_byte, with_granule_cases, with_granule, with_granules, with_pending, tag_at}
+use Rattle.mte_tags.specs.Accesses.{with_bytes, with_bytes_at, access_cases, after_access, write_access, after_read, after_write}
 use Rattle.mte_tags.specs.declared.access.Access.{Access}
 use Rattle.mte_tags.specs.declared.attrs.Attrs.{Attrs}
 use Rattle.mte_tags.specs.declared.state.TagState.{TagState}
 use Rattle.mte_tags.specs.Whole.{IsWhole}
 use Rattle.mte_tags.proofs.Pages.{limit-with_page}
-use Rattle.mte_tags.proofs.Whole.{whole-written}
-use Rattle.mte_tags.proofs.ByteLaws.{tag_at-written}
+use Rattle.mte_tags.proofs.Whole.{whole-with-bytes-at}
+use Rattle.mte_tags.proofs.ByteLaws.{tag_at-with-bytes-at}
 
-state-with_byte_in : (m : Memory) (q o b : ℕ) (p : Option Page) → (with_byte_in m q o b p).state ≡ m.state
+state-with-byte-cases : (m : Memory) (q o b : ℕ) (p : Option Page) → (with_byte_cases m q o b p).state ≡ m.state
 unfolding with_page
-state-with_byte_in m q o b None = refl
-state-with_byte_in m q o b (Some p) = refl
+state-with-byte-cases m q o b None = refl
+state-with-byte-cases m q o b (Some p) = refl
 
 pub state-with_bytes : (xs bs : List ℕ) (m : Memory) → (with_bytes m xs bs).state ≡ m.state
 unfolding with_bytes with_byte
-state-with_bytes (a ∷ more) (b ∷ bs) m = state-with_bytes more bs (with_byte m a b) ∙ state-with_byte_in m (a / 4096) (a % 4096) b (page_at m (a / 4096))
+state-with_bytes (a ∷ more) (b ∷ bs) m = state-with_bytes more bs (with_byte m a b) ∙ state-with-byte-cases m (a / 4096) (a % 4096) b (page_at m (a / 4096))
 state-with_bytes [] bs m = refl
 state-with_bytes (a ∷ more) [] m = refl
 
-pub state-written : (m : Memory) (a : ℕ) (bs : List ℕ) → (written m a bs).state ≡ m.state
-unfolding written
-state-written m a bs = state-with_bytes _ bs m
+pub state-with-bytes-at : (m : Memory) (a : ℕ) (bs : List ℕ) → (with_bytes_at m a bs).state ≡ m.state
+unfolding with_bytes_at
+state-with-bytes-at m a bs = state-with_bytes _ bs m
 
-state-with_granule_in : (m : Memory) (q g t : ℕ) (z : Bool) (p : Option Page) → (with_granule_in m q g t z p).state ≡ m.state
+state-with-granule-cases : (m : Memory) (q g t : ℕ) (z : Bool) (p : Option Page) → (with_granule_cases m q g t z p).state ≡ m.state
 unfolding with_page
-state-with_granule_in m q g t z None = refl
-state-with_granule_in m q g t z (Some p) = refl
+state-with-granule-cases m q g t z None = refl
+state-with-granule-cases m q g t z (Some p) = refl
 
 pub state-with_granules : (n : ℕ) (m : Memory) (a t : ℕ) (z : Bool) → (with_granules m a n t z).state ≡ m.state
 unfolding with_granules with_granule
 state-with_granules zero m a t z = refl
 state-with_granules (suc n) m a t z =
-    state-with_granules n (with_granule m a t z) ((a + 16) % 2 ^ 56) t z ∙ state-with_granule_in m (a / 4096) (a % 4096 / 16) t z (page_at m (a / 4096))
+    state-with_granules n (with_granule m a t z) ((a + 16) % 2 ^ 56) t z ∙ state-with-granule-cases m (a / 4096) (a % 4096 / 16) t z (page_at m (a / 4096))
 
 pub state-with_new_pages : (n : ℕ) (m : Memory) (q : ℕ) (x : Attrs) → (with_new_pages m q n x).state ≡ m.state
 unfolding with_new_pages with_page
@@ -53,7 +53,7 @@ mode_of_flag false m = refl
 
 pub mode-after_access : (m : Memory) (x : Access) (xs : List ℕ) → (after_access m x xs).state.mode ≡ m.state.mode
 unfolding after_access
-mode-after_access m x xs = mode_of_flag (ending_in m.state.mode m x xs).pending m
+mode-after_access m x xs = mode_of_flag (access_cases m.state.mode m x xs).pending m
 
 pub mode-after_read : (m : Memory) (a n : ℕ) (check : Bool) → (after_read m a n check).state.mode ≡ m.state.mode
 unfolding after_read
@@ -61,7 +61,7 @@ mode-after_read m a n check = mode-after_access m _ _
 
 pub mode-after_write : (m : Memory) (a : ℕ) (bs : List ℕ) (check : Bool) → (after_write m a bs check).state.mode ≡ m.state.mode
 unfolding after_write
-mode-after_write m a bs check = ap (λ (s : TagState). s.mode) (state-written (after_access m (write_access a check) _) a bs) ∙ mode-after_access m (write_access a check) _
+mode-after_write m a bs check = ap (λ (s : TagState). s.mode) (state-with-bytes-at (after_access m (write_access a check) _) a bs) ∙ mode-after_access m (write_access a check) _
 
 -- the flag is in no tag
 tag_of_flag : (b : Bool) (m : Memory) (c : ℕ) → tag_at (cond b (with_pending m) m) c ≡ tag_at m c
@@ -71,7 +71,7 @@ tag_of_flag false m c = refl
 
 tag_at-after_access : (m : Memory) (x : Access) (xs : List ℕ) (c : ℕ) → tag_at (after_access m x xs) c ≡ tag_at m c
 unfolding after_access
-tag_at-after_access m x xs c = tag_of_flag (ending_in m.state.mode m x xs).pending m c
+tag_at-after_access m x xs c = tag_of_flag (access_cases m.state.mode m x xs).pending m c
 
 pub tag_at-after_read : (m : Memory) (a n : ℕ) (check : Bool) (c : ℕ) → tag_at (after_read m a n check) c ≡ tag_at m c
 unfolding after_read
@@ -79,11 +79,11 @@ tag_at-after_read m a n check c = tag_at-after_access m _ _ c
 
 pub tag_at-after_write : (m : Memory) (a : ℕ) (bs : List ℕ) (check : Bool) (c : ℕ) → tag_at (after_write m a bs check) c ≡ tag_at m c
 unfolding after_write
-tag_at-after_write m a bs check c = tag_at-written (after_access m (write_access a check) _) a bs c ∙ tag_at-after_access m (write_access a check) _ c
+tag_at-after_write m a bs check c = tag_at-with-bytes-at (after_access m (write_access a check) _) a bs c ∙ tag_at-after_access m (write_access a check) _ c
 
 -- ---- how many pages there may be, and that a memory is whole
 
-limit-granule_in : (m : Memory) (q g t : ℕ) (z : Bool) (p : Option Page) → (with_granule_in m q g t z p).limit ≡ m.limit
+limit-granule_in : (m : Memory) (q g t : ℕ) (z : Bool) (p : Option Page) → (with_granule_cases m q g t z p).limit ≡ m.limit
 limit-granule_in m q g t z None = refl
 limit-granule_in m q g t z (Some p) = limit-with_page m q _
 
@@ -92,7 +92,7 @@ unfolding with_granules with_granule
 limit-with_granules zero m a t z = refl
 limit-with_granules (suc n) m a t z = limit-with_granules n (with_granule m a t z) ((a + 16) % 2 ^ 56) t z ∙ limit-granule_in m (a / 4096) (a % 4096 / 16) t z (page_at m (a / 4096))
 
-limit-byte_in : (m : Memory) (q o b : ℕ) (p : Option Page) → (with_byte_in m q o b p).limit ≡ m.limit
+limit-byte_in : (m : Memory) (q o b : ℕ) (p : Option Page) → (with_byte_cases m q o b p).limit ≡ m.limit
 limit-byte_in m q o b None = refl
 limit-byte_in m q o b (Some p) = limit-with_page m q _
 
@@ -102,9 +102,9 @@ limit-with_bytes (a ∷ more) (b ∷ bs) m = limit-with_bytes more bs (with_byte
 limit-with_bytes [] bs m = refl
 limit-with_bytes (a ∷ more) [] m = refl
 
-pub limit-written : (m : Memory) (a : ℕ) (bs : List ℕ) → (written m a bs).limit ≡ m.limit
-unfolding written
-limit-written m a bs = limit-with_bytes _ bs m
+pub limit-with-bytes-at : (m : Memory) (a : ℕ) (bs : List ℕ) → (with_bytes_at m a bs).limit ≡ m.limit
+unfolding with_bytes_at
+limit-with-bytes-at m a bs = limit-with_bytes _ bs m
 
 limit-if : (b : Bool) (m : Memory) → (cond b (with_pending m) m).limit ≡ m.limit
 unfolding with_pending
@@ -113,7 +113,7 @@ limit-if false m = refl
 
 pub limit-after_access : (m : Memory) (x : Access) (xs : List ℕ) → (after_access m x xs).limit ≡ m.limit
 unfolding after_access with_pending
-limit-after_access m x xs = limit-if (ending_in m.state.mode m x xs).pending m
+limit-after_access m x xs = limit-if (access_cases m.state.mode m x xs).pending m
 
 whole-pending : (b : Bool) (m : Memory) → IsWhole m → IsWhole (cond b (with_pending m) m)
 unfolding page_at with_pending
@@ -122,7 +122,7 @@ whole-pending false m w = w
 
 pub whole-after_access : (m : Memory) (x : Access) (xs : List ℕ) → IsWhole m → IsWhole (after_access m x xs)
 unfolding after_access
-whole-after_access m x xs w = whole-pending (ending_in m.state.mode m x xs).pending m w
+whole-after_access m x xs w = whole-pending (access_cases m.state.mode m x xs).pending m w
 
 pub limit-after_read : (m : Memory) (a n : ℕ) (check : Bool) → (after_read m a n check).limit ≡ m.limit
 unfolding after_read
@@ -134,8 +134,8 @@ whole-after_read m a n check w = whole-after_access m _ _ w
 
 pub limit-after_write : (m : Memory) (a : ℕ) (bs : List ℕ) (check : Bool) → (after_write m a bs check).limit ≡ m.limit
 unfolding after_write
-limit-after_write m a bs check = limit-written _ a bs ∙ limit-after_access m _ _
+limit-after_write m a bs check = limit-with-bytes-at _ a bs ∙ limit-after_access m _ _
 
 pub whole-after_write : (m : Memory) (a : ℕ) (bs : List ℕ) (check : Bool) → IsWhole m → IsWhole (after_write m a bs check)
 unfolding after_write
-whole-after_write m a bs check w = whole-written _ a bs (whole-after_access m _ _ w)
+whole-after_write m a bs check w = whole-with-bytes-at _ a bs (whole-after_access m _ _ w)

@@ -6,13 +6,13 @@ use Rattle.std.specs.Ordering.{nat_cmp}
 use Rattle.std.specs.Cmp.{nat_cmp_total}
 use Rattle.std.specs.FinMap as map
 use Rattle.std.specs.FinMap.{len-insert, len-empty}
-use Rattle.mte_tags.specs.Memory.{Memory, Page, page_at, with_page, without_page, pages_left, no_pages, new_page, with_new_pages, without_pages, IsFree, ArePages, with_byte_in, with_byte, zeroed, with_granule_in, with_granule, with_granules}
+use Rattle.mte_tags.specs.Memory.{Memory, Page, page_at, with_page, without_page, pages_left, no_pages, new_page, with_new_pages, without_pages, IsFree, ArePages, with_byte_cases, with_byte, with_zero_granule, with_granule_cases, with_granule, with_granules}
 use Rattle.mte_tags.specs.Whole.{IsWholePage, IsWhole}
 use Rattle.mte_tags.specs.declared.attrs.Attrs.{Attrs}
 use Rattle.mte_tags.specs.declared.state.TagMode.{TagMode}
-use Rattle.mte_tags.specs.Accesses.{with_bytes, written}
+use Rattle.mte_tags.specs.Accesses.{with_bytes, with_bytes_at}
 use Rattle.mte_tags.proofs.Pages.{page_at-with_page_same, page_at-with_page_other, page_at-without_page_same, page_at-without_page_other, page_at-no_pages, same_memory, limit-without_page, rest-with_page, rest-without_page, pages_left-with_new}
-use Rattle.mte_tags.proofs.TagRuns.{length-zeroed}
+use Rattle.mte_tags.proofs.TagRuns.{length-with-zero-granule}
 
 none_whole : (o : Option Page) (p : Page) → o ≡ None → o ≡ Some p → IsWholePage p
 none_whole o p e f = cc
@@ -138,15 +138,15 @@ pages_left-without_pages (suc n) m q =
     omega arith
 
 -- bytes
-whole-with_byte_in : (m : Memory) (q o b : ℕ) (p : Option Page) → page_at m q ≡ p → IsWhole m → IsWhole (with_byte_in m q o b p)
-whole-with_byte_in m q o b None e h = h
-whole-with_byte_in m q o b (Some p) e h =
+whole-with-byte-cases : (m : Memory) (q o b : ℕ) (p : Option Page) → page_at m q ≡ p → IsWhole m → IsWhole (with_byte_cases m q o b p)
+whole-with-byte-cases m q o b None e h = h
+whole-with-byte-cases m q o b (Some p) e h =
     let w = h.pages q p e in
     whole-with_old m q p (record p { bytes = set p.bytes o b }) e (record { bytes = length-set p.bytes o b ∙ w.bytes; tags = w.tags }) h
 
 pub whole-with_byte : (m : Memory) (a b : ℕ) → IsWhole m → IsWhole (with_byte m a b)
 unfolding with_byte
-whole-with_byte m a b h = whole-with_byte_in m (a / 4096) (a % 4096) b (page_at m (a / 4096)) refl h
+whole-with_byte m a b h = whole-with-byte-cases m (a / 4096) (a % 4096) b (page_at m (a / 4096)) refl h
 
 pub whole-with_bytes : (xs bs : List ℕ) (m : Memory) → IsWhole m → IsWhole (with_bytes m xs bs)
 unfolding with_bytes
@@ -154,24 +154,24 @@ whole-with_bytes (a ∷ more) (b ∷ bs) m h = whole-with_bytes more bs (with_by
 whole-with_bytes [] bs m h = h
 whole-with_bytes (a ∷ more) [] m h = h
 
-pub whole-written : (m : Memory) (a : ℕ) (bs : List ℕ) → IsWhole m → IsWhole (written m a bs)
-unfolding written
-whole-written m a bs h = whole-with_bytes _ bs m h
+pub whole-with-bytes-at : (m : Memory) (a : ℕ) (bs : List ℕ) → IsWhole m → IsWhole (with_bytes_at m a bs)
+unfolding with_bytes_at
+whole-with-bytes-at m a bs h = whole-with_bytes _ bs m h
 
 -- tags
-whole_bytes : (xs : List ℕ) (g : ℕ) (z : Bool) → g < 256 → length xs ≡ 4096 → length (cond z (zeroed xs g) xs) ≡ 4096
-whole_bytes xs g true l h = length-zeroed xs g (omega arith) ∙ h
+whole_bytes : (xs : List ℕ) (g : ℕ) (z : Bool) → g < 256 → length xs ≡ 4096 → length (cond z (with_zero_granule xs g) xs) ≡ 4096
+whole_bytes xs g true l h = length-with-zero-granule xs g (omega arith) ∙ h
 whole_bytes xs g false l h = h
 
-whole-with_granule_in : (m : Memory) (q g t : ℕ) (z : Bool) (p : Option Page) → page_at m q ≡ p → g < 256 → IsWhole m → IsWhole (with_granule_in m q g t z p)
-whole-with_granule_in m q g t z None e l h = h
-whole-with_granule_in m q g t z (Some p) e l h =
+whole-with-granule-cases : (m : Memory) (q g t : ℕ) (z : Bool) (p : Option Page) → page_at m q ≡ p → g < 256 → IsWhole m → IsWhole (with_granule_cases m q g t z p)
+whole-with-granule-cases m q g t z None e l h = h
+whole-with-granule-cases m q g t z (Some p) e l h =
     let w = h.pages q p e in
     whole-with_old m q p _ e (record { bytes = whole_bytes p.bytes g z l w.bytes; tags = length-set p.tags g t ∙ w.tags }) h
 
 pub whole-with_granule : (m : Memory) (a t : ℕ) (z : Bool) → IsWhole m → IsWhole (with_granule m a t z)
 unfolding with_granule
-whole-with_granule m a t z h = whole-with_granule_in m (a / 4096) (a % 4096 / 16) t z (page_at m (a / 4096)) refl (omega arith) h
+whole-with_granule m a t z h = whole-with-granule-cases m (a / 4096) (a % 4096 / 16) t z (page_at m (a / 4096)) refl (omega arith) h
 
 pub whole-with_granules : (n : ℕ) (m : Memory) (a t : ℕ) (z : Bool) → IsWhole m → IsWhole (with_granules m a n t z)
 unfolding with_granules

@@ -48,13 +48,13 @@ page_fault x p a =
     then (if x.checked && has p.attrs 8 then tag_fault x p a else None)
     else Some (fault Permission x a 0)
 
-abbrev pub fault_in : Access → Option Page → ℕ → Option MemFault
-fault_in x None a = Some (fault Translation x a 0)
-fault_in x (Some p) a = page_fault x p a
+abbrev pub fault_cases : Access → Option Page → ℕ → Option MemFault
+fault_cases x None a = Some (fault Translation x a 0)
+fault_cases x (Some p) a = page_fault x p a
 
 -- how the byte at a plain address fails
 unfoldable pub byte_fault : Memory → Access → ℕ → Option MemFault
-byte_fault m x a = fault_in x (page_at m (a / 4096)) a
+byte_fault m x a = fault_cases x (page_at m (a / 4096)) a
 
 abbrev pub or_else : Option MemFault → Option MemFault → Option MemFault
 or_else (Some f) g = Some f
@@ -66,41 +66,41 @@ first_fault m x [] = None
 first_fault m x (a ∷ more) = or_else (byte_fault m x a) (first_fault m x more)
 
 -- the same access without a comparison of tags
-abbrev pub unchecked : Access → Access
-unchecked x = record x { checked = false }
+abbrev pub without_check : Access → Access
+without_check x = record x { checked = false }
 
-abbrev pub differs_in : Access → Option Page → ℕ → Bool
-differs_in x None a = false
-differs_in x (Some p) a = (x.checked && has p.attrs 8) && not (granule_tag p a == x.tag)
+abbrev pub differs_cases : Access → Option Page → ℕ → Bool
+differs_cases x None a = false
+differs_cases x (Some p) a = (x.checked && has p.attrs 8) && not (granule_tag p a == x.tag)
 
 -- whether an access compares tags, and that of one of its bytes differs
 unfoldable pub has_mismatch : Memory → Access → List ℕ → Bool
 has_mismatch m x [] = false
-has_mismatch m x (a ∷ more) = differs_in x (page_at m (a / 4096)) a || has_mismatch m x more
+has_mismatch m x (a ∷ more) = differs_cases x (page_at m (a / 4096)) a || has_mismatch m x more
 
 -- how an access fails, and whether it sets the flag if it does not
-pub record Ending : Type 0 where
+pub record AccessResult : Type 0 where
   pub fault : Option MemFault
   pub pending : Bool
 
 -- what the tag mode makes of it: a tag that differs is a fault in Sync, and sets the flag in Async
-abbrev pub ending_in : TagMode → Memory → Access → List ℕ → Ending
-ending_in Sync m x addrs = record { fault = first_fault m x addrs; pending = false }
-ending_in Async m x addrs =
-    record { fault = first_fault m (unchecked x) addrs; pending = has_mismatch m x addrs }
+abbrev pub access_cases : TagMode → Memory → Access → List ℕ → AccessResult
+access_cases Sync m x addrs = record { fault = first_fault m x addrs; pending = false }
+access_cases Async m x addrs =
+    record { fault = first_fault m (without_check x) addrs; pending = has_mismatch m x addrs }
 
 -- how an access fails in the memory's mode
 unfoldable pub access_fault : Memory → Access → List ℕ → Option MemFault
-access_fault m x addrs = (ending_in m.state.mode m x addrs).fault
+access_fault m x addrs = (access_cases m.state.mode m x addrs).fault
 
 -- m after an access that did not fail, but for what it writes
 unfoldable pub after_access : Memory → Access → List ℕ → Memory
 after_access m x addrs =
-    if (ending_in m.state.mode m x addrs).pending then with_pending m else m
+    if (access_cases m.state.mode m x addrs).pending then with_pending m else m
 
-abbrev pub outcome : Option MemFault → Result (Unit {0}) MemFault
-outcome None = Ok tt
-outcome (Some f) = Err f
+abbrev pub result_of : Option MemFault → Result (Unit {0}) MemFault
+result_of None = Ok tt
+result_of (Some f) = Err f
 
 abbrev pub read_access : ℕ → Bool → Access
 read_access a check = record { need = 1; write = false; checked = check; tag = address_tag a }
@@ -138,27 +138,27 @@ with_bytes m [] bs = m
 with_bytes m (a ∷ more) [] = m
 
 -- m with bytes at an address
-unfoldable pub written : Memory → ℕ → List ℕ → Memory
-written m a bs = with_bytes m (addresses (plain a) (length bs)) bs
+unfoldable pub with_bytes_at : Memory → ℕ → List ℕ → Memory
+with_bytes_at m a bs = with_bytes m (addresses (plain a) (length bs)) bs
 
 -- m after a write of bytes at an address that did not fail
 unfoldable pub after_write : Memory → ℕ → List ℕ → Bool → Memory
 after_write m a bs check =
-    written (after_access m (write_access a check) (addresses (plain a) (length bs))) a bs
+    with_bytes_at (after_access m (write_access a check) (addresses (plain a) (length bs))) a bs
 
 -- the number of the four bytes at an address, the lowest first
 unfoldable pub word_at : Memory → ℕ → ℕ
 word_at m a = from_le_bytes w32 (read_bytes m a 4)
 
-abbrev pub fetched_by : Memory → ℕ → Option MemFault → Result ℕ MemFault
-fetched_by m pc (Some f) = Err f
-fetched_by m pc None = Ok (word_at m pc)
+abbrev pub fetch_cases : Memory → ℕ → Option MemFault → Result ℕ MemFault
+fetch_cases m pc (Some f) = Err f
+fetch_cases m pc None = Ok (word_at m pc)
 
 -- the instruction word at an address, or how its fetch fails; a fetch is never tag checked
-unfoldable pub fetched : Memory → ℕ → Result ℕ MemFault
-fetched m pc =
+unfoldable pub fetch_result : Memory → ℕ → Result ℕ MemFault
+fetch_result m pc =
     if pc % 4 == 0
-    then fetched_by m pc (first_fault m (fetch_access pc) (addresses (plain pc) 4))
+    then fetch_cases m pc (first_fault m (fetch_access pc) (addresses (plain pc) 4))
     else Err (fault PcAlignment (fetch_access pc) (plain pc) 0)
 
 -- each plain address of the list lies in a mapped page
@@ -192,6 +192,6 @@ tags_fault m a n =
 unfoldable pub tag_load_fault : Memory → ℕ → Option MemFault
 tag_load_fault m a = byte_fault m (load_access a) (plain a / 16 * 16)
 
-abbrev pub loaded : Option MemFault → ℕ → Result ℕ MemFault
-loaded None t = Ok t
-loaded (Some f) t = Err f
+abbrev pub tag_result : Option MemFault → ℕ → Result ℕ MemFault
+tag_result None t = Ok t
+tag_result (Some f) t = Err f

@@ -4,3 +4,4 @@ pub mod Accesses
 pub mod TagChoice
 pub mod RandomTags
 pub mod Runs
+pub mod FaultNames

@@ -114,65 +114,65 @@ ArePages m q n = (i : ℕ) → i < n → IsSome (page_at m (q + i))
 abbrev pub has : ℕ → ℕ → Bool
 has attrs need = bit_and attrs need == need
 
-abbrev pub attrs_in : Option Page → Option ℕ
-attrs_in None = None
-attrs_in (Some p) = Some p.attrs
+abbrev pub attrs_cases : Option Page → Option ℕ
+attrs_cases None = None
+attrs_cases (Some p) = Some p.attrs
 
 -- the attributes of a page, if it is mapped
 unfoldable pub attrs_at : Memory → ℕ → Option ℕ
-attrs_at m q = attrs_in (page_at m q)
+attrs_at m q = attrs_cases (page_at m q)
 
-abbrev pub has_in : Option ℕ → ℕ → Bool
-has_in None need = false
-has_in (Some attrs) need = has attrs need
+abbrev pub has_cases : Option ℕ → ℕ → Bool
+has_cases None need = false
+has_cases (Some attrs) need = has attrs need
 
 -- whether a page is mapped and has all the attributes of need
 unfoldable pub page_has : Memory → ℕ → ℕ → Bool
-page_has m q need = has_in (attrs_at m q) need
+page_has m q need = has_cases (attrs_at m q) need
 
-abbrev pub byte_in : Option Page → ℕ → ℕ
-byte_in None o = 0
-byte_in (Some p) o = slice_index p.bytes o
+abbrev pub byte_cases : Option Page → ℕ → ℕ
+byte_cases None o = 0
+byte_cases (Some p) o = slice_index p.bytes o
 
 -- the byte at a plain address, 0 where no page is mapped
 unfoldable pub byte_at : Memory → ℕ → ℕ
-byte_at m a = byte_in (page_at m (a / 4096)) (a % 4096)
+byte_at m a = byte_cases (page_at m (a / 4096)) (a % 4096)
 
-abbrev pub with_byte_in : Memory → ℕ → ℕ → ℕ → Option Page → Memory
-with_byte_in m q o b None = m
-with_byte_in m q o b (Some p) = with_page m q (record p { bytes = slice_set p.bytes o b })
+abbrev pub with_byte_cases : Memory → ℕ → ℕ → ℕ → Option Page → Memory
+with_byte_cases m q o b None = m
+with_byte_cases m q o b (Some p) = with_page m q (record p { bytes = slice_set p.bytes o b })
 
 -- m with b as the byte at a plain address
 unfoldable pub with_byte : Memory → ℕ → ℕ → Memory
-with_byte m a b = with_byte_in m (a / 4096) (a % 4096) b (page_at m (a / 4096))
+with_byte m a b = with_byte_cases m (a / 4096) (a % 4096) b (page_at m (a / 4096))
 
 -- only a TAGGED page has tags: elsewhere a tag reads as 0
-abbrev pub tag_in : Option Page → ℕ → ℕ
-tag_in None g = 0
-tag_in (Some p) g = if has p.attrs 8 then slice_index p.tags g else 0
+abbrev pub tag_cases : Option Page → ℕ → ℕ
+tag_cases None g = 0
+tag_cases (Some p) g = if has p.attrs 8 then slice_index p.tags g else 0
 
 -- the allocation tag of the granule at a plain address, 0 where the page is not mapped or not
 -- TAGGED
 unfoldable pub tag_at : Memory → ℕ → ℕ
-tag_at m a = tag_in (page_at m (a / 4096)) (a % 4096 / 16)
+tag_at m a = tag_cases (page_at m (a / 4096)) (a % 4096 / 16)
 
 -- the bytes of a page with those of the granule g zero
-abbrev pub zeroed : List ℕ → ℕ → List ℕ
-zeroed bytes g = take (16 * g) bytes ++ replicate 16 0 ++ drop (16 * g + 16) bytes
+abbrev pub with_zero_granule : List ℕ → ℕ → List ℕ
+with_zero_granule bytes g = take (16 * g) bytes ++ replicate 16 0 ++ drop (16 * g + 16) bytes
 
-abbrev pub with_granule_in : Memory → ℕ → ℕ → ℕ → Bool → Option Page → Memory
-with_granule_in m q g t zero_it None = m
-with_granule_in m q g t zero_it (Some p) =
+abbrev pub with_granule_cases : Memory → ℕ → ℕ → ℕ → Bool → Option Page → Memory
+with_granule_cases m q g t zero_it None = m
+with_granule_cases m q g t zero_it (Some p) =
     with_page m q (record {
       attrs = p.attrs;
-      bytes = if zero_it then zeroed p.bytes g else p.bytes;
+      bytes = if zero_it then with_zero_granule p.bytes g else p.bytes;
       tags = slice_set p.tags g t;
     })
 
 -- m with t as the tag of the granule at a plain address, and its bytes zero where that is wanted
 unfoldable pub with_granule : Memory → ℕ → ℕ → Bool → Memory
 with_granule m a t zero_it =
-    with_granule_in m (a / 4096) (a % 4096 / 16) t zero_it (page_at m (a / 4096))
+    with_granule_cases m (a / 4096) (a % 4096 / 16) t zero_it (page_at m (a / 4096))
 
 -- the same for n granules from a plain address on: after the last address comes 0
 unfoldable pub with_granules : Memory → ℕ → ℕ → ℕ → Bool → Memory

@@ -49,8 +49,8 @@ abbrev pub drawn_tag : Rgsr → ℕ → ℕ
 drawn_tag r exclude = chosen_tag r.tag (offset_of r.seed 0) exclude
 
 -- one draw: the tag that is chosen from the last one becomes the last one
-unfoldable pub drawn : Rgsr → ℕ → Drawn
-drawn r exclude =
+unfoldable pub after_draw : Rgsr → ℕ → Drawn
+after_draw r exclude =
     record {
       tag = drawn_tag r exclude;
       rgsr = record { tag = drawn_tag r exclude; seed = seed_after r.seed 1 };

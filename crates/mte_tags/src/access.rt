@@ -1,7 +1,7 @@
 //! What an access requires of a page, and how it fails.
 
 ghost use Rattle.std.specs.Prelude.{◌≡◌, false};
-ghost use Rattle.mte_tags.specs.Accesses.{read_access, write_access, fetch_access, unchecked};
+ghost use Rattle.mte_tags.specs.Accesses.{read_access, write_access, fetch_access, without_check};
 ghost use Rattle.mte_tags.specs.Accesses.{fault};
 
 use crate::attrs::Attrs;
@@ -22,7 +22,7 @@ pub struct Access {
 }
 
 impl Access {
-    /// That of a read at an address, which needs READ.
+    /// A read at an address, which needs READ.
     pub(crate) fn reading(addr: u64, checked: bool) -> Access
         ensures { result ≡ read_access addr checked }
     {
@@ -34,7 +34,7 @@ impl Access {
         }
     }
 
-    /// That of a write at an address, which needs WRITE.
+    /// A write at an address, which needs WRITE.
     pub(crate) fn writing(addr: u64, checked: bool) -> Access
         ensures { result ≡ write_access addr checked }
     {
@@ -46,7 +46,7 @@ impl Access {
         }
     }
 
-    /// That of a fetch at an address, which needs EXEC.
+    /// A fetch at an address, which needs EXEC.
     pub fn fetching(pc: u64) -> Access
         ensures { result ≡ fetch_access pc }
     {
@@ -58,9 +58,9 @@ impl Access {
         }
     }
 
-    /// The same without a comparison of tags.
+    /// This access without a comparison of tags.
     pub(crate) fn unchecked(&self) -> Access
-        ensures { result ≡ unchecked self.now }
+        ensures { result ≡ without_check self.now }
     {
         let mut other = *self;
         other.checked = false;

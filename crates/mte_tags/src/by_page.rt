@@ -4,11 +4,12 @@ ghost use Rattle.std.specs.Prelude.{◌≡◌, ℕ, ◌<◌, ◌≤◌, ◌+◌,
 ghost use Rattle.std.specs.Prelude.{IsTrue, IfOk, is_ok, length, if◌then◌else◌};
 ghost use Rattle.a64_bits.specs.Addresses.{plain};
 ghost use Rattle.mte_tags.specs.Memory.{Memory, tag_at, page_has, with_granules};
-ghost use Rattle.mte_tags.specs.Accesses.{outcome, loaded, addresses, granules, first_fault};
+ghost use Rattle.mte_tags.specs.Accesses.{result_of, tag_result, addresses, granules, first_fault};
 ghost use Rattle.mte_tags.specs.Accesses.{access_fault, after_access, bytes_at, with_bytes};
 ghost use Rattle.mte_tags.specs.Accesses.{AreMapped};
-ghost use Rattle.mte_tags.specs.Accesses.{fetched, read_fault, read_bytes, after_read, write_fault};
-ghost use Rattle.mte_tags.specs.Accesses.{written, after_write, tags_fault};
+ghost use Rattle.mte_tags.specs.Accesses.{fetch_result, read_fault, read_bytes, after_read};
+ghost use Rattle.mte_tags.specs.Accesses.{write_fault};
+ghost use Rattle.mte_tags.specs.Accesses.{with_bytes_at, after_write, tags_fault};
 ghost use Rattle.mte_tags.specs.Accesses.{tag_load_fault, fault, fetch_access};
 
 use crate::access::Access;
@@ -35,7 +36,7 @@ fn check_bytes<S: PageStore>(
 ) -> Result<(), MemFault>
     requires { at < 2 ^ 56 }
     ensures answer { result
-        ≡ outcome (first_fault (S.memory store.old) access.now (addresses at count)) }
+        ≡ result_of (first_fault (S.memory store.old) access.now (addresses at count)) }
     ensures memory { S.memory store.new ≡ S.memory store.old }
     ensures kept { S.kept store.old store.new }
 {
@@ -62,7 +63,7 @@ fn check_in_mode<S: PageStore>(
 ) -> Result<(), MemFault>
     requires { at < 2 ^ 56 }
     ensures answer { result
-        ≡ outcome (access_fault (S.memory store.old) access.now (addresses at count)) }
+        ≡ result_of (access_fault (S.memory store.old) access.now (addresses at count)) }
     ensures memory { S.memory store.new
         ≡ (if is_ok result
         then after_access (S.memory store.old) access.now (addresses at count)
@@ -137,7 +138,7 @@ fn read_across_pages<S: PageStore>(
 ) -> Result<(), MemFault>
     requires plain { at < 2 ^ 56 }
     ensures answer { result
-        ≡ outcome
+        ≡ result_of
         (access_fault (S.memory store.old) access.now (addresses at (length buffer.old))) }
     ensures bytes { buffer.new
         ≡ (if is_ok result
@@ -164,7 +165,7 @@ fn read_out_of_line<S: PageStore>(
 ) -> Result<(), MemFault>
     requires plain { at < 2 ^ 56 }
     ensures answer { result
-        ≡ outcome
+        ≡ result_of
         (access_fault (S.memory store.old) access.now (addresses at (length buffer.old))) }
     ensures bytes { buffer.new
         ≡ (if is_ok result
@@ -193,7 +194,7 @@ fn read_slowly<S: PageStore>(
 ) -> Result<(), MemFault>
     requires plain { at < 2 ^ 56 }
     ensures answer { result
-        ≡ outcome
+        ≡ result_of
         (access_fault (S.memory store.old) access.now (addresses at (length buffer.old))) }
     ensures bytes { buffer.new
         ≡ (if is_ok result
@@ -233,7 +234,7 @@ fn read_at<S: PageStore>(
     checked: bool,
 ) -> Result<(), MemFault>
     ensures answer { result
-        ≡ outcome (read_fault (S.memory store.old) addr (length buffer.old) checked) }
+        ≡ result_of (read_fault (S.memory store.old) addr (length buffer.old) checked) }
     ensures bytes { buffer.new
         ≡ (if is_ok result
         then read_bytes (S.memory store.old) addr (length buffer.old)
@@ -263,7 +264,7 @@ fn write_across_pages<S: PageStore>(
 ) -> Result<(), MemFault>
     requires plain { at < 2 ^ 56 }
     ensures answer { result
-        ≡ outcome
+        ≡ result_of
         (access_fault (S.memory store.old) access.now (addresses at (length bytes.now))) }
     ensures memory { S.memory store.new
         ≡ (if is_ok result
@@ -289,7 +290,7 @@ fn write_out_of_line<S: PageStore>(
 ) -> Result<(), MemFault>
     requires plain { at < 2 ^ 56 }
     ensures answer { result
-        ≡ outcome
+        ≡ result_of
         (access_fault (S.memory store.old) access.now (addresses at (length bytes.now))) }
     ensures memory { S.memory store.new
         ≡ (if is_ok result
@@ -317,7 +318,7 @@ fn write_slowly<S: PageStore>(
 ) -> Result<(), MemFault>
     requires plain { at < 2 ^ 56 }
     ensures answer { result
-        ≡ outcome
+        ≡ result_of
         (access_fault (S.memory store.old) access.now (addresses at (length bytes.now))) }
     ensures memory { S.memory store.new
         ≡ (if is_ok result
@@ -336,7 +337,7 @@ fn write_slowly<S: PageStore>(
 #[rattlefmt::skip]
 #[tactic(auto, unfolding(
     crate::specs::Accesses::write_fault,
-    crate::specs::Accesses::written,
+    crate::specs::Accesses::with_bytes_at,
     crate::specs::Accesses::after_write
 ))]
 #[inline(always)]
@@ -347,7 +348,7 @@ fn write_at<S: PageStore>(
     checked: bool,
 ) -> Result<(), MemFault>
     ensures answer { result
-        ≡ outcome (write_fault (S.memory store.old) addr (length bytes.now) checked) }
+        ≡ result_of (write_fault (S.memory store.old) addr (length bytes.now) checked) }
     ensures memory { S.memory store.new
         ≡ (if is_ok result
         then after_write (S.memory store.old) addr bytes.now checked
@@ -365,7 +366,7 @@ fn write_at<S: PageStore>(
 /// The instruction word at an address; one page holds an aligned word.
 #[inline(always)]
 fn fetch_word<S: PageStore>(store: &mut S, pc: u64) -> Result<u32, MemFault>
-    ensures answer { result ≡ fetched (S.memory store.old) pc }
+    ensures answer { result ≡ fetch_result (S.memory store.old) pc }
     ensures memory { S.memory store.new ≡ S.memory store.old }
     ensures kept { S.kept store.old store.new }
 {
@@ -389,7 +390,7 @@ fn unaligned_fetch(pc: u64) -> MemFault
 fn load_granule_tag<S: PageStore>(store: &mut S, addr: u64) -> Result<u8, MemFault>
     ensures small { IfOk result (λ t. t < 16) }
     ensures answer { result
-        ≡ loaded (tag_load_fault (S.memory store.old) addr)
+        ≡ tag_result (tag_load_fault (S.memory store.old) addr)
         (tag_at (S.memory store.old) (plain addr)) }
     ensures memory { S.memory store.new ≡ S.memory store.old }
     ensures kept { S.kept store.old store.new }
@@ -425,7 +426,7 @@ fn check_granules<S: PageStore>(
     requires aligned { at % 16 ≡ 0 }
     requires unchecked { access.now.checked ≡ false }
     ensures answer { result
-        ≡ outcome (first_fault (S.memory store.old) access.now (granules at count)) }
+        ≡ result_of (first_fault (S.memory store.old) access.now (granules at count)) }
     ensures memory { S.memory store.new ≡ S.memory store.old }
     ensures kept { S.kept store.old store.new }
 {
@@ -476,7 +477,7 @@ fn store_granule_tags<S: PageStore>(
     zero: bool,
 ) -> Result<(), MemFault>
     requires { tag < 16 }
-    ensures answer { result ≡ outcome (tags_fault (S.memory store.old) addr count) }
+    ensures answer { result ≡ result_of (tags_fault (S.memory store.old) addr count) }
     ensures memory { S.memory store.new
         ≡ (if is_ok result
         then with_granules (S.memory store.old) (plain addr) count tag zero

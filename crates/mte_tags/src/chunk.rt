@@ -4,7 +4,7 @@ ghost use Rattle.std.specs.Prelude.{◌≡◌, ◌+◌, ◌-◌, ◌/◌, ◌%�
 ghost use Rattle.std.specs.Prelude.{if◌then◌else◌};
 ghost use Rattle.std.specs.Int.{from_le_bytes, w64};
 ghost use Rattle.mte_tags.specs.Memory.{page_has, tag_at, with_granules};
-ghost use Rattle.mte_tags.specs.Accesses.{read_bytes, written};
+ghost use Rattle.mte_tags.specs.Accesses.{read_bytes, with_bytes_at};
 
 use crate::attrs::Attrs;
 use crate::page::{copy_out, tag_in_page};
@@ -60,7 +60,7 @@ pub(crate) fn write_chunk_in_page<S: PageStore>(
     requires tag { tag < 16 }
     ensures memory { S.memory store.new
         ≡ (if result
-        then written
+        then with_bytes_at
         (with_granules
         (with_granules (S.memory store.old) (user - 16) around 0 false)
         user count tag true)

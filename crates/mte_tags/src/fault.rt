@@ -1,6 +1,7 @@
 //! Why an access failed, and where.
 
 ghost use Rattle.std.specs.Prelude.{◌≡◌};
+ghost use Rattle.mte_tags.specs.FaultNames.{kind_name};
 
 /// Why an access failed.
 #[derive(Clone, Copy, PartialEq, Eq, Debug)]
@@ -17,6 +18,22 @@ pub enum FaultKind {
     SpAlignment,
     /// A fetch at an address that is not a multiple of 4.
     PcAlignment,
+}
+
+impl FaultKind {
+    /// Its name in a report.
+    pub fn name(self) -> &'static str
+        ensures { result.now ≡ kind_name self }
+    {
+        match self {
+            FaultKind::Translation => "Translation",
+            FaultKind::Permission => "Permission",
+            FaultKind::TagCheck => "TagCheck",
+            FaultKind::Alignment => "Alignment",
+            FaultKind::SpAlignment => "SpAlignment",
+            FaultKind::PcAlignment => "PcAlignment",
+        }
+    }
 }
 
 /// A synchronous data or instruction abort: the first byte or granule of an access that failed

@@ -2,7 +2,7 @@
 
 ghost use Rattle.std.specs.Prelude.{◌≡◌, ◌<◌, ◌+◌, ◌^◌, ℕ};
 ghost use Rattle.mte_tags.specs.TagChoice.{chosen_tag};
-ghost use Rattle.mte_tags.specs.RandomTags.{drawn, offset_of};
+ghost use Rattle.mte_tags.specs.RandomTags.{after_draw, offset_of};
 ghost use Rattle.mte_tags.specs.RandomTags.{seed_after};
 
 use crate::tags::choose_non_excluded;
@@ -19,8 +19,8 @@ impl Rgsr {
     /// does with GCR_EL1.RRND 0 (Arm ARM DDI 0487, AArch64.RandomTag and ChooseNonExcludedTag).
     pub fn draw(&mut self, exclude: u16) -> u8
         requires { self.old.tag < 16 }
-        ensures tag { result ≡ (drawn self.old exclude).tag }
-        ensures rgsr { self.new ≡ (drawn self.old exclude).rgsr }
+        ensures tag { result ≡ (after_draw self.old exclude).tag }
+        ensures rgsr { self.new ≡ (after_draw self.old exclude).rgsr }
         ensures below { result < 16 }
         ensures last { self.new.tag ≡ result }
         ensures in_sequence { (first draws : ℕ)

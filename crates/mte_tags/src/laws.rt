@@ -5,7 +5,7 @@ ghost use Rattle.mte_tags.specs.Memory.{Memory, with_new_pages, without_pages, w
 ghost use Rattle.mte_tags.specs.Memory.{attrs_at, pages_left, IsFree, ArePages};
 ghost use Rattle.mte_tags.specs.Whole.{IsWhole};
 ghost use Rattle.mte_tags.specs.Accesses.{read_fault, write_fault, after_read, after_write};
-ghost use Rattle.mte_tags.specs.Accesses.{written};
+ghost use Rattle.mte_tags.specs.Accesses.{with_bytes_at};
 ghost use Rattle.mte_tags.specs.declared.fault.MemFault.{MemFault};
 
 use crate::attrs::Attrs;
@@ -20,7 +20,7 @@ pub fn flag_stays_in_sync()
         → after_read m a n check ≡ m }
     ensures write { (m : Memory) (a : ℕ) (bytes : List ℕ) (check : Bool)
         → m.state.mode ≡ TagMode.Sync
-        → after_write m a bytes check ≡ written m a bytes }
+        → after_write m a bytes check ≡ with_bytes_at m a bytes }
 {}
 
 /// In the asynchronous mode no access fails by a tag.
@@ -47,7 +47,7 @@ pub fn mode_stays()
         → (with_new_pages m page n attrs).state ≡ m.state }
     ensures unmap { (m : Memory) (page n : ℕ) → (without_pages m page n).state ≡ m.state }
     ensures load { (m : Memory) (a : ℕ) (bytes : List ℕ)
-        → (written m a bytes).state ≡ m.state }
+        → (with_bytes_at m a bytes).state ≡ m.state }
 {}
 
 /// The attributes of a page after each call, and how many pages are left then.
@@ -55,7 +55,7 @@ pub fn pages_after_calls()
     ensures store_tags { (m : Memory) (a n tag page : ℕ) (zero : Bool)
         → attrs_at (with_granules m a n tag zero) page ≡ attrs_at m page }
     ensures load { (m : Memory) (a page : ℕ) (bytes : List ℕ)
-        → attrs_at (written m a bytes) page ≡ attrs_at m page }
+        → attrs_at (with_bytes_at m a bytes) page ≡ attrs_at m page }
     ensures map { (m : Memory) (first n page : ℕ) (attrs : Attrs)
         → first ≤ page
         → page < first + n
@@ -71,7 +71,7 @@ pub fn pages_after_calls()
     ensures store_tags_left { (m : Memory) (a n tag : ℕ) (zero : Bool)
         → pages_left (with_granules m a n tag zero) ≡ pages_left m }
     ensures load_left { (m : Memory) (a : ℕ) (bytes : List ℕ)
-        → pages_left (written m a bytes) ≡ pages_left m }
+        → pages_left (with_bytes_at m a bytes) ≡ pages_left m }
     ensures map_left { (m : Memory) (first n : ℕ) (attrs : Attrs)
         → IsFree m first n
         → pages_left (with_new_pages m first n attrs) ≡ pages_left m - n }

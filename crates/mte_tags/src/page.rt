@@ -4,8 +4,8 @@ ghost use Rattle.std.specs.Prelude.{◌≡◌, ◌<◌, ◌≤◌, ◌+◌, ◌%
 ghost use Rattle.std.specs.Prelude.{true, Some, IsTrue, is_none, length, slice_range};
 ghost use Rattle.std.specs.List.{range_with_len};
 ghost use Rattle.std.specs.Int.{from_le_bytes, w32};
-ghost use Rattle.mte_tags.specs.Memory.{has, tag_in};
-ghost use Rattle.mte_tags.specs.Runs.{first_in, spliced};
+ghost use Rattle.mte_tags.specs.Memory.{has, tag_cases};
+ghost use Rattle.mte_tags.specs.Runs.{first_in, with_bytes_run};
 
 use crate::access::Access;
 use crate::attrs::Attrs;
@@ -211,7 +211,7 @@ pub(crate) fn word_in_page<S: PageStore>(store: &S, place: usize, at: u64) -> u3
 pub fn copy_in(page: &mut [u8], at: u64, bytes: &[u8])
     requires page { length page.old ≡ 4096 }
     requires inside { at % 4096 + length bytes.now ≤ 4096 }
-    ensures { page.new ≡ spliced page.old (at % 4096) bytes.now }
+    ensures { page.new ≡ with_bytes_run page.old (at % 4096) bytes.now }
 {
     let from = (at % 4096) as usize;
     if bytes.len() == 8 {
@@ -232,7 +232,7 @@ pub fn copy_in(page: &mut [u8], at: u64, bytes: &[u8])
 pub(crate) fn tag_in_page<S: PageStore>(store: &S, place: usize, at: u64) -> u8
     requires { S.is_place store.now place }
     ensures small { result < 16 }
-    ensures tag { result ≡ tag_in (Some (S.page_in store.now place)) (at % 4096 / 16) }
+    ensures tag { result ≡ tag_cases (Some (S.page_in store.now place)) (at % 4096 / 16) }
 {
     let tagged = store.attrs(place).contains(Attrs::TAGGED);
     if !tagged {

@@ -3,7 +3,7 @@
 ghost use Rattle.std.specs.Prelude.{◌≡◌, ℕ, ◌<◌, ◌≤◌, ◌+◌, ◌%◌, ◌^◌};
 ghost use Rattle.std.specs.Prelude.{IfSome, length, slice_index, option_map};
 ghost use Rattle.mte_tags.specs.Memory.{Memory, Page, page_at, with_page, with_pending};
-ghost use Rattle.mte_tags.specs.Runs.{with_bytes_in, retagged};
+ghost use Rattle.mte_tags.specs.Runs.{with_bytes_in, with_granule_tags};
 
 use crate::attrs::Attrs;
 use crate::state::TagState;
@@ -49,7 +49,7 @@ pub trait PageStore {
         ensures memory { memory self.new ≡ memory self.old }
         ensures kept { kept self.old self.new };
 
-    /// The same for a page whose instructions are fetched. It may be `find`; what is remembered for
+    /// Finds a page whose instructions are fetched. It may be `find`; what is remembered for
     /// data and for instructions apart is found sooner.
     fn find_code(&mut self, page: u64) -> Option<usize>
         requires { page < 2 ^ 44 }
@@ -99,11 +99,11 @@ pub trait PageStore {
         ensures long { length (page_in self.old place).bytes ≡ 4096 }
         ensures memory { memory self.new
             ≡ with_page (memory self.old) (number_in self.old place)
-            (retagged (page_in self.old place) first count tag zero) }
+            (with_granule_tags (page_in self.old place) first count tag zero) }
         ensures place { is_place self.new place }
         ensures number { number_in self.new place ≡ number_in self.old place }
         ensures page { page_in self.new place
-            ≡ retagged (page_in self.old place) first count tag zero }
+            ≡ with_granule_tags (page_in self.old place) first count tag zero }
         ensures kept { kept self.old self.new };
 
     ghost kept_same: { (a : Self) → kept a a };

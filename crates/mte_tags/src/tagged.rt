@@ -7,10 +7,11 @@ ghost use Rattle.std.specs.Int.{from_le_bytes, w64};
 ghost use Rattle.a64_bits.specs.Addresses.{plain};
 ghost use Rattle.mte_tags.specs.Memory.{Memory, pages_left, with_new_pages, without_pages, IsFree};
 ghost use Rattle.mte_tags.specs.Memory.{ArePages, tag_at, page_has, with_granules};
-ghost use Rattle.mte_tags.specs.Accesses.{fetched, outcome, read_fault, read_bytes, after_read};
-ghost use Rattle.mte_tags.specs.Accesses.{write_fault, after_write, written, tags_fault};
+ghost use Rattle.mte_tags.specs.Accesses.{fetch_result, result_of, read_fault, read_bytes};
+ghost use Rattle.mte_tags.specs.Accesses.{after_read};
+ghost use Rattle.mte_tags.specs.Accesses.{write_fault, after_write, with_bytes_at, tags_fault};
 ghost use Rattle.mte_tags.specs.Accesses.{IsMapped, IsPageAttrs};
-ghost use Rattle.mte_tags.specs.Accesses.{tag_load_fault, loaded};
+ghost use Rattle.mte_tags.specs.Accesses.{tag_load_fault, tag_result};
 
 use crate::attrs::Attrs;
 use crate::fault::MemFault;
@@ -31,7 +32,7 @@ pub trait Tagged {
     /// never tag checked; an address that is not a multiple of 4 is a PcAlignment fault before all
     /// else.
     fn fetch(&mut self, pc: u64) -> Result<u32, MemFault>
-        ensures answer { result ≡ fetched (memory self.old) pc }
+        ensures answer { result ≡ fetch_result (memory self.old) pc }
         ensures memory { memory self.new ≡ memory self.old }
         ensures kept { kept self.old self.new };
 
@@ -39,7 +40,7 @@ pub trait Tagged {
     /// the buffer and the flag are as they were.
     fn read(&mut self, addr: u64, buffer: &mut [u8], check: bool) -> Result<(), MemFault>
         ensures answer { result
-            ≡ outcome (read_fault (memory self.old) addr (length buffer.old) check) }
+            ≡ result_of (read_fault (memory self.old) addr (length buffer.old) check) }
         ensures bytes { buffer.new
             ≡ (if is_ok result
             then read_bytes (memory self.old) addr (length buffer.old)
@@ -54,7 +55,7 @@ pub trait Tagged {
     /// set.
     fn write(&mut self, addr: u64, bytes: &[u8], check: bool) -> Result<(), MemFault>
         ensures answer { result
-            ≡ outcome (write_fault (memory self.old) addr (length bytes.now) check) }
+            ≡ result_of (write_fault (memory self.old) addr (length bytes.now) check) }
         ensures memory { memory self.new
             ≡ (if is_ok result
             then after_write (memory self.old) addr bytes.now check
@@ -66,7 +67,7 @@ pub trait Tagged {
     fn load_tag(&mut self, addr: u64) -> Result<u8, MemFault>
         ensures small { IfOk result (λ t. t < 16) }
         ensures answer { result
-            ≡ loaded (tag_load_fault (memory self.old) addr)
+            ≡ tag_result (tag_load_fault (memory self.old) addr)
             (tag_at (memory self.old) (plain addr)) }
         ensures memory { memory self.new ≡ memory self.old }
         ensures kept { kept self.old self.new };
@@ -76,7 +77,7 @@ pub trait Tagged {
     /// multiple of 16 is an Alignment fault before all else.
     fn store_tags(&mut self, addr: u64, granules: u64, tag: u8, zero: bool) -> Result<(), MemFault>
         requires { tag < 16 }
-        ensures answer { result ≡ outcome (tags_fault (memory self.old) addr granules) }
+        ensures answer { result ≡ result_of (tags_fault (memory self.old) addr granules) }
         ensures memory { memory self.new
             ≡ (if is_ok result
             then with_granules (memory self.old) (plain addr) granules tag zero
@@ -110,7 +111,7 @@ pub trait Tagged {
         requires tag { tag < 16 }
         ensures memory { memory self.new
             ≡ (if result
-            then written
+            then with_bytes_at
             (with_granules
             (with_granules (memory self.old) (user - 16) around 0 false)
             user count tag true)
@@ -137,7 +138,7 @@ pub trait Tagged {
 
 /// More pages were requested than are left.
 #[derive(Clone, Copy, PartialEq, Eq, Debug)]
-pub struct NoQuota;
+pub struct NoPagesLeft;
 
 /// A tagged memory whose pages can be mapped. A page is named by its number, the plain address of
 /// its first byte divided by 4096.
@@ -151,7 +152,7 @@ pub trait Paged: Tagged {
     /// Maps `count` pages from `page` on, of zero bytes and tag 0, all of them or none. They lie
     /// below the address 2^30, none of them is mapped, and they have TAGGED exactly with WRITE, and
     /// READ with WRITE. It is refused exactly where `count` exceeds the pages left.
-    fn map_pages(&mut self, page: u64, count: usize, attrs: Attrs) -> Result<(), NoQuota>
+    fn map_pages(&mut self, page: u64, count: usize, attrs: Attrs) -> Result<(), NoPagesLeft>
         requires in_range { page + count ≤ 2 ^ 18 }
         requires free { IsFree (Self.memory self.old) page count }
         requires attrs { IsPageAttrs attrs }
@@ -170,6 +171,7 @@ pub trait Paged: Tagged {
     /// Replaces bytes of mapped pages, whatever their attributes and tags; tags stay.
     fn load_bytes(&mut self, addr: u64, bytes: &[u8])
         requires { IsMapped (Self.memory self.old) addr (length bytes.now) }
-        ensures memory { Self.memory self.new ≡ written (Self.memory self.old) addr bytes.now }
+        ensures memory { Self.memory self.new
+            ≡ with_bytes_at (Self.memory self.old) addr bytes.now }
         ensures kept { Self.kept self.old self.new };
 }

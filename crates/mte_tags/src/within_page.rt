@@ -6,8 +6,8 @@
 ghost use Rattle.std.specs.Prelude.{◌≡◌, ◌<◌, ◌≤◌, ◌+◌, ◌*◌, ◌/◌, ◌%◌, ◌^◌, false, None, IfOk};
 ghost use Rattle.std.specs.Prelude.{IsTrue, is_ok, length, if◌then◌else◌};
 ghost use Rattle.mte_tags.specs.Memory.{tag_at, page_has, with_granules};
-ghost use Rattle.mte_tags.specs.Accesses.{outcome, loaded, addresses, granules, byte_fault};
-ghost use Rattle.mte_tags.specs.Accesses.{first_fault, bytes_at, with_bytes, fetched};
+ghost use Rattle.mte_tags.specs.Accesses.{result_of, tag_result, addresses, granules, byte_fault};
+ghost use Rattle.mte_tags.specs.Accesses.{first_fault, bytes_at, with_bytes, fetch_result};
 
 use crate::access::Access;
 use crate::attrs::Attrs;
@@ -45,7 +45,7 @@ pub(crate) fn fault_of_run<S: PageStore>(
 #[inline(always)]
 pub(crate) fn fetch_aligned<S: PageStore>(store: &mut S, pc: u64) -> Result<u32, MemFault>
     requires aligned { pc % 4 ≡ 0 }
-    ensures answer { result ≡ fetched (S.memory store.old) pc }
+    ensures answer { result ≡ fetch_result (S.memory store.old) pc }
     ensures memory { S.memory store.new ≡ S.memory store.old }
     ensures kept { S.kept store.old store.new }
 {
@@ -85,7 +85,7 @@ pub(crate) fn read_in_page<S: PageStore>(
     requires inside { at % 4096 + length buffer.old ≤ 4096 }
     requires plain { at < 2 ^ 56 }
     ensures answer { result
-        ≡ outcome
+        ≡ result_of
         (first_fault (S.memory store.old) access.now (addresses at (length buffer.old))) }
     ensures bytes { buffer.new
         ≡ (if is_ok result
@@ -180,7 +180,7 @@ pub(crate) fn write_in_page<S: PageStore>(
     requires inside { at % 4096 + length bytes.now ≤ 4096 }
     requires plain { at < 2 ^ 56 }
     ensures answer { result
-        ≡ outcome
+        ≡ result_of
         (first_fault (S.memory store.old) access.now (addresses at (length bytes.now))) }
     ensures memory { S.memory store.new
         ≡ (if is_ok result
@@ -266,7 +266,7 @@ pub(crate) fn granule_tag_at<S: PageStore>(
     requires { at < 2 ^ 56 }
     ensures small { IfOk result (λ t. t < 16) }
     ensures answer { result
-        ≡ loaded (byte_fault (S.memory store.old) access.now at)
+        ≡ tag_result (byte_fault (S.memory store.old) access.now at)
         (tag_at (S.memory store.old) at) }
     ensures memory { S.memory store.new ≡ S.memory store.old }
     ensures kept { S.kept store.old store.new }
@@ -298,7 +298,7 @@ pub(crate) fn store_tags_in_page<S: PageStore>(
     requires tag { tag < 16 }
     requires unchecked { access.now.checked ≡ false }
     ensures answer { result
-        ≡ outcome (first_fault (S.memory store.old) access.now (granules at count)) }
+        ≡ result_of (first_fault (S.memory store.old) access.now (granules at count)) }
     ensures memory { S.memory store.new
         ≡ (if is_ok result
         then with_granules (S.memory store.old) at count tag zero

@@ -1,7 +1,7 @@
 //! Quotas that fill a pool, frames that come back zero, and many rounds of takes and gives.
 
 ghost use Rattle.std.specs.Prelude.{IsTrue};
-ghost use Rattle.mte_frames.specs.Pool.{IsOut};
+ghost use Rattle.mte_frames.specs.Pool.{IsHeldBy};
 
 use crate::space::pool_of;
 use mte_arena::{Arena, FRAME_BYTES};

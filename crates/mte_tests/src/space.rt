@@ -43,7 +43,7 @@ pub(crate) fn pool_of(alloc: Global, frames: usize) -> Result<FramePool, Fail> {
 pub(crate) fn two_quotas(pool: &mut FramePool) -> Option<(Quota, Quota)>
     ensures { IfSome result (λ both. both.0 ≢ both.1) }
 {
-    let _ = pool.frames();
+    pool.recall();
     let Ok(first) = pool.reserve(11) else {
         return None;
     };
@@ -102,7 +102,7 @@ fn ask(
     reply(&mut memory, call)
 }
 
-/// The same beside another tenant.
+/// A tenant's answers beside another tenant.
 fn ask_beside(
     pool: &mut FramePool,
     table: &mut Table,

@@ -9,7 +9,7 @@ use borrow.Rule.Slice.PartMut.{put_mid}
 use Rattle.mte_arena.specs.Frames.{Frame, frame_at, frame_or, zero_frame, AreFrames}
 use Rattle.mte_arena.proofs.Frames.{within_of}
 use Rattle.mte_arena.proofs.Parts.{refill-same}
-use Rattle.mte_frames.specs.Pool.{Pool, with_bytes_at, IsOut, IsSound}
+use Rattle.mte_frames.specs.Pool.{Pool, with_bytes_at, IsHeldBy, IsSound}
 use Rattle.mte_translate.specs.Tables.{entry_at, is_valid, valid_in}
 use Rattle.mte_translate.specs.TableSteps.{Wrote}
 
@@ -22,10 +22,10 @@ unfolding entry_at
 entry-kept n p f i e = ap (λ (o : Option Frame). from_le_bytes w64 (slice_range (frame_or o).bytes (8 * i) (8 * i + 8))) e
 
 -- a frame that is out is among the frames
-pub out-within : (p : Pool) (f k : ℕ) → IsSound p → IsOut p f k → f < length p.frames
+pub out-within : (p : Pool) (f k : ℕ) → IsSound p → IsHeldBy p f k → f < length p.frames
 out-within p f k sound out = let live = sound.live f k out in within_of p.frames f live.0 live.1
 
-pub out-few : (p : Pool) (f k : ℕ) → IsSound p → IsOut p f k → f < 65536
+pub out-few : (p : Pool) (f k : ℕ) → IsSound p → IsHeldBy p f k → f < 65536
 out-few p f k sound out = let few : length p.frames ≤ 65536 = sound.few in omega (arith, few, out-within p f k sound out)
 
 -- ---- a write
@@ -61,7 +61,7 @@ bytes-written p f i e ys low inside top put long xl =
       capacities = refl;
     }
 
-pub entry-written : (p : Pool) (k f i e : ℕ) (bs ys : List ℕ) → IsSound p → AreFrames p.frames → IsOut p f k → i < 512 → e < 2 ^ 64 → bs ≡ (frame_at p.frames f).bytes → ys ≡ to_le_bytes w64 e → length ys ≡ 8
+pub entry-written : (p : Pool) (k f i e : ℕ) (bs ys : List ℕ) → IsSound p → AreFrames p.frames → IsHeldBy p f k → i < 512 → e < 2 ^ 64 → bs ≡ (frame_at p.frames f).bytes → ys ≡ to_le_bytes w64 e → length ys ≡ 8
     → Wrote p (with_bytes_at p f (put_mid (8 * i) (8 * i + 8 - 8 * i) bs ys)) f i e
 entry-written p k f i e bs ys sound sized out low top same put long =
     let live = sound.live f k out in

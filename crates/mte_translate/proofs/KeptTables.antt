@@ -10,10 +10,10 @@ use Rattle.std.specs.FinMap.{get-insert, get-remove}
 use Rattle.mte_arena.specs.Frames.{Frame}
 use Rattle.mte_tags.specs.declared.attrs.Attrs.{Attrs}
 use Rattle.mte_tags.proofs.Pages.{tied_other}
-use Rattle.mte_frames.specs.Pool.{Pool, make_pool, IsOut, KeepsOthers}
+use Rattle.mte_frames.specs.Pool.{Pool, make_pool, IsHeldBy, KeepsOthers}
 use Rattle.mte_frames.proofs.Counts.{any_default, vacant_within}
 use Rattle.mte_translate.specs.declared.translation.Translation.{Translation}
-use Rattle.mte_translate.specs.Translations.{is_for, lookup, filled, without, without_asid}
+use Rattle.mte_translate.specs.Translations.{is_for, lookup, with_translation, without, without_asid}
 use Rattle.mte_translate.specs.Tables.{entry_at, walk_at, is_valid, leaf_in, count_in, attrs_in, frame_in, valid_in, has_leaf, pages_of, IsApart, Root, IsTable, Pages, MapsNever, Agrees, IsCached, Stays}
 use Rattle.mte_translate.proofs.EntryLemmas.{entry-kept, count-same}
 use Rattle.mte_translate.proofs.TreeLemmas.{walk-same, mapped-leaf, page-apart}
@@ -26,9 +26,9 @@ use Rattle.mte_translate.proofs.StandingLaws.{fill-stands, forget-page, forget-a
 module _ (p n : Pool) (k : ℕ) (t : Root) (h : IsTable p k t)
     (root_same : get_or n.frames t.frame None ≡ get_or p.frames t.frame None)
     (leaf_same : (s : ℕ) → s < 512 → is_valid (entry_at p t.frame s) ≡ true → get_or n.frames (leaf_in (entry_at p t.frame s)) None ≡ get_or p.frames (leaf_in (entry_at p t.frame s)) None)
-    (root_out : IsOut n t.frame k)
-    (leaf_out : (s : ℕ) → s < 512 → is_valid (entry_at p t.frame s) ≡ true → IsOut n (leaf_in (entry_at p t.frame s)) k)
-    (page_out : (q : ℕ) → q < 262144 → is_valid (walk_at p t.frame q) ≡ true → IsOut n (frame_in (walk_at p t.frame q)) k) where
+    (root_out : IsHeldBy n t.frame k)
+    (leaf_out : (s : ℕ) → s < 512 → is_valid (entry_at p t.frame s) ≡ true → IsHeldBy n (leaf_in (entry_at p t.frame s)) k)
+    (page_out : (q : ℕ) → q < 262144 → is_valid (walk_at p t.frame q) ≡ true → IsHeldBy n (frame_in (walk_at p t.frame q)) k) where
   kept-entry : (s : ℕ) → entry_at n t.frame s ≡ entry_at p t.frame s
   kept-entry s = entry-kept n p t.frame s root_same
 
@@ -73,18 +73,18 @@ module _ (p n : Pool) (k : ℕ) (t : Root) (h : IsTable p k t)
 pub kept-others : (p n : Pool) (j k : ℕ) (t : Root) → k ≢ j → KeepsOthers j p n → IsTable p k t → Stays k t p n
 kept-others p n j k t d kept h =
     let tree = (tree-of p k t.frame h.tree).tree in
-    let out : (f : ℕ) → IsOut p f k → IsOut n f k = λ f. (kept.out f k d).0 in
-    let same : (f : ℕ) → IsOut p f k → get_or n.frames f None ≡ get_or p.frames f None = λ f. kept.frames f k d in
+    let out : (f : ℕ) → IsHeldBy p f k → IsHeldBy n f k = λ f. (kept.out f k d).0 in
+    let same : (f : ℕ) → IsHeldBy p f k → get_or n.frames f None ≡ get_or p.frames f None = λ f. kept.frames f k d in
     kept-table p n k t h (same _ tree.own_root.out) (λ s b v. let o = tree.leaves s b v in same _ o.out)
     (out _ tree.own_root.out) (λ s b v. let o = tree.leaves s b v in out _ o.out) (λ q b v. let o = tree.pages q b v in out _ o.out)
 
-pub kept-written : (p : Pool) (k f : ℕ) (c : Option Frame) (t : Root) → IsApart p t.frame f → IsTable p k t → Stays k t p (make_pool p.capacities (slice_set p.frames f c) p.owners p.reserved p.taken)
-kept-written p k f c t a h =
+pub kept-after-write-of : (p : Pool) (k f : ℕ) (c : Option Frame) (t : Root) → IsApart p t.frame f → IsTable p k t → Stays k t p (make_pool p.capacities (slice_set p.frames f c) p.owners p.reserved p.taken)
+kept-after-write-of p k f c t a h =
     let tree = (tree-of p k t.frame h.tree).tree in
     kept-table p _ k t h (get_or-set_other p.frames f t.frame c None (λ e. a.no_root (sym e))) (λ s b v. get_or-set_other p.frames f _ c None (λ e. a.no_leaf s b v (sym e)))
     tree.own_root.out (λ s b v. let o = tree.leaves s b v in o.out) (λ q b v. let o = tree.pages q b v in o.out)
 
-vacant-other : (p : Pool) (k f g : ℕ) → get_or p.owners f (Some 0) ≡ None → IsOut p g k → g ≢ f
+vacant-other : (p : Pool) (k f g : ℕ) → get_or p.owners f (Some 0) ≡ None → IsHeldBy p g k → g ≢ f
 vacant-other p k f g free o s =
     let none : get_or p.owners f None ≡ None = any_default p.owners f None (Some 0) (vacant_within p.owners f free) ∙ free in
     none-some k (sym none ∙ ap (λ j. get_or p.owners j None) (sym s) ∙ o)
@@ -93,8 +93,8 @@ pub kept-taken : (p : Pool) (k f : ℕ) (c : Option Frame) (ts : List ℕ) (t : 
     → Stays k t p (make_pool p.capacities (slice_set p.frames f c) (slice_set p.owners f (Some k)) p.reserved ts) × IsApart p t.frame f × MapsNever (pages_of p t.frame) f
 kept-taken p k f c ts t free h =
     let tree = (tree-of p k t.frame h.tree).tree in
-    let other : (g : ℕ) → IsOut p g k → g ≢ f = λ g o. vacant-other p k f g free o in
-    let out : (g : ℕ) → IsOut p g k → get_or (slice_set p.owners f (Some k)) g None ≡ Some k = λ g o. get_or-set_other p.owners f g (Some k) None (other g o) ∙ o in (
+    let other : (g : ℕ) → IsHeldBy p g k → g ≢ f = λ g o. vacant-other p k f g free o in
+    let out : (g : ℕ) → IsHeldBy p g k → get_or (slice_set p.owners f (Some k)) g None ≡ Some k = λ g o. get_or-set_other p.owners f g (Some k) None (other g o) ∙ o in (
       kept-table p _ k t h (get_or-set_other p.frames f t.frame c None (other _ tree.own_root.out)) (λ s b v. let o = tree.leaves s b v in get_or-set_other p.frames f _ c None (other _ o.out))
           (out _ tree.own_root.out) (λ s b v. let o = tree.leaves s b v in out _ o.out) (λ q b v. let o = tree.pages q b v in out _ o.out),
       record { no_root = λ e. other _ tree.own_root.out (sym e); no_leaf = λ s b v e. let o = tree.leaves s b v in other _ o.out (sym e) },
@@ -106,20 +106,20 @@ pub kept-given : (p : Pool) (k f : ℕ) (ts : List ℕ) (t : Root) → IsApart p
     → Stays k t p (make_pool p.capacities p.frames (slice_set p.owners f None) p.reserved ts)
 kept-given p k f ts t a never h =
     let tree = (tree-of p k t.frame h.tree).tree in
-    let out : (g : ℕ) → g ≢ f → IsOut p g k → get_or (slice_set p.owners f None) g None ≡ Some k = λ g d o. get_or-set_other p.owners f g None None d ∙ o in
+    let out : (g : ℕ) → g ≢ f → IsHeldBy p g k → get_or (slice_set p.owners f None) g None ≡ Some k = λ g d o. get_or-set_other p.owners f g None None d ∙ o in
     kept-table p _ k t h refl (λ s b v. refl)
     (out _ (λ e. a.no_root (sym e)) tree.own_root.out) (λ s b v. let o = tree.leaves s b v in out _ (λ e. a.no_leaf s b v (sym e)) o.out)
     (λ q b v. let o = tree.pages q b v in out _ (λ e. never q _ (page-there p t.frame q b v ∙ ap (λ g. Some (g, attrs_in (walk_at p t.frame q))) e)) o.out)
 
 -- ---- frames of tables
-pub page-frame : (p : Pool) (k q f : ℕ) (a : Attrs) (t : Root) → IsTable p k t → finite.get (pages_of p t.frame) q ≡ Some (f, a) → (q < 262144) × IsOut p f k × IsApart p t.frame f
+pub page-frame : (p : Pool) (k q f : ℕ) (a : Attrs) (t : Root) → IsTable p k t → finite.get (pages_of p t.frame) q ≡ Some (f, a) → (q < 262144) × IsHeldBy p f k × IsApart p t.frame f
 page-frame p k q f a t h e =
     let tree = (tree-of p k t.frame h.tree).tree in
     let low = page-low p t.frame q _ e in
     let v = page-mapped p t.frame q _ e in
     let o = tree.pages q low v in
     let is : frame_in (walk_at p t.frame q) ≡ f = same-frame _ _ (sym (page-there p t.frame q low v) ∙ e) in
-    (low, subst (λ g. IsOut p g k) is o.out, subst (IsApart p t.frame) is (page-apart p k t.frame q (tree-of p k t.frame h.tree).use_of tree low v))
+    (low, subst (λ g. IsHeldBy p g k) is o.out, subst (IsApart p t.frame) is (page-apart p k t.frame q (tree-of p k t.frame h.tree).use_of tree low v))
 
 pub leaf-where : (p : Pool) (k q : ℕ) (t : Root) → IsTable p k t → q < 262144 → (has_leaf p t.frame q ≡ true) ↔ ((r : ℕ) × (r / 512 ≡ q / 512) × (finite.get (pages_of p t.frame) r ≢ None))
 leaf-where p k q t h low = (
@@ -155,16 +155,16 @@ cached-forgotten_all m asid other ts h = All-weaker (λ (u : Translation). Conta
 pub cached-none : (m : Pages) (asid : ℕ) (ts : List Translation) → IsCached m asid (without_asid asid ts)
 cached-none m asid ts = All-weaker (λ (u : Translation). Contains ts u × (u.asid ≢ asid)) (Agrees m asid) (λ t x own. absurd (x.1 own)) (without_asid asid ts) (forget-asid asid ts)
 
-cached-fill : (m : Pages) (asid : ℕ) (t : Translation) (ts : List Translation) → Agrees m asid t → IsCached m asid ts → IsCached m asid (filled t ts)
+cached-fill : (m : Pages) (asid : ℕ) (t : Translation) (ts : List Translation) → Agrees m asid t → IsCached m asid ts → IsCached m asid (with_translation t ts)
 cached-fill m asid t ts new h = All-weaker (λ u. Contains ts u ⊎ (t ≡ u)) (Agrees m asid) (λ u x. elim x [
   | inl old ↦ All-contains (Agrees m asid) ts u h old
   | inr e ↦ subst (Agrees m asid) e new
-]) (filled t ts) (fill-stands t ts)
+]) (with_translation t ts) (fill-stands t ts)
 
-pub cached-filled : (m : Pages) (asid : ℕ) (t : Translation) (ts : List Translation) → finite.get m t.page ≡ Some (t.frame, t.attrs) → IsCached m asid ts → IsCached m asid (filled t ts)
-cached-filled m asid t ts ok h = cached-fill m asid t ts (λ own. ok) h
+pub cached-with-translation : (m : Pages) (asid : ℕ) (t : Translation) (ts : List Translation) → finite.get m t.page ≡ Some (t.frame, t.attrs) → IsCached m asid ts → IsCached m asid (with_translation t ts)
+cached-with-translation m asid t ts ok h = cached-fill m asid t ts (λ own. ok) h
 
-pub cached-beside : (m : Pages) (asid : ℕ) (t : Translation) (ts : List Translation) → t.asid ≢ asid → IsCached m asid ts → IsCached m asid (filled t ts)
+pub cached-beside : (m : Pages) (asid : ℕ) (t : Translation) (ts : List Translation) → t.asid ≢ asid → IsCached m asid ts → IsCached m asid (with_translation t ts)
 cached-beside m asid t ts d h = cached-fill m asid t ts (λ own. absurd (d own)) h
 
 pub cached-found : (m : Pages) (asid q f : ℕ) (a : Attrs) (ts : List Translation) → IsCached m asid ts → lookup asid q ts ≡ Some (f, a) → finite.get m q ≡ Some (f, a)

@@ -4,10 +4,10 @@ use Rattle.std.specs.Prelude.{find, option_map, All, Contains}
 use Rattle.std.proofs.lemmas.List.Elements.{All-push, All-drop, All-filter, All-weaker, All-contains_itself, filter_passes, Contains-append_right}
 use Rattle.mte_tags.specs.declared.attrs.Attrs.{Attrs}
 use Rattle.mte_translate.specs.declared.translation.Translation.{Translation}
-use Rattle.mte_translate.specs.Translations.{is_for, lookup, filled, without, without_asid, newest}
+use Rattle.mte_translate.specs.Translations.{is_for, lookup, with_translation, without, without_asid, newest}
 use Rattle.mte_translate.proofs.TlbLemmas.{fewer-drop, none-left, same-left, same-right}
 
-pub fill-stands : (t : Translation) (ts : List Translation) → All (λ u. Contains ts u ⊎ (t ≡ u)) (filled t ts)
+pub fill-stands : (t : Translation) (ts : List Translation) → All (λ u. Contains ts u ⊎ (t ≡ u)) (with_translation t ts)
 fill-stands t ts =
     let old = All-weaker (Contains ts) (λ u. Contains ts u ⊎ (t ≡ u)) (λ u h. inl h) ts (All-contains_itself ts) in
     let others = All-filter (λ u. not (is_for t.asid t.page u)) (λ u. Contains ts u ⊎ (t ≡ u)) ts old in
@@ -20,7 +20,7 @@ find-last p (x ∷ xs) y none is = grind (arith, find-last p xs y)
 is-own : (t : Translation) → is_for t.asid t.page t ≡ true
 is-own t = grind arith
 
-pub fill-found : (t : Translation) (ts : List Translation) → lookup t.asid t.page (filled t ts) ≡ Some (t.frame, t.attrs)
+pub fill-found : (t : Translation) (ts : List Translation) → lookup t.asid t.page (with_translation t ts) ≡ Some (t.frame, t.attrs)
 fill-found t ts =
     let less = fewer-drop (is_for t.asid t.page) (length (without t.asid t.page ts) - 63) (without t.asid t.page ts) in
     let zero_left = ap length (none-left (is_for t.asid t.page) ts) in

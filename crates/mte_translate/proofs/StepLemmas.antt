@@ -3,7 +3,7 @@ use Rattle.std.proofs.Common.{List, ◌≡◌, ◌≢◌, ℕ, ◌+◌, ◌-◌,
 use Rattle.std.proofs.lemmas.Option.{none-some}
 use Rattle.std.proofs.lemmas.Bool.{cases_eq, cond-true, cond-false}
 use Rattle.mte_arena.specs.Frames.{Frame, frame_at, zero_frame}
-use Rattle.mte_frames.specs.Pool.{Pool, make_pool, IsOut, IsSound, taken_by, reserved_by}
+use Rattle.mte_frames.specs.Pool.{Pool, make_pool, IsHeldBy, IsSound, taken_by, reserved_by}
 use Rattle.mte_frames.proofs.Counts.{any_default, vacant_within, owned_by-some, within_of as within_count}
 use Rattle.mte_translate.specs.Tables.{entry_at, walk_at, is_valid, leaf_in, count_in, frame_in, valid_in, has_leaf, IsApart, IsUsed, IsTree}
 use Rattle.mte_translate.specs.TableSteps.{Wrote}
@@ -28,13 +28,13 @@ used-still p n k f u g v use_of os d x = record { out = ap (λ o. get_or o g Non
 pub record Took (p n : Pool) (k f : ℕ) : Type 0 where
   pub fresh : frame_at n.frames f ≡ zero_frame
   pub frames : (g : ℕ) → g ≢ f → get_or n.frames g None ≡ get_or p.frames g None
-  pub mine : IsOut n f k
-  pub out : (g : ℕ) → IsOut p g k → IsOut n g k
-  pub vacant : (g : ℕ) → IsOut p g k → g ≢ f
+  pub mine : IsHeldBy n f k
+  pub out : (g : ℕ) → IsHeldBy p g k → IsHeldBy n g k
+  pub vacant : (g : ℕ) → IsHeldBy p g k → g ≢ f
   pub reserved : n.reserved ≡ p.reserved
   pub capacities : n.capacities ≡ p.capacities
 
-pub took : (p n : Pool) (k f : ℕ) (ts : List ℕ) → f < length p.frames → get_or p.owners f (Some 0) ≡ None → IsOut n f k → ((g j : ℕ) → IsOut p g j → IsOut n g j)
+pub took : (p n : Pool) (k f : ℕ) (ts : List ℕ) → f < length p.frames → get_or p.owners f (Some 0) ≡ None → IsHeldBy n f k → ((g j : ℕ) → IsHeldBy p g j → IsHeldBy n g j)
     → n ≡ make_pool p.capacities (slice_set p.frames f (Some zero_frame)) (slice_set p.owners f (Some k)) p.reserved ts → Took p n k f
 took p n k f ts within free mine out new =
     let none : get_or p.owners f None ≡ None = any_default p.owners f None (Some 0) (vacant_within p.owners f free) ∙ free in
@@ -57,11 +57,11 @@ taken-took p n k fs os room sound new =
 -- the frame f was given back
 pub record Gave (p n : Pool) (k f : ℕ) : Type 0 where
   pub frames : n.frames ≡ p.frames
-  pub out : (g : ℕ) → g ≢ f → IsOut p g k → IsOut n g k
+  pub out : (g : ℕ) → g ≢ f → IsHeldBy p g k → IsHeldBy n g k
   pub reserved : n.reserved ≡ p.reserved
   pub capacities : n.capacities ≡ p.capacities
 
-pub gave : (p n : Pool) (k f : ℕ) (os : List (Option ℕ)) (ts : List ℕ) → ((g j : ℕ) → g ≢ f → IsOut p g j → IsOut n g j) → n ≡ make_pool p.capacities p.frames os p.reserved ts → Gave p n k f
+pub gave : (p n : Pool) (k f : ℕ) (os : List (Option ℕ)) (ts : List ℕ) → ((g j : ℕ) → g ≢ f → IsHeldBy p g j → IsHeldBy n g j) → n ≡ make_pool p.capacities p.frames os p.reserved ts → Gave p n k f
 gave p n k f os ts out new = record {
   frames = ap (λ (t : Pool). t.frames) new;
   out = λ g d o. out g k d o;
@@ -69,7 +69,7 @@ gave p n k f os ts out new = record {
   capacities = ap (λ (t : Pool). t.capacities) new;
 }
 
-pub taken-gave : (p n : Pool) (k f : ℕ) (os : List (Option ℕ)) → IsSound p → IsOut p f k → n ≡ make_pool p.capacities p.frames os p.reserved (slice_set p.taken k (taken_by p k - 1)) → taken_by n k + 1 ≡ taken_by p k
+pub taken-gave : (p n : Pool) (k f : ℕ) (os : List (Option ℕ)) → IsSound p → IsHeldBy p f k → n ≡ make_pool p.capacities p.frames os p.reserved (slice_set p.taken k (taken_by p k - 1)) → taken_by n k + 1 ≡ taken_by p k
 taken-gave p n k f os sound out new =
     let some = owned_by-some k p.owners f out in
     let much : 0 < taken_by p k = omega (arith, some, sound.taken_count k) in
@@ -77,7 +77,7 @@ taken-gave p n k f os sound out new =
 
 -- ---- a page is put in
 pub page-put : (p n m : Pool) (k root q f a e re : ℕ) (use_of : ℕ → ℕ) → IsTree p k root use_of → q < 262144 → re ≡ entry_at p root (q / 512) → has_leaf p root q ≡ true → is_valid (walk_at p root q) ≡ false
-    → IsOut p f k → IsApart p root f → Wrote p n (leaf_in re) (q % 512) e → Wrote n m root (q / 512) (re + 2) → e ≡ 512 * f + 2 * a + 1 → a < 256
+    → IsHeldBy p f k → IsApart p root f → Wrote p n (leaf_in re) (q % 512) e → Wrote n m root (q / 512) (re + 2) → e ≡ 512 * f + 2 * a + 1 → a < 256
     → Edit p m k root q (re + 2) e use_of (use_with use_of f 513)
 page-put p n m k root q f a e re use_of h low is leaf gone out apart w1 w2 ee small =
     let there : is_valid re ≡ true = ap is_valid is ∙ leaf in
@@ -182,7 +182,7 @@ leaf-hung p n m k root s l re use_of h low gone tk w ee =
     let root_l : root ≢ l = tk.vacant root h.own_root.out in
     let is : leaf_in re ≡ l = omega arith in
     let odd : is_valid re ≡ true = odd-valid _ (let y : re % 2 ≡ 1 = omega arith in y) in
-    let out : (g : ℕ) → IsOut n g k → IsOut m g k = λ g x. ap (λ os. get_or os g None) w.owners ∙ x in
+    let out : (g : ℕ) → IsHeldBy n g k → IsHeldBy m g k = λ g x. ap (λ os. get_or os g None) w.owners ∙ x in
     let blank : (j : ℕ) → j < 512 → entry_at m l j ≡ 0 = λ j b. entry-kept m n l j (w.frames l (λ x. root_l (sym x))) ∙ entry-zero n l j b tk.fresh in
     record {
       tree = h;
@@ -214,7 +214,7 @@ leaf-dropped p n m k root s l re use_of h low is there zero_count ls w gv =
     let at : (g : ℕ) → get_or m.frames g None ≡ get_or n.frames g None = λ g. ap (λ fs. get_or fs g None) gv.frames in
     let empty : valid_in p (leaf_in re) 512 ≡ 0 = rw is (sym (h.counted s low there) ∙ zero_count) in
     let here : entry_at m root s ≡ 0 = entry-kept m n root s (at root) ∙ w.here in
-    let out : (g : ℕ) → g ≢ l → IsOut p g k → IsOut m g k = λ g d x. gv.out g d (ap (λ os. get_or os g None) w.owners ∙ x) in
+    let out : (g : ℕ) → g ≢ l → IsHeldBy p g k → IsHeldBy m g k = λ g d x. gv.out g d (ap (λ os. get_or os g None) w.owners ∙ x) in
     record {
       tree = h;
       low = low;
@@ -237,7 +237,7 @@ leaf-dropped p n m k root s l re use_of h low is there zero_count ls w gv =
       count = λ t. absurd (omega (arith, valid-odd 0 t));
     }
 
-pub root-out : (p n : Pool) (k root f i e : ℕ) (use_of : ℕ → ℕ) → IsTree p k root use_of → Wrote p n f i e → IsOut n root k
+pub root-out : (p n : Pool) (k root f i e : ℕ) (use_of : ℕ → ℕ) → IsTree p k root use_of → Wrote p n f i e → IsHeldBy n root k
 root-out p n k root f i e use_of h w = ap (λ os. get_or os root None) w.owners ∙ h.own_root.out
 
 -- ---- numbers that fit

@@ -1,7 +1,7 @@
 -- What a write of a page's entry and of its root entry, and of a root entry alone, makes of a tree.
 use Rattle.std.proofs.Common.{◌≡◌, ◌≢◌, ℕ, ◌+◌, ◌/◌, ◌%◌, ◌<◌, true, false, get_or, None, sym, ap, ◌∙◌, inl, inr, arith}
 use Rattle.std.proofs.lemmas.Bool.{cases_eq, cond-true, cond-false}
-use Rattle.mte_frames.specs.Pool.{Pool, IsOut, KeepsOthers}
+use Rattle.mte_frames.specs.Pool.{Pool, IsHeldBy, KeepsOthers}
 use Rattle.mte_translate.specs.Tables.{entry_at, walk_at, is_valid, leaf_in, count_in, frame_in, valid_in, has_leaf, IsApart, IsUsed, IsTree, KeepsData}
 use Rattle.mte_translate.specs.TableSteps.{KeepsRest}
 use Rattle.mte_translate.proofs.EntryLemmas.{entry-kept, valid-or-not, valid-odd, count-same, count-set}
@@ -47,7 +47,7 @@ page-apart p k root q use_of h low t =
 pub leaf-root : (p : Pool) (k root s : ℕ) (use_of : ℕ → ℕ) → IsTree p k root use_of → s < 512 → is_valid (entry_at p root s) ≡ true → leaf_in (entry_at p root s) ≢ root
 leaf-root p k root s use_of h low t = other-use p k use_of _ _ _ _ (h.leaves s low t) h.own_root (λ x. omega (arith, x))
 
-pub leaf-out : (p : Pool) (k root q re l : ℕ) (use_of : ℕ → ℕ) → IsTree p k root use_of → q < 262144 → has_leaf p root q ≡ true → re ≡ entry_at p root (q / 512) → l ≡ leaf_in re → IsOut p l k
+pub leaf-out : (p : Pool) (k root q re l : ℕ) (use_of : ℕ → ℕ) → IsTree p k root use_of → q < 262144 → has_leaf p root q ≡ true → re ≡ entry_at p root (q / 512) → l ≡ leaf_in re → IsHeldBy p l k
 leaf-out p k root q re l use_of h low t is e = let o = h.leaves (q / 512) (omega arith) t in rw (e ∙ ap leaf_in is) o.out
 
 -- ---- the entry of the page q and its root entry s are written: the leaf is l, the entries re and e
@@ -180,8 +180,8 @@ pub record Hang (p n : Pool) (k root s l re : ℕ) (use_of now_use : ℕ → ℕ
   pub apart : (g u : ℕ) → u ≢ 1 + s → IsUsed p k use_of g u → g ≢ l
   pub moved : (g u : ℕ) → u ≢ 1 + s → IsUsed p k use_of g u → IsUsed n k now_use g u
   -- frames that are out and apart are others too
-  pub others : (f : ℕ) → IsOut p f k → IsApart p root f → f ≢ l
-  pub out : (f : ℕ) → f ≢ l → IsOut p f k → IsOut n f k
+  pub others : (f : ℕ) → IsHeldBy p f k → IsApart p root f → f ≢ l
+  pub out : (f : ℕ) → f ≢ l → IsHeldBy p f k → IsHeldBy n f k
   pub none : (q : ℕ) → q / 512 ≡ s → walk_at p root q ≡ 0
   pub still : (q : ℕ) → q / 512 ≡ s → walk_at n root q ≡ 0
   pub mine : is_valid re ≡ true → IsUsed n k now_use (leaf_in re) (1 + s)

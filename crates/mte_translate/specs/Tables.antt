@@ -22,7 +22,7 @@ use Rattle.std.specs.Ordering.{nat_cmp}
 use Rattle.std.specs.FinMap as map
 use Rattle.std.specs.FinMap.{FinMap}
 use Rattle.mte_arena.specs.Frames.{frame_at}
-use Rattle.mte_frames.specs.Pool.{Pool, IsOut}
+use Rattle.mte_frames.specs.Pool.{Pool, IsHeldBy}
 use Rattle.mte_tags.specs.declared.attrs.Attrs.{Attrs}
 use Rattle.mte_translate.specs.declared.entries.TheConstants.{TABLE_PAGES}
 use Rattle.mte_translate.specs.declared.translation.Translation.{Translation}
@@ -97,7 +97,7 @@ pub record IsApart (p : Pool) (root f : ℕ) : Type 0 where
 
 -- the frame f is out under the quota k, and its use is the n-th
 pub record IsUsed (p : Pool) (k : ℕ) (use_of : ℕ → ℕ) (f n : ℕ) : Type 0 where
-  pub out : IsOut p f k
+  pub out : IsHeldBy p f k
   pub use_is : use_of f ≡ n
 
 -- The use of a frame is a number: 0 of the root, 1 + s of the leaf that the root's entry s names,
@@ -122,16 +122,16 @@ pub record IsTreeOf (p : Pool) (k root : ℕ) : Type 0 where
 -- The same without such a function: root and leaves are out under the quota and all different, and
 -- the frames of pages are out under it and none of these.
 pub record IsSoundTree (p : Pool) (k root : ℕ) : Type 0 where
-  pub root_out : IsOut p root k
+  pub root_out : IsHeldBy p root k
   pub leaves_out : (s : ℕ) → s < 512 → is_valid (entry_at p root s) ≡ true
-      → IsOut p (leaf_in (entry_at p root s)) k
+      → IsHeldBy p (leaf_in (entry_at p root s)) k
   pub no_root : (s : ℕ) → s < 512 → is_valid (entry_at p root s) ≡ true
       → leaf_in (entry_at p root s) ≢ root
   pub differ : (s r : ℕ) → s < 512 → r < 512 → is_valid (entry_at p root s) ≡ true
       → is_valid (entry_at p root r) ≡ true
       → leaf_in (entry_at p root s) ≡ leaf_in (entry_at p root r) → s ≡ r
   pub pages_out : (q : ℕ) → q < TABLE_PAGES → is_valid (walk_at p root q) ≡ true
-      → IsOut p (frame_in (walk_at p root q)) k
+      → IsHeldBy p (frame_in (walk_at p root q)) k
   pub pages_apart : (q : ℕ) → q < TABLE_PAGES → is_valid (walk_at p root q) ≡ true
       → IsApart p root (frame_in (walk_at p root q))
   -- an entry of a leaf that isn't valid is 0
@@ -163,10 +163,10 @@ IsSomeTable p t = (k : ℕ) × IsTable p k t
 -- The frames out under the quota that aren't the table's own, those of pages among them, stay out,
 -- keep bytes and tags, and don't become the table's own.
 pub record KeepsData (k root : ℕ) (p n : Pool) : Type 0 where
-  pub out : (f : ℕ) → IsOut p f k → IsApart p root f → IsOut n f k
-  pub same : (f : ℕ) → IsOut p f k → IsApart p root f
+  pub out : (f : ℕ) → IsHeldBy p f k → IsApart p root f → IsHeldBy n f k
+  pub same : (f : ℕ) → IsHeldBy p f k → IsApart p root f
       → get_or n.frames f None ≡ get_or p.frames f None
-  pub apart : (f : ℕ) → IsOut p f k → IsApart p root f → IsApart n root f
+  pub apart : (f : ℕ) → IsHeldBy p f k → IsApart p root f → IsApart n root f
 
 -- from p to n the table stays, maps what it mapped, and has no other frames of its own
 pub record Stays (k : ℕ) (t : Root) (p n : Pool) : Type 0 where

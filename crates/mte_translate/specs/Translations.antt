@@ -1,11 +1,11 @@
 -- A translation lookaside buffer (Arm ARM DDI 0487, D8.16): a list of translations, the oldest
 -- first. A translation has an ASID, a page, a frame and attributes, and stands for its ASID and
 -- page.
---     lookup asid page ts         frame and attributes of the translation that stands for them
---     without asid page ts        all that stand for others, in their order
---     without_asid asid ts        all of other ASIDs, in their order
---     filled t ts                 t last, after the newest 63 of the others
---     IsOneEach ts                for each ASID and page at most one stands
+--     lookup asid page ts    frame and attributes of the translation that stands for them
+--     without asid page ts   all that stand for others, in their order
+--     without_asid asid ts   all of other ASIDs, in their order
+--     with_translation t ts  t last, after the newest 63 of the others
+--     IsOneEach ts           for each ASID and page at most one stands
 use Rattle.std.specs.Prelude.{ℕ, ◌-◌, ◌≤◌, ◌==◌, Bool, ◌&&◌, not, List, [], ◌∷◌, ◌++◌}
 use Rattle.std.specs.Prelude.{length, drop, filter, find, Option, option_map}
 use Rattle.mte_tags.specs.declared.attrs.Attrs.{Attrs}
@@ -26,8 +26,8 @@ without_asid asid ts = filter (λ t. not (t.asid == asid)) ts
 abbrev pub newest : ℕ → List Translation → List Translation
 newest n ts = drop (length ts - n) ts
 
-abbrev pub filled : Translation → List Translation → List Translation
-filled t ts = newest 63 (without t.asid t.page ts) ++ t ∷ []
+abbrev pub with_translation : Translation → List Translation → List Translation
+with_translation t ts = newest 63 (without t.asid t.page ts) ++ t ∷ []
 
 abbrev pub IsOneEach : List Translation → Type 0
 IsOneEach ts = (asid page : ℕ) → length (filter (is_for asid page) ts) ≤ 1

@@ -2,7 +2,7 @@
 
 ghost use Rattle.std.specs.Prelude.{◌≡◌, ℕ, ◌+◌, ◌*◌, ◌<◌, true, false};
 ghost use Rattle.std.specs.Prelude.{IfSome, None};
-ghost use Rattle.mte_frames.specs.Pool.{IsOut, IsTaken, KeepsOthers};
+ghost use Rattle.mte_frames.specs.Pool.{IsHeldBy, IsTaken, KeepsOthers};
 ghost use Rattle.mte_translate.specs.Tables.{entry_at, is_valid, count_in, leaf_in, attrs_in};
 ghost use Rattle.mte_translate.specs.Tables.{frame_in};
 ghost use Rattle.mte_translate.specs.TableSteps.{Wrote};
@@ -132,10 +132,9 @@ pub(crate) fn set_entry(pool: &mut FramePool, frame: usize, index: u64, entry: u
     requires out { IsTaken pool.old frame }
     requires low { index < 512 }
     ensures wrote { Wrote pool.old pool.new frame index entry }
-    ensures others { (k : ℕ) → IsOut pool.old frame k → KeepsOthers k pool.old pool.new }
+    ensures others { (k : ℕ) → IsHeldBy pool.old frame k → KeepsOthers k pool.old pool.new }
 {
-    // what holds of every pool is in its contract
-    let _ = pool.frames();
+    pool.recall();
     let from = 8 * index as usize;
     pool.data_mut(frame)[from..from + 8].copy_from_slice(&entry.to_le_bytes());
 }

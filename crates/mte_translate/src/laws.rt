@@ -2,15 +2,16 @@
 
 ghost use Rattle.std.specs.Prelude.{◌≡◌, ◌≢◌, ℕ, ◌⊎◌, List, Some, false, All, Contains};
 ghost use Rattle.mte_tags.specs.declared.attrs.Attrs.{Attrs};
-ghost use Rattle.mte_translate.specs.Translations.{is_for, lookup, filled, without, without_asid};
+ghost use Rattle.mte_translate.specs.Translations.{is_for, lookup, with_translation, without};
+ghost use Rattle.mte_translate.specs.Translations.{without_asid};
 ghost use Rattle.mte_translate.specs.declared.translation.Translation.{Translation};
 
 /// What stands after `fill` stood before, or is the translation that was put, which is found.
 pub fn fill_adds_its_own()
     ensures stands { (t : Translation) (ts : List Translation)
-        → All (λ u. Contains ts u ⊎ (t ≡ u)) (filled t ts) }
+        → All (λ u. Contains ts u ⊎ (t ≡ u)) (with_translation t ts) }
     ensures found { (t : Translation) (ts : List Translation)
-        → lookup t.asid t.page (filled t ts) ≡ Some (t.frame, t.attrs) }
+        → lookup t.asid t.page (with_translation t ts) ≡ Some (t.frame, t.attrs) }
 {}
 
 /// What stands after `forget` or `forget_all` stood before, and is of another page or ASID.

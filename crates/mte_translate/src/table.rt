@@ -4,7 +4,7 @@ ghost use Rattle.std.specs.Prelude.{◌≡◌, ◌≢◌, ℕ, ◌+◌, ◌-◌,
 ghost use Rattle.std.specs.Prelude.{IfSome, OnSome, option_map, get_or, slice_set};
 ghost use Rattle.std.specs.FinMap.{get, insert, remove, empty};
 ghost use Rattle.mte_arena.specs.Frames.{zero_frame};
-ghost use Rattle.mte_frames.specs.Pool.{IsOut, KeepsOthers, make_pool, taken_by, reserved_by};
+ghost use Rattle.mte_frames.specs.Pool.{IsHeldBy, KeepsOthers, make_pool, taken_by, reserved_by};
 ghost use Rattle.mte_translate.specs.Tables.{pages_of, missing_leaf, IsApart, IsTable};
 ghost use Rattle.mte_translate.specs.Tables.{IsSomeTable, KeepsData, MapsOnce, MapsNever, IsFirst};
 
@@ -118,7 +118,7 @@ impl Table {
         requires table { IsTable pool.old quota.old self.old }
         requires low { page < TABLE_PAGES }
         requires unmapped { get (pages_of pool.old self.old.frame) page ≡ None }
-        requires out { IsOut pool.old frame quota.old }
+        requires out { IsHeldBy pool.old frame quota.old }
         requires apart { IsApart pool.old self.old.frame frame }
         requires room { taken_by pool.old quota.old + missing_leaf pool.old self.old.frame page
             ≤ reserved_by pool.old quota.old }
@@ -159,7 +159,7 @@ impl Table {
             ≡ remove (pages_of pool.old self.old.frame) page }
         ensures none { result ≡ None → (pool.new ≡ pool.old) × (self.new ≡ self.old) }
         ensures free { IfSome result
-            (λ f. IsOut pool.new f quota.old × IsApart pool.new self.new.frame f) }
+            (λ f. IsHeldBy pool.new f quota.old × IsApart pool.new self.new.frame f) }
         ensures never { IfSome result
             (λ f. MapsOnce (pages_of pool.old self.old.frame)
             → MapsNever (pages_of pool.new self.new.frame) f) }
@@ -198,7 +198,7 @@ impl Table {
             ≡ make_pool pool.old.capacities pool.old.frames
             (slice_set pool.old.owners self.frame None) pool.old.reserved
             (slice_set pool.old.taken quota.old (taken_by pool.old quota.old - 1)) }
-        ensures back { (f : ℕ) → IsOut pool.new f quota.old → IsApart pool.old self.frame f }
+        ensures back { (f : ℕ) → IsHeldBy pool.new f quota.old → IsApart pool.old self.frame f }
         ensures others { KeepsOthers quota.old pool.old pool.new }
     {
         pool.give(quota, self.root);

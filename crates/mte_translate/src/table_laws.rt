@@ -4,11 +4,11 @@ ghost use Rattle.std.specs.Prelude.{◌≡◌, ◌≢◌, ◌↔◌, ℕ, ◌+�
 ghost use Rattle.std.specs.Prelude.{true, get_or, slice_set};
 ghost use Rattle.std.specs.FinMap.{get, insert, remove};
 ghost use Rattle.mte_arena.specs.Frames.{Frame};
-ghost use Rattle.mte_frames.specs.Pool.{Pool, make_pool, IsOut, KeepsOthers};
+ghost use Rattle.mte_frames.specs.Pool.{Pool, make_pool, IsHeldBy, KeepsOthers};
 ghost use Rattle.mte_tags.specs.declared.attrs.Attrs.{Attrs};
 ghost use Rattle.mte_translate.specs.Tables.{Pages, Root, pages_of, has_leaf, IsApart, IsTable};
 ghost use Rattle.mte_translate.specs.Tables.{MapsNever, IsCached, Stays, translation_at};
-ghost use Rattle.mte_translate.specs.Translations.{lookup, filled, without, without_asid};
+ghost use Rattle.mte_translate.specs.Translations.{lookup, with_translation, without, without_asid};
 ghost use Rattle.mte_translate.specs.declared.translation.Translation.{Translation};
 
 use crate::entries::TABLE_PAGES;
@@ -24,10 +24,10 @@ pub fn pages_are_walks()
 /// A table's root and the frames of its pages are out under its quota, and the frames of pages
 /// aren't the table's own.
 pub fn frames_of_tables()
-    ensures root { (p : Pool) (k : ℕ) (t : Root) → IsTable p k t → IsOut p t.frame k }
+    ensures root { (p : Pool) (k : ℕ) (t : Root) → IsTable p k t → IsHeldBy p t.frame k }
     ensures pages { (p : Pool) (k q f : ℕ) (a : Attrs) (t : Root)
         → IsTable p k t → get (pages_of p t.frame) q ≡ Some (f, a)
-        → (q < TABLE_PAGES) × IsOut p f k × IsApart p t.frame f }
+        → (q < TABLE_PAGES) × IsHeldBy p f k × IsApart p t.frame f }
 {}
 
 /// A leaf is there exactly where one of its 512 pages is mapped, so there are no more leaves than
@@ -76,9 +76,9 @@ pub fn cached_translations_stay()
         → IsCached m asid ts → IsCached (remove m q) asid (without asid q ts) }
     ensures filled { (m : Pages) (asid : ℕ) (t : Translation) (ts : List Translation)
         → get m t.page ≡ Some (t.frame, t.attrs) → IsCached m asid ts
-        → IsCached m asid (filled t ts) }
+        → IsCached m asid (with_translation t ts) }
     ensures beside { (m : Pages) (asid : ℕ) (t : Translation) (ts : List Translation)
-        → t.asid ≢ asid → IsCached m asid ts → IsCached m asid (filled t ts) }
+        → t.asid ≢ asid → IsCached m asid ts → IsCached m asid (with_translation t ts) }
     ensures forgotten { (m : Pages) (asid other q : ℕ) (ts : List Translation)
         → IsCached m asid ts → IsCached m asid (without other q ts) }
     ensures forgotten_all { (m : Pages) (asid other : ℕ) (ts : List Translation)

@@ -2,7 +2,7 @@
 
 ghost use Rattle.std.specs.Prelude.{◌≡◌, ◌+◌, ◌<◌, ◌≤◌, List, [], ◌∷◌, ◌++◌, length, true};
 ghost use Rattle.std.specs.Prelude.{IfSome, IsNone, Some, None};
-ghost use Rattle.mte_translate.specs.Translations.{lookup, filled, without, without_asid};
+ghost use Rattle.mte_translate.specs.Translations.{lookup, with_translation, without, without_asid};
 ghost use Rattle.mte_translate.specs.Translations.{newest, is_for, IsOneEach};
 ghost use Rattle.mte_translate.specs.declared.translation.Translation.{Translation};
 ghost use Rattle.mte_translate.specs.Whole.{hashes_of, IsChained};
@@ -63,8 +63,8 @@ impl Tlb {
         Some((translation.frame, translation.attrs))
     }
 
-    /// The same by one comparison; or `None`, perhaps also where one stands, but not where it is the
-    /// one that was put last.
+    /// Finds a translation by one comparison. It may answer `None` for one that is there, but not
+    /// for the one that was put last.
     #[inline(always)]
     pub fn quick_lookup(&self, asid: usize, page: u64) -> Option<(usize, Attrs)>
         ensures found { IfSome result (λ found. lookup asid page self.now ≡ Some found) }
@@ -88,17 +88,19 @@ impl Tlb {
     /// stand, the oldest.
     pub fn fill(&mut self, asid: usize, page: u64, frame: usize, attrs: Attrs)
         ensures { self.new
-            ≡ filled (record { asid = asid; page = page; frame = frame; attrs = attrs }) self.old }
+            ≡ with_translation
+            (record { asid = asid; page = page; frame = frame; attrs = attrs }) self.old }
     {
         self.forget(asid, page);
         self.add(asid, page, frame, attrs);
     }
 
-    /// The same for a page of an address space for which no translation stands.
+    /// Puts a translation last, of a page and an ASID that have none.
     pub fn add(&mut self, asid: usize, page: u64, frame: usize, attrs: Attrs)
         requires { lookup asid page self.old ≡ None }
         ensures { self.new
-            ≡ filled (record { asid = asid; page = page; frame = frame; attrs = attrs }) self.old }
+            ≡ with_translation
+            (record { asid = asid; page = page; frame = frame; attrs = attrs }) self.old }
     {
         make_room(&mut self.translations, &mut self.chains);
         self.chains.push(self.translations.end(), asid, page);

@@ -4,7 +4,7 @@
 ghost use Rattle.std.specs.Prelude.{◌≡◌, ◌≢◌, ℕ, ◌+◌, ◌*◌, ◌/◌, ◌<◌, ◌≤◌};
 ghost use Rattle.std.specs.Prelude.{true, false};
 ghost use Rattle.address_map.specs.declared.limits.TheConstants.{MAX_FRAMES};
-ghost use Rattle.mte_frames.specs.Pool.{IsOut, taken_by, reserved_by};
+ghost use Rattle.mte_frames.specs.Pool.{IsHeldBy, taken_by, reserved_by};
 ghost use Rattle.mte_translate.specs.Tables.{entry_at, is_valid, count_in, walk_at};
 ghost use Rattle.mte_translate.specs.Tables.{IsTreeOf, IsApart, has_leaf, missing_leaf};
 ghost use Rattle.mte_translate.specs.TableSteps.{KeepsRest, KeepsWalks, KeepsWalksBut};
@@ -26,8 +26,7 @@ pub(crate) fn add_leaf(pool: &mut FramePool, quota: &mut Quota, root: usize, slo
     ensures quota { quota.new ≡ quota.old }
     ensures taken { taken_by pool.new quota.old ≡ taken_by pool.old quota.old + 1 }
 {
-    // what holds of every pool is in its contract
-    let _ = pool.frames();
+    pool.recall();
     let leaf = pool.take(quota);
     set_entry(pool, root, slot, RootEntry::new(leaf).0);
 }
@@ -47,7 +46,7 @@ pub(crate) fn drop_leaf(pool: &mut FramePool, quota: &mut Quota, root: usize, sl
 {
     let leaf = RootEntry(entry(pool, root, slot)).leaf();
     set_entry(pool, root, slot, 0);
-    let _ = pool.frames();
+    pool.recall();
     pool.give(quota, leaf);
 }
 
@@ -64,7 +63,7 @@ pub(crate) fn put_page(
     requires low { page < TABLE_PAGES }
     requires leaf { is_valid (entry_at pool.old root (page / 512)) ≡ true }
     requires absent { is_valid (walk_at pool.old root page) ≡ false }
-    requires out { IsOut pool.old frame quota.now }
+    requires out { IsHeldBy pool.old frame quota.now }
     requires apart { IsApart pool.old root frame }
     ensures tree { IsTreeOf pool.new quota.now root }
     ensures walk { walk_at pool.new root page ≡ 512 * frame + 2 * attrs.0 + 1 }
@@ -76,7 +75,7 @@ pub(crate) fn put_page(
 {
     // the quota is there for the contract, and so is what holds of every pool
     let _ = quota;
-    let _ = pool.frames();
+    pool.recall();
     let root_entry = entry(pool, root, page / 512);
     let leaf = RootEntry(root_entry).leaf();
     set_entry(pool, leaf, page % 512, LeafEntry::new(frame, attrs).0);

@@ -8,12 +8,12 @@ use Rattle.std.specs.Option.{IfSome}
 use Rattle.scudo_header.specs.declared.classes.TheConstants.{CLASSES}
 use Rattle.scudo_primary.specs.Blocks.{carved_count, block_at, number_of, IsBlock, blocks_from}
 use Rattle.scudo_primary.specs.Batches.{max_count_of}
-use Rattle.scudo_primary.specs.Pools.{ClassState, PoolState, IsLoose, is_member, is_marked, class_at, pages_of, stack_of, carve_in, push_in, pop_in, popped, pushed, with_pages, new_count}
+use Rattle.scudo_primary.specs.Pools.{ClassState, PoolState, IsLoose, is_member, is_marked, class_at, pages_of, stack_of, class_after_carve, class_after_push, class_after_pop, after_pop, after_push, with_pages, new_count}
 use Rattle.scudo_primary.specs.Lists.{IsClass}
 use Rattle.scudo_primary.proofs.BlockLemmas.{number_of-block_at, IsBlock-more}
 use Rattle.scudo_primary.proofs.ListLemmas.{member-other, member-first}
-use Rattle.scudo_primary.proofs.PoolLaws.{class_at-with_pages, class_at-with_pages_other, class_at-pushed, class_at-pushed_other, class_at-popped, class_at-popped_other, left-pushed, left-with_mark, left-without_batch, left-with_batch, left-with_pages}
-use Rattle.scudo_cache.specs.Caches.{CacheState, class_with, entries_of, IsAbove, refilled, newest, handed_out, after_take, with_room, after_put}
+use Rattle.scudo_primary.proofs.PoolLaws.{class_at-with_pages, class_at-with_pages_other, class_at-after-push, class_at-pushed_other, class_at-after-pop, class_at-popped_other, left-after-push, left-with_mark, left-without_batch, left-with_batch, left-with_pages}
+use Rattle.scudo_cache.specs.Caches.{CacheState, class_with, entries_of, IsAbove, after_refill, newest, handed_out, after_take, with_room, after_put}
 use Rattle.scudo_cache.proofs.EntryLemmas.{member-both, loose-mark}
 use Rattle.scudo_cache.proofs.ClassLemmas.{halved_class}
 
@@ -29,7 +29,7 @@ new-unlisted c m (suc n) b h l =
     member-other (block_at c m) (blocks_from c (m + 1) n) b (λ e. let t = ap (number_of c) e ∙ number_of-block_at c m h in omega arith)
     ∙ new-unlisted c (m + 1) n b h (omega arith)
 
-loose-carve : (k : ClassState) (c pages n b : ℕ) → IsClass c → IsLoose k c b → IsLoose (carve_in c k pages n) c b
+loose-carve : (k : ClassState) (c pages n b : ℕ) → IsClass c → IsLoose k c b → IsLoose (class_after_carve c k pages n) c b
 loose-carve k c pages n b h l =
     let i = number_of c b in
     let within : i < length k.marks = elim (cases_lt i (length k.marks)) [
@@ -62,24 +62,24 @@ above-with_pages v p c pages low high h =
 
 -- ---- after a push and a pop of the pool itself
 
-loose-push : (k : ClassState) (c b d : ℕ) → IsBlock c k.pages b → slice_index_or k.marks (number_of c b) false ≡ false → IsLoose k c d → IsLoose (push_in c k b) c d
+loose-push : (k : ClassState) (c b d : ℕ) → IsBlock c k.pages b → slice_index_or k.marks (number_of c b) false ≡ false → IsLoose k c d → IsLoose (class_after_push c k b) c d
 loose-push k c b d block used l =
     let n : d ≢ b = λ e. let t : slice_index_or k.marks (number_of c d) false ≡ true = l.marked in let u = ap (λ x. slice_index_or k.marks (number_of c x) false) e in cc in
     let m = loose-mark k c b true d block n l in
     record { carved = l.carved; marked = m.marked; unlisted = member-other b k.stack d n ∙ l.unlisted }
 
-pub above-pushed : (v : CacheState) (p : PoolState) (c b : ℕ) → 0 < c → c ≤ CLASSES → IsBlock c (pages_of p c) b → is_marked p c b ≡ false → IsAbove v p → IsAbove v (pushed p c b)
-above-pushed v p c b low high block used h =
+pub above-after-push : (v : CacheState) (p : PoolState) (c b : ℕ) → 0 < c → c ≤ CLASSES → IsBlock c (pages_of p c) b → is_marked p c b ≡ false → IsAbove v p → IsAbove v (after_push p c b)
+above-after-push v p c b low high block used h =
     let hc : IsClass c = record { low = low; high = high } in
-    above-changed v p (pushed p c b) c hc
-    (λ d l. subst (λ (t : ClassState). IsLoose t c d) (sym (class_at-pushed p c b)) (loose-push (class_at p c) c b d block used l))
+    above-changed v p (after_push p c b) c hc
+    (λ d l. subst (λ (t : ClassState). IsLoose t c d) (sym (class_at-after-push p c b)) (loose-push (class_at p c) c b d block used l))
     (λ d n. class_at-pushed_other p c b d n) h
 
-pages-pop : (k : ClassState) (c : ℕ) (s : List ℕ) → (pop_in c k s).pages ≡ k.pages
+pages-pop : (k : ClassState) (c : ℕ) (s : List ℕ) → (class_after_pop c k s).pages ≡ k.pages
 pages-pop k c [] = refl
 pages-pop k c (b ∷ more) = refl
 
-loose-pop : (k : ClassState) (c : ℕ) (s : List ℕ) (d : ℕ) → IfSome (slice_get s 0) (IsBlock c k.pages) → is_member s d ≡ false → IsLoose k c d → IsLoose (pop_in c k s) c d
+loose-pop : (k : ClassState) (c : ℕ) (s : List ℕ) (d : ℕ) → IfSome (slice_get s 0) (IsBlock c k.pages) → is_member s d ≡ false → IsLoose k c d → IsLoose (class_after_pop c k s) c d
 loose-pop k c [] d block other l = l
 loose-pop k c (b ∷ more) d block other l =
     let n : d ≢ b = λ e. let t = member-first b more in let u = ap (is_member (b ∷ more)) e in cc in
@@ -87,36 +87,36 @@ loose-pop k c (b ∷ more) d block other l =
     record { carved = l.carved; marked = m.marked; unlisted = sym (member-other b more d n) ∙ other }
 
 -- by the clauses of `pop`
-pub above-popped : (v : CacheState) (p p' : PoolState) (c : ℕ) (r : Option ℕ) → 0 < c → c ≤ CLASSES → r ≡ slice_get (stack_of p c) 0 → p' ≡ popped p c → IfSome r (IsBlock c (pages_of p' c)) → IsAbove v p → IsAbove v p'
-above-popped v p p' c r low high er ep block h =
+pub above-after-pop : (v : CacheState) (p p' : PoolState) (c : ℕ) (r : Option ℕ) → 0 < c → c ≤ CLASSES → r ≡ slice_get (stack_of p c) 0 → p' ≡ after_pop p c → IfSome r (IsBlock c (pages_of p' c)) → IsAbove v p → IsAbove v p'
+above-after-pop v p p' c r low high er ep block h =
     let hc : IsClass c = record { low = low; high = high } in
     let k = class_at p c in
-    let at : class_at p' c ≡ pop_in c k k.stack = ap (λ t. class_at t c) ep ∙ class_at-popped p c in
+    let at : class_at p' c ≡ class_after_pop c k k.stack = ap (λ t. class_at t c) ep ∙ class_at-after-pop p c in
     let pages : pages_of p' c ≡ k.pages = ap (λ (t : ClassState). t.pages) at ∙ pages-pop k c k.stack in
     let top : IfSome (slice_get k.stack 0) (IsBlock c k.pages) = subst (λ t. IfSome (slice_get k.stack 0) (IsBlock c t)) pages (subst (λ o. IfSome o (IsBlock c (pages_of p' c))) er block) in
     above-changed v p p' c hc
     (λ d l. subst (λ (t : ClassState). IsLoose t c d) (sym at) (loose-pop k c k.stack d top l.unlisted l))
     (λ d n. ap (λ t. class_at t d) ep ∙ class_at-popped_other p c d n) h
 
-pub ruleset above_laws = (above-new, above-with_pages, above-pushed)
+pub ruleset above_laws = (above-new, above-with_pages, above-after-push)
 
-pub ruleset pool_laws = (above-with_pages, above-pushed, left-with_pages, left-pushed)
+pub ruleset pool_laws = (above-with_pages, above-after-push, left-with_pages, left-after-push)
 
 -- ---- pages left
 
-left-refilled : (c : ℕ) (xs : List ℕ) (p : PoolState) → (refilled c xs p).pool.left ≡ p.left
-unfolding refilled
-left-refilled c [] p = left-without_batch p c
-left-refilled c (b ∷ more) p = refl
+left-after-refill : (c : ℕ) (xs : List ℕ) (p : PoolState) → (after_refill c xs p).pool.left ≡ p.left
+unfolding after_refill
+left-after-refill c [] p = left-without_batch p c
+left-after-refill c (b ∷ more) p = refl
 
 left-handed_out : (c : ℕ) (p : PoolState) (o : Option ℕ) → (handed_out c p o).left ≡ p.left
 left-handed_out c p None = refl
 left-handed_out c p (Some b) = left-with_mark p c b false
 
 -- by the clauses of `take` and `put`
-pub left-taken : (c : ℕ) (xs : List ℕ) (p : PoolState) → (after_take c (refilled c xs p)).pool.left ≡ p.left
+pub left-taken : (c : ℕ) (xs : List ℕ) (p : PoolState) → (after_take c (after_refill c xs p)).pool.left ≡ p.left
 unfolding after_take
-left-taken c xs p = left-handed_out c (refilled c xs p).pool (newest (refilled c xs p).entries) ∙ left-refilled c xs p
+left-taken c xs p = left-handed_out c (after_refill c xs p).pool (newest (after_refill c xs p).entries) ∙ left-after-refill c xs p
 
 left-with_room : (c : ℕ) (xs : List ℕ) (p : PoolState) → (with_room c xs p).pool.left ≡ p.left
 unfolding with_room

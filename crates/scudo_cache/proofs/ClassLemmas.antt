@@ -7,9 +7,9 @@ use Rattle.std.proofs.lemmas.List.Elements.{All-take, All-get_or, All-push}
 use Rattle.std.specs.List.{All, IsDistinct}
 use Rattle.scudo_primary.specs.Blocks.{number_of, IsBlock}
 use Rattle.scudo_primary.specs.Batches.{max_count_of}
-use Rattle.scudo_primary.specs.Pools.{ClassState, PoolState, IsLoose, is_marked, class_at, mark_in, push_batch_in, with_mark, with_batch, without_batch, top_batch}
+use Rattle.scudo_primary.specs.Pools.{ClassState, PoolState, IsLoose, is_marked, class_at, class_with_mark, class_after_push_batch, with_mark, with_batch, without_batch, top_batch}
 use Rattle.scudo_primary.proofs.PoolLaws.{class_at-with_mark, class_at-with_mark_other, class_at-without_batch_other, class_at-with_batch, class_at-with_batch_other}
-use Rattle.scudo_cache.specs.Caches.{Class, class_with, IsHeld, refilled, newest, handed_out, after_take, with_room, after_put}
+use Rattle.scudo_cache.specs.Caches.{Class, class_with, IsHeld, after_refill, newest, handed_out, after_take, with_room, after_put}
 use Rattle.scudo_cache.proofs.EntryLemmas.{others-before, distinct-take, distinct-drop, all-loose-mark, used-other, distinct-new, loose-rest}
 
 pub class-same : (k : Class) (xs : List ℕ) (p : PoolState) → xs ≡ k.entries → p ≡ k.pool → class_with xs p ≡ k
@@ -17,15 +17,15 @@ class-same k xs p ex ep = ap (λ t. class_with t p) ex ∙ ap (class_with k.entr
 
 -- ---- an empty list of entries gets the top batch
 
-pub refilled-some : (c : ℕ) (xs : List ℕ) (p : PoolState) → 0 < length xs → class_with xs p ≡ refilled c xs p
-unfolding refilled
-refilled-some c [] p h = absurd (omega arith)
-refilled-some c (x ∷ xs) p h = refl
+pub after-refill-some : (c : ℕ) (xs : List ℕ) (p : PoolState) → 0 < length xs → class_with xs p ≡ after_refill c xs p
+unfolding after_refill
+after-refill-some c [] p h = absurd (omega arith)
+after-refill-some c (x ∷ xs) p h = refl
 
-pub refilled-none : (c : ℕ) (xs : List ℕ) (p : PoolState) → length xs ≡ 0 → class_with (top_batch p c) (without_batch p c) ≡ refilled c xs p
-unfolding refilled
-refilled-none c [] p h = refl
-refilled-none c (x ∷ xs) p h = absurd (omega arith)
+pub after-refill-none : (c : ℕ) (xs : List ℕ) (p : PoolState) → length xs ≡ 0 → class_with (top_batch p c) (without_batch p c) ≡ after_refill c xs p
+unfolding after_refill
+after-refill-none c [] p h = refl
+after-refill-none c (x ∷ xs) p h = absurd (omega arith)
 
 -- the front of a buffer of m places, which was written
 pub front : (m n : ℕ) (xs b b' : List ℕ) → length b ≡ m → length b' ≡ m → n ≤ m → b' ≡ xs ++ drop n b → take n b' ≡ xs
@@ -36,10 +36,10 @@ front m n xs b b' l l' h e =
     let len : length xs ≡ n = omega arith in
     ap (take n) e ∙ take_at xs (drop n b) n len
 
-pub refilled-other : (c : ℕ) (xs : List ℕ) (p : PoolState) (d : ℕ) → d ≢ c → class_at (refilled c xs p).pool d ≡ class_at p d
-unfolding refilled
-refilled-other c [] p d n = class_at-without_batch_other p c d n
-refilled-other c (x ∷ xs) p d n = refl
+pub after-refill-other : (c : ℕ) (xs : List ℕ) (p : PoolState) (d : ℕ) → d ≢ c → class_at (after_refill c xs p).pool d ≡ class_at p d
+unfolding after_refill
+after-refill-other c [] p d n = class_at-without_batch_other p c d n
+after-refill-other c (x ∷ xs) p d n = refl
 
 -- ---- the newest entry is handed out
 
@@ -66,7 +66,7 @@ taken-loose p p' c b xs ys ep ey e u h =
     let loose = subst (IsLoose (class_at p c) c) r.1 (All-get_or (IsLoose (class_at p c) c) xs n 0 r.0 h) in
     subst (λ t. All (IsLoose (class_at t c) c) ys) (sym ep)
     (subst (λ (k : ClassState). All (IsLoose k c) ys) (sym (class_at-with_mark p c b false))
-    (subst (All (IsLoose (mark_in c (class_at p c) b false) c)) (sym ey)
+    (subst (All (IsLoose (class_with_mark c (class_at p c) b false) c)) (sym ey)
     (all-loose-mark (class_at p c) c b false (take n xs) loose.carved (others-before n xs b r.0 r.1 u) (All-take (IsLoose (class_at p c) c) n xs h))))
 
 -- it is carved, and marked used
@@ -92,8 +92,8 @@ taken-distinct xs ys e u = subst (IsDistinct nat_eq) (sym e) (distinct-take (len
 pub taken-top : (b : ℕ) (xs ys s : List ℕ) → xs ≡ ys ++ b ∷ [] → Some b ≡ slice_get (reverse xs ++ s) 0
 taken-top b xs ys s ex = sym (ap (λ t. slice_get (reverse t ++ s) 0) ex ∙ ap (λ t. slice_get (t ++ s) 0) (reverse-append ys (b ∷ [])))
 
-pub taken-rest : (p p' : PoolState) (c b : ℕ) (xs ys zs : List ℕ) → p' ≡ with_mark p c b false → xs ≡ ys ++ b ∷ [] → reverse xs ++ (class_at p c).stack ≡ zs → reverse ys ++ (class_at p' c).stack ≡ drop 1 zs
-taken-rest p p' c b xs ys zs ep ex e =
+pub after-take-rest : (p p' : PoolState) (c b : ℕ) (xs ys zs : List ℕ) → p' ≡ with_mark p c b false → xs ≡ ys ++ b ∷ [] → reverse xs ++ (class_at p c).stack ≡ zs → reverse ys ++ (class_at p' c).stack ≡ drop 1 zs
+after-take-rest p p' c b xs ys zs ep ex e =
     ap (λ t. reverse ys ++ (class_at t c).stack) ep ∙ ap (λ s. reverse ys ++ s) (stack-mark p c b false)
     ∙ ap (λ t. drop 1 (t ++ (class_at p c).stack)) (sym (ap reverse ex ∙ reverse-append ys (b ∷ []))) ∙ ap (drop 1) e
 
@@ -160,12 +160,12 @@ pub record IsHalved (p p' : PoolState) (c : ℕ) (xs ys : List ℕ) : Type 0 whe
 
 halved : (p p' : PoolState) (c n : ℕ) (xs ys : List ℕ) → n ≤ length xs → p' ≡ with_batch p c (take n xs) → ys ≡ drop n xs → IsHeld c xs p → IsHalved p p' c xs ys
 halved p p' c n xs ys l ep ey h =
-    let at : class_at p' c ≡ push_batch_in (class_at p c) (take n xs) = ap (λ t. class_at t c) ep ∙ class_at-with_batch p c (take n xs) in
+    let at : class_at p' c ≡ class_after_push_batch (class_at p c) (take n xs) = ap (λ t. class_at t c) ep ∙ class_at-with_batch p c (take n xs) in
     let len = length-drop n xs in
     let most : length xs ≤ max_count_of c = h.most in
     record {
       held = record {
-        cached = subst (λ (k : ClassState). All (IsLoose k c) ys) (sym at) (subst (All (IsLoose (push_batch_in (class_at p c) (take n xs)) c)) (sym ey) (loose-rest (class_at p c) c n xs l h.distinct h.cached));
+        cached = subst (λ (k : ClassState). All (IsLoose k c) ys) (sym at) (subst (All (IsLoose (class_after_push_batch (class_at p c) (take n xs)) c)) (sym ey) (loose-rest (class_at p c) c n xs l h.distinct h.cached));
         distinct = subst (IsDistinct nat_eq) (sym ey) (distinct-drop n xs h.distinct);
         most = subst (λ (t : List ℕ). length t ≤ max_count_of c) (sym ey) (omega arith);
       };
@@ -196,7 +196,7 @@ put-lists c b k = (stack-mark k.pool c b true, sizes-mark k.pool c b true)
 pub put-loose : (p p' : PoolState) (c b : ℕ) (xs ys : List ℕ) → p' ≡ with_mark p c b true → ys ≡ xs ++ b ∷ [] → IsBlock c (class_at p c).pages b → is_marked p c b ≡ false → IsLoose (class_at p' c) c b
     → All (IsLoose (class_at p c) c) xs → All (IsLoose (class_at p' c) c) ys
 put-loose p p' c b xs ys ep ey block u new h =
-    let at : class_at p' c ≡ mark_in c (class_at p c) b true = ap (λ t. class_at t c) ep ∙ class_at-with_mark p c b true in
+    let at : class_at p' c ≡ class_with_mark c (class_at p c) b true = ap (λ t. class_at t c) ep ∙ class_at-with_mark p c b true in
     subst (All (IsLoose (class_at p' c) c)) (sym ey) (All-push (IsLoose (class_at p' c) c) xs b
     (subst (λ (k : ClassState). All (IsLoose k c) xs) (sym at) (all-loose-mark (class_at p c) c b true xs block (used-other (class_at p c) c b xs u h) h)) new)
 

@@ -8,7 +8,7 @@ use Rattle.std.proofs.lemmas.Map.Keys.{IsDistinct-push, IsDistinct-from_apart, a
 use Rattle.std.proofs.lemmas.Cmp.{nat_eq_equiv}
 use Rattle.std.specs.List.{All, IsDistinct}
 use Rattle.scudo_primary.specs.Blocks.{number_of, IsBlock}
-use Rattle.scudo_primary.specs.Pools.{ClassState, IsLoose, is_member, mark_in, push_batch_in}
+use Rattle.scudo_primary.specs.Pools.{ClassState, IsLoose, is_member, class_with_mark, class_after_push_batch}
 use Rattle.scudo_primary.proofs.BlockLemmas.{number-apart}
 use Rattle.scudo_primary.proofs.ListLemmas.{member-other}
 
@@ -70,7 +70,7 @@ halves-apart n xs h k =
 -- ---- blocks
 
 -- the mark of another block
-pub loose-mark : (k : ClassState) (c b : ℕ) (mark : Bool) (d : ℕ) → IsBlock c k.pages b → d ≢ b → IsLoose k c d → IsLoose (mark_in c k b mark) c d
+pub loose-mark : (k : ClassState) (c b : ℕ) (mark : Bool) (d : ℕ) → IsBlock c k.pages b → d ≢ b → IsLoose k c d → IsLoose (class_with_mark c k b mark) c d
 loose-mark k c b mark d block n h = record {
   carved = h.carved;
   marked = get_or-set_other k.marks (number_of c b) (number_of c d) mark false (λ e. n (number-apart c k.pages d b h.carved block e)) ∙ h.marked;
@@ -80,8 +80,8 @@ loose-mark k c b mark d block n h = record {
 All-both : (P Q R : ℕ → Type 0) (xs : List ℕ) → ((x : ℕ) → P x → Q x → R x) → All P xs → All Q xs → All R xs
 All-both P Q R xs f h k = All-from_get_or R xs 0 (λ i l. f _ (All-get_or P xs i 0 l h) (All-get_or Q xs i 0 l k))
 
-pub all-loose-mark : (k : ClassState) (c b : ℕ) (mark : Bool) (xs : List ℕ) → IsBlock c k.pages b → All (λ d. d ≢ b) xs → All (IsLoose k c) xs → All (IsLoose (mark_in c k b mark) c) xs
-all-loose-mark k c b mark xs block n h = All-both (λ d. d ≢ b) (IsLoose k c) (IsLoose (mark_in c k b mark) c) xs (λ d m l. loose-mark k c b mark d block m l) n h
+pub all-loose-mark : (k : ClassState) (c b : ℕ) (mark : Bool) (xs : List ℕ) → IsBlock c k.pages b → All (λ d. d ≢ b) xs → All (IsLoose k c) xs → All (IsLoose (class_with_mark c k b mark) c) xs
+all-loose-mark k c b mark xs block n h = All-both (λ d. d ≢ b) (IsLoose k c) (IsLoose (class_with_mark c k b mark) c) xs (λ d m l. loose-mark k c b mark d block m l) n h
 
 -- a block that is marked used is none of those that are marked free
 pub used-other : (k : ClassState) (c b : ℕ) (xs : List ℕ) → get_or k.marks (number_of c b) false ≡ false → All (IsLoose k c) xs → All (λ d. d ≢ b) xs
@@ -91,8 +91,8 @@ pub distinct-new : (xs : List ℕ) (b : ℕ) → All (λ d. d ≢ b) xs → IsDi
 distinct-new xs b n h = IsDistinct-push nat_eq_equiv xs b h (other-member xs b n)
 
 -- the first n of the blocks went to the pool as a batch
-pub loose-rest : (k : ClassState) (c n : ℕ) (xs : List ℕ) → n ≤ length xs → IsDistinct nat_eq xs → All (IsLoose k c) xs → All (IsLoose (push_batch_in k (take n xs)) c) (drop n xs)
+pub loose-rest : (k : ClassState) (c n : ℕ) (xs : List ℕ) → n ≤ length xs → IsDistinct nat_eq xs → All (IsLoose k c) xs → All (IsLoose (class_after_push_batch k (take n xs)) c) (drop n xs)
 loose-rest k c n xs l u h =
-    All-both (IsLoose k c) (λ d. is_member (reverse (take n xs)) d ≡ false) (IsLoose (push_batch_in k (take n xs)) c) (drop n xs)
+    All-both (IsLoose k c) (λ d. is_member (reverse (take n xs)) d ≡ false) (IsLoose (class_after_push_batch k (take n xs)) c) (drop n xs)
     (λ d a o. record { carved = a.carved; marked = a.marked; unlisted = member-both (reverse (take n xs)) k.stack d o a.unlisted })
     (All-drop (IsLoose k c) n xs h) (halves-apart n xs l u)

@@ -12,7 +12,7 @@ use Rattle.scudo_primary.proofs.BlockLemmas.{size-pos, number-apart, block_at-nu
 use Rattle.scudo_primary.proofs.ListLemmas.{member-other, member-first, distinct-head, distinct-cons}
 use Rattle.scudo_primary.proofs.PoolLaws.{class_at-with_mark, class_at-without_batch, class_at-with_pages, class_at-with_pages_other, class_at-empty_pool}
 use Rattle.scudo_header.specs.declared.classes.TheConstants.{CLASSES}
-use Rattle.scudo_cache.specs.Caches.{CacheState, class_with, entries_of, one_stack, IsStack, AreStacks, refilled, newest, handed_out, after_take, with_room, after_put}
+use Rattle.scudo_cache.specs.Caches.{CacheState, class_with, entries_of, one_stack, IsStack, AreStacks, after_refill, newest, handed_out, after_take, with_room, after_put}
 use Rattle.scudo_cache.proofs.ClassLemmas.{room-class, halved_class}
 
 -- ---- the marks and pages of the class that a call is about
@@ -25,21 +25,21 @@ pub record IsAfter (c : ℕ) (ms : List Bool) (pages : ℕ) (k : ClassState) : T
   pub marks : k.marks ≡ ms
   pub pages_same : k.pages ≡ pages
 
-refilled-after : (c : ℕ) (xs : List ℕ) (p : PoolState) → IsAfter c (class_at p c).marks (class_at p c).pages (class_at (refilled c xs p).pool c)
-unfolding refilled
-refilled-after c [] p = record { marks = ap (λ (k : ClassState). k.marks) (class_at-without_batch p c); pages_same = ap (λ (k : ClassState). k.pages) (class_at-without_batch p c) }
-refilled-after c (x ∷ xs) p = record { marks = refl; pages_same = refl }
+after-refill-after : (c : ℕ) (xs : List ℕ) (p : PoolState) → IsAfter c (class_at p c).marks (class_at p c).pages (class_at (after_refill c xs p).pool c)
+unfolding after_refill
+after-refill-after c [] p = record { marks = ap (λ (k : ClassState). k.marks) (class_at-without_batch p c); pages_same = ap (λ (k : ClassState). k.pages) (class_at-without_batch p c) }
+after-refill-after c (x ∷ xs) p = record { marks = refl; pages_same = refl }
 
 handed-after : (c : ℕ) (p : PoolState) (o : Option ℕ) → IsAfter c (marks_after c o (class_at p c).marks) (class_at p c).pages (class_at (handed_out c p o) c)
 handed-after c p None = record { marks = refl; pages_same = refl }
 handed-after c p (Some b) = record { marks = ap (λ (k : ClassState). k.marks) (class_at-with_mark p c b false); pages_same = ap (λ (k : ClassState). k.pages) (class_at-with_mark p c b false) }
 
-pub taken-after : (c : ℕ) (xs : List ℕ) (p : PoolState) → IsAfter c (marks_after c (newest (refilled c xs p).entries) (class_at p c).marks) (class_at p c).pages (class_at (after_take c (refilled c xs p)).pool c)
+pub taken-after : (c : ℕ) (xs : List ℕ) (p : PoolState) → IsAfter c (marks_after c (newest (after_refill c xs p).entries) (class_at p c).marks) (class_at p c).pages (class_at (after_take c (after_refill c xs p)).pool c)
 unfolding after_take
 taken-after c xs p =
-    let o = newest (refilled c xs p).entries in
-    let a = handed-after c (refilled c xs p).pool o in
-    let r = refilled-after c xs p in
+    let o = newest (after_refill c xs p).entries in
+    let a = handed-after c (after_refill c xs p).pool o in
+    let r = after-refill-after c xs p in
     record { marks = a.marks ∙ ap (marks_after c o) r.marks; pages_same = a.pages_same ∙ r.pages_same }
 
 pub put-after : (c b : ℕ) (xs : List ℕ) (p : PoolState) → IsAfter c (set (class_at p c).marks (number_of c b) true) (class_at p c).pages (class_at (after_put c b (with_room c xs p)).pool c)
@@ -261,18 +261,18 @@ caps-with_mark : (p : PoolState) (c b : ℕ) (mark : Bool) → (with_mark p c b 
 unfolding with_mark with_class
 caps-with_mark p c b mark = refl
 
-caps-refilled : (c : ℕ) (xs : List ℕ) (p : PoolState) → (refilled c xs p).pool.capacities ≡ p.capacities
-unfolding refilled
-caps-refilled c [] p = caps-without_batch p c
-caps-refilled c (x ∷ xs) p = refl
+caps-after-refill : (c : ℕ) (xs : List ℕ) (p : PoolState) → (after_refill c xs p).pool.capacities ≡ p.capacities
+unfolding after_refill
+caps-after-refill c [] p = caps-without_batch p c
+caps-after-refill c (x ∷ xs) p = refl
 
 caps-handed : (c : ℕ) (p : PoolState) (o : Option ℕ) → (handed_out c p o).capacities ≡ p.capacities
 caps-handed c p None = refl
 caps-handed c p (Some b) = caps-with_mark p c b false
 
-pub caps-taken : (c : ℕ) (xs : List ℕ) (p : PoolState) → (after_take c (refilled c xs p)).pool.capacities ≡ p.capacities
+pub caps-taken : (c : ℕ) (xs : List ℕ) (p : PoolState) → (after_take c (after_refill c xs p)).pool.capacities ≡ p.capacities
 unfolding after_take
-caps-taken c xs p = caps-handed c (refilled c xs p).pool (newest (refilled c xs p).entries) ∙ caps-refilled c xs p
+caps-taken c xs p = caps-handed c (after_refill c xs p).pool (newest (after_refill c xs p).entries) ∙ caps-after-refill c xs p
 
 caps-room : (c : ℕ) (xs : List ℕ) (p : PoolState) → (with_room c xs p).pool.capacities ≡ p.capacities
 unfolding with_room

@@ -78,9 +78,9 @@ abbrev pub class_with : List ℕ → PoolState → Class
 class_with entries p = record { entries = entries; pool = p }
 
 -- where the cache holds none, it gets the pool's top batch
-unfoldable pub refilled : ℕ → List ℕ → PoolState → Class
-refilled class [] p = record { entries = top_batch p class; pool = without_batch p class }
-refilled class (block ∷ more) p = record { entries = block ∷ more; pool = p }
+unfoldable pub after_refill : ℕ → List ℕ → PoolState → Class
+after_refill class [] p = record { entries = top_batch p class; pool = without_batch p class }
+after_refill class (block ∷ more) p = record { entries = block ∷ more; pool = p }
 
 abbrev pub newest : List ℕ → Option ℕ
 newest entries = slice_get entries (length entries - 1)

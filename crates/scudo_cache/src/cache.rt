@@ -7,12 +7,12 @@ ghost use Rattle.scudo_primary.specs.Blocks.{IsBlock};
 ghost use Rattle.scudo_primary.specs.Pools.{pages_of, stack_of, sizes_of, is_marked, is_member};
 ghost use Rattle.scudo_cache.specs.Caches.{entries_of, with_entries, one_stack, stack_over};
 ghost use Rattle.scudo_cache.specs.Caches.{empty_cache, AreStacks};
-ghost use Rattle.scudo_cache.specs.Caches.{IsAbove, IsHeld, Took, class_with, refilled, newest};
+ghost use Rattle.scudo_cache.specs.Caches.{IsAbove, IsHeld, Took, class_with, after_refill, newest};
 ghost use Rattle.scudo_cache.specs.Caches.{after_take, with_room, after_put};
 
 use crate::per_class::PerClass;
 use scudo_header::CLASSES;
-use scudo_primary::{Pool, max_count};
+use scudo_primary::{Primary, max_count};
 use std::alloc::{AllocError, Global};
 use std::marker::Model;
 
@@ -51,17 +51,17 @@ impl Cache {
 
     /// Takes the newest block of a class and marks it used. A cache that holds none of the class
     /// first gets the pool's top batch; there is no block where the pool has none either.
-    pub fn take(&mut self, class: u8, pool: &mut Pool) -> Option<u64>
+    pub fn take(&mut self, class: u8, pool: &mut Primary) -> Option<u64>
         requires low { 0 < class }
         requires high { class ≤ CLASSES }
         requires above { IsAbove self.old pool.old }
         ensures answer { result
-            ≡ newest (refilled class (entries_of self.old class) pool.old).entries }
+            ≡ newest (after_refill class (entries_of self.old class) pool.old).entries }
         ensures cache { self.new
             ≡ with_entries self.old class
-            (after_take class (refilled class (entries_of self.old class) pool.old)).entries }
+            (after_take class (after_refill class (entries_of self.old class) pool.old)).entries }
         ensures pool { pool.new
-            ≡ (after_take class (refilled class (entries_of self.old class) pool.old)).pool }
+            ≡ (after_take class (after_refill class (entries_of self.old class) pool.old)).pool }
         ensures above { IsAbove self.new pool.new }
 
         // Cache and pool are one stack, and a block that is at hand leaves the pool's lists as they
@@ -89,7 +89,7 @@ impl Cache {
 
     /// Puts a carved block that is marked used, and marks it free. A full cache first gives its
     /// oldest half to the pool, as one batch that keeps its order.
-    pub fn put(&mut self, class: u8, block: u64, pool: &mut Pool)
+    pub fn put(&mut self, class: u8, block: u64, pool: &mut Primary)
         requires low { 0 < class }
         requires high { class ≤ CLASSES }
         requires above { IsAbove self.old pool.old }
@@ -124,7 +124,7 @@ impl Cache {
 
     /// Whether a carved block of a class is in its stack.
     #[inline(always)]
-    pub fn is_free(&self, class: u8, block: u64, pool: &Pool) -> bool
+    pub fn is_free(&self, class: u8, block: u64, pool: &Primary) -> bool
         requires low { 0 < class }
         requires high { class ≤ CLASSES }
         requires stacks { AreStacks self.now pool.now }
@@ -138,13 +138,13 @@ impl Cache {
 
 /// Takes the newest of a class's entries.
 #[inline]
-fn take_from(entries: &mut PerClass, class: u8, pool: &mut Pool) -> Option<u64>
+fn take_from(entries: &mut PerClass, class: u8, pool: &mut Primary) -> Option<u64>
     requires low { 0 < class }
     requires high { class ≤ CLASSES }
     requires held { IsHeld class entries.old pool.old }
-    ensures answer { result ≡ newest (refilled class entries.old pool.old).entries }
+    ensures answer { result ≡ newest (after_refill class entries.old pool.old).entries }
     ensures state { class_with entries.new pool.new
-        ≡ after_take class (refilled class entries.old pool.old) }
+        ≡ after_take class (after_refill class entries.old pool.old) }
     ensures held { IsHeld class entries.new pool.new }
     ensures took { Took class entries.old pool.old entries.new pool.new result }
 {
@@ -154,15 +154,15 @@ fn take_from(entries: &mut PerClass, class: u8, pool: &mut Pool) -> Option<u64>
     hand_out(entries, class, pool)
 }
 
-/// The same where there is none: apart, so that a take of what is at hand stays short.
+/// Slow path of `take_from`: refills from the pool. Apart, so that the fast path stays short.
 #[inline(never)]
-fn refill_and_take(entries: &mut PerClass, class: u8, pool: &mut Pool) -> Option<u64>
+fn refill_and_take(entries: &mut PerClass, class: u8, pool: &mut Primary) -> Option<u64>
     requires low { 0 < class }
     requires high { class ≤ CLASSES }
     requires empty { length entries.old ≡ 0 }
-    ensures answer { result ≡ newest (refilled class entries.old pool.old).entries }
+    ensures answer { result ≡ newest (after_refill class entries.old pool.old).entries }
     ensures state { class_with entries.new pool.new
-        ≡ after_take class (refilled class entries.old pool.old) }
+        ≡ after_take class (after_refill class entries.old pool.old) }
     ensures held { IsHeld class entries.new pool.new }
     ensures took { Took class entries.old pool.old entries.new pool.new result }
 {
@@ -172,7 +172,7 @@ fn refill_and_take(entries: &mut PerClass, class: u8, pool: &mut Pool) -> Option
 
 /// Takes the newest entry and marks it used. Where there is none, the pool has none either.
 #[inline]
-fn hand_out(entries: &mut PerClass, class: u8, pool: &mut Pool) -> Option<u64>
+fn hand_out(entries: &mut PerClass, class: u8, pool: &mut Primary) -> Option<u64>
     requires low { 0 < class }
     requires high { class ≤ CLASSES }
     requires held { IsHeld class entries.old pool.old }
@@ -190,7 +190,7 @@ fn hand_out(entries: &mut PerClass, class: u8, pool: &mut Pool) -> Option<u64>
 
 /// Appends a block to a class's entries.
 #[inline]
-fn put_into(entries: &mut PerClass, class: u8, block: u64, pool: &mut Pool)
+fn put_into(entries: &mut PerClass, class: u8, block: u64, pool: &mut Primary)
     requires low { 0 < class }
     requires high { class ≤ CLASSES }
     requires held { IsHeld class entries.old pool.old }
@@ -208,9 +208,9 @@ fn put_into(entries: &mut PerClass, class: u8, block: u64, pool: &mut Pool)
     add(entries, class, block, pool);
 }
 
-/// The same where they are full: apart, so that a put where there is room stays short.
+/// Slow path of `put_into`: makes room first. Apart, so that the fast path stays short.
 #[inline(never)]
-fn make_room_and_put(entries: &mut PerClass, class: u8, block: u64, pool: &mut Pool)
+fn make_room_and_put(entries: &mut PerClass, class: u8, block: u64, pool: &mut Primary)
     requires low { 0 < class }
     requires high { class ≤ CLASSES }
     requires held { IsHeld class entries.old pool.old }
@@ -229,7 +229,7 @@ fn make_room_and_put(entries: &mut PerClass, class: u8, block: u64, pool: &mut P
 
 /// Adds a block where there is room, and marks it free.
 #[inline]
-fn add(entries: &mut PerClass, class: u8, block: u64, pool: &mut Pool)
+fn add(entries: &mut PerClass, class: u8, block: u64, pool: &mut Primary)
     requires low { 0 < class }
     requires high { class ≤ CLASSES }
     requires held { IsHeld class entries.old pool.old }
@@ -247,7 +247,7 @@ fn add(entries: &mut PerClass, class: u8, block: u64, pool: &mut Pool)
 }
 
 /// Gives the oldest half of full entries to the pool.
-fn make_room(entries: &mut PerClass, class: u8, pool: &mut Pool)
+fn make_room(entries: &mut PerClass, class: u8, pool: &mut Primary)
     requires low { 0 < class }
     requires high { class ≤ CLASSES }
     requires held { IsHeld class entries.old pool.old }

@@ -4,10 +4,10 @@ ghost use Rattle.std.specs.Prelude.{◌≡◌, ◌<◌, ◌≤◌, ◌==◌, ◌
 ghost use Rattle.std.specs.Prelude.{length, take, drop, IfSome};
 ghost use Rattle.scudo_primary.specs.Pools.{stack_of};
 ghost use Rattle.scudo_cache.specs.Caches.{newest, without_newest, stack_over};
-ghost use Rattle.scudo_cache.specs.Caches.{class_with, refilled, IsHeld};
+ghost use Rattle.scudo_cache.specs.Caches.{class_with, after_refill, IsHeld};
 
 use scudo_header::CLASSES;
-use scudo_primary::{MAX_COUNT, Pool};
+use scudo_primary::{MAX_COUNT, Primary};
 use std::marker::Model;
 
 /// The blocks of one class that are at hand, the oldest first (Scudo, `local_cache.h`, `PerClass`).
@@ -95,11 +95,11 @@ impl PerClass {
     }
 
     /// Where there is no block, takes the pool's top batch.
-    pub(crate) fn refill(&mut self, class: u8, pool: &mut Pool)
+    pub(crate) fn refill(&mut self, class: u8, pool: &mut Primary)
         requires low { 0 < class }
         requires high { class ≤ CLASSES }
         requires empty { length self.old ≡ 0 }
-        ensures state { class_with self.new pool.new ≡ refilled class self.old pool.old }
+        ensures state { class_with self.new pool.new ≡ after_refill class self.old pool.old }
         ensures held { IsHeld class self.new pool.new }
         ensures none { self.new ≡ [] → stack_of pool.new class ≡ [] }
         ensures stack { stack_over self.new pool.new class ≡ stack_over self.old pool.old class }

@@ -13,7 +13,7 @@ use Rattle.scudo_header.specs.declared.headers.State.{State}
 use Rattle.scudo_header.specs.declared.headers.State.TheVariants.{Available, Allocated, Quarantined, Reserved}
 use Rattle.scudo_header.specs.declared.headers.Origin.{Origin}
 use Rattle.scudo_header.specs.declared.headers.Origin.TheVariants.{Malloc, New, NewArray, Memalign}
-use Rattle.scudo_header.specs.Headers.{state_number, state_of, origin_number, origin_of, header_word, header_of, with_byte, checksum_of, packed, unpacked}
+use Rattle.scudo_header.specs.Headers.{state_number, state_of, origin_number, origin_of, header_word, header_of, with_byte, checksum_of, packed_header, unpacked_header}
 use Rattle.scudo_header.proofs.ClassLemmas.{below-true}
 
 -- ---- the checksum
@@ -130,10 +130,10 @@ header_back h k a = λ i. record {
 }
 
 -- what is packed is unpacked
-pub unpacked-packed : (cookie pointer : ℕ) (h : Header) → h.class_id < 2 ^ 8 → h.size_or_unused_bytes < 2 ^ 20 → h.offset < 2 ^ 16
-    → unpacked cookie pointer (packed cookie pointer h) ≡ Some h
-unfolding unpacked packed
-unpacked-packed cookie pointer h c z f =
+pub unpacked-header-packed-header : (cookie pointer : ℕ) (h : Header) → h.class_id < 2 ^ 8 → h.size_or_unused_bytes < 2 ^ 20 → h.offset < 2 ^ 16
+    → unpacked_header cookie pointer (packed_header cookie pointer h) ≡ Some h
+unfolding unpacked_header packed_header
+unpacked-header-packed-header cookie pointer h c z f =
     let w = header_word h in
     let k = checksum_of cookie pointer w in
     let a : AreFields h.class_id (state_number h.state) (origin_number h.origin) h.size_or_unused_bytes h.offset =
@@ -146,8 +146,8 @@ sum_fits : (w s k : ℕ) → s ≡ k → k < 2 ^ 16 → w + s * 281474976710656 
 sum_fits w s k e l = omega arith
 
 -- the word as the code adds it up
-pub packed_sum : (cookie pointer w s k : ℕ) (h : Header) → w ≡ header_word h → w < 2 ^ 48 → k ≡ checksum_of cookie pointer w → s ≡ k → w + s * 281474976710656 % 18446744073709551616 ≡ packed cookie pointer h
-unfolding packed
+pub packed_sum : (cookie pointer w s k : ℕ) (h : Header) → w ≡ header_word h → w < 2 ^ 48 → k ≡ checksum_of cookie pointer w → s ≡ k → w + s * 281474976710656 % 18446744073709551616 ≡ packed_header cookie pointer h
+unfolding packed_header
 packed_sum cookie pointer w s k h e l d f =
     let b : k < 2 ^ 16 = subst (λ x. x < 2 ^ 16) (sym d) (checksum_of-small cookie pointer w) in
     let m : w + s * 281474976710656 % 18446744073709551616 ≡ w + 2 ^ 48 * k = sum_fits w s k f b in
@@ -180,9 +180,9 @@ mod_twice : (w : ℕ) → w % 2 ^ 48 % 2 ^ 48 ≡ w % 2 ^ 48
 mod_twice w = omega arith
 
 -- what is unpacked was packed
-pub packed-header_of : (cookie pointer w : ℕ) (h : Header) → h ≡ header_of w → w / 2 ^ 48 ≡ checksum_of cookie pointer w → packed cookie pointer h ≡ w
-unfolding packed
-packed-header_of cookie pointer w h e k =
+pub packed-header-header_of : (cookie pointer w : ℕ) (h : Header) → h ≡ header_of w → w / 2 ^ 48 ≡ checksum_of cookie pointer w → packed_header cookie pointer h ≡ w
+unfolding packed_header
+packed-header-header_of cookie pointer w h e k =
     let v : header_word h ≡ w % 2 ^ 48 = ap header_word e ∙ header_word-of w in
     let l : checksum_of cookie pointer (w % 2 ^ 48) ≡ checksum_of cookie pointer w = checksum_of-low cookie pointer (w % 2 ^ 48) w (mod_twice w) in
     (λ i. v i + 2 ^ 48 * checksum_of cookie pointer (v i)) ∙ whole w _ (l ∙ sym k)

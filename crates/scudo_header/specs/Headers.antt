@@ -45,8 +45,8 @@ checksum_of cookie pointer word =
     fold with_byte (cookie % 2 ^ 16)
     (to_le_bytes w64 (plain pointer) ++ to_le_bytes w64 (word % 2 ^ 48))
 
-unfoldable pub packed : ℕ → ℕ → Header → ℕ
-packed cookie pointer h = header_word h + 2 ^ 48 * checksum_of cookie pointer (header_word h)
+unfoldable pub packed_header : ℕ → ℕ → Header → ℕ
+packed_header cookie pointer h = header_word h + 2 ^ 48 * checksum_of cookie pointer (header_word h)
 
 -- ---- unpacking
 
@@ -69,6 +69,6 @@ header_of word = record {
   offset = field_of 32 16 word;
 }
 
-unfoldable pub unpacked : ℕ → ℕ → ℕ → Option Header
-unpacked cookie pointer word =
+unfoldable pub unpacked_header : ℕ → ℕ → ℕ → Option Header
+unpacked_header cookie pointer word =
     if field_of 48 16 word == checksum_of cookie pointer word then Some (header_of word) else None

@@ -4,7 +4,8 @@ ghost use Rattle.std.specs.Prelude.{◌≡◌, ◌≢◌, ◌↔◌, ◌<◌, �
 ghost use Rattle.std.specs.Int.{to_le_bytes, w32, w64};
 ghost use Rattle.std.specs.List.{fold};
 ghost use Rattle.scudo_header.specs.Headers.{state_number, state_of, origin_number, origin_of};
-ghost use Rattle.scudo_header.specs.Headers.{header_word, with_byte, checksum_of, packed, unpacked};
+ghost use Rattle.scudo_header.specs.Headers.{header_word, with_byte, checksum_of, packed_header};
+ghost use Rattle.scudo_header.specs.Headers.{unpacked_header};
 
 use a64_bits::plain;
 
@@ -123,7 +124,7 @@ fn add_half(start: u16, half: u64) -> u16
     add_byte(third, half >> 24)
 }
 
-/// The same for an upper half, which is mostly 0: four zero bytes rotate the sum by four bits.
+/// The sum over an upper half, which is mostly 0: four zero bytes rotate the sum by four bits.
 #[inline(always)]
 fn add_upper_half(start: u16, half: u64) -> u16
     requires { half < 2 ^ 32 }
@@ -175,12 +176,12 @@ fn unchecked_word(header: &Header) -> u64
 
 /// The word of a header with its checksum, for the chunk at an address. The size or unused bytes
 /// are below 2^20.
-#[tactic(auto, unfolding(crate::specs::Headers::packed))]
+#[tactic(auto, unfolding(crate::specs::Headers::packed_header))]
 #[inline(always)]
 pub fn pack(cookie: u32, pointer: u64, header: &Header) -> u64
     requires { header.now.size_or_unused_bytes < 2 ^ 20 }
-    ensures word { result ≡ packed cookie pointer header.now }
-    ensures back { unpacked cookie pointer result ≡ Some header.now }
+    ensures word { result ≡ packed_header cookie pointer header.now }
+    ensures back { unpacked_header cookie pointer result ≡ Some header.now }
 {
     let word = unchecked_word(header);
     word + (u64::from(checksum(cookie, pointer, word)) << 48)
@@ -188,12 +189,12 @@ pub fn pack(cookie: u32, pointer: u64, header: &Header) -> u64
 
 /// The header of a word, for the chunk at an address. There is none exactly where the word's
 /// checksum is not that of the rest of it.
-#[tactic(auto, unfolding(crate::specs::Headers::unpacked))]
+#[tactic(auto, unfolding(crate::specs::Headers::unpacked_header))]
 #[inline(always)]
 pub fn unpack(cookie: u32, pointer: u64, word: u64) -> Option<Header>
-    ensures header { result ≡ unpacked cookie pointer word }
+    ensures header { result ≡ unpacked_header cookie pointer word }
     ensures none { IsNone result ↔ (word / 2 ^ 48 ≢ checksum_of cookie pointer word) }
-    ensures some { IfSome result (λ header. packed cookie pointer header ≡ word) }
+    ensures some { IfSome result (λ header. packed_header cookie pointer header ≡ word) }
 {
     if (word >> 48) as u16 != checksum(cookie, pointer, word) {
         return None;

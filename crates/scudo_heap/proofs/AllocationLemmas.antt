@@ -7,12 +7,12 @@ use Rattle.scudo_header.specs.declared.headers.Origin.{Origin}
 use Rattle.scudo_header.proofs.ClassLemmas.{below-true}
 use Rattle.scudo_heap.specs.declared.limits.TheConstants.{MAX_REQUEST}
 use Rattle.scudo_heap.specs.Placing.{World}
-use Rattle.scudo_heap.specs.Allocation.{nothing, is_alignment, allocated}
+use Rattle.scudo_heap.specs.Allocation.{no_chunk, is_alignment, after_allocate}
 use Rattle.scudo_heap.specs.Inner.{IsAlign}
 
-pub allocated-over : (w : World) (o : Origin) (a n : ℕ) → MAX_REQUEST < n → nothing w ≡ allocated w o a n
-unfolding allocated
-allocated-over w o a n l = let t : nat_le n MAX_REQUEST ≡ false = grind (arith, nat_tests) in sym (cond-false _ _ _ t)
+pub after-allocate-over : (w : World) (o : Origin) (a n : ℕ) → MAX_REQUEST < n → no_chunk w ≡ after_allocate w o a n
+unfolding after_allocate
+after-allocate-over w o a n l = let t : nat_le n MAX_REQUEST ≡ false = grind (arith, nat_tests) in sym (cond-false _ _ _ t)
 
 -- a power of two up to the twelfth
 pub record IsPower (n k : ℕ) : Type 0 where

@@ -2,7 +2,7 @@
 use Rattle.std.proofs.Common.{◌≡◌, ◌≢◌, ℕ, suc, zero, ◌+◌, ◌-◌, ◌*◌, ◌/◌, ◌%◌, ◌^◌, ◌<◌, ◌≤◌, Bool, true, false, cond, Option, Some, None, set, refl, sym, ap, ◌∙◌, inl, inr, arith}
 use Rattle.std.proofs.lemmas.Bool.{cases_eq}
 use Rattle.std.proofs.lemmas.List.{set-set, set_comm}
-use Rattle.mte_tags.specs.Memory.{Memory, Page, page_at, zeroed, with_granule_in, with_granule, with_granules}
+use Rattle.mte_tags.specs.Memory.{Memory, Page, page_at, with_zero_granule, with_granule_cases, with_granule, with_granules}
 use Rattle.mte_tags.proofs.Pages.{page_at-with_page_same, page_at-with_page_other, rest_of, same_memory}
 use Rattle.mte_tags.proofs.StateLaws.{state-with_granules, limit-with_granules}
 use Rattle.mte_tags.proofs.GranuleLists.{with_granules-append}
@@ -10,13 +10,13 @@ use Rattle.mte_tags.proofs.GranuleLists.{with_granules-append}
 -- ---- a page with a granule changed
 
 abbrev page_with : Page → ℕ → ℕ → Bool → Page
-page_with p g t z = record { attrs = p.attrs; bytes = cond z (zeroed p.bytes g) p.bytes; tags = set p.tags g t }
+page_with p g t z = record { attrs = p.attrs; bytes = cond z (with_zero_granule p.bytes g) p.bytes; tags = set p.tags g t }
 
 abbrev granule_in : ℕ → ℕ → Bool → Option Page → Option Page
 granule_in g t z None = None
 granule_in g t z (Some p) = Some (page_with p g t z)
 
-here_in : (m : Memory) (q g t : ℕ) (z : Bool) (p : Option Page) → page_at m q ≡ p → page_at (with_granule_in m q g t z p) q ≡ granule_in g t z p
+here_in : (m : Memory) (q g t : ℕ) (z : Bool) (p : Option Page) → page_at m q ≡ p → page_at (with_granule_cases m q g t z p) q ≡ granule_in g t z p
 here_in m q g t z None e = e
 here_in m q g t z (Some p) e = page_at-with_page_same m q (page_with p g t z)
 
@@ -24,7 +24,7 @@ here : (m : Memory) (a t : ℕ) (z : Bool) (q : ℕ) → q ≡ a / 4096 → page
 unfolding with_granule
 here m a t z q e = rw e (here_in m (a / 4096) (a % 4096 / 16) t z (page_at m (a / 4096)) refl)
 
-elsewhere_in : (m : Memory) (q g t : ℕ) (z : Bool) (p : Option Page) (r : ℕ) → r ≢ q → page_at (with_granule_in m q g t z p) r ≡ page_at m r
+elsewhere_in : (m : Memory) (q g t : ℕ) (z : Bool) (p : Option Page) (r : ℕ) → r ≢ q → page_at (with_granule_cases m q g t z p) r ≡ page_at m r
 elsewhere_in m q g t z None r n = refl
 elsewhere_in m q g t z (Some p) r n = page_at-with_page_other m q (page_with p g t z) r n
 
@@ -40,11 +40,11 @@ rest m a t z = λ i. (limit-with_granules 1 m a t z i, state-with_granules 1 m a
 
 twice_in : (g t : ℕ) (z : Bool) (p : Option Page) → granule_in g t z (granule_in g 0 false p) ≡ granule_in g t z p
 twice_in g t z None = refl
-twice_in g t z (Some p) = λ i. Some (record { attrs = p.attrs; bytes = cond z (zeroed p.bytes g) p.bytes; tags = set-set p.tags g 0 t i })
+twice_in g t z (Some p) = λ i. Some (record { attrs = p.attrs; bytes = cond z (with_zero_granule p.bytes g) p.bytes; tags = set-set p.tags g 0 t i })
 
 apart_in : (g h t : ℕ) (z : Bool) (p : Option Page) → g ≢ h → granule_in h t z (granule_in g 0 false p) ≡ granule_in g 0 false (granule_in h t z p)
 apart_in g h t z None n = refl
-apart_in g h t z (Some p) n = λ i. Some (record { attrs = p.attrs; bytes = cond z (zeroed p.bytes h) p.bytes; tags = set_comm p.tags g h 0 t n i })
+apart_in g h t z (Some p) n = λ i. Some (record { attrs = p.attrs; bytes = cond z (with_zero_granule p.bytes h) p.bytes; tags = set_comm p.tags g h 0 t n i })
 
 -- a granule is changed again
 twice : (m : Memory) (a t : ℕ) (z : Bool) → with_granule (with_granule m a 0 false) a t z ≡ with_granule m a t z

@@ -15,7 +15,7 @@ use Rattle.scudo_primary.specs.Lists.{IsClass}
 use Rattle.scudo_primary.specs.Pools.{is_member}
 use Rattle.scudo_primary.proofs.ListLemmas.{member-first}
 use Rattle.scudo_secondary.specs.Mappings as secondary
-use Rattle.scudo_secondary.specs.Mappings.{MapsState, AreMappings, mapping_of, place_of, is_place, with_mapping}
+use Rattle.scudo_secondary.specs.Mappings.{SecondaryState, AreMappings, mapping_of, place_of, is_place, with_mapping}
 use Rattle.scudo_secondary.specs.declared.mappings.Mapping.{Mapping}
 use Rattle.scudo_secondary.proofs.PlaceLemmas.{place_of-fits}
 use Rattle.scudo_heap.specs.declared.limits.TheConstants.{MAX_REQUEST}
@@ -24,22 +24,22 @@ use Rattle.scudo_heap.specs.declared.chunk.Chunk.{Chunk}
 use Rattle.scudo_heap.specs.declared.chunk.Chunk.TheVariants.{Small, Large}
 use Rattle.scudo_heap.specs.declared.chunk.Found.{Found}
 use Rattle.scudo_heap.specs.declared.chunk.Found.TheVariants.{InBlock, InPages}
-use Rattle.scudo_heap.specs.Stacks.{StackState, AreSound, pages_of, stack_of, popped}
+use Rattle.scudo_heap.specs.Stacks.{StackState, AreSound, pages_of, stack_of, after_pop}
 use Rattle.scudo_heap.specs.Heaps.{HeapState, heap_of, with_more}
 use Rattle.scudo_heap.specs.Chunks.{block_end}
-use Rattle.scudo_heap.specs.Placing.{World, more_pages, pages_for, grown, placed}
+use Rattle.scudo_heap.specs.Placing.{World, more_pages, pages_for, after_grow, after_place}
 use Rattle.scudo_heap.specs.Large.{mapping_for, large_placed}
-use Rattle.scudo_heap.specs.Allocation.{Made, made_of, nothing, place_in, is_empty, ready, taken, in_class, made_large, mapped_at, in_mapping, asked, need_of, made_in, allocated, malloc_of}
+use Rattle.scudo_heap.specs.Allocation.{AllocationResult, allocation_of, no_chunk, place_in, is_empty, with_free_block, after_take, after_class_allocation, after_map_chunk, map_chunk_cases, after_large_allocation, nonzero_size, need_of, allocate_cases, after_allocate, after_malloc}
 use Rattle.scudo_heap.specs.Checks.{size_found}
-use Rattle.scudo_heap.specs.Realloc.{user_of, user_in}
-use Rattle.scudo_heap.specs.Served.{IsServed, IsOpen, heap_page, is_inside}
+use Rattle.scudo_heap.specs.Realloc.{user_of, user_of_chunk}
+use Rattle.scudo_heap.specs.Served.{HeapOwnsItsPages, IsOpen, heap_page, is_inside}
 use Rattle.scudo_heap.specs.Inner.{AreApart, IsFound, IsAlign}
 use Rattle.scudo_heap.proofs.CheckLemmas.{mapping-bounds}
 use Rattle.scudo_heap.proofs.MapLemmas.{all-apart, inside-in, inside-more, is-at}
 use Rattle.scudo_heap.proofs.ClassLemmas.{fits-in}
 use Rattle.scudo_heap.proofs.LargeLemmas.{is-large}
-use Rattle.scudo_heap.proofs.ServedLemmas.{same-popped, block-open, mapping-open}
-use Rattle.scudo_heap.proofs.KeptLemmas.{KeepsUsed, keeps-same, keeps-then, keeps-popped, keeps-carved, carved-top, in-region, blocks-apart, mapping-apart, mapping-kept}
+use Rattle.scudo_heap.proofs.ServedLemmas.{same-after-pop, block-open, mapping-open}
+use Rattle.scudo_heap.proofs.KeptLemmas.{KeepsUsed, keeps-same, keeps-then, keeps-after-pop, keeps-after-carve, after-carve-top, in-region, blocks-apart, mapping-apart, mapping-kept}
 
 -- ---- where chunks lie
 
@@ -55,8 +55,8 @@ stop_of (InPages m header) = secondary.end_of m
 -- found, and which is still found
 pub record IsBeside (m : Memory) (h : HeapState) (f : Found) (x : Chunk) (n : ℕ) : Type 0 where
   pub found : IsFound h f
-  pub bytes : IsOpen m (user_in x) (user_in x + n)
-  pub apart : (stop_of f ≤ user_in x) ⊎ (user_in x + n ≤ start_of f)
+  pub bytes : IsOpen m (user_of_chunk x) (user_of_chunk x + n)
+  pub apart : (stop_of f ≤ user_of_chunk x) ⊎ (user_of_chunk x + n ≤ start_of f)
 
 pub open-in : (m : Memory) (lo hi a b : ℕ) → IsOpen m lo hi → lo ≤ a → b ≤ hi → IsOpen m a b
 open-in m lo hi a b o l h = let below = o.below in record { pages = λ x p q. o.pages x (omega arith) (omega arith); below = omega arith }
@@ -67,7 +67,7 @@ pub record IsWithin (m : Memory) (f : Found) (n : ℕ) : Type 0 where
   pub first : start_of f ≤ user_of f
   pub last : user_of f + n ≤ stop_of f
 
-pub found-within : (m : Memory) (h : HeapState) (f : Found) (n : ℕ) → IsServed m h → AreMappings h.maps.mappings → IsFound h f → n ≤ size_found f → IsWithin m f n
+pub found-within : (m : Memory) (h : HeapState) (f : Found) (n : ℕ) → HeapOwnsItsPages m h → AreMappings h.maps.mappings → IsFound h f → n ≤ size_found f → IsWithin m f n
 found-within m h (InBlock p header) n v k e l =
     let q = e.place in
     let above = q.above in
@@ -89,7 +89,7 @@ found-within m h (InPages n header) k v a e l =
       last = omega arith;
     }
 
-pub beside-apart : (m m' : Memory) (h : HeapState) (f : Found) (x : Chunk) (n k j : ℕ) → IsBeside m h f x n → IsWithin m' f k → j ≤ n → j ≤ k → AreApart (user_of f) (user_in x) j
+pub beside-apart : (m m' : Memory) (h : HeapState) (f : Found) (x : Chunk) (n k j : ℕ) → IsBeside m h f x n → IsWithin m' f k → j ≤ n → j ≤ k → AreApart (user_of f) (user_of_chunk x) j
 beside-apart m m' h f x n k j b w l u =
     let first = w.first in
     let last = w.last in
@@ -102,32 +102,32 @@ beside-apart m m' h f x n k j b w l u =
 
 record IsTaken (x : World) (r : World) (c a z : ℕ) (ch : Chunk) (b : ℕ) (more : List ℕ) : Type 0 where
   stack : stack_of r.heap.stacks c ≡ b ∷ more
-  user : user_in ch ≡ (place_in c b a z).user
+  user : user_of_chunk ch ≡ (place_in c b a z).user
   small : (t : ℕ) × (ch ≡ Small (place_in c b a z) t)
-  heap : x.heap ≡ heap_of r.heap.cookie (popped r.heap.stacks c) r.heap.maps
+  heap : x.heap ≡ heap_of r.heap.cookie (after_pop r.heap.stacks c) r.heap.maps
 
 some-of : (x y : Chunk) → Some x ≡ Some y → x ≡ y
 some-of x y e = cc
 
-heap-placed : (r : World) (o : Origin) (p : Place) → (placed r o p).heap ≡ heap_of r.heap.cookie (popped r.heap.stacks p.class) r.heap.maps
-unfolding placed
-heap-placed r o p = refl
+heap-after-place : (r : World) (o : Origin) (p : Place) → (after_place r o p).heap ≡ heap_of r.heap.cookie (after_pop r.heap.stacks p.class) r.heap.maps
+unfolding after_place
+heap-after-place r o p = refl
 
-taken-inside : (before r x : World) (o : Origin) (a z c : ℕ) (ch : Chunk) (s : List ℕ) → stack_of r.heap.stacks c ≡ s → made_of x (Some ch) ≡ taken before r o a z c s
+after-take-inside : (before r x : World) (o : Origin) (a z c : ℕ) (ch : Chunk) (s : List ℕ) → stack_of r.heap.stacks c ≡ s → allocation_of x (Some ch) ≡ after_take before r o a z c s
     → (b : ℕ) × ((more : List ℕ) × IsTaken x r c a z ch b more)
-taken-inside before r x o a z c ch [] es e = let f : Some ch ≡ None = ap (λ (m : Made). m.chunk) e in cc
-taken-inside before r x o a z c ch (b ∷ more) es e =
+after-take-inside before r x o a z c ch [] es e = let f : Some ch ≡ None = ap (λ (m : AllocationResult). m.chunk) e in cc
+after-take-inside before r x o a z c ch (b ∷ more) es e =
     let p = place_in c b a z in
-    let w : x ≡ placed r o p = ap (λ (m : Made). m.world) e in
-    let s : ch ≡ Small p (placed r o p).rgsr.tag = some-of _ _ (ap (λ (m : Made). m.chunk) e) in (
+    let w : x ≡ after_place r o p = ap (λ (m : AllocationResult). m.world) e in
+    let s : ch ≡ Small p (after_place r o p).rgsr.tag = some-of _ _ (ap (λ (m : AllocationResult). m.chunk) e) in (
       b,
       (
         more,
         record {
           stack = es;
-          user = ap user_in s;
-          small = ((placed r o p).rgsr.tag, s);
-          heap = ap (λ (t : World). t.heap) w ∙ heap-placed r o p;
+          user = ap user_of_chunk s;
+          small = ((after_place r o p).rgsr.tag, s);
+          heap = ap (λ (t : World). t.heap) w ∙ heap-after-place r o p;
         },
       ),
     )
@@ -149,24 +149,24 @@ and-left : (a b : Bool) → (a && b) ≡ true → a ≡ true
 and-left true b h = refl
 and-left false b h = h
 
-is-grown : (w : World) (c : ℕ) → IsClass c → stack_of w.heap.stacks c ≡ [] → IsReady w (grown w c) c
-unfolding grown
-is-grown w c k z = record {
-  keeps = keeps-carved w.heap.stacks c (more_pages c) k;
+is-after-grow : (w : World) (c : ℕ) → IsClass c → stack_of w.heap.stacks c ≡ [] → IsReady w (after_grow w c) c
+unfolding after_grow
+is-after-grow w c k z = record {
+  keeps = keeps-after-carve w.heap.stacks c (more_pages c) k;
   maps = refl;
-  top = λ b more e. carved-top w.heap.stacks c (more_pages c) b more k z e;
+  top = λ b more e. after-carve-top w.heap.stacks c (more_pages c) b more k z e;
 }
 
-pub is-ready : (w : World) (c : ℕ) → AreSound w.heap.stacks → IsClass c → IsReady w (ready w c) c
-unfolding ready
-is-ready w c s k =
-    elim (is_empty (stack_of w.heap.stacks c) && nat_le (more_pages c) (pages_left w.memory)) as (λ b. (is_empty (stack_of w.heap.stacks c) && nat_le (more_pages c) (pages_left w.memory)) ≡ b → IsReady w (cond b (grown w c) w) c) [
-      | true ↦ λ t. is-grown w c k (empty-of _ (and-left _ _ t))
+pub is-with-free-block : (w : World) (c : ℕ) → AreSound w.heap.stacks → IsClass c → IsReady w (with_free_block w c) c
+unfolding with_free_block
+is-with-free-block w c s k =
+    elim (is_empty (stack_of w.heap.stacks c) && nat_le (more_pages c) (pages_left w.memory)) as (λ b. (is_empty (stack_of w.heap.stacks c) && nat_le (more_pages c) (pages_left w.memory)) ≡ b → IsReady w (cond b (after_grow w c) w) c) [
+      | true ↦ λ t. is-after-grow w c k (empty-of _ (and-left _ _ t))
       | false ↦ λ t. record { keeps = keeps-same w.heap.stacks; maps = refl; top = λ b more e. top-there w.heap.stacks c b more s k e }
     ] refl
 
 -- a chunk that was found, in a heap with other stacks
-found-kept : (s s' : StackState) (k : ℕ) (ms : MapsState) (f : Found) → KeepsUsed s s' → IsFound (heap_of k s ms) f → IsFound (heap_of k s' ms) f
+found-kept : (s s' : StackState) (k : ℕ) (ms : SecondaryState) (f : Found) → KeepsUsed s s' → IsFound (heap_of k s ms) f → IsFound (heap_of k s' ms) f
 found-kept s s' k ms (InBlock p header) g e =
     let q = e.place in
     let class : IsClass p.class = record { low = q.low; high = q.high } in
@@ -182,7 +182,7 @@ not-both true e f = cc
 not-both false e f = cc
 
 -- a found chunk and a block that is taken
-block-beside : (s s' : StackState) (ms : MapsState) (f : Found) (k c b : ℕ) (more : List ℕ) → IsClass c → AreMappings ms.mappings → IsFound (heap_of k s ms) f → KeepsUsed s s' → stack_of s' c ≡ b ∷ more → IsBlock c (pages_of s' c) b
+block-beside : (s s' : StackState) (ms : SecondaryState) (f : Found) (k c b : ℕ) (more : List ℕ) → IsClass c → AreMappings ms.mappings → IsFound (heap_of k s ms) f → KeepsUsed s s' → stack_of s' c ≡ b ∷ more → IsBlock c (pages_of s' c) b
     → ((e : ℕ) → 0 < e → e ≤ 44 → pages_of s' e ≤ REGION_SIZE / PAGE_SIZE) → (stop_of f ≤ b) ⊎ (b + size_of c ≤ start_of f)
 block-beside s s' ms (InBlock p header) k c b more kc a e g top h few =
     let q = e.place in
@@ -203,18 +203,18 @@ block-beside s s' ms (InPages m header) k c b more kc a e g top h few =
 pub user-above : (b a : ℕ) → 0 < a → b + 16 ≤ (b + 16 + (a - 1)) / a * a
 user-above b a p = let near : b + 16 + (a - 1) < (b + 16 + (a - 1)) / a * a + a = lt-div-mul-add p in omega arith
 
-class-beside : (w x : World) (o : Origin) (a z c : ℕ) (f : Found) (ch : Chunk) → AreSound w.heap.stacks → AreMappings w.heap.maps.mappings → IsServed x.memory x.heap → IsClass c → IsAlign a → need_of a z ≤ size_of c → IsFound w.heap f
-    → made_of x (Some ch) ≡ in_class w o a z c → IsBeside x.memory x.heap f ch z
-unfolding in_class
+class-beside : (w x : World) (o : Origin) (a z c : ℕ) (f : Found) (ch : Chunk) → AreSound w.heap.stacks → AreMappings w.heap.maps.mappings → HeapOwnsItsPages x.memory x.heap → IsClass c → IsAlign a → need_of a z ≤ size_of c → IsFound w.heap f
+    → allocation_of x (Some ch) ≡ after_class_allocation w o a z c → IsBeside x.memory x.heap f ch z
+unfolding after_class_allocation
 class-beside w x o a z c f ch s ms v k al need e eq =
-    let r = ready w c in
-    let y = taken-inside w r x o a z c ch (stack_of r.heap.stacks c) refl eq in
+    let r = with_free_block w c in
+    let y = after-take-inside w r x o a z c ch (stack_of r.heap.stacks c) refl eq in
     let b = y.0 in
     let t = y.1.1 in
-    let is = is-ready w c s k in
-    let heap : x.heap ≡ heap_of r.heap.cookie (popped r.heap.stacks c) w.heap.maps = t.heap ∙ ap (heap_of r.heap.cookie (popped r.heap.stacks c)) is.maps in
-    let pages = (same-popped r.heap.stacks c).pages in
-    let stacks : x.heap.stacks ≡ popped r.heap.stacks c = ap (λ (h : HeapState). h.stacks) heap in
+    let is = is-with-free-block w c s k in
+    let heap : x.heap ≡ heap_of r.heap.cookie (after_pop r.heap.stacks c) w.heap.maps = t.heap ∙ ap (heap_of r.heap.cookie (after_pop r.heap.stacks c)) is.maps in
+    let pages = (same-after-pop r.heap.stacks c).pages in
+    let stacks : x.heap.stacks ≡ after_pop r.heap.stacks c = ap (λ (h : HeapState). h.stacks) heap in
     let same : (d : ℕ) → pages_of x.heap.stacks d ≡ pages_of r.heap.stacks d = λ d. ap (λ u. pages_of u d) stacks ∙ pages d in
     let top : IsBlock c (pages_of r.heap.stacks c) b = is.top b y.1.0 t.stack in
     let fits = fits-in c (pages_of r.heap.stacks c) b a z k top al need in
@@ -224,8 +224,8 @@ class-beside w x o a z c f ch s ms v k al need e eq =
     let user = t.user in
     let block = block-open x.memory x.heap c b v k (subst (λ n. IsBlock c n b) (sym (same c)) top) in
     record {
-      found = subst (λ h. IsFound h f) (sym heap) (found-kept w.heap.stacks (popped r.heap.stacks c) r.heap.cookie w.heap.maps f (keeps-then w.heap.stacks r.heap.stacks (popped r.heap.stacks c) is.keeps (keeps-popped r.heap.stacks c)) e);
-      bytes = open-in x.memory b (b + size_of c) (user_in ch) (user_in ch + z) block (omega arith) (omega arith);
+      found = subst (λ h. IsFound h f) (sym heap) (found-kept w.heap.stacks (after_pop r.heap.stacks c) r.heap.cookie w.heap.maps f (keeps-then w.heap.stacks r.heap.stacks (after_pop r.heap.stacks c) is.keeps (keeps-after-pop r.heap.stacks c)) e);
+      bytes = open-in x.memory b (b + size_of c) (user_of_chunk ch) (user_of_chunk ch + z) block (omega arith) (omega arith);
       apart = elim (block-beside w.heap.stacks r.heap.stacks w.heap.maps f w.heap.cookie c b y.1.0 k ms e is.keeps t.stack top (λ d lo hi. subst (λ n. n ≤ REGION_SIZE / PAGE_SIZE) (same d) (v.few d lo hi))) [
         | inl l ↦ inl (omega arith)
         | inr l ↦ inr (omega arith)
@@ -246,31 +246,31 @@ heap-mapped w o m z = refl
 pub place-fits : (ms : List Mapping) (n start : ℕ) → place_of ms n ≡ Some start → is_place ms n start ≡ true
 place-fits ms n start e = place_of-fits ms n (Some start) (sym e)
 
-mapped-inside : (w x : World) (o : Origin) (a z n : ℕ) (ch : Chunk) (p : Option ℕ) → place_of w.heap.maps.mappings n ≡ p → made_of x (Some ch) ≡ mapped_at w o a z n p → (start : ℕ) × IsMapped w x a z n ch start
-mapped-inside w x o a z n ch None ep e = let f : Some ch ≡ None = ap (λ (m : Made). m.chunk) e in cc
+mapped-inside : (w x : World) (o : Origin) (a z n : ℕ) (ch : Chunk) (p : Option ℕ) → place_of w.heap.maps.mappings n ≡ p → allocation_of x (Some ch) ≡ map_chunk_cases w o a z n p → (start : ℕ) × IsMapped w x a z n ch start
+mapped-inside w x o a z n ch None ep e = let f : Some ch ≡ None = ap (λ (m : AllocationResult). m.chunk) e in cc
 mapped-inside w x o a z n ch (Some start) ep e =
     let m = mapping_for start n a z in
-    elim (nat_le n (pages_left w.memory)) as (λ b. made_of x (Some ch) ≡ cond b (made_large w o z m) (nothing w) → (start : ℕ) × IsMapped w x a z n ch start) [
+    elim (nat_le n (pages_left w.memory)) as (λ b. allocation_of x (Some ch) ≡ cond b (after_map_chunk w o z m) (no_chunk w) → (start : ℕ) × IsMapped w x a z n ch start) [
       | true ↦ λ f. (
         start,
         record {
           place = place-fits w.heap.maps.mappings n start ep;
-          chunk = some-of _ _ (ap (λ (m : Made). m.chunk) f);
-          heap = ap (λ (t : Made). t.world.heap) f ∙ heap-mapped w o m z;
+          chunk = some-of _ _ (ap (λ (m : AllocationResult). m.chunk) f);
+          heap = ap (λ (t : AllocationResult). t.world.heap) f ∙ heap-mapped w o m z;
         },
       )
-      | false ↦ λ f. (let g : Some ch ≡ None = ap (λ (m : Made). m.chunk) f in cc)
+      | false ↦ λ f. (let g : Some ch ≡ None = ap (λ (m : AllocationResult). m.chunk) f in cc)
     ] e
 
-more-mappings : (ms : MapsState) (m : Mapping) → (with_more ms m).mappings ≡ with_mapping ms.mappings m
+more-mappings : (ms : SecondaryState) (m : Mapping) → (with_more ms m).mappings ≡ with_mapping ms.mappings m
 unfolding with_more
 more-mappings ms m = refl
 
 -- a found chunk and pages that are mapped
-pages-found : (s : StackState) (ms : MapsState) (f : Found) (k : ℕ) (m : Mapping) → AreMappings ms.mappings → is_place ms.mappings m.pages m.start ≡ true → m.start ≤ m.user → m.user < secondary.end_of m → IsFound (heap_of k s ms) f
+pages-check-pointer : (s : StackState) (ms : SecondaryState) (f : Found) (k : ℕ) (m : Mapping) → AreMappings ms.mappings → is_place ms.mappings m.pages m.start ≡ true → m.start ≤ m.user → m.user < secondary.end_of m → IsFound (heap_of k s ms) f
     → IsFound (heap_of k s (with_more ms m)) f
-pages-found s ms (InBlock p header) k m a place first last e = e
-pages-found s ms (InPages n header) k m a place first last e =
+pages-check-pointer s ms (InBlock p header) k m a place first last e = e
+pages-check-pointer s ms (InPages n header) k m a place first last e =
     let b = mapping-bounds ms.mappings n.user n a e in
     let low = b.first in
     let high = b.below in
@@ -280,7 +280,7 @@ pages-found s ms (InPages n header) k m a place first last e =
     ] in
     e ∙ sym (ap (λ t. mapping_of t n.user) (more-mappings ms m) ∙ mapping-kept ms.mappings m n.user other)
 
-pages-beside : (s : StackState) (ms : MapsState) (f : Found) (k n user z : ℕ) (m : Mapping) → AreMappings ms.mappings → is_place ms.mappings m.pages m.start ≡ true → m.start ≤ user → user + z ≤ secondary.end_of m → IsFound (heap_of k s ms) f
+pages-beside : (s : StackState) (ms : SecondaryState) (f : Found) (k n user z : ℕ) (m : Mapping) → AreMappings ms.mappings → is_place ms.mappings m.pages m.start ≡ true → m.start ≤ user → user + z ≤ secondary.end_of m → IsFound (heap_of k s ms) f
     → ((e : ℕ) → 0 < e → e ≤ 44 → pages_of s e ≤ REGION_SIZE / PAGE_SIZE) → SECONDARY_START ≤ m.start → (stop_of f ≤ user) ⊎ (user + z ≤ start_of f)
 pages-beside s ms (InBlock p header) k n user z m a place first last e few high =
     let q = e.place in
@@ -294,9 +294,9 @@ pages-beside s ms (InPages j header) k n user z m a place first last e few high 
       | inr o ↦ inr (omega arith)
     ]
 
-mapping-beside : (w x : World) (o : Origin) (a z n : ℕ) (f : Found) (ch : Chunk) → AreMappings w.heap.maps.mappings → IsServed x.memory x.heap → IsAlign a → 0 < z → z ≤ 2 ^ 20 → n ≤ 4096 → need_of a z ≤ PAGE_SIZE * n → IsFound w.heap f
-    → made_of x (Some ch) ≡ in_mapping w o a z n → IsBeside x.memory x.heap f ch z
-unfolding in_mapping
+mapping-beside : (w x : World) (o : Origin) (a z n : ℕ) (f : Found) (ch : Chunk) → AreMappings w.heap.maps.mappings → HeapOwnsItsPages x.memory x.heap → IsAlign a → 0 < z → z ≤ 2 ^ 20 → n ≤ 4096 → need_of a z ≤ PAGE_SIZE * n → IsFound w.heap f
+    → allocation_of x (Some ch) ≡ after_large_allocation w o a z n → IsBeside x.memory x.heap f ch z
+unfolding after_large_allocation
 mapping-beside w x o a z n f ch ms v al some small few need e eq =
     let y = mapped-inside w x o a z n ch (place_of w.heap.maps.mappings n) refl eq in
     let start = y.0 in
@@ -309,18 +309,18 @@ mapping-beside w x o a z n f ch ms v al some small few need e eq =
     let above = large.above in
     let within = large.within in
     let below = large.below in
-    let user : user_in ch ≡ m.user = ap user_in t.chunk in
+    let user : user_of_chunk ch ≡ m.user = ap user_of_chunk t.chunk in
     let stacks : x.heap.stacks ≡ w.heap.stacks = ap (λ (h : HeapState). h.stacks) t.heap in
     let list : x.heap.maps.mappings ≡ with_mapping w.heap.maps.mappings m = ap (λ (h : HeapState). h.maps.mappings) t.heap ∙ more-mappings w.heap.maps m in
     let inside : (i : ℕ) → m.start ≤ i → i < secondary.end_of m → list_any (is_inside i) x.heap.maps.mappings ≡ true = λ i l h.
     ap (list_any (is_inside i)) list ∙ inside-more w.heap.maps.mappings m i ∙ ap (λ b. b || list_any (is_inside i) w.heap.maps.mappings) (inside-in i m l h) in
     record {
-      found = subst (λ h. IsFound h f) (sym t.heap) (pages-found w.heap.stacks w.heap.maps f w.heap.cookie m ms t.place (omega arith) below e);
+      found = subst (λ h. IsFound h f) (sym t.heap) (pages-check-pointer w.heap.stacks w.heap.maps f w.heap.cookie m ms t.place (omega arith) below e);
       bytes = record {
         pages = λ i l h. v.mappings i (omega arith) (omega arith) ∙ ap heap_page (inside i (omega arith) (omega arith));
         below = omega arith;
       };
-      apart = pages-beside w.heap.stacks w.heap.maps f w.heap.cookie n (user_in ch) z m ms t.place (omega arith) (omega arith) e
+      apart = pages-beside w.heap.stacks w.heap.maps f w.heap.cookie n (user_of_chunk ch) z m ms t.place (omega arith) (omega arith) e
           (λ d lo hi. subst (λ q. pages_of q d ≤ REGION_SIZE / PAGE_SIZE) stacks (v.few d lo hi)) (omega arith);
     }
 
@@ -345,8 +345,8 @@ pub class-enough : (need c : ℕ) → class_for need ≡ Some c → IsEnough c n
 unfolding class_for
 class-enough need c e = enough-from 44 1 need c (omega arith) (omega arith) e
 
-made-beside : (w x : World) (z : ℕ) (f : Found) (ch : Chunk) (c : Option ℕ) → AreSound w.heap.stacks → AreMappings w.heap.maps.mappings → IsServed x.memory x.heap → 0 < z → z ≤ 2 ^ 20 → IsFound w.heap f → class_for (need_of 16 z) ≡ c
-    → made_of x (Some ch) ≡ made_in w Malloc 16 z c → IsBeside x.memory x.heap f ch z
+made-beside : (w x : World) (z : ℕ) (f : Found) (ch : Chunk) (c : Option ℕ) → AreSound w.heap.stacks → AreMappings w.heap.maps.mappings → HeapOwnsItsPages x.memory x.heap → 0 < z → z ≤ 2 ^ 20 → IsFound w.heap f → class_for (need_of 16 z) ≡ c
+    → allocation_of x (Some ch) ≡ allocate_cases w Malloc 16 z c → IsBeside x.memory x.heap f ch z
 made-beside w x z f ch None s ms v some small e ec eq =
     let al : IsAlign 16 = record { least = omega arith; most = omega arith; multiple = refl } in
     mapping-beside w x Malloc 16 z (pages_for (need_of 16 z)) f ch ms v al some small (omega arith) (omega arith) e eq
@@ -355,48 +355,48 @@ made-beside w x z f ch (Some c) s ms v some small e ec eq =
     let k = class-enough (need_of 16 z) c ec in
     class-beside w x Malloc 16 z c f ch s ms v (record { low = k.low; high = k.high }) al k.holds e eq
 
-asked-some : (z : ℕ) → 0 < z → asked z ≡ z
-asked-some z l = let t : (z == 0) ≡ false = grind (arith, nat_tests) in cond-false _ _ _ t
+nonzero-size-some : (z : ℕ) → 0 < z → nonzero_size z ≡ z
+nonzero-size-some z l = let t : (z == 0) ≡ false = grind (arith, nat_tests) in cond-false _ _ _ t
 
-pub malloc-beside : (w x : World) (z : ℕ) (f : Found) (ch : Chunk) → AreSound w.heap.stacks → AreMappings w.heap.maps.mappings → IsServed x.memory x.heap → 0 < z → z ≤ MAX_REQUEST → IsFound w.heap f
-    → made_of x (Some ch) ≡ malloc_of w z → IsBeside x.memory x.heap f ch z
-unfolding malloc_of allocated
+pub malloc-beside : (w x : World) (z : ℕ) (f : Found) (ch : Chunk) → AreSound w.heap.stacks → AreMappings w.heap.maps.mappings → HeapOwnsItsPages x.memory x.heap → 0 < z → z ≤ MAX_REQUEST → IsFound w.heap f
+    → allocation_of x (Some ch) ≡ after_malloc w z → IsBeside x.memory x.heap f ch z
+unfolding after_malloc after_allocate
 malloc-beside w x z f ch s ms v some small e eq =
     let t : nat_le z MAX_REQUEST ≡ true = grind (arith, nat_tests) in
     made-beside w x z f ch (class_for (need_of 16 z)) s ms v some (omega arith) e refl
-    (eq ∙ cond-true _ _ _ t ∙ ap (λ n. made_in w Malloc 16 n (class_for (need_of 16 n))) (asked-some z some))
+    (eq ∙ cond-true _ _ _ t ∙ ap (λ n. allocate_cases w Malloc 16 n (class_for (need_of 16 n))) (nonzero-size-some z some))
 
 -- ---- no chunk is made
 
-no-taken : (w r x : World) (o : Origin) (a z c : ℕ) (s : List ℕ) → made_of x None ≡ taken w r o a z c s → x ≡ w
-no-taken w r x o a z c [] e = ap (λ (m : Made). m.world) e
-no-taken w r x o a z c (b ∷ more) e = let f : None ≡ Some (Small (place_in c b a z) (placed r o (place_in c b a z)).rgsr.tag) = ap (λ (m : Made). m.chunk) e in cc
+no-after-take : (w r x : World) (o : Origin) (a z c : ℕ) (s : List ℕ) → allocation_of x None ≡ after_take w r o a z c s → x ≡ w
+no-after-take w r x o a z c [] e = ap (λ (m : AllocationResult). m.world) e
+no-after-take w r x o a z c (b ∷ more) e = let f : None ≡ Some (Small (place_in c b a z) (after_place r o (place_in c b a z)).rgsr.tag) = ap (λ (m : AllocationResult). m.chunk) e in cc
 
-no-class : (w x : World) (o : Origin) (a z c : ℕ) → made_of x None ≡ in_class w o a z c → x ≡ w
-unfolding in_class
-no-class w x o a z c e = no-taken w (ready w c) x o a z c (stack_of (ready w c).heap.stacks c) e
+no-class : (w x : World) (o : Origin) (a z c : ℕ) → allocation_of x None ≡ after_class_allocation w o a z c → x ≡ w
+unfolding after_class_allocation
+no-class w x o a z c e = no-after-take w (with_free_block w c) x o a z c (stack_of (with_free_block w c).heap.stacks c) e
 
-no-mapped : (w x : World) (o : Origin) (a z n : ℕ) (p : Option ℕ) → made_of x None ≡ mapped_at w o a z n p → x ≡ w
-no-mapped w x o a z n None e = ap (λ (m : Made). m.world) e
+no-mapped : (w x : World) (o : Origin) (a z n : ℕ) (p : Option ℕ) → allocation_of x None ≡ map_chunk_cases w o a z n p → x ≡ w
+no-mapped w x o a z n None e = ap (λ (m : AllocationResult). m.world) e
 no-mapped w x o a z n (Some start) e =
     let m = mapping_for start n a z in
-    elim (nat_le n (pages_left w.memory)) as (λ b. made_of x None ≡ cond b (made_large w o z m) (nothing w) → x ≡ w) [
-      | true ↦ λ f. (let g : None ≡ Some (Large m z) = ap (λ (m : Made). m.chunk) f in cc)
-      | false ↦ λ f. ap (λ (m : Made). m.world) f
+    elim (nat_le n (pages_left w.memory)) as (λ b. allocation_of x None ≡ cond b (after_map_chunk w o z m) (no_chunk w) → x ≡ w) [
+      | true ↦ λ f. (let g : None ≡ Some (Large m z) = ap (λ (m : AllocationResult). m.chunk) f in cc)
+      | false ↦ λ f. ap (λ (m : AllocationResult). m.world) f
     ] e
 
-no-mapping : (w x : World) (o : Origin) (a z n : ℕ) → made_of x None ≡ in_mapping w o a z n → x ≡ w
-unfolding in_mapping
+no-mapping : (w x : World) (o : Origin) (a z n : ℕ) → allocation_of x None ≡ after_large_allocation w o a z n → x ≡ w
+unfolding after_large_allocation
 no-mapping w x o a z n e = no-mapped w x o a z n (place_of w.heap.maps.mappings n) e
 
-no-made : (w x : World) (o : Origin) (a z : ℕ) (c : Option ℕ) → made_of x None ≡ made_in w o a z c → x ≡ w
+no-made : (w x : World) (o : Origin) (a z : ℕ) (c : Option ℕ) → allocation_of x None ≡ allocate_cases w o a z c → x ≡ w
 no-made w x o a z None e = no-mapping w x o a z (pages_for (need_of a z)) e
 no-made w x o a z (Some c) e = no-class w x o a z c e
 
-pub malloc-none : (w x : World) (z : ℕ) → made_of x None ≡ malloc_of w z → x ≡ w
-unfolding malloc_of allocated
+pub malloc-none : (w x : World) (z : ℕ) → allocation_of x None ≡ after_malloc w z → x ≡ w
+unfolding after_malloc after_allocate
 malloc-none w x z e =
-    elim (nat_le z MAX_REQUEST) as (λ b. made_of x None ≡ cond b (made_in w Malloc 16 (asked z) (class_for (need_of 16 (asked z)))) (nothing w) → x ≡ w) [
-      | true ↦ λ f. no-made w x Malloc 16 (asked z) (class_for (need_of 16 (asked z))) f
-      | false ↦ λ f. ap (λ (m : Made). m.world) f
+    elim (nat_le z MAX_REQUEST) as (λ b. allocation_of x None ≡ cond b (allocate_cases w Malloc 16 (nonzero_size z) (class_for (need_of 16 (nonzero_size z)))) (no_chunk w) → x ≡ w) [
+      | true ↦ λ f. no-made w x Malloc 16 (nonzero_size z) (class_for (need_of 16 (nonzero_size z))) f
+      | false ↦ λ f. ap (λ (m : AllocationResult). m.world) f
     ] e

@@ -6,7 +6,7 @@ use Rattle.std.specs.Option.{IfSome}
 use Rattle.std.specs.List.{find}
 use Rattle.a64_bits.specs.Fields.{field_of}
 use Rattle.mte_tags.specs.Memory.{Memory}
-use Rattle.scudo_header.specs.Headers.{header_of, checksum_of, unpacked}
+use Rattle.scudo_header.specs.Headers.{header_of, checksum_of, unpacked_header}
 use Rattle.scudo_header.specs.declared.headers.Header.{Header}
 use Rattle.scudo_secondary.specs.Mappings.{AreFrom, AreMappings, mapping_of, end_of}
 use Rattle.scudo_secondary.specs.declared.mappings.Mapping.{Mapping}
@@ -15,13 +15,13 @@ use Rattle.address_map.specs.declared.limits.TheConstants.{PAGE_SIZE}
 use Rattle.address_map.specs.declared.ranges.TheConstants.{SECONDARY_START, SECONDARY_END}
 use Rattle.scudo_heap.specs.declared.abort.HeapAbort.TheVariants.{Misaligned, Unmapped, InvalidState}
 use Rattle.scudo_heap.specs.Heaps.{HeapState}
-use Rattle.scudo_heap.specs.Checks.{is_mapped, is_allocated, header_at, found_chunk, found_by, found}
+use Rattle.scudo_heap.specs.Checks.{is_mapped, is_allocated, header_at, check_chunk, check_header, check_pointer}
 
 -- ---- headers
 
-pub unpacked-small : (cookie pointer word : ℕ) → IfSome (unpacked cookie pointer word) (λ h. h.size_or_unused_bytes < 2 ^ 20)
-unfolding unpacked
-unpacked-small cookie pointer word =
+pub tags-of-bytes-small : (cookie pointer word : ℕ) → IfSome (unpacked_header cookie pointer word) (λ h. h.size_or_unused_bytes < 2 ^ 20)
+unfolding unpacked_header
+tags-of-bytes-small cookie pointer word =
     elim (field_of 48 16 word == checksum_of cookie pointer word) as (λ b. IfSome (cond b (Some (header_of word)) None) (λ h. h.size_or_unused_bytes < 2 ^ 20)) [
       | true ↦ (let t : field_of 12 20 word < 2 ^ 20 = omega arith in t)
       | false ↦ tt
@@ -55,20 +55,20 @@ mapping-bounds ms user m h e = bounds-from ms (SECONDARY_START + PAGE_SIZE) user
 
 -- ---- in their order
 
-pub found-misaligned : (m : Memory) (h : HeapState) (user : ℕ) → user % 16 ≢ 0 → Err Misaligned ≡ found m h user
-unfolding found
-found-misaligned m h user n = let t : (user % 16 == 0) ≡ false = grind (arith, nat_tests) in sym (cond-false _ _ _ t)
+pub check-pointer-misaligned : (m : Memory) (h : HeapState) (user : ℕ) → user % 16 ≢ 0 → Err Misaligned ≡ check_pointer m h user
+unfolding check_pointer
+check-pointer-misaligned m h user n = let t : (user % 16 == 0) ≡ false = grind (arith, nat_tests) in sym (cond-false _ _ _ t)
 
-pub found-unmapped : (m : Memory) (h : HeapState) (user : ℕ) → user % 16 ≡ 0 → is_mapped m user ≡ false → Err Unmapped ≡ found m h user
-unfolding found
-found-unmapped m h user e n = sym (cond-true _ _ _ (eq-eqb _ _ e) ∙ cond-false _ _ _ n)
+pub check-pointer-unmapped : (m : Memory) (h : HeapState) (user : ℕ) → user % 16 ≡ 0 → is_mapped m user ≡ false → Err Unmapped ≡ check_pointer m h user
+unfolding check_pointer
+check-pointer-unmapped m h user e n = sym (cond-true _ _ _ (eq-eqb _ _ e) ∙ cond-false _ _ _ n)
 
-pub found-header : (m : Memory) (h : HeapState) (user : ℕ) (o : Option Header) → user % 16 ≡ 0 → is_mapped m user ≡ true → o ≡ header_at m h.cookie user → found_by h user o ≡ found m h user
-unfolding found
-found-header m h user o e n f = ap (found_by h user) f ∙ sym (cond-true _ _ _ (eq-eqb _ _ e) ∙ cond-true _ _ _ n)
+pub check-pointer-header : (m : Memory) (h : HeapState) (user : ℕ) (o : Option Header) → user % 16 ≡ 0 → is_mapped m user ≡ true → o ≡ header_at m h.cookie user → check_header h user o ≡ check_pointer m h user
+unfolding check_pointer
+check-pointer-header m h user o e n f = ap (check_header h user) f ∙ sym (cond-true _ _ _ (eq-eqb _ _ e) ∙ cond-true _ _ _ n)
 
-pub found-state : (h : HeapState) (user : ℕ) (header : Header) → is_allocated header.state ≡ false → Err InvalidState ≡ found_by h user (Some header)
-found-state h user header e = sym (cond-false _ _ _ e)
+pub check-pointer-state : (h : HeapState) (user : ℕ) (header : Header) → is_allocated header.state ≡ false → Err InvalidState ≡ check_header h user (Some header)
+check-pointer-state h user header e = sym (cond-false _ _ _ e)
 
-pub found-chunk : (h : HeapState) (user : ℕ) (header : Header) → is_allocated header.state ≡ true → found_chunk h.stacks h.maps.mappings user header ≡ found_by h user (Some header)
-found-chunk h user header e = sym (cond-true _ _ _ e)
+pub check-pointer-chunk : (h : HeapState) (user : ℕ) (header : Header) → is_allocated header.state ≡ true → check_chunk h.stacks h.maps.mappings user header ≡ check_header h user (Some header)
+check-pointer-chunk h user header e = sym (cond-true _ _ _ e)

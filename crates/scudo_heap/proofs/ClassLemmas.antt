@@ -12,8 +12,8 @@ use Rattle.scudo_heap.specs.declared.chunk.Place.{Place}
 use Rattle.scudo_heap.specs.declared.chunk.Chunk.{Chunk}
 use Rattle.scudo_heap.specs.Stacks.{stack_of}
 use Rattle.scudo_heap.specs.Chunks.{end_of, block_end}
-use Rattle.scudo_heap.specs.Placing.{World, more_pages, grown, placed}
-use Rattle.scudo_heap.specs.Allocation.{Made, made_of, nothing, place_in, is_empty, made_at, taken, ready, in_class, need_of}
+use Rattle.scudo_heap.specs.Placing.{World, more_pages, after_grow, after_place}
+use Rattle.scudo_heap.specs.Allocation.{AllocationResult, allocation_of, no_chunk, place_in, is_empty, allocation_at, after_take, with_free_block, after_class_allocation, need_of}
 use Rattle.scudo_heap.specs.Inner.{IsAlign}
 
 -- ---- where a chunk lies in a block
@@ -51,53 +51,53 @@ pub none-top : (s : List ℕ) → None ≡ slice_get s 0 → s ≡ []
 none-top [] e = refl
 none-top (x ∷ s) e = cc
 
-pub taken-none : (before w : World) (o : Origin) (a z c : ℕ) (s : List ℕ) → None ≡ slice_get s 0 → nothing before ≡ taken before w o a z c s
-taken-none before w o a z c [] e = refl
-taken-none before w o a z c (x ∷ s) e = cc
+pub after-take-none : (before w : World) (o : Origin) (a z c : ℕ) (s : List ℕ) → None ≡ slice_get s 0 → no_chunk before ≡ after_take before w o a z c s
+after-take-none before w o a z c [] e = refl
+after-take-none before w o a z c (x ∷ s) e = cc
 
-pub taken-some : (before w : World) (o : Origin) (a z c b : ℕ) (s : List ℕ) → Some b ≡ slice_get s 0 → made_at (place_in c b a z) (placed w o (place_in c b a z)) ≡ taken before w o a z c s
-taken-some before w o a z c b [] e = cc
-taken-some before w o a z c b (x ∷ s) e = let same : b ≡ x = cc in ap (λ t. made_at (place_in c t a z) (placed w o (place_in c t a z))) same
+pub after-take-some : (before w : World) (o : Origin) (a z c b : ℕ) (s : List ℕ) → Some b ≡ slice_get s 0 → allocation_at (place_in c b a z) (after_place w o (place_in c b a z)) ≡ after_take before w o a z c s
+after-take-some before w o a z c b [] e = cc
+after-take-some before w o a z c b (x ∷ s) e = let same : b ≡ x = cc in ap (λ t. allocation_at (place_in c t a z) (after_place w o (place_in c t a z))) same
 
 -- where something was taken, what stands for nothing does not matter
-taken-before : (before other w : World) (o : Origin) (a z c : ℕ) (s : List ℕ) → s ≢ [] → taken before w o a z c s ≡ taken other w o a z c s
-taken-before before other w o a z c [] n = absurd (n refl)
-taken-before before other w o a z c (x ∷ s) n = refl
+after-take-before : (before other w : World) (o : Origin) (a z c : ℕ) (s : List ℕ) → s ≢ [] → after_take before w o a z c s ≡ after_take other w o a z c s
+after-take-before before other w o a z c [] n = absurd (n refl)
+after-take-before before other w o a z c (x ∷ s) n = refl
 
 -- ---- the three ways through a class
 
-some-made : (w x : World) (o : Origin) (a z c : ℕ) (ch : Chunk) (s : List ℕ) → made_of x (Some ch) ≡ taken w w o a z c s → is_empty s ≡ false
-some-made w x o a z c ch [] e = let f : Some ch ≡ None = ap (λ (m : Made). m.chunk) e in cc
+some-made : (w x : World) (o : Origin) (a z c : ℕ) (ch : Chunk) (s : List ℕ) → allocation_of x (Some ch) ≡ after_take w w o a z c s → is_empty s ≡ false
+some-made w x o a z c ch [] e = let f : Some ch ≡ None = ap (λ (m : AllocationResult). m.chunk) e in cc
 some-made w x o a z c ch (b ∷ s) e = refl
 
-ready-some : (w : World) (c : ℕ) → is_empty (stack_of w.heap.stacks c) ≡ false → ready w c ≡ w
-unfolding ready
-ready-some w c e = cond-false _ _ _ (ap (λ t. t && nat_le (more_pages c) (pages_left w.memory)) e)
+with-free-block-some : (w : World) (c : ℕ) → is_empty (stack_of w.heap.stacks c) ≡ false → with_free_block w c ≡ w
+unfolding with_free_block
+with-free-block-some w c e = cond-false _ _ _ (ap (λ t. t && nat_le (more_pages c) (pages_left w.memory)) e)
 
-pub in_class-first : (w x : World) (o : Origin) (a z c : ℕ) (ch : Chunk) → made_of x (Some ch) ≡ taken w w o a z c (stack_of w.heap.stacks c) → made_of x (Some ch) ≡ in_class w o a z c
-unfolding in_class
-in_class-first w x o a z c ch e =
-    e ∙ ap (λ (r : World). taken w r o a z c (stack_of r.heap.stacks c)) (sym (ready-some w c (some-made w x o a z c ch (stack_of w.heap.stacks c) e)))
+pub after-class-allocation-first : (w x : World) (o : Origin) (a z c : ℕ) (ch : Chunk) → allocation_of x (Some ch) ≡ after_take w w o a z c (stack_of w.heap.stacks c) → allocation_of x (Some ch) ≡ after_class_allocation w o a z c
+unfolding after_class_allocation
+after-class-allocation-first w x o a z c ch e =
+    e ∙ ap (λ (r : World). after_take w r o a z c (stack_of r.heap.stacks c)) (sym (with-free-block-some w c (some-made w x o a z c ch (stack_of w.heap.stacks c) e)))
 
 empty-is : (s : List ℕ) → s ≡ [] → is_empty s ≡ true
 empty-is s e = ap is_empty e
 
-ready-refused : (w : World) (c : ℕ) → stack_of w.heap.stacks c ≡ [] → false ≡ nat_le (more_pages c) (pages_left w.memory) → ready w c ≡ w
-unfolding ready
-ready-refused w c e f = cond-false _ _ _ (ap (λ t. t && nat_le (more_pages c) (pages_left w.memory)) (empty-is _ e) ∙ sym f)
+with-free-block-refused : (w : World) (c : ℕ) → stack_of w.heap.stacks c ≡ [] → false ≡ nat_le (more_pages c) (pages_left w.memory) → with_free_block w c ≡ w
+unfolding with_free_block
+with-free-block-refused w c e f = cond-false _ _ _ (ap (λ t. t && nat_le (more_pages c) (pages_left w.memory)) (empty-is _ e) ∙ sym f)
 
-pub in_class-refused : (w : World) (o : Origin) (a z c : ℕ) → stack_of w.heap.stacks c ≡ [] → false ≡ nat_le (more_pages c) (pages_left w.memory) → nothing w ≡ in_class w o a z c
-unfolding in_class
-in_class-refused w o a z c e f =
-    ap (taken w w o a z c) (sym e) ∙ ap (λ (r : World). taken w r o a z c (stack_of r.heap.stacks c)) (sym (ready-refused w c e f))
+pub after-class-allocation-refused : (w : World) (o : Origin) (a z c : ℕ) → stack_of w.heap.stacks c ≡ [] → false ≡ nat_le (more_pages c) (pages_left w.memory) → no_chunk w ≡ after_class_allocation w o a z c
+unfolding after_class_allocation
+after-class-allocation-refused w o a z c e f =
+    ap (after_take w w o a z c) (sym e) ∙ ap (λ (r : World). after_take w r o a z c (stack_of r.heap.stacks c)) (sym (with-free-block-refused w c e f))
 
-ready-grown : (w : World) (c : ℕ) → stack_of w.heap.stacks c ≡ [] → true ≡ nat_le (more_pages c) (pages_left w.memory) → ready w c ≡ grown w c
-unfolding ready
-ready-grown w c e f = cond-true _ _ _ (ap (λ t. t && nat_le (more_pages c) (pages_left w.memory)) (empty-is _ e) ∙ sym f)
+with-free-block-after-grow : (w : World) (c : ℕ) → stack_of w.heap.stacks c ≡ [] → true ≡ nat_le (more_pages c) (pages_left w.memory) → with_free_block w c ≡ after_grow w c
+unfolding with_free_block
+with-free-block-after-grow w c e f = cond-true _ _ _ (ap (λ t. t && nat_le (more_pages c) (pages_left w.memory)) (empty-is _ e) ∙ sym f)
 
-pub in_class-grown : (w : World) (o : Origin) (a z c : ℕ) → stack_of w.heap.stacks c ≡ [] → true ≡ nat_le (more_pages c) (pages_left w.memory) → stack_of (grown w c).heap.stacks c ≢ []
-    → taken (grown w c) (grown w c) o a z c (stack_of (grown w c).heap.stacks c) ≡ in_class w o a z c
-unfolding in_class
-in_class-grown w o a z c e f n =
-    taken-before (grown w c) w (grown w c) o a z c (stack_of (grown w c).heap.stacks c) n
-    ∙ ap (λ (r : World). taken w r o a z c (stack_of r.heap.stacks c)) (sym (ready-grown w c e f))
+pub in_class-after-grow : (w : World) (o : Origin) (a z c : ℕ) → stack_of w.heap.stacks c ≡ [] → true ≡ nat_le (more_pages c) (pages_left w.memory) → stack_of (after_grow w c).heap.stacks c ≢ []
+    → after_take (after_grow w c) (after_grow w c) o a z c (stack_of (after_grow w c).heap.stacks c) ≡ after_class_allocation w o a z c
+unfolding after_class_allocation
+in_class-after-grow w o a z c e f n =
+    after-take-before (after_grow w c) w (after_grow w c) o a z c (stack_of (after_grow w c).heap.stacks c) n
+    ∙ ap (λ (r : World). after_take w r o a z c (stack_of r.heap.stacks c)) (sym (with-free-block-after-grow w c e f))

@@ -2,12 +2,12 @@
 use Rattle.std.proofs.Common.{◌≡◌, ℕ, ◌+◌, ◌%◌, ◌^◌, ◌<◌, ◌≤◌, ◌⊎◌, List, ◌++◌, length, map, false, None, refl, sym, ap, ◌∙◌, inl, inr, arith, length-append}
 use Rattle.std.proofs.lemmas.List.{map-append}
 use Rattle.mte_tags.specs.Memory.{Memory, byte_at, attrs_at, pages_left}
-use Rattle.mte_tags.specs.Accesses.{addresses, bytes_at, first_fault, read_access, read_fault, read_bytes, with_bytes, written}
+use Rattle.mte_tags.specs.Accesses.{addresses, bytes_at, first_fault, read_access, read_fault, read_bytes, with_bytes, with_bytes_at}
 use Rattle.mte_tags.proofs.AddressLists.{addresses-append, with_bytes-append, length-addresses}
 use Rattle.mte_tags.proofs.ByteLaws.{byte_at-written_other, read_bytes-same, length-read_bytes}
-use Rattle.mte_tags.proofs.PageLaws.{attrs_at-written, pages_left-written}
+use Rattle.mte_tags.proofs.PageLaws.{attrs_at-with-bytes-at, pages_left-with-bytes-at}
 use Rattle.mte_tags.proofs.ModeLaws.{access_fault-none}
-use Rattle.scudo_heap.specs.Realloc.{copied}
+use Rattle.scudo_heap.specs.Realloc.{after_copy}
 use Rattle.scudo_heap.specs.Served.{IsOpen}
 use Rattle.scudo_heap.specs.Inner.{AreApart}
 use Rattle.scudo_heap.proofs.OpenLemmas.{addresses_open}
@@ -20,8 +20,8 @@ read_open m a n k e o =
     access_fault-none m (read_access a false) (addresses (a % 2 ^ 56) k)
     (ap (λ j. first_fault m (read_access a false) (addresses j k)) (sym same) ∙ addresses_open k m (read_access a false) a (a + n) a o (omega arith) (omega arith) refl refl)
 
-pub open-written : (m m' : Memory) (lo hi a b : ℕ) → ((q : ℕ) → attrs_at m' q ≡ attrs_at m q) → IsOpen m lo hi → lo ≤ a → b ≤ hi → IsOpen m' a b
-open-written m m' lo hi a b e o l h =
+pub open-with-bytes-at : (m m' : Memory) (lo hi a b : ℕ) → ((q : ℕ) → attrs_at m' q ≡ attrs_at m q) → IsOpen m lo hi → lo ≤ a → b ≤ hi → IsOpen m' a b
+open-with-bytes-at m m' lo hi a b e o l h =
     let below = o.below in
     record { pages = λ x p q. e _ ∙ o.pages x (omega arith) (omega arith); below = omega arith }
 
@@ -34,9 +34,9 @@ read-append m a k n =
     ∙ map-append (byte_at m) (addresses (a % 2 ^ 56) k) (addresses ((a % 2 ^ 56 + k) % 2 ^ 56) n)
     ∙ ap (λ b. map (byte_at m) (addresses (a % 2 ^ 56) k) ++ map (byte_at m) (addresses b n)) next
 
-written-append : (m : Memory) (a : ℕ) (bs cs : List ℕ) → written (written m a bs) (a + length bs) cs ≡ written m a (bs ++ cs)
-unfolding written
-written-append m a bs cs =
+with-bytes-at-append : (m : Memory) (a : ℕ) (bs cs : List ℕ) → with_bytes_at (with_bytes_at m a bs) (a + length bs) cs ≡ with_bytes_at m a (bs ++ cs)
+unfolding with_bytes_at
+with-bytes-at-append m a bs cs =
     let low : a % 2 ^ 56 < 2 ^ 56 = omega arith in
     let next : (a + length bs) % 2 ^ 56 ≡ (a % 2 ^ 56 + length bs) % 2 ^ 56 = omega arith in
     ap (λ b. with_bytes (with_bytes m (addresses (a % 2 ^ 56) (length bs)) bs) (addresses b (length cs)) cs) next
@@ -44,9 +44,9 @@ written-append m a bs cs =
     ∙ ap (λ xs. with_bytes m xs (bs ++ cs)) (sym (ap (addresses (a % 2 ^ 56)) (length-append bs cs) ∙ addresses-append (a % 2 ^ 56) (length bs) (length cs) low))
 
 -- a write leaves bytes that lie apart
-read-apart : (m : Memory) (a b n : ℕ) (bs : List ℕ) → a + n ≤ 2 ^ 30 → b + length bs ≤ 2 ^ 30 → (a + n ≤ b) ⊎ (b + length bs ≤ a) → read_bytes (written m b bs) a n ≡ read_bytes m a n
+read-apart : (m : Memory) (a b n : ℕ) (bs : List ℕ) → a + n ≤ 2 ^ 30 → b + length bs ≤ 2 ^ 30 → (a + n ≤ b) ⊎ (b + length bs ≤ a) → read_bytes (with_bytes_at m b bs) a n ≡ read_bytes m a n
 read-apart m a b n bs la lb h =
-    read_bytes-same (written m b bs) m a n (λ i l. byte_at-written_other m b bs ((a % 2 ^ 56 + i) % 2 ^ 56) (λ j k e.
+    read_bytes-same (with_bytes_at m b bs) m a n (λ i l. byte_at-written_other m b bs ((a % 2 ^ 56 + i) % 2 ^ 56) (λ j k e.
     elim h [
       | inl o ↦ omega arith
       | inr o ↦ omega arith
@@ -59,28 +59,28 @@ apart-parts from to k n j e h = elim h [
 ]
 
 -- one part more
-pub copied-more : (m : Memory) (from to k n : ℕ) → from + (k + n) ≤ 2 ^ 30 → to + (k + n) ≤ 2 ^ 30 → AreApart from to (k + n) → copied (copied m from to k) (from + k) (to + k) n ≡ copied m from to (k + n)
-unfolding copied
-copied-more m from to k n lf lt h =
+pub after-copy-more : (m : Memory) (from to k n : ℕ) → from + (k + n) ≤ 2 ^ 30 → to + (k + n) ≤ 2 ^ 30 → AreApart from to (k + n) → after_copy (after_copy m from to k) (from + k) (to + k) n ≡ after_copy m from to (k + n)
+unfolding after_copy
+after-copy-more m from to k n lf lt h =
     let bs = read_bytes m from k in
     let cs = read_bytes m (from + k) n in
     let long : length bs ≡ k = length-read_bytes m from k in
-    ap (written (written m to bs) (to + k)) (read-apart m (from + k) to n bs (omega arith) (omega arith) (apart-parts from to k n (length bs) long h))
-    ∙ ap (λ t. written (written m to bs) (to + t) cs) (sym long)
-    ∙ written-append m to bs cs
-    ∙ ap (written m to) (sym (read-append m from k n))
+    ap (with_bytes_at (with_bytes_at m to bs) (to + k)) (read-apart m (from + k) to n bs (omega arith) (omega arith) (apart-parts from to k n (length bs) long h))
+    ∙ ap (λ t. with_bytes_at (with_bytes_at m to bs) (to + t) cs) (sym long)
+    ∙ with-bytes-at-append m to bs cs
+    ∙ ap (with_bytes_at m to) (sym (read-append m from k n))
 
-pub copied-none : (m : Memory) (from to : ℕ) → copied m from to 0 ≡ m
-unfolding copied read_bytes bytes_at addresses written with_bytes
-copied-none m from to = refl
+pub after-copy-none : (m : Memory) (from to : ℕ) → after_copy m from to 0 ≡ m
+unfolding after_copy read_bytes bytes_at addresses with_bytes_at with_bytes
+after-copy-none m from to = refl
 
-pub attrs_at-copied : (m : Memory) (from to n q : ℕ) → attrs_at (copied m from to n) q ≡ attrs_at m q
-unfolding copied
-attrs_at-copied m from to n q = attrs_at-written m to (read_bytes m from n) q
+pub attrs_at-after-copy : (m : Memory) (from to n q : ℕ) → attrs_at (after_copy m from to n) q ≡ attrs_at m q
+unfolding after_copy
+attrs_at-after-copy m from to n q = attrs_at-with-bytes-at m to (read_bytes m from n) q
 
-pub pages_left-copied : (m : Memory) (from to n : ℕ) → pages_left (copied m from to n) ≡ pages_left m
-unfolding copied
-pages_left-copied m from to n = pages_left-written m to (read_bytes m from n)
+pub pages_left-after-copy : (m : Memory) (from to n : ℕ) → pages_left (after_copy m from to n) ≡ pages_left m
+unfolding after_copy
+pages_left-after-copy m from to n = pages_left-with-bytes-at m to (read_bytes m from n)
 
 pub apart-less : (a b j n : ℕ) → j ≤ n → AreApart a b n → AreApart a b j
 apart-less a b j n l h = elim h [

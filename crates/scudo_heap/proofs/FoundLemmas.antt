@@ -19,9 +19,9 @@ use Rattle.scudo_heap.specs.declared.abort.HeapAbort.{HeapAbort}
 use Rattle.scudo_heap.specs.declared.abort.HeapAbort.TheVariants.{NotABlock, AlreadyFree}
 use Rattle.scudo_heap.specs.Stacks.{StackState, pages_of, stack_of}
 use Rattle.scudo_heap.specs.Heaps.{HeapState}
-use Rattle.scudo_heap.specs.Checks.{is_block, is_place, place_by, header_at, found_block, found_mapping, found_chunk, found_by, found}
+use Rattle.scudo_heap.specs.Checks.{is_block, is_place, place_of_header, header_at, check_block, check_mapping, check_chunk, check_header, check_pointer}
 use Rattle.scudo_heap.specs.Inner.{IsPlaced, IsFoundBlock, IsFound}
-use Rattle.scudo_heap.proofs.CheckLemmas.{unpacked-small}
+use Rattle.scudo_heap.proofs.CheckLemmas.{tags-of-bytes-small}
 
 ok-then : (b : Bool) (x : Result Found HeapAbort) (e : HeapAbort) (f : Found) → cond b x (Err e) ≡ Ok f → (b ≡ true) × (x ≡ Ok f)
 ok-then true x e f h = (refl, h)
@@ -70,26 +70,26 @@ not-either : (m : Mapping) (header : Header) (p : Place) (h' : Header) → ok_of
 not-either m header p h' e = cc
 
 -- what the fifth and the sixth check found
-in-block : (s : StackState) (p : Place) (header : Header) (f : Found) → found_block s p header ≡ Ok f → (is_place s p ≡ true) × ((is_member (stack_of s p.class) p.block ≡ false) × (ok_of (InBlock p header) ≡ Ok f))
+in-block : (s : StackState) (p : Place) (header : Header) (f : Found) → check_block s p header ≡ Ok f → (is_place s p ≡ true) × ((is_member (stack_of s p.class) p.block ≡ false) × (ok_of (InBlock p header) ≡ Ok f))
 in-block s p header f e =
     let x = ok-then (is_place s p) (cond (is_member (stack_of s p.class) p.block) (Err AlreadyFree) (ok_of (InBlock p header))) NotABlock f e in
     let y = ok-else (is_member (stack_of s p.class) p.block) (ok_of (InBlock p header)) AlreadyFree f x.1 in
     (x.0, (y.0, y.1))
 
-in-pages : (header : Header) (m : Mapping) (f : Found) → found_mapping header (Some m) ≡ Ok f → ok_of (InPages m header) ≡ Ok f
+in-pages : (header : Header) (m : Mapping) (f : Found) → check_mapping header (Some m) ≡ Ok f → ok_of (InPages m header) ≡ Ok f
 in-pages header m f e = (ok-then ((header.offset == 0) && nat_le header.size_or_unused_bytes (end_of m - m.user)) (ok_of (InPages m header)) NotABlock f e).1
 
-block-found : (s : StackState) (p q : Place) (header h' : Header) → 0 < p.class → p.size < 2 ^ 20 → p.user % 16 ≡ 0 → p.block + 16 ≤ p.user → header.size_or_unused_bytes ≡ p.size → found_block s p header ≡ Ok (InBlock q h') → IsFoundBlock s q h'
-block-found s p q header h' low small aligned above size e =
+block-check-pointer : (s : StackState) (p q : Place) (header h' : Header) → 0 < p.class → p.size < 2 ^ 20 → p.user % 16 ≡ 0 → p.block + 16 ≤ p.user → header.size_or_unused_bytes ≡ p.size → check_block s p header ≡ Ok (InBlock q h') → IsFoundBlock s q h'
+block-check-pointer s p q header h' low small aligned above size e =
     let x = in-block s p header (InBlock q h') e in
     let same = same-block p q header h' x.1.1 in
     subst (IsFoundBlock s q) same.1 (subst (λ t. IsFoundBlock s t header) same.0 (record { place = place-of s p low small aligned above x.0; used = x.1.0; size = size }))
 
-no-block : (header : Header) (o : Option Mapping) (p : Place) (h' : Header) → found_mapping header o ≡ Ok (InBlock p h') → ⊥
+no-block : (header : Header) (o : Option Mapping) (p : Place) (h' : Header) → check_mapping header o ≡ Ok (InBlock p h') → ⊥
 no-block header None p h' e = cc
 no-block header (Some m) p h' e = not-both m header p h' (in-pages header m (InBlock p h') e)
 
-no-pages : (s : StackState) (p : Place) (header : Header) (m : Mapping) (h' : Header) → found_block s p header ≡ Ok (InPages m h') → ⊥
+no-pages : (s : StackState) (p : Place) (header : Header) (m : Mapping) (h' : Header) → check_block s p header ≡ Ok (InPages m h') → ⊥
 no-pages s p header m h' e = not-either m h' p header (in-block s p header (InPages m h') e).1.1
 
 -- the mapping with a user address has it
@@ -100,47 +100,47 @@ user-of (n ∷ ms) user m e = elim (n.user == user) as (λ b. (n.user == user) �
   | false ↦ λ t f. user-of ms user m f
 ] refl e
 
-pages-found : (ms : List Mapping) (user : ℕ) (header : Header) (o : Option Mapping) (m : Mapping) (h' : Header) → o ≡ mapping_of ms user → found_mapping header o ≡ Ok (InPages m h') → Some m ≡ mapping_of ms m.user
-pages-found ms user header None m h' eo e = cc
-pages-found ms user header (Some n) m h' eo e =
+pages-check-pointer : (ms : List Mapping) (user : ℕ) (header : Header) (o : Option Mapping) (m : Mapping) (h' : Header) → o ≡ mapping_of ms user → check_mapping header o ≡ Ok (InPages m h') → Some m ≡ mapping_of ms m.user
+pages-check-pointer ms user header None m h' eo e = cc
+pages-check-pointer ms user header (Some n) m h' eo e =
     let same = same-pages n m header h' (in-pages header n (InPages m h') e) in
     let there : Some m ≡ mapping_of ms user = ap Some (sym same) ∙ eo in
     there ∙ ap (mapping_of ms) (sym (user-of ms user m (sym there)))
 
 -- ---- all checks
 
-pages-case : (h : HeapState) (user : ℕ) (header : Header) (f : Found) → found_mapping header (mapping_of h.maps.mappings user) ≡ Ok f → IsFound h f
+pages-case : (h : HeapState) (user : ℕ) (header : Header) (f : Found) → check_mapping header (mapping_of h.maps.mappings user) ≡ Ok f → IsFound h f
 pages-case h user header (InBlock p h') e = absurd (no-block header (mapping_of h.maps.mappings user) p h' e)
-pages-case h user header (InPages m h') e = pages-found h.maps.mappings user header (mapping_of h.maps.mappings user) m h' refl e
+pages-case h user header (InPages m h') e = pages-check-pointer h.maps.mappings user header (mapping_of h.maps.mappings user) m h' refl e
 
 block-case : (h : HeapState) (user : ℕ) (header : Header) (f : Found) → 0 < header.class_id → header.size_or_unused_bytes < 2 ^ 20 → user % 16 ≡ 0 → 16 + 16 * header.offset ≤ user
-    → found_block h.stacks (place_by user header) header ≡ Ok f → IsFound h f
-block-case h user header (InBlock p h') low small aligned above e = block-found h.stacks (place_by user header) p header h' low small aligned (omega arith) refl e
-block-case h user header (InPages m h') low small aligned above e = absurd (no-pages h.stacks (place_by user header) header m h' e)
+    → check_block h.stacks (place_of_header user header) header ≡ Ok f → IsFound h f
+block-case h user header (InBlock p h') low small aligned above e = block-check-pointer h.stacks (place_of_header user header) p header h' low small aligned (omega arith) refl e
+block-case h user header (InPages m h') low small aligned above e = absurd (no-pages h.stacks (place_of_header user header) header m h' e)
 
-chunk-found : (h : HeapState) (user : ℕ) (header : Header) (f : Found) → user % 16 ≡ 0 → header.size_or_unused_bytes < 2 ^ 20 → found_chunk h.stacks h.maps.mappings user header ≡ Ok f → IsFound h f
-unfolding found_chunk
-chunk-found h user header f aligned small e =
+chunk-check-pointer : (h : HeapState) (user : ℕ) (header : Header) (f : Found) → user % 16 ≡ 0 → header.size_or_unused_bytes < 2 ^ 20 → check_chunk h.stacks h.maps.mappings user header ≡ Ok f → IsFound h f
+unfolding check_chunk
+chunk-check-pointer h user header f aligned small e =
     elim (header.class_id == 0) as (λ b. (header.class_id == 0) ≡ b
-    → cond b (found_mapping header (mapping_of h.maps.mappings user)) (cond (nat_le (16 + 16 * header.offset) user) (found_block h.stacks (place_by user header) header) (Err NotABlock)) ≡ Ok f → IsFound h f) [
+    → cond b (check_mapping header (mapping_of h.maps.mappings user)) (cond (nat_le (16 + 16 * header.offset) user) (check_block h.stacks (place_of_header user header) header) (Err NotABlock)) ≡ Ok f → IsFound h f) [
       | true ↦ λ t g. pages-case h user header f g
-      | false ↦ λ t g. (let x = ok-then (nat_le (16 + 16 * header.offset) user) (found_block h.stacks (place_by user header) header) NotABlock f g in
+      | false ↦ λ t g. (let x = ok-then (nat_le (16 + 16 * header.offset) user) (check_block h.stacks (place_of_header user header) header) NotABlock f g in
           let above = le-of _ _ x.0 in
           let low : 0 < header.class_id = grind (arith, nat_tests) in
           block-case h user header f low small aligned (omega arith) x.1)
     ] refl e
 
-by-found : (h : HeapState) (user : ℕ) (o : Option Header) (f : Found) → user % 16 ≡ 0 → IfSome o (λ header. header.size_or_unused_bytes < 2 ^ 20) → found_by h user o ≡ Ok f → IsFound h f
-by-found h user None f aligned small e = cc
-by-found h user (Some header) f aligned small e = let x = ok-then _ _ _ _ e in chunk-found h user header f aligned small x.1
+by-check-pointer : (h : HeapState) (user : ℕ) (o : Option Header) (f : Found) → user % 16 ≡ 0 → IfSome o (λ header. header.size_or_unused_bytes < 2 ^ 20) → check_header h user o ≡ Ok f → IsFound h f
+by-check-pointer h user None f aligned small e = cc
+by-check-pointer h user (Some header) f aligned small e = let x = ok-then _ _ _ _ e in chunk-check-pointer h user header f aligned small x.1
 
 header-small : (m : Memory) (cookie user : ℕ) → IfSome (header_at m cookie user) (λ header. header.size_or_unused_bytes < 2 ^ 20)
 unfolding header_at
-header-small m cookie user = unpacked-small cookie user (from_le_bytes w64 (read_bytes m (user - 16) 8))
+header-small m cookie user = tags-of-bytes-small cookie user (from_le_bytes w64 (read_bytes m (user - 16) 8))
 
-pub found-is : (m : Memory) (h : HeapState) (user : ℕ) (f : Found) → found m h user ≡ Ok f → IsFound h f
-unfolding found
-found-is m h user f e =
+pub check-pointer-is : (m : Memory) (h : HeapState) (user : ℕ) (f : Found) → check_pointer m h user ≡ Ok f → IsFound h f
+unfolding check_pointer
+check-pointer-is m h user f e =
     let x = ok-then _ _ _ _ e in
     let y = ok-then _ _ _ _ x.1 in
-    by-found h user (header_at m h.cookie user) f (eqb-true _ _ x.0) (header-small m h.cookie user) y.1
+    by-check-pointer h user (header_at m h.cookie user) f (eqb-true _ _ x.0) (header-small m h.cookie user) y.1

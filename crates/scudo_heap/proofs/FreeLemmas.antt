@@ -8,21 +8,21 @@ use Rattle.scudo_heap.specs.declared.chunk.Found.{Found}
 use Rattle.scudo_heap.specs.declared.abort.HeapAbort.{HeapAbort}
 use Rattle.scudo_heap.specs.Heaps.{HeapState}
 use Rattle.scudo_heap.specs.Placing.{World}
-use Rattle.scudo_heap.specs.Checks.{found, usable_size_by}
-use Rattle.scudo_heap.specs.Freeing.{freed_by, free_of, usable_size_of}
+use Rattle.scudo_heap.specs.Checks.{check_pointer, usable_size_cases}
+use Rattle.scudo_heap.specs.Freeing.{free_cases, free_of, usable_size_of}
 
 pub free-null : (w : World) (p : ℕ) → p ≡ 0 → record { world = w; result = Ok tt } ≡ free_of w p
 unfolding free_of
 free-null w p e = sym (cond-true _ _ _ (eq-eqb p 0 e))
 
-pub free-by : (w : World) (p : ℕ) (r : Result Found HeapAbort) → p ≢ 0 → r ≡ found w.memory w.heap (plain p) → freed_by w r ≡ free_of w p
+pub free-by : (w : World) (p : ℕ) (r : Result Found HeapAbort) → p ≢ 0 → r ≡ check_pointer w.memory w.heap (plain p) → free_cases w r ≡ free_of w p
 unfolding free_of
-free-by w p r n e = let t : (p == 0) ≡ false = grind (arith, nat_tests) in ap (freed_by w) e ∙ sym (cond-false _ _ _ t)
+free-by w p r n e = let t : (p == 0) ≡ false = grind (arith, nat_tests) in ap (free_cases w) e ∙ sym (cond-false _ _ _ t)
 
 pub usable-null : (m : Memory) (h : HeapState) (p : ℕ) → p ≡ 0 → Ok 0 ≡ usable_size_of m h p
 unfolding usable_size_of
 usable-null m h p e = sym (cond-true _ _ _ (eq-eqb p 0 e))
 
-pub usable-by : (m : Memory) (h : HeapState) (p : ℕ) (r : Result Found HeapAbort) → p ≢ 0 → r ≡ found m h (plain p) → usable_size_by r ≡ usable_size_of m h p
+pub usable-by : (m : Memory) (h : HeapState) (p : ℕ) (r : Result Found HeapAbort) → p ≢ 0 → r ≡ check_pointer m h (plain p) → usable_size_cases r ≡ usable_size_of m h p
 unfolding usable_size_of
-usable-by m h p r n e = let t : (p == 0) ≡ false = grind (arith, nat_tests) in ap usable_size_by e ∙ sym (cond-false _ _ _ t)
+usable-by m h p r n e = let t : (p == 0) ≡ false = grind (arith, nat_tests) in ap usable_size_cases e ∙ sym (cond-false _ _ _ t)

@@ -16,9 +16,9 @@ use Rattle.scudo_primary.proofs.ListLemmas.{member-other}
 use Rattle.scudo_secondary.specs.Mappings.{mapping_of, end_of, with_mapping, is_apart}
 use Rattle.scudo_secondary.specs.declared.mappings.Mapping.{Mapping}
 use Rattle.scudo_secondary.proofs.PlaceLemmas.{apart_true}
-use Rattle.scudo_heap.specs.Stacks.{ClassHeap, StackState, pages_of, stack_of, with_class, popped, carved}
+use Rattle.scudo_heap.specs.Stacks.{ClassHeap, StackState, pages_of, stack_of, with_class, after_pop, after_carve}
 use Rattle.scudo_heap.proofs.StackLemmas.{class_at-with_class, class_at-with_class_other}
-use Rattle.scudo_heap.proofs.ServedLemmas.{class-carved, class-carved_other}
+use Rattle.scudo_heap.proofs.ServedLemmas.{class-after-carve, class-carved_other}
 
 -- ---- blocks
 
@@ -49,9 +49,9 @@ drop-member (x ∷ xs) b h = or_right (b == x) (is_member xs b) h
 abbrev popped_class : StackState → ℕ → ClassHeap
 popped_class s c = record { pages = pages_of s c; stack = drop 1 (stack_of s c) }
 
-pub keeps-popped : (s : StackState) (c : ℕ) → KeepsUsed s (popped s c)
-unfolding popped
-keeps-popped s c = record {
+pub keeps-after-pop : (s : StackState) (c : ℕ) → KeepsUsed s (after_pop s c)
+unfolding after_pop
+keeps-after-pop s c = record {
   carved = λ d b k h. elim (cases_eq d c) [
     | inl e ↦ subst (λ t. IsBlock t (pages_of (with_class s c (popped_class s c)) t) b) (sym e)
         (subst (λ (t : ClassHeap). IsBlock c t.pages b) (sym (class_at-with_class s c (popped_class s c))) (subst (λ t. IsBlock t (pages_of s t) b) e h))
@@ -71,16 +71,16 @@ new-others c m (suc n) b xs k l u =
     let o : b ≢ block_at c m = λ e. (let same : number_of c b ≡ m = ap (number_of c) e ∙ number_of-block_at c m k in omega arith) in
     member-other (block_at c m) (blocks_from c (m + 1) n ++ xs) b o ∙ new-others c (m + 1) n b xs k (omega arith) u
 
-pub keeps-carved : (s : StackState) (c n : ℕ) → IsClass c → KeepsUsed s (carved s c n)
-keeps-carved s c n kc = record {
+pub keeps-after-carve : (s : StackState) (c n : ℕ) → IsClass c → KeepsUsed s (after_carve s c n)
+keeps-after-carve s c n kc = record {
   carved = λ d b k h. elim (cases_eq d c) [
-    | inl e ↦ subst (λ t. IsBlock t (pages_of (carved s c n) t) b) (sym e)
-        (subst (λ (t : ClassHeap). IsBlock c t.pages b) (sym (class-carved s c n)) (IsBlock-more c (pages_of s c) (pages_of s c + n) b kc (omega arith) (subst (λ t. IsBlock t (pages_of s t) b) e h)))
+    | inl e ↦ subst (λ t. IsBlock t (pages_of (after_carve s c n) t) b) (sym e)
+        (subst (λ (t : ClassHeap). IsBlock c t.pages b) (sym (class-after-carve s c n)) (IsBlock-more c (pages_of s c) (pages_of s c + n) b kc (omega arith) (subst (λ t. IsBlock t (pages_of s t) b) e h)))
     | inr o ↦ subst (λ (t : ClassHeap). IsBlock d t.pages b) (sym (class-carved_other s c n d o)) h
   ];
   used = λ d b k h u. elim (cases_eq d c) [
-    | inl e ↦ subst (λ t. is_member (stack_of (carved s c n) t) b ≡ false) (sym e)
-        (ap (λ (t : ClassHeap). is_member t.stack b) (class-carved s c n)
+    | inl e ↦ subst (λ t. is_member (stack_of (after_carve s c n) t) b ≡ false) (sym e)
+        (ap (λ (t : ClassHeap). is_member t.stack b) (class-after-carve s c n)
         ∙ new-others c (carved_count c (pages_of s c)) (carved_count c (pages_of s c + n) - carved_count c (pages_of s c)) b (stack_of s c) kc (subst (λ t. IsBlock t (pages_of s t) b) e h).carved (ap (λ t. is_member (stack_of s t) b) (sym e) ∙ u))
     | inr o ↦ ap (λ (t : ClassHeap). is_member t.stack b) (class-carved_other s c n d o) ∙ u
   ];
@@ -91,13 +91,13 @@ first-new : (c m n b : ℕ) (more : List ℕ) → blocks_from c m n ++ [] ≡ b 
 first-new c m zero b more e = cc
 first-new c m (suc n) b more e = (omega arith, cc)
 
-pub carved-top : (s : StackState) (c n b : ℕ) (more : List ℕ) → IsClass c → stack_of s c ≡ [] → stack_of (carved s c n) c ≡ b ∷ more → IsBlock c (pages_of (carved s c n) c) b
-carved-top s c n b more k z e =
+pub after-carve-top : (s : StackState) (c n b : ℕ) (more : List ℕ) → IsClass c → stack_of s c ≡ [] → stack_of (after_carve s c n) c ≡ b ∷ more → IsBlock c (pages_of (after_carve s c n) c) b
+after-carve-top s c n b more k z e =
     let m = carved_count c (pages_of s c) in
     let f = first-new c m (carved_count c (pages_of s c + n) - m) b more
-    (ap (λ xs. blocks_from c m (carved_count c (pages_of s c + n) - m) ++ xs) (sym z) ∙ ap (λ (t : ClassHeap). t.stack) (sym (class-carved s c n)) ∙ e) in
+    (ap (λ xs. blocks_from c m (carved_count c (pages_of s c + n) - m) ++ xs) (sym z) ∙ ap (λ (t : ClassHeap). t.stack) (sym (class-after-carve s c n)) ∙ e) in
     let some = f.0 in
-    subst (λ (t : ClassHeap). IsBlock c t.pages b) (sym (class-carved s c n))
+    subst (λ (t : ClassHeap). IsBlock c t.pages b) (sym (class-after-carve s c n))
     (subst (IsBlock c (pages_of s c + n)) (sym f.1) (block_at-IsBlock c (pages_of s c + n) m k (omega arith)))
 
 -- two blocks of one class

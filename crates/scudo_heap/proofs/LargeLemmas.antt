@@ -10,7 +10,7 @@ use Rattle.scudo_header.specs.declared.headers.Origin.{Origin}
 use Rattle.scudo_secondary.specs.Mappings.{place_of}
 use Rattle.scudo_heap.specs.Placing.{World}
 use Rattle.scudo_heap.specs.Large.{mapping_for}
-use Rattle.scudo_heap.specs.Allocation.{nothing, made_large, mapped_at, in_mapping, need_of}
+use Rattle.scudo_heap.specs.Allocation.{no_chunk, after_map_chunk, map_chunk_cases, after_large_allocation, need_of}
 use Rattle.scudo_heap.specs.Inner.{IsAlign, IsLarge}
 use Rattle.scudo_heap.proofs.ClassLemmas.{divides}
 
@@ -26,18 +26,18 @@ is-large start pages align size e above below few al some small need =
     let even : x / align * align % 16 ≡ 0 = divides (x / align * align) align (omega arith) part (mul-mod_left (x / align) align) in
     record { some = omega arith; few = few; start = omega arith; aligned = e; above = omega arith; within = omega arith; below = omega arith; unused = omega arith }
 
-pub in_mapping-none : (w : World) (o : Origin) (a z n : ℕ) → None ≡ place_of w.heap.maps.mappings n → nothing w ≡ in_mapping w o a z n
-unfolding in_mapping
-in_mapping-none w o a z n e = ap (mapped_at w o a z n) e
+pub after-large-allocation-none : (w : World) (o : Origin) (a z n : ℕ) → None ≡ place_of w.heap.maps.mappings n → no_chunk w ≡ after_large_allocation w o a z n
+unfolding after_large_allocation
+after-large-allocation-none w o a z n e = ap (map_chunk_cases w o a z n) e
 
-pub in_mapping-refused : (w : World) (o : Origin) (a z n start : ℕ) → Some start ≡ place_of w.heap.maps.mappings n → pages_left w.memory < n → nothing w ≡ in_mapping w o a z n
-unfolding in_mapping
-in_mapping-refused w o a z n start e l =
+pub after-large-allocation-refused : (w : World) (o : Origin) (a z n start : ℕ) → Some start ≡ place_of w.heap.maps.mappings n → pages_left w.memory < n → no_chunk w ≡ after_large_allocation w o a z n
+unfolding after_large_allocation
+after-large-allocation-refused w o a z n start e l =
     let t : nat_le n (pages_left w.memory) ≡ false = grind (arith, nat_tests) in
-    sym (cond-false _ _ _ t) ∙ ap (mapped_at w o a z n) e
+    sym (cond-false _ _ _ t) ∙ ap (map_chunk_cases w o a z n) e
 
-pub in_mapping-made : (w : World) (o : Origin) (a z n start : ℕ) → Some start ≡ place_of w.heap.maps.mappings n → n ≤ pages_left w.memory → made_large w o z (mapping_for start n a z) ≡ in_mapping w o a z n
-unfolding in_mapping
-in_mapping-made w o a z n start e l =
+pub after-large-allocation-made : (w : World) (o : Origin) (a z n start : ℕ) → Some start ≡ place_of w.heap.maps.mappings n → n ≤ pages_left w.memory → after_map_chunk w o z (mapping_for start n a z) ≡ after_large_allocation w o a z n
+unfolding after_large_allocation
+after-large-allocation-made w o a z n start e l =
     let t : nat_le n (pages_left w.memory) ≡ true = grind (arith, nat_tests) in
-    sym (cond-true _ _ _ t) ∙ ap (mapped_at w o a z n) e
+    sym (cond-true _ _ _ t) ∙ ap (map_chunk_cases w o a z n) e

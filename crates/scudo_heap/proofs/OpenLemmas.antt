@@ -4,15 +4,15 @@ use Rattle.std.specs.Prelude.{if◌then◌else◌}
 use Rattle.std.proofs.lemmas.Bool.{cond-true, eqb-true}
 use Rattle.std.proofs.lemmas.Nat.{and_mask}
 use Rattle.a64_bits.specs.Addresses.{plain}
-use Rattle.mte_tags.specs.Memory.{Memory, Page, page_at, attrs_at, attrs_in, page_has, has, has_in, tag_at, with_granules}
-use Rattle.mte_tags.specs.Accesses.{addresses, granules, byte_fault, first_fault, or_else, fault_in, read_access, store_access, load_access, read_fault, tags_fault, tag_load_fault, outcome, loaded, after_read, IsMapped, write_access, write_fault, written, after_write}
+use Rattle.mte_tags.specs.Memory.{Memory, Page, page_at, attrs_at, attrs_cases, page_has, has, has_cases, tag_at, with_granules}
+use Rattle.mte_tags.specs.Accesses.{addresses, granules, byte_fault, first_fault, or_else, fault_cases, read_access, store_access, load_access, read_fault, tags_fault, tag_load_fault, result_of, tag_result, after_read, IsMapped, write_access, write_fault, with_bytes_at, after_write}
 use Rattle.mte_tags.specs.declared.access.Access.{Access}
 use Rattle.mte_tags.specs.declared.fault.MemFault.{MemFault}
-use Rattle.mte_tags.proofs.ModeLaws.{access_fault-none, after_read-unchecked, after_access-unchecked}
+use Rattle.mte_tags.proofs.ModeLaws.{access_fault-none, after_read-without-check, after_access-without-check}
 use Rattle.mte_tags.proofs.PageLaws.{page_at-attrs, IsMapped-from_pages}
 use Rattle.scudo_heap.specs.Served.{IsOpen}
 
-fault_open : (x : Access) (p : Option Page) (a n : ℕ) → attrs_in p ≡ Some n → x.checked ≡ false → has n x.need ≡ true → fault_in x p a ≡ None
+fault_open : (x : Access) (p : Option Page) (a n : ℕ) → attrs_cases p ≡ Some n → x.checked ≡ false → has n x.need ≡ true → fault_cases x p a ≡ None
 fault_open x None a n e c h = cc
 fault_open x (Some p) a n e c h =
     let same : p.attrs ≡ n = cc in
@@ -58,18 +58,18 @@ tag_load_open m a o =
 
 -- ---- as the code has it
 
-pub tags_stored : (m m' : Memory) (a n t : ℕ) (z : Bool) (r : Result (Unit {0}) MemFault) → r ≡ outcome (tags_fault m a n) → m' ≡ (if is_ok r then with_granules m (plain a) n t z else m)
+pub tags_stored : (m m' : Memory) (a n t : ℕ) (z : Bool) (r : Result (Unit {0}) MemFault) → r ≡ result_of (tags_fault m a n) → m' ≡ (if is_ok r then with_granules m (plain a) n t z else m)
     → a % 16 ≡ 0 → IsOpen m a (a + 16 * n) → m' ≡ with_granules m a n t z
 tags_stored m m' a n t z r e s k o =
     let below = o.below in
     let same : a % 2 ^ 56 ≡ a = omega arith in
-    s ∙ cond-true _ _ _ (ap is_ok (e ∙ ap outcome (tags_open m a n o k))) ∙ ap (λ p. with_granules m p n t z) same
+    s ∙ cond-true _ _ _ (ap is_ok (e ∙ ap result_of (tags_open m a n o k))) ∙ ap (λ p. with_granules m p n t z) same
 
-pub tag_loaded : (m : Memory) (a : ℕ) (r : Result ℕ MemFault) → r ≡ loaded (tag_load_fault m a) (tag_at m (plain a)) → IsOpen m a (a + 1) → r ≡ Ok (tag_at m a)
+pub tag_loaded : (m : Memory) (a : ℕ) (r : Result ℕ MemFault) → r ≡ tag_result (tag_load_fault m a) (tag_at m (plain a)) → IsOpen m a (a + 1) → r ≡ Ok (tag_at m a)
 tag_loaded m a r e o =
     let below = o.below in
     let same : a % 2 ^ 56 ≡ a = omega arith in
-    e ∙ ap (λ f. loaded f (tag_at m (a % 2 ^ 56))) (tag_load_open m a o) ∙ ap (λ p. Ok (tag_at m p)) same
+    e ∙ ap (λ f. tag_result f (tag_at m (a % 2 ^ 56))) (tag_load_open m a o) ∙ ap (λ p. Ok (tag_at m p)) same
 
 write_open : (m : Memory) (a n : ℕ) → IsOpen m a (a + n) → write_fault m a n false ≡ None
 unfolding write_fault
@@ -79,12 +79,12 @@ write_open m a n o =
     access_fault-none m (write_access a false) (addresses (plain a) n)
     (ap (λ j. first_fault m (write_access a false) (addresses j n)) same ∙ addresses_open n m (write_access a false) a (a + n) a o (omega arith) (omega arith) refl refl)
 
-pub bytes_written : (m m' : Memory) (a : ℕ) (bs : List ℕ) (r : Result (Unit {0}) MemFault) → r ≡ outcome (write_fault m a (length bs) false) → m' ≡ (if is_ok r then after_write m a bs false else m)
-    → IsOpen m a (a + length bs) → m' ≡ written m a bs
+pub bytes_written : (m m' : Memory) (a : ℕ) (bs : List ℕ) (r : Result (Unit {0}) MemFault) → r ≡ result_of (write_fault m a (length bs) false) → m' ≡ (if is_ok r then after_write m a bs false else m)
+    → IsOpen m a (a + length bs) → m' ≡ with_bytes_at m a bs
 unfolding after_write
 bytes_written m m' a bs r e s o =
-    s ∙ cond-true _ _ _ (ap is_ok (e ∙ ap outcome (write_open m a (length bs) o)))
-    ∙ ap (λ k. written k a bs) (after_access-unchecked m (write_access a false) (addresses (plain a) (length bs)) refl)
+    s ∙ cond-true _ _ _ (ap is_ok (e ∙ ap result_of (write_open m a (length bs) o)))
+    ∙ ap (λ k. with_bytes_at k a bs) (after_access-without-check m (write_access a false) (addresses (plain a) (length bs)) refl)
 
 pub open-mapped : (m : Memory) (a n k : ℕ) → n ≡ k → IsOpen m a (a + k) → IsMapped m a n
 open-mapped m a n k e o =
@@ -96,7 +96,7 @@ open-mapped m a n k e o =
 
 -- an access without a comparison of tags changes nothing, whatever its end
 pub either_way : (b : Bool) (m : Memory) (a n : ℕ) → (if b then after_read m a n false else m) ≡ m
-either_way true m a n = after_read-unchecked m a n
+either_way true m a n = after_read-without-check m a n
 either_way false m a n = refl
 
 -- ---- eight bytes of a page with READ
@@ -118,7 +118,7 @@ in_page (suc (suc k)) m x a n e u l c h =
     ∙ ap (λ j. first_fault m x (addresses j (suc k))) next
     ∙ in_page (suc k) m x (a + 1) n (ap (attrs_at m) page ∙ e) (omega arith) (omega arith) c h
 
-readable_by : (m : Memory) (a : ℕ) (o : Option ℕ) → attrs_at m (a / 4096) ≡ o → has_in o 3 ≡ true → a < 2 ^ 56 → a % 4096 + 8 ≤ 4096 → read_fault m a 8 false ≡ None
+readable_by : (m : Memory) (a : ℕ) (o : Option ℕ) → attrs_at m (a / 4096) ≡ o → has_cases o 3 ≡ true → a < 2 ^ 56 → a % 4096 + 8 ≤ 4096 → read_fault m a 8 false ≡ None
 unfolding read_fault
 readable_by m a None e h u l = cc
 readable_by m a (Some n) e h u l =

@@ -15,47 +15,47 @@ use Rattle.scudo_heap.specs.declared.chunk.Found.TheVariants.{InBlock, InPages}
 use Rattle.scudo_heap.specs.Stacks.{StackState, pages_of}
 use Rattle.scudo_heap.specs.Chunks.{end_of, block_end, with_size}
 use Rattle.scudo_heap.specs.Placing.{World}
-use Rattle.scudo_heap.specs.Allocation.{made_of, nothing, malloc_of}
-use Rattle.scudo_heap.specs.Checks.{found}
+use Rattle.scudo_heap.specs.Allocation.{allocation_of, no_chunk, after_malloc}
+use Rattle.scudo_heap.specs.Checks.{check_pointer}
 use Rattle.scudo_heap.specs.Freeing.{without_chunk}
-use Rattle.scudo_heap.specs.Realloc.{ended, moved, resized_in, with_new_size, refound, reallocated_by, realloc_of}
+use Rattle.scudo_heap.specs.Realloc.{reallocation_of, after_move, after_resize_in_block, with_new_size, realloc_cases, checked_realloc_cases, after_realloc}
 use Rattle.scudo_heap.specs.Inner.{IsPlaced}
 
-pub realloc-null : (w : World) (p n : ℕ) → p ≡ 0 → ended (malloc_of w n) ≡ realloc_of w p n
-unfolding realloc_of
+pub realloc-null : (w : World) (p n : ℕ) → p ≡ 0 → reallocation_of (after_malloc w n) ≡ after_realloc w p n
+unfolding after_realloc
 realloc-null w p n e = sym (cond-true _ _ _ (eq-eqb p 0 e))
 
-pub realloc-by : (w : World) (p n : ℕ) (r : Result Found HeapAbort) → p ≢ 0 → r ≡ found w.memory w.heap (plain p) → reallocated_by w n r ≡ realloc_of w p n
-unfolding realloc_of
-realloc-by w p n r o e = let t : (p == 0) ≡ false = grind (arith, nat_tests) in ap (reallocated_by w n) e ∙ sym (cond-false _ _ _ t)
+pub realloc-by : (w : World) (p n : ℕ) (r : Result Found HeapAbort) → p ≢ 0 → r ≡ check_pointer w.memory w.heap (plain p) → checked_realloc_cases w n r ≡ after_realloc w p n
+unfolding after_realloc
+realloc-by w p n r o e = let t : (p == 0) ≡ false = grind (arith, nat_tests) in ap (checked_realloc_cases w n) e ∙ sym (cond-false _ _ _ t)
 
-pub refound-none : (w : World) (f : Found) (n : ℕ) → n ≡ 0 → made_of (without_chunk w f) None ≡ refound w f n
-unfolding refound
-refound-none w f n e = sym (cond-true _ _ _ (eq-eqb n 0 e))
+pub realloc-cases-none : (w : World) (f : Found) (n : ℕ) → n ≡ 0 → allocation_of (without_chunk w f) None ≡ realloc_cases w f n
+unfolding realloc_cases
+realloc-cases-none w f n e = sym (cond-true _ _ _ (eq-eqb n 0 e))
 
-pub refound-over : (w : World) (f : Found) (n : ℕ) → n ≢ 0 → MAX_REQUEST < n → nothing w ≡ refound w f n
-unfolding refound
-refound-over w f n o l =
+pub realloc-cases-over : (w : World) (f : Found) (n : ℕ) → n ≢ 0 → MAX_REQUEST < n → no_chunk w ≡ realloc_cases w f n
+unfolding realloc_cases
+realloc-cases-over w f n o l =
     let t : (n == 0) ≡ false = grind (arith, nat_tests) in
     let u : nat_le n MAX_REQUEST ≡ false = grind (arith, nat_tests) in
     sym (cond-false _ _ _ t ∙ cond-false _ _ _ u)
 
-pub refound-some : (w : World) (f : Found) (n : ℕ) → n ≢ 0 → n ≤ MAX_REQUEST → with_new_size w f n ≡ refound w f n
-unfolding refound
-refound-some w f n o l =
+pub realloc-cases-some : (w : World) (f : Found) (n : ℕ) → n ≢ 0 → n ≤ MAX_REQUEST → with_new_size w f n ≡ realloc_cases w f n
+unfolding realloc_cases
+realloc-cases-some w f n o l =
     let t : (n == 0) ≡ false = grind (arith, nat_tests) in
     let u : nat_le n MAX_REQUEST ≡ true = grind (arith, nat_tests) in
     sym (cond-false _ _ _ t ∙ cond-true _ _ _ u)
 
-pub size-in_place : (w : World) (p : Place) (header : Header) (n : ℕ) → nat_le (end_of (with_size p n)) (block_end p) ≡ true → resized_in w p header n ≡ with_new_size w (InBlock p header) n
+pub size-in_place : (w : World) (p : Place) (header : Header) (n : ℕ) → nat_le (end_of (with_size p n)) (block_end p) ≡ true → after_resize_in_block w p header n ≡ with_new_size w (InBlock p header) n
 unfolding with_new_size
 size-in_place w p header n t = sym (cond-true _ _ _ t)
 
-pub size-moved : (w : World) (p : Place) (header : Header) (n : ℕ) → nat_le (end_of (with_size p n)) (block_end p) ≡ false → moved w (InBlock p header) n ≡ with_new_size w (InBlock p header) n
+pub size-after-move : (w : World) (p : Place) (header : Header) (n : ℕ) → nat_le (end_of (with_size p n)) (block_end p) ≡ false → after_move w (InBlock p header) n ≡ with_new_size w (InBlock p header) n
 unfolding with_new_size
-size-moved w p header n t = sym (cond-false _ _ _ t)
+size-after-move w p header n t = sym (cond-false _ _ _ t)
 
-pub size-pages : (w : World) (m : Mapping) (header : Header) (n : ℕ) → moved w (InPages m header) n ≡ with_new_size w (InPages m header) n
+pub size-pages : (w : World) (m : Mapping) (header : Header) (n : ℕ) → after_move w (InPages m header) n ≡ with_new_size w (InPages m header) n
 unfolding with_new_size
 size-pages w m header n = refl
 

@@ -14,12 +14,12 @@ use Rattle.scudo_primary.specs.Blocks.{carved_count, blocks_from}
 use Rattle.address_map.specs.declared.limits.TheConstants.{MAX_PAGES}
 use Rattle.scudo_heap.specs.Placing.{heap_attrs, next_page}
 use Rattle.scudo_secondary.specs.Mappings as secondary
-use Rattle.scudo_secondary.specs.Mappings.{MapsState}
+use Rattle.scudo_secondary.specs.Mappings.{SecondaryState}
 use Rattle.address_map.specs.declared.limits.TheConstants.{PAGE_SIZE}
 use Rattle.address_map.specs.declared.ranges.TheConstants.{REGION_SIZE}
-use Rattle.scudo_heap.specs.Stacks.{ClassHeap, StackState, class_at, with_class, pages_of, stack_of, popped, pushed, carved_class, carved}
+use Rattle.scudo_heap.specs.Stacks.{ClassHeap, StackState, class_at, with_class, pages_of, stack_of, after_pop, after_push, carved_class, after_carve}
 use Rattle.scudo_heap.specs.Heaps.{HeapState, heap_of}
-use Rattle.scudo_heap.specs.Served.{IsServed, IsOpen, AreRegions, ArePlaces, heap_page, is_inside}
+use Rattle.scudo_heap.specs.Served.{HeapOwnsItsPages, IsOpen, AreRegions, ArePlaces, heap_page, is_inside}
 use Rattle.scudo_secondary.specs.declared.mappings.Mapping.{Mapping}
 use Rattle.mte_tags.specs.Memory.{IsFree, with_new_pages, without_pages}
 use Rattle.mte_tags.proofs.PageLaws.{page_at-no_attrs, attrs_at-with_new_pages_in, attrs_at-with_new_pages_out, pages_left-with_new_pages, attrs_at-without_pages_in, attrs_at-without_pages_out}
@@ -35,7 +35,7 @@ lt-true a b h = grind (arith, nat_tests)
 pub lt-false : (a b : ℕ) → b ≤ a → nat_lt a b ≡ false
 lt-false a b h = grind (arith, nat_tests)
 
-pub regions-of : (m : Memory) (h : HeapState) → IsServed m h → AreRegions m h.stacks
+pub regions-of : (m : Memory) (h : HeapState) → HeapOwnsItsPages m h → AreRegions m h.stacks
 regions-of m h v = let room = v.room in record { room = omega arith; few = v.few; regions = v.regions }
 
 -- a class's page
@@ -59,7 +59,7 @@ block-open-in m s c b v k block =
       below = omega arith;
     }
 
-pub block-open : (m : Memory) (h : HeapState) (c b : ℕ) → IsServed m h → IsClass c → IsBlock c (pages_of h.stacks c) b → IsOpen m b (b + size_of c)
+pub block-open : (m : Memory) (h : HeapState) (c b : ℕ) → HeapOwnsItsPages m h → IsClass c → IsBlock c (pages_of h.stacks c) b → IsOpen m b (b + size_of c)
 block-open m h c b v k block = block-open-in m h.stacks c b (regions-of m h v) k block
 
 -- ---- bytes, tags and stacks change, and the pages stay
@@ -81,15 +81,15 @@ same-with_stack s c stack = record {
   ];
 }
 
-pub same-pushed : (s : StackState) (c b : ℕ) → SamePages s (pushed s c b)
-unfolding pushed
-same-pushed s c b = same-with_stack s c (b ∷ stack_of s c)
+pub same-after-push : (s : StackState) (c b : ℕ) → SamePages s (after_push s c b)
+unfolding after_push
+same-after-push s c b = same-with_stack s c (b ∷ stack_of s c)
 
-pub same-popped : (s : StackState) (c : ℕ) → SamePages s (popped s c)
-unfolding popped
-same-popped s c = same-with_stack s c (drop 1 (stack_of s c))
+pub same-after-pop : (s : StackState) (c : ℕ) → SamePages s (after_pop s c)
+unfolding after_pop
+same-after-pop s c = same-with_stack s c (drop 1 (stack_of s c))
 
-pub served-on : (m m' : Memory) (h : HeapState) (s : StackState) (cookie : ℕ) → IsServed m h → ((q : ℕ) → attrs_at m' q ≡ attrs_at m q) → pages_left m' ≡ pages_left m → SamePages h.stacks s → IsServed m' (heap_of cookie s h.maps)
+pub served-on : (m m' : Memory) (h : HeapState) (s : StackState) (cookie : ℕ) → HeapOwnsItsPages m h → ((q : ℕ) → attrs_at m' q ≡ attrs_at m q) → pages_left m' ≡ pages_left m → SamePages h.stacks s → HeapOwnsItsPages m' (heap_of cookie s h.maps)
 served-on m m' h s cookie v a l p =
     let room = v.room in
     let left = p.left in
@@ -104,7 +104,7 @@ served-on m m' h s cookie v a l p =
 
 -- ---- a mapping and its pages go
 
-pub mapping-open : (m : Memory) (h : HeapState) (n : Mapping) → IsServed m h → secondary.AreMappings h.maps.mappings → Some n ≡ secondary.mapping_of h.maps.mappings n.user → IsOpen m n.start (secondary.end_of n)
+pub mapping-open : (m : Memory) (h : HeapState) (n : Mapping) → HeapOwnsItsPages m h → secondary.AreMappings h.maps.mappings → Some n ≡ secondary.mapping_of h.maps.mappings n.user → IsOpen m n.start (secondary.end_of n)
 mapping-open m h n v k e =
     let w = without h.maps.mappings n k e in
     let above = w.above in
@@ -114,16 +114,16 @@ mapping-open m h n v k e =
       below = omega arith;
     }
 
-less-mappings : (ms : MapsState) (n : Mapping) → (with_less ms n).mappings ≡ others_of n.user ms.mappings
+less-mappings : (ms : SecondaryState) (n : Mapping) → (with_less ms n).mappings ≡ others_of n.user ms.mappings
 unfolding with_less
 less-mappings ms n = refl
 
-less-limit : (ms : MapsState) (n : Mapping) → (with_less ms n).limit ≡ ms.limit
+less-limit : (ms : SecondaryState) (n : Mapping) → (with_less ms n).limit ≡ ms.limit
 unfolding with_less
 less-limit ms n = refl
 
-pub served-less : (m : Memory) (h : HeapState) (n : Mapping) (cookie : ℕ) → IsServed m h → secondary.AreMappings h.maps.mappings → Some n ≡ secondary.mapping_of h.maps.mappings n.user
-    → IsServed (without_pages m (n.start / PAGE_SIZE) n.pages) (heap_of cookie h.stacks (with_less h.maps n))
+pub served-less : (m : Memory) (h : HeapState) (n : Mapping) (cookie : ℕ) → HeapOwnsItsPages m h → secondary.AreMappings h.maps.mappings → Some n ≡ secondary.mapping_of h.maps.mappings n.user
+    → HeapOwnsItsPages (without_pages m (n.start / PAGE_SIZE) n.pages) (heap_of cookie h.stacks (with_less h.maps n))
 served-less m h n cookie v k e =
     let w = without h.maps.mappings n k e in
     let above = w.above in
@@ -157,16 +157,16 @@ served-less m h n cookie v k e =
 
 -- ---- a class gets pages
 
-left-carved : (s : StackState) (c n : ℕ) → (carved s c n).left ≡ s.left - n
-unfolding carved
-left-carved s c n = refl
+left-after-carve : (s : StackState) (c n : ℕ) → (after_carve s c n).left ≡ s.left - n
+unfolding after_carve
+left-after-carve s c n = refl
 
-pub class-carved : (s : StackState) (c n : ℕ) → class_at (carved s c n) c ≡ carved_class c (class_at s c) n
-unfolding carved class_at with_class
-class-carved s c n = class_at-with_class s c (carved_class c (class_at s c) n)
+pub class-after-carve : (s : StackState) (c n : ℕ) → class_at (after_carve s c n) c ≡ carved_class c (class_at s c) n
+unfolding after_carve class_at with_class
+class-after-carve s c n = class_at-with_class s c (carved_class c (class_at s c) n)
 
-pub class-carved_other : (s : StackState) (c n d : ℕ) → d ≢ c → class_at (carved s c n) d ≡ class_at s d
-unfolding carved class_at with_class
+pub class-carved_other : (s : StackState) (c n d : ℕ) → d ≢ c → class_at (after_carve s c n) d ≡ class_at s d
+unfolding after_carve class_at with_class
 class-carved_other s c n d o = class_at-with_class_other s c d (carved_class c (class_at s c) n) o
 
 -- where it may get n pages
@@ -203,7 +203,7 @@ own-region m s c n i v g l =
       ]
     ]
 
-pub regions-grown : (m : Memory) (s : StackState) (c n : ℕ) → AreRegions m s → MayGrow m s c n → AreRegions (with_new_pages m (next_page s c) n heap_attrs) (carved s c n)
+pub regions-grown : (m : Memory) (s : StackState) (c n : ℕ) → AreRegions m s → MayGrow m s c n → AreRegions (with_new_pages m (next_page s c) n heap_attrs) (after_carve s c n)
 regions-grown m s c n v g =
     let k = g.class in
     let low = k.low in
@@ -213,23 +213,23 @@ regions-grown m s c n v g =
     let room = v.room in
     let few = v.few c low high in
     let left = pages_left-with_new_pages n m (next_page s c) heap_attrs (next-free m s c n v g) in
-    let less = left-carved s c n in
-    let own : pages_of (carved s c n) c ≡ pages_of s c + n = ap (λ (t : ClassHeap). t.pages) (class-carved s c n) in
+    let less = left-after-carve s c n in
+    let own : pages_of (after_carve s c n) c ≡ pages_of s c + n = ap (λ (t : ClassHeap). t.pages) (class-after-carve s c n) in
     record {
       room = omega arith;
       few = λ d lo hi. elim (cases_eq d c) [
-        | inl e ↦ subst (λ t. pages_of (carved s c n) t ≤ REGION_SIZE / PAGE_SIZE) (sym e) (omega arith)
+        | inl e ↦ subst (λ t. pages_of (after_carve s c n) t ≤ REGION_SIZE / PAGE_SIZE) (sym e) (omega arith)
         | inr o ↦ subst (λ (t : ClassHeap). t.pages ≤ REGION_SIZE / PAGE_SIZE) (sym (class-carved_other s c n d o)) (v.few d lo hi)
       ];
       regions = λ d i lo hi l. elim (cases_eq d c) [
-        | inl e ↦ subst (λ t. attrs_at (with_new_pages m (next_page s c) n heap_attrs) (region_of t / PAGE_SIZE + i) ≡ heap_page (nat_lt i (pages_of (carved s c n) t))) (sym e)
+        | inl e ↦ subst (λ t. attrs_at (with_new_pages m (next_page s c) n heap_attrs) (region_of t / PAGE_SIZE + i) ≡ heap_page (nat_lt i (pages_of (after_carve s c n) t))) (sym e)
             (own-region m s c n i v g l ∙ ap (λ t. heap_page (nat_lt i t)) (sym own))
         | inr o ↦ new-out m s c n _ (λ x y. omega arith) ∙ v.regions d i lo hi l ∙ ap (λ (t : ClassHeap). heap_page (nat_lt i t.pages)) (sym (class-carved_other s c n d o))
       ];
     }
 
-pub served-grown : (m : Memory) (s : StackState) (c n cookie : ℕ) (ms : MapsState) → MayGrow m s c n → IsServed m (heap_of cookie s ms) → IsServed (with_new_pages m (next_page s c) n heap_attrs) (heap_of cookie (carved s c n) ms)
-served-grown m s c n cookie ms g v =
+pub served-after-grow : (m : Memory) (s : StackState) (c n cookie : ℕ) (ms : SecondaryState) → MayGrow m s c n → HeapOwnsItsPages m (heap_of cookie s ms) → HeapOwnsItsPages (with_new_pages m (next_page s c) n heap_attrs) (heap_of cookie (after_carve s c n) ms)
+served-after-grow m s c n cookie ms g v =
     let r = regions-of m (heap_of cookie s ms) v in
     let new = regions-grown m s c n r g in
     let k = g.class in
@@ -241,7 +241,7 @@ served-grown m s c n cookie ms g v =
     let limit = v.limit in
     let few = v.few c low high in
     let left = pages_left-with_new_pages n m (next_page s c) heap_attrs (next-free m s c n r g) in
-    let less = left-carved s c n in
+    let less = left-after-carve s c n in
     record {
       room = omega arith;
       limit = omega arith;
@@ -261,20 +261,20 @@ some-append : (c m n : ℕ) (xs : List ℕ) → 0 < n → blocks_from c m n ++ x
 some-append c m zero xs l e = omega arith
 some-append c m (suc n) xs l e = cc
 
-pub grown-some : (s : StackState) (c n : ℕ) → IsClass c → size_of c ≤ PAGE_SIZE * n → stack_of (carved s c n) c ≡ [] → ⊥
+pub grown-some : (s : StackState) (c n : ℕ) → IsClass c → size_of c ≤ PAGE_SIZE * n → stack_of (after_carve s c n) c ≡ [] → ⊥
 grown-some s c n k l e =
     let more = more-whole (PAGE_SIZE * pages_of s c) (PAGE_SIZE * n) (size_of c) (size-pos c k) l in
     let sum : PAGE_SIZE * (pages_of s c + n) ≡ PAGE_SIZE * pages_of s c + PAGE_SIZE * n = omega arith in
     let count = ap (λ t. t / size_of c) sum in
     some-append c (carved_count c (pages_of s c)) (carved_count c (pages_of s c + n) - carved_count c (pages_of s c)) (stack_of s c) (omega arith)
-    (ap (λ (t : ClassHeap). t.stack) (sym (class-carved s c n)) ∙ e)
+    (ap (λ (t : ClassHeap). t.stack) (sym (class-after-carve s c n)) ∙ e)
 
 -- ---- a mapping and its pages come
 
-pub places-of : (m : Memory) (h : HeapState) → IsServed m h → ArePlaces m h.maps
+pub places-of : (m : Memory) (h : HeapState) → HeapOwnsItsPages m h → ArePlaces m h.maps
 places-of m h v = let room = v.room in let limit = v.limit in record { room = omega arith; mappings = v.mappings }
 
-pub pages-free : (m : Memory) (ms : MapsState) (pages start : ℕ) → ArePlaces m ms → IsAt ms.mappings pages start → IsFree m (start / PAGE_SIZE) pages
+pub pages-free : (m : Memory) (ms : SecondaryState) (pages start : ℕ) → ArePlaces m ms → IsAt ms.mappings pages start → IsFree m (start / PAGE_SIZE) pages
 pages-free m ms pages start v w = λ i l.
     let above = w.above in
     let below = w.below in
@@ -289,16 +289,16 @@ pages-open m pages start lo hi e b l h = record {
   below = omega arith;
 }
 
-more-mappings : (ms : MapsState) (n : Mapping) → (with_more ms n).mappings ≡ secondary.with_mapping ms.mappings n
+more-mappings : (ms : SecondaryState) (n : Mapping) → (with_more ms n).mappings ≡ secondary.with_mapping ms.mappings n
 unfolding with_more
 more-mappings ms n = refl
 
-more-limit : (ms : MapsState) (n : Mapping) → (with_more ms n).limit ≡ ms.limit
+more-limit : (ms : SecondaryState) (n : Mapping) → (with_more ms n).limit ≡ ms.limit
 unfolding with_more
 more-limit ms n = refl
 
-pub served-more : (m : Memory) (s : StackState) (ms : MapsState) (n : Mapping) (cookie : ℕ) → IsAt ms.mappings n.pages n.start → n.pages ≤ pages_left m → IsServed m (heap_of cookie s ms)
-    → IsServed (with_new_pages m (n.start / PAGE_SIZE) n.pages heap_attrs) (heap_of cookie s (with_more ms n))
+pub served-more : (m : Memory) (s : StackState) (ms : SecondaryState) (n : Mapping) (cookie : ℕ) → IsAt ms.mappings n.pages n.start → n.pages ≤ pages_left m → HeapOwnsItsPages m (heap_of cookie s ms)
+    → HeapOwnsItsPages (with_new_pages m (n.start / PAGE_SIZE) n.pages heap_attrs) (heap_of cookie s (with_more ms n))
 served-more m s ms n cookie w enough v =
     let above = w.above in
     let below = w.below in

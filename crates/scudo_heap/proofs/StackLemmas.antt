@@ -16,7 +16,7 @@ use Rattle.scudo_primary.specs.Pools as primary
 use Rattle.scudo_primary.specs.Pools.{ClassState, PoolState, is_member, is_marked, with_pages, new_count, empty_pool}
 use Rattle.scudo_primary.proofs.PoolLaws.{class_at-with_pages, class_at-with_pages_other, left-with_pages, class_at-empty_pool, left-empty_pool}
 use Rattle.scudo_cache.specs.Caches.{CacheState, entries_of, one_stack, empty_cache}
-use Rattle.scudo_heap.specs.Stacks.{ClassHeap, StackState, empty_class, empty_stacks, stacks_by, memory_for, class_at, with_class, pages_of, stack_of, popped, pushed, carved_class, carved}
+use Rattle.scudo_heap.specs.Stacks.{ClassHeap, StackState, empty_class, empty_stacks, stacks_by, memory_for, class_at, with_class, pages_of, stack_of, after_pop, after_push, carved_class, after_carve}
 use Rattle.scudo_heap.specs.Inner.{class_in, capacities_in, stacks_in}
 use Rattle.scudo_heap.specs.declared.stacks.Stacks.TheInside.{Inside}
 
@@ -92,21 +92,21 @@ pub same-memory : (xs ys : List ℕ) (m n : ℕ) → xs ≡ ys → m ≡ n → x
 same-memory xs ys m n e f = ap (λ t. t ++ m ∷ []) e ∙ ap (λ t. ys ++ t ∷ []) f
 
 -- a pop and a push
-pub view-popped : (f g : Inside) (v : StackState) (c : ℕ) → stacks_in f ≡ v → IsClass c → g.pool.left ≡ f.pool.left → capacities_in g ≡ capacities_in f
+pub view-after-pop : (f g : Inside) (v : StackState) (c : ℕ) → stacks_in f ≡ v → IsClass c → g.pool.left ≡ f.pool.left → capacities_in g ≡ capacities_in f
     → ((d : ℕ) → primary.pages_of g.pool d ≡ primary.pages_of f.pool d) → one_stack g.cache g.pool c ≡ drop 1 (one_stack f.cache f.pool c)
-    → ((d : ℕ) → 0 < d → d ≢ c → one_stack g.cache g.pool d ≡ one_stack f.cache f.pool d) → stacks_in g ≡ popped v c
-unfolding popped
-view-popped f g v c e h l m pages rest others =
+    → ((d : ℕ) → 0 < d → d ≢ c → one_stack g.cache g.pool d ≡ one_stack f.cache f.pool d) → stacks_in g ≡ after_pop v c
+unfolding after_pop
+view-after-pop f g v c e h l m pages rest others =
     let at = at-inside f v c e h in
     view-changed f g v c _ e h l m
     (same-class _ _ _ _ (pages c ∙ ap (λ (k : ClassHeap). k.pages) (sym at)) (rest ∙ ap (λ (k : ClassHeap). drop 1 k.stack) (sym at)))
     (λ d hd n. same-class _ _ _ _ (pages d) (others d hd.low n))
 
-pub view-pushed : (f g : Inside) (v : StackState) (c block : ℕ) → stacks_in f ≡ v → IsClass c → g.pool.left ≡ f.pool.left → capacities_in g ≡ capacities_in f
+pub view-after-push : (f g : Inside) (v : StackState) (c block : ℕ) → stacks_in f ≡ v → IsClass c → g.pool.left ≡ f.pool.left → capacities_in g ≡ capacities_in f
     → ((d : ℕ) → primary.pages_of g.pool d ≡ primary.pages_of f.pool d) → one_stack g.cache g.pool c ≡ block ∷ one_stack f.cache f.pool c
-    → ((d : ℕ) → 0 < d → d ≢ c → one_stack g.cache g.pool d ≡ one_stack f.cache f.pool d) → stacks_in g ≡ pushed v c block
-unfolding pushed
-view-pushed f g v c block e h l m pages rest others =
+    → ((d : ℕ) → 0 < d → d ≢ c → one_stack g.cache g.pool d ≡ one_stack f.cache f.pool d) → stacks_in g ≡ after_push v c block
+unfolding after_push
+view-after-push f g v c block e h l m pages rest others =
     let at = at-inside f v c e h in
     view-changed f g v c _ e h l m
     (same-class _ _ _ _ (pages c ∙ ap (λ (k : ClassHeap). k.pages) (sym at)) (rest ∙ ap (λ (k : ClassHeap). block ∷ k.stack) (sym at)))
@@ -124,9 +124,9 @@ none-cached (x ∷ xs) ys e = let l = ap length e ∙ refl in let m = length-app
 pub no-entries : (f : Inside) (v : StackState) (c : ℕ) → stacks_in f ≡ v → IsClass c → stack_of v c ≡ [] → entries_of f.cache c ≡ []
 no-entries f v c e h z = none-cached (entries_of f.cache c) (primary.stack_of f.pool c) (ap (λ (k : ClassHeap). k.stack) (sym (at-inside f v c e h)) ∙ z)
 
-pub view-carved : (f : Inside) (q : PoolState) (v : StackState) (c n : ℕ) → stacks_in f ≡ v → IsClass c → stack_of v c ≡ [] → q ≡ with_pages f.pool c n → stacks_in (record { pool = q; cache = f.cache }) ≡ carved v c n
-unfolding carved
-view-carved f q v c n e h z eq =
+pub view-after-carve : (f : Inside) (q : PoolState) (v : StackState) (c n : ℕ) → stacks_in f ≡ v → IsClass c → stack_of v c ≡ [] → q ≡ with_pages f.pool c n → stacks_in (record { pool = q; cache = f.cache }) ≡ after_carve v c n
+unfolding after_carve
+view-after-carve f q v c n e h z eq =
     let g : Inside = record { pool = with_pages f.pool c n; cache = f.cache } in
     let k = primary.class_at f.pool c in
     let at = at-inside f v c e h in
@@ -175,9 +175,9 @@ pub none-is : (o : Option ℕ) → IsNone o → o ≡ None
 none-is None h = refl
 none-is (Some x) h = cc
 
-pub popped-none : (f : Inside) (v : StackState) (c : ℕ) → stacks_in f ≡ v → IsClass c → slice_get (stack_of v c) 0 ≡ None → popped v c ≡ v
-unfolding popped
-popped-none f v c e h z =
+pub after-pop-none : (f : Inside) (v : StackState) (c : ℕ) → stacks_in f ≡ v → IsClass c → slice_get (stack_of v c) 0 ≡ None → after_pop v c ≡ v
+unfolding after_pop
+after-pop-none f v c e h z =
     ap (λ s. with_class v c (class_with (pages_of v c) s)) (drop-none (stack_of v c) z)
     ∙ ap (with_class v c) (at-inside f v c e h) ∙ ap (λ t. with_class t c (class_in f c)) (sym e)
     ∙ sym (stacks_by-with_class f.pool.left (capacities_in f) (class_in f) (class_in f) c (class_in f c) h refl (λ d hd n. refl)) ∙ e

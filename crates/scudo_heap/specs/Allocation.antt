@@ -16,19 +16,19 @@ use Rattle.scudo_heap.specs.declared.chunk.Chunk.{Chunk}
 use Rattle.scudo_heap.specs.declared.chunk.Chunk.TheVariants.{Small, Large}
 use Rattle.scudo_heap.specs.Stacks.{stack_of}
 use Rattle.scudo_heap.specs.Chunks.{granules_of}
-use Rattle.scudo_heap.specs.Placing.{World, more_pages, pages_for, grown, placed}
+use Rattle.scudo_heap.specs.Placing.{World, more_pages, pages_for, after_grow, after_place}
 use Rattle.scudo_heap.specs.Large.{mapping_for, large_placed}
 
 -- What an allocation leaves: the world, and the chunk that it made, if it made one.
-pub record Made : Type 0 where
+pub record AllocationResult : Type 0 where
   pub world : World
   pub chunk : Option Chunk
 
-abbrev pub made_of : World → Option Chunk → Made
-made_of w chunk = record { world = w; chunk = chunk }
+abbrev pub allocation_of : World → Option Chunk → AllocationResult
+allocation_of w chunk = record { world = w; chunk = chunk }
 
-abbrev pub nothing : World → Made
-nothing w = record { world = w; chunk = None }
+abbrev pub no_chunk : World → AllocationResult
+no_chunk w = record { world = w; chunk = None }
 
 -- What the caller is given: the user address with the tag in its bits 59:56, or 0.
 abbrev pub answer_of : Option Chunk → ℕ
@@ -52,76 +52,78 @@ is_empty [] = true
 is_empty (b ∷ more) = false
 
 -- A class without free blocks gets pages, where so many are left.
-unfoldable pub ready : World → ℕ → World
-ready w class =
+unfoldable pub with_free_block : World → ℕ → World
+with_free_block w class =
     if is_empty (stack_of w.heap.stacks class) && nat_le (more_pages class) (pages_left w.memory)
-    then grown w class
+    then after_grow w class
     else w
 
-abbrev pub made_at : Place → World → Made
-made_at p w = record { world = w; chunk = Some (Small p w.rgsr.tag) }
+abbrev pub allocation_at : Place → World → AllocationResult
+allocation_at p w = record { world = w; chunk = Some (Small p w.rgsr.tag) }
 
 -- The top of the stack is taken; where there is none, nothing is made.
-abbrev pub taken : World → World → Origin → ℕ → ℕ → ℕ → List ℕ → Made
-taken before w origin align size class [] = nothing before
-taken before w origin align size class (b ∷ more) =
-    made_at (place_in class b align size) (placed w origin (place_in class b align size))
+abbrev pub after_take : World → World → Origin → ℕ → ℕ → ℕ → List ℕ → AllocationResult
+after_take before w origin align size class [] = no_chunk before
+after_take before w origin align size class (b ∷ more) =
+    allocation_at (place_in class b align size) (after_place w origin (place_in class b align size))
 
-unfoldable pub in_class : World → Origin → ℕ → ℕ → ℕ → Made
-in_class w origin align size class =
-    taken w (ready w class) origin align size class (stack_of (ready w class).heap.stacks class)
+unfoldable pub after_class_allocation : World → Origin → ℕ → ℕ → ℕ → AllocationResult
+after_class_allocation w origin align size class =
+    after_take w (with_free_block w class) origin align size class
+    (stack_of (with_free_block w class).heap.stacks class)
 
 -- ---- a chunk with pages of its own
 
-abbrev pub made_large : World → Origin → ℕ → Mapping → Made
-made_large w origin size m =
+abbrev pub after_map_chunk : World → Origin → ℕ → Mapping → AllocationResult
+after_map_chunk w origin size m =
     record { world = large_placed w origin m size; chunk = Some (Large m size) }
 
 -- At the least place that fits, where one does and so many pages are left.
-abbrev pub mapped_at : World → Origin → ℕ → ℕ → ℕ → Option ℕ → Made
-mapped_at w origin align size pages None = nothing w
-mapped_at w origin align size pages (Some start) =
+abbrev pub map_chunk_cases : World → Origin → ℕ → ℕ → ℕ → Option ℕ → AllocationResult
+map_chunk_cases w origin align size pages None = no_chunk w
+map_chunk_cases w origin align size pages (Some start) =
     if nat_le pages (pages_left w.memory)
-    then made_large w origin size (mapping_for start pages align size)
-    else nothing w
+    then after_map_chunk w origin size (mapping_for start pages align size)
+    else no_chunk w
 
-unfoldable pub in_mapping : World → Origin → ℕ → ℕ → ℕ → Made
-in_mapping w origin align size pages =
-    mapped_at w origin align size pages (place_of w.heap.maps.mappings pages)
+unfoldable pub after_large_allocation : World → Origin → ℕ → ℕ → ℕ → AllocationResult
+after_large_allocation w origin align size pages =
+    map_chunk_cases w origin align size pages (place_of w.heap.maps.mappings pages)
 
 -- ---- the calls
 
 -- A request for no bytes is one for one byte.
-abbrev pub asked : ℕ → ℕ
-asked size = if size == 0 then 1 else size
+abbrev pub nonzero_size : ℕ → ℕ
+nonzero_size size = if size == 0 then 1 else size
 
 -- The bytes that a block must have: the chunk's granules, and the alignment, in which the header
 -- finds room.
 abbrev pub need_of : ℕ → ℕ → ℕ
 need_of align size = 16 * granules_of size + align
 
-abbrev pub made_in : World → Origin → ℕ → ℕ → Option ℕ → Made
-made_in w origin align size None =
-    in_mapping w origin align size (pages_for (need_of align size))
-made_in w origin align size (Some class) = in_class w origin align size class
+abbrev pub allocate_cases : World → Origin → ℕ → ℕ → Option ℕ → AllocationResult
+allocate_cases w origin align size None =
+    after_large_allocation w origin align size (pages_for (need_of align size))
+allocate_cases w origin align size (Some class) = after_class_allocation w origin align size class
 
 -- The least class whose blocks hold the need, else pages of its own. The alignment is 16 at least.
-unfoldable pub allocated : World → Origin → ℕ → ℕ → Made
-allocated w origin align size =
+unfoldable pub after_allocate : World → Origin → ℕ → ℕ → AllocationResult
+after_allocate w origin align size =
     if nat_le size MAX_REQUEST
-    then made_in w origin align (asked size) (class_for (need_of align (asked size)))
-    else nothing w
+    then allocate_cases w origin align (nonzero_size size)
+    (class_for (need_of align (nonzero_size size)))
+    else no_chunk w
 
-unfoldable pub malloc_of : World → ℕ → Made
-malloc_of w size = allocated w Malloc 16 size
+unfoldable pub after_malloc : World → ℕ → AllocationResult
+after_malloc w size = after_allocate w Malloc 16 size
 
-unfoldable pub calloc_of : World → ℕ → ℕ → Made
-calloc_of w count size = allocated w Malloc 16 (count * size)
+unfoldable pub after_calloc : World → ℕ → ℕ → AllocationResult
+after_calloc w count size = after_allocate w Malloc 16 (count * size)
 
 -- A power of two up to the largest alignment, which is the twelfth.
 abbrev pub is_alignment : ℕ → Bool
 is_alignment n = list_any (λ k. n == 2 ^ k) (range_with_len 0 13)
 
-unfoldable pub memalign_of : World → ℕ → ℕ → Made
-memalign_of w align size =
-    if is_alignment align then allocated w Memalign (max align 16) size else nothing w
+unfoldable pub after_memalign : World → ℕ → ℕ → AllocationResult
+after_memalign w align size =
+    if is_alignment align then after_allocate w Memalign (max align 16) size else no_chunk w

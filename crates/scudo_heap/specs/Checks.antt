@@ -8,7 +8,7 @@ use Rattle.mte_tags.specs.Memory.{Memory, page_has}
 use Rattle.mte_tags.specs.Accesses.{read_bytes}
 use Rattle.scudo_header.specs.Classes.{size_of}
 use Rattle.scudo_header.specs.Regions.{region_of}
-use Rattle.scudo_header.specs.Headers.{unpacked}
+use Rattle.scudo_header.specs.Headers.{unpacked_header}
 use Rattle.scudo_header.specs.declared.classes.TheConstants.{CLASSES}
 use Rattle.scudo_header.specs.declared.headers.Header.{Header}
 use Rattle.scudo_header.specs.declared.headers.State.{State}
@@ -51,7 +51,8 @@ abbrev pub is_mapped : Memory → ℕ → Bool
 is_mapped m user = nat_le 16 user && page_has m ((user - 16) / PAGE_SIZE) 3
 
 unfoldable pub header_at : Memory → ℕ → ℕ → Option Header
-header_at m cookie user = unpacked cookie user (from_le_bytes w64 (read_bytes m (user - 16) 8))
+header_at m cookie user =
+    unpacked_header cookie user (from_le_bytes w64 (read_bytes m (user - 16) 8))
 
 abbrev pub is_allocated : State → Bool
 is_allocated Available = false
@@ -61,8 +62,8 @@ is_allocated Reserved = false
 
 -- ---- 5: a carved block of the class that the header gives, or a mapping; 6: a block in no stack
 
-abbrev pub place_by : ℕ → Header → Place
-place_by user header = record {
+abbrev pub place_of_header : ℕ → Header → Place
+place_of_header user header = record {
   class = header.class_id;
   block = user - 16 - 16 * header.offset;
   user = user;
@@ -81,41 +82,42 @@ is_place s p =
     nat_le p.class CLASSES && is_block s p.class p.block && nat_lt 0 p.size
     && nat_le (end_of p) (block_end p)
 
-abbrev pub found_block : StackState → Place → Header → Result Found HeapAbort
-found_block s p header = if is_place s p
+abbrev pub check_block : StackState → Place → Header → Result Found HeapAbort
+check_block s p header = if is_place s p
     then (if is_member (stack_of s p.class) p.block
     then Err AlreadyFree
     else Ok (InBlock p header))
     else Err NotABlock
 
-abbrev pub found_mapping : Header → Option Mapping → Result Found HeapAbort
-found_mapping header None = Err NotABlock
-found_mapping header (Some m) =
+abbrev pub check_mapping : Header → Option Mapping → Result Found HeapAbort
+check_mapping header None = Err NotABlock
+check_mapping header (Some m) =
     if (header.offset == 0) && nat_le header.size_or_unused_bytes (secondary.end_of m - m.user)
     then Ok (InPages m header)
     else Err NotABlock
 
-unfoldable pub found_chunk : StackState → List Mapping → ℕ → Header → Result Found HeapAbort
-found_chunk s ms user header = if header.class_id == 0
-    then found_mapping header (secondary.mapping_of ms user)
+unfoldable pub check_chunk : StackState → List Mapping → ℕ → Header → Result Found HeapAbort
+check_chunk s ms user header = if header.class_id == 0
+    then check_mapping header (secondary.mapping_of ms user)
     else (if nat_le (16 + 16 * header.offset) user
-    then found_block s (place_by user header) header
+    then check_block s (place_of_header user header) header
     else Err NotABlock)
 
-abbrev pub found_by : HeapState → ℕ → Option Header → Result Found HeapAbort
-found_by h user None = Err HeaderCorrupt
-found_by h user (Some header) = if is_allocated header.state
-    then found_chunk h.stacks h.maps.mappings user header
+abbrev pub check_header : HeapState → ℕ → Option Header → Result Found HeapAbort
+check_header h user None = Err HeaderCorrupt
+check_header h user (Some header) = if is_allocated header.state
+    then check_chunk h.stacks h.maps.mappings user header
     else Err InvalidState
 
 -- ---- all six
 
 -- What the checks of a plain address find, or the first that fails.
-unfoldable pub found : Memory → HeapState → ℕ → Result Found HeapAbort
-found m h user = if user % 16 == 0
-    then (if is_mapped m user then found_by h user (header_at m h.cookie user) else Err Unmapped)
+unfoldable pub check_pointer : Memory → HeapState → ℕ → Result Found HeapAbort
+check_pointer m h user = if user % 16 == 0
+    then (if is_mapped m user then check_header h user (header_at m h.cookie user)
+    else Err Unmapped)
     else Err Misaligned
 
-abbrev pub usable_size_by : Result Found HeapAbort → Result ℕ HeapAbort
-usable_size_by (Err e) = Err e
-usable_size_by (Ok f) = Ok (size_found f)
+abbrev pub usable_size_cases : Result Found HeapAbort → Result ℕ HeapAbort
+usable_size_cases (Err e) = Err e
+usable_size_cases (Ok f) = Ok (size_found f)

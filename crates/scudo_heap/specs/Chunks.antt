@@ -5,9 +5,9 @@ use Rattle.std.specs.Prelude.{if◌then◌else◌}
 use Rattle.std.specs.Int.{to_le_bytes, w32, w64, trailing_zeros}
 use Rattle.std.specs.Int.RustNames.{bit_or}
 use Rattle.mte_tags.specs.Memory.{Memory, tag_at, with_granules}
-use Rattle.mte_tags.specs.Accesses.{written}
+use Rattle.mte_tags.specs.Accesses.{with_bytes_at}
 use Rattle.scudo_header.specs.Classes.{size_of}
-use Rattle.scudo_header.specs.Headers.{packed}
+use Rattle.scudo_header.specs.Headers.{packed_header}
 use Rattle.scudo_header.specs.declared.headers.Header.{Header}
 use Rattle.scudo_heap.specs.declared.chunk.Place.{Place}
 
@@ -28,41 +28,43 @@ with_size p size = record p { size = size }
 -- ---- the tag
 
 -- 0 or 1, in turn from block to block of a class.
-abbrev pub half_of : ℕ → ℕ → ℕ
-half_of class block = block / 2 ^ trailing_zeros w32 (size_of class) % 2
+abbrev pub tag_parity : ℕ → ℕ → ℕ
+tag_parity class block = block / 2 ^ trailing_zeros w32 (size_of class) % 2
 
 -- The even tags for half 0, the odd ones for half 1.
-abbrev pub half_mask : ℕ → ℕ → ℕ
-half_mask class block = 0x5555 * 2 ^ half_of class block
+abbrev pub parity_mask : ℕ → ℕ → ℕ
+parity_mask class block = 0x5555 * 2 ^ tag_parity class block
 
 -- What a draw excludes: tag 0, the tags of one half, and the tag of the granule at the user
 -- address.
-unfoldable pub excluded : Memory → Place → ℕ
-excluded m p = bit_or (bit_or 1 (half_mask p.class p.block)) (2 ^ tag_at m p.user)
+unfoldable pub excluded_tags : Memory → Place → ℕ
+excluded_tags m p = bit_or (bit_or 1 (parity_mask p.class p.block)) (2 ^ tag_at m p.user)
 
 -- ---- the granules
 
 -- A tag and zero bytes on the granules of the place.
-unfoldable pub tagged : Memory → Place → ℕ → Memory
-tagged m p tag = with_granules m p.user (granules_of p.size) tag true
+unfoldable pub with_chunk_tag : Memory → Place → ℕ → Memory
+with_chunk_tag m p tag = with_granules m p.user (granules_of p.size) tag true
 
 -- Tag 0 on the granule after the place, where the block goes on.
-unfoldable pub closed : Memory → Place → Memory
-closed m p = if nat_lt (end_of p) (block_end p) then with_granules m (end_of p) 1 0 false else m
+unfoldable pub with_end_tag_0 : Memory → Place → Memory
+with_end_tag_0 m p =
+    if nat_lt (end_of p) (block_end p) then with_granules m (end_of p) 1 0 false else m
 
 -- Tag 0 on the granule of the header.
-unfoldable pub opened : Memory → Place → Memory
-opened m p = with_granules m (p.user - 16) 1 0 false
+unfoldable pub with_header_tag_0 : Memory → Place → Memory
+with_header_tag_0 m p = with_granules m (p.user - 16) 1 0 false
 
 -- The granules that come to the place get its tag and zero bytes, and the one after them tag 0
 -- where the block goes on; those that it gives up get tag 0 and keep their bytes.
-unfoldable pub refitted : Memory → Place → ℕ → Memory
-refitted m p size = if nat_lt (granules_of p.size) (granules_of size)
-    then closed
+unfoldable pub after_retag_tail : Memory → Place → ℕ → Memory
+after_retag_tail m p size = if nat_lt (granules_of p.size) (granules_of size)
+    then with_end_tag_0
     (with_granules m (end_of p) (granules_of size - granules_of p.size) (tag_at m p.user) true)
     (with_size p size)
     else with_granules m (end_of (with_size p size)) (granules_of p.size - granules_of size) 0 false
 
 -- The header's eight bytes, in the granule before the user address.
-unfoldable pub headed : Memory → ℕ → ℕ → Header → Memory
-headed m cookie user header = written m (user - 16) (to_le_bytes w64 (packed cookie user header))
+unfoldable pub with_header : Memory → ℕ → ℕ → Header → Memory
+with_header m cookie user header =
+    with_bytes_at m (user - 16) (to_le_bytes w64 (packed_header cookie user header))

@@ -5,11 +5,11 @@ use Rattle.mte_tags.specs.Memory.{Memory}
 use Rattle.a64_bits.specs.Addresses.{plain}
 use Rattle.scudo_heap.specs.declared.abort.HeapAbort.{HeapAbort}
 use Rattle.scudo_heap.specs.Heaps.{HeapState}
-use Rattle.scudo_heap.specs.Placing.{World, given_back}
+use Rattle.scudo_heap.specs.Placing.{World, after_give_back}
 use Rattle.scudo_heap.specs.Large.{large_given_back}
 use Rattle.scudo_heap.specs.declared.chunk.Found.{Found}
 use Rattle.scudo_heap.specs.declared.chunk.Found.TheVariants.{InBlock, InPages}
-use Rattle.scudo_heap.specs.Checks.{found, usable_size_by}
+use Rattle.scudo_heap.specs.Checks.{check_pointer, usable_size_cases}
 
 pub record Freed : Type 0 where
   pub world : World
@@ -17,19 +17,19 @@ pub record Freed : Type 0 where
 
 -- What is left after a chunk that the checks found is freed.
 unfoldable pub without_chunk : World → Found → World
-without_chunk w (InBlock p header) = given_back w p header
+without_chunk w (InBlock p header) = after_give_back w p header
 without_chunk w (InPages m header) = large_given_back w m
 
-abbrev pub freed_by : World → Result Found HeapAbort → Freed
-freed_by w (Err e) = record { world = w; result = Err e }
-freed_by w (Ok f) = record { world = without_chunk w f; result = Ok tt }
+abbrev pub free_cases : World → Result Found HeapAbort → Freed
+free_cases w (Err e) = record { world = w; result = Err e }
+free_cases w (Ok f) = record { world = without_chunk w f; result = Ok tt }
 
 unfoldable pub free_of : World → ℕ → Freed
 free_of w pointer = if pointer == 0
     then record { world = w; result = Ok tt }
-    else freed_by w (found w.memory w.heap (plain pointer))
+    else free_cases w (check_pointer w.memory w.heap (plain pointer))
 
 -- The size that the header gives; 0 for the null pointer.
 unfoldable pub usable_size_of : Memory → HeapState → ℕ → Result ℕ HeapAbort
 usable_size_of m h pointer =
-    if pointer == 0 then Ok 0 else usable_size_by (found m h (plain pointer))
+    if pointer == 0 then Ok 0 else usable_size_cases (check_pointer m h (plain pointer))

@@ -9,7 +9,7 @@ use Rattle.scudo_secondary.specs.Mappings as secondary
 use Rattle.scudo_secondary.specs.declared.mappings.Mapping.{Mapping}
 use Rattle.address_map.specs.declared.limits.TheConstants.{PAGE_SIZE}
 use Rattle.scudo_heap.specs.Heaps.{with_more, with_less}
-use Rattle.scudo_heap.specs.Chunks.{headed}
+use Rattle.scudo_heap.specs.Chunks.{with_header}
 use Rattle.scudo_heap.specs.Placing.{World, heap_attrs}
 
 -- The mapping of a chunk at so many pages from an address on: it ends as near to their end as its
@@ -37,7 +37,8 @@ large_header origin m size = record {
 unfoldable pub large_placed : World → Origin → Mapping → ℕ → World
 large_placed w origin m size = record w {
   memory =
-      headed (with_new_pages w.memory (m.start / PAGE_SIZE) m.pages heap_attrs) w.heap.cookie m.user
+      with_header (with_new_pages w.memory
+      (m.start / PAGE_SIZE) m.pages heap_attrs) w.heap.cookie m.user
       (large_header origin m size);
   heap = record w.heap { maps = with_more w.heap.maps m };
 }

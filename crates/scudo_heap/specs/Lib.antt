@@ -11,3 +11,4 @@ pub mod Served
 pub mod Inner
 pub mod Others
 pub mod Sound
+pub mod AbortNames

@@ -1,11 +1,11 @@
 -- What the heap calls do with a chunk of a size class: its tags, its header and its block.
---     grown w class                   a class without free blocks gets pages
---     placed w origin p               the chunk is made in the block on top of its class's stack
---     given_back w p header           the chunk is freed
---     resized w p header size         it gets another size in its block
+--     after_grow w class            a class without free blocks gets pages
+--     after_place w origin p        the chunk is made in the block on top of its class's stack
+--     after_give_back w p header    the chunk is freed
+--     after_resize w p header size  it gets another size in its block
 use Rattle.std.specs.Prelude.{ℕ, ◌+◌, ◌-◌, ◌/◌}
 use Rattle.mte_tags.specs.Memory.{Memory, with_new_pages}
-use Rattle.mte_tags.specs.RandomTags.{Drawn, drawn}
+use Rattle.mte_tags.specs.RandomTags.{Drawn, after_draw}
 use Rattle.mte_tags.specs.declared.attrs.Attrs.{Attrs}
 use Rattle.mte_tags.specs.declared.generator.Rgsr.{Rgsr}
 use Rattle.scudo_header.specs.Classes.{size_of}
@@ -15,9 +15,10 @@ use Rattle.scudo_header.specs.declared.headers.Origin.{Origin}
 use Rattle.scudo_header.specs.declared.headers.State.TheVariants.{Available, Allocated}
 use Rattle.address_map.specs.declared.limits.TheConstants.{PAGE_SIZE}
 use Rattle.scudo_heap.specs.declared.chunk.Place.{Place}
-use Rattle.scudo_heap.specs.Stacks.{StackState, pages_of, popped, pushed, carved}
+use Rattle.scudo_heap.specs.Stacks.{StackState, pages_of, after_pop, after_push, after_carve}
 use Rattle.scudo_heap.specs.Heaps.{HeapState}
-use Rattle.scudo_heap.specs.Chunks.{tagged, closed, opened, headed, excluded, refitted}
+use Rattle.scudo_heap.specs.Chunks.{with_chunk_tag, with_end_tag_0, with_header_tag_0, with_header}
+use Rattle.scudo_heap.specs.Chunks.{excluded_tags, after_retag_tail}
 
 -- What a heap call changes: the tenant's memory, its heap, and its generator of random tags.
 pub record World : Type 0 where
@@ -45,10 +46,10 @@ more_pages class = pages_for (size_of class)
 abbrev pub next_page : StackState → ℕ → ℕ
 next_page s class = region_of class / PAGE_SIZE + pages_of s class
 
-unfoldable pub grown : World → ℕ → World
-grown w class = record w {
+unfoldable pub after_grow : World → ℕ → World
+after_grow w class = record w {
   memory = with_new_pages w.memory (next_page w.heap.stacks class) (more_pages class) heap_attrs;
-  heap = record w.heap { stacks = carved w.heap.stacks class (more_pages class) };
+  heap = record w.heap { stacks = after_carve w.heap.stacks class (more_pages class) };
 }
 
 -- ---- a new chunk
@@ -62,36 +63,39 @@ new_header origin p = record {
   offset = (p.user - p.block - 16) / 16;
 }
 
-abbrev pub placed_by : World → Origin → Place → Drawn → World
-placed_by w origin p d = record {
+abbrev pub place_with_draw : World → Origin → Place → Drawn → World
+place_with_draw w origin p d = record {
   memory =
-      headed (closed (opened (tagged w.memory p d.tag) p) p) w.heap.cookie p.user
+      with_header (with_end_tag_0 (with_header_tag_0
+      (with_chunk_tag w.memory p d.tag) p) p) w.heap.cookie p.user
       (new_header origin p);
-  heap = record w.heap { stacks = popped w.heap.stacks p.class };
+  heap = record w.heap { stacks = after_pop w.heap.stacks p.class };
   rgsr = d.rgsr;
 }
 
-unfoldable pub placed : World → Origin → Place → World
-placed w origin p = placed_by w origin p (drawn w.rgsr (excluded w.memory p))
+unfoldable pub after_place : World → Origin → Place → World
+after_place w origin p = place_with_draw w origin p (after_draw w.rgsr (excluded_tags w.memory p))
 
 -- ---- a chunk that is freed
 
-abbrev pub given_back_by : World → Place → Header → Drawn → World
-given_back_by w p header d = record {
+abbrev pub give_back_with_draw : World → Place → Header → Drawn → World
+give_back_with_draw w p header d = record {
   memory =
-      headed (tagged w.memory p d.tag) w.heap.cookie p.user (record header { state = Available });
-  heap = record w.heap { stacks = pushed w.heap.stacks p.class p.block };
+      with_header (with_chunk_tag w.memory p d.tag) w.heap.cookie p.user
+      (record header { state = Available });
+  heap = record w.heap { stacks = after_push w.heap.stacks p.class p.block };
   rgsr = d.rgsr;
 }
 
-unfoldable pub given_back : World → Place → Header → World
-given_back w p header = given_back_by w p header (drawn w.rgsr (excluded w.memory p))
+unfoldable pub after_give_back : World → Place → Header → World
+after_give_back w p header =
+    give_back_with_draw w p header (after_draw w.rgsr (excluded_tags w.memory p))
 
 -- ---- a chunk that gets another size in its block
 
-unfoldable pub resized : World → Place → Header → ℕ → World
-resized w p header size = record w {
+unfoldable pub after_resize : World → Place → Header → ℕ → World
+after_resize w p header size = record w {
   memory =
-      headed (refitted w.memory p size) w.heap.cookie p.user
+      with_header (after_retag_tail w.memory p size) w.heap.cookie p.user
       (record header { size_or_unused_bytes = size });
 }

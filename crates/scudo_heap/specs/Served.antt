@@ -11,7 +11,7 @@ use Rattle.scudo_secondary.specs.declared.mappings.Mapping.{Mapping}
 use Rattle.address_map.specs.declared.limits.TheConstants.{PAGE_SIZE}
 use Rattle.address_map.specs.declared.ranges.TheConstants.{REGION_SIZE}
 use Rattle.address_map.specs.declared.ranges.TheConstants.{SECONDARY_START, SECONDARY_END}
-use Rattle.scudo_secondary.specs.Mappings.{MapsState}
+use Rattle.scudo_secondary.specs.Mappings.{SecondaryState}
 use Rattle.scudo_heap.specs.Stacks.{StackState, pages_of}
 use Rattle.scudo_heap.specs.Heaps.{HeapState, heap_of}
 
@@ -28,7 +28,7 @@ is_inside a m = nat_le m.start a && nat_lt a (secondary.end_of m)
 -- few: a class's pages lie in its region
 -- regions: of a class's region exactly its pages are mapped
 -- mappings: of the range of chunks with pages of their own exactly theirs are mapped
-pub record IsServed (m : Memory) (h : HeapState) : Type 0 where
+pub record HeapOwnsItsPages (m : Memory) (h : HeapState) : Type 0 where
   pub room : pages_left m + secondary.pages_of h.maps.mappings ≤ h.stacks.left
   pub limit : h.stacks.left ≤ h.maps.limit
   pub few :
@@ -65,18 +65,18 @@ pub record AreRegions (m : Memory) (s : StackState) : Type 0 where
 -- a change of memory and stacks keeps the condition, whatever the rest of the heap
 abbrev pub KeepsServed : Memory → StackState → Memory → StackState → Type 0
 KeepsServed m s m' s' =
-    (cookie : ℕ) (ms : MapsState) → IsServed m (heap_of cookie s ms)
-    → IsServed m' (heap_of cookie s' ms)
+    (cookie : ℕ) (ms : SecondaryState) → HeapOwnsItsPages m (heap_of cookie s ms)
+    → HeapOwnsItsPages m' (heap_of cookie s' ms)
 
 -- what of the condition the chunks with pages of their own need
-pub record ArePlaces (m : Memory) (ms : MapsState) : Type 0 where
+pub record ArePlaces (m : Memory) (ms : SecondaryState) : Type 0 where
   pub room : pages_left m + secondary.pages_of ms.mappings ≤ ms.limit
   pub mappings :
       (a : ℕ) → SECONDARY_START ≤ a → a < SECONDARY_END
       → attrs_at m (a / PAGE_SIZE) ≡ heap_page (list_any (is_inside a) ms.mappings)
 
 -- a change of memory and mappings keeps the condition, whatever the rest of the heap
-abbrev pub KeepsMapped : Memory → MapsState → Memory → MapsState → Type 0
+abbrev pub KeepsMapped : Memory → SecondaryState → Memory → SecondaryState → Type 0
 KeepsMapped m ms m' ms' =
-    (cookie : ℕ) (s : StackState) → IsServed m (heap_of cookie s ms)
-    → IsServed m' (heap_of cookie s ms')
+    (cookie : ℕ) (s : StackState) → HeapOwnsItsPages m (heap_of cookie s ms)
+    → HeapOwnsItsPages m' (heap_of cookie s ms')

@@ -1,9 +1,9 @@
 -- The size classes of a heap: for each the pages of its region and ONE stack of free blocks.
---     class_at s class              what a class has
---     popped s class                s without the top block of a class's stack
---     pushed s class block          s with a block more on top
---     carved s class pages          s with pages more for a class, and the new blocks on top, the
---                                   lowest first
+--     class_at s class           what a class has
+--     after_pop s class          s without the top block of a class's stack
+--     after_push s class block   s with a block more on top
+--     after_carve s class pages  s with pages more for a class, and the new blocks on top, the
+--                                lowest first
 use Rattle.std.specs.Prelude.{◌≡◌, ℕ, ◌+◌, ◌-◌, ◌*◌, ◌<◌, ◌≤◌, true, nat_eq, List, [], ◌∷◌, ◌++◌, drop}
 use Rattle.std.specs.Prelude.{map, refl, unwrap_or}
 use Rattle.std.specs.List.{range_with_len, IsDistinct}
@@ -78,11 +78,11 @@ with_class s class k = record s { classes = finite.insert s.classes class k }
 abbrev pub with_stack : StackState → ℕ → List ℕ → StackState
 with_stack s class stack = with_class s class (record { pages = pages_of s class; stack = stack })
 
-unfoldable pub popped : StackState → ℕ → StackState
-popped s class = with_stack s class (drop 1 (stack_of s class))
+unfoldable pub after_pop : StackState → ℕ → StackState
+after_pop s class = with_stack s class (drop 1 (stack_of s class))
 
-unfoldable pub pushed : StackState → ℕ → ℕ → StackState
-pushed s class block = with_stack s class (block ∷ stack_of s class)
+unfoldable pub after_push : StackState → ℕ → ℕ → StackState
+after_push s class block = with_stack s class (block ∷ stack_of s class)
 
 -- The blocks that become whole with so many more pages, in ascending order.
 abbrev pub new_blocks : ℕ → ℕ → ℕ → List ℕ
@@ -96,8 +96,8 @@ carved_class class k more = record {
   stack = new_blocks class k.pages more ++ k.stack;
 }
 
-unfoldable pub carved : StackState → ℕ → ℕ → StackState
-carved s class more =
+unfoldable pub after_carve : StackState → ℕ → ℕ → StackState
+after_carve s class more =
     record (with_class s class (carved_class class (class_at s class) more)) {
       left = s.left - more;
     }

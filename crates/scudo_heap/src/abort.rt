@@ -1,26 +1,50 @@
 //! How a check of a pointer fails.
 
-use thiserror::Error;
+ghost use Rattle.std.specs.Prelude.{◌≡◌, Some};
+ghost use Rattle.scudo_heap.specs.AbortNames.{abort_name};
+
+use std::error::Error;
+use std::fmt;
 
 /// The first check that a pointer fails. A call that ends so has changed nothing.
-#[derive(Clone, Copy, Debug, PartialEq, Eq, Error)]
+#[derive(Clone, Copy, Debug, PartialEq, Eq)]
 pub enum HeapAbort {
     /// Its plain address is not a multiple of 16.
-    #[error("Misaligned")]
     Misaligned,
     /// The granule before it lies in no mapped page with WRITE.
-    #[error("Unmapped")]
     Unmapped,
     /// The checksum of its header differs.
-    #[error("HeaderCorrupt")]
     HeaderCorrupt,
     /// Its header's state is not that of a chunk that is handed out.
-    #[error("InvalidState")]
     InvalidState,
     /// Its header names no block or mapping of the heap, or a size that this does not hold.
-    #[error("NotABlock")]
     NotABlock,
     /// Its block is free.
-    #[error("AlreadyFree")]
     AlreadyFree,
 }
+
+impl HeapAbort {
+    /// Its name in a report.
+    pub fn name(self) -> &'static str
+        ensures { result.now ≡ abort_name self }
+    {
+        match self {
+            HeapAbort::Misaligned => "Misaligned",
+            HeapAbort::Unmapped => "Unmapped",
+            HeapAbort::HeaderCorrupt => "HeaderCorrupt",
+            HeapAbort::InvalidState => "InvalidState",
+            HeapAbort::NotABlock => "NotABlock",
+            HeapAbort::AlreadyFree => "AlreadyFree",
+        }
+    }
+}
+
+impl fmt::Display for HeapAbort {
+    ghost output = { λ abort. Some (abort_name abort) };
+
+    fn fmt<W: fmt::Write>(&self, f: &mut fmt::Formatter<W>) -> fmt::Result {
+        f.write_str(self.name())
+    }
+}
+
+impl Error for HeapAbort {}

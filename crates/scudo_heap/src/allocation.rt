@@ -5,9 +5,10 @@ ghost use Rattle.scudo_header.specs.Classes.{class_for};
 ghost use Rattle.scudo_heap.specs.Chunks.{granules_of};
 ghost use Rattle.scudo_heap.specs.Heaps.{heap_of};
 ghost use Rattle.scudo_heap.specs.Placing.{world_of, pages_for};
-ghost use Rattle.scudo_heap.specs.Allocation.{made_of, made_in, need_of, asked, allocated};
+ghost use Rattle.scudo_heap.specs.Allocation.{allocation_of, allocate_cases, need_of, nonzero_size};
+ghost use Rattle.scudo_heap.specs.Allocation.{after_allocate};
 ghost use Rattle.scudo_heap.specs.Allocation.{is_alignment};
-ghost use Rattle.scudo_heap.specs.Served.{IsServed};
+ghost use Rattle.scudo_heap.specs.Served.{HeapOwnsItsPages};
 ghost use Rattle.scudo_heap.specs.Inner.{IsAlign, IsLow};
 
 use crate::chunk::{Chunk, by_fields};
@@ -19,7 +20,7 @@ use crate::tagging::granules;
 use address_map::PAGE_SIZE;
 use mte_tags::{Paged, Rgsr};
 use scudo_header::{Origin, class_of};
-use scudo_secondary::Maps;
+use scudo_secondary::Secondary;
 
 /// Whether an alignment is a power of two up to `MAX_ALIGNMENT`.
 pub(crate) fn is_power(alignment: u64) -> bool
@@ -37,7 +38,7 @@ pub(crate) fn is_power(alignment: u64) -> bool
 fn make_some<M: Paged>(
     cookie: u32,
     stacks: &mut Stacks,
-    maps: &mut Maps,
+    maps: &mut Secondary,
     rgsr: &mut Rgsr,
     memory: &mut M,
     origin: Origin,
@@ -48,14 +49,15 @@ fn make_some<M: Paged>(
     requires align { IsAlign align }
     requires some { 0 < size }
     requires most { size ≤ MAX_REQUEST }
-    requires served { IsServed (M.memory memory.old) (heap_of cookie stacks.old maps.old) }
-    ensures made { made_of
+    requires served { HeapOwnsItsPages (M.memory memory.old) (heap_of cookie stacks.old maps.old) }
+    ensures made { allocation_of
         (world_of (M.memory memory.new) (heap_of cookie stacks.new maps.new) rgsr.new) result
-        ≡ made_in (world_of (M.memory memory.old) (heap_of cookie stacks.old maps.old) rgsr.old)
+        ≡ allocate_cases (world_of (M.memory memory.old)
+        (heap_of cookie stacks.old maps.old) rgsr.old)
         origin align size (class_for (need_of align size)) }
     ensures low_chunk { IfSome result IsLow }
     ensures tag { rgsr.new.tag < 16 }
-    ensures served { IsServed (M.memory memory.new) (heap_of cookie stacks.new maps.new) }
+    ensures served { HeapOwnsItsPages (M.memory memory.new) (heap_of cookie stacks.new maps.new) }
     ensures kept { M.kept memory.old memory.new }
 {
     let need = 16 * granules(size) + align;
@@ -70,12 +72,12 @@ fn make_some<M: Paged>(
 }
 
 /// A chunk of so many bytes, or of one where none is requested.
-#[tactic(auto, unfolding(crate::specs::Allocation::allocated))]
+#[tactic(auto, unfolding(crate::specs::Allocation::after_allocate))]
 #[inline(always)]
 pub(crate) fn allocate<M: Paged>(
     cookie: u32,
     stacks: &mut Stacks,
-    maps: &mut Maps,
+    maps: &mut Secondary,
     rgsr: &mut Rgsr,
     memory: &mut M,
     origin: Origin,
@@ -84,14 +86,15 @@ pub(crate) fn allocate<M: Paged>(
 ) -> Option<Chunk>
     requires drawn { rgsr.old.tag < 16 }
     requires align { IsAlign align }
-    requires served { IsServed (M.memory memory.old) (heap_of cookie stacks.old maps.old) }
-    ensures made { made_of
+    requires served { HeapOwnsItsPages (M.memory memory.old) (heap_of cookie stacks.old maps.old) }
+    ensures made { allocation_of
         (world_of (M.memory memory.new) (heap_of cookie stacks.new maps.new) rgsr.new) result
-        ≡ allocated (world_of (M.memory memory.old) (heap_of cookie stacks.old maps.old) rgsr.old)
+        ≡ after_allocate (world_of (M.memory memory.old)
+        (heap_of cookie stacks.old maps.old) rgsr.old)
         origin align size }
     ensures low_chunk { IfSome result IsLow }
     ensures tag { rgsr.new.tag < 16 }
-    ensures served { IsServed (M.memory memory.new) (heap_of cookie stacks.new maps.new) }
+    ensures served { HeapOwnsItsPages (M.memory memory.new) (heap_of cookie stacks.new maps.new) }
     ensures kept { M.kept memory.old memory.new }
 {
     if size > MAX_REQUEST {

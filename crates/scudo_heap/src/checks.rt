@@ -6,9 +6,10 @@ ghost use Rattle.mte_tags.specs.Accesses.{read_bytes};
 ghost use Rattle.scudo_secondary.specs.Mappings.{mapping_of};
 ghost use Rattle.scudo_heap.specs.Chunks.{end_of, block_end};
 ghost use Rattle.scudo_heap.specs.Heaps.{heap_of};
-ghost use Rattle.scudo_heap.specs.Checks.{is_allocated, is_place, place_by, size_found, is_mapped};
-ghost use Rattle.scudo_heap.specs.Checks.{found};
-ghost use Rattle.scudo_heap.specs.Checks.{found_block, found_mapping, found_chunk, HasEnd};
+ghost use Rattle.scudo_heap.specs.Checks.{is_allocated, is_place, place_of_header, size_found};
+ghost use Rattle.scudo_heap.specs.Checks.{is_mapped};
+ghost use Rattle.scudo_heap.specs.Checks.{check_pointer};
+ghost use Rattle.scudo_heap.specs.Checks.{check_block, check_mapping, check_chunk, HasEnd};
 
 use crate::abort::HeapAbort;
 use crate::chunk::{Found, Place};
@@ -16,7 +17,7 @@ use crate::stacks::Stacks;
 use address_map::PAGE_SIZE;
 use mte_tags::{Attrs, Paged, Tagged};
 use scudo_header::{CLASSES, Header, State, size_of_class, unpack};
-use scudo_secondary::{Mapping, Maps};
+use scudo_secondary::{Mapping, Secondary};
 
 /// Whether a chunk in a state is handed out.
 #[inline(always)]
@@ -52,7 +53,7 @@ fn in_block(stacks: &Stacks, place: Place, header: &Header) -> Result<Found, Hea
     requires user { place.user < 2 ^ 56 }
     requires size { place.size < 2 ^ 20 }
     requires block { place.block < 2 ^ 56 }
-    ensures found { result ≡ found_block stacks.now place header.now }
+    ensures found { result ≡ check_block stacks.now place header.now }
     ensures end { IfOk result HasEnd }
 {
     if !lies_in_block(stacks, place) {
@@ -66,8 +67,8 @@ fn in_block(stacks: &Stacks, place: Place, header: &Header) -> Result<Found, Hea
 
 /// The chunk of a mapping that is there.
 #[inline(always)]
-fn in_pages(maps: &Maps, user: u64, header: &Header) -> Result<Found, HeapAbort>
-    ensures found { result ≡ found_mapping header.now (mapping_of maps.now.mappings user) }
+fn in_pages(maps: &Secondary, user: u64, header: &Header) -> Result<Found, HeapAbort>
+    ensures found { result ≡ check_mapping header.now (mapping_of maps.now.mappings user) }
     ensures end { IfOk result HasEnd }
 {
     let Some(mapping) = maps.find(user) else {
@@ -81,12 +82,17 @@ fn in_pages(maps: &Maps, user: u64, header: &Header) -> Result<Found, HeapAbort>
 }
 
 /// The chunk that a header gives, which is that of a chunk handed out.
-#[tactic(auto, unfolding(crate::specs::Checks::found_chunk))]
+#[tactic(auto, unfolding(crate::specs::Checks::check_chunk))]
 #[inline(always)]
-fn by_header(stacks: &Stacks, maps: &Maps, user: u64, header: &Header) -> Result<Found, HeapAbort>
+fn by_header(
+    stacks: &Stacks,
+    maps: &Secondary,
+    user: u64,
+    header: &Header,
+) -> Result<Found, HeapAbort>
     requires user { user < 2 ^ 56 }
     requires size { header.now.size_or_unused_bytes < 2 ^ 20 }
-    ensures found { result ≡ found_chunk stacks.now maps.now.mappings user header.now }
+    ensures found { result ≡ check_chunk stacks.now maps.now.mappings user header.now }
     ensures end { IfOk result HasEnd }
 {
     if header.class_id == 0 {
@@ -126,7 +132,7 @@ fn header_word<M: Paged>(memory: &mut M, user: u64) -> Option<u64>
     }
 }
 
-/// The same where the chunk begins another page, or no page is mapped there.
+/// Slow path: the chunk begins another page, or no page is mapped there.
 #[cold]
 #[inline(never)]
 fn header_word_alone<M: Paged>(memory: &mut M, user: u64) -> Option<u64>
@@ -153,13 +159,13 @@ fn header_word_alone<M: Paged>(memory: &mut M, user: u64) -> Option<u64>
 pub(crate) fn find_chunk<M: Paged>(
     cookie: u32,
     stacks: &Stacks,
-    maps: &Maps,
+    maps: &Secondary,
     memory: &mut M,
     user: u64,
 ) -> Result<Found, HeapAbort>
     requires { user < 2 ^ 56 }
     ensures answer { result
-        ≡ found (M.memory memory.old) (heap_of cookie stacks.now maps.now) user }
+        ≡ check_pointer (M.memory memory.old) (heap_of cookie stacks.now maps.now) user }
     ensures end { IfOk result HasEnd }
     ensures memory { M.memory memory.new ≡ M.memory memory.old }
     ensures kept { M.kept memory.old memory.new }

@@ -2,7 +2,7 @@
 
 ghost use Rattle.std.specs.Prelude.{◌≡◌, ◌≤◌, ◌^◌, Some, IfSome};
 ghost use Rattle.scudo_heap.specs.Allocation.{answer_of};
-ghost use Rattle.scudo_heap.specs.Realloc.{user_in, user_of};
+ghost use Rattle.scudo_heap.specs.Realloc.{user_of_chunk, user_of};
 ghost use Rattle.scudo_heap.specs.Inner.{IsLow};
 ghost use Rattle.scudo_heap.specs.Checks.{size_found, HasEnd};
 
@@ -44,7 +44,7 @@ pub enum Found {
 impl Chunk {
     /// The address that its user is given, without the tag.
     pub(crate) fn user(&self) -> u64
-        ensures { result ≡ user_in self.now }
+        ensures { result ≡ user_of_chunk self.now }
     {
         match self {
             Chunk::Small(place, _) => place.user,
@@ -102,7 +102,7 @@ pub(crate) fn address_or_null(chunk: &Option<Chunk>) -> u64
     }
 }
 
-/// The same chunk, field by field: what a call out of line wrote stays apart from the chunks that
+/// Copies a chunk field by field: what a call out of line wrote stays apart from the chunks that
 /// are held in registers.
 #[inline(always)]
 pub(crate) fn by_fields(chunk: Option<Chunk>) -> Option<Chunk>

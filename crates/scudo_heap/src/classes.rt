@@ -6,11 +6,12 @@ ghost use Rattle.std.specs.Prelude.{if◌then◌else◌};
 ghost use Rattle.mte_tags.specs.Memory.{pages_left, with_new_pages};
 ghost use Rattle.scudo_header.specs.Classes.{size_of};
 ghost use Rattle.scudo_header.specs.Regions.{region_of};
-ghost use Rattle.scudo_secondary.specs.Mappings.{MapsState};
-ghost use Rattle.scudo_heap.specs.Stacks.{stack_of, carved};
+ghost use Rattle.scudo_secondary.specs.Mappings.{SecondaryState};
+ghost use Rattle.scudo_heap.specs.Stacks.{stack_of, after_carve};
 ghost use Rattle.scudo_heap.specs.Heaps.{heap_of};
 ghost use Rattle.scudo_heap.specs.Placing.{world_of, more_pages, next_page, heap_attrs};
-ghost use Rattle.scudo_heap.specs.Allocation.{made_of, place_in, taken, need_of, in_class};
+ghost use Rattle.scudo_heap.specs.Allocation.{allocation_of, place_in, after_take, need_of};
+ghost use Rattle.scudo_heap.specs.Allocation.{after_class_allocation};
 ghost use Rattle.scudo_heap.specs.Served.{AreRegions, KeepsServed};
 ghost use Rattle.scudo_heap.specs.Inner.{IsAlign, IsLow};
 
@@ -71,9 +72,10 @@ fn take_top<M: Paged>(
     requires small { size < 2 ^ 20 }
     requires fits { need_of align size ≤ size_of class }
     requires regions { AreRegions (M.memory memory.old) stacks.old }
-    ensures made { (ms : MapsState)
-        → made_of (world_of (M.memory memory.new) (heap_of cookie stacks.new ms) rgsr.new) result
-        ≡ taken (world_of (M.memory memory.old) (heap_of cookie stacks.old ms) rgsr.old)
+    ensures made { (ms : SecondaryState)
+        → allocation_of (world_of (M.memory memory.new)
+        (heap_of cookie stacks.new ms) rgsr.new) result
+        ≡ after_take (world_of (M.memory memory.old) (heap_of cookie stacks.old ms) rgsr.old)
         (world_of (M.memory memory.old) (heap_of cookie stacks.old ms) rgsr.old)
         origin align size class (stack_of stacks.old class) }
     ensures empty { IsNone result → stack_of stacks.old class ≡ [] }
@@ -109,7 +111,7 @@ fn grow<M: Paged>(stacks: &mut Stacks, memory: &mut M, class: u8) -> bool
         heap_attrs
         else M.memory memory.old) }
     ensures stacks { stacks.new
-        ≡ (if result then carved stacks.old class (more_pages class) else stacks.old) }
+        ≡ (if result then after_carve stacks.old class (more_pages class) else stacks.old) }
     ensures some { IsTrue result → stack_of stacks.new class ≢ [] }
     ensures regions { AreRegions (M.memory memory.new) stacks.new }
     ensures served { KeepsServed (M.memory memory.old) stacks.old (M.memory memory.new)
@@ -150,9 +152,11 @@ fn grow_and_take<M: Paged>(
     requires fits { need_of align size ≤ size_of class }
     requires empty { stack_of stacks.old class ≡ [] }
     requires regions { AreRegions (M.memory memory.old) stacks.old }
-    ensures made { (ms : MapsState)
-        → made_of (world_of (M.memory memory.new) (heap_of cookie stacks.new ms) rgsr.new) result
-        ≡ in_class (world_of (M.memory memory.old) (heap_of cookie stacks.old ms) rgsr.old)
+    ensures made { (ms : SecondaryState)
+        → allocation_of (world_of (M.memory memory.new)
+        (heap_of cookie stacks.new ms) rgsr.new) result
+        ≡ after_class_allocation (world_of (M.memory memory.old)
+        (heap_of cookie stacks.old ms) rgsr.old)
         origin align size class }
     ensures low_chunk { IfSome result IsLow }
     ensures tag { rgsr.new.tag < 16 }
@@ -186,9 +190,11 @@ pub(crate) fn take_block<M: Paged>(
     requires small { size < 2 ^ 20 }
     requires fits { need_of align size ≤ size_of class }
     requires regions { AreRegions (M.memory memory.old) stacks.old }
-    ensures made { (ms : MapsState)
-        → made_of (world_of (M.memory memory.new) (heap_of cookie stacks.new ms) rgsr.new) result
-        ≡ in_class (world_of (M.memory memory.old) (heap_of cookie stacks.old ms) rgsr.old)
+    ensures made { (ms : SecondaryState)
+        → allocation_of (world_of (M.memory memory.new)
+        (heap_of cookie stacks.new ms) rgsr.new) result
+        ≡ after_class_allocation (world_of (M.memory memory.old)
+        (heap_of cookie stacks.old ms) rgsr.old)
         origin align size class }
     ensures low_chunk { IfSome result IsLow }
     ensures tag { rgsr.new.tag < 16 }

@@ -2,7 +2,7 @@
 
 ghost use Rattle.std.specs.Prelude.{◌≡◌, ◌+◌, ◌≤◌, length, ℕ};
 ghost use Rattle.mte_tags.specs.Memory.{attrs_at, pages_left};
-ghost use Rattle.scudo_heap.specs.Realloc.{copied};
+ghost use Rattle.scudo_heap.specs.Realloc.{after_copy};
 ghost use Rattle.scudo_heap.specs.Served.{IsOpen};
 ghost use Rattle.scudo_heap.specs.Inner.{AreApart};
 
@@ -12,12 +12,12 @@ use mte_tags::{Paged, Tagged};
 const PART: usize = 256;
 
 /// Copies as many bytes of the heap's pages as a buffer holds.
-#[tactic(auto, unfolding(crate::specs::Realloc::copied))]
+#[tactic(auto, unfolding(crate::specs::Realloc::after_copy))]
 fn copy_part<M: Paged>(memory: &mut M, from: u64, to: u64, part: &mut [u8])
     requires source { IsOpen (M.memory memory.old) from (from + length part.old) }
     requires target { IsOpen (M.memory memory.old) to (to + length part.old) }
     ensures memory { M.memory memory.new
-        ≡ copied (M.memory memory.old) from to (length part.old) }
+        ≡ after_copy (M.memory memory.old) from to (length part.old) }
     ensures kept { M.kept memory.old memory.new }
 {
     // The heap's pages can be read.
@@ -30,7 +30,7 @@ pub(crate) fn copy_bytes<M: Paged>(memory: &mut M, from: u64, to: u64, count: u6
     requires source { IsOpen (M.memory memory.old) from (from + count) }
     requires target { IsOpen (M.memory memory.old) to (to + count) }
     requires apart { AreApart from to count }
-    ensures memory { M.memory memory.new ≡ copied (M.memory memory.old) from to count }
+    ensures memory { M.memory memory.new ≡ after_copy (M.memory memory.old) from to count }
     ensures attrs { (q : ℕ)
         → attrs_at (M.memory memory.new) q ≡ attrs_at (M.memory memory.old) q }
     ensures left { pages_left (M.memory memory.new) ≡ pages_left (M.memory memory.old) }

@@ -2,15 +2,16 @@
 
 ghost use Rattle.std.specs.Prelude.{◌≡◌, ◌-◌, ◌<◌, ◌≤◌, ◌/◌, ◌%◌, ◌^◌, ℕ, Some};
 ghost use Rattle.mte_tags.specs.Memory.{attrs_at, pages_left, without_pages};
-ghost use Rattle.mte_tags.specs.RandomTags.{drawn};
+ghost use Rattle.mte_tags.specs.RandomTags.{after_draw};
 ghost use Rattle.scudo_header.specs.declared.headers.State.TheVariants.{Available};
 ghost use Rattle.scudo_secondary.specs.Mappings as secondary;
-ghost use Rattle.scudo_heap.specs.Stacks.{pushed};
+ghost use Rattle.scudo_heap.specs.Stacks.{after_push};
 ghost use Rattle.scudo_heap.specs.Heaps.{heap_of, with_less};
-ghost use Rattle.scudo_heap.specs.Chunks.{end_of, block_end, excluded, tagged, headed};
+ghost use Rattle.scudo_heap.specs.Chunks.{end_of, block_end, excluded_tags, with_chunk_tag};
+ghost use Rattle.scudo_heap.specs.Chunks.{with_header};
 ghost use Rattle.scudo_heap.specs.Placing.{world_of};
 ghost use Rattle.scudo_heap.specs.Freeing.{without_chunk};
-ghost use Rattle.scudo_heap.specs.Served.{IsServed, IsOpen};
+ghost use Rattle.scudo_heap.specs.Served.{HeapOwnsItsPages, IsOpen};
 ghost use Rattle.scudo_heap.specs.Inner.{IsFoundBlock, IsFound};
 
 use crate::chunk::{Found, Place};
@@ -20,11 +21,11 @@ use crate::tagging::{choose_tag, granules};
 use address_map::PAGE_SIZE;
 use mte_tags::{Paged, Rgsr, Tagged};
 use scudo_header::{Header, State, pack};
-use scudo_secondary::{Mapping, Maps};
+use scudo_secondary::{Mapping, Secondary};
 
 /// Gives the granules of a chunk a tag and zero bytes, and writes its header, with one look-up
 /// where one page holds all of it.
-#[tactic(auto, unfolding(crate::specs::Chunks::tagged))]
+#[tactic(auto, unfolding(crate::specs::Chunks::with_chunk_tag))]
 #[inline(always)]
 fn write_freed<M: Paged>(memory: &mut M, cookie: u32, place: Place, tag: u8, header: &Header)
     requires tag { tag < 16 }
@@ -35,7 +36,8 @@ fn write_freed<M: Paged>(memory: &mut M, cookie: u32, place: Place, tag: u8, hea
     requires fields { header.now.size_or_unused_bytes < 2 ^ 20 }
     requires open { IsOpen (M.memory memory.old) (place.user - 16) (end_of place) }
     ensures memory { M.memory memory.new
-        ≡ headed (tagged (M.memory memory.old) place tag) cookie place.user header.now }
+        ≡ with_header (with_chunk_tag
+        (M.memory memory.old) place tag) cookie place.user header.now }
     ensures attrs { (q : ℕ)
         → attrs_at (M.memory memory.new) q ≡ attrs_at (M.memory memory.old) q }
     ensures left { pages_left (M.memory memory.new) ≡ pages_left (M.memory memory.old) }
@@ -64,12 +66,13 @@ fn free_block<M: Paged>(
     requires found { IsFoundBlock stacks.old place header.now }
     requires open { IsOpen (M.memory memory.old) place.block (block_end place) }
     ensures memory { M.memory memory.new
-        ≡ headed
-        (tagged (M.memory memory.old) place
-        (drawn rgsr.old (excluded (M.memory memory.old) place)).tag)
+        ≡ with_header
+        (with_chunk_tag (M.memory memory.old) place
+        (after_draw rgsr.old (excluded_tags (M.memory memory.old) place)).tag)
         cookie place.user (record header.now { state = Available }) }
-    ensures stacks { stacks.new ≡ pushed stacks.old place.class place.block }
-    ensures rgsr { rgsr.new ≡ (drawn rgsr.old (excluded (M.memory memory.old) place)).rgsr }
+    ensures stacks { stacks.new ≡ after_push stacks.old place.class place.block }
+    ensures rgsr { rgsr.new ≡ (after_draw rgsr.old
+        (excluded_tags (M.memory memory.old) place)).rgsr }
     ensures tag { rgsr.new.tag < 16 }
     ensures attrs { (q : ℕ)
         → attrs_at (M.memory memory.new) q ≡ attrs_at (M.memory memory.old) q }
@@ -85,7 +88,7 @@ fn free_block<M: Paged>(
 
 /// Takes the mapping of a chunk away, and unmaps its pages.
 #[inline(never)]
-fn free_pages<M: Paged>(maps: &mut Maps, memory: &mut M, mapping: Mapping)
+fn free_pages<M: Paged>(maps: &mut Secondary, memory: &mut M, mapping: Mapping)
     requires there { Some mapping ≡ secondary.mapping_of maps.old.mappings mapping.user }
     requires open { secondary.AreMappings maps.old.mappings
         → IsOpen (M.memory memory.old) mapping.start (secondary.end_of mapping) }
@@ -105,19 +108,19 @@ fn free_pages<M: Paged>(maps: &mut Maps, memory: &mut M, mapping: Mapping)
 pub(crate) fn free_found<M: Paged>(
     cookie: u32,
     stacks: &mut Stacks,
-    maps: &mut Maps,
+    maps: &mut Secondary,
     rgsr: &mut Rgsr,
     memory: &mut M,
     found: Found,
 )
     requires drawn { rgsr.old.tag < 16 }
-    requires served { IsServed (M.memory memory.old) (heap_of cookie stacks.old maps.old) }
+    requires served { HeapOwnsItsPages (M.memory memory.old) (heap_of cookie stacks.old maps.old) }
     requires found { IsFound (heap_of cookie stacks.old maps.old) found }
     ensures world { world_of (M.memory memory.new) (heap_of cookie stacks.new maps.new) rgsr.new
         ≡ without_chunk
         (world_of (M.memory memory.old) (heap_of cookie stacks.old maps.old) rgsr.old)
         found }
-    ensures served { IsServed (M.memory memory.new) (heap_of cookie stacks.new maps.new) }
+    ensures served { HeapOwnsItsPages (M.memory memory.new) (heap_of cookie stacks.new maps.new) }
     ensures tag { rgsr.new.tag < 16 }
     ensures kept { M.kept memory.old memory.new }
 {

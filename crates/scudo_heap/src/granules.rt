@@ -3,7 +3,7 @@
 
 ghost use Rattle.std.specs.Prelude.{◌≡◌, ◌+◌, ◌-◌, ◌*◌, ◌%◌, ◌^◌, ◌<◌, ◌≤◌, ℕ};
 ghost use Rattle.mte_tags.specs.Memory.{attrs_at, pages_left, tag_at, with_granules};
-ghost use Rattle.scudo_heap.specs.Chunks.{headed};
+ghost use Rattle.scudo_heap.specs.Chunks.{with_header};
 ghost use Rattle.scudo_heap.specs.Served.{IsOpen};
 
 use mte_tags::{Paged, Tagged};
@@ -43,14 +43,14 @@ pub(crate) fn tag_there<M: Paged>(memory: &mut M, addr: u64) -> u8
 }
 
 /// Writes the header of a chunk.
-#[tactic(auto, unfolding(crate::specs::Chunks::headed))]
+#[tactic(auto, unfolding(crate::specs::Chunks::with_header))]
 #[inline(always)]
 pub(crate) fn put_header<M: Paged>(memory: &mut M, cookie: u32, user: u64, header: &Header)
     requires fields { header.now.size_or_unused_bytes < 2 ^ 20 }
     requires above { 16 ≤ user }
     requires open { IsOpen (M.memory memory.old) (user - 16) user }
     ensures memory { M.memory memory.new
-        ≡ headed (M.memory memory.old) cookie user header.now }
+        ≡ with_header (M.memory memory.old) cookie user header.now }
     ensures attrs { (q : ℕ)
         → attrs_at (M.memory memory.new) q ≡ attrs_at (M.memory memory.old) q }
     ensures left { pages_left (M.memory memory.new) ≡ pages_left (M.memory memory.old) }

@@ -3,10 +3,11 @@
 ghost use Rattle.std.specs.Prelude.{◌≡◌, ◌<◌, ◌≤◌, IfOk};
 ghost use Rattle.scudo_heap.specs.Heaps.{HeapState, heap_of, empty_heap};
 ghost use Rattle.scudo_heap.specs.Placing.{world_of};
-ghost use Rattle.scudo_heap.specs.Allocation.{answer_of, malloc_of, calloc_of, memalign_of};
+ghost use Rattle.scudo_heap.specs.Allocation.{answer_of, after_malloc, after_calloc};
+ghost use Rattle.scudo_heap.specs.Allocation.{after_memalign};
 ghost use Rattle.scudo_heap.specs.Freeing.{free_of, usable_size_of};
-ghost use Rattle.scudo_heap.specs.Realloc.{answered, realloc_of};
-ghost use Rattle.scudo_heap.specs.Served.{IsServed};
+ghost use Rattle.scudo_heap.specs.Realloc.{realloc_answer, after_realloc};
+ghost use Rattle.scudo_heap.specs.Served.{HeapOwnsItsPages};
 ghost use Rattle.scudo_heap.specs.Sound.{IsSound};
 
 use crate::abort::HeapAbort;
@@ -21,7 +22,7 @@ use a64_bits::plain;
 use address_map::MAX_PAGES;
 use mte_tags::{Paged, Rgsr};
 use scudo_header::Origin;
-use scudo_secondary::Maps;
+use scudo_secondary::Secondary;
 use std::alloc::{AllocError, Global};
 use std::marker::Model;
 
@@ -32,7 +33,7 @@ use std::marker::Model;
 pub struct Heap {
     cookie: u32,
     stacks: Stacks,
-    maps: Maps,
+    maps: Secondary,
 }
 
 impl Model for Heap {
@@ -55,7 +56,7 @@ impl Heap {
         ensures { IfOk result (λ heap. heap ≡ empty_heap cookie pages) }
     {
         let stacks = Stacks::new(alloc, pages)?;
-        let maps = Maps::new(alloc, pages)?;
+        let maps = Secondary::new(alloc, pages)?;
         Ok(Heap {
             cookie,
             stacks,
@@ -70,13 +71,13 @@ impl Heap {
     /// own fit nowhere.
     #[inline(never)]
     pub fn malloc<M: Paged>(&mut self, rgsr: &mut Rgsr, memory: &mut M, size: u64) -> u64
-        requires served { IsServed (M.memory memory.old) self.old }
+        requires served { HeapOwnsItsPages (M.memory memory.old) self.old }
         requires tag { rgsr.old.tag < 16 }
         ensures answer { let w = world_of (M.memory memory.old) self.old rgsr.old in
-            result ≡ answer_of (malloc_of w size).chunk }
+            result ≡ answer_of (after_malloc w size).chunk }
         ensures world { let w = world_of (M.memory memory.old) self.old rgsr.old in
-            world_of (M.memory memory.new) self.new rgsr.new ≡ (malloc_of w size).world }
-        ensures served { IsServed (M.memory memory.new) self.new }
+            world_of (M.memory memory.new) self.new rgsr.new ≡ (after_malloc w size).world }
+        ensures served { HeapOwnsItsPages (M.memory memory.new) self.new }
         ensures tag { rgsr.new.tag < 16 }
         ensures kept { M.kept memory.old memory.new }
     {
@@ -105,13 +106,13 @@ impl Heap {
         count: u64,
         size: u64,
     ) -> u64
-        requires served { IsServed (M.memory memory.old) self.old }
+        requires served { HeapOwnsItsPages (M.memory memory.old) self.old }
         requires tag { rgsr.old.tag < 16 }
         ensures answer { let w = world_of (M.memory memory.old) self.old rgsr.old in
-            result ≡ answer_of (calloc_of w count size).chunk }
+            result ≡ answer_of (after_calloc w count size).chunk }
         ensures world { let w = world_of (M.memory memory.old) self.old rgsr.old in
-            world_of (M.memory memory.new) self.new rgsr.new ≡ (calloc_of w count size).world }
-        ensures served { IsServed (M.memory memory.new) self.new }
+            world_of (M.memory memory.new) self.new rgsr.new ≡ (after_calloc w count size).world }
+        ensures served { HeapOwnsItsPages (M.memory memory.new) self.new }
         ensures tag { rgsr.new.tag < 16 }
         ensures kept { M.kept memory.old memory.new }
     {
@@ -131,14 +132,14 @@ impl Heap {
         alignment: u64,
         size: u64,
     ) -> u64
-        requires served { IsServed (M.memory memory.old) self.old }
+        requires served { HeapOwnsItsPages (M.memory memory.old) self.old }
         requires tag { rgsr.old.tag < 16 }
         ensures answer { let w = world_of (M.memory memory.old) self.old rgsr.old in
-            result ≡ answer_of (memalign_of w alignment size).chunk }
+            result ≡ answer_of (after_memalign w alignment size).chunk }
         ensures world { let w = world_of (M.memory memory.old) self.old rgsr.old in
             world_of (M.memory memory.new) self.new rgsr.new
-            ≡ (memalign_of w alignment size).world }
-        ensures served { IsServed (M.memory memory.new) self.new }
+            ≡ (after_memalign w alignment size).world }
+        ensures served { HeapOwnsItsPages (M.memory memory.new) self.new }
         ensures tag { rgsr.new.tag < 16 }
         ensures kept { M.kept memory.old memory.new }
     {
@@ -168,13 +169,13 @@ impl Heap {
         memory: &mut M,
         pointer: u64,
     ) -> Result<(), HeapAbort>
-        requires served { IsServed (M.memory memory.old) self.old }
+        requires served { HeapOwnsItsPages (M.memory memory.old) self.old }
         requires tag { rgsr.old.tag < 16 }
         ensures answer { let w = world_of (M.memory memory.old) self.old rgsr.old in
             result ≡ (free_of w pointer).result }
         ensures world { let w = world_of (M.memory memory.old) self.old rgsr.old in
             world_of (M.memory memory.new) self.new rgsr.new ≡ (free_of w pointer).world }
-        ensures served { IsServed (M.memory memory.new) self.new }
+        ensures served { HeapOwnsItsPages (M.memory memory.new) self.new }
         ensures tag { rgsr.new.tag < 16 }
         ensures kept { M.kept memory.old memory.new }
     {
@@ -210,13 +211,14 @@ impl Heap {
         pointer: u64,
         size: u64,
     ) -> Result<u64, HeapAbort>
-        requires served { IsServed (M.memory memory.old) self.old }
+        requires served { HeapOwnsItsPages (M.memory memory.old) self.old }
         requires tag { rgsr.old.tag < 16 }
         ensures answer { let w = world_of (M.memory memory.old) self.old rgsr.old in
-            result ≡ answered (realloc_of w pointer size).result }
+            result ≡ realloc_answer (after_realloc w pointer size).result }
         ensures world { let w = world_of (M.memory memory.old) self.old rgsr.old in
-            world_of (M.memory memory.new) self.new rgsr.new ≡ (realloc_of w pointer size).world }
-        ensures served { IsServed (M.memory memory.new) self.new }
+            world_of (M.memory memory.new) self.new rgsr.new
+            ≡ (after_realloc w pointer size).world }
+        ensures served { HeapOwnsItsPages (M.memory memory.new) self.new }
         ensures tag { rgsr.new.tag < 16 }
         ensures kept { M.kept memory.old memory.new }
     {
@@ -247,8 +249,8 @@ impl Heap {
     pub fn is_sound(&self)
         ensures { IsSound self.now }
     {
-        self.stacks.are_sound();
-        self.maps.are_in_order();
+        self.stacks.recall();
+        self.maps.recall();
     }
 
     /// How many bytes of a chunk its user may use: 0 for the null pointer.

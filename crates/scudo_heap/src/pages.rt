@@ -7,10 +7,10 @@ ghost use Rattle.mte_tags.specs.declared.generator.Rgsr.{Rgsr};
 ghost use Rattle.scudo_secondary.specs.Mappings as secondary;
 ghost use Rattle.scudo_heap.specs.Stacks.{StackState};
 ghost use Rattle.scudo_heap.specs.Heaps.{heap_of, with_more};
-ghost use Rattle.scudo_heap.specs.Chunks.{headed};
+ghost use Rattle.scudo_heap.specs.Chunks.{with_header};
 ghost use Rattle.scudo_heap.specs.Placing.{world_of, heap_attrs};
 ghost use Rattle.scudo_heap.specs.Large.{mapping_for, large_header};
-ghost use Rattle.scudo_heap.specs.Allocation.{made_of, need_of, in_mapping};
+ghost use Rattle.scudo_heap.specs.Allocation.{allocation_of, need_of, after_large_allocation};
 ghost use Rattle.scudo_heap.specs.Served.{ArePlaces, KeepsMapped};
 ghost use Rattle.scudo_heap.specs.Inner.{IsAlign, IsLarge, IsLow};
 
@@ -19,7 +19,7 @@ use crate::granules::put_header;
 use address_map::PAGE_SIZE;
 use mte_tags::{Attrs, Paged, Tagged};
 use scudo_header::{Header, Origin, State};
-use scudo_secondary::{Mapping, Maps};
+use scudo_secondary::{Mapping, Secondary};
 
 /// The mapping of a chunk at so many pages from an address on: it ends as near to their end as its
 /// alignment allows.
@@ -37,10 +37,10 @@ fn mapping_at(start: u64, pages: u64, align: u64, size: u64) -> Mapping
     }
 }
 
-/// Maps the pages of a chunk and writes its header.
+/// Secondary the pages of a chunk and writes its header.
 fn map_chunk<M: Paged>(
     cookie: u32,
-    maps: &mut Maps,
+    maps: &mut Secondary,
     memory: &mut M,
     origin: Origin,
     mapping: Mapping,
@@ -52,7 +52,7 @@ fn map_chunk<M: Paged>(
     requires left { mapping.pages ≤ pages_left (M.memory memory.old) }
     requires large { IsLarge mapping size }
     ensures memory { M.memory memory.new
-        ≡ headed
+        ≡ with_header
         (with_new_pages (M.memory memory.old) (mapping.start / PAGE_SIZE) mapping.pages heap_attrs)
         cookie mapping.user (large_header origin mapping size) }
     ensures maps { maps.new ≡ with_more maps.old mapping }
@@ -81,7 +81,7 @@ fn map_chunk<M: Paged>(
 #[inline(never)]
 pub(crate) fn take_pages<M: Paged>(
     cookie: u32,
-    maps: &mut Maps,
+    maps: &mut Secondary,
     memory: &mut M,
     origin: Origin,
     align: u64,
@@ -95,8 +95,8 @@ pub(crate) fn take_pages<M: Paged>(
     requires pages { pages ≤ 4096 }
     requires fits { need_of align size ≤ PAGE_SIZE * pages }
     ensures made { (s : StackState) (r : Rgsr)
-        → made_of (world_of (M.memory memory.new) (heap_of cookie s maps.new) r) result
-        ≡ in_mapping (world_of (M.memory memory.old) (heap_of cookie s maps.old) r)
+        → allocation_of (world_of (M.memory memory.new) (heap_of cookie s maps.new) r) result
+        ≡ after_large_allocation (world_of (M.memory memory.old) (heap_of cookie s maps.old) r)
         origin align size pages }
     ensures low_chunk { IfSome result IsLow }
     ensures served { KeepsMapped (M.memory memory.old) maps.old (M.memory memory.new) maps.new }

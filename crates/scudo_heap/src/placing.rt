@@ -2,9 +2,10 @@
 
 ghost use Rattle.std.specs.Prelude.{◌≡◌, ◌+◌, ◌-◌, ◌*◌, ◌/◌, ◌%◌, ◌^◌, ◌<◌, ◌≤◌, ℕ};
 ghost use Rattle.mte_tags.specs.Memory.{attrs_at, pages_left};
-ghost use Rattle.mte_tags.specs.RandomTags.{drawn};
-ghost use Rattle.scudo_heap.specs.Chunks.{end_of, block_end, excluded, tagged, closed, opened};
-ghost use Rattle.scudo_heap.specs.Chunks.{headed};
+ghost use Rattle.mte_tags.specs.RandomTags.{after_draw};
+ghost use Rattle.scudo_heap.specs.Chunks.{end_of, block_end, excluded_tags, with_chunk_tag};
+ghost use Rattle.scudo_heap.specs.Chunks.{with_end_tag_0, with_header_tag_0};
+ghost use Rattle.scudo_heap.specs.Chunks.{with_header};
 ghost use Rattle.scudo_heap.specs.Placing.{new_header};
 ghost use Rattle.scudo_heap.specs.Served.{IsOpen};
 
@@ -15,7 +16,7 @@ use mte_tags::{Paged, Rgsr, Tagged};
 use scudo_header::{CLASSES, Header, Origin, State, pack, size_of_class};
 
 /// Tag 0 on the granule after a chunk, where its block goes on.
-#[tactic(auto, unfolding(crate::specs::Chunks::closed))]
+#[tactic(auto, unfolding(crate::specs::Chunks::with_end_tag_0))]
 #[inline(always)]
 pub(crate) fn close<M: Paged>(memory: &mut M, place: Place)
     requires low { 0 < place.class }
@@ -26,7 +27,7 @@ pub(crate) fn close<M: Paged>(memory: &mut M, place: Place)
     requires aligned { place.user % 16 ≡ 0 }
     requires whole { block_end place % 16 ≡ 0 }
     requires open { IsOpen (M.memory memory.old) place.user (block_end place) }
-    ensures memory { M.memory memory.new ≡ closed (M.memory memory.old) place }
+    ensures memory { M.memory memory.new ≡ with_end_tag_0 (M.memory memory.old) place }
     ensures attrs { (q : ℕ)
         → attrs_at (M.memory memory.new) q ≡ attrs_at (M.memory memory.old) q }
     ensures left { pages_left (M.memory memory.new) ≡ pages_left (M.memory memory.old) }
@@ -39,13 +40,13 @@ pub(crate) fn close<M: Paged>(memory: &mut M, place: Place)
 }
 
 /// Tag 0 on the granule of a chunk's header.
-#[tactic(auto, unfolding(crate::specs::Chunks::opened))]
+#[tactic(auto, unfolding(crate::specs::Chunks::with_header_tag_0))]
 #[inline(always)]
 fn open<M: Paged>(memory: &mut M, place: Place)
     requires above { 16 ≤ place.user }
     requires aligned { place.user % 16 ≡ 0 }
     requires open { IsOpen (M.memory memory.old) (place.user - 16) place.user }
-    ensures memory { M.memory memory.new ≡ opened (M.memory memory.old) place }
+    ensures memory { M.memory memory.new ≡ with_header_tag_0 (M.memory memory.old) place }
     ensures attrs { (q : ℕ)
         → attrs_at (M.memory memory.new) q ≡ attrs_at (M.memory memory.old) q }
     ensures left { pages_left (M.memory memory.new) ≡ pages_left (M.memory memory.old) }
@@ -56,7 +57,7 @@ fn open<M: Paged>(memory: &mut M, place: Place)
 
 /// Gives a chunk's granules a tag and zero bytes, and tag 0 to the granule of its header and to the
 /// one after the chunk, where its block goes on.
-#[tactic(auto, unfolding(crate::specs::Chunks::tagged))]
+#[tactic(auto, unfolding(crate::specs::Chunks::with_chunk_tag))]
 #[inline(always)]
 fn tag_by_three_runs<M: Paged>(memory: &mut M, place: Place, tag: u8)
     requires low { 0 < place.class }
@@ -69,7 +70,8 @@ fn tag_by_three_runs<M: Paged>(memory: &mut M, place: Place, tag: u8)
     requires within { end_of place ≤ block_end place }
     requires open { IsOpen (M.memory memory.old) place.block (block_end place) }
     ensures memory { M.memory memory.new
-        ≡ closed (opened (tagged (M.memory memory.old) place tag) place) place }
+        ≡ with_end_tag_0 (with_header_tag_0
+        (with_chunk_tag (M.memory memory.old) place tag) place) place }
     ensures attrs { (q : ℕ)
         → attrs_at (M.memory memory.new) q ≡ attrs_at (M.memory memory.old) q }
     ensures left { pages_left (M.memory memory.new) ≡ pages_left (M.memory memory.old) }
@@ -80,7 +82,7 @@ fn tag_by_three_runs<M: Paged>(memory: &mut M, place: Place, tag: u8)
     close(memory, place);
 }
 
-/// The same, and the chunk's header, with one look-up where one page holds all of it: the chunk's
+/// Writes tags and the chunk's header with one look-up where one page holds all of it: the chunk's
 /// tag goes over a run of tag 0.
 #[inline(always)]
 fn write_around<M: Paged>(memory: &mut M, cookie: u32, place: Place, tag: u8, header: &Header)
@@ -95,8 +97,9 @@ fn write_around<M: Paged>(memory: &mut M, cookie: u32, place: Place, tag: u8, he
     requires fields { header.now.size_or_unused_bytes < 2 ^ 20 }
     requires open { IsOpen (M.memory memory.old) place.block (block_end place) }
     ensures memory { M.memory memory.new
-        ≡ headed
-        (closed (opened (tagged (M.memory memory.old) place tag) place) place)
+        ≡ with_header
+        (with_end_tag_0 (with_header_tag_0
+        (with_chunk_tag (M.memory memory.old) place tag) place) place)
         cookie place.user header.now }
     ensures attrs { (q : ℕ)
         → attrs_at (M.memory memory.new) q ≡ attrs_at (M.memory memory.old) q }
@@ -139,16 +142,17 @@ pub(crate) fn make_chunk<M: Paged>(
     requires within { end_of place ≤ block_end place }
     requires open { IsOpen (M.memory memory.old) place.block (block_end place) }
     ensures tag { result
-        ≡ (drawn rgsr.old (excluded (M.memory memory.old) place)).rgsr.tag }
-    ensures rgsr { rgsr.new ≡ (drawn rgsr.old (excluded (M.memory memory.old) place)).rgsr }
+        ≡ (after_draw rgsr.old (excluded_tags (M.memory memory.old) place)).rgsr.tag }
+    ensures rgsr { rgsr.new ≡ (after_draw rgsr.old
+        (excluded_tags (M.memory memory.old) place)).rgsr }
     ensures below { rgsr.new.tag < 16 }
     ensures small { result < 16 }
     ensures memory { M.memory memory.new
-        ≡ headed
-        (closed
-        (opened
-        (tagged (M.memory memory.old) place
-        (drawn rgsr.old (excluded (M.memory memory.old) place)).tag) place) place)
+        ≡ with_header
+        (with_end_tag_0
+        (with_header_tag_0
+        (with_chunk_tag (M.memory memory.old) place
+        (after_draw rgsr.old (excluded_tags (M.memory memory.old) place)).tag) place) place)
         cookie place.user (new_header origin place) }
     ensures attrs { (q : ℕ)
         → attrs_at (M.memory memory.new) q ≡ attrs_at (M.memory memory.old) q }

@@ -3,12 +3,13 @@
 ghost use Rattle.std.specs.Prelude.{◌≡◌, ◌+◌, ◌-◌, ◌%◌, ◌^◌, ◌<◌, ◌≤◌, ℕ, IfSome, nat_le};
 ghost use Rattle.mte_tags.specs.Memory.{attrs_at, pages_left, tag_at};
 ghost use Rattle.scudo_heap.specs.Heaps.{heap_of};
-ghost use Rattle.scudo_heap.specs.Chunks.{block_end, end_of, with_size, refitted, headed};
+ghost use Rattle.scudo_heap.specs.Chunks.{block_end, end_of, with_size, after_retag_tail};
+ghost use Rattle.scudo_heap.specs.Chunks.{with_header};
 ghost use Rattle.scudo_heap.specs.Placing.{world_of};
-ghost use Rattle.scudo_heap.specs.Allocation.{made_of};
+ghost use Rattle.scudo_heap.specs.Allocation.{allocation_of};
 ghost use Rattle.scudo_heap.specs.Checks.{HasEnd};
-ghost use Rattle.scudo_heap.specs.Realloc.{moved, refound};
-ghost use Rattle.scudo_heap.specs.Served.{IsServed, IsOpen};
+ghost use Rattle.scudo_heap.specs.Realloc.{after_move, realloc_cases};
+ghost use Rattle.scudo_heap.specs.Served.{HeapOwnsItsPages, IsOpen};
 ghost use Rattle.scudo_heap.specs.Inner.{IsPlaced, IsFound, IsLow};
 
 use crate::allocation::allocate;
@@ -22,7 +23,7 @@ use crate::stacks::Stacks;
 use crate::tagging::granules;
 use mte_tags::{Paged, Rgsr, Tagged};
 use scudo_header::{CLASSES, Header, Origin, size_of_class};
-use scudo_secondary::Maps;
+use scudo_secondary::Secondary;
 
 /// Whether a chunk's block holds another size of it.
 fn fits(place: Place, size: u64) -> bool
@@ -38,7 +39,7 @@ fn fits(place: Place, size: u64) -> bool
 
 /// Gives the granules that come to a chunk its tag `tag` and zero bytes, or those that it gives up
 /// tag 0.
-#[tactic(auto, unfolding(crate::specs::Chunks::refitted))]
+#[tactic(auto, unfolding(crate::specs::Chunks::after_retag_tail))]
 fn refit<M: Paged>(memory: &mut M, place: Place, size: u64, tag: u8)
     requires low { 0 < place.class }
     requires high { place.class ≤ CLASSES }
@@ -54,7 +55,7 @@ fn refit<M: Paged>(memory: &mut M, place: Place, size: u64, tag: u8)
     requires open { IsOpen (M.memory memory.old) place.block (block_end place) }
     requires tag { tag ≡ tag_at (M.memory memory.old) place.user }
     requires tag_small { tag < 16 }
-    ensures memory { M.memory memory.new ≡ refitted (M.memory memory.old) place size }
+    ensures memory { M.memory memory.new ≡ after_retag_tail (M.memory memory.old) place size }
     ensures attrs { (q : ℕ)
         → attrs_at (M.memory memory.new) q ≡ attrs_at (M.memory memory.old) q }
     ensures left { pages_left (M.memory memory.new) ≡ pages_left (M.memory memory.old) }
@@ -85,7 +86,7 @@ fn resize<M: Paged>(
     ensures tag { result ≡ tag_at (M.memory memory.old) place.user }
     ensures tag_small { result < 16 }
     ensures memory { M.memory memory.new
-        ≡ headed (refitted (M.memory memory.old) place size) cookie place.user
+        ≡ with_header (after_retag_tail (M.memory memory.old) place size) cookie place.user
         (record header.now { size_or_unused_bytes = size }) }
     ensures attrs { (q : ℕ)
         → attrs_at (M.memory memory.new) q ≡ attrs_at (M.memory memory.old) q }
@@ -105,7 +106,7 @@ fn resize<M: Paged>(
 fn move_chunk<M: Paged>(
     cookie: u32,
     stacks: &mut Stacks,
-    maps: &mut Maps,
+    maps: &mut Secondary,
     rgsr: &mut Rgsr,
     memory: &mut M,
     found: Found,
@@ -114,26 +115,26 @@ fn move_chunk<M: Paged>(
     requires drawn { rgsr.old.tag < 16 }
     requires some { 0 < size }
     requires most { size ≤ MAX_REQUEST }
-    requires served { IsServed (M.memory memory.old) (heap_of cookie stacks.old maps.old) }
+    requires served { HeapOwnsItsPages (M.memory memory.old) (heap_of cookie stacks.old maps.old) }
     requires found { IsFound (heap_of cookie stacks.old maps.old) found }
     requires end { HasEnd found }
-    ensures made { made_of
+    ensures made { allocation_of
         (world_of (M.memory memory.new) (heap_of cookie stacks.new maps.new) rgsr.new) result
-        ≡ moved (world_of (M.memory memory.old) (heap_of cookie stacks.old maps.old) rgsr.old)
+        ≡ after_move (world_of (M.memory memory.old) (heap_of cookie stacks.old maps.old) rgsr.old)
         found size }
     ensures low_chunk { IfSome result IsLow }
     ensures tag { rgsr.new.tag < 16 }
-    ensures served { IsServed (M.memory memory.new) (heap_of cookie stacks.new maps.new) }
+    ensures served { HeapOwnsItsPages (M.memory memory.new) (heap_of cookie stacks.new maps.new) }
     ensures kept { M.kept memory.old memory.new }
 {
-    stacks.are_sound();
-    maps.are_in_order();
+    stacks.recall();
+    maps.recall();
     let origin = Origin::Malloc;
     let align = MIN_ALIGNMENT;
     let Some(chunk) = allocate(cookie, stacks, maps, rgsr, memory, origin, align, size) else {
         return None;
     };
-    maps.are_in_order();
+    maps.recall();
     let count = found.size().min(size);
     copy_bytes(memory, found.user(), chunk.user(), count);
     free_found(cookie, stacks, maps, rgsr, memory, found);
@@ -145,23 +146,24 @@ fn move_chunk<M: Paged>(
 pub(crate) fn reallocate<M: Paged>(
     cookie: u32,
     stacks: &mut Stacks,
-    maps: &mut Maps,
+    maps: &mut Secondary,
     rgsr: &mut Rgsr,
     memory: &mut M,
     found: Found,
     size: u64,
 ) -> Option<Chunk>
     requires drawn { rgsr.old.tag < 16 }
-    requires served { IsServed (M.memory memory.old) (heap_of cookie stacks.old maps.old) }
+    requires served { HeapOwnsItsPages (M.memory memory.old) (heap_of cookie stacks.old maps.old) }
     requires found { IsFound (heap_of cookie stacks.old maps.old) found }
     requires end { HasEnd found }
-    ensures made { made_of
+    ensures made { allocation_of
         (world_of (M.memory memory.new) (heap_of cookie stacks.new maps.new) rgsr.new) result
-        ≡ refound (world_of (M.memory memory.old) (heap_of cookie stacks.old maps.old) rgsr.old)
+        ≡ realloc_cases (world_of (M.memory memory.old)
+        (heap_of cookie stacks.old maps.old) rgsr.old)
         found size }
     ensures low_chunk { IfSome result IsLow }
     ensures tag { rgsr.new.tag < 16 }
-    ensures served { IsServed (M.memory memory.new) (heap_of cookie stacks.new maps.new) }
+    ensures served { HeapOwnsItsPages (M.memory memory.new) (heap_of cookie stacks.new maps.new) }
     ensures kept { M.kept memory.old memory.new }
 {
     if size == 0 {

@@ -4,20 +4,21 @@ ghost use Rattle.std.specs.Prelude.{◌≡◌, ◌≤◌, ◌<◌, ◌+◌, ◌�
 ghost use Rattle.std.specs.Prelude.{IsTrue, IsNone};
 ghost use Rattle.scudo_primary.specs.Blocks.{IsBlock};
 ghost use Rattle.scudo_primary.specs.Pools.{is_member};
-ghost use Rattle.scudo_heap.specs.Stacks.{pages_of, stack_of, empty_stacks, popped, pushed, carved};
+ghost use Rattle.scudo_heap.specs.Stacks.{pages_of, stack_of, empty_stacks, after_pop, after_push};
+ghost use Rattle.scudo_heap.specs.Stacks.{after_carve};
 ghost use Rattle.scudo_heap.specs.Stacks.{AreSound};
 
 use address_map::MAX_PAGES;
 use scudo_cache::Cache;
 use scudo_header::CLASSES;
-use scudo_primary::Pool;
+use scudo_primary::Primary;
 use std::alloc::{AllocError, Global};
 use std::marker::Model;
 
 /// For each size class the pages of its region, and one stack of free blocks.
 #[derive(Drop)]
 pub(crate) struct Stacks {
-    pool: Pool,
+    pool: Primary,
     cache: Cache,
 }
 
@@ -41,7 +42,7 @@ impl Stacks {
         requires high { pages ≤ MAX_PAGES }
         ensures { IfOk result (λ stacks. stacks ≡ empty_stacks pages) }
     {
-        let pool = Pool::new(alloc, pages)?;
+        let pool = Primary::new(alloc, pages)?;
         let cache = Cache::new(alloc)?;
         Ok(Stacks { pool, cache })
     }
@@ -52,7 +53,7 @@ impl Stacks {
         requires low { 0 < class }
         requires high { class ≤ CLASSES }
         ensures answer { result ≡ slice_get (stack_of self.old class) 0 }
-        ensures stacks { self.new ≡ popped self.old class }
+        ensures stacks { self.new ≡ after_pop self.old class }
         ensures block { IfSome result (IsBlock class (pages_of self.old class)) }
         ensures none { IsNone result → self.new ≡ self.old }
     {
@@ -66,7 +67,7 @@ impl Stacks {
         requires high { class ≤ CLASSES }
         requires carved { IsBlock class (pages_of self.old class) block }
         requires used { is_member (stack_of self.old class) block ≡ false }
-        ensures { self.new ≡ pushed self.old class block }
+        ensures { self.new ≡ after_push self.old class block }
     {
         self.cache.put(class, block, &mut self.pool);
     }
@@ -77,13 +78,13 @@ impl Stacks {
         requires high { class ≤ CLASSES }
         requires room { pages ≤ self.old.left }
         requires empty { stack_of self.old class ≡ [] }
-        ensures { self.new ≡ carved self.old class pages }
+        ensures { self.new ≡ after_carve self.old class pages }
     {
         self.pool.carve(class, pages);
     }
 
-    /// What holds of all stacks.
-    pub(crate) fn are_sound(&self)
+    /// Does nothing. Its contract recalls what holds of all stacks, for a proof of the caller.
+    pub(crate) fn recall(&self)
         ensures { AreSound self.now }
     {
         let _own = &self.pool;

@@ -3,9 +3,9 @@
 ghost use Rattle.std.specs.Prelude.{◌≡◌, ◌+◌, ◌-◌, ◌*◌, ◌%◌, ◌^◌, ◌<◌, ◌≤◌, ℕ};
 ghost use Rattle.std.specs.Int.RustNames.{bit_or};
 ghost use Rattle.mte_tags.specs.Memory.{attrs_at, pages_left};
-ghost use Rattle.mte_tags.specs.RandomTags.{drawn};
-ghost use Rattle.scudo_heap.specs.Chunks.{granules_of, end_of, half_mask, excluded};
-ghost use Rattle.scudo_heap.specs.Chunks.{tagged};
+ghost use Rattle.mte_tags.specs.RandomTags.{after_draw};
+ghost use Rattle.scudo_heap.specs.Chunks.{granules_of, end_of, parity_mask, excluded_tags};
+ghost use Rattle.scudo_heap.specs.Chunks.{with_chunk_tag};
 ghost use Rattle.scudo_heap.specs.Served.{IsOpen};
 
 use crate::chunk::Place;
@@ -19,7 +19,7 @@ fn exclude(place: Place, present: u8) -> u16
     requires low { 0 < place.class }
     requires high { place.class ≤ CLASSES }
     requires present { present < 16 }
-    ensures { result ≡ bit_or (bit_or 1 (half_mask place.class place.block)) (2 ^ present) }
+    ensures { result ≡ bit_or (bit_or 1 (parity_mask place.class place.block)) (2 ^ present) }
 {
     let unit = (size_of_class(place.class) as u32).trailing_zeros();
     let half = (place.block >> unit) % 2;
@@ -37,7 +37,7 @@ pub(crate) fn granules(size: u64) -> u64
 }
 
 /// Draws a tag for a chunk.
-#[tactic(auto, unfolding(crate::specs::Chunks::excluded))]
+#[tactic(auto, unfolding(crate::specs::Chunks::excluded_tags))]
 #[inline(always)]
 pub(crate) fn choose_tag<M: Paged>(rgsr: &mut Rgsr, memory: &mut M, place: Place) -> u8
     requires low { 0 < place.class }
@@ -45,8 +45,9 @@ pub(crate) fn choose_tag<M: Paged>(rgsr: &mut Rgsr, memory: &mut M, place: Place
     requires drawn { rgsr.old.tag < 16 }
     requires open { IsOpen (M.memory memory.old) place.user (place.user + 1) }
     ensures tag { result
-        ≡ (drawn rgsr.old (excluded (M.memory memory.old) place)).tag }
-    ensures rgsr { rgsr.new ≡ (drawn rgsr.old (excluded (M.memory memory.old) place)).rgsr }
+        ≡ (after_draw rgsr.old (excluded_tags (M.memory memory.old) place)).tag }
+    ensures rgsr { rgsr.new ≡ (after_draw rgsr.old
+        (excluded_tags (M.memory memory.old) place)).rgsr }
     ensures last { rgsr.new.tag ≡ result }
     ensures below { result < 16 }
     ensures memory { M.memory memory.new ≡ M.memory memory.old }

@@ -7,9 +7,9 @@ use Rattle.scudo_header.specs.Regions.{region_of}
 use Rattle.address_map.specs.declared.limits.TheConstants.{PAGE_SIZE}
 use Rattle.scudo_primary.specs.Pools.{PoolState}
 use Rattle.scudo_primary.specs.Lists.{IsClass, page_number, slot_of, place_of, no_entry, entry_at, list_at, class_in, capacities_in, pool_in, IsFilledUp, IsTable, IsPool}
-use Rattle.scudo_primary.specs.declared.lists.Entry.{Entry}
+use Rattle.scudo_primary.specs.declared.lists.BlockEntry.{BlockEntry}
 use Rattle.scudo_primary.specs.declared.lists.ClassList.{ClassList}
-use Rattle.scudo_primary.specs.declared.pool.Pool.TheInside.{Inside}
+use Rattle.scudo_primary.specs.declared.pool.Primary.TheInside.{Inside}
 use Rattle.scudo_primary.proofs.TableLemmas.{class-kept}
 use Rattle.scudo_primary.proofs.ModelLemmas.{pool_by-agree}
 
@@ -22,11 +22,11 @@ one-more (x ∷ xs) d (suc i) = one-more xs d i
 abbrev IsReadAs : {X : Type 0} → List X → List X → X → Type 0
 IsReadAs xs ys d = (i : ℕ) → get_or ys i d ≡ get_or xs i d
 
-entry-filled : (es es' : List Entry) (ns ns' : List ℕ) (c x : ℕ) → IsReadAs es es' no_entry → IsReadAs ns ns' 0 → entry_at es' ns' c x ≡ entry_at es ns c x
+entry-filled : (es es' : List BlockEntry) (ns ns' : List ℕ) (c x : ℕ) → IsReadAs es es' no_entry → IsReadAs ns ns' 0 → entry_at es' ns' c x ≡ entry_at es ns c x
 unfolding entry_at
 entry-filled es es' ns ns' c x fe fn = fe (place_of ns' c x) ∙ ap (λ t. get_or es (t * 128 + (x - region_of c) % PAGE_SIZE / 32) no_entry) (fn _)
 
-table-filled : (es es' : List Entry) (ns ns' : List ℕ) (ks : List ClassList) → length es ≤ length es' → length ns ≤ length ns' → IsReadAs es es' no_entry → IsReadAs ns ns' 0 → IsTable es ns ks → IsTable es' ns' ks
+table-filled : (es es' : List BlockEntry) (ns ns' : List ℕ) (ks : List ClassList) → length es ≤ length es' → length ns ≤ length ns' → IsReadAs es es' no_entry → IsReadAs ns ns' 0 → IsTable es ns ks → IsTable es' ns' ks
 table-filled es es' ns ns' ks le ln fe fn h =
     let same : (c i : ℕ) → page_number ns' c i ≡ page_number ns c i = λ c i. fn _ in
     record {
@@ -41,10 +41,10 @@ table-filled es es' ns ns' ks le ln fe fn h =
     }
 
 -- the pool with such lists in place of its own
-abbrev pub filled : Inside → Vec Entry Global → Vec ℕ Global → Inside
+abbrev pub filled : Inside → Vec BlockEntry Global → Vec ℕ Global → Inside
 filled f entries numbers = record { entries = entries; numbers = numbers; lists = f.lists; used = f.used; limit = f.limit }
 
-module _ (f : Inside) (entries : Vec Entry Global) (numbers : Vec ℕ Global) (m n : ℕ) (fe : IsFilledUp f.entries entries m no_entry) (fn : IsFilledUp f.numbers numbers n 0) (h : IsPool f) where
+module _ (f : Inside) (entries : Vec BlockEntry Global) (numbers : Vec ℕ Global) (m n : ℕ) (fe : IsFilledUp f.entries entries m no_entry) (fn : IsFilledUp f.numbers numbers n 0) (h : IsPool f) where
   pub filled-pool : IsPool (filled f entries numbers)
   filled-pool =
       let er = fe.capacity in

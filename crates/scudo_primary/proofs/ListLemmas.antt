@@ -4,7 +4,7 @@ use Rattle.std.proofs.lemmas.Bool.{cases_eq, cond-false}
 use Rattle.std.proofs.lemmas.Bool.Decides.{nat_tests}
 use Rattle.std.specs.List.{AllByRecursion, IsDistinct}
 use Rattle.scudo_primary.specs.Pools.{is_member}
-use Rattle.scudo_primary.specs.Lists.{follow, Each, one_more, joined, sizes_by}
+use Rattle.scudo_primary.specs.Lists.{follow, Each, one_more, sizes_after_push, sizes_of_marks}
 use Rattle.scudo_header.specs.Classes.{size_of}
 use Rattle.scudo_primary.specs.Batches.{max_count_of, one_less}
 use Rattle.scudo_primary.specs.declared.batches.TheConstants.{SMALL_SIZE, MAX_COUNT, MAX_COUNT_ABOVE}
@@ -92,20 +92,20 @@ member-fact (x ∷ xs) P b h e = elim (cases_eq b x) [
 
 -- ---- batches
 
-pub sizes_by-cons : (last : Bool) (more : List Bool) → sizes_by (last ∷ more) ≡ joined last (sizes_by more)
-unfolding sizes_by
-sizes_by-cons last more = refl
+pub sizes-of-marks-cons : (last : Bool) (more : List Bool) → sizes_of_marks (last ∷ more) ≡ sizes_after_push last (sizes_of_marks more)
+unfolding sizes_of_marks
+sizes-of-marks-cons last more = refl
 
 -- every batch has a block
-pub sizes-pos : (flags : List Bool) → Each (λ n. 0 < n) (sizes_by flags)
-unfolding sizes_by
+pub sizes-pos : (flags : List Bool) → Each (λ n. 0 < n) (sizes_of_marks flags)
+unfolding sizes_of_marks
 sizes-pos [] = tt
 sizes-pos (true ∷ more) = (omega arith, sizes-pos more)
-sizes-pos (false ∷ more) = joined-pos (sizes_by more) (sizes-pos more)
+sizes-pos (false ∷ more) = sizes-after-push-pos (sizes_of_marks more) (sizes-pos more)
   where
-    joined-pos : (sizes : List ℕ) → Each (λ n. 0 < n) sizes → Each (λ n. 0 < n) (one_more sizes)
-    joined-pos [] h = (omega arith, tt)
-    joined-pos (n ∷ ns) h = (omega arith, h.1)
+    sizes-after-push-pos : (sizes : List ℕ) → Each (λ n. 0 < n) sizes → Each (λ n. 0 < n) (one_more sizes)
+    sizes-after-push-pos [] h = (omega arith, tt)
+    sizes-after-push-pos (n ∷ ns) h = (omega arith, h.1)
 
 one_less-one_more : (sizes : List ℕ) → Each (λ n. 0 < n) sizes → one_less (one_more sizes) ≡ sizes
 one_less-one_more [] h = refl
@@ -115,14 +115,14 @@ one_less-one_more (n ∷ ns) h =
     let e : n + 1 - 1 ≡ n = omega arith in
     cond-false _ _ _ t ∙ ap (λ m. m ∷ ns) e
 
-pub one_less-joined : (last : Bool) (flags : List Bool) → one_less (joined last (sizes_by flags)) ≡ sizes_by flags
-one_less-joined true flags = refl
-one_less-joined false flags = one_less-one_more (sizes_by flags) (sizes-pos flags)
+pub one_less-sizes-after-push : (last : Bool) (flags : List Bool) → one_less (sizes_after_push last (sizes_of_marks flags)) ≡ sizes_of_marks flags
+one_less-sizes-after-push true flags = refl
+one_less-sizes-after-push false flags = one_less-one_more (sizes_of_marks flags) (sizes-pos flags)
 
-pub Each-joined : (last : Bool) (sizes : List ℕ) (m : ℕ) → Each (λ n. n ≤ m) (joined last sizes) → Each (λ n. n ≤ m) sizes
-Each-joined true sizes m h = h.1
-Each-joined false [] m h = tt
-Each-joined false (n ∷ ns) m h = let a = h.0 in (omega arith, h.1)
+pub Each-sizes-after-push : (last : Bool) (sizes : List ℕ) (m : ℕ) → Each (λ n. n ≤ m) (sizes_after_push last sizes) → Each (λ n. n ≤ m) sizes
+Each-sizes-after-push true sizes m h = h.1
+Each-sizes-after-push false [] m h = tt
+Each-sizes-after-push false (n ∷ ns) m h = let a = h.0 in (omega arith, h.1)
 
 pub max_count-low : (c : ℕ) → MAX_COUNT_ABOVE ≤ max_count_of c
 max_count-low c = elim (nat_le (size_of c) SMALL_SIZE) as (λ b. MAX_COUNT_ABOVE ≤ cond b MAX_COUNT MAX_COUNT_ABOVE) [ true ↦ omega arith | false ↦ omega arith ]

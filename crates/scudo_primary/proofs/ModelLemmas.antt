@@ -13,12 +13,12 @@ use Rattle.scudo_header.specs.Regions.{region_of}
 use Rattle.address_map.specs.declared.limits.TheConstants.{PAGE_SIZE}
 use Rattle.scudo_header.specs.declared.classes.TheConstants.{CLASSES}
 use Rattle.scudo_primary.specs.Blocks.{number_of, IsBlock}
-use Rattle.scudo_primary.specs.Pools.{ClassState, PoolState, empty_class, pool_by, class_at, with_class, popped, pop_in, mark_in, is_marked, is_member}
+use Rattle.scudo_primary.specs.Pools.{ClassState, PoolState, empty_class, pool_by, class_at, with_class, after_pop, class_after_pop, class_with_mark, is_marked, is_member}
 use Rattle.scudo_primary.specs.Lists.{IsClass, list_at, class_in, state_of, capacities_in, pool_in, follow, free_in, stack_from, marks_in, slot_of, place_of, no_entry, entry_at, IsLinked, IsTable, IsPool, Became}
 use Rattle.address_map.specs.declared.limits.TheConstants.{MAX_PAGES}
-use Rattle.scudo_primary.specs.declared.lists.Entry.{Entry}
+use Rattle.scudo_primary.specs.declared.lists.BlockEntry.{BlockEntry}
 use Rattle.scudo_primary.specs.declared.lists.ClassList.{ClassList}
-use Rattle.scudo_primary.specs.declared.pool.Pool.TheInside.{Inside}
+use Rattle.scudo_primary.specs.declared.pool.Primary.TheInside.{Inside}
 use Rattle.scudo_primary.proofs.ListLemmas.{member-fact}
 use Rattle.scudo_primary.proofs.BlockLemmas.{block-IsCell}
 use Rattle.scudo_primary.proofs.TableLemmas.{mark-block, slot-in, place-in}
@@ -91,28 +91,28 @@ pool_by-with_class left cs f g c k h own other =
 
 -- ---- a pool's value
 
-pub class_at-state : (left : ℕ) (cs : List ℕ) (es : List Entry) (ns : List ℕ) (ks : List ClassList) (c : ℕ) → IsClass c → class_at (state_of left cs es ns ks) c ≡ class_in es ns c (list_at ks c)
+pub class_at-state : (left : ℕ) (cs : List ℕ) (es : List BlockEntry) (ns : List ℕ) (ks : List ClassList) (c : ℕ) → IsClass c → class_at (state_of left cs es ns ks) c ≡ class_in es ns c (list_at ks c)
 class_at-state left cs es ns ks c h = class_at-pool_by left cs (λ d. class_in es ns d (list_at ks d)) c h
 
 pub class_at-value : (f : Inside) (v : PoolState) (c : ℕ) → pool_in f ≡ v → IsClass c → class_at v c ≡ class_in f.entries.items f.numbers.items c (list_at f.lists c)
 class_at-value f v c e h = ap (λ p. class_at p c) (sym e) ∙ class_at-state (f.limit - f.used) (capacities_in f) f.entries.items f.numbers.items f.lists c h
 
-pub became-state : (left : ℕ) (cs : List ℕ) (es es' : List Entry) (ns : List ℕ) (ks ks' : List ClassList) (c : ℕ) (k : ClassState) → IsClass c → Became es ns ks es' ks' c k
+pub became-state : (left : ℕ) (cs : List ℕ) (es es' : List BlockEntry) (ns : List ℕ) (ks ks' : List ClassList) (c : ℕ) (k : ClassState) → IsClass c → Became es ns ks es' ks' c k
     → state_of left cs es' ns ks' ≡ with_class (state_of left cs es ns ks) c k
 became-state left cs es es' ns ks ks' c k h b =
     pool_by-with_class left cs (λ d. class_in es ns d (list_at ks d)) (λ d. class_in es' ns d (list_at ks' d)) c k h b.class b.others
 
-abbrev pub inside_with : Inside → List Entry → List ClassList → Inside
+abbrev pub inside_with : Inside → List BlockEntry → List ClassList → Inside
 inside_with f es ks = record { entries = with_items f.entries es; numbers = f.numbers; lists = ks; used = f.used; limit = f.limit }
 
 -- what a change of one class makes of the pool
-pub record PoolDone (f : Inside) (v : PoolState) (ns : List ℕ) (es' : List Entry) (ks' : List ClassList) (c : ℕ) (F : ClassState → ClassState) : Type 0 where
+pub record PoolDone (f : Inside) (v : PoolState) (ns : List ℕ) (es' : List BlockEntry) (ks' : List ClassList) (c : ℕ) (F : ClassState → ClassState) : Type 0 where
   pub invariant : IsPool (inside_with f es' ks')
   pub view : pool_in (inside_with f es' ks') ≡ with_class v c (F (class_at v c))
   pub now : class_at (pool_in (inside_with f es' ks')) c ≡ class_in es' ns c (list_at ks' c)
   pub pages : (list_at ks' c).pages ≡ (list_at f.lists c).pages
 
-pub pool-done : (f : Inside) (v : PoolState) (es : List Entry) (ns : List ℕ) (es' : List Entry) (ks' : List ClassList) (c : ℕ) (F : ClassState → ClassState) → pool_in f ≡ v → IsPool f → IsClass c
+pub pool-done : (f : Inside) (v : PoolState) (es : List BlockEntry) (ns : List ℕ) (es' : List BlockEntry) (ks' : List ClassList) (c : ℕ) (F : ClassState → ClassState) → pool_in f ≡ v → IsPool f → IsClass c
     → es ≡ f.entries.items → length es ≡ vec_len f.entries → ns ≡ f.numbers.items → Became es ns f.lists es' ks' c (F (class_in es ns c (list_at f.lists c))) → PoolDone f v ns es' ks' c F
 pool-done f v es ns es' ks' c F e h hc ee le en b =
     let xs = f.entries.items in
@@ -159,37 +159,37 @@ unfolding stack_from follow
 empty-stack f v c e h z =
     ap (λ (t : ClassState). t.stack) (class_at-value f v c e h) ∙ ap (λ n. stack_from f.entries.items f.numbers.items c n (list_at f.lists c).head) z
 
-pub popped-empty : (f : Inside) (v : PoolState) (c : ℕ) → pool_in f ≡ v → IsClass c → (list_at f.lists c).count ≡ 0 → v ≡ popped v c
-unfolding popped
-popped-empty f v c e h z = with_class-kept f v c e h ∙ ap (λ t. with_class v c (pop_in c (class_at v c) t)) (sym (empty-stack f v c e h z))
+pub after-pop-empty : (f : Inside) (v : PoolState) (c : ℕ) → pool_in f ≡ v → IsClass c → (list_at f.lists c).count ≡ 0 → v ≡ after_pop v c
+unfolding after_pop
+after-pop-empty f v c e h z = with_class-kept f v c e h ∙ ap (λ t. with_class v c (class_after_pop c (class_at v c) t)) (sym (empty-stack f v c e h z))
 
 cleared : (marks : List Bool) (n : ℕ) → get_or (set marks n false) n false ≡ false
 cleared [] n = refl
 cleared (m ∷ ms) zero = refl
 cleared (m ∷ ms) (suc n) = cleared ms n
 
-pop-cleared : (c : ℕ) (k : ClassState) (stack : List ℕ) (b : ℕ) → slice_get stack 0 ≡ Some b → get_or (pop_in c k stack).marks (number_of c b) false ≡ false
+pop-cleared : (c : ℕ) (k : ClassState) (stack : List ℕ) (b : ℕ) → slice_get stack 0 ≡ Some b → get_or (class_after_pop c k stack).marks (number_of c b) false ≡ false
 pop-cleared c k [] b e = cc
 pop-cleared c k (x ∷ xs) b e =
     let same : x ≡ b = cc in
     ap (λ t. get_or (set k.marks (number_of c t) false) (number_of c b) false) same ∙ cleared k.marks (number_of c b)
 
 -- a block that was popped is marked used
-pub popped-used : (v v' : PoolState) (c b : ℕ) → v' ≡ with_class v c (pop_in c (class_at v c) (class_at v c).stack) → slice_get (class_at v c).stack 0 ≡ Some b → is_marked v' c b ≡ false
-popped-used v v' c b e top =
-    ap (λ (k : ClassState). get_or k.marks (number_of c b) false) (ap (λ p. class_at p c) e ∙ class_at-with_class v c (pop_in c (class_at v c) (class_at v c).stack))
+pub after-pop-used : (v v' : PoolState) (c b : ℕ) → v' ≡ with_class v c (class_after_pop c (class_at v c) (class_at v c).stack) → slice_get (class_at v c).stack 0 ≡ Some b → is_marked v' c b ≡ false
+after-pop-used v v' c b e top =
+    ap (λ (k : ClassState). get_or k.marks (number_of c b) false) (ap (λ p. class_at p c) e ∙ class_at-with_class v c (class_after_pop c (class_at v c) (class_at v c).stack))
     ∙ pop-cleared c (class_at v c) (class_at v c).stack b top
 
 -- the table of an open pool, as slices
-pub table-same : (f : Inside) (es : List Entry) (ns : List ℕ) → IsPool f → es ≡ f.entries.items → ns ≡ f.numbers.items → IsTable es ns f.lists
+pub table-same : (f : Inside) (es : List BlockEntry) (ns : List ℕ) → IsPool f → es ≡ f.entries.items → ns ≡ f.numbers.items → IsTable es ns f.lists
 table-same f es ns h ee en = subst (λ t. IsTable es t f.lists) (sym en) (subst (λ t. IsTable t f.numbers.items f.lists) (sym ee) h.table)
 
-pub class_at-slices : (f : Inside) (v : PoolState) (es : List Entry) (ns : List ℕ) (c : ℕ) → pool_in f ≡ v → IsClass c → es ≡ f.entries.items → ns ≡ f.numbers.items → class_at v c ≡ class_in es ns c (list_at f.lists c)
+pub class_at-slices : (f : Inside) (v : PoolState) (es : List BlockEntry) (ns : List ℕ) (c : ℕ) → pool_in f ≡ v → IsClass c → es ≡ f.entries.items → ns ≡ f.numbers.items → class_at v c ≡ class_in es ns c (list_at f.lists c)
 class_at-slices f v es ns c e h ee en =
     class_at-value f v c e h ∙ ap (λ t. class_in t f.numbers.items c (list_at f.lists c)) (sym ee) ∙ ap (λ t. class_in es t c (list_at f.lists c)) (sym en)
 
 -- a block that is marked used is in no list
-pub used-unlisted : (es : List Entry) (ns : List ℕ) (c : ℕ) (k : ClassList) (b : ℕ) → IsLinked es ns c k → IsBlock c k.pages b → get_or (marks_in es ns c k.pages) (number_of c b) false ≡ false
+pub used-unlisted : (es : List BlockEntry) (ns : List ℕ) (c : ℕ) (k : ClassList) (b : ℕ) → IsLinked es ns c k → IsBlock c k.pages b → get_or (marks_in es ns c k.pages) (number_of c b) false ≡ false
     → is_member (stack_from es ns c k.count k.head) b ≡ false
 used-unlisted es ns c k b h block u =
     let out : free_in es ns c b ≡ false = sym (mark-block es ns c k.pages b false block) ∙ u in
@@ -205,12 +205,12 @@ pub pages-value : (f : Inside) (v : PoolState) (c : ℕ) → pool_in f ≡ v →
 pages-value f v c e h = ap (λ (k : ClassState). k.pages) (class_at-value f v c e h)
 
 -- where a carved block's entry stands
-pub record IsPlaced (es : List Entry) (ns : List ℕ) (c b : ℕ) : Type 0 where
+pub record IsPlaced (es : List BlockEntry) (ns : List ℕ) (c b : ℕ) : Type 0 where
   pub inside : region_of c ≤ b
   pub slot : slot_of c ((b - region_of c) / PAGE_SIZE) < length ns
   pub place : place_of ns c b < length es
 
-pub placed : (f : Inside) (v : PoolState) (es : List Entry) (ns : List ℕ) (c b : ℕ) → pool_in f ≡ v → IsPool f → IsClass c → es ≡ f.entries.items → ns ≡ f.numbers.items → IsBlock c (class_at v c).pages b
+pub placed : (f : Inside) (v : PoolState) (es : List BlockEntry) (ns : List ℕ) (c b : ℕ) → pool_in f ≡ v → IsPool f → IsClass c → es ≡ f.entries.items → ns ≡ f.numbers.items → IsBlock c (class_at v c).pages b
     → IsPlaced es ns c b
 placed f v es ns c b e h hc ee en block =
     let k = subst (λ n. IsBlock c n b) (pages-value f v c e hc) block in
@@ -218,21 +218,21 @@ placed f v es ns c b e h hc ee en block =
     let t = table-same f es ns h ee en in
     record { inside = cell.inside; slot = slot-in ns f.lists (length es) c b t.numbered hc cell; place = place-in ns f.lists (length es) c b t.numbered hc cell }
 
-pub mark-done : (f : Inside) (v : PoolState) (es es' : List Entry) (ns : List ℕ) (c b : ℕ) (free : Bool) → pool_in f ≡ v → IsPool f → IsClass c → es ≡ f.entries.items → length es ≡ vec_len f.entries → ns ≡ f.numbers.items
+pub mark-done : (f : Inside) (v : PoolState) (es es' : List BlockEntry) (ns : List ℕ) (c b : ℕ) (free : Bool) → pool_in f ≡ v → IsPool f → IsClass c → es ≡ f.entries.items → length es ≡ vec_len f.entries → ns ≡ f.numbers.items
     → IsBlock c (class_at v c).pages b → (free ≡ false → is_member (class_at v c).stack b ≡ false) → es' ≡ set es (place_of ns c b) (used_entry es ns c b free)
-    → PoolDone f v ns es' f.lists c (λ k. mark_in c k b free)
+    → PoolDone f v ns es' f.lists c (λ k. class_with_mark c k b free)
 mark-done f v es es' ns c b free e h hc ee le en block out new =
     let at = class_at-slices f v es ns c e hc ee en in
     let done = marked es ns f.lists c b free (table-same f es ns h ee en) hc (subst (λ (k : ClassState). IsBlock c k.pages b) at block)
     (λ i. subst (λ (k : ClassState). is_member k.stack b ≡ false) at (out i)) in
-    pool-done f v es ns es' f.lists c (λ k. mark_in c k b free) e h hc ee le en
-    (subst (λ t. Became es ns f.lists t f.lists c (mark_in c (class_in es ns c (list_at f.lists c)) b free)) (sym new) done)
+    pool-done f v es ns es' f.lists c (λ k. class_with_mark c k b free) e h hc ee le en
+    (subst (λ t. Became es ns f.lists t f.lists c (class_with_mark c (class_in es ns c (list_at f.lists c)) b free)) (sym new) done)
 
 -- the mark of a carved block is its entry's
-pub mark-entry : (f : Inside) (v : PoolState) (c b at : ℕ) (e : Entry) → pool_in f ≡ v → IsClass c → IsBlock c (class_at v c).pages b → at ≡ place_of f.numbers.items c b → get_or f.entries.items at no_entry ≡ e → is_marked v c b ≡ e.free
+pub mark-entry : (f : Inside) (v : PoolState) (c b at : ℕ) (e : BlockEntry) → pool_in f ≡ v → IsClass c → IsBlock c (class_at v c).pages b → at ≡ place_of f.numbers.items c b → get_or f.entries.items at no_entry ≡ e → is_marked v c b ≡ e.free
 unfolding free_in entry_at
 mark-entry f v c b at e is h block ea ee =
     let k = subst (λ n. IsBlock c n b) (pages-value f v c is h) block in
     ap (λ (t : ClassState). get_or t.marks (number_of c b) false) (class_at-value f v c is h)
     ∙ mark-block f.entries.items f.numbers.items c (list_at f.lists c).pages b false k
-    ∙ ap (λ t. (get_or f.entries.items t no_entry).free) (sym ea) ∙ ap (λ (t : Entry). t.free) ee
+    ∙ ap (λ t. (get_or f.entries.items t no_entry).free) (sym ea) ∙ ap (λ (t : BlockEntry). t.free) ee

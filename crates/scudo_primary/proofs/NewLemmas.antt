@@ -8,22 +8,22 @@ use Rattle.scudo_header.specs.Classes.{size_of}
 use Rattle.scudo_header.specs.declared.classes.TheConstants.{CLASSES}
 use Rattle.scudo_primary.specs.Blocks.{carved_count, block_at}
 use Rattle.scudo_primary.specs.Pools.{empty_class, empty_pool}
-use Rattle.scudo_primary.specs.Lists.{capacities_in, IsClass, follow, sizes_by, no_list, list_at, free_in, stack_from, sizes_from, marks_in, class_in, pool_in, IsLinked, IsPool}
+use Rattle.scudo_primary.specs.Lists.{capacities_in, IsClass, follow, sizes_of_marks, no_list, list_at, free_in, stack_from, sizes_from, marks_in, class_in, pool_in, IsLinked, IsPool}
 use Rattle.address_map.specs.declared.limits.TheConstants.{MAX_PAGES}
-use Rattle.scudo_primary.specs.declared.lists.Entry.{Entry}
+use Rattle.scudo_primary.specs.declared.lists.BlockEntry.{BlockEntry}
 use Rattle.scudo_primary.specs.declared.lists.ClassList.{ClassList}
-use Rattle.scudo_primary.specs.declared.pool.Pool.TheInside.{Inside}
+use Rattle.scudo_primary.specs.declared.pool.Primary.TheInside.{Inside}
 use Rattle.scudo_primary.proofs.ModelLemmas.{pool_by-agree}
 
 none-carved : (c : ℕ) → carved_count c 0 ≡ 0
 none-carved c = zero-div (size_of c)
 
-class-empty : (es : List Entry) (ns : List ℕ) (c : ℕ) → class_in es ns c no_list ≡ empty_class
-unfolding stack_from sizes_from marks_in follow sizes_by
+class-empty : (es : List BlockEntry) (ns : List ℕ) (c : ℕ) → class_in es ns c no_list ≡ empty_class
+unfolding stack_from sizes_from marks_in follow sizes_of_marks
 class-empty es ns c = ap (λ n. record { pages = 0; stack = []; sizes = []; marks = map (λ m. free_in es ns c (block_at c m)) (range_with_len 0 n) }) (none-carved c)
 
-linked-empty : (es : List Entry) (ns : List ℕ) (c : ℕ) → IsLinked es ns c no_list
-unfolding stack_from sizes_from follow sizes_by IsDistinct
+linked-empty : (es : List BlockEntry) (ns : List ℕ) (c : ℕ) → IsLinked es ns c no_list
+unfolding stack_from sizes_from follow sizes_of_marks IsDistinct
 linked-empty es ns c = record { blocks = tt; distinct = tt; marked = tt; batches = tt }
 
 list-empty : (ks : List ClassList) (c : ℕ) → ks ≡ replicate CLASSES no_list → IsClass c → list_at ks c ≡ no_list

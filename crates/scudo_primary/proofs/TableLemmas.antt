@@ -10,9 +10,9 @@ use Rattle.address_map.specs.declared.limits.TheConstants.{PAGE_SIZE}
 use Rattle.scudo_primary.specs.Blocks.{carved_count, block_at, number_of, IsBlock}
 use Rattle.scudo_primary.specs.Batches.{max_count_of}
 use Rattle.scudo_primary.specs.Pools.{ClassState}
-use Rattle.scudo_primary.specs.Lists.{IsClass, Each, sizes_by, place_of, page_number, slot_of, no_entry, no_list, entry_at, list_at, next_in, last_in, free_in, stack_from, sizes_from, marks_in, class_in, IsNumbered, IsLinked, IsTable, Became}
+use Rattle.scudo_primary.specs.Lists.{IsClass, Each, sizes_of_marks, place_of, page_number, slot_of, no_entry, no_list, entry_at, list_at, next_in, last_in, free_in, stack_from, sizes_from, marks_in, class_in, IsNumbered, IsLinked, IsTable, Became}
 use Rattle.address_map.specs.declared.limits.TheConstants.{MAX_PAGES}
-use Rattle.scudo_primary.specs.declared.lists.Entry.{Entry}
+use Rattle.scudo_primary.specs.declared.lists.BlockEntry.{BlockEntry}
 use Rattle.scudo_primary.specs.declared.lists.ClassList.{ClassList}
 use Rattle.scudo_primary.proofs.BlockLemmas.{IsCell, block-IsCell, block_at-IsBlock, number_of-block_at, block_at-number}
 use Rattle.scudo_primary.proofs.ListLemmas.{follow-agree, map-agree}
@@ -46,11 +46,11 @@ place-apart ns ks n c d b x h kc kd cb cx e =
     let ap' = a.1 in
     (ac, omega arith)
 
-pub entry-same : (es : List Entry) (ns : List ℕ) (ks : List ClassList) (c b : ℕ) (e : Entry) → IsNumbered ns ks (length es) → IsClass c → IsCell c (list_at ks c).pages b → entry_at (set es (place_of ns c b) e) ns c b ≡ e
+pub entry-same : (es : List BlockEntry) (ns : List ℕ) (ks : List ClassList) (c b : ℕ) (e : BlockEntry) → IsNumbered ns ks (length es) → IsClass c → IsCell c (list_at ks c).pages b → entry_at (set es (place_of ns c b) e) ns c b ≡ e
 unfolding entry_at
 entry-same es ns ks c b e h k cell = get_or-set_same es (place_of ns c b) e no_entry (place-in ns ks (length es) c b h k cell)
 
-pub entry-other : (es : List Entry) (ns : List ℕ) (ks : List ClassList) (c d b x : ℕ) (e : Entry) → IsNumbered ns ks (length es) → IsClass c → IsClass d
+pub entry-other : (es : List BlockEntry) (ns : List ℕ) (ks : List ClassList) (c d b x : ℕ) (e : BlockEntry) → IsNumbered ns ks (length es) → IsClass c → IsClass d
     → IsCell c (list_at ks c).pages b → IsCell d (list_at ks d).pages x → ((d ≡ c) × (x ≡ b) → ⊥) → entry_at (set es (place_of ns c b) e) ns d x ≡ entry_at es ns d x
 unfolding entry_at
 entry-other es ns ks c d b x e h kc kd cb cx n =
@@ -58,29 +58,29 @@ entry-other es ns ks c d b x e h kc kd cb cx n =
 
 -- ---- lists of a class whose entries agree
 
-pub stack-agree : (es es' : List Entry) (ns ns' : List ℕ) (c n at : ℕ) (Q : ℕ → Type 0) → Each Q (stack_from es ns c n at) → ((x : ℕ) → Q x → next_in es' ns' c x ≡ next_in es ns c x)
+pub stack-agree : (es es' : List BlockEntry) (ns ns' : List ℕ) (c n at : ℕ) (Q : ℕ → Type 0) → Each Q (stack_from es ns c n at) → ((x : ℕ) → Q x → next_in es' ns' c x ≡ next_in es ns c x)
     → stack_from es' ns' c n at ≡ stack_from es ns c n at
 unfolding stack_from
 stack-agree es es' ns ns' c n at Q all e = sym (follow-agree n (next_in es ns c) (next_in es' ns' c) at Q all (λ x q. sym (e x q)))
 
-pub sizes-agree : (es es' : List Entry) (ns ns' : List ℕ) (c n at : ℕ) (Q : ℕ → Type 0) → Each Q (stack_from es ns c n at) → stack_from es' ns' c n at ≡ stack_from es ns c n at
+pub sizes-agree : (es es' : List BlockEntry) (ns ns' : List ℕ) (c n at : ℕ) (Q : ℕ → Type 0) → Each Q (stack_from es ns c n at) → stack_from es' ns' c n at ≡ stack_from es ns c n at
     → ((x : ℕ) → Q x → last_in es' ns' c x ≡ last_in es ns c x) → sizes_from es' ns' c n at ≡ sizes_from es ns c n at
 unfolding sizes_from
 sizes-agree es es' ns ns' c n at Q all s e =
-    ap (λ t. sizes_by (map (last_in es' ns' c) t)) s ∙ ap sizes_by (map-agree (last_in es' ns' c) (last_in es ns c) (stack_from es ns c n at) Q all e)
+    ap (λ t. sizes_of_marks (map (last_in es' ns' c) t)) s ∙ ap sizes_of_marks (map-agree (last_in es' ns' c) (last_in es ns c) (stack_from es ns c n at) Q all e)
 
-pub length-marks : (es : List Entry) (ns : List ℕ) (c pages : ℕ) → length (marks_in es ns c pages) ≡ carved_count c pages
+pub length-marks : (es : List BlockEntry) (ns : List ℕ) (c pages : ℕ) → length (marks_in es ns c pages) ≡ carved_count c pages
 unfolding marks_in
 length-marks es ns c pages = length-map-range_with_len (λ n. free_in es ns c (block_at c n)) 0 (carved_count c pages)
 
-pub mark-at : (es : List Entry) (ns : List ℕ) (c pages n : ℕ) (d : Bool) → n < carved_count c pages → get_or (marks_in es ns c pages) n d ≡ free_in es ns c (block_at c n)
+pub mark-at : (es : List BlockEntry) (ns : List ℕ) (c pages n : ℕ) (d : Bool) → n < carved_count c pages → get_or (marks_in es ns c pages) n d ≡ free_in es ns c (block_at c n)
 unfolding marks_in
 mark-at es ns c pages n d l = get_or-map-range_with_len (λ n. free_in es ns c (block_at c n)) 0 (carved_count c pages) n n d l (omega arith)
 
-pub mark-block : (es : List Entry) (ns : List ℕ) (c pages b : ℕ) (d : Bool) → IsBlock c pages b → get_or (marks_in es ns c pages) (number_of c b) d ≡ free_in es ns c b
+pub mark-block : (es : List BlockEntry) (ns : List ℕ) (c pages b : ℕ) (d : Bool) → IsBlock c pages b → get_or (marks_in es ns c pages) (number_of c b) d ≡ free_in es ns c b
 mark-block es ns c pages b d k = mark-at es ns c pages (number_of c b) d k.carved ∙ ap (free_in es ns c) (block_at-number c pages b k)
 
-pub marks-agree : (es es' : List Entry) (ns ns' : List ℕ) (c pages : ℕ) → IsClass c → ((x : ℕ) → IsBlock c pages x → free_in es' ns' c x ≡ free_in es ns c x) → marks_in es' ns' c pages ≡ marks_in es ns c pages
+pub marks-agree : (es es' : List BlockEntry) (ns ns' : List ℕ) (c pages : ℕ) → IsClass c → ((x : ℕ) → IsBlock c pages x → free_in es' ns' c x ≡ free_in es ns c x) → marks_in es' ns' c pages ≡ marks_in es ns c pages
 marks-agree es es' ns ns' c pages h e =
     let la = length-marks es' ns' c pages in
     let lb = length-marks es ns c pages in
@@ -88,20 +88,20 @@ marks-agree es es' ns ns' c pages h e =
     let low : i < carved_count c pages = omega arith in
     mark-at es' ns' c pages i false low ∙ e (block_at c i) (block_at-IsBlock c pages i h low) ∙ sym (mark-at es ns c pages i false low))
 
-pub next-same : (es es' : List Entry) (ns ns' : List ℕ) (c x : ℕ) → entry_at es' ns' c x ≡ entry_at es ns c x → next_in es' ns' c x ≡ next_in es ns c x
+pub next-same : (es es' : List BlockEntry) (ns ns' : List ℕ) (c x : ℕ) → entry_at es' ns' c x ≡ entry_at es ns c x → next_in es' ns' c x ≡ next_in es ns c x
 unfolding next_in
-next-same es es' ns ns' c x e = ap (λ (t : Entry). t.next) e
+next-same es es' ns ns' c x e = ap (λ (t : BlockEntry). t.next) e
 
-pub last-same : (es es' : List Entry) (ns ns' : List ℕ) (c x : ℕ) → entry_at es' ns' c x ≡ entry_at es ns c x → last_in es' ns' c x ≡ last_in es ns c x
+pub last-same : (es es' : List BlockEntry) (ns ns' : List ℕ) (c x : ℕ) → entry_at es' ns' c x ≡ entry_at es ns c x → last_in es' ns' c x ≡ last_in es ns c x
 unfolding last_in
-last-same es es' ns ns' c x e = ap (λ (t : Entry). t.last) e
+last-same es es' ns ns' c x e = ap (λ (t : BlockEntry). t.last) e
 
-pub free-same : (es es' : List Entry) (ns ns' : List ℕ) (c x : ℕ) → entry_at es' ns' c x ≡ entry_at es ns c x → free_in es' ns' c x ≡ free_in es ns c x
+pub free-same : (es es' : List BlockEntry) (ns ns' : List ℕ) (c x : ℕ) → entry_at es' ns' c x ≡ entry_at es ns c x → free_in es' ns' c x ≡ free_in es ns c x
 unfolding free_in
-free-same es es' ns ns' c x e = ap (λ (t : Entry). t.free) e
+free-same es es' ns ns' c x e = ap (λ (t : BlockEntry). t.free) e
 
 -- a class whose entries stay
-pub class-kept : (es es' : List Entry) (ns ns' : List ℕ) (c : ℕ) (k : ClassList) → IsClass c → IsLinked es ns c k → ((x : ℕ) → IsBlock c k.pages x → entry_at es' ns' c x ≡ entry_at es ns c x)
+pub class-kept : (es es' : List BlockEntry) (ns ns' : List ℕ) (c : ℕ) (k : ClassList) → IsClass c → IsLinked es ns c k → ((x : ℕ) → IsBlock c k.pages x → entry_at es' ns' c x ≡ entry_at es ns c x)
     → (class_in es' ns' c k ≡ class_in es ns c k) × IsLinked es' ns' c k
 class-kept es es' ns ns' c k h old e =
     let stack = stack-agree es es' ns ns' c k.count k.head _ old.blocks (λ x q. next-same es es' ns ns' c x (e x q)) in
@@ -130,7 +130,7 @@ numbered-pages ns ks ks' n m h s e = record {
 }
 
 -- a change of one class alone
-pub became : (es es' : List Entry) (ns : List ℕ) (ks ks' : List ClassList) (c : ℕ) (k' : ClassList) (K : ClassState) → IsTable es ns ks → IsClass c → length es' ≡ length es → length ks' ≡ length ks
+pub became : (es es' : List BlockEntry) (ns : List ℕ) (ks ks' : List ClassList) (c : ℕ) (k' : ClassList) (K : ClassState) → IsTable es ns ks → IsClass c → length es' ≡ length es → length ks' ≡ length ks
     → list_at ks' c ≡ k' → ((d : ℕ) → IsClass d → d ≢ c → list_at ks' d ≡ list_at ks d) → k'.pages ≡ (list_at ks c).pages
     → ((d x : ℕ) → IsClass d → d ≢ c → IsBlock d (list_at ks d).pages x → entry_at es' ns d x ≡ entry_at es ns d x)
     → IsLinked es' ns c k' → class_in es' ns c k' ≡ K → Became es ns ks es' ks' c K
@@ -169,11 +169,11 @@ list-other ks c d k hc hd n =
     get_or-set_other ks (c - 1) (d - 1) k no_list (λ e. n (omega arith))
 
 -- a change of one entry of the class
-pub record Writes (es es' : List Entry) (ns : List ℕ) (c pages b : ℕ) (e : Entry) : Type 0 where
+pub record Writes (es es' : List BlockEntry) (ns : List ℕ) (c pages b : ℕ) (e : BlockEntry) : Type 0 where
   pub own : entry_at es' ns c b ≡ e
   pub other : (x : ℕ) → IsBlock c pages x → x ≢ b → entry_at es' ns c x ≡ entry_at es ns c x
 
-pub writes : (es : List Entry) (ns : List ℕ) (ks : List ClassList) (c b : ℕ) (e : Entry) → IsTable es ns ks → IsClass c → IsBlock c (list_at ks c).pages b
+pub writes : (es : List BlockEntry) (ns : List ℕ) (ks : List ClassList) (c b : ℕ) (e : BlockEntry) → IsTable es ns ks → IsClass c → IsBlock c (list_at ks c).pages b
     → Writes es (set es (place_of ns c b) e) ns c (list_at ks c).pages b e
 writes es ns ks c b e h hc k =
     let cell = block-IsCell c (list_at ks c).pages b hc k in
@@ -182,16 +182,16 @@ writes es ns ks c b e h hc k =
       other = λ x q n. entry-other es ns ks c c b x e h.numbered hc hc cell (block-IsCell c (list_at ks c).pages x hc q) (λ t. n t.1);
     }
 
-pub writes-others : (es : List Entry) (ns : List ℕ) (ks : List ClassList) (c b : ℕ) (e : Entry) → IsTable es ns ks → IsClass c → IsBlock c (list_at ks c).pages b
+pub writes-others : (es : List BlockEntry) (ns : List ℕ) (ks : List ClassList) (c b : ℕ) (e : BlockEntry) → IsTable es ns ks → IsClass c → IsBlock c (list_at ks c).pages b
     → (d x : ℕ) → IsClass d → d ≢ c → IsBlock d (list_at ks d).pages x → entry_at (set es (place_of ns c b) e) ns d x ≡ entry_at es ns d x
 writes-others es ns ks c b e h hc k d x hd n q =
     entry-other es ns ks c d b x e h.numbered hc hd (block-IsCell c (list_at ks c).pages b hc k) (block-IsCell d (list_at ks d).pages x hd q) (λ t. n t.0)
 
-free-of : (es : List Entry) (ns : List ℕ) (c x : ℕ) (e : Entry) → entry_at es ns c x ≡ e → free_in es ns c x ≡ e.free
+free-of : (es : List BlockEntry) (ns : List ℕ) (c x : ℕ) (e : BlockEntry) → entry_at es ns c x ≡ e → free_in es ns c x ≡ e.free
 unfolding free_in
-free-of es ns c x e p = ap (λ (t : Entry). t.free) p
+free-of es ns c x e p = ap (λ (t : BlockEntry). t.free) p
 
-pub marks-set : (es es' : List Entry) (ns : List ℕ) (c pages b : ℕ) (e : Entry) → IsClass c → IsBlock c pages b → Writes es es' ns c pages b e
+pub marks-set : (es es' : List BlockEntry) (ns : List ℕ) (c pages b : ℕ) (e : BlockEntry) → IsClass c → IsBlock c pages b → Writes es es' ns c pages b e
     → marks_in es' ns c pages ≡ set (marks_in es ns c pages) (number_of c b) e.free
 marks-set es es' ns c pages b e h k w =
     let la = length-marks es' ns c pages in

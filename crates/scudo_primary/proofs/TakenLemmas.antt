@@ -8,11 +8,11 @@ use Rattle.std.proofs.lemmas.Map.Keys.{IsDistinct-IsPermutation}
 use Rattle.std.specs.List.{All, IsDistinct}
 use Rattle.scudo_primary.specs.Blocks.{IsBlock}
 use Rattle.scudo_primary.specs.Batches.{max_count_of, first_size}
-use Rattle.scudo_primary.specs.Pools.{ClassState, PoolState, IsLoose, is_member, batch_in, pop_batch_in, class_at, with_class, without_batch, top_batch}
-use Rattle.scudo_primary.specs.Lists.{IsClass, Each, sizes_by, list_at, free_in, last_in, stack_from, sizes_from, class_in, state_of, capacities_in, pool_in, IsLinked, IsTable, IsPool, Became}
-use Rattle.scudo_primary.specs.declared.lists.Entry.{Entry}
+use Rattle.scudo_primary.specs.Pools.{ClassState, PoolState, IsLoose, is_member, batch_in, class_after_pop_batch, class_at, with_class, without_batch, top_batch}
+use Rattle.scudo_primary.specs.Lists.{IsClass, Each, sizes_of_marks, list_at, free_in, last_in, stack_from, sizes_from, class_in, state_of, capacities_in, pool_in, IsLinked, IsTable, IsPool, Became}
+use Rattle.scudo_primary.specs.declared.lists.BlockEntry.{BlockEntry}
 use Rattle.scudo_primary.specs.declared.lists.ClassList.{ClassList}
-use Rattle.scudo_primary.specs.declared.pool.Pool.TheInside.{Inside}
+use Rattle.scudo_primary.specs.declared.pool.Primary.TheInside.{Inside}
 use Rattle.scudo_primary.proofs.ListLemmas.{Each-both, Each-map, distinct-head, distinct-tail, distinct-cons}
 use Rattle.scudo_primary.proofs.TableLemmas.{mark-block}
 use Rattle.scudo_primary.proofs.BatchLemmas.{Each-reverse}
@@ -48,16 +48,16 @@ distinct-across : (xs ys : List ℕ) → IsDistinct eqb (xs ++ ys) → Each (λ 
 distinct-across [] ys h = tt
 distinct-across (x ∷ xs) ys h = ((member-append xs ys x (distinct-head x (xs ++ ys) h)).1, distinct-across xs ys (distinct-tail x (xs ++ ys) h))
 
-first-length : (flags : List Bool) → first_size (sizes_by flags) ≤ length flags
-unfolding sizes_by
+first-length : (flags : List Bool) → first_size (sizes_of_marks flags) ≤ length flags
+unfolding sizes_of_marks
 first-length [] = omega arith
 first-length (true ∷ more) = omega arith
-first-length (false ∷ more) = let a = first-length more in let b = first-more (sizes_by more) in omega arith
+first-length (false ∷ more) = let a = first-length more in let b = first-more (sizes_of_marks more) in omega arith
 
-first-none : (f : ℕ → Bool) (xs : List ℕ) → (first_size (sizes_by (map f xs)) ≡ 0) ↔ (xs ≡ [])
-unfolding sizes_by
+first-none : (f : ℕ → Bool) (xs : List ℕ) → (first_size (sizes_of_marks (map f xs)) ≡ 0) ↔ (xs ≡ [])
+unfolding sizes_of_marks
 first-none f [] = ((λ e. refl), (λ e. refl))
-first-none f (x ∷ xs) = ((λ e. let p = first-pos (f x) (sizes_by (map f xs)) in absurd (omega arith)), (λ e. cc))
+first-none f (x ∷ xs) = ((λ e. let p = first-pos (f x) (sizes_of_marks (map f xs)) in absurd (omega arith)), (λ e. cc))
 
 eqb-flip : (x y : ℕ) → eqb x y ≡ eqb y x
 eqb-flip x y = elim (cases_eq x y) [
@@ -70,10 +70,10 @@ pub record IsBatch (c : ℕ) (k : ClassState) : Type 0 where
   pub most : first_size k.sizes ≤ max_count_of c
   pub empty : (first_size k.sizes ≡ 0) ↔ (k.stack ≡ [])
   pub len : length (batch_in k) ≡ first_size k.sizes
-  pub loose : All (IsLoose (pop_batch_in k) c) (batch_in k)
+  pub loose : All (IsLoose (class_after_pop_batch k) c) (batch_in k)
   pub distinct : IsDistinct eqb (batch_in k)
 
-batch-of : (es : List Entry) (ns : List ℕ) (c : ℕ) (k : ClassList) → IsLinked es ns c k → IsBatch c (class_in es ns c k)
+batch-of : (es : List BlockEntry) (ns : List ℕ) (c : ℕ) (k : ClassList) → IsLinked es ns c k → IsBatch c (class_in es ns c k)
 unfolding sizes_from
 batch-of es ns c k h =
     let s = stack_from es ns c k.count k.head in
@@ -83,7 +83,7 @@ batch-of es ns c k h =
     let facts : Each (λ x. IsBlock c k.pages x × (free_in es ns c x ≡ true)) (take n s) =
     Each-left (take n s) (drop n s) _ (subst (Each (λ x. IsBlock c k.pages x × (free_in es ns c x ≡ true))) (sym cut) (Each-both s (IsBlock c k.pages) (λ x. free_in es ns c x ≡ true) h.blocks h.marked)) in
     let distinct = subst (IsDistinct eqb) (sym cut) h.distinct in
-    let loose : Each (IsLoose (pop_batch_in (class_in es ns c k)) c) (take n s) =
+    let loose : Each (IsLoose (class_after_pop_batch (class_in es ns c k)) c) (take n s) =
     Each-map (take n s) _ _ (Each-both (take n s) _ (λ x. is_member (drop n s) x ≡ false) facts (distinct-across (take n s) (drop n s) distinct))
     (λ x q. record { carved = q.0.0; marked = mark-block es ns c k.pages x false q.0.0 ∙ q.0.1; unlisted = q.1 }) in
     record {
@@ -110,9 +110,9 @@ pub record BatchDone (f : Inside) (v : PoolState) (ks' : List ClassList) (c n : 
   pub cached : All (IsLoose (class_at (pool_in (inside_lists f ks')) c) c) (take n buffer')
   pub distinct : IsDistinct eqb (take n buffer')
 
-pub batch-done : (f : Inside) (v : PoolState) (es : List Entry) (ns : List ℕ) (ks' : List ClassList) (c n : ℕ) (buffer buffer' : List ℕ) → pool_in f ≡ v → IsPool f → IsClass c → es ≡ f.entries.items → ns ≡ f.numbers.items
+pub batch-done : (f : Inside) (v : PoolState) (es : List BlockEntry) (ns : List ℕ) (ks' : List ClassList) (c n : ℕ) (buffer buffer' : List ℕ) → pool_in f ≡ v → IsPool f → IsClass c → es ≡ f.entries.items → ns ≡ f.numbers.items
     → n ≡ first_size (class_in es ns c (list_at f.lists c)).sizes → buffer' ≡ batch_in (class_in es ns c (list_at f.lists c)) ++ drop n buffer
-    → Became es ns f.lists es ks' c (pop_batch_in (class_in es ns c (list_at f.lists c))) → BatchDone f v ks' c n buffer buffer'
+    → Became es ns f.lists es ks' c (class_after_pop_batch (class_in es ns c (list_at f.lists c))) → BatchDone f v ks' c n buffer buffer'
 unfolding without_batch top_batch
 batch-done f v es ns ks' c n buffer buffer' e h hc ee en count blocks b =
     let K = class_in es ns c (list_at f.lists c) in
@@ -120,12 +120,12 @@ batch-done f v es ns ks' c n buffer buffer' e h hc ee en count blocks b =
     let t = table-same f es ns h ee en in
     let batch = batch-of es ns c (list_at f.lists c) (t.linked c hc) in
     let taken : take n buffer' ≡ batch_in K = ap (take n) blocks ∙ take_at (batch_in K) (drop n buffer) n (batch.len ∙ sym count) in
-    let view : pool_in (inside_lists f ks') ≡ with_class v c (pop_batch_in (class_at v c)) =
+    let view : pool_in (inside_lists f ks') ≡ with_class v c (class_after_pop_batch (class_at v c)) =
     ap (λ t. state_of (f.limit - f.used) (capacities_in f) t f.numbers.items ks') (sym ee) ∙ ap (λ t. state_of (f.limit - f.used) (capacities_in f) es t ks') (sym en)
-    ∙ became-state (f.limit - f.used) (capacities_in f) es es ns f.lists ks' c (pop_batch_in K) hc b
-    ∙ ap (λ t. with_class (state_of (f.limit - f.used) (capacities_in f) t ns f.lists) c (pop_batch_in K)) ee ∙ ap (λ t. with_class (state_of (f.limit - f.used) (capacities_in f) f.entries.items t f.lists) c (pop_batch_in K)) en
-    ∙ ap (λ t. with_class t c (pop_batch_in K)) e ∙ ap (λ (t : ClassState). with_class v c (pop_batch_in t)) (sym at) in
-    let now : class_at (pool_in (inside_lists f ks')) c ≡ pop_batch_in K = ap (λ t. class_at t c) view ∙ class_at-with_class v c (pop_batch_in (class_at v c)) ∙ ap (λ (t : ClassState). pop_batch_in t) at in
+    ∙ became-state (f.limit - f.used) (capacities_in f) es es ns f.lists ks' c (class_after_pop_batch K) hc b
+    ∙ ap (λ t. with_class (state_of (f.limit - f.used) (capacities_in f) t ns f.lists) c (class_after_pop_batch K)) ee ∙ ap (λ t. with_class (state_of (f.limit - f.used) (capacities_in f) f.entries.items t f.lists) c (class_after_pop_batch K)) en
+    ∙ ap (λ t. with_class t c (class_after_pop_batch K)) e ∙ ap (λ (t : ClassState). with_class v c (class_after_pop_batch t)) (sym at) in
+    let now : class_at (pool_in (inside_lists f ks')) c ≡ class_after_pop_batch K = ap (λ t. class_at t c) view ∙ class_at-with_class v c (class_after_pop_batch (class_at v c)) ∙ ap (λ (t : ClassState). class_after_pop_batch t) at in
     record {
       invariant = record {
         table = subst (λ t. IsTable f.entries.items t ks') en (subst (λ t. IsTable t ns ks') ee b.table);
@@ -146,6 +146,6 @@ batch-done f v es ns ks' c n buffer buffer' e h hc ee en count blocks b =
           ∙ ap (λ s. s ++ drop (first_size K.sizes) K.stack) (sym (reverse-reverse (take (first_size K.sizes) K.stack)))
           ∙ ap (λ s. reverse s ++ drop (first_size K.sizes) K.stack) (sym taken)
           ∙ ap (λ (t : ClassState). reverse (take n buffer') ++ t.stack) (sym now);
-      cached = subst (λ (t : ClassState). All (IsLoose t c) (take n buffer')) (sym now) (subst (All (IsLoose (pop_batch_in K) c)) (sym taken) batch.loose);
+      cached = subst (λ (t : ClassState). All (IsLoose t c) (take n buffer')) (sym now) (subst (All (IsLoose (class_after_pop_batch K) c)) (sym taken) batch.loose);
       distinct = subst (IsDistinct eqb) (sym taken) batch.distinct;
     }

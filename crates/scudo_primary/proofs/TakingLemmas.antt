@@ -5,10 +5,10 @@ use Rattle.std.proofs.lemmas.List.{take_more_set, length-set, take_at, drop_at, 
 use Rattle.std.specs.List.{IsDistinct}
 use Rattle.scudo_primary.specs.Blocks.{IsBlock}
 use Rattle.scudo_primary.specs.Batches.{max_count_of, first_size}
-use Rattle.scudo_primary.specs.Pools.{batch_in, pop_batch_in}
-use Rattle.scudo_primary.specs.Lists.{IsClass, Each, follow, sizes_by, joined, one_more, place_of, no_entry, entry_at, list_at, next_in, last_in, free_in, stack_from, sizes_from, marks_in, class_in, IsLinked, IsTable, Became}
+use Rattle.scudo_primary.specs.Pools.{batch_in, class_after_pop_batch}
+use Rattle.scudo_primary.specs.Lists.{IsClass, Each, follow, sizes_of_marks, sizes_after_push, one_more, place_of, no_entry, entry_at, list_at, next_in, last_in, free_in, stack_from, sizes_from, marks_in, class_in, IsLinked, IsTable, Became}
 use Rattle.scudo_primary.specs.declared.batches.TheConstants.{MAX_COUNT}
-use Rattle.scudo_primary.specs.declared.lists.Entry.{Entry}
+use Rattle.scudo_primary.specs.declared.lists.BlockEntry.{BlockEntry}
 use Rattle.scudo_primary.specs.declared.lists.ClassList.{ClassList}
 use Rattle.scudo_primary.proofs.BlockLemmas.{IsCell, block-IsCell}
 use Rattle.scudo_primary.proofs.ListLemmas.{distinct-tail, max_count-high}
@@ -31,7 +31,7 @@ drop-more : (sizes : List ℕ) → drop 1 (one_more sizes) ≡ drop 1 sizes
 drop-more [] = refl
 drop-more (n ∷ ns) = refl
 
-pub first-pos : (last : Bool) (sizes : List ℕ) → 0 < first_size (joined last sizes)
+pub first-pos : (last : Bool) (sizes : List ℕ) → 0 < first_size (sizes_after_push last sizes)
 first-pos true sizes = omega arith
 first-pos false sizes = let e = first-more sizes in omega arith
 
@@ -43,7 +43,7 @@ Each-drop : (sizes : List ℕ) (P : ℕ → Type 0) → Each P sizes → Each P 
 Each-drop [] P h = tt
 Each-drop (n ∷ ns) P h = h.1
 
-pub record IsTaking (es : List Entry) (ns : List ℕ) (c n at : ℕ) (start buffer : List ℕ) (count next : ℕ) (more : Bool) : Type 0 where
+pub record IsTaking (es : List BlockEntry) (ns : List ℕ) (c n at : ℕ) (start buffer : List ℕ) (count next : ℕ) (more : Bool) : Type 0 where
   pub within : count ≤ n
   pub room : length buffer ≡ length start
   pub fits : count ≤ length buffer
@@ -52,11 +52,11 @@ pub record IsTaking (es : List Entry) (ns : List ℕ) (c n at : ℕ) (start buff
   pub goes : more ≡ true → (count < n) × (first_size (sizes_from es ns c (n - count) next) + count ≡ first_size (sizes_from es ns c n at)) × (drop 1 (sizes_from es ns c (n - count) next) ≡ drop 1 (sizes_from es ns c n at))
   pub ends : more ≡ false → (count ≡ first_size (sizes_from es ns c n at)) × (sizes_from es ns c (n - count) next ≡ drop 1 (sizes_from es ns c n at))
 
-sizes-none : (es : List Entry) (ns : List ℕ) (c n at : ℕ) → n ≡ 0 → sizes_from es ns c n at ≡ []
-unfolding sizes_from stack_from follow sizes_by
+sizes-none : (es : List BlockEntry) (ns : List ℕ) (c n at : ℕ) → n ≡ 0 → sizes_from es ns c n at ≡ []
+unfolding sizes_from stack_from follow sizes_of_marks
 sizes-none es ns c n at e = ap (λ t. sizes_from es ns c t at) e
 
-pub taking-init : (es : List Entry) (ns : List ℕ) (c n at : ℕ) (buffer : List ℕ) (more : Bool) → (more ≡ true → 0 < n) → (more ≡ false → n ≡ 0) → IsTaking es ns c n at buffer buffer 0 at more
+pub taking-init : (es : List BlockEntry) (ns : List ℕ) (c n at : ℕ) (buffer : List ℕ) (more : Bool) → (more ≡ true → 0 < n) → (more ≡ false → n ≡ 0) → IsTaking es ns c n at buffer buffer 0 at more
 taking-init es ns c n at buffer more some none =
     let all : n ≡ n - 0 = omega arith in
     record {
@@ -73,12 +73,12 @@ taking-init es ns c n at buffer more some none =
     }
 
 -- the next block of the batch
-pub record IsNext (es : List Entry) (ns : List ℕ) (ks : List ClassList) (c : ℕ) (buffer : List ℕ) (count next : ℕ) : Type 0 where
+pub record IsNext (es : List BlockEntry) (ns : List ℕ) (ks : List ClassList) (c : ℕ) (buffer : List ℕ) (count next : ℕ) : Type 0 where
   pub block : IsBlock c (list_at ks c).pages next
   pub cell : IsCell c (list_at ks c).pages next
   pub fits : count < MAX_COUNT
 
-pub taking-next : (es : List Entry) (ns : List ℕ) (ks : List ClassList) (c : ℕ) (start buffer : List ℕ) (count next : ℕ) (more : Bool) → IsTable es ns ks → IsClass c
+pub taking-next : (es : List BlockEntry) (ns : List ℕ) (ks : List ClassList) (c : ℕ) (start buffer : List ℕ) (count next : ℕ) (more : Bool) → IsTable es ns ks → IsClass c
     → IsTaking es ns c (list_at ks c).count (list_at ks c).head start buffer count next more → more ≡ true → IsNext es ns ks c buffer count next
 taking-next es ns ks c start buffer count next more h hc t e =
     let k = list_at ks c in
@@ -98,7 +98,7 @@ taking-next es ns ks c start buffer count next more h hc t e =
 drop-next : (count : ℕ) (xs ys : List ℕ) → drop count xs ≡ drop count ys → drop (count + 1) xs ≡ drop (count + 1) ys
 drop-next count xs ys e = sym (drop-drop 1 count xs) ∙ ap (drop 1) e ∙ drop-drop 1 count ys
 
-goes-on : (last : Bool) (below : List ℕ) (count n all : ℕ) (others : List ℕ) → (not last && nat_lt (count + 1) n) ≡ true → first_size (joined last below) + count ≡ all → drop 1 (joined last below) ≡ others
+goes-on : (last : Bool) (below : List ℕ) (count n all : ℕ) (others : List ℕ) → (not last && nat_lt (count + 1) n) ≡ true → first_size (sizes_after_push last below) + count ≡ all → drop 1 (sizes_after_push last below) ≡ others
     → (count + 1 < n) × (first_size below + (count + 1) ≡ all) × (drop 1 below ≡ others)
 goes-on true below count n all others m sum tail = cc
 goes-on false below count n all others m sum tail =
@@ -106,7 +106,7 @@ goes-on false below count n all others m sum tail =
     let f = first-more below in
     (low, omega arith, sym (drop-more below) ∙ tail)
 
-ends-here : (last : Bool) (below : List ℕ) (count n all : ℕ) (others : List ℕ) → (not last && nat_lt (count + 1) n) ≡ false → first_size (joined last below) + count ≡ all → drop 1 (joined last below) ≡ others
+ends-here : (last : Bool) (below : List ℕ) (count n all : ℕ) (others : List ℕ) → (not last && nat_lt (count + 1) n) ≡ false → first_size (sizes_after_push last below) + count ≡ all → drop 1 (sizes_after_push last below) ≡ others
     → (n ≤ count + 1 → below ≡ []) → (count + 1 ≡ all) × (below ≡ others)
 ends-here true below count n all others m sum tail none = (omega arith, tail)
 ends-here false below count n all others m sum tail none =
@@ -115,7 +115,7 @@ ends-here false below count n all others m sum tail none =
     let f : first_size (one_more below) ≡ 1 = ap (λ t. first_size (one_more t)) z in
     (omega arith, z ∙ sym (ap (λ t. drop 1 (one_more t)) z) ∙ tail)
 
-pub taking-step : (es : List Entry) (ns : List ℕ) (c n at : ℕ) (start buffer : List ℕ) (count next place : ℕ) (more more' : Bool) → IsTaking es ns c n at start buffer count next more → more ≡ true → count < length buffer → place ≡ place_of ns c next
+pub taking-step : (es : List BlockEntry) (ns : List ℕ) (c n at : ℕ) (start buffer : List ℕ) (count next place : ℕ) (more more' : Bool) → IsTaking es ns c n at start buffer count next more → more ≡ true → count < length buffer → place ≡ place_of ns c next
     → more' ≡ (not (get_or es place no_entry).last && nat_lt (count + 1) n) → IsTaking es ns c n at start (set buffer count next) (count + 1) (get_or es place no_entry).next more'
 unfolding next_in last_in entry_at
 taking-step es ns c n at start buffer count next place more more' t e fits is em =
@@ -128,12 +128,12 @@ taking-step es ns c n at start buffer count next place more more' t e fits is em
     let below = sizes_from es ns c (n - (count + 1)) entry.next in
     let split : stack_from es ns c (n - count) next ≡ next ∷ stack_from es ns c (n - (count + 1)) entry.next =
     stack-split es ns c (n - count) next some ∙ ap (λ p. next ∷ stack_from es ns c (n - count - 1) (get_or es p no_entry).next) (sym is) ∙ ap (λ m. next ∷ stack_from es ns c m entry.next) less in
-    let sizes : sizes_from es ns c (n - count) next ≡ joined entry.last below =
-    sizes-split es ns c (n - count) next some ∙ ap (λ p. joined (get_or es p no_entry).last (sizes_from es ns c (n - count - 1) (get_or es p no_entry).next)) (sym is)
-    ∙ ap (λ m. joined entry.last (sizes_from es ns c m entry.next)) less in
+    let sizes : sizes_from es ns c (n - count) next ≡ sizes_after_push entry.last below =
+    sizes-split es ns c (n - count) next some ∙ ap (λ p. sizes_after_push (get_or es p no_entry).last (sizes_from es ns c (n - count - 1) (get_or es p no_entry).next)) (sym is)
+    ∙ ap (λ m. sizes_after_push entry.last (sizes_from es ns c m entry.next)) less in
     let taken : take (count + 1) (set buffer count next) ≡ take count buffer ++ next ∷ [] = take_more_set buffer count next fits in
-    let sum : first_size (joined entry.last below) + count ≡ first_size (sizes_from es ns c n at) = ap (λ s. first_size s + count) (sym sizes) ∙ g.1 in
-    let tail : drop 1 (joined entry.last below) ≡ drop 1 (sizes_from es ns c n at) = ap (drop 1) (sym sizes) ∙ g.2 in
+    let sum : first_size (sizes_after_push entry.last below) + count ≡ first_size (sizes_from es ns c n at) = ap (λ s. first_size s + count) (sym sizes) ∙ g.1 in
+    let tail : drop 1 (sizes_after_push entry.last below) ≡ drop 1 (sizes_from es ns c n at) = ap (drop 1) (sym sizes) ∙ g.2 in
     record {
       within = omega arith;
       room = length-set buffer count next ∙ t.room;
@@ -149,8 +149,8 @@ taking-step es ns c n at start buffer count next place more more' t e fits is em
 abbrev pub below_list : ClassList → ℕ → ℕ → ClassList
 below_list k count next = record { head = next; count = k.count - count; pages = k.pages }
 
-taken-class : (es : List Entry) (ns : List ℕ) (c : ℕ) (k : ClassList) (start buffer : List ℕ) (count next : ℕ) (more : Bool) → IsLinked es ns c k → IsTaking es ns c k.count k.head start buffer count next more → more ≡ false
-    → IsLinked es ns c (below_list k count next) × (class_in es ns c (below_list k count next) ≡ pop_batch_in (class_in es ns c k))
+taken-class : (es : List BlockEntry) (ns : List ℕ) (c : ℕ) (k : ClassList) (start buffer : List ℕ) (count next : ℕ) (more : Bool) → IsLinked es ns c k → IsTaking es ns c k.count k.head start buffer count next more → more ≡ false
+    → IsLinked es ns c (below_list k count next) × (class_in es ns c (below_list k count next) ≡ class_after_pop_batch (class_in es ns c k))
 taken-class es ns c k start buffer count next more old t e =
     let xs = stack_from es ns c (k.count - count) next in
     let g = t.ends e in
@@ -166,17 +166,17 @@ taken-class es ns c k start buffer count next more old t e =
       (λ i. record { pages = k.pages; stack = stack i; sizes = (g.1) i; marks = marks_in es ns c k.pages }),
     )
 
-pub taken : (es : List Entry) (ns : List ℕ) (ks : List ClassList) (c : ℕ) (start buffer : List ℕ) (count next : ℕ) (more : Bool) → IsTable es ns ks → IsClass c
+pub taken : (es : List BlockEntry) (ns : List ℕ) (ks : List ClassList) (c : ℕ) (start buffer : List ℕ) (count next : ℕ) (more : Bool) → IsTable es ns ks → IsClass c
     → IsTaking es ns c (list_at ks c).count (list_at ks c).head start buffer count next more → more ≡ false
-    → Became es ns ks es (set ks (c - 1) (below_list (list_at ks c) count next)) c (pop_batch_in (class_in es ns c (list_at ks c)))
+    → Became es ns ks es (set ks (c - 1) (below_list (list_at ks c) count next)) c (class_after_pop_batch (class_in es ns c (list_at ks c)))
 taken es ns ks c start buffer count next more h hc t e =
     let k = list_at ks c in
     let k' = below_list k count next in
     let new = taken-class es ns c k start buffer count next more (h.linked c hc) t e in
-    became es es ns ks (set ks (c - 1) k') c k' (pop_batch_in (class_in es ns c k)) h hc refl (length-set ks (c - 1) k') (list-same ks c k' hc h.all) (λ d hd n. list-other ks c d k' hc hd n) refl
+    became es es ns ks (set ks (c - 1) k') c k' (class_after_pop_batch (class_in es ns c k)) h hc refl (length-set ks (c - 1) k') (list-same ks c k' hc h.all) (λ d hd n. list-other ks c d k' hc hd n) refl
     (λ d x hd n q. refl) new.0 new.1
 
-pub taken-buffer : (es : List Entry) (ns : List ℕ) (c : ℕ) (k : ClassList) (start buffer : List ℕ) (count next : ℕ) (more : Bool) → IsTaking es ns c k.count k.head start buffer count next more → more ≡ false
+pub taken-buffer : (es : List BlockEntry) (ns : List ℕ) (c : ℕ) (k : ClassList) (start buffer : List ℕ) (count next : ℕ) (more : Bool) → IsTaking es ns c k.count k.head start buffer count next more → more ≡ false
     → reverse (take count buffer) ++ drop count buffer ≡ batch_in (class_in es ns c k) ++ drop count start
 taken-buffer es ns c k start buffer count next more t e =
     let xs = stack_from es ns c (k.count - count) next in

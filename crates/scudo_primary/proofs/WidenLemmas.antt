@@ -13,11 +13,11 @@ use Rattle.scudo_header.specs.declared.classes.TheConstants.{CLASSES}
 use Rattle.address_map.specs.declared.limits.TheConstants.{PAGE_SIZE, MAX_PAGES}
 use Rattle.scudo_primary.specs.Blocks.{carved_count, block_at, number_of, blocks_from, IsBlock}
 use Rattle.scudo_primary.specs.Batches.{batch_sizes}
-use Rattle.scudo_primary.specs.Pools.{ClassState, PoolState, class_at, with_class, with_pages, carve_in, new_count}
-use Rattle.scudo_primary.specs.Lists.{IsClass, Each, page_number, no_entry, entry_at, list_at, free_in, marks_in, class_in, link_new_in, state_of, capacities_in, pool_in, IsNumbered, IsNumberedOn, IsFilledUp, IsLinked, IsTable, IsPool, Became}
-use Rattle.scudo_primary.specs.declared.lists.Entry.{Entry}
+use Rattle.scudo_primary.specs.Pools.{ClassState, PoolState, class_at, with_class, with_pages, class_after_carve, new_count}
+use Rattle.scudo_primary.specs.Lists.{IsClass, Each, page_number, no_entry, entry_at, list_at, free_in, marks_in, class_in, class_after_link_new, state_of, capacities_in, pool_in, IsNumbered, IsNumberedOn, IsFilledUp, IsLinked, IsTable, IsPool, Became}
+use Rattle.scudo_primary.specs.declared.lists.BlockEntry.{BlockEntry}
 use Rattle.scudo_primary.specs.declared.lists.ClassList.{ClassList}
-use Rattle.scudo_primary.specs.declared.pool.Pool.TheInside.{Inside}
+use Rattle.scudo_primary.specs.declared.pool.Primary.TheInside.{Inside}
 use Rattle.scudo_primary.proofs.BlockLemmas.{block-IsCell, IsBlock-more, carved_count-≤}
 use Rattle.scudo_primary.proofs.ListLemmas.{Each-map}
 use Rattle.scudo_primary.proofs.TableLemmas.{class-kept, list-same, list-other}
@@ -97,7 +97,7 @@ numbered-wide ns ns' ks n c pages used limit all h r m =
       ];
     }
 
-entry-kept : (es : List Entry) (ns ns' : List ℕ) (ks : List ClassList) (c pages first d x : ℕ) → IsNumberedOn ns ns' c (list_at ks c).pages pages first → IsClass d → IsBlock d (list_at ks d).pages x → entry_at es ns' d x ≡ entry_at es ns d x
+entry-kept : (es : List BlockEntry) (ns ns' : List ℕ) (ks : List ClassList) (c pages first d x : ℕ) → IsNumberedOn ns ns' c (list_at ks c).pages pages first → IsClass d → IsBlock d (list_at ks d).pages x → entry_at es ns' d x ≡ entry_at es ns d x
 unfolding entry_at
 entry-kept es ns ns' ks c pages first d x m hd b =
     let w = (block-IsCell d (list_at ks d).pages x hd b).within in
@@ -110,13 +110,13 @@ entry-kept es ns ns' ks c pages first d x m hd b =
     ap (λ t. get_or es (t * 128 + (x - region_of d) % PAGE_SIZE / 32) no_entry) same
 
 -- what the table is after that
-pub record IsWide (es : List Entry) (ns ns' : List ℕ) (ks : List ClassList) (c pages : ℕ) : Type 0 where
+pub record IsWide (es : List BlockEntry) (ns ns' : List ℕ) (ks : List ClassList) (c pages : ℕ) : Type 0 where
   pub table : IsTable es ns' (set ks (c - 1) (wide (list_at ks c) pages))
   pub own : list_at (set ks (c - 1) (wide (list_at ks c) pages)) c ≡ wide (list_at ks c) pages
   pub old : class_in es ns' c (list_at ks c) ≡ class_in es ns c (list_at ks c)
   pub others : (d : ℕ) → IsClass d → d ≢ c → class_in es ns' d (list_at (set ks (c - 1) (wide (list_at ks c) pages)) d) ≡ class_in es ns d (list_at ks d)
 
-pub widened : (es : List Entry) (ns ns' : List ℕ) (ks : List ClassList) (c pages used limit : ℕ) → IsTable es ns ks → IsRoomy ns ks (length es) c pages used limit → IsNumberedOn ns ns' c (list_at ks c).pages pages used
+pub widened : (es : List BlockEntry) (ns ns' : List ℕ) (ks : List ClassList) (c pages used limit : ℕ) → IsTable es ns ks → IsRoomy ns ks (length es) c pages used limit → IsNumberedOn ns ns' c (list_at ks c).pages pages used
     → IsWide es ns ns' ks c pages
 widened es ns ns' ks c pages used limit h r m =
     let k = list_at ks c in
@@ -145,9 +145,9 @@ widened es ns ns' ks c pages used limit h r m =
     }
 
 -- the class with its new blocks
-pub carved-class : (es : List Entry) (ns ns' : List ℕ) (ks : List ClassList) (c pages : ℕ) → IsClass c → IsWide es ns ns' ks c pages
-    → link_new_in c (class_in es ns' c (list_at (set ks (c - 1) (wide (list_at ks c) pages)) c)) (carved_count c (list_at ks c).pages) (new_count c (list_at ks c).pages pages)
-    ≡ carve_in c (class_in es ns c (list_at ks c)) pages (new_count c (list_at ks c).pages pages)
+pub carved-class : (es : List BlockEntry) (ns ns' : List ℕ) (ks : List ClassList) (c pages : ℕ) → IsClass c → IsWide es ns ns' ks c pages
+    → class_after_link_new c (class_in es ns' c (list_at (set ks (c - 1) (wide (list_at ks c) pages)) c)) (carved_count c (list_at ks c).pages) (new_count c (list_at ks c).pages pages)
+    ≡ class_after_carve c (class_in es ns c (list_at ks c)) pages (new_count c (list_at ks c).pages pages)
 unfolding marks_in
 carved-class es ns ns' ks c pages h w =
     let k = list_at ks c in
@@ -155,11 +155,11 @@ carved-class es ns ns' ks c pages h w =
     let n = new_count c k.pages pages in
     let up = carved_count-≤ c k.pages (k.pages + pages) h (omega arith) in
     let cut : take m (marks_in es ns' c (k.pages + pages)) ≡ marks_in es ns' c k.pages = take-map-range_with_len (λ i. free_in es ns' c (block_at c i)) 0 (carved_count c (k.pages + pages)) m up in
-    ap (λ (t : ClassList). link_new_in c (class_in es ns' c t) m n) w.own
+    ap (λ (t : ClassList). class_after_link_new c (class_in es ns' c t) m n) w.own
     ∙ ap (λ t. record { pages = k.pages + pages; stack = blocks_from c m n ++ (class_in es ns' c k).stack; sizes = batch_sizes c n ++ (class_in es ns' c k).sizes; marks = t ++ replicate n true }) cut
-    ∙ ap (λ (t : ClassState). carve_in c t pages n) w.old
+    ∙ ap (λ (t : ClassState). class_after_carve c t pages n) w.old
 
-abbrev pub inside_carved : Inside → List Entry → List ℕ → List ClassList → ℕ → Inside
+abbrev pub inside_carved : Inside → List BlockEntry → List ℕ → List ClassList → ℕ → Inside
 inside_carved f es ns ks used = record { entries = with_items f.entries es; numbers = with_items f.numbers ns; lists = ks; used = used; limit = f.limit }
 
 -- ---- the pool
@@ -169,7 +169,7 @@ pub record IsLong (f : Inside) (c pages : ℕ) : Type 0 where
   pub entries : 128 * (f.used + pages) ≤ vec_len f.entries
   pub numbers : CLASSES * ((list_at f.lists c).pages + pages) ≤ vec_len f.numbers
 
-pub roomy : (f : Inside) (v : PoolState) (es : List Entry) (ns : List ℕ) (c pages : ℕ) → pool_in f ≡ v → IsPool f → IsClass c → pages ≤ v.left → IsLong f c pages → length es ≡ vec_len f.entries → ns ≡ f.numbers.items → length ns ≡ vec_len f.numbers
+pub roomy : (f : Inside) (v : PoolState) (es : List BlockEntry) (ns : List ℕ) (c pages : ℕ) → pool_in f ≡ v → IsPool f → IsClass c → pages ≤ v.left → IsLong f c pages → length es ≡ vec_len f.entries → ns ≡ f.numbers.items → length ns ≡ vec_len f.numbers
     → IsRoomy ns f.lists (length es) c pages f.used f.limit
 roomy f v es ns c pages e h hc l long le en ln =
     let left : f.limit - f.used ≡ v.left = ap (λ (p : PoolState). p.left) e in
@@ -185,7 +185,7 @@ roomy f v es ns c pages e h hc l long le en ln =
     }
 
 -- everything that stands before the new blocks are put on the list
-pub record IsReady (f : Inside) (v : PoolState) (es : List Entry) (ns ns' ns2 : List ℕ) (c pages : ℕ) : Type 0 where
+pub record IsReady (f : Inside) (v : PoolState) (es : List BlockEntry) (ns ns' ns2 : List ℕ) (c pages : ℕ) : Type 0 where
   pub roomy : IsRoomy ns f.lists (length es) c pages f.used f.limit
   pub table : IsTable es ns f.lists
   pub state : state_of (f.limit - f.used) (capacities_in f) es ns f.lists ≡ v
@@ -193,7 +193,7 @@ pub record IsReady (f : Inside) (v : PoolState) (es : List Entry) (ns ns' ns2 : 
   pub same : (with_items f.numbers ns').items ≡ ns2
   pub entries : length es ≡ vec_len f.entries
 
-pub ready : (f : Inside) (v : PoolState) (es : List Entry) (ns ns' ns2 : List ℕ) (c pages : ℕ) → pool_in f ≡ v → IsPool f → IsClass c → pages ≤ v.left → IsLong f c pages → es ≡ f.entries.items → length es ≡ vec_len f.entries
+pub ready : (f : Inside) (v : PoolState) (es : List BlockEntry) (ns ns' ns2 : List ℕ) (c pages : ℕ) → pool_in f ≡ v → IsPool f → IsClass c → pages ≤ v.left → IsLong f c pages → es ≡ f.entries.items → length es ≡ vec_len f.entries
     → ns ≡ f.numbers.items → length ns ≡ vec_len f.numbers → ns2 ≡ (with_items f.numbers ns').items → IsNumberedOn ns ns' c (list_at f.lists c).pages pages f.used → IsReady f v es ns ns' ns2 c pages
 ready f v es ns ns' ns2 c pages e h hc l long ee le en ln e2 m =
     let is : ns2 ≡ ns' = e2 ∙ with_items_is f.numbers ns' (m.len ∙ ln) in
@@ -207,18 +207,18 @@ ready f v es ns ns' ns2 c pages e h hc l long ee le en ln e2 m =
     }
 
 -- the same, once the pool's lists were filled up
-pub filled-ready : (f : Inside) (v : PoolState) (entries : Vec Entry Global) (numbers : Vec ℕ Global) (es : List Entry) (ns ns' ns2 : List ℕ) (c pages : ℕ) → pool_in f ≡ v → IsPool f → IsClass c → pages ≤ v.left
+pub filled-ready : (f : Inside) (v : PoolState) (entries : Vec BlockEntry Global) (numbers : Vec ℕ Global) (es : List BlockEntry) (ns ns' ns2 : List ℕ) (c pages : ℕ) → pool_in f ≡ v → IsPool f → IsClass c → pages ≤ v.left
     → IsFilledUp f.entries entries (128 * (f.used + pages)) no_entry → IsFilledUp f.numbers numbers (CLASSES * ((list_at f.lists c).pages + pages)) 0 → es ≡ entries.items → length es ≡ vec_len entries
     → ns ≡ numbers.items → length ns ≡ vec_len numbers → ns2 ≡ (with_items numbers ns').items → IsNumberedOn ns ns' c (list_at f.lists c).pages pages f.used → IsReady (filled f entries numbers) v es ns ns' ns2 c pages
 filled-ready f v entries numbers es ns ns' ns2 c pages e h hc l fe fn ee le en ln e2 m =
     let long : IsLong (filled f entries numbers) c pages = record { entries = fe.long; numbers = fn.long } in
     ready (filled f entries numbers) v es ns ns' ns2 c pages (filled-view f entries numbers _ _ fe fn h v e) (filled-pool f entries numbers _ _ fe fn h) hc l long ee le en ln e2 m
 
-pub ready-wide : (f : Inside) (v : PoolState) (es : List Entry) (ns ns' ns2 : List ℕ) (c pages : ℕ) → IsReady f v es ns ns' ns2 c pages → IsWide es ns ns2 f.lists c pages
+pub ready-wide : (f : Inside) (v : PoolState) (es : List BlockEntry) (ns ns' ns2 : List ℕ) (c pages : ℕ) → IsReady f v es ns ns' ns2 c pages → IsWide es ns ns2 f.lists c pages
 ready-wide f v es ns ns' ns2 c pages r = widened es ns ns2 f.lists c pages f.used f.limit r.table r.roomy r.numbered
 
 -- the old blocks lie below the new ones
-pub old-below : (f : Inside) (v : PoolState) (es : List Entry) (ns ns' ns2 : List ℕ) (c pages from : ℕ) → IsReady f v es ns ns' ns2 c pages → from ≡ carved_count c (list_at f.lists c).pages
+pub old-below : (f : Inside) (v : PoolState) (es : List BlockEntry) (ns ns' ns2 : List ℕ) (c pages from : ℕ) → IsReady f v es ns ns' ns2 c pages → from ≡ carved_count c (list_at f.lists c).pages
     → Each (λ b. number_of c b < from) (class_in es ns2 c (list_at (set f.lists (c - 1) (wide (list_at f.lists c) pages)) c)).stack
 old-below f v es ns ns' ns2 c pages from r e =
     let k = list_at f.lists c in
@@ -228,11 +228,11 @@ old-below f v es ns ns' ns2 c pages from r e =
     subst (Each (λ b. number_of c b < from)) (sym same)
     (Each-map (class_in es ns c k).stack (IsBlock c k.pages) (λ b. number_of c b < from) (r.table.linked c r.roomy.class).blocks (λ x b. subst (λ t. number_of c x < t) (sym e) b.carved))
 
-pub record CarveDone (f : Inside) (v : PoolState) (es' : List Entry) (ns' : List ℕ) (ks'' : List ClassList) (c pages : ℕ) : Type 0 where
+pub record CarveDone (f : Inside) (v : PoolState) (es' : List BlockEntry) (ns' : List ℕ) (ks'' : List ClassList) (c pages : ℕ) : Type 0 where
   pub invariant : IsPool (inside_carved f es' ns' ks'' (f.used + pages))
   pub view : pool_in (inside_carved f es' ns' ks'' (f.used + pages)) ≡ with_pages v c pages
 
-pub carve-invariant : (f : Inside) (v : PoolState) (es es' : List Entry) (ns ns' ns2 : List ℕ) (ks'' : List ClassList) (c pages : ℕ) (k : ClassState) → IsReady f v es ns ns' ns2 c pages
+pub carve-invariant : (f : Inside) (v : PoolState) (es es' : List BlockEntry) (ns ns' ns2 : List ℕ) (ks'' : List ClassList) (c pages : ℕ) (k : ClassState) → IsReady f v es ns ns' ns2 c pages
     → IsPool f → Became es ns2 (set f.lists (c - 1) (wide (list_at f.lists c) pages)) es' ks'' c k → IsPool (inside_carved f es' ns' ks'' (f.used + pages))
 carve-invariant f v es es' ns ns' ns2 ks'' c pages k r h b =
     let ks' = set f.lists (c - 1) (wide (list_at f.lists c) pages) in
@@ -261,9 +261,9 @@ same-capacities : (v : PoolState) (c : ℕ) (k : ClassState) (n : ℕ) → recor
 unfolding with_class
 same-capacities v c k n = λ i. record { left = n; capacities = v.capacities; classes = (with_class v c k).classes }
 
-pub carve-view : (f : Inside) (v : PoolState) (es es' : List Entry) (ns ns' ns2 : List ℕ) (ks'' : List ClassList) (c pages : ℕ) → IsReady f v es ns ns' ns2 c pages
+pub carve-view : (f : Inside) (v : PoolState) (es es' : List BlockEntry) (ns ns' ns2 : List ℕ) (ks'' : List ClassList) (c pages : ℕ) → IsReady f v es ns ns' ns2 c pages
     → Became es ns2 (set f.lists (c - 1) (wide (list_at f.lists c) pages)) es' ks'' c
-    (link_new_in c (class_in es ns2 c (list_at (set f.lists (c - 1) (wide (list_at f.lists c) pages)) c)) (carved_count c (list_at f.lists c).pages) (new_count c (list_at f.lists c).pages pages))
+    (class_after_link_new c (class_in es ns2 c (list_at (set f.lists (c - 1) (wide (list_at f.lists c) pages)) c)) (carved_count c (list_at f.lists c).pages) (new_count c (list_at f.lists c).pages pages))
     → pool_in (inside_carved f es' ns' ks'' (f.used + pages)) ≡ with_pages v c pages
 unfolding with_pages
 carve-view f v es es' ns ns' ns2 ks'' c pages r b =
@@ -273,7 +273,7 @@ carve-view f v es es' ns ns' ns2 ks'' c pages r b =
     let w = ready-wide f v es ns ns' ns2 c pages r in
     let left = f.limit - f.used in
     let left' = f.limit - (f.used + pages) in
-    let K = carve_in c (class_in es ns c k) pages (new_count c k.pages pages) in
+    let K = class_after_carve c (class_in es ns c k) pages (new_count c k.pages pages) in
     let items : (with_items f.entries es').items ≡ es' = with_items_is f.entries es' (b.len ∙ r.entries) in
     let old : ℕ → ClassState = λ d. class_in es ns d (list_at f.lists d) in
     let new : ℕ → ClassState = λ d. class_in es' ns2 d (list_at ks'' d) in
@@ -284,9 +284,9 @@ carve-view f v es es' ns ns' ns2 ks'' c pages r b =
     ap (λ t. state_of left' (capacities_in f) t (with_items f.numbers ns').items ks'') items ∙ ap (λ t. state_of left' (capacities_in f) es' t ks'') r.same
     ∙ ap (λ (p : PoolState). record { left = left'; capacities = capacities_in f; classes = p.classes }) (pool_by-with_class left (capacities_in f) old new c K hc own others)
     ∙ ap (λ (t : PoolState). record { left = left'; capacities = t.capacities; classes = (with_class t c K).classes }) r.state
-    ∙ ap (λ (t : ClassState). record { left = left'; capacities = v.capacities; classes = (with_class v c (carve_in c t pages (new_count c t.pages pages))).classes }) (sym at)
-    ∙ ap (λ t. record { left = t; capacities = v.capacities; classes = (with_class v c (carve_in c (class_at v c) pages (new_count c (class_at v c).pages pages))).classes }) less
-    ∙ same-capacities v c (carve_in c (class_at v c) pages (new_count c (class_at v c).pages pages)) (v.left - pages)
+    ∙ ap (λ (t : ClassState). record { left = left'; capacities = v.capacities; classes = (with_class v c (class_after_carve c t pages (new_count c t.pages pages))).classes }) (sym at)
+    ∙ ap (λ t. record { left = t; capacities = v.capacities; classes = (with_class v c (class_after_carve c (class_at v c) pages (new_count c (class_at v c).pages pages))).classes }) less
+    ∙ same-capacities v c (class_after_carve c (class_at v c) pages (new_count c (class_at v c).pages pages)) (v.left - pages)
 
 -- ---- as the code has it
 
@@ -302,18 +302,18 @@ carve-bounds f v c pages e h hc l =
     let u = h.few c hc in
     record { fits = omega arith; slots = h.slots; limit = h.most }
 
-pub carve-all : (f : Inside) (v : PoolState) (es : List Entry) (ns ns' ns2 : List ℕ) (c pages s : ℕ) → IsReady f v es ns ns' ns2 c pages → s ≡ size_of c
+pub carve-all : (f : Inside) (v : PoolState) (es : List BlockEntry) (ns ns' ns2 : List ℕ) (c pages s : ℕ) → IsReady f v es ns ns' ns2 c pages → s ≡ size_of c
     → PAGE_SIZE * ((list_at f.lists c).pages + pages) / s ≡ carved_count c (list_at (set f.lists (c - 1) (wide (list_at f.lists c) pages)) c).pages
 carve-all f v es ns ns' ns2 c pages s r e =
     ap (λ t. PAGE_SIZE * ((list_at f.lists c).pages + pages) / t) e ∙ ap (λ (t : ClassList). carved_count c t.pages) (sym (ready-wide f v es ns ns' ns2 c pages r).own)
 
-pub carve-end : (f : Inside) (v : PoolState) (es es' : List Entry) (ns ns' ns2 : List ℕ) (ks'' : List ClassList) (c pages s : ℕ) → IsReady f v es ns ns' ns2 c pages → s ≡ size_of c
+pub carve-end : (f : Inside) (v : PoolState) (es es' : List BlockEntry) (ns ns' ns2 : List ℕ) (ks'' : List ClassList) (c pages s : ℕ) → IsReady f v es ns ns' ns2 c pages → s ≡ size_of c
     → Became es ns2 (set f.lists (c - 1) (wide (list_at f.lists c) pages)) es' ks'' c
-    (link_new_in c (class_in es ns2 c (list_at (set f.lists (c - 1) (wide (list_at f.lists c) pages)) c)) (PAGE_SIZE * (list_at f.lists c).pages / s)
+    (class_after_link_new c (class_in es ns2 c (list_at (set f.lists (c - 1) (wide (list_at f.lists c) pages)) c)) (PAGE_SIZE * (list_at f.lists c).pages / s)
     (PAGE_SIZE * ((list_at f.lists c).pages + pages) / s - PAGE_SIZE * (list_at f.lists c).pages / s))
     → Became es ns2 (set f.lists (c - 1) (wide (list_at f.lists c) pages)) es' ks'' c
-    (link_new_in c (class_in es ns2 c (list_at (set f.lists (c - 1) (wide (list_at f.lists c) pages)) c)) (carved_count c (list_at f.lists c).pages) (new_count c (list_at f.lists c).pages pages))
+    (class_after_link_new c (class_in es ns2 c (list_at (set f.lists (c - 1) (wide (list_at f.lists c) pages)) c)) (carved_count c (list_at f.lists c).pages) (new_count c (list_at f.lists c).pages pages))
 carve-end f v es es' ns ns' ns2 ks'' c pages s r e b =
     subst (λ t. Became es ns2 (set f.lists (c - 1) (wide (list_at f.lists c) pages)) es' ks'' c
-    (link_new_in c (class_in es ns2 c (list_at (set f.lists (c - 1) (wide (list_at f.lists c) pages)) c)) (PAGE_SIZE * (list_at f.lists c).pages / t)
+    (class_after_link_new c (class_in es ns2 c (list_at (set f.lists (c - 1) (wide (list_at f.lists c) pages)) c)) (PAGE_SIZE * (list_at f.lists c).pages / t)
     (PAGE_SIZE * ((list_at f.lists c).pages + pages) / t - PAGE_SIZE * (list_at f.lists c).pages / t))) e b

@@ -11,11 +11,11 @@ max_count_of class = if nat_le (size_of class) SMALL_SIZE then MAX_COUNT else MA
 
 -- The sizes of the batches, from the lowest on, into which n new blocks of a class are cut: half of
 -- the maximum each, and what is left in the last.
-abbrev pub cut_by : ℕ → ℕ → List ℕ
-cut_by half n = replicate (n / half) half ++ (if n % half == 0 then [] else (n % half) ∷ [])
+abbrev pub cut_sizes : ℕ → ℕ → List ℕ
+cut_sizes half n = replicate (n / half) half ++ (if n % half == 0 then [] else (n % half) ∷ [])
 
 abbrev pub batch_sizes : ℕ → ℕ → List ℕ
-batch_sizes class n = cut_by (max_count_of class / 2) n
+batch_sizes class n = cut_sizes (max_count_of class / 2) n
 
 -- The size of the first batch, 0 where there is none.
 abbrev pub first_size : List ℕ → ℕ

@@ -14,9 +14,9 @@ use Rattle.scudo_primary.specs.Blocks.{carved_count, block_at, number_of, IsBloc
 use Rattle.scudo_primary.specs.Batches.{max_count_of, batch_sizes}
 use Rattle.scudo_primary.specs.Pools.{ClassState, PoolState, pool_by}
 use Rattle.address_map.specs.declared.limits.TheConstants.{MAX_PAGES}
-use Rattle.scudo_primary.specs.declared.lists.Entry.{Entry}
+use Rattle.scudo_primary.specs.declared.lists.BlockEntry.{BlockEntry}
 use Rattle.scudo_primary.specs.declared.lists.ClassList.{ClassList}
-use Rattle.scudo_primary.specs.declared.pool.Pool.TheInside.{Inside}
+use Rattle.scudo_primary.specs.declared.pool.Primary.TheInside.{Inside}
 
 pub record IsClass (class : ℕ) : Type 0 where
   pub low : 0 < class
@@ -39,14 +39,14 @@ one_more [] = 1 ∷ []
 one_more (n ∷ more) = (n + 1) ∷ more
 
 -- the sizes with one block more on top, which begins a batch or joins the first
-abbrev pub joined : Bool → List ℕ → List ℕ
-joined true sizes = 1 ∷ sizes
-joined false sizes = one_more sizes
+abbrev pub sizes_after_push : Bool → List ℕ → List ℕ
+sizes_after_push true sizes = 1 ∷ sizes
+sizes_after_push false sizes = one_more sizes
 
 -- the sizes of the batches of a stack, by which of its members are the last of their batch
-unfoldable pub sizes_by : List Bool → List ℕ
-sizes_by [] = []
-sizes_by (last ∷ more) = joined last (sizes_by more)
+unfoldable pub sizes_of_marks : List Bool → List ℕ
+sizes_of_marks [] = []
+sizes_of_marks (last ∷ more) = sizes_after_push last (sizes_of_marks more)
 
 -- whether the block at a place among n new ones, counted from the lowest, is the last of its batch
 abbrev pub is_last_at : ℕ → ℕ → ℕ → Bool
@@ -67,39 +67,40 @@ place_of ns class block =
     page_number ns class ((block - region_of class) / PAGE_SIZE) * 128
     + (block - region_of class) % PAGE_SIZE / 32
 
-abbrev pub no_entry : Entry
+abbrev pub no_entry : BlockEntry
 no_entry = record { next = 0; free = false; last = false }
 
 abbrev pub no_list : ClassList
 no_list = record { head = 0; count = 0; pages = 0 }
 
-unfoldable pub entry_at : List Entry → List ℕ → ℕ → ℕ → Entry
+unfoldable pub entry_at : List BlockEntry → List ℕ → ℕ → ℕ → BlockEntry
 entry_at es ns class block = slice_index_or es (place_of ns class block) no_entry
 
 unfoldable pub list_at : List ClassList → ℕ → ClassList
 list_at ks class = slice_index_or ks (class - 1) no_list
 
-unfoldable pub next_in : List Entry → List ℕ → ℕ → ℕ → ℕ
+unfoldable pub next_in : List BlockEntry → List ℕ → ℕ → ℕ → ℕ
 next_in es ns class block = (entry_at es ns class block).next
 
-unfoldable pub last_in : List Entry → List ℕ → ℕ → ℕ → Bool
+unfoldable pub last_in : List BlockEntry → List ℕ → ℕ → ℕ → Bool
 last_in es ns class block = (entry_at es ns class block).last
 
-unfoldable pub free_in : List Entry → List ℕ → ℕ → ℕ → Bool
+unfoldable pub free_in : List BlockEntry → List ℕ → ℕ → ℕ → Bool
 free_in es ns class block = (entry_at es ns class block).free
 
 -- the n members of a class's list from at on, and the sizes of their batches
-unfoldable pub stack_from : List Entry → List ℕ → ℕ → ℕ → ℕ → List ℕ
+unfoldable pub stack_from : List BlockEntry → List ℕ → ℕ → ℕ → ℕ → List ℕ
 stack_from es ns class n at = follow (next_in es ns class) n at
 
-unfoldable pub sizes_from : List Entry → List ℕ → ℕ → ℕ → ℕ → List ℕ
-sizes_from es ns class n at = sizes_by (map (last_in es ns class) (stack_from es ns class n at))
+unfoldable pub sizes_from : List BlockEntry → List ℕ → ℕ → ℕ → ℕ → List ℕ
+sizes_from es ns class n at =
+    sizes_of_marks (map (last_in es ns class) (stack_from es ns class n at))
 
-unfoldable pub marks_in : List Entry → List ℕ → ℕ → ℕ → List Bool
+unfoldable pub marks_in : List BlockEntry → List ℕ → ℕ → ℕ → List Bool
 marks_in es ns class pages =
     map (λ n. free_in es ns class (block_at class n)) (range_with_len 0 (carved_count class pages))
 
-abbrev pub class_in : List Entry → List ℕ → ℕ → ClassList → ClassState
+abbrev pub class_in : List BlockEntry → List ℕ → ℕ → ClassList → ClassState
 class_in es ns class k = record {
   pages = k.pages;
   stack = stack_from es ns class k.count k.head;
@@ -108,10 +109,10 @@ class_in es ns class k = record {
 }
 
 -- a class, as its list says
-abbrev pub state_in : List Entry → List ℕ → List ClassList → ℕ → ClassState
+abbrev pub state_in : List BlockEntry → List ℕ → List ClassList → ℕ → ClassState
 state_in es ns ks class = class_in es ns class (list_at ks class)
 
-abbrev pub state_of : ℕ → List ℕ → List Entry → List ℕ → List ClassList → PoolState
+abbrev pub state_of : ℕ → List ℕ → List BlockEntry → List ℕ → List ClassList → PoolState
 state_of left capacities es ns ks = pool_by left capacities (state_in es ns ks)
 
 abbrev pub capacities_in : Inside → List ℕ
@@ -122,17 +123,17 @@ pool_in f =
     state_of (f.limit - f.used) (capacities_in f) f.entries.items f.numbers.items f.lists
 
 -- the class with one block more on top, which begins a batch or joins the first, marked free
-abbrev pub link_in : ℕ → ClassState → ℕ → Bool → ClassState
-link_in class k block last =
+abbrev pub class_after_link : ℕ → ClassState → ℕ → Bool → ClassState
+class_after_link class k block last =
     record k {
       stack = block ∷ k.stack;
-      sizes = joined last k.sizes;
+      sizes = sizes_after_push last k.sizes;
       marks = slice_set k.marks (number_of class block) true;
     }
 
 -- the class with n new blocks from the one with the number m on, on top and marked free
-abbrev pub link_new_in : ℕ → ClassState → ℕ → ℕ → ClassState
-link_new_in class k m n = record {
+abbrev pub class_after_link_new : ℕ → ClassState → ℕ → ℕ → ClassState
+class_after_link_new class k m n = record {
   pages = k.pages;
   stack = blocks_from class m n ++ k.stack;
   sizes = batch_sizes class n ++ k.sizes;
@@ -149,13 +150,13 @@ pub record IsNumbered (ns : List ℕ) (ks : List ClassList) (n : ℕ) : Type 0 w
       → page_number ns c i ≡ page_number ns d j → (c ≡ d) × (i ≡ j)
   pub few : (c : ℕ) → IsClass c → (list_at ks c).pages ≤ MAX_PAGES
 
-pub record IsLinked (es : List Entry) (ns : List ℕ) (c : ℕ) (k : ClassList) : Type 0 where
+pub record IsLinked (es : List BlockEntry) (ns : List ℕ) (c : ℕ) (k : ClassList) : Type 0 where
   pub blocks : Each (IsBlock c k.pages) (stack_from es ns c k.count k.head)
   pub distinct : IsDistinct nat_eq (stack_from es ns c k.count k.head)
   pub marked : Each (λ b. free_in es ns c b ≡ true) (stack_from es ns c k.count k.head)
   pub batches : Each (λ n. n ≤ max_count_of c) (sizes_from es ns c k.count k.head)
 
-pub record IsTable (es : List Entry) (ns : List ℕ) (ks : List ClassList) : Type 0 where
+pub record IsTable (es : List BlockEntry) (ns : List ℕ) (ks : List ClassList) : Type 0 where
   pub numbered : IsNumbered ns ks (length es)
   pub all : length ks ≡ CLASSES
   pub linked : (c : ℕ) → IsClass c → IsLinked es ns c (list_at ks c)
@@ -188,9 +189,8 @@ pub record IsNumberedOn (ns ns' : List ℕ) (c from pages first : ℕ) : Type 0 
   pub others : (d i : ℕ) → IsClass d → d ≢ c → page_number ns' d i ≡ page_number ns d i
 
 -- a call changed the class c to k, and no other class
-pub record Became (es :
-    List Entry) (ns : List ℕ) (ks : List ClassList) (es' : List Entry) (ks' : List ClassList) (c :
-    ℕ) (k : ClassState) : Type 0 where
+pub record Became (es : List BlockEntry) (ns : List ℕ) (ks : List ClassList)
+    (es' : List BlockEntry) (ks' : List ClassList) (c : ℕ) (k : ClassState) : Type 0 where
   pub table : IsTable es' ns ks'
   pub class : state_in es' ns ks' c ≡ k
   pub others :

@@ -1,12 +1,12 @@
 -- The pool of free blocks: for each size class the pages of its region, ONE stack of free blocks,
 -- and a mark for each carved block.
---     class_at p class                   what a class has
---     popped p class                     p without the top block of the class's stack
---     pushed p class block               p with a block more on top
---     without_batch p class              p without the top batch
---     with_batch p class blocks          p with a batch more on top
---     with_mark p class block mark       p with a block marked free or used
---     with_pages p class pages           p with pages more for the class, and the new blocks on top
+--     class_at p class              what a class has
+--     after_pop p class             p without the top block of the class's stack
+--     after_push p class block      p with a block more on top
+--     without_batch p class         p without the top batch
+--     with_batch p class blocks     p with a batch more on top
+--     with_mark p class block mark  p with a block marked free or used
+--     with_pages p class pages      p with pages more for the class, and the new blocks on top
 use Rattle.std.specs.Prelude.{◌≡◌, ℕ, ◌+◌, ◌-◌, ◌==◌, Bool, true, false, List, [], ◌∷◌, ◌++◌}
 use Rattle.std.specs.Prelude.{length, map, take, drop, reverse, replicate, slice_set}
 use Rattle.std.specs.Prelude.{slice_index_or, unwrap_or, refl}
@@ -113,13 +113,14 @@ IsCached p class block = IsLoose (class_at p class) class block
 
 -- ---- what the calls leave of a class
 
-abbrev pub mark_in : ℕ → ClassState → ℕ → Bool → ClassState
-mark_in class k block mark = record k { marks = slice_set k.marks (number_of class block) mark }
+abbrev pub class_with_mark : ℕ → ClassState → ℕ → Bool → ClassState
+class_with_mark class k block mark =
+    record k { marks = slice_set k.marks (number_of class block) mark }
 
 -- the class without its top block, which is then marked used
-abbrev pub pop_in : ℕ → ClassState → List ℕ → ClassState
-pop_in class k [] = k
-pop_in class k (block ∷ more) =
+abbrev pub class_after_pop : ℕ → ClassState → List ℕ → ClassState
+class_after_pop class k [] = k
+class_after_pop class k (block ∷ more) =
     record k {
       stack = more;
       sizes = one_less k.sizes;
@@ -127,8 +128,8 @@ pop_in class k (block ∷ more) =
     }
 
 -- the class with one more block on top, a batch of its own, marked free
-abbrev pub push_in : ℕ → ClassState → ℕ → ClassState
-push_in class k block =
+abbrev pub class_after_push : ℕ → ClassState → ℕ → ClassState
+class_after_push class k block =
     record k {
       stack = block ∷ k.stack;
       sizes = 1 ∷ k.sizes;
@@ -139,16 +140,17 @@ push_in class k block =
 abbrev pub batch_in : ClassState → List ℕ
 batch_in k = reverse (take (first_size k.sizes) k.stack)
 
-abbrev pub pop_batch_in : ClassState → ClassState
-pop_batch_in k = record k { stack = drop (first_size k.sizes) k.stack; sizes = drop 1 k.sizes }
+abbrev pub class_after_pop_batch : ClassState → ClassState
+class_after_pop_batch k =
+    record k { stack = drop (first_size k.sizes) k.stack; sizes = drop 1 k.sizes }
 
-abbrev pub push_batch_in : ClassState → List ℕ → ClassState
-push_batch_in k blocks =
+abbrev pub class_after_push_batch : ClassState → List ℕ → ClassState
+class_after_push_batch k blocks =
     record k { stack = reverse blocks ++ k.stack; sizes = length blocks ∷ k.sizes }
 
 -- the class with so many more blocks on top, the lowest first, marked free
-abbrev pub carve_in : ℕ → ClassState → ℕ → ℕ → ClassState
-carve_in class k pages n = record {
+abbrev pub class_after_carve : ℕ → ClassState → ℕ → ℕ → ClassState
+class_after_carve class k pages n = record {
   pages = k.pages + pages;
   stack = blocks_from class (carved_count class k.pages) n ++ k.stack;
   sizes = batch_sizes class n ++ k.sizes;
@@ -157,23 +159,24 @@ carve_in class k pages n = record {
 
 -- ---- what the calls leave of a pool
 
-unfoldable pub popped : PoolState → ℕ → PoolState
-popped p class = with_class p class (pop_in class (class_at p class) (stack_of p class))
+unfoldable pub after_pop : PoolState → ℕ → PoolState
+after_pop p class = with_class p class (class_after_pop class (class_at p class) (stack_of p class))
 
-unfoldable pub pushed : PoolState → ℕ → ℕ → PoolState
-pushed p class block = with_class p class (push_in class (class_at p class) block)
+unfoldable pub after_push : PoolState → ℕ → ℕ → PoolState
+after_push p class block = with_class p class (class_after_push class (class_at p class) block)
 
 unfoldable pub with_mark : PoolState → ℕ → ℕ → Bool → PoolState
-with_mark p class block mark = with_class p class (mark_in class (class_at p class) block mark)
+with_mark p class block mark =
+    with_class p class (class_with_mark class (class_at p class) block mark)
 
 unfoldable pub top_batch : PoolState → ℕ → List ℕ
 top_batch p class = batch_in (class_at p class)
 
 unfoldable pub without_batch : PoolState → ℕ → PoolState
-without_batch p class = with_class p class (pop_batch_in (class_at p class))
+without_batch p class = with_class p class (class_after_pop_batch (class_at p class))
 
 unfoldable pub with_batch : PoolState → ℕ → List ℕ → PoolState
-with_batch p class blocks = with_class p class (push_batch_in (class_at p class) blocks)
+with_batch p class blocks = with_class p class (class_after_push_batch (class_at p class) blocks)
 
 -- The blocks that become whole with so many more pages are those that are carved.
 abbrev pub new_count : ℕ → ℕ → ℕ → ℕ
@@ -182,5 +185,5 @@ new_count class before more = carved_count class (before + more) - carved_count 
 unfoldable pub with_pages : PoolState → ℕ → ℕ → PoolState
 with_pages p class pages =
     let count = new_count class (pages_of p class) pages in
-    let carved = carve_in class (class_at p class) pages count in
+    let carved = class_after_carve class (class_at p class) pages count in
     record (with_class p class carved) { left = p.left - pages }

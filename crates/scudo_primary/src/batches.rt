@@ -12,7 +12,7 @@ pub const SMALL_SIZE: u64 = 512;
 /// `MaxCount`).
 pub const MAX_COUNT: usize = 28;
 
-/// The same, for the classes of blocks above `SMALL_SIZE` bytes.
+/// The count for the classes of blocks above `SMALL_SIZE` bytes.
 pub const MAX_COUNT_ABOVE: usize = 8;
 
 /// The numbers of blocks in digits.

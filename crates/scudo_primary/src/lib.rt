@@ -8,4 +8,4 @@ mod lists;
 mod pool;
 
 pub use batches::{MAX_COUNT, MAX_COUNT_ABOVE, SMALL_SIZE, counts_in_digits, max_count};
-pub use pool::Pool;
+pub use pool::Primary;

@@ -7,8 +7,9 @@ ghost use Rattle.std.specs.List.{All, IsDistinct};
 ghost use Rattle.scudo_header.specs.Regions.{region_of};
 ghost use Rattle.scudo_primary.specs.Blocks.{IsBlock, carved_count, number_of};
 ghost use Rattle.scudo_primary.specs.Batches.{max_count_of, first_size};
-ghost use Rattle.scudo_primary.specs.Pools.{is_member, IsLoose, pop_in, batch_in, pop_batch_in};
-ghost use Rattle.scudo_primary.specs.Pools.{push_batch_in};
+ghost use Rattle.scudo_primary.specs.Pools.{is_member, IsLoose, class_after_pop, batch_in};
+ghost use Rattle.scudo_primary.specs.Pools.{class_after_pop_batch};
+ghost use Rattle.scudo_primary.specs.Pools.{class_after_push_batch};
 
 use crate::batches::{MAX_COUNT, max_count};
 use address_map::{PAGE_SIZE, REGION_SIZE, REGIONS_START};
@@ -20,7 +21,7 @@ pub(crate) const LISTS: usize = CLASSES as usize;
 /// What is kept for a block: the address of the block below it in its stack, whether it is marked
 /// free, and whether it is the last of its batch.
 #[derive(Clone, Copy)]
-pub(crate) struct Entry {
+pub(crate) struct BlockEntry {
     pub(crate) next: u32,
     pub(crate) free: bool,
     pub(crate) last: bool,
@@ -35,8 +36,10 @@ pub(crate) struct ClassList {
     pub(crate) pages: u64,
 }
 
-ghost use Rattle.scudo_primary.specs.Lists.{IsClass, IsTable, Became, Each, joined, is_last_at};
-ghost use Rattle.scudo_primary.specs.Lists.{list_at, entry_at, state_in, link_in, link_new_in};
+ghost use Rattle.scudo_primary.specs.Lists.{IsClass, IsTable, Became, Each, sizes_after_push};
+ghost use Rattle.scudo_primary.specs.Lists.{is_last_at};
+ghost use Rattle.scudo_primary.specs.Lists.{list_at, entry_at, state_in, class_after_link};
+ghost use Rattle.scudo_primary.specs.Lists.{class_after_link_new};
 ghost use Rattle.scudo_primary.specs.Lists.{IsFilledUp, IsNumberedOn, place_of, slot_of};
 
 /// The first address of a class's region.
@@ -73,7 +76,13 @@ pub(crate) fn place(numbers: &[u16], class: u8, block: u64) -> usize
 
 /// Marks a block free or used.
 #[inline(always)]
-pub(crate) fn set_mark(entries: &mut [Entry], numbers: &[u16], class: u8, block: u64, free: bool)
+pub(crate) fn set_mark(
+    entries: &mut [BlockEntry],
+    numbers: &[u16],
+    class: u8,
+    block: u64,
+    free: bool,
+)
     requires class { IsClass class }
     requires inside { region_of class ≤ block }
     requires slot { slot_of class ((block - region_of class) / PAGE_SIZE) < length numbers.now }
@@ -84,7 +93,7 @@ pub(crate) fn set_mark(entries: &mut [Entry], numbers: &[u16], class: u8, block:
 {
     let at = place(numbers, class, block);
     let entry = entries[at];
-    entries[at] = Entry {
+    entries[at] = BlockEntry {
         next: entry.next,
         free,
         last: entry.last,
@@ -95,7 +104,7 @@ pub(crate) fn set_mark(entries: &mut [Entry], numbers: &[u16], class: u8, block:
 /// or it joins the top batch.
 #[inline]
 pub(crate) fn link(
-    entries: &mut [Entry],
+    entries: &mut [BlockEntry],
     numbers: &[u16],
     lists: &mut [ClassList; LISTS],
     class: u8,
@@ -108,13 +117,13 @@ pub(crate) fn link(
     requires unlisted { is_member (state_in entries.old numbers.now lists.old class).stack block
         ≡ false }
     requires room { Each (λ n. n ≤ max_count_of class)
-        (joined last (state_in entries.old numbers.now lists.old class).sizes) }
+        (sizes_after_push last (state_in entries.old numbers.now lists.old class).sizes) }
     ensures { Became entries.old numbers.now lists.old entries.new lists.new class
-        (link_in class (state_in entries.old numbers.now lists.old class) block last) }
+        (class_after_link class (state_in entries.old numbers.now lists.old class) block last) }
 {
     let list = lists[class as usize - 1];
     let at = place(numbers, class, block);
-    entries[at] = Entry {
+    entries[at] = BlockEntry {
         next: list.head,
         free: true,
         last,
@@ -129,7 +138,7 @@ pub(crate) fn link(
 /// Takes the top of the stack of a class, and marks it used.
 #[inline]
 pub(crate) fn unlink(
-    entries: &mut [Entry],
+    entries: &mut [BlockEntry],
     numbers: &[u16],
     lists: &mut [ClassList; LISTS],
     class: u8,
@@ -143,7 +152,7 @@ pub(crate) fn unlink(
     ensures unlisted { is_member (state_in entries.new numbers.now lists.new class).stack result
         ≡ false }
     ensures rest { Became entries.old numbers.now lists.old entries.new lists.new class
-        (pop_in class (state_in entries.old numbers.now lists.old class)
+        (class_after_pop class (state_in entries.old numbers.now lists.old class)
         (state_in entries.old numbers.now lists.old class).stack) }
 {
     let list = lists[class as usize - 1];
@@ -170,7 +179,7 @@ fn goes_on(last: bool, count: u64, all: u64) -> bool
 /// length. The marks stay.
 #[inline]
 pub(crate) fn unlink_batch(
-    entries: &[Entry],
+    entries: &[BlockEntry],
     numbers: &[u16],
     lists: &mut [ClassList; LISTS],
     class: u8,
@@ -182,7 +191,7 @@ pub(crate) fn unlink_batch(
     ensures buffer { buffer.new
         ≡ batch_in (state_in entries.now numbers.now lists.old class) ++ drop result buffer.old }
     ensures rest { Became entries.now numbers.now lists.old entries.now lists.new class
-        (pop_batch_in (state_in entries.now numbers.now lists.old class)) }
+        (class_after_pop_batch (state_in entries.now numbers.now lists.old class)) }
 {
     let list = lists[class as usize - 1];
     let mut next = list.head;
@@ -208,7 +217,7 @@ pub(crate) fn unlink_batch(
 /// Puts blocks on top of the stack of their class as one batch, the first of them first.
 #[inline]
 pub(crate) fn link_batch(
-    entries: &mut [Entry],
+    entries: &mut [BlockEntry],
     numbers: &[u16],
     lists: &mut [ClassList; LISTS],
     class: u8,
@@ -222,7 +231,7 @@ pub(crate) fn link_batch(
         blocks.now }
     requires distinct { IsDistinct nat_eq blocks.now }
     ensures { Became entries.old numbers.now lists.old entries.new lists.new class
-        (push_batch_in (state_in entries.old numbers.now lists.old class) blocks.now) }
+        (class_after_push_batch (state_in entries.old numbers.now lists.old class) blocks.now) }
 {
     let mut last = true;
     for block in blocks {
@@ -267,7 +276,7 @@ fn is_last(half: u64, count: u64, place: u64) -> bool
 /// Puts the blocks of a class from the one with the number `from` to below `to` on top of its stack
 /// and marks them free, the lowest on top, cut into batches from the lowest on.
 pub(crate) fn link_new(
-    entries: &mut [Entry],
+    entries: &mut [BlockEntry],
     numbers: &[u16],
     lists: &mut [ClassList; LISTS],
     class: u8,
@@ -281,7 +290,8 @@ pub(crate) fn link_new(
     requires new { Each (λ block. number_of class block < from)
         (state_in entries.old numbers.now lists.old class).stack }
     ensures { Became entries.old numbers.now lists.old entries.new lists.new class
-        (link_new_in class (state_in entries.old numbers.now lists.old class) from (to - from)) }
+        (class_after_link_new class (state_in entries.old numbers.now lists.old class) from
+        (to - from)) }
 {
     let half = max_count(class) as u64 / 2;
     let size = size_of_class(class);

@@ -7,13 +7,13 @@ ghost use Rattle.std.specs.List.{All, IsDistinct};
 ghost use Rattle.scudo_primary.specs.Blocks.{IsBlock, carved_count};
 ghost use Rattle.scudo_primary.specs.Batches.{max_count_of, first_size};
 ghost use Rattle.scudo_primary.specs.Pools.{pages_of, stack_of, sizes_of, is_listed, is_marked};
-ghost use Rattle.scudo_primary.specs.Pools.{IsFree, IsCached, empty_pool, popped, pushed};
+ghost use Rattle.scudo_primary.specs.Pools.{IsFree, IsCached, empty_pool, after_pop, after_push};
 ghost use Rattle.scudo_primary.specs.Pools.{top_batch, without_batch, with_batch, with_mark};
 ghost use Rattle.scudo_primary.specs.Pools.{with_pages};
 
 use crate::batches::MAX_COUNT;
 use crate::lists::{
-    ClassList, Entry, LISTS, fill_up, link, link_batch, link_new, number_pages, place,
+    BlockEntry, ClassList, LISTS, fill_up, link, link_batch, link_new, number_pages, place,
     region_start, set_mark, unlink, unlink_batch,
 };
 use address_map::{MAX_PAGES, PAGE_SIZE};
@@ -26,9 +26,9 @@ use std::marker::Model;
 /// memory and writes none of it; what a page needs is written where it is carved. No call changes
 /// for how many elements the pool's lists have memory.
 #[derive(Drop)]
-pub struct Pool {
+pub struct Primary {
     /// 128 for each carved page, one for each 32 bytes, in memory for `limit` pages.
-    entries: Vec<Entry>,
+    entries: Vec<BlockEntry>,
     /// For each page of a region and each class the number of that page among all carved ones, as
     /// far as any class has pages, in memory for `limit` pages.
     numbers: Vec<u16>,
@@ -37,7 +37,7 @@ pub struct Pool {
     limit: u64,
 }
 
-impl Model for Pool {
+impl Model for Primary {
     ghost use Rattle.scudo_primary.specs.Pools.{PoolState, coded_pool};
     ghost use Rattle.scudo_primary.specs.Lists.{pool_in, IsPool};
 
@@ -50,10 +50,10 @@ impl Model for Pool {
     ghost invariant = { IsPool };
 }
 
-impl Pool {
+impl Primary {
     /// A pool for `pages` pages, none of them carved. It is refused only where its memory is; no
     /// later call takes any.
-    pub fn new(alloc: Global, pages: u64) -> Result<Pool, AllocError>
+    pub fn new(alloc: Global, pages: u64) -> Result<Primary, AllocError>
         requires low { 0 < pages }
         requires high { pages ≤ MAX_PAGES }
         ensures { IfOk result
@@ -66,7 +66,7 @@ impl Pool {
         };
         let entries = Vec::with_capacity(alloc, 128 * pages as usize)?;
         let numbers = Vec::with_capacity(alloc, LISTS * pages as usize)?;
-        Ok(Pool {
+        Ok(Primary {
             entries,
             numbers,
             lists: [no_list; LISTS],
@@ -87,7 +87,7 @@ impl Pool {
         let list = self.lists[class as usize - 1];
         let own = list.pages + pages;
         let used = self.used + pages;
-        let no_entry = Entry {
+        let no_entry = BlockEntry {
             next: 0,
             free: false,
             last: false,
@@ -114,7 +114,7 @@ impl Pool {
         requires low { 0 < class }
         requires high { class ≤ CLASSES }
         ensures answer { result ≡ slice_get (stack_of self.old class) 0 }
-        ensures pool { self.new ≡ popped self.old class }
+        ensures pool { self.new ≡ after_pop self.old class }
         ensures block { IfSome result (IsBlock class (pages_of self.new class)) }
         ensures unlisted { IfSome result (λ block. is_listed self.new class block ≡ false) }
         ensures used { IfSome result (λ block. is_marked self.new class block ≡ false) }
@@ -132,7 +132,7 @@ impl Pool {
         requires high { class ≤ CLASSES }
         requires carved { IsBlock class (pages_of self.old class) block }
         requires used { is_marked self.old class block ≡ false }
-        ensures { self.new ≡ pushed self.old class block }
+        ensures { self.new ≡ after_push self.old class block }
     {
         link(
             &mut self.entries,

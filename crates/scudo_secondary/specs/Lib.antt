@@ -1,2 +1,2 @@
 pub mod Mappings
-pub mod Maps
+pub mod Secondary

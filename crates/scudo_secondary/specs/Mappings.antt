@@ -10,7 +10,7 @@ use Rattle.address_map.specs.declared.ranges.TheConstants.{SECONDARY_START, SECO
 use Rattle.scudo_secondary.specs.declared.mappings.Mapping.{Mapping}
 
 -- The pages that all mappings together may have, and the mappings in the order of their starts.
-pub record MapsState : Type 0 where
+pub record SecondaryState : Type 0 where
   pub limit : ℕ
   pub mappings : List Mapping
 
@@ -21,7 +21,7 @@ coded_mapping =
     (λ c. record { start = c.0; pages = c.1.0; user = c.1.1 })
     (λ _. refl)
 
-abbrev pub coded_maps : Coded MapsState
+abbrev pub coded_maps : Coded SecondaryState
 coded_maps =
     code_by (ℕ × List Mapping) (coded× coded_ℕ (coded_list coded_mapping))
     (λ s. (s.limit, s.mappings))

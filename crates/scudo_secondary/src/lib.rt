@@ -7,4 +7,4 @@ mod mappings;
 mod maps;
 
 pub use mappings::Mapping;
-pub use maps::Maps;
+pub use maps::Secondary;

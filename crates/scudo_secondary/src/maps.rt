@@ -14,33 +14,33 @@ use std::marker::Model;
 /// The mappings of a heap, in the order of their starts. All that they will ever need is taken when
 /// they are made.
 #[derive(Drop)]
-pub struct Maps {
+pub struct Secondary {
     mappings: Vec<Mapping>,
 }
 
-impl Model for Maps {
-    ghost use Rattle.scudo_secondary.specs.Mappings.{MapsState, coded_maps};
-    ghost use Rattle.scudo_secondary.specs.Maps.{maps_state, IsMaps};
+impl Model for Secondary {
+    ghost use Rattle.scudo_secondary.specs.Mappings.{SecondaryState, coded_maps};
+    ghost use Rattle.scudo_secondary.specs.Secondary.{secondary_state, IsSecondary};
 
-    ghost Value = { MapsState };
+    ghost Value = { SecondaryState };
 
     ghost coded = { coded_maps };
 
-    ghost view = { maps_state };
+    ghost view = { secondary_state };
 
-    ghost invariant = { IsMaps };
+    ghost invariant = { IsSecondary };
 }
 
-impl Maps {
+impl Secondary {
     /// No mappings, with room for those of `pages` pages together, 1 to `MAX_PAGES`. It is refused
     /// only where its memory is.
-    pub fn new(alloc: Global, pages: u64) -> Result<Maps, AllocError>
+    pub fn new(alloc: Global, pages: u64) -> Result<Secondary, AllocError>
         requires some { 0 < pages }
         requires most { pages ≤ MAX_PAGES }
         ensures { IfOk result (λ maps. maps ≡ record { limit = pages; mappings = [] }) }
     {
         let mappings = Vec::with_capacity(alloc, pages as usize)?;
-        Ok(Maps { mappings })
+        Ok(Secondary { mappings })
     }
 
     /// The least address at which `pages` pages, at least one, may be mapped. There is none where
@@ -83,9 +83,9 @@ impl Maps {
         Some(self.mappings[i])
     }
 
-    /// The mappings lie in the order of their starts, at least one page apart, whatever the calls
-    /// were.
-    pub fn are_in_order(&self)
+    /// Does nothing. Its contract recalls what holds after any calls: the mappings are in the order
+    /// of their starts, at least one page apart.
+    pub fn recall(&self)
         ensures { AreMappings self.now.mappings }
     {
         let _own = &self.mappings;

@@ -6,7 +6,7 @@ ghost use Rattle.scudo_primary.specs.Pools.{pages_of, is_marked};
 ghost use Rattle.scudo_cache.specs.Caches.{IsAbove};
 
 use scudo_cache::Cache;
-use scudo_primary::{MAX_COUNT, Pool};
+use scudo_primary::{MAX_COUNT, Primary};
 use std::alloc::{AllocError, Global};
 use std::test::Fail;
 
@@ -19,7 +19,7 @@ fn block_at(class: u8, size: u64, number: u64) -> u64
 }
 
 /// Whether the first `count` blocks of a class are popped in their order.
-fn pops_first(pool: &mut Pool, class: u8, size: u64, count: u64) -> bool
+fn pops_first(pool: &mut Primary, class: u8, size: u64, count: u64) -> bool
     requires low { 0 < class }
     requires high { class ≤ 44 }
     requires size { size ≤ 65552 }
@@ -35,13 +35,13 @@ fn pops_first(pool: &mut Pool, class: u8, size: u64, count: u64) -> bool
 
 /// A pool whose first `count` blocks of a class were popped.
 #[tactic(auto, using(scudo_primary::proofs::PoolLaws::left_laws))]
-fn pool_without(alloc: Global, class: u8, size: u64, count: u64) -> Result<Pool, Fail>
+fn pool_without(alloc: Global, class: u8, size: u64, count: u64) -> Result<Primary, Fail>
     requires low { 0 < class }
     requires high { class ≤ 44 }
     requires size { size ≤ 65552 }
     requires count { count ≤ 100000 }
 {
-    let mut pool = Pool::new(alloc, 2)?;
+    let mut pool = Primary::new(alloc, 2)?;
     pool.carve(class, 2);
     if !pops_first(&mut pool, class, size, count) {
         return Err(Fail::new("another block is popped"));
@@ -50,7 +50,7 @@ fn pool_without(alloc: Global, class: u8, size: u64, count: u64) -> Result<Pool,
 }
 
 /// Puts a block that is used, and returns whether it was and is free then.
-fn put_one(cache: &mut Cache, pool: &mut Pool, class: u8, block: u64) -> bool
+fn put_one(cache: &mut Cache, pool: &mut Primary, class: u8, block: u64) -> bool
     requires low { 0 < class }
     requires high { class ≤ 44 }
     requires above { IsAbove cache.old pool.old }
@@ -64,7 +64,7 @@ fn put_one(cache: &mut Cache, pool: &mut Pool, class: u8, block: u64) -> bool
 }
 
 /// Puts the first `count` blocks of a class.
-fn put_first(cache: &mut Cache, pool: &mut Pool, class: u8, size: u64, count: u64) -> bool
+fn put_first(cache: &mut Cache, pool: &mut Primary, class: u8, size: u64, count: u64) -> bool
     requires low { 0 < class }
     requires high { class ≤ 44 }
     requires above { IsAbove cache.old pool.old }
@@ -81,7 +81,7 @@ fn put_first(cache: &mut Cache, pool: &mut Pool, class: u8, size: u64, count: u6
 }
 
 /// Whether a batch of the first `count` blocks of a class, and no second one, is in the pool.
-fn has_one_batch(pool: &mut Pool, class: u8, size: u64, count: usize) -> bool
+fn has_one_batch(pool: &mut Primary, class: u8, size: u64, count: usize) -> bool
     requires low { 0 < class }
     requires high { class ≤ 44 }
     requires size { size ≤ 65552 }
@@ -133,7 +133,7 @@ fn puts_move_one_batch(rt: HostRuntime) -> Result<(), Fail> {
 }
 
 /// Takes a block, and returns whether it is this one and is not free then.
-fn takes(cache: &mut Cache, pool: &mut Pool, block: u64) -> bool
+fn takes(cache: &mut Cache, pool: &mut Primary, block: u64) -> bool
     requires above { IsAbove cache.old pool.old }
     ensures above { IsAbove cache.new pool.new }
 {
@@ -141,7 +141,7 @@ fn takes(cache: &mut Cache, pool: &mut Pool, block: u64) -> bool
 }
 
 /// Whether a cache above its pool gives nine blocks of class 13, the last first.
-fn gives_nine(cache: &mut Cache, pool: &mut Pool) -> bool
+fn gives_nine(cache: &mut Cache, pool: &mut Primary) -> bool
     requires above { IsAbove cache.old pool.old }
 {
     for number in 0..9u64 {

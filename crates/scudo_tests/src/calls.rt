@@ -1,7 +1,7 @@
 //! Calls of a heap and accesses to its memory, and what they answer.
 
 ghost use Rattle.std.specs.Prelude.{◌<◌};
-ghost use Rattle.scudo_heap.specs.Served.{IsServed};
+ghost use Rattle.scudo_heap.specs.Served.{HeapOwnsItsPages};
 
 use mte_tags::{FaultKind, MemFault, Paged, Rgsr, Tagged};
 use scudo_heap::{Heap, HeapAbort};
@@ -57,8 +57,8 @@ fn of_memory(answer: Result<u64, MemFault>) -> Answer {
 }
 
 fn read<M: Tagged>(heap: &Heap, memory: &mut M, at: u64, check: bool) -> Result<u64, MemFault>
-    requires { IsServed (M.memory memory.old) heap.now }
-    ensures served { IsServed (M.memory memory.new) heap.now }
+    requires { HeapOwnsItsPages (M.memory memory.old) heap.now }
+    ensures served { HeapOwnsItsPages (M.memory memory.new) heap.now }
 {
     let mut bytes = [0; 8];
     memory.read(at, &mut bytes, check)?;
@@ -72,16 +72,16 @@ fn write<M: Tagged>(
     value: u64,
     check: bool,
 ) -> Result<u64, MemFault>
-    requires { IsServed (M.memory memory.old) heap.now }
-    ensures served { IsServed (M.memory memory.new) heap.now }
+    requires { HeapOwnsItsPages (M.memory memory.old) heap.now }
+    ensures served { HeapOwnsItsPages (M.memory memory.new) heap.now }
 {
     memory.write(at, &value.to_le_bytes(), check)?;
     Ok(0)
 }
 
 fn load_tag<M: Tagged>(heap: &Heap, memory: &mut M, at: u64) -> Result<u64, MemFault>
-    requires { IsServed (M.memory memory.old) heap.now }
-    ensures served { IsServed (M.memory memory.new) heap.now }
+    requires { HeapOwnsItsPages (M.memory memory.old) heap.now }
+    ensures served { HeapOwnsItsPages (M.memory memory.new) heap.now }
 {
     let _ = heap;
     Ok(memory.load_tag(at)? as u64)
@@ -94,8 +94,8 @@ fn store_tags<M: Tagged>(
     count: u64,
     tag: u8,
 ) -> Result<u64, MemFault>
-    requires { IsServed (M.memory memory.old) heap.now }
-    ensures served { IsServed (M.memory memory.new) heap.now }
+    requires { HeapOwnsItsPages (M.memory memory.old) heap.now }
+    ensures served { HeapOwnsItsPages (M.memory memory.new) heap.now }
 {
     let _ = heap;
     memory.store_tags(at, count, tag % 16, false)?;
@@ -104,8 +104,8 @@ fn store_tags<M: Tagged>(
 
 /// A call that does not change the heap.
 pub(crate) fn access<M: Paged>(heap: &Heap, memory: &mut M, call: Call) -> Result<u64, MemFault>
-    requires { IsServed (M.memory memory.old) heap.now }
-    ensures served { IsServed (M.memory memory.new) heap.now }
+    requires { HeapOwnsItsPages (M.memory memory.old) heap.now }
+    ensures served { HeapOwnsItsPages (M.memory memory.new) heap.now }
 {
     match call {
         Call::Checked(at) => read(heap, memory, at, true),
@@ -127,9 +127,9 @@ fn free_row<M: Paged>(
     first: u64,
     count: u64,
 ) -> u64
-    requires served { IsServed (M.memory memory.old) heap.old }
+    requires served { HeapOwnsItsPages (M.memory memory.old) heap.old }
     requires tag { rgsr.old.tag < 16 }
-    ensures served { IsServed (M.memory memory.new) heap.new }
+    ensures served { HeapOwnsItsPages (M.memory memory.new) heap.new }
     ensures tag { rgsr.new.tag < 16 }
 {
     for i in 0..count {
@@ -143,9 +143,9 @@ fn free_row<M: Paged>(
 
 /// Makes a call.
 pub(crate) fn make<M: Paged>(heap: &mut Heap, rgsr: &mut Rgsr, memory: &mut M, call: Call) -> Answer
-    requires served { IsServed (M.memory memory.old) heap.old }
+    requires served { HeapOwnsItsPages (M.memory memory.old) heap.old }
     requires tag { rgsr.old.tag < 16 }
-    ensures served { IsServed (M.memory memory.new) heap.new }
+    ensures served { HeapOwnsItsPages (M.memory memory.new) heap.new }
     ensures tag { rgsr.new.tag < 16 }
 {
     match call {
@@ -171,9 +171,9 @@ fn last_answer<M: Paged>(
     times: u64,
     call: Call,
 ) -> Answer
-    requires served { IsServed (M.memory memory.old) heap.old }
+    requires served { HeapOwnsItsPages (M.memory memory.old) heap.old }
     requires tag { rgsr.old.tag < 16 }
-    ensures served { IsServed (M.memory memory.new) heap.new }
+    ensures served { HeapOwnsItsPages (M.memory memory.new) heap.new }
     ensures tag { rgsr.new.tag < 16 }
 {
     let mut last = Answer::Is(0);
@@ -190,7 +190,7 @@ pub(crate) fn answers<M: Paged>(
     memory: &mut M,
     rows: &[Row],
 ) -> bool
-    requires served { IsServed (M.memory memory.old) heap.old }
+    requires served { HeapOwnsItsPages (M.memory memory.old) heap.old }
     requires tag { rgsr.old.tag < 16 }
 {
     for row in rows {

@@ -1,7 +1,7 @@
 //! Random careful runs, in which misuse is found by its tag.
 
 ghost use Rattle.std.specs.Prelude.{◌<◌};
-ghost use Rattle.scudo_heap.specs.Served.{IsServed};
+ghost use Rattle.scudo_heap.specs.Served.{HeapOwnsItsPages};
 
 use crate::calls::make;
 use crate::shadow::Shadow;
@@ -19,7 +19,7 @@ pub(crate) fn next(draw: u64) -> u64 {
 
 /// Random careful calls. Whether all that has to hold does so after each.
 fn is_disciplined<M: Paged>(heap: &mut Heap, rgsr: &mut Rgsr, memory: &mut M, seed: u64) -> bool
-    requires served { IsServed (M.memory memory.old) heap.old }
+    requires served { HeapOwnsItsPages (M.memory memory.old) heap.old }
     requires tag { rgsr.old.tag < 16 }
 {
     let mut shadow = Shadow::new();

@@ -2,7 +2,7 @@
 
 ghost use Rattle.std.specs.Prelude.{◌≡◌, ◌<◌, ◌≤◌};
 ghost use Rattle.mte_tags.specs.Memory.{no_pages};
-ghost use Rattle.scudo_heap.specs.Served.{IsServed};
+ghost use Rattle.scudo_heap.specs.Served.{HeapOwnsItsPages};
 
 use crate::calls::{Row, make};
 use crate::discipline::next;
@@ -29,9 +29,9 @@ fn are_alike<M: Paged, N: Paged>(
     other_rgsr: &mut Rgsr,
     other: &mut N,
 ) -> bool
-    requires served { IsServed (M.memory memory.old) heap.old }
+    requires served { HeapOwnsItsPages (M.memory memory.old) heap.old }
     requires tag { rgsr.old.tag < 16 }
-    requires other_served { IsServed (N.memory other.old) other_heap.old }
+    requires other_served { HeapOwnsItsPages (N.memory other.old) other_heap.old }
     requires other_tag { other_rgsr.old.tag < 16 }
 {
     let mut shadow = Shadow::new();
@@ -69,7 +69,7 @@ fn is_as_over_plain<M: Paged>(
 ) -> Result<bool, AllocError>
     requires some { 0 < pages }
     requires most { pages ≤ 4096 }
-    requires served { IsServed (M.memory memory.old) heap.old }
+    requires served { HeapOwnsItsPages (M.memory memory.old) heap.old }
 {
     let mut rgsr = Rgsr { tag: 0, seed: 1 };
     let mut plain = Flat::new(alloc, pages, mode)?;
@@ -85,7 +85,7 @@ fn is_as_over_plain<M: Paged>(
     ))
 }
 
-/// The same of a heap over a memory without pages.
+/// The answers of a heap over a memory without pages.
 fn random_are_alike<M: Paged>(
     alloc: Global,
     memory: &mut M,

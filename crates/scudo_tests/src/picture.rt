@@ -1,6 +1,8 @@
 //! What a picture says of a row, its pages and its title.
 
-use heap_picture::{GRANULES, Granule, Heading, Kind, Line, Mark, Marked, Owner, Pages, Row};
+use heap_picture::{
+    Arrow, GRANULES, Gap, Granule, Heading, Kind, Line, Mark, Marked, Owner, Pages, Row, Spot,
+};
 use std::alloc::Global;
 
 /// The first granules of class 2: a header, a live chunk of two granules with tag 14, and a header.
@@ -128,4 +130,41 @@ fn a_title_is_escaped(rt: HostRuntime) {
         rows: 1,
     };
     assert!(rt; has_title(rt.alloc(), &heading, ">a&lt;b&gt; &amp; ?c</text>"));
+}
+
+fn arrow_has(alloc: Global, arrow: &Arrow, path: &str) -> bool {
+    match format!(in alloc; "{arrow}") {
+        Ok(text) => text.contains(path),
+        Err(_) => false,
+    }
+}
+
+#[test]
+fn an_arrow_from_row_to_row(rt: HostRuntime) {
+    let from = Spot { row: 0, granule: 2 };
+    let to = Spot { row: 1, granule: 5 };
+    assert!(rt;
+        arrow_has(
+            rt.alloc(),
+            &Arrow { from, to },
+            " d=\"M40,11Q64,0 88,37\"/>"
+        )
+    );
+}
+
+fn gap_has(alloc: Global, gap: &Gap, words: &str) -> bool {
+    match format!(in alloc; "{gap}") {
+        Ok(text) => text.contains(words),
+        Err(_) => false,
+    }
+}
+
+#[test]
+fn what_is_left_out(rt: HostRuntime) {
+    let gap = Gap {
+        number: 2,
+        start: 0x1200_0800,
+        end: 0x1300_0000,
+    };
+    assert!(rt; gap_has(rt.alloc(), &gap, " y=\"65\">0x12000800 to 0x12ffffff: "));
 }

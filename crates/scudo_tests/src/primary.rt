@@ -3,7 +3,7 @@
 
 ghost use Rattle.std.specs.Prelude.{◌≡◌, ◌≤◌, ◌<◌, ◌-◌};
 
-use scudo_primary::{MAX_COUNT, Pool, max_count};
+use scudo_primary::{MAX_COUNT, Primary, max_count};
 use std::alloc::{AllocError, Global};
 use std::test::Fail;
 
@@ -16,7 +16,7 @@ fn start(class: u64) -> u64
 }
 
 /// Whether the blocks of a page are popped in their order, and no more.
-fn pops_twelve(pool: &mut Pool) -> bool {
+fn pops_twelve(pool: &mut Primary) -> bool {
     for n in 0..12u64 {
         if pool.pop(9) != Some(0x1900_0000 + 320 * n) {
             return false;
@@ -25,12 +25,12 @@ fn pops_twelve(pool: &mut Pool) -> bool {
     pool.pop(9).is_none()
 }
 
-fn has_none(pool: &Pool) -> bool {
+fn has_none(pool: &Primary) -> bool {
     pool.carved(9) == 0 && !pool.is_block(9, 0x1900_0000)
 }
 
 /// Whether the twelfth block is the last one.
-fn has_twelve(pool: &Pool) -> bool {
+fn has_twelve(pool: &Primary) -> bool {
     let last = pool.carved(9) == 12 && pool.is_block(9, 0x1900_0dc0);
     last && !pool.is_block(9, 0x1900_0f00) && !pool.is_free(9, 0x1900_0f00)
 }
@@ -39,7 +39,7 @@ fn has_twelve(pool: &Pool) -> bool {
 #[test]
 #[tactic(auto, using(scudo_primary::proofs::PoolLaws::left_laws))]
 fn thirteen_blocks_of_class_9(rt: HostRuntime) -> Result<(), Fail> {
-    let mut pool = Pool::new(rt.alloc(), 2)?;
+    let mut pool = Primary::new(rt.alloc(), 2)?;
     let none = has_none(&pool);
     pool.carve(9, 1);
     assert!(rt; none && has_twelve(&pool) && pops_twelve(&mut pool));
@@ -48,7 +48,7 @@ fn thirteen_blocks_of_class_9(rt: HostRuntime) -> Result<(), Fail> {
 
 /// A class of 640 bytes has six blocks in a page: a batch of four, the lowest of them last, and one
 /// of two.
-fn has_two_batches(pool: &mut Pool) -> bool {
+fn has_two_batches(pool: &mut Primary) -> bool {
     let mut buffer = [7u64; MAX_COUNT];
     let four = pool.pop_batch(13, &mut buffer) == 4 && buffer[3] == start(13);
     let two = pool.pop_batch(13, &mut buffer) == 2 && buffer[1] == start(13) + 640 * 4;
@@ -58,7 +58,7 @@ fn has_two_batches(pool: &mut Pool) -> bool {
 #[test]
 #[tactic(auto, using(scudo_primary::proofs::PoolLaws::left_laws))]
 fn batches_of_a_carve(rt: HostRuntime) -> Result<(), Fail> {
-    let mut pool = Pool::new(rt.alloc(), 1)?;
+    let mut pool = Primary::new(rt.alloc(), 1)?;
     pool.carve(13, 1);
     assert!(rt; has_two_batches(&mut pool) && max_count(12) == 28 && max_count(13) == 8);
     Ok(())
@@ -66,7 +66,7 @@ fn batches_of_a_carve(rt: HostRuntime) -> Result<(), Fail> {
 
 /// Whether a batch that was taken and put back is taken again in the same order, and its last block
 /// comes first.
-fn keeps_order(pool: &mut Pool) -> bool {
+fn keeps_order(pool: &mut Primary) -> bool {
     let mut buffer = [0u64; MAX_COUNT];
     let count = pool.pop_batch(13, &mut buffer);
     if count != 4 || !pool.is_free(13, buffer[0]) {
@@ -81,14 +81,14 @@ fn keeps_order(pool: &mut Pool) -> bool {
 #[test]
 #[tactic(auto, using(scudo_primary::proofs::PoolLaws::left_laws))]
 fn a_batch_keeps_its_order(rt: HostRuntime) -> Result<(), Fail> {
-    let mut pool = Pool::new(rt.alloc(), 1)?;
+    let mut pool = Primary::new(rt.alloc(), 1)?;
     pool.carve(13, 1);
     assert!(rt; keeps_order(&mut pool));
     Ok(())
 }
 
 /// Whether marks follow `pop` and the two calls that set them.
-fn are_marked(pool: &mut Pool) -> bool {
+fn are_marked(pool: &mut Primary) -> bool {
     let block = start(44);
     let new = pool.carved(44) == 1 && pool.is_free(44, block);
     let Some(popped) = pool.pop(44) else {
@@ -105,7 +105,7 @@ fn are_marked(pool: &mut Pool) -> bool {
 #[test]
 #[tactic(auto, using(scudo_primary::proofs::PoolLaws::left_laws))]
 fn marks(rt: HostRuntime) -> Result<(), Fail> {
-    let mut pool = Pool::new(rt.alloc(), 32)?;
+    let mut pool = Primary::new(rt.alloc(), 32)?;
     pool.carve(44, 32);
     assert!(rt; are_marked(&mut pool));
     Ok(())

@@ -3,12 +3,12 @@
 ghost use Rattle.std.specs.Prelude.{◌≡◌, ◌+◌, ◌<◌, ◌≤◌, []};
 ghost use Rattle.scudo_secondary.specs.Mappings.{pages_of};
 
-use scudo_secondary::{Mapping, Maps};
+use scudo_secondary::{Mapping, Secondary};
 use std::test::Fail;
 
-/// Maps pages at the least place, and gives their user the address 16 bytes above it.
+/// Secondary pages at the least place, and gives their user the address 16 bytes above it.
 #[tactic(auto, using(crate::proofs::MappingTests::test_rules))]
-fn put(maps: &mut Maps, pages: u64) -> Option<u64>
+fn put(maps: &mut Secondary, pages: u64) -> Option<u64>
     requires some { 0 < pages }
     requires room { pages_of maps.old.mappings + pages ≤ maps.old.limit }
     ensures pages { pages_of maps.new.mappings ≤ pages_of maps.old.mappings + pages }
@@ -21,7 +21,7 @@ fn put(maps: &mut Maps, pages: u64) -> Option<u64>
 
 /// Takes a mapping away, where there is one with the user address.
 #[tactic(auto, using(crate::proofs::MappingTests::test_rules))]
-fn take(maps: &mut Maps, user: u64) -> bool
+fn take(maps: &mut Secondary, user: u64) -> bool
     ensures pages { pages_of maps.new.mappings ≤ pages_of maps.old.mappings }
     ensures limit { maps.new.limit ≡ maps.old.limit }
 {
@@ -33,7 +33,7 @@ fn take(maps: &mut Maps, user: u64) -> bool
 }
 
 /// Whether there is a page, 33 pages or all of the range to be had, and no more.
-fn places_whole_range(maps: &Maps) -> bool {
+fn places_whole_range(maps: &Secondary) -> bool {
     let first = Some(0x3D00_1000);
     let all = maps.place(1) == first && maps.place(33) == first && maps.place(8190) == first;
     all && maps.place(8191).is_none() && maps.place(u64::MAX).is_none()
@@ -41,14 +41,14 @@ fn places_whole_range(maps: &Maps) -> bool {
 
 #[test]
 fn places_in_the_range(rt: HostRuntime) -> Result<(), Fail> {
-    let maps = Maps::new(rt.alloc(), 512)?;
+    let maps = Secondary::new(rt.alloc(), 512)?;
     assert!(rt; places_whole_range(&maps));
     Ok(())
 }
 
 /// Whether one, two and three pages are put in this order, each after a page between.
 #[tactic(auto, using(crate::proofs::MappingTests::test_rules))]
-fn puts_three(maps: &mut Maps) -> bool
+fn puts_three(maps: &mut Secondary) -> bool
     requires room { pages_of maps.old.mappings + 6 ≤ maps.old.limit }
     ensures pages { pages_of maps.new.mappings ≤ pages_of maps.old.mappings + 6 }
     ensures limit { maps.new.limit ≡ maps.old.limit }
@@ -60,7 +60,7 @@ fn puts_three(maps: &mut Maps) -> bool
 }
 
 /// Whether all of the range behind the three is to be had, and no more.
-fn places_rest(maps: &Maps) -> bool {
+fn places_rest(maps: &Secondary) -> bool {
     let (after, last) = (maps.place(1), maps.place(8181));
     after == Some(0x3D00_A000) && last == after && maps.place(8182).is_none()
 }
@@ -68,17 +68,17 @@ fn places_rest(maps: &Maps) -> bool {
 #[test]
 #[tactic(auto, using(crate::proofs::MappingTests::test_rules))]
 fn mappings_share_the_page_between_them(rt: HostRuntime) -> Result<(), Fail> {
-    let mut maps = Maps::new(rt.alloc(), 8)?;
+    let mut maps = Secondary::new(rt.alloc(), 8)?;
     let put = puts_three(&mut maps);
     assert!(rt; put && places_rest(&maps));
-    maps.are_in_order();
+    maps.recall();
     Ok(())
 }
 
 /// After three were put, whether the second and then the first are taken and put again where they
 /// were, while larger ones come behind all.
 #[tactic(auto, using(crate::proofs::MappingTests::test_rules))]
-fn fills_gaps(maps: &mut Maps) -> bool
+fn fills_gaps(maps: &mut Secondary) -> bool
     requires room { pages_of maps.old.mappings + 3 ≤ maps.old.limit }
 {
     let taken = take(maps, 0x3D00_3010) && !take(maps, 0x3D00_3010);
@@ -94,7 +94,7 @@ fn fills_gaps(maps: &mut Maps) -> bool
 #[test]
 #[tactic(auto, using(crate::proofs::MappingTests::test_rules))]
 fn first_fit_between_two_others(rt: HostRuntime) -> Result<(), Fail> {
-    let mut maps = Maps::new(rt.alloc(), 16)?;
+    let mut maps = Secondary::new(rt.alloc(), 16)?;
     let put = puts_three(&mut maps);
     assert!(rt; put && fills_gaps(&mut maps));
     Ok(())
@@ -113,7 +113,7 @@ const SECOND: Mapping = Mapping {
 };
 
 /// Whether both are found, each by its user's address alone, and the second once the first is gone.
-fn finds_both(maps: &mut Maps) -> bool {
+fn finds_both(maps: &mut Secondary) -> bool {
     let both = maps.find(0x3D00_1010) == Some(FIRST) && maps.find(0x3D02_3010) == Some(SECOND);
     let none = maps.find(0x3D00_1000).is_none() && maps.find(0x3D00_1020).is_none();
     let taken = take(maps, 0x3D00_1010) && maps.find(0x3D00_1010).is_none();
@@ -122,7 +122,7 @@ fn finds_both(maps: &mut Maps) -> bool {
 
 #[test]
 fn mappings_found_and_removed(rt: HostRuntime) -> Result<(), Fail> {
-    let mut maps = Maps::new(rt.alloc(), 512)?;
+    let mut maps = Secondary::new(rt.alloc(), 512)?;
     let first = put(&mut maps, 33);
     let second = put(&mut maps, 40);
     assert!(rt; first.is_some() && second.is_some() && finds_both(&mut maps));

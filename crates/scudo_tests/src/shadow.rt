@@ -1,7 +1,7 @@
 //! What a careful tenant knows of its chunks, and what has to hold of them from outside.
 
 ghost use Rattle.std.specs.Prelude.{◌<◌};
-ghost use Rattle.scudo_heap.specs.Served.{IsServed};
+ghost use Rattle.scudo_heap.specs.Served.{HeapOwnsItsPages};
 
 use crate::calls::{Answer, Call, access};
 use address_map::{PAGE_SIZE, REGION_SIZE, REGIONS_START, SECONDARY_START};
@@ -72,16 +72,16 @@ impl Piece {
 
 /// Whether a checked access through an address faults.
 fn is_refused<M: Paged>(heap: &Heap, memory: &mut M, at: u64) -> bool
-    requires { IsServed (M.memory memory.old) heap.now }
-    ensures { IsServed (M.memory memory.new) heap.now }
+    requires { HeapOwnsItsPages (M.memory memory.old) heap.now }
+    ensures { HeapOwnsItsPages (M.memory memory.new) heap.now }
 {
     access(heap, memory, Call::Checked(at)).is_err()
 }
 
 /// Whether a live chunk may be read through its pointer, and the granules beside it may not.
 fn is_guarded<M: Paged>(heap: &Heap, memory: &mut M, piece: Piece) -> bool
-    requires { IsServed (M.memory memory.old) heap.now }
-    ensures { IsServed (M.memory memory.new) heap.now }
+    requires { HeapOwnsItsPages (M.memory memory.old) heap.now }
+    ensures { HeapOwnsItsPages (M.memory memory.new) heap.now }
 {
     let after = (piece.tag() << 56) | piece.end();
     let first = is_refused(heap, memory, piece.pointer);
@@ -96,8 +96,8 @@ fn is_guarded<M: Paged>(heap: &Heap, memory: &mut M, piece: Piece) -> bool
 
 /// Whether a freed chunk may not be read through the pointer to it.
 fn is_gone<M: Paged>(heap: &Heap, memory: &mut M, piece: Piece) -> bool
-    requires { IsServed (M.memory memory.old) heap.now }
-    ensures { IsServed (M.memory memory.new) heap.now }
+    requires { HeapOwnsItsPages (M.memory memory.old) heap.now }
+    ensures { HeapOwnsItsPages (M.memory memory.new) heap.now }
 {
     let last = ((piece.tag() << 56) | piece.end()).wrapping_sub(16);
     let first = is_refused(heap, memory, piece.pointer);
@@ -243,8 +243,8 @@ impl Shadow {
     /// Whether live chunks are apart, each may be read and the granules beside it may not, and no
     /// freed one may be read.
     pub(crate) fn holds<M: Paged>(&self, heap: &Heap, memory: &mut M) -> bool
-        requires { IsServed (M.memory memory.old) heap.now }
-        ensures { IsServed (M.memory memory.new) heap.now }
+        requires { HeapOwnsItsPages (M.memory memory.old) heap.now }
+        ensures { HeapOwnsItsPages (M.memory memory.new) heap.now }
     {
         (0..LIVE).all(|place| self.is_apart_from(place))
             && self.live_hold(heap, memory)
@@ -252,8 +252,8 @@ impl Shadow {
     }
 
     fn live_hold<M: Paged>(&self, heap: &Heap, memory: &mut M) -> bool
-        requires { IsServed (M.memory memory.old) heap.now }
-        ensures { IsServed (M.memory memory.new) heap.now }
+        requires { HeapOwnsItsPages (M.memory memory.old) heap.now }
+        ensures { HeapOwnsItsPages (M.memory memory.new) heap.now }
     {
         for piece in self.live.iter().flatten() {
             if !is_guarded(heap, memory, *piece) {
@@ -264,8 +264,8 @@ impl Shadow {
     }
 
     fn freed_hold<M: Paged>(&self, heap: &Heap, memory: &mut M) -> bool
-        requires { IsServed (M.memory memory.old) heap.now }
-        ensures { IsServed (M.memory memory.new) heap.now }
+        requires { HeapOwnsItsPages (M.memory memory.old) heap.now }
+        ensures { HeapOwnsItsPages (M.memory memory.new) heap.now }
     {
         for piece in self.freed.iter().flatten() {
             if !is_gone(heap, memory, *piece) {

@@ -434,7 +434,7 @@ const FREED_BY_A_COPIED_HEADER: [Row; 9] = [
     Row(1, Call::Checked(NEXT + 32), Answer::Is(0)),
 ];
 
-/// The same before a reallocation: the granule after the chunk keeps its tag.
+/// The chunk before a reallocation: the granule after the chunk keeps its tag.
 const RESIZED_BY_A_COPIED_HEADER: [Row; 6] = [
     Row(1, Call::Malloc(48), Answer::Is(CHUNK)),
     Row(1, Call::Malloc(48), Answer::Is(NEXT)),

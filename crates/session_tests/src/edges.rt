@@ -174,11 +174,11 @@ fn host_of(alloc: Global, input: &[u8]) -> Result<Host, Fail> {
 /// The status of a tenant that made the calls of an input, and its output.
 fn ended(alloc: Global, input: &[u8]) -> Result<(Status, Vec<u8>), Fail> {
     let host = host_of(alloc, input)?;
-    let Some(account) = host.view(1) else {
+    let Some(log) = host.view(1) else {
         return Err(Fail::from(NotLive));
     };
-    let output = Vec::from_slice(alloc, account.output.as_slice())?;
-    Ok((account.status, output))
+    let output = Vec::from_slice(alloc, log.output.as_slice())?;
+    Ok((log.status, output))
 }
 
 #[test]

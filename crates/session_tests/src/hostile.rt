@@ -56,7 +56,7 @@ fn draw_words(alloc: Global, seed: u64) -> Result<Vec<u32>, AllocError> {
 const ALONE: &[u8] = b"admit 7 image 1 input 0 seed 0000000000000001 frames 7 out 16\nslice 7 5\n\
       slice 7 100\n";
 
-/// The same beside three others and one of drawn words.
+/// The tenant beside three others and one of drawn words.
 const BESIDE: &[u8] = b"admit 1 image 5 input 5 seed 0000000000000003 frames 60 out 64\n\
       admit 2 image 2 input 0 seed 0000000000000001 frames 5 out 16\n\
       admit 3 image 3 input 0 seed 0000000000000001 frames 9 out 16\n\

@@ -50,9 +50,9 @@ fn frames_of_the_stopped(rt: &impl Abort, host: &Host) {
     assert!(rt; host.view(7).is_some() && host.view(8).is_none());
 }
 
-fn report_of_the_stopped(rt: &impl Abort, alloc: Global, account: &Record) -> Result<(), Fail> {
+fn report_of_the_stopped(rt: &impl Abort, alloc: Global, log: &Record) -> Result<(), Fail> {
     let mut out = MemorySink::new(alloc);
-    write_report(account, &mut out)?;
+    write_report(log, &mut out)?;
     assert_eq!(rt;
         out.held.as_slice(),
         b"tenant 7\nstatus stopped\nsteps 3\noutput 0\nheap 0\nend\n".as_slice()
@@ -64,11 +64,11 @@ fn account_of_the_stopped(rt: &impl Abort, alloc: Global, host: &Host) -> Result
     let Some(tenant) = host.tenants().first() else {
         return Err(Fail::from(NotLive));
     };
-    let account = tenant.record();
-    assert!(rt; account.status == Status::Stopped);
+    let log = tenant.record();
+    assert!(rt; log.status == Status::Stopped);
     assert!(rt; !tenant.is_live());
-    assert_eq!(rt; (account.steps, account.output.left()), (3, 16));
-    report_of_the_stopped(rt, alloc, account)
+    assert_eq!(rt; (log.steps, log.output.left()), (3, 16));
+    report_of_the_stopped(rt, alloc, log)
 }
 
 #[test]
@@ -142,12 +142,12 @@ fn a_page_is_written_by_the_host(rt: HostRuntime) -> Result<(), Fail> {
     let mut host = host_of_one(rt.alloc())?;
     write_page(&rt, rt.alloc(), &mut host)?;
     host.slice(1, 100)?;
-    let Some(account) = host.view(1) else {
+    let Some(log) = host.view(1) else {
         return Err(Fail::from(NotLive));
     };
-    assert!(rt; account.status == Status::Exited(0));
-    assert_eq!(rt; account.steps, 8);
-    assert_eq!(rt; account.output.as_slice(), b"Hi".as_slice());
+    assert!(rt; log.status == Status::Exited(0));
+    assert_eq!(rt; log.steps, 8);
+    assert_eq!(rt; log.output.as_slice(), b"Hi".as_slice());
     Ok(())
 }
 

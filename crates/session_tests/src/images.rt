@@ -45,7 +45,7 @@ pub const UNTAGGED: [u32; 7] = [
     0xD2A7FFE0, 0x91403000, 0x9ADF1001, 0xD9200821, 0xF9000021, 0xF9400022, 0xF9400002,
 ];
 
-/// The same, and then an exit with the address that it loaded from.
+/// As the program before, and then an exit with the address that it loaded from.
 pub const UNTAGGED_EXIT: [u32; 9] = [
     0xD2A7FFE0, 0x91403000, 0x9ADF1001, 0xD9200821, 0xF9000021, 0xF9400022, 0xF9400002, 0xD2800008,
     0xD4000001,
@@ -94,7 +94,7 @@ pub const CORRUPTS: [u32; 8] = [
     0xD2800300, 0xD2800068, 0xD4000001, 0xD2A24001, 0xD2800062, 0x39000022, 0xD2800088, 0xD4000001,
 ];
 
-/// The same, with a checksum that is right for the class that it writes.
+/// As the program before, with a checksum that is right for the class that it writes.
 pub const FORGES_A_CLASS: [u32; 10] = [
     0xD2800300, 0xD2800068, 0xD4000001, 0xD2A24001, 0xD2800062, 0x39000022, 0xD2800262, 0x39001C22,
     0xD2800088, 0xD4000001,

@@ -24,4 +24,6 @@ mod sessions;
 #[cfg(test)]
 mod streams;
 #[cfg(test)]
+mod tenant_alone;
+#[cfg(test)]
 mod tenants;

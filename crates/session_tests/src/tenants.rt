@@ -21,7 +21,7 @@ fn files_of(alloc: Global, words: &[u32]) -> Result<Vec<Vec<u8>>, AllocError> {
 const ALONE: &[u8] = b"admit 7 image 1 input 1 seed 0000000000000001 frames 60 out 16\n\
       slice 7 5\nslice 7 100\nslice 7 100\nstop 7\n";
 
-/// The same beside three others that come, run and stop between its slices.
+/// The tenant beside three others that come, run and stop between its slices.
 const BESIDE: &[u8] = b"admit 1 image 2 input 0 seed 0000000000000001 frames 60 out 16\nslice 1 6\n\
       admit 2 image 3 input 0 seed 0000000000000001 frames 5 out 16\nslice 2 100\n\
       stop 2\nadmit 3 image 4 input 0 seed 0000000000000002 frames 9 out 16\n\

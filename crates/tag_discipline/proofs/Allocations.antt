@@ -5,29 +5,29 @@ use Rattle.std.proofs.Math.Nat.{mul-mod_right}
 use Rattle.std.proofs.lemmas.Nat.{div-add-mod'}
 use Rattle.std.specs.List.{find, range_with_len}
 use Rattle.mte_tags.specs.Memory.{Memory, tag_at, pages_left}
-use Rattle.mte_tags.specs.RandomTags.{drawn}
+use Rattle.mte_tags.specs.RandomTags.{after_draw}
 use Rattle.scudo_header.specs.Classes.{size_of, class_for}
 use Rattle.scudo_header.specs.declared.headers.Origin.{Origin}
 use Rattle.scudo_primary.specs.Pools.{is_member}
 use Rattle.scudo_primary.specs.Lists.{IsClass}
 use Rattle.scudo_primary.proofs.ListLemmas.{member-first}
-use Rattle.scudo_heap.specs.Stacks.{StackState, stack_of, with_stack, popped}
+use Rattle.scudo_heap.specs.Stacks.{StackState, stack_of, with_stack, after_pop}
 use Rattle.tag_discipline.specs.LiveChunks.{IsCarved, IsPlace, BlockChunk, LiveBlocks, chunk_at, with_chunk, new_chunk}
 use Rattle.scudo_heap.specs.declared.chunk.Place.{Place}
-use Rattle.scudo_heap.specs.Placing.{World, more_pages, new_header, placed, grown}
-use Rattle.scudo_heap.specs.Chunks.{excluded, headed}
+use Rattle.scudo_heap.specs.Placing.{World, more_pages, new_header, after_place, after_grow}
+use Rattle.scudo_heap.specs.Chunks.{excluded_tags, with_header}
 use Rattle.tag_discipline.proofs.BlockCalls.{fenced}
 use Rattle.tag_discipline.proofs.Views.{SoundBlocks}
-use Rattle.scudo_heap.specs.Allocation.{Made, nothing, asked, need_of, place_in, is_empty, ready, taken, in_class}
+use Rattle.scudo_heap.specs.Allocation.{AllocationResult, no_chunk, nonzero_size, need_of, place_in, is_empty, with_free_block, after_take, after_class_allocation}
 use Rattle.scudo_heap.specs.Inner.{IsAlign}
 use Rattle.scudo_heap.specs.declared.chunk.Chunk.{Chunk}
 use Rattle.scudo_heap.specs.declared.chunk.Chunk.TheVariants.{Small, Large}
-use Rattle.tag_discipline.proofs.Draws.{IsFresh, drawn-fresh}
+use Rattle.tag_discipline.proofs.Draws.{IsFresh, after-draw-fresh}
 use Rattle.tag_discipline.proofs.Blocks.{block-in, apart}
 use Rattle.tag_discipline.proofs.Freed.{Freed, IsStale}
-use Rattle.tag_discipline.proofs.Stales.{stale-placed}
+use Rattle.tag_discipline.proofs.Stales.{stale-after-place}
 use Rattle.tag_discipline.proofs.BlockSounds.{present, not-top, placed_call, placed_sound}
-use Rattle.tag_discipline.proofs.Grows.{IsGrowth, grown_sound, grown-tags, grown-stale}
+use Rattle.tag_discipline.proofs.Grows.{IsGrowth, grown_sound, after-grow-tags, after-grow-stale}
 
 abbrev pub IsSoundIn : World → LiveBlocks → Type 0
 IsSoundIn w l = SoundBlocks w.memory w.heap.stacks l
@@ -54,14 +54,14 @@ pub record IsReady (w v : World) (l : LiveBlocks) : Type 0 where
   pub stale : (f : Freed) → IsStale w.memory w.heap.stacks f → IsStale v.memory v.heap.stacks f
   pub tags : (a : ℕ) → tag_at v.memory a ≡ tag_at w.memory a
 
-pub ready_sound : (w : World) (l : LiveBlocks) (c : ℕ) → IsClass c → IsSoundIn w l → IsReady w (ready w c) l
-unfolding ready grown
+pub ready_sound : (w : World) (l : LiveBlocks) (c : ℕ) → IsClass c → IsSoundIn w l → IsReady w (with_free_block w c) l
+unfolding with_free_block after_grow
 ready_sound w l c hc s =
     branch (λ v. IsReady w v l) (is_empty (stack_of w.heap.stacks c) && nat_le (more_pages c) (pages_left w.memory)) _ w
     (λ e.
     let b = both_true _ _ e in
     let g : IsGrowth w.memory w.heap.stacks c (more_pages c) = record { class = hc; empty = empty_is _ b.0; left = (let f = b.1 in grind (arith, nat_tests)) } in
-    record { sound = grown_sound w.memory w.heap.stacks l c (more_pages c) s g; stale = grown-stale w.memory w.heap.stacks l c (more_pages c) s g; tags = grown-tags w.memory w.heap.stacks l c (more_pages c) s g })
+    record { sound = grown_sound w.memory w.heap.stacks l c (more_pages c) s g; stale = after-grow-stale w.memory w.heap.stacks l c (more_pages c) s g; tags = after-grow-tags w.memory w.heap.stacks l c (more_pages c) s g })
     (λ e. record { sound = s; stale = λ f st. st; tags = λ a. refl })
 
 -- ---- the place in a block
@@ -87,34 +87,34 @@ place-in h l m c b a size s k al p fits =
     let r2 = r.2 in
     record { carved = k; aligned = r0; above = omega arith; within = omega arith; some = p }
 
-same_tag : (w : World) (origin : Origin) (p : Place) → (placed w origin p).rgsr.tag ≡ (drawn w.rgsr (excluded w.memory p)).tag
-unfolding placed drawn
+same_tag : (w : World) (origin : Origin) (p : Place) → (after_place w origin p).rgsr.tag ≡ (after_draw w.rgsr (excluded_tags w.memory p)).tag
+unfolding after_place after_draw
 same_tag w origin p = refl
 
-fresh_in : (w : World) (l : LiveBlocks) (p : Place) → IsSoundIn w l → IsPlace w.heap.stacks p → IsFresh w.memory p (drawn w.rgsr (excluded w.memory p)).tag
-fresh_in w l p s i = drawn-fresh w.memory p w.rgsr (present w.memory w.heap.stacks l s p i)
+fresh_in : (w : World) (l : LiveBlocks) (p : Place) → IsSoundIn w l → IsPlace w.heap.stacks p → IsFresh w.memory p (after_draw w.rgsr (excluded_tags w.memory p)).tag
+fresh_in w l p s i = after-draw-fresh w.memory p w.rgsr (present w.memory w.heap.stacks l s p i)
 
-pub placed-sound : (w : World) (l : LiveBlocks) (origin : Origin) (p : Place) (more : List ℕ) → IsSoundIn w l → stack_of w.heap.stacks p.class ≡ p.block ∷ more → IsPlace w.heap.stacks p
-    → IsSoundIn (placed w origin p) (with_chunk l (new_chunk origin p (placed w origin p).rgsr.tag))
-unfolding placed popped
-placed-sound w l origin p more s top i =
-    let t = (drawn w.rgsr (excluded w.memory p)).tag in
+pub after-place-sound : (w : World) (l : LiveBlocks) (origin : Origin) (p : Place) (more : List ℕ) → IsSoundIn w l → stack_of w.heap.stacks p.class ≡ p.block ∷ more → IsPlace w.heap.stacks p
+    → IsSoundIn (after_place w origin p) (with_chunk l (new_chunk origin p (after_place w origin p).rgsr.tag))
+unfolding after_place after_pop
+after-place-sound w l origin p more s top i =
+    let t = (after_draw w.rgsr (excluded_tags w.memory p)).tag in
     let e : drop 1 (stack_of w.heap.stacks p.class) ≡ more = ap (drop 1) top in
-    let m' = headed (fenced w.memory p t) w.heap.cookie p.user (new_header origin p) in
-    subst (λ k. SoundBlocks m' (popped w.heap.stacks p.class) (with_chunk l (new_chunk origin p k))) (sym (same_tag w origin p))
+    let m' = with_header (fenced w.memory p t) w.heap.cookie p.user (new_header origin p) in
+    subst (λ k. SoundBlocks m' (after_pop w.heap.stacks p.class) (with_chunk l (new_chunk origin p k))) (sym (same_tag w origin p))
     (subst (λ xs. SoundBlocks m' (with_stack w.heap.stacks p.class xs) (with_chunk l (new_chunk origin p t))) (sym e) (placed_sound w.memory w.heap.stacks l s w.heap.cookie p origin more t (fresh_in w l p s i) top i))
 
-pub placed-kept : (w : World) (l : LiveBlocks) (origin : Origin) (p : Place) (more : List ℕ) → IsSoundIn w l → stack_of w.heap.stacks p.class ≡ p.block ∷ more → IsPlace w.heap.stacks p
-    → IsKept w (placed w origin p) (with_chunk l (new_chunk origin p (placed w origin p).rgsr.tag))
-unfolding placed popped
-placed-kept w l origin p more s top i =
-    let t = (drawn w.rgsr (excluded w.memory p)).tag in
+pub after-place-kept : (w : World) (l : LiveBlocks) (origin : Origin) (p : Place) (more : List ℕ) → IsSoundIn w l → stack_of w.heap.stacks p.class ≡ p.block ∷ more → IsPlace w.heap.stacks p
+    → IsKept w (after_place w origin p) (with_chunk l (new_chunk origin p (after_place w origin p).rgsr.tag))
+unfolding after_place after_pop
+after-place-kept w l origin p more s top i =
+    let t = (after_draw w.rgsr (excluded_tags w.memory p)).tag in
     let e : more ≡ drop 1 (stack_of w.heap.stacks p.class) = sym (ap (drop 1) top) in
-    let m' = headed (fenced w.memory p t) w.heap.cookie p.user (new_header origin p) in
+    let m' = with_header (fenced w.memory p t) w.heap.cookie p.user (new_header origin p) in
     record {
-      sound = placed-sound w l origin p more s top i;
+      sound = after-place-sound w l origin p more s top i;
       stale = λ f st member. subst (λ xs. is_member (stack_of (with_stack w.heap.stacks p.class xs) f.place.class) f.place.block ≡ true → IsStale m' (with_stack w.heap.stacks p.class xs) f) e
-          (λ on. stale-placed w.memory m' w.heap.stacks p t more f s.stacked i (placed_call w.memory w.heap.stacks l s w.heap.cookie p origin t (fresh_in w l p s i) i) top on st) member;
+          (λ on. stale-after-place w.memory m' w.heap.stacks p t more f s.stacked i (placed_call w.memory w.heap.stacks l s w.heap.cookie p origin t (fresh_in w l p s i) i) top on st) member;
     }
 
 -- the live chunks of the size classes after an allocation
@@ -124,12 +124,12 @@ blocks_listed o l (Some (Small p tag)) = with_chunk l (new_chunk o p tag)
 blocks_listed o l (Some (Large m size)) = l
 
 -- what an allocation leaves: its chunk has a user address of its own
-pub record IsMadeSound (o : Origin) (w : World) (l : LiveBlocks) (r : Made) : Type 0 where
+pub record IsMadeSound (o : Origin) (w : World) (l : LiveBlocks) (r : AllocationResult) : Type 0 where
   pub kept : IsKept w r.world (blocks_listed o l r.chunk)
   pub apart : (p : Place) (t : ℕ) → r.chunk ≡ Some (Small p t) → (u : ℕ) (x : BlockChunk) → chunk_at l u ≡ Some x → p.user ≢ u
   pub fresh : (p : Place) (t : ℕ) → r.chunk ≡ Some (Small p t) → (t ≢ 0) × (t ≢ tag_at w.memory p.user)
 
-pub nothing_sound : (o : Origin) (w : World) (l : LiveBlocks) → IsSoundIn w l → IsMadeSound o w l (nothing w)
+pub nothing_sound : (o : Origin) (w : World) (l : LiveBlocks) → IsSoundIn w l → IsMadeSound o w l (no_chunk w)
 nothing_sound o w l s = record { kept = record { sound = s; stale = λ f st on. st }; apart = λ p t e. cc; fresh = λ p t e. cc }
 
 -- chunks in two blocks have two user addresses
@@ -146,15 +146,15 @@ users-differ w l p u x s i e n = λ q.
     elim (apart w.heap.stacks x.place.class p.class x.place.block p.block s.stacked j.carved i.carved n) [ inl k ↦ omega arith | inr k ↦ omega arith ]
 
 taken_sound : (before w : World) (l : LiveBlocks) (origin : Origin) (a size c : ℕ) (xs : List ℕ) → IsSoundIn before l → IsReady before w l → IsClass c → IsAlign a → 0 < size → need_of a size ≤ size_of c
-    → stack_of w.heap.stacks c ≡ xs → IsMadeSound origin before l (taken before w origin a size c xs)
+    → stack_of w.heap.stacks c ≡ xs → IsMadeSound origin before l (after_take before w origin a size c xs)
 taken_sound before w l origin a size c [] s0 r hc al p fits e = nothing_sound origin before l s0
 taken_sound before w l origin a size c (b ∷ more) s0 r hc al p fits e =
     let s = r.sound in
     let k : IsCarved w.heap.stacks c b = record { class = hc; block = s.stacked.blocks c b hc (ap (λ t. is_member t b) e ∙ member-first b more) } in
     let i = place-in w.heap.stacks l w.memory c b a size s k al p fits in
     let place = place_in c b a size in
-    let tag = (placed w origin place).rgsr.tag in
-    let kept = placed-kept w l origin place more s e i in
+    let tag = (after_place w origin place).rgsr.tag in
+    let kept = after-place-kept w l origin place more s e i in
     record {
       kept = record { sound = kept.sound; stale = λ f st on. kept.stale f (r.stale f st) on };
       apart = λ q t f u x g. subst (λ (d : Place). d.user ≢ u) (let h : place ≡ q = cc in h)
@@ -184,10 +184,10 @@ pub class-for : (need c : ℕ) → class_for need ≡ Some c → IsClassFor need
 unfolding class_for
 class-for need c e = found_class 44 1 need c (omega arith) (omega arith) e
 
-pub in_class-sound : (w : World) (l : LiveBlocks) (origin : Origin) (a size c : ℕ) → IsSoundIn w l → IsAlign a → 0 < size → IsClassFor (need_of a size) c → IsMadeSound origin w l (in_class w origin a size c)
-unfolding in_class
-in_class-sound w l origin a size c s al p k =
-    taken_sound w (ready w c) l origin a size c (stack_of (ready w c).heap.stacks c) s (ready_sound w l c k.class s) k.class al p k.holds refl
+pub after-class-allocation-sound : (w : World) (l : LiveBlocks) (origin : Origin) (a size c : ℕ) → IsSoundIn w l → IsAlign a → 0 < size → IsClassFor (need_of a size) c → IsMadeSound origin w l (after_class_allocation w origin a size c)
+unfolding after_class_allocation
+after-class-allocation-sound w l origin a size c s al p k =
+    taken_sound w (with_free_block w c) l origin a size c (stack_of (with_free_block w c).heap.stacks c) s (ready_sound w l c k.class s) k.class al p k.holds refl
 
-pub asked_some : (size : ℕ) → 0 < asked size
+pub asked_some : (size : ℕ) → 0 < nonzero_size size
 asked_some size = grind (arith, nat_tests)

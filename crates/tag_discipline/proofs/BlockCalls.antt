@@ -3,27 +3,27 @@ use Rattle.std.proofs.Common.{◌≡◌, ◌≢◌, ℕ, ◌+◌, ◌-◌, ◌%�
 use Rattle.std.proofs.lemmas.Bool.{cases_eq, cases_lt, cond-true, cond-false}
 use Rattle.std.proofs.lemmas.Bool.Decides.{nat_tests}
 use Rattle.mte_tags.specs.Memory.{Memory, tag_at, attrs_at, with_granules}
-use Rattle.mte_tags.specs.Accesses.{written}
+use Rattle.mte_tags.specs.Accesses.{with_bytes_at}
 use Rattle.mte_tags.specs.Whole.{IsWhole}
-use Rattle.mte_tags.proofs.Whole.{whole-written}
-use Rattle.mte_tags.proofs.PageLaws.{attrs_at-written}
-use Rattle.mte_tags.proofs.ByteLaws.{tag_at-written}
+use Rattle.mte_tags.proofs.Whole.{whole-with-bytes-at}
+use Rattle.mte_tags.proofs.PageLaws.{attrs_at-with-bytes-at}
+use Rattle.mte_tags.proofs.ByteLaws.{tag_at-with-bytes-at}
 use Rattle.scudo_header.specs.Classes.{size_of}
 use Rattle.scudo_header.specs.Regions.{region_of}
 use Rattle.address_map.specs.declared.ranges.TheConstants.{SECONDARY_END}
 use Rattle.scudo_heap.specs.Stacks.{StackState}
 use Rattle.tag_discipline.specs.LiveChunks.{IsCarved, IsPlace, IsTagged, IsOutside}
 use Rattle.scudo_heap.specs.declared.chunk.Place.{Place}
-use Rattle.scudo_heap.specs.Chunks.{end_of, block_end, granules_of, tagged, closed, opened}
+use Rattle.scudo_heap.specs.Chunks.{end_of, block_end, granules_of, with_chunk_tag, with_end_tag_0, with_header_tag_0}
 use Rattle.tag_discipline.proofs.Views.{IsStacked, IsView}
 use Rattle.tag_discipline.proofs.Blocks.{IsIn, block-in, same-class, apart}
 use Rattle.tag_discipline.proofs.Retags.{IsOpen, IsRetag, retag, or_zero, cleared, open-part, open-after}
-use Rattle.mte_tags.proofs.StateLaws.{limit-written}
+use Rattle.mte_tags.proofs.StateLaws.{limit-with-bytes-at}
 use Rattle.tag_discipline.proofs.Keeps.{IsCallOn}
 
 -- the tag on the granules of a place, and 0 on the granule before it and after it
 abbrev pub fenced : Memory → Place → ℕ → Memory
-fenced m p t = closed (opened (tagged m p t) p) p
+fenced m p t = with_end_tag_0 (with_header_tag_0 (with_chunk_tag m p t) p) p
 
 -- a place's block is in pages of the heap
 pub block-open : (m : Memory) (h : StackState) (p : Place) → IsStacked h → IsView m h → IsPlace h p → IsOpen m p.block (block_end p)
@@ -37,8 +37,8 @@ block-open m h p k s i =
 
 -- where the block goes on, the granule after the place gets 0
 closing : (m : Memory) (p : Place) → IsWhole m → IsOpen m p.block (block_end p) → p.block ≤ end_of p → end_of p % 16 ≡ 0 → size_of p.class % 16 ≡ 0
-    → ((end_of p < block_end p) × IsRetag m (closed m p) (end_of p) (end_of p + 16) 0) ⊎ ((block_end p ≤ end_of p) × (closed m p ≡ m))
-unfolding closed
+    → ((end_of p < block_end p) × IsRetag m (with_end_tag_0 m p) (end_of p) (end_of p + 16) 0) ⊎ ((block_end p ≤ end_of p) × (with_end_tag_0 m p ≡ m))
+unfolding with_end_tag_0
 closing m p w o l e f = elim (cases_lt (end_of p) (block_end p)) [
   | inl a ↦
       let al = o.aligned in
@@ -59,8 +59,8 @@ pub record IsClosed (m m' : Memory) (p : Place) : Type 0 where
   pub rest : (a : ℕ) → (tag_at m' a ≡ tag_at m a) ⊎ (tag_at m' a ≡ 0)
   pub out : (a : ℕ) → (end_of p ≤ a → a < block_end p → ⊥) → tag_at m' a ≡ tag_at m a
 
-pub closed-is : (m : Memory) (p : Place) → IsWhole m → IsOpen m p.block (block_end p) → p.block ≤ end_of p → end_of p % 16 ≡ 0 → size_of p.class % 16 ≡ 0 → IsClosed m (closed m p) p
-closed-is m p w o l e f = elim (closing m p w o l e f) [
+pub with-end-tag-0-is : (m : Memory) (p : Place) → IsWhole m → IsOpen m p.block (block_end p) → p.block ≤ end_of p → end_of p % 16 ≡ 0 → size_of p.class % 16 ≡ 0 → IsClosed m (with_end_tag_0 m p) p
+with-end-tag-0-is m p w o l e f = elim (closing m p w o l e f) [
   | inl c ↦
       let al = o.aligned in
       let r = c.1 in
@@ -70,7 +70,7 @@ closed-is m p w o l e f = elim (closing m p w o l e f) [
         attrs = r.attrs;
         whole = r.whole;
         after = λ a x y z. r.inside a x y;
-        rest = λ a. cleared m (closed m p) (end_of p) (end_of p + 16) a r;
+        rest = λ a. cleared m (with_end_tag_0 m p) (end_of p) (end_of p + 16) a r;
         out = λ a z. r.out a (λ x y. z x (omega arith));
       }
   | inr c ↦
@@ -86,22 +86,22 @@ closed-is m p w o l e f = elim (closing m p w o l e f) [
 ]
 
 -- bytes that are written change no tag
-pub written-call : (m m' : Memory) (p : Place) (t a : ℕ) (bs : List ℕ) → IsCallOn m m' p t → IsCallOn m (written m' a bs) p t
-written-call m m' p t a bs c = record {
-  limit = limit-written m' a bs ∙ c.limit;
-  attrs = λ q. attrs_at-written m' a bs q ∙ c.attrs q;
-  whole = whole-written m' a bs c.whole;
-  inside = λ x l u. tag_at-written m' a bs x ∙ c.inside x l u;
-  rest = λ x o. or_zero m m' (written m' a bs) x (inl (tag_at-written m' a bs x)) (c.rest x o);
-  out = λ x o. tag_at-written m' a bs x ∙ c.out x o;
+pub with-bytes-at-call : (m m' : Memory) (p : Place) (t a : ℕ) (bs : List ℕ) → IsCallOn m m' p t → IsCallOn m (with_bytes_at m' a bs) p t
+with-bytes-at-call m m' p t a bs c = record {
+  limit = limit-with-bytes-at m' a bs ∙ c.limit;
+  attrs = λ q. attrs_at-with-bytes-at m' a bs q ∙ c.attrs q;
+  whole = whole-with-bytes-at m' a bs c.whole;
+  inside = λ x l u. tag_at-with-bytes-at m' a bs x ∙ c.inside x l u;
+  rest = λ x o. or_zero m m' (with_bytes_at m' a bs) x (inl (tag_at-with-bytes-at m' a bs x)) (c.rest x o);
+  out = λ x o. tag_at-with-bytes-at m' a bs x ∙ c.out x o;
 }
 
-pub written-tagged : (m : Memory) (p : Place) (t a : ℕ) (bs : List ℕ) → IsTagged m p t → IsTagged (written m a bs) p t
-written-tagged m p t a bs g = record {
+pub with-bytes-at-with-chunk-tag : (m : Memory) (p : Place) (t a : ℕ) (bs : List ℕ) → IsTagged m p t → IsTagged (with_bytes_at m a bs) p t
+with-bytes-at-with-chunk-tag m p t a bs g = record {
   some = g.some;
-  inside = λ x l u. tag_at-written m a bs x ∙ g.inside x l u;
-  before = λ x l u. tag_at-written m a bs x ∙ g.before x l u;
-  after = λ x l u. tag_at-written m a bs x ∙ g.after x l u;
+  inside = λ x l u. tag_at-with-bytes-at m a bs x ∙ g.inside x l u;
+  before = λ x l u. tag_at-with-bytes-at m a bs x ∙ g.before x l u;
+  after = λ x l u. tag_at-with-bytes-at m a bs x ∙ g.after x l u;
 }
 
 -- the address after a block is strictly inside no block
@@ -122,16 +122,16 @@ pub room : (h : StackState) (p : Place) → IsStacked h → IsPlace h p → IsRo
 room h p k i = record { block = block-in h p.class p.block k i.carved; aligned = i.aligned; above = i.above; within = i.within }
 
 module _ (m : Memory) (h : StackState) (p : Place) (t : ℕ) (k : IsStacked h) (s : IsView m h) (i : IsPlace h p) where
-  pub tagged-retag : IsRetag m (tagged m p t) p.user (end_of p) t
-  unfolding tagged
-  tagged-retag =
+  pub with-chunk-tag-retag : IsRetag m (with_chunk_tag m p t) p.user (end_of p) t
+  unfolding with_chunk_tag
+  with-chunk-tag-retag =
       let r = room h p k i in
       retag m p.user (granules_of p.size) t (end_of p) true s.whole refl (open-part m p.block (block_end p) p.user (end_of p) (block-open m h p k s i) (omega arith) i.within i.aligned)
 
   -- free gives a tag to the place
-  pub tagged-call : IsCallOn m (tagged m p t) p t
-  tagged-call =
-      let g = tagged-retag in
+  pub with-chunk-tag-call : IsCallOn m (with_chunk_tag m p t) p t
+  with-chunk-tag-call =
+      let g = with-chunk-tag-retag in
       let r = room h p k i in
       let above = r.above in
       let within = r.within in
@@ -145,9 +145,9 @@ module _ (m : Memory) (h : StackState) (p : Place) (t : ℕ) (k : IsStacked h) (
       }
 
   -- malloc gives 0 to the granules beside it too
-  fenced_parts : (m2 : Memory) → IsRetag (tagged m p t) m2 (p.user - 16) p.user 0 → IsClosed m2 (closed m2 p) p → IsCallOn m (closed m2 p) p t
+  fenced_parts : (m2 : Memory) → IsRetag (with_chunk_tag m p t) m2 (p.user - 16) p.user 0 → IsClosed m2 (with_end_tag_0 m2 p) p → IsCallOn m (with_end_tag_0 m2 p) p t
   fenced_parts m2 b c =
-      let g = tagged-retag in
+      let g = with-chunk-tag-retag in
       let r = room h p k i in
       let above = r.above in
       let within = r.within in
@@ -156,12 +156,12 @@ module _ (m : Memory) (h : StackState) (p : Place) (t : ℕ) (k : IsStacked h) (
         attrs = λ q. c.attrs q ∙ b.attrs q ∙ g.attrs q;
         whole = c.whole;
         inside = λ a l u. c.out a (λ x y. omega arith) ∙ b.out a (λ x y. omega arith) ∙ g.inside a l u;
-        rest = λ a o. or_zero m m2 (closed m2 p) a (c.rest a) (or_zero m (tagged m p t) m2 a (cleared (tagged m p t) m2 (p.user - 16) p.user a b) (inl (g.out a o)));
+        rest = λ a o. or_zero m m2 (with_end_tag_0 m2 p) a (c.rest a) (or_zero m (with_chunk_tag m p t) m2 a (cleared (with_chunk_tag m p t) m2 (p.user - 16) p.user a b) (inl (g.out a o)));
         out = λ a o. c.out a (λ x y. o (omega arith) y) ∙ b.out a (λ x y. o (omega arith) (omega arith)) ∙ g.out a (λ x y. o (omega arith) (omega arith));
       }
 
-  fenced_tagged : (m2 : Memory) → IsRetag (tagged m p t) m2 (p.user - 16) p.user 0 → IsClosed m2 (closed m2 p) p → t ≢ 0
-      → ((a : ℕ) → region_of 1 ≤ a → a < SECONDARY_END → IsOutside h a → tag_at m a ≡ 0) → IsTagged (closed m2 p) p t
+  fenced_tagged : (m2 : Memory) → IsRetag (with_chunk_tag m p t) m2 (p.user - 16) p.user 0 → IsClosed m2 (with_end_tag_0 m2 p) p → t ≢ 0
+      → ((a : ℕ) → region_of 1 ≤ a → a < SECONDARY_END → IsOutside h a → tag_at m a ≡ 0) → IsTagged (with_end_tag_0 m2 p) p t
   fenced_tagged m2 b c n outside =
       let call = fenced_parts m2 b c in
       let r = room h p k i in
@@ -184,19 +184,19 @@ module _ (m : Memory) (h : StackState) (p : Place) (t : ℕ) (k : IsStacked h) (
       }
 
   pub fenced-both : t ≢ 0 → ((a : ℕ) → region_of 1 ≤ a → a < SECONDARY_END → IsOutside h a → tag_at m a ≡ 0) → IsCallOn m (fenced m p t) p t × IsTagged (fenced m p t) p t
-  unfolding opened
+  unfolding with_header_tag_0
   fenced-both n outside =
-      let g = tagged-retag in
+      let g = with-chunk-tag-retag in
       let r = room h p k i in
       let above = r.above in
       let within = r.within in
       let al = r.aligned in
       let units = r.block.units in
       let open0 = block-open m h p k s i in
-      let open1 = open-after m (tagged m p t) p.block (block_end p) g.attrs open0 in
-      let m2 = with_granules (tagged m p t) (p.user - 16) 1 0 false in
-      let b : IsRetag (tagged m p t) m2 (p.user - 16) p.user 0 =
-      retag (tagged m p t) (p.user - 16) 1 0 p.user false g.whole (omega arith) (open-part (tagged m p t) p.block (block_end p) (p.user - 16) p.user open1 (omega arith) (omega arith) (omega arith)) in
-      let open2 = open-after (tagged m p t) m2 p.block (block_end p) b.attrs open1 in
-      let c = closed-is m2 p b.whole open2 (omega arith) (omega arith) units in
+      let open1 = open-after m (with_chunk_tag m p t) p.block (block_end p) g.attrs open0 in
+      let m2 = with_granules (with_chunk_tag m p t) (p.user - 16) 1 0 false in
+      let b : IsRetag (with_chunk_tag m p t) m2 (p.user - 16) p.user 0 =
+      retag (with_chunk_tag m p t) (p.user - 16) 1 0 p.user false g.whole (omega arith) (open-part (with_chunk_tag m p t) p.block (block_end p) (p.user - 16) p.user open1 (omega arith) (omega arith) (omega arith)) in
+      let open2 = open-after (with_chunk_tag m p t) m2 p.block (block_end p) b.attrs open1 in
+      let c = with-end-tag-0-is m2 p b.whole open2 (omega arith) (omega arith) units in
       (fenced_parts m2 b c, fenced_tagged m2 b c n outside)

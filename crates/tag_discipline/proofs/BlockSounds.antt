@@ -5,7 +5,7 @@ use Rattle.std.specs.Prelude.{nat_eq}
 use Rattle.std.specs.List.{IsDistinct}
 use Rattle.std.specs.Int.{to_le_bytes, w64}
 use Rattle.mte_tags.specs.Memory.{Memory, tag_at}
-use Rattle.scudo_header.specs.Headers.{packed}
+use Rattle.scudo_header.specs.Headers.{packed_header}
 use Rattle.scudo_header.specs.declared.headers.Origin.{Origin}
 use Rattle.scudo_header.specs.declared.headers.Header.{Header}
 use Rattle.scudo_primary.specs.Blocks.{IsBlock}
@@ -15,15 +15,15 @@ use Rattle.scudo_primary.proofs.ListLemmas.{member-other, member-first, distinct
 use Rattle.scudo_heap.specs.Stacks.{StackState, pages_of, stack_of, with_stack}
 use Rattle.tag_discipline.specs.LiveChunks.{IsCarved, IsPlace, IsHalfTag, BlockChunk, LiveBlocks, chunk_at, with_chunk, without_chunk, new_chunk, IsHeaderOf, ArePlaced, IsTagged}
 use Rattle.scudo_heap.specs.declared.chunk.Place.{Place}
-use Rattle.scudo_heap.specs.Chunks.{with_size, tagged, refitted, headed}
+use Rattle.scudo_heap.specs.Chunks.{with_size, with_chunk_tag, after_retag_tail, with_header}
 use Rattle.tag_discipline.proofs.BlockCalls.{fenced}
 use Rattle.scudo_heap.specs.Placing.{new_header}
 use Rattle.tag_discipline.proofs.Views.{IsStacked, SoundBlocks}
 use Rattle.tag_discipline.proofs.Draws.{IsFresh}
 use Rattle.tag_discipline.proofs.Blocks.{same-class}
-use Rattle.tag_discipline.proofs.Keeps.{IsCallOn, IsSamePages, IsStep, keeps-tagged}
-use Rattle.tag_discipline.proofs.BlockCalls.{fenced-both, tagged-call, written-call, written-tagged}
-use Rattle.tag_discipline.proofs.Refits.{refitted-fits}
+use Rattle.tag_discipline.proofs.Keeps.{IsCallOn, IsSamePages, IsStep, keeps-with-chunk-tag}
+use Rattle.tag_discipline.proofs.BlockCalls.{fenced-both, with-chunk-tag-call, with-bytes-at-call, with-bytes-at-with-chunk-tag}
+use Rattle.tag_discipline.proofs.Refits.{after-retag-tail-fits}
 use Rattle.tag_discipline.proofs.ListLaws.{stack-own, stack-other, same-pages, stacked-with, served-same, place-on, chunk_at-with, chunk_at-without}
 
 -- a chunk after it got another size where it is
@@ -115,24 +115,24 @@ module _ (m : Memory) (h : StackState) (l : LiveBlocks) (s : SoundBlocks m h l) 
       stacked-with h c more s.stacked (λ d e. s.stacked.blocks c d hc (ap (λ t. is_member t d) top ∙ member_on d b more e)) (distinct-tail b more distinct)
 
   -- what the first call leaves of the tags
-  pub placed_call : (cookie : ℕ) (p : Place) (origin : Origin) (t : ℕ) → IsFresh m p t → IsPlace h p → IsCallOn m (headed (fenced m p t) cookie p.user (new_header origin p)) p t
-  unfolding headed
+  pub placed_call : (cookie : ℕ) (p : Place) (origin : Origin) (t : ℕ) → IsFresh m p t → IsPlace h p → IsCallOn m (with_header (fenced m p t) cookie p.user (new_header origin p)) p t
+  unfolding with_header
   placed_call cookie p origin t fresh i =
-      written-call m (fenced m p t) p t (p.user - 16) (to_le_bytes w64 (packed cookie p.user (new_header origin p))) (fenced-both m h p t s.stacked s.served i fresh.some s.tagged.outside).0
+      with-bytes-at-call m (fenced m p t) p t (p.user - 16) (to_le_bytes w64 (packed_header cookie p.user (new_header origin p))) (fenced-both m h p t s.stacked s.served i fresh.some s.tagged.outside).0
 
   -- the first call: a chunk is made
   pub placed_sound : (cookie : ℕ) (p : Place) (origin : Origin) (more : List ℕ) (t : ℕ) → IsFresh m p t → stack_of h p.class ≡ p.block ∷ more → IsPlace h p
-      → SoundBlocks (headed (fenced m p t) cookie p.user (new_header origin p)) (with_stack h p.class more) (with_chunk l (new_chunk origin p t))
-  unfolding headed
+      → SoundBlocks (with_header (fenced m p t) cookie p.user (new_header origin p)) (with_stack h p.class more) (with_chunk l (new_chunk origin p t))
+  unfolding with_header
   placed_sound cookie p origin more t fresh top i =
       let x = new_chunk origin p t in
       let h' = with_stack h p.class more in
       let pages = same-pages h p.class more in
       let both = fenced-both m h p t s.stacked s.served i fresh.some s.tagged.outside in
-      let bytes = to_le_bytes w64 (packed cookie p.user (new_header origin p)) in
-      let m' = headed (fenced m p t) cookie p.user (new_header origin p) in
-      let call : IsCallOn m m' p t = written-call m (fenced m p t) p t (p.user - 16) bytes both.0 in
-      let own : IsTagged m' p t = written-tagged (fenced m p t) p t (p.user - 16) bytes both.1 in
+      let bytes = to_le_bytes w64 (packed_header cookie p.user (new_header origin p)) in
+      let m' = with_header (fenced m p t) cookie p.user (new_header origin p) in
+      let call : IsCallOn m m' p t = with-bytes-at-call m (fenced m p t) p t (p.user - 16) bytes both.0 in
+      let own : IsTagged m' p t = with-bytes-at-with-chunk-tag (fenced m p t) p t (p.user - 16) bytes both.1 in
       let step : IsStep m' l (with_chunk l x) p.block = record {
         chunk = λ u y e. elim (chunk_at-with l x u y e) [
           | inl a ↦ inr (subst (λ (z : BlockChunk). IsTagged m' z.place z.tag) a.1 own)
@@ -143,7 +143,7 @@ module _ (m : Memory) (h : StackState) (l : LiveBlocks) (s : SoundBlocks m h l) 
         stacked = placed_stacked p.class p.block more i.carved.class top;
         served = served-same m m' h h' call.limit call.attrs call.whole pages s.served;
         placed = placed_live x more (record { class = refl; state = refl; size = refl; offset = refl }) top i;
-        tagged = keeps-tagged m m' h h' l (with_chunk l x) p t s.stacked s.placed s.tagged i fresh.half call pages step;
+        tagged = keeps-with-chunk-tag m m' h h' l (with_chunk l x) p t s.stacked s.placed s.tagged i fresh.half call pages step;
       }
 
   -- ---- the second call: a chunk is freed
@@ -166,20 +166,20 @@ module _ (m : Memory) (h : StackState) (l : LiveBlocks) (s : SoundBlocks m h l) 
       ])
       (distinct-cons p.block (stack_of h p.class) off (s.stacked.distinct p.class i.carved.class))
 
-  pub given_back_call : (cookie : ℕ) (p : Place) (header : Header) (t : ℕ) → IsPlace h p → IsCallOn m (headed (tagged m p t) cookie p.user header) p t
-  unfolding headed
-  given_back_call cookie p header t i = written-call m (tagged m p t) p t (p.user - 16) (to_le_bytes w64 (packed cookie p.user header)) (tagged-call m h p t s.stacked s.served i)
+  pub given_back_call : (cookie : ℕ) (p : Place) (header : Header) (t : ℕ) → IsPlace h p → IsCallOn m (with_header (with_chunk_tag m p t) cookie p.user header) p t
+  unfolding with_header
+  given_back_call cookie p header t i = with-bytes-at-call m (with_chunk_tag m p t) p t (p.user - 16) (to_le_bytes w64 (packed_header cookie p.user header)) (with-chunk-tag-call m h p t s.stacked s.served i)
 
   pub given_back_sound : (cookie u : ℕ) (x : BlockChunk) (header : Header) (t : ℕ) → chunk_at l u ≡ Some x → IsFresh m x.place t
-      → SoundBlocks (headed (tagged m x.place t) cookie x.place.user header) (with_stack h x.place.class (x.place.block ∷ stack_of h x.place.class)) (without_chunk l u)
-  unfolding headed
+      → SoundBlocks (with_header (with_chunk_tag m x.place t) cookie x.place.user header) (with_stack h x.place.class (x.place.block ∷ stack_of h x.place.class)) (without_chunk l u)
+  unfolding with_header
   given_back_sound cookie u x header t at fresh =
       let p = x.place in
       let i : IsPlace h p = s.placed.place u x at in
       let h' = with_stack h p.class (p.block ∷ stack_of h p.class) in
       let pages = same-pages h p.class (p.block ∷ stack_of h p.class) in
-      let m' = headed (tagged m p t) cookie p.user header in
-      let call : IsCallOn m m' p t = written-call m (tagged m p t) p t (p.user - 16) (to_le_bytes w64 (packed cookie p.user header)) (tagged-call m h p t s.stacked s.served i) in
+      let m' = with_header (with_chunk_tag m p t) cookie p.user header in
+      let call : IsCallOn m m' p t = with-bytes-at-call m (with_chunk_tag m p t) p t (p.user - 16) (to_le_bytes w64 (packed_header cookie p.user header)) (with-chunk-tag-call m h p t s.stacked s.served i) in
       let other : (v : ℕ) (y : BlockChunk) → chunk_at l v ≡ Some y → v ≢ u → y.place.block ≢ p.block = λ v y e n q. n (s.placed.apart v u y x e at q) in
       let step : IsStep m' l (without_chunk l u) p.block = record {
         chunk = λ v y e. let k = chunk_at-without l u v y e in inl (k.1, other v y k.1 k.0);
@@ -191,7 +191,7 @@ module _ (m : Memory) (h : StackState) (l : LiveBlocks) (s : SoundBlocks m h l) 
         stacked = given_back_stacked p i (s.placed.unstacked u x at);
         served = served-same m m' h h' call.limit call.attrs call.whole pages s.served;
         placed = live-without h' u pages off;
-        tagged = keeps-tagged m m' h h' l (without_chunk l u) p t s.stacked s.placed s.tagged i fresh.half call pages step;
+        tagged = keeps-with-chunk-tag m m' h h' l (without_chunk l u) p t s.stacked s.placed s.tagged i fresh.half call pages step;
       }
 
   -- ---- the third call: a chunk gets another size in its block
@@ -211,26 +211,26 @@ module _ (m : Memory) (h : StackState) (l : LiveBlocks) (s : SoundBlocks m h l) 
         | inr k ↦ subst (IsHalfTag x.place.class x.place.block) e k
       ]
 
-  pub resized_call : (cookie u size : ℕ) (x : BlockChunk) (header : Header) → chunk_at l u ≡ Some x → IsPlace h (with_size x.place size) → IsCallOn m (headed (refitted m x.place size) cookie x.place.user header) (with_size x.place size) x.tag
-  unfolding headed
+  pub resized_call : (cookie u size : ℕ) (x : BlockChunk) (header : Header) → chunk_at l u ≡ Some x → IsPlace h (with_size x.place size) → IsCallOn m (with_header (after_retag_tail m x.place size) cookie x.place.user header) (with_size x.place size) x.tag
+  unfolding with_header
   resized_call cookie u size x header at j =
-      written-call m (refitted m x.place size) (with_size x.place size) x.tag (x.place.user - 16) (to_le_bytes w64 (packed cookie x.place.user header))
-      (refitted-fits m h x.place size x.tag s.stacked s.served (s.placed.place u x at) j (s.tagged.chunks u x at) s.tagged.outside (present-tag u x at)).call
+      with-bytes-at-call m (after_retag_tail m x.place size) (with_size x.place size) x.tag (x.place.user - 16) (to_le_bytes w64 (packed_header cookie x.place.user header))
+      (after-retag-tail-fits m h x.place size x.tag s.stacked s.served (s.placed.place u x at) j (s.tagged.chunks u x at) s.tagged.outside (present-tag u x at)).call
 
   pub resized_sound : (cookie u size : ℕ) (x : BlockChunk) → chunk_at l u ≡ Some x → IsPlace h (with_size x.place size)
-      → SoundBlocks (headed (refitted m x.place size) cookie x.place.user (record (x.header) { size_or_unused_bytes = size })) h (with_chunk l (resized_chunk x size))
-  unfolding headed
+      → SoundBlocks (with_header (after_retag_tail m x.place size) cookie x.place.user (record (x.header) { size_or_unused_bytes = size })) h (with_chunk l (resized_chunk x size))
+  unfolding with_header
   resized_sound cookie u size x at j =
       let p = x.place in
       let x' = resized_chunk x size in
       let header = x'.header in
       let i : IsPlace h p = s.placed.place u x at in
-      let fit = refitted-fits m h p size x.tag s.stacked s.served i j (s.tagged.chunks u x at) s.tagged.outside (present-tag u x at) in
-      let m1 = refitted m p size in
-      let m' = headed m1 cookie p.user header in
-      let bytes = to_le_bytes w64 (packed cookie p.user header) in
-      let call : IsCallOn m m' (with_size p size) x.tag = written-call m m1 (with_size p size) x.tag (p.user - 16) bytes fit.call in
-      let own : IsTagged m' (with_size p size) x.tag = written-tagged m1 (with_size p size) x.tag (p.user - 16) bytes fit.tags in
+      let fit = after-retag-tail-fits m h p size x.tag s.stacked s.served i j (s.tagged.chunks u x at) s.tagged.outside (present-tag u x at) in
+      let m1 = after_retag_tail m p size in
+      let m' = with_header m1 cookie p.user header in
+      let bytes = to_le_bytes w64 (packed_header cookie p.user header) in
+      let call : IsCallOn m m' (with_size p size) x.tag = with-bytes-at-call m m1 (with_size p size) x.tag (p.user - 16) bytes fit.call in
+      let own : IsTagged m' (with_size p size) x.tag = with-bytes-at-with-chunk-tag m1 (with_size p size) x.tag (p.user - 16) bytes fit.tags in
       let here : p.user ≡ u = s.placed.user u x at in
       let pages : IsSamePages h h = record { pages = λ c hc. refl } in
       let others : (v : ℕ) (y : BlockChunk) → chunk_at l v ≡ Some y → v ≢ p.user → (y.place.block ≢ p.block) × (is_member (stack_of h y.place.class) y.place.block ≡ false) = λ v y e n.
@@ -246,5 +246,5 @@ module _ (m : Memory) (h : StackState) (l : LiveBlocks) (s : SoundBlocks m h l) 
         stacked = s.stacked;
         served = served-same m m' h h call.limit call.attrs call.whole pages s.served;
         placed = live-with h x' pages j (record { class = old.class; state = old.state; size = refl; offset = old.offset }) (s.placed.unstacked u x at) others;
-        tagged = keeps-tagged m m' h h l (with_chunk l x') (with_size p size) x.tag s.stacked s.placed s.tagged j (live_half u x at) call pages step;
+        tagged = keeps-with-chunk-tag m m' h h l (with_chunk l x') (with_size p size) x.tag s.stacked s.placed s.tagged j (live_half u x at) call pages step;
       }

@@ -4,33 +4,33 @@ use Rattle.std.proofs.lemmas.Bool.{cases_eq, cases_lt}
 use Rattle.std.specs.Ordering.{nat_cmp, eq_by_cmp}
 use Rattle.std.specs.Cmp.{nat_cmp_total}
 use Rattle.std.specs.FinMap.{get-insert}
-use Rattle.mte_tags.specs.Memory.{Memory, pages_left, with_new_pages, without_pages, IsFree as AreFree, ArePages, tag_in, tag_at, attrs_in, attrs_at}
+use Rattle.mte_tags.specs.Memory.{Memory, pages_left, with_new_pages, without_pages, IsFree as AreFree, ArePages, tag_cases, tag_at, attrs_cases, attrs_at}
 use Rattle.mte_tags.specs.declared.attrs.Attrs.{Attrs}
-use Rattle.mte_tags.specs.Accesses.{written}
+use Rattle.mte_tags.specs.Accesses.{with_bytes_at}
 use Rattle.mte_tags.specs.Whole.{IsWhole}
-use Rattle.mte_tags.proofs.Whole.{whole-written, whole-with_new_pages, unmapped}
-use Rattle.mte_tags.proofs.PageLaws.{attrs_at-written, attrs_at-with_new_pages_out, limit-with_new_pages, page_at-without_pages_out, attrs_at-without_pages_in, page_at-no_attrs}
-use Rattle.mte_tags.proofs.ByteLaws.{tag_at-written}
-use Rattle.mte_tags.specs.RandomTags.{drawn}
+use Rattle.mte_tags.proofs.Whole.{whole-with-bytes-at, whole-with_new_pages, unmapped}
+use Rattle.mte_tags.proofs.PageLaws.{attrs_at-with-bytes-at, attrs_at-with_new_pages_out, limit-with_new_pages, page_at-without_pages_out, attrs_at-without_pages_in, page_at-no_attrs}
+use Rattle.mte_tags.proofs.ByteLaws.{tag_at-with-bytes-at}
+use Rattle.mte_tags.specs.RandomTags.{after_draw}
 use Rattle.scudo_header.specs.declared.headers.Header.{Header}
 use Rattle.scudo_primary.specs.Pools.{is_member}
 use Rattle.scudo_header.specs.declared.headers.State.TheVariants.{Available}
 use Rattle.scudo_primary.proofs.ListLemmas.{member-other}
 use Rattle.tag_discipline.proofs.Grows.{tag_at-with_new_pages, limit-without_pages}
-use Rattle.scudo_heap.specs.Stacks.{StackState, stack_of, pushed}
+use Rattle.scudo_heap.specs.Stacks.{StackState, stack_of, after_push}
 use Rattle.scudo_heap.specs.declared.chunk.Place.{Place}
 use Rattle.tag_discipline.specs.LiveChunks.{IsPlace, IsHalfTag, BlockChunk, LiveBlocks, chunk_at, with_chunk, without_chunk, IsCarved}
-use Rattle.scudo_heap.specs.Placing.{World, given_back, resized}
-use Rattle.scudo_heap.specs.Chunks.{with_size, end_of, excluded, headed, tagged, refitted}
+use Rattle.scudo_heap.specs.Placing.{World, after_give_back, after_resize}
+use Rattle.scudo_heap.specs.Chunks.{with_size, end_of, excluded_tags, with_header, with_chunk_tag, after_retag_tail}
 use Rattle.tag_discipline.proofs.Views.{IsStacked, SoundBlocks}
 use Rattle.tag_discipline.proofs.Freed.{Freed, IsStale}
 use Rattle.tag_discipline.proofs.Blocks.{block-in, same-class}
 use Rattle.tag_discipline.proofs.BlockCalls.{room}
-use Rattle.tag_discipline.proofs.Draws.{drawn-fresh}
-use Rattle.mte_tags.proofs.StateLaws.{limit-written}
+use Rattle.tag_discipline.proofs.Draws.{after-draw-fresh}
+use Rattle.mte_tags.proofs.StateLaws.{limit-with-bytes-at}
 use Rattle.tag_discipline.proofs.ListLaws.{stack-own, stack-other}
 use Rattle.tag_discipline.proofs.BlockSounds.{present, given_back_call, given_back_sound, resized_call, resized_sound, resized_chunk}
-use Rattle.tag_discipline.proofs.Stales.{stale-call, stale-given_back}
+use Rattle.tag_discipline.proofs.Stales.{stale-call, stale-after-give-back}
 use Rattle.tag_discipline.proofs.Allocations.{IsSoundIn, IsKept}
 use Rattle.address_map.specs.declared.ranges.TheConstants.{SECONDARY_START, SECONDARY_END}
 
@@ -43,8 +43,8 @@ pub record IsSameTags (m m' : Memory) : Type 0 where
   pub high : (a : ℕ) → a < SECONDARY_END → (tag_at m' a ≡ tag_at m a) ⊎ (tag_at m' a ≡ 0)
   pub whole : IsWhole m'
 
-pub same-written : (m : Memory) (a : ℕ) (bs : List ℕ) → IsWhole m → IsSameTags m (written m a bs)
-same-written m a bs w = record { limit = limit-written m a bs; attrs = λ x l. attrs_at-written m a bs (x / 4096); tags = λ x l. tag_at-written m a bs x; high = λ x l. inl (tag_at-written m a bs x); whole = whole-written m a bs w }
+pub same-with-bytes-at : (m : Memory) (a : ℕ) (bs : List ℕ) → IsWhole m → IsSameTags m (with_bytes_at m a bs)
+same-with-bytes-at m a bs w = record { limit = limit-with-bytes-at m a bs; attrs = λ x l. attrs_at-with-bytes-at m a bs (x / 4096); tags = λ x l. tag_at-with-bytes-at m a bs x; high = λ x l. inl (tag_at-with-bytes-at m a bs x); whole = whole-with-bytes-at m a bs w }
 
 -- a place and the granules beside it lie below
 below : (m : Memory) (h : StackState) (p : Place) (a : ℕ) → IsStacked h → IsPlace h p → a < end_of p + 16 → a < SECONDARY_START + 16
@@ -101,33 +101,33 @@ stale-other w l f u x s st e = λ q.
     let off = s.placed.unstacked u x e in
     cc
 
-pub given_back-kept : (w : World) (l : LiveBlocks) (x : BlockChunk) (header : Header) → IsSoundIn w l → chunk_at l x.place.user ≡ Some x → IsKept w (given_back w x.place header) (without_chunk l x.place.user)
-unfolding given_back pushed
-given_back-kept w l x header s e =
+pub after-give-back-kept : (w : World) (l : LiveBlocks) (x : BlockChunk) (header : Header) → IsSoundIn w l → chunk_at l x.place.user ≡ Some x → IsKept w (after_give_back w x.place header) (without_chunk l x.place.user)
+unfolding after_give_back after_push
+after-give-back-kept w l x header s e =
     let i = s.placed.place x.place.user x e in
-    let t = (drawn w.rgsr (excluded w.memory x.place)).tag in
-    let m' = headed (tagged w.memory x.place t) w.heap.cookie x.place.user (record header { state = Available }) in
+    let t = (after_draw w.rgsr (excluded_tags w.memory x.place)).tag in
+    let m' = with_header (with_chunk_tag w.memory x.place t) w.heap.cookie x.place.user (record header { state = Available }) in
     record {
-      sound = given_back_sound w.memory w.heap.stacks l s w.heap.cookie x.place.user x _ t e (drawn-fresh w.memory x.place w.rgsr (present w.memory w.heap.stacks l s x.place i));
-      stale = λ f st on. stale-given_back w.memory m' w.heap.stacks x.place t f s.stacked i (given_back_call w.memory w.heap.stacks l s w.heap.cookie x.place _ t i) (stale-other w l f x.place.user x s st e) st;
+      sound = given_back_sound w.memory w.heap.stacks l s w.heap.cookie x.place.user x _ t e (after-draw-fresh w.memory x.place w.rgsr (present w.memory w.heap.stacks l s x.place i));
+      stale = λ f st on. stale-after-give-back w.memory m' w.heap.stacks x.place t f s.stacked i (given_back_call w.memory w.heap.stacks l s w.heap.cookie x.place _ t i) (stale-other w l f x.place.user x s st e) st;
     }
 
 -- ---- realloc
 
-pub resized-kept : (w : World) (l : LiveBlocks) (size : ℕ) (x : BlockChunk) → IsSoundIn w l → chunk_at l x.place.user ≡ Some x → IsPlace w.heap.stacks (with_size x.place size) → IsKept w (resized w x.place x.header size) (with_chunk l (resized_chunk x size))
-unfolding resized
-resized-kept w l size x s e j =
-    let m' = headed (refitted w.memory x.place size) w.heap.cookie x.place.user (record (x.header) { size_or_unused_bytes = size }) in
+pub after-resize-kept : (w : World) (l : LiveBlocks) (size : ℕ) (x : BlockChunk) → IsSoundIn w l → chunk_at l x.place.user ≡ Some x → IsPlace w.heap.stacks (with_size x.place size) → IsKept w (after_resize w x.place x.header size) (with_chunk l (resized_chunk x size))
+unfolding after_resize
+after-resize-kept w l size x s e j =
+    let m' = with_header (after_retag_tail w.memory x.place size) w.heap.cookie x.place.user (record (x.header) { size_or_unused_bytes = size }) in
     record {
       sound = resized_sound w.memory w.heap.stacks l s w.heap.cookie x.place.user size x e j;
       stale = λ f st on. stale-call w.memory m' w.heap.stacks w.heap.stacks (with_size x.place size) x.tag f s.stacked j (resized_call w.memory w.heap.stacks l s w.heap.cookie x.place.user size x _ e j) (record { pages = λ c hc. refl }) (stale-other w l f x.place.user x s st e) on st;
     }
 
 -- a block that is free after another one was freed was free before
-pub free-before : (w : World) (p : Place) (header : Header) (d b : ℕ) → b ≢ p.block → is_member (stack_of (given_back w p header).heap.stacks d) b ≡ true → is_member (stack_of w.heap.stacks d) b ≡ true
-unfolding given_back pushed
+pub free-before : (w : World) (p : Place) (header : Header) (d b : ℕ) → b ≢ p.block → is_member (stack_of (after_give_back w p header).heap.stacks d) b ≡ true → is_member (stack_of w.heap.stacks d) b ≡ true
+unfolding after_give_back after_push
 free-before w p header d b n on = elim (cases_eq d p.class) [
-  | inl q ↦ ap (λ t. is_member (stack_of w.heap.stacks t) b) q ∙ sym (member-other p.block (stack_of w.heap.stacks p.class) b n) ∙ sym (ap (λ xs. is_member xs b) (ap (stack_of (pushed w.heap.stacks p.class p.block)) q ∙ stack-own w.heap.stacks p.class (p.block ∷ stack_of w.heap.stacks p.class))) ∙ on
+  | inl q ↦ ap (λ t. is_member (stack_of w.heap.stacks t) b) q ∙ sym (member-other p.block (stack_of w.heap.stacks p.class) b n) ∙ sym (ap (λ xs. is_member xs b) (ap (stack_of (after_push w.heap.stacks p.class p.block)) q ∙ stack-own w.heap.stacks p.class (p.block ∷ stack_of w.heap.stacks p.class))) ∙ on
   | inr k ↦ sym (ap (λ xs. is_member xs b) (stack-other w.heap.stacks p.class d (p.block ∷ stack_of w.heap.stacks p.class) k)) ∙ on
 ]
 
@@ -146,13 +146,13 @@ pub same-unmapped : (m : Memory) (q n : ℕ) → IsWhole m → ArePages m q n �
 unfolding attrs_at tag_at
 same-unmapped m q n w p low = record {
   limit = limit-without_pages n m q;
-  attrs = λ a l. ap attrs_in (page_at-without_pages_out n m q (a / 4096) (λ u v. omega arith));
-  tags = λ a l. ap (λ o. tag_in o (a % 4096 / 16)) (page_at-without_pages_out n m q (a / 4096) (λ u v. omega arith));
+  attrs = λ a l. ap attrs_cases (page_at-without_pages_out n m q (a / 4096) (λ u v. omega arith));
+  tags = λ a l. ap (λ o. tag_cases o (a % 4096 / 16)) (page_at-without_pages_out n m q (a / 4096) (λ u v. omega arith));
   high = λ a l. elim (cases_lt (a / 4096) q) [
-    | inl u ↦ inl (ap (λ o. tag_in o (a % 4096 / 16)) (page_at-without_pages_out n m q (a / 4096) (λ x y. omega arith)))
+    | inl u ↦ inl (ap (λ o. tag_cases o (a % 4096 / 16)) (page_at-without_pages_out n m q (a / 4096) (λ x y. omega arith)))
     | inr u ↦ elim (cases_lt (a / 4096) (q + n)) [
-      | inl v ↦ inr (ap (λ o. tag_in o (a % 4096 / 16)) (page_at-no_attrs (without_pages m q n) (a / 4096) (attrs_at-without_pages_in n m q (a / 4096) u v)))
-      | inr v ↦ inl (ap (λ o. tag_in o (a % 4096 / 16)) (page_at-without_pages_out n m q (a / 4096) (λ x y. omega arith)))
+      | inl v ↦ inr (ap (λ o. tag_cases o (a % 4096 / 16)) (page_at-no_attrs (without_pages m q n) (a / 4096) (attrs_at-without_pages_in n m q (a / 4096) u v)))
+      | inr v ↦ inl (ap (λ o. tag_cases o (a % 4096 / 16)) (page_at-without_pages_out n m q (a / 4096) (λ x y. omega arith)))
     ]
   ];
   whole = (unmapped n m q p w).0;

@@ -6,8 +6,8 @@ use Rattle.std.specs.Ordering.{nat_cmp}
 use Rattle.std.specs.FinMap as finite
 use Rattle.std.specs.FinMap.{get-empty}
 use Rattle.a64_bits.specs.Addresses.{plain}
-use Rattle.mte_tags.specs.Memory.{Memory, tag_in, tag_at, attrs_at}
-use Rattle.mte_tags.specs.Accesses.{byte_fault, fault_in, addresses, read_access, write_access, read_fault, write_fault}
+use Rattle.mte_tags.specs.Memory.{Memory, tag_cases, tag_at, attrs_at}
+use Rattle.mte_tags.specs.Accesses.{byte_fault, fault_cases, addresses, read_access, write_access, read_fault, write_fault}
 use Rattle.mte_tags.specs.declared.access.Access.{Access}
 use Rattle.mte_tags.specs.declared.state.TagMode.TheVariants.{Sync}
 use Rattle.mte_tags.proofs.PageLaws.{page_at-no_attrs, attrs_at-without_pages_in}
@@ -27,7 +27,7 @@ use Rattle.scudo_heap.specs.Chunks.{end_of}
 use Rattle.scudo_heap.specs.declared.chunk.Place.{Place}
 use Rattle.scudo_heap.specs.declared.chunk.Chunk.{Chunk}
 use Rattle.scudo_heap.specs.declared.chunk.Chunk.TheVariants.{Small}
-use Rattle.scudo_heap.specs.Realloc.{moved_to, moved}
+use Rattle.scudo_heap.specs.Realloc.{move_to_cases, after_move}
 use Rattle.scudo_heap.proofs.MapLemmas.{without}
 use Rattle.scudo_secondary.specs.Mappings.{mapping_of}
 use Rattle.tag_discipline.proofs.Blocks.{block-in}
@@ -36,7 +36,7 @@ use Rattle.scudo_heap.specs.declared.chunk.Found.TheVariants.{InPages}
 use Rattle.scudo_heap.specs.Stacks.{ClassHeap, class_at, empty_class, empty_stacks, memory_for, pages_of, stack_of}
 use Rattle.scudo_heap.specs.Placing.{World}
 use Rattle.scudo_heap.specs.Large.{large_given_back}
-use Rattle.scudo_heap.specs.Allocation.{Made, malloc_of}
+use Rattle.scudo_heap.specs.Allocation.{AllocationResult, after_malloc}
 use Rattle.scudo_heap.specs.Served.{heap_page, is_inside}
 use Rattle.scudo_heap.specs.Freeing.{without_chunk as freed_world}
 use Rattle.tag_discipline.specs.LiveChunks.{BlockChunk, chunk_at, IsCarved}
@@ -46,14 +46,14 @@ use Rattle.tag_discipline.specs.Laws.{IsRefused}
 use Rattle.tag_discipline.specs.CarefulRuns.{State, HeapRequest, Free, found_at, after_call, IsLiveBlock, IsCareful, HasFree}
 use Rattle.tag_discipline.specs.SoundHeaps.{Sound}
 use Rattle.tag_discipline.specs.Discipline.{StartsSound, StaysSound, MayFree, FreedBlocksAreRefused, IsUnmapped, FreedPagesAreUnmapped, IsFreshIn, NewTagsDiffer, NeighboursDiffer, ChunksAreApart, ChunksAreGuarded, SlicesStaySound, FreedBlocksStayRefused, IsNewIn, malloc, calloc, memalign, realloc as realloc_call, ReusedTagsDiffer, ReusedTagsStayDifferent, FreedPagesAreRefused, FreedBlocksAreFree, ChunksAreTagged}
-use Rattle.mte_sched.specs.Machines.{attempted}
-use Rattle.tag_discipline.specs.CarefulTenants.{state_of, stepped}
-use Rattle.tag_discipline.proofs.Tenants.{step-quiet, attempted-kept, attempted-done, advance-sound, steps-sound, steps-stale}
+use Rattle.mte_tenant.specs.Machines.{after_attempt}
+use Rattle.tag_discipline.specs.CarefulTenants.{state_of, before_service}
+use Rattle.tag_discipline.proofs.Tenants.{step-quiet, after-attempt-kept, after-attempt-done, after-slice-sound, steps-sound, steps-stale}
 use Rattle.tag_discipline.proofs.Serving.{blocks-of}
 use Rattle.tag_discipline.proofs.BlockCalls.{room}
 use Rattle.tag_discipline.proofs.Faults.{AreKept, are-kept, in-sync, touching}
-use Rattle.tag_discipline.proofs.Larges.{found-of, large-apart}
-use Rattle.tag_discipline.proofs.MadeCalls.{malloc-made, calloc-made, memalign-made}
+use Rattle.tag_discipline.proofs.Larges.{check-pointer-of, large-apart}
+use Rattle.tag_discipline.proofs.MadeCalls.{malloc-state-after-allocation, calloc-state-after-allocation, memalign-state-after-allocation}
 use Rattle.tag_discipline.proofs.Freeings.{IsStaleAfter, free-world, free-stale, realloc-stale}
 use Rattle.tag_discipline.proofs.PagesGone.{free-gone, realloc-gone}
 use Rattle.tag_discipline.proofs.Runs.{call-kept, run-sound, run-stale}
@@ -86,7 +86,7 @@ apart = record {
       let few = i.few in
       let high = i.high in
       let end = r.within in
-      let m = found-of s.world.heap.maps.mappings v y.mapping k.large.ordered (k.large.place v y f) in
+      let m = check-pointer-of s.world.heap.maps.mappings v y.mapping k.large.ordered (k.large.place v y f) in
       let above = m.above in
       let start = k.large.above v y f in
       omega arith;
@@ -98,27 +98,27 @@ stale-refused s k f st addr low high = (kept-in s k).freed f addr st low high
 
 -- ---- new chunks
 
-fresh-in : (s : State) (r : Made) → Sound s → ((p : Place) (t : ℕ) → r.chunk ≡ Some (Small p t) → (t ≢ 0) × (t ≢ tag_at s.world.memory p.user)) → IsFreshIn s r
+fresh-in : (s : State) (r : AllocationResult) → Sound s → ((p : Place) (t : ℕ) → r.chunk ≡ Some (Small p t) → (t ≢ 0) × (t ≢ tag_at s.world.memory p.user)) → IsFreshIn s r
 fresh-in s r k h = record {
   some = λ p t e. (h p t e).0;
   other = λ p t e. (h p t e).1;
 }
 
 -- a chunk that moves is a new one as of malloc
-moved_to-chunk : (w : World) (f : Found) (size : ℕ) (v : World) (c : Option Chunk) → (moved_to w f size v c).chunk ≡ c
-moved_to-chunk w f size v None = refl
-moved_to-chunk w f size v (Some x) = refl
+move-to-cases-chunk : (w : World) (f : Found) (size : ℕ) (v : World) (c : Option Chunk) → (move_to_cases w f size v c).chunk ≡ c
+move-to-cases-chunk w f size v None = refl
+move-to-cases-chunk w f size v (Some x) = refl
 
-moved-chunk : (w : World) (f : Found) (size : ℕ) → (moved w f size).chunk ≡ (malloc_of w size).chunk
-unfolding moved
-moved-chunk w f size = moved_to-chunk w f size (malloc_of w size).world (malloc_of w size).chunk
+after-move-chunk : (w : World) (f : Found) (size : ℕ) → (after_move w f size).chunk ≡ (after_malloc w size).chunk
+unfolding after_move
+after-move-chunk w f size = move-to-cases-chunk w f size (after_malloc w size).world (after_malloc w size).chunk
 
 pub fresh : NewTagsDiffer
 fresh = record {
-  malloc = λ s size k. fresh-in s _ k (malloc-made s size k).fresh;
-  calloc = λ s count size k. fresh-in s _ k (calloc-made s count size k).fresh;
-  memalign = λ s align size k. fresh-in s _ k (memalign-made s align size k).fresh;
-  realloc = λ s f size k. fresh-in s _ k (λ p t e. (malloc-made s size k).fresh p t (sym (moved-chunk s.world f size) ∙ e));
+  malloc = λ s size k. fresh-in s _ k (malloc-state-after-allocation s size k).fresh;
+  calloc = λ s count size k. fresh-in s _ k (calloc-state-after-allocation s count size k).fresh;
+  memalign = λ s align size k. fresh-in s _ k (memalign-state-after-allocation s align size k).fresh;
+  realloc = λ s f size k. fresh-in s _ k (λ p t e. (malloc-state-after-allocation s size k).fresh p t (sym (after-move-chunk s.world f size) ∙ e));
 }
 
 -- ---- freed chunks
@@ -156,7 +156,7 @@ freed-blocks = λ a b pointer addr c x k fr run low high.
 -- an access to a page that is not mapped faults
 no_page : (m : Memory) (x : Access) (a : ℕ) → attrs_at m (a / 4096) ≡ None → IsSome (byte_fault m x a)
 unfolding byte_fault
-no_page m x a e = subst (λ o. IsSome (fault_in x o a)) (sym (page_at-no_attrs m (a / 4096) e)) refl
+no_page m x a e = subst (λ o. IsSome (fault_cases x o a)) (sym (page_at-no_attrs m (a / 4096) e)) refl
 
 pub unmapped-refused : (m : Memory) (a : ℕ) → m.state.mode ≡ Sync → attrs_at m (a / 4096) ≡ None → IsUnmapped m a
 unfolding read_fault write_fault
@@ -213,7 +213,7 @@ left-new left = refl
 
 no_tag : (m : Memory) (a : ℕ) → attrs_at m (a / 4096) ≡ None → tag_at m a ≡ 0
 unfolding tag_at
-no_tag m a e = ap (λ o. tag_in o (a % 4096 / 16)) (page_at-no_attrs m (a / 4096) e)
+no_tag m a e = ap (λ o. tag_cases o (a % 4096 / 16)) (page_at-no_attrs m (a / 4096) e)
 
 pub starts : StartsSound
 starts = λ m cookie pages r n.
@@ -257,23 +257,23 @@ stays = λ a b r k. run-sound r k
 -- ---- runs of a machine
 
 pub slices : SlicesStaySound
-slices = λ n m l k c. advance-sound n m l k c
+slices = λ n m l k c. after-slice-sound n m l k c
 
 pub freed-stay : FreedBlocksStayRefused
 freed-stay = λ m k l j n pointer addr c x sound careful e may live on run low high.
     let first = step-quiet m l careful.tags sound in
-    let some = not-zero (state_of (stepped m) l) pointer x first.sound live in
-    let is = attempted-done n m l c e in
-    let on' : HasFree x.place.class x.place.block (after_call c (state_of (stepped m) l)) = subst (HasFree x.place.class x.place.block) is on in
-    let st = stale-by (state_of (stepped m) l) pointer c x first.sound some live may on' in
-    let f : Freed = record { place = x.place; tag = x.tag; given = (after_call c (state_of (stepped m) l)).world.rgsr.tag } in
-    let after = (attempted-kept n m l sound careful).sound in
+    let some = not-zero (state_of (before_service m) l) pointer x first.sound live in
+    let is = after-attempt-done n m l c e in
+    let on' : HasFree x.place.class x.place.block (after_call c (state_of (before_service m) l)) = subst (HasFree x.place.class x.place.block) is on in
+    let st = stale-by (state_of (before_service m) l) pointer c x first.sound some live may on' in
+    let f : Freed = record { place = x.place; tag = x.tag; given = (after_call c (state_of (before_service m) l)).world.rgsr.tag } in
+    let after = (after-attempt-kept n m l sound careful).sound in
     let last = steps-stale f run after (subst (λ (s : State). IsStale s.world.memory s.world.heap.stacks f) (sym is) st) in
     (kept-in (state_of k j) (steps-sound run after)).freed f addr last low high
 
 -- ---- reuse
 
-fresh-new : (s : State) (r : Made) → Sound s → IsNewIn s r → IsFreshIn s r
+fresh-new : (s : State) (r : AllocationResult) → Sound s → IsNewIn s r → IsFreshIn s r
 fresh-new s r k (malloc size e) = subst (IsFreshIn s) (sym e) (fresh.malloc s size k)
 fresh-new s r k (calloc count size e) = subst (IsFreshIn s) (sym e) (fresh.calloc s count size k)
 fresh-new s r k (memalign align size e) = subst (IsFreshIn s) (sym e) (fresh.memalign s align size k)
@@ -298,19 +298,19 @@ reused-differ = λ a b pointer c x r p t k fr run new e at.
 pub reused-stay : ReusedTagsStayDifferent
 reused-stay = λ m k l j n pointer c x r p t sound careful e may live on run then new made at.
     let first = step-quiet m l careful.tags sound in
-    let some = not-zero (state_of (stepped m) l) pointer x first.sound live in
-    let is = attempted-done n m l c e in
-    let on' : HasFree x.place.class x.place.block (after_call c (state_of (stepped m) l)) = subst (HasFree x.place.class x.place.block) is on in
-    let f : Freed = record { place = x.place; tag = x.tag; given = (after_call c (state_of (stepped m) l)).world.rgsr.tag } in
-    let st = subst (λ (s : State). IsStale s.world.memory s.world.heap.stacks f) (sym is) (stale-by (state_of (stepped m) l) pointer c x first.sound some live may on') in
-    let after = (attempted-kept n m l sound careful).sound in
+    let some = not-zero (state_of (before_service m) l) pointer x first.sound live in
+    let is = after-attempt-done n m l c e in
+    let on' : HasFree x.place.class x.place.block (after_call c (state_of (before_service m) l)) = subst (HasFree x.place.class x.place.block) is on in
+    let f : Freed = record { place = x.place; tag = x.tag; given = (after_call c (state_of (before_service m) l)).world.rgsr.tag } in
+    let st = subst (λ (s : State). IsStale s.world.memory s.world.heap.stacks f) (sym is) (stale-by (state_of (before_service m) l) pointer c x first.sound some live may on') in
+    let after = (after-attempt-kept n m l sound careful).sound in
     let last = steps-stale f run after st in
     let quiet = step-quiet k j then.tags (steps-sound run after) in
     let still = quiet.stale f last last.stacked in
     let some = st.place.some in
-    let there : tag_at (attempted n m).machine.memory x.place.user ≡ f.given = st.inside x.place.user (omega arith) (omega arith) in
-    let new' = fresh-new (state_of (stepped k) j) r quiet.sound new in
-    let here : tag_at (stepped k).memory p.user ≡ f.given = ap (tag_at (stepped k).memory) at ∙ still.inside x.place.user (omega arith) (omega arith) in
+    let there : tag_at (after_attempt n m).machine.memory x.place.user ≡ f.given = st.inside x.place.user (omega arith) (omega arith) in
+    let new' = fresh-new (state_of (before_service k) j) r quiet.sound new in
+    let here : tag_at (before_service k).memory p.user ≡ f.given = ap (tag_at (before_service k).memory) at ∙ still.inside x.place.user (omega arith) (omega arith) in
     λ q. new'.other p t made (q ∙ there ∙ sym here)
 
 -- ---- more of live and freed chunks
@@ -323,7 +323,7 @@ chunks-tagged = record {
   blocks = λ s u a x k e lo hi. (k.tagged.chunks u x e).inside a lo hi;
   pages = λ s u a x k e lo hi.
       let there = k.large.place u x e in
-      let f = found-of s.world.heap.maps.mappings u x.mapping k.large.ordered there in
+      let f = check-pointer-of s.world.heap.maps.mappings u x.mapping k.large.ordered there in
       let above = f.above in
       let w = without s.world.heap.maps.mappings x.mapping k.large.ordered (sym there ∙ ap (mapping_of s.world.heap.maps.mappings) (sym f.user)) in
       let last = w.last in

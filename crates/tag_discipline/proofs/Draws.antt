@@ -11,13 +11,13 @@ use Rattle.std.proofs.Math.Nat.{add-mul-div_left}
 use Rattle.std.proofs.lemmas.Nat.{pow_pos}
 use Rattle.scudo_primary.specs.Lists.{IsClass}
 use Rattle.mte_tags.specs.TagChoice.{is_allowed, allowed_tags, tag_in_turn, chosen_of, chosen_tag}
-use Rattle.mte_tags.specs.RandomTags.{drawn, drawn_tag, offset_of}
+use Rattle.mte_tags.specs.RandomTags.{after_draw, drawn_tag, offset_of}
 use Rattle.mte_tags.specs.Memory.{Memory, tag_at}
 use Rattle.mte_tags.specs.declared.generator.Rgsr.{Rgsr}
 use Rattle.scudo_header.proofs.ClassLemmas.{all_below, below-true}
 use Rattle.scudo_header.specs.Classes.{size_of}
 use Rattle.scudo_heap.specs.declared.chunk.Place.{Place}
-use Rattle.scudo_heap.specs.Chunks.{half_of, half_mask, excluded}
+use Rattle.scudo_heap.specs.Chunks.{tag_parity, parity_mask, excluded_tags}
 use Rattle.tag_discipline.specs.LiveChunks.{IsHalfTag}
 
 -- what is drawn is one of the tags that are left
@@ -91,19 +91,19 @@ parts true false true d e h = cc
 parts true true c d e h = cc
 parts false b c d e h = cc
 
-fresh_of : (m : Memory) (p : Place) (t : ℕ) → tag_at m p.user < 16 → t < 16 → is_allowed (excluded m p) t ≡ true → IsFresh m p t
-unfolding mask is_fresh excluded count_trailing_zeros
+fresh_of : (m : Memory) (p : Place) (t : ℕ) → tag_at m p.user < 16 → t < 16 → is_allowed (excluded_tags m p) t ≡ true → IsFresh m p t
+unfolding mask is_fresh excluded_tags count_trailing_zeros
 fresh_of m p t l u a =
-    let f = parts (is_allowed (excluded m p) t) (t == 0) (t == tag_at m p.user) (is_allowed (half_mask p.class p.block) t) a
-    (fresh (half_of p.class p.block) (tag_at m p.user) t (omega arith) l u) in
+    let f = parts (is_allowed (excluded_tags m p) t) (t == 0) (t == tag_at m p.user) (is_allowed (parity_mask p.class p.block) t) a
+    (fresh (tag_parity p.class p.block) (tag_at m p.user) t (omega arith) l u) in
     record { half = record { below = u; allowed = f.2 }; some = grind (arith, nat_tests); other = grind (arith, nat_tests) }
 
-pub drawn-fresh : (m : Memory) (p : Place) (r : Rgsr) → tag_at m p.user < 16 → IsFresh m p (drawn r (excluded m p)).tag
-unfolding drawn mask excluded count_trailing_zeros
-drawn-fresh m p r l =
-    let e = some_left (half_of p.class p.block) (tag_at m p.user) (omega arith) l in
-    fresh_of m p (drawn_tag r (excluded m p)) l (chosen_from (λ t. t < 16) r.tag (offset_of r.seed 0) (excluded m p) e (below (excluded m p)))
-    (chosen_from (λ t. is_allowed (excluded m p) t ≡ true) r.tag (offset_of r.seed 0) (excluded m p) e (allowed (excluded m p)))
+pub after-draw-fresh : (m : Memory) (p : Place) (r : Rgsr) → tag_at m p.user < 16 → IsFresh m p (after_draw r (excluded_tags m p)).tag
+unfolding after_draw mask excluded_tags count_trailing_zeros
+after-draw-fresh m p r l =
+    let e = some_left (tag_parity p.class p.block) (tag_at m p.user) (omega arith) l in
+    fresh_of m p (drawn_tag r (excluded_tags m p)) l (chosen_from (λ t. t < 16) r.tag (offset_of r.seed 0) (excluded_tags m p) e (below (excluded_tags m p)))
+    (chosen_from (λ t. is_allowed (excluded_tags m p) t ≡ true) r.tag (offset_of r.seed 0) (excluded_tags m p) e (allowed (excluded_tags m p)))
 
 -- ---- neighbours
 
@@ -132,8 +132,8 @@ odd half t h l a =
     grind (arith, nat_tests)
 
 -- the half's parity says the tag's
-half-odd : (c b t : ℕ) → IsHalfTag c b t → (t + half_of c b) % 2 ≡ 1
-half-odd c b t h = odd (half_of c b) t (omega arith) h.below h.allowed
+half-odd : (c b t : ℕ) → IsHalfTag c b t → (t + tag_parity c b) % 2 ≡ 1
+half-odd c b t h = odd (tag_parity c b) t (omega arith) h.below h.allowed
 
 next_half : (b s n : ℕ) → 0 < n → s % n ≡ 0 → s / n % 2 ≡ 1 → ((b + s) / n % 2 + b / n % 2) % 2 ≡ 1
 next_half b s n p e o =
@@ -141,7 +141,7 @@ next_half b s n p e o =
     let f : (b + s) / n ≡ b / n + s / n = ap (λ k. (b + k) / n) d ∙ add-mul-div_left b (s / n) p in
     omega arith
 
-half-next : (c b : ℕ) → IsClass c → (half_of c (b + size_of c) + half_of c b) % 2 ≡ 1
+half-next : (c b : ℕ) → IsClass c → (tag_parity c (b + size_of c) + tag_parity c b) % 2 ≡ 1
 unfolding is_odd_size
 half-next c b h =
     let low = h.low in

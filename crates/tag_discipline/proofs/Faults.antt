@@ -3,8 +3,8 @@ use Rattle.std.proofs.Common.{◌≡◌, ◌≢◌, ℕ, zero, suc, ◌+◌, ◌
 use Rattle.std.proofs.lemmas.Bool.{cond-true, cond-false}
 use Rattle.std.proofs.lemmas.Bool.Decides.{nat_tests}
 use Rattle.a64_bits.specs.Addresses.{plain}
-use Rattle.mte_tags.specs.Memory.{Memory, Page, has, tag_in, tag_at, attrs_at}
-use Rattle.mte_tags.specs.Accesses.{addresses, ending_in, access_fault, byte_fault, first_fault, or_else, fault, fault_in, page_fault, tag_fault, granule_tag, read_access, write_access, read_fault, write_fault}
+use Rattle.mte_tags.specs.Memory.{Memory, Page, has, tag_cases, tag_at, attrs_at}
+use Rattle.mte_tags.specs.Accesses.{addresses, access_cases, access_fault, byte_fault, first_fault, or_else, fault, fault_cases, page_fault, tag_fault, granule_tag, read_access, write_access, read_fault, write_fault}
 use Rattle.mte_tags.specs.declared.state.TagMode.TheVariants.{Sync}
 use Rattle.mte_tags.specs.declared.fault.MemFault.{MemFault}
 use Rattle.mte_tags.specs.declared.access.Access.{Access}
@@ -56,7 +56,7 @@ mismatch : (b : Bool) (f g : MemFault) → IsSome (cond b (Some f) (Some g))
 mismatch true f g = refl
 mismatch false f g = refl
 
-in_page : (x : Access) (r : Page) (a : ℕ) → x.checked ≡ true → r.attrs ≡ 11 → tag_in (Some r) (a % 4096 / 16) ≢ x.tag → IsSome (page_fault x r a)
+in_page : (x : Access) (r : Page) (a : ℕ) → x.checked ≡ true → r.attrs ≡ 11 → tag_cases (Some r) (a % 4096 / 16) ≢ x.tag → IsSome (page_fault x r a)
 in_page x r a c e n =
     let t : granule_tag r a ≢ x.tag = λ q. n (cond-true _ _ _ (ap (λ k. has k 8) e) ∙ q) in
     let no : (granule_tag r a == x.tag) ≡ false = grind (arith, nat_tests) in
@@ -67,10 +67,10 @@ in_page x r a c e n =
 
 fault_here : (m : Memory) (x : Access) (a : ℕ) → x.checked ≡ true → IsHeapOr m a → tag_at m a ≢ x.tag → IsSome (byte_fault m x a)
 unfolding byte_fault tag_at
-fault_here m x a c (inl e) n = subst (λ o. IsSome (fault_in x o a)) (sym (page_at-no_attrs m (a / 4096) e)) refl
+fault_here m x a c (inl e) n = subst (λ o. IsSome (fault_cases x o a)) (sym (page_at-no_attrs m (a / 4096) e)) refl
 fault_here m x a c (inr e) n =
     let p = page_at-attrs m (a / 4096) 11 e in
-    subst (λ o. IsSome (fault_in x o a)) (sym p.1.0) (in_page x p.0 a c p.1.1 (λ q. n (ap (λ o. tag_in o (a % 4096 / 16)) p.1.0 ∙ q)))
+    subst (λ o. IsSome (fault_cases x o a)) (sym p.1.0) (in_page x p.0 a c p.1.1 (λ q. n (ap (λ o. tag_cases o (a % 4096 / 16)) p.1.0 ∙ q)))
 
 some_or : (f g : Option MemFault) → IsSome g → IsSome (or_else f g)
 some_or None g h = h
@@ -90,7 +90,7 @@ touching (suc n) m x b (suc i) a u l e h = some_or (byte_fault m x b) _ (touchin
 -- in the synchronous mode the first byte that fails is the access's fault
 pub in-sync : (m : Memory) (x : Access) (xs : List ℕ) → m.state.mode ≡ Sync → IsSome (first_fault m x xs) → IsSome (access_fault m x xs)
 unfolding access_fault
-in-sync m x xs e h = subst (λ t. IsSome (ending_in t m x xs).fault) (sym e) h
+in-sync m x xs e h = subst (λ t. IsSome (access_cases t m x xs).fault) (sym e) h
 
 pub refused : (m : Memory) (tag a : ℕ) → m.state.mode ≡ Sync → IsHeapOr m a → tag_at m a ≢ tag → IsRefused m tag a
 unfolding read_fault write_fault

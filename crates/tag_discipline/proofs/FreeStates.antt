@@ -1,9 +1,9 @@
 -- A careful free, and a careful realloc, keep the live chunks Sound, and what was freed before as it is.
 use Rattle.std.proofs.Common.{◌≡◌, ℕ, ◌+◌, ◌*◌, ◌/◌, ◌<◌, Some, List, refl, sym, ap, subst, ◌∙◌, arith}
 use Rattle.mte_tags.specs.Memory.{without_pages, attrs_at}
-use Rattle.mte_tags.specs.Accesses.{written}
-use Rattle.mte_tags.proofs.StateLaws.{state-without_pages, state-written}
-use Rattle.mte_tags.proofs.PageLaws.{ArePages-attrs, attrs_at-written, pages_left-written}
+use Rattle.mte_tags.specs.Accesses.{with_bytes_at}
+use Rattle.mte_tags.proofs.StateLaws.{state-without_pages, state-with-bytes-at}
+use Rattle.mte_tags.proofs.PageLaws.{ArePages-attrs, attrs_at-with-bytes-at, pages_left-with-bytes-at}
 use Rattle.scudo_secondary.specs.Mappings.{mapping_of}
 use Rattle.address_map.specs.declared.limits.TheConstants.{PAGE_SIZE}
 use Rattle.scudo_heap.specs.declared.chunk.Found.{Found}
@@ -14,13 +14,13 @@ use Rattle.scudo_heap.specs.Freeing.{without_chunk as freed_world}
 use Rattle.scudo_heap.proofs.ServedLemmas.{served-less, served-on, same-pages, mapping-open}
 use Rattle.tag_discipline.specs.LiveChunks.{BlockChunk, chunk_at}
 use Rattle.tag_discipline.specs.LivePages.{PageChunk, large_at, AreLarge}
-use Rattle.tag_discipline.specs.CarefulRuns.{State, delisted, HasFree}
+use Rattle.tag_discipline.specs.CarefulRuns.{State, without_freed_chunk, HasFree}
 use Rattle.tag_discipline.specs.SoundHeaps.{Sound}
 use Rattle.tag_discipline.proofs.Freed.{Freed, IsStale}
 use Rattle.tag_discipline.proofs.Serving.{blocks-of}
-use Rattle.tag_discipline.proofs.WorldRests.{IsRest, given_back-rest}
-use Rattle.tag_discipline.proofs.BlockSteps.{IsSameTags, same-written, same-unmapped, same-tags_sound, same-tags_stale, given_back-kept, free-before, stale-other}
-use Rattle.tag_discipline.proofs.Larges.{found-of, large-freed}
+use Rattle.tag_discipline.proofs.WorldRests.{IsRest, after-give-back-rest}
+use Rattle.tag_discipline.proofs.BlockSteps.{IsSameTags, same-with-bytes-at, same-unmapped, same-tags_sound, same-tags_stale, after-give-back-kept, free-before, stale-other}
+use Rattle.tag_discipline.proofs.Larges.{check-pointer-of, large-freed}
 use Rattle.tag_discipline.proofs.MadeStates.{rest-of, state-sound}
 use Rattle.tag_discipline.proofs.FoundStates.{IsListed, block, pages}
 
@@ -33,15 +33,15 @@ pub kept-same : (s : State) → Sound s → IsKeptOn s s
 kept-same s k = record { sound = k; stale = λ f st on. st }
 
 abbrev pub freed : State → Found → State
-freed s f = record { world = freed_world s.world f; live = delisted s.live f }
+freed s f = record { world = freed_world s.world f; live = without_freed_chunk s.live f }
 
 -- ---- a chunk in a block
 
 block-freed : (s : State) (x : BlockChunk) → Sound s → chunk_at s.live.blocks x.place.user ≡ Some x → IsKeptOn s (freed s (InBlock x.place x.header))
 unfolding freed_world
 block-freed s x k e =
-    let g = given_back-kept s.world s.live.blocks x x.header (blocks-of s k) e in
-    let r = given_back-rest s.world s.world x.place x.header (rest-of s k) in
+    let g = after-give-back-kept s.world s.live.blocks x x.header (blocks-of s k) e in
+    let r = after-give-back-rest s.world s.world x.place x.header (rest-of s k) in
     record {
       sound = state-sound s.world (freed s (InBlock x.place x.header)) g.sound r (subst (λ ms. AreLarge ms s.live.pages) (ap (λ ms. ms.mappings) (sym r.maps)) k.large);
       stale = g.stale;
@@ -57,7 +57,7 @@ pages-freed s x k e =
     let m' = without_pages w.memory (n.start / PAGE_SIZE) n.pages in
     let there : Some n ≡ mapping_of w.heap.maps.mappings n.user = sym (k.large.place n.user x e) in
     let around = mapping-open w.memory w.heap n k.served k.large.ordered there in
-    let f = found-of w.heap.maps.mappings n.user n k.large.ordered (sym there) in
+    let f = check-pointer-of w.heap.maps.mappings n.user n k.large.ordered (sym there) in
     let above = f.above in
     let aligned = f.aligned in
     let at : (i : ℕ) → i < n.pages → attrs_at w.memory (n.start / PAGE_SIZE + i) ≡ Some 11 = λ i l.
@@ -83,15 +83,15 @@ free-kept s k (pages x e) = pages-freed s x k e
 
 -- ---- bytes are written
 
-pub written-kept : (s : State) (a : ℕ) (bs : List ℕ) → Sound s → IsKeptOn s (record s { world = record s.world { memory = written s.world.memory a bs } })
-written-kept s a bs k =
+pub with-bytes-at-kept : (s : State) (a : ℕ) (bs : List ℕ) → Sound s → IsKeptOn s (record s { world = record s.world { memory = with_bytes_at s.world.memory a bs } })
+with-bytes-at-kept s a bs k =
     let b = blocks-of s k in
-    let m' = written s.world.memory a bs in
+    let m' = with_bytes_at s.world.memory a bs in
     let t : State = record s { world = record s.world { memory = m' } } in
-    let same = same-written s.world.memory a bs k.whole in
+    let same = same-with-bytes-at s.world.memory a bs k.whole in
     let rest : IsRest t.world t.world = record {
-      served = served-on s.world.memory m' s.world.heap s.world.heap.stacks s.world.heap.cookie k.served (attrs_at-written s.world.memory a bs) (pages_left-written s.world.memory a bs) (same-pages s.world.heap.stacks);
-      sync = ap (λ v. v.mode) (state-written s.world.memory a bs) ∙ k.sync;
+      served = served-on s.world.memory m' s.world.heap s.world.heap.stacks s.world.heap.cookie k.served (attrs_at-with-bytes-at s.world.memory a bs) (pages_left-with-bytes-at s.world.memory a bs) (same-pages s.world.heap.stacks);
+      sync = ap (λ v. v.mode) (state-with-bytes-at s.world.memory a bs) ∙ k.sync;
       most = k.most;
       maps = refl;
     } in
@@ -108,8 +108,8 @@ unfolding freed_world large_given_back
 free-was s t g k (block x e) st on = free-before t.world x.place x.header g.place.class g.place.block (stale-other s.world s.live.blocks g x.place.user x (blocks-of s k) st e) on
 free-was s t g k (pages x e) st on = on
 
-pub moved-kept : (s t : State) {f : Found} → Sound s → IsListed s f → IsListed t f → IsKeptOn s t → IsKeptOn s (freed t f)
-moved-kept s t k l m h =
+pub after-move-kept : (s t : State) {f : Found} → Sound s → IsListed s f → IsListed t f → IsKeptOn s t → IsKeptOn s (freed t f)
+after-move-kept s t k l m h =
     let r = free-kept t h.sound m in
     record {
       sound = r.sound;

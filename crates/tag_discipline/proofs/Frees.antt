@@ -9,11 +9,11 @@ use Rattle.mte_tags.specs.Accesses.{read_bytes}
 use Rattle.scudo_header.specs.Classes.{size_of}
 use Rattle.scudo_header.specs.Regions.{region_of}
 use Rattle.scudo_header.specs.declared.classes.TheConstants.{CLASSES}
-use Rattle.scudo_header.specs.Headers.{packed, unpacked, header_word, state_number, origin_number}
+use Rattle.scudo_header.specs.Headers.{packed_header, unpacked_header, header_word, state_number, origin_number}
 use Rattle.scudo_header.specs.declared.headers.Header.{Header}
 use Rattle.scudo_header.specs.declared.headers.Origin.{Origin}
 use Rattle.scudo_header.specs.declared.headers.Origin.TheVariants.{Malloc, New, NewArray, Memalign}
-use Rattle.scudo_header.proofs.HeaderLemmas.{checksum_of-small, unpacked-packed}
+use Rattle.scudo_header.proofs.HeaderLemmas.{checksum_of-small, unpacked-header-packed-header}
 use Rattle.scudo_primary.specs.Blocks.{number_of, carved_count}
 use Rattle.scudo_primary.proofs.BlockLemmas.{size-IsSize}
 use Rattle.scudo_heap.specs.Stacks.{StackState, pages_of}
@@ -21,10 +21,10 @@ use Rattle.scudo_heap.specs.declared.chunk.Place.{Place}
 use Rattle.tag_discipline.specs.LiveChunks.{IsPlace, BlockChunk, LiveBlocks, chunk_at, IsHeaderOf}
 use Rattle.scudo_heap.specs.Placing.{World}
 use Rattle.scudo_heap.specs.Chunks.{end_of, block_end}
-use Rattle.scudo_heap.specs.Checks.{place_by, is_allocated, is_place, is_mapped, header_at, found_block, found_chunk, found_by, found}
+use Rattle.scudo_heap.specs.Checks.{place_of_header, is_allocated, is_place, is_mapped, header_at, check_block, check_chunk, check_header, check_pointer}
 use Rattle.scudo_heap.specs.declared.chunk.Found.TheVariants.{InBlock}
 use Rattle.tag_discipline.specs.CarefulRuns.{HasHeader}
-use Rattle.mte_tags.specs.Memory.{page_has, has_in}
+use Rattle.mte_tags.specs.Memory.{page_has, has_cases}
 use Rattle.tag_discipline.proofs.BlockCalls.{IsRoom, room, block-open}
 use Rattle.tag_discipline.proofs.Allocations.{IsSoundIn}
 
@@ -52,8 +52,8 @@ small h p header r e most =
     let e3 = e.offset in
     record { class = omega arith; state = ap state_number e.state; size = omega arith; offset = omega arith }
 
-packed_small : (cookie user : ℕ) (header : Header) → AreSmall header → packed cookie user header < 2 ^ 64
-unfolding packed
+packed_small : (cookie user : ℕ) (header : Header) → AreSmall header → packed_header cookie user header < 2 ^ 64
+unfolding packed_header
 packed_small cookie user header s =
     let a = s.class in
     let b = s.state in
@@ -64,14 +64,14 @@ packed_small cookie user header s =
     omega arith
 
 -- the header that was written is read back
-pub read_back : (m : Memory) (cookie user : ℕ) (header : Header) → AreSmall header → read_bytes m (user - 16) 8 ≡ to_le_bytes w64 (packed cookie user header) → header_at m cookie user ≡ Some header
+pub read_back : (m : Memory) (cookie user : ℕ) (header : Header) → AreSmall header → read_bytes m (user - 16) 8 ≡ to_le_bytes w64 (packed_header cookie user header) → header_at m cookie user ≡ Some header
 unfolding header_at
 read_back m cookie user header s e =
-    ap (λ bs. unpacked cookie user (from_le_bytes w64 bs)) e
-    ∙ ap (unpacked cookie user) (from_le_bytes-to_le_bytes_8 (packed cookie user header) (packed_small cookie user header s))
-    ∙ unpacked-packed cookie user header s.class s.size s.offset
+    ap (λ bs. unpacked_header cookie user (from_le_bytes w64 bs)) e
+    ∙ ap (unpacked_header cookie user) (from_le_bytes-to_le_bytes_8 (packed_header cookie user header) (packed_small cookie user header s))
+    ∙ unpacked-header-packed-header cookie user header s.class s.size s.offset
 
-place-is : (h : StackState) (p : Place) (header : Header) → IsRoom h p → IsHeaderOf header p → place_by p.user header ≡ p
+place-is : (h : StackState) (p : Place) (header : Header) → IsRoom h p → IsHeaderOf header p → place_of_header p.user header ≡ p
 place-is h p header r e =
     let above = r.above in
     let al = r.aligned in
@@ -104,21 +104,21 @@ module _ (w : World) (l : LiveBlocks) (x : BlockChunk) (s : IsSoundIn w l) (live
   place : IsPlace w.heap.stacks x.place
   place = s.placed.place x.place.user x live
 
-  header-found : found_by w.heap x.place.user (Some x.header) ≡ Ok (InBlock x.place x.header)
-  unfolding found_chunk
-  header-found =
+  header-check-pointer : check_header w.heap x.place.user (Some x.header) ≡ Ok (InBlock x.place x.header)
+  unfolding check_chunk
+  header-check-pointer =
       let i = place in
       let e = s.placed.header x.place.user x live in
       let class = e.class in
       let low = i.carved.class.low in
       let r = room w.heap.stacks x.place s.stacked i in
-      let q : place_by x.place.user x.header ≡ x.place = place-is w.heap.stacks x.place x.header r e in
+      let q : place_of_header x.place.user x.header ≡ x.place = place-is w.heap.stacks x.place x.header r e in
       let above = r.above in
       let offset = e.offset in
       let a : is_allocated x.header.state ≡ true = ap is_allocated e.state in
       let z : (x.header.class_id == 0) ≡ false = grind (arith, nat_tests) in
       let b : nat_le (16 + 16 * x.header.offset) x.place.user ≡ true = grind (arith, nat_tests) in
-      cond-true _ _ _ a ∙ cond-false _ _ _ z ∙ cond-true _ _ _ b ∙ ap (λ t. found_block w.heap.stacks t x.header) q
+      cond-true _ _ _ a ∙ cond-false _ _ _ z ∙ cond-true _ _ _ b ∙ ap (λ t. check_block w.heap.stacks t x.header) q
       ∙ cond-true _ _ _ (is-place w.heap.stacks x.place i) ∙ cond-false _ _ _ (s.placed.unstacked x.place.user x live)
 
   is-mapped : is_mapped w.memory x.place.user ≡ true
@@ -129,16 +129,16 @@ module _ (w : World) (l : LiveBlocks) (x : BlockChunk) (s : IsSoundIn w l) (live
       let within = i.within in
       let o = block-open w.memory w.heap.stacks x.place s.stacked s.served i in
       let b : nat_le 16 x.place.user ≡ true = grind (arith, nat_tests) in
-      and _ _ b (ap (λ t. has_in t 3) (o.at (x.place.user - 16) (omega arith) (omega arith)))
+      and _ _ b (ap (λ t. has_cases t 3) (o.at (x.place.user - 16) (omega arith) (omega arith)))
 
   -- the checks find a live chunk whose header is as the heap wrote it
-  pub found-live : found w.memory w.heap x.place.user ≡ Ok (InBlock x.place x.header)
-  unfolding found header_at
-  found-live =
+  pub check-pointer-live : check_pointer w.memory w.heap x.place.user ≡ Ok (InBlock x.place x.header)
+  unfolding check_pointer header_at
+  check-pointer-live =
       let i = place in
       let r = room w.heap.stacks x.place s.stacked i in
       let z = size-IsSize x.place.class i.carved.class in
       let most = z.most in
       let sm = small w.heap.stacks x.place x.header r (s.placed.header x.place.user x live) (omega arith) in
       let a : (x.place.user % 16 == 0) ≡ true = eq-eqb _ _ i.aligned in
-      cond-true _ _ _ a ∙ cond-true _ _ _ is-mapped ∙ ap (found_by w.heap x.place.user) (read_back w.memory w.heap.cookie x.place.user x.header sm header) ∙ header-found
+      cond-true _ _ _ a ∙ cond-true _ _ _ is-mapped ∙ ap (check_header w.heap x.place.user) (read_back w.memory w.heap.cookie x.place.user x.header sm header) ∙ header-check-pointer

@@ -4,7 +4,7 @@ use Rattle.std.proofs.lemmas.Bool.{cases_eq, cases_lt}
 use Rattle.std.proofs.lemmas.List.{append-nil, get_or-replicate}
 use Rattle.std.specs.Prelude.{nat_eq}
 use Rattle.std.specs.List.{IsDistinct}
-use Rattle.mte_tags.specs.Memory.{Memory, page_at, pages_left, new_page, with_new_pages, without_page, without_pages, IsFree, attrs_at, tag_at, tag_in, has}
+use Rattle.mte_tags.specs.Memory.{Memory, page_at, pages_left, new_page, with_new_pages, without_page, without_pages, IsFree, attrs_at, tag_at, tag_cases, has}
 use Rattle.mte_tags.specs.declared.attrs.Attrs.{Attrs}
 use Rattle.mte_tags.proofs.Pages.{limit-without_page}
 use Rattle.mte_tags.proofs.PageLaws.{page_at-with_new_pages_in, page_at-with_new_pages_out, attrs_at-with_new_pages_in, attrs_at-with_new_pages_out, limit-with_new_pages, page_at-no_attrs, ArePages-attrs}
@@ -17,7 +17,7 @@ use Rattle.scudo_primary.specs.Pools.{is_member}
 use Rattle.scudo_primary.specs.Lists.{IsClass, Each}
 use Rattle.scudo_primary.proofs.BlockLemmas.{number_of-block_at, block_at-IsBlock, carved_count-≤, IsBlock-more}
 use Rattle.scudo_primary.proofs.ListLemmas.{Each-map, member-fact, not-member, distinct-cons}
-use Rattle.scudo_heap.specs.Stacks.{StackState, ClassHeap, class_at, pages_of, stack_of, new_blocks, carved}
+use Rattle.scudo_heap.specs.Stacks.{StackState, ClassHeap, class_at, pages_of, stack_of, new_blocks, after_carve}
 use Rattle.tag_discipline.specs.LiveChunks.{IsCarved, IsPlace, IsHalfTag, LiveBlocks, ArePlaced, AreTagged}
 use Rattle.scudo_heap.specs.declared.chunk.Place.{Place}
 use Rattle.scudo_heap.specs.Placing.{heap_attrs}
@@ -34,15 +34,15 @@ zero_cond : (b : Bool) (t : ℕ) → t ≡ 0 → cond b t 0 ≡ 0
 zero_cond true t e = e
 zero_cond false t e = refl
 
-zero_tag : (x g : ℕ) → g < 256 → tag_in (Some (new_page x)) g ≡ 0
+zero_tag : (x g : ℕ) → g < 256 → tag_cases (Some (new_page x)) g ≡ 0
 unfolding new_page
 zero_tag x g l = zero_cond (has x 8) (get_or (replicate 256 0) g 0) (get_or-replicate 256 g 0 0 l)
 
 pub tag_at-with_new_pages : (m : Memory) (q n a : ℕ) (x : Attrs) → IsFree m q n → tag_at (with_new_pages m q n x) a ≡ tag_at m a
 unfolding tag_at
 tag_at-with_new_pages m q n a x f =
-    let out : (q ≤ a / 4096 → a / 4096 < q + n → ⊥) → tag_in (page_at (with_new_pages m q n x) (a / 4096)) (a % 4096 / 16) ≡ tag_in (page_at m (a / 4096)) (a % 4096 / 16) =
-    λ o. ap (λ p. tag_in p (a % 4096 / 16)) (page_at-with_new_pages_out n m q x (a / 4096) o) in
+    let out : (q ≤ a / 4096 → a / 4096 < q + n → ⊥) → tag_cases (page_at (with_new_pages m q n x) (a / 4096)) (a % 4096 / 16) ≡ tag_cases (page_at m (a / 4096)) (a % 4096 / 16) =
+    λ o. ap (λ p. tag_cases p (a % 4096 / 16)) (page_at-with_new_pages_out n m q x (a / 4096) o) in
     elim (cases_lt (a / 4096) q) [
       | inl l ↦ out (λ u v. omega arith)
       | inr l ↦ elim (cases_lt (a / 4096) (q + n)) [
@@ -50,7 +50,7 @@ tag_at-with_new_pages m q n a x f =
         | inl u ↦
             let e : q + (a / 4096 - q) ≡ a / 4096 = omega arith in
             let none : page_at m (a / 4096) ≡ None = ap (page_at m) (sym e) ∙ f (a / 4096 - q) (omega arith) in
-            ap (λ p. tag_in p (a % 4096 / 16)) (page_at-with_new_pages_in n m q x (a / 4096) l u) ∙ zero_tag x.0 (a % 4096 / 16) (omega arith) ∙ sym (ap (λ p. tag_in p (a % 4096 / 16)) none)
+            ap (λ p. tag_cases p (a % 4096 / 16)) (page_at-with_new_pages_in n m q x (a / 4096) l u) ∙ zero_tag x.0 (a % 4096 / 16) (omega arith) ∙ sym (ap (λ p. tag_cases p (a % 4096 / 16)) none)
       ]
     ]
 
@@ -132,14 +132,14 @@ module _ (m : Memory) (h : StackState) (l : LiveBlocks) (c n : ℕ) (s : SoundBl
   m' = with_new_pages m first n heap_attrs
 
   h' : StackState
-  h' = carved h c n
+  h' = after_carve h c n
 
   tags : (a : ℕ) → tag_at m' a ≡ tag_at m a
   unfolding m'
   tags a = tag_at-with_new_pages m first n a heap_attrs is_free
 
   class-own : class_at h' c ≡ record { pages = pages_of h c + n; stack = new_blocks c (pages_of h c) n ++ stack_of h c }
-  unfolding h' carved class_at with_class
+  unfolding h' after_carve class_at with_class
   class-own = class_at-with_class h c (carved_class c (class_at h c) n)
 
   pages-own : pages_of h' c ≡ pages_of h c + n
@@ -149,7 +149,7 @@ module _ (m : Memory) (h : StackState) (l : LiveBlocks) (c n : ℕ) (s : SoundBl
   stack-own = ap (λ (k : ClassHeap). k.stack) class-own ∙ ap (λ xs. new_blocks c (pages_of h c) n ++ xs) g.empty ∙ append-nil _
 
   class-other : (d : ℕ) → d ≢ c → class_at h' d ≡ class_at h d
-  unfolding h' carved class_at with_class
+  unfolding h' after_carve class_at with_class
   class-other d k = class_at-with_class_other h c d (carved_class c (class_at h c) n) k
 
   pages-more : (d : ℕ) → pages_of h d ≤ pages_of h' d
@@ -184,8 +184,8 @@ module _ (m : Memory) (h : StackState) (l : LiveBlocks) (c n : ℕ) (s : SoundBl
     ];
   }
 
-  carved-more : (d b : ℕ) → IsCarved h d b → IsCarved h' d b
-  carved-more d b k = record { class = k.class; block = IsBlock-more d (pages_of h d) (pages_of h' d) b k.class (pages-more d) k.block }
+  after-carve-more : (d b : ℕ) → IsCarved h d b → IsCarved h' d b
+  after-carve-more d b k = record { class = k.class; block = IsBlock-more d (pages_of h d) (pages_of h' d) b k.class (pages-more d) k.block }
 
   -- a block of the grown heap was a block before, or is new
   old-or-new : (d b : ℕ) → IsCarved h' d b → IsCarved h d b ⊎ (IsCarved h d b → ⊥)
@@ -195,7 +195,7 @@ module _ (m : Memory) (h : StackState) (l : LiveBlocks) (c n : ℕ) (s : SoundBl
   ]
 
   place-more : (p : Place) → IsPlace h p → IsPlace h' p
-  place-more p i = record { carved = carved-more p.class p.block i.carved; aligned = i.aligned; above = i.above; within = i.within; some = i.some }
+  place-more p i = record { carved = after-carve-more p.class p.block i.carved; aligned = i.aligned; above = i.above; within = i.within; some = i.some }
 
   unstacked : (d b : ℕ) → IsCarved h d b → is_member (stack_of h d) b ≡ false → is_member (stack_of h' d) b ≡ false
   unfolding IsNew
@@ -286,25 +286,25 @@ module _ (m : Memory) (h : StackState) (l : LiveBlocks) (c n : ℕ) (s : SoundBl
           let few = i.few in
           let high = i.high in
           tags a ∙ s.tagged.outside a (omega arith) (omega arith) (λ e f p v w. elim (cases_eq f b) [
-            | inl q ↦ o (subst (λ t. IsCarved h t b) (same-class h' e d b grown_stacked (carved-more e b (subst (IsCarved h e) q p)) k) (subst (IsCarved h e) q p))
-            | inr q ↦ elim (apart h' e d f b grown_stacked (carved-more e f p) k q) [ inl r ↦ omega arith | inr r ↦ omega arith ]
+            | inl q ↦ o (subst (λ t. IsCarved h t b) (same-class h' e d b grown_stacked (after-carve-more e b (subst (IsCarved h e) q p)) k) (subst (IsCarved h e) q p))
+            | inr q ↦ elim (apart h' e d f b grown_stacked (after-carve-more e f p) k q) [ inl r ↦ omega arith | inr r ↦ omega arith ]
           ]))
     ];
-    outside = λ a x y o. tags a ∙ s.tagged.outside a x y (λ d b k. o d b (carved-more d b k));
+    outside = λ a x y o. tags a ∙ s.tagged.outside a x y (λ d b k. o d b (after-carve-more d b k));
   }
 
   -- the call that gives a class pages
-  pub grown_sound : SoundBlocks (with_new_pages m (region_of c / 4096 + pages_of h c) n heap_attrs) (carved h c n) l
+  pub grown_sound : SoundBlocks (with_new_pages m (region_of c / 4096 + pages_of h c) n heap_attrs) (after_carve h c n) l
   unfolding m' h' first
   grown_sound = record { stacked = grown_stacked; served = grown_served; placed = grown_placed; tagged = grown_tagged }
 
   -- and changes no tag
-  pub grown-tags : (a : ℕ) → tag_at (with_new_pages m (region_of c / 4096 + pages_of h c) n heap_attrs) a ≡ tag_at m a
+  pub after-grow-tags : (a : ℕ) → tag_at (with_new_pages m (region_of c / 4096 + pages_of h c) n heap_attrs) a ≡ tag_at m a
   unfolding m' first
-  grown-tags a = tags a
+  after-grow-tags a = tags a
 
   -- and keeps what is freed
-  pub grown-stale : (f : Freed) → IsStale m h f → IsStale (with_new_pages m (region_of c / 4096 + pages_of h c) n heap_attrs) (carved h c n) f
+  pub after-grow-stale : (f : Freed) → IsStale m h f → IsStale (with_new_pages m (region_of c / 4096 + pages_of h c) n heap_attrs) (after_carve h c n) f
   unfolding m' h' first
-  grown-stale f st =
+  after-grow-stale f st =
       stale-grown m m' h c n f place-more g.empty (ap (λ (k : ClassHeap). k.stack) (class-other f.place.class (not-empty h c f.place.class f.place.block g.empty st.stacked))) tags st

@@ -91,9 +91,9 @@ module _ (m m' : Memory) (h h' : StackState) (p : Place) (t : ℕ) (k : IsStacke
 pub record IsStep (m' : Memory) (l l' : LiveBlocks) (block : ℕ) : Type 0 where
   pub chunk : (u : ℕ) (x : BlockChunk) → chunk_at l' u ≡ Some x → ((chunk_at l u ≡ Some x) × (x.place.block ≢ block)) ⊎ IsTagged m' x.place x.tag
 
-pub keeps-tagged : (m m' : Memory) (h h' : StackState) (l l' : LiveBlocks) (p : Place) (t : ℕ) → IsStacked h → ArePlaced h l → AreTagged m h l → IsPlace h p → IsHalfTag p.class p.block t → IsCallOn m m' p t → IsSamePages h h'
+pub keeps-with-chunk-tag : (m m' : Memory) (h h' : StackState) (l l' : LiveBlocks) (p : Place) (t : ℕ) → IsStacked h → ArePlaced h l → AreTagged m h l → IsPlace h p → IsHalfTag p.class p.block t → IsCallOn m m' p t → IsSamePages h h'
     → IsStep m' l l' p.block → AreTagged m' h' l'
-keeps-tagged m m' h h' l l' p t k live old place f call s step = record {
+keeps-with-chunk-tag m m' h h' l l' p t k live old place f call s step = record {
   chunks = λ u x e. elim (step.chunk u x e) [
     | inl b ↦ stays m m' h h' p t k place call x.place x.tag (live.place u x b.0) b.1 (old.chunks u x b.0)
     | inr g ↦ g

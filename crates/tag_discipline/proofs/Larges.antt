@@ -96,9 +96,9 @@ mapping_of-without (m ∷ ms) v u n = elim (cases_eq m.user v) [
       ap (λ xs. mapping_of xs u) (cond-true _ _ _ a) ∙ ap (cond (m.user == u) (Some m)) (mapping_of-without ms v u n)
 ]
 
-pub found-of : (ms : List Mapping) (u : ℕ) (x : Mapping) → AreMappings ms → mapping_of ms u ≡ Some x → IsFound (SECONDARY_START + PAGE_SIZE) u x
+pub check-pointer-of : (ms : List Mapping) (u : ℕ) (x : Mapping) → AreMappings ms → mapping_of ms u ≡ Some x → IsFound (SECONDARY_START + PAGE_SIZE) u x
 unfolding AreMappings
-found-of ms u x h e = found ms (SECONDARY_START + PAGE_SIZE) u x h e
+check-pointer-of ms u x h e = found ms (SECONDARY_START + PAGE_SIZE) u x h e
 
 none-without : (ms : List Mapping) (v : ℕ) (x : Mapping) → mapping_of (others_of v ms) v ≡ Some x → ⊥
 none-without [] v x e = cc
@@ -184,9 +184,9 @@ pub record IsNewMapping (ms : List Mapping) (n : Mapping) : Type 0 where
   pub none : mapping_of ms n.user ≡ None
   pub aligned : n.start % PAGE_SIZE ≡ 0
 
-pub large-made : (ms : List Mapping) (g : LivePages) (x : PageChunk) → AreLarge ms g → IsNewMapping ms x.mapping → x.mapping.start + 16 ≤ x.mapping.user → x.mapping.user + x.size ≤ end_of x.mapping → IsLargeHeaderOf x → x.mapping.user % 16 ≡ 0
+pub large-state-after-allocation : (ms : List Mapping) (g : LivePages) (x : PageChunk) → AreLarge ms g → IsNewMapping ms x.mapping → x.mapping.start + 16 ≤ x.mapping.user → x.mapping.user + x.size ≤ end_of x.mapping → IsLargeHeaderOf x → x.mapping.user % 16 ≡ 0
     → AreLarge (with_mapping ms x.mapping) (with_large g x)
-large-made ms g x k new above within header aligned =
+large-state-after-allocation ms g x k new above within header aligned =
     let n = x.mapping in
     let self : (n.user == n.user) ≡ true = eq-eqb n.user n.user refl in
     let here : mapping_of (with_mapping ms n) n.user ≡ Some n = mapping_of-with ms n n.user new.none ∙ cond-true _ _ _ self in

@@ -14,101 +14,101 @@ use Rattle.scudo_heap.specs.declared.chunk.Chunk.TheVariants.{Small, Large}
 use Rattle.scudo_heap.specs.Stacks.{stack_of}
 use Rattle.scudo_heap.specs.Placing.{World, pages_for}
 use Rattle.scudo_heap.specs.Large.{mapping_for}
-use Rattle.scudo_heap.specs.Allocation.{nothing, asked, need_of, is_alignment, ready, taken, in_class, made_in, made_large, mapped_at, in_mapping, allocated, malloc_of, calloc_of, memalign_of}
+use Rattle.scudo_heap.specs.Allocation.{no_chunk, nonzero_size, need_of, is_alignment, with_free_block, after_take, after_class_allocation, allocate_cases, after_map_chunk, map_chunk_cases, after_large_allocation, after_allocate, after_malloc, after_calloc, after_memalign}
 use Rattle.scudo_heap.specs.Inner.{IsAlign}
 use Rattle.scudo_heap.proofs.AllocationLemmas.{power-align}
 use Rattle.tag_discipline.specs.LivePages.{AreLarge}
-use Rattle.tag_discipline.specs.CarefulRuns.{State, Live, listed, made}
+use Rattle.tag_discipline.specs.CarefulRuns.{State, Live, with_made_chunk, state_after_allocation}
 use Rattle.tag_discipline.specs.SoundHeaps.{Sound}
 use Rattle.tag_discipline.proofs.Views.{SoundBlocks}
 use Rattle.tag_discipline.proofs.Serving.{blocks-of}
-use Rattle.tag_discipline.proofs.WorldRests.{in_class-rest}
-use Rattle.tag_discipline.proofs.Allocations.{branch, blocks_listed, IsClassFor, class-for, in_class-sound, asked_some}
-use Rattle.tag_discipline.proofs.MadeStates.{IsMade, rest-of, state-sound, nothing-made}
+use Rattle.tag_discipline.proofs.WorldRests.{after-class-allocation-rest}
+use Rattle.tag_discipline.proofs.Allocations.{branch, blocks_listed, IsClassFor, class-for, after-class-allocation-sound, asked_some}
+use Rattle.tag_discipline.proofs.MadeStates.{IsMade, rest-of, state-sound, no-chunk-state-after-allocation}
 use Rattle.tag_discipline.proofs.MadeLarges.{large-state}
 
 -- ---- a chunk in a block
 
-taken-small : (before w : World) (o : Origin) (a size c : ℕ) (xs : List ℕ) (m : Mapping) (n : ℕ) → (taken before w o a size c xs).chunk ≡ Some (Large m n) → ⊥
-taken-small before w o a size c [] m n e = cc
-taken-small before w o a size c (b ∷ more) m n e = cc
+after-take-small : (before w : World) (o : Origin) (a size c : ℕ) (xs : List ℕ) (m : Mapping) (n : ℕ) → (after_take before w o a size c xs).chunk ≡ Some (Large m n) → ⊥
+after-take-small before w o a size c [] m n e = cc
+after-take-small before w o a size c (b ∷ more) m n e = cc
 
-in_class-small : (w : World) (o : Origin) (a size c : ℕ) (m : Mapping) (n : ℕ) → (in_class w o a size c).chunk ≡ Some (Large m n) → ⊥
-unfolding in_class
-in_class-small w o a size c m n e = taken-small w (ready w c) o a size c (stack_of (ready w c).heap.stacks c) m n e
+after-class-allocation-small : (w : World) (o : Origin) (a size c : ℕ) (m : Mapping) (n : ℕ) → (after_class_allocation w o a size c).chunk ≡ Some (Large m n) → ⊥
+unfolding after_class_allocation
+after-class-allocation-small w o a size c m n e = after-take-small w (with_free_block w c) o a size c (stack_of (with_free_block w c).heap.stacks c) m n e
 
-listed-blocks : (o : Origin) (l : Live) (x : Option Chunk) → (listed o l x).blocks ≡ blocks_listed o l.blocks x
-listed-blocks o l None = refl
-listed-blocks o l (Some (Small p tag)) = refl
-listed-blocks o l (Some (Large m size)) = refl
+with-made-chunk-blocks : (o : Origin) (l : Live) (x : Option Chunk) → (with_made_chunk o l x).blocks ≡ blocks_listed o l.blocks x
+with-made-chunk-blocks o l None = refl
+with-made-chunk-blocks o l (Some (Small p tag)) = refl
+with-made-chunk-blocks o l (Some (Large m size)) = refl
 
-listed-pages : (o : Origin) (l : Live) (x : Option Chunk) → ((m : Mapping) (n : ℕ) → x ≡ Some (Large m n) → ⊥) → l.pages ≡ (listed o l x).pages
-listed-pages o l None h = refl
-listed-pages o l (Some (Small p tag)) h = refl
-listed-pages o l (Some (Large m size)) h = absurd (h m size refl)
+with-made-chunk-pages : (o : Origin) (l : Live) (x : Option Chunk) → ((m : Mapping) (n : ℕ) → x ≡ Some (Large m n) → ⊥) → l.pages ≡ (with_made_chunk o l x).pages
+with-made-chunk-pages o l None h = refl
+with-made-chunk-pages o l (Some (Small p tag)) h = refl
+with-made-chunk-pages o l (Some (Large m size)) h = absurd (h m size refl)
 
-in_class-made : (o : Origin) (s : State) (a size c : ℕ) → Sound s → IsAlign a → 0 < size → IsClassFor (need_of a size) c → IsMade o s (in_class s.world o a size c)
-in_class-made o s a size c k al some f =
-    let r = in_class s.world o a size c in
-    let q = in_class-sound s.world s.live.blocks o a size c (blocks-of s k) al some f in
-    let rest = in_class-rest s.world o a size c f.class (rest-of s k) in
-    let blocks = subst (λ b. SoundBlocks r.world.memory r.world.heap.stacks b) (sym (listed-blocks o s.live r.chunk)) q.kept.sound in
-    let larges = subst (λ ms. AreLarge ms (listed o s.live r.chunk).pages) (ap (λ ms. ms.mappings) (sym rest.maps))
-    (subst (AreLarge s.world.heap.maps.mappings) (listed-pages o s.live r.chunk (in_class-small s.world o a size c)) k.large) in
+after-class-allocation-state-after-allocation : (o : Origin) (s : State) (a size c : ℕ) → Sound s → IsAlign a → 0 < size → IsClassFor (need_of a size) c → IsMade o s (after_class_allocation s.world o a size c)
+after-class-allocation-state-after-allocation o s a size c k al some f =
+    let r = after_class_allocation s.world o a size c in
+    let q = after-class-allocation-sound s.world s.live.blocks o a size c (blocks-of s k) al some f in
+    let rest = after-class-allocation-rest s.world o a size c f.class (rest-of s k) in
+    let blocks = subst (λ b. SoundBlocks r.world.memory r.world.heap.stacks b) (sym (with-made-chunk-blocks o s.live r.chunk)) q.kept.sound in
+    let larges = subst (λ ms. AreLarge ms (with_made_chunk o s.live r.chunk).pages) (ap (λ ms. ms.mappings) (sym rest.maps))
+    (subst (AreLarge s.world.heap.maps.mappings) (with-made-chunk-pages o s.live r.chunk (after-class-allocation-small s.world o a size c)) k.large) in
     record {
-      sound = state-sound s.world (made o s.live r) blocks rest larges;
+      sound = state-sound s.world (state_after_allocation o s.live r) blocks rest larges;
       stale = q.kept.stale;
       apart = q.apart;
-      apart_large = λ m n e. absurd (in_class-small s.world o a size c m n e);
+      apart_large = λ m n e. absurd (after-class-allocation-small s.world o a size c m n e);
       fresh = q.fresh;
     }
 
 -- ---- a chunk with pages of its own
 
-mapped_at-made : (o : Origin) (s : State) (a size n : ℕ) (x : Option ℕ) → Sound s → IsAlign a → 0 < size → size ≤ 2 ^ 20 → n ≤ 4096 → need_of a size ≤ PAGE_SIZE * n → place_of s.world.heap.maps.mappings n ≡ x
-    → IsMade o s (mapped_at s.world o a size n x)
-mapped_at-made o s a size n None k al some small few need e = nothing-made o s k
-mapped_at-made o s a size n (Some start) k al some small few need e =
-    branch (IsMade o s) (nat_le n (pages_left s.world.memory)) (made_large s.world o size (mapping_for start n a size)) (nothing s.world)
+map-chunk-cases-state-after-allocation : (o : Origin) (s : State) (a size n : ℕ) (x : Option ℕ) → Sound s → IsAlign a → 0 < size → size ≤ 2 ^ 20 → n ≤ 4096 → need_of a size ≤ PAGE_SIZE * n → place_of s.world.heap.maps.mappings n ≡ x
+    → IsMade o s (map_chunk_cases s.world o a size n x)
+map-chunk-cases-state-after-allocation o s a size n None k al some small few need e = no-chunk-state-after-allocation o s k
+map-chunk-cases-state-after-allocation o s a size n (Some start) k al some small few need e =
+    branch (IsMade o s) (nat_le n (pages_left s.world.memory)) (after_map_chunk s.world o size (mapping_for start n a size)) (no_chunk s.world)
     (λ t. large-state o s a size n start k al some small few need e (grind (arith, nat_tests)))
-    (λ t. nothing-made o s k)
+    (λ t. no-chunk-state-after-allocation o s k)
 
-in_mapping-made : (o : Origin) (s : State) (a size : ℕ) → Sound s → IsAlign a → 0 < size → size ≤ 2 ^ 20 → IsMade o s (in_mapping s.world o a size (pages_for (need_of a size)))
-unfolding in_mapping
-in_mapping-made o s a size k al some small =
+after-large-allocation-made : (o : Origin) (s : State) (a size : ℕ) → Sound s → IsAlign a → 0 < size → size ≤ 2 ^ 20 → IsMade o s (after_large_allocation s.world o a size (pages_for (need_of a size)))
+unfolding after_large_allocation
+after-large-allocation-made o s a size k al some small =
     let most = al.most in
-    mapped_at-made o s a size (pages_for (need_of a size)) (place_of s.world.heap.maps.mappings (pages_for (need_of a size))) k al some small (omega arith) (omega arith) refl
+    map-chunk-cases-state-after-allocation o s a size (pages_for (need_of a size)) (place_of s.world.heap.maps.mappings (pages_for (need_of a size))) k al some small (omega arith) (omega arith) refl
 
 -- ---- the calls
 
-made_in-made : (o : Origin) (s : State) (a size : ℕ) (c : Option ℕ) → Sound s → IsAlign a → 0 < size → size ≤ 2 ^ 20 → ((d : ℕ) → c ≡ Some d → IsClassFor (need_of a size) d) → IsMade o s (made_in s.world o a size c)
-made_in-made o s a size None k al some small f = in_mapping-made o s a size k al some small
-made_in-made o s a size (Some d) k al some small f = in_class-made o s a size d k al some (f d refl)
+allocate-cases-state-after-allocation : (o : Origin) (s : State) (a size : ℕ) (c : Option ℕ) → Sound s → IsAlign a → 0 < size → size ≤ 2 ^ 20 → ((d : ℕ) → c ≡ Some d → IsClassFor (need_of a size) d) → IsMade o s (allocate_cases s.world o a size c)
+allocate-cases-state-after-allocation o s a size None k al some small f = after-large-allocation-made o s a size k al some small
+allocate-cases-state-after-allocation o s a size (Some d) k al some small f = after-class-allocation-state-after-allocation o s a size d k al some (f d refl)
 
-asked_small : (size : ℕ) → size ≤ MAX_REQUEST → asked size ≤ 2 ^ 20
+asked_small : (size : ℕ) → size ≤ MAX_REQUEST → nonzero_size size ≤ 2 ^ 20
 asked_small size l = grind (arith, nat_tests)
 
-pub allocated-made : (o : Origin) (s : State) (a size : ℕ) → Sound s → IsAlign a → IsMade o s (allocated s.world o a size)
-unfolding allocated
-allocated-made o s a size k al =
-    branch (IsMade o s) (nat_le size MAX_REQUEST) (made_in s.world o a (asked size) (class_for (need_of a (asked size)))) (nothing s.world)
-    (λ t. made_in-made o s a (asked size) (class_for (need_of a (asked size))) k al (asked_some size) (asked_small size (grind (arith, nat_tests))) (λ d e. class-for (need_of a (asked size)) d e))
-    (λ t. nothing-made o s k)
+pub after-allocate-made : (o : Origin) (s : State) (a size : ℕ) → Sound s → IsAlign a → IsMade o s (after_allocate s.world o a size)
+unfolding after_allocate
+after-allocate-made o s a size k al =
+    branch (IsMade o s) (nat_le size MAX_REQUEST) (allocate_cases s.world o a (nonzero_size size) (class_for (need_of a (nonzero_size size)))) (no_chunk s.world)
+    (λ t. allocate-cases-state-after-allocation o s a (nonzero_size size) (class_for (need_of a (nonzero_size size))) k al (asked_some size) (asked_small size (grind (arith, nat_tests))) (λ d e. class-for (need_of a (nonzero_size size)) d e))
+    (λ t. no-chunk-state-after-allocation o s k)
 
 least-align : IsAlign 16
 least-align = record { least = omega arith; most = omega arith; multiple = refl }
 
-pub malloc-made : (s : State) (size : ℕ) → Sound s → IsMade Malloc s (malloc_of s.world size)
-unfolding malloc_of
-malloc-made s size k = allocated-made Malloc s 16 size k least-align
+pub malloc-state-after-allocation : (s : State) (size : ℕ) → Sound s → IsMade Malloc s (after_malloc s.world size)
+unfolding after_malloc
+malloc-state-after-allocation s size k = after-allocate-made Malloc s 16 size k least-align
 
-pub calloc-made : (s : State) (count size : ℕ) → Sound s → IsMade Malloc s (calloc_of s.world count size)
-unfolding calloc_of
-calloc-made s count size k = allocated-made Malloc s 16 (count * size) k least-align
+pub calloc-state-after-allocation : (s : State) (count size : ℕ) → Sound s → IsMade Malloc s (after_calloc s.world count size)
+unfolding after_calloc
+calloc-state-after-allocation s count size k = after-allocate-made Malloc s 16 (count * size) k least-align
 
-pub memalign-made : (s : State) (align size : ℕ) → Sound s → IsMade Memalign s (memalign_of s.world align size)
-unfolding memalign_of
-memalign-made s align size k =
-    branch (IsMade Memalign s) (is_alignment align) (allocated s.world Memalign (max align 16) size) (nothing s.world)
-    (λ t. allocated-made Memalign s (max align 16) size k (power-align align t))
-    (λ t. nothing-made Memalign s k)
+pub memalign-state-after-allocation : (s : State) (align size : ℕ) → Sound s → IsMade Memalign s (after_memalign s.world align size)
+unfolding after_memalign
+memalign-state-after-allocation s align size k =
+    branch (IsMade Memalign s) (is_alignment align) (after_allocate s.world Memalign (max align 16) size) (no_chunk s.world)
+    (λ t. after-allocate-made Memalign s (max align 16) size k (power-align align t))
+    (λ t. no-chunk-state-after-allocation Memalign s k)

@@ -3,7 +3,7 @@ use Rattle.std.proofs.Common.{◌≡◌, ◌≢◌, ℕ, ◌+◌, ◌-◌, ◌*�
 use Rattle.std.specs.List.{find, list_any}
 use Rattle.mte_tags.specs.Memory.{Memory, pages_left, with_new_pages}
 use Rattle.mte_tags.specs.Whole.{IsWhole}
-use Rattle.scudo_heap.specs.Served.{IsServed}
+use Rattle.scudo_heap.specs.Served.{HeapOwnsItsPages}
 use Rattle.mte_tags.proofs.StateLaws.{state-with_new_pages}
 use Rattle.scudo_header.specs.declared.headers.Origin.{Origin}
 use Rattle.scudo_header.specs.declared.headers.Header.{Header}
@@ -15,9 +15,9 @@ use Rattle.address_map.specs.declared.limits.TheConstants.{PAGE_SIZE}
 use Rattle.address_map.specs.declared.ranges.TheConstants.{SECONDARY_START}
 use Rattle.scudo_heap.specs.Heaps.{heap_of, with_more}
 use Rattle.scudo_heap.specs.Placing.{World, heap_attrs}
-use Rattle.scudo_heap.specs.Chunks.{headed}
+use Rattle.scudo_heap.specs.Chunks.{with_header}
 use Rattle.scudo_heap.specs.Large.{mapping_for, large_header, large_placed}
-use Rattle.scudo_heap.specs.Allocation.{made_large, need_of}
+use Rattle.scudo_heap.specs.Allocation.{after_map_chunk, need_of}
 use Rattle.scudo_heap.specs.Inner.{IsAlign, IsLarge}
 use Rattle.scudo_heap.specs.Served.{is_inside}
 use Rattle.std.proofs.Math.Nat.{mul-mod_left}
@@ -26,13 +26,13 @@ use Rattle.scudo_heap.proofs.LargeLemmas.{is-large}
 use Rattle.scudo_heap.proofs.MapLemmas.{IsAt, is-at, without, inside-in}
 use Rattle.scudo_heap.proofs.ServedLemmas.{served-more, served-on, same-pages, pages-free, places-of}
 use Rattle.tag_discipline.specs.LivePages.{new_large, AreLarge}
-use Rattle.tag_discipline.specs.CarefulRuns.{State, made}
+use Rattle.tag_discipline.specs.CarefulRuns.{State, state_after_allocation}
 use Rattle.tag_discipline.specs.SoundHeaps.{Sound}
-use Rattle.tag_discipline.proofs.Rests.{rest-headed}
+use Rattle.tag_discipline.proofs.Rests.{rest-with-header}
 use Rattle.tag_discipline.proofs.Serving.{blocks-of}
 use Rattle.tag_discipline.proofs.WorldRests.{IsRest}
-use Rattle.tag_discipline.proofs.BlockSteps.{IsSameTags, same-written, same-mapped, same-tags_sound, same-tags_stale}
-use Rattle.tag_discipline.proofs.Larges.{IsNewMapping, found-of, large-made}
+use Rattle.tag_discipline.proofs.BlockSteps.{IsSameTags, same-with-bytes-at, same-mapped, same-tags_sound, same-tags_stale}
+use Rattle.tag_discipline.proofs.Larges.{IsNewMapping, check-pointer-of, large-state-after-allocation}
 use Rattle.tag_discipline.proofs.MadeStates.{IsMade, state-sound}
 
 -- what is found passes
@@ -52,7 +52,7 @@ none-at : (ms : List Mapping) (n start u : ℕ) → AreMappings ms → IsAt ms n
 none-at ms n start u k at l h = elim (mapping_of ms u) as (λ o. mapping_of ms u ≡ o → o ≡ None) [
   | None ↦ λ e. refl
   | Some y ↦ λ e.
-      let f = found-of ms u y k e in
+      let f = check-pointer-of ms u y k e in
       let user : y.user ≡ u = f.user in
       let first = f.first in
       let last = f.last in
@@ -62,9 +62,9 @@ none-at ms n start u k at l h = elim (mapping_of ms u) as (λ o. mapping_of ms u
       absurd (let z : true ≡ false = sym on ∙ off in cc)
 ] refl
 
-same-headed : (m : Memory) (cookie user : ℕ) (header : Header) → IsWhole m → IsSameTags m (headed m cookie user header)
-unfolding headed
-same-headed m cookie user header w = same-written m (user - 16) _ w
+same-with-header : (m : Memory) (cookie user : ℕ) (header : Header) → IsWhole m → IsSameTags m (with_header m cookie user header)
+unfolding with_header
+same-with-header m cookie user header w = same-with-bytes-at m (user - 16) _ w
 
 module _ (o : Origin) (s : State) (align size n start : ℕ) (k : Sound s) (al : IsAlign align) (some : 0 < size) (small : size ≤ 2 ^ 20) (few : n ≤ 4096) (need : need_of align size ≤ PAGE_SIZE * n)
     (place : place_of s.world.heap.maps.mappings n ≡ Some start) (left : n ≤ pages_left s.world.memory) where
@@ -84,7 +84,7 @@ module _ (o : Origin) (s : State) (align size n start : ℕ) (k : Sound s) (al :
   first = with_new_pages w.memory (start / PAGE_SIZE) n heap_attrs
 
   abbrev pub last : Memory
-  last = headed first w.heap.cookie m.user (large_header o m size)
+  last = with_header first w.heap.cookie m.user (large_header o m size)
 
   mapped : IsSameTags w.memory first
   mapped =
@@ -92,19 +92,19 @@ module _ (o : Origin) (s : State) (align size n start : ℕ) (k : Sound s) (al :
       same-mapped w.memory (start / PAGE_SIZE) n heap_attrs k.whole (pages-free w.memory w.heap.maps n start (places-of w.memory w.heap k.served) at) left (omega arith)
 
   abbrev pub after : State
-  after = made o s.live (made_large w o size m)
+  after = state_after_allocation o s.live (after_map_chunk w o size m)
 
-  served : IsServed last (heap_of w.heap.cookie w.heap.stacks (with_more w.heap.maps m))
+  served : HeapOwnsItsPages last (heap_of w.heap.cookie w.heap.stacks (with_more w.heap.maps m))
   served =
       let v = served-more w.memory w.heap.stacks w.heap.maps m w.heap.cookie at left k.served in
-      let e = rest-headed first w.heap.cookie m.user (large_header o m size) in
+      let e = rest-with-header first w.heap.cookie m.user (large_header o m size) in
       served-on first last (heap_of w.heap.cookie w.heap.stacks (with_more w.heap.maps m)) w.heap.stacks w.heap.cookie v e.attrs e.left (same-pages w.heap.stacks)
 
   rest : IsRest after.world after.world
   unfolding large_placed
   rest = record {
     served = served;
-    sync = ap (λ t. t.mode) ((rest-headed first w.heap.cookie m.user (large_header o m size)).state ∙ state-with_new_pages n w.memory (start / PAGE_SIZE) heap_attrs) ∙ k.sync;
+    sync = ap (λ t. t.mode) ((rest-with-header first w.heap.cookie m.user (large_header o m size)).state ∙ state-with_new_pages n w.memory (start / PAGE_SIZE) heap_attrs) ∙ k.sync;
     most = k.most;
     maps = refl;
   }
@@ -136,13 +136,13 @@ module _ (o : Origin) (s : State) (align size n start : ℕ) (k : Sound s) (al :
   unfolding large_placed with_more
   larges =
       let l = large in
-      large-made w.heap.maps.mappings s.live.pages (new_large o m size) k.large new l.above l.within (record { class = refl; state = refl; unused = refl; offset = refl; fits = l.unused }) even
+      large-state-after-allocation w.heap.maps.mappings s.live.pages (new_large o m size) k.large new l.above l.within (record { class = refl; state = refl; unused = refl; offset = refl; fits = l.unused }) even
 
-  pub large-state : IsMade o s (made_large w o size m)
+  pub large-state : IsMade o s (after_map_chunk w o size m)
   unfolding large_placed
   large-state =
       let b1 = same-tags_sound w.memory first w.heap.stacks s.live.blocks mapped (blocks-of s k) in
-      let e = same-headed first w.heap.cookie m.user (large_header o m size) b1.served.whole in
+      let e = same-with-header first w.heap.cookie m.user (large_header o m size) b1.served.whole in
       record {
         sound = state-sound after.world after (same-tags_sound first last w.heap.stacks s.live.blocks e b1) rest larges;
         stale = λ f st on. same-tags_stale first last w.heap.stacks f b1.stacked e (same-tags_stale w.memory first w.heap.stacks f b1.stacked mapped st);

@@ -5,10 +5,10 @@ use Rattle.scudo_secondary.specs.declared.mappings.Mapping.{Mapping}
 use Rattle.scudo_heap.specs.declared.chunk.Place.{Place}
 use Rattle.scudo_heap.specs.declared.chunk.Chunk.TheVariants.{Small, Large}
 use Rattle.scudo_heap.specs.Placing.{World}
-use Rattle.scudo_heap.specs.Allocation.{Made, nothing}
+use Rattle.scudo_heap.specs.Allocation.{AllocationResult, no_chunk}
 use Rattle.tag_discipline.specs.LiveChunks.{BlockChunk, chunk_at}
 use Rattle.tag_discipline.specs.LivePages.{PageChunk, large_at, AreLarge}
-use Rattle.tag_discipline.specs.CarefulRuns.{State, made, HasFree}
+use Rattle.tag_discipline.specs.CarefulRuns.{State, state_after_allocation, HasFree}
 use Rattle.tag_discipline.specs.SoundHeaps.{Sound}
 use Rattle.tag_discipline.proofs.Freed.{Freed, IsStale}
 use Rattle.mte_tags.specs.Memory.{tag_at}
@@ -34,12 +34,12 @@ state-sound v t b r g = record {
 }
 
 -- what an allocation leaves
-pub record IsMade (o : Origin) (s : State) (r : Made) : Type 0 where
-  pub sound : Sound (made o s.live r)
-  pub stale : (f : Freed) → IsStale s.world.memory s.world.heap.stacks f → HasFree f.place.class f.place.block (made o s.live r) → IsStale r.world.memory r.world.heap.stacks f
+pub record IsMade (o : Origin) (s : State) (r : AllocationResult) : Type 0 where
+  pub sound : Sound (state_after_allocation o s.live r)
+  pub stale : (f : Freed) → IsStale s.world.memory s.world.heap.stacks f → HasFree f.place.class f.place.block (state_after_allocation o s.live r) → IsStale r.world.memory r.world.heap.stacks f
   pub apart : (p : Place) (t : ℕ) → r.chunk ≡ Some (Small p t) → (u : ℕ) (x : BlockChunk) → chunk_at s.live.blocks u ≡ Some x → p.user ≢ u
   pub apart_large : (m : Mapping) (n : ℕ) → r.chunk ≡ Some (Large m n) → (u : ℕ) (x : PageChunk) → large_at s.live.pages u ≡ Some x → m.user ≢ u
   pub fresh : (p : Place) (t : ℕ) → r.chunk ≡ Some (Small p t) → (t ≢ 0) × (t ≢ tag_at s.world.memory p.user)
 
-pub nothing-made : (o : Origin) (s : State) → Sound s → IsMade o s (nothing s.world)
-nothing-made o s k = record { sound = k; stale = λ f st on. st; apart = λ p t e. cc; apart_large = λ m n e. cc; fresh = λ p t e. cc }
+pub no-chunk-state-after-allocation : (o : Origin) (s : State) → Sound s → IsMade o s (no_chunk s.world)
+no-chunk-state-after-allocation o s k = record { sound = k; stale = λ f st on. st; apart = λ p t e. cc; apart_large = λ m n e. cc; fresh = λ p t e. cc }

@@ -15,21 +15,21 @@ use Rattle.scudo_heap.specs.declared.chunk.Found.TheVariants.{InPages}
 use Rattle.scudo_heap.specs.Heaps.{with_less}
 use Rattle.scudo_heap.specs.Large.{large_given_back}
 use Rattle.scudo_heap.specs.Placing.{World}
-use Rattle.scudo_heap.specs.Allocation.{Made, nothing, malloc_of}
+use Rattle.scudo_heap.specs.Allocation.{AllocationResult, no_chunk, after_malloc}
 use Rattle.scudo_heap.specs.Checks.{size_found}
 use Rattle.scudo_heap.specs.Freeing.{without_chunk as freed_world}
 use Rattle.scudo_heap.specs.Realloc as heap
-use Rattle.scudo_heap.specs.Realloc.{user_of, user_in, copied, filled, moved, with_new_size, refound}
+use Rattle.scudo_heap.specs.Realloc.{user_of, user_of_chunk, after_copy, with_copied_bytes, after_move, with_new_size, realloc_cases}
 use Rattle.scudo_heap.specs.Served.{is_inside}
 use Rattle.scudo_heap.proofs.MapLemmas.{without, inside-in}
 use Rattle.tag_discipline.specs.LivePages.{PageChunk, large_at, new_large}
-use Rattle.tag_discipline.specs.CarefulRuns.{State, Live, HeapRequest, Realloc, Free, found_at, listed, delisted, moved_to, replaced, relisted, relisted_by, after_realloc, after_call, IsLiveLarge}
+use Rattle.tag_discipline.specs.CarefulRuns.{State, Live, HeapRequest, Realloc, Free, found_at, with_made_chunk, without_freed_chunk, live_move_cases, live_after_resize, live_after_realloc, live_realloc_cases, state_after_realloc, after_call, IsLiveLarge}
 use Rattle.tag_discipline.specs.SoundHeaps.{Sound}
-use Rattle.tag_discipline.proofs.Larges.{found-of}
+use Rattle.tag_discipline.proofs.Larges.{check-pointer-of}
 use Rattle.tag_discipline.proofs.FoundStates.{large-named}
 use Rattle.tag_discipline.proofs.MadeStates.{IsMade}
-use Rattle.tag_discipline.proofs.MadeCalls.{malloc-made}
-use Rattle.tag_discipline.proofs.FreeStates.{written-kept}
+use Rattle.tag_discipline.proofs.MadeCalls.{malloc-state-after-allocation}
+use Rattle.tag_discipline.proofs.FreeStates.{with-bytes-at-kept}
 use Rattle.tag_discipline.proofs.ReallocStates.{large-with}
 use Rattle.tag_discipline.proofs.Freeings.{not-null, free-world, realloc-world}
 
@@ -50,49 +50,49 @@ module _ (x : PageChunk) (a : ℕ) (lo : x.mapping.start ≤ a) (hi : a < end_of
       let there : Some x.mapping ≡ mapping_of t.world.heap.maps.mappings x.mapping.user = sym (k.large.place x.mapping.user x e) in
       (without t.world.heap.maps.mappings x.mapping k.large.ordered there).in_it a (inside-in a x.mapping lo hi)
 
-  branch-both : (b : Bool) (u v : Made) (l m : Live) → (b ≡ true → IsGoneIf u.world l) → (b ≡ false → IsGoneIf v.world m) → IsGoneIf (cond b u v).world (cond b l m)
+  branch-both : (b : Bool) (u v : AllocationResult) (l m : Live) → (b ≡ true → IsGoneIf u.world l) → (b ≡ false → IsGoneIf v.world m) → IsGoneIf (cond b u v).world (cond b l m)
   branch-both true u v l m f g = f refl
   branch-both false u v l m f g = g refl
 
-  still-pages : (s : State) (r : Made) (c : Chunk) → IsMade Malloc s r → r.chunk ≡ Some c → large_at s.live.pages x.mapping.user ≡ Some x → large_at (listed Malloc s.live (Some c)).pages x.mapping.user ≡ Some x
+  still-pages : (s : State) (r : AllocationResult) (c : Chunk) → IsMade Malloc s r → r.chunk ≡ Some c → large_at s.live.pages x.mapping.user ≡ Some x → large_at (with_made_chunk Malloc s.live (Some c)).pages x.mapping.user ≡ Some x
   still-pages s r (Small p t) m f g = g
   still-pages s r (Large n z) m f g = large-with s.live.pages (new_large Malloc n z) x.mapping.user (m.apart_large n z f x.mapping.user x g) ∙ g
 
-  moved_to-gone : (s : State) (size : ℕ) (r : Made) (c : Option Chunk) → Sound s → large_at s.live.pages x.mapping.user ≡ Some x → IsMade Malloc s r → r.chunk ≡ c
-      → IsGoneIf (heap.moved_to s.world (InPages x.mapping x.header) size r.world c).world (moved_to s.live (InPages x.mapping x.header) c)
-  unfolding copied
-  moved_to-gone s size r None k e m f = live-still s.world s.live e
-  moved_to-gone s size r (Some c) k e m f = λ n.
-      let t : State = record { world = r.world; live = listed Malloc s.live (Some c) } in
-      let sound : Sound t = subst (λ o. Sound (record { world = r.world; live = listed Malloc s.live o })) f m.sound in
+  live-move-cases-gone : (s : State) (size : ℕ) (r : AllocationResult) (c : Option Chunk) → Sound s → large_at s.live.pages x.mapping.user ≡ Some x → IsMade Malloc s r → r.chunk ≡ c
+      → IsGoneIf (heap.move_to_cases s.world (InPages x.mapping x.header) size r.world c).world (live_move_cases s.live (InPages x.mapping x.header) c)
+  unfolding after_copy
+  live-move-cases-gone s size r None k e m f = live-still s.world s.live e
+  live-move-cases-gone s size r (Some c) k e m f = λ n.
+      let t : State = record { world = r.world; live = with_made_chunk Malloc s.live (Some c) } in
+      let sound : Sound t = subst (λ o. Sound (record { world = r.world; live = with_made_chunk Malloc s.live o })) f m.sound in
       let bytes = read_bytes t.world.memory x.mapping.user (min (size_found (InPages x.mapping x.header)) size) in
-      let h = written-kept t (user_in c) bytes sound in
-      let u : State = record t { world = filled r.world (InPages x.mapping x.header) c size } in
+      let h = with-bytes-at-kept t (user_of_chunk c) bytes sound in
+      let u : State = record t { world = with_copied_bytes r.world (InPages x.mapping x.header) c size } in
       freed-gone u h.sound (still-pages s r c m f e)
 
-  moved-gone : (s : State) (size : ℕ) → Sound s → large_at s.live.pages x.mapping.user ≡ Some x → IsGoneIf (moved s.world (InPages x.mapping x.header) size).world (moved_to s.live (InPages x.mapping x.header) (malloc_of s.world size).chunk)
-  unfolding moved
-  moved-gone s size k e = moved_to-gone s size (malloc_of s.world size) (malloc_of s.world size).chunk k e (malloc-made s size k) refl
+  after-move-gone : (s : State) (size : ℕ) → Sound s → large_at s.live.pages x.mapping.user ≡ Some x → IsGoneIf (after_move s.world (InPages x.mapping x.header) size).world (live_move_cases s.live (InPages x.mapping x.header) (after_malloc s.world size).chunk)
+  unfolding after_move
+  after-move-gone s size k e = live-move-cases-gone s size (after_malloc s.world size) (after_malloc s.world size).chunk k e (malloc-state-after-allocation s size k) refl
 
-  new_size-gone : (s : State) (size : ℕ) → Sound s → large_at s.live.pages x.mapping.user ≡ Some x → IsGoneIf (with_new_size s.world (InPages x.mapping x.header) size).world (replaced s.world s.live (InPages x.mapping x.header) size)
+  new_size-gone : (s : State) (size : ℕ) → Sound s → large_at s.live.pages x.mapping.user ≡ Some x → IsGoneIf (with_new_size s.world (InPages x.mapping x.header) size).world (live_after_resize s.world s.live (InPages x.mapping x.header) size)
   unfolding with_new_size
-  new_size-gone s size k e = moved-gone s size k e
+  new_size-gone s size k e = after-move-gone s size k e
 
-  refound-gone : (s : State) (size : ℕ) → Sound s → large_at s.live.pages x.mapping.user ≡ Some x → IsGoneIf (refound s.world (InPages x.mapping x.header) size).world (relisted s.world s.live (InPages x.mapping x.header) size)
-  unfolding refound
-  refound-gone s size k e =
+  realloc-cases-gone : (s : State) (size : ℕ) → Sound s → large_at s.live.pages x.mapping.user ≡ Some x → IsGoneIf (realloc_cases s.world (InPages x.mapping x.header) size).world (live_after_realloc s.world s.live (InPages x.mapping x.header) size)
+  unfolding realloc_cases
+  realloc-cases-gone s size k e =
       branch-both (size == 0) (record { world = freed_world s.world (InPages x.mapping x.header); chunk = None })
-      (cond (nat_le size MAX_REQUEST) (with_new_size s.world (InPages x.mapping x.header) size) (nothing s.world))
-      (delisted s.live (InPages x.mapping x.header)) (cond (nat_le size MAX_REQUEST) (replaced s.world s.live (InPages x.mapping x.header) size) s.live)
+      (cond (nat_le size MAX_REQUEST) (with_new_size s.world (InPages x.mapping x.header) size) (no_chunk s.world))
+      (without_freed_chunk s.live (InPages x.mapping x.header)) (cond (nat_le size MAX_REQUEST) (live_after_resize s.world s.live (InPages x.mapping x.header) size) s.live)
       (λ t. λ n. freed-gone s k e)
-      (λ t. branch-both (nat_le size MAX_REQUEST) (with_new_size s.world (InPages x.mapping x.header) size) (nothing s.world) (replaced s.world s.live (InPages x.mapping x.header) size) s.live
+      (λ t. branch-both (nat_le size MAX_REQUEST) (with_new_size s.world (InPages x.mapping x.header) size) (no_chunk s.world) (live_after_resize s.world s.live (InPages x.mapping x.header) size) s.live
       (λ v. new_size-gone s size k e) (λ v. live-still s.world s.live e))
 
 -- ---- the calls
 
 module _ (s : State) (pointer : ℕ) (x : PageChunk) (a : ℕ) (k : Sound s) (some : pointer ≢ 0) (l : IsLiveLarge s (plain pointer) x) (lo : x.mapping.start ≤ a) (hi : a < end_of x.mapping) where
   user : x.mapping.user ≡ plain pointer
-  user = (found-of s.world.heap.maps.mappings (plain pointer) x.mapping k.large.ordered (k.large.place (plain pointer) x l.live)).user
+  user = (check-pointer-of s.world.heap.maps.mappings (plain pointer) x.mapping k.large.ordered (k.large.place (plain pointer) x l.live)).user
 
   live : large_at s.live.pages x.mapping.user ≡ Some x
   live = ap (large_at s.live.pages) user ∙ l.live
@@ -106,9 +106,9 @@ module _ (s : State) (pointer : ℕ) (x : PageChunk) (a : ℕ) (k : Sound s) (so
   realloc-gone size n =
       let f = InPages x.mapping x.header in
       let e = large-named s pointer x k l in
-      let w : (refound s.world f size).world ≡ (after_realloc s pointer size).world =
+      let w : (realloc_cases s.world f size).world ≡ (state_after_realloc s pointer size).world =
       realloc-world s pointer size f some e ∙ sym (ap (λ (t : State). t.world) (cond-false (pointer == 0) _ _ (not-null pointer some))) in
-      let v : (after_realloc s pointer size).live ≡ relisted s.world s.live f size =
-      ap (λ (t : State). t.live) (cond-false (pointer == 0) _ _ (not-null pointer some)) ∙ ap (relisted_by s.world s.live size) e in
-      let none : large_at (relisted s.world s.live f size).pages x.mapping.user ≡ None = ap (λ (t : Live). large_at t.pages x.mapping.user) (sym v) ∙ ap (large_at (after_realloc s pointer size).live.pages) user ∙ n in
-      subst (λ (t : World). IsGone t a) w (refound-gone x a lo hi s size k live none)
+      let v : (state_after_realloc s pointer size).live ≡ live_after_realloc s.world s.live f size =
+      ap (λ (t : State). t.live) (cond-false (pointer == 0) _ _ (not-null pointer some)) ∙ ap (live_realloc_cases s.world s.live size) e in
+      let none : large_at (live_after_realloc s.world s.live f size).pages x.mapping.user ≡ None = ap (λ (t : Live). large_at t.pages x.mapping.user) (sym v) ∙ ap (large_at (state_after_realloc s pointer size).live.pages) user ∙ n in
+      subst (λ (t : World). IsGone t a) w (realloc-cases-gone x a lo hi s size k live none)

@@ -16,36 +16,36 @@ use Rattle.scudo_heap.specs.declared.chunk.Chunk.TheVariants.{Small, Large}
 use Rattle.scudo_heap.specs.declared.chunk.Found.{Found}
 use Rattle.scudo_heap.specs.declared.chunk.Found.TheVariants.{InBlock}
 use Rattle.scudo_heap.specs.Chunks.{end_of, block_end, with_size}
-use Rattle.scudo_heap.specs.Placing.{World, resized}
-use Rattle.scudo_heap.specs.Allocation.{Made, nothing, malloc_of}
+use Rattle.scudo_heap.specs.Placing.{World, after_resize}
+use Rattle.scudo_heap.specs.Allocation.{AllocationResult, no_chunk, after_malloc}
 use Rattle.scudo_heap.specs.Freeing.{without_chunk as freed_world}
 use Rattle.scudo_heap.specs.Checks.{size_found}
 use Rattle.scudo_heap.specs.Realloc as heap
-use Rattle.scudo_heap.specs.Realloc.{user_of, user_in, copied, filled, moved, with_new_size, refound}
+use Rattle.scudo_heap.specs.Realloc.{user_of, user_of_chunk, after_copy, with_copied_bytes, after_move, with_new_size, realloc_cases}
 use Rattle.tag_discipline.specs.LiveChunks.{BlockChunk, LiveBlocks, chunk_at, with_chunk, new_chunk}
 use Rattle.tag_discipline.specs.LivePages.{PageChunk, LivePages, large_at, with_large, new_large, AreLarge}
-use Rattle.tag_discipline.specs.CarefulRuns.{State, Live, listed, delisted, made, moved_to, with_size_of, resized_in, replaced, relisted, HasFree}
+use Rattle.tag_discipline.specs.CarefulRuns.{State, Live, with_made_chunk, without_freed_chunk, state_after_allocation, live_move_cases, with_size_of, live_after_resize_in_block, live_after_resize, live_after_realloc, HasFree}
 use Rattle.tag_discipline.specs.SoundHeaps.{Sound}
 use Rattle.tag_discipline.proofs.Views.{SoundBlocks}
 use Rattle.tag_discipline.proofs.Serving.{blocks-of}
-use Rattle.tag_discipline.proofs.WorldRests.{resized-rest}
+use Rattle.tag_discipline.proofs.WorldRests.{after-resize-rest}
 use Rattle.tag_discipline.proofs.BlockSounds.{present-tag}
-use Rattle.tag_discipline.proofs.BlockSteps.{at-with, resized-kept}
+use Rattle.tag_discipline.proofs.BlockSteps.{at-with, after-resize-kept}
 use Rattle.tag_discipline.proofs.MadeStates.{IsMade, rest-of, state-sound}
-use Rattle.tag_discipline.proofs.MadeCalls.{malloc-made}
+use Rattle.tag_discipline.proofs.MadeCalls.{malloc-state-after-allocation}
 use Rattle.tag_discipline.proofs.FoundStates.{IsListed, block, pages}
-use Rattle.tag_discipline.proofs.FreeStates.{IsKeptOn, kept-same, free-kept, written-kept, moved-kept}
+use Rattle.tag_discipline.proofs.FreeStates.{IsKeptOn, kept-same, free-kept, with-bytes-at-kept, after-move-kept}
 
 -- ---- in its block
 
-resized-state : (s : State) (x : BlockChunk) (size : ℕ) → Sound s → chunk_at s.live.blocks x.place.user ≡ Some x → 0 < size → end_of (with_size x.place size) ≤ block_end x.place
-    → IsKeptOn s (record { world = resized s.world x.place x.header size; live = resized_in s.world s.live x.place x.header size })
-resized-state s x size k e some fits =
+after-resize-state : (s : State) (x : BlockChunk) (size : ℕ) → Sound s → chunk_at s.live.blocks x.place.user ≡ Some x → 0 < size → end_of (with_size x.place size) ≤ block_end x.place
+    → IsKeptOn s (record { world = after_resize s.world x.place x.header size; live = live_after_resize_in_block s.world s.live x.place x.header size })
+after-resize-state s x size k e some fits =
     let b = blocks-of s k in
     let i = b.placed.place x.place.user x e in
-    let h = resized-kept s.world s.live.blocks size x b e (record { carved = i.carved; aligned = i.aligned; above = i.above; within = fits; some = some }) in
-    let r = resized-rest s.world s.world x.place size x.header (rest-of s k) in
-    let t : State = record { world = resized s.world x.place x.header size; live = resized_in s.world s.live x.place x.header size } in
+    let h = after-resize-kept s.world s.live.blocks size x b e (record { carved = i.carved; aligned = i.aligned; above = i.above; within = fits; some = some }) in
+    let r = after-resize-rest s.world s.world x.place size x.header (rest-of s k) in
+    let t : State = record { world = after_resize s.world x.place x.header size; live = live_after_resize_in_block s.world s.live x.place x.header size } in
     let tag : tag_at s.world.memory x.place.user ≡ x.tag = present-tag s.world.memory s.world.heap.stacks s.live.blocks b x.place.user x e in
     let blocks = subst (λ v. SoundBlocks t.world.memory t.world.heap.stacks (with_chunk s.live.blocks (record { place = with_size x.place size; tag = v; header = with_size_of x.header size }))) (sym tag) h.sound in
     record {
@@ -63,18 +63,18 @@ chunk-with : (l : LiveBlocks) (x : BlockChunk) (u : ℕ) → x.place.user ≢ u 
 chunk-with l x u n = at-with l x u ∙ cond-false _ _ _ (tied_other u x.place.user (λ q. n (sym q)))
 
 -- a chunk is there after another one was made
-pub still-block : (s : State) (r : Made) (c : Chunk) (x : BlockChunk) → IsMade Malloc s r → r.chunk ≡ Some c → chunk_at s.live.blocks x.place.user ≡ Some x → chunk_at (listed Malloc s.live (Some c)).blocks x.place.user ≡ Some x
+pub still-block : (s : State) (r : AllocationResult) (c : Chunk) (x : BlockChunk) → IsMade Malloc s r → r.chunk ≡ Some c → chunk_at s.live.blocks x.place.user ≡ Some x → chunk_at (with_made_chunk Malloc s.live (Some c)).blocks x.place.user ≡ Some x
 still-block s r (Small p t) x m e g = chunk-with s.live.blocks (new_chunk Malloc p t) x.place.user (m.apart p t e x.place.user x g) ∙ g
 still-block s r (Large n z) x m e g = g
 
 -- the chunk that the checks found is there too
-still-listed : (s : State) (r : Made) (c : Chunk) (w : World) {f : Found} → IsMade Malloc s r → r.chunk ≡ Some c → IsListed s f → IsListed (record { world = w; live = listed Malloc s.live (Some c) }) f
-still-listed s r c w m e (block x g) = block x (still-block s r c x m e g)
-still-listed s r (Small p t) w m e (pages x g) = pages x g
-still-listed s r (Large n z) w m e (pages x g) = pages x (large-with s.live.pages (new_large Malloc n z) x.mapping.user (m.apart_large n z e x.mapping.user x g) ∙ g)
+still-with-made-chunk : (s : State) (r : AllocationResult) (c : Chunk) (w : World) {f : Found} → IsMade Malloc s r → r.chunk ≡ Some c → IsListed s f → IsListed (record { world = w; live = with_made_chunk Malloc s.live (Some c) }) f
+still-with-made-chunk s r c w m e (block x g) = block x (still-block s r c x m e g)
+still-with-made-chunk s r (Small p t) w m e (pages x g) = pages x g
+still-with-made-chunk s r (Large n z) w m e (pages x g) = pages x (large-with s.live.pages (new_large Malloc n z) x.mapping.user (m.apart_large n z e x.mapping.user x g) ∙ g)
 
-pub made-kept : (o : Origin) (s : State) (r : Made) → IsMade o s r → IsKeptOn s (made o s.live r)
-made-kept o s r m = record { sound = m.sound; stale = m.stale }
+pub state-after-allocation-kept : (o : Origin) (s : State) (r : AllocationResult) → IsMade o s r → IsKeptOn s (state_after_allocation o s.live r)
+state-after-allocation-kept o s r m = record { sound = m.sound; stale = m.stale }
 
 kept-on : (s t u : State) → IsKeptOn s t → IsKeptOn t u → u.world.heap ≡ t.world.heap → IsKeptOn s u
 kept-on s t u h k e = record {
@@ -83,55 +83,55 @@ kept-on s t u h k e = record {
 }
 
 abbrev moved_state : State → Found → ℕ → World → Option Chunk → State
-moved_state s f size w c = record { world = (heap.moved_to s.world f size w c).world; live = moved_to s.live f c }
+moved_state s f size w c = record { world = (heap.move_to_cases s.world f size w c).world; live = live_move_cases s.live f c }
 
-moved_to-kept : (s : State) {f : Found} (size : ℕ) (r : Made) (c : Option Chunk) → Sound s → IsListed s f → IsMade Malloc s r → r.chunk ≡ c → IsKeptOn s (moved_state s f size r.world c)
-unfolding copied
-moved_to-kept s size r None k l m e = kept-same s k
-moved_to-kept s {f = f} size r (Some c) k l m e =
-    let t : State = record { world = r.world; live = listed Malloc s.live (Some c) } in
-    let h : IsKeptOn s t = subst (λ o. IsKeptOn s (record { world = r.world; live = listed Malloc s.live o })) e (made-kept Malloc s r m) in
+live-move-cases-kept : (s : State) {f : Found} (size : ℕ) (r : AllocationResult) (c : Option Chunk) → Sound s → IsListed s f → IsMade Malloc s r → r.chunk ≡ c → IsKeptOn s (moved_state s f size r.world c)
+unfolding after_copy
+live-move-cases-kept s size r None k l m e = kept-same s k
+live-move-cases-kept s {f = f} size r (Some c) k l m e =
+    let t : State = record { world = r.world; live = with_made_chunk Malloc s.live (Some c) } in
+    let h : IsKeptOn s t = subst (λ o. IsKeptOn s (record { world = r.world; live = with_made_chunk Malloc s.live o })) e (state-after-allocation-kept Malloc s r m) in
     let n = min (size_found f) size in
-    let v = written-kept t (user_in c) (read_bytes t.world.memory (user_of f) n) h.sound in
-    let u : State = record t { world = filled r.world f c size } in
-    moved-kept s u k l (still-listed s r c (filled r.world f c size) m e l) (kept-on s t u h v refl)
+    let v = with-bytes-at-kept t (user_of_chunk c) (read_bytes t.world.memory (user_of f) n) h.sound in
+    let u : State = record t { world = with_copied_bytes r.world f c size } in
+    after-move-kept s u k l (still-with-made-chunk s r c (with_copied_bytes r.world f c size) m e l) (kept-on s t u h v refl)
 
 -- ---- the call
 
-moved-state : (s : State) {f : Found} (size : ℕ) → Sound s → IsListed s f → IsKeptOn s (record { world = (moved s.world f size).world; live = moved_to s.live f (malloc_of s.world size).chunk })
-unfolding moved
-moved-state s size k l = moved_to-kept s size (malloc_of s.world size) (malloc_of s.world size).chunk k l (malloc-made s size k) refl
+after-move-state : (s : State) {f : Found} (size : ℕ) → Sound s → IsListed s f → IsKeptOn s (record { world = (after_move s.world f size).world; live = live_move_cases s.live f (after_malloc s.world size).chunk })
+unfolding after_move
+after-move-state s size k l = live-move-cases-kept s size (after_malloc s.world size) (after_malloc s.world size).chunk k l (malloc-state-after-allocation s size k) refl
 
 -- a world and its live chunks by the same test
-branch-both : (s : State) (b : Bool) (x y : Made) (l m : Live) → (b ≡ true → IsKeptOn s (record { world = x.world; live = l })) → (b ≡ false → IsKeptOn s (record { world = y.world; live = m }))
+branch-both : (s : State) (b : Bool) (x y : AllocationResult) (l m : Live) → (b ≡ true → IsKeptOn s (record { world = x.world; live = l })) → (b ≡ false → IsKeptOn s (record { world = y.world; live = m }))
     → IsKeptOn s (record { world = (cond b x y).world; live = cond b l m })
 branch-both s true x y l m f g = f refl
 branch-both s false x y l m f g = g refl
 
 abbrev new_size_state : State → Found → ℕ → State
-new_size_state s f size = record { world = (with_new_size s.world f size).world; live = replaced s.world s.live f size }
+new_size_state s f size = record { world = (with_new_size s.world f size).world; live = live_after_resize s.world s.live f size }
 
 new_size-kept : (s : State) {f : Found} (size : ℕ) → Sound s → IsListed s f → 0 < size → IsKeptOn s (new_size_state s f size)
 unfolding with_new_size
 new_size-kept s size k (block x e) some =
-    branch-both s (nat_le (end_of (with_size x.place size)) (block_end x.place)) (heap.resized_in s.world x.place x.header size) (moved s.world (InBlock x.place x.header) size)
-    (resized_in s.world s.live x.place x.header size) (moved_to s.live (InBlock x.place x.header) (malloc_of s.world size).chunk)
-    (λ t. resized-state s x size k e some (grind (arith, nat_tests)))
-    (λ t. moved-state s size k (block x e))
-new_size-kept s size k (pages x e) some = moved-state s size k (pages x e)
+    branch-both s (nat_le (end_of (with_size x.place size)) (block_end x.place)) (heap.after_resize_in_block s.world x.place x.header size) (after_move s.world (InBlock x.place x.header) size)
+    (live_after_resize_in_block s.world s.live x.place x.header size) (live_move_cases s.live (InBlock x.place x.header) (after_malloc s.world size).chunk)
+    (λ t. after-resize-state s x size k e some (grind (arith, nat_tests)))
+    (λ t. after-move-state s size k (block x e))
+new_size-kept s size k (pages x e) some = after-move-state s size k (pages x e)
 
 abbrev pub refound_state : State → Found → ℕ → State
-refound_state s f size = record { world = (refound s.world f size).world; live = relisted s.world s.live f size }
+refound_state s f size = record { world = (realloc_cases s.world f size).world; live = live_after_realloc s.world s.live f size }
 
 within-limit : (s : State) {f : Found} (size : ℕ) → Sound s → IsListed s f → 0 < size
-    → IsKeptOn s (record { world = (cond (nat_le size MAX_REQUEST) (with_new_size s.world f size) (nothing s.world)).world; live = cond (nat_le size MAX_REQUEST) (replaced s.world s.live f size) s.live })
+    → IsKeptOn s (record { world = (cond (nat_le size MAX_REQUEST) (with_new_size s.world f size) (no_chunk s.world)).world; live = cond (nat_le size MAX_REQUEST) (live_after_resize s.world s.live f size) s.live })
 within-limit s {f = f} size k l some =
-    branch-both s (nat_le size MAX_REQUEST) (with_new_size s.world f size) (nothing s.world) (replaced s.world s.live f size) s.live (λ t. new_size-kept s size k l some) (λ t. kept-same s k)
+    branch-both s (nat_le size MAX_REQUEST) (with_new_size s.world f size) (no_chunk s.world) (live_after_resize s.world s.live f size) s.live (λ t. new_size-kept s size k l some) (λ t. kept-same s k)
 
-pub refound-kept : (s : State) {f : Found} (size : ℕ) → Sound s → IsListed s f → IsKeptOn s (refound_state s f size)
-unfolding refound
-refound-kept s {f = f} size k l =
-    branch-both s (size == 0) (record { world = freed_world s.world f; chunk = None }) (cond (nat_le size MAX_REQUEST) (with_new_size s.world f size) (nothing s.world))
-    (delisted s.live f) (cond (nat_le size MAX_REQUEST) (replaced s.world s.live f size) s.live)
+pub realloc-cases-kept : (s : State) {f : Found} (size : ℕ) → Sound s → IsListed s f → IsKeptOn s (refound_state s f size)
+unfolding realloc_cases
+realloc-cases-kept s {f = f} size k l =
+    branch-both s (size == 0) (record { world = freed_world s.world f; chunk = None }) (cond (nat_le size MAX_REQUEST) (with_new_size s.world f size) (no_chunk s.world))
+    (without_freed_chunk s.live f) (cond (nat_le size MAX_REQUEST) (live_after_resize s.world s.live f size) s.live)
     (λ t. free-kept s k l)
     (λ t. within-limit s size k l (grind (arith, nat_tests)))

@@ -8,11 +8,11 @@ use Rattle.address_map.specs.declared.ranges.TheConstants.{SECONDARY_END}
 use Rattle.scudo_heap.specs.Stacks.{StackState}
 use Rattle.scudo_heap.specs.declared.chunk.Place.{Place}
 use Rattle.tag_discipline.specs.LiveChunks.{IsPlace, IsTagged, IsOutside}
-use Rattle.scudo_heap.specs.Chunks.{with_size, end_of, block_end, granules_of, closed, refitted}
+use Rattle.scudo_heap.specs.Chunks.{with_size, end_of, block_end, granules_of, with_end_tag_0, after_retag_tail}
 use Rattle.tag_discipline.proofs.Views.{IsStacked, IsView}
 use Rattle.tag_discipline.proofs.Retags.{IsRetag, retag, or_zero, cleared, open-part, open-after}
 use Rattle.tag_discipline.proofs.Keeps.{IsCallOn}
-use Rattle.tag_discipline.proofs.BlockCalls.{room, block-open, IsClosed, closed-is, block_end-outside}
+use Rattle.tag_discipline.proofs.BlockCalls.{room, block-open, IsClosed, with-end-tag-0-is, block_end-outside}
 
 -- what a call leaves where its place is tagged with t
 pub record IsFitted (m m' : Memory) (p : Place) (t : ℕ) : Type 0 where
@@ -25,25 +25,25 @@ module _ (m : Memory) (h : StackState) (p : Place) (size t : ℕ) (k : IsStacked
   new = with_size p size
 
   -- with more granules
-  longer : granules_of p.size < granules_of size → (m1 : Memory) → IsRetag m m1 (end_of p) (end_of new) t → IsClosed m1 (closed m1 new) new → IsFitted m (closed m1 new) new t
+  longer : granules_of p.size < granules_of size → (m1 : Memory) → IsRetag m m1 (end_of p) (end_of new) t → IsClosed m1 (with_end_tag_0 m1 new) new → IsFitted m (with_end_tag_0 m1 new) new t
   unfolding new
   longer n m1 r c =
       let rp = room h p k i in
       let above = rp.above in
       let within = rp.within in
       let w2 = j.within in
-      let inside : (a : ℕ) → p.user ≤ a → a < end_of new → tag_at (closed m1 new) a ≡ t = λ a l u. c.out a (λ x y. omega arith) ∙ (elim (cases_lt a (end_of p)) [
+      let inside : (a : ℕ) → p.user ≤ a → a < end_of new → tag_at (with_end_tag_0 m1 new) a ≡ t = λ a l u. c.out a (λ x y. omega arith) ∙ (elim (cases_lt a (end_of p)) [
         | inl x ↦ r.out a (λ y z. omega arith) ∙ old.inside a l x
         | inr x ↦ r.inside a x u
       ]) in
-      let out : (a : ℕ) → (p.block ≤ a → a < block_end p → ⊥) → tag_at (closed m1 new) a ≡ tag_at m a = λ a o. c.out a (λ x y. o (omega arith) y) ∙ r.out a (λ x y. o (omega arith) (omega arith)) in
+      let out : (a : ℕ) → (p.block ≤ a → a < block_end p → ⊥) → tag_at (with_end_tag_0 m1 new) a ≡ tag_at m a = λ a o. c.out a (λ x y. o (omega arith) y) ∙ r.out a (λ x y. o (omega arith) (omega arith)) in
       record {
         call = record {
           limit = c.limit ∙ r.limit;
           attrs = λ q. c.attrs q ∙ r.attrs q;
           whole = c.whole;
           inside = inside;
-          rest = λ a o. or_zero m m1 (closed m1 new) a (c.rest a) (inl (r.out a (λ x y. o (omega arith) y)));
+          rest = λ a o. or_zero m m1 (with_end_tag_0 m1 new) a (c.rest a) (inl (r.out a (λ x y. o (omega arith) y)));
           out = out;
         };
         tags = record {
@@ -91,9 +91,9 @@ module _ (m : Memory) (h : StackState) (p : Place) (size t : ℕ) (k : IsStacked
         };
       }
 
-  pub refitted-fits : tag_at m p.user ≡ t → IsFitted m (refitted m p size) (with_size p size) t
-  unfolding new refitted
-  refitted-fits present =
+  pub after-retag-tail-fits : tag_at m p.user ≡ t → IsFitted m (after_retag_tail m p size) (with_size p size) t
+  unfolding new after_retag_tail
+  after-retag-tail-fits present =
       let rp = room h p k i in
       let above = rp.above in
       let al = rp.aligned in
@@ -107,7 +107,7 @@ module _ (m : Memory) (h : StackState) (p : Place) (size t : ℕ) (k : IsStacked
             let m1 = with_granules m (end_of p) (granules_of size - granules_of p.size) (tag_at m p.user) true in
             let r : IsRetag m m1 (end_of p) (end_of new) (tag_at m p.user) = retag m (end_of p) (granules_of size - granules_of p.size) (tag_at m p.user) (end_of new) true s.whole (omega arith)
             (open-part m p.block (block_end p) (end_of p) (end_of new) open0 (omega arith) (omega arith) (omega arith)) in
-            let c = closed-is m1 new r.whole (open-after m m1 p.block (block_end p) r.attrs open0) (omega arith) (omega arith) units in
+            let c = with-end-tag-0-is m1 new r.whole (open-after m m1 p.block (block_end p) r.attrs open0) (omega arith) (omega arith) units in
             subst (λ x. IsFitted m x new t) (sym (cond-true _ _ _ is)) (longer n m1 (subst (IsRetag m m1 (end_of p) (end_of new)) present r) c)
         | inr n ↦
             let is : nat_lt (granules_of p.size) (granules_of size) ≡ false = grind (arith, nat_tests) in

@@ -4,26 +4,26 @@ use Rattle.std.proofs.lemmas.Bool.{cond-false}
 use Rattle.std.proofs.lemmas.Bool.Decides.{nat_tests}
 use Rattle.scudo_heap.specs.declared.abort.HeapAbort.{HeapAbort}
 use Rattle.scudo_heap.specs.declared.chunk.Found.{Found}
-use Rattle.scudo_heap.specs.Freeing.{Freed as Outcome, freed_by, free_of}
-use Rattle.scudo_heap.specs.Realloc.{Reallocated, reallocated_by, realloc_of}
-use Rattle.scudo_heap.specs.Allocation.{malloc_of}
+use Rattle.scudo_heap.specs.Freeing.{Freed as Outcome, free_cases, free_of}
+use Rattle.scudo_heap.specs.Realloc.{ReallocResult, checked_realloc_cases, after_realloc}
+use Rattle.scudo_heap.specs.Allocation.{after_malloc}
 use Rattle.scudo_heap.proofs.ServedLemmas.{served-on, same-pages}
 use Rattle.scudo_header.specs.declared.headers.Origin.TheVariants as origin
-use Rattle.tag_discipline.specs.CarefulRuns.{State, Live, HeapRequest, Malloc, Calloc, Memalign, Realloc, Free, delisted_by, relisted_by, found_at, after_realloc, after_free, after_call, IsPointerTo, IsCareful, IsQuiet, Step, quiet, call, Run, stop, next, HasFree}
+use Rattle.tag_discipline.specs.CarefulRuns.{State, Live, HeapRequest, Malloc, Calloc, Memalign, Realloc, Free, live_free_cases, live_realloc_cases, found_at, state_after_realloc, state_after_free, after_call, IsPointerTo, IsCareful, IsQuiet, Step, quiet, call, Run, stop, next, HasFree}
 use Rattle.tag_discipline.specs.SoundHeaps.{Sound}
 use Rattle.tag_discipline.proofs.Freed.{Freed, IsStale}
 use Rattle.tag_discipline.proofs.Serving.{blocks-of}
 use Rattle.tag_discipline.proofs.WorldRests.{IsRest}
 use Rattle.tag_discipline.proofs.BlockSteps.{IsSameTags, same-tags_sound, same-tags_stale}
 use Rattle.tag_discipline.proofs.MadeStates.{state-sound}
-use Rattle.tag_discipline.proofs.MadeCalls.{malloc-made, calloc-made, memalign-made}
+use Rattle.tag_discipline.proofs.MadeCalls.{malloc-state-after-allocation, calloc-state-after-allocation, memalign-state-after-allocation}
 use Rattle.tag_discipline.proofs.FoundStates.{listed}
 use Rattle.tag_discipline.proofs.FreeStates.{IsKeptOn, kept-same, free-kept}
-use Rattle.tag_discipline.proofs.ReallocStates.{made-kept, refound-kept}
+use Rattle.tag_discipline.proofs.ReallocStates.{state-after-allocation-kept, realloc-cases-kept}
 
 -- ---- calls
 
-free_by-kept : (s : State) (pointer : ℕ) (r : Result Found HeapAbort) → Sound s → IsPointerTo s pointer → pointer ≢ 0 → found_at s.world pointer ≡ r → IsKeptOn s (record { world = (freed_by s.world r).world; live = delisted_by s.live r })
+free_by-kept : (s : State) (pointer : ℕ) (r : Result Found HeapAbort) → Sound s → IsPointerTo s pointer → pointer ≢ 0 → found_at s.world pointer ≡ r → IsKeptOn s (record { world = (free_cases s.world r).world; live = live_free_cases s.live r })
 free_by-kept s pointer (Err e) k c n f = kept-same s k
 free_by-kept s pointer (Ok g) k c n f = free-kept s k (listed s pointer g k c n f)
 
@@ -32,40 +32,40 @@ branch-free : (s : State) (b : Bool) (x y : Outcome) (l m : Live) → (b ≡ tru
 branch-free s true x y l m f g = f refl
 branch-free s false x y l m f g = g refl
 
-after_free-kept : (s : State) (pointer : ℕ) → Sound s → IsPointerTo s pointer → IsKeptOn s (after_free s pointer)
+state-after-free-kept : (s : State) (pointer : ℕ) → Sound s → IsPointerTo s pointer → IsKeptOn s (state_after_free s pointer)
 unfolding free_of
-after_free-kept s pointer k c =
-    branch-free s (pointer == 0) (record { world = s.world; result = Ok tt }) (freed_by s.world (found_at s.world pointer)) s.live (delisted_by s.live (found_at s.world pointer))
+state-after-free-kept s pointer k c =
+    branch-free s (pointer == 0) (record { world = s.world; result = Ok tt }) (free_cases s.world (found_at s.world pointer)) s.live (live_free_cases s.live (found_at s.world pointer))
     (λ t. kept-same s k)
     (λ t. free_by-kept s pointer (found_at s.world pointer) k c (grind (arith, nat_tests)) refl)
 
 realloc_by-kept : (s : State) (pointer size : ℕ) (r : Result Found HeapAbort) → Sound s → IsPointerTo s pointer → pointer ≢ 0 → found_at s.world pointer ≡ r
-    → IsKeptOn s (record { world = (reallocated_by s.world size r).world; live = relisted_by s.world s.live size r })
+    → IsKeptOn s (record { world = (checked_realloc_cases s.world size r).world; live = live_realloc_cases s.world s.live size r })
 realloc_by-kept s pointer size (Err e) k c n f = kept-same s k
-realloc_by-kept s pointer size (Ok g) k c n f = refound-kept s size k (listed s pointer g k c n f)
+realloc_by-kept s pointer size (Ok g) k c n f = realloc-cases-kept s size k (listed s pointer g k c n f)
 
-elsewhere : (s : State) (pointer size : ℕ) → (pointer == 0) ≡ false → IsKeptOn s (record { world = (reallocated_by s.world size (found_at s.world pointer)).world; live = relisted_by s.world s.live size (found_at s.world pointer) })
-    → IsKeptOn s (record { world = (realloc_of s.world pointer size).world; live = relisted_by s.world s.live size (found_at s.world pointer) })
-unfolding realloc_of
+elsewhere : (s : State) (pointer size : ℕ) → (pointer == 0) ≡ false → IsKeptOn s (record { world = (checked_realloc_cases s.world size (found_at s.world pointer)).world; live = live_realloc_cases s.world s.live size (found_at s.world pointer) })
+    → IsKeptOn s (record { world = (after_realloc s.world pointer size).world; live = live_realloc_cases s.world s.live size (found_at s.world pointer) })
+unfolding after_realloc
 elsewhere s pointer size e k =
-    subst (λ (r : Reallocated). IsKeptOn s (record { world = r.world; live = relisted_by s.world s.live size (found_at s.world pointer) })) (sym (cond-false _ _ _ e)) k
+    subst (λ (r : ReallocResult). IsKeptOn s (record { world = r.world; live = live_realloc_cases s.world s.live size (found_at s.world pointer) })) (sym (cond-false _ _ _ e)) k
 
 branch-state : (s : State) (b : Bool) (x y : State) → (b ≡ true → IsKeptOn s x) → (b ≡ false → IsKeptOn s y) → IsKeptOn s (cond b x y)
 branch-state s true x y f g = f refl
 branch-state s false x y f g = g refl
 
-after_realloc-kept : (s : State) (pointer size : ℕ) → Sound s → IsPointerTo s pointer → IsKeptOn s (after_realloc s pointer size)
-after_realloc-kept s pointer size k c = branch-state s (pointer == 0) _ _
-    (λ t. made-kept origin.Malloc s (malloc_of s.world size) (malloc-made s size k))
+state-after-realloc-kept : (s : State) (pointer size : ℕ) → Sound s → IsPointerTo s pointer → IsKeptOn s (state_after_realloc s pointer size)
+state-after-realloc-kept s pointer size k c = branch-state s (pointer == 0) _ _
+    (λ t. state-after-allocation-kept origin.Malloc s (after_malloc s.world size) (malloc-state-after-allocation s size k))
     (λ t. elsewhere s pointer size t (realloc_by-kept s pointer size (found_at s.world pointer) k c (grind (arith, nat_tests)) refl))
 
 pub call-kept : (s : State) (c : HeapRequest) → Sound s → IsCareful s c → IsKeptOn s (after_call c s)
 unfolding after_call
-call-kept s (Malloc size) k c = made-kept origin.Malloc s _ (malloc-made s size k)
-call-kept s (Calloc count size) k c = made-kept origin.Malloc s _ (calloc-made s count size k)
-call-kept s (Memalign align size) k c = made-kept origin.Memalign s _ (memalign-made s align size k)
-call-kept s (Realloc pointer size) k c = after_realloc-kept s pointer size k c
-call-kept s (Free pointer) k c = after_free-kept s pointer k c
+call-kept s (Malloc size) k c = state-after-allocation-kept origin.Malloc s _ (malloc-state-after-allocation s size k)
+call-kept s (Calloc count size) k c = state-after-allocation-kept origin.Malloc s _ (calloc-state-after-allocation s count size k)
+call-kept s (Memalign align size) k c = state-after-allocation-kept origin.Memalign s _ (memalign-state-after-allocation s align size k)
+call-kept s (Realloc pointer size) k c = state-after-realloc-kept s pointer size k c
+call-kept s (Free pointer) k c = state-after-free-kept s pointer k c
 
 -- ---- steps and runs
 

@@ -9,7 +9,7 @@ use Rattle.scudo_primary.specs.Lists.{IsClass}
 use Rattle.scudo_secondary.specs.Mappings.{AreMappings}
 use Rattle.scudo_heap.specs.Stacks.{StackState, pages_of, AreSound}
 use Rattle.scudo_heap.specs.Heaps.{HeapState}
-use Rattle.scudo_heap.specs.Served.{IsServed, heap_page}
+use Rattle.scudo_heap.specs.Served.{HeapOwnsItsPages, heap_page}
 use Rattle.scudo_heap.proofs.MapLemmas.{none-below}
 use Rattle.scudo_heap.proofs.ServedLemmas.{lt-true, lt-false}
 use Rattle.tag_discipline.specs.CarefulRuns.{State}
@@ -24,16 +24,16 @@ of_heap_page : (o : Option ℕ) (b : Bool) → o ≡ heap_page b → (o ≡ None
 of_heap_page o b e = elim (heap_page_is b) [ inl f ↦ inl (e ∙ f) | inr f ↦ inr (e ∙ f) ]
 
 -- before the first mapping nothing is mapped
-pub before-mappings : (m : Memory) (h : HeapState) (a : ℕ) → IsServed m h → AreMappings h.maps.mappings → SECONDARY_START ≤ a → a < SECONDARY_START + PAGE_SIZE → attrs_at m (a / PAGE_SIZE) ≡ None
+pub before-mappings : (m : Memory) (h : HeapState) (a : ℕ) → HeapOwnsItsPages m h → AreMappings h.maps.mappings → SECONDARY_START ≤ a → a < SECONDARY_START + PAGE_SIZE → attrs_at m (a / PAGE_SIZE) ≡ None
 unfolding AreMappings
 before-mappings m h a v k l u = v.mappings a l (omega arith) ∙ ap heap_page (none-below h.maps.mappings (SECONDARY_START + PAGE_SIZE) a k u)
 
-in-region : (m : Memory) (h : HeapState) (c a : ℕ) → IsServed m h → IsClass c → region_of c ≤ a → a < region_of c + REGION_SIZE → attrs_at m (a / PAGE_SIZE) ≡ heap_page (nat_lt ((a - region_of c) / PAGE_SIZE) (pages_of h.stacks c))
+in-region : (m : Memory) (h : HeapState) (c a : ℕ) → HeapOwnsItsPages m h → IsClass c → region_of c ≤ a → a < region_of c + REGION_SIZE → attrs_at m (a / PAGE_SIZE) ≡ heap_page (nat_lt ((a - region_of c) / PAGE_SIZE) (pages_of h.stacks c))
 in-region m h c a v k l u =
     let e : a / PAGE_SIZE ≡ region_of c / PAGE_SIZE + (a - region_of c) / PAGE_SIZE = omega arith in
     ap (attrs_at m) e ∙ v.regions c ((a - region_of c) / PAGE_SIZE) k.low k.high (omega arith)
 
-others : (m : Memory) (h : HeapState) (a : ℕ) → IsServed m h → AreMappings h.maps.mappings → region_of 1 ≤ a → a < SECONDARY_START + 16 → (attrs_at m (a / 4096) ≡ None) ⊎ (attrs_at m (a / 4096) ≡ Some 11)
+others : (m : Memory) (h : HeapState) (a : ℕ) → HeapOwnsItsPages m h → AreMappings h.maps.mappings → region_of 1 ≤ a → a < SECONDARY_START + 16 → (attrs_at m (a / 4096) ≡ None) ⊎ (attrs_at m (a / 4096) ≡ Some 11)
 others m h a v k l u = elim (cases_lt a SECONDARY_START) [
   | inl y ↦
       let c = (a - REGIONS_START) / REGION_SIZE in
@@ -42,7 +42,7 @@ others m h a v k l u = elim (cases_lt a SECONDARY_START) [
   | inr y ↦ inl (before-mappings m h a v k y (omega arith))
 ]
 
-pub stacked-of : (m : Memory) (h : HeapState) → IsServed m h → AreSound h.stacks → IsStacked h.stacks
+pub stacked-of : (m : Memory) (h : HeapState) → HeapOwnsItsPages m h → AreSound h.stacks → IsStacked h.stacks
 stacked-of m h v s = record {
   few = λ c k. let few = v.few c k.low k.high in omega arith;
   blocks = λ c b k e. s.blocks c b k.low k.high e;

@@ -7,14 +7,14 @@ use Rattle.scudo_heap.specs.declared.abort.HeapAbort.{HeapAbort}
 use Rattle.scudo_heap.specs.declared.chunk.Found.{Found}
 use Rattle.scudo_heap.specs.Chunks.{end_of}
 use Rattle.mte_svc.specs.declared.record.Record.{Record}
-use Rattle.mte_sched.specs.declared.refusal.Refusal.{Refusal}
-use Rattle.mte_sched.specs.declared.refusal.Refusal.TheVariants as refusal
-use Rattle.mte_sched.specs.declared.admission.AdmitError.{AdmitError}
-use Rattle.mte_sched.specs.Machines.{Machine, runs, ended_by_tag, attempted, attempts, settled, advance}
-use Rattle.mte_sched.specs.Ledger.{Call, Admit, Slice, Stop, Entry, admission_refusal, call_refusal, entered_by}
-use Rattle.mte_sched.specs.Lives.{Own, Sliced, Halted, Session, Life, lives, life_by, lives_from, life_among, own_events}
+use Rattle.mte_tenant.specs.declared.refusal.Refusal.{Refusal}
+use Rattle.mte_tenant.specs.declared.refusal.Refusal.TheVariants as refusal
+use Rattle.mte_tenant.specs.declared.admission.AdmitError.{AdmitError}
+use Rattle.mte_tenant.specs.Machines.{Machine, runs, stop_by_tag, after_attempt, after_attempts, after_slice_end, after_slice}
+use Rattle.mte_tenant.specs.Ledger.{Call, Admit, Slice, Stop, LedgerEntry, admission_refusal, call_refusal, ledger_cases}
+use Rattle.mte_sched.specs.Lives.{TenantEvent, OwnSlice, OwnStop, Session, Life, lives, life_cases, lives_from, life_among, own_events}
 use Rattle.mte_sched.specs.Contents as contents
-use Rattle.mte_sched.specs.Contents.{Held, Gone, alone, held_stopped, tenant_of}
+use Rattle.mte_sched.specs.Contents.{TenantState, Gone, after_own_events, state_after_stop, tenant_of}
 use Rattle.mte_sched.specs.Isolation.{tenant_among}
 use Rattle.mte_sched.proofs.IsolationLemmas.{tenants_are_alone, among_tenants}
 use Rattle.tag_discipline.specs.LiveChunks.{BlockChunk, chunk_at}
@@ -22,14 +22,14 @@ use Rattle.tag_discipline.proofs.Freed.{IsStale}
 use Rattle.tag_discipline.specs.Laws.{IsRefused}
 use Rattle.tag_discipline.specs.CarefulRuns.{State, Live, no_chunks, HeapRequest, Malloc, Calloc, Memalign, Realloc, Free, found_at, after_call, IsPointerTo, IsLive, IsLiveBlock, HasFree}
 use Rattle.tag_discipline.specs.CarefulRuns as heap
-use Rattle.tag_discipline.specs.CarefulTenants.{state_of, stepped, next_request, live_after, IsCarefulNext, live_through, IsCareful}
-use Rattle.tag_discipline.specs.CarefulSessions.{named_in, named_at, named_by, has_free_block, freed_after, freed_through, live_of, freed_of, AreCareful, machine_held, machine_in, first_machine, IsCarefulIn, state_in, freed_in}
+use Rattle.tag_discipline.specs.CarefulTenants.{state_of, before_service, next_request, live_after, IsCarefulNext, live_through, IsCareful}
+use Rattle.tag_discipline.specs.CarefulSessions.{named_chunk_cases, named_at, named_chunks, has_free_block, freed_after, freed_through, live_of, freed_of, AreCareful, machine_held, machine_cases, first_machine, IsCarefulIn, state_in, freed_in}
 use Rattle.tag_discipline.specs.SoundHeaps.{Sound}
 use Rattle.tag_discipline.specs.Discipline.{MayFree, TenantsStaySound, FreedBlocksOfTenantsAreRefused, ChunksOfTenantsAreGuarded, FreedPagesOfTenantsAreRefused}
 use Rattle.tag_discipline.proofs.Freeings.{IsStaleAfter}
 use Rattle.tag_discipline.proofs.Disciplines.{apart, guarded, stale-by, stale-refused, freed-pages-refused}
 use Rattle.tag_discipline.proofs.Starts.{tenants-start}
-use Rattle.tag_discipline.proofs.Tenants.{step-quiet, attempted-kept, attempted-done, advance-sound}
+use Rattle.tag_discipline.proofs.Tenants.{step-quiet, after-attempt-kept, after-attempt-done, after-slice-sound}
 
 -- what holds of each chunk of a list
 abbrev Each : (BlockChunk → Type 0) → List BlockChunk → Type 0
@@ -73,7 +73,7 @@ abbrev FreesIt : State → HeapRequest → BlockChunk → Type 0
 FreesIt s c x = HasFree x.place.class x.place.block (after_call c s) → IsStaleAfter (after_call c s).world x
 
 named-in : (s : State) (pointer : ℕ) (c : HeapRequest) → Sound s → heap.IsCareful s c → MayFree pointer c → (r : Result Found HeapAbort) → found_at s.world pointer ≡ r
-    → (o : Option BlockChunk) → chunk_at s.live.blocks (plain pointer) ≡ o → Each (FreesIt s c) (named_in r o)
+    → (o : Option BlockChunk) → chunk_at s.live.blocks (plain pointer) ≡ o → Each (FreesIt s c) (named_chunk_cases r o)
 named-in s pointer c k careful may (Err a) h o e = tt
 named-in s pointer c k careful may (Ok f) h None e = tt
 named-in s pointer c k careful may (Ok f) h (Some x) e =
@@ -102,12 +102,12 @@ abbrev MayBeStale : Machine → BlockChunk → Type 0
 MayBeStale k x = has_free_block k.parts.heap.stacks x ≡ true → StaleIn k x
 
 request-stale : (n : ℕ) (m : Machine) (l : Live) (c : HeapRequest) (pointer : ℕ) → Sound (state_of m l) → IsCarefulNext m l → next_request m ≡ Some c → MayFree pointer c
-    → Each (MayBeStale (attempted n m).machine) (named_at (state_of (stepped m) l) pointer)
+    → Each (MayBeStale (after_attempt n m).machine) (named_at (state_of (before_service m) l) pointer)
 request-stale n m l c pointer k careful e may =
-    let s = state_of (stepped m) l in
+    let s = state_of (before_service m) l in
     let first = step-quiet m l careful.tags k in
-    let is = attempted-done n m l c e in
-    each-weaker (FreesIt s c) (MayBeStale (attempted n m).machine)
+    let is = after-attempt-done n m l c e in
+    each-weaker (FreesIt s c) (MayBeStale (after_attempt n m).machine)
     (λ x f on.
     let given = (after_call c s).world.rgsr.tag in
     let st : IsStaleAfter (after_call c s).world x = f (subst (HasFree x.place.class x.place.block) is on) in
@@ -115,7 +115,7 @@ request-stale n m l c pointer k careful e may =
     (named_at s pointer) (named s pointer c first.sound (careful.request c e) may)
 
 named-stale : (n : ℕ) (m : Machine) (l : Live) → Sound (state_of m l) → IsCarefulNext m l → (r : Option HeapRequest) → next_request m ≡ r
-    → Each (MayBeStale (attempted n m).machine) (named_by (state_of (stepped m) l) r)
+    → Each (MayBeStale (after_attempt n m).machine) (named_chunks (state_of (before_service m) l) r)
 named-stale n m l k c None e = tt
 named-stale n m l k c (Some (Malloc size)) e = tt
 named-stale n m l k c (Some (Calloc count size)) e = tt
@@ -123,14 +123,14 @@ named-stale n m l k c (Some (Memalign align size)) e = tt
 named-stale n m l k c (Some (Realloc pointer size)) e = request-stale n m l (Realloc pointer size) pointer k c e (inr (size, refl))
 named-stale n m l k c (Some (Free pointer)) e = request-stale n m l (Free pointer) pointer k c e (inl refl)
 
-freed-step : (n : ℕ) (m : Machine) (l : Live) (xs : List BlockChunk) → Sound (state_of m l) → IsCarefulNext m l → Each (StaleIn m) xs → Each (StaleIn (attempted n m).machine) (freed_after n m l xs)
+freed-step : (n : ℕ) (m : Machine) (l : Live) (xs : List BlockChunk) → Sound (state_of m l) → IsCarefulNext m l → Each (StaleIn m) xs → Each (StaleIn (after_attempt n m).machine) (freed_after n m l xs)
 unfolding freed_after
 freed-step n m l xs k c a =
-    let after = attempted-kept n m l k c in
-    let new = named_by (state_of (stepped m) l) (next_request m) in
-    let old = each-weaker (StaleIn m) (MayBeStale (attempted n m).machine) (λ x st on. (st.0, after.stale (record { place = x.place; tag = x.tag; given = st.0 }) st.1 on)) xs a in
-    all-filter (has_free_block (attempted n m).machine.parts.heap.stacks) (StaleIn (attempted n m).machine) (new ++ xs)
-    (each-append (MayBeStale (attempted n m).machine) new xs (named-stale n m l k c (next_request m) refl) old)
+    let after = after-attempt-kept n m l k c in
+    let new = named_chunks (state_of (before_service m) l) (next_request m) in
+    let old = each-weaker (StaleIn m) (MayBeStale (after_attempt n m).machine) (λ x st on. (st.0, after.stale (record { place = x.place; tag = x.tag; given = st.0 }) st.1 on)) xs a in
+    all-filter (has_free_block (after_attempt n m).machine.parts.heap.stacks) (StaleIn (after_attempt n m).machine) (new ++ xs)
+    (each-append (MayBeStale (after_attempt n m).machine) new xs (named-stale n m l k c (next_request m) refl) old)
 
 -- ---- a slice
 
@@ -138,58 +138,58 @@ stale-by-test : (b : Bool) (m k : Machine) (xs ys : List BlockChunk) → (b ≡ 
 stale-by-test true m k xs ys f g = f refl
 stale-by-test false m k xs ys f g = g refl
 
-attempts-stale : (n : ℕ) (m : Machine) (l : Live) (xs : List BlockChunk) → Sound (state_of m l) → IsCareful n m l → Each (StaleIn m) xs → Each (StaleIn (attempts n m)) (freed_through n m l xs)
-unfolding attempts freed_through IsCareful
-attempts-stale zero m l xs k c a = a
-attempts-stale (suc n) m l xs k c a =
-    let next = attempted n m in
+after-attempts-stale : (n : ℕ) (m : Machine) (l : Live) (xs : List BlockChunk) → Sound (state_of m l) → IsCareful n m l → Each (StaleIn m) xs → Each (StaleIn (after_attempts n m)) (freed_through n m l xs)
+unfolding after_attempts freed_through IsCareful
+after-attempts-stale zero m l xs k c a = a
+after-attempts-stale (suc n) m l xs k c a =
+    let next = after_attempt n m in
     let j = live_after m l in
     let ys = freed_after n m l xs in
-    stale-by-test (runs m) (cond next.goes_on (attempts n next.machine) next.machine) m (cond next.goes_on (freed_through n next.machine j ys) ys) xs
+    stale-by-test (runs m) (cond next.goes_on (after_attempts n next.machine) next.machine) m (cond next.goes_on (freed_through n next.machine j ys) ys) xs
     (λ e.
-    let sound = (attempted-kept n m l k (c.0 e)).sound in
+    let sound = (after-attempt-kept n m l k (c.0 e)).sound in
     let stale = freed-step n m l xs k (c.0 e) a in
-    stale-by-test next.goes_on (attempts n next.machine) next.machine (freed_through n next.machine j ys) ys (λ f. attempts-stale n next.machine j ys sound (c.1 e f) stale) (λ f. stale))
+    stale-by-test next.goes_on (after_attempts n next.machine) next.machine (freed_through n next.machine j ys) ys (λ f. after-attempts-stale n next.machine j ys sound (c.1 e f) stale) (λ f. stale))
     (λ e. a)
 
-ended-stale : (b : Bool) (m : Machine) (xs : List BlockChunk) → Each (StaleIn m) xs → Each (StaleIn (cond b (ended_by_tag m) m)) xs
+ended-stale : (b : Bool) (m : Machine) (xs : List BlockChunk) → Each (StaleIn m) xs → Each (StaleIn (cond b (stop_by_tag m) m)) xs
 ended-stale true m xs a = a
 ended-stale false m xs a = a
 
-advance-stale : (n : ℕ) (m : Machine) (l : Live) (xs : List BlockChunk) → Sound (state_of m l) → IsCareful n m l → Each (StaleIn m) xs → Each (StaleIn (advance n m)) (freed_through n m l xs)
-unfolding advance settled
-advance-stale n m l xs k c a =
-    let e = attempts n m in
+after-slice-stale : (n : ℕ) (m : Machine) (l : Live) (xs : List BlockChunk) → Sound (state_of m l) → IsCareful n m l → Each (StaleIn m) xs → Each (StaleIn (after_slice n m)) (freed_through n m l xs)
+unfolding after_slice after_slice_end
+after-slice-stale n m l xs k c a =
+    let e = after_attempts n m in
     let z : Machine = record e { parts = record e.parts { left = 0 } } in
-    ended-stale (runs z && z.memory.state.pending) z (freed_through n m l xs) (attempts-stale n m l xs k c a)
+    ended-stale (runs z && z.memory.state.pending) z (freed_through n m l xs) (after-attempts-stale n m l xs k c a)
 
 -- ---- a tenant's own events
 
 live-is : (m k : Machine) → contents.Live m ≡ contents.Live k → m ≡ k
 live-is m k e = cc
 
-gone-stays : (own : List Own) (r : Record) (k : Machine) → alone (Gone r) own ≡ contents.Live k → ⊥
-unfolding alone
+gone-stays : (own : List TenantEvent) (r : Record) (k : Machine) → after_own_events (Gone r) own ≡ contents.Live k → ⊥
+unfolding after_own_events
 gone-stays [] r k e = cc
-gone-stays (Sliced n ∷ more) r k e = gone-stays more r k e
-gone-stays (Halted ∷ more) r k e = gone-stays more r k e
+gone-stays (OwnSlice n ∷ more) r k e = gone-stays more r k e
+gone-stays (OwnStop ∷ more) r k e = gone-stays more r k e
 
 record AreKept (k : Machine) (l : Live) (xs : List BlockChunk) : Type 0 where
   sound : Sound (state_of k l)
   stale : Each (StaleIn k) xs
 
-own-kept : (own : List Own) (m k : Machine) (l : Live) (xs : List BlockChunk) → Sound (state_of m l) → Each (StaleIn m) xs → AreCareful own m l → alone (contents.Live m) own ≡ contents.Live k
+own-kept : (own : List TenantEvent) (m k : Machine) (l : Live) (xs : List BlockChunk) → Sound (state_of m l) → Each (StaleIn m) xs → AreCareful own m l → after_own_events (contents.Live m) own ≡ contents.Live k
     → AreKept k (live_of own m l) (freed_of own m l xs)
-unfolding alone live_of freed_of AreCareful
+unfolding after_own_events live_of freed_of AreCareful
 own-kept [] m k l xs s a c e = subst (λ n. AreKept n l xs) (live-is m k e) (record { sound = s; stale = a })
-own-kept (Sliced n ∷ more) m k l xs s a c e =
-    own-kept more (advance n m) k (live_through n m l) (freed_through n m l xs) (advance-sound n m l s c.0) (advance-stale n m l xs s c.0 a) c.1 e
-own-kept (Halted ∷ more) m k l xs s a c e = absurd (gone-stays more _ k e)
+own-kept (OwnSlice n ∷ more) m k l xs s a c e =
+    own-kept more (after_slice n m) k (live_through n m l) (freed_through n m l xs) (after-slice-sound n m l s c.0) (after-slice-stale n m l xs s c.0 a) c.1 e
+own-kept (OwnStop ∷ more) m k l xs s a c e = absurd (gone-stays more _ k e)
 
 -- ---- admitted tenants
 
 abbrev IsAccepted : ℕ → Life → Type 0
-IsAccepted frames life = (ledger : List Entry) × (admission_refusal frames ledger life.id life.terms ≡ None)
+IsAccepted frames life = (ledger : List LedgerEntry) × (admission_refusal frames ledger life.id life.terms ≡ None)
 
 refused-none : (o : Option AdmitError) → option_map refusal.Admit o ≡ None → o ≡ None
 refused-none (Some e) h = absurd cc
@@ -198,12 +198,12 @@ refused-none None h = refl
 life-is : (a b : Life) → Some a ≡ Some b → a ≡ b
 life-is a b e = cc
 
-accepted-among : (b : Bool) (frames : ℕ) (ledger : List Entry) (a life : Life) (o : Option Life) → admission_refusal frames ledger a.id a.terms ≡ None → cond b (Some a) o ≡ Some life → (o ≡ Some life → IsAccepted frames life) → IsAccepted frames life
+accepted-among : (b : Bool) (frames : ℕ) (ledger : List LedgerEntry) (a life : Life) (o : Option Life) → admission_refusal frames ledger a.id a.terms ≡ None → cond b (Some a) o ≡ Some life → (o ≡ Some life → IsAccepted frames life) → IsAccepted frames life
 accepted-among true frames ledger a life o r e rest = subst (IsAccepted frames) (life-is a life e) (ledger, r)
 accepted-among false frames ledger a life o r e rest = rest e
 
-accepted-by : (r : Option Refusal) (e : Call) (frames : ℕ) (ledger : List Entry) (own : ℕ → List Own) (more : List Life) (id : ℕ) (life : Life) → call_refusal frames ledger e ≡ r
-    → life_among id (life_by r e own ++ more) ≡ Some life → (life_among id more ≡ Some life → IsAccepted frames life) → IsAccepted frames life
+accepted-by : (r : Option Refusal) (e : Call) (frames : ℕ) (ledger : List LedgerEntry) (own : ℕ → List TenantEvent) (more : List Life) (id : ℕ) (life : Life) → call_refusal frames ledger e ≡ r
+    → life_among id (life_cases r e own ++ more) ≡ Some life → (life_among id more ≡ Some life → IsAccepted frames life) → IsAccepted frames life
 unfolding call_refusal
 accepted-by (Some x) e frames ledger own more id life h f rest = rest f
 accepted-by None (Slice k n) frames ledger own more id life h f rest = rest f
@@ -212,25 +212,25 @@ accepted-by None (Admit k terms) frames ledger own more id life h f rest =
     let a : Life = record { id = k; terms = terms; own = own k } in
     accepted-among (k == id) frames ledger a life (life_among id more) (refused-none _ h) f rest
 
-accepted : (frames : ℕ) (ledger : List Entry) (calls : List Call) (id : ℕ) (life : Life) → life_among id (lives_from frames ledger calls) ≡ Some life → IsAccepted frames life
+accepted : (frames : ℕ) (ledger : List LedgerEntry) (calls : List Call) (id : ℕ) (life : Life) → life_among id (lives_from frames ledger calls) ≡ Some life → IsAccepted frames life
 unfolding lives_from
 accepted frames ledger [] id life h = absurd cc
 accepted frames ledger (e ∷ more) id life h =
     let r = call_refusal frames ledger e in
-    let after = entered_by r ledger e in
+    let after = ledger_cases r ledger e in
     accepted-by r e frames ledger (own_events frames after more) (lives_from frames after more) id life refl h (accepted frames after more id life)
 
 machine-is : (k m : Machine) → Some k ≡ Some m → k ≡ m
 machine-is k m e = cc
 
-held-is : (h : Held) (m : Machine) → machine_held h ≡ Some m → h ≡ contents.Live m
+held-is : (h : TenantState) (m : Machine) → machine_held h ≡ Some m → h ≡ contents.Live m
 held-is (contents.Live k) m e = ap contents.Live (machine-is k m e)
 held-is (Gone r) m e = absurd cc
 
-machine-of : (s : Session) (life : Life) (m : Machine) → IsCarefulIn s life m → alone (contents.Live (first_machine life)) life.own ≡ contents.Live m
+machine-of : (s : Session) (life : Life) (m : Machine) → IsCarefulIn s life m → after_own_events (contents.Live (first_machine life)) life.own ≡ contents.Live m
 machine-of s life m h =
     let there = ap (tenant_among life.id) (tenants_are_alone s) ∙ among_tenants life.id (lives s) life h.admitted in
-    held-is _ m (sym (ap machine_in there) ∙ h.machine)
+    held-is _ m (sym (ap machine_cases there) ∙ h.machine)
 
 kept-in-session : (s : Session) (life : Life) (m : Machine) → IsCarefulIn s life m → AreKept m (live_of life.own (first_machine life) no_chunks) (freed_in life)
 kept-in-session s life m h =

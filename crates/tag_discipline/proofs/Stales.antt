@@ -7,7 +7,7 @@ use Rattle.mte_tags.specs.Memory.{Memory, tag_at}
 use Rattle.scudo_primary.specs.Pools.{is_member}
 use Rattle.scudo_primary.proofs.ListLemmas.{member-other, member-first, distinct-head}
 use Rattle.tag_discipline.proofs.Blocks.{same-class}
-use Rattle.scudo_heap.specs.Stacks.{StackState, stack_of, with_stack, carved}
+use Rattle.scudo_heap.specs.Stacks.{StackState, stack_of, with_stack, after_carve}
 use Rattle.tag_discipline.specs.LiveChunks.{IsCarved, IsPlace}
 use Rattle.scudo_heap.specs.declared.chunk.Place.{Place}
 use Rattle.tag_discipline.proofs.Views.{IsStacked}
@@ -36,9 +36,9 @@ on-stack h c xs d b old new = elim (cases_eq d c) [
 ]
 
 -- a chunk that was made, where the block is still free
-pub stale-placed : (m m' : Memory) (h : StackState) (p : Place) (t : ℕ) (more : List ℕ) (f : Freed) → IsStacked h → IsPlace h p → IsCallOn m m' p t → stack_of h p.class ≡ p.block ∷ more
+pub stale-after-place : (m m' : Memory) (h : StackState) (p : Place) (t : ℕ) (more : List ℕ) (f : Freed) → IsStacked h → IsPlace h p → IsCallOn m m' p t → stack_of h p.class ≡ p.block ∷ more
     → is_member (stack_of (with_stack h p.class more) f.place.class) f.place.block ≡ true → IsStale m h f → IsStale m' (with_stack h p.class more) f
-stale-placed m m' h p t more f k i call top member st =
+stale-after-place m m' h p t more f k i call top member st =
     let n : f.place.block ≢ p.block = λ q.
     let c : f.place.class ≡ p.class = same-class h f.place.class p.class p.block k (subst (IsCarved h f.place.class) q st.place.carved) i.carved in
     let on : is_member more p.block ≡ true = sym (ap (λ xs. is_member xs p.block) (ap (stack_of (with_stack h p.class more)) c ∙ stack-own h p.class more)) ∙ sym (ap (is_member (stack_of (with_stack h p.class more) f.place.class)) q) ∙ member in
@@ -47,9 +47,9 @@ stale-placed m m' h p t more f k i call top member st =
     stale-call m m' h (with_stack h p.class more) p t f k i call (same-pages h p.class more) n member st
 
 -- a chunk that was freed from another block
-pub stale-given_back : (m m' : Memory) (h : StackState) (p : Place) (t : ℕ) (f : Freed) → IsStacked h → IsPlace h p → IsCallOn m m' p t → f.place.block ≢ p.block
+pub stale-after-give-back : (m m' : Memory) (h : StackState) (p : Place) (t : ℕ) (f : Freed) → IsStacked h → IsPlace h p → IsCallOn m m' p t → f.place.block ≢ p.block
     → IsStale m h f → IsStale m' (with_stack h p.class (p.block ∷ stack_of h p.class)) f
-stale-given_back m m' h p t f k i call n st =
+stale-after-give-back m m' h p t f k i call n st =
     stale-call m m' h (with_stack h p.class (p.block ∷ stack_of h p.class)) p t f k i call (same-pages h p.class (p.block ∷ stack_of h p.class)) n
     (on-stack h p.class (p.block ∷ stack_of h p.class) f.place.class f.place.block st.stacked (λ q. member-other p.block (stack_of h p.class) f.place.block n ∙ sym (ap (λ c. is_member (stack_of h c) f.place.block) q) ∙ st.stacked)) st
 
@@ -63,8 +63,8 @@ stale-new m m' h p t s i call n = record {
 }
 
 -- a class that got pages: a class with a free block is another one
-pub stale-grown : (m m' : Memory) (h : StackState) (c n : ℕ) (f : Freed) → ((p : Place) → IsPlace h p → IsPlace (carved h c n) p) → stack_of h c ≡ [] → (stack_of (carved h c n) f.place.class ≡ stack_of h f.place.class)
-    → ((a : ℕ) → tag_at m' a ≡ tag_at m a) → IsStale m h f → IsStale m' (carved h c n) f
+pub stale-grown : (m m' : Memory) (h : StackState) (c n : ℕ) (f : Freed) → ((p : Place) → IsPlace h p → IsPlace (after_carve h c n) p) → stack_of h c ≡ [] → (stack_of (after_carve h c n) f.place.class ≡ stack_of h f.place.class)
+    → ((a : ℕ) → tag_at m' a ≡ tag_at m a) → IsStale m h f → IsStale m' (after_carve h c n) f
 stale-grown m m' h c n f on empty same tags st = record {
   place = on f.place st.place;
   stacked = ap (λ xs. is_member xs f.place.block) same ∙ st.stacked;

@@ -20,18 +20,18 @@ use Rattle.mte_elf.specs.declared.error.ElfError.{ElfError}
 use Rattle.mte_elf.proofs.LoadingLemmas.{image_above, image_left, or_false}
 use Rattle.mte_elf.proofs.WholeLemmas.{image_whole, limit-with_segments, state-with_segments}
 use Rattle.scudo_heap.specs.Served.{IsUntouched}
-use Rattle.mte_sched.specs.declared.admission.TheConstants.{MAX_LIVE}
-use Rattle.mte_sched.specs.declared.admission.AdmitError.TheVariants.{Duplicate, BadReservation, Image, ReservationTooSmall, NoFrames, TooManyLive}
-use Rattle.mte_sched.specs.Machines.{Terms, start_of, first_memory, first_parts, first_registers}
-use Rattle.mte_sched.specs.Ledger.{Entry, charge_of, charge_in, is_live, has_id, first_of, when, is_bad, admission_refusal}
-use Rattle.mte_sched.proofs.MachineLemmas.{none-no_pages, left-no_pages, limit-no_pages, attrs-none}
+use Rattle.mte_tenant.specs.declared.admission.TheConstants.{MAX_LIVE}
+use Rattle.mte_tenant.specs.declared.admission.AdmitError.TheVariants.{Duplicate, BadReservation, Image, ReservationTooSmall, NoFrames, TooManyLive}
+use Rattle.mte_tenant.specs.Machines.{Terms, start_of, first_memory, first_parts, first_registers}
+use Rattle.mte_tenant.specs.Ledger.{LedgerEntry, charge_of, charge_of_entry, is_live, has_id, first_of, refuse_if, is_bad, admission_refusal}
+use Rattle.mte_tenant.proofs.MachineLemmas.{none-no_pages, left-no_pages, limit-no_pages, attrs-none}
 use Rattle.tag_discipline.specs.Discipline.{IsNew, TenantsStartSound}
 use Rattle.tag_discipline.proofs.Disciplines.{starts}
 
 -- ---- what an accepted admission passed
 
 no-refusal : (old bad small full many : Bool) (o : Option ElfError)
-    → first_of (when old Duplicate ∷ when bad BadReservation ∷ option_map Image o ∷ when small ReservationTooSmall ∷ when full NoFrames ∷ when many TooManyLive ∷ []) ≡ None
+    → first_of (refuse_if old Duplicate ∷ refuse_if bad BadReservation ∷ option_map Image o ∷ refuse_if small ReservationTooSmall ∷ refuse_if full NoFrames ∷ refuse_if many TooManyLive ∷ []) ≡ None
     → (bad ≡ false) × (o ≡ None) × (small ≡ false)
 no-refusal true bad small full many o h = absurd cc
 no-refusal false true small full many o h = absurd cc
@@ -44,10 +44,10 @@ record Passed (t : Terms) : Type 0 where
   room : pages_of t.image + STACK_PAGES ≤ t.pages
   most : t.pages ≤ MAX_PAGES
 
-passed : (frames : ℕ) (ledger : List Entry) (id : ℕ) (t : Terms) → admission_refusal frames ledger id t ≡ None → Passed t
+passed : (frames : ℕ) (ledger : List LedgerEntry) (id : ℕ) (t : Terms) → admission_refusal frames ledger id t ≡ None → Passed t
 unfolding admission_refusal
 passed frames ledger id t h =
-    let n = no-refusal (list_any (has_id id) ledger) (is_bad t) (nat_lt t.pages (pages_of t.image + STACK_PAGES)) (nat_lt (frames - sum_by charge_in ledger) (charge_of t.pages))
+    let n = no-refusal (list_any (has_id id) ledger) (is_bad t) (nat_lt t.pages (pages_of t.image + STACK_PAGES)) (nat_lt (frames - sum_by charge_of_entry ledger) (charge_of t.pages))
     (nat_lt (MAX_LIVE - 1) (count_by is_live ledger)) (refusal_of t.image) h in
     let bad = or_false _ (nat_lt MAX_OUTPUT t.room) n.0 in
     let big = or_false (t.pages == 0) (nat_lt MAX_PAGES t.pages) bad.0 in

@@ -12,7 +12,7 @@ use Rattle.a64_bits.specs.Addresses.{plain}
 use Rattle.mte_tags.specs.Memory.{tag_at, attrs_at, pages_left}
 use Rattle.mte_tags.specs.Accesses.{read_bytes}
 use Rattle.mte_tags.specs.Whole.{IsWhole}
-use Rattle.scudo_header.specs.Headers.{packed}
+use Rattle.scudo_header.specs.Headers.{packed_header}
 use Rattle.scudo_header.specs.declared.headers.Header.{Header}
 use Rattle.scudo_header.specs.declared.headers.Origin.{Origin}
 use Rattle.scudo_header.specs.declared.headers.Origin.TheVariants as origin
@@ -27,10 +27,11 @@ use Rattle.scudo_heap.specs.declared.chunk.Found.TheVariants.{InBlock, InPages}
 use Rattle.scudo_heap.specs.Stacks.{stack_of}
 use Rattle.scudo_heap.specs.Chunks.{end_of, block_end, with_size}
 use Rattle.scudo_heap.specs.Placing.{World}
-use Rattle.scudo_heap.specs.Allocation.{Made, malloc_of, calloc_of, memalign_of}
-use Rattle.scudo_heap.specs.Checks.{found}
+use Rattle.scudo_heap.specs.Allocation.{AllocationResult, after_malloc, after_calloc}
+use Rattle.scudo_heap.specs.Allocation.{after_memalign}
+use Rattle.scudo_heap.specs.Checks.{check_pointer}
 use Rattle.scudo_heap.specs.Freeing.{free_of}
-use Rattle.scudo_heap.specs.Realloc.{realloc_of}
+use Rattle.scudo_heap.specs.Realloc.{after_realloc}
 use Rattle.tag_discipline.specs.LiveChunks.{BlockChunk, LiveBlocks, chunk_at, with_chunk}
 use Rattle.tag_discipline.specs.LiveChunks.{without_chunk, new_chunk}
 use Rattle.tag_discipline.specs.LivePages.{PageChunk, LivePages, large_at, with_large}
@@ -50,33 +51,33 @@ pub record State : Type 0 where
 -- ---- the live chunks after a call
 
 -- The chunk that a call made is one more.
-abbrev pub listed : Origin → Live → Option Chunk → Live
-listed o l None = l
-listed o l (Some (Small p tag)) =
+abbrev pub with_made_chunk : Origin → Live → Option Chunk → Live
+with_made_chunk o l None = l
+with_made_chunk o l (Some (Small p tag)) =
     record l { blocks = with_chunk l.blocks (new_chunk o p tag) }
-listed o l (Some (Large m size)) =
+with_made_chunk o l (Some (Large m size)) =
     record l { pages = with_large l.pages (new_large o m size) }
 
 -- The chunk that a pointer named is one no more.
-abbrev pub delisted : Live → Found → Live
-delisted l (InBlock p header) = record l { blocks = without_chunk l.blocks p.user }
-delisted l (InPages m header) = record l { pages = without_large l.pages m.user }
+abbrev pub without_freed_chunk : Live → Found → Live
+without_freed_chunk l (InBlock p header) = record l { blocks = without_chunk l.blocks p.user }
+without_freed_chunk l (InPages m header) = record l { pages = without_large l.pages m.user }
 
-abbrev pub delisted_by : Live → Result Found HeapAbort → Live
-delisted_by l (Err e) = l
-delisted_by l (Ok f) = delisted l f
+abbrev pub live_free_cases : Live → Result Found HeapAbort → Live
+live_free_cases l (Err e) = l
+live_free_cases l (Ok f) = without_freed_chunk l f
 
 -- A new chunk is in the place of the old one.
-abbrev pub moved_to : Live → Found → Option Chunk → Live
-moved_to l f None = l
-moved_to l f (Some x) = delisted (listed origin.Malloc l (Some x)) f
+abbrev pub live_move_cases : Live → Found → Option Chunk → Live
+live_move_cases l f None = l
+live_move_cases l f (Some x) = without_freed_chunk (with_made_chunk origin.Malloc l (Some x)) f
 
 -- The chunk in its block, with another size.
 abbrev pub with_size_of : Header → ℕ → Header
 with_size_of header size = record header { size_or_unused_bytes = size }
 
-abbrev pub resized_in : World → Live → Place → Header → ℕ → Live
-resized_in w l p header size = record l {
+abbrev pub live_after_resize_in_block : World → Live → Place → Header → ℕ → Live
+live_after_resize_in_block w l p header size = record l {
   blocks = with_chunk l.blocks (record {
     place = with_size p size;
     tag = tag_at w.memory p.user;
@@ -84,21 +85,22 @@ resized_in w l p header size = record l {
   });
 }
 
-abbrev pub replaced : World → Live → Found → ℕ → Live
-replaced w l (InBlock p header) size =
+abbrev pub live_after_resize : World → Live → Found → ℕ → Live
+live_after_resize w l (InBlock p header) size =
     if nat_le (end_of (with_size p size)) (block_end p)
-    then resized_in w l p header size
-    else moved_to l (InBlock p header) (malloc_of w size).chunk
-replaced w l (InPages m header) size = moved_to l (InPages m header) (malloc_of w size).chunk
+    then live_after_resize_in_block w l p header size
+    else live_move_cases l (InBlock p header) (after_malloc w size).chunk
+live_after_resize w l (InPages m header) size =
+    live_move_cases l (InPages m header) (after_malloc w size).chunk
 
-abbrev pub relisted : World → Live → Found → ℕ → Live
-relisted w l f size = if size == 0
-    then delisted l f
-    else (if nat_le size MAX_REQUEST then replaced w l f size else l)
+abbrev pub live_after_realloc : World → Live → Found → ℕ → Live
+live_after_realloc w l f size = if size == 0
+    then without_freed_chunk l f
+    else (if nat_le size MAX_REQUEST then live_after_resize w l f size else l)
 
-abbrev pub relisted_by : World → Live → ℕ → Result Found HeapAbort → Live
-relisted_by w l size (Err e) = l
-relisted_by w l size (Ok f) = relisted w l f size
+abbrev pub live_realloc_cases : World → Live → ℕ → Result Found HeapAbort → Live
+live_realloc_cases w l size (Err e) = l
+live_realloc_cases w l size (Ok f) = live_after_realloc w l f size
 
 -- ---- calls
 
@@ -110,39 +112,40 @@ pub data HeapRequest : Type 0 where
   Free : ℕ → HeapRequest
 
 abbrev pub found_at : World → ℕ → Result Found HeapAbort
-found_at w pointer = found w.memory w.heap (plain pointer)
+found_at w pointer = check_pointer w.memory w.heap (plain pointer)
 
-abbrev pub made : Origin → Live → Made → State
-made o l m = record { world = m.world; live = listed o l m.chunk }
+abbrev pub state_after_allocation : Origin → Live → AllocationResult → State
+state_after_allocation o l m = record { world = m.world; live = with_made_chunk o l m.chunk }
 
-abbrev pub after_realloc : State → ℕ → ℕ → State
-after_realloc s pointer size = if pointer == 0
-    then made origin.Malloc s.live (malloc_of s.world size)
+abbrev pub state_after_realloc : State → ℕ → ℕ → State
+state_after_realloc s pointer size = if pointer == 0
+    then state_after_allocation origin.Malloc s.live (after_malloc s.world size)
     else record {
-      world = (realloc_of s.world pointer size).world;
-      live = relisted_by s.world s.live size (found_at s.world pointer);
+      world = (after_realloc s.world pointer size).world;
+      live = live_realloc_cases s.world s.live size (found_at s.world pointer);
     }
 
-abbrev pub after_free : State → ℕ → State
-after_free s pointer = record {
+abbrev pub state_after_free : State → ℕ → State
+state_after_free s pointer = record {
   world = (free_of s.world pointer).world;
-  live = if pointer == 0 then s.live else delisted_by s.live (found_at s.world pointer);
+  live = if pointer == 0 then s.live else live_free_cases s.live (found_at s.world pointer);
 }
 
 unfoldable pub after_call : HeapRequest → State → State
-after_call (Malloc size) s = made origin.Malloc s.live (malloc_of s.world size)
-after_call (Calloc count size) s = made origin.Malloc s.live (calloc_of s.world count size)
+after_call (Malloc size) s = state_after_allocation origin.Malloc s.live (after_malloc s.world size)
+after_call (Calloc count size) s =
+    state_after_allocation origin.Malloc s.live (after_calloc s.world count size)
 after_call (Memalign align size) s =
-    made origin.Memalign s.live (memalign_of s.world align size)
-after_call (Realloc pointer size) s = after_realloc s pointer size
-after_call (Free pointer) s = after_free s pointer
+    state_after_allocation origin.Memalign s.live (after_memalign s.world align size)
+after_call (Realloc pointer size) s = state_after_realloc s pointer size
+after_call (Free pointer) s = state_after_free s pointer
 
 -- ---- careful calls
 
 -- The header of the chunk at a user address is the one that the heap wrote.
 abbrev pub HasHeader : World → ℕ → Header → Type 0
 HasHeader w user header =
-    read_bytes w.memory (user - 16) 8 ≡ to_le_bytes w64 (packed w.heap.cookie user header)
+    read_bytes w.memory (user - 16) 8 ≡ to_le_bytes w64 (packed_header w.heap.cookie user header)
 
 pub record IsLiveBlock (s : State) (user : ℕ) (x : BlockChunk) : Type 0 where
   pub live : chunk_at s.live.blocks user ≡ Some x

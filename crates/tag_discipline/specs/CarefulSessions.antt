@@ -15,82 +15,83 @@ use Rattle.scudo_primary.specs.Pools.{is_member}
 use Rattle.scudo_heap.specs.declared.abort.HeapAbort.{HeapAbort}
 use Rattle.scudo_heap.specs.declared.chunk.Found.{Found}
 use Rattle.scudo_heap.specs.Stacks.{StackState, stack_of}
-use Rattle.mte_sched.specs.Machines.{Machine, start_of, runs, attempted, advance}
-use Rattle.mte_sched.specs.Lives.{Own, Sliced, Halted, Session, Life, lives, life_among}
+use Rattle.mte_tenant.specs.Machines.{Machine, start_of, runs, after_attempt, after_slice}
+use Rattle.mte_sched.specs.Lives.{TenantEvent, OwnSlice, OwnStop, Session, Life, lives, life_among}
 use Rattle.mte_sched.specs.Contents as contents
-use Rattle.mte_sched.specs.Contents.{Held, Gone, Tenant}
+use Rattle.mte_sched.specs.Contents.{TenantState, Gone, Tenant}
 use Rattle.mte_sched.specs.Isolation.{content_after, tenant_among}
 use Rattle.tag_discipline.specs.LiveChunks.{BlockChunk, chunk_at}
 use Rattle.tag_discipline.specs.CarefulRuns.{State, Live, no_chunks, HeapRequest, Malloc, Calloc}
 use Rattle.tag_discipline.specs.CarefulRuns.{Memalign, Realloc, Free, found_at}
-use Rattle.tag_discipline.specs.CarefulTenants.{state_of, stepped, next_request, live_after}
+use Rattle.tag_discipline.specs.CarefulTenants.{state_of, before_service, next_request, live_after}
 use Rattle.tag_discipline.specs.CarefulTenants.{live_through, IsCareful}
 
 -- ---- freed chunks
 
 -- The chunk of a size class that a pointer names, where it passes the checks.
-abbrev pub named_in : Result Found HeapAbort → Option BlockChunk → List BlockChunk
-named_in (Err e) x = []
-named_in (Ok f) None = []
-named_in (Ok f) (Some x) = x ∷ []
+abbrev pub named_chunk_cases : Result Found HeapAbort → Option BlockChunk → List BlockChunk
+named_chunk_cases (Err e) x = []
+named_chunk_cases (Ok f) None = []
+named_chunk_cases (Ok f) (Some x) = x ∷ []
 
 abbrev pub named_at : State → ℕ → List BlockChunk
-named_at s pointer = named_in (found_at s.world pointer) (chunk_at s.live.blocks (plain pointer))
+named_at s pointer =
+    named_chunk_cases (found_at s.world pointer) (chunk_at s.live.blocks (plain pointer))
 
 -- The chunk that a free or a reallocation may free.
-abbrev pub named_by : State → Option HeapRequest → List BlockChunk
-named_by s None = []
-named_by s (Some (Malloc size)) = []
-named_by s (Some (Calloc count size)) = []
-named_by s (Some (Memalign align size)) = []
-named_by s (Some (Realloc pointer size)) = named_at s pointer
-named_by s (Some (Free pointer)) = named_at s pointer
+abbrev pub named_chunks : State → Option HeapRequest → List BlockChunk
+named_chunks s None = []
+named_chunks s (Some (Malloc size)) = []
+named_chunks s (Some (Calloc count size)) = []
+named_chunks s (Some (Memalign align size)) = []
+named_chunks s (Some (Realloc pointer size)) = named_at s pointer
+named_chunks s (Some (Free pointer)) = named_at s pointer
 
 abbrev pub has_free_block : StackState → BlockChunk → Bool
 has_free_block s x = is_member (stack_of s x.place.class) x.place.block
 
 unfoldable pub freed_after : ℕ → Machine → Live → List BlockChunk → List BlockChunk
 freed_after n m l xs =
-    filter (has_free_block (attempted n m).machine.parts.heap.stacks)
-    (named_by (state_of (stepped m) l) (next_request m) ++ xs)
+    filter (has_free_block (after_attempt n m).machine.parts.heap.stacks)
+    (named_chunks (state_of (before_service m) l) (next_request m) ++ xs)
 
 unfoldable pub freed_through : ℕ → Machine → Live → List BlockChunk → List BlockChunk
 freed_through zero m l xs = xs
 freed_through (suc n) m l xs = if runs m
-    then (if (attempted n m).goes_on
-    then freed_through n (attempted n m).machine (live_after m l) (freed_after n m l xs)
+    then (if (after_attempt n m).goes_on
+    then freed_through n (after_attempt n m).machine (live_after m l) (freed_after n m l xs)
     else freed_after n m l xs)
     else xs
 
 -- ---- a tenant's own events
 
-unfoldable pub live_of : List Own → Machine → Live → Live
+unfoldable pub live_of : List TenantEvent → Machine → Live → Live
 live_of [] m l = l
-live_of (Sliced n ∷ more) m l = live_of more (advance n m) (live_through n m l)
-live_of (Halted ∷ more) m l = l
+live_of (OwnSlice n ∷ more) m l = live_of more (after_slice n m) (live_through n m l)
+live_of (OwnStop ∷ more) m l = l
 
-unfoldable pub freed_of : List Own → Machine → Live → List BlockChunk → List BlockChunk
+unfoldable pub freed_of : List TenantEvent → Machine → Live → List BlockChunk → List BlockChunk
 freed_of [] m l xs = xs
-freed_of (Sliced n ∷ more) m l xs =
-    freed_of more (advance n m) (live_through n m l) (freed_through n m l xs)
-freed_of (Halted ∷ more) m l xs = xs
+freed_of (OwnSlice n ∷ more) m l xs =
+    freed_of more (after_slice n m) (live_through n m l) (freed_through n m l xs)
+freed_of (OwnStop ∷ more) m l xs = xs
 
-unfoldable pub AreCareful : List Own → Machine → Live → Type 0
+unfoldable pub AreCareful : List TenantEvent → Machine → Live → Type 0
 AreCareful [] m l = Unit {0}
-AreCareful (Sliced n ∷ more) m l =
-    IsCareful n m l × AreCareful more (advance n m) (live_through n m l)
-AreCareful (Halted ∷ more) m l = Unit {0}
+AreCareful (OwnSlice n ∷ more) m l =
+    IsCareful n m l × AreCareful more (after_slice n m) (live_through n m l)
+AreCareful (OwnStop ∷ more) m l = Unit {0}
 
 -- ---- sessions
 
 -- A live tenant's machine.
-abbrev pub machine_held : Held → Option Machine
+abbrev pub machine_held : TenantState → Option Machine
 machine_held (contents.Live m) = Some m
 machine_held (Gone r) = None
 
-abbrev pub machine_in : Option Tenant → Option Machine
-machine_in None = None
-machine_in (Some t) = machine_held t.held
+abbrev pub machine_cases : Option Tenant → Option Machine
+machine_cases None = None
+machine_cases (Some t) = machine_held t.held
 
 abbrev pub first_machine : Life → Machine
 first_machine life = start_of life.id life.terms
@@ -99,7 +100,7 @@ pub record IsCarefulIn (s : Session) (life : Life) (m : Machine) : Type 0 where
   pub admitted : life_among life.id (lives s) ≡ Some life
   pub sync : life.terms.mode ≡ Sync
   pub careful : AreCareful life.own (first_machine life) no_chunks
-  pub machine : machine_in (tenant_among life.id (content_after s).tenants) ≡ Some m
+  pub machine : machine_cases (tenant_among life.id (content_after s).tenants) ≡ Some m
 
 -- Its state in the end, and the chunks that it freed whose blocks are free.
 abbrev pub state_in : Life → Machine → State

@@ -14,7 +14,7 @@ use Rattle.scudo_heap.specs.Placing.{world_of}
 use Rattle.mte_svc.specs.declared.parts.TenantParts.{TenantParts}
 use Rattle.mte_svc.specs.declared.services.TheConstants.{MALLOC, FREE, CALLOC, REALLOC, MEMALIGN}
 use Rattle.mte_svc.specs.Results.{x_of}
-use Rattle.mte_sched.specs.Machines.{Machine, machine_of, with_regs, runs, attempted}
+use Rattle.mte_tenant.specs.Machines.{Machine, machine_of, with_regs, runs, after_attempt}
 use Rattle.tag_discipline.specs.CarefulRuns.{State, Live, HeapRequest, Malloc, Calloc, Memalign}
 use Rattle.tag_discipline.specs.CarefulRuns.{Realloc, Free, after_call}
 use Rattle.tag_discipline.specs.CarefulRuns as heap
@@ -23,14 +23,14 @@ abbrev pub state_of : Machine → Live → State
 state_of m l = record { world = world_of m.memory m.parts.heap m.parts.regs.rgsr; live = l }
 
 -- The machine after the next instruction, before a service of it.
-abbrev pub stepped : Machine → Machine
-stepped m =
+abbrev pub before_service : Machine → Machine
+before_service m =
     machine_of (with_regs m.parts (step_of m.parts.regs m.memory).regs)
     (step_of m.parts.regs m.memory).memory
 
 -- What the service with a number asks of the heap; one that finds the flag set is not served.
-abbrev pub request_by : ℕ → TenantParts → Option HeapRequest
-request_by n p =
+abbrev pub request_of_service : ℕ → TenantParts → Option HeapRequest
+request_of_service n p =
     if n == MALLOC then Some (Malloc (x_of p 0))
     else (if n == FREE then Some (Free (x_of p 0))
     else (if n == CALLOC then Some (Calloc (x_of p 0) (x_of p 1))
@@ -40,39 +40,39 @@ request_by n p =
 
 abbrev pub request_at : Outcome → Machine → Option HeapRequest
 request_at outcome.Svc m =
-    if m.memory.state.pending then None else request_by (x_of m.parts 8) m.parts
+    if m.memory.state.pending then None else request_of_service (x_of m.parts 8) m.parts
 request_at other m = None
 
 unfoldable pub next_request : Machine → Option HeapRequest
-next_request m = request_at (step_of m.parts.regs m.memory).outcome (stepped m)
+next_request m = request_at (step_of m.parts.regs m.memory).outcome (before_service m)
 
-abbrev pub live_by : Option HeapRequest → State → Live
-live_by None s = s.live
-live_by (Some c) s = (after_call c s).live
+abbrev pub live_after_request : Option HeapRequest → State → Live
+live_after_request None s = s.live
+live_after_request (Some c) s = (after_call c s).live
 
 unfoldable pub live_after : Machine → Live → Live
-live_after m l = live_by (next_request m) (state_of (stepped m) l)
+live_after m l = live_after_request (next_request m) (state_of (before_service m) l)
 
 pub record IsCarefulNext (m : Machine) (l : Live) : Type 0 where
   pub tags : next_stores_tags m.parts.regs m.memory ≡ false
   pub request :
-      (c : HeapRequest) → next_request m ≡ Some c → heap.IsCareful (state_of (stepped m) l) c
+      (c : HeapRequest) → next_request m ≡ Some c → heap.IsCareful (state_of (before_service m) l) c
 
 -- ---- instructions in turn
 
 unfoldable pub live_through : ℕ → Machine → Live → Live
 live_through zero m l = l
 live_through (suc n) m l = if runs m
-    then (if (attempted n m).goes_on
-    then live_through n (attempted n m).machine (live_after m l)
+    then (if (after_attempt n m).goes_on
+    then live_through n (after_attempt n m).machine (live_after m l)
     else live_after m l)
     else l
 
 unfoldable pub IsCareful : ℕ → Machine → Live → Type 0
 IsCareful zero m l = Unit {0}
 IsCareful (suc n) m l = (runs m ≡ true → IsCarefulNext m l)
-    × (runs m ≡ true → (attempted n m).goes_on ≡ true
-    → IsCareful n (attempted n m).machine (live_after m l))
+    × (runs m ≡ true → (after_attempt n m).goes_on ≡ true
+    → IsCareful n (after_attempt n m).machine (live_after m l))
 
 -- ---- instructions in turn, with P after each of them
 
@@ -80,5 +80,5 @@ pub data Steps (P : State → Type 0) : Machine → Live → Machine → Live �
   stop : {m : Machine} {l : Live} → Steps P m l m l
   next :
       {m k : Machine} {l j : Live} → (n : ℕ) → IsCarefulNext m l
-      → P (state_of (attempted n m).machine (live_after m l))
-      → Steps P (attempted n m).machine (live_after m l) k j → Steps P m l k j
+      → P (state_of (after_attempt n m).machine (live_after m l))
+      → Steps P (after_attempt n m).machine (live_after m l) k j → Steps P m l k j

@@ -16,21 +16,22 @@ use Rattle.scudo_secondary.specs.Mappings as secondary
 use Rattle.scudo_heap.specs.declared.chunk.Place.{Place}
 use Rattle.scudo_heap.specs.declared.chunk.Chunk.TheVariants.{Small}
 use Rattle.scudo_heap.specs.declared.chunk.Found.{Found}
-use Rattle.scudo_heap.specs.Realloc.{moved}
+use Rattle.scudo_heap.specs.Realloc.{after_move}
 use Rattle.scudo_heap.specs.Heaps.{empty_heap}
 use Rattle.scudo_heap.specs.Chunks.{end_of}
 use Rattle.scudo_heap.specs.Placing.{world_of}
-use Rattle.scudo_heap.specs.Allocation.{Made, malloc_of, calloc_of, memalign_of}
+use Rattle.scudo_heap.specs.Allocation.{AllocationResult, after_malloc, after_calloc}
+use Rattle.scudo_heap.specs.Allocation.{after_memalign}
 use Rattle.scudo_heap.specs.Served.{IsUntouched, is_inside}
-use Rattle.mte_sched.specs.Machines.{Terms, Machine, start_of, attempted, advance}
-use Rattle.mte_sched.specs.Ledger.{Entry, admission_refusal}
+use Rattle.mte_tenant.specs.Machines.{Terms, Machine, start_of, after_attempt, after_slice}
+use Rattle.mte_tenant.specs.Ledger.{LedgerEntry, admission_refusal}
 use Rattle.mte_sched.specs.Lives.{Session, Life}
 use Rattle.tag_discipline.specs.LiveChunks.{BlockChunk, chunk_at}
 use Rattle.tag_discipline.specs.LivePages.{PageChunk, large_at}
 use Rattle.tag_discipline.specs.Laws.{IsRefused, AreNeighbours}
 use Rattle.tag_discipline.specs.CarefulRuns.{State, Live, no_chunks, HeapRequest, Realloc, Free}
 use Rattle.tag_discipline.specs.CarefulRuns.{after_call, IsLiveBlock, IsLiveLarge, Run, HasFree}
-use Rattle.tag_discipline.specs.CarefulTenants.{state_of, stepped, next_request, live_after}
+use Rattle.tag_discipline.specs.CarefulTenants.{state_of, before_service, next_request, live_after}
 use Rattle.tag_discipline.specs.CarefulTenants.{live_through, IsCarefulNext, IsCareful, Steps}
 use Rattle.tag_discipline.specs.CarefulSessions.{IsCarefulIn, state_in, freed_in}
 use Rattle.tag_discipline.specs.SoundHeaps.{Sound}
@@ -53,7 +54,7 @@ StartsSound =
 -- So a tenant that is admitted in the synchronous mode.
 abbrev pub TenantsStartSound : Type 0
 TenantsStartSound =
-    (frames : ℕ) (ledger : List Entry) (id : ℕ) (terms : Terms)
+    (frames : ℕ) (ledger : List LedgerEntry) (id : ℕ) (terms : Terms)
     → admission_refusal frames ledger id terms ≡ None → terms.mode ≡ Sync
     → Sound (state_of (start_of id terms) no_chunks)
 
@@ -116,7 +117,7 @@ FreedPagesAreRefused =
     → IsUnmapped s.world.memory addr
     × ((x : Access) → IsSome (byte_fault s.world.memory x addr))
 
--- The same of each tenant of a session.
+-- In a session: pages that a tenant freed are refused.
 abbrev pub FreedPagesOfTenantsAreRefused : Type 0
 FreedPagesOfTenantsAreRefused =
     (s : Session) (life : Life) (m : Machine) (addr : ℕ) → IsCarefulIn s life m
@@ -127,32 +128,33 @@ FreedPagesOfTenantsAreRefused =
 -- ---- a new chunk
 
 -- A new chunk of a size class has a tag other than 0 and other than the one that was there.
-pub record IsFreshIn (s : State) (r : Made) : Type 0 where
+pub record IsFreshIn (s : State) (r : AllocationResult) : Type 0 where
   pub some : (p : Place) (t : ℕ) → r.chunk ≡ Some (Small p t) → t ≢ 0
   pub other :
       (p : Place) (t : ℕ) → r.chunk ≡ Some (Small p t) → t ≢ tag_at s.world.memory p.user
 
 pub record NewTagsDiffer : Type 0 where
-  pub malloc : (s : State) (size : ℕ) → Sound s → IsFreshIn s (malloc_of s.world size)
+  pub malloc : (s : State) (size : ℕ) → Sound s → IsFreshIn s (after_malloc s.world size)
   pub calloc :
-      (s : State) (count size : ℕ) → Sound s → IsFreshIn s (calloc_of s.world count size)
+      (s : State) (count size : ℕ) → Sound s → IsFreshIn s (after_calloc s.world count size)
   pub memalign :
-      (s : State) (align size : ℕ) → Sound s → IsFreshIn s (memalign_of s.world align size)
+      (s : State) (align size : ℕ) → Sound s → IsFreshIn s (after_memalign s.world align size)
   pub realloc :
-      (s : State) (f : Found) (size : ℕ) → Sound s → IsFreshIn s (moved s.world f size)
+      (s : State) (f : Found) (size : ℕ) → Sound s → IsFreshIn s (after_move s.world f size)
 
 -- A call that makes a new chunk.
-pub data IsNewIn (s : State) (r : Made) : Type 0 where
-  malloc : (size : ℕ) → r ≡ malloc_of s.world size → IsNewIn s r
-  calloc : (count size : ℕ) → r ≡ calloc_of s.world count size → IsNewIn s r
-  memalign : (align size : ℕ) → r ≡ memalign_of s.world align size → IsNewIn s r
-  realloc : (f : Found) (size : ℕ) → r ≡ moved s.world f size → IsNewIn s r
+pub data IsNewIn (s : State) (r : AllocationResult) : Type 0 where
+  malloc : (size : ℕ) → r ≡ after_malloc s.world size → IsNewIn s r
+  calloc : (count size : ℕ) → r ≡ after_calloc s.world count size → IsNewIn s r
+  memalign : (align size : ℕ) → r ≡ after_memalign s.world align size → IsNewIn s r
+  realloc : (f : Found) (size : ℕ) → r ≡ after_move s.world f size → IsNewIn s r
 
 -- The first allocation that takes the block of a freed chunk, where it gives out the same address:
 -- its tag is not the one that the free gave.
 abbrev pub ReusedTagsDiffer : Type 0
 ReusedTagsDiffer =
-    (a b : State) (pointer : ℕ) (c : HeapRequest) (x : BlockChunk) (r : Made) (p : Place) (t : ℕ)
+    (a b : State) (pointer : ℕ) (c : HeapRequest) (x : BlockChunk) (r : AllocationResult)
+    (p : Place) (t : ℕ)
     → Sound a → Frees a pointer c x
     → Run (HasFree x.place.class x.place.block) (after_call c a) b
     → IsNewIn b r → r.chunk ≡ Some (Small p t) → p.user ≡ x.place.user
@@ -213,7 +215,7 @@ pub record ChunksAreGuarded : Type 0 where
 abbrev pub SlicesStaySound : Type 0
 SlicesStaySound =
     (n : ℕ) (m : Machine) (l : Live) → Sound (state_of m l) → IsCareful n m l
-    → Sound (state_of (advance n m) (live_through n m l))
+    → Sound (state_of (after_slice n m) (live_through n m l))
 
 -- From the service that freed a chunk of a size class until an allocation takes its block, each
 -- checked access through the pointer to it that touches one of its granules faults, whatever
@@ -223,9 +225,9 @@ FreedBlocksStayRefused =
     (m k : Machine) (l j : Live) (n pointer addr : ℕ) (c : HeapRequest) (x : BlockChunk)
     → Sound (state_of m l) → IsCarefulNext m l
     → next_request m ≡ Some c → MayFree pointer c
-    → IsLiveBlock (state_of (stepped m) l) (plain pointer) x
-    → HasFree x.place.class x.place.block (state_of (attempted n m).machine (live_after m l))
-    → Steps (HasFree x.place.class x.place.block) (attempted n m).machine (live_after m l) k j
+    → IsLiveBlock (state_of (before_service m) l) (plain pointer) x
+    → HasFree x.place.class x.place.block (state_of (after_attempt n m).machine (live_after m l))
+    → Steps (HasFree x.place.class x.place.block) (after_attempt n m).machine (live_after m l) k j
     → x.place.user ≤ addr → addr < end_of x.place → IsRefused k.memory x.tag addr
 
 -- The first allocation that takes the block of a chunk that a service freed, where it gives out the
@@ -234,15 +236,15 @@ FreedBlocksStayRefused =
 abbrev pub ReusedTagsStayDifferent : Type 0
 ReusedTagsStayDifferent =
     (m k : Machine) (l j : Live) (n pointer : ℕ) (c : HeapRequest) (x : BlockChunk)
-    (r : Made) (p : Place) (t : ℕ)
+    (r : AllocationResult) (p : Place) (t : ℕ)
     → Sound (state_of m l) → IsCarefulNext m l
     → next_request m ≡ Some c → MayFree pointer c
-    → IsLiveBlock (state_of (stepped m) l) (plain pointer) x
-    → HasFree x.place.class x.place.block (state_of (attempted n m).machine (live_after m l))
-    → Steps (HasFree x.place.class x.place.block) (attempted n m).machine (live_after m l) k j
-    → IsCarefulNext k j → IsNewIn (state_of (stepped k) j) r
+    → IsLiveBlock (state_of (before_service m) l) (plain pointer) x
+    → HasFree x.place.class x.place.block (state_of (after_attempt n m).machine (live_after m l))
+    → Steps (HasFree x.place.class x.place.block) (after_attempt n m).machine (live_after m l) k j
+    → IsCarefulNext k j → IsNewIn (state_of (before_service k) j) r
     → r.chunk ≡ Some (Small p t) → p.user ≡ x.place.user
-    → t ≢ tag_at (attempted n m).machine.memory x.place.user
+    → t ≢ tag_at (after_attempt n m).machine.memory x.place.user
 
 -- ---- tenants of a session
 

@@ -22,7 +22,7 @@ use Rattle.scudo_primary.specs.Pools.{is_member}
 use Rattle.scudo_primary.specs.Lists.{IsClass}
 use Rattle.scudo_heap.specs.declared.chunk.Place.{Place}
 use Rattle.scudo_heap.specs.Stacks.{StackState, pages_of, stack_of}
-use Rattle.scudo_heap.specs.Chunks.{end_of, block_end, half_mask, with_size}
+use Rattle.scudo_heap.specs.Chunks.{end_of, block_end, parity_mask, with_size}
 use Rattle.scudo_heap.specs.Placing.{new_header}
 
 pub record BlockChunk : Type 0 where
@@ -83,7 +83,7 @@ pub record ArePlaced (s : StackState) (l : LiveBlocks) : Type 0 where
 -- A tag that the odd or even half of a block allows.
 pub record IsHalfTag (class block tag : ℕ) : Type 0 where
   pub below : tag < 16
-  pub allowed : is_allowed (half_mask class block) tag ≡ true
+  pub allowed : is_allowed (parity_mask class block) tag ≡ true
 
 -- A tag that is not 0 on the granules of a place, and 0 on the granule before and after it.
 pub record IsTagged (m : Memory) (p : Place) (tag : ℕ) : Type 0 where

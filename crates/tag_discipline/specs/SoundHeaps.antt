@@ -6,7 +6,7 @@ use Rattle.mte_tags.specs.declared.state.TagMode.TheVariants.{Sync}
 use Rattle.mte_tags.specs.Whole.{IsWhole}
 use Rattle.address_map.specs.declared.limits.TheConstants.{MAX_PAGES}
 use Rattle.scudo_heap.specs.Stacks.{AreSound, pages_of}
-use Rattle.scudo_heap.specs.Served.{IsServed}
+use Rattle.scudo_heap.specs.Served.{HeapOwnsItsPages}
 use Rattle.tag_discipline.specs.LiveChunks.{ArePlaced, AreTagged}
 use Rattle.tag_discipline.specs.LivePages.{AreLarge}
 use Rattle.tag_discipline.specs.CarefulRuns.{State}
@@ -16,7 +16,7 @@ pub record Sound (s : State) : Type 0 where
   pub whole : IsWhole s.world.memory
   pub limit : s.world.memory.limit ≤ MAX_PAGES
   pub sync : s.world.memory.state.mode ≡ Sync
-  pub served : IsServed s.world.memory s.world.heap
+  pub served : HeapOwnsItsPages s.world.memory s.world.heap
   pub most :
       (c : ℕ) → 0 < c → c ≤ CLASSES
       → pages_of s.world.heap.stacks c + s.world.heap.stacks.left ≤ MAX_PAGES

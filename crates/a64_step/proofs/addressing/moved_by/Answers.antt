@@ -4,7 +4,7 @@ use Rattle.std.proofs.Math.Nat.{add-mod-mod}
 use Rattle.std.proofs.lemmas.Int.{to_z-of_z}
 use Rattle.std.specs.Int.{cast_unsigned, w64}
 use Rattle.a64_bits.specs.Fields.{twos_complement}
-use Rattle.a64_step.specs.Addressing.{moved}
+use Rattle.a64_step.specs.Addressing.{offset_address}
 use Rattle.a64_step.proofs.addressing.moved_by.Goals as goal
 
 -- the two ways to say the bits of a signed number
@@ -13,7 +13,7 @@ cast-twos_complement (pos n) = refl
 cast-twos_complement (negsuc n) = omega arith
 
 pub returns : goal.returns
-unfolding moved
+unfolding offset_address
 returns c =
     let z = c.args.offset in
     let bits : c.cast_unsigned.result ≡ twos_complement 64 z =

@@ -3,7 +3,7 @@ use Rattle.std.proofs.lemmas.Bool.{cond-true}
 use Rattle.a64_bits.specs.Addresses.{plain, address_tag}
 use Rattle.mte_tags.proofs.AddressLists.{none_from_ok}
 use Rattle.mte_tags.specs.Memory.{with_granules}
-use Rattle.mte_tags.specs.Accesses.{after_write, outcome, tags_fault, write_fault}
+use Rattle.mte_tags.specs.Accesses.{after_write, result_of, tags_fault, write_fault}
 use Rattle.a64_step.specs.LoadStorePair.{pair_bytes, pair_unit}
 use Rattle.a64_step.proofs.GranuleWrites.{granule_writable, written_unchecked}
 use Rattle.a64_step.proofs.memory_tagging.store_granule.Goals as goal
@@ -20,8 +20,8 @@ returns-clause-memory g c =
     let fine : tags_fault m a 1 ≡ None = none_from_ok _ _ c.in_default.ensures.answer in
     let ok : c.write_pair.result ≡ Ok tt =
     c.write_pair.ensures.answer
-    ∙ ap (λ k. outcome (write_fault k a 16 false)) tagged
-    ∙ ap outcome (granule_writable m a (address_tag a) fine) in
+    ∙ ap (λ k. result_of (write_fault k a 16 false)) tagged
+    ∙ ap result_of (granule_writable m a (address_tag a) fine) in
     c.write_pair.ensures.memory
     ∙ cond-true _ _ _ (ap is_ok ok)
     ∙ ap (λ k. after_write k a bytes false) tagged

@@ -1,23 +1,23 @@
 use Rattle.std.proofs.Common.{◌≡◌, ◌/◌, ◌*◌, ◌%◌, ◌^◌, ℕ, true, false, not, Option, None, Some, refl, sym, ap, ◌∙◌, arith, ◌==◌}
 use Rattle.std.specs.Prelude.{IsSome}
 use Rattle.std.specs.Int.Bits.{and_zero_r}
-use Rattle.mte_tags.specs.Memory.{Memory, Page, page_at, page_has, attrs_at, attrs_in, has, has_in}
+use Rattle.mte_tags.specs.Memory.{Memory, Page, page_at, page_has, attrs_at, attrs_cases, has, has_cases}
 use Rattle.a64_tests.proofs.blocks.is_free.Goals as goal
 
 none_needed : (a : ℕ) → has a 0 ≡ true
 none_needed a = ap (λ n. n == 0) (and_zero_r a)
 
-mapped : (p : Option Page) → not (has_in (attrs_in p) 0) ≡ false → IsSome p
+mapped : (p : Option Page) → not (has_cases (attrs_cases p) 0) ≡ false → IsSome p
 mapped None e = absurd cc
 mapped (Some p) e = refl
 
-free : (p : Option Page) → not (has_in (attrs_in p) 0) ≡ true → p ≡ None
+free : (p : Option Page) → not (has_cases (attrs_cases p) 0) ≡ true → p ≡ None
 free None e = refl
 free (Some p) e = let t = ap not (none_needed p.attrs) in absurd cc
 
-page_of : (m : Memory) (a q : ℕ) → a / 4096 ≡ q → page_has m (a / 4096) 0 ≡ has_in (attrs_in (page_at m q)) 0
+page_of : (m : Memory) (a q : ℕ) → a / 4096 ≡ q → page_has m (a / 4096) 0 ≡ has_cases (attrs_cases (page_at m q)) 0
 unfolding page_has attrs_at
-page_of m a q e = ap (λ k. has_in (attrs_in (page_at m k)) 0) e
+page_of m a q e = ap (λ k. has_cases (attrs_cases (page_at m k)) 0) e
 
 pub returns-clause-mapped : goal.returns-clause-mapped
 returns-clause-mapped c = λ no.

@@ -13,7 +13,7 @@ returns-clause-placed c =
 
 pub returns-clause-reserved : goal.returns-clause-reserved
 returns-clause-reserved c =
-    ap sum (reserved_stays c.reserve_place-place.new.pool c.fill_place.new.pool c.reserve_place-place.result.quota c.frames.ensures.sound c.frames-2.ensures.sound c.fill_place.ensures.rest.others c.fill_place.ensures.rest.reserved)
+    ap sum (reserved_stays c.reserve_place-place.new.pool c.fill_place.new.pool c.reserve_place-place.result.quota c.recall.ensures.sound c.recall-2.ensures.sound c.fill_place.ensures.rest.others c.fill_place.ensures.rest.reserved)
     ∙ c.reserve_place-place.ensures.reserved
 
 pub returns-clause-others : goal.returns-clause-others

@@ -29,5 +29,5 @@ pub returns-clause-reserved : goal.returns-clause-reserved
 returns-clause-reserved c =
     let same = c.close.ensures.same ∙ c.unmap_all.ensures.same in
     sum_less c.args.pool.now c.close.new.pool c.release.new.self c.args.place.quota _ (omega arith) c.requires.charged
-    (ap (λ (x : Pool). x.reserved) c.close.ensures.pool ∙ reserved_stays c.args.pool.now c.unmap_all.new.pool c.args.place.quota c.frames.ensures.sound c.frames-2.ensures.sound c.unmap_all.ensures.rest.others c.unmap_all.ensures.rest.reserved)
+    (ap (λ (x : Pool). x.reserved) c.close.ensures.pool ∙ reserved_stays c.args.pool.now c.unmap_all.new.pool c.args.place.quota c.recall.ensures.sound c.recall-2.ensures.sound c.unmap_all.ensures.rest.others c.unmap_all.ensures.rest.reserved)
     (ap (λ (x : Pool). x.reserved) c.release.ensures.pool ∙ ap (λ q. slice_set c.close.new.pool.reserved q 0) same)

@@ -2,10 +2,10 @@ use Rattle.std.proofs.Common.{◌≡◌, ◌==◌, ◌∙◌, Box, List, get_or,
 use Rattle.std.specs.declared.alloc.Global.{Global}
 use Rattle.std.specs.Box.{with_value}
 use Rattle.mte_svc.specs.declared.parts.TenantParts.{TenantParts}
-use Rattle.mte_sched.specs.Machines.{machine_of, advance}
+use Rattle.mte_tenant.specs.Machines.{machine_of, after_slice}
 use Rattle.mte_sched.specs.Places.{memory_at}
 use Rattle.mte_sched.specs.declared.tenant.Tenant.{Tenant}
-use Rattle.mte_sched.specs.Tenants.{record_in, is_live_by}
+use Rattle.mte_sched.specs.Tenants.{record_in, is_live_holding}
 use Rattle.mte_sched.specs.Sharing.{LiesAt}
 use Rattle.mte_sched.proofs.TurnLemmas.{live_within, live_at, live_id, both_left, both_right, not_gone, sliced_sharing, sliced_tenants}
 use Rattle.mte_sched.proofs.turns.slice_at.Goals as goal
@@ -28,23 +28,23 @@ returns-in-Live c =
     let t : Tenant = get_or ts c.args.asid c.index-tenants-asid.result in
     let live = live_id ts c.args.asid c.args.id c.index-tenants-asid.result c.requires.live in
     let lies : LiesAt ts c.args.asid t c.in-Live.live = record { tenant = live_at ts c.args.asid c.args.id c.index-tenants-asid.result c.requires.live; live = c.in-Live.is } in
-    let same = both_right (is_live_by t.holding) ((record_in t).id == c.args.id) live in
+    let same = both_right (is_live_holding t.holding) ((record_in t).id == c.args.id) live in
     let within = live_within ts c.args.asid c.args.id c.requires.live in
     let turn = c.slice_place.ensures in
     let parts : Box TenantParts Global = with_value c.in-Live.live.parts c.slice_place.new.parts in
-    let machine : machine_of parts.value (memory_at c.slice_place.new.pool c.slice_place.new.place t.pages) ≡ advance c.args.steps (machine_of c.in-Live.live.parts.value (memory_at c.args.pool.now c.in-Live.live.place t.pages)) =
-    turn.machine ∙ ap (λ (q : TenantParts). advance c.args.steps (machine_of q (memory_at c.args.pool.now c.in-Live.live.place t.pages))) c.deref_mut.ensures.value in
+    let machine : machine_of parts.value (memory_at c.slice_place.new.pool c.slice_place.new.place t.pages) ≡ after_slice c.args.steps (machine_of c.in-Live.live.parts.value (memory_at c.args.pool.now c.in-Live.live.place t.pages)) =
+    turn.machine ∙ ap (λ (q : TenantParts). after_slice c.args.steps (machine_of q (memory_at c.args.pool.now c.in-Live.live.place t.pages))) c.deref_mut.ensures.value in
     record {
       sharing = sliced_sharing c.args.pool.now c.slice_place.new.pool c.args.tlb.now c.slice_place.new.tlb ts c.args.asid c.args.id t c.in-Live.live c.requires.sharing lies same within turn.rest.others turn.entries
-          c.args.steps c.slice_place.new.place parts turn.rest turn.same turn.space turn.cached turn.ready machine c.frames.ensures.sound c.frames-in-Live.ensures.sound;
+          c.args.steps c.slice_place.new.place parts turn.rest turn.same turn.space turn.cached turn.ready machine c.recall.ensures.sound c.recall-in-Live.ensures.sound;
       frames = turn.rest.others.count;
       capacities = turn.rest.capacities;
       tenants = sliced_tenants c.args.pool.now c.slice_place.new.pool c.args.tlb.now c.slice_place.new.tlb ts c.args.asid c.args.id t c.in-Live.live c.requires.sharing lies same within turn.rest.others turn.entries
-          c.args.steps c.slice_place.new.place parts turn.rest turn.same turn.space turn.cached turn.ready machine c.frames.ensures.sound c.frames-in-Live.ensures.sound;
+          c.args.steps c.slice_place.new.place parts turn.rest turn.same turn.space turn.cached turn.ready machine c.recall.ensures.sound c.recall-in-Live.ensures.sound;
     }
 
 pub returns-in_default-clause-tenants : goal.returns-in_default-clause-tenants
 returns-in_default-clause-tenants c =
     let t : Tenant = get_or c.args.tenants.now c.args.asid c.index-tenants-asid.result in
     let live = live_id c.args.tenants.now c.args.asid c.args.id c.index-tenants-asid.result c.requires.live in
-    absurd (not_gone t.holding c.in_default.field-0 (both_left (is_live_by t.holding) ((record_in t).id == c.args.id) live) c.in_default.is)
+    absurd (not_gone t.holding c.in_default.field-0 (both_left (is_live_holding t.holding) ((record_in t).id == c.args.id) live) c.in_default.is)

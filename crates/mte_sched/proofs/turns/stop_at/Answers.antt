@@ -4,9 +4,9 @@ use Rattle.mte_tags.specs.Memory.{Memory}
 use Rattle.mte_svc.specs.declared.parts.TenantParts.{TenantParts}
 use Rattle.mte_sched.specs.declared.tenant.Tenant.{Tenant}
 use Rattle.mte_sched.specs.declared.tenant.Holding.TheVariants as kept
-use Rattle.mte_sched.specs.Machines.{machine_of, halted}
-use Rattle.mte_sched.specs.Ledger.{has_live_id, is_live}
-use Rattle.mte_sched.specs.Tenants.{record_in, is_live_by, entry_in, entries_in, tenants_in}
+use Rattle.mte_tenant.specs.Machines.{machine_of, after_stop}
+use Rattle.mte_tenant.specs.Ledger.{has_live_id, is_live}
+use Rattle.mte_sched.specs.Tenants.{record_in, is_live_holding, entry_in, entries_in, tenants_in}
 use Rattle.mte_sched.specs.Sharing.{LiesAt, IsSharing}
 use Rattle.mte_sched.proofs.PlaceLists.{put_back}
 use Rattle.mte_sched.proofs.TurnLemmas.{live_within, live_at, live_id, both_right, gone_enters, stopped_sharing, stopped_tenants, stopped_count}
@@ -40,14 +40,14 @@ returns c =
     let within : i < length ts = live_within ts i c.args.id c.requires.live in
     let last : ℕ = c.len-last.result in
     let many : length ts ≡ last + 1 = omega (arith, all, c.swap_remove-pages.ensures.len, c.len-last.ensures) in
-    let left : Tenant = record { pages = t.pages; holding = kept.Gone c.halt.new.parts.account } in
+    let left : Tenant = record { pages = t.pages; holding = kept.Gone c.halt.new.parts.log } in
     let back : c.swap.new.self.items ≡ slice_set ts i left = put_back ts c.swap_remove-pages.new.self.items c.swap.new.self.items i last t left within many c.swap_remove-pages.ensures.items
     (subst (λ (l : List Tenant). c.swap.new.self.items ≡ slice_set (slice_set l i (get_or l last left)) last (get_or l i left)) c.push_reserved.ensures.items (c.swap.ensures.by_index.3 left)) in
     let turn = c.stop_place.ensures in
     let entries = gone_enters i c.args.tlb.now c.stop_place.new.tlb turn.entries in
-    let same = both_right (is_live_by t.holding) ((record_in t).id == c.args.id) live in
-    let step : (m : Memory) → machine_of c.halt.new.parts m ≡ halted (machine_of c.in-Live.live.parts.value m) =
-    λ m. c.halt.ensures.machine m ∙ ap (λ (q : TenantParts). halted (machine_of q m)) c.into_inner-parts.ensures in
+    let same = both_right (is_live_holding t.holding) ((record_in t).id == c.args.id) live in
+    let step : (m : Memory) → machine_of c.halt.new.parts m ≡ after_stop (machine_of c.in-Live.live.parts.value m) =
+    λ m. c.halt.ensures.machine m ∙ ap (λ (q : TenantParts). after_stop (machine_of q m)) c.into_inner-parts.ensures in
     record {
       sharing = subst (λ (l : List Tenant). IsSharing c.stop_place.new.pool c.stop_place.new.tlb l) (sym back)
           (stopped_sharing c.args.pool.now c.stop_place.new.pool c.args.tlb.now c.stop_place.new.tlb ts i c.args.id t c.in-Live.live c.requires.sharing lies same within turn.others entries c.halt.new.parts turn.entries turn.reserved step);

@@ -1,6 +1,6 @@
 use Rattle.std.proofs.Common.{◌≡◌, sym, ◌∙◌, map, arith}
-use Rattle.mte_sched.specs.declared.refusal.Refusal.TheVariants.{Admit}
-use Rattle.mte_sched.specs.declared.admission.AdmitError.TheVariants.{OutOfMemory}
+use Rattle.mte_tenant.specs.declared.refusal.Refusal.TheVariants.{Admit}
+use Rattle.mte_tenant.specs.declared.admission.AdmitError.TheVariants.{OutOfMemory}
 use Rattle.mte_sched.specs.Hosts.{content_of}
 use Rattle.mte_session.proofs.SessionLemmas.{run_accepted, run_refused, run_end, not_first}
 use Rattle.mte_session.proofs.session.run_events.Goals.{in-Ok, in-Err+else-is_out_of_memory}

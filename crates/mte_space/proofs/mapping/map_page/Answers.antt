@@ -12,22 +12,22 @@ pub map-requires-clause-table : goal.map-requires-clause-table
 map-requires-clause-table c =
     let take = c.take-frame.ensures in
     subst (λ k. IsTable c.take-frame.new.self k c.args.table.now) (sym take.same)
-    (taken_table c.args.pool.now _ c.args.quota.now c.take-frame.result c.args.page c.args.limit c.args.table.now c.requires.space c.frames.ensures.sound c.requires.left take.vacant take.within take.pool)
+    (taken_table c.args.pool.now _ c.args.quota.now c.take-frame.result c.args.page c.args.limit c.args.table.now c.requires.space c.recall.ensures.sound c.requires.left take.vacant take.within take.pool)
 
 pub map-requires-clause-unmapped : goal.map-requires-clause-unmapped
 map-requires-clause-unmapped c =
     let take = c.take-frame.ensures in
-    taken_unmapped c.args.pool.now _ c.args.quota.now c.take-frame.result c.args.page c.args.limit c.args.table.now c.requires.space c.frames.ensures.sound c.requires.left take.vacant take.within take.pool c.requires.unmapped
+    taken_unmapped c.args.pool.now _ c.args.quota.now c.take-frame.result c.args.page c.args.limit c.args.table.now c.requires.space c.recall.ensures.sound c.requires.left take.vacant take.within take.pool c.requires.unmapped
 
 pub map-requires-clause-apart : goal.map-requires-clause-apart
 map-requires-clause-apart c =
     let take = c.take-frame.ensures in
-    taken_apart c.args.pool.now _ c.args.quota.now c.take-frame.result c.args.page c.args.limit c.args.table.now c.requires.space c.frames.ensures.sound c.requires.left take.vacant take.within take.pool
+    taken_apart c.args.pool.now _ c.args.quota.now c.take-frame.result c.args.page c.args.limit c.args.table.now c.requires.space c.recall.ensures.sound c.requires.left take.vacant take.within take.pool
 
 pub map-requires-clause-room : goal.map-requires-clause-room
 map-requires-clause-room c =
     let take = c.take-frame.ensures in
-    rw take.same (taken_room c.args.pool.now _ c.args.quota.now c.take-frame.result c.args.page c.args.limit c.args.table.now c.requires.space c.frames.ensures.sound c.requires.left take.vacant take.within take.pool)
+    rw take.same (taken_room c.args.pool.now _ c.args.quota.now c.take-frame.result c.args.page c.args.limit c.args.table.now c.requires.space c.recall.ensures.sound c.requires.left take.vacant take.within take.pool)
 
 done : (c : goal.After-map) → Mapped c.args.pool.now c.map.new.pool c.args.quota.now c.args.page c.args.limit c.args.attrs c.args.table.now c.map.new.self
 done c =
@@ -36,7 +36,7 @@ done c =
     let n = c.take-frame.new.self in
     let m = c.map.new.pool in
     let root = c.args.table.now.frame in
-    mapped c.args.pool.now n c.args.quota.now c.take-frame.result c.args.page c.args.limit c.args.table.now c.requires.space c.frames.ensures.sound c.requires.left take.vacant take.within take.pool
+    mapped c.args.pool.now n c.args.quota.now c.take-frame.result c.args.page c.args.limit c.args.table.now c.requires.space c.recall.ensures.sound c.requires.left take.vacant take.within take.pool
     m c.args.attrs c.map.new.self c.requires.unmapped take.out take.still_out
     (subst (λ k. IsTable m k c.map.new.self) (map.same ∙ take.same) map.table) map.pages map.counts map.once
     (subst (λ k. taken_by m k ≡ taken_by n k + missing_leaf n root c.args.page) take.same map.taken)

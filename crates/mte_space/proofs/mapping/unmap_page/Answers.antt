@@ -38,7 +38,7 @@ done c =
     let p = c.args.pool.now in
     let t = c.args.table.now in
     let found = there _ c.in-Some.frame (sym u.frame ∙ c.in-Some.is) in
-    unmapped p m c.give.new.self c.args.quota.now c.in-Some.frame c.args.page c.args.limit found.0 t c.unmap.new.self c.requires.space c.frames.ensures.sound found.1
+    unmapped p m c.give.new.self c.args.quota.now c.in-Some.frame c.args.page c.args.limit found.0 t c.unmap.new.self c.requires.space c.recall.ensures.sound found.1
     (subst (λ k. IsTable m k c.unmap.new.self) u.same u.table) u.pages c.in-Some.ensures.free.0 c.in-Some.ensures.free.1 (c.in-Some.ensures.never c.requires.space.once)
     c.in-Some.ensures.counts (u.once c.requires.space.once) c.in-Some.ensures.taken u.reserved u.kept
     (subst (λ k. c.give.new.self ≡ make_pool m.capacities m.frames (slice_set m.owners c.in-Some.frame None) m.reserved (slice_set m.taken k (taken_by m k - 1))) u.same c.give.ensures.pool)

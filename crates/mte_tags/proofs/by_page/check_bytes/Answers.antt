@@ -1,5 +1,5 @@
 use Rattle.std.proofs.Common.{◌≡◌, ◌∙◌, ◌+◌, ◌-◌, ◌%◌, ◌^◌, sym, ap, arith}
-use Rattle.mte_tags.specs.Accesses.{outcome, first_fault, addresses, or_else}
+use Rattle.mte_tags.specs.Accesses.{result_of, first_fault, addresses, or_else}
 use Rattle.mte_tags.proofs.RunSteps.{first_fault_run}
 use Rattle.mte_tags.proofs.by_page.check_bytes.Goals as goal
 
@@ -10,7 +10,7 @@ returns-in-Some-clause-answer g c =
     let n = c.min-run.result in
     let e = first_fault_run m x c.loop-left.place n c.loop-left.left c.loop-left.invariant.plain (omega (arith, c.min-run.ensures)) in
     let r = c.in-Some.ensures.answer ∙ ap (λ k. first_fault k x (addresses c.loop-left.place n)) c.loop-left.invariant.same in
-    sym (ap outcome (c.loop-left.invariant.rest ∙ e ∙ ap (λ f. or_else f (first_fault m x (addresses ((c.loop-left.place + n) % 2 ^ 56) (c.loop-left.left - n)))) (sym r)))
+    sym (ap result_of (c.loop-left.invariant.rest ∙ e ∙ ap (λ f. or_else f (first_fault m x (addresses ((c.loop-left.place + n) % 2 ^ 56) (c.loop-left.left - n)))) (sym r)))
 
 pub loop-left-preserved : goal.loop-left-preserved
 loop-left-preserved g c =
@@ -30,4 +30,4 @@ pub returns-clause-answer : goal.returns-clause-answer
 unfolding first_fault addresses
 returns-clause-answer g c =
     let e : c.loop-left.left ≡ 0 = omega arith in
-    sym (ap outcome (c.loop-left.invariant.rest ∙ ap (λ k. first_fault (g.S.PageStore.memory c.args.store.now) c.args.access.now (addresses c.loop-left.place k)) e))
+    sym (ap result_of (c.loop-left.invariant.rest ∙ ap (λ k. first_fault (g.S.PageStore.memory c.args.store.now) c.args.access.now (addresses c.loop-left.place k)) e))

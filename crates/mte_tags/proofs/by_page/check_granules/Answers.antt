@@ -1,5 +1,5 @@
 use Rattle.std.proofs.Common.{◌≡◌, ◌≤◌, ◌<◌, ◌∙◌, ◌+◌, ◌-◌, ◌*◌, ◌%◌, ◌^◌, sym, ap, arith}
-use Rattle.mte_tags.specs.Accesses.{outcome, first_fault, addresses, granules, or_else}
+use Rattle.mte_tags.specs.Accesses.{result_of, first_fault, addresses, granules, or_else}
 use Rattle.mte_tags.proofs.GranuleLists.{first_fault_granules, first_fault_in_run, first_fault_one}
 use Rattle.mte_tags.proofs.by_page.check_granules.Goals as goal
 
@@ -14,7 +14,7 @@ returns-in-Some-clause-answer g c =
     let fits : place % 4096 + 16 * n ≤ 4096 = omega (arith, c.min-run.ensures) in
     let r = c.in-Some.ensures.answer ∙ ap (λ k. first_fault k x (addresses place 1)) c.loop-left.invariant.same
     ∙ first_fault_one m x place ∙ sym (first_fault_in_run m x place n c.requires.unchecked some c.loop-left.invariant.aligned fits c.loop-left.invariant.plain) in
-    sym (ap outcome (c.loop-left.invariant.rest ∙ e ∙ ap (λ f. or_else f (first_fault m x (granules ((place + 16 * n) % 2 ^ 56) (c.loop-left.left - n)))) (sym r)))
+    sym (ap result_of (c.loop-left.invariant.rest ∙ e ∙ ap (λ f. or_else f (first_fault m x (granules ((place + 16 * n) % 2 ^ 56) (c.loop-left.left - n)))) (sym r)))
 
 pub loop-left-preserved : goal.loop-left-preserved
 loop-left-preserved g c =
@@ -39,4 +39,4 @@ pub returns-clause-answer : goal.returns-clause-answer
 unfolding first_fault granules
 returns-clause-answer g c =
     let e : c.loop-left.left ≡ 0 = omega arith in
-    sym (ap outcome (c.loop-left.invariant.rest ∙ ap (λ k. first_fault (g.S.PageStore.memory c.args.store.now) c.args.access.now (granules c.loop-left.place k)) e))
+    sym (ap result_of (c.loop-left.invariant.rest ∙ ap (λ k. first_fault (g.S.PageStore.memory c.args.store.now) c.args.access.now (granules c.loop-left.place k)) e))

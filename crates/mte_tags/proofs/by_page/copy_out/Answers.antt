@@ -2,7 +2,7 @@ use Rattle.std.proofs.Common.{◌≡◌, ◌≤◌, ◌∙◌, ◌+◌, ◌-◌,
 use Rattle.std.specs.List.{slice_range}
 use Rattle.std.proofs.lemmas.Bool.{cond-true}
 use Rattle.std.proofs.lemmas.List.{take_all, append-nil}
-use Rattle.mte_tags.specs.Accesses.{outcome, bytes_at, addresses, AreMapped}
+use Rattle.mte_tags.specs.Accesses.{result_of, bytes_at, addresses, AreMapped}
 use Rattle.mte_tags.proofs.RunSteps.{AreMapped_run, copied_out, length_range, no_fault_where_mapped}
 use Rattle.mte_tags.proofs.by_page.copy_out.Goals as goal
 
@@ -19,7 +19,7 @@ loop-done-preserved g c =
     let long : length c.read_in_page.new.buffer ≡ n = c.read_in_page.auto.buffer ∙ asked in
     let same = c.loop-done.invariant.same in
     let there = subst (λ k. AreMapped k (addresses place (length (slice_range c.loop-done.buffer c.loop-done.done (c.loop-done.done + n))))) (sym same) (subst (λ k. AreMapped m (addresses place k)) (sym asked) both.0) in
-    let fine : c.read_in_page.result ≡ Ok tt = c.read_in_page.ensures.answer ∙ ap outcome (no_fault_where_mapped _ _ _ c.mapped-access.ensures there) in
+    let fine : c.read_in_page.result ≡ Ok tt = c.read_in_page.ensures.answer ∙ ap result_of (no_fault_where_mapped _ _ _ c.mapped-access.ensures there) in
     let piece : c.read_in_page.new.buffer ≡ bytes_at m (addresses place n) =
     c.read_in_page.ensures.bytes ∙ cond-true _ _ _ (ap is_ok fine) ∙ ap (λ k. bytes_at k (addresses place (length (slice_range c.loop-done.buffer c.loop-done.done (c.loop-done.done + n))))) same ∙ ap (λ k. bytes_at m (addresses place k)) asked in
     record {

@@ -1,11 +1,11 @@
 use Rattle.std.proofs.Common.{refl, sym, ap, ◌∙◌, length}
-use Rattle.mte_tags.specs.Accesses.{outcome, addresses}
+use Rattle.mte_tags.specs.Accesses.{result_of, addresses}
 use Rattle.mte_tags.proofs.ModeLaws.{access_fault-none, after_access-none}
 use Rattle.mte_tags.proofs.by_page.read_out_of_line.Goals as goal
 
 pub returns-then-try_read_in_page-clause-answer : goal.returns-then-try_read_in_page-clause-answer
 returns-then-try_read_in_page-clause-answer g c =
-    ap outcome (sym (access_fault-none _ c.args.access.now (addresses c.args.at (length c.args.buffer.now)) (c.if-try_read_in_page.ensures.passed refl)))
+    ap result_of (sym (access_fault-none _ c.args.access.now (addresses c.args.at (length c.args.buffer.now)) (c.if-try_read_in_page.ensures.passed refl)))
 
 pub returns-then-try_read_in_page-clause-memory : goal.returns-then-try_read_in_page-clause-memory
 returns-then-try_read_in_page-clause-memory g c =

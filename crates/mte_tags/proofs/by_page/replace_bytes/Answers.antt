@@ -1,7 +1,7 @@
 use Rattle.std.proofs.Common.{◌≡◌, ◌≤◌, ◌∙◌, ◌+◌, ◌-◌, ◌%◌, ◌^◌, Ok, is_ok, sym, ap, subst, arith, length, drop}
 use Rattle.std.specs.List.{slice_range}
 use Rattle.std.proofs.lemmas.Bool.{cond-true}
-use Rattle.mte_tags.specs.Accesses.{outcome, with_bytes, addresses, AreMapped}
+use Rattle.mte_tags.specs.Accesses.{result_of, with_bytes, addresses, AreMapped}
 use Rattle.mte_tags.proofs.RunSteps.{AreMapped_run, copied_in, length_range, AreMapped-with_bytes, no_fault_where_mapped}
 use Rattle.mte_tags.proofs.by_page.replace_bytes.Goals as goal
 
@@ -17,7 +17,7 @@ loop-done-preserved g c =
     let piece = slice_range c.args.bytes.now c.loop-done.done (c.loop-done.done + n) in
     let long : length piece ≡ n = length_range c.args.bytes.now c.loop-done.done n within in
     let there = subst (λ k. AreMapped m (addresses place k)) (sym long) both.0 in
-    let fine : c.write_in_page.result ≡ Ok tt = c.write_in_page.ensures.answer ∙ ap outcome (no_fault_where_mapped _ _ _ c.mapped-access.ensures there) in
+    let fine : c.write_in_page.result ≡ Ok tt = c.write_in_page.ensures.answer ∙ ap result_of (no_fault_where_mapped _ _ _ c.mapped-access.ensures there) in
     let new : g.S.PageStore.memory c.write_in_page.new.store ≡ with_bytes m (addresses place n) piece =
     c.write_in_page.ensures.memory ∙ cond-true _ _ _ (ap is_ok fine) ∙ ap (λ k. with_bytes m (addresses place k) piece) long in
     record {

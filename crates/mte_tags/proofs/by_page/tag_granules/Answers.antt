@@ -1,7 +1,7 @@
 use Rattle.std.proofs.Common.{◌≡◌, ◌∙◌, ◌+◌, ◌-◌, ◌*◌, ◌%◌, ◌^◌, Ok, is_ok, sym, ap, subst, arith}
 use Rattle.std.proofs.lemmas.Bool.{cond-true}
 use Rattle.mte_tags.specs.Memory.{with_granules}
-use Rattle.mte_tags.specs.Accesses.{outcome, granules, AreMapped}
+use Rattle.mte_tags.specs.Accesses.{result_of, granules, AreMapped}
 use Rattle.mte_tags.proofs.RunSteps.{no_fault_where_mapped}
 use Rattle.mte_tags.proofs.GranuleLists.{AreMapped_granules, with_granules_run, AreMapped-with_granules}
 use Rattle.mte_tags.proofs.by_page.tag_granules.Goals as goal
@@ -12,7 +12,7 @@ loop-left-preserved g c =
     let n = c.min-run.result in
     let place = c.loop-left.place in
     let both = AreMapped_granules m place n c.loop-left.left c.loop-left.invariant.plain (omega (arith, c.min-run.ensures)) c.loop-left.invariant.mapped in
-    let fine : c.store_tags_in_page.result ≡ Ok tt = c.store_tags_in_page.ensures.answer ∙ ap outcome (no_fault_where_mapped _ _ _ c.mapped-access.ensures both.0) in
+    let fine : c.store_tags_in_page.result ≡ Ok tt = c.store_tags_in_page.ensures.answer ∙ ap result_of (no_fault_where_mapped _ _ _ c.mapped-access.ensures both.0) in
     let new : g.S.PageStore.memory c.store_tags_in_page.new.store ≡ with_granules m place n c.args.tag c.args.zero = c.store_tags_in_page.ensures.memory ∙ cond-true _ _ _ (ap is_ok fine) in
     record {
       plain = omega arith;

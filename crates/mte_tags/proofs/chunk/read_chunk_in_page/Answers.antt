@@ -1,7 +1,7 @@
 use Rattle.std.proofs.Common.{◌≡◌, ◌∙◌, ◌-◌, ◌/◌, ap, sym, refl, arith}
 use Rattle.std.specs.Int.{from_le_bytes, w64}
 use Rattle.a64_bits.specs.Addresses.{plain}
-use Rattle.mte_tags.specs.Memory.{page_has, attrs_at, attrs_in, has_in, has, page_at}
+use Rattle.mte_tags.specs.Memory.{page_has, attrs_at, attrs_cases, has_cases, has, page_at}
 use Rattle.mte_tags.specs.Accesses.{read_bytes, bytes_at, addresses}
 use Rattle.mte_tags.proofs.FoundPages.{page_read, page_tag}
 use Rattle.mte_tags.proofs.chunk.read_chunk_in_page.Goals as goal
@@ -9,7 +9,7 @@ use Rattle.mte_tags.proofs.chunk.read_chunk_in_page.Goals as goal
 pub returns-clause-has : goal.returns-clause-has
 unfolding page_has attrs_at
 returns-clause-has g c =
-    ap (λ o. has_in (attrs_in o) 3) c.in_ok-place.ensures.page
+    ap (λ o. has_cases (attrs_cases o) 3) c.in_ok-place.ensures.page
     ∙ ap (λ a. has a 3) (sym c.attrs.ensures)
     ∙ ap (λ n. has c.attrs.result.0 n) (sym c.bitor.ensures)
     ∙ sym c.contains.ensures

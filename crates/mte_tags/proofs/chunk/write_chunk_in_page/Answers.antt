@@ -1,12 +1,12 @@
 use Rattle.std.proofs.Common.{◌≡◌, ◌∙◌, ◌+◌, ◌-◌, ap, length, arith, false, true}
 use Rattle.a64_bits.specs.Addresses.{plain}
 use Rattle.mte_tags.specs.Memory.{with_granules}
-use Rattle.mte_tags.specs.Accesses.{addresses, with_bytes, written}
+use Rattle.mte_tags.specs.Accesses.{addresses, with_bytes, with_bytes_at}
 use Rattle.mte_tags.proofs.FoundPages.{chunk_written}
 use Rattle.mte_tags.proofs.chunk.write_chunk_in_page.Goals as goal
 
 pub returns-clause-memory : goal.returns-clause-memory
-unfolding written
+unfolding with_bytes_at
 returns-clause-memory g c =
     let m = g.S.PageStore.memory c.args.store.now in
     let start = c.args.user - 16 in

@@ -1,4 +1,4 @@
-use Rattle.mte_tags.proofs.StateLaws.{state-written, state-with_granules, state-with_new_pages, state-without_pages, mode-after_read, mode-after_write}
+use Rattle.mte_tags.proofs.StateLaws.{state-with-bytes-at, state-with_granules, state-with_new_pages, state-without_pages, mode-after_read, mode-after_write}
 use Rattle.mte_tags.proofs.laws.mode_stays.Goals as goal
 
 pub returns-clause-read : goal.returns-clause-read
@@ -17,4 +17,4 @@ pub returns-clause-unmap : goal.returns-clause-unmap
 returns-clause-unmap c = λ m page n. state-without_pages n m page
 
 pub returns-clause-load : goal.returns-clause-load
-returns-clause-load c = state-written
+returns-clause-load c = state-with-bytes-at

@@ -3,5 +3,5 @@ use Rattle.mte_translate.proofs.EntryLemmas.{entry-written}
 use Rattle.mte_translate.proofs.entries.set_entry.Goals as goal
 
 pub returns-clause-wrote : goal.returns-clause-wrote
-returns-clause-wrote c = entry-written c.args.pool.now c.requires.out.0 c.args.frame c.args.index c.args.entry c.data_mut.result.now c.copy_from_slice.new.self c.frames-from.ensures.sound c.frames-from.ensures.sized
+returns-clause-wrote c = entry-written c.args.pool.now c.requires.out.0 c.args.frame c.args.index c.args.entry c.data_mut.result.now c.copy_from_slice.new.self c.recall.ensures.sound c.recall.ensures.sized
     c.requires.out.1 c.requires.low (omega arith) c.data_mut.ensures.value (c.copy_from_slice.ensures.after ∙ c.to_le_bytes.ensures) (ap length (c.copy_from_slice.ensures.after ∙ c.to_le_bytes.ensures))

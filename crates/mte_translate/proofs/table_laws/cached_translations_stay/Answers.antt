@@ -1,4 +1,4 @@
-use Rattle.mte_translate.proofs.KeptTables.{cached-mapped, cached-unmapped, cached-filled, cached-beside, cached-forgotten, cached-forgotten_all, cached-none, cached-found}
+use Rattle.mte_translate.proofs.KeptTables.{cached-mapped, cached-unmapped, cached-with-translation, cached-beside, cached-forgotten, cached-forgotten_all, cached-none, cached-found}
 use Rattle.mte_translate.proofs.table_laws.cached_translations_stay.Goals as goal
 
 pub returns-clause-mapped : goal.returns-clause-mapped
@@ -8,7 +8,7 @@ pub returns-clause-unmapped : goal.returns-clause-unmapped
 returns-clause-unmapped c = cached-unmapped
 
 pub returns-clause-filled : goal.returns-clause-filled
-returns-clause-filled c = cached-filled
+returns-clause-filled c = cached-with-translation
 
 pub returns-clause-beside : goal.returns-clause-beside
 returns-clause-beside c = cached-beside

@@ -1,6 +1,6 @@
 use Rattle.std.proofs.Common.{◌+◌, ◌∙◌, ap, get_or, None}
 use Rattle.mte_frames.proofs.Keeps.{keeps_on}
-use Rattle.mte_frames.specs.Pool.{IsOut}
+use Rattle.mte_frames.specs.Pool.{IsHeldBy}
 use Rattle.mte_translate.specs.Tables.{is_valid, leaf_in, IsUsed}
 use Rattle.mte_translate.proofs.TreeLemmas.{Hang, hang-walk, hang-tree, hang-rest}
 use Rattle.mte_translate.proofs.StepLemmas.{gave, taken-gave, leaf-dropped}
@@ -29,5 +29,5 @@ returns-clause-taken c =
     let w = c.set_entry.ensures.wrote in
     let k = c.args.quota.now in
     let leaf : IsUsed c.args.pool.now k c.requires.tree.use_of c.leaf-leaf.result (1 + c.args.slot) = rw (c.leaf-leaf.ensures ∙ ap leaf_in c.entry.ensures) (c.requires.tree.tree.leaves c.args.slot c.requires.low c.requires.there) in
-    let out : IsOut c.set_entry.new.pool c.leaf-leaf.result k = ap (λ os. get_or os c.leaf-leaf.result None) w.owners ∙ leaf.out in
-    taken-gave c.set_entry.new.pool _ k c.leaf-leaf.result _ c.frames.ensures.sound out c.give.ensures.pool ∙ ap (λ ts. get_or ts k 0) w.taken
+    let out : IsHeldBy c.set_entry.new.pool c.leaf-leaf.result k = ap (λ os. get_or os c.leaf-leaf.result None) w.owners ∙ leaf.out in
+    taken-gave c.set_entry.new.pool _ k c.leaf-leaf.result _ c.recall.ensures.sound out c.give.ensures.pool ∙ ap (λ ts. get_or ts k 0) w.taken

@@ -1,13 +1,13 @@
 use Rattle.std.proofs.Common.{◌≡◌, ◌<◌, ◌∙◌, length, rules, ap}
-use Rattle.scudo_cache.specs.Caches.{Class, class_with, refilled, newest, after_take}
-use Rattle.scudo_cache.proofs.ClassLemmas.{refilled-some}
+use Rattle.scudo_cache.specs.Caches.{Class, class_with, after_refill, newest, after_take}
+use Rattle.scudo_cache.proofs.ClassLemmas.{after-refill-some}
 use Rattle.scudo_cache.proofs.cache.take_from.Goals as goal
 
 -- there is an entry, so nothing is refilled
-at-hand : (c : goal.After-hand_out) → class_with c.args.entries.now c.args.pool.now ≡ refilled c.args.class c.args.entries.now c.args.pool.now
+at-hand : (c : goal.After-hand_out) → class_with c.args.entries.now c.args.pool.now ≡ after_refill c.args.class c.args.entries.now c.args.pool.now
 at-hand c =
     let l : 0 < length c.args.entries.now = search rules in
-    refilled-some c.args.class c.args.entries.now c.args.pool.now l
+    after-refill-some c.args.class c.args.entries.now c.args.pool.now l
 
 pub returns-clause-answer : goal.returns-clause-answer
 returns-clause-answer c = c.hand_out.ensures.answer ∙ ap (λ (k : Class). newest k.entries) (at-hand c)

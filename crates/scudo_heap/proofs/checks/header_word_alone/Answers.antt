@@ -3,7 +3,7 @@ use Rattle.std.proofs.lemmas.Bool.{cond-true}
 use Rattle.std.specs.Int.{from_le_bytes, w64}
 use Rattle.a64_bits.specs.Addresses.{plain}
 use Rattle.mte_tags.specs.Memory.{page_has}
-use Rattle.mte_tags.specs.Accesses.{outcome, read_bytes}
+use Rattle.mte_tags.specs.Accesses.{result_of, read_bytes}
 use Rattle.scudo_heap.proofs.OpenLemmas.{either_way, word_readable}
 use Rattle.scudo_heap.proofs.checks.header_word_alone.Goals as goal
 
@@ -26,5 +26,5 @@ returns-clause-word g c =
     ∙ sym c.has_attrs.ensures.answer
     ∙ c.if-not-has_attrs.false in
     let none = word_readable n start mapped (omega (arith, c.requires.plain)) (omega (arith, c.requires.aligned, c.requires.above)) in
-    let bytes = c.read.ensures.bytes ∙ cond-true _ _ _ (ap is_ok (c.read.ensures.answer ∙ ap outcome none)) in
+    let bytes = c.read.ensures.bytes ∙ cond-true _ _ _ (ap is_ok (c.read.ensures.answer ∙ ap result_of none)) in
     c.from_le_bytes.ensures ∙ ap (from_le_bytes w64) (bytes ∙ ap (λ k. read_bytes k start 8) c.has_attrs.ensures.memory)

@@ -4,11 +4,11 @@ use Rattle.scudo_heap.specs.declared.chunk.Place.{Place}
 use Rattle.scudo_heap.specs.declared.chunk.Chunk.TheVariants.{Small}
 use Rattle.scudo_heap.specs.Stacks.{StackState, stack_of}
 use Rattle.scudo_heap.specs.Heaps.{heap_of}
-use Rattle.scudo_heap.specs.Placing.{world_of, placed}
-use Rattle.scudo_heap.specs.Allocation.{made_of, made_at}
+use Rattle.scudo_heap.specs.Placing.{world_of, after_place}
+use Rattle.scudo_heap.specs.Allocation.{allocation_of, allocation_at}
 use Rattle.scudo_heap.specs.Served.{IsOpen}
-use Rattle.scudo_heap.proofs.ServedLemmas.{block-open-in, same-popped, served-on, SamePages}
-use Rattle.scudo_heap.proofs.ClassLemmas.{FitsIn, fits-in, none-top, taken-some}
+use Rattle.scudo_heap.proofs.ServedLemmas.{block-open-in, same-after-pop, served-on, SamePages}
+use Rattle.scudo_heap.proofs.ClassLemmas.{FitsIn, fits-in, none-top, after-take-some}
 use Rattle.scudo_heap.proofs.classes.take_top.Goals as goal
 
 pub make_chunk-tag-requires-clause-aligned : goal.make_chunk-tag-requires-clause-aligned
@@ -33,22 +33,22 @@ pub returns-in-None-clause-empty : goal.returns-in-None-clause-empty
 returns-in-None-clause-empty g c = λ _. none-top _ c.in-None.ensures.answer
 
 pub returns-in-Some-clause-made : goal.returns-in-Some-clause-made
-unfolding placed
+unfolding after_place
 returns-in-Some-clause-made g c = λ ms.
     let w = world_of (g.M.Tagged.memory c.args.memory.now) (heap_of c.args.cookie c.args.stacks.now ms) c.args.rgsr.now in
     let p = c.place-place.result in
     let e = c.make_chunk-tag.ensures in
-    let popped = c.take.ensures.stacks ∙ ap (λ (t : Place). Rattle.scudo_heap.specs.Stacks.popped c.args.stacks.now t.class) (sym c.place-place.ensures) in
-    let done : made_of (world_of (g.M.Tagged.memory c.make_chunk-tag.new.memory) (heap_of c.args.cookie c.take.new.self ms) c.make_chunk-tag.new.rgsr) (Some (Small p c.make_chunk-tag.result)) ≡ made_at p (placed w c.args.origin p) =
-    λ i. made_of (world_of (e.memory i) (heap_of c.args.cookie (popped i) ms) (e.rgsr i)) (Some (Small p (e.tag i))) in
-    done ∙ ap (λ (t : Place). made_at t (placed w c.args.origin t)) c.place-place.ensures
-    ∙ taken-some w w c.args.origin c.args.align c.args.size c.args.class c.in-Some.block (stack_of c.args.stacks.now c.args.class) c.in-Some.ensures.answer
+    let popped = c.take.ensures.stacks ∙ ap (λ (t : Place). Rattle.scudo_heap.specs.Stacks.after_pop c.args.stacks.now t.class) (sym c.place-place.ensures) in
+    let done : allocation_of (world_of (g.M.Tagged.memory c.make_chunk-tag.new.memory) (heap_of c.args.cookie c.take.new.self ms) c.make_chunk-tag.new.rgsr) (Some (Small p c.make_chunk-tag.result)) ≡ allocation_at p (after_place w c.args.origin p) =
+    λ i. allocation_of (world_of (e.memory i) (heap_of c.args.cookie (popped i) ms) (e.rgsr i)) (Some (Small p (e.tag i))) in
+    done ∙ ap (λ (t : Place). allocation_at t (after_place w c.args.origin t)) c.place-place.ensures
+    ∙ after-take-some w w c.args.origin c.args.align c.args.size c.args.class c.in-Some.block (stack_of c.args.stacks.now c.args.class) c.in-Some.ensures.answer
 
 pub returns-in-Some-clause-served : goal.returns-in-Some-clause-served
 returns-in-Some-clause-served g c = λ k ms v.
     let e = c.make_chunk-tag.ensures in
     served-on _ _ (heap_of k c.args.stacks.now ms) c.take.new.self k v e.attrs e.left
-    (subst (SamePages c.args.stacks.now) (sym c.take.ensures.stacks) (same-popped c.args.stacks.now c.args.class))
+    (subst (SamePages c.args.stacks.now) (sym c.take.ensures.stacks) (same-after-pop c.args.stacks.now c.args.class))
 
 pub returns-in-Some-clause-low_chunk : goal.returns-in-Some-clause-low_chunk
 returns-in-Some-clause-low_chunk g c =

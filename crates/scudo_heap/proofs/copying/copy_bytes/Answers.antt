@@ -1,14 +1,14 @@
 use Rattle.std.proofs.Common.{◌≡◌, ◌+◌, length, take, sym, ap, ◌∙◌, arith}
 use Rattle.std.proofs.lemmas.List.{length-take-le}
 use Rattle.mte_tags.specs.Memory.{attrs_at, pages_left}
-use Rattle.scudo_heap.specs.Realloc.{copied}
-use Rattle.scudo_heap.proofs.CopyLemmas.{apart-less, copied-none, copied-more, attrs_at-copied, pages_left-copied, open-written}
+use Rattle.scudo_heap.specs.Realloc.{after_copy}
+use Rattle.scudo_heap.proofs.CopyLemmas.{apart-less, after-copy-none, after-copy-more, attrs_at-after-copy, pages_left-after-copy, open-with-bytes-at}
 use Rattle.scudo_heap.proofs.copying.copy_bytes.Goals as goal
 
 pub loop-done-init : goal.loop-done-init
 loop-done-init g c = record {
   within = omega arith;
-  memory = sym (copied-none (g.M.Tagged.memory c.args.memory.now) c.args.from c.args.to);
+  memory = sym (after-copy-none (g.M.Tagged.memory c.args.memory.now) c.args.from c.args.to);
   kept = g.met.M.Tagged.kept_same _;
 }
 
@@ -17,8 +17,8 @@ copy_part-requires-clause-source g c =
     let m = g.M.Tagged.memory c.args.memory.now in
     let long : length (take c.min-more.result c.loop-done.part) ≡ c.min-more.result = length-take-le c.min-more.result c.loop-done.part (omega arith) in
     let more = c.min-more.ensures in
-    open-written m _ c.args.from (c.args.from + c.args.count) _ _
-    (λ q. ap (λ t. attrs_at t q) c.loop-done.invariant.memory ∙ attrs_at-copied m c.args.from c.args.to c.loop-done.done q)
+    open-with-bytes-at m _ c.args.from (c.args.from + c.args.count) _ _
+    (λ q. ap (λ t. attrs_at t q) c.loop-done.invariant.memory ∙ attrs_at-after-copy m c.args.from c.args.to c.loop-done.done q)
     c.requires.source (omega arith) (omega arith)
 
 pub copy_part-requires-clause-target : goal.copy_part-requires-clause-target
@@ -26,8 +26,8 @@ copy_part-requires-clause-target g c =
     let m = g.M.Tagged.memory c.args.memory.now in
     let long : length (take c.min-more.result c.loop-done.part) ≡ c.min-more.result = length-take-le c.min-more.result c.loop-done.part (omega arith) in
     let more = c.min-more.ensures in
-    open-written m _ c.args.to (c.args.to + c.args.count) _ _
-    (λ q. ap (λ t. attrs_at t q) c.loop-done.invariant.memory ∙ attrs_at-copied m c.args.from c.args.to c.loop-done.done q)
+    open-with-bytes-at m _ c.args.to (c.args.to + c.args.count) _ _
+    (λ q. ap (λ t. attrs_at t q) c.loop-done.invariant.memory ∙ attrs_at-after-copy m c.args.from c.args.to c.loop-done.done q)
     c.requires.target (omega arith) (omega arith)
 
 pub loop-done-preserved : goal.loop-done-preserved
@@ -43,20 +43,20 @@ loop-done-preserved g c =
     let target = c.requires.target.below in
     record {
       within = omega arith;
-      memory = c.copy_part.ensures.memory ∙ (λ i. copied (c.loop-done.invariant.memory i) (from + done) (to + done) (long i))
-          ∙ copied-more m from to done more (omega arith) (omega arith) (apart-less from to (done + more) c.args.count (omega arith) c.requires.apart);
+      memory = c.copy_part.ensures.memory ∙ (λ i. after_copy (c.loop-done.invariant.memory i) (from + done) (to + done) (long i))
+          ∙ after-copy-more m from to done more (omega arith) (omega arith) (apart-less from to (done + more) c.args.count (omega arith) c.requires.apart);
       kept = g.met.M.Tagged.kept_on _ _ _ c.loop-done.invariant.kept c.copy_part.ensures.kept;
     }
 
 pub returns-clause-memory : goal.returns-clause-memory
 returns-clause-memory g c =
     let all : c.loop-done.done ≡ c.args.count = omega arith in
-    c.loop-done.invariant.memory ∙ ap (copied (g.M.Tagged.memory c.args.memory.now) c.args.from c.args.to) all
+    c.loop-done.invariant.memory ∙ ap (after_copy (g.M.Tagged.memory c.args.memory.now) c.args.from c.args.to) all
 
 pub returns-clause-attrs : goal.returns-clause-attrs
 returns-clause-attrs g c = λ q.
-    ap (λ t. attrs_at t q) c.loop-done.invariant.memory ∙ attrs_at-copied (g.M.Tagged.memory c.args.memory.now) c.args.from c.args.to c.loop-done.done q
+    ap (λ t. attrs_at t q) c.loop-done.invariant.memory ∙ attrs_at-after-copy (g.M.Tagged.memory c.args.memory.now) c.args.from c.args.to c.loop-done.done q
 
 pub returns-clause-left : goal.returns-clause-left
 returns-clause-left g c =
-    ap pages_left c.loop-done.invariant.memory ∙ pages_left-copied (g.M.Tagged.memory c.args.memory.now) c.args.from c.args.to c.loop-done.done
+    ap pages_left c.loop-done.invariant.memory ∙ pages_left-after-copy (g.M.Tagged.memory c.args.memory.now) c.args.from c.args.to c.loop-done.done

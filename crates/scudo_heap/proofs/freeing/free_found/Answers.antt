@@ -2,12 +2,12 @@ use Rattle.std.proofs.Common.{◌≡◌, ◌/◌, ◌∙◌, sym, ap, subst}
 use Rattle.address_map.specs.declared.limits.TheConstants.{PAGE_SIZE}
 use Rattle.mte_tags.specs.Memory.{without_pages}
 use Rattle.scudo_heap.specs.Heaps.{heap_of}
-use Rattle.scudo_heap.specs.Placing.{world_of, given_back}
+use Rattle.scudo_heap.specs.Placing.{world_of, after_give_back}
 use Rattle.scudo_heap.specs.Large.{large_given_back}
 use Rattle.scudo_heap.specs.Freeing.{without_chunk}
-use Rattle.scudo_heap.specs.Served.{IsServed}
+use Rattle.scudo_heap.specs.Served.{HeapOwnsItsPages}
 use Rattle.scudo_heap.specs.Inner.{IsFound}
-use Rattle.scudo_heap.proofs.ServedLemmas.{block-open, mapping-open, same-pushed, served-on, served-less, SamePages}
+use Rattle.scudo_heap.proofs.ServedLemmas.{block-open, mapping-open, same-after-push, served-on, served-less, SamePages}
 use Rattle.scudo_heap.proofs.freeing.free_found.Goals as goal
 
 pub free_block-requires-clause-open : goal.free_block-requires-clause-open
@@ -24,11 +24,11 @@ free_pages-requires-clause-open g c =
     λ k. mapping-open m h c.in-InPages.mapping c.requires.served k (subst (IsFound h) c.in-InPages.is c.requires.found)
 
 pub returns-in-InBlock-clause-world : goal.returns-in-InBlock-clause-world
-unfolding without_chunk given_back
+unfolding without_chunk after_give_back
 returns-in-InBlock-clause-world g c =
     let w = world_of (g.M.Tagged.memory c.args.memory.now) (heap_of c.args.cookie c.args.stacks.now c.args.maps.now) c.args.rgsr.now in
     let e = c.free_block.ensures in
-    let done : world_of (g.M.Tagged.memory c.free_block.new.memory) (heap_of c.args.cookie c.free_block.new.stacks c.args.maps.now) c.free_block.new.rgsr ≡ given_back w c.in-InBlock.place c.in-InBlock.header =
+    let done : world_of (g.M.Tagged.memory c.free_block.new.memory) (heap_of c.args.cookie c.free_block.new.stacks c.args.maps.now) c.free_block.new.rgsr ≡ after_give_back w c.in-InBlock.place c.in-InBlock.header =
     λ i. record { memory = e.memory i; heap = heap_of c.args.cookie (e.stacks i) c.args.maps.now; rgsr = e.rgsr i } in
     done ∙ ap (without_chunk w) (sym c.in-InBlock.is)
 
@@ -37,7 +37,7 @@ returns-in-InBlock-clause-served g c =
     let h = heap_of c.args.cookie c.args.stacks.now c.args.maps.now in
     let e = c.free_block.ensures in
     served-on _ _ h c.free_block.new.stacks c.args.cookie c.requires.served e.attrs e.left
-    (subst (SamePages c.args.stacks.now) (sym e.stacks) (same-pushed c.args.stacks.now c.in-InBlock.place.class c.in-InBlock.place.block))
+    (subst (SamePages c.args.stacks.now) (sym e.stacks) (same-after-push c.args.stacks.now c.in-InBlock.place.class c.in-InBlock.place.block))
 
 pub returns-in-InPages-clause-world : goal.returns-in-InPages-clause-world
 unfolding without_chunk large_given_back
@@ -53,6 +53,6 @@ returns-in-InPages-clause-served g c =
     let m = g.M.Tagged.memory c.args.memory.now in
     let h = heap_of c.args.cookie c.args.stacks.now c.args.maps.now in
     let e = c.free_pages.ensures in
-    subst (λ t. IsServed t (heap_of c.args.cookie c.args.stacks.now c.free_pages.new.maps)) (sym e.memory)
-    (subst (λ t. IsServed (without_pages m (c.in-InPages.mapping.start / PAGE_SIZE) c.in-InPages.mapping.pages) (heap_of c.args.cookie c.args.stacks.now t)) (sym e.maps)
+    subst (λ t. HeapOwnsItsPages t (heap_of c.args.cookie c.args.stacks.now c.free_pages.new.maps)) (sym e.memory)
+    (subst (λ t. HeapOwnsItsPages (without_pages m (c.in-InPages.mapping.start / PAGE_SIZE) c.in-InPages.mapping.pages) (heap_of c.args.cookie c.args.stacks.now t)) (sym e.maps)
     (served-less m h c.in-InPages.mapping c.args.cookie c.requires.served e.mappings (subst (IsFound h) c.in-InPages.is c.requires.found)))

@@ -1,14 +1,14 @@
 use Rattle.std.proofs.Common.{◌≡◌, ◌-◌, ap, ◌∙◌, length, arith}
 use Rattle.std.specs.Int.{to_le_bytes, w64}
 use Rattle.mte_tags.specs.Memory.{attrs_at, pages_left}
-use Rattle.mte_tags.specs.Accesses.{written}
-use Rattle.mte_tags.proofs.PageLaws.{attrs_at-written, pages_left-written}
-use Rattle.scudo_heap.specs.Chunks.{headed}
+use Rattle.mte_tags.specs.Accesses.{with_bytes_at}
+use Rattle.mte_tags.proofs.PageLaws.{attrs_at-with-bytes-at, pages_left-with-bytes-at}
+use Rattle.scudo_heap.specs.Chunks.{with_header}
 use Rattle.scudo_heap.proofs.OpenLemmas.{bytes_written}
 use Rattle.scudo_heap.proofs.granules.put_header.Goals as goal
 
 pub returns-clause-memory : goal.returns-clause-memory
-unfolding headed
+unfolding with_header
 returns-clause-memory g c =
     let m = g.M.Tagged.memory c.args.memory.now in
     let eight : length c.to_le_bytes.result ≡ 8 = ap length c.to_le_bytes.ensures in
@@ -17,7 +17,7 @@ returns-clause-memory g c =
     let below = o.below in
     bytes_written m _ (c.args.user - 16) _ _ c.write.ensures.answer c.write.ensures.memory
     (record { pages = λ a l h. o.pages a l (omega arith); below = omega arith })
-    ∙ ap (λ bs. written m (c.args.user - 16) bs) (c.to_le_bytes.ensures ∙ ap (to_le_bytes w64) c.pack-word.ensures.word)
+    ∙ ap (λ bs. with_bytes_at m (c.args.user - 16) bs) (c.to_le_bytes.ensures ∙ ap (to_le_bytes w64) c.pack-word.ensures.word)
 
 pub returns-clause-attrs : goal.returns-clause-attrs
 returns-clause-attrs g c =
@@ -28,7 +28,7 @@ returns-clause-attrs g c =
     let below = o.below in
     λ q. ap (λ k. attrs_at k q) (bytes_written m _ (c.args.user - 16) _ _ c.write.ensures.answer c.write.ensures.memory
     (record { pages = λ a l h. o.pages a l (omega arith); below = omega arith }))
-    ∙ attrs_at-written m (c.args.user - 16) _ q
+    ∙ attrs_at-with-bytes-at m (c.args.user - 16) _ q
 
 pub returns-clause-left : goal.returns-clause-left
 returns-clause-left g c =
@@ -39,4 +39,4 @@ returns-clause-left g c =
     let below = o.below in
     ap pages_left (bytes_written m _ (c.args.user - 16) _ _ c.write.ensures.answer c.write.ensures.memory
     (record { pages = λ a l h. o.pages a l (omega arith); below = omega arith }))
-    ∙ pages_left-written m (c.args.user - 16) _
+    ∙ pages_left-with-bytes-at m (c.args.user - 16) _

@@ -1,16 +1,16 @@
 use Rattle.std.proofs.Common.{◌-◌, ◌/◌, Result, Ok, Err, sym, subst, arith}
 use Rattle.std.specs.Result.{IsOk, OnOk}
-use Rattle.mte_tags.specs.declared.tagged.NoQuota.{NoQuota}
+use Rattle.mte_tags.specs.declared.tagged.NoPagesLeft.{NoPagesLeft}
 use Rattle.mte_tags.specs.Memory.{with_new_pages}
 use Rattle.address_map.specs.declared.limits.TheConstants.{PAGE_SIZE}
 use Rattle.scudo_heap.specs.Heaps.{heap_of, with_more}
 use Rattle.scudo_heap.specs.Placing.{heap_attrs}
-use Rattle.scudo_heap.specs.Served.{IsServed, IsOpen}
+use Rattle.scudo_heap.specs.Served.{HeapOwnsItsPages, IsOpen}
 use Rattle.scudo_heap.proofs.MapLemmas.{is-at}
 use Rattle.scudo_heap.proofs.ServedLemmas.{pages-free, pages-open, served-more, served-on, same-pages}
 use Rattle.scudo_heap.proofs.pages.map_chunk.Goals as goal
 
-on-ok : (r : Result (Unit {0}) NoQuota) (P : Type 0) → IsOk r → OnOk r P → P
+on-ok : (r : Result (Unit {0}) NoPagesLeft) (P : Type 0) → IsOk r → OnOk r P → P
 on-ok (Ok u) P h f = f
 on-ok (Err e) P h f = absurd (cc)
 
@@ -50,6 +50,6 @@ returns-clause-served g c = λ k s v.
     let e = c.put_header.ensures in
     let new = with_new_pages m (n.start / PAGE_SIZE) n.pages heap_attrs in
     let more = served-more m s c.args.maps.now n k w c.requires.left v in
-    subst (λ t. IsServed (g.M.Tagged.memory c.put_header.new.memory) (heap_of k s t)) (sym (returns-clause-maps g c))
+    subst (λ t. HeapOwnsItsPages (g.M.Tagged.memory c.put_header.new.memory) (heap_of k s t)) (sym (returns-clause-maps g c))
     (served-on (g.M.Tagged.memory c.map_pages.new.self) _ (heap_of k s (with_more c.args.maps.now n)) s k
-    (subst (λ t. IsServed t (heap_of k s (with_more c.args.maps.now n))) (sym memory) more) e.attrs e.left (same-pages s))
+    (subst (λ t. HeapOwnsItsPages t (heap_of k s (with_more c.args.maps.now n))) (sym memory) more) e.attrs e.left (same-pages s))

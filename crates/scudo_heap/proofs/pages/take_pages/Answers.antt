@@ -5,24 +5,24 @@ use Rattle.scudo_heap.specs.declared.chunk.Chunk.TheVariants.{Large}
 use Rattle.scudo_heap.specs.Heaps.{heap_of}
 use Rattle.scudo_heap.specs.Placing.{world_of}
 use Rattle.scudo_heap.specs.Large.{large_placed}
-use Rattle.scudo_heap.specs.Allocation.{made_of, nothing, made_large}
+use Rattle.scudo_heap.specs.Allocation.{allocation_of, no_chunk, after_map_chunk}
 use Rattle.scudo_heap.specs.Served.{KeepsMapped}
 use Rattle.scudo_heap.specs.Inner.{IsLarge}
 use Rattle.scudo_heap.proofs.MapLemmas.{is-at}
-use Rattle.scudo_heap.proofs.LargeLemmas.{is-large, in_mapping-none, in_mapping-refused, in_mapping-made}
+use Rattle.scudo_heap.proofs.LargeLemmas.{is-large, after-large-allocation-none, after-large-allocation-refused, after-large-allocation-made}
 use Rattle.scudo_heap.proofs.pages.take_pages.Goals as goal
 
 pub returns-in_default-clause-made : goal.returns-in_default-clause-made
 returns-in_default-clause-made g c = λ s r.
-    in_mapping-none (world_of (g.M.Tagged.memory c.args.memory.now) (heap_of c.args.cookie s c.args.maps.now) r) c.args.origin c.args.align c.args.size c.args.pages c.in_default.ensures.place
+    after-large-allocation-none (world_of (g.M.Tagged.memory c.args.memory.now) (heap_of c.args.cookie s c.args.maps.now) r) c.args.origin c.args.align c.args.size c.args.pages c.in_default.ensures.place
 
 pub returns-then-pages-pages_left-clause-made : goal.returns-then-pages-pages_left-clause-made
 returns-then-pages-pages_left-clause-made g c = λ s r.
     let m = g.M.Tagged.memory c.args.memory.now in
     let left = c.pages_left.ensures.answer in
     let more = c.if-pages-pages_left.true in
-    ap (λ t. nothing (world_of t (heap_of c.args.cookie s c.args.maps.now) r)) c.pages_left.ensures.memory
-    ∙ in_mapping-refused (world_of m (heap_of c.args.cookie s c.args.maps.now) r) c.args.origin c.args.align c.args.size c.args.pages c.in-Some.start c.in-Some.ensures.place (omega arith)
+    ap (λ t. no_chunk (world_of t (heap_of c.args.cookie s c.args.maps.now) r)) c.pages_left.ensures.memory
+    ∙ after-large-allocation-refused (world_of m (heap_of c.args.cookie s c.args.maps.now) r) c.args.origin c.args.align c.args.size c.args.pages c.in-Some.start c.in-Some.ensures.place (omega arith)
 
 pub mapping_at-mapping-requires-clause-start : goal.mapping_at-mapping-requires-clause-start
 mapping_at-mapping-requires-clause-start g c =
@@ -53,11 +53,11 @@ returns-clause-made g c = λ s r.
     let v = world_of (g.M.Tagged.memory c.pages_left.new.self) (heap_of c.args.cookie s c.args.maps.now) r in
     let n = c.mapping_at-mapping.result in
     let e = c.map_chunk.ensures in
-    let done : made_of (world_of (g.M.Tagged.memory c.map_chunk.new.memory) (heap_of c.args.cookie s c.map_chunk.new.maps) r) (Some (Large n c.args.size)) ≡ made_large v c.args.origin c.args.size n =
-    λ i. made_of (world_of (e.memory i) (heap_of c.args.cookie s (e.maps i)) r) (Some (Large n c.args.size)) in
-    done ∙ ap (λ t. made_large (world_of t (heap_of c.args.cookie s c.args.maps.now) r) c.args.origin c.args.size n) c.pages_left.ensures.memory
-    ∙ ap (made_large w c.args.origin c.args.size) c.mapping_at-mapping.ensures
-    ∙ in_mapping-made w c.args.origin c.args.align c.args.size c.args.pages c.in-Some.start c.in-Some.ensures.place (omega arith)
+    let done : allocation_of (world_of (g.M.Tagged.memory c.map_chunk.new.memory) (heap_of c.args.cookie s c.map_chunk.new.maps) r) (Some (Large n c.args.size)) ≡ after_map_chunk v c.args.origin c.args.size n =
+    λ i. allocation_of (world_of (e.memory i) (heap_of c.args.cookie s (e.maps i)) r) (Some (Large n c.args.size)) in
+    done ∙ ap (λ t. after_map_chunk (world_of t (heap_of c.args.cookie s c.args.maps.now) r) c.args.origin c.args.size n) c.pages_left.ensures.memory
+    ∙ ap (after_map_chunk w c.args.origin c.args.size) c.mapping_at-mapping.ensures
+    ∙ after-large-allocation-made w c.args.origin c.args.align c.args.size c.args.pages c.in-Some.start c.in-Some.ensures.place (omega arith)
 
 pub returns-clause-served : goal.returns-clause-served
 returns-clause-served g c =

@@ -1,66 +1,66 @@
 use Rattle.std.proofs.Common.{◌≡◌, ◌+◌, min, Some, None, sym, ap, subst, ◌∙◌, arith}
 use Rattle.scudo_heap.specs.Heaps.{heap_of}
 use Rattle.scudo_heap.specs.Placing.{world_of}
-use Rattle.scudo_heap.specs.Allocation.{made_of, nothing, malloc_of}
+use Rattle.scudo_heap.specs.Allocation.{allocation_of, no_chunk, after_malloc}
 use Rattle.scudo_heap.specs.Checks.{size_found}
 use Rattle.scudo_heap.specs.Freeing.{without_chunk}
-use Rattle.scudo_heap.specs.Realloc.{user_of, user_in, copied, filled, moved_by, moved}
+use Rattle.scudo_heap.specs.Realloc.{user_of, user_of_chunk, after_copy, with_copied_bytes, move_cases, after_move}
 use Rattle.scudo_heap.specs.Inner.{AreApart}
 use Rattle.scudo_heap.proofs.BesideLemmas.{malloc-beside, malloc-none, found-within, beside-apart, open-in}
 use Rattle.scudo_heap.proofs.resizing.move_chunk.Goals as goal
 
 pub returns-in_default-clause-made : goal.returns-in_default-clause-made
-unfolding moved malloc_of
+unfolding after_move after_malloc
 returns-in_default-clause-made g c =
     let w = world_of (g.M.Tagged.memory c.args.memory.now) (heap_of c.args.cookie c.args.stacks.now c.args.maps.now) c.args.rgsr.now in
     let x = world_of (g.M.Tagged.memory c.allocate.new.memory) (heap_of c.args.cookie c.allocate.new.stacks c.allocate.new.maps) c.allocate.new.rgsr in
-    let made : made_of x None ≡ malloc_of w c.args.size = c.in_default.ensures.made in
-    ap nothing (malloc-none w x c.args.size made) ∙ ap (moved_by w c.args.found c.args.size) made
+    let made : allocation_of x None ≡ after_malloc w c.args.size = c.in_default.ensures.made in
+    ap no_chunk (malloc-none w x c.args.size made) ∙ ap (move_cases w c.args.found c.args.size) made
 
 pub copy_bytes-requires-clause-source : goal.copy_bytes-requires-clause-source
-unfolding malloc_of
+unfolding after_malloc
 copy_bytes-requires-clause-source g c =
     let w = world_of (g.M.Tagged.memory c.args.memory.now) (heap_of c.args.cookie c.args.stacks.now c.args.maps.now) c.args.rgsr.now in
     let x = world_of (g.M.Tagged.memory c.allocate.new.memory) (heap_of c.args.cookie c.allocate.new.stacks c.allocate.new.maps) c.allocate.new.rgsr in
-    let b = malloc-beside w x c.args.size c.args.found c.in-Some.chunk c.are_sound.ensures c.are_in_order.ensures c.in-Some.ensures.served c.requires.some c.requires.most c.requires.found c.in-Some.ensures.made in
+    let b = malloc-beside w x c.args.size c.args.found c.in-Some.chunk c.recall.ensures c.recall-2.ensures c.in-Some.ensures.served c.requires.some c.requires.most c.requires.found c.in-Some.ensures.made in
     let size = c.size.ensures in
     let least = c.min-count.ensures in
     let user = c.user.ensures in
-    let in_it = found-within x.memory x.heap c.args.found c.min-count.result c.in-Some.ensures.served c.are_in_order-2.ensures b.found (omega arith) in
+    let in_it = found-within x.memory x.heap c.args.found c.min-count.result c.in-Some.ensures.served c.recall-3.ensures b.found (omega arith) in
     open-in x.memory (user_of c.args.found) (user_of c.args.found + c.min-count.result) _ _ in_it.bytes (omega arith) (omega arith)
 
 pub copy_bytes-requires-clause-target : goal.copy_bytes-requires-clause-target
-unfolding malloc_of
+unfolding after_malloc
 copy_bytes-requires-clause-target g c =
     let w = world_of (g.M.Tagged.memory c.args.memory.now) (heap_of c.args.cookie c.args.stacks.now c.args.maps.now) c.args.rgsr.now in
     let x = world_of (g.M.Tagged.memory c.allocate.new.memory) (heap_of c.args.cookie c.allocate.new.stacks c.allocate.new.maps) c.allocate.new.rgsr in
-    let b = malloc-beside w x c.args.size c.args.found c.in-Some.chunk c.are_sound.ensures c.are_in_order.ensures c.in-Some.ensures.served c.requires.some c.requires.most c.requires.found c.in-Some.ensures.made in
+    let b = malloc-beside w x c.args.size c.args.found c.in-Some.chunk c.recall.ensures c.recall-2.ensures c.in-Some.ensures.served c.requires.some c.requires.most c.requires.found c.in-Some.ensures.made in
     let least = c.min-count.ensures in
     let user = c.user-2.ensures in
-    open-in x.memory (user_in c.in-Some.chunk) (user_in c.in-Some.chunk + c.args.size) _ _ b.bytes (omega arith) (omega arith)
+    open-in x.memory (user_of_chunk c.in-Some.chunk) (user_of_chunk c.in-Some.chunk + c.args.size) _ _ b.bytes (omega arith) (omega arith)
 
 pub copy_bytes-requires-clause-apart : goal.copy_bytes-requires-clause-apart
-unfolding malloc_of
+unfolding after_malloc
 copy_bytes-requires-clause-apart g c =
     let w = world_of (g.M.Tagged.memory c.args.memory.now) (heap_of c.args.cookie c.args.stacks.now c.args.maps.now) c.args.rgsr.now in
     let x = world_of (g.M.Tagged.memory c.allocate.new.memory) (heap_of c.args.cookie c.allocate.new.stacks c.allocate.new.maps) c.allocate.new.rgsr in
-    let b = malloc-beside w x c.args.size c.args.found c.in-Some.chunk c.are_sound.ensures c.are_in_order.ensures c.in-Some.ensures.served c.requires.some c.requires.most c.requires.found c.in-Some.ensures.made in
+    let b = malloc-beside w x c.args.size c.args.found c.in-Some.chunk c.recall.ensures c.recall-2.ensures c.in-Some.ensures.served c.requires.some c.requires.most c.requires.found c.in-Some.ensures.made in
     let size = c.size.ensures in
     let least = c.min-count.ensures in
     let count = c.min-count.result in
-    let in_it = found-within x.memory x.heap c.args.found count c.in-Some.ensures.served c.are_in_order-2.ensures b.found (omega arith) in
+    let in_it = found-within x.memory x.heap c.args.found count c.in-Some.ensures.served c.recall-3.ensures b.found (omega arith) in
     let apart = beside-apart x.memory x.memory x.heap c.args.found c.in-Some.chunk c.args.size count count b in_it (omega arith) (omega arith) in
     subst (λ a. AreApart a c.user-2.result count) (sym c.user.ensures) (subst (λ a. AreApart (user_of c.args.found) a count) (sym c.user-2.ensures) apart)
 
 pub free_found-requires-clause-found : goal.free_found-requires-clause-found
-unfolding malloc_of
+unfolding after_malloc
 free_found-requires-clause-found g c =
     let w = world_of (g.M.Tagged.memory c.args.memory.now) (heap_of c.args.cookie c.args.stacks.now c.args.maps.now) c.args.rgsr.now in
     let x = world_of (g.M.Tagged.memory c.allocate.new.memory) (heap_of c.args.cookie c.allocate.new.stacks c.allocate.new.maps) c.allocate.new.rgsr in
-    (malloc-beside w x c.args.size c.args.found c.in-Some.chunk c.are_sound.ensures c.are_in_order.ensures c.in-Some.ensures.served c.requires.some c.requires.most c.requires.found c.in-Some.ensures.made).found
+    (malloc-beside w x c.args.size c.args.found c.in-Some.chunk c.recall.ensures c.recall-2.ensures c.in-Some.ensures.served c.requires.some c.requires.most c.requires.found c.in-Some.ensures.made).found
 
 pub returns-clause-made : goal.returns-clause-made
-unfolding moved malloc_of
+unfolding after_move after_malloc
 returns-clause-made g c =
     let w = world_of (g.M.Tagged.memory c.args.memory.now) (heap_of c.args.cookie c.args.stacks.now c.args.maps.now) c.args.rgsr.now in
     let m = g.M.Tagged.memory c.allocate.new.memory in
@@ -69,6 +69,6 @@ returns-clause-made g c =
     let f = c.args.found in
     let ch = c.in-Some.chunk in
     let count : c.min-count.result ≡ min (size_found f) c.args.size = c.min-count.ensures ∙ ap (λ n. min n c.args.size) c.size.ensures in
-    let copy : world_of (g.M.Tagged.memory c.copy_bytes.new.memory) h c.allocate.new.rgsr ≡ filled x f ch c.args.size =
-    ap (λ t. world_of t h c.allocate.new.rgsr) (c.copy_bytes.ensures.memory ∙ (λ i. copied m (c.user.ensures i) (c.user-2.ensures i) (count i))) in
-    ap (λ t. made_of t (Some ch)) (c.free_found.ensures.world ∙ ap (λ t. without_chunk t f) copy) ∙ ap (moved_by w f c.args.size) c.in-Some.ensures.made
+    let copy : world_of (g.M.Tagged.memory c.copy_bytes.new.memory) h c.allocate.new.rgsr ≡ with_copied_bytes x f ch c.args.size =
+    ap (λ t. world_of t h c.allocate.new.rgsr) (c.copy_bytes.ensures.memory ∙ (λ i. after_copy m (c.user.ensures i) (c.user-2.ensures i) (count i))) in
+    ap (λ t. allocation_of t (Some ch)) (c.free_found.ensures.world ∙ ap (λ t. without_chunk t f) copy) ∙ ap (move_cases w f c.args.size) c.in-Some.ensures.made

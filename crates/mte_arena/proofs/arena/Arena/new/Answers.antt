@@ -1,6 +1,6 @@
 use Rattle.std.proofs.Common.{sym, ap, ◌∙◌, arith, length, None}
 use Rattle.std.proofs.lemmas.List.{length-replicate}
-use Rattle.mte_arena.specs.Blocks.{frame_if, frames_of, is_there, presence}
+use Rattle.mte_arena.specs.Blocks.{frame_cases, frames_of, is_there, presence}
 use Rattle.mte_arena.proofs.Frames.{map-replicate, none_sized}
 use Rattle.mte_arena.proofs.arena.Arena.new.Goals as goal
 
@@ -17,4 +17,4 @@ invariant_of-result c = let e = c.in-Ok-allocate.ensures in let n = c.args.frame
     }
 
 pub returns-in-Ok-allocate-clause-ok : goal.returns-in-Ok-allocate-clause-ok
-returns-in-Ok-allocate-clause-ok c = ap frames_of c.in-Ok-allocate.ensures.1 ∙ map-replicate frame_if c.args.frames None
+returns-in-Ok-allocate-clause-ok c = ap frames_of c.in-Ok-allocate.ensures.1 ∙ map-replicate frame_cases c.args.frames None

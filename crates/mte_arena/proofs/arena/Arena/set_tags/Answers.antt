@@ -1,5 +1,5 @@
 use Rattle.std.proofs.Common.{sym, ap, ◌∙◌, arith}
-use Rattle.mte_arena.specs.Blocks.{unpacked, block_at, frame_of, with_part}
+use Rattle.mte_arena.specs.Blocks.{tags_of_bytes, block_at, frame_of, with_part}
 use Rattle.mte_arena.specs.Frames.{make_frame, with_run}
 use Rattle.mte_arena.proofs.Frames.{present}
 use Rattle.mte_arena.proofs.Written.{block_long, frame_at-block, still_arena, frame_with_tags, frames_written, tag_bytes}
@@ -15,7 +15,7 @@ pub returns : goal.returns
 returns c =
     let cs = c.self.inside.region.blocks in let f = c.args.f in let there = present cs f (rw c.self.view_is c.requires.live) in
     let xs = block_at cs f in let long = block_long cs f c.self.invariant.sized there in let new = c.set_run.new.packed in
-    let was = ap unpacked (c.part_mut-packed.ensures.value ∙ tag_bytes xs long) in
+    let was = ap tags_of_bytes (c.part_mut-packed.ensures.value ∙ tag_bytes xs long) in
     let tags = c.set_run.ensures.tags ∙ ap (λ l. with_run l c.args.first c.args.count c.args.tag) was in
     rw (← c.self.view_is, frame_at-block cs f there)
     (frames_written cs f (with_part xs 4096 128 new) (make_frame (frame_of xs).bytes (with_run (frame_of xs).tags c.args.first c.args.count c.args.tag))

@@ -4,19 +4,21 @@ use Rattle.mte_frames.specs.Pool.{Pool}
 use Rattle.mte_translate.specs.declared.translation.Translation.{Translation}
 use Rattle.mte_space.specs.Spaces.{NoneEnters}
 use Rattle.scudo_heap.specs.Heaps.{empty_heap}
-use Rattle.scudo_heap.specs.Served.{IsServed}
-use Rattle.mte_sched.specs.declared.place.Place.{Place}
+use Rattle.scudo_heap.specs.Served.{HeapOwnsItsPages}
+use Rattle.mte_sched.specs.declared.place.TenantMemory.{TenantMemory}
 use Rattle.mte_sched.specs.declared.tenant.Tenant as code
 use Rattle.mte_sched.specs.declared.tenant.Holding.TheVariants as kept
-use Rattle.mte_sched.specs.Machines.{first_parts}
-use Rattle.mte_sched.specs.Contents.{Tenant, Content, admitted, new_tenant}
+use Rattle.mte_tenant.specs.Machines.{first_parts}
+use Rattle.mte_sched.specs.Contents.{Tenant, Content, after_admit, new_tenant}
 use Rattle.mte_sched.specs.Places.{memory_at, IsPlaced}
-use Rattle.mte_sched.specs.Tenants.{record_in, tenants_in, entries_in, terms_of}
-use Rattle.mte_sched.specs.Ledger.{is_live, numbers_of}
+use Rattle.mte_sched.specs.Tenants.{record_in, tenants_in, entries_in}
+use Rattle.mte_tenant.specs.Admissions.{terms_of}
+use Rattle.mte_tenant.specs.Ledger.{is_live, numbers_of}
 use Rattle.mte_sched.specs.Sharing.{IsSharing, IsIndexed}
 use Rattle.mte_sched.proofs.EachLemmas.{ledger_is}
 use Rattle.mte_sched.proofs.IndexLemmas.{entered_position, entered_index}
-use Rattle.mte_sched.proofs.AdmitLemmas.{fresh_asid, entered_sharing, entered_tenants, entered_count, first_ready, first_number, first_tenant}
+use Rattle.mte_tenant.proofs.FirstLemmas.{first_ready}
+use Rattle.mte_sched.proofs.AdmitLemmas.{fresh_asid, entered_sharing, entered_tenants, entered_count, first_number, first_tenant}
 use Rattle.mte_sched.proofs.host.Host.admit.Goals as goal
 
 pub returns-in_err-plan-clause-refused : goal.returns-in_err-plan-clause-refused
@@ -53,14 +55,14 @@ invariant_of-self-2 c =
     let pages : ℕ = c.args.admission.now.pages in
     let n : Pool = c.start_place-place.new.pool in
     let vs : List Translation = c.start_place-place.new.tlb in
-    let b : Place = c.start_place-place.result in
+    let b : TenantMemory = c.start_place-place.result in
     let start = c.start_place-place.ensures in
     let boxed : c.in_ok-parts.parts.value ≡ first_parts c.args.admission.now.id terms = c.in_ok-parts.ensures.ok ∙ c.in_ok-first.ensures in
     let asid : c.len-asid.result ≡ length ts = search rules in
     let placed : IsPlaced n vs (length ts) pages b = subst (λ k. IsPlaced n vs k pages b) asid start.placed in
     let entries : NoneEnters (length ts) h.tlb vs = subst (λ k. NoneEnters k h.tlb vs) asid start.entries in
     let limit : (memory_at n b pages).limit ≡ pages = start.limit in
-    let served : IsServed (memory_at n b pages) (empty_heap (c.args.admission.now.seed / 2 ^ 32) pages) =
+    let served : HeapOwnsItsPages (memory_at n b pages) (empty_heap (c.args.admission.now.seed / 2 ^ 32) pages) =
     c.condition_of_calls.ensures.first (memory_at n b pages) (c.args.admission.now.seed / 2 ^ 32) pages (omega (arith, limit)) start.untouched in
     let ready = first_ready c.args.admission.now.id terms c.in_ok-parts.parts.value (memory_at n b pages) boxed served in
     let number = first_number c.args.admission.now.id terms c.in_ok-parts.parts.value boxed in
@@ -84,7 +86,7 @@ pub returns-clause-accepted : goal.returns-clause-accepted
 returns-clause-accepted c = rw (ledger_is c.args.self.now.pool c.args.self.now.tenants.items) (search rules)
 
 pub returns-clause-ok : goal.returns-clause-ok
-unfolding admitted
+unfolding after_admit
 returns-clause-ok c =
     let h = c.args.self.now in
     let ts : List code.Tenant = c.args.self.now.tenants.items in
@@ -92,7 +94,7 @@ returns-clause-ok c =
     let pages : ℕ = c.args.admission.now.pages in
     let n : Pool = c.start_place-place.new.pool in
     let vs : List Translation = c.start_place-place.new.tlb in
-    let b : Place = c.start_place-place.result in
+    let b : TenantMemory = c.start_place-place.result in
     let start = c.start_place-place.ensures in
     let boxed : c.in_ok-parts.parts.value ≡ first_parts c.args.admission.now.id terms = c.in_ok-parts.ensures.ok ∙ c.in_ok-first.ensures in
     let asid : c.len-asid.result ≡ length ts = search rules in

@@ -1,7 +1,7 @@
 use Rattle.std.proofs.Common.{◌∙◌, None, Some, sym, subst}
 use Rattle.std.specs.Slice.{IsItemAt}
 use Rattle.std.proofs.lemmas.Bool.{eqb-true}
-use Rattle.mte_sched.specs.Ledger.{has_id}
+use Rattle.mte_tenant.specs.Ledger.{has_id}
 use Rattle.mte_sched.specs.Tenants.{record_in}
 use Rattle.mte_sched.proofs.IndexLemmas.{lent_at, none_past, none_other}
 use Rattle.mte_sched.proofs.host.Host.find.Goals as goal

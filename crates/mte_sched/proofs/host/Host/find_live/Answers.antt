@@ -1,7 +1,7 @@
 use Rattle.std.proofs.Common.{◌==◌, ◌∙◌, None, Some, ap, sym, subst}
 use Rattle.std.specs.Slice.{IsItemAt}
 use Rattle.std.proofs.lemmas.Bool.{eqb-true}
-use Rattle.mte_sched.specs.Ledger.{has_live_id}
+use Rattle.mte_tenant.specs.Ledger.{has_live_id}
 use Rattle.mte_sched.specs.Sharing.{has_live_in}
 use Rattle.mte_sched.proofs.TurnLemmas.{both_right}
 use Rattle.mte_sched.proofs.IndexLemmas.{lent_at, none_past, none_other}

@@ -1,12 +1,12 @@
 use Rattle.std.proofs.Common.{◌≡◌, ℕ, Option, Some, None, List, ◌∷◌, refl, ap, ◌∙◌}
 use Rattle.std.specs.Prelude.{option_map, vec_capacity}
 use Rattle.mte_arena.specs.Frames.{frame_at}
-use Rattle.mte_frames.specs.Pool.{Pool, with_bytes_at_if}
+use Rattle.mte_frames.specs.Pool.{Pool, with_bytes_at_cases}
 use Rattle.mte_sched.proofs.LoanLemmas.{sharing_lent, content_lent, frames_lent, taken_lent, bytes_lent, where_lent}
 use Rattle.mte_sched.proofs.host.Host.page_mut.Goals as goal
 
 -- a loan of a frame keeps the capacities of the pool's lists
-rooms_lent : (p : Pool) (o : Option ℕ) (w : List ℕ) (tenants positions : ℕ) → tenants ∷ positions ∷ (with_bytes_at_if p o w).capacities ≡ tenants ∷ positions ∷ p.capacities
+rooms_lent : (p : Pool) (o : Option ℕ) (w : List ℕ) (tenants positions : ℕ) → tenants ∷ positions ∷ (with_bytes_at_cases p o w).capacities ≡ tenants ∷ positions ∷ p.capacities
 rooms_lent p None w tenants positions = refl
 rooms_lent p (Some f) w tenants positions = refl
 
@@ -32,8 +32,8 @@ returns c =
       (
         refl,
         λ w. where_lent _ c.data_mut_if.result o (λ g. (frame_at h.pool.frames g).bytes) c.data_mut_if.ensures.value (λ f k. record {
-          content = content_lent h.pool h.tlb h.tenants.items h.sharing id q w o e f k c.frames.ensures.sound;
-          pool = ap (λ x. with_bytes_at_if h.pool x w) e;
+          content = content_lent h.pool h.tlb h.tenants.items h.sharing id q w o e f k c.recall.ensures.sound;
+          pool = ap (λ x. with_bytes_at_cases h.pool x w) e;
           frames = λ j r. ap (option_map (λ x. x.0)) (frames_lent h.pool h.tlb h.tenants.items h.sharing id q w o e j r);
           rooms = rooms_lent h.pool o w (vec_capacity h.tenants) (vec_capacity h.index.positions);
         }),

@@ -1,7 +1,7 @@
 use Rattle.std.proofs.Common.{◌≡◌, ◌∙◌, ◌++◌, List, take, drop, length, ap, sym, subst, count_by, arith, true, false, rules, refl}
 use Rattle.std.specs.Prelude.{vec_len}
 use Rattle.std.specs.List.{list_any}
-use Rattle.mte_sched.specs.Ledger.{has_live_id, is_live, numbers_of}
+use Rattle.mte_tenant.specs.Ledger.{has_live_id, is_live, numbers_of}
 use Rattle.std.proofs.Math.Seq.{take-append_seam}
 use Rattle.mte_sched.specs.declared.tenant.Tenant.{Tenant}
 use Rattle.mte_sched.specs.Tenants.{entries_in}

@@ -1,6 +1,6 @@
 use Rattle.std.proofs.Common.{◌≡◌, ◌∙◌, ap, sym, subst, arith, true, false, rules, refl}
 use Rattle.std.specs.List.{list_any}
-use Rattle.mte_sched.specs.Ledger.{has_live_id, numbers_of}
+use Rattle.mte_tenant.specs.Ledger.{has_live_id, numbers_of}
 use Rattle.mte_sched.specs.Tenants.{entries_in}
 use Rattle.mte_sched.specs.Sharing.{IsIndexed}
 use Rattle.mte_sched.specs.Hosts.{ledger_in}

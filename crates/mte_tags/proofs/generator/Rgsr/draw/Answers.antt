@@ -1,15 +1,15 @@
 use Rattle.std.proofs.Common.{◌≡◌, ◌∙◌, ap}
 use Rattle.mte_tags.specs.TagChoice.{chosen_tag}
-use Rattle.mte_tags.specs.RandomTags.{drawn, drawn_tag, offset_of, seed_after}
+use Rattle.mte_tags.specs.RandomTags.{after_draw, drawn_tag, offset_of, seed_after}
 use Rattle.mte_tags.proofs.RandomBits.{seed_after_next, offset_of_next}
 use Rattle.mte_tags.proofs.generator.Rgsr.draw.Goals as goal
 
 pub returns-clause-tag : goal.returns-clause-tag
-unfolding drawn
+unfolding after_draw
 returns-clause-tag c = c.choose_non_excluded-self.ensures.choice ∙ ap (λ k. chosen_tag c.args.self.now.tag k c.args.exclude) c.random_tag-offset.ensures.offset
 
 pub returns-clause-rgsr : goal.returns-clause-rgsr
-unfolding drawn
+unfolding after_draw
 returns-clause-rgsr c =
     let tag : c.choose_non_excluded-self.result ≡ drawn_tag c.args.self.now c.args.exclude =
     c.choose_non_excluded-self.ensures.choice ∙ ap (λ k. chosen_tag c.args.self.now.tag k c.args.exclude) c.random_tag-offset.ensures.offset in

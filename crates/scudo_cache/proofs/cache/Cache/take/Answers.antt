@@ -4,8 +4,8 @@ use Rattle.std.specs.List.{All, IsDistinct}
 use Rattle.scudo_primary.specs.Batches.{max_count_of}
 use Rattle.scudo_primary.specs.Pools.{IsLoose, ClassState, PoolState, class_at, pages_of}
 use Rattle.scudo_primary.specs.Lists.{IsClass}
-use Rattle.scudo_cache.specs.Caches.{Class, entries_of, with_entries, one_stack, refilled, newest, after_take}
-use Rattle.scudo_cache.proofs.ClassLemmas.{some, refilled-some, refilled-other, taken-other, taken-lists}
+use Rattle.scudo_cache.specs.Caches.{Class, entries_of, with_entries, one_stack, after_refill, newest, after_take}
+use Rattle.scudo_cache.proofs.ClassLemmas.{some, after-refill-some, after-refill-other, taken-other, taken-lists}
 use Rattle.scudo_cache.specs.Whole.{cache_of}
 use Rattle.scudo_cache.proofs.CacheLemmas.{all-classes, at-class, inside_with, view-with, entries-with, entries-other, put-back, above-kept}
 use Rattle.scudo_cache.proofs.CacheLaws.{left-taken}
@@ -39,12 +39,12 @@ invariant_of-self c =
 pub returns-clause-cache : goal.returns-clause-cache
 returns-clause-cache c =
     (view-with c.self.inside c.args.self.now c.args.class c.take_from.new.entries c.self.view_is)
-    ∙ ap (with_entries c.args.self.now c.args.class) (ap (λ (k : Class). k.entries) c.take_from.ensures.state ∙ ap (λ xs. (after_take c.args.class (refilled c.args.class xs c.args.pool.now)).entries) (read c))
+    ∙ ap (with_entries c.args.self.now c.args.class) (ap (λ (k : Class). k.entries) c.take_from.ensures.state ∙ ap (λ xs. (after_take c.args.class (after_refill c.args.class xs c.args.pool.now)).entries) (read c))
 
 others : (c : goal.After-self-1) (d : ℕ) → d ≢ c.args.class → class_at c.take_from.new.pool d ≡ class_at c.args.pool.now d
 others c d n =
-    ap (λ (k : Class). class_at k.pool d) c.take_from.ensures.state ∙ taken-other c.args.class (refilled c.args.class c.index_mut.result.now c.args.pool.now) d n
-    ∙ refilled-other c.args.class c.index_mut.result.now c.args.pool.now d n
+    ap (λ (k : Class). class_at k.pool d) c.take_from.ensures.state ∙ taken-other c.args.class (after_refill c.args.class c.index_mut.result.now c.args.pool.now) d n
+    ∙ after-refill-other c.args.class c.index_mut.result.now c.args.pool.now d n
 
 pub returns-clause-above : goal.returns-clause-above
 returns-clause-above c =
@@ -67,7 +67,7 @@ after c =
     let xs = c.index_mut.result.now in
     let p = c.args.pool.now in
     subst (λ o. IsAfter c.args.class (marks_after c.args.class o (class_at p c.args.class).marks) (class_at p c.args.class).pages (class_at c.take_from.new.pool c.args.class)) (sym c.take_from.ensures.answer)
-    (subst (λ t. IsAfter c.args.class (marks_after c.args.class (newest (refilled c.args.class xs p).entries) (class_at p c.args.class).marks) (class_at p c.args.class).pages (class_at t c.args.class))
+    (subst (λ t. IsAfter c.args.class (marks_after c.args.class (newest (after_refill c.args.class xs p).entries) (class_at p c.args.class).marks) (class_at p c.args.class).pages (class_at t c.args.class))
     (sym (ap (λ (k : Class). k.pool) c.take_from.ensures.state)) (taken-after c.args.class xs p))
 
 pub returns-clause-pages : goal.returns-clause-pages
@@ -88,19 +88,19 @@ returns-clause-rest c =
     ∙ c.take_from.ensures.took.rest
     ∙ ap (λ xs. drop 1 (reverse xs ++ (class_at c.args.pool.now c.args.class).stack)) (read c)
 
-kept : (c : goal.After-self-1) → entries_of c.args.self.now c.args.class ≢ [] → (refilled c.args.class c.index_mut.result.now c.args.pool.now).pool ≡ c.args.pool.now
-kept c n = ap (λ (k : Class). k.pool) (sym (refilled-some c.args.class c.index_mut.result.now c.args.pool.now (some _ (λ e. n (sym (read c) ∙ e)))))
+kept : (c : goal.After-self-1) → entries_of c.args.self.now c.args.class ≢ [] → (after_refill c.args.class c.index_mut.result.now c.args.pool.now).pool ≡ c.args.pool.now
+kept c n = ap (λ (k : Class). k.pool) (sym (after-refill-some c.args.class c.index_mut.result.now c.args.pool.now (some _ (λ e. n (sym (read c) ∙ e)))))
 
 pub returns-clause-lists : goal.returns-clause-lists
 returns-clause-lists c n =
     ap (λ (k : Class). (class_at k.pool c.args.class).stack) c.take_from.ensures.state
-    ∙ (taken-lists c.args.class (refilled c.args.class c.index_mut.result.now c.args.pool.now)).0
+    ∙ (taken-lists c.args.class (after_refill c.args.class c.index_mut.result.now c.args.pool.now)).0
     ∙ ap (λ (p : PoolState). (class_at p c.args.class).stack) (kept c n)
 
 pub returns-clause-batches : goal.returns-clause-batches
 returns-clause-batches c n =
     ap (λ (k : Class). (class_at k.pool c.args.class).sizes) c.take_from.ensures.state
-    ∙ (taken-lists c.args.class (refilled c.args.class c.index_mut.result.now c.args.pool.now)).1
+    ∙ (taken-lists c.args.class (after_refill c.args.class c.index_mut.result.now c.args.pool.now)).1
     ∙ ap (λ (p : PoolState). (class_at p c.args.class).sizes) (kept c n)
 
 pub returns-clause-stacks : goal.returns-clause-stacks

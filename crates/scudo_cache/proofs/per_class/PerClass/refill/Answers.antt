@@ -2,7 +2,7 @@ use Rattle.std.proofs.Common.{◌≡◌, ◌∙◌, length, rules, arith}
 use Rattle.scudo_primary.specs.Pools.{top_batch, without_batch}
 use Rattle.scudo_primary.proofs.ListLemmas.{max_count-high}
 use Rattle.scudo_cache.specs.Caches.{class_with}
-use Rattle.scudo_cache.proofs.ClassLemmas.{refilled-none, front, class-same}
+use Rattle.scudo_cache.proofs.ClassLemmas.{after-refill-none, front, class-same}
 use Rattle.scudo_cache.proofs.per_class.PerClass.refill.Goals as goal
 
 pub returns-clause-state : goal.returns-clause-state
@@ -16,4 +16,4 @@ returns-clause-state c =
     let after : length r.new.buffer ≡ 28 = search rules in
     class-same (class_with (top_batch p k) (without_batch p k)) _ _
     (front 28 r.result (top_batch p k) c.self.inside.blocks r.new.buffer before after (omega arith) r.ensures.blocks) r.ensures.pool
-    ∙ refilled-none k c.args.self.now p c.requires.empty
+    ∙ after-refill-none k c.args.self.now p c.requires.empty

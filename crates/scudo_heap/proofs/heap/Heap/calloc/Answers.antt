@@ -3,40 +3,40 @@ use Rattle.std.proofs.lemmas.Bool.{cases_lt}
 use Rattle.scudo_header.specs.declared.headers.Origin.TheVariants.{Malloc}
 use Rattle.scudo_heap.specs.declared.limits.TheConstants.{MAX_REQUEST}
 use Rattle.scudo_heap.specs.Placing.{world_of}
-use Rattle.scudo_heap.specs.Allocation.{Made, answer_of, allocated, malloc_of, calloc_of}
-use Rattle.scudo_heap.proofs.AllocationLemmas.{allocated-over}
+use Rattle.scudo_heap.specs.Allocation.{AllocationResult, answer_of, after_allocate, after_malloc, after_calloc}
+use Rattle.scudo_heap.proofs.AllocationLemmas.{after-allocate-over}
 use Rattle.scudo_heap.proofs.heap.Heap.calloc.Goals as goal
 
 pub returns-in-None-clause-answer : goal.returns-in-None-clause-answer
-unfolding calloc_of
+unfolding after_calloc
 returns-in-None-clause-answer g c =
     let m = g.M.Tagged.memory c.args.memory.now in
     let w = world_of m c.args.self.now c.args.rgsr.now in
     elim (cases_lt MAX_REQUEST (c.args.count * c.args.size)) [
-      | inl l ↦ ap (λ (x : Made). answer_of x.chunk) (allocated-over w Malloc 16 (c.args.count * c.args.size) l)
+      | inl l ↦ ap (λ (x : AllocationResult). answer_of x.chunk) (after-allocate-over w Malloc 16 (c.args.count * c.args.size) l)
       | inr l ↦ absurd (c.in-None.ensures (omega arith))
     ]
 
 pub returns-in-None-clause-world : goal.returns-in-None-clause-world
-unfolding calloc_of
+unfolding after_calloc
 returns-in-None-clause-world g c =
     let m = g.M.Tagged.memory c.args.memory.now in
     let w = world_of m c.args.self.now c.args.rgsr.now in
     elim (cases_lt MAX_REQUEST (c.args.count * c.args.size)) [
-      | inl l ↦ ap (λ (x : Made). x.world) (allocated-over w Malloc 16 (c.args.count * c.args.size) l)
+      | inl l ↦ ap (λ (x : AllocationResult). x.world) (after-allocate-over w Malloc 16 (c.args.count * c.args.size) l)
       | inr l ↦ absurd (c.in-None.ensures (omega arith))
     ]
 
 pub returns-in-Some-clause-answer : goal.returns-in-Some-clause-answer
-unfolding calloc_of malloc_of
+unfolding after_calloc after_malloc
 returns-in-Some-clause-answer g c =
     let m = g.M.Tagged.memory c.args.memory.now in
     let w = world_of m c.args.self.now c.args.rgsr.now in
-    c.malloc.ensures.answer ∙ ap (λ n. answer_of (allocated w Malloc 16 n).chunk) c.in-Some.ensures.1
+    c.malloc.ensures.answer ∙ ap (λ n. answer_of (after_allocate w Malloc 16 n).chunk) c.in-Some.ensures.1
 
 pub returns-in-Some-clause-world : goal.returns-in-Some-clause-world
-unfolding calloc_of malloc_of
+unfolding after_calloc after_malloc
 returns-in-Some-clause-world g c =
     let m = g.M.Tagged.memory c.args.memory.now in
     let w = world_of m c.args.self.now c.args.rgsr.now in
-    c.malloc.ensures.world ∙ ap (λ n. (allocated w Malloc 16 n).world) c.in-Some.ensures.1
+    c.malloc.ensures.world ∙ ap (λ n. (after_allocate w Malloc 16 n).world) c.in-Some.ensures.1

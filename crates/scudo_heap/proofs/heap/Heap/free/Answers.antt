@@ -1,9 +1,9 @@
 use Rattle.std.proofs.Common.{◌∙◌, Ok, Err, sym, ap}
 use Rattle.scudo_heap.specs.Heaps.{heap_of}
 use Rattle.scudo_heap.specs.Placing.{world_of}
-use Rattle.scudo_heap.specs.Checks.{found}
+use Rattle.scudo_heap.specs.Checks.{check_pointer}
 use Rattle.scudo_heap.specs.Freeing.{Freed, without_chunk}
-use Rattle.scudo_heap.proofs.FoundLemmas.{found-is}
+use Rattle.scudo_heap.proofs.FoundLemmas.{check-pointer-is}
 use Rattle.scudo_heap.proofs.FreeLemmas.{free-null, free-by}
 use Rattle.scudo_heap.proofs.heap.Heap.free.Goals as goal
 
@@ -14,31 +14,31 @@ pub returns-then-pointer-eq0-clause-world : goal.returns-then-pointer-eq0-clause
 returns-then-pointer-eq0-clause-world g c = ap (λ (f : Freed). f.world) (free-null (world_of (g.M.Tagged.memory c.args.memory.now) c.args.self.now c.args.rgsr.now) c.args.pointer c.if-pointer-eq0.true)
 
 pub free_found-requires-clause-found : goal.free_found-requires-clause-found
-free_found-requires-clause-found g c = found-is (g.M.Tagged.memory c.args.memory.now) _ c.plain.result c.in-Ok.found (sym c.in-Ok.ensures.answer)
+free_found-requires-clause-found g c = check-pointer-is (g.M.Tagged.memory c.args.memory.now) _ c.plain.result c.in-Ok.found (sym c.in-Ok.ensures.answer)
 
 pub returns-in-Err-clause-answer : goal.returns-in-Err-clause-answer
 returns-in-Err-clause-answer g c =
     let m = g.M.Tagged.memory c.args.memory.now in
-    let e = c.in-Err.ensures.answer ∙ ap (λ h. found m h c.plain.result) c.self.view_is ∙ ap (found m c.args.self.now) c.plain.ensures in
+    let e = c.in-Err.ensures.answer ∙ ap (λ h. check_pointer m h c.plain.result) c.self.view_is ∙ ap (check_pointer m c.args.self.now) c.plain.ensures in
     ap (λ (f : Freed). f.result) (free-by (world_of m c.args.self.now c.args.rgsr.now) c.args.pointer (Err c.in-Err.abort) c.if-pointer-eq0.false e)
 
 pub returns-in-Err-clause-world : goal.returns-in-Err-clause-world
 returns-in-Err-clause-world g c =
     let m = g.M.Tagged.memory c.args.memory.now in
-    let e = c.in-Err.ensures.answer ∙ ap (λ h. found m h c.plain.result) c.self.view_is ∙ ap (found m c.args.self.now) c.plain.ensures in
+    let e = c.in-Err.ensures.answer ∙ ap (λ h. check_pointer m h c.plain.result) c.self.view_is ∙ ap (check_pointer m c.args.self.now) c.plain.ensures in
     ap (λ t. world_of t c.args.self.now c.args.rgsr.now) c.find_chunk.ensures.memory
     ∙ ap (λ (f : Freed). f.world) (free-by (world_of m c.args.self.now c.args.rgsr.now) c.args.pointer (Err c.in-Err.abort) c.if-pointer-eq0.false e)
 
 pub returns-in-Ok-clause-answer : goal.returns-in-Ok-clause-answer
 returns-in-Ok-clause-answer g c =
     let m = g.M.Tagged.memory c.args.memory.now in
-    let e = c.in-Ok.ensures.answer ∙ ap (λ h. found m h c.plain.result) c.self.view_is ∙ ap (found m c.args.self.now) c.plain.ensures in
+    let e = c.in-Ok.ensures.answer ∙ ap (λ h. check_pointer m h c.plain.result) c.self.view_is ∙ ap (check_pointer m c.args.self.now) c.plain.ensures in
     ap (λ (f : Freed). f.result) (free-by (world_of m c.args.self.now c.args.rgsr.now) c.args.pointer (Ok c.in-Ok.found) c.if-pointer-eq0.false e)
 
 pub returns-in-Ok-clause-world : goal.returns-in-Ok-clause-world
 returns-in-Ok-clause-world g c =
     let m = g.M.Tagged.memory c.args.memory.now in
-    let e = c.in-Ok.ensures.answer ∙ ap (λ h. found m h c.plain.result) c.self.view_is ∙ ap (found m c.args.self.now) c.plain.ensures in
+    let e = c.in-Ok.ensures.answer ∙ ap (λ h. check_pointer m h c.plain.result) c.self.view_is ∙ ap (check_pointer m c.args.self.now) c.plain.ensures in
     c.free_found.ensures.world
     ∙ ap (λ t. without_chunk (world_of t (heap_of c.self.inside.cookie c.self.inside.stacks c.self.inside.maps) c.args.rgsr.now) c.in-Ok.found) c.find_chunk.ensures.memory
     ∙ ap (λ h. without_chunk (world_of m h c.args.rgsr.now) c.in-Ok.found) c.self.view_is

@@ -2,32 +2,32 @@ use Rattle.std.proofs.Common.{◌∙◌, sym, ap}
 use Rattle.std.proofs.lemmas.Bool.{cond-true, cond-false}
 use Rattle.scudo_header.specs.declared.headers.Origin.TheVariants.{Memalign}
 use Rattle.scudo_heap.specs.Placing.{world_of}
-use Rattle.scudo_heap.specs.Allocation.{Made, answer_of, allocated, memalign_of}
+use Rattle.scudo_heap.specs.Allocation.{AllocationResult, answer_of, after_allocate, after_memalign}
 use Rattle.scudo_heap.proofs.heap.Heap.memalign.Goals as goal
 
 pub returns-then-not-is_power-clause-answer : goal.returns-then-not-is_power-clause-answer
-unfolding memalign_of
+unfolding after_memalign
 returns-then-not-is_power-clause-answer g c =
-    ap (λ (x : Made). answer_of x.chunk) (sym (cond-false _ _ _ (sym c.is_power.ensures ∙ c.if-not-is_power.true)))
+    ap (λ (x : AllocationResult). answer_of x.chunk) (sym (cond-false _ _ _ (sym c.is_power.ensures ∙ c.if-not-is_power.true)))
 
 pub returns-then-not-is_power-clause-world : goal.returns-then-not-is_power-clause-world
-unfolding memalign_of
+unfolding after_memalign
 returns-then-not-is_power-clause-world g c =
-    ap (λ (x : Made). x.world) (sym (cond-false _ _ _ (sym c.is_power.ensures ∙ c.if-not-is_power.true)))
+    ap (λ (x : AllocationResult). x.world) (sym (cond-false _ _ _ (sym c.is_power.ensures ∙ c.if-not-is_power.true)))
 
 pub returns-clause-answer : goal.returns-clause-answer
-unfolding memalign_of
+unfolding after_memalign
 returns-clause-answer g c =
     let m = g.M.Tagged.memory c.args.memory.now in
     c.address_or_null.ensures
-    ∙ ap (λ (x : Made). answer_of x.chunk) (c.allocate-chunk.ensures.made ∙ ap (λ h. allocated (world_of m h c.args.rgsr.now) Memalign c.max-align.result c.args.size) c.self.view_is
-    ∙ ap (λ a. allocated (world_of m c.args.self.now c.args.rgsr.now) Memalign a c.args.size) c.max-align.ensures
+    ∙ ap (λ (x : AllocationResult). answer_of x.chunk) (c.allocate-chunk.ensures.made ∙ ap (λ h. after_allocate (world_of m h c.args.rgsr.now) Memalign c.max-align.result c.args.size) c.self.view_is
+    ∙ ap (λ a. after_allocate (world_of m c.args.self.now c.args.rgsr.now) Memalign a c.args.size) c.max-align.ensures
     ∙ sym (cond-true _ _ _ (sym c.is_power.ensures ∙ c.if-not-is_power.false)))
 
 pub returns-clause-world : goal.returns-clause-world
-unfolding memalign_of
+unfolding after_memalign
 returns-clause-world g c =
     let m = g.M.Tagged.memory c.args.memory.now in
-    ap (λ (x : Made). x.world) (c.allocate-chunk.ensures.made ∙ ap (λ h. allocated (world_of m h c.args.rgsr.now) Memalign c.max-align.result c.args.size) c.self.view_is
-    ∙ ap (λ a. allocated (world_of m c.args.self.now c.args.rgsr.now) Memalign a c.args.size) c.max-align.ensures
+    ap (λ (x : AllocationResult). x.world) (c.allocate-chunk.ensures.made ∙ ap (λ h. after_allocate (world_of m h c.args.rgsr.now) Memalign c.max-align.result c.args.size) c.self.view_is
+    ∙ ap (λ a. after_allocate (world_of m c.args.self.now c.args.rgsr.now) Memalign a c.args.size) c.max-align.ensures
     ∙ sym (cond-true _ _ _ (sym c.is_power.ensures ∙ c.if-not-is_power.false)))

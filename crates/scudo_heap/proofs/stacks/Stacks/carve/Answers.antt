@@ -1,5 +1,5 @@
 use Rattle.std.proofs.Common.{sym, subst}
-use Rattle.scudo_heap.proofs.StackLemmas.{view-carved, no-entries}
+use Rattle.scudo_heap.proofs.StackLemmas.{view-after-carve, no-entries}
 use Rattle.scudo_cache.specs.Caches.{IsAbove, AreStacks}
 use Rattle.scudo_cache.proofs.CacheLaws.{above-with_pages}
 use Rattle.scudo_cache.proofs.StackLemmas.{stacks-with_pages}
@@ -15,4 +15,4 @@ invariant_of-self c =
     }
 
 pub returns : goal.returns
-returns c = view-carved c.self.inside c.carve.new.self c.args.self.now c.args.class c.args.pages c.self.view_is (record { low = c.requires.low; high = c.requires.high }) c.requires.empty c.carve.ensures
+returns c = view-after-carve c.self.inside c.carve.new.self c.args.self.now c.args.class c.args.pages c.self.view_is (record { low = c.requires.low; high = c.requires.high }) c.requires.empty c.carve.ensures

@@ -3,7 +3,7 @@ use Rattle.scudo_primary.specs.Blocks.{IsBlock}
 use Rattle.scudo_primary.specs.Pools.{is_member}
 use Rattle.scudo_cache.specs.Caches.{CacheState}
 use Rattle.scudo_heap.specs.Stacks.{ClassHeap}
-use Rattle.scudo_heap.proofs.StackLemmas.{same-memory, at-inside, view-pushed}
+use Rattle.scudo_heap.proofs.StackLemmas.{same-memory, at-inside, view-after-push}
 use Rattle.scudo_heap.proofs.stacks.Stacks.put.Goals as goal
 
 pub put-requires-clause-carved : goal.put-requires-clause-carved
@@ -17,5 +17,5 @@ put-requires-clause-used c =
 
 pub returns : goal.returns
 returns c =
-    view-pushed c.self.inside (record { pool = c.put.new.pool; cache = c.put.new.self }) c.args.self.now c.args.class c.args.block c.self.view_is (record { low = c.requires.low; high = c.requires.high })
+    view-after-push c.self.inside (record { pool = c.put.new.pool; cache = c.put.new.self }) c.args.self.now c.args.class c.args.block c.self.view_is (record { low = c.requires.low; high = c.requires.high })
     c.put.ensures.left (same-memory _ _ _ _ c.put.ensures.capacities (ap (λ (t : CacheState). t.capacity) c.put.ensures.cache)) c.put.ensures.pages c.put.ensures.stack c.put.ensures.others

@@ -2,7 +2,7 @@ use Rattle.std.proofs.Common.{◌∙◌, slice_get, IfSome, sym, ap, subst}
 use Rattle.scudo_primary.specs.Blocks.{IsBlock}
 use Rattle.scudo_cache.specs.Caches.{CacheState}
 use Rattle.scudo_heap.specs.Stacks.{ClassHeap}
-use Rattle.scudo_heap.proofs.StackLemmas.{same-memory, at-inside, view-popped, popped-none, none-is}
+use Rattle.scudo_heap.proofs.StackLemmas.{same-memory, at-inside, view-after-pop, after-pop-none, none-is}
 use Rattle.scudo_heap.proofs.stacks.Stacks.take.Goals as goal
 
 pub returns-clause-answer : goal.returns-clause-answer
@@ -10,7 +10,7 @@ returns-clause-answer c = c.take.ensures.top ∙ ap (λ (k : ClassHeap). slice_g
 
 pub returns-clause-stacks : goal.returns-clause-stacks
 returns-clause-stacks c =
-    view-popped c.self.inside (record { pool = c.take.new.pool; cache = c.take.new.self }) c.args.self.now c.args.class c.self.view_is (record { low = c.requires.low; high = c.requires.high })
+    view-after-pop c.self.inside (record { pool = c.take.new.pool; cache = c.take.new.self }) c.args.self.now c.args.class c.self.view_is (record { low = c.requires.low; high = c.requires.high })
     c.take.ensures.left (same-memory _ _ _ _ c.take.ensures.capacities (ap (λ (t : CacheState). t.capacity) c.take.ensures.cache)) c.take.ensures.pages c.take.ensures.rest c.take.ensures.others
 
 pub returns-clause-block : goal.returns-clause-block
@@ -20,5 +20,5 @@ returns-clause-block c =
 pub returns-clause-none : goal.returns-clause-none
 returns-clause-none c = λ n.
     returns-clause-stacks c
-    ∙ popped-none c.self.inside c.args.self.now c.args.class c.self.view_is (record { low = c.requires.low; high = c.requires.high })
+    ∙ after-pop-none c.self.inside c.args.self.now c.args.class c.self.view_is (record { low = c.requires.low; high = c.requires.high })
     (sym (returns-clause-answer c) ∙ none-is c.take.result n)

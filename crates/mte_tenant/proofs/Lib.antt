@@ -1,0 +1,3 @@
+pub mod MachineLemmas
+mod AloneLemmas
+pub mod FirstLemmas

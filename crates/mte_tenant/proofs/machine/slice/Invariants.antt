@@ -1,0 +1,20 @@
+use Rattle.std.proofs.Common.{◌≡◌, ◌<◌}
+use Rattle.a64_step.specs.OpCaches.{Knows}
+use Rattle.scudo_heap.specs.Served.{HeapOwnsItsPages}
+use Rattle.mte_tenant.specs.Machines.{after_attempts, machine_of}
+use Rattle.mte_tenant.proofs.machine.slice.Given as goal
+
+abbrev pub decreases-loop-left : goal.decreases-loop-left
+decreases-loop-left g l = l.left
+
+-- what is left from here is the slice from the start
+abbrev pub invariant-loop-left : goal.invariant-loop-left
+invariant-loop-left g l = record {
+  rest :
+      after_attempts l.left (machine_of l.parts (g.M.Tagged.memory l.memory))
+      ≡ after_attempts l.fn.steps (machine_of l.fn.parts (g.M.Tagged.memory l.fn.memory));
+  known : Knows (g.M.Tagged.memory l.memory) l.kept;
+  heap : HeapOwnsItsPages (g.M.Tagged.memory l.memory) l.parts.heap;
+  tag : l.parts.regs.rgsr.tag < 16;
+  kept : g.M.Tagged.kept l.fn.memory l.memory;
+}

@@ -1,0 +1,102 @@
+-- The ledger of admissions: which events are accepted, and why one is refused. It has numbers,
+-- reservations and stops, and no machine: what a tenant does cannot change it.
+use Rattle.std.specs.Prelude.{ℕ, ◌+◌, ◌-◌, ◌*◌, ◌==◌, nat_lt, ◌&&◌, ◌||◌, Bool, true, false, List}
+use Rattle.std.specs.Prelude.{[], ◌∷◌, ◌++◌, map, sum_by, count_by, Option, Some, None, option_map}
+use Rattle.std.specs.Prelude.{if◌then◌else◌}
+use Rattle.std.specs.List.{list_any}
+use Rattle.address_map.specs.declared.limits.TheConstants.{MAX_PAGES, MAX_OUTPUT}
+use Rattle.address_map.specs.declared.ranges.TheConstants.{STACK_PAGES}
+use Rattle.mte_elf.specs.Images.{refusal_of, pages_of}
+use Rattle.mte_tenant.specs.declared.admission.TheConstants.{MAX_LIVE}
+use Rattle.mte_tenant.specs.declared.admission.AdmitError.{AdmitError}
+use Rattle.mte_tenant.specs.declared.admission.AdmitError.TheVariants.{Duplicate, BadReservation}
+use Rattle.mte_tenant.specs.declared.admission.AdmitError.TheVariants.{Image, ReservationTooSmall}
+use Rattle.mte_tenant.specs.declared.admission.AdmitError.TheVariants.{NoFrames, TooManyLive}
+use Rattle.mte_tenant.specs.declared.refusal.Refusal.{Refusal}
+use Rattle.mte_tenant.specs.declared.refusal.Refusal.TheVariants as refusal
+use Rattle.mte_tenant.specs.Machines.{Terms}
+
+-- What is requested of a host: the admission of a tenant with a number, a slice of a tenant of so
+-- many steps, the stop of a tenant.
+pub data Call : Type 0 where
+  Admit : ℕ → Terms → Call
+  Slice : ℕ → ℕ → Call
+  Stop : ℕ → Call
+
+-- An accepted admission: its number, its reservation, and whether it was not stopped yet.
+pub record LedgerEntry : Type 0 where
+  pub id : ℕ
+  pub pages : ℕ
+  pub live : Bool
+
+-- A reservation's pages, and one more than them for its tables.
+abbrev pub charge_of : ℕ → ℕ
+charge_of pages = 2 * pages + 1
+
+abbrev pub charge_of_entry : LedgerEntry → ℕ
+charge_of_entry e = if e.live then charge_of e.pages else 0
+
+abbrev pub is_live : LedgerEntry → Bool
+is_live e = e.live
+
+abbrev pub numbers_of : List LedgerEntry → List ℕ
+numbers_of es = map (λ e. e.id) es
+
+abbrev pub has_id : ℕ → LedgerEntry → Bool
+has_id id e = e.id == id
+
+abbrev pub has_live_id : ℕ → LedgerEntry → Bool
+has_live_id id e = e.live && (e.id == id)
+
+-- ---- refusals
+
+-- The first refusal of a list of tests.
+abbrev pub first_of : List (Option AdmitError) → Option AdmitError
+first_of [] = None
+first_of (Some e ∷ more) = Some e
+first_of (None ∷ more) = first_of more
+
+abbrev pub refuse_if : Bool → AdmitError → Option AdmitError
+refuse_if test e = if test then Some e else None
+
+-- A reservation has 1 to MAX_PAGES pages, and the room at most MAX_OUTPUT bytes.
+abbrev pub is_bad : Terms → Bool
+is_bad t = (t.pages == 0) || nat_lt MAX_PAGES t.pages || nat_lt MAX_OUTPUT t.room
+
+-- Why an admission to a host of so many frames is refused, if it is.
+unfoldable pub admission_refusal : ℕ → List LedgerEntry → ℕ → Terms → Option AdmitError
+admission_refusal frames ledger id terms = first_of (
+    refuse_if (list_any (has_id id) ledger) Duplicate
+    ∷ refuse_if (is_bad terms) BadReservation
+    ∷ option_map Image (refusal_of terms.image)
+    ∷ refuse_if (nat_lt terms.pages (pages_of terms.image + STACK_PAGES)) ReservationTooSmall
+    ∷ refuse_if (nat_lt (frames - sum_by charge_of_entry ledger) (charge_of terms.pages)) NoFrames
+    ∷ refuse_if (nat_lt (MAX_LIVE - 1) (count_by is_live ledger)) TooManyLive
+    ∷ [])
+
+abbrev pub unless_live : Bool → Option Refusal
+unless_live live = if live then None else Some refusal.NotLive
+
+-- Why a call is refused, if it is.
+unfoldable pub call_refusal : ℕ → List LedgerEntry → Call → Option Refusal
+call_refusal frames ledger (Admit id terms) =
+    option_map refusal.Admit (admission_refusal frames ledger id terms)
+call_refusal frames ledger (Slice id steps) = unless_live (list_any (has_live_id id) ledger)
+call_refusal frames ledger (Stop id) = unless_live (list_any (has_live_id id) ledger)
+
+-- ---- what an accepted call makes of the ledger
+
+abbrev pub without_live : ℕ → LedgerEntry → LedgerEntry
+without_live id e = if e.id == id then record e { live = false } else e
+
+abbrev pub new_entry : ℕ → ℕ → LedgerEntry
+new_entry id pages = record { id = id; pages = pages; live = true }
+
+abbrev pub ledger_after : List LedgerEntry → Call → List LedgerEntry
+ledger_after ledger (Admit id terms) = ledger ++ new_entry id terms.pages ∷ []
+ledger_after ledger (Slice id steps) = ledger
+ledger_after ledger (Stop id) = map (without_live id) ledger
+
+abbrev pub ledger_cases : Option Refusal → List LedgerEntry → Call → List LedgerEntry
+ledger_cases (Some r) ledger e = ledger
+ledger_cases None ledger e = ledger_after ledger e

@@ -1,0 +1,149 @@
+//! A tenant alone, on a memory of its own, and what watches it.
+
+ghost use Rattle.std.specs.Prelude.{◌≡◌, ◌⊎◌, ◌<◌, [], ◌∷◌, Some, None, true, false};
+ghost use Rattle.std.specs.Prelude.{IfOk, IfErr, IsErrOf, OnOk, OnErr};
+ghost use Rattle.mte_tags.specs.Memory.{no_pages};
+ghost use Rattle.mte_elf.specs.Headers.{segments_of, entry_of};
+ghost use Rattle.mte_elf.specs.Images.{refusal_of, pages_of};
+ghost use Rattle.scudo_heap.specs.Served.{HeapOwnsItsPages};
+ghost use Rattle.mte_svc.specs.Results.{is_running};
+ghost use Rattle.mte_tenant.specs.Ledger.{admission_refusal, charge_of, is_bad};
+ghost use Rattle.mte_tenant.specs.Machines.{machine_of, start_of, after_attempt, after_slice};
+ghost use Rattle.mte_tenant.specs.Watched.{WatchLog, with_shown, shown_of, Before, After};
+ghost use Rattle.mte_tenant.specs.Admissions.{terms_of};
+
+use crate::accepting::{holds_image, is_bad_reservation, plan_of};
+use crate::admission::{Admission, AdmitError};
+use crate::machine::{fill, handle, settle, start_parts};
+use a64_step::{Decoder, run, steps_keep_pages};
+use mte_svc::TenantParts;
+use mte_tags::{Paged, Tagged};
+use scudo_heap::condition_of_calls;
+use std::alloc::Global;
+
+/// What watches a tenant: it is shown the machine before and after each attempt, and changes
+/// nothing of it.
+pub trait Watch {
+    /// What it was shown, as far as it is known.
+    ghost log: { Self → WatchLog };
+
+    /// An instruction is attempted next.
+    fn before<M: Tagged>(&mut self, parts: &TenantParts, memory: &mut M)
+        ensures log { log self.new ≡ with_shown (log self.old)
+            (Before (machine_of parts.now (M.memory memory.old)) ∷ []) }
+        ensures memory { M.memory memory.new ≡ M.memory memory.old }
+        ensures kept { M.kept memory.old memory.new };
+
+    /// It was attempted, and its service served where it was an SVC.
+    fn after<M: Tagged>(&mut self, parts: &TenantParts, memory: &mut M)
+        ensures log { log self.new ≡ with_shown (log self.old)
+            (After (machine_of parts.now (M.memory memory.old)) ∷ []) }
+        ensures memory { M.memory memory.new ≡ M.memory memory.old }
+        ensures kept { M.kept memory.old memory.new };
+}
+
+/// Admits a tenant to a memory of its own that has no pages: maps and loads its image and its
+/// stack, or returns the first refusal that applies, that of a host which has no tenant and just
+/// the frames that it is charged. Only `OutOfMemory`, where an allocation failed, can come in place
+/// of the refusals from `Image` on.
+#[tactic(auto, unfolding(crate::specs::Ledger::admission_refusal))]
+pub fn admit_alone<M: Paged>(
+    alloc: Global,
+    admission: &Admission<'_>,
+    memory: &mut M,
+) -> Result<TenantParts, AdmitError>
+    requires empty { M.Tagged.memory memory.old
+        ≡ no_pages admission.now.pages admission.now.mode }
+    ensures machine { IfOk result (λ parts. machine_of parts (M.Tagged.memory memory.new)
+        ≡ start_of admission.now.id (terms_of admission.now)) }
+    ensures heap { IfOk result (λ parts. HeapOwnsItsPages (M.Tagged.memory memory.new) parts.heap) }
+    ensures tag { IfOk result (λ parts. parts.regs.rgsr.tag < 16) }
+    ensures accepted { OnOk result (admission_refusal (charge_of admission.now.pages) []
+        admission.now.id (terms_of admission.now) ≡ None) }
+    ensures refused { IfErr result (λ e. (e ≡ AdmitError.OutOfMemory)
+        ⊎ (admission_refusal (charge_of admission.now.pages) []
+        admission.now.id (terms_of admission.now) ≡ Some e)) }
+    ensures memory { IsErrOf result AdmitError.OutOfMemory
+        → is_bad (terms_of admission.now) ≡ false }
+    ensures err { OnErr result (M.Tagged.memory memory.new ≡ M.Tagged.memory memory.old) }
+    ensures kept { M.Tagged.kept memory.old memory.new }
+{
+    condition_of_calls();
+    if is_bad_reservation(admission) {
+        return Err(AdmitError::BadReservation);
+    }
+    let plan = plan_of(alloc, admission.image)?;
+    if !holds_image(admission.pages, plan.pages) {
+        return Err(AdmitError::ReservationTooSmall);
+    }
+    let parts = start_parts(alloc, admission, &plan)?;
+    fill(
+        &plan,
+        admission.image,
+        admission.pages,
+        admission.mode,
+        memory,
+    );
+    Ok(parts)
+}
+
+/// A slice that is watched: what `slice` makes of the machine, whatever watches it. Each attempt is
+/// shown once, in order.
+pub fn slice_watched<M: Paged, W: Watch>(
+    watch: &mut W,
+    parts: &mut TenantParts,
+    memory: &mut M,
+    steps: u32,
+)
+    requires heap { HeapOwnsItsPages (M.Tagged.memory memory.old) parts.old.heap }
+    requires tag { parts.old.regs.rgsr.tag < 16 }
+    ensures machine { machine_of parts.new (M.Tagged.memory memory.new)
+        ≡ after_slice steps (machine_of parts.old (M.Tagged.memory memory.old)) }
+    ensures shown { W.log watch.new ≡ with_shown (W.log watch.old)
+        (shown_of steps (machine_of parts.old (M.Tagged.memory memory.old))) }
+    ensures heap { HeapOwnsItsPages (M.Tagged.memory memory.new) parts.new.heap }
+    ensures tag { parts.new.regs.rgsr.tag < 16 }
+    ensures kept { M.Tagged.kept memory.old memory.new }
+{
+    let mut decoder = Decoder::new();
+    let mut left = u64::from(steps);
+    while left > 0 && parts.is_running() {
+        watch.before(parts, memory);
+        let rest = left - 1;
+        let goes_on = attempt(&mut decoder, parts, memory, rest);
+        watch.after(parts, memory);
+        left = if goes_on { rest } else { 0 };
+    }
+    settle(parts, memory);
+}
+
+/// Attempts one instruction of a slice, which has `left` more; returns whether the slice goes on. A
+/// slice is such attempts while it goes on, has steps left and the tenant is running, and `settle`.
+pub fn attempt<M: Paged>(
+    decoder: &mut Decoder,
+    parts: &mut TenantParts,
+    memory: &mut M,
+    left: u64,
+) -> bool
+    requires running { is_running parts.old.log.status ≡ true }
+    requires heap { HeapOwnsItsPages (M.Tagged.memory memory.old) parts.old.heap }
+    requires tag { parts.old.regs.rgsr.tag < 16 }
+    ensures machine { record {
+      machine = machine_of parts.new (M.Tagged.memory memory.new);
+      goes_on = result;
+    }
+        ≡ after_attempt left (machine_of parts.old (M.Tagged.memory memory.old)) }
+    ensures heap { HeapOwnsItsPages (M.Tagged.memory memory.new) parts.new.heap }
+    ensures tag { parts.new.regs.rgsr.tag < 16 }
+    ensures kept { M.Tagged.kept memory.old memory.new }
+{
+    steps_keep_pages();
+    condition_of_calls();
+    let stop = run(decoder, &mut parts.regs, memory, 1);
+    parts.log.steps = parts.log.steps.saturating_add(1);
+    parts.left = left;
+    match stop.outcome {
+        Some(outcome) => handle(outcome, parts, memory),
+        None => true,
+    }
+}

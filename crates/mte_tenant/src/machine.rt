@@ -1,0 +1,248 @@
+//! A tenant's machine: its first state and its slices, over any memory with pages.
+
+ghost use Rattle.std.specs.Prelude.{◌≡◌, ℕ, ◌+◌, ◌*◌, ◌^◌, ◌<◌, ◌≤◌, IfOk, IfErr, IsOkUnless, true};
+ghost use Rattle.std.specs.Prelude.{None, ◌/◌};
+ghost use Rattle.mte_tags.specs.Memory.{Memory, page_at, pages_left, no_pages, with_new_pages};
+ghost use Rattle.mte_elf.specs.Headers.{segments_of, entry_of};
+ghost use Rattle.mte_elf.specs.Images.{refusal_of, pages_of};
+ghost use Rattle.a64_step.specs.Fixed.{KeepsFixed};
+ghost use Rattle.a64_step.specs.OpCaches.{Knows};
+ghost use Rattle.scudo_heap.specs.Served.{HeapOwnsItsPages, IsUntouched};
+ghost use Rattle.mte_svc.specs.Results.{is_running};
+ghost use Rattle.mte_svc.specs.Services.{after_svc};
+ghost use Rattle.mte_tenant.specs.Machines.{machine_of, first_parts, first_memory, first_registers};
+ghost use Rattle.mte_tenant.specs.Admissions.{terms_of};
+ghost use Rattle.mte_tenant.specs.Machines.{after_slice, after_attempts, after_slice_end};
+ghost use Rattle.mte_tenant.specs.Machines.{after_outcome, after_stop, with_service};
+
+use crate::admission::Admission;
+use a64_step::{OpCache, Outcome, Regs, known_words_stay, run_on_cache, steps_keep_pages};
+use address_map::{MAX_PAGES, PAGE_SIZE, STACK_END, STACK_PAGES, STACK_START};
+use mte_elf::{Plan, load};
+use mte_svc::{HeapCalls, Input, Output, Record, Status, SvcEnd, TenantParts, svc};
+use mte_tags::{Attrs, Paged, Rgsr, TagMode, Tagged};
+use scudo_heap::{Heap, condition_of_calls};
+use std::alloc::{AllocError, Global};
+
+/// All of a machine but its memory, at its first instruction. `plan` is the image's plan.
+#[tactic(auto, unfolding(crate::specs::Machines::first_parts))]
+pub fn start_parts(
+    alloc: Global,
+    admission: &Admission<'_>,
+    plan: &Plan,
+) -> Result<TenantParts, AllocError>
+    requires entry { plan.now.entry ≡ entry_of admission.now.image.now }
+    requires some { 0 < admission.now.pages }
+    requires most { admission.now.pages ≤ MAX_PAGES }
+    ensures { IfOk result
+        (λ parts. parts ≡ first_parts admission.now.id (terms_of admission.now)) }
+{
+    let output = Output::new(alloc, admission.room)?;
+    let input = Input::new(alloc, admission.input)?;
+    let heap = Heap::new(
+        alloc,
+        (admission.seed >> 32) as u32,
+        u64::from(admission.pages),
+    )?;
+    let calls = HeapCalls::new(alloc)?;
+    let log = Record {
+        id: admission.id,
+        status: Status::Running,
+        steps: 0,
+        output,
+        calls,
+    };
+    Ok(TenantParts {
+        log,
+        regs: registers_at(plan.entry, admission.seed),
+        heap,
+        input,
+        left: 0,
+    })
+}
+
+/// Maps and loads the image's pages and a stack of four pages, in a memory that has none. `plan` is
+/// the image's plan, and the memory may have its pages and the stack's.
+pub fn fill<M: Paged>(plan: &Plan, image: &[u8], pages: u32, mode: TagMode, memory: &mut M)
+    requires image { refusal_of image.now ≡ None }
+    requires segments { plan.now.segments.items ≡ segments_of image.now }
+    requires room { pages_of image.now + STACK_PAGES ≤ pages }
+    requires empty { M.Tagged.memory memory.old ≡ no_pages pages mode }
+    ensures memory { M.Tagged.memory memory.new ≡ first_memory image.now pages mode }
+    ensures limit { (M.Tagged.memory memory.new).limit ≡ pages }
+    ensures untouched { IsUntouched (M.Tagged.memory memory.new) }
+    ensures kept { M.Tagged.kept memory.old memory.new }
+{
+    load(plan, image, memory);
+    map_stack(memory);
+}
+
+/// Lets a tenant attempt at most `steps` instructions while it is running and does not yield. It
+/// ends where its flag is set then. A table may serve any number of slices, of any tenants. A slice
+/// is one run of kept instructions, since no service changes a page without WRITE.
+pub fn slice<M: Paged>(kept: &mut OpCache, parts: &mut TenantParts, memory: &mut M, steps: u32)
+    requires heap { HeapOwnsItsPages (M.Tagged.memory memory.old) parts.old.heap }
+    requires tag { parts.old.regs.rgsr.tag < 16 }
+    ensures machine { machine_of parts.new (M.Tagged.memory memory.new)
+        ≡ after_slice steps (machine_of parts.old (M.Tagged.memory memory.old)) }
+    ensures heap { HeapOwnsItsPages (M.Tagged.memory memory.new) parts.new.heap }
+    ensures tag { parts.new.regs.rgsr.tag < 16 }
+    ensures kept { M.Tagged.kept memory.old memory.new }
+{
+    kept.begin_run();
+    let mut left = u64::from(steps);
+    while left > 0 && parts.is_running() {
+        left = run_on(kept, parts, memory, left);
+    }
+    settle(parts, memory);
+}
+
+/// Runs to the next service, fault or end, or for `left` instructions; returns how many the slice
+/// has left, 0 after a yield.
+fn run_on<M: Paged>(kept: &mut OpCache, parts: &mut TenantParts, memory: &mut M, left: u64) -> u64
+    requires some { 0 < left }
+    requires known { Knows (M.Tagged.memory memory.old) kept.old }
+    requires running { is_running parts.old.log.status ≡ true }
+    requires heap { HeapOwnsItsPages (M.Tagged.memory memory.old) parts.old.heap }
+    requires tag { parts.old.regs.rgsr.tag < 16 }
+    ensures rest { after_attempts result (machine_of parts.new (M.Tagged.memory memory.new))
+        ≡ after_attempts left (machine_of parts.old (M.Tagged.memory memory.old)) }
+    ensures known { Knows (M.Tagged.memory memory.new) kept.new }
+    ensures fewer { result < left }
+    ensures heap { HeapOwnsItsPages (M.Tagged.memory memory.new) parts.new.heap }
+    ensures tag { parts.new.regs.rgsr.tag < 16 }
+    ensures kept { M.Tagged.kept memory.old memory.new }
+{
+    steps_keep_pages();
+    condition_of_calls();
+    known_words_stay();
+    let stop = run_on_cache(kept, &mut parts.regs, memory, left);
+    parts.log.steps = parts.log.steps.saturating_add(left - stop.left);
+    parts.left = stop.left;
+    match stop.outcome {
+        Some(outcome) => {
+            if handle(outcome, parts, memory) {
+                stop.left
+            } else {
+                0
+            }
+        }
+        None => stop.left,
+    }
+}
+
+/// Ends the slice, and the tenant where it is running and its flag is set.
+#[tactic(auto, unfolding(crate::specs::Machines::after_slice_end))]
+pub fn settle<M: Tagged>(parts: &mut TenantParts, memory: &mut M)
+    ensures machine { machine_of parts.new (M.memory memory.new)
+        ≡ after_slice_end (machine_of parts.old (M.memory memory.old)) }
+    ensures heap { parts.new.heap ≡ parts.old.heap }
+    ensures tag { parts.new.regs ≡ parts.old.regs }
+    ensures memory { M.memory memory.new ≡ M.memory memory.old }
+    ensures kept { M.kept memory.old memory.new }
+{
+    parts.left = 0;
+    if parts.is_running() && memory.pending() {
+        parts.log.status = Status::AsyncTag(parts.regs.pc);
+    }
+}
+
+/// Handles an outcome: serves an SVC where the flag is clear, and ends the tenant at anything else.
+/// Returns whether the slice goes on.
+#[tactic(auto, unfolding(crate::specs::Machines::after_outcome))]
+pub(crate) fn handle<M: Paged>(outcome: Outcome, parts: &mut TenantParts, memory: &mut M) -> bool
+    requires heap { HeapOwnsItsPages (M.Tagged.memory memory.old) parts.old.heap }
+    requires tag { parts.old.regs.rgsr.tag < 16 }
+    ensures machine { record {
+      machine = machine_of parts.new (M.Tagged.memory memory.new);
+      goes_on = result;
+    }
+        ≡ after_outcome outcome (machine_of parts.old (M.Tagged.memory memory.old)) }
+    ensures fixed { KeepsFixed (M.Tagged.memory memory.old) (M.Tagged.memory memory.new) }
+    ensures heap { HeapOwnsItsPages (M.Tagged.memory memory.new) parts.new.heap }
+    ensures tag { parts.new.regs.rgsr.tag < 16 }
+    ensures kept { M.Tagged.kept memory.old memory.new }
+{
+    let pc = parts.regs.pc;
+    match outcome {
+        Outcome::Next => {}
+        Outcome::Svc => {
+            if memory.pending() {
+                parts.log.status = Status::AsyncTag(pc);
+            } else {
+                return serve(parts, memory);
+            }
+        }
+        Outcome::Fault(fault) => parts.log.status = Status::Faulted(fault, pc),
+        Outcome::Illegal(word) => parts.log.status = Status::Illegal(word, pc),
+        Outcome::Breakpoint(number) => parts.log.status = Status::Breakpoint(number, pc),
+    }
+    true
+}
+
+/// Serves an SVC; returns whether the slice goes on.
+fn serve<M: Paged>(parts: &mut TenantParts, memory: &mut M) -> bool
+    requires heap { HeapOwnsItsPages (M.Tagged.memory memory.old) parts.old.heap }
+    requires tag { parts.old.regs.rgsr.tag < 16 }
+    ensures machine { record {
+      machine = machine_of parts.new (M.Tagged.memory memory.new);
+      goes_on = result;
+    }
+        ≡ with_service (after_svc parts.old (M.Tagged.memory memory.old)) }
+    ensures fixed { KeepsFixed (M.Tagged.memory memory.old) (M.Tagged.memory memory.new) }
+    ensures heap { HeapOwnsItsPages (M.Tagged.memory memory.new) parts.new.heap }
+    ensures tag { parts.new.regs.rgsr.tag < 16 }
+    ensures kept { M.Tagged.kept memory.old memory.new }
+{
+    match svc(parts, memory) {
+        SvcEnd::Resume => {}
+        SvcEnd::Yield => return false,
+        SvcEnd::Exit(code) => parts.log.status = Status::Exited(code),
+        SvcEnd::Fault(fault) => parts.log.status = Status::Faulted(fault, parts.regs.pc),
+        SvcEnd::Abort(abort, pointer) => {
+            parts.log.status = Status::Aborted(abort, pointer, parts.regs.pc);
+        }
+    }
+    true
+}
+
+/// Stops a tenant where it is running.
+#[tactic(auto, unfolding(crate::specs::Machines::after_stop))]
+pub fn halt(parts: &mut TenantParts)
+    ensures machine { (m : Memory) → machine_of parts.new m ≡ after_stop (machine_of parts.old m) }
+    ensures heap { parts.new.heap ≡ parts.old.heap }
+    ensures regs { parts.new.regs ≡ parts.old.regs }
+{
+    if parts.is_running() {
+        parts.log.status = Status::Stopped;
+    }
+}
+
+/// Maps the four pages of a stack.
+fn map_stack<M: Paged>(memory: &mut M)
+    requires free { (page : ℕ)
+        → 65536 ≤ page → page_at (M.Tagged.memory memory.old) page ≡ None }
+    requires room { STACK_PAGES ≤ pages_left (M.Tagged.memory memory.old) }
+    ensures memory { M.Tagged.memory memory.new
+        ≡ with_new_pages (M.Tagged.memory memory.old) (STACK_START / PAGE_SIZE) STACK_PAGES
+        (record { 0 = 11 }) }
+    ensures kept { M.Tagged.kept memory.old memory.new }
+{
+    match memory.map_pages(STACK_START / PAGE_SIZE, STACK_PAGES as usize, Attrs::DATA) {
+        Ok(()) => {}
+        Err(_) => unreachable!(),
+    }
+}
+
+/// The registers at a tenant's first instruction.
+#[tactic(auto, unfolding(crate::specs::Machines::first_registers))]
+fn registers_at(entry: u64, seed: u64) -> Regs
+    ensures { result ≡ first_registers entry seed }
+{
+    let mut regs = Regs::new(entry, STACK_END);
+    regs.rgsr = Rgsr {
+        tag: (seed / 65536 % 16) as u8,
+        seed: (seed % 65536) as u16,
+    };
+    regs
+}

@@ -1,0 +1,42 @@
+//! A tenant alone, by the calls that a host makes of it.
+
+use crate::images::{COUNTS, image};
+use mte_flat::Flat;
+use mte_tags::TagMode;
+use mte_tenant::{
+    Admission, Status, charge, fill, halt, holds_image, is_bad_reservation, plan_of, start_parts,
+};
+use std::test::Fail;
+
+/// What an admission asks for is tested, its image is planned and loaded, and its machine is
+/// stopped before its first instruction.
+#[test]
+fn calls_of_a_host(rt: HostRuntime) -> Result<(), Fail> {
+    let alloc = rt.alloc();
+    let file = image(alloc, &COUNTS)?;
+    let admission = Admission {
+        id: 7,
+        image: file.as_slice(),
+        input: b"",
+        seed: 1,
+        pages: 60,
+        room: 16,
+        mode: TagMode::Sync,
+    };
+    assert!(rt; !is_bad_reservation(&admission));
+    assert_eq!(rt; charge(admission.pages), 121);
+    let plan = plan_of(alloc, admission.image)?;
+    assert!(rt; holds_image(admission.pages, plan.pages));
+    let mut parts = start_parts(alloc, &admission, &plan)?;
+    let mut memory = Flat::new(alloc, 60, TagMode::Sync)?;
+    fill(
+        &plan,
+        admission.image,
+        admission.pages,
+        admission.mode,
+        &mut memory,
+    );
+    halt(&mut parts);
+    assert!(rt; parts.log.status == Status::Stopped);
+    Ok(())
+}
