@@ -5,8 +5,9 @@
 # status with ends (0), and its output with that of the host. The picture of its heap must be whole,
 # and have a red frame where an address was refused (ends 129 or 131), and the calls that led to the
 # end, the allocation and the free must be those that AddressSanitizer tells of the same program,
-# where a compiler of this machine has it. The comment may also give the tenant its input, its pages
-# (frames, 8) and how many slices of 1048576 steps it gets (1).
+# where a compiler of this machine has it. Of a tenant that exits --exact says nothing. The comment
+# may also give the tenant its input, its pages (frames, 8) and how many slices of 1048576 steps it
+# gets (1).
 #     check.sh [HOST [ALONE]]
 # With the variable TENANT_CC (../libc/tenant-cc) that program builds them, over its C library.
 set -euo pipefail
@@ -16,9 +17,10 @@ alone=${2:-$here/../../crates/mte_run/out/mte_run}
 work=$(mktemp -d)
 trap 'rm -rf "$work"' EXIT
 flags=(-g -ffreestanding -nostdlib -static -mgeneral-regs-only -Wall -Wextra "$here/start.c")
-clang="clang --target=aarch64-linux-gnu -fuse-ld=lld" gcc=aarch64-linux-gnu-gcc
+clang="clang --target=aarch64-linux-gnu -fuse-ld=lld" gcc=aarch64-linux-gnu-gcc exact=--exact
 if [[ -n ${TENANT_CC:-} ]]; then
-    flags=(-g -Wall -Wextra)
+    # Its strlen reads words, up to seven bytes past the end of a string.
+    flags=(-g -Wall -Wextra) exact=--exact=writes
     clang="$TENANT_CC --compiler=clang" gcc="$TENANT_CC --compiler=gcc"
 fi
 
@@ -64,6 +66,14 @@ run_alone() {
     "$alone" --pages "$(value "$source" frames 8)" --out 64 --input "$work/input" \
         --steps $((1048576 * $(value "$source" slices 1))) --map "$work/map.svg" "$image" \
         > "$work/output" 2> "$work/story" || ended=$?
+}
+
+# Whether --exact says nothing of a tenant that exits.
+is_careful() {
+    [[ $ended -eq 0 ]] || return 0
+    "$alone" "$exact" --pages "$(value "$1" frames 8)" --out 64 --input "$work/input" \
+        --steps $((1048576 * $(value "$1" slices 1))) "$2" 2> "$work/said" |
+        cmp -s - "$work/output" && [[ ! -s $work/said ]]
 }
 
 # Whether the picture of the tenant's heap is whole, and has a red frame where it should.
@@ -127,6 +137,7 @@ for compiler in "${compilers[@]}"; do
             done < <(sed -n '1,/\*\//s/^ *cause: \(.*[^ ]\) *$/\1/p' "$source" | sed 's/ *\*\/$//')
             [[ $ended -eq $(value "$source" ends 0) ]] || good=0
             is_drawn || good=0
+            is_careful "$source" "$work/image" || good=0
             same_calls "$source" || good=0
             [[ $(od -An -v -tx1 "$work/output" | tr -d ' \n') == "$(report_output)" ]] || good=0
             if [[ $good -eq 1 ]]; then

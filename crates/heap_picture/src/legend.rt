@@ -54,6 +54,7 @@ const STYLE: &str = "<style>\n\
     .says{fill:#d00000;font-weight:bold}\n\
     .note{fill:none;pointer-events:all}\n\
     .cause{fill:none;stroke:#e00000;stroke-width:1.5;pointer-events:all}\n\
+    .arrow{fill:none;stroke:#e00000;stroke-width:2;marker-end:url(#head)}\n\
     .label{font-size:8px;fill:#555}\n\
     </style>\n";
 
@@ -62,6 +63,9 @@ const PATTERNS: &str = "<g id=\"u\"><rect width=\"16\" height=\"18\" fill=\"#bbb
     <pattern id=\"hatch\" width=\"6\" height=\"6\" patternUnits=\"userSpaceOnUse\" \
     patternTransform=\"rotate(45)\"><path d=\"M1,0v6\" stroke=\"#333\" stroke-opacity=\"0.2\" \
     stroke-width=\"1.5\"/></pattern>\n\
+    <marker id=\"head\" markerUnits=\"userSpaceOnUse\" markerWidth=\"8\" \
+    markerHeight=\"8\" refX=\"7\" refY=\"4\" orient=\"auto\">\
+    <path d=\"M0,0L8,4L0,8z\" fill=\"#e00000\"/></marker>\n\
     <clipPath id=\"row\"><rect x=\"7\" y=\"-4\" width=\"1026\" height=\"26\"/></clipPath>\n";
 
 /// What the colours and lines mean, on two lines of 18 pixels, 8 apart.
@@ -95,4 +99,7 @@ const SAMPLES: &str = "\n<g transform=\"translate(0 28)\">\
     <text x=\"10\" y=\"13\">a block begins</text></g>\
     <g transform=\"translate(644)\">\
     <rect class=\"mark\" y=\"-1\" width=\"16\" height=\"20\"/>\
-    <text x=\"28\" y=\"13\">the access or pointer that was refused</text></g></g>\n";
+    <text x=\"28\" y=\"13\">the access or pointer that was refused</text></g>\
+    <g transform=\"translate(980)\">\
+    <rect class=\"cause\" width=\"40\" height=\"18\"/>\
+    <text x=\"50\" y=\"13\">the chunk that the cause names</text></g></g>\n";

@@ -1,11 +1,14 @@
 //! A heap and its tags as a picture in SVG: rows of granules, each in the colour of its tag, with
 //! the blocks, the chunks that are live or freed, and the access or pointer that was refused.
 //!
-//! A picture is the text of a [`Heading`], of its [`Line`]s in order, each with its [`Note`]s behind
-//! it, and [`END`].
+//! A picture is the text of a [`Heading`], of its [`Line`]s in order, each with its [`Note`]s
+//! behind it, of an [`Arrow`] where there is one, and [`END`]. A [`Gap`] stands between rows that
+//! do not follow each other.
 #![tactic(auto)]
 
+mod arrow;
 mod cell;
+mod gap;
 mod heading;
 mod layout;
 mod legend;
@@ -16,6 +19,8 @@ mod part;
 mod row;
 mod run;
 
+pub use arrow::{Arrow, Spot};
+pub use gap::Gap;
 pub use heading::{END, Heading};
 pub use layout::{GRANULES, ROWS};
 pub use line::{Line, Mark, Marked};

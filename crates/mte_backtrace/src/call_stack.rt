@@ -3,7 +3,7 @@
 use crate::callers::{Callers, fill, link_of};
 use crate::names::Names;
 use a64_step::Regs;
-use elf_symbols::{Place, Symbols};
+use elf_symbols::{SymbolOffset, Symbols};
 use mte_tags::Tagged;
 use std::alloc::{AllocError, Global};
 use std::io;

@@ -14,12 +14,12 @@ const DEPTH: usize = 7;
 pub struct Callers {
     /// x30, or 0 where it tells no caller that a record does not.
     pub(crate) link: u64,
-    /// Those of the frame records, the innermost first, and 0 behind the last.
+    /// The addresses of the frame records, the innermost first, and 0 behind the last.
     pub(crate) records: [u64; DEPTH],
 }
 
 impl Callers {
-    /// Those of the instruction that is next.
+    /// The callers of the instruction that is next.
     pub fn of<M: Tagged>(memory: &mut M, regs: &Regs) -> Callers
         ensures memory { M.memory memory.new ≡ M.memory memory.old }
         ensures kept { M.kept memory.old memory.new }

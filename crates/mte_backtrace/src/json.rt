@@ -3,7 +3,7 @@
 use crate::call_stack::CallStack;
 use crate::names::Names;
 use debug_lines::SourceLine;
-use elf_symbols::Place;
+use elf_symbols::SymbolOffset;
 use std::io::Write;
 use std::{fmt, io};
 
@@ -37,7 +37,7 @@ pub struct FrameObject<'a> {
     /// The address.
     pub address: u64,
     /// Its function.
-    pub place: Place<'a>,
+    pub place: SymbolOffset<'a>,
     /// Its source line.
     pub line: Option<SourceLine<'a>>,
 }
@@ -55,7 +55,10 @@ impl<'a> fmt::Display for FrameObject<'a> {
 }
 
 /// Writes the name of a function, and an address's offset in it.
-fn write_function<W: fmt::Write>(f: &mut fmt::Formatter<W>, place: &Place<'_>) -> fmt::Result {
+fn write_function<W: fmt::Write>(
+    f: &mut fmt::Formatter<W>,
+    place: &SymbolOffset<'_>,
+) -> fmt::Result {
     let Some(name) = place.name() else {
         return Ok(());
     };

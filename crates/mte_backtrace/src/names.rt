@@ -18,7 +18,7 @@ pub struct Names<'a> {
 }
 
 impl<'a> Names<'a> {
-    /// Those of a file.
+    /// The names and lines of a file.
     pub fn of(file: &'a [u8]) -> Names<'a> {
         Names {
             symbols: Symbols::of(file),

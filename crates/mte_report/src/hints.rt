@@ -1,14 +1,13 @@
 //! What led to a cause that no chunk explains.
 
-use crate::book::Entry;
-use crate::cause::Cause;
-use crate::moment::Moment;
 use crate::report::Report;
-use crate::words::{Call, Instruction};
 use a64_decode::decode;
 use a64_instr::Instr;
 use circular_buffer::HeapCircularBuffer;
 use heap_bounds::access_of;
+use instruction_trace::{Instruction, Moment};
+use run_book::{Call, Entry};
+use run_cause::Cause;
 use std::io;
 use std::io::Write;
 

@@ -1,22 +1,19 @@
 //! What happened to a tenant, as JSON (RFC 8259). Numbers of 64 bits are texts in hexadecimal.
 
-use crate::book::{Chunk, Entry};
-use crate::cause::Cause;
-use crate::exact::{Finding, Wrong};
-use crate::moment::Nzcv;
-use crate::pages::{Pages, page_map};
 use crate::report::Report;
 use crate::stacks::stack_of;
-use crate::tags::{GRANULES, first_granule, tag_at};
-use crate::words::{Letters, Request};
 use a64_step::Regs;
+use instruction_trace::Nzcv;
 use mte_backtrace::{Names, Quoted};
 use mte_flat::Flat;
-use mte_sched::Status;
 use mte_tags::MemFault;
+use mte_tenant::Status;
+use run_book::{Chunk, Entry, Request};
+use run_cause::{Cause, Finding, Wrong};
 use std::alloc::Global;
 use std::io::Write;
 use std::{fmt, io};
+use tenant_map::{GRANULES, Letters, Pages, first_granule, page_map, tag_at};
 
 impl<'a> Report<'a> {
     /// Writes what happened as one object of JSON, under the program's exit status.
@@ -64,7 +61,7 @@ impl<'a> Report<'a> {
                 writeln!(out, "\"status\":{object},")
             }
             None => {
-                let object = StatusObject(&self.parts.account.status);
+                let object = StatusObject(&self.parts.log.status);
                 writeln!(out, "\"status\":{object},")
             }
         }

@@ -1,9 +1,8 @@
 //! The chunks that are live at the end, by the calls that made them.
 
-use crate::book::Entry;
 use crate::report::Report;
 use crate::stacks::stack_of;
-use crate::words::Bytes;
+use run_book::{Bytes, Entry};
 use std::alloc::{AllocError, Global};
 use std::io::Write;
 use std::{fmt, io};

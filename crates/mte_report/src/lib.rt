@@ -1,35 +1,15 @@
-//! Why a tenant ended, in words: the cause, whose granule an address is in, the registers, the
-//! pages and the last instructions. And the heap and its tags as a picture.
+//! Why a tenant ended, in words and as JSON: the cause, whose granule an address is in, the calls
+//! that led to it, the registers, the pages and the last instructions. And its heap as a picture.
 #![tactic(auto)]
 
-mod book;
-mod cause;
-mod exact;
-mod extent;
-mod families;
-mod heap_map;
+mod drawing;
 mod hints;
-mod history;
 mod json;
 mod leaks;
-mod loaded;
-mod moment;
-mod notes;
-mod owner;
-mod pages;
 mod report;
-mod selection;
-mod service;
 mod stacks;
-mod stored;
-mod stores;
-mod tags;
-mod turns;
-mod words;
 
-pub use book::Book;
-pub use exact::{Exact, Finding, SVC};
-pub use moment::{Line, Moment};
+pub use instruction_trace::{Line, Moment, SVC, Service, Turn};
 pub use report::Report;
-pub use service::Service;
-pub use turns::Turn;
+pub use run_book::Book;
+pub use run_cause::{Exact, Finding};

@@ -1,29 +1,26 @@
 //! What happened to a tenant that did not exit, in words.
 
-use crate::book::{Book, Wanted};
-use crate::cause::Cause;
-use crate::exact::{Finding, Wrong};
-use crate::families::{breakpoint_words, family_of};
-use crate::moment::{Line, Moment, Nzcv};
-use crate::owner::Owner;
-use crate::pages::{Pages, attrs_at, page_map};
-use crate::tags::tell_tags;
-use crate::turns::{Turn, tell_turns};
-use crate::words::{Bytes, Instruction, abort_words, fault_words, trespass_words};
 use a64_bits::plain;
 use a64_decode::decode;
 use a64_step::Regs;
 use circular_buffer::HeapCircularBuffer;
-use elf_symbols::Place;
+use elf_symbols::SymbolOffset;
 use heap_bounds::{Range, access_of};
+use instruction_trace::{Instruction, Line, Moment, Nzcv, Turn, tell_turns};
 use mte_backtrace::Names;
 use mte_flat::Flat;
-use mte_sched::{Status, TenantParts};
 use mte_tags::{FaultKind, MemFault, Tagged};
+use mte_tenant::{Status, TenantParts};
+use run_book::{Book, Bytes, Owner, Wanted};
+use run_cause::{
+    Cause, Finding, Wrong, abort_words, breakpoint_words, family_of, fault_words, is_undefined,
+    trespass_words,
+};
 use scudo_heap::HeapAbort;
 use std::alloc::Global;
 use std::io::Write;
 use std::{fmt, io};
+use tenant_map::{Pages, attrs_at, page_map, tell_tags};
 
 /// A tenant that ran, and what was remembered of it.
 #[derive(Clone, Copy)]
@@ -66,10 +63,9 @@ impl<'a> Report<'a> {
         if let Some(finding) = self.finding {
             return Some(Cause::of_wrong(self.book, &finding.wrong));
         }
-        let status = &self.parts.account.status;
-        match status {
+        match self.parts.log.status {
             Status::Faulted(_, _) | Status::Aborted(_, _, _) => {
-                Some(Cause::of(self.book, status, self.parts.regs.x[8]))
+                Some(Cause::of(self.book, &self.parts.log, self.parts.regs.x[8]))
             }
             _ => None,
         }
@@ -95,7 +91,7 @@ impl<'a> Report<'a> {
     pub(crate) fn step(&self) -> u64 {
         match self.finding {
             Some(finding) => finding.step,
-            None => self.parts.account.steps,
+            None => self.parts.log.steps,
         }
     }
 
@@ -104,7 +100,7 @@ impl<'a> Report<'a> {
         if let Some(finding) = self.finding {
             return Some(finding.wrong.addr);
         }
-        match self.parts.account.status {
+        match self.parts.log.status {
             Status::Faulted(fault, _) => Some(fault.addr),
             Status::Aborted(_, pointer, _) => Some(plain(pointer)),
             _ => None,
@@ -145,7 +141,7 @@ impl<'a> Report<'a> {
 #[derive(Clone, Copy)]
 struct At<'a> {
     pc: u64,
-    place: Place<'a>,
+    place: SymbolOffset<'a>,
 }
 
 impl<'a> fmt::Display for At<'a> {
@@ -160,7 +156,7 @@ fn tell_status<W: Write>(out: &mut W, report: &Report<'_>, memory: &mut Flat) ->
     if let Some(finding) = report.finding {
         return tell_wrong(out, &finding.wrong, report.here());
     }
-    match &report.parts.account.status {
+    match &report.parts.log.status {
         Status::Exited(code) => writeln!(out, "it exited with {code}"),
         Status::Faulted(fault, pc) => {
             let size = size_of_access(memory, report.regs(), fault.addr);
@@ -272,6 +268,7 @@ impl fmt::Display for Family {
     fn fmt<W: fmt::Write>(&self, f: &mut fmt::Formatter<W>) -> fmt::Result {
         match family_of(self.0) {
             Some(family) => { write!(f, ", but {family} (docs/TENANTS.md has what avoids it)") }
+            None if is_undefined(self.0) => f.write_str(", but UDF, as zeros and other data are"),
             None => Ok(()),
         }
     }
@@ -307,7 +304,7 @@ fn tell_abort<W: Write>(out: &mut W, abort: HeapAbort, pointer: u64, at: At<'_>)
 /// That its steps or its slices are over.
 fn tell_running<W: Write>(out: &mut W, report: &Report<'_>) -> io::Result<()> {
     let limit = report.limit;
-    if report.parts.account.steps >= limit {
+    if report.parts.log.steps >= limit {
         writeln!(
             out,
             "the limit of {limit} steps is reached (--steps gives it more)"
@@ -329,7 +326,7 @@ fn tell_place<W: Write>(out: &mut W, report: &Report<'_>, memory: &mut Flat) -> 
     };
     let place = match Range::of(addr) {
         Range::Image => report.names.symbols.place(addr),
-        _ => Place::unnamed(addr),
+        _ => SymbolOffset::unnamed(addr),
     };
     writeln!(out, "{owner}{place}")?;
     tell_tags(out, memory, addr)

@@ -1,12 +1,10 @@
 //! The calls that led to the end of a tenant, and to the heap calls that its cause names.
 
-use crate::book::{Book, Chunk, Entry};
-use crate::cause::{Cause, Found};
-use crate::exact::Finding;
 use crate::report::Report;
-use crate::words::Call;
 use mte_backtrace::{CallStack, Names};
 use mte_flat::Flat;
+use run_book::{Book, Call, Chunk, Entry};
+use run_cause::{Cause, Finding, Found};
 use std::alloc::{AllocError, Global};
 use std::io;
 use std::io::Write;

@@ -2,11 +2,11 @@ use Rattle.std.proofs.Common.{◌≡◌, ℕ, ◌∙◌, Bool, true, false, is_o
 use Rattle.std.specs.Prelude.{if◌then◌else◌}
 use Rattle.mte_tags.specs.Memory.{Memory}
 use Rattle.mte_tags.specs.Accesses.{after_read}
-use Rattle.mte_tags.proofs.ModeLaws.{after_read-unchecked}
+use Rattle.mte_tags.proofs.ModeLaws.{after_read-without-check}
 use Rattle.mte_backtrace.proofs.walk.read_data.Goals as goal
 
 either_way : (b : Bool) (m : Memory) (a n : ℕ) → (if b then after_read m a n false else m) ≡ m
-either_way true m a n = after_read-unchecked m a n
+either_way true m a n = after_read-without-check m a n
 either_way false m a n = refl
 
 pub returns-clause-memory : goal.returns-clause-memory

@@ -1,19 +1,21 @@
 //! What most likely went wrong, in the manner of the reports of Android's memory tagging.
 
-use crate::book::{Book, Chunk, Entry, Wanted};
 use crate::exact::Wrong;
-use crate::words::Bytes;
 use a64_bits::plain;
 use address_map::{IMAGE_START, PAGE_SIZE, STACK_END, STACK_START};
 use heap_bounds::{Block, Trespass};
-use mte_sched::Status;
 use mte_svc::FREE;
 use mte_tags::{FaultKind, MemFault};
+use mte_tenant::{Record, Status};
+use run_book::{Book, Bytes, Chunk, Entry, Wanted};
 use std::fmt;
 
 /// How far from a chunk an access is still taken for one past its end or in front of it, and from
 /// the stack for one below it.
 const NEAR: u64 = 65_536;
+
+/// Up to which step a program for Linux has looked for its arguments.
+const FIRST: u64 = 100;
 
 /// What most likely went wrong.
 #[derive(Clone, Copy)]
@@ -48,8 +50,13 @@ pub enum Cause {
     NoChunkThere,
     /// An access to the stack by a pointer with the tag of another object.
     StackObject,
-    /// An access just above the stack, where a program for Linux looks for its arguments.
+    /// A read just above the stack by one of the first instructions, where a program for Linux
+    /// looks for its arguments.
     AboveStack,
+    /// An access so many bytes above the stack.
+    PastStack(u64),
+    /// A write to memory of the image that may only be read or run.
+    ReadOnly,
     /// A jump to an address that is no code.
     WildJump,
     /// Nothing that the heap calls tell.
@@ -57,12 +64,15 @@ pub enum Cause {
 }
 
 impl Cause {
-    /// The cause of a status, where `service` is what x8 was.
-    pub fn of(book: &Book, status: &Status, service: u64) -> Cause {
-        match status {
+    /// The cause of how a record says that its tenant ended, where `service` is what x8 was.
+    pub fn of(book: &Book, log: &Record, service: u64) -> Cause {
+        match &log.status {
             Status::Faulted(fault, pc) if fault.addr == plain(*pc) => Cause::WildJump,
             Status::Faulted(fault, _) => match fault.kind {
-                FaultKind::Translation | FaultKind::TagCheck => Cause::of_access(book, fault),
+                FaultKind::Translation | FaultKind::TagCheck => {
+                    Cause::of_access(book, fault, log.steps)
+                }
+                FaultKind::Permission if fault.write => Cause::ReadOnly,
                 _ => Cause::Unknown,
             },
             Status::Aborted(_, pointer, _) => Cause::of_pointer(book, *pointer, service),
@@ -70,8 +80,8 @@ impl Cause {
         }
     }
 
-    /// The cause of an access that failed.
-    fn of_access(book: &Book, fault: &MemFault) -> Cause {
+    /// The cause of an access that failed at a step.
+    fn of_access(book: &Book, fault: &MemFault, step: u64) -> Cause {
         let (addr, tag) = (fault.addr, fault.ptr_tag);
         if addr < IMAGE_START {
             return Cause::NullPointer;
@@ -84,7 +94,7 @@ impl Cause {
                 return Cause::of_neighbour(addr, chunk);
             }
         }
-        if let Some(cause) = Cause::of_stack(addr) {
+        if let Some(cause) = Cause::of_stack(fault, step) {
             return cause;
         }
         match book.newest(&Wanted::Holding(addr)) {
@@ -114,13 +124,18 @@ impl Cause {
     }
 
     /// The cause of an access to the stack, below it or above.
-    fn of_stack(addr: u64) -> Option<Cause> {
+    fn of_stack(fault: &MemFault, step: u64) -> Option<Cause> {
+        let addr = fault.addr;
         if addr < STACK_START && STACK_START - addr <= NEAR {
             Some(Cause::StackOverflow(STACK_START - addr))
         } else if addr >= STACK_START && addr < STACK_END {
             Some(Cause::StackObject)
         } else if addr >= STACK_END && addr - STACK_END < PAGE_SIZE {
-            Some(Cause::AboveStack)
+            Some(if step <= FIRST && !fault.write {
+                Cause::AboveStack
+            } else {
+                Cause::PastStack(addr - STACK_END)
+            })
         } else {
             None
         }
@@ -222,6 +237,8 @@ impl Cause {
                 "an access above the stack, where a program for Linux finds its arguments: a \
                  tenant has none (docs/TENANTS.md)"
             }
+            Cause::PastStack(_) => "Buffer Overflow of an object on the stack",
+            Cause::ReadOnly => "Read-only Memory: code or constants of the image are written",
             Cause::WildJump => "Wild Jump: the address is no code",
             Cause::Unknown => "unknown",
         }
@@ -248,6 +265,7 @@ impl Cause {
             | Cause::Overflow(_, distance)
             | Cause::Underflow(_, distance)
             | Cause::StackOverflow(distance)
+            | Cause::PastStack(distance)
             | Cause::InsideChunk(_, distance) => Some(*distance),
             _ => None,
         }
@@ -263,6 +281,7 @@ impl Cause {
             Cause::Overflow(_, _) => " right of a ",
             Cause::Underflow(_, _) => " left of a ",
             Cause::StackOverflow(_) => " below the stack",
+            Cause::PastStack(_) => " above the stack",
             Cause::TagsChanged(_)
             | Cause::DoubleFree(_)
             | Cause::FreedPointer(_)

@@ -1,10 +1,9 @@
 //! What a picture says of chunks.
 
-use crate::book::Chunk;
 use crate::extent::Extent;
-use crate::words::{Bytes, Call};
 use heap_picture::Note;
 use mte_backtrace::Names;
+use run_book::{Bytes, Call, Chunk};
 use std::alloc::Global;
 use std::io::Write;
 use std::{fmt, io};

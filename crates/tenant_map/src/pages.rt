@@ -1,6 +1,6 @@
 //! The page map.
 
-use crate::words::Letters;
+use crate::attributes::Letters;
 use address_map::{ADDRESS_END, PAGE_SIZE};
 use heap_bounds::Range;
 use mte_tags::{Attrs, Tagged};

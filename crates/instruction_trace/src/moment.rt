@@ -1,8 +1,9 @@
 //! An attempted instruction, and what it changed.
 
+use crate::instruction::Instruction;
 use crate::loaded::load_of;
 use crate::stores::stored;
-use crate::words::Instruction;
+use crate::written::written_by;
 use a64_bits::Flags;
 use a64_decode::decode;
 use a64_step::Regs;
@@ -72,6 +73,7 @@ impl<'a> fmt::Display for Effect<'a> {
         let Some(instr) = decode(word) else {
             return Ok(());
         };
+        write_kept(f, written_by(&instr), before, after)?;
         if let Some(stored) = stored(&instr, before) {
             return write!(f, "; {stored}");
         }
@@ -146,6 +148,22 @@ fn write_change<W: fmt::Write>(
         return Ok(());
     }
     write!(f, "; x{n} {old:#x} -> {new:#x}")
+}
+
+/// Writes the value of a register that an instruction wrote, where it is what it was.
+fn write_kept<W: fmt::Write>(
+    f: &mut fmt::Formatter<W>,
+    register: Option<u8>,
+    before: &Regs,
+    after: &Regs,
+) -> fmt::Result {
+    let Some(n) = register else {
+        return Ok(());
+    };
+    match (before.x.get(usize::from(n)), after.x.get(usize::from(n))) {
+        (Some(old), Some(new)) if old == new => write!(f, "; x{n} {new:#x} kept"),
+        _ => Ok(()),
+    }
 }
 
 /// The flags: a capital letter for each that is set.

@@ -2,18 +2,15 @@
 
 ghost use Rattle.std.specs.Prelude.{◌≡◌};
 
-use crate::moment::Moment;
 use a64_decode::decode;
 use a64_step::Regs;
 use heap_bounds::{Bounds, Trespass, access_of};
+use instruction_trace::{Moment, SVC};
 use mte_backtrace::Callers;
-use mte_sched::TenantParts;
 use mte_svc::{HeapCall, READ, WRITE};
 use mte_tags::Tagged;
+use mte_tenant::TenantParts;
 use std::alloc::Global;
-
-/// The word of SVC #0.
-pub const SVC: u32 = 0xD400_0001;
 
 /// The bytes that an instruction or a service accesses.
 #[derive(Clone, Copy)]

@@ -1,22 +1,22 @@
 //! The chunks of a tenant in the order in which they were made.
 
-use crate::book::{Chunk, Entry};
 use crate::extent::Extent;
+use run_book::{Book, Chunk, Entry};
 use std::alloc::{AllocError, Global};
 use std::collections::BTreeMap;
 
 /// The chunks that were made so far, the oldest first.
 #[derive(Drop)]
-pub struct History {
+struct History {
     /// Their granules.
-    pub extents: Vec<Extent>,
+    extents: Vec<Extent>,
     /// The index of the newest chunk of each block, by where the block begins.
     newest: BTreeMap<u64, usize>,
 }
 
 impl History {
     /// No chunks.
-    pub fn new(alloc: Global) -> History {
+    fn new(alloc: Global) -> History {
         History {
             extents: Vec::new(alloc),
             newest: BTreeMap::new(alloc),
@@ -24,7 +24,7 @@ impl History {
     }
 
     /// Enters that a chunk was made.
-    pub fn make(&mut self, chunk: &Chunk) -> Result<(), AllocError> {
+    fn make(&mut self, chunk: &Chunk) -> Result<(), AllocError> {
         let index = self.extents.len();
         let before = self.newest.insert(Chunk::block_of(chunk.start()), index)?;
         let earlier = self.outdate(before);
@@ -48,7 +48,7 @@ impl History {
     }
 
     /// Enters that a call freed the chunk at a plain address.
-    pub fn end(&mut self, start: u64, entry: &Entry) {
+    fn end(&mut self, start: u64, entry: &Entry) {
         let block = Chunk::block_of(start);
         let Some(index) = self.newest.get(&block).copied() else {
             return;
@@ -58,4 +58,18 @@ impl History {
             extent.chunk.freed = Some(*entry);
         }
     }
+}
+
+/// The granules of each chunk of a book, the oldest first.
+pub fn extents(alloc: Global, book: &Book) -> Result<Vec<Extent>, AllocError> {
+    let mut history = History::new(alloc);
+    for entry in book.entries().iter() {
+        if let Some(start) = entry.ended() {
+            history.end(start, entry);
+        }
+        if let Some(chunk) = entry.made() {
+            history.make(&chunk)?;
+        }
+    }
+    Ok(history.extents)
 }

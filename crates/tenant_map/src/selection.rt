@@ -68,8 +68,12 @@ impl Window {
 
 /// The number of the row that an address is in.
 fn number_of(places: &[Place], addr: u64) -> usize {
-    let found = places.iter().find(|place| place.address == row_of(addr));
-    found.map_or(0, |place| place.number)
+    place_of(places, addr).map_or(0, |place| place.number)
+}
+
+/// The row that an address is in.
+pub fn place_of(places: &[Place], addr: u64) -> Option<&Place> {
+    places.iter().find(|place| place.address == row_of(addr))
 }
 
 /// The address of the row that an address is in.

@@ -2,15 +2,13 @@
 
 ghost use Rattle.std.specs.Prelude.{◌≡◌};
 
-use crate::extent::Extent;
-use crate::history::History;
 use a64_bits::plain;
 use circular_buffer::HeapCircularBuffer;
 use heap_bounds::{Allocation, Block, freed_by, made_by};
 use mte_backtrace::Callers;
-use mte_sched::TenantParts;
 use mte_svc::{HeapCall, HeapService};
 use mte_tags::{Tagged, tag_of};
+use mte_tenant::TenantParts;
 use std::alloc::{AllocError, Global};
 use std::collections::BTreeMap;
 
@@ -82,7 +80,7 @@ impl Wanted {
 
 impl Entry {
     /// The chunk that the call returned, as it was then.
-    fn made(&self) -> Option<Chunk> {
+    pub fn made(&self) -> Option<Chunk> {
         let Allocation { pointer, size } = made_by(&self.call)?;
         Some(Chunk {
             pointer,
@@ -109,7 +107,7 @@ impl Entry {
     }
 
     /// The plain address of the chunk that the call freed, or gave another size.
-    fn ended(&self) -> Option<u64> {
+    pub fn ended(&self) -> Option<u64> {
         freed_by(&self.call)
     }
 }
@@ -172,7 +170,7 @@ impl Book {
         ensures memory { M.memory memory.new ≡ M.memory memory.old }
         ensures kept { M.kept memory.old memory.new }
     {
-        let calls = &parts.account.calls;
+        let calls = &parts.log.calls;
         if calls.count() == self.seen {
             return None;
         }
@@ -181,7 +179,7 @@ impl Book {
         let callers = Callers::of(memory, &parts.regs);
         self.entries.push_back(Entry {
             number: self.seen,
-            step: parts.account.steps,
+            step: parts.log.steps,
             pc: parts.regs.pc.wrapping_sub(4),
             call,
             callers,
@@ -263,17 +261,8 @@ impl Book {
         live.values().copied().collect(alloc)
     }
 
-    /// The granules of each chunk that was made, the oldest first.
-    pub fn extents(&self, alloc: Global) -> Result<Vec<Extent>, AllocError> {
-        let mut history = History::new(alloc);
-        for entry in self.entries.iter() {
-            if let Some(start) = entry.ended() {
-                history.end(start, entry);
-            }
-            if let Some(chunk) = entry.made() {
-                history.make(&chunk)?;
-            }
-        }
-        Ok(history.extents)
+    /// The calls that are kept, the oldest first.
+    pub fn entries(&self) -> &HeapCircularBuffer<Entry> {
+        &self.entries
     }
 }

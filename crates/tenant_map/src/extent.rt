@@ -1,8 +1,8 @@
 //! The granules of a chunk, as a picture shows them.
 
-use crate::book::Chunk;
 use address_map::GRANULE_SIZE;
 use heap_picture::{GRANULES, Owner, Row};
+use run_book::Chunk;
 
 /// The bytes of a row.
 pub const ROW_SIZE: u64 = GRANULES as u64 * GRANULE_SIZE;
@@ -33,6 +33,11 @@ impl Extent {
         let start = self.start.saturating_sub(address) / GRANULE_SIZE;
         let end = self.end.saturating_sub(address).div_ceil(GRANULE_SIZE);
         Some((start as usize, (end as usize).min(GRANULES)))
+    }
+
+    /// Whether its first granule is in the row at an address.
+    pub fn begins_in_row(&self, address: u64) -> bool {
+        address <= self.start && self.start < address.saturating_add(ROW_SIZE)
     }
 
     /// Whose its granules are.

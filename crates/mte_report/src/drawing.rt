@@ -1,0 +1,176 @@
+//! The heap and its tags at the end of a tenant, as a picture.
+
+use crate::report::Report;
+use a64_bits::plain;
+use heap_picture::{Mark, Marked};
+use mte_flat::Flat;
+use mte_tags::tag_of;
+use mte_tenant::Status;
+use std::alloc::Global;
+use std::fmt::Display;
+use std::io::Write;
+use std::{fmt, io};
+use tenant_map::{Extent, Picture, extents};
+
+impl<'a> Report<'a> {
+    /// Writes the heap and its tags as a picture in SVG, under a title of one line: the rows of the
+    /// heap's pages, and that of the access that faulted or the pointer that was refused. Rows in
+    /// which nothing changes are left out after the first, and those farthest from the mark where
+    /// there are more than [`heap_picture::ROWS`].
+    pub fn draw<W: Write>(
+        &self,
+        alloc: Global,
+        out: &mut W,
+        title: &str,
+        memory: &mut Flat,
+    ) -> io::Result<()> {
+        let title = self.title_of(title);
+        let title = format!(in alloc; "{title}")?;
+        let extents = extents(alloc, self.book)?;
+        let picture = self.picture(title.as_str(), extents.as_slice());
+        picture.draw(alloc, out, memory)
+    }
+
+    /// Writes the same rows as text, under the same title.
+    pub fn write_map<W: Write>(
+        &self,
+        alloc: Global,
+        out: &mut W,
+        title: &str,
+        memory: &mut Flat,
+    ) -> io::Result<()> {
+        let title = self.title_of(title);
+        let title = format!(in alloc; "{title}")?;
+        let extents = extents(alloc, self.book)?;
+        let picture = self.picture(title.as_str(), extents.as_slice());
+        picture.write_text(alloc, out, memory)
+    }
+
+    /// The title of a picture of what was run.
+    fn title_of<'t>(&'t self, name: &'t str) -> Title<'t> {
+        Title {
+            name,
+            ending: Ending(self),
+            run: Run {
+                step: self.step(),
+                seed: self.seed,
+            },
+        }
+    }
+
+    /// A picture of chunks, under a title.
+    fn picture<'p>(&'p self, title: &'p str, extents: &'p [Extent]) -> Picture<'p> {
+        Picture {
+            title,
+            extents,
+            names: &self.names,
+            cause: self.cause_number(),
+            mark: self.mark(),
+        }
+    }
+
+    /// The number of the call that made the chunk that the cause names.
+    fn cause_number(&self) -> Option<u64> {
+        let cause = self.cause()?;
+        let chunk = cause.chunk()?;
+        Some(chunk.made.number)
+    }
+}
+
+impl<'a> Report<'a> {
+    /// The access or pointer that is framed.
+    fn mark(&self) -> Option<Mark> {
+        match self.finding {
+            Some(finding) => Some(Mark {
+                marked: Marked::Access,
+                addr: finding.wrong.addr,
+                tag: tag_of(finding.wrong.span.addr),
+            }),
+            None => mark_of(&self.parts.log.status),
+        }
+    }
+}
+
+/// The access or pointer that a status names.
+fn mark_of(status: &Status) -> Option<Mark> {
+    match status {
+        Status::Faulted(fault, _) => Some(Mark {
+            marked: Marked::Access,
+            addr: fault.addr,
+            tag: fault.ptr_tag,
+        }),
+        Status::Aborted(_, pointer, _) => Some(Mark {
+            marked: Marked::Pointer,
+            addr: plain(*pointer),
+            tag: tag_of(*pointer),
+        }),
+        _ => None,
+    }
+}
+
+/// The title of a picture.
+#[derive(Clone, Copy)]
+struct Title<'a> {
+    /// What was run.
+    name: &'a str,
+    /// What ended it.
+    ending: Ending<'a>,
+    /// How it can be run again.
+    run: Run,
+}
+
+/// The last step of a run, and its seed.
+#[derive(Clone, Copy)]
+struct Run {
+    step: u64,
+    seed: Option<u64>,
+}
+
+impl fmt::Display for Run {
+    fn fmt<W: fmt::Write>(&self, f: &mut fmt::Formatter<W>) -> fmt::Result {
+        let step = self.step;
+        write!(f, ", step {step}")?;
+        match self.seed {
+            Some(seed) => write!(f, ", seed {seed:016x}"),
+            None => Ok(()),
+        }
+    }
+}
+
+impl<'a> fmt::Display for Title<'a> {
+    fn fmt<W: fmt::Write>(&self, f: &mut fmt::Formatter<W>) -> fmt::Result {
+        let Title { name, ending, run } = self;
+        write!(f, "{name}: {ending}{run}")
+    }
+}
+
+/// What ended a tenant, in a few words.
+#[derive(Clone, Copy)]
+struct Ending<'a>(&'a Report<'a>);
+
+impl<'a> fmt::Display for Ending<'a> {
+    fn fmt<W: fmt::Write>(&self, f: &mut fmt::Formatter<W>) -> fmt::Result {
+        let report = self.0;
+        if let Some(cause) = &report.cause() {
+            return report.found(cause).fmt(f);
+        }
+        match &report.parts.log.status {
+            Status::Exited(code) => write!(f, "exit {code}"),
+            status => f.write_str(ending_words(status)),
+        }
+    }
+}
+
+/// What a status is called, where no cause tells more.
+fn ending_words(status: &Status) -> &'static str {
+    match status {
+        Status::Exited(_) => "exit",
+        Status::Faulted(_, _) => "fault",
+        Status::Aborted(_, _, _) => "abort",
+        Status::Illegal(_, _) => "a word that is no instruction",
+        Status::Breakpoint(_, _) => "breakpoint",
+        Status::AsyncTag(_) => "an access had another tag than its memory",
+        Status::Running => "still running",
+        Status::Stopped => "stopped",
+    }
+}

@@ -1,0 +1,11 @@
+//! The book of a tenant's heap calls, the chunks that they made and freed, and whose granule an
+//! address is in.
+#![tactic(auto)]
+
+mod book;
+mod owner;
+mod words;
+
+pub use book::{Book, Chunk, Entry, Wanted};
+pub use owner::Owner;
+pub use words::{Bytes, Call, Request};

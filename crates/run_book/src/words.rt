@@ -1,0 +1,60 @@
+//! Texts of heap calls, chunks and numbers of bytes.
+
+use crate::book::{Chunk, Entry};
+use mte_svc::{HeapCall, HeapService};
+use std::fmt;
+
+/// A heap call: its number, its arguments and result, and when it was made.
+#[derive(Clone, Copy)]
+pub struct Call<'a>(pub &'a Entry);
+
+impl<'a> fmt::Display for Call<'a> {
+    fn fmt<W: fmt::Write>(&self, f: &mut fmt::Formatter<W>) -> fmt::Result {
+        let Entry {
+            number,
+            step,
+            call,
+            ..
+        } = self.0;
+        let (request, answer) = (Request(call), call.answer);
+        write!(f, "call {number}, {request} = {answer:#x}, step {step}")
+    }
+}
+
+/// A heap call's service and its arguments.
+#[derive(Clone, Copy)]
+pub struct Request<'a>(pub &'a HeapCall);
+
+impl<'a> fmt::Display for Request<'a> {
+    fn fmt<W: fmt::Write>(&self, f: &mut fmt::Formatter<W>) -> fmt::Result {
+        let HeapCall { first, second, .. } = self.0;
+        let name = self.0.service.name();
+        match self.0.service {
+            HeapService::Malloc => write!(f, "{name}({first})"),
+            HeapService::Free | HeapService::UsableSize => write!(f, "{name}({first:#x})"),
+            HeapService::Realloc => write!(f, "{name}({first:#x}, {second})"),
+            HeapService::Calloc | HeapService::Memalign => write!(f, "{name}({first}, {second})"),
+        }
+    }
+}
+
+impl fmt::Display for Chunk {
+    fn fmt<W: fmt::Write>(&self, f: &mut fmt::Formatter<W>) -> fmt::Result {
+        write!(f, "{}-byte allocation at {:#018x}", self.size, self.pointer)
+    }
+}
+
+/// A number of bytes.
+#[derive(Clone, Copy)]
+pub struct Bytes(pub u64);
+
+impl fmt::Display for Bytes {
+    fn fmt<W: fmt::Write>(&self, f: &mut fmt::Formatter<W>) -> fmt::Result {
+        let Bytes(count) = self;
+        if *count == 1 {
+            f.write_str("1 byte")
+        } else {
+            write!(f, "{count} bytes")
+        }
+    }
+}

@@ -1,0 +1,110 @@
+//! Why the program has nothing to tell of a tenant, or cannot.
+
+use mte_session::{ReadFault, ScriptError, ScriptFault, WriteFault};
+use script_lines::Wrong;
+use std::alloc::{AllocError, AllocFailed};
+use std::{fmt, io};
+
+/// Why the program ends without a tenant's status.
+#[derive(Clone, Copy)]
+pub enum Failure<'a> {
+    /// An allocation failed.
+    Memory,
+    /// A file could not be read; its name as it was given.
+    Read(&'a str),
+    /// A stream could not be written.
+    Write,
+    /// A file could not be written; its name as it was given.
+    WriteFile(&'a str),
+    /// A script's first faulty line, counted from 1, what is wrong with it, and which word.
+    Script(u64, ScriptFault, Wrong),
+}
+
+impl<'a> Failure<'a> {
+    /// A file that cannot be read as a whole.
+    pub fn of_read(fault: ReadFault, name: &'a str) -> Failure<'a> {
+        match fault {
+            ReadFault::OutOfMemory => Failure::Memory,
+            ReadFault::Read | ReadFault::TooLong => Failure::Read(name),
+        }
+    }
+
+    /// A file that cannot be written as a whole.
+    pub fn of_write(error: &io::Error, name: &'a str) -> Failure<'a> {
+        if error.kind() == io::ErrorKind::OutOfMemory {
+            Failure::Memory
+        } else {
+            Failure::WriteFile(name)
+        }
+    }
+
+    /// A script that cannot be read as one, where so many files are named.
+    pub fn of_script(error: &ScriptError, script: &[u8], files: usize) -> Failure<'a> {
+        match *error {
+            ScriptError::Script(line, fault) => {
+                let wrong = Wrong::of(script, line, fault, files);
+                Failure::Script(line, fault, wrong)
+            }
+            ScriptError::OutOfMemory => Failure::Memory,
+        }
+    }
+
+    /// The exit status.
+    fn status(&self) -> u8 {
+        match self {
+            Failure::Memory => 4,
+            Failure::Read(_) => 5,
+            Failure::Write | Failure::WriteFile(_) => 6,
+            Failure::Script(_, _, _) => 3,
+        }
+    }
+}
+
+impl<'a> fmt::Display for Failure<'a> {
+    fn fmt<W: fmt::Write>(&self, f: &mut fmt::Formatter<W>) -> fmt::Result {
+        match self {
+            Failure::Memory => f.write_str("out of memory"),
+            Failure::Read(name) => write!(f, "cannot read {name}"),
+            Failure::Write => f.write_str("cannot write"),
+            Failure::WriteFile(name) => write!(f, "cannot write {name}"),
+            Failure::Script(line, fault, wrong) => {
+                write!(f, "script line {line}: {fault}: {wrong}")
+            }
+        }
+    }
+}
+
+impl<'a> From<AllocError> for Failure<'a> {
+    fn from(_error: AllocError) -> Failure<'a> {
+        Failure::Memory
+    }
+}
+
+impl<'a, T: Drop> From<AllocFailed<T>> for Failure<'a> {
+    fn from(_error: AllocFailed<T>) -> Failure<'a> {
+        Failure::Memory
+    }
+}
+
+impl<'a> From<WriteFault> for Failure<'a> {
+    fn from(_error: WriteFault) -> Failure<'a> {
+        Failure::Write
+    }
+}
+
+impl<'a> From<io::Error> for Failure<'a> {
+    fn from(error: io::Error) -> Failure<'a> {
+        if error.kind() == io::ErrorKind::OutOfMemory {
+            Failure::Memory
+        } else {
+            Failure::Write
+        }
+    }
+}
+
+/// Writes the line for standard error, and returns the exit status, whether or not the line could
+/// be written.
+pub fn report(rt: &HostRuntime, failure: &Failure<'_>) -> u8 {
+    let _ = eprintln!(rt; "mte_run: {failure}");
+    failure.status()
+}

@@ -1,0 +1,12 @@
+//! The command line of `mte_run`, and what it writes where it has no tenant to tell of.
+#![tactic(auto)]
+
+mod command_line;
+mod failure;
+mod options;
+mod refusal;
+
+pub use command_line::{Invocation, read_command_line};
+pub use failure::{Failure, report};
+pub use options::{Exactness, Fault, Length, Options, Replay, Terms, Told, Traced};
+pub use refusal::remedy_of;

@@ -1,0 +1,326 @@
+//! What the program is run on, by a command line that `clap` accepted.
+
+ghost use Rattle.std.specs.Prelude.{◌<◌, ◌≤◌};
+
+use clap::ArgMatches;
+use mte_tags::TagMode;
+use std::alloc::{AllocError, AllocFailed, Global};
+
+/// A tenant of a session.
+#[derive(Drop)]
+pub struct Replay {
+    /// The script's file name.
+    pub script: String,
+    /// The tenant's number.
+    pub id: u16,
+    /// The frames of the host.
+    pub frames: u32,
+}
+
+/// What a tenant that is alone is admitted with, besides its image.
+#[derive(Drop)]
+pub struct Terms {
+    /// The input's file name.
+    pub input: Option<String>,
+    /// The reservation.
+    pub pages: u32,
+    /// The room for output.
+    pub room: u32,
+    /// The seed of tags and of the heap's cookie.
+    pub seed: u64,
+    /// Under how many seeds it is run, the first of them that one.
+    pub seeds: u32,
+    /// What a tag that differs does.
+    pub mode: TagMode,
+    ghost some: { 0 < pages },
+    ghost most: { pages ≤ 4096 },
+}
+
+/// How long a tenant that is alone runs.
+#[derive(Drop)]
+pub struct Length {
+    /// After how many steps the tenant is given up.
+    pub steps: u64,
+    /// The steps of its slices, where they are named.
+    pub slices: Option<Vec<u32>>,
+}
+
+/// Which lines are written.
+#[derive(Clone, Copy)]
+pub struct Traced {
+    /// The first step whose instruction has a line.
+    pub from: u64,
+    /// The last one.
+    pub to: u64,
+    /// Whether each service has a line.
+    pub services: bool,
+}
+
+/// What is told of a run.
+#[derive(Drop)]
+pub struct Told {
+    /// How many of the last instructions are told.
+    pub last: usize,
+    /// How many of the last calls and returns are told.
+    pub turns: usize,
+    /// The lines that are written while it runs.
+    pub traced: Option<Traced>,
+    /// The name of the file that they are written into, in place of standard error.
+    pub trace_file: Option<String>,
+    /// Whether the live chunks are told.
+    pub leaks: bool,
+    /// The name of the file that the heap is drawn into.
+    pub map: Option<String>,
+    /// The name of the file that what happened is written into, for a program to read.
+    pub json: Option<String>,
+    /// Whether accesses are to keep to the bytes of chunks.
+    pub exact: Exactness,
+    /// The name of the file that the tenant's core is written into.
+    pub core: Option<String>,
+}
+
+/// Which accesses are to keep to the bytes of chunks.
+#[derive(Clone, Copy, PartialEq, Eq)]
+pub enum Exactness {
+    /// None: the tags alone decide.
+    Tags,
+    /// Those that write.
+    Writes,
+    /// All.
+    All,
+}
+
+/// What the program is run on.
+#[derive(Drop)]
+pub struct Options {
+    /// The names of the files: the image, or the files of a script.
+    pub files: Vec<String>,
+    /// The tenant of a session that is replayed, if one is.
+    pub replay: Option<Replay>,
+    /// What a tenant that is alone is admitted with.
+    pub terms: Terms,
+    /// How long it runs.
+    pub length: Length,
+    /// What is told of it.
+    pub told: Told,
+    /// Whether GDB debugs it.
+    pub is_debugged: bool,
+}
+
+/// Why values that `clap` accepted are refused.
+#[derive(Clone, Copy)]
+pub enum Fault {
+    /// An allocation failed.
+    Memory,
+    /// The seed is no number of up to 16 digits.
+    Seed,
+    /// The trace is not from one step to another.
+    Trace,
+    /// What `--script` needs is not there.
+    Script,
+    /// There is no image, or more than one.
+    Files,
+}
+
+impl Fault {
+    /// What is wrong.
+    pub fn text(self) -> &'static str {
+        match self {
+            Fault::Memory => "out of memory",
+            Fault::Seed => "the seed is not a number of 1 to 16 hexadecimal digits",
+            Fault::Trace => "the trace is not FROM-TO, two step numbers",
+            Fault::Script => {
+                "--script has two values, a file and a tenant's number, and wants --frames"
+            }
+            Fault::Files => "without --script there is one file, the image",
+        }
+    }
+}
+
+impl From<AllocError> for Fault {
+    fn from(_error: AllocError) -> Fault {
+        Fault::Memory
+    }
+}
+
+impl<T: Drop> From<AllocFailed<T>> for Fault {
+    fn from(_error: AllocFailed<T>) -> Fault {
+        Fault::Memory
+    }
+}
+
+impl Options {
+    /// The values of a command line that `clap` accepted.
+    pub fn of(alloc: Global, matches: &ArgMatches<'_>) -> Result<Options, Fault> {
+        let terms = Terms::of(alloc, matches)?;
+        let told = Told::of(alloc, matches)?;
+        let replay = Replay::of(alloc, matches)?;
+        let files = files_of(alloc, matches)?;
+        if replay.is_none() && files.len() != 1 {
+            return Err(Fault::Files);
+        }
+        Ok(Options {
+            files,
+            replay,
+            terms,
+            length: Length::of(alloc, matches)?,
+            told,
+            is_debugged: matches.get_flag("gdb"),
+        })
+    }
+
+    /// The name of the file with a number from 1.
+    pub fn file_name(&self, number: u32) -> &str {
+        let index = (number as usize).saturating_sub(1);
+        self.files.get(index).map_or("", |name| name.as_str())
+    }
+
+    /// The steps after which the tenant is given up.
+    pub fn limit(&self) -> u64 {
+        match self.replay {
+            Some(_) => u64::MAX,
+            None => self.length.steps,
+        }
+    }
+}
+
+/// The names of the files.
+fn files_of(alloc: Global, matches: &ArgMatches<'_>) -> Result<Vec<String>, Fault> {
+    let mut files = Vec::new(alloc);
+    if let Some(names) = matches.get_strs("files") {
+        for name in names {
+            files.push(String::from_str(alloc, name)?)?;
+        }
+    }
+    Ok(files)
+}
+
+/// The value of an option that is a name, if it is given.
+fn name_of(
+    alloc: Global,
+    matches: &ArgMatches<'_>,
+    option: &str,
+) -> Result<Option<String>, AllocError> {
+    match matches.get_str(option) {
+        Some(name) => Ok(Some(String::from_str(alloc, name)?)),
+        None => Ok(None),
+    }
+}
+
+impl Replay {
+    /// The tenant of a session that is to be replayed, if one is.
+    fn of(alloc: Global, matches: &ArgMatches<'_>) -> Result<Option<Replay>, Fault> {
+        let Some(words) = matches.get_strs("script") else {
+            return Ok(None);
+        };
+        let (Some(script), Some(id)) = (words.first(), words.get(1)) else {
+            return Err(Fault::Script);
+        };
+        let (Ok(id), Some(frames)) = (id.parse::<u16>(), matches.get_one::<u32>("frames")) else {
+            return Err(Fault::Script);
+        };
+        let script = String::from_str(alloc, script)?;
+        Ok(Some(Replay { script, id, frames }))
+    }
+}
+
+impl Terms {
+    /// What a tenant that is alone is admitted with.
+    fn of(alloc: Global, matches: &ArgMatches<'_>) -> Result<Terms, Fault> {
+        let Some(seed) = seed_of(matches.get_str("seed").unwrap_or("")) else {
+            return Err(Fault::Seed);
+        };
+        let pages = matches.get_one::<u32>("pages").unwrap_or(4096);
+        Ok(Terms {
+            input: name_of(alloc, matches, "input")?,
+            pages: pages.max(1).min(4096),
+            room: matches.get_one::<u32>("out").unwrap_or(65536),
+            seed,
+            seeds: matches.get_one::<u32>("seeds").unwrap_or(1),
+            mode: mode_of(matches),
+        })
+    }
+}
+
+/// The tag mode.
+fn mode_of(matches: &ArgMatches<'_>) -> TagMode {
+    if matches.get_flag("async") {
+        TagMode::Async
+    } else {
+        TagMode::Sync
+    }
+}
+
+/// The number of 1 to 16 hexadecimal digits, which may stand behind `0x`.
+fn seed_of(text: &str) -> Option<u64> {
+    let digits = text.strip_prefix("0x").unwrap_or(text);
+    if digits.is_empty() || digits.len() > 16 || digits.starts_with('+') {
+        return None;
+    }
+    u64::from_str_radix(digits, 16).ok()
+}
+
+impl Length {
+    /// How long a tenant that is alone runs.
+    fn of(alloc: Global, matches: &ArgMatches<'_>) -> Result<Length, AllocError> {
+        let slices = match matches.get_many::<u32>("slices") {
+            Some(values) => Some(values.filter_map(|value| value.ok()).collect(alloc)?),
+            None => None,
+        };
+        Ok(Length {
+            steps: matches.get_one::<u64>("steps").unwrap_or(0),
+            slices,
+        })
+    }
+}
+
+impl Told {
+    /// What is told of a run.
+    fn of(alloc: Global, matches: &ArgMatches<'_>) -> Result<Told, Fault> {
+        Ok(Told {
+            last: matches.get_one::<u32>("last").unwrap_or(16) as usize,
+            turns: matches.get_one::<u32>("calls").unwrap_or(0) as usize,
+            traced: traced_by(matches.get_str("trace"), matches.get_flag("services"))?,
+            trace_file: name_of(alloc, matches, "trace-file")?,
+            leaks: matches.get_flag("leaks"),
+            map: name_of(alloc, matches, "map")?,
+            json: name_of(alloc, matches, "json")?,
+            core: name_of(alloc, matches, "core")?,
+            exact: match matches.get_str("exact") {
+                None => Exactness::Tags,
+                Some("writes") => Exactness::Writes,
+                Some(_) => Exactness::All,
+            },
+        })
+    }
+}
+
+/// The lines that are written while it runs, by the values of two options.
+fn traced_by(steps: Option<&str>, services: bool) -> Result<Option<Traced>, Fault> {
+    match steps {
+        Some(text) => {
+            let (from, to) = steps_of(text).ok_or(Fault::Trace)?;
+            Ok(Some(Traced { from, to, services }))
+        }
+        None if services => Ok(Some(Traced {
+            from: 1,
+            to: 0,
+            services,
+        })),
+        None => Ok(None),
+    }
+}
+
+/// The steps from one to another; the first and the last where a number is left out.
+fn steps_of(text: &str) -> Option<(u64, u64)> {
+    let (from, to) = text.split_once('-')?;
+    Some((step_of(from, 1)?, step_of(to, u64::MAX)?))
+}
+
+/// A step's number, or the one that stands for none.
+fn step_of(text: &str, none: u64) -> Option<u64> {
+    if text.is_empty() {
+        return Some(none);
+    }
+    text.parse().ok()
+}

@@ -1,0 +1,8 @@
+//! Which word of a script's faulty line is wrong, and what should stand there.
+#![tactic(auto)]
+
+mod form;
+mod word;
+mod wrong;
+
+pub use wrong::Wrong;

@@ -1,0 +1,265 @@
+//! The heap of a tenant and its tags, as a picture.
+
+use crate::extent::{Extent, ROW_SIZE};
+use crate::notes::Notes;
+use crate::pages::{Pages, page_map};
+use crate::selection::{Place, Window, place_of, places, row_at};
+use address_map::{GRANULE_SIZE, PAGE_SIZE};
+use heap_bounds::Range;
+use heap_picture::{Arrow, END, Gap, Heading, Kind, Line, Mark, Spot};
+use mte_backtrace::Names;
+use mte_flat::Flat;
+use std::alloc::{AllocError, Global};
+use std::io::Write;
+use std::{fmt, io};
+
+/// A picture of a tenant's heap and its tags.
+#[derive(Clone, Copy)]
+pub struct Picture<'a> {
+    /// What stands above it, a line.
+    pub title: &'a str,
+    /// The granules of the chunks.
+    pub extents: &'a [Extent],
+    /// What the addresses of the image are called.
+    pub names: &'a Names<'a>,
+    /// The number of the call that made the chunk that the cause names.
+    pub cause: Option<u64>,
+    /// What is framed.
+    pub mark: Option<Mark>,
+}
+
+impl<'a> Picture<'a> {
+    /// Writes it in SVG: the rows of the heap's pages, and that of the mark. Rows in which nothing
+    /// changes are left out after the first, and those farthest from the mark where there are more
+    /// than [`heap_picture::ROWS`].
+    pub fn draw<W: Write>(&self, alloc: Global, out: &mut W, memory: &mut Flat) -> io::Result<()> {
+        let map = page_map(alloc, memory)?;
+        self.draw_on(alloc, out, memory, map.as_slice())
+    }
+
+    /// Draws the chunks on the pages of a map.
+    fn draw_on<W: Write>(
+        &self,
+        alloc: Global,
+        out: &mut W,
+        memory: &mut Flat,
+        map: &[Pages],
+    ) -> io::Result<()> {
+        let addr = self.mark.map(|mark| mark.addr);
+        let places = places(alloc, memory, map, self.extents, addr)?;
+        let rows = Rows {
+            picture: self,
+            places: places.as_slice(),
+            window: Window::around(places.as_slice(), addr),
+        };
+        rows.write_heading(alloc, out, map)?;
+        rows.write(alloc, out, memory)
+    }
+
+    /// The granules of the chunk that the cause names.
+    fn cause_extent(&self) -> Option<&'a Extent> {
+        let number = self.cause?;
+        self.extents
+            .iter()
+            .find(|extent| extent.chunk.made.number == number)
+    }
+
+    /// What is said of its chunks.
+    fn notes(&self) -> Notes<'a, 'a> {
+        Notes {
+            extents: self.extents,
+            names: self.names,
+            cause: self.cause,
+        }
+    }
+}
+
+/// The rows of a picture.
+#[derive(Clone, Copy)]
+struct Rows<'a> {
+    /// Of what.
+    picture: &'a Picture<'a>,
+    /// The rows that may be shown.
+    places: &'a [Place],
+    /// Those that are.
+    window: Window,
+}
+
+impl<'a> Rows<'a> {
+    /// How many of them are shown, where not all are.
+    fn left_out(&self) -> LeftOut {
+        LeftOut {
+            shown: self.window.shown(self.places),
+            rows: self.places.len(),
+        }
+    }
+
+    /// Writes what stands above them.
+    fn write_heading<W: Write>(&self, alloc: Global, out: &mut W, map: &[Pages]) -> io::Result<()> {
+        let title = Title {
+            text: self.picture.title,
+            left_out: self.left_out(),
+        };
+        let title = format!(in alloc; "{title}")?;
+        write_titled(alloc, out, title.as_str(), map, self.window.count)
+    }
+
+    /// Writes those that are shown, and the end of the picture.
+    fn write<W: Write>(&self, alloc: Global, out: &mut W, memory: &mut Flat) -> io::Result<()> {
+        let notes = self.picture.notes();
+        let mut before = None;
+        for place in self.places {
+            if let Some(number) = self.window.number(place) {
+                self.write_gap(out, before, place, number)?;
+                before = Some(place);
+                self.write_row(out, memory, place.address, number)?;
+                notes.write(alloc, out, place.address, number)?;
+            }
+        }
+        if let Some(arrow) = self.arrow() {
+            write!(out, "{arrow}")?;
+        }
+        write!(out, "{END}")?;
+        out.flush()
+    }
+
+    /// Writes what is left out between a row and the one before, which is shown, if anything is.
+    fn write_gap<W: Write>(
+        &self,
+        out: &mut W,
+        before: Option<&Place>,
+        place: &Place,
+        number: usize,
+    ) -> io::Result<()> {
+        let Some(before) = before else {
+            return Ok(());
+        };
+        let start = before.address.saturating_add(ROW_SIZE);
+        if start == place.address {
+            return Ok(());
+        }
+        let gap = Gap {
+            number: number.saturating_sub(1),
+            start,
+            end: place.address,
+        };
+        write!(out, "{gap}")
+    }
+
+    /// An arrow from the chunk that the cause names to what is framed, where that lies outside.
+    fn arrow(&self) -> Option<Arrow> {
+        let (addr, chunk) = (self.picture.mark?.addr, self.picture.cause_extent()?);
+        let edge = if addr < chunk.start {
+            chunk.start
+        } else if addr >= chunk.end {
+            chunk.end.saturating_sub(GRANULE_SIZE)
+        } else {
+            return None;
+        };
+        Some(Arrow {
+            from: self.spot(edge)?,
+            to: self.spot(addr)?,
+        })
+    }
+
+    /// Where the granule of an address is, if it is shown.
+    fn spot(&self, addr: u64) -> Option<Spot> {
+        let place = place_of(self.places, addr)?;
+        Some(Spot {
+            row: self.window.number(place)?,
+            granule: (addr.saturating_sub(place.address) / GRANULE_SIZE) as usize,
+        })
+    }
+
+    /// Writes the row at an address, under a number.
+    fn write_row<W: Write>(
+        &self,
+        out: &mut W,
+        memory: &mut Flat,
+        address: u64,
+        number: usize,
+    ) -> io::Result<()> {
+        let line = Line {
+            row: row_at(memory, self.picture.extents, address),
+            number,
+            mark: self.picture.mark,
+        };
+        write!(out, "{line}")
+    }
+}
+
+/// Writes what stands above a number of rows, under a title.
+fn write_titled<W: Write>(
+    alloc: Global,
+    out: &mut W,
+    title: &str,
+    map: &[Pages],
+    rows: usize,
+) -> io::Result<()> {
+    let pages = listed(alloc, map)?;
+    let heading = Heading {
+        title,
+        pages: pages.as_slice(),
+        rows,
+    };
+    write!(out, "{heading}")
+}
+
+/// The pages as a picture lists them.
+fn listed(alloc: Global, map: &[Pages]) -> Result<Vec<heap_picture::Pages>, AllocError> {
+    let mut list = Vec::new(alloc);
+    for pages in map {
+        if let Some(kind) = kind_of(pages.range) {
+            list.push(heap_picture::Pages {
+                start: pages.start,
+                count: pages.end.saturating_sub(pages.start) / PAGE_SIZE,
+                kind,
+            })?;
+        }
+    }
+    Ok(list)
+}
+
+/// What the pages of a range are for.
+fn kind_of(range: Range) -> Option<Kind> {
+    match range {
+        Range::Image => Some(Kind::Image),
+        Range::Class(class) => Some(Kind::Class(class)),
+        Range::Large => Some(Kind::Large),
+        Range::Stack => Some(Kind::Stack),
+        Range::Nothing => None,
+    }
+}
+
+/// The title of a picture, and how many rows are shown, where not all are.
+#[derive(Clone, Copy)]
+struct Title<'a> {
+    text: &'a str,
+    left_out: LeftOut,
+}
+
+impl<'a> fmt::Display for Title<'a> {
+    fn fmt<W: fmt::Write>(&self, f: &mut fmt::Formatter<W>) -> fmt::Result {
+        let Title { text, left_out } = self;
+        write!(f, "{text}{left_out}")
+    }
+}
+
+/// How many rows are shown, where not all are.
+#[derive(Clone, Copy)]
+struct LeftOut {
+    /// How many rows are shown.
+    shown: usize,
+    /// How many rows there are.
+    rows: usize,
+}
+
+impl fmt::Display for LeftOut {
+    fn fmt<W: fmt::Write>(&self, f: &mut fmt::Formatter<W>) -> fmt::Result {
+        let LeftOut { shown, rows } = self;
+        if shown >= rows {
+            return Ok(());
+        }
+        write!(f, " ({shown} of {rows} rows)")
+    }
+}

@@ -1,0 +1,161 @@
+//! The heap of a tenant and its tags, as text.
+
+use crate::extent::Extent;
+use crate::pages::{Pages, page_map};
+use crate::picture::Picture;
+use crate::selection::{Place, Window, places, row_at};
+use heap_picture::{Granule, Mark, Owner, Row};
+use mte_flat::Flat;
+use run_book::Bytes;
+use std::alloc::Global;
+use std::io::Write;
+use std::{fmt, io};
+
+/// What stands above the rows.
+const HEAD: &str = "each sign is a granule of 16 bytes: its tag, or . where no page is mapped; \
+    below it = in a live chunk, x in a freed one, ^ what was refused";
+
+impl<'a> Picture<'a> {
+    /// Writes the rows of the picture as text: a line of tags, and a line of whose they are where a
+    /// chunk or the mark is there.
+    pub fn write_text<W: Write>(
+        &self,
+        alloc: Global,
+        out: &mut W,
+        memory: &mut Flat,
+    ) -> io::Result<()> {
+        let map = page_map(alloc, memory)?;
+        self.write_text_on(alloc, out, memory, map.as_slice())
+    }
+
+    /// Writes the rows on the pages of a map.
+    fn write_text_on<W: Write>(
+        &self,
+        alloc: Global,
+        out: &mut W,
+        memory: &mut Flat,
+        map: &[Pages],
+    ) -> io::Result<()> {
+        let addr = self.mark.map(|mark| mark.addr);
+        let places = places(alloc, memory, map, self.extents, addr)?;
+        let window = Window::around(places.as_slice(), addr);
+        writeln!(out, "{}\n{HEAD}", self.title)?;
+        for place in &places {
+            if window.number(place).is_some() {
+                self.write_row(out, memory, place)?;
+            }
+        }
+        out.flush()
+    }
+
+    /// Writes a row, and whose its granules are.
+    fn write_row<W: Write>(&self, out: &mut W, memory: &mut Flat, place: &Place) -> io::Result<()> {
+        let row = row_at(memory, self.extents, place.address);
+        let tags = Tags(&row);
+        writeln!(out, "{tags}")?;
+        let owners = Owners {
+            row: &row,
+            mark: self.mark,
+        };
+        if !owners.is_empty() {
+            write!(out, "{owners}")?;
+            self.write_chunks(out, place.address)?;
+            writeln!(out)?;
+        }
+        Ok(())
+    }
+
+    /// Writes the chunks that begin in the row at an address.
+    fn write_chunks<W: Write>(&self, out: &mut W, address: u64) -> io::Result<()> {
+        for extent in self.extents {
+            if extent.begins_in_row(address) && extent.is_newest {
+                let label = Label(extent);
+                write!(out, "  {label}")?;
+            }
+        }
+        Ok(())
+    }
+}
+
+/// The call that made a chunk, and its size.
+#[derive(Clone, Copy)]
+struct Label<'a>(&'a Extent);
+
+impl<'a> fmt::Display for Label<'a> {
+    fn fmt<W: fmt::Write>(&self, f: &mut fmt::Formatter<W>) -> fmt::Result {
+        let chunk = &self.0.chunk;
+        let (number, size) = (chunk.made.number, Bytes(chunk.size));
+        write!(f, "#{number} {size}")?;
+        f.write_str(if self.0.live { "" } else { " freed" })
+    }
+}
+
+/// The tags of a row, behind its address and its class.
+#[derive(Clone, Copy)]
+struct Tags<'a>(&'a Row);
+
+impl<'a> fmt::Display for Tags<'a> {
+    fn fmt<W: fmt::Write>(&self, f: &mut fmt::Formatter<W>) -> fmt::Result {
+        let Row { address, size, .. } = self.0;
+        match self.0.class {
+            Some(class) => write!(f, "{address:#010x}  class {class:>2} {size:>5} B  ")?,
+            None => write!(f, "{address:#010x}{:20}", "")?,
+        }
+        for granule in &self.0.granules {
+            match granule.tag {
+                Some(tag) => write!(f, "{tag:x}")?,
+                None => f.write_str(".")?,
+            }
+        }
+        Ok(())
+    }
+}
+
+/// Whose the granules of a row are, and what was refused there.
+#[derive(Clone, Copy)]
+struct Owners<'a> {
+    row: &'a Row,
+    mark: Option<Mark>,
+}
+
+impl<'a> Owners<'a> {
+    /// The number of the granule that was refused, if it is in the row.
+    fn refused(&self) -> Option<usize> {
+        self.row.index_of(self.mark?.addr)
+    }
+
+    /// Whether there is nothing to say of the row.
+    fn is_empty(&self) -> bool {
+        self.refused().is_none()
+            && self
+                .row
+                .granules
+                .iter()
+                .all(|granule| sign_of(granule) == ' ')
+    }
+}
+
+impl<'a> fmt::Display for Owners<'a> {
+    fn fmt<W: fmt::Write>(&self, f: &mut fmt::Formatter<W>) -> fmt::Result {
+        let refused = self.refused();
+        write!(f, "{:30}", "")?;
+        for (index, granule) in self.row.granules.iter().enumerate() {
+            let sign = if refused == Some(index) {
+                '^'
+            } else {
+                sign_of(granule)
+            };
+            f.write_char(sign)?;
+        }
+        Ok(())
+    }
+}
+
+/// Whose a granule is.
+fn sign_of(granule: &Granule) -> char {
+    match granule.owner {
+        Owner::Nothing => ' ',
+        Owner::Live => '=',
+        Owner::Freed => 'x',
+    }
+}

@@ -1,0 +1,221 @@
+#!/usr/bin/env python3
+"""Runs random programs that keep to the bytes of their chunks by `mte_run --exact`, which must say nothing of them, and
+each of them once more with one access beyond a chunk's bytes that no tag finds, which it must find.
+
+    careful.py PROGRAM [COUNT [SEED [JOBS]]]
+
+PROGRAM is a built mte_run. COUNT programs (1000) are drawn by SEED (1) and run JOBS (1) at a time. A program that is told
+something else than it should be is kept in the folder `careless`, and the status is 1.
+"""
+import concurrent.futures
+import importlib.util
+import os
+import pathlib
+import random
+import subprocess
+import sys
+import tempfile
+
+HERE = pathlib.Path(__file__).resolve().parent
+SPEC = importlib.util.spec_from_file_location("build_image", HERE / "build_image.py")
+BUILD = importlib.util.module_from_spec(SPEC)
+SPEC.loader.exec_module(BUILD)
+
+SVC = 0xD4000001
+WRITE, READ, MALLOC, FREE, CALLOC, REALLOC, MEMALIGN, USABLE_SIZE, EXIT = 1, 2, 3, 4, 5, 6, 7, 8, 0
+SLOTS = range(19, 28)  # the registers with the pointers of chunks
+EXACT = 137
+
+
+def number(register, value):
+    """MOVZ and MOVKs of a number of up to 32 bits."""
+    words = [0xD2800000 | (value & 0xFFFF) << 5 | register]
+    if value >> 16:
+        words.append(0xF2A00000 | value >> 16 << 5 | register)
+    return words
+
+
+def copy(to, register):
+    return [0xAA0003E0 | register << 16 | to]
+
+
+def add(to, register, value):
+    """The register and a number of up to 24 bits, which may be negative."""
+    base, value = (0x91000000, value) if value >= 0 else (0xD1000000, -value)
+    words = [base | (value & 0xFFF) << 10 | register << 5 | to]
+    if value >> 12:
+        words.append(base | 1 << 22 | value >> 12 << 10 | to << 5 | to)
+    return words
+
+
+def service(which, first=None, second=None):
+    """A service by its number; an argument is a number, or a register in a list."""
+    words = []
+    for register, argument in ((0, first), (1, second)):
+        if isinstance(argument, list):
+            words += copy(register, argument[0])
+        elif argument is not None:
+            words += number(register, argument)
+    return words + number(8, which) + [SVC]
+
+
+def access(draw, pointer, offset, size):
+    """Loads or stores 2 to the power of `size` bytes at an offset from a pointer, in one of the forms."""
+    load, value = draw.randrange(2), draw.randrange(10, 16)
+    form = draw.randrange(6)
+    head = size << 30 | 0x38000000 | load << 22 | 9 << 5 | value
+    width = 1 << size
+    if load and size < 3 and draw.random() < 0.3:
+        head ^= 3 << 22  # it extends the sign
+    if form == 0 and offset % width == 0 and offset // width < 4096:
+        return [head & ~(31 << 5) | 1 << 24 | offset // width << 10 | pointer << 5]
+    if form == 1 and size >= 2 and offset + 2 * width <= 1 << 16:  # a pair, of which this is the second
+        pair = (0xA9000000 if size == 3 else 0x29000000) | load << 22 | 16 << 10 | 9 << 5 | value
+        return None if offset < width else add(9, pointer, offset - width) + [pair]
+    if form == 2:
+        back = draw.randrange(-256, 256)
+        return add(9, pointer, offset - back) + [head | (back & 0x1FF) << 12]
+    if form == 3:
+        return add(9, pointer, offset) + [head | draw.randrange(512) << 12 | 1 << 10]
+    if form == 4:
+        back = draw.randrange(-256, 256)
+        return add(9, pointer, offset - back) + [head | (back & 0x1FF) << 12 | 3 << 10]
+    return copy(9, pointer) + number(16, offset) + [head | 1 << 21 | 16 << 16 | 3 << 13 | 2 << 10]
+
+
+def drawn_size(draw):
+    kind = draw.random()
+    if kind < 0.05:
+        return 0
+    if kind < 0.8:
+        return draw.randrange(1, 200)
+    return draw.randrange(1, 5000) if kind < 0.97 else draw.randrange(60_000, 300_000)
+
+
+class Program:
+    """The words of a program, and the chunks that it has."""
+
+    def __init__(self, draw):
+        self.draw, self.words, self.chunks = draw, [], {}
+
+    def allocate(self, slot):
+        size = drawn_size(self.draw)
+        kind = self.draw.randrange(4)
+        if kind == 0:
+            part = self.draw.choice([1, 1, 2, 3, 7])
+            self.words += service(CALLOC, part, size // part)
+            size = size // part * part
+        elif kind == 1:
+            self.words += service(MEMALIGN, 1 << self.draw.randrange(4, 9), size)
+        else:
+            self.words += service(MALLOC, size)
+        self.words += copy(slot, 0)
+        self.chunks[slot] = size
+
+    def free(self, slot):
+        self.words += service(FREE, [slot])
+        del self.chunks[slot]
+
+    def resize(self, slot):
+        size = max(1, drawn_size(self.draw))
+        self.words += service(REALLOC, [slot], size) + copy(slot, 0)
+        self.chunks[slot] = size
+
+    def touch(self, slot):
+        size = self.chunks[slot]
+        widths = [n for n in range(4) if 1 << n <= size]
+        if not widths:
+            return
+        width = self.draw.choice(widths)
+        offset = self.draw.choice([0, size - (1 << width), self.draw.randrange(size - (1 << width) + 1)])
+        self.words += access(self.draw, slot, offset, width) or []
+
+    def serve(self, slot):
+        size = min(self.chunks[slot], 100)
+        start = self.draw.randrange(self.chunks[slot] - size + 1)
+        self.words += add(17, slot, start) + service(self.draw.choice([WRITE, READ]), [17], size)
+
+    def act(self):
+        slot = self.draw.choice(SLOTS)
+        if slot not in self.chunks:
+            return self.allocate(slot)
+        kind = self.draw.random()
+        if kind < 0.1:
+            return self.free(slot)
+        if kind < 0.2:
+            return self.resize(slot)
+        if kind < 0.25:
+            self.words += service(USABLE_SIZE, [slot])
+            return None
+        return self.serve(slot) if kind < 0.35 else self.touch(slot)
+
+    def err(self):
+        """One access beyond the bytes of a live chunk that no tag finds: past its size in its last granule, or to
+        its header by a pointer of tag 0."""
+        size = self.draw.choice([n for n in range(1, 300) if n % 16])
+        self.words += service(MALLOC, size) + copy(28, 0)
+        kind = self.draw.randrange(4)
+        if kind == 0:  # one byte
+            at = self.draw.randrange(size, (size + 15) // 16 * 16)
+            self.words += access(self.draw, 28, at, 0)or []
+        elif kind == 1:  # bytes on both sides of its end
+            width = self.draw.choice([n for n in (1, 2, 3) if size % 16 + (1 << n) - 1 <= 16 and 1 << n <= size] or [0])
+            start = size - (1 << width) + 1
+            self.words += add(9, 28, start) + [width << 30 | 0x39000000 | 9 << 5 | 10]
+        elif kind == 2:  # a service
+            self.words += service(self.draw.choice([WRITE, READ]), [28], size + 1)
+        else:  # its header
+            self.words += [0x9240DC00 | 28 << 5 | 9] + add(9, 9, -self.draw.randrange(1, 17)) + [0x39400000 | 9 << 5 | 10]
+
+    def exit(self):
+        self.words += service(EXIT, 0)
+
+
+def program(seed, is_wrong):
+    """The image of the program with a seed, and how it should end."""
+    draw = random.Random(seed)
+    made = Program(draw)
+    wrong_at = draw.randrange(60) if is_wrong else -1
+    for count in range(60):
+        if count == wrong_at:
+            made.err()
+        made.act()
+    made.exit()
+    return BUILD.image(made.words)
+
+
+def run(path, folder, seed):
+    """What is wrong with what is told of both programs with a seed."""
+    bad = []
+    for wrong, wanted in ((False, 0), (True, EXACT)):
+        image = os.path.join(folder, f"{seed}.{wanted}")
+        with open(image, "wb") as file:
+            file.write(program(seed, wrong))
+        ran = subprocess.run([path, "--exact", "--input", sys.executable, image], stdin=subprocess.DEVNULL,
+                             stdout=subprocess.DEVNULL, stderr=subprocess.PIPE, timeout=60)
+        if ran.returncode != wanted or (wanted == 0 and ran.stderr):
+            os.makedirs("careless", exist_ok=True)
+            os.rename(image, os.path.join("careless", f"{seed}.{wanted}"))
+            bad.append(f"careless/{seed}.{wanted}: {ran.returncode} in place of {wanted}: {ran.stderr[:200]}")
+        else:
+            os.remove(image)
+    return bad
+
+
+def main():
+    if len(sys.argv) < 2 or sys.argv[1].startswith("-"):
+        sys.exit(__doc__)
+    count, first, jobs = [int(word) for word in sys.argv[2:]] + [1000, 1, 1][len(sys.argv) - 2:]
+    path = os.path.abspath(sys.argv[1])
+    failed = 0
+    with tempfile.TemporaryDirectory() as folder, concurrent.futures.ThreadPoolExecutor(jobs) as pool:
+        for bad in pool.map(lambda seed: run(path, folder, seed), range(first, first + count)):
+            failed += bool(bad)
+            for line in bad:
+                print(line, file=sys.stderr)
+    print(f"{count} careful programs and {count} with one wrong access: {failed} not told as they should be")
+    sys.exit(failed != 0)
+
+
+if __name__ == "__main__":
+    main()
