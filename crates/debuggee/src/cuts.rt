@@ -5,9 +5,9 @@ ghost use Rattle.std.specs.Prelude.{◌≡◌, ◌-◌, min, slice_get, unwrap_o
 /// The steps of a run's slices.
 #[derive(Clone, Copy)]
 pub struct Cuts<'a> {
-    /// Those of the first slices.
+    /// The steps of the first slices.
     pub listed: &'a [u32],
-    /// Those of each slice after these; 0 where there are no more.
+    /// The steps of each slice after these; 0 where there are no more.
     pub others: u32,
     /// After so many steps in all there are no more.
     pub limit: u64,

@@ -1,19 +1,19 @@
 //! The tenant that is debugged.
 
 ghost use Rattle.std.specs.Prelude.{◌≡◌, ◌<◌};
-ghost use Rattle.scudo_heap.specs.Served.{IsServed};
-ghost use Rattle.mte_sched.specs.Machines.{machine_of, start_of};
-ghost use Rattle.mte_sched.specs.Tenants.{terms_of};
+ghost use Rattle.scudo_heap.specs.Served.{HeapOwnsItsPages};
+ghost use Rattle.mte_tenant.specs.Machines.{machine_of, start_of};
+ghost use Rattle.mte_tenant.specs.Admissions.{terms_of};
 ghost use Rattle.debuggee.specs.Courses.{IsAt};
 
 use crate::cuts::Cuts;
 use crate::watched::{Hit, Watched, Watchpoint};
-use a64_step::{Decoder, Kept, Regs};
+use a64_step::{Decoder, OpCache, Regs};
 use elf_core::Region;
 use mte_flat::Flat;
-use mte_report::Book;
-use mte_sched::{Admission, AdmitError, TenantParts, admit_alone, attempt, settle, slice};
 use mte_tags::TagMode;
+use mte_tenant::{Admission, AdmitError, TenantParts, admit_alone, attempt, settle, slice};
+use run_book::Book;
 use std::alloc::{AllocError, Global};
 
 /// A tenant alone, which attempts its instructions one at a time, or a slice at a time, and can
@@ -25,14 +25,14 @@ pub struct Debuggee<'a> {
     parts: TenantParts,
     memory: Watched,
     decoder: Decoder,
-    words: Kept,
+    words: OpCache,
     /// The slices that have ended.
     slices: u64,
     /// The steps of the slice that goes on or comes next.
     cut: u32,
     /// How many of them were attempted.
     done: u32,
-    ghost served: { IsServed memory.flat parts.heap },
+    ghost served: { HeapOwnsItsPages memory.flat parts.heap },
     ghost tag: { parts.regs.rgsr.tag < 16 },
     ghost some: { 0 < terms.pages },
     // It is where the definition has it after these slices and attempts, whatever was done before.
@@ -49,10 +49,10 @@ impl<'a> Debuggee<'a> {
     ) -> Result<Debuggee<'a>, AdmitError>
         requires { 0 < terms.now.pages }
     {
-        let words = Kept::new(alloc)?;
+        let words = OpCache::new(alloc)?;
         let mut memory = Flat::new(alloc, terms.pages as usize, terms.mode)?;
         let parts = admit_alone(alloc, terms, &mut memory)?;
-        let cut = cuts.next(0, parts.account.steps);
+        let cut = cuts.next(0, parts.log.steps);
         Ok(Debuggee {
             terms: *terms,
             cuts: *cuts,
@@ -91,7 +91,7 @@ impl<'a> Debuggee<'a> {
 
     /// How many instructions it has attempted.
     pub fn steps(&self) -> u64 {
-        self.parts.account.steps
+        self.parts.log.steps
     }
 
     /// How many of its slices have ended.
@@ -133,7 +133,7 @@ impl<'a> Debuggee<'a> {
         settle(&mut self.parts, &mut self.memory);
         self.slices += 1;
         self.done = 0;
-        self.cut = self.cuts.next(self.slices, self.parts.account.steps);
+        self.cut = self.cuts.next(self.slices, self.parts.log.steps);
         true
     }
 
@@ -152,7 +152,7 @@ impl<'a> Debuggee<'a> {
             self.cut,
         );
         self.slices += 1;
-        self.cut = self.cuts.next(self.slices, self.parts.account.steps);
+        self.cut = self.cuts.next(self.slices, self.parts.log.steps);
         true
     }
 

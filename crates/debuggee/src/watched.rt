@@ -6,7 +6,7 @@ use a64_bits::plain;
 use address_map::{GRANULE_SIZE, PAGE_SIZE};
 use elf_core::{Region, regions};
 use mte_flat::Flat;
-use mte_tags::{Attrs, MemFault, NoQuota, Paged, Tagged};
+use mte_tags::{Attrs, MemFault, NoPagesLeft, Paged, Tagged};
 use std::alloc::{AllocError, Global};
 
 /// Which accesses are watched.
@@ -262,7 +262,7 @@ impl Paged for Watched {
         self.flat.pages_left()
     }
 
-    fn map_pages(&mut self, page: u64, count: usize, attrs: Attrs) -> Result<(), NoQuota> {
+    fn map_pages(&mut self, page: u64, count: usize, attrs: Attrs) -> Result<(), NoPagesLeft> {
         let answer = self.flat.map_pages(page, count, attrs);
         if answer.is_ok() {
             self.note_pages(page, count);

@@ -5,8 +5,8 @@ use crate::memory_map::{Region, regions};
 use crate::notes::{Noted, write_double_words, write_words};
 use crate::signal::Signal;
 use address_map::{GRANULE_SIZE, PAGE_SIZE};
-use mte_sched::TenantParts;
 use mte_tags::{Attrs, TagMode, Tagged};
+use mte_tenant::TenantParts;
 use std::alloc::Global;
 use std::io;
 use std::io::Write;
@@ -49,7 +49,7 @@ pub fn write_core<M: Tagged, W: Write>(
 ) -> io::Result<()> {
     let noted = Noted {
         regs: &subject.parts.regs,
-        signal: Signal::of(&subject.parts.account.status),
+        signal: Signal::of(&subject.parts.log.status),
         mode: subject.mode,
         name: subject.name,
     };

@@ -49,7 +49,7 @@ const LINUX: Owner = Owner {
     len: 6,
 };
 
-/// Of what there are notes.
+/// What the notes describe.
 #[derive(Clone, Copy)]
 pub struct Noted<'a> {
     /// The registers.

@@ -1,7 +1,7 @@
 //! The signal that Linux would send for a tenant's end.
 
-use mte_sched::Status;
 use mte_tags::{FaultKind, MemFault, TagMode, with_tag};
+use mte_tenant::Status;
 
 /// How many bytes a `siginfo_t` has.
 pub const INFO_SIZE: usize = 128;

@@ -4,86 +4,86 @@ use Rattle.std.proofs.Common.{if◌then◌else◌, option_map, refl, ap, sym, �
 use Rattle.mte_svc.specs.declared.record.Record.{Record}
 use Rattle.mte_svc.specs.declared.record.Status.TheVariants.{Stopped}
 use Rattle.mte_svc.specs.Results.{is_running}
-use Rattle.mte_sched.specs.declared.refusal.Refusal.{Refusal}
-use Rattle.mte_sched.specs.declared.refusal.Refusal.TheVariants as refusal
-use Rattle.mte_sched.specs.declared.admission.AdmitError.{AdmitError}
-use Rattle.mte_sched.specs.declared.admission.AdmitError.TheVariants.{Duplicate, BadReservation}
-use Rattle.mte_sched.specs.Machines.{Terms, Machine, runs, start_of, with_status, attempts, ended_where_set, ended_by_tag, settled, advance, halted}
-use Rattle.mte_sched.specs.Ledger.{Call, Admit, Slice, Stop, Entry, first_of, when, is_bad, admission_refusal, call_refusal, entered, entered_by}
+use Rattle.mte_tenant.specs.declared.refusal.Refusal.{Refusal}
+use Rattle.mte_tenant.specs.declared.refusal.Refusal.TheVariants as refusal
+use Rattle.mte_tenant.specs.declared.admission.AdmitError.{AdmitError}
+use Rattle.mte_tenant.specs.declared.admission.AdmitError.TheVariants.{Duplicate, BadReservation}
+use Rattle.mte_tenant.specs.Machines.{Terms, Machine, runs, start_of, with_status, after_attempts, stop_if_pending, stop_by_tag, after_slice_end, after_slice, after_stop}
+use Rattle.mte_tenant.specs.Ledger.{Call, Admit, Slice, Stop, LedgerEntry, first_of, refuse_if, is_bad, admission_refusal, call_refusal, ledger_after, ledger_cases}
 use Rattle.mte_sched.specs.Lives.{Session, Life, lives, lives_from, life_among, own_events}
-use Rattle.mte_sched.specs.Contents.{Content, Held, Live, Gone, held_sliced, held_stopped, alone, tenant_of, ledger_of, admitted, sliced, stopped, after_call}
+use Rattle.mte_sched.specs.Contents.{Content, TenantState, Live, Gone, state_after_slice, state_after_stop, after_own_events, tenant_of, ledger_of, after_admit, after_slice_of, after_stop_of, after_call}
 use Rattle.mte_sched.specs.Isolation.{LedgerFollows}
 use Rattle.mte_script.specs.declared.event.Event.{Event}
 use Rattle.mte_session.specs.Sessions.{file_at, call_of, calls_of}
 use Rattle.std.proofs.Common.{map, drop, length, get_or, ◌+◌, ◌≤◌, length-drop, subst}
 use Rattle.std.proofs.lemmas.List.{drop_more, nil_from_length}
 use Rattle.mte_run.specs.declared.replay.Replayed.{Replayed}
-use Rattle.mte_run.specs.Replays.{machine_in, IsOf, IsReplay, number_in, unstepped, turned, HasPages, IsStarted, IsPlayed}
+use Rattle.mte_run.specs.Replays.{machine_in, IsOf, IsReplay, number_in, with_no_steps, machine_after, HasPages, IsStarted, IsPlayed}
 
 -- ---- a tenant that has ended
 
-attempts-ended : (n : ℕ) (m : Machine) → runs m ≡ false → attempts n m ≡ m
-unfolding attempts
-attempts-ended zero m e = refl
-attempts-ended (suc n) m e = rw e refl
+after-attempts-ended : (n : ℕ) (m : Machine) → runs m ≡ false → after_attempts n m ≡ m
+unfolding after_attempts
+after-attempts-ended zero m e = refl
+after-attempts-ended (suc n) m e = rw e refl
 
-ended-as-it-is : (b p : Bool) (m : Machine) → b ≡ false → (if b && p then ended_by_tag m else m) ≡ m
+ended-as-it-is : (b p : Bool) (m : Machine) → b ≡ false → (if b && p then stop_by_tag m else m) ≡ m
 ended-as-it-is false p m e = refl
 ended-as-it-is true p m e = cc
 
-advance-ended : (n : ℕ) (m : Machine) → runs m ≡ false → (advance n m).parts.account ≡ m.parts.account
-unfolding advance settled
-advance-ended n m e =
-    ap (λ k. (settled k).parts.account) (attempts-ended n m e)
-    ∙ ap (λ (k : Machine). k.parts.account) (ended-as-it-is (runs m) m.memory.state.pending (record m { parts = record m.parts { left = 0 } }) e)
+after-slice-ended : (n : ℕ) (m : Machine) → runs m ≡ false → (after_slice n m).parts.log ≡ m.parts.log
+unfolding after_slice after_slice_end
+after-slice-ended n m e =
+    ap (λ k. (after_slice_end k).parts.log) (after-attempts-ended n m e)
+    ∙ ap (λ (k : Machine). k.parts.log) (ended-as-it-is (runs m) m.memory.state.pending (record m { parts = record m.parts { left = 0 } }) e)
 
-halted-ended : (m : Machine) → runs m ≡ false → halted m ≡ m
-unfolding halted
-halted-ended m e = rw e refl
+after-stop-ended : (m : Machine) → runs m ≡ false → after_stop m ≡ m
+unfolding after_stop
+after-stop-ended m e = rw e refl
 
 stops : (b : Bool) (m : Machine) → runs m ≡ b → runs (if b then with_status m Stopped else m) ≡ false
 stops true m e = refl
 stops false m e = e
 
-halted-stops : (m : Machine) → runs (halted m) ≡ false
-unfolding halted
-halted-stops m = stops (runs m) m refl
+after-stop-stops : (m : Machine) → runs (after_stop m) ≡ false
+unfolding after_stop
+after-stop-stops m = stops (runs m) m refl
 
 -- What is kept of a tenant; one that was stopped is not running.
-abbrev pub IsLike : Held → Machine → Type 0
+abbrev pub IsLike : TenantState → Machine → Type 0
 IsLike (Live m) n = n ≡ m
-IsLike (Gone r) n = (n.parts.account ≡ r) × (runs n ≡ false)
+IsLike (Gone r) n = (n.parts.log ≡ r) × (runs n ≡ false)
 
-like-sliced : (n : ℕ) (h : Held) (m : Machine) → IsLike h m → IsLike (held_sliced n h) (advance n m)
-like-sliced n (Live k) m h = ap (advance n) h
-like-sliced n (Gone r) m h =
-    let same = advance-ended n m h.1 in
+like-after-slice-of : (n : ℕ) (h : TenantState) (m : Machine) → IsLike h m → IsLike (state_after_slice n h) (after_slice n m)
+like-after-slice-of n (Live k) m h = ap (after_slice n) h
+like-after-slice-of n (Gone r) m h =
+    let same = after-slice-ended n m h.1 in
     (same ∙ h.0, ap (λ (a : Record). is_running a.status) same ∙ h.1)
 
-like-stopped : (h : Held) (m : Machine) → IsLike h m → IsLike (held_stopped h) (halted m)
-like-stopped (Live k) m h = (ap (λ (x : Machine). (halted x).parts.account) h, halted-stops m)
-like-stopped (Gone r) m h =
-    let same = halted-ended m h.1 in
-    (ap (λ (x : Machine). x.parts.account) same ∙ h.0, ap runs same ∙ h.1)
+like-after-stop-of : (h : TenantState) (m : Machine) → IsLike h m → IsLike (state_after_stop h) (after_stop m)
+like-after-stop-of (Live k) m h = (ap (λ (x : Machine). (after_stop x).parts.log) h, after-stop-stops m)
+like-after-stop-of (Gone r) m h =
+    let same = after-stop-ended m h.1 in
+    (ap (λ (x : Machine). x.parts.log) same ∙ h.0, ap runs same ∙ h.1)
 
-like-is : (h : Held) (m : Machine) → IsLike h m → IsOf h m
+like-is : (h : TenantState) (m : Machine) → IsLike h m → IsOf h m
 like-is (Live k) m h = h
 like-is (Gone r) m h = h.0
 
 -- ---- the ledger, whose host attempts no instruction
 
-pub ledger_next : (law : LedgerFollows) (c new : Content) (e : Call) → new ≡ after_call c (unstepped e) → ledger_of new ≡ entered (ledger_of c) e
+pub ledger_next : (law : LedgerFollows) (c new : Content) (e : Call) → new ≡ after_call c (with_no_steps e) → ledger_of new ≡ ledger_after (ledger_of c) e
 ledger_next law c new (Admit id terms) h = ap ledger_of h ∙ law c (Admit id terms)
 ledger_next law c new (Slice id n) h = ap ledger_of h ∙ law c (Slice id 0)
 ledger_next law c new (Stop id) h = ap ledger_of h ∙ law c (Stop id)
 
-pub frames_next : (c new : Content) (e : Call) → new ≡ after_call c (unstepped e) → new.frames ≡ c.frames
-unfolding after_call admitted sliced stopped
+pub frames_next : (c new : Content) (e : Call) → new ≡ after_call c (with_no_steps e) → new.frames ≡ c.frames
+unfolding after_call after_admit after_slice_of after_stop_of
 frames_next c new (Admit id terms) h = ap (λ (k : Content). k.frames) h
 frames_next c new (Slice id n) h = ap (λ (k : Content). k.frames) h
 frames_next c new (Stop id) h = ap (λ (k : Content). k.frames) h
 
-not_bad : (d b : Bool) (more : List (Option AdmitError)) → option_map refusal.Admit (first_of (when d Duplicate ∷ when b BadReservation ∷ more)) ≡ None → b ≡ false
+not_bad : (d b : Bool) (more : List (Option AdmitError)) → option_map refusal.Admit (first_of (refuse_if d Duplicate ∷ refuse_if b BadReservation ∷ more)) ≡ None → b ≡ false
 not_bad true b more h = cc
 not_bad false true more h = cc
 not_bad false false more h = refl
@@ -92,7 +92,7 @@ some_pages : (n : ℕ) (b c : Bool) → ((n == 0) || b || c) ≡ false → 0 < n
 some_pages zero b c h = cc
 some_pages (suc n) b c h = omega arith
 
-pub has_pages : (frames : ℕ) (ledger : List Entry) (e : Call) → call_refusal frames ledger e ≡ None → HasPages e
+pub has_pages : (frames : ℕ) (ledger : List LedgerEntry) (e : Call) → call_refusal frames ledger e ≡ None → HasPages e
 unfolding call_refusal admission_refusal
 has_pages frames ledger (Admit id terms) h = some_pages terms.pages _ _ (not_bad _ (is_bad terms) _ h)
 has_pages frames ledger (Slice id n) h = tt
@@ -101,19 +101,19 @@ has_pages frames ledger (Stop id) h = tt
 -- ---- what is known of the tenant while calls are left
 
 -- It was admitted, and what is left of its own events makes of it what the session has.
-pub record Grows (id : ℕ) (files : List (List ℕ)) (s : Session) (ledger : List Entry) (calls : List Call) (t : Replayed) : Type 0 where
+pub record Grows (id : ℕ) (files : List (List ℕ)) (s : Session) (ledger : List LedgerEntry) (calls : List Call) (t : Replayed) : Type 0 where
   pub life : Life
   pub admitted : life_among id (lives s) ≡ Some life
   pub image : file_at files t.image ≡ life.terms.image
-  pub held : Held
+  pub held : TenantState
   pub like : IsLike held (machine_in t)
-  pub rest : alone held (own_events s.frames ledger calls id) ≡ (tenant_of life).held
+  pub rest : after_own_events held (own_events s.frames ledger calls id) ≡ (tenant_of life).held
 
-abbrev pub Known : ℕ → List (List ℕ) → Session → List Entry → List Call → Option Replayed → Type 0
+abbrev pub Known : ℕ → List (List ℕ) → Session → List LedgerEntry → List Call → Option Replayed → Type 0
 Known id files s ledger calls (Some t) = Grows id files s ledger calls t
 Known id files s ledger calls None = life_among id (lives_from s.frames ledger calls) ≡ life_among id (lives s)
 
-pub known_refused : (id : ℕ) (files : List (List ℕ)) (s : Session) (ledger : List Entry) (e : Call) (more : List Call) (r : Refusal) (o : Option Replayed)
+pub known_refused : (id : ℕ) (files : List (List ℕ)) (s : Session) (ledger : List LedgerEntry) (e : Call) (more : List Call) (r : Refusal) (o : Option Replayed)
     → call_refusal s.frames ledger e ≡ Some r → Known id files s ledger (e ∷ more) o → Known id files s ledger more o
 unfolding lives_from own_events
 known_refused id files s ledger e more r None e_some h = rw e_some at h
@@ -127,8 +127,8 @@ known_refused id files s ledger e more r (Some t) e_some h = record {
 }
 
 -- An accepted call that names another tenant.
-none_other : (id : ℕ) (files : List (List ℕ)) (s : Session) (ledger : List Entry) (e : Call) (more : List Call)
-    → call_refusal s.frames ledger e ≡ None → (number_in e ≡ id → ⊥) → Known id files s ledger (e ∷ more) None → Known id files s (entered ledger e) more None
+none_other : (id : ℕ) (files : List (List ℕ)) (s : Session) (ledger : List LedgerEntry) (e : Call) (more : List Call)
+    → call_refusal s.frames ledger e ≡ None → (number_in e ≡ id → ⊥) → Known id files s ledger (e ∷ more) None → Known id files s (ledger_after ledger e) more None
 unfolding lives_from
 none_other id files s ledger (Admit k terms) more e_none other h =
     let k_differs : (k == id) ≡ false = ne_eqb k id other in
@@ -137,8 +137,8 @@ none_other id files s ledger (Admit k terms) more e_none other h =
 none_other id files s ledger (Slice k n) more e_none other h = rw e_none at h
 none_other id files s ledger (Stop k) more e_none other h = rw e_none at h
 
-rest_other : (id f : ℕ) (ledger : List Entry) (e : Call) (more : List Call) (held all : Held)
-    → call_refusal f ledger e ≡ None → (number_in e ≡ id → ⊥) → alone held (own_events f ledger (e ∷ more) id) ≡ all → alone held (own_events f (entered ledger e) more id) ≡ all
+rest_other : (id f : ℕ) (ledger : List LedgerEntry) (e : Call) (more : List Call) (held all : TenantState)
+    → call_refusal f ledger e ≡ None → (number_in e ≡ id → ⊥) → after_own_events held (own_events f ledger (e ∷ more) id) ≡ all → after_own_events held (own_events f (ledger_after ledger e) more id) ≡ all
 unfolding own_events
 rest_other id f ledger (Admit k terms) more held all e_none other h = rw e_none at h
 rest_other id f ledger (Slice k n) more held all e_none other h =
@@ -150,8 +150,8 @@ rest_other id f ledger (Stop k) more held all e_none other h =
     let next = rw e_none at h in
     rw differs at next
 
-known_other : (id : ℕ) (files : List (List ℕ)) (s : Session) (ledger : List Entry) (e : Call) (more : List Call) (o : Option Replayed)
-    → call_refusal s.frames ledger e ≡ None → (number_in e ≡ id → ⊥) → Known id files s ledger (e ∷ more) o → Known id files s (entered ledger e) more o
+known_other : (id : ℕ) (files : List (List ℕ)) (s : Session) (ledger : List LedgerEntry) (e : Call) (more : List Call) (o : Option Replayed)
+    → call_refusal s.frames ledger e ≡ None → (number_in e ≡ id → ⊥) → Known id files s ledger (e ∷ more) o → Known id files s (ledger_after ledger e) more o
 known_other id files s ledger e more None e_none other h = none_other id files s ledger e more e_none other h
 known_other id files s ledger e more (Some t) e_none other h = record {
   life = h.life;
@@ -163,27 +163,27 @@ known_other id files s ledger e more (Some t) e_none other h = record {
 }
 
 -- An accepted call that names the tenant.
-pub record Next (id f : ℕ) (ledger : List Entry) (e : Call) (more : List Call) (all : Held) (m : Machine) : Type 0 where
-  pub held : Held
-  pub like : IsLike held (turned e m)
-  pub rest : alone held (own_events f (entered ledger e) more id) ≡ all
+pub record Next (id f : ℕ) (ledger : List LedgerEntry) (e : Call) (more : List Call) (all : TenantState) (m : Machine) : Type 0 where
+  pub held : TenantState
+  pub like : IsLike held (machine_after e m)
+  pub rest : after_own_events held (own_events f (ledger_after ledger e) more id) ≡ all
 
-next_own : (id f : ℕ) (ledger : List Entry) (e : Call) (more : List Call) (held all : Held) (m : Machine)
-    → call_refusal f ledger e ≡ None → number_in e ≡ id → IsLike held m → alone held (own_events f ledger (e ∷ more) id) ≡ all → Next id f ledger e more all m
-unfolding own_events alone
+next_own : (id f : ℕ) (ledger : List LedgerEntry) (e : Call) (more : List Call) (held all : TenantState) (m : Machine)
+    → call_refusal f ledger e ≡ None → number_in e ≡ id → IsLike held m → after_own_events held (own_events f ledger (e ∷ more) id) ≡ all → Next id f ledger e more all m
+unfolding own_events after_own_events
 next_own id f ledger (Admit k terms) more held all m e_none own like h = record { held = held; like = like; rest = rw e_none at h }
 next_own id f ledger (Slice k n) more held all m e_none own like h =
     let same : (id == k) ≡ true = eq-eqb id k (sym own) in
     let next = rw e_none at h in
-    record { held = held_sliced n held; like = like-sliced n held m like; rest = rw same at next }
+    record { held = state_after_slice n held; like = like-after-slice-of n held m like; rest = rw same at next }
 next_own id f ledger (Stop k) more held all m e_none own like h =
     let same : (id == k) ≡ true = eq-eqb id k (sym own) in
     let next = rw e_none at h in
-    record { held = held_stopped held; like = like-stopped held m like; rest = rw same at next }
+    record { held = state_after_stop held; like = like-after-stop-of held m like; rest = rw same at next }
 
-grows_own : (id : ℕ) (files : List (List ℕ)) (s : Session) (ledger : List Entry) (e : Call) (more : List Call) (t u : Replayed)
+grows_own : (id : ℕ) (files : List (List ℕ)) (s : Session) (ledger : List LedgerEntry) (e : Call) (more : List Call) (t u : Replayed)
     → call_refusal s.frames ledger e ≡ None → number_in e ≡ id → IsPlayed files e (Some t) (Some u)
-    → Grows id files s ledger (e ∷ more) t → Grows id files s (entered ledger e) more u
+    → Grows id files s ledger (e ∷ more) t → Grows id files s (ledger_after ledger e) more u
 grows_own id files s ledger e more t u e_none own p h =
     let next = next_own id s.frames ledger e more h.held (tenant_of h.life).held (machine_in t) e_none own h.like h.rest in
     record {
@@ -196,55 +196,55 @@ grows_own id files s ledger e more t u e_none own p h =
     }
 
 -- The admission of the tenant.
-grows_first : (id k : ℕ) (files : List (List ℕ)) (s : Session) (ledger : List Entry) (terms : Terms) (more : List Call) (u : Replayed)
+grows_first : (id k : ℕ) (files : List (List ℕ)) (s : Session) (ledger : List LedgerEntry) (terms : Terms) (more : List Call) (u : Replayed)
     → call_refusal s.frames ledger (Admit k terms) ≡ None → k ≡ id → IsStarted files (Admit k terms) (Some u)
-    → life_among id (lives_from s.frames ledger (Admit k terms ∷ more)) ≡ life_among id (lives s) → Grows id files s (entered ledger (Admit k terms)) more u
+    → life_among id (lives_from s.frames ledger (Admit k terms ∷ more)) ≡ life_among id (lives s) → Grows id files s (ledger_after ledger (Admit k terms)) more u
 unfolding lives_from
 grows_first id k files s ledger terms more u e_none own p h =
     let same : (k == id) ≡ true = eq-eqb k id own in
     let next = rw e_none at h in
     let first = rw same at next in
     record {
-      life = record { id = k; terms = terms; own = own_events s.frames (entered ledger (Admit k terms)) more k };
+      life = record { id = k; terms = terms; own = own_events s.frames (ledger_after ledger (Admit k terms)) more k };
       admitted = sym first;
       image = p.1;
       held = Live (start_of k terms);
       like = p.0;
-      rest = ap (λ j. alone (Live (start_of k terms)) (own_events s.frames (entered ledger (Admit k terms)) more j)) (sym own);
+      rest = ap (λ j. after_own_events (Live (start_of k terms)) (own_events s.frames (ledger_after ledger (Admit k terms)) more j)) (sym own);
     }
 
-known_first : (id : ℕ) (files : List (List ℕ)) (s : Session) (ledger : List Entry) (e : Call) (more : List Call) (o : Option Replayed)
+known_first : (id : ℕ) (files : List (List ℕ)) (s : Session) (ledger : List LedgerEntry) (e : Call) (more : List Call) (o : Option Replayed)
     → call_refusal s.frames ledger e ≡ None → number_in e ≡ id → IsStarted files e o
-    → Known id files s ledger (e ∷ more) None → Known id files s (entered ledger e) more o
+    → Known id files s ledger (e ∷ more) None → Known id files s (ledger_after ledger e) more o
 unfolding lives_from
 known_first id files s ledger (Admit k terms) more (Some u) e_none own p h = grows_first id k files s ledger terms more u e_none own p h
 known_first id files s ledger (Admit k terms) more None e_none own p h = absurd p
 known_first id files s ledger (Slice k n) more o e_none own p h = rw p (rw e_none at h)
 known_first id files s ledger (Stop k) more o e_none own p h = rw p (rw e_none at h)
 
-known_own : (id : ℕ) (files : List (List ℕ)) (s : Session) (ledger : List Entry) (e : Call) (more : List Call) (o p : Option Replayed)
+known_own : (id : ℕ) (files : List (List ℕ)) (s : Session) (ledger : List LedgerEntry) (e : Call) (more : List Call) (o p : Option Replayed)
     → call_refusal s.frames ledger e ≡ None → number_in e ≡ id → IsPlayed files e o p
-    → Known id files s ledger (e ∷ more) o → Known id files s (entered ledger e) more p
+    → Known id files s ledger (e ∷ more) o → Known id files s (ledger_after ledger e) more p
 known_own id files s ledger e more (Some t) (Some u) e_none own is h = grows_own id files s ledger e more t u e_none own is h
 known_own id files s ledger e more (Some t) None e_none own is h = absurd is
 known_own id files s ledger e more None p e_none own is h = known_first id files s ledger e more p e_none own is h
 
 -- An accepted call, whichever tenant it names.
-pub known_next : (id : ℕ) (files : List (List ℕ)) (s : Session) (ledger : List Entry) (e : Call) (more : List Call) (o p : Option Replayed)
+pub known_next : (id : ℕ) (files : List (List ℕ)) (s : Session) (ledger : List LedgerEntry) (e : Call) (more : List Call) (o p : Option Replayed)
     → call_refusal s.frames ledger e ≡ None → (number_in e ≡ id → IsPlayed files e o p) → ((number_in e ≡ id → ⊥) → p ≡ o)
-    → Known id files s ledger (e ∷ more) o → Known id files s (entered ledger e) more p
+    → Known id files s ledger (e ∷ more) o → Known id files s (ledger_after ledger e) more p
 known_next id files s ledger e more o p e_none own other h = by (number_in e == id) refl
   where
-    by : (b : Bool) → (number_in e == id) ≡ b → Known id files s (entered ledger e) more p
+    by : (b : Bool) → (number_in e == id) ≡ b → Known id files s (ledger_after ledger e) more p
     by true same = known_own id files s ledger e more o p e_none (eqb-true (number_in e) id same) (own (eqb-true (number_in e) id same)) h
     by false same =
         let differs : number_in e ≡ id → ⊥ = λ is. let t : (number_in e == id) ≡ true = eq-eqb (number_in e) id is in let bad : true ≡ false = sym t ∙ same in cc in
         rw (other differs) (known_other id files s ledger e more o e_none differs h)
 
 -- No call is left.
-pub known_end : (id : ℕ) (files : List (List ℕ)) (s : Session) (ledger : List Entry) (o : Option Replayed)
+pub known_end : (id : ℕ) (files : List (List ℕ)) (s : Session) (ledger : List LedgerEntry) (o : Option Replayed)
     → Known id files s ledger [] o → IsReplay id files s o
-unfolding lives_from own_events alone
+unfolding lives_from own_events after_own_events
 known_end id files s ledger None h = sym h
 known_end id files s ledger (Some t) h = record {
   life = h.life;
@@ -257,7 +257,7 @@ known_end id files s ledger (Some t) h = record {
 
 pub accepted_next : (law : LedgerFollows) (id : ℕ) (files : List (List ℕ)) (s : Session) (c new : Content) (events : List Event) (i : ℕ) (d : Event) (o p : Option Replayed)
     → i < length events → c.frames ≡ s.frames → call_refusal c.frames (ledger_of c) (call_of files (get_or events i d)) ≡ None
-    → new ≡ after_call c (unstepped (call_of files (get_or events i d)))
+    → new ≡ after_call c (with_no_steps (call_of files (get_or events i d)))
     → (number_in (call_of files (get_or events i d)) ≡ id → IsPlayed files (call_of files (get_or events i d)) o p)
     → ((number_in (call_of files (get_or events i d)) ≡ id → ⊥) → p ≡ o)
     → Known id files s (ledger_of c) (calls_of files (drop i events)) o
@@ -268,7 +268,7 @@ accepted_next law id files s c new events i d o p below frames accepted is own o
     let none : call_refusal s.frames (ledger_of c) e ≡ None = subst (λ (f : ℕ). call_refusal f (ledger_of c) e ≡ None) frames accepted in
     let after = known_next id files s (ledger_of c) e (calls_of files (drop (i + 1) events)) o p none own other here in (
       frames_next c new e is ∙ frames,
-      subst (λ (l : List Entry). Known id files s l (calls_of files (drop (i + 1) events)) p) (sym (ledger_next law c new e is)) after,
+      subst (λ (l : List LedgerEntry). Known id files s l (calls_of files (drop (i + 1) events)) p) (sym (ledger_next law c new e is)) after,
     )
 
 pub refused_next : (id : ℕ) (files : List (List ℕ)) (s : Session) (c new : Content) (events : List Event) (i : ℕ) (d : Event) (r : Refusal) (o : Option Replayed)
@@ -282,7 +282,7 @@ refused_next id files s c new events i d r o below frames refused is h =
     let after = known_refused id files s (ledger_of c) e (calls_of files (drop (i + 1) events)) r o some here in
     (ap (λ (k : Content). k.frames) is ∙ frames, subst (λ (k : Content). Known id files s (ledger_of k) (calls_of files (drop (i + 1) events)) o) (sym is) after)
 
-pub all_played : (id : ℕ) (files : List (List ℕ)) (s : Session) (ledger : List Entry) (events : List Event) (i : ℕ) (o : Option Replayed)
+pub all_played : (id : ℕ) (files : List (List ℕ)) (s : Session) (ledger : List LedgerEntry) (events : List Event) (i : ℕ) (o : Option Replayed)
     → length events ≤ i → Known id files s ledger (calls_of files (drop i events)) o → IsReplay id files s o
 all_played id files s ledger events i o over h =
     let none : drop i events ≡ [] = nil_from_length (drop i events) (simp length-drop (omega arith)) in

@@ -1,9 +1,9 @@
 -- What a replay shows of a session: one of its tenants.
 use Rattle.std.specs.Prelude.{◌≡◌, ℕ, ◌<◌, List, Option, Some, None, ⊤}
-use Rattle.mte_sched.specs.Machines.{Machine, machine_of, start_of, advance, halted}
-use Rattle.mte_sched.specs.Ledger.{Call, Admit, Slice, Stop}
+use Rattle.mte_tenant.specs.Machines.{Machine, machine_of, start_of, after_slice, after_stop}
+use Rattle.mte_tenant.specs.Ledger.{Call, Admit, Slice, Stop}
 use Rattle.mte_sched.specs.Lives.{Session, Life, lives, life_among}
-use Rattle.mte_sched.specs.Contents.{Held, Live, Gone, tenant_of}
+use Rattle.mte_sched.specs.Contents.{TenantState, Live, Gone, tenant_of}
 use Rattle.mte_session.specs.Sessions.{file_at}
 use Rattle.mte_run.specs.declared.replay.Replayed.{Replayed}
 
@@ -12,9 +12,9 @@ abbrev pub machine_in : Replayed → Machine
 machine_in t = machine_of t.bench.parts t.bench.memory
 
 -- The machine of a live tenant is what is kept of it; of one that was stopped its record is.
-abbrev pub IsOf : Held → Machine → Type 0
+abbrev pub IsOf : TenantState → Machine → Type 0
 IsOf (Live m) n = n ≡ m
-IsOf (Gone r) n = n.parts.account ≡ r
+IsOf (Gone r) n = n.parts.log ≡ r
 
 -- The session admits a tenant with the number, whose image is the file, and after its own events
 -- it is this one.
@@ -38,16 +38,16 @@ number_in (Slice id n) = id
 number_in (Stop id) = id
 
 -- The same call, whose slice attempts no instruction.
-abbrev pub unstepped : Call → Call
-unstepped (Admit id terms) = Admit id terms
-unstepped (Slice id n) = Slice id 0
-unstepped (Stop id) = Stop id
+abbrev pub with_no_steps : Call → Call
+with_no_steps (Admit id terms) = Admit id terms
+with_no_steps (Slice id n) = Slice id 0
+with_no_steps (Stop id) = Stop id
 
 -- What an accepted call makes of the machine of the tenant that it names.
-abbrev pub turned : Call → Machine → Machine
-turned (Admit id terms) m = m
-turned (Slice id n) m = advance n m
-turned (Stop id) m = halted m
+abbrev pub machine_after : Call → Machine → Machine
+machine_after (Admit id terms) m = m
+machine_after (Slice id n) m = after_slice n m
+machine_after (Stop id) m = after_stop m
 
 -- An admission reserves a page at least, as each that a host accepts does.
 abbrev pub HasPages : Call → Type 0
@@ -66,6 +66,6 @@ IsStarted files (Stop id) t = t ≡ None
 -- What an accepted call that names a tenant makes of it.
 abbrev pub IsPlayed : List (List ℕ) → Call → Option Replayed → Option Replayed → Type 0
 IsPlayed files e (Some t) (Some u) =
-    (machine_in u ≡ turned e (machine_in t)) × (u.image ≡ t.image)
+    (machine_in u ≡ machine_after e (machine_in t)) × (u.image ≡ t.image)
 IsPlayed files e (Some t) None = ⊥
 IsPlayed files e None u = IsStarted files e u

@@ -1,10 +1,10 @@
 //! A tenant alone on a memory of its own.
 
 ghost use Rattle.std.specs.Prelude.{◌≡◌, ◌<◌, ◌⊎◌, [], Some, IfOk, IfErr};
-ghost use Rattle.scudo_heap.specs.Served.{IsServed};
+ghost use Rattle.scudo_heap.specs.Served.{HeapOwnsItsPages};
 
 use mte_flat::Flat;
-use mte_sched::{Admission, AdmitError, Status, TenantParts, Watch, admit_alone, slice_watched};
+use mte_tenant::{Admission, AdmitError, Status, TenantParts, Watch, admit_alone, slice_watched};
 use std::alloc::Global;
 
 /// A tenant's machine, which is the machine of the definition: it is made by `admit_alone` and
@@ -15,14 +15,14 @@ pub struct Bench {
     pub parts: TenantParts,
     /// Its memory.
     pub memory: Flat,
-    ghost served: { IsServed memory parts.heap },
+    ghost served: { HeapOwnsItsPages memory parts.heap },
     ghost tag: { parts.regs.rgsr.tag < 16 },
 }
 
 impl Bench {
-    ghost use Rattle.mte_sched.specs.Machines.{machine_of, start_of, advance, halted};
-    ghost use Rattle.mte_sched.specs.Tenants.{terms_of};
-    ghost use Rattle.mte_sched.specs.Ledger.{admission_refusal, charge_of};
+    ghost use Rattle.mte_tenant.specs.Machines.{machine_of, start_of, after_slice, after_stop};
+    ghost use Rattle.mte_tenant.specs.Admissions.{terms_of};
+    ghost use Rattle.mte_tenant.specs.Ledger.{admission_refusal, charge_of};
 
     /// A tenant at its first instruction, or why it is refused.
     pub fn new(alloc: Global, admission: &Admission<'_>) -> Result<Bench, AdmitError>
@@ -41,19 +41,19 @@ impl Bench {
     /// A slice.
     pub fn slice<W: Watch>(&mut self, watch: &mut W, steps: u32)
         ensures { machine_of self.new.parts self.new.memory
-            ≡ advance steps (machine_of self.old.parts self.old.memory) }
+            ≡ after_slice steps (machine_of self.old.parts self.old.memory) }
     {
         slice_watched(watch, &mut self.parts, &mut self.memory, steps);
     }
 
     /// A stop.
-    #[tactic(auto, unfolding(mte_sched::specs::Machines::halted))]
+    #[tactic(auto, unfolding(mte_tenant::specs::Machines::after_stop))]
     pub fn stop(&mut self)
         ensures { machine_of self.new.parts self.new.memory
-            ≡ halted (machine_of self.old.parts self.old.memory) }
+            ≡ after_stop (machine_of self.old.parts self.old.memory) }
     {
         if self.parts.is_running() {
-            self.parts.account.status = Status::Stopped;
+            self.parts.log.status = Status::Stopped;
         }
     }
 }

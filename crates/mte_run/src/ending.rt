@@ -1,6 +1,6 @@
 //! How a tenant ended, and the exit status that says so.
 
-use mte_sched::{Record, Status};
+use mte_tenant::{Record, Status};
 use std::fmt;
 
 /// How a tenant ended. The exit status is 128 and the number of the way, or the tenant's own.
@@ -36,22 +36,22 @@ pub const REFUSED: u8 = 136;
 
 impl Ending {
     /// That of a tenant whose steps may be `limit`.
-    pub fn of(account: &Record, limit: u64) -> Ending {
-        match account.status {
+    pub fn of(log: &Record, limit: u64) -> Ending {
+        match log.status {
             Status::Exited(_) => Ending::Exit,
             Status::Faulted(_, _) => Ending::Fault,
             Status::AsyncTag(_) => Ending::AsyncTag,
             Status::Aborted(_, _, _) => Ending::Abort,
             Status::Illegal(_, _) => Ending::Illegal,
             Status::Breakpoint(_, _) => Ending::Breakpoint,
-            Status::Running if account.steps >= limit => Ending::StepLimit,
+            Status::Running if log.steps >= limit => Ending::StepLimit,
             Status::Running | Status::Stopped => Ending::NotEnded,
         }
     }
 
     /// The exit status.
-    pub fn status(self, account: &Record) -> u8 {
-        match account.status {
+    pub fn status(self, log: &Record) -> u8 {
+        match log.status {
             Status::Exited(code) if self == Ending::Exit => code,
             _ => 128 + self as u8,
         }
@@ -98,21 +98,21 @@ pub struct LastLine<'a> {
     /// How it ended.
     pub ending: Ending,
     /// Its record.
-    pub account: &'a Record,
+    pub log: &'a Record,
 }
 
 impl<'a> LastLine<'a> {
     /// Whether it is written: not for an exit status that only a tenant has.
     pub fn is_told(&self) -> bool {
-        let status = self.ending.status(self.account);
+        let status = self.ending.status(self.log);
         self.ending != Ending::Exit || matches!(status, 2..=6 | 129..=137)
     }
 }
 
 impl<'a> fmt::Display for LastLine<'a> {
     fn fmt<W: fmt::Write>(&self, f: &mut fmt::Formatter<W>) -> fmt::Result {
-        let (ending, status) = (self.ending, self.ending.status(self.account));
-        match &self.account.status {
+        let (ending, status) = (self.ending, self.ending.status(self.log));
+        match &self.log.status {
             _ if ending == Ending::Exact => write!(f, "ended by {ending}, status {status}"),
             Status::Exited(_) => write!(f, "exited with {status}"),
             Status::Faulted(fault, _) => {

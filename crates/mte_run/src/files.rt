@@ -1,10 +1,9 @@
 //! The files that are read.
 
-use crate::failure::Failure;
-use crate::options::Options;
 use crate::replay::file_of;
 use mte_program::StreamSource;
 use mte_session::{ReadFault, read_whole};
+use run_options::{Failure, Options};
 use std::fs::File;
 
 /// An image.

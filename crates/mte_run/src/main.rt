@@ -2,23 +2,21 @@
 #![tactic(auto)]
 
 mod bench;
-mod command_line;
+mod core_dump;
+mod debugging;
 mod ending;
-mod failure;
 mod files;
 mod map;
 mod observer;
-mod options;
-mod refusal;
 mod replay;
 mod running;
 mod seeds;
+mod session_course;
 mod survey;
 mod telling;
 mod tracer;
 
-use command_line::{Invocation, read_command_line};
-use failure::{Failure, report};
+use run_options::{Failure, Invocation, read_command_line, report};
 use running::run_program;
 use std::process::ExitCode;
 

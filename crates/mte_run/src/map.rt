@@ -1,13 +1,15 @@
 //! The picture of the heap, in a file.
 
-use crate::failure::Failure;
-use crate::options::Options;
 use either::Either;
 use mte_flat::Flat;
 use mte_report::Report;
+use run_options::{Failure, Options};
 use std::fs::File;
 use std::io::BufWriter;
 use std::{fmt, io};
+
+/// The name for which the heap is written as text, on standard error.
+const TEXT: &str = "text";
 
 /// Draws the heap and its tags into the file that is named, if one is.
 pub fn draw_map<'a>(
@@ -27,7 +29,8 @@ pub fn draw_map<'a>(
     }
 }
 
-/// Draws the heap and its tags into the file with a name, or to standard output for `-`.
+/// Draws the heap and its tags into the file with a name, or to standard output for `-`; for `text`
+/// they are written as text.
 fn draw_file(
     rt: &HostRuntime,
     report: &Report<'_>,
@@ -35,14 +38,18 @@ fn draw_file(
     name: &str,
     memory: &mut Flat,
 ) -> io::Result<()> {
+    let subject = Subject(options);
+    let title = format!(in rt.alloc(); "{subject}")?;
+    if name == TEXT {
+        let mut out = BufWriter::new(rt.alloc(), rt.stderr())?;
+        return report.write_map(rt.alloc(), &mut out, title.as_str(), memory);
+    }
     let file = if name == "-" {
         Either::Left(rt.stdout())
     } else {
         Either::Right(File::create(rt, name)?)
     };
     let mut out = BufWriter::new(rt.alloc(), file)?;
-    let subject = Subject(options);
-    let title = format!(in rt.alloc(); "{subject}")?;
     report.draw(rt.alloc(), &mut out, title.as_str(), memory)
 }
 

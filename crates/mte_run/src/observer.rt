@@ -5,9 +5,10 @@ ghost use Rattle.std.specs.Prelude.{None};
 use crate::tracer::Tracer;
 use circular_buffer::HeapCircularBuffer;
 use mte_report::{Book, Exact, Finding, Moment, SVC, Turn};
-use mte_sched::{TenantParts, Watch};
 use mte_svc::WRITE;
 use mte_tags::Tagged;
+use mte_tenant::{TenantParts, Watch};
+use run_options::Exactness;
 use std::alloc::{AllocError, Global};
 use std::io::Write;
 
@@ -99,7 +100,7 @@ impl<'a, W: Write + Drop> Watch for Observer<'a, W> {
             return;
         }
         self.last.push_back(Moment {
-            step: parts.account.steps.saturating_add(1),
+            step: parts.log.steps.saturating_add(1),
             word: memory.fetch(parts.regs.pc).ok(),
             regs: parts.regs,
         });
@@ -141,4 +142,13 @@ fn cuts_output(moment: &Moment, parts: &TenantParts) -> bool {
         && before.x[8] == WRITE
         && before.pc != after.pc
         && after.x[0] < before.x[1]
+}
+
+/// What watches that accesses keep to the bytes of chunks, where they are to.
+pub fn exact_of(alloc: Global, exactness: Exactness) -> Option<Exact> {
+    match exactness {
+        Exactness::Tags => None,
+        Exactness::Writes => Some(Exact::new(alloc, true)),
+        Exactness::All => Some(Exact::new(alloc, false)),
+    }
 }

@@ -2,19 +2,20 @@
 
 ghost use Rattle.std.specs.Prelude.{◌≡◌, ℕ, ◌⊎◌, List, [], if◌then◌else◌, OnOk, OnErr, IfOk, IfErr};
 ghost use Rattle.std.specs.Prelude.{IsTrue, ◌↔◌, Some, None};
-ghost use Rattle.mte_sched.specs.Machines.{machine_of};
-ghost use Rattle.mte_sched.specs.Ledger.{call_refusal};
+ghost use Rattle.mte_tenant.specs.Machines.{machine_of};
+ghost use Rattle.mte_tenant.specs.Ledger.{call_refusal};
 ghost use Rattle.mte_sched.specs.Contents.{after_call};
 ghost use Rattle.mte_sched.specs.Hosts.{content_of, ledger_in};
 ghost use Rattle.mte_session.specs.Files.{contents};
 ghost use Rattle.mte_session.specs.Sessions.{file_at, call_of, session_of};
-ghost use Rattle.mte_run.specs.Replays.{IsReplay, number_in, unstepped, turned, HasPages};
+ghost use Rattle.mte_run.specs.Replays.{IsReplay, number_in, with_no_steps, machine_after, HasPages};
 ghost use Rattle.mte_run.specs.Replays.{IsStarted, IsPlayed};
 
 use crate::bench::Bench;
-use crate::failure::Failure;
-use mte_sched::{Admission, AdmitError, Host, Refusal, Refused, Watch, ledger_follows};
+use mte_sched::{Host, ledger_follows};
 use mte_session::{Event, Sink, write_refusal};
+use mte_tenant::{Admission, AdmitError, Refusal, Refused, Watch};
+use run_options::Failure;
 use std::alloc::Global;
 
 /// A tenant that ran as in its session.
@@ -90,13 +91,13 @@ fn is_out_of_memory(refusal: &Refusal) -> bool
 #[rattlefmt::skip]
 #[tactic(
     auto,
-    unfolding(mte_sched::specs::Ledger::call_refusal, mte_sched::specs::Contents::after_call)
+    unfolding(mte_tenant::specs::Ledger::call_refusal, mte_sched::specs::Contents::after_call)
 )]
-fn decide(alloc: Global, host: &mut Host, event: &Event, files: &[Vec<u8>]) -> Result<(), Refusal>
+pub fn decide(alloc: Global, host: &mut Host, event: &Event, files: &[Vec<u8>]) -> Result<(), Refusal>
     ensures accepted { OnOk result (call_refusal (content_of host.old).frames (ledger_in host.old)
         (call_of (contents files.now) event.now) ≡ None) }
     ensures ok { OnOk result (content_of host.new ≡ after_call (content_of host.old)
-        (unstepped (call_of (contents files.now) event.now))) }
+        (with_no_steps (call_of (contents files.now) event.now))) }
     ensures refused { IfErr result (λ r. (r ≡ Refusal.Admit AdmitError.OutOfMemory)
         ⊎ (call_refusal (content_of host.old).frames (ledger_in host.old)
         (call_of (contents files.now) event.now) ≡ Some r)) }
@@ -183,7 +184,7 @@ fn played<'a, O: Watch>(
 /// Runs what an accepted event does to the tenant that it names.
 fn turn<O: Watch>(bench: &mut Bench, event: &Event, observer: &mut O)
     ensures { (files : List (List ℕ)) → machine_of bench.new.parts bench.new.memory
-        ≡ turned (call_of files event.now) (machine_of bench.old.parts bench.old.memory) }
+        ≡ machine_after (call_of files event.now) (machine_of bench.old.parts bench.old.memory) }
 {
     match *event {
         Event::Admit { .. } => {}

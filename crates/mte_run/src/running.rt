@@ -3,22 +3,24 @@
 ghost use Rattle.std.specs.Prelude.{◌<◌};
 
 use crate::bench::Bench;
+use crate::core_dump::mode_in;
+use crate::debugging::{debug_alone, debug_replay};
 use crate::ending::REFUSED;
-use crate::failure::Failure;
 use crate::files::{Image, image_of, read_file, read_files, read_input};
-use crate::observer::Observer;
-use crate::options::{Options, Replay, Told};
-use crate::refusal::remedy_of;
+use crate::observer::{Observer, exact_of};
 use crate::replay::{Replayed, replay_tenant};
 use crate::survey::Survey;
-use crate::telling::tell_end;
+use crate::telling::{Run, tell_end};
 use crate::tracer::Tracer;
 use address_map::MAX_STEPS;
 use either::Either;
 use elf_symbols::Symbols;
 use mte_program::StreamSink;
-use mte_sched::{Admission, AdmitError, Host};
-use mte_session::{parse_script, write_all, write_report};
+use mte_sched::Host;
+use mte_session::{Event, parse_script, write_all, write_report};
+use mte_tenant::{Admission, AdmitError};
+use run_options::{Failure, Options, Replay, Told, remedy_of};
+use std::alloc::Global;
 use std::fs::File;
 use std::io;
 use std::io::{BufWriter, Stderr};
@@ -33,7 +35,11 @@ pub type Log = BufWriter<Either<Stderr, File>>;
 pub fn run_program<'a>(rt: &HostRuntime, options: &'a Options) -> Result<u8, Failure<'a>> {
     let files = read_files(rt, options)?;
     match &options.replay {
+        Some(replay) if options.is_debugged => debug_replay(rt, options, replay, files.as_slice()),
         Some(replay) => run_replay(rt, options, replay, files.as_slice()),
+        None if options.is_debugged => {
+            debug_alone(rt, options, &image_of(options, files.as_slice(), 1))
+        }
         None => run_alone(rt, options, &image_of(options, files.as_slice(), 1)),
     }
 }
@@ -50,7 +56,7 @@ fn observer_of<'i>(
         Some(traced) => Some(Tracer::new(traced, Symbols::of(image), open_log(rt, told)?)),
         None => None,
     };
-    let exact = told.exact(rt.alloc());
+    let exact = exact_of(rt.alloc(), told.exact);
     let observer = Observer::new(rt.alloc(), told.last, exact, tracer)?;
     Ok(observer.with_turns(rt.alloc(), told.turns)?)
 }
@@ -111,9 +117,16 @@ fn admitted<'x>(
 }
 
 /// Tells why an image is refused, and returns the exit status.
-fn refuse(rt: &HostRuntime, error: AdmitError) -> u8 {
+pub fn refuse(rt: &HostRuntime, error: AdmitError) -> u8 {
     let remedy = remedy_of(error.name());
     let _ = eprintln!(rt; "mte_run: the tenant is refused: {error}{remedy}");
+    let _ = eprintln!(rt; "mte_run: ended by refusal, status {REFUSED}");
+    REFUSED
+}
+
+/// Tells that a session never admits the tenant, and returns the exit status.
+pub fn refuse_unadmitted(rt: &HostRuntime) -> u8 {
+    let _ = eprintln!(rt; "mte_run: the session never admits the tenant");
     let _ = eprintln!(rt; "mte_run: ended by refusal, status {REFUSED}");
     REFUSED
 }
@@ -148,9 +161,13 @@ fn run_bench<'a>(
     run_slices(&mut bench, &mut observer, options);
     write_all(
         &mut StreamSink(rt.stdout()),
-        bench.parts.account.output.as_slice(),
+        bench.parts.log.output.as_slice(),
     )?;
-    tell_end(rt, bench, &mut observer, options, image, Some(seed))
+    let run = Run {
+        seed: Some(seed),
+        mode: options.terms.mode,
+    };
+    tell_end(rt, bench, &mut observer, options, image, run)
 }
 
 /// Runs what a session does to one tenant, and writes its lines of the report.
@@ -163,15 +180,25 @@ fn run_replay<'a>(
     let mut observer = observer_of(rt, options, &[])?;
     match replayed(rt, replay, files, &mut observer)? {
         Some(Replayed { bench, image }) => {
-            write_report(&bench.parts.account, &mut StreamSink(rt.stdout()))?;
+            write_report(&bench.parts.log, &mut StreamSink(rt.stdout()))?;
             let image = image_of(options, files, image);
-            tell_end(rt, bench, &mut observer, options, &image, None)
+            let mode = mode_in(rt, options, replay, files)?;
+            let run = Run { seed: None, mode };
+            tell_end(rt, bench, &mut observer, options, &image, run)
         }
-        None => {
-            let _ = eprintln!(rt; "mte_run: the session never admits the tenant");
-            let _ = eprintln!(rt; "mte_run: ended by refusal, status {REFUSED}");
-            Ok(REFUSED)
-        }
+        None => Ok(refuse_unadmitted(rt)),
+    }
+}
+
+/// The events of a script, or its first faulty line.
+pub fn events_of<'a>(
+    alloc: Global,
+    script: &[u8],
+    files: &[Vec<u8>],
+) -> Result<Vec<Event>, Failure<'a>> {
+    match parse_script(alloc, script, files) {
+        Ok(events) => Ok(events),
+        Err(error) => Err(Failure::of_script(&error, script, files.len())),
     }
 }
 
@@ -183,7 +210,7 @@ fn replayed<'a>(
     observer: &mut Observer<'_, Log>,
 ) -> Result<Option<Replayed>, Failure<'a>> {
     let script = read_file(rt, replay.script.as_str())?;
-    let events = parse_script(rt.alloc(), script.as_slice(), files)?;
+    let events = events_of(rt.alloc(), script.as_slice(), files)?;
     let Ok(mut host) = Host::new(rt.alloc(), replay.frames) else {
         return Err(Failure::Memory);
     };
@@ -221,11 +248,11 @@ pub fn run_slices(bench: &mut Bench, observer: &mut Observer<'_, Log>, options: 
 fn is_over(bench: &Bench, observer: &Observer<'_, Log>, options: &Options) -> bool {
     observer.finding().is_some()
         || !bench.parts.is_running()
-        || bench.parts.account.steps >= options.length.steps
+        || bench.parts.log.steps >= options.length.steps
 }
 
 /// Runs a slice, or what the limit of steps leaves of it.
 fn run_slice(bench: &mut Bench, observer: &mut Observer<'_, Log>, steps: u32, limit: u64) {
-    let left = limit.saturating_sub(bench.parts.account.steps);
+    let left = limit.saturating_sub(bench.parts.log.steps);
     bench.slice(observer, left.min(u64::from(steps)) as u32);
 }

@@ -2,11 +2,11 @@
 
 use crate::bench::Bench;
 use crate::ending::{ENDINGS, Ending, ending_at};
-use crate::observer::Observer;
-use crate::options::Options;
+use crate::observer::{Observer, exact_of};
 use crate::running::{Log, admission_of, run_slices};
 use crate::seeds::seed_of_run;
-use mte_sched::AdmitError;
+use mte_tenant::AdmitError;
+use run_options::Options;
 use std::alloc::Global;
 use std::fmt;
 
@@ -67,14 +67,14 @@ fn ending_under<'x>(
     input: &'x [u8],
     seed: u64,
 ) -> Result<Ending, AdmitError> {
-    let exact = options.told.exact(alloc);
+    let exact = exact_of(alloc, options.told.exact);
     let mut observer: Observer<'_, Log> = Observer::new(alloc, 1, exact, None)?;
     let mut bench = Bench::new(alloc, &admission_of(options, image, input, seed))?;
     run_slices(&mut bench, &mut observer, options);
     if observer.finding().is_some() {
         return Ok(Ending::Exact);
     }
-    Ok(Ending::of(&bench.parts.account, options.limit()))
+    Ok(Ending::of(&bench.parts.log, options.limit()))
 }
 
 impl fmt::Display for Survey {

@@ -1,19 +1,30 @@
 //! What is told of a tenant at its end.
 
 use crate::bench::Bench;
+use crate::core_dump::dump_core;
 use crate::ending::{Ending, LastLine};
-use crate::failure::Failure;
 use crate::files::Image;
 use crate::map::draw_map;
 use crate::observer::Observer;
-use crate::options::Options;
 use crate::running::Log;
+use elf_core::Subject;
 use mte_backtrace::Names;
 use mte_flat::Flat;
 use mte_report::Report;
+use mte_tags::TagMode;
+use run_options::{Failure, Options};
 use std::fs::File;
 use std::io;
 use std::io::BufWriter;
+
+/// What is told of a run beside its tenant.
+#[derive(Clone, Copy)]
+pub struct Run {
+    /// Its seed, where it ran alone.
+    pub seed: Option<u64>,
+    /// What a tag that differed did.
+    pub mode: TagMode,
+}
 
 /// Tells what happened, as the options request it, and returns the exit status.
 pub fn tell_end<'a>(
@@ -22,7 +33,7 @@ pub fn tell_end<'a>(
     observer: &mut Observer<'_, Log>,
     options: &'a Options,
     image: &Image<'_>,
-    seed: Option<u64>,
+    run: Run,
 ) -> Result<u8, Failure<'a>> {
     if !observer.finish() {
         return Err(Failure::Write);
@@ -34,6 +45,12 @@ pub fn tell_end<'a>(
         let _ = eprintln!(rt; "mte_run: output was cut: there was no more room (--out)");
     }
     let Bench { parts, mut memory } = bench;
+    let subject = Subject {
+        parts: &parts,
+        mode: run.mode,
+        name: image.name,
+    };
+    dump_core(rt, options, &subject, &mut memory)?;
     let report = Report {
         parts: &parts,
         book: &observer.book,
@@ -42,7 +59,7 @@ pub fn tell_end<'a>(
         limit: options.limit(),
         names: Names::of(image.bytes),
         image: image.name,
-        seed,
+        seed: run.seed,
         finding: observer.finding(),
     };
     tell_report(rt, &report, &mut memory)?;
@@ -56,7 +73,7 @@ pub fn tell_end<'a>(
 fn ending_of(report: &Report<'_>) -> Ending {
     match report.finding {
         Some(_) => Ending::Exact,
-        None => Ending::of(&report.parts.account, report.limit),
+        None => Ending::of(&report.parts.log, report.limit),
     }
 }
 
@@ -104,17 +121,17 @@ fn write_json_file(
     memory: &mut Flat,
 ) -> io::Result<()> {
     let mut out = BufWriter::new(rt.alloc(), File::create(rt, name)?)?;
-    let status = ending_of(report).status(&report.parts.account);
+    let status = ending_of(report).status(&report.parts.log);
     report.write_json(rt.alloc(), &mut out, status, memory)
 }
 
 /// Writes the last line, and returns the exit status.
 fn tell_last_line(rt: &HostRuntime, report: &Report<'_>) -> u8 {
-    let account = &report.parts.account;
+    let log = &report.parts.log;
     let ending = ending_of(report);
-    let line = LastLine { ending, account };
+    let line = LastLine { ending, log };
     if line.is_told() {
         let _ = eprintln!(rt; "mte_run: {line}");
     }
-    ending.status(account)
+    ending.status(log)
 }

@@ -3,19 +3,9 @@
 use a64_step::Regs;
 use elf_symbols::Symbols;
 use mte_report::{Line, Moment, SVC, Service};
+use run_options::Traced;
 use std::io;
 use std::io::Write;
-
-/// Which lines are written.
-#[derive(Clone, Copy)]
-pub struct Traced {
-    /// The first step whose instruction has a line.
-    pub from: u64,
-    /// The last one.
-    pub to: u64,
-    /// Whether each service has a line.
-    pub services: bool,
-}
 
 /// Writes a line an instruction or a service.
 #[derive(Drop)]

@@ -1,5 +1,5 @@
 use Rattle.std.proofs.Common.{ap, ◌∙◌}
-use Rattle.mte_sched.specs.Machines.{machine_of}
+use Rattle.mte_tenant.specs.Machines.{machine_of}
 use Rattle.debuggee.proofs.CourseLemmas.{at_start}
 use Rattle.debuggee.proofs.tenant.Debuggee.new.Goals as goal
 

@@ -1,0 +1,62 @@
+//! The core file of a tenant's end.
+
+use crate::session_course::course_in;
+use elf_core::{Subject, write_core};
+use mte_flat::Flat;
+use mte_tags::TagMode;
+use run_options::{Failure, Options, Replay};
+use std::fs::File;
+use std::io;
+use std::io::BufWriter;
+
+/// Writes the core file of a tenant's end, where one is named.
+pub fn dump_core<'a>(
+    rt: &HostRuntime,
+    options: &'a Options,
+    subject: &Subject<'_>,
+    memory: &mut Flat,
+) -> Result<(), Failure<'a>> {
+    match &options.told.core {
+        Some(name) => dump(rt, name.as_str(), subject, memory),
+        None => Ok(()),
+    }
+}
+
+/// The tag mode of a tenant of a session, where a core file is named that tells it.
+pub fn mode_in<'a>(
+    rt: &HostRuntime,
+    options: &'a Options,
+    replay: &'a Replay,
+    files: &[Vec<u8>],
+) -> Result<TagMode, Failure<'a>> {
+    if options.told.core.is_none() {
+        return Ok(TagMode::Sync);
+    }
+    let course = course_in(rt, replay, files)?;
+    Ok(
+        course
+            .admitted
+            .map_or(TagMode::Sync, |admitted| admitted.mode),
+    )
+}
+
+/// Writes the core file with a name.
+fn dump<'a>(
+    rt: &HostRuntime,
+    name: &'a str,
+    subject: &Subject<'_>,
+    memory: &mut Flat,
+) -> Result<(), Failure<'a>> {
+    write_file(rt, name, subject, memory).map_err(|error| Failure::of_write(&error, name))
+}
+
+/// Writes a core file.
+fn write_file(
+    rt: &HostRuntime,
+    name: &str,
+    subject: &Subject<'_>,
+    memory: &mut Flat,
+) -> io::Result<()> {
+    let mut out = BufWriter::new(rt.alloc(), File::create(rt, name)?)?;
+    write_core(rt.alloc(), &mut out, subject, memory)
+}

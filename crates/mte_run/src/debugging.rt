@@ -1,0 +1,146 @@
+//! A tenant that GDB debugs, over standard input and output.
+
+ghost use Rattle.std.specs.Prelude.{◌<◌};
+
+use crate::files::{Image, read_input};
+use crate::running::{admission_of, refuse, refuse_unadmitted};
+use crate::session_course::{Admitted, course_in};
+use address_map::MAX_STEPS;
+use debuggee::{Cuts, Debuggee};
+use gdb_front::{Front, serve};
+use gdb_monitor::Subject;
+use mte_tenant::{Admission, AdmitError};
+use run_options::{Failure, Options, Replay};
+use std::alloc::{AllocError, Global};
+
+/// Answers GDB of an image alone, and returns the exit status.
+pub fn debug_alone<'a>(
+    rt: &HostRuntime,
+    options: &'a Options,
+    image: &Image<'_>,
+) -> Result<u8, Failure<'a>> {
+    let input = read_input(rt, options)?;
+    let listed = listed_slices(rt.alloc(), options)?;
+    debug_image(
+        rt,
+        options,
+        image.bytes,
+        image.name,
+        input.as_slice(),
+        listed.as_slice(),
+    )
+}
+
+/// Answers GDB of an image alone, with its input and the slices that are named.
+fn debug_image<'a, 'x>(
+    rt: &HostRuntime,
+    options: &Options,
+    image: &'x [u8],
+    name: &'x str,
+    input: &'x [u8],
+    listed: &'x [u32],
+) -> Result<u8, Failure<'a>> {
+    let seed = options.terms.seed;
+    let terms = admission_of(options, image, input, seed);
+    let cuts = Cuts {
+        listed,
+        others: others_of(options),
+        limit: options.length.steps,
+    };
+    let subject = Subject {
+        image,
+        name,
+        seed: Some(seed),
+    };
+    debug(rt, &terms, &cuts, subject)
+}
+
+/// Answers GDB of a tenant of a session, and returns the exit status.
+pub fn debug_replay<'a>(
+    rt: &HostRuntime,
+    options: &'a Options,
+    replay: &'a Replay,
+    files: &[Vec<u8>],
+) -> Result<u8, Failure<'a>> {
+    let course = course_in(rt, replay, files)?;
+    match course.admitted {
+        Some(admitted) => {
+            let name = options.file_name(admitted.image);
+            debug_course(
+                rt,
+                &admitted,
+                replay.id,
+                name,
+                files,
+                course.slices.as_slice(),
+            )
+        }
+        None => Ok(refuse_unadmitted(rt)),
+    }
+}
+
+/// Answers GDB of a tenant of a session, with what it was admitted with and its slices.
+fn debug_course<'a, 'x>(
+    rt: &HostRuntime,
+    admitted: &Admitted,
+    id: u16,
+    name: &'x str,
+    files: &'x [Vec<u8>],
+    listed: &'x [u32],
+) -> Result<u8, Failure<'a>> {
+    let terms = admitted.terms(id, files);
+    if terms.pages == 0 {
+        return Ok(refuse_unadmitted(rt));
+    }
+    let cuts = Cuts {
+        listed,
+        others: 0,
+        limit: u64::MAX,
+    };
+    let subject = Subject {
+        image: terms.image,
+        name,
+        seed: None,
+    };
+    debug(rt, &terms, &cuts, subject)
+}
+
+/// The slices that are named and have steps.
+fn listed_slices(alloc: Global, options: &Options) -> Result<Vec<u32>, AllocError> {
+    let mut listed = Vec::new(alloc);
+    if let Some(slices) = &options.length.slices {
+        for steps in slices {
+            if *steps > 0 {
+                listed.push(*steps)?;
+            }
+        }
+    }
+    Ok(listed)
+}
+
+/// The steps of the slices that are not named.
+fn others_of(options: &Options) -> u32 {
+    match options.length.slices {
+        Some(_) => 0,
+        None => MAX_STEPS as u32,
+    }
+}
+
+/// Answers GDB of a tenant that is admitted with these terms.
+fn debug<'a, 'x>(
+    rt: &HostRuntime,
+    terms: &Admission<'x>,
+    cuts: &Cuts<'x>,
+    subject: Subject<'x>,
+) -> Result<u8, Failure<'a>>
+    requires { 0 < terms.now.pages }
+{
+    let tenant = match Debuggee::new(rt.alloc(), terms, cuts) {
+        Ok(tenant) => tenant,
+        Err(AdmitError::OutOfMemory) => return Err(Failure::Memory),
+        Err(error) => return Ok(refuse(rt, error)),
+    };
+    let mut front = Front::new(rt.alloc(), tenant, subject);
+    serve(rt.alloc(), &mut front, &mut rt.stdin(), &mut rt.stdout())?;
+    Ok(0)
+}

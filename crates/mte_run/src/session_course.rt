@@ -1,0 +1,117 @@
+//! What a session does to one of its tenants.
+
+use crate::files::read_file;
+use crate::replay::{decide, file_of};
+use crate::running::events_of;
+use mte_sched::Host;
+use mte_session::Event;
+use mte_tags::TagMode;
+use mte_tenant::{Admission, AdmitError, Refusal};
+use run_options::{Failure, Replay};
+use std::alloc::{AllocError, Global};
+
+/// What a tenant of a session was admitted with: its files by their numbers.
+#[derive(Clone, Copy)]
+pub struct Admitted {
+    /// The file with its image.
+    pub image: u32,
+    /// The file that it may read.
+    pub input: u32,
+    /// Its seed.
+    pub seed: u64,
+    /// Its reservation.
+    pub pages: u32,
+    /// Its room for output.
+    pub room: u32,
+    /// What a tag that differs does.
+    pub mode: TagMode,
+}
+
+impl Admitted {
+    /// The same with the bytes of its files.
+    pub fn terms<'x>(&self, id: u16, files: &'x [Vec<u8>]) -> Admission<'x> {
+        Admission {
+            id,
+            image: file_of(files, self.image),
+            input: file_of(files, self.input),
+            seed: self.seed,
+            pages: self.pages,
+            room: self.room,
+            mode: self.mode,
+        }
+    }
+}
+
+/// What a session does to one of its tenants.
+#[derive(Drop)]
+pub struct SessionCourse {
+    /// How it is admitted, if it is.
+    pub admitted: Option<Admitted>,
+    /// The steps of its slices that have any.
+    pub slices: Vec<u32>,
+}
+
+impl SessionCourse {
+    /// Notes an event that was accepted.
+    fn note(&mut self, own: u16, event: &Event) -> Result<(), AllocError> {
+        match *event {
+            Event::Admit {
+                id,
+                image,
+                input,
+                seed,
+                pages,
+                room,
+                mode,
+            } if id == own => {
+                self.admitted = Some(Admitted {
+                    image,
+                    input,
+                    seed,
+                    pages,
+                    room,
+                    mode,
+                });
+            }
+            Event::Slice { id, steps } if id == own && steps > 0 => self.slices.push(steps)?,
+            _ => {}
+        }
+        Ok(())
+    }
+}
+
+/// What the session of a script does to its tenant.
+pub fn course_in<'a>(
+    rt: &HostRuntime,
+    replay: &'a Replay,
+    files: &[Vec<u8>],
+) -> Result<SessionCourse, Failure<'a>> {
+    let script = read_file(rt, replay.script.as_str())?;
+    let events = events_of(rt.alloc(), script.as_slice(), files)?;
+    let Ok(mut host) = Host::new(rt.alloc(), replay.frames) else {
+        return Err(Failure::Memory);
+    };
+    course_of(rt.alloc(), &mut host, replay.id, events.as_slice(), files)
+}
+
+/// What events do to the tenant with a number. The host decides which of them are refused.
+fn course_of<'a>(
+    alloc: Global,
+    host: &mut Host,
+    id: u16,
+    events: &[Event],
+    files: &[Vec<u8>],
+) -> Result<SessionCourse, Failure<'a>> {
+    let mut course = SessionCourse {
+        admitted: None,
+        slices: Vec::new(alloc),
+    };
+    for event in events {
+        match decide(alloc, host, event, files) {
+            Ok(()) => course.note(id, event)?,
+            Err(Refusal::Admit(AdmitError::OutOfMemory)) => return Err(Failure::Memory),
+            Err(_) => {}
+        }
+    }
+    Ok(course)
+}
