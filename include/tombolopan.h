@@ -1,11 +1,11 @@
 /*
- * libtombolopan_c.a: a tagged memory as FEAT_MTE2 has it, a step of an A64 core, a run of steps,
- * and the calls of a heap with tags.
+ * libtombolopan_c.a: sessions of several tenants, a tenant alone, a tagged memory as FEAT_MTE2 has
+ * it, a step of an A64 core, a run of steps, and the calls of a heap with tags.
  *
- * All memory is the caller's and is lent to each call: an array of places for pages, the tag state,
- * the registers. The library keeps nothing between calls, and only tb_heap_calls allocates, for its
- * own time. So the caller may read and write all of it between calls, copy it, or place it in a file.
- * Every content has a meaning:
+ * All memory is the caller's and is lent to each call: files, an array of places for pages, the tag
+ * state, the registers. There is no handle. The library keeps nothing between calls, and only
+ * tb_session, tb_alone and tb_heap_calls allocate, for their own time. So the caller may read and
+ * write all of it between calls, copy it, or place it in a file. Every content has a meaning:
  *
  * - A place with `mapped` 0 is free; zero bytes are free places and the synchronous mode.
  * - Of several places of one page the first counts.
@@ -14,7 +14,10 @@
  *
  * Rules that a caller must keep: no pointer is null, also where a count is 0; each points to what
  * its type says, of the count that is passed; what one call is lent in different arguments does not
- * overlap, and no other thread uses it meanwhile. Calls on different memory may run at once.
+ * overlap, and no other thread writes it meanwhile. ANY NUMBER OF THREADS MAY CALL AT ONCE, each on
+ * memory of its own; what is only read (const) may be shared.
+ *
+ * Calls that are `static inline` are of this header alone, made of the others.
  *
  * A page's number is the plain address of its first byte divided by 4096. An access uses the low 56
  * bits of its address, and the tag of the address is in bits 59 to 56. A search for a page goes
@@ -25,6 +28,9 @@
 
 #include <stddef.h>
 #include <stdint.h>
+
+/* The version of these layouts and calls; tb_version() tells that of the library. */
+#define TB_VERSION 2
 
 #ifdef __cplusplus
 #define TB_ASSERT(condition) static_assert(condition, #condition)
@@ -46,7 +52,10 @@ enum tb_code {
     TB_NO_ROOM = 7,        /* no place is free */
     TB_BAD_ARGUMENT = 8,   /* an argument is out of its range */
     TB_ABORT = 9,          /* a check of the pointer that was handed to the heap failed */
-    TB_OUT_OF_MEMORY = 10  /* an allocation failed */
+    TB_OUT_OF_MEMORY = 10, /* an allocation failed */
+    TB_SCRIPT = 11,        /* a line of the script is faulty */
+    TB_REFUSED = 12,       /* the tenant is not admitted */
+    TB_STOPPED = 13        /* the PC came to one of the stops */
 };
 
 /* Why an access faulted; 0 is no fault. */
@@ -81,6 +90,40 @@ enum tb_heap_abort {
     TB_INVALID_STATE = 4,  /* its header says that it is free */
     TB_NOT_A_BLOCK = 5,    /* its header names no block of the heap */
     TB_ALREADY_FREE = 6    /* its block is free */
+};
+
+/* What is wrong with a line of a script, in the order in which it is tested. */
+enum tb_script_fault {
+    TB_SYNTAX = 1,         /* it has not the form of an event */
+    TB_BAD_NUMBER = 2,     /* a number exceeds its limit */
+    TB_NO_SUCH_FILE = 3,   /* it names a file that is not there */
+    TB_TOO_MANY_EVENTS = 4 /* it is the 10001st event */
+};
+
+/* Why a tenant alone is not admitted: the first that applies. */
+enum tb_refusal {
+    TB_BAD_RESERVATION = 2,       /* the reservation or the room is out of its limits */
+    TB_RESERVATION_TOO_SMALL = 3, /* the image's pages and the stack's exceed the reservation */
+    TB_SHORT = 6,                 /* the image has less than the 64 bytes of a file header */
+    TB_NOT_ELF64 = 7,             /* it is no little-endian ELF64 file of version 1 */
+    TB_NOT_AARCH64 = 8,           /* e_machine isn't EM_AARCH64 */
+    TB_NOT_EXEC = 9,              /* e_type isn't ET_EXEC */
+    TB_BAD_HEADERS = 10,          /* e_phentsize, e_phnum or the table of program headers */
+    TB_INTERPRETER = 11,          /* a program header is PT_INTERP */
+    TB_SEGMENT_RANGE = 12,        /* a segment's sizes, its bytes or its addresses */
+    TB_OVERLAP = 13,              /* two segments touch one page */
+    TB_NO_ENTRY = 14              /* e_entry lies in no executable segment */
+};
+
+/* What became of a tenant, as the report of a session has it. */
+enum tb_tenant_status {
+    TB_STATUS_RUNNING = 1, /* it would go on with a next slice */
+    TB_STATUS_EXIT = 2,    /* it ended itself, with a code */
+    TB_STATUS_FAULT = 3,   /* an access failed */
+    TB_STATUS_ILLEGAL = 4, /* a word that encodes no instruction */
+    TB_STATUS_BREAK = 5,   /* a breakpoint instruction */
+    TB_STATUS_ASYNC = 6,   /* in the asynchronous mode a tag differed */
+    TB_STATUS_ABORT = 7    /* a heap call's check of a pointer failed */
 };
 
 /* What may be done with a page: a sum of these. */
@@ -128,7 +171,8 @@ typedef struct tb_fault {
 /* How a step or a run ended. */
 typedef struct tb_stop {
     uint64_t left;   /* the steps that were not attempted */
-    uint32_t code;   /* TB_OK, TB_FAULT, TB_SVC, TB_BREAKPOINT or TB_ILLEGAL */
+    uint32_t code;   /* TB_OK, TB_FAULT, TB_SVC, TB_BREAKPOINT, TB_ILLEGAL or TB_STOPPED; of
+                        tb_trace also TB_NO_ROOM */
     uint32_t number; /* the number of TB_BREAKPOINT, the word of TB_ILLEGAL; else 0 */
     tb_fault fault;  /* the fault of TB_FAULT; else zero */
 } tb_stop;
@@ -152,6 +196,82 @@ typedef struct tb_heap_call {
     tb_fault fault;  /* the fault of TB_FAULT; else zero */
 } tb_heap_call;
 
+/* Some bytes, which are only read. */
+typedef struct tb_bytes {
+    const uint8_t *bytes;
+    size_t length;
+} tb_bytes;
+
+/* How a session ended. */
+typedef struct tb_session_end {
+    uint64_t length; /* how many bytes the whole report has, for TB_OK and TB_NO_ROOM; else 0 */
+    uint64_t line;   /* the script's first faulty line, from 1, for TB_SCRIPT; else 0 */
+    uint32_t code;   /* what tb_session answered */
+    uint32_t fault;  /* what is wrong with the line (tb_script_fault), for TB_SCRIPT; else 0 */
+} tb_session_end;
+
+/* What a tenant alone is admitted with, and its slices. */
+typedef struct tb_terms {
+    const uint8_t *image; /* its ELF64 image */
+    size_t image_length;
+    const uint8_t *input; /* the bytes that it may read */
+    size_t input_length;
+    const uint32_t *slices; /* how many instructions each of its slices attempts at most */
+    size_t slice_count;
+    uint64_t seed;         /* of its random tags and of its heap, as in a script */
+    uint32_t pages;        /* its reservation, 1 to 4096 */
+    uint32_t room;         /* how many bytes it may write, at most 65536 */
+    uint32_t asynchronous; /* any number but 0 chooses the asynchronous mode */
+    uint32_t unused;
+} tb_terms;
+
+/* A tenant's status, or zero in all fields where there is no tenant. */
+typedef struct tb_status {
+    uint32_t status;  /* tb_tenant_status */
+    uint32_t number;  /* the code of an exit, the word that is illegal, the number of a break, why of
+                         an abort (tb_heap_abort); else 0 */
+    uint64_t pc;      /* the address of the instruction; 0 for an exit and where it is running */
+    uint64_t pointer; /* the pointer of an abort; else 0 */
+    tb_fault fault;   /* of TB_STATUS_FAULT; else zero */
+} tb_status;
+
+/* A heap call of a tenant. */
+typedef struct tb_kept_call {
+    uint64_t service; /* its number: 3 malloc, 4 free, 5 calloc, 6 realloc, 7 memalign, 8 usable_size */
+    uint64_t first;   /* x0 */
+    uint64_t second;  /* x1, or 0 where the service has one argument */
+    uint64_t answer;
+} tb_kept_call;
+
+/* How a tenant alone ended. */
+typedef struct tb_alone_end {
+    uint64_t steps;   /* how many instructions it attempted */
+    uint64_t output;  /* how many bytes it wrote */
+    uint64_t calls;   /* how many heap calls it made */
+    uint64_t kept;    /* how many of these are kept: the last 64 at most */
+    tb_status status;
+    uint32_t code;    /* what tb_alone answered */
+    uint32_t refusal; /* why it was refused (tb_refusal), for TB_REFUSED; else 0 */
+} tb_alone_end;
+
+/* An access of an instruction to memory, as tb_trace enters it. */
+typedef struct tb_access {
+    uint64_t pc;       /* the address of the instruction */
+    uint64_t addr;     /* the address that was used, its tag in bits 59 to 56 */
+    uint64_t value[2]; /* the first 16 bytes there after it, the lowest first; 0 beyond `size` */
+    uint32_t word;     /* the instruction */
+    uint32_t size;     /* how many bytes: 1 to 16; of LDG and STG the granule's 16, of ST2G 32 */
+    uint32_t write;    /* 1 for a store */
+    uint32_t mem_tag;  /* the allocation tag of the granule that holds `addr`, after it */
+} tb_access;
+
+/* Where tb_trace enters accesses: a lent array of `room`, of which `count` are entered. */
+typedef struct tb_accesses {
+    tb_access *entries;
+    size_t room;
+    size_t count;
+} tb_accesses;
+
 TB_ASSERT(sizeof(tb_page) == 4368);
 TB_ASSERT(offsetof(tb_page, bytes) == 16 && offsetof(tb_page, tags) == 4112);
 TB_ASSERT(sizeof(tb_tag_state) == 8);
@@ -160,9 +280,37 @@ TB_ASSERT(sizeof(tb_fault) == 24 && offsetof(tb_fault, mem_tag) == 20);
 TB_ASSERT(sizeof(tb_stop) == 40 && offsetof(tb_stop, fault) == 16);
 TB_ASSERT(sizeof(tb_heap_setup) == 16 && offsetof(tb_heap_setup, rgsr_tag) == 14);
 TB_ASSERT(sizeof(tb_heap_call) == 56 && offsetof(tb_heap_call, fault) == 32);
+TB_ASSERT(sizeof(tb_bytes) == 16 && offsetof(tb_bytes, length) == 8);
+TB_ASSERT(sizeof(tb_session_end) == 24 && offsetof(tb_session_end, fault) == 20);
+TB_ASSERT(sizeof(tb_terms) == 72 && offsetof(tb_terms, seed) == 48 && offsetof(tb_terms, room) == 60);
+TB_ASSERT(sizeof(tb_status) == 48 && offsetof(tb_status, fault) == 24);
+TB_ASSERT(sizeof(tb_kept_call) == 32 && offsetof(tb_kept_call, answer) == 24);
+TB_ASSERT(sizeof(tb_alone_end) == 88 && offsetof(tb_alone_end, status) == 32);
 
-/* The version of these layouts and calls, 1. */
+/* The version of these layouts and calls, TB_VERSION. */
 uint32_t tb_version(void);
+
+/*
+ * Runs a session: a script and the files that it refers to, from 1 on, on a host of `frames` frames,
+ * 1 to 65536. Copies as much of its report as `report` holds, from its start. TB_OK where it holds
+ * all. TB_NO_ROOM where it does not: end->length tells how long the whole report is, and the same
+ * call with that room gives it, since a session is a function of its bytes. TB_SCRIPT where a line
+ * of the script is faulty, TB_OUT_OF_MEMORY and TB_BAD_ARGUMENT (frames) leave the buffer as it was.
+ * It takes its memory by malloc, 4224 bytes a frame and copies of the files, and frees it again.
+ */
+uint32_t tb_session(uint32_t frames, const uint8_t *script, size_t script_length,
+                    const tb_bytes *files, size_t count, uint8_t *report, size_t room,
+                    tb_session_end *end);
+
+/*
+ * Runs a tenant alone for its slices: what it does in a session is the same, whatever the others do.
+ * Copies as much of its output, and as many of its last 64 heap calls, the oldest first, as
+ * `output` and `calls` hold. TB_OK where they hold all; TB_NO_ROOM where they do not: `end` tells
+ * how much there is. TB_REFUSED where the tenant is not admitted, which end->refusal tells, and
+ * TB_OUT_OF_MEMORY leave both buffers as they were.
+ */
+uint32_t tb_alone(const tb_terms *terms, uint8_t *output, size_t output_room, tb_kept_call *calls,
+                  size_t call_room, tb_alone_end *end);
 
 /* Makes each place free, sets the tag mode and clears the flag: a memory without pages. */
 void tb_memory_init(tb_page *pages, size_t count, tb_tag_state *state, bool asynchronous);
@@ -188,6 +336,14 @@ uint32_t tb_read(tb_page *pages, size_t count, tb_tag_state *state, uint64_t add
 /* Copies `length` bytes into pages with TB_WRITE, all of them or none, in the same way. */
 uint32_t tb_write(tb_page *pages, size_t count, tb_tag_state *state, uint64_t addr,
                   const uint8_t *bytes, size_t length, bool check, tb_fault *fault);
+
+/*
+ * Copies `length` bytes into mapped pages, whatever their attributes and tags, all of them or none:
+ * code into pages without TB_WRITE, for example. It compares no tag and changes none. TB_NOT_MAPPED
+ * where a byte's page is not mapped.
+ */
+uint32_t tb_load(tb_page *pages, size_t count, tb_tag_state *state, uint64_t addr,
+                 const uint8_t *bytes, size_t length);
 
 /*
  * The allocation tag of the granule that holds an address, 0 on a page without TB_TAGGED. It needs
@@ -220,6 +376,14 @@ uint32_t tb_run(tb_page *pages, size_t count, tb_tag_state *state, tb_regs *regs
                 tb_stop *stop);
 
 /*
+ * tb_run that also stops where the PC is one of `stops` after an instruction, and answers TB_STOPPED
+ * then. The first instruction is attempted also where it is at one of them, so the same call goes on
+ * from there.
+ */
+uint32_t tb_run_until(tb_page *pages, size_t count, tb_tag_state *state, tb_regs *regs,
+                      uint64_t steps, const uint64_t *stops, size_t stop_count, tb_stop *stop);
+
+/*
  * Makes `count` calls in order on a new heap over a memory of its own without pages, and enters the
  * code and the answer of each. A call that aborts or faults changes nothing of the heap, and those
  * behind it are made too. The heap ends with this call; since it is deterministic, the same array
@@ -228,6 +392,240 @@ uint32_t tb_run(tb_page *pages, size_t count, tb_tag_state *state, tb_regs *regs
  * a page and 11,000 more, and frees it again.
  */
 uint32_t tb_heap_calls(const tb_heap_setup *setup, tb_heap_call *calls, size_t count);
+
+/*
+ * Maps `length` pages from the number `first` on, as tb_map does: all of them or none.
+ * TB_BAD_ARGUMENT where a number is not below 2^44 or `attrs` is above 15, TB_ALREADY_MAPPED where
+ * one of them is mapped, TB_NO_ROOM where fewer places are free: these change nothing.
+ */
+static inline uint32_t tb_map_range(tb_page *pages, size_t count, uint64_t first, uint64_t length,
+                                    uint32_t attrs) {
+    const uint64_t limit = (uint64_t)1 << 44;
+    uint64_t room = 0;
+    uint32_t code = TB_OK;
+    if (first > limit || length > limit - first || attrs > 15)
+        return TB_BAD_ARGUMENT;
+    for (size_t i = 0; i < count; i++) {
+        if (pages[i].mapped == 0)
+            room++;
+        else if (pages[i].number >= first && pages[i].number - first < length)
+            return TB_ALREADY_MAPPED;
+    }
+    if (length > room)
+        return TB_NO_ROOM;
+    for (uint64_t i = 0; i < length && code == TB_OK; i++)
+        code = tb_map(pages, count, first + i, attrs);
+    return code;
+}
+
+/* The place of the page that holds an address, or `count`. */
+static inline size_t tb_place_of(const tb_page *pages, size_t count, uint64_t addr) {
+    const uint64_t number = (addr & (((uint64_t)1 << 56) - 1)) / 4096;
+    size_t i = 0;
+    while (i < count && (pages[i].mapped == 0 || pages[i].number != number))
+        i++;
+    return i;
+}
+
+/*
+ * The number of the `length` bytes, at most 8, at an address, the lowest first, whatever the
+ * attributes and tags of its pages. It compares no tag; a byte that is not mapped is 0.
+ */
+static inline uint64_t tb_peek(const tb_page *pages, size_t count, uint64_t addr, size_t length) {
+    uint64_t value = 0;
+    for (size_t i = 0; i < length && i < 8; i++) {
+        const size_t place = tb_place_of(pages, count, addr + i);
+        if (place < count)
+            value |= (uint64_t)pages[place].bytes[(addr + i) % 4096] << 8 * i;
+    }
+    return value;
+}
+
+/*
+ * How many bytes a load or a store of the profile accesses, by its word: 1 to 16, of LDG, STG and
+ * STZG 16, of ST2G and STZ2G 32. Of other words it says nothing.
+ */
+static inline uint32_t tb_access_size(uint32_t word) {
+    if (word >> 24 == 0xd9)
+        return (word & 0x00800000) != 0 ? 32 : 16;
+    if ((word & 0x38000000) == 0x28000000)
+        return word >> 31 != 0 || (word & 0x40400000) == 0x40000000 ? 16 : 8;
+    if ((word & 0x3f000000) == 0x18000000)
+        return (word & 0x40000000) != 0 ? 8 : 4;
+    return (uint32_t)1 << (word >> 30);
+}
+
+/*
+ * Of tb_trace_step: withholds READ, WRITE and TAGGED of each page, and keeps its attributes four
+ * bits higher.
+ */
+static inline void tb_withhold(tb_page *pages, size_t count) {
+    for (size_t i = 0; i < count; i++)
+        pages[i].attrs = (pages[i].attrs & 15) << 4 | (pages[i].attrs & TB_EXEC);
+}
+
+/* Of tb_trace_step: gives each page the attributes back that tb_withhold kept. */
+static inline void tb_give_back(tb_page *pages, size_t count) {
+    for (size_t i = 0; i < count; i++)
+        pages[i].attrs = pages[i].attrs >> 4 & 15;
+}
+
+/*
+ * tb_step that also enters the instruction's access to memory, if it has one and succeeds, behind
+ * those that are entered. TB_NO_ROOM where there is no room for one that it may have: then nothing
+ * is attempted. An instruction is attempted first while all pages lack READ and WRITE, so that an
+ * access faults and changes nothing, and then with the attributes that it finds, as tb_step does;
+ * bits of `attrs` that do not count become 0.
+ */
+static inline uint32_t tb_trace_step(tb_page *pages, size_t count, tb_tag_state *state,
+                                     tb_regs *regs, tb_accesses *accesses, tb_stop *stop) {
+    tb_access it;
+    uint32_t code;
+    size_t place;
+    tb_withhold(pages, count);
+    code = tb_step(pages, count, state, regs, stop);
+    tb_give_back(pages, count);
+    if (code != TB_FAULT || stop->fault.kind != TB_PERMISSION)
+        return code;
+    if (accesses->count >= accesses->room) {
+        static const tb_fault none = {0, 0, 0, 0, 0};
+        stop->code = TB_NO_ROOM;
+        stop->fault = none;
+        return TB_NO_ROOM;
+    }
+    it.pc = regs->pc;
+    it.addr = stop->fault.addr | (uint64_t)stop->fault.ptr_tag << 56;
+    it.word = (uint32_t)tb_peek(pages, count, it.pc, 4);
+    it.size = tb_access_size(it.word);
+    it.write = stop->fault.write;
+    code = tb_step(pages, count, state, regs, stop);
+    if (code != TB_OK)
+        return code;
+    it.value[0] = tb_peek(pages, count, it.addr, it.size);
+    it.value[1] = it.size > 8 ? tb_peek(pages, count, it.addr + 8, it.size - 8) : 0;
+    place = tb_place_of(pages, count, it.addr);
+    it.mem_tag = 0;
+    if (place < count && (pages[place].attrs & TB_TAGGED) != 0)
+        it.mem_tag = pages[place].tags[it.addr % 4096 / 16] & 15;
+    accesses->entries[accesses->count++] = it;
+    return TB_OK;
+}
+
+/*
+ * tb_run that also enters each access to memory (not the fetches of instructions), in order, behind
+ * those that are entered. It stops with TB_NO_ROOM before an instruction that may have an access
+ * for which there is no room; with more room, or with accesses->count made less, the same call goes
+ * on from there. It makes each step by tb_trace_step, so it is slower than tb_run.
+ */
+static inline uint32_t tb_trace(tb_page *pages, size_t count, tb_tag_state *state, tb_regs *regs,
+                                uint64_t steps, tb_accesses *accesses, tb_stop *stop) {
+    static const tb_stop done = {0, TB_OK, 0, {0, 0, 0, 0, 0}};
+    uint64_t left = steps;
+    uint32_t code = TB_OK;
+    *stop = done;
+    while (left > 0 && code == TB_OK) {
+        code = tb_trace_step(pages, count, state, regs, accesses, stop);
+        if (code != TB_NO_ROOM)
+            left--;
+    }
+    stop->left = left;
+    return code;
+}
+
+/* What a code says that a call answered, a tb_code, in a few words. The text stays. */
+static inline const char *tb_text(uint32_t code) {
+    switch (code) {
+    case TB_OK: return "ok";
+    case TB_FAULT: return "fault";
+    case TB_SVC: return "svc";
+    case TB_BREAKPOINT: return "breakpoint";
+    case TB_ILLEGAL: return "illegal instruction";
+    case TB_NOT_MAPPED: return "page not mapped";
+    case TB_ALREADY_MAPPED: return "page already mapped";
+    case TB_NO_ROOM: return "no room";
+    case TB_BAD_ARGUMENT: return "bad argument";
+    case TB_ABORT: return "heap abort";
+    case TB_OUT_OF_MEMORY: return "out of memory";
+    case TB_SCRIPT: return "faulty script line";
+    case TB_REFUSED: return "tenant refused";
+    case TB_STOPPED: return "stopped";
+    default: return "unknown";
+    }
+}
+
+/* The name of a tb_fault_kind as reports have it; "none" for 0. The text stays. */
+static inline const char *tb_fault_kind_name(uint32_t kind) {
+    switch (kind) {
+    case 0: return "none";
+    case TB_TRANSLATION: return "Translation";
+    case TB_PERMISSION: return "Permission";
+    case TB_TAG_CHECK: return "TagCheck";
+    case TB_ALIGNMENT: return "Alignment";
+    case TB_SP_ALIGNMENT: return "SpAlignment";
+    case TB_PC_ALIGNMENT: return "PcAlignment";
+    default: return "unknown";
+    }
+}
+
+/* The name of a tb_heap_abort as reports have it; "none" for 0. The text stays. */
+static inline const char *tb_heap_abort_name(uint32_t why) {
+    switch (why) {
+    case 0: return "none";
+    case TB_MISALIGNED: return "Misaligned";
+    case TB_UNMAPPED: return "Unmapped";
+    case TB_HEADER_CORRUPT: return "HeaderCorrupt";
+    case TB_INVALID_STATE: return "InvalidState";
+    case TB_NOT_A_BLOCK: return "NotABlock";
+    case TB_ALREADY_FREE: return "AlreadyFree";
+    default: return "unknown";
+    }
+}
+
+/* The name of a tb_script_fault as mte_host writes it; "none" for 0. The text stays. */
+static inline const char *tb_script_fault_name(uint32_t fault) {
+    switch (fault) {
+    case 0: return "none";
+    case TB_SYNTAX: return "Syntax";
+    case TB_BAD_NUMBER: return "BadNumber";
+    case TB_NO_SUCH_FILE: return "NoSuchFile";
+    case TB_TOO_MANY_EVENTS: return "TooManyEvents";
+    default: return "unknown";
+    }
+}
+
+/* The name of a tb_refusal as reports have it; "none" for 0. The text stays. */
+static inline const char *tb_refusal_name(uint32_t refusal) {
+    switch (refusal) {
+    case 0: return "none";
+    case TB_BAD_RESERVATION: return "BadReservation";
+    case TB_RESERVATION_TOO_SMALL: return "ReservationTooSmall";
+    case TB_SHORT: return "Short";
+    case TB_NOT_ELF64: return "NotElf64";
+    case TB_NOT_AARCH64: return "NotAarch64";
+    case TB_NOT_EXEC: return "NotExec";
+    case TB_BAD_HEADERS: return "BadHeaders";
+    case TB_INTERPRETER: return "Interpreter";
+    case TB_SEGMENT_RANGE: return "SegmentRange";
+    case TB_OVERLAP: return "Overlap";
+    case TB_NO_ENTRY: return "NoEntry";
+    default: return "unknown";
+    }
+}
+
+/* The name of a tb_tenant_status as reports have it; "none" for 0. The text stays. */
+static inline const char *tb_tenant_status_name(uint32_t status) {
+    switch (status) {
+    case 0: return "none";
+    case TB_STATUS_RUNNING: return "running";
+    case TB_STATUS_EXIT: return "exit";
+    case TB_STATUS_FAULT: return "fault";
+    case TB_STATUS_ILLEGAL: return "illegal";
+    case TB_STATUS_BREAK: return "break";
+    case TB_STATUS_ASYNC: return "async";
+    case TB_STATUS_ABORT: return "abort";
+    default: return "unknown";
+    }
+}
 
 #ifdef __cplusplus
 }

@@ -1,20 +1,13 @@
 //! The same program as embed.c, in Rust, through the same calls.
+//! usage: embed IMAGE
 
-use std::ptr::addr_of_mut;
+mod tombolopan;
+
+use tombolopan::*;
 
 const PLACES: usize = 3;
 const CODE: u64 = 0x10000;
 const DATA: u64 = 0x20000;
-
-const TB_FAULT: u32 = 1;
-const TB_MALLOC: u32 = 1;
-const TB_FREE: u32 = 2;
-const TB_LOAD: u32 = 7;
-const TB_STORE: u32 = 8;
-const TB_READ: u32 = 1;
-const TB_WRITE: u32 = 2;
-const TB_EXEC: u32 = 4;
-const TB_TAGGED: u32 = 8;
 
 /// Stores x2, x2 + 1, .. at x0, x1 numbers of 8 bytes.
 const WORDS: [u32; 5] = [
@@ -25,223 +18,103 @@ const WORDS: [u32; 5] = [
     0xd4000001, //       svc #0
 ];
 
-#[repr(C)]
-#[derive(Clone, Copy)]
-struct Page {
-    number: u64,
-    mapped: u32,
-    attrs: u32,
-    bytes: [u8; 4096],
-    tags: [u8; 256],
-}
-
-#[repr(C)]
-#[derive(Default)]
-struct TagState {
-    asynchronous: u32,
-    pending: u32,
-}
-
-#[repr(C)]
-#[derive(Default)]
-struct Regs {
-    x: [u64; 31],
-    sp: u64,
-    pc: u64,
-    nzcv: u32,
-    rgsr_seed: u16,
-    rgsr_tag: u16,
-}
-
-#[repr(C)]
-#[derive(Default)]
-struct Fault {
-    addr: u64,
-    kind: u32,
-    write: u32,
-    ptr_tag: u32,
-    mem_tag: u32,
-}
-
-#[repr(C)]
-#[derive(Default)]
-struct Stop {
-    left: u64,
-    code: u32,
-    number: u32,
-    fault: Fault,
-}
-
-#[repr(C)]
-struct HeapSetup {
-    cookie: u32,
-    pages: u32,
-    asynchronous: u32,
-    rgsr_seed: u16,
-    rgsr_tag: u16,
-}
-
-#[repr(C)]
-#[derive(Default)]
-struct HeapCall {
-    op: u32,
-    code: u32,
-    first: u64,
-    second: u64,
-    answer: u64,
-    fault: Fault,
-}
-
-unsafe extern "C" {
-    fn tb_version() -> u32;
-    fn tb_memory_init(pages: *mut Page, count: usize, state: *mut TagState, asynchronous: bool);
-    fn tb_map(pages: *mut Page, count: usize, number: u64, attrs: u32) -> u32;
-    fn tb_unmap(pages: *mut Page, count: usize, number: u64) -> u32;
-    fn tb_read(
-        pages: *mut Page,
-        count: usize,
-        state: *mut TagState,
-        addr: u64,
-        buffer: *mut u8,
-        length: usize,
-        check: bool,
-        fault: *mut Fault,
-    ) -> u32;
-    fn tb_write(
-        pages: *mut Page,
-        count: usize,
-        state: *mut TagState,
-        addr: u64,
-        bytes: *const u8,
-        length: usize,
-        check: bool,
-        fault: *mut Fault,
-    ) -> u32;
-    fn tb_load_tag(
-        pages: *mut Page,
-        count: usize,
-        state: *mut TagState,
-        addr: u64,
-        tag: *mut u8,
-        fault: *mut Fault,
-    ) -> u32;
-    fn tb_store_tags(
-        pages: *mut Page,
-        count: usize,
-        state: *mut TagState,
-        addr: u64,
-        granules: u64,
-        tag: u8,
-        zero: bool,
-        fault: *mut Fault,
-    ) -> u32;
-    fn tb_step(
-        pages: *mut Page,
-        count: usize,
-        state: *mut TagState,
-        regs: *mut Regs,
-        stop: *mut Stop,
-    ) -> u32;
-    fn tb_run(
-        pages: *mut Page,
-        count: usize,
-        state: *mut TagState,
-        regs: *mut Regs,
-        steps: u64,
-        stop: *mut Stop,
-    ) -> u32;
-    fn tb_heap_calls(setup: *const HeapSetup, calls: *mut HeapCall, count: usize) -> u32;
-}
-
-/// A memory of tagged pages, and its calls without raw pointers.
-struct Memory {
-    pages: Vec<Page>,
-    state: TagState,
-}
-
-impl Memory {
-    fn new(places: usize) -> Memory {
-        let free = Page { number: 0, mapped: 0, attrs: 0, bytes: [0; 4096], tags: [0; 256] };
-        let mut memory = Memory { pages: vec![free; places], state: TagState::default() };
-        let (pages, count) = memory.places();
-        unsafe { tb_memory_init(pages, count, addr_of_mut!(memory.state), false) };
-        memory
-    }
-
-    fn places(&mut self) -> (*mut Page, usize) {
-        (self.pages.as_mut_ptr(), self.pages.len())
-    }
-
-    fn map(&mut self, number: u64, attrs: u32) -> u32 {
-        let (pages, count) = self.places();
-        unsafe { tb_map(pages, count, number, attrs) }
-    }
-
-    fn unmap(&mut self, number: u64) -> u32 {
-        let (pages, count) = self.places();
-        unsafe { tb_unmap(pages, count, number) }
-    }
-
-    fn read(&mut self, addr: u64, buffer: &mut [u8], fault: &mut Fault) -> u32 {
-        let (pages, count) = self.places();
-        let (bytes, length) = (buffer.as_mut_ptr(), buffer.len());
-        unsafe { tb_read(pages, count, &mut self.state, addr, bytes, length, true, fault) }
-    }
-
-    fn write(&mut self, addr: u64, bytes: &[u8], fault: &mut Fault) -> u32 {
-        let (pages, count) = self.places();
-        let (bytes, length) = (bytes.as_ptr(), bytes.len());
-        unsafe { tb_write(pages, count, &mut self.state, addr, bytes, length, true, fault) }
-    }
-
-    fn load_tag(&mut self, addr: u64, tag: &mut u8, fault: &mut Fault) -> u32 {
-        let (pages, count) = self.places();
-        unsafe { tb_load_tag(pages, count, &mut self.state, addr, tag, fault) }
-    }
-
-    fn store_tags(&mut self, addr: u64, granules: u64, tag: u8, fault: &mut Fault) -> u32 {
-        let (pages, count) = self.places();
-        unsafe { tb_store_tags(pages, count, &mut self.state, addr, granules, tag, false, fault) }
-    }
-
-    fn step(&mut self, regs: &mut Regs, stop: &mut Stop) -> u32 {
-        let (pages, count) = self.places();
-        unsafe { tb_step(pages, count, &mut self.state, regs, stop) }
-    }
-
-    fn run(&mut self, regs: &mut Regs, steps: u64, stop: &mut Stop) -> u32 {
-        let (pages, count) = self.places();
-        unsafe { tb_run(pages, count, &mut self.state, regs, steps, stop) }
-    }
-
-    /// Runs the loop from its start for `count` numbers.
-    fn store(&mut self, what: &str, count: u64) {
-        let mut regs = Regs { pc: CODE, ..Regs::default() };
-        let mut stop = Stop::default();
-        regs.x[0] = with_tag(DATA, 5);
-        regs.x[1] = count;
-        self.run(&mut regs, 100, &mut stop);
-        tell(what, &stop, &regs);
-    }
-}
-
 fn with_tag(address: u64, tag: u64) -> u64 {
     address | tag << 56
 }
 
 fn tell(what: &str, stop: &Stop, regs: &Regs) {
     let (code, left, pc, x1) = (stop.code, stop.left, regs.pc, regs.x[1]);
-    println!("{what}: code {code}, {left} steps left, pc {pc:#x}, x1 {x1}");
+    println!("{what}: {}, {left} steps left, pc {pc:#x}, x1 {x1}", text(code));
     if code == TB_FAULT {
         let Fault { addr, kind, write, ptr_tag, mem_tag } = &stop.fault;
+        let kind = fault_kind_name(*kind);
         print!("  fault {kind} at {addr:#x}, write {write}, pointer tag {ptr_tag}");
         println!(", memory tag {mem_tag}");
     }
 }
 
-/// Makes heap calls in order.
-fn heap_calls(setup: &HeapSetup, calls: &mut [HeapCall]) -> u32 {
-    unsafe { tb_heap_calls(setup, calls.as_mut_ptr(), calls.len()) }
+/// Runs the loop from its start for `count` numbers.
+fn store(memory: &mut Memory, what: &str, count: u64) {
+    let mut regs = Regs { pc: CODE, ..Regs::default() };
+    regs.x[0] = with_tag(DATA, 5);
+    regs.x[1] = count;
+    let stop = memory.run(&mut regs, 100);
+    tell(what, &stop, &regs);
+}
+
+/// Ranges of pages in a memory of their own: all of a range or none.
+fn map_ranges() {
+    let mut own = Memory::new(PLACES, false);
+    print!("ranges: {}", text(own.map_range(16, 2, TB_READ)));
+    print!(", {}", text(own.map_range(15, 2, TB_READ)));
+    print!(", {}", text(own.map_range(32, 2, TB_READ)));
+    print!(", {}", text(own.map_range((1 << 44) - 1, 2, TB_READ)));
+    print!(", {}", text(own.map_range(32, 1, TB_READ)));
+    println!(", {}", text(own.unmap(15)));
+}
+
+/// The loop for three numbers, its stores entered in a list of two: it stops before the third, and
+/// goes on when the list is empty again. A run over a copy leaves the same.
+fn trace(memory: &mut Memory) {
+    let mut accesses = Vec::new();
+    let mut regs = Regs { pc: CODE, ..Regs::default() };
+    regs.x[0] = with_tag(DATA, 5);
+    regs.x[1] = 3;
+    regs.x[2] = 70;
+    let (mut copy, mut others) = (memory.clone(), regs);
+    loop {
+        accesses.clear();
+        let stop = memory.trace(&mut regs, 100, &mut accesses, 2);
+        println!("trace: {}, {} steps left", text(stop.code), stop.left);
+        for Access { pc, addr, value, word, size, write, mem_tag } in &accesses {
+            let write = u32::from(*write);
+            print!("  pc {pc:#x}: word {word:x}, write {write} of {size} bytes at {addr:#x}");
+            println!(", memory tag {mem_tag}, value {}", value[0]);
+        }
+        if stop.code != TB_NO_ROOM {
+            break;
+        }
+    }
+    copy.run(&mut others, 100);
+    let same = |a: &Page, b: &Page| {
+        a.mapped == b.mapped && a.attrs == b.attrs && a.bytes == b.bytes && a.tags == b.tags
+    };
+    let same_pages = copy.pages.iter().zip(&memory.pages).all(|(a, b)| same(a, b));
+    let same_regs = others.x == regs.x && others.pc == regs.pc && others.nzcv == regs.nzcv;
+    println!("  as a run: {} {}", u32::from(same_pages), u32::from(same_regs));
+}
+
+/// How many bytes loads and stores access, by their words.
+fn tell_sizes() {
+    const WORDS: [u32; 14] = [
+        0xf9400022, // ldr x2, [x1]
+        0xb9000022, // str w2, [x1]
+        0x39400022, // ldrb w2, [x1]
+        0x79800022, // ldrsh x2, [x1]
+        0xa9001022, // stp x2, x4, [x1]
+        0x29401022, // ldp w2, w4, [x1]
+        0x69401022, // ldpsw x2, x4, [x1]
+        0x69001022, // stgp x2, x4, [x1]
+        0x58000102, // ldr x2, .+32
+        0x18000102, // ldr w2, .+32
+        0x98000102, // ldrsw x2, .+32
+        0xd9600022, // ldg x2, [x1]
+        0xd9600821, // stzg x1, [x1]
+        0xd9e00821, // stz2g x1, [x1]
+    ];
+    print!("sizes:");
+    WORDS.iter().for_each(|word| print!(" {}", access_size(*word)));
+    println!();
+}
+
+/// The text of each code, and the names of what codes do not say.
+fn tell_texts() {
+    for i in 0..16 {
+        let (code, kind, abort) = (text(i), fault_kind_name(i), heap_abort_name(i));
+        let (script, refusal) = (script_fault_name(i), refusal_name(i));
+        let status = tenant_status_name(i);
+        println!("{i}: {code}; {kind}, {abort}, {script}, {refusal}, {status}");
+    }
 }
 
 /// A chunk is stored to, loaded, freed, loaded again and freed again.
@@ -271,24 +144,53 @@ fn use_a_heap() {
     println!("too many pages: {}", heap_calls(&setup, &mut calls));
 }
 
+/// What the tenant of an image is admitted with.
+fn terms_of(image: &[u8]) -> Terms<'_> {
+    Terms { image, input: &[], seed: 1, pages: 5, room: 16, asynchronous: false }
+}
+
+/// Runs the tenant of an image: with room for its output, without, and of half its image.
+fn use_a_tenant(image: &[u8]) {
+    let (mut output, mut calls) = ([0; 16], [KeptCall::default()]);
+    let end = alone(&terms_of(image), &[5, 100], &mut output, &mut calls);
+    print!("tenant: {}, status {} number {}", end.code, end.status.status, end.status.number);
+    let wrote = String::from_utf8_lossy(&output[..end.output as usize]);
+    println!(", {} steps, {} heap calls, wrote {wrote}", end.steps, end.calls);
+    let end = alone(&terms_of(image), &[5, 100], &mut output[..1], &mut []);
+    println!("no room: {}, it wrote {} bytes", end.code, end.output);
+    let end = alone(&terms_of(&image[..63]), &[], &mut output, &mut []);
+    println!("half an image: {}, refusal {}", end.code, end.refusal);
+}
+
+/// A session whose script has a faulty line, and one on a host without frames.
+fn use_sessions() {
+    let end = session_into(1, b"# no event\nslice 1\n", &[], &mut [0]);
+    println!("script: {}, line {}, fault {}", end.code, end.line, end.fault);
+    println!("no frames: {}", session_into(0, b"", &[], &mut [0]).code);
+    let end = session_into(1, b"", &[], &mut [0]);
+    println!("no events: {}, a report of {} bytes", end.code, end.length);
+}
+
 fn main() {
+    let image = std::fs::read(std::env::args().nth(1).expect("usage: embed IMAGE"))
+        .expect("the image cannot be read");
     let mut fault = Fault::default();
     let mut regs = Regs::default();
-    let mut stop = Stop::default();
     let mut tag = 0;
     let mut bytes = [0; 32];
 
-    println!("version {}", unsafe { tb_version() });
-    let mut memory = Memory::new(PLACES);
+    assert_eq!(version(), TB_VERSION);
+    println!("version {}", version());
+    let mut memory = Memory::new(PLACES, false);
     print!("map: {}", memory.map(CODE / 4096, TB_READ | TB_EXEC));
     print!(" {}", memory.map(DATA / 4096, TB_READ | TB_WRITE | TB_TAGGED));
     print!(" again {}", memory.map(DATA / 4096, TB_READ));
     println!(" attributes {}", memory.map(1, 16));
 
-    // The code page may not be written by calls, but the place is the caller's.
-    for (i, word) in WORDS.iter().enumerate() {
-        memory.pages[0].bytes[4 * i..4 * i + 4].copy_from_slice(&word.to_le_bytes());
-    }
+    // The code page may be loaded, and not written.
+    let code: Vec<u8> = WORDS.iter().flat_map(|word| word.to_le_bytes()).collect();
+    print!("load: {}", memory.load(CODE, &code));
+    println!(" {}", memory.load(CODE + 4092, &code));
     print!("write to code: {}", memory.write(CODE, &bytes, &mut fault));
     println!(", fault {}", fault.kind);
 
@@ -297,22 +199,37 @@ fn main() {
     print!(" {}", memory.load_tag(DATA + 31, &mut tag, &mut fault));
     println!(" tag {tag}");
 
-    memory.store("four numbers", 4);
+    store(&mut memory, "four numbers", 4);
     print!("read: {}", memory.read(with_tag(DATA, 5), &mut bytes, &mut fault));
     println!(", last number {}", bytes[24]);
     print!("read by another tag: {}", memory.read(with_tag(DATA, 6), &mut bytes, &mut fault));
     println!(", fault {}", fault.kind);
 
-    memory.store("five numbers", 5);
+    // To the second store and to the instruction behind the loop.
+    regs.pc = CODE;
+    regs.x[0] = with_tag(DATA, 5);
+    regs.x[1] = 2;
+    for _ in 0..3 {
+        let stop = memory.run_until(&mut regs, 100, &[0x10000, 0x10010]);
+        tell("until", &stop, &regs);
+    }
+
+    trace(&mut memory);
+    store(&mut memory, "five numbers", 5);
     memory.state.asynchronous = 1;
-    memory.store("five numbers, asynchronous", 5);
+    store(&mut memory, "five numbers, asynchronous", 5);
     println!("pending {}", memory.state.pending);
 
     regs.pc = CODE + 20;
-    print!("step: {}", memory.step(&mut regs, &mut stop));
-    println!(", word {}", stop.number);
+    let stop = memory.step(&mut regs);
+    println!("step: {}, word {}", stop.code, stop.number);
     print!("unmap: {}", memory.unmap(CODE / 4096));
     println!(" {}", memory.unmap(CODE / 4096));
-    memory.store("no code", 1);
+    store(&mut memory, "no code", 1);
     use_a_heap();
+    use_a_tenant(&image);
+    use_sessions();
+    map_ranges();
+    tell_sizes();
+    tell_texts();
 }

@@ -2,12 +2,8 @@
 //! tagged memory, and stepped.
 #![tactic(auto)]
 
-use a64_decode::decode;
-use a64_step::{Regs, step};
-use a64_text::Text;
 use anyhow::{Result, bail};
-use mte_flat::Flat;
-use mte_tags::{Attrs, Paged, TagMode, Tagged};
+use tombolopan::{Attrs, Flat, Paged, Regs, TagMode, Tagged, Text, decode, step};
 
 /// `add x0, x0, #1`
 const WORD: u32 = 0x9100_0400;

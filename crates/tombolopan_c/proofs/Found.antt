@@ -3,7 +3,7 @@ use Rattle.std.proofs.Common.{◌≡◌, ℕ, zero, suc, ◌%◌, ◌<◌, ◌+�
 use Rattle.std.specs.Prelude.{option_map}
 use Rattle.std.proofs.lemmas.List.{map-set, get_or_default}
 use Rattle.mte_tags.specs.Memory.{page_at, with_page}
-use Rattle.mte_tags.specs.Runs.{spliced, with_bytes_in, retagged}
+use Rattle.mte_tags.specs.Runs.{with_bytes_run, with_bytes_in, with_granule_tags}
 use Rattle.mte_tags.specs.declared.state.TagState.{TagState}
 use Rattle.tombolopan_c.specs.LentPages.{page_of, lent_memory, IsFirst, HasNone}
 use Rattle.tombolopan_c.specs.LentPlaces.{no_page}
@@ -12,10 +12,10 @@ use Rattle.tombolopan_c.proofs.Places.{page_at-first, page_at-none}
 use Rattle.tombolopan_c.proofs.Changes.{lent_changed}
 
 -- tags that are stored keep their low four bits
-pub map-spliced : (f : ℕ → ℕ) (bs xs : List ℕ) (o : ℕ) → map f (spliced xs o bs) ≡ spliced (map f xs) o (map f bs)
-unfolding spliced
-map-spliced f [] xs o = refl
-map-spliced f (b ∷ bs) xs o = map-spliced f bs (set xs o b) (o + 1) ∙ ap (λ ys. spliced ys (o + 1) (map f bs)) (map-set f xs o b)
+pub map-with-bytes-run : (f : ℕ → ℕ) (bs xs : List ℕ) (o : ℕ) → map f (with_bytes_run xs o bs) ≡ with_bytes_run (map f xs) o (map f bs)
+unfolding with_bytes_run
+map-with-bytes-run f [] xs o = refl
+map-with-bytes-run f (b ∷ bs) xs o = map-with-bytes-run f bs (set xs o b) (o + 1) ∙ ap (λ ys. with_bytes_run ys (o + 1) (map f bs)) (map-set f xs o b)
 
 pub map-replicate : (n t : ℕ) → t < 16 → map (λ (x : ℕ). x % 16) (replicate n t) ≡ replicate n t
 map-replicate zero t h = refl
@@ -36,7 +36,7 @@ found_among s pages seen q o e some none =
 
 -- a place with a run of its bytes replaced
 pub lent_replaced : (s : TagState) (pages : List LentPage) (i at : ℕ) (bs : List ℕ) (d new : LentPage) → IsFirst pages i (get_or pages i no_page).number
-    → new ≡ record (get_or pages i d) { bytes = spliced (get_or pages i d).bytes (at % 4096) bs }
+    → new ≡ record (get_or pages i d) { bytes = with_bytes_run (get_or pages i d).bytes (at % 4096) bs }
     → lent_memory s (set pages i new) ≡ with_page (lent_memory s pages) (get_or pages i no_page).number (with_bytes_in (page_of (get_or pages i no_page)) (at % 4096) bs)
 lent_replaced s pages i at bs d new h e =
     let same : get_or pages i d ≡ get_or pages i new = get_or_default pages i d new h.within in
@@ -49,11 +49,11 @@ lent_replaced s pages i at bs d new h e =
 
 -- a place with granules retagged
 pub lent_retagged : (s : TagState) (pages : List LentPage) (i first count tag : ℕ) (z : Bool) (d new : LentPage) → IsFirst pages i (get_or pages i no_page).number
-    → new.number ≡ (get_or pages i d).number → new.mapped ≡ (get_or pages i d).mapped → page_of new ≡ retagged (page_of (get_or pages i d)) first count tag z
-    → lent_memory s (set pages i new) ≡ with_page (lent_memory s pages) (get_or pages i no_page).number (retagged (page_of (get_or pages i no_page)) first count tag z)
+    → new.number ≡ (get_or pages i d).number → new.mapped ≡ (get_or pages i d).mapped → page_of new ≡ with_granule_tags (page_of (get_or pages i d)) first count tag z
+    → lent_memory s (set pages i new) ≡ with_page (lent_memory s pages) (get_or pages i no_page).number (with_granule_tags (page_of (get_or pages i no_page)) first count tag z)
 lent_retagged s pages i first count tag z d new h number mapped e =
     let same : get_or pages i d ≡ get_or pages i new = get_or_default pages i d new h.within in
     let q = (get_or pages i no_page).number in
     lent_changed s pages i q new h (number ∙ ap (λ (p : LentPage). p.number) same) (mapped ∙ ap (λ (p : LentPage). p.mapped) same)
     ∙ ap (with_page (lent_memory s pages) q) e
-    ∙ ap (λ t. with_page (lent_memory s pages) q (retagged (page_of t) first count tag z)) (get_or_default pages i d no_page h.within)
+    ∙ ap (λ t. with_page (lent_memory s pages) q (with_granule_tags (page_of t) first count tag z)) (get_or_default pages i d no_page h.within)

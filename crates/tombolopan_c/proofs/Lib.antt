@@ -3,3 +3,5 @@ mod Changes
 mod Found
 mod Tags
 mod HeapLists
+mod Until
+mod Loads

@@ -1,6 +1,8 @@
 -- The codes of faults and of the calls that map pages, and what is reported of a fault.
 use Rattle.std.specs.Prelude.{ℕ, ◌&&◌, Bool, Option, Some, None, is_some, nat_lt}
-use Rattle.std.specs.Prelude.{if◌then◌else◌}
+use Rattle.std.specs.Prelude.{◌/◌, true, List, [], ◌∷◌, if◌then◌else◌}
+use Rattle.a64_bits.specs.Addresses.{plain}
+use Rattle.mte_tags.specs.Accesses.{addresses}
 use Rattle.mte_tags.specs.Memory.{Memory, page_at}
 use Rattle.mte_tags.specs.declared.fault.FaultKind.{FaultKind}
 use Rattle.mte_tags.specs.declared.fault.FaultKind.TheVariants as kind
@@ -57,3 +59,12 @@ map_code m room q attrs =
 
 abbrev pub unmap_code : Memory → ℕ → ℕ
 unmap_code m q = if is_some (page_at m q) then OK else NOT_MAPPED
+
+-- whether the page of each plain address is mapped
+abbrev pub all_mapped : Memory → List ℕ → Bool
+all_mapped m [] = true
+all_mapped m (a ∷ more) = is_some (page_at m (a / 4096)) && all_mapped m more
+
+-- n bytes are to be loaded at an address
+abbrev pub load_code : Memory → ℕ → ℕ → ℕ
+load_code m a n = if all_mapped m (addresses (plain a) n) then OK else NOT_MAPPED

@@ -9,7 +9,7 @@ use Rattle.scudo_heap.specs.Heaps.{empty_heap}
 use Rattle.scudo_heap.specs.Placing.{World, world_of}
 use Rattle.scudo_heap.specs.declared.abort.HeapAbort.{HeapAbort}
 use Rattle.scudo_heap.specs.declared.abort.HeapAbort.TheVariants as abort
-use Rattle.heap_calls.specs.Answers.{answered}
+use Rattle.heap_calls.specs.Answers.{after_operation}
 use Rattle.heap_calls.specs.declared.op.HeapOp.{HeapOp}
 use Rattle.heap_calls.specs.declared.op.HeapOp.TheVariants as op
 use Rattle.heap_calls.specs.declared.op.HeapAnswer.{HeapAnswer}
@@ -61,25 +61,30 @@ abort_code abort.InvalidState = INVALID_STATE
 abort_code abort.NotABlock = NOT_A_BLOCK
 abort_code abort.AlreadyFree = ALREADY_FREE
 
-abbrev pub noted : LentHeapCall → HeapAnswer → LentHeapCall
-noted c (answer.Value v) = record c { code = OK; answer = v; fault = no_fault }
-noted c (answer.Abort a) = record c { code = ABORT; answer = abort_code a; fault = no_fault }
-noted c (answer.Fault f) = record c { code = FAULT; answer = 0; fault = report_of f }
+abbrev pub with_heap_answer : LentHeapCall → HeapAnswer → LentHeapCall
+with_heap_answer c (answer.Value v) = record c { code = OK; answer = v; fault = no_fault }
+with_heap_answer c (answer.Abort a) =
+    record c { code = ABORT; answer = abort_code a; fault = no_fault }
+with_heap_answer c (answer.Fault f) = record c { code = FAULT; answer = 0; fault = report_of f }
 
-abbrev pub refused : LentHeapCall → LentHeapCall
-refused c = record c { code = BAD_ARGUMENT; answer = 0; fault = no_fault }
+abbrev pub with_bad_argument : LentHeapCall → LentHeapCall
+with_bad_argument c = record c { code = BAD_ARGUMENT; answer = 0; fault = no_fault }
 
 pub record MadeCall : Type 0 where
   pub world : World
   pub call : LentHeapCall
 
-abbrev pub made_by : World → LentHeapCall → Option HeapOp → MadeCall
-made_by w c None = record { world = w; call = refused c }
-made_by w c (Some o) =
-    record { world = (answered w o).world; call = noted c (answered w o).answer }
+abbrev pub heap_call_cases : World → LentHeapCall → Option HeapOp → MadeCall
+heap_call_cases w c None = record { world = w; call = with_bad_argument c }
+heap_call_cases w c (Some o) =
+    record {
+      world = (after_operation w o).world;
+      call = with_heap_answer c
+          (after_operation w o).answer;
+    }
 
-abbrev pub made_in : World → LentHeapCall → MadeCall
-made_in w c = made_by w c (op_of c)
+abbrev pub after_heap_call : World → LentHeapCall → MadeCall
+after_heap_call w c = heap_call_cases w c (op_of c)
 
 -- ---- calls in order
 
@@ -87,8 +92,8 @@ made_in w c = made_by w c (op_of c)
 unfoldable pub world_before : World → List LentHeapCall → ℕ → LentHeapCall → World
 world_before w calls zero d = w
 world_before w calls (suc k) d =
-    (made_in (world_before w calls k d) (slice_index_or calls k d)).world
+    (after_heap_call (world_before w calls k d) (slice_index_or calls k d)).world
 
 -- The call k with its answer.
 abbrev pub call_made : World → List LentHeapCall → ℕ → LentHeapCall → LentHeapCall
-call_made w calls k d = (made_in (world_before w calls k d) (slice_index_or calls k d)).call
+call_made w calls k d = (after_heap_call (world_before w calls k d) (slice_index_or calls k d)).call

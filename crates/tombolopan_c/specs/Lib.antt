@@ -5,3 +5,7 @@ pub mod LentPlaces
 pub mod LentRegisters
 pub mod Faults
 pub mod Stops
+pub mod RunsUntil
+pub mod LentBuffers
+pub mod LentSessions
+pub mod LoneTenants

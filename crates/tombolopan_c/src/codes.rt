@@ -3,7 +3,7 @@
 ghost use Rattle.std.specs.Prelude.{◌≡◌};
 
 /// The version of the layouts and calls.
-pub const VERSION: u32 = 1;
+pub const VERSION: u32 = 2;
 
 /// It was done; a step went on, and a run did all of its steps.
 pub const OK: u32 = 0;
@@ -28,6 +28,71 @@ pub const BAD_ARGUMENT: u32 = 8;
 pub const ABORT: u32 = 9;
 /// An allocation failed.
 pub const OUT_OF_MEMORY: u32 = 10;
+/// A line of the script is faulty.
+pub const SCRIPT: u32 = 11;
+/// The tenant is not admitted.
+pub const REFUSED: u32 = 12;
+/// The PC came to one of the stops.
+pub const STOPPED: u32 = 13;
+
+/// The line has not the form of an event.
+pub const SYNTAX: u32 = 1;
+/// A number exceeds its limit.
+pub const BAD_NUMBER: u32 = 2;
+/// The line names a file that is not there.
+pub const NO_SUCH_FILE: u32 = 3;
+/// The line is the 10001st event.
+pub const TOO_MANY_EVENTS: u32 = 4;
+
+/// Nothing was refused.
+pub const NO_REFUSAL: u32 = 0;
+/// The number was admitted before.
+pub const DUPLICATE: u32 = 1;
+/// The reservation or the room is out of its limits.
+pub const BAD_RESERVATION: u32 = 2;
+/// The image's pages and the stack's exceed the reservation.
+pub const RESERVATION_TOO_SMALL: u32 = 3;
+/// The charge exceeds the frames that live tenants leave.
+pub const NO_FRAMES: u32 = 4;
+/// The host has as many tenants as it can have.
+pub const TOO_MANY_LIVE: u32 = 5;
+/// The image is shorter than its headers.
+pub const SHORT: u32 = 6;
+/// The image is no ELF file of 64 bits, little-endian.
+pub const NOT_ELF64: u32 = 7;
+/// The image is not for AArch64.
+pub const NOT_AARCH64: u32 = 8;
+/// The image is not ET_EXEC.
+pub const NOT_EXEC: u32 = 9;
+/// The image's program headers are out of it or of their limits.
+pub const BAD_HEADERS: u32 = 10;
+/// The image asks for an interpreter.
+pub const INTERPRETER: u32 = 11;
+/// A segment is out of its range.
+pub const SEGMENT_RANGE: u32 = 12;
+/// Two segments share a page.
+pub const OVERLAP: u32 = 13;
+/// The entry is in no executable segment.
+pub const NO_ENTRY: u32 = 14;
+
+/// There is no tenant.
+pub const STATUS_NONE: u32 = 0;
+/// It goes on with its next slice.
+pub const STATUS_RUNNING: u32 = 1;
+/// It ended itself, with a code.
+pub const STATUS_EXIT: u32 = 2;
+/// An access failed.
+pub const STATUS_FAULT: u32 = 3;
+/// A word encodes no instruction.
+pub const STATUS_ILLEGAL: u32 = 4;
+/// A breakpoint instruction.
+pub const STATUS_BREAK: u32 = 5;
+/// In the asynchronous mode a tag differed.
+pub const STATUS_ASYNC: u32 = 6;
+/// A heap call's check of a pointer failed.
+pub const STATUS_ABORT: u32 = 7;
+/// It was stopped.
+pub const STATUS_STOPPED: u32 = 8;
 
 /// No page is mapped there.
 pub const TRANSLATION: u32 = 1;
@@ -90,6 +155,44 @@ pub fn answers_in_digits()
     ensures bad_argument { BAD_ARGUMENT ≡ 8 }
     ensures abort { ABORT ≡ 9 }
     ensures out_of_memory { OUT_OF_MEMORY ≡ 10 }
+    ensures script { SCRIPT ≡ 11 }
+    ensures refused { REFUSED ≡ 12 }
+    ensures stopped { STOPPED ≡ 13 }
+{}
+
+/// What is wrong with a script in digits, as `tombolopan.h` has it.
+pub fn script_faults_in_digits()
+    ensures syntax { SYNTAX ≡ 1 }
+    ensures bad_number { BAD_NUMBER ≡ 2 }
+    ensures no_such_file { NO_SUCH_FILE ≡ 3 }
+    ensures too_many_events { TOO_MANY_EVENTS ≡ 4 }
+{}
+
+/// The refusals of a tenant in digits, as `tombolopan.h` has them.
+pub fn refusals_in_digits()
+    ensures bad_reservation { BAD_RESERVATION ≡ 2 }
+    ensures reservation_too_small { RESERVATION_TOO_SMALL ≡ 3 }
+    ensures short { SHORT ≡ 6 }
+    ensures not_elf64 { NOT_ELF64 ≡ 7 }
+    ensures not_aarch64 { NOT_AARCH64 ≡ 8 }
+    ensures not_exec { NOT_EXEC ≡ 9 }
+    ensures bad_headers { BAD_HEADERS ≡ 10 }
+    ensures interpreter { INTERPRETER ≡ 11 }
+    ensures segment_range { SEGMENT_RANGE ≡ 12 }
+    ensures overlap { OVERLAP ≡ 13 }
+    ensures no_entry { NO_ENTRY ≡ 14 }
+{}
+
+/// The statuses of a tenant in digits, as `tombolopan.h` has them.
+pub fn statuses_in_digits()
+    ensures running { STATUS_RUNNING ≡ 1 }
+    ensures exit { STATUS_EXIT ≡ 2 }
+    ensures fault { STATUS_FAULT ≡ 3 }
+    ensures illegal { STATUS_ILLEGAL ≡ 4 }
+    ensures breaks { STATUS_BREAK ≡ 5 }
+    ensures asynchronous { STATUS_ASYNC ≡ 6 }
+    ensures abort { STATUS_ABORT ≡ 7 }
+    ensures stopped { STATUS_STOPPED ≡ 8 }
 {}
 
 /// The kinds of faults in digits, as `tombolopan.h` has them.

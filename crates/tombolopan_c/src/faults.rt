@@ -1,7 +1,7 @@
 //! What a call reports of a fault.
 
 ghost use Rattle.std.specs.Prelude.{◌≡◌, Option};
-ghost use Rattle.mte_tags.specs.Accesses.{outcome};
+ghost use Rattle.mte_tags.specs.Accesses.{result_of};
 ghost use Rattle.tombolopan_c.specs.Faults.{kind_code, report_of, fault_report, fault_code};
 
 use crate::codes::{
@@ -41,7 +41,7 @@ fn code_of_kind(kind: FaultKind) -> u32
 impl FaultReport {
     ghost use Rattle.tombolopan_c.specs.Faults.{no_fault};
 
-    /// That of no fault.
+    /// The report of no fault.
     pub(crate) fn none() -> FaultReport
         ensures { result ≡ no_fault }
     {
@@ -69,9 +69,9 @@ impl FaultReport {
 
 /// Reports how an access ended, and returns its code.
 pub(crate) fn report(answer: Result<(), MemFault>, fault: &mut FaultReport) -> u32
-    ensures code { (o : Option MemFault) → answer ≡ outcome o → result ≡ fault_code o }
+    ensures code { (o : Option MemFault) → answer ≡ result_of o → result ≡ fault_code o }
     ensures fault { (o : Option MemFault)
-        → answer ≡ outcome o → fault.new ≡ fault_report o }
+        → answer ≡ result_of o → fault.new ≡ fault_report o }
 {
     match answer {
         Ok(()) => {

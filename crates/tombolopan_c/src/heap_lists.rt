@@ -1,7 +1,7 @@
 //! The export that makes heap calls.
 
 ghost use Rattle.std.specs.Prelude.{◌≡◌, ◌≢◌, ◌⊎◌, ℕ, ◌<◌, length, slice_index_or, true, false};
-ghost use Rattle.tombolopan_c.specs.HeapCalls.{is_setup, made_in, start_of, call_made};
+ghost use Rattle.tombolopan_c.specs.HeapCalls.{is_setup, after_heap_call, start_of, call_made};
 ghost use Rattle.tombolopan_c.specs.declared.codes.TheConstants.{OK, BAD_ARGUMENT, OUT_OF_MEMORY};
 
 use crate::codes::{BAD_ARGUMENT, OK, OUT_OF_MEMORY};
@@ -11,8 +11,8 @@ use std::alloc::Global;
 
 /// Makes a call, where its operation is one, and returns it with its answer.
 fn make(bench: &mut HeapBench, call: &LentHeapCall) -> LentHeapCall
-    ensures call { result ≡ (made_in bench.old call.now).call }
-    ensures world { bench.new ≡ (made_in bench.old call.now).world }
+    ensures call { result ≡ (after_heap_call bench.old call.now).call }
+    ensures world { bench.new ≡ (after_heap_call bench.old call.now).world }
 {
     match call.op() {
         Some(op) => call.with(&bench.answer(&op)),

@@ -2,7 +2,8 @@
 
 ghost use Rattle.std.specs.Prelude.{◌≡◌, ◌<◌, ◌≤◌, true};
 ghost use Rattle.tombolopan_c.specs.HeapCalls.{is_setup, mode_of, rgsr_of};
-ghost use Rattle.tombolopan_c.specs.HeapCalls.{op_of, abort_code, noted, refused};
+ghost use Rattle.tombolopan_c.specs.HeapCalls.{op_of, abort_code, with_heap_answer};
+ghost use Rattle.tombolopan_c.specs.HeapCalls.{with_bad_argument};
 
 use crate::codes::{
     ABORT, ALREADY_FREE, BAD_ARGUMENT, CALLOC, FAULT, FREE, HEADER_CORRUPT, INVALID_STATE, LOAD,
@@ -77,7 +78,7 @@ impl HeapSetup {
     }
 }
 
-fn code_of_abort(abort: HeapAbort) -> u64
+pub(crate) fn code_of_abort(abort: HeapAbort) -> u64
     ensures { result ≡ abort_code abort }
 {
     match abort {
@@ -122,9 +123,9 @@ impl LentHeapCall {
         }
     }
 
-    /// It with an answer entered.
+    /// This call with its answer filled in.
     pub(crate) fn with(&self, answer: &HeapAnswer) -> LentHeapCall
-        ensures { result ≡ noted self.now answer.now }
+        ensures { result ≡ with_heap_answer self.now answer.now }
     {
         let (code, value, fault) = match answer {
             HeapAnswer::Value(value) => (OK, *value, FaultReport::none()),
@@ -139,9 +140,9 @@ impl LentHeapCall {
         }
     }
 
-    /// It where its operation is none.
+    /// This call, marked as having no operation.
     pub(crate) fn without_op(&self) -> LentHeapCall
-        ensures { result ≡ refused self.now }
+        ensures { result ≡ with_bad_argument self.now }
     {
         LentHeapCall {
             code: BAD_ARGUMENT,

@@ -2,7 +2,7 @@
 
 ghost use Rattle.std.specs.Prelude.{◌≡◌, ◌<◌, ◌≤◌, ◌+◌, ◌%◌, true, length};
 ghost use Rattle.mte_tags.specs.Memory.{new_page};
-ghost use Rattle.mte_tags.specs.Runs.{spliced, retagged};
+ghost use Rattle.mte_tags.specs.Runs.{with_bytes_run, with_granule_tags};
 ghost use Rattle.tombolopan_c.specs.LentPages.{page_of, is_place_of};
 
 use mte_tags::{Attrs, copy_in};
@@ -57,7 +57,7 @@ impl LentPage {
     pub(crate) fn copy_in(&mut self, at: u64, bytes: &[u8])
         requires { at % 4096 + length bytes.now ≤ 4096 }
         ensures { self.new
-            ≡ record self.old { bytes = spliced self.old.bytes (at % 4096) bytes.now } }
+            ≡ record self.old { bytes = with_bytes_run self.old.bytes (at % 4096) bytes.now } }
     {
         copy_in(&mut self.bytes, at, bytes);
     }
@@ -71,7 +71,8 @@ impl LentPage {
         ensures long { length self.old.bytes ≡ 4096 }
         ensures number { self.new.number ≡ self.old.number }
         ensures mapped { self.new.mapped ≡ self.old.mapped }
-        ensures holds { page_of self.new ≡ retagged (page_of self.old) first count tag zero }
+        ensures holds { page_of self.new
+            ≡ with_granule_tags (page_of self.old) first count tag zero }
     {
         self.tags[first..first + count].fill(tag);
         if zero {

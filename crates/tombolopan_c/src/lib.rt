@@ -1,28 +1,50 @@
-//! A tagged memory, a step, a run and a heap for programs in C: exports over memory that the caller
-//! lends to each call. Nothing is kept between calls, and `tb_heap_calls` alone allocates.
+//! Sessions, a tenant alone, a tagged memory, a step, a run and a heap for programs in C: exports
+//! over memory that the caller lends to each call. Nothing is kept between calls, and only
+//! `tb_session`, `tb_alone` and `tb_heap_calls` allocate.
 #![tactic(auto)]
 
+mod alone_calls;
+mod alone_end;
 mod codes;
 mod faults;
 mod find;
 mod heap_lists;
+mod kept_calls;
 mod lent;
+mod lent_bytes;
 mod lent_heap;
 mod lent_page;
 mod lent_regs;
+mod lent_terms;
 mod memory_calls;
 mod page_calls;
 mod run_calls;
+mod run_until;
+mod session_calls;
+mod session_end;
+mod status_report;
 mod stops;
 
-pub use codes::{aborts_in_digits, answers_in_digits, faults_in_digits, heap_calls_in_digits};
+pub use alone_calls::tb_alone;
+pub use alone_end::AloneEnd;
+pub use codes::{
+    aborts_in_digits, answers_in_digits, faults_in_digits, heap_calls_in_digits,
+    refusals_in_digits, script_faults_in_digits, statuses_in_digits,
+};
 pub use faults::FaultReport;
 pub use heap_lists::tb_heap_calls;
+pub use kept_calls::KeptCall;
 pub use lent::LentTagState;
+pub use lent_bytes::LentBytes;
 pub use lent_heap::{HeapSetup, LentHeapCall};
 pub use lent_page::LentPage;
 pub use lent_regs::LentRegs;
-pub use memory_calls::{tb_load_tag, tb_read, tb_store_tags, tb_write};
+pub use lent_terms::LentTerms;
+pub use memory_calls::{tb_load, tb_load_tag, tb_read, tb_store_tags, tb_write};
 pub use page_calls::{tb_map, tb_memory_init, tb_unmap, tb_version};
 pub use run_calls::{tb_run, tb_step};
+pub use run_until::tb_run_until;
+pub use session_calls::tb_session;
+pub use session_end::SessionEnd;
+pub use status_report::StatusReport;
 pub use stops::StopReport;

@@ -4,17 +4,19 @@ ghost use Rattle.std.specs.Prelude.{◌≡◌, ◌<◌, ◌==◌, length, if◌t
 ghost use Rattle.a64_bits.specs.Addresses.{plain};
 ghost use Rattle.mte_tags.specs.Memory.{tag_at, with_granules};
 ghost use Rattle.mte_tags.specs.Accesses.{read_fault, read_bytes, after_read, write_fault};
-ghost use Rattle.mte_tags.specs.Accesses.{after_write, tags_fault, tag_load_fault};
+ghost use Rattle.mte_tags.specs.Accesses.{after_write, tags_fault, tag_load_fault, with_bytes_at};
 ghost use Rattle.tombolopan_c.specs.LentPages.{lent_memory, state_of};
 ghost use Rattle.tombolopan_c.specs.Faults.{fault_code, fault_report, no_fault, tags_code};
-ghost use Rattle.tombolopan_c.specs.Faults.{tags_report};
+ghost use Rattle.tombolopan_c.specs.Faults.{tags_report, load_code};
 ghost use Rattle.tombolopan_c.specs.declared.codes.TheConstants.{OK};
 
-use crate::codes::{BAD_ARGUMENT, OK};
+use crate::codes::{BAD_ARGUMENT, NOT_MAPPED, OK};
 use crate::faults::{FaultReport, report};
+use crate::find::are_mapped;
 use crate::lent::{Lent, LentTagState};
 use crate::lent_page::LentPage;
-use mte_tags::Tagged;
+use a64_bits::plain;
+use mte_tags::{Tagged, replace_bytes};
 
 /// Copies bytes out of pages with READ, and compares tags where `check` is set. FAULT leaves the
 /// buffer and the memory as they were.
@@ -72,6 +74,32 @@ pub extern "C" fn tb_write(
     let mut memory = Lent::new(pages, state);
     let answer = memory.write(addr, bytes, check);
     report(answer, fault)
+}
+
+/// Copies bytes into mapped pages, whatever their attributes and tags, all of them or none.
+/// NOT_MAPPED, where a byte's page is not mapped, leaves the memory as it was.
+#[tactic(auto, unfolding(mte_tags::specs::Accesses::with_bytes_at))]
+#[unsafe(no_mangle)]
+pub extern "C" fn tb_load(
+    pages: &mut [LentPage],
+    state: &mut LentTagState,
+    addr: u64,
+    bytes: &[u8],
+) -> u32
+    ensures code { result
+        ≡ load_code (lent_memory (state_of state.old) pages.old) addr (length bytes.now) }
+    ensures memory { lent_memory (state_of state.new) pages.new
+        ≡ (if result == OK
+        then with_bytes_at (lent_memory (state_of state.old) pages.old) addr bytes.now
+        else lent_memory (state_of state.old) pages.old) }
+{
+    let at = plain(addr);
+    if !are_mapped(pages, at, bytes.len()) {
+        return NOT_MAPPED;
+    }
+    let mut memory = Lent::new(pages, state);
+    replace_bytes(&mut memory, at, bytes);
+    OK
 }
 
 /// The allocation tag of the granule that holds an address, 0 on a page without TAGGED. It needs

@@ -12,10 +12,10 @@ use crate::find::{find_free, is_mapped};
 use crate::lent::LentTagState;
 use crate::lent_page::LentPage;
 
-/// The version of the layouts and calls, 1.
+/// The version of the layouts and calls, 2.
 #[unsafe(no_mangle)]
 pub extern "C" fn tb_version() -> u32
-    ensures { result ≡ 1 }
+    ensures { result ≡ 2 }
 {
     VERSION
 }

@@ -1,9 +1,10 @@
 //! What a call reports of the end of a step or a run.
 
 ghost use Rattle.std.specs.Prelude.{◌≡◌};
+ghost use Rattle.tombolopan_c.specs.RunsUntil.{until_report};
 ghost use Rattle.tombolopan_c.specs.Stops.{stop_report};
 
-use crate::codes::{BREAKPOINT, FAULT, ILLEGAL, OK, SVC};
+use crate::codes::{BREAKPOINT, FAULT, ILLEGAL, OK, STOPPED, SVC};
 use crate::faults::FaultReport;
 use a64_step::{Outcome, Stop};
 
@@ -13,7 +14,7 @@ use a64_step::{Outcome, Stop};
 pub struct StopReport {
     /// The steps that were not attempted.
     pub left: u64,
-    /// OK, FAULT, SVC, BREAKPOINT or ILLEGAL.
+    /// OK, FAULT, SVC, BREAKPOINT, ILLEGAL or STOPPED.
     pub code: u32,
     /// The number of BREAKPOINT, or the word of ILLEGAL; else 0.
     pub number: u32,
@@ -22,7 +23,7 @@ pub struct StopReport {
 }
 
 impl StopReport {
-    /// That of the end of a run.
+    /// The report of the end of a run.
     pub(crate) fn of(stop: &Stop) -> StopReport
         ensures { result ≡ stop_report stop.now }
     {
@@ -40,6 +41,17 @@ impl StopReport {
             code,
             number,
             fault,
+        }
+    }
+
+    /// That of the end of a run that may have come to one of its stops.
+    pub(crate) fn until(stop: &Stop, reached: bool) -> StopReport
+        ensures { result ≡ until_report stop.now reached }
+    {
+        let told = StopReport::of(stop);
+        StopReport {
+            code: if reached { STOPPED } else { told.code },
+            ..told
         }
     }
 }

@@ -1,7 +1,7 @@
 use Rattle.std.proofs.Common.{rules, ◌≡◌, ◌<◌, ◌∙◌, length, get_or, refl, sym, ap, inl, inr, arith, get_or-set_same, get_or-set_other}
 use Rattle.std.proofs.lemmas.Bool.{cases_eq}
 use Rattle.std.proofs.lemmas.List.{get_or_default}
-use Rattle.tombolopan_c.specs.HeapCalls.{start_of, world_before, made_in}
+use Rattle.tombolopan_c.specs.HeapCalls.{start_of, world_before, after_heap_call}
 use Rattle.tombolopan_c.specs.declared.lent_heap.LentHeapCall.{LentHeapCall}
 use Rattle.tombolopan_c.specs.Faults.{no_fault}
 use Rattle.tombolopan_c.proofs.HeapLists.{world_first, world_next}
@@ -25,8 +25,8 @@ loop-call-preserved c =
     let at : i < length calls = omega (arith, c.loop-call-test.true, c.loop-call.auto.calls) in
     let here : (d : LentHeapCall) → get_or calls i any_call ≡ get_or old i d =
     λ d. get_or_default calls i any_call d at ∙ inv.1.1 i d (omega arith) in
-    let given : (d : LentHeapCall) → made_in c.loop-call.bench (get_or calls i any_call) ≡ made_in (world_before w old i d) (get_or old i d) =
-    λ d. ap (λ b. made_in b (get_or calls i any_call)) (inv.0 d) ∙ ap (λ x. made_in (world_before w old i d) x) (here d) in (
+    let given : (d : LentHeapCall) → after_heap_call c.loop-call.bench (get_or calls i any_call) ≡ after_heap_call (world_before w old i d) (get_or old i d) =
+    λ d. ap (λ b. after_heap_call b (get_or calls i any_call)) (inv.0 d) ∙ ap (λ x. after_heap_call (world_before w old i d) x) (here d) in (
       (λ d. c.make.ensures.world ∙ ap (λ m. m.world) (given d) ∙ sym (world_next w old i d)),
       (
         (λ k d l. elim (cases_eq k i) [

@@ -1,0 +1,102 @@
+//! A tenant alone on a memory of its own.
+
+ghost use Rattle.std.specs.Prelude.{◌≡◌, ◌<◌, ◌⊎◌, [], Some, None, false, IfOk, IfErr, OnOk};
+ghost use Rattle.scudo_heap.specs.Served.{HeapOwnsItsPages};
+ghost use Rattle.mte_tenant.specs.Ledger.{is_bad};
+ghost use Rattle.mte_tenant.specs.Admissions.{terms_of};
+ghost use Rattle.tombolopan.specs.Alone.{refusal_alone, record_after};
+
+use a64_step::OpCache;
+use address_map::{MAX_OUTPUT, MAX_PAGES};
+use mte_flat::Flat;
+use mte_tenant::{Admission, AdmitError, Record, TenantParts, admit_alone, slice};
+use std::alloc::Global;
+
+/// A tenant's machine, which is that of the definition: it is made by `admit_alone` and changed by
+/// slices alone.
+#[derive(Drop)]
+pub struct Lone {
+    /// All but its memory: its record, registers, heap and input.
+    pub parts: TenantParts,
+    /// Its memory.
+    pub memory: Flat,
+    words: OpCache,
+    ghost served: { HeapOwnsItsPages memory parts.heap },
+    ghost tag: { parts.regs.rgsr.tag < 16 },
+}
+
+/// Whether a reservation or a room is out of its limits.
+fn is_out_of_limits(admission: &Admission<'_>) -> bool
+    ensures bad { result ≡ is_bad (terms_of admission.now) }
+    ensures some { result ≡ false → 0 < admission.now.pages }
+{
+    let (pages, room) = (u64::from(admission.pages), u64::from(admission.room));
+    pages == 0 || pages > MAX_PAGES || room > MAX_OUTPUT
+}
+
+impl Lone {
+    ghost use Rattle.mte_tenant.specs.Machines.{machine_of, start_of, after_slice};
+    ghost use Rattle.tombolopan.specs.Alone.{after_slices};
+
+    /// A tenant at its first instruction, or why it is refused. Only `OutOfMemory`, where an
+    /// allocation failed, can come in place of the refusals from `Image` on.
+    #[tactic(auto, unfolding(mte_tenant::specs::Ledger::admission_refusal))]
+    pub fn new(alloc: Global, admission: &Admission<'_>) -> Result<Lone, AdmitError>
+        ensures machine { IfOk result (λ l. machine_of l.parts l.memory
+            ≡ start_of admission.now.id (terms_of admission.now)) }
+        ensures accepted { OnOk result
+            (refusal_alone admission.now.id (terms_of admission.now) ≡ None) }
+        ensures refused { IfErr result (λ e. (e ≡ AdmitError.OutOfMemory)
+            ⊎ (refusal_alone admission.now.id (terms_of admission.now) ≡ Some e)) }
+    {
+        if is_out_of_limits(admission) {
+            return Err(AdmitError::BadReservation);
+        }
+        let words = OpCache::new(alloc)?;
+        let mut memory = Flat::new(alloc, admission.pages as usize, admission.mode)?;
+        let parts = admit_alone(alloc, admission, &mut memory)?;
+        Ok(Lone {
+            parts,
+            memory,
+            words,
+        })
+    }
+
+    /// A slice: it attempts at most `steps` instructions, while it is running and has not yielded.
+    pub fn slice(&mut self, steps: u32)
+        ensures { machine_of self.new.parts self.new.memory
+            ≡ after_slice steps (machine_of self.old.parts self.old.memory) }
+    {
+        slice(&mut self.words, &mut self.parts, &mut self.memory, steps);
+    }
+
+    /// Slices, in order.
+    pub fn slices(&mut self, slices: &[u32])
+        ensures { machine_of self.new.parts self.new.memory
+            ≡ after_slices (machine_of self.old.parts self.old.memory) slices.now }
+    {
+        for steps in slices {
+            self.slice(*steps);
+        }
+    }
+}
+
+/// The record of a tenant alone at the end of its slices, or why it is refused. It is a function of
+/// what the tenant is admitted with and of the slices; in a session it is the same, whatever the
+/// others do (`tenants_are_alone`).
+pub fn run_alone(
+    alloc: Global,
+    admission: &Admission<'_>,
+    slices: &[u32],
+) -> Result<Record, AdmitError>
+    ensures accepted { OnOk result
+        (refusal_alone admission.now.id (terms_of admission.now) ≡ None) }
+    ensures record { IfOk result (λ r.
+        r ≡ record_after admission.now.id (terms_of admission.now) slices.now) }
+    ensures refused { IfErr result (λ e. (e ≡ AdmitError.OutOfMemory)
+        ⊎ (refusal_alone admission.now.id (terms_of admission.now) ≡ Some e)) }
+{
+    let mut lone = Lone::new(alloc, admission)?;
+    lone.slices(slices);
+    Ok(lone.parts.log)
+}

@@ -1,0 +1,42 @@
+//! All that a program needs which builds on Tombolopan, in one crate:
+//!
+//! - instructions: `decode`, `Decoder`, `Instr`, and their text, `Text` and `TextAt`;
+//! - a memory with tags: `Flat`, over the traits `Tagged` and `Paged`, or one of your own over
+//!   `PageStore`;
+//! - `step` and `run` over any such memory, `run_cached` with a table of kept instructions (`OpCache`);
+//! - a heap with tags: `Heap` in a memory, `HeapBench` with one of its own;
+//! - ELF64 images: `plan`, `load`;
+//! - a tenant alone: `Lone`, `run_alone`; with a watch: `slice_watched`;
+//! - tenants over shared frames: `Host`;
+//! - sessions: `report`, `run_session` over any `Sink`, `run_both`.
+//!
+//! docs/EMBEDDING.md has a first use of each.
+#![tactic(auto)]
+
+mod alone;
+mod session_report;
+
+pub use a64_decode::{Decoder, decode};
+pub use a64_instr::Instr;
+pub use a64_step::{OpCache, Outcome, Regs, Stop, run, run_cached, run_on_cache, step};
+pub use a64_text::{Text, TextAt};
+pub use alone::{Lone, run_alone};
+pub use heap_calls::{HeapAnswer, HeapBench, HeapOp};
+pub use mte_elf::{ElfError, Plan, Segment, load, plan};
+pub use mte_flat::Flat;
+pub use mte_sched::{Host, Tenant};
+pub use mte_session::{
+    Event, ScriptError, ScriptFault, Session, SessionError, Sink, Source, StreamError, WriteFault,
+    parse_script, read_whole, run_both, run_session, write_report,
+};
+pub use mte_svc::{HeapCall, HeapCalls, HeapService, Input, Output};
+pub use mte_tags::{
+    Attrs, FaultKind, MemFault, NoPagesLeft, PageStore, Paged, Rgsr, TagMode, TagState, Tagged,
+    choose_non_excluded, tag_of, with_tag,
+};
+pub use mte_tenant::{
+    Admission, AdmitError, NotLive, Record, Refusal, Status, TenantParts, Watch, admit_alone,
+    settle, slice, slice_watched,
+};
+pub use scudo_heap::{Heap, HeapAbort, condition_of_calls};
+pub use session_report::report;

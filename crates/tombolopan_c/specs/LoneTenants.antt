@@ -1,0 +1,163 @@
+-- A tenant alone, of terms that the caller lends: its slices, and what is told of it.
+use Rattle.std.specs.Prelude.{◌≡◌, ℕ, ◌==◌, ◌&&◌, not, nat_le, List, map, length}
+use Rattle.std.specs.Prelude.{Some, None, Result, Ok, Err, ◌⊎◌, if◌then◌else◌}
+use Rattle.mte_elf.specs.declared.error.ElfError.{ElfError}
+use Rattle.mte_elf.specs.declared.error.ElfError.TheVariants as image
+use Rattle.mte_svc.specs.declared.calls.HeapCall.{HeapCall}
+use Rattle.mte_svc.specs.declared.calls.HeapService.{HeapService}
+use Rattle.mte_svc.specs.declared.calls.HeapService.TheVariants as heap
+use Rattle.mte_svc.specs.declared.record.Record.{Record}
+use Rattle.mte_svc.specs.declared.record.Status.{Status}
+use Rattle.mte_svc.specs.declared.record.Status.TheVariants as status
+use Rattle.mte_tenant.specs.declared.admission.AdmitError.{AdmitError}
+use Rattle.mte_tenant.specs.declared.admission.AdmitError.TheVariants as refusal
+use Rattle.mte_tenant.specs.Machines.{Terms}
+use Rattle.tombolopan.specs.Alone.{refusal_alone, record_after}
+use Rattle.tombolopan_c.specs.Faults.{no_fault, report_of}
+use Rattle.tombolopan_c.specs.HeapCalls.{abort_code}
+use Rattle.tombolopan_c.specs.LentBuffers.{filled}
+use Rattle.tombolopan_c.specs.LentPages.{mode_for}
+use Rattle.tombolopan_c.specs.declared.codes.TheConstants as code
+use Rattle.tombolopan_c.specs.declared.alone_end.AloneEnd.{AloneEnd}
+use Rattle.tombolopan_c.specs.declared.kept_calls.KeptCall.{KeptCall}
+use Rattle.tombolopan_c.specs.declared.lent_terms.LentTerms.{LentTerms}
+use Rattle.tombolopan_c.specs.declared.status_report.StatusReport.{StatusReport}
+
+-- ---- the tenant
+
+abbrev pub terms_in : LentTerms → Terms
+terms_in t = record {
+  image = t.image.now;
+  input = t.input.now;
+  seed = t.seed;
+  pages = t.pages;
+  room = t.room;
+  mode = mode_for (not (t.asynchronous == 0));
+}
+
+-- ---- what is told of its status
+
+abbrev pub plain_status : ℕ → ℕ → ℕ → StatusReport
+plain_status s number pc =
+    record { status = s; number = number; pc = pc; pointer = 0; fault = no_fault }
+
+abbrev pub status_told : Status → StatusReport
+status_told status.Running = plain_status code.STATUS_RUNNING 0 0
+status_told status.Stopped = plain_status code.STATUS_STOPPED 0 0
+status_told (status.Exited n) = plain_status code.STATUS_EXIT n 0
+status_told (status.Illegal word pc) = plain_status code.STATUS_ILLEGAL word pc
+status_told (status.Breakpoint n pc) = plain_status code.STATUS_BREAK n pc
+status_told (status.AsyncTag pc) = plain_status code.STATUS_ASYNC 0 pc
+status_told (status.Faulted f pc) =
+    record (plain_status code.STATUS_FAULT 0 pc) { fault = report_of f }
+status_told (status.Aborted a pointer pc) =
+    record (plain_status code.STATUS_ABORT (abort_code a) pc) { pointer = pointer }
+
+-- ---- what is told of its heap calls
+
+abbrev pub service_number : HeapService → ℕ
+service_number heap.Malloc = 3
+service_number heap.Free = 4
+service_number heap.Calloc = 5
+service_number heap.Realloc = 6
+service_number heap.Memalign = 7
+service_number heap.UsableSize = 8
+
+abbrev pub call_told : HeapCall → KeptCall
+call_told c = record {
+  service = service_number c.service;
+  first = c.first;
+  second = c.second;
+  answer = c.answer;
+}
+
+-- ---- what is told of its end
+
+abbrev pub image_code : ElfError → ℕ
+image_code image.Short = code.SHORT
+image_code image.NotElf64 = code.NOT_ELF64
+image_code image.NotAarch64 = code.NOT_AARCH64
+image_code image.NotExec = code.NOT_EXEC
+image_code image.BadHeaders = code.BAD_HEADERS
+image_code image.Interpreter = code.INTERPRETER
+image_code image.SegmentRange = code.SEGMENT_RANGE
+image_code image.Overlap = code.OVERLAP
+image_code image.NoEntry = code.NO_ENTRY
+image_code image.OutOfMemory = code.NO_REFUSAL
+
+abbrev pub refusal_code : AdmitError → ℕ
+refusal_code refusal.Duplicate = code.DUPLICATE
+refusal_code refusal.BadReservation = code.BAD_RESERVATION
+refusal_code (refusal.Image e) = image_code e
+refusal_code refusal.ReservationTooSmall = code.RESERVATION_TOO_SMALL
+refusal_code refusal.NoFrames = code.NO_FRAMES
+refusal_code refusal.TooManyLive = code.TOO_MANY_LIVE
+refusal_code refusal.OutOfMemory = code.NO_REFUSAL
+
+abbrev pub without_tenant : ℕ → ℕ → AloneEnd
+without_tenant c r = record {
+  steps = 0;
+  output = 0;
+  calls = 0;
+  kept = 0;
+  status = plain_status code.STATUS_NONE 0 0;
+  code = c;
+  refusal = r;
+}
+
+abbrev pub refused_end : AdmitError → AloneEnd
+refused_end refusal.OutOfMemory = without_tenant code.OUT_OF_MEMORY code.NO_REFUSAL
+refused_end e = without_tenant code.REFUSED (refusal_code e)
+
+abbrev pub told_end : ℕ → Record → AloneEnd
+told_end c r = record {
+  steps = r.steps;
+  output = length r.output.bytes;
+  calls = r.calls.count;
+  kept = length r.calls.last;
+  status = status_told r.status;
+  code = c;
+  refusal = code.NO_REFUSAL;
+}
+
+-- The end of a tenant whose output and heap calls go to buffers of so many bytes and places.
+abbrev pub record_end : Record → ℕ → ℕ → AloneEnd
+record_end r room places = told_end
+    (if nat_le (length r.output.bytes) room && nat_le (length r.calls.last) places
+    then code.OK
+    else code.NO_ROOM)
+    r
+
+-- What the buffers have.
+pub record Buffers : Type 0 where
+  pub output : List ℕ
+  pub calls : List KeptCall
+
+abbrev pub buffers_after : Record → Buffers → Buffers
+buffers_after r old = record {
+  output = filled r.output.bytes old.output;
+  calls = filled (map call_told r.calls.last) old.calls;
+}
+
+-- ---- all of it
+
+-- A tenant is admitted and has its record at the end of its slices, or is refused.
+abbrev pub IsAnswer : LentTerms → Result Record AdmitError → Type 0
+IsAnswer t (Ok r) =
+    (refusal_alone 0 (terms_in t) ≡ None) × (r ≡ record_after 0 (terms_in t) t.slices.now)
+IsAnswer t (Err e) = (e ≡ refusal.OutOfMemory) ⊎ (refusal_alone 0 (terms_in t) ≡ Some e)
+
+abbrev pub alone_end : Result Record AdmitError → Buffers → AloneEnd
+alone_end (Ok r) old = record_end r (length old.output) (length old.calls)
+alone_end (Err e) old = refused_end e
+
+abbrev pub buffers_left : Result Record AdmitError → Buffers → Buffers
+buffers_left (Ok r) old = buffers_after r old
+buffers_left (Err e) old = old
+
+-- What became of a tenant alone stands in the buffers and in what is told of its end.
+pub record HasLived (t : LentTerms) (old new : Buffers) (e : AloneEnd) : Type 0 where
+  pub answer : Result Record AdmitError
+  pub is : IsAnswer t answer
+  pub buffers : new ≡ buffers_left answer old
+  pub told : e ≡ alone_end answer old

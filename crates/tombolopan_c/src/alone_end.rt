@@ -1,0 +1,100 @@
+//! What a call reports of a tenant alone.
+
+ghost use Rattle.std.specs.Prelude.{◌≡◌};
+ghost use Rattle.tombolopan_c.specs.LoneTenants.{image_code, refusal_code, refused_end, told_end};
+
+use crate::codes::{
+    BAD_HEADERS, BAD_RESERVATION, DUPLICATE, INTERPRETER, NO_ENTRY, NO_FRAMES, NO_REFUSAL,
+    NOT_AARCH64, NOT_ELF64, NOT_EXEC, OUT_OF_MEMORY, OVERLAP, REFUSED, RESERVATION_TOO_SMALL,
+    SEGMENT_RANGE, SHORT, TOO_MANY_LIVE,
+};
+use crate::status_report::StatusReport;
+use mte_elf::ElfError;
+use mte_tenant::{AdmitError, Record};
+
+/// How a tenant alone ended.
+#[repr(C)]
+#[derive(Clone, Copy)]
+pub struct AloneEnd {
+    /// How many instructions it attempted.
+    pub steps: u64,
+    /// How many bytes it wrote.
+    pub output: u64,
+    /// How many heap calls it made.
+    pub calls: u64,
+    /// How many of these are kept, the last 64 at most.
+    pub kept: u64,
+    /// Its status.
+    pub status: StatusReport,
+    /// OK, NO_ROOM, REFUSED or OUT_OF_MEMORY.
+    pub code: u32,
+    /// Why it was refused, from BAD_RESERVATION on, for REFUSED; else 0.
+    pub refusal: u32,
+}
+
+fn code_of_image(error: ElfError) -> u32
+    ensures { result ≡ image_code error }
+{
+    match error {
+        ElfError::Short => SHORT,
+        ElfError::NotElf64 => NOT_ELF64,
+        ElfError::NotAarch64 => NOT_AARCH64,
+        ElfError::NotExec => NOT_EXEC,
+        ElfError::BadHeaders => BAD_HEADERS,
+        ElfError::Interpreter => INTERPRETER,
+        ElfError::SegmentRange => SEGMENT_RANGE,
+        ElfError::Overlap => OVERLAP,
+        ElfError::NoEntry => NO_ENTRY,
+        ElfError::OutOfMemory => NO_REFUSAL,
+    }
+}
+
+fn code_of_refusal(error: AdmitError) -> u32
+    ensures { result ≡ refusal_code error }
+{
+    match error {
+        AdmitError::Duplicate => DUPLICATE,
+        AdmitError::BadReservation => BAD_RESERVATION,
+        AdmitError::Image(error) => code_of_image(error),
+        AdmitError::ReservationTooSmall => RESERVATION_TOO_SMALL,
+        AdmitError::NoFrames => NO_FRAMES,
+        AdmitError::TooManyLive => TOO_MANY_LIVE,
+        AdmitError::OutOfMemory => NO_REFUSAL,
+    }
+}
+
+impl AloneEnd {
+    /// That of a tenant that was not admitted.
+    pub(crate) fn of_refusal(error: AdmitError) -> AloneEnd
+        ensures { result ≡ refused_end error }
+    {
+        let code = match error {
+            AdmitError::OutOfMemory => OUT_OF_MEMORY,
+            _ => REFUSED,
+        };
+        AloneEnd {
+            steps: 0,
+            output: 0,
+            calls: 0,
+            kept: 0,
+            status: StatusReport::none(),
+            code,
+            refusal: code_of_refusal(error),
+        }
+    }
+
+    /// That of a tenant's record.
+    pub(crate) fn of_record(code: u32, log: &Record) -> AloneEnd
+        ensures { result ≡ told_end code log.now }
+    {
+        AloneEnd {
+            steps: log.steps,
+            output: log.output.as_slice().len() as u64,
+            calls: log.calls.count(),
+            kept: log.calls.kept() as u64,
+            status: StatusReport::of(&log.status),
+            code,
+            refusal: NO_REFUSAL,
+        }
+    }
+}

@@ -1,0 +1,663 @@
+//! tombolopan.h for Rust: its layouts and calls, and a session, a tenant alone and a memory with tags
+//! without raw pointers. A program names it by `mod tombolopan;`.
+#![allow(dead_code)]
+
+pub const TB_VERSION: u32 = 2;
+
+pub const TB_OK: u32 = 0;
+pub const TB_FAULT: u32 = 1;
+pub const TB_SVC: u32 = 2;
+pub const TB_BREAKPOINT: u32 = 3;
+pub const TB_ILLEGAL: u32 = 4;
+pub const TB_NOT_MAPPED: u32 = 5;
+pub const TB_ALREADY_MAPPED: u32 = 6;
+pub const TB_NO_ROOM: u32 = 7;
+pub const TB_BAD_ARGUMENT: u32 = 8;
+pub const TB_ABORT: u32 = 9;
+pub const TB_OUT_OF_MEMORY: u32 = 10;
+pub const TB_SCRIPT: u32 = 11;
+pub const TB_REFUSED: u32 = 12;
+pub const TB_STOPPED: u32 = 13;
+
+pub const TB_PERMISSION: u32 = 2;
+
+pub const TB_MALLOC: u32 = 1;
+pub const TB_FREE: u32 = 2;
+pub const TB_LOAD: u32 = 7;
+pub const TB_STORE: u32 = 8;
+
+pub const TB_READ: u32 = 1;
+pub const TB_WRITE: u32 = 2;
+pub const TB_EXEC: u32 = 4;
+pub const TB_TAGGED: u32 = 8;
+
+const CODES: [&str; 14] = [
+    "ok",
+    "fault",
+    "svc",
+    "breakpoint",
+    "illegal instruction",
+    "page not mapped",
+    "page already mapped",
+    "no room",
+    "bad argument",
+    "heap abort",
+    "out of memory",
+    "faulty script line",
+    "tenant refused",
+    "stopped",
+];
+
+const FAULT_KINDS: [&str; 7] = [
+    "none",
+    "Translation",
+    "Permission",
+    "TagCheck",
+    "Alignment",
+    "SpAlignment",
+    "PcAlignment",
+];
+
+const HEAP_ABORTS: [&str; 7] = [
+    "none",
+    "Misaligned",
+    "Unmapped",
+    "HeaderCorrupt",
+    "InvalidState",
+    "NotABlock",
+    "AlreadyFree",
+];
+
+const SCRIPT_FAULTS: [&str; 5] = ["none", "Syntax", "BadNumber", "NoSuchFile", "TooManyEvents"];
+
+const REFUSALS: [&str; 15] = [
+    "none",
+    "",
+    "BadReservation",
+    "ReservationTooSmall",
+    "",
+    "",
+    "Short",
+    "NotElf64",
+    "NotAarch64",
+    "NotExec",
+    "BadHeaders",
+    "Interpreter",
+    "SegmentRange",
+    "Overlap",
+    "NoEntry",
+];
+
+const TENANT_STATUSES: [&str; 8] =
+    ["none", "running", "exit", "fault", "illegal", "break", "async", "abort"];
+
+/// The entry of a number, or "unknown" where there is none.
+fn entry(of: &[&'static str], number: u32) -> &'static str {
+    of.get(number as usize).copied().filter(|it| !it.is_empty()).unwrap_or("unknown")
+}
+
+/// What a code says that a call answered, in a few words.
+pub fn text(code: u32) -> &'static str {
+    entry(&CODES, code)
+}
+
+/// The name of `Fault::kind` as reports have it; "none" for 0.
+pub fn fault_kind_name(kind: u32) -> &'static str {
+    entry(&FAULT_KINDS, kind)
+}
+
+/// The name of why the heap refused a pointer, as reports have it; "none" for 0.
+pub fn heap_abort_name(why: u32) -> &'static str {
+    entry(&HEAP_ABORTS, why)
+}
+
+/// The name of `SessionEnd::fault` as mte_host writes it; "none" for 0.
+pub fn script_fault_name(fault: u32) -> &'static str {
+    entry(&SCRIPT_FAULTS, fault)
+}
+
+/// The name of `AloneEnd::refusal` as reports have it; "none" for 0.
+pub fn refusal_name(refusal: u32) -> &'static str {
+    entry(&REFUSALS, refusal)
+}
+
+/// The name of `Status::status` as reports have it; "none" for 0.
+pub fn tenant_status_name(status: u32) -> &'static str {
+    entry(&TENANT_STATUSES, status)
+}
+
+/// A place for a page.
+#[repr(C)]
+#[derive(Clone, Copy)]
+pub struct Page {
+    pub number: u64,
+    pub mapped: u32,
+    pub attrs: u32,
+    pub bytes: [u8; 4096],
+    pub tags: [u8; 256],
+}
+
+/// The tag mode and its flag.
+#[repr(C)]
+#[derive(Clone, Copy, Default)]
+pub struct TagState {
+    pub asynchronous: u32,
+    pub pending: u32,
+}
+
+/// The registers of a core.
+#[repr(C)]
+#[derive(Clone, Copy, Default)]
+pub struct Regs {
+    pub x: [u64; 31],
+    pub sp: u64,
+    pub pc: u64,
+    pub nzcv: u32,
+    pub rgsr_seed: u16,
+    pub rgsr_tag: u16,
+}
+
+/// A fault, or zero in all fields.
+#[repr(C)]
+#[derive(Clone, Copy, Debug, Default)]
+pub struct Fault {
+    pub addr: u64,
+    pub kind: u32,
+    pub write: u32,
+    pub ptr_tag: u32,
+    pub mem_tag: u32,
+}
+
+impl std::fmt::Display for Fault {
+    /// `TagCheck: a write at 0x20020, pointer tag 5, memory tag 0`
+    fn fmt(&self, f: &mut std::fmt::Formatter<'_>) -> std::fmt::Result {
+        let (kind, what) =
+            (fault_kind_name(self.kind), if self.write == 0 { "read" } else { "write" });
+        let Fault { addr, ptr_tag, mem_tag, .. } = self;
+        write!(f, "{kind}: a {what} at {addr:#x}, pointer tag {ptr_tag}, memory tag {mem_tag}")
+    }
+}
+
+/// How a step or a run ended.
+#[repr(C)]
+#[derive(Clone, Copy, Debug, Default)]
+pub struct Stop {
+    pub left: u64,
+    pub code: u32,
+    pub number: u32,
+    pub fault: Fault,
+}
+
+/// An access of an instruction to memory, as `Memory::trace` enters it.
+#[derive(Clone, Copy, Debug, Default, PartialEq, Eq)]
+pub struct Access {
+    /// The address of the instruction.
+    pub pc: u64,
+    /// The address that was used, its tag in bits 59 to 56.
+    pub addr: u64,
+    /// The first 16 bytes there after it, the lowest first; 0 beyond `size`.
+    pub value: [u64; 2],
+    /// The instruction.
+    pub word: u32,
+    /// How many bytes: 1 to 16; of LDG and STG the granule's 16, of ST2G 32.
+    pub size: u32,
+    pub write: bool,
+    /// The allocation tag of the granule that holds `addr`, after it.
+    pub mem_tag: u32,
+}
+
+/// How many bytes a load or a store of the profile accesses, by its word: 1 to 16, of LDG, STG and
+/// STZG 16, of ST2G and STZ2G 32. Of other words it says nothing.
+pub fn access_size(word: u32) -> u32 {
+    let bit = |n: u32| word >> n & 1 != 0;
+    if word >> 24 == 0xd9 {
+        return if bit(23) { 32 } else { 16 };
+    }
+    match word >> 27 & 7 {
+        5 if bit(31) || (bit(30) && !bit(22)) => 16,
+        5 => 8,
+        3 if bit(30) => 8,
+        3 => 4,
+        _ => 1 << (word >> 30),
+    }
+}
+
+/// What a heap and its memory begin with.
+#[repr(C)]
+#[derive(Clone, Copy)]
+pub struct HeapSetup {
+    pub cookie: u32,
+    pub pages: u32,
+    pub asynchronous: u32,
+    pub rgsr_seed: u16,
+    pub rgsr_tag: u16,
+}
+
+/// A call of a heap, or an access to its memory.
+#[repr(C)]
+#[derive(Clone, Copy, Default)]
+pub struct HeapCall {
+    pub op: u32,
+    pub code: u32,
+    pub first: u64,
+    pub second: u64,
+    pub answer: u64,
+    pub fault: Fault,
+}
+
+/// How a session ended.
+#[repr(C)]
+#[derive(Clone, Copy, Debug, Default)]
+pub struct SessionEnd {
+    pub length: u64,
+    pub line: u64,
+    pub code: u32,
+    pub fault: u32,
+}
+
+/// A tenant's status, or zero in all fields.
+#[repr(C)]
+#[derive(Clone, Copy, Debug, Default)]
+pub struct Status {
+    pub status: u32,
+    pub number: u32,
+    pub pc: u64,
+    pub pointer: u64,
+    pub fault: Fault,
+}
+
+/// A heap call of a tenant.
+#[repr(C)]
+#[derive(Clone, Copy, Debug, Default)]
+pub struct KeptCall {
+    pub service: u64,
+    pub first: u64,
+    pub second: u64,
+    pub answer: u64,
+}
+
+/// How a tenant alone ended.
+#[repr(C)]
+#[derive(Clone, Copy, Debug, Default)]
+pub struct AloneEnd {
+    pub steps: u64,
+    pub output: u64,
+    pub calls: u64,
+    pub kept: u64,
+    pub status: Status,
+    pub code: u32,
+    pub refusal: u32,
+}
+
+#[repr(C)]
+struct Bytes {
+    bytes: *const u8,
+    length: usize,
+}
+
+#[repr(C)]
+struct RawTerms {
+    image: *const u8,
+    image_length: usize,
+    input: *const u8,
+    input_length: usize,
+    slices: *const u32,
+    slice_count: usize,
+    seed: u64,
+    pages: u32,
+    room: u32,
+    asynchronous: u32,
+    unused: u32,
+}
+
+const _: () = assert!(size_of::<Page>() == 4368 && size_of::<Regs>() == 272);
+const _: () = assert!(size_of::<Stop>() == 40 && size_of::<HeapCall>() == 56);
+const _: () = assert!(size_of::<Bytes>() == 16 && size_of::<SessionEnd>() == 24);
+const _: () = assert!(size_of::<RawTerms>() == 72 && size_of::<AloneEnd>() == 88);
+
+unsafe extern "C" {
+    safe fn tb_version() -> u32;
+    fn tb_session(
+        frames: u32,
+        script: *const u8,
+        script_length: usize,
+        files: *const Bytes,
+        count: usize,
+        report: *mut u8,
+        room: usize,
+        end: *mut SessionEnd,
+    ) -> u32;
+    fn tb_alone(
+        terms: *const RawTerms,
+        output: *mut u8,
+        output_room: usize,
+        calls: *mut KeptCall,
+        call_room: usize,
+        end: *mut AloneEnd,
+    ) -> u32;
+    fn tb_memory_init(pages: *mut Page, count: usize, state: *mut TagState, asynchronous: bool);
+    fn tb_map(pages: *mut Page, count: usize, number: u64, attrs: u32) -> u32;
+    fn tb_unmap(pages: *mut Page, count: usize, number: u64) -> u32;
+    fn tb_read(
+        pages: *mut Page,
+        count: usize,
+        state: *mut TagState,
+        addr: u64,
+        buffer: *mut u8,
+        length: usize,
+        check: bool,
+        fault: *mut Fault,
+    ) -> u32;
+    fn tb_write(
+        pages: *mut Page,
+        count: usize,
+        state: *mut TagState,
+        addr: u64,
+        bytes: *const u8,
+        length: usize,
+        check: bool,
+        fault: *mut Fault,
+    ) -> u32;
+    fn tb_load(
+        pages: *mut Page,
+        count: usize,
+        state: *mut TagState,
+        addr: u64,
+        bytes: *const u8,
+        length: usize,
+    ) -> u32;
+    fn tb_load_tag(
+        pages: *mut Page,
+        count: usize,
+        state: *mut TagState,
+        addr: u64,
+        tag: *mut u8,
+        fault: *mut Fault,
+    ) -> u32;
+    fn tb_store_tags(
+        pages: *mut Page,
+        count: usize,
+        state: *mut TagState,
+        addr: u64,
+        granules: u64,
+        tag: u8,
+        zero: bool,
+        fault: *mut Fault,
+    ) -> u32;
+    fn tb_step(
+        pages: *mut Page,
+        count: usize,
+        state: *mut TagState,
+        regs: *mut Regs,
+        stop: *mut Stop,
+    ) -> u32;
+    fn tb_run(
+        pages: *mut Page,
+        count: usize,
+        state: *mut TagState,
+        regs: *mut Regs,
+        steps: u64,
+        stop: *mut Stop,
+    ) -> u32;
+    fn tb_run_until(
+        pages: *mut Page,
+        count: usize,
+        state: *mut TagState,
+        regs: *mut Regs,
+        steps: u64,
+        stops: *const u64,
+        stop_count: usize,
+        stop: *mut Stop,
+    ) -> u32;
+    fn tb_heap_calls(setup: *const HeapSetup, calls: *mut HeapCall, count: usize) -> u32;
+}
+
+// In each call below no pointer is null, since none of a slice, a vector or a reference is; each has
+// the length that is passed; and what is lent for writing is borrowed by `&mut`, so it overlaps nothing.
+
+/// The version of the library that was linked.
+pub fn version() -> u32 {
+    tb_version()
+}
+
+/// The report of a session: as much as there is room for, and how it ended.
+pub fn session_into(
+    frames: u32,
+    script: &[u8],
+    files: &[&[u8]],
+    report: &mut [u8],
+) -> SessionEnd {
+    let lent: Vec<Bytes> =
+        files.iter().map(|it| Bytes { bytes: it.as_ptr(), length: it.len() }).collect();
+    let mut end = SessionEnd::default();
+    let (text, length, room) = (script.as_ptr(), script.len(), report.len());
+    let held = report.as_mut_ptr();
+    unsafe { tb_session(frames, text, length, lent.as_ptr(), lent.len(), held, room, &mut end) };
+    end
+}
+
+/// The whole report of a session, or how it ended.
+pub fn session(frames: u32, script: &[u8], files: &[&[u8]]) -> Result<Vec<u8>, SessionEnd> {
+    let mut report = vec![0; 4096];
+    loop {
+        let end = session_into(frames, script, files, &mut report);
+        match end.code {
+            TB_OK => {
+                report.truncate(end.length as usize);
+                return Ok(report);
+            }
+            TB_NO_ROOM => report.resize(end.length as usize, 0),
+            _ => return Err(end),
+        }
+    }
+}
+
+/// What a tenant alone is admitted with.
+#[derive(Clone, Copy)]
+pub struct Terms<'a> {
+    pub image: &'a [u8],
+    pub input: &'a [u8],
+    pub seed: u64,
+    pub pages: u32,
+    pub room: u32,
+    pub asynchronous: bool,
+}
+
+/// Runs a tenant alone for its slices, and copies as much of its output and of its last 64 heap calls
+/// as there is room for.
+pub fn alone(
+    terms: &Terms<'_>,
+    slices: &[u32],
+    output: &mut [u8],
+    calls: &mut [KeptCall],
+) -> AloneEnd {
+    let raw = RawTerms {
+        image: terms.image.as_ptr(),
+        image_length: terms.image.len(),
+        input: terms.input.as_ptr(),
+        input_length: terms.input.len(),
+        slices: slices.as_ptr(),
+        slice_count: slices.len(),
+        seed: terms.seed,
+        pages: terms.pages,
+        room: terms.room,
+        asynchronous: terms.asynchronous.into(),
+        unused: 0,
+    };
+    let mut end = AloneEnd::default();
+    let (bytes, room) = (output.as_mut_ptr(), output.len());
+    unsafe { tb_alone(&raw, bytes, room, calls.as_mut_ptr(), calls.len(), &mut end) };
+    end
+}
+
+/// A memory with tags, of so many places for pages. A clone shares nothing.
+#[derive(Clone)]
+pub struct Memory {
+    pub pages: Vec<Page>,
+    pub state: TagState,
+}
+
+impl Memory {
+    pub fn new(places: usize, asynchronous: bool) -> Memory {
+        let free = Page { number: 0, mapped: 0, attrs: 0, bytes: [0; 4096], tags: [0; 256] };
+        let mut memory = Memory { pages: vec![free; places], state: TagState::default() };
+        let (pages, count) = memory.places();
+        unsafe { tb_memory_init(pages, count, &mut memory.state, asynchronous) };
+        memory
+    }
+
+    fn places(&mut self) -> (*mut Page, usize) {
+        (self.pages.as_mut_ptr(), self.pages.len())
+    }
+
+    pub fn map(&mut self, number: u64, attrs: u32) -> u32 {
+        let (pages, count) = self.places();
+        unsafe { tb_map(pages, count, number, attrs) }
+    }
+
+    /// Maps `length` pages from the number `first` on, all of them or none.
+    pub fn map_range(&mut self, first: u64, length: u64, attrs: u32) -> u32 {
+        const LIMIT: u64 = 1 << 44;
+        if first > LIMIT || length > LIMIT - first || attrs > 15 {
+            return TB_BAD_ARGUMENT;
+        }
+        let range = first..first + length;
+        if self.pages.iter().any(|it| it.mapped != 0 && range.contains(&it.number)) {
+            return TB_ALREADY_MAPPED;
+        }
+        if length > self.pages.iter().filter(|it| it.mapped == 0).count() as u64 {
+            return TB_NO_ROOM;
+        }
+        range.map(|number| self.map(number, attrs)).find(|code| *code != TB_OK).unwrap_or(TB_OK)
+    }
+
+    pub fn unmap(&mut self, number: u64) -> u32 {
+        let (pages, count) = self.places();
+        unsafe { tb_unmap(pages, count, number) }
+    }
+
+    pub fn read(&mut self, addr: u64, buffer: &mut [u8], fault: &mut Fault) -> u32 {
+        let (pages, count) = self.places();
+        let (bytes, length) = (buffer.as_mut_ptr(), buffer.len());
+        unsafe { tb_read(pages, count, &mut self.state, addr, bytes, length, true, fault) }
+    }
+
+    pub fn write(&mut self, addr: u64, bytes: &[u8], fault: &mut Fault) -> u32 {
+        let (pages, count) = self.places();
+        let (bytes, length) = (bytes.as_ptr(), bytes.len());
+        unsafe { tb_write(pages, count, &mut self.state, addr, bytes, length, true, fault) }
+    }
+
+    pub fn load(&mut self, addr: u64, bytes: &[u8]) -> u32 {
+        let (pages, count) = self.places();
+        unsafe { tb_load(pages, count, &mut self.state, addr, bytes.as_ptr(), bytes.len()) }
+    }
+
+    pub fn load_tag(&mut self, addr: u64, tag: &mut u8, fault: &mut Fault) -> u32 {
+        let (pages, count) = self.places();
+        unsafe { tb_load_tag(pages, count, &mut self.state, addr, tag, fault) }
+    }
+
+    pub fn store_tags(&mut self, addr: u64, granules: u64, tag: u8, fault: &mut Fault) -> u32 {
+        let (pages, count) = self.places();
+        unsafe { tb_store_tags(pages, count, &mut self.state, addr, granules, tag, false, fault) }
+    }
+
+    pub fn step(&mut self, regs: &mut Regs) -> Stop {
+        let mut stop = Stop::default();
+        let (pages, count) = self.places();
+        unsafe { tb_step(pages, count, &mut self.state, regs, &mut stop) };
+        stop
+    }
+
+    pub fn run(&mut self, regs: &mut Regs, steps: u64) -> Stop {
+        let mut stop = Stop::default();
+        let (pages, count) = self.places();
+        unsafe { tb_run(pages, count, &mut self.state, regs, steps, &mut stop) };
+        stop
+    }
+
+    /// The page that holds an address.
+    fn page_of(&self, addr: u64) -> Option<&Page> {
+        let number = (addr & ((1 << 56) - 1)) / 4096;
+        self.pages.iter().find(|it| it.mapped != 0 && it.number == number)
+    }
+
+    /// The number of some bytes at an address, at most 8, the lowest first, whatever the attributes
+    /// and tags of their pages; a byte that is not mapped is 0.
+    pub fn peek(&self, addr: u64, length: u32) -> u64 {
+        (0..u64::from(length.min(8))).fold(0, |value, i| {
+            let at = addr.wrapping_add(i);
+            let byte = self.page_of(at).map_or(0, |it| it.bytes[(at % 4096) as usize]);
+            value | u64::from(byte) << (8 * i)
+        })
+    }
+
+    /// A step that also enters the instruction's access to memory, if it has one and succeeds. Its
+    /// code is `TB_NO_ROOM`, and nothing is attempted, where it may have one and `accesses` has
+    /// `room` entries. It is attempted first while all pages lack READ and WRITE, so that an access
+    /// faults and changes nothing, and then with the attributes that it finds.
+    pub fn trace_step(
+        &mut self,
+        regs: &mut Regs,
+        accesses: &mut Vec<Access>,
+        room: usize,
+    ) -> Stop {
+        self.pages.iter_mut().for_each(|it| it.attrs = (it.attrs & 15) << 4 | it.attrs & TB_EXEC);
+        let stop = self.step(regs);
+        self.pages.iter_mut().for_each(|it| it.attrs = it.attrs >> 4 & 15);
+        if stop.code != TB_FAULT || stop.fault.kind != TB_PERMISSION {
+            return stop;
+        }
+        if accesses.len() >= room {
+            return Stop { code: TB_NO_ROOM, ..Stop::default() };
+        }
+        let (pc, fault) = (regs.pc, stop.fault);
+        let addr = fault.addr | u64::from(fault.ptr_tag) << 56;
+        let word = self.peek(pc, 4) as u32;
+        let (size, write) = (access_size(word), fault.write != 0);
+        let stop = self.step(regs);
+        if stop.code == TB_OK {
+            let high = self.peek(addr.wrapping_add(8), size.saturating_sub(8));
+            let value = [self.peek(addr, size), high];
+            let tagged = self.page_of(addr).filter(|it| it.attrs & TB_TAGGED != 0);
+            let granule = (addr % 4096 / 16) as usize;
+            let mem_tag = tagged.map_or(0, |it| u32::from(it.tags[granule] & 15));
+            accesses.push(Access { pc, addr, value, word, size, write, mem_tag });
+        }
+        stop
+    }
+
+    /// A run that also enters each access to memory, not the fetches of instructions. It stops
+    /// with `TB_NO_ROOM` before an instruction that may have one when `accesses` has `room` entries.
+    /// It is slower than `run`.
+    pub fn trace(
+        &mut self,
+        regs: &mut Regs,
+        steps: u64,
+        accesses: &mut Vec<Access>,
+        room: usize,
+    ) -> Stop {
+        let mut stop = Stop::default();
+        let mut left = steps;
+        while left > 0 && stop.code == TB_OK {
+            stop = self.trace_step(regs, accesses, room);
+            left -= u64::from(stop.code != TB_NO_ROOM);
+        }
+        Stop { left, ..stop }
+    }
+
+    /// A run that also stops where the PC is one of some addresses after an instruction.
+    pub fn run_until(&mut self, regs: &mut Regs, steps: u64, stops: &[u64]) -> Stop {
+        let mut stop = Stop::default();
+        let (pages, count) = self.places();
+        let (at, n) = (stops.as_ptr(), stops.len());
+        unsafe { tb_run_until(pages, count, &mut self.state, regs, steps, at, n, &mut stop) };
+        stop
+    }
+}
+
+/// Makes heap calls in order on a new heap.
+pub fn heap_calls(setup: &HeapSetup, calls: &mut [HeapCall]) -> u32 {
+    unsafe { tb_heap_calls(setup, calls.as_mut_ptr(), calls.len()) }
+}
