@@ -1,0 +1,113 @@
+//! The front.
+
+use crate::files::File;
+use crate::reply::Reply;
+use debuggee::Debuggee;
+use gdb_monitor::Subject;
+use gdb_packets::{Command, parse_command};
+use gdb_target::{Registers, Text};
+use gdb_travel::{Points, Stop, Traveller};
+use std::alloc::Global;
+
+/// A tenant, and what GDB was told of it.
+#[derive(Drop)]
+pub struct Front<'a> {
+    /// The tenant.
+    pub(crate) tenant: Traveller<'a>,
+    /// Where it stands still.
+    pub(crate) points: Points,
+    /// Why it stands still.
+    pub(crate) stop: Stop,
+    /// How many bytes of its output GDB was told.
+    pub(crate) shown: usize,
+    /// Whether GDB wants to be told that a breakpoint was reached.
+    pub(crate) tells_breakpoints: bool,
+    /// The file that GDB has open.
+    pub(crate) file: File,
+    /// The image, its name and the seed.
+    pub(crate) subject: Subject<'a>,
+}
+
+impl<'a> Front<'a> {
+    /// A front of a tenant at its first instruction.
+    pub fn new(alloc: Global, tenant: Debuggee<'a>, subject: Subject<'a>) -> Front<'a> {
+        Front {
+            tenant: Traveller::new(tenant),
+            points: Points::new(alloc),
+            stop: Stop::Step,
+            shown: 0,
+            tells_breakpoints: false,
+            file: File::new(alloc),
+            subject,
+        }
+    }
+
+    /// Answers the data of a packet, without their escapes.
+    pub fn answer(&mut self, alloc: Global, data: &[u8], reply: &mut Reply) {
+        match parse_command(data) {
+            Command::StopReason => self.put_stop(reply),
+            Command::Resume { action, .. } => self.resume(alloc, action, reply),
+            Command::ResumeThread { action, .. } => self.resume(alloc, action, reply),
+            Command::StepBack => self.step_back(alloc, reply),
+            Command::ContinueBack => self.run_back(alloc, reply),
+            Command::InsertPoint {
+                kind,
+                address,
+                size,
+            } => self.insert_point(kind, address, size, reply),
+            Command::RemovePoint {
+                kind,
+                address,
+                size,
+            } => self.remove_point(kind, address, size, reply),
+            Command::ReadMemory { address, len } => self.put_memory(address, len, reply),
+            Command::ReadTags { address, len, kind } => self.put_tags(address, len, kind, reply),
+            Command::Monitor { digits } => self.tell_user(alloc, digits, reply),
+            Command::File(call) => self.answer_file(alloc, &call, reply),
+            command => self.answer_other(alloc, &command, reply),
+        }
+    }
+
+    /// Answers what reads registers and texts, and what only GDB keeps.
+    fn answer_other(&mut self, alloc: Global, command: &Command<'_>, reply: &mut Reply) {
+        match *command {
+            Command::ReadRegisters => self.registers().put_all(&mut reply.answer),
+            Command::ReadRegister { number } => self.put_register(number, reply),
+            Command::WriteRegister { number, digits } => {
+                self.compare_register(number, digits, reply);
+            }
+            Command::Supported { features } => self.put_features(features, reply),
+            Command::ReadObject {
+                object,
+                offset,
+                len,
+                ..
+            } => self.put_object(alloc, object, offset, len, reply),
+            _ => self.answer_fixed(command, reply),
+        }
+    }
+
+    /// Its registers.
+    pub(crate) fn registers(&self) -> Registers<'_> {
+        Registers {
+            regs: &self.tenant.parts().regs,
+            mode: self.tenant.mode(),
+            step: self.tenant.position(),
+        }
+    }
+
+    /// Takes the output that GDB was not told yet.
+    pub(crate) fn tell_output(&mut self, console: &mut Text) {
+        let shown = self.shown;
+        let output = self.tenant.parts().log.output.as_slice();
+        self.shown = put_from(output, shown, console);
+    }
+}
+
+/// Appends the bytes from a place on, and returns how many there are.
+fn put_from(output: &[u8], shown: usize, console: &mut Text) -> usize {
+    if let Some(more) = output.get(shown..) {
+        console.put(more);
+    }
+    shown.max(output.len())
+}

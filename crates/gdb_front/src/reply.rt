@@ -1,0 +1,61 @@
+//! What a packet is answered.
+
+use gdb_target::Text;
+use std::alloc::Global;
+
+/// What a packet is answered: a text for GDB's user, and the answer.
+#[derive(Drop)]
+pub struct Reply {
+    /// What GDB prints before the answer.
+    pub console: Text,
+    /// The answer. It is empty where a packet is not known.
+    pub answer: Text,
+    /// Whether the dialog ends with it.
+    pub ends: bool,
+}
+
+impl Reply {
+    /// An empty one.
+    pub fn new(alloc: Global) -> Reply {
+        Reply {
+            console: Text::new(alloc),
+            answer: Text::new(alloc),
+            ends: false,
+        }
+    }
+
+    /// Whether memory was short.
+    pub fn is_short(&self) -> bool {
+        self.console.is_short() || self.answer.is_short()
+    }
+
+    /// Answers that it is done.
+    pub fn put_ok(&mut self) {
+        self.answer.put(b"OK");
+    }
+
+    /// Answers that it is refused: a malformed packet, or one that would change the tenant.
+    pub fn put_refusal(&mut self) {
+        self.answer.put(b"E01");
+    }
+
+    /// Answers that there is no such memory.
+    pub fn put_fault(&mut self) {
+        self.answer.put(b"E0e");
+    }
+
+    /// Answers `OK`, or that it is refused.
+    pub fn put_outcome(&mut self, is_done: bool) {
+        if is_done {
+            self.put_ok();
+        } else {
+            self.put_refusal();
+        }
+    }
+
+    /// Ends the dialog.
+    pub fn end(&mut self) {
+        self.put_ok();
+        self.ends = true;
+    }
+}

@@ -1,0 +1,78 @@
+//! Answers that tell why the tenant stands still (GDB's documentation, "Stop Reply Packets").
+
+use crate::front::Front;
+use crate::reply::Reply;
+use debuggee::{Access, Hit};
+use elf_core::Signal;
+use gdb_target::Text;
+use gdb_travel::Stop;
+
+/// GDB's numbers of SIGTRAP and SIGXCPU, which are Linux's.
+const TRAP: u8 = 5;
+
+const LIMIT: u8 = 24;
+
+impl Front<'_> {
+    /// Answers why the tenant stands still.
+    pub(crate) fn put_stop(&self, reply: &mut Reply) {
+        let signal = self.signal();
+        match self.stop {
+            Stop::Exit(code) => put_end(&mut reply.answer, b"W", code),
+            Stop::Ended => put_end(&mut reply.answer, b"X", signal),
+            Stop::End => self.put_halt(signal, reply),
+            Stop::Limit => self.put_halt(LIMIT, reply),
+            _ => self.put_halt(TRAP, reply),
+        }
+    }
+
+    /// Answers that it stands still and can be moved: the signal, the reason and the thread.
+    fn put_halt(&self, signal: u8, reply: &mut Reply) {
+        let text = &mut reply.answer;
+        text.put(b"T");
+        text.put_hex(&[signal]);
+        self.put_reason(text);
+        text.put(b"thread:p1.1;");
+    }
+
+    /// Appends the reason, where it is more than a signal.
+    fn put_reason(&self, text: &mut Text) {
+        match self.stop {
+            Stop::Breakpoint if self.tells_breakpoints => text.put(b"swbreak:;"),
+            Stop::Watch(hit) => put_hit(text, &hit),
+            Stop::Start => text.put(b"replaylog:begin;"),
+            Stop::BeforeExit(_) => text.put(b"replaylog:end;"),
+            _ => {}
+        }
+    }
+
+    /// GDB's number of the signal that stands for its end.
+    fn signal(&self) -> u8 {
+        gdb_number(&Signal::of(&self.tenant.parts().log.status))
+    }
+}
+
+/// GDB's number of a signal: of SIGBUS it is another one than Linux's.
+fn gdb_number(signal: &Signal) -> u8 {
+    match signal.number {
+        7 => 10,
+        number => (number % 256) as u8,
+    }
+}
+
+/// An end: `W` and a code, or `X` and a signal.
+fn put_end(text: &mut Text, letter: &[u8], number: u8) {
+    text.put(letter);
+    text.put_hex(&[number]);
+    text.put(b";process:1");
+}
+
+/// The access that is watched.
+fn put_hit(text: &mut Text, hit: &Hit) {
+    text.put(match hit.access {
+        Access::Write => b"watch:",
+        Access::Read => b"rwatch:",
+        Access::Any => b"awatch:",
+    });
+    text.put_number(hit.address);
+    text.put(b";");
+}

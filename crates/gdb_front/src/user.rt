@@ -1,0 +1,134 @@
+//! What GDB's user is told.
+
+use crate::front::Front;
+use crate::reply::Reply;
+use gdb_monitor::{made_calls, tell_calls, tell_chunks, tell_tags, tell_why};
+use gdb_packets::{read_hex, read_number};
+use gdb_travel::Stop;
+use std::alloc::Global;
+use std::io;
+use std::io::Write;
+
+/// The most bytes of a user's command.
+const COMMAND_LIMIT: usize = 256;
+
+/// Where the part of a report ends that is told with a stop: the line of the instruction.
+const MACHINE: &[u8] = b"\ninstruction at ";
+
+/// What a user may ask.
+#[derive(Clone, Copy, Debug, PartialEq, Eq)]
+enum Request {
+    Why,
+    Calls,
+    Chunk(u64),
+    Step,
+    Help,
+}
+
+impl Request {
+    /// That of a command's words.
+    fn of(text: &[u8]) -> Request {
+        match text {
+            b"why" => Request::Why,
+            b"calls" => Request::Calls,
+            b"step" => Request::Step,
+            _ => Request::of_chunk(text),
+        }
+    }
+
+    /// That of the words `chunk 0xADDRESS`.
+    fn of_chunk(text: &[u8]) -> Request {
+        let Some(digits) = text.strip_prefix(b"chunk 0x") else {
+            return Request::Help;
+        };
+        match read_number(digits) {
+            Some(address) => Request::Chunk(address),
+            None => Request::Help,
+        }
+    }
+}
+
+impl Front<'_> {
+    /// Answers a user's command, which is in digits.
+    pub(crate) fn tell_user(&mut self, alloc: Global, digits: &[u8], reply: &mut Reply) {
+        let request = request_of(digits);
+        let mut out = Vec::new(alloc);
+        match self.tell_request(alloc, request, &mut out) {
+            Ok(()) => {
+                reply.console.put(out.as_slice());
+                reply.put_ok();
+            }
+            Err(_) => reply.answer.fail(),
+        }
+    }
+
+    /// Writes what a user asks.
+    fn tell_request(
+        &mut self,
+        alloc: Global,
+        request: Request,
+        out: &mut Vec<u8>,
+    ) -> io::Result<()> {
+        match request {
+            Request::Why => tell_why(alloc, out, &self.tenant, &self.subject),
+            Request::Calls => {
+                let calls = made_calls(alloc, &self.tenant)?;
+                tell_calls(out, calls.as_slice())
+            }
+            Request::Chunk(address) => {
+                let calls = made_calls(alloc, &self.tenant)?;
+                tell_chunks(out, calls.as_slice(), address)?;
+                tell_tags(out, &mut self.tenant, address)
+            }
+            Request::Step => writeln!(out, "{}", self.tenant.position()),
+            Request::Help => {
+                writeln!(out, "why | calls | chunk 0xADDRESS | step")?;
+                writeln!(out, "(of a pointer P: eval \"monitor chunk %p\", P)")
+            }
+        }
+    }
+
+    /// Tells the user an end: why, or that it exits with the next step.
+    pub(crate) fn tell_end(&mut self, alloc: Global, reply: &mut Reply) {
+        let mut out = Vec::new(alloc);
+        let told = match self.stop {
+            Stop::End | Stop::Limit => tell_why(alloc, &mut out, &self.tenant, &self.subject),
+            Stop::BeforeExit(code) => self.tell_exit(code, &mut out),
+            _ => return,
+        };
+        if told.is_err() {
+            reply.answer.fail();
+        }
+        reply.console.put(first_part(out.as_slice()));
+    }
+
+    /// Writes that it exits with the next step.
+    fn tell_exit(&self, code: u8, out: &mut Vec<u8>) -> io::Result<()> {
+        let steps = self.tenant.position().saturating_add(1);
+        writeln!(
+            out,
+            "the tenant exits with {code} after {steps} steps (continue again to let it)"
+        )
+    }
+}
+
+/// The request of a command in digits.
+fn request_of(digits: &[u8]) -> Request {
+    if digits.len() > 2 * COMMAND_LIMIT {
+        return Request::Help;
+    }
+    let mut room = [0; COMMAND_LIMIT];
+    let len = read_hex(digits, &mut room).unwrap_or(0);
+    Request::of(room.get(..len).unwrap_or(&[]))
+}
+
+/// A report's lines up to those of the machine.
+fn first_part(text: &[u8]) -> &[u8] {
+    for end in 0..text.len() {
+        let rest = text.get(end..).unwrap_or(&[]);
+        if rest.starts_with(MACHINE) {
+            return text.get(..end.saturating_add(1)).unwrap_or(&[]);
+        }
+    }
+    text
+}

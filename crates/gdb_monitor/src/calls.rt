@@ -1,0 +1,96 @@
+//! The heap calls of a tenant.
+
+use gdb_travel::Traveller;
+use mte_svc::{HeapCall, HeapService};
+use std::alloc::{AllocError, Global};
+use std::io::Write;
+use std::{fmt, io};
+
+/// How many calls are told at once.
+const TOLD: usize = 64;
+
+/// A heap call that was answered.
+#[derive(Clone, Copy)]
+pub struct Made {
+    /// Its number among the heap calls, from 1.
+    pub number: u64,
+    /// The step that made it, from 1.
+    pub step: u64,
+    /// The address of its SVC.
+    pub pc: u64,
+    /// The call.
+    pub call: HeapCall,
+}
+
+impl fmt::Display for Made {
+    fn fmt<W: fmt::Write>(&self, f: &mut fmt::Formatter<W>) -> fmt::Result {
+        let Made {
+            number,
+            step,
+            pc,
+            call,
+        } = self;
+        let (words, answer) = (Words(call), call.answer);
+        write!(
+            f,
+            "call {number}, {words} = {answer:#x} by the SVC at {pc:#x}, step {step}"
+        )
+    }
+}
+
+/// A call as C has it.
+#[derive(Clone, Copy)]
+struct Words<'a>(&'a HeapCall);
+
+impl<'a> fmt::Display for Words<'a> {
+    fn fmt<W: fmt::Write>(&self, f: &mut fmt::Formatter<W>) -> fmt::Result {
+        let (first, second) = (self.0.first, self.0.second);
+        match self.0.service {
+            HeapService::Malloc => write!(f, "malloc({first})"),
+            HeapService::Free => write!(f, "free({first:#x})"),
+            HeapService::Calloc => write!(f, "calloc({first}, {second})"),
+            HeapService::Realloc => write!(f, "realloc({first:#x}, {second})"),
+            HeapService::Memalign => write!(f, "memalign({first}, {second})"),
+            HeapService::UsableSize => write!(f, "usable_size({first:#x})"),
+        }
+    }
+}
+
+/// The heap calls that a tenant has made, the oldest first: it runs anew for them.
+pub fn made_calls(alloc: Global, tenant: &Traveller<'_>) -> Result<Vec<Made>, AllocError> {
+    let mut all = Vec::new(alloc);
+    let (mut past, steps) = tenant.past(alloc)?;
+    for _ in 0..steps {
+        let before = past.parts().log.calls.count();
+        past.attempt();
+        let parts = past.parts();
+        let calls = &parts.log.calls;
+        if calls.count() == before {
+            continue;
+        }
+        if let Some(call) = calls.get(calls.kept().saturating_sub(1)) {
+            all.push(Made {
+                number: calls.count(),
+                step: parts.log.steps,
+                pc: parts.regs.pc.wrapping_sub(4),
+                call,
+            })?;
+        }
+    }
+    Ok(all)
+}
+
+/// Writes the last calls, the oldest first.
+pub fn tell_calls<W: Write>(out: &mut W, calls: &[Made]) -> io::Result<()> {
+    if calls.is_empty() {
+        return writeln!(out, "no heap calls yet");
+    }
+    let skipped = calls.len().saturating_sub(TOLD);
+    if skipped > 0 {
+        writeln!(out, "{skipped} older calls")?;
+    }
+    for call in calls.iter().skip(skipped) {
+        writeln!(out, "{call}")?;
+    }
+    Ok(())
+}

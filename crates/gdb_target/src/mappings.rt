@@ -1,0 +1,77 @@
+//! The regions of a memory as Linux tells them (proc(5)).
+
+use crate::text::Text;
+use elf_core::Region;
+use mte_tags::Attrs;
+
+/// Where chunks of size classes begin, and where those with pages of their own end.
+const HEAP: u64 = 0x1100_0000;
+
+const HEAP_END: u64 = 0x3F00_0000;
+
+/// Where the stack begins.
+const STACK: u64 = 0x3FFF_C000;
+
+/// Appends the text of `/proc/PID/maps`.
+pub fn put_maps(text: &mut Text, all: &[Region], image: &[u8]) {
+    for region in all {
+        put_line(text, region, image);
+    }
+}
+
+/// Appends the text of `/proc/PID/smaps`: of its lines those that GDB reads.
+pub fn put_smaps(text: &mut Text, all: &[Region], image: &[u8]) {
+    for region in all {
+        put_line(text, region, image);
+        text.put(b"Size: ");
+        text.put_decimal(region.len() / 1024);
+        text.put(b" kB\nRss: 0 kB\nVmFlags: ");
+        put_flags(text, region.attrs);
+        text.put(b"\n");
+    }
+}
+
+/// `12000000-12001000 rw-p 00000000 00:00 0 [heap]`
+fn put_line(text: &mut Text, region: &Region, image: &[u8]) {
+    text.put_number(region.start);
+    text.put(b"-");
+    text.put_number(region.end);
+    text.put(b" ");
+    put_attr(text, region.attrs, Attrs::READ, b"r");
+    put_attr(text, region.attrs, Attrs::WRITE, b"w");
+    put_attr(text, region.attrs, Attrs::EXEC, b"x");
+    text.put(b"p 00000000 00:00 0 ");
+    text.put(name_of(region, image));
+    text.put(b"\n");
+}
+
+/// An attribute's letter, or `-`.
+fn put_attr(text: &mut Text, attrs: Attrs, attr: Attrs, letter: &[u8]) {
+    text.put(if attrs.contains(attr) { letter } else { b"-" });
+}
+
+/// `rd wr ex mt `, each where a region has it.
+fn put_flags(text: &mut Text, attrs: Attrs) {
+    put_flag(text, attrs, Attrs::READ, b"rd ");
+    put_flag(text, attrs, Attrs::WRITE, b"wr ");
+    put_flag(text, attrs, Attrs::EXEC, b"ex ");
+    put_flag(text, attrs, Attrs::TAGGED, b"mt ");
+}
+
+/// A flag, where a region has it.
+fn put_flag(text: &mut Text, attrs: Attrs, attr: Attrs, word: &[u8]) {
+    if attrs.contains(attr) {
+        text.put(word);
+    }
+}
+
+/// What a region is of.
+fn name_of<'a>(region: &Region, image: &'a [u8]) -> &'a [u8] {
+    if region.start >= STACK {
+        b"[stack]"
+    } else if region.start >= HEAP && region.start < HEAP_END {
+        b"[heap]"
+    } else {
+        image
+    }
+}

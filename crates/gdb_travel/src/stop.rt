@@ -1,0 +1,55 @@
+//! Why a tenant that moved stands still.
+
+use crate::points::Points;
+use debuggee::Hit;
+
+/// Why it stands still.
+#[derive(Clone, Copy, Debug, PartialEq, Eq)]
+pub enum Stop {
+    /// The step was done, or the range was left.
+    Step,
+    /// A breakpoint was reached.
+    Breakpoint,
+    /// An access is watched: that of the next instruction where it moved forwards, that of the last
+    /// one where it moved backwards.
+    Watch(Hit),
+    /// It moved back to its first instruction.
+    Start,
+    /// The next instruction exits, with a code; once, so that one can go back.
+    BeforeExit(u8),
+    /// It exited, with a code.
+    Exit(u8),
+    /// It ended otherwise.
+    End,
+    /// It had ended before it was to move.
+    Ended,
+    /// Its slices or its steps are over.
+    Limit,
+}
+
+/// How far it moves forwards, if nothing stops it before.
+#[derive(Clone, Copy, Debug, PartialEq, Eq)]
+pub enum Until {
+    /// One step.
+    Step,
+    /// Out of the addresses from the first on and below the second.
+    Outside(u64, u64),
+    /// To a point or its end.
+    Point,
+}
+
+impl Until {
+    /// Why it stands still with a program counter that it came to, if it does.
+    pub fn stop_at(&self, points: &Points, pc: u64) -> Option<Stop> {
+        if *self == Until::Step {
+            return Some(Stop::Step);
+        }
+        if points.is_breakpoint(pc) {
+            return Some(Stop::Breakpoint);
+        }
+        match *self {
+            Until::Outside(start, end) if pc < start || end <= pc => Some(Stop::Step),
+            _ => None,
+        }
+    }
+}

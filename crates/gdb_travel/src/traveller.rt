@@ -1,0 +1,201 @@
+//! The tenant that is moved.
+
+use crate::points::Points;
+use crate::stop::{Stop, Until};
+use crate::ways::{advance, last_point, look_ahead};
+use debuggee::Debuggee;
+use elf_core::Region;
+use mte_tags::TagMode;
+use mte_tenant::{Status, TenantParts};
+use std::alloc::{AllocError, Global};
+
+/// A tenant that is moved forwards and backwards. To go back it begins anew: it holds two memories
+/// at most, and a third while it goes back.
+#[derive(Drop)]
+pub struct Traveller<'a> {
+    /// The tenant where it is.
+    now: Debuggee<'a>,
+    /// Another one that looks ahead for accesses that are watched.
+    ahead: Option<Debuggee<'a>>,
+    /// Whether it was told that the next instruction exits.
+    is_exit_told: bool,
+}
+
+impl<'a> Traveller<'a> {
+    /// A tenant that has not been moved.
+    pub fn new(tenant: Debuggee<'a>) -> Traveller<'a> {
+        Traveller {
+            now: tenant,
+            ahead: None,
+            is_exit_told: false,
+        }
+    }
+
+    /// All of its machine but the memory.
+    pub fn parts(&self) -> &TenantParts {
+        self.now.parts()
+    }
+
+    /// What a tag that differs does.
+    pub fn mode(&self) -> TagMode {
+        self.now.mode()
+    }
+
+    /// After how many steps in all no more come.
+    pub fn limit(&self) -> u64 {
+        self.now.limit()
+    }
+
+    /// Whether it is running, and has steps left.
+    pub fn can_go_on(&self) -> bool {
+        self.now.can_go_on()
+    }
+
+    /// How many instructions were done: all that were attempted, but for the one that ended it.
+    pub fn position(&self) -> u64 {
+        let steps = self.now.steps();
+        if self.now.parts().is_running() {
+            steps
+        } else {
+            steps.saturating_sub(1)
+        }
+    }
+
+    /// Reads bytes of pages with READ, whatever their tags; whether it could.
+    pub fn read(&mut self, addr: u64, buffer: &mut [u8]) -> bool {
+        self.now.read(addr, buffer)
+    }
+
+    /// The tag of the granule of an address, if it can be read.
+    pub fn tag_at(&mut self, addr: u64) -> Option<u8> {
+        self.now.tag_at(addr)
+    }
+
+    /// The regions of its memory, the lowest first.
+    pub fn regions(&mut self, alloc: Global) -> Result<Vec<Region>, AllocError> {
+        self.now.regions(alloc)
+    }
+
+    /// The same tenant at its first instruction, and how many attempts it is to make to be where
+    /// this one is.
+    pub fn past(&self, alloc: Global) -> Result<(Debuggee<'a>, u64), AllocError> {
+        Ok((self.now.anew(alloc)?, self.now.steps()))
+    }
+
+    /// Moves it forwards.
+    pub fn run(
+        &mut self,
+        alloc: Global,
+        points: &Points,
+        until: Until,
+    ) -> Result<Stop, AllocError> {
+        if !self.now.parts().is_running() {
+            return Ok(Stop::Ended);
+        }
+        if points.watchpoints().is_empty() {
+            self.run_to_breakpoint(alloc, points, until)
+        } else {
+            self.run_to_access(alloc, points, until)
+        }
+    }
+
+    /// Moves it forwards where nothing is watched.
+    fn run_to_breakpoint(
+        &mut self,
+        alloc: Global,
+        points: &Points,
+        until: Until,
+    ) -> Result<Stop, AllocError> {
+        self.now.forget_hit();
+        match look_ahead(&mut self.now, points, until) {
+            Some(stop) => Ok(stop),
+            None => self.stop_at_end(alloc),
+        }
+    }
+
+    /// Moves it forwards where accesses are watched: up to the instruction that makes one.
+    fn run_to_access(
+        &mut self,
+        alloc: Global,
+        points: &Points,
+        until: Until,
+    ) -> Result<Stop, AllocError> {
+        let mut ahead = self.take_ahead(alloc)?;
+        ahead.watch(points.watchpoints())?;
+        let stop = look_ahead(&mut ahead, points, until);
+        let steps = ahead.steps();
+        self.ahead = Some(ahead);
+        match stop {
+            Some(Stop::Watch(hit)) => {
+                advance(&mut self.now, steps.saturating_sub(1));
+                Ok(Stop::Watch(hit))
+            }
+            Some(stop) => {
+                advance(&mut self.now, steps);
+                Ok(stop)
+            }
+            None => {
+                advance(&mut self.now, steps);
+                self.stop_at_end(alloc)
+            }
+        }
+    }
+
+    /// One that is where it is, to look ahead.
+    fn take_ahead(&mut self, alloc: Global) -> Result<Debuggee<'a>, AllocError> {
+        let steps = self.now.steps();
+        if let Some(ahead) = self.ahead.take() {
+            if ahead.steps() == steps {
+                return Ok(ahead);
+            }
+        }
+        let mut ahead = self.now.anew(alloc)?;
+        advance(&mut ahead, steps);
+        Ok(ahead)
+    }
+
+    /// Why it stands still where it can go on no more. An exit is told in front of its instruction
+    /// first.
+    fn stop_at_end(&mut self, alloc: Global) -> Result<Stop, AllocError> {
+        let status = self.now.parts().log.status;
+        match status {
+            Status::Running | Status::Stopped => Ok(Stop::Limit),
+            Status::Exited(code) if self.is_exit_told => Ok(Stop::Exit(code)),
+            Status::Exited(code) => {
+                self.is_exit_told = true;
+                let steps = self.now.steps().saturating_sub(1);
+                self.go_back(alloc, steps)?;
+                Ok(Stop::BeforeExit(code))
+            }
+            _ => Ok(Stop::End),
+        }
+    }
+
+    /// Moves it to a number of steps that it has passed.
+    fn go_back(&mut self, alloc: Global, steps: u64) -> Result<(), AllocError> {
+        let mut past = self.now.anew(alloc)?;
+        advance(&mut past, steps);
+        self.now = past;
+        Ok(())
+    }
+
+    /// Moves it back by one step.
+    pub fn step_back(&mut self, alloc: Global) -> Result<Stop, AllocError> {
+        self.is_exit_told = false;
+        let steps = self.position();
+        self.go_back(alloc, steps.saturating_sub(1))?;
+        Ok(if steps == 0 { Stop::Start } else { Stop::Step })
+    }
+
+    /// Moves it back to a breakpoint, to where an access that is watched has just been made, or to
+    /// its start.
+    pub fn run_back(&mut self, alloc: Global, points: &Points) -> Result<Stop, AllocError> {
+        self.is_exit_told = false;
+        let steps = self.position();
+        let mut past = self.now.anew(alloc)?;
+        past.watch(points.watchpoints())?;
+        let (found, stop) = last_point(&mut past, points, steps).unwrap_or((0, Stop::Start));
+        self.go_back(alloc, found)?;
+        Ok(stop)
+    }
+}
