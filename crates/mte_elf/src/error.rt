@@ -1,10 +1,8 @@
 //! Why an image is refused.
 
-ghost use Rattle.mte_elf.specs.declared.error.ElfError.TheVariants.{OutOfMemory};
 ghost use Rattle.std.specs.Prelude.{◌≡◌, Some};
 ghost use Rattle.mte_elf.specs.ErrorNames.{image_name};
 
-use std::alloc::{AllocError, AllocFailed};
 use std::error::Error;
 use std::fmt;
 
@@ -31,8 +29,6 @@ pub enum ElfError {
     Overlap,
     /// `e_entry` lies in no executable segment.
     NoEntry,
-    /// An allocation was refused.
-    OutOfMemory,
 }
 
 impl ElfError {
@@ -50,7 +46,6 @@ impl ElfError {
             ElfError::SegmentRange => "SegmentRange",
             ElfError::Overlap => "Overlap",
             ElfError::NoEntry => "NoEntry",
-            ElfError::OutOfMemory => "OutOfMemory",
         }
     }
 }
@@ -64,19 +59,3 @@ impl fmt::Display for ElfError {
 }
 
 impl Error for ElfError {}
-
-impl From<AllocError> for ElfError {
-    ghost from_gives = { λ _ e. e ≡ OutOfMemory };
-
-    fn from(_error: AllocError) -> ElfError {
-        ElfError::OutOfMemory
-    }
-}
-
-impl<T: Drop> From<AllocFailed<T>> for ElfError {
-    ghost from_gives = { λ _ e. e ≡ OutOfMemory };
-
-    fn from(_error: AllocFailed<T>) -> ElfError {
-        ElfError::OutOfMemory
-    }
-}

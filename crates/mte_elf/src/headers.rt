@@ -6,10 +6,9 @@ ghost use Rattle.mte_elf.specs.Headers.{number_at, header_at, headers_of, is_loa
 ghost use Rattle.mte_elf.specs.Headers.{is_interpreter};
 ghost use Rattle.std.specs.List.{list_any};
 
-use crate::error::ElfError;
 use crate::image::Segment;
 use byteorder::{ByteOrder, LittleEndian};
-use std::alloc::Global;
+use std::alloc::{AllocError, Global};
 
 /// What the loader reads of a program header (Elf64_Phdr).
 #[derive(Clone, Copy)]
@@ -141,12 +140,11 @@ pub fn has_interpreter(file: &[u8]) -> bool
     false
 }
 
-/// The table of program headers. The error is `OutOfMemory`.
-pub fn program_headers(alloc: Global, file: &[u8]) -> Result<Vec<ProgramHeader>, ElfError>
+/// The table of program headers.
+pub fn program_headers(alloc: Global, file: &[u8]) -> Result<Vec<ProgramHeader>, AllocError>
     requires file_header { 64 ≤ length file.now }
     requires table { has_table file.now ≡ true }
-    ensures headers { IfOk result (λ headers. headers.items ≡ headers_of file.now) }
-    ensures memory { IfErr result (λ e. e ≡ ElfError.OutOfMemory) }
+    ensures { IfOk result (λ headers. headers.items ≡ headers_of file.now) }
 {
     let at = table_offset(file) as usize;
     let count = header_count(file) as usize;
@@ -177,12 +175,10 @@ fn segment_of(header: &ProgramHeader) -> Segment
     }
 }
 
-/// The loadable segments with bytes in memory, in the order of the headers. The error is
-/// `OutOfMemory`.
-pub fn segments(alloc: Global, headers: &[ProgramHeader]) -> Result<Vec<Segment>, ElfError>
-    ensures segments { IfOk result
+/// The loadable segments with bytes in memory, in the order of the headers.
+pub fn segments(alloc: Global, headers: &[ProgramHeader]) -> Result<Vec<Segment>, AllocError>
+    ensures { IfOk result
         (λ segments. segments.items ≡ map segment_of (filter is_loaded headers.now)) }
-    ensures memory { IfErr result (λ e. e ≡ ElfError.OutOfMemory) }
 {
     let mut segments = Vec::with_capacity(alloc, headers.len())?;
     for header in headers {

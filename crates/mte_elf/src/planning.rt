@@ -1,8 +1,9 @@
 //! The loader's plan for an image.
 
-ghost use Rattle.std.specs.Prelude.{◌≡◌, ◌⊎◌, ℕ, ◌+◌, ◌-◌, ◌*◌, ◌/◌, ◌^◌, ◌≤◌, ◌<◌, length, IfOk};
+ghost use Rattle.std.specs.Prelude.{◌≡◌, ℕ, ◌+◌, ◌-◌, ◌*◌, ◌/◌, ◌^◌, ◌≤◌, ◌<◌, length, IfOk};
 ghost use Rattle.std.specs.Prelude.{IfErr, Err, Some, None, sum_by, true};
 ghost use Rattle.std.specs.List.{list_any, list_all};
+ghost use Rattle.obstacle.specs.Obstacles.{IfRefused};
 ghost use Rattle.mte_elf.specs.Headers.{entry_of, segments_of};
 ghost use Rattle.mte_elf.specs.Images.{refusal_of, pages_of, has_table, is_in_range};
 ghost use Rattle.mte_elf.specs.Images.{header_refusal};
@@ -16,6 +17,7 @@ use crate::headers::{
 };
 use crate::image::{Plan, Segment};
 use address_map::{IMAGE_END, IMAGE_START, PAGE_SIZE};
+use obstacle::Obstacle;
 use std::alloc::Global;
 
 /// The bytes of a page.
@@ -39,44 +41,43 @@ const EXECUTABLE: u16 = 2;
 /// an allocation was refused, can come in place of another answer, and not in place of a refusal by
 /// the file's headers, whose tests need no memory.
 #[tactic(auto, unfolding(crate::specs::Images::refusal_of))]
-pub fn plan(alloc: Global, file: &[u8]) -> Result<Plan, ElfError>
+pub fn plan(alloc: Global, file: &[u8]) -> Result<Plan, Obstacle<ElfError>>
     ensures image { IfOk result (λ p. refusal_of file.now ≡ None) }
     ensures entry { IfOk result (λ p. p.entry ≡ entry_of file.now) }
     ensures pages { IfOk result (λ p. p.pages ≡ pages_of file.now) }
     ensures segments { IfOk result (λ p. p.segments.items ≡ segments_of file.now) }
-    ensures refused { IfErr result
-        (λ e. (e ≡ ElfError.OutOfMemory) ⊎ (refusal_of file.now ≡ Some e)) }
-    ensures memory { (result ≡ Err ElfError.OutOfMemory) → header_refusal file.now ≡ None }
+    ensures refused { IfErr result (λ o. IfRefused o (λ e. refusal_of file.now ≡ Some e)) }
+    ensures memory { (result ≡ Err Obstacle.OutOfMemory) → header_refusal file.now ≡ None }
 {
     if file.len() < FILE_HEADER {
-        return Err(ElfError::Short);
+        return Err(Obstacle::Refused(ElfError::Short));
     }
     if !file.starts_with(&IDENTIFICATION) {
-        return Err(ElfError::NotElf64);
+        return Err(Obstacle::Refused(ElfError::NotElf64));
     }
     if machine(file) != AARCH64 {
-        return Err(ElfError::NotAarch64);
+        return Err(Obstacle::Refused(ElfError::NotAarch64));
     }
     if file_type(file) != EXECUTABLE {
-        return Err(ElfError::NotExec);
+        return Err(Obstacle::Refused(ElfError::NotExec));
     }
     if !holds_table(file) {
-        return Err(ElfError::BadHeaders);
+        return Err(Obstacle::Refused(ElfError::BadHeaders));
     }
     if has_interpreter(file) {
-        return Err(ElfError::Interpreter);
+        return Err(Obstacle::Refused(ElfError::Interpreter));
     }
     let headers = program_headers(alloc, file)?;
     let segments = segments(alloc, headers.as_slice())?;
     if !all_lie_in_range(segments.as_slice(), file.len() as u64) {
-        return Err(ElfError::SegmentRange);
+        return Err(Obstacle::Refused(ElfError::SegmentRange));
     }
     if shares_page(segments.as_slice()) {
-        return Err(ElfError::Overlap);
+        return Err(Obstacle::Refused(ElfError::Overlap));
     }
     let entry = entry(file);
     if !any_holds_entry(segments.as_slice(), entry) {
-        return Err(ElfError::NoEntry);
+        return Err(Obstacle::Refused(ElfError::NoEntry));
     }
     let pages = count_pages(segments.as_slice());
     Ok(Plan {

@@ -17,7 +17,7 @@ use Rattle.mte_sched.specs.declared.place.TenantMemory.{TenantMemory}
 use Rattle.mte_sched.specs.declared.tenant.Tenant as code
 use Rattle.mte_sched.specs.declared.tenant.Live.{Live}
 use Rattle.mte_sched.specs.declared.tenant.Holding.TheVariants as kept
-use Rattle.mte_tenant.specs.Machines.{Terms, first_parts, first_memory, start_of}
+use Rattle.mte_tenant.specs.Machines.{Start, first_parts, first_memory, start_of}
 use Rattle.mte_tenant.specs.Ledger.{charge_of_entry, charge_of, has_id, is_live}
 use Rattle.mte_sched.specs.Contents.{new_tenant}
 use Rattle.mte_sched.specs.Places.{memory_at, IsPlaced}
@@ -92,11 +92,11 @@ module _ (p n : Pool) (us vs : List Translation) (ts : List code.Tenant) (id : �
 
 -- ---- the first machine
 
-pub first_number : (id : ℕ) (terms : Terms) (parts : TenantParts) → parts ≡ first_parts id terms → parts.log.id ≡ id
+pub first_number : (id : ℕ) (start : Start) (parts : TenantParts) → parts ≡ first_parts id start → parts.log.id ≡ id
 unfolding first_parts
-first_number id terms parts e = ap (λ (q : TenantParts). q.log.id) e
+first_number id start parts e = ap (λ (q : TenantParts). q.log.id) e
 
-pub first_tenant : (n : Pool) (id : ℕ) (terms : Terms) (parts : Box TenantParts Global) (b : TenantMemory) → parts.value ≡ first_parts id terms → memory_at n b terms.pages ≡ first_memory terms.image terms.pages terms.mode
-    → tenant_in n (record { pages = terms.pages; holding = kept.Live (record { parts = parts; place = b }) }) ≡ new_tenant id terms
+pub first_tenant : (n : Pool) (id : ℕ) (start : Start) (parts : Box TenantParts Global) (b : TenantMemory) → parts.value ≡ first_parts id start → memory_at n b start.terms.pages ≡ first_memory start.image start.terms.pages start.terms.mode
+    → tenant_in n (record { pages = start.terms.pages; holding = kept.Live (record { parts = parts; place = b }) }) ≡ new_tenant id start
 unfolding start_of first_parts
-first_tenant n id terms parts b e memory = rw (e, memory) refl
+first_tenant n id start parts b e memory = rw (e, memory) refl

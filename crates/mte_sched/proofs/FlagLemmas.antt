@@ -8,7 +8,7 @@ use Rattle.mte_tags.proofs.StateLaws.{state-with_new_pages, state-with-bytes-at}
 use Rattle.mte_elf.specs.declared.image.Segment.{Segment}
 use Rattle.mte_elf.specs.Loading.{with_segment, with_segments}
 use Rattle.mte_tenant.specs.declared.refusal.Refusal.{Refusal}
-use Rattle.mte_tenant.specs.Machines.{Machine, Terms, runs, first_memory, start_of, after_attempts, after_slice_end}
+use Rattle.mte_tenant.specs.Machines.{Machine, Start, runs, first_memory, start_of, after_attempts, after_slice_end}
 use Rattle.mte_tenant.specs.Machines.{after_slice, stop_by_tag}
 use Rattle.mte_tenant.specs.Ledger.{Call, Admit, Slice, Stop, call_refusal}
 use Rattle.mte_sched.specs.Contents.{TenantState, Live, Gone, state_after_slice, state_after_stop, Tenant, Content}
@@ -54,9 +54,9 @@ after-stop-of-clear true (Live m) c = tt
 after-stop-of-clear true (Gone r) c = c
 after-stop-of-clear false h c = c
 
-new-clear : (id : ℕ) (terms : Terms) → Clear (new_tenant id terms)
+new-clear : (id : ℕ) (start : Start) → Clear (new_tenant id start)
 unfolding start_of
-new-clear id terms = λ k. start-clear terms.image terms.pages terms.mode
+new-clear id start = λ k. start-clear start.image start.terms.pages start.terms.mode
 
 -- ---- of all
 
@@ -74,7 +74,7 @@ all-more (u ∷ ts) t c d = (c.0, all-more ts t c.1 d)
 
 call-clear : (c : Content) (e : Call) → AreClear c.tenants → AreClear (after_call c e).tenants
 unfolding after_call after_admit after_slice_of after_stop_of
-call-clear c (Admit id terms) h = all-more c.tenants (new_tenant id terms) h (new-clear id terms)
+call-clear c (Admit id start) h = all-more c.tenants (new_tenant id start) h (new-clear id start)
 call-clear c (Slice id n) h = all-after-slice-of id n c.tenants h
 call-clear c (Stop id) h = all-after-stop-of id c.tenants h
 

@@ -103,11 +103,11 @@ next_grown None (Stop id) more c rest =
     let own = fused (grown c.frames (map (without_live id) (ledger_of c)) more) (tenant_after_stop id) (grown_on None c.frames (ledger_of c) (Stop id) more)
     (λ t. ap (λ (h : TenantState). let u : Tenant = record t { held = h } in u) (stopped_own (t.id == id) t.held (own_events c.frames (map (without_live id) (ledger_of c)) more t.id))) c.tenants in
     step ∙ ap (λ ts. ts ++ map tenant_of (lives_from c.frames (map (without_live id) (ledger_of c)) more)) own
-next_grown None (Admit id terms) more c rest =
-    let new : Tenant = new_tenant id terms in
+next_grown None (Admit id start) more c rest =
+    let new : Tenant = new_tenant id start in
     let after = ledger_of c ++ (entry_of new) ∷ [] in
-    let ledger : ledger_of (after_admit c id terms) ≡ after = map_append entry_of c.tenants (new ∷ []) in
-    let step = rw ledger at (rest (after_admit c id terms)) in
+    let ledger : ledger_of (after_admit c id start) ≡ after = map_append entry_of c.tenants (new ∷ []) in
+    let step = rw ledger at (rest (after_admit c id start)) in
     let f = grown c.frames after more in
     step ∙ ap (λ ts. ts ++ map tenant_of (lives_from c.frames after more)) (map_append f c.tenants (new ∷ []))
     ∙ append_one (map f c.tenants) (f new) (map tenant_of (lives_from c.frames after more))
@@ -119,7 +119,7 @@ all_grown (e ∷ more) c = next_grown (call_refusal c.frames (ledger_of c) e) e 
 
 pub ledger_follows : LedgerFollows
 unfolding after_call after_admit after_slice_of after_stop_of
-ledger_follows c (Admit id terms) = map_append entry_of c.tenants (new_tenant id terms ∷ [])
+ledger_follows c (Admit id start) = map_append entry_of c.tenants (new_tenant id start ∷ [])
 ledger_follows c (Slice id n) = ledger_sliced id n c.tenants
 ledger_follows c (Stop id) = ledger_stopped id c.tenants
 

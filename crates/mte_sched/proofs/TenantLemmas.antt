@@ -10,21 +10,17 @@ use Rattle.mte_tags.specs.Memory.{Memory, pages_left}
 use Rattle.mte_tags.specs.Accesses.{read_fault, write_fault}
 use Rattle.mte_tags.specs.declared.fault.MemFault.{MemFault}
 use Rattle.mte_svc.specs.Results.{Served, with_answer, with_logged_call, resume_with, x_of}
-use Rattle.mte_svc.specs.HeapServices.{malloc_service, free_service, calloc_service, realloc_service, memalign_service, usable_size_service, free_answer_cases, answer_cases, answer_allocation, world_in}
-use Rattle.mte_svc.specs.declared.calls.HeapService.TheVariants.{Malloc, Calloc, Realloc, Memalign, UsableSize}
-use Rattle.mte_svc.specs.declared.calls.HeapService.{HeapService}
-use Rattle.scudo_heap.specs.Allocation.{AllocationResult, after_malloc, after_calloc, after_memalign}
-use Rattle.scudo_heap.specs.Freeing.{free_of, usable_size_of}
-use Rattle.scudo_heap.specs.Realloc as realloc
-use Rattle.scudo_heap.specs.Realloc.{ReallocResult, after_realloc}
+use Rattle.mte_svc.specs.HeapServices.{heap_call_in, world_in, heap_service_cases, after_heap_service}
+use Rattle.scudo_heap.specs.declared.call.HeapCall.{HeapCall}
+use Rattle.scudo_heap.specs.Calls.{after_call}
 use Rattle.scudo_heap.specs.Placing.{World}
 use Rattle.scudo_heap.specs.declared.abort.HeapAbort.{HeapAbort}
-use Rattle.mte_svc.specs.Services.{after_svc, by_number, after_write_service, write_cases, write_count, after_read_service, read_cases, read_count, no_such_service}
+use Rattle.mte_svc.specs.Services.{after_svc, service_cases, after_other_service, by_number, after_write_service, write_cases, write_count, after_read_service, read_cases, read_count, no_such_service}
 use Rattle.mte_svc.specs.declared.parts.TenantParts.{TenantParts}
 use Rattle.mte_svc.specs.declared.record.Record.{Record}
 use Rattle.mte_svc.specs.declared.services.SvcEnd.{SvcEnd}
 use Rattle.mte_svc.specs.declared.services.SvcEnd.TheVariants as end
-use Rattle.mte_svc.specs.declared.services.TheConstants.{EXIT, WRITE, READ, MALLOC, FREE, CALLOC, REALLOC, MEMALIGN, USABLE_SIZE, YIELD, STEPS_LEFT, PAGES_LEFT}
+use Rattle.mte_svc.specs.declared.services.TheConstants.{EXIT, WRITE, READ, YIELD, STEPS_LEFT, PAGES_LEFT}
 use Rattle.mte_tenant.specs.Machines.{Machine, machine_of, runs, Attempt, continues, after_service, with_service, stop_by_tag, after_outcome, with_steps, with_regs}
 use Rattle.mte_tenant.specs.Machines.{after_attempt, after_attempts, after_slice_end, after_slice, after_stop}
 use Rattle.mte_tenant.specs.Machines.{start_of, first_parts}
@@ -64,46 +60,14 @@ unfolding with_answer
 read-kept (Some f) p m n = refl
 read-kept None p m n = refl
 
-state-after-allocation-kept : (p : TenantParts) (s : HeapService) (n : ℕ) (made : AllocationResult) → kept_in (answer_allocation p s n made).parts ≡ kept_in p
+call-cases-kept : (p : TenantParts) (m : Memory) (call : HeapCall) (w : World) (r : Result ℕ HeapAbort) → kept_in (heap_service_cases p m call w r).parts ≡ kept_in p
 unfolding with_answer with_logged_call
-state-after-allocation-kept p s n made = refl
+call-cases-kept p m call w (Ok a) = refl
+call-cases-kept p m call w (Err e) = refl
 
-found-kept : (p : TenantParts) (m : Memory) (s : HeapService) (n : ℕ) (w : World) (r : Result ℕ HeapAbort) → kept_in (answer_cases p m s n w r).parts ≡ kept_in p
-unfolding with_answer with_logged_call
-found-kept p m s n w (Ok a) = refl
-found-kept p m s n w (Err e) = refl
-
-freed-kept : (p : TenantParts) (m : Memory) (w : World) (r : Result (Unit {0}) HeapAbort) → kept_in (free_answer_cases p m w r).parts ≡ kept_in p
-unfolding with_answer with_logged_call
-freed-kept p m w (Ok a) = refl
-freed-kept p m w (Err e) = refl
-
-malloc-kept : (p : TenantParts) (m : Memory) → kept_in (malloc_service p m).parts ≡ kept_in p
-unfolding malloc_service
-malloc-kept p m = state-after-allocation-kept p Malloc 0 (after_malloc (world_in p m) (x_of p 0))
-
-calloc-kept : (p : TenantParts) (m : Memory) → kept_in (calloc_service p m).parts ≡ kept_in p
-unfolding calloc_service
-calloc-kept p m = state-after-allocation-kept p Calloc (x_of p 1) (after_calloc (world_in p m) (x_of p 0) (x_of p 1))
-
-memalign-kept : (p : TenantParts) (m : Memory) → kept_in (memalign_service p m).parts ≡ kept_in p
-unfolding memalign_service
-memalign-kept p m = state-after-allocation-kept p Memalign (x_of p 1) (after_memalign (world_in p m) (x_of p 0) (x_of p 1))
-
-free-kept : (p : TenantParts) (m : Memory) → kept_in (free_service p m).parts ≡ kept_in p
-unfolding free_service
-free-kept p m = freed-kept p m (free_of (world_in p m) (x_of p 0)).world (free_of (world_in p m) (x_of p 0)).result
-
-usable-kept : (p : TenantParts) (m : Memory) → kept_in (usable_size_service p m).parts ≡ kept_in p
-unfolding usable_size_service
-usable-kept p m = found-kept p m UsableSize 0 (world_in p m) (usable_size_of m p.heap (x_of p 0))
-
-reallocated-kept : (p : TenantParts) (m : Memory) (r : ReallocResult) → kept_in (answer_cases p m Realloc (x_of p 1) r.world (realloc.realloc_answer r.result)).parts ≡ kept_in p
-reallocated-kept p m r = found-kept p m Realloc (x_of p 1) r.world (realloc.realloc_answer r.result)
-
-realloc-kept : (p : TenantParts) (m : Memory) → kept_in (realloc_service p m).parts ≡ kept_in p
-unfolding realloc_service
-realloc-kept p m = reallocated-kept p m (after_realloc (world_in p m) (x_of p 0) (x_of p 1))
+call-kept : (p : TenantParts) (m : Memory) (call : HeapCall) → kept_in (after_heap_service p m call).parts ≡ kept_in p
+unfolding after_heap_service
+call-kept p m call = let r = after_call (world_in p m) call in call-cases-kept p m call r.world r.answer
 
 number-kept : (n : ℕ) (p : TenantParts) (m : Memory) → kept_in (by_number n p m).parts ≡ kept_in p
 unfolding after_write_service after_read_service with_answer
@@ -111,19 +75,18 @@ number-kept n p m =
     served_if (n == EXIT) _ _ (kept_in p) refl
     (served_if (n == WRITE) _ _ (kept_in p) (after-write-service-kept (read_fault m (x_of p 0) (write_count p) true) p m (write_count p))
     (served_if (n == READ) _ _ (kept_in p) (read-kept (write_fault m (x_of p 0) (read_count p) true) p m (read_count p))
-    (served_if (n == MALLOC) _ _ (kept_in p) (malloc-kept p m)
-    (served_if (n == FREE) _ _ (kept_in p) (free-kept p m)
-    (served_if (n == CALLOC) _ _ (kept_in p) (calloc-kept p m)
-    (served_if (n == REALLOC) _ _ (kept_in p) (realloc-kept p m)
-    (served_if (n == MEMALIGN) _ _ (kept_in p) (memalign-kept p m)
-    (served_if (n == USABLE_SIZE) _ _ (kept_in p) (usable-kept p m)
     (served_if (n == YIELD) _ _ (kept_in p) refl
     (served_if (n == STEPS_LEFT) _ _ (kept_in p) refl
-    (served_if (n == PAGES_LEFT) (resume_with p m (pages_left m)) (resume_with p m no_such_service) (kept_in p) refl refl)))))))))))
+    (served_if (n == PAGES_LEFT) (resume_with p m (pages_left m)) (resume_with p m no_such_service) (kept_in p) refl refl)))))
+
+service-cases-kept : (o : Option HeapCall) (p : TenantParts) (m : Memory) → kept_in (service_cases o p m).parts ≡ kept_in p
+unfolding after_other_service
+service-cases-kept (Some call) p m = call-kept p m call
+service-cases-kept None p m = number-kept (x_of p 8) p m
 
 after-svc-kept : (p : TenantParts) (m : Memory) → kept_in (after_svc p m).parts ≡ kept_in p
 unfolding after_svc
-after-svc-kept p m = number-kept (x_of p 8) p m
+after-svc-kept p m = service-cases-kept (heap_call_in p) p m
 
 service-kept : (e : SvcEnd) (m : Machine) → kept_of (after_service e m).machine ≡ kept_of m
 service-kept end.Resume m = refl
@@ -289,4 +252,4 @@ alone_number h (OwnStop ∷ own) = alone_number (state_after_stop h) own ∙ sto
 
 pub numbers_stay : NumbersStay
 unfolding start_of first_parts
-numbers_stay life = alone_number (Live (start_of life.id life.terms)) life.own
+numbers_stay life = alone_number (Live (start_of life.id life.start)) life.own

@@ -6,7 +6,7 @@ use Rattle.std.specs.List.{refill}
 use Rattle.mte_tags.specs.Memory.{Memory, Page, page_at, with_page}
 use Rattle.mte_svc.specs.declared.record.Record.{Record}
 use Rattle.mte_tenant.specs.declared.refusal.Refusal.{Refusal}
-use Rattle.mte_tenant.specs.Machines.{Terms, Machine, start_of, after_slice, after_stop}
+use Rattle.mte_tenant.specs.Machines.{Start, Machine, start_of, after_slice, after_stop}
 use Rattle.mte_tenant.specs.Ledger.{Call, Admit, Slice, Stop, LedgerEntry, call_refusal}
 use Rattle.mte_sched.specs.Lives.{TenantEvent, OwnSlice, OwnStop, Life}
 
@@ -58,12 +58,12 @@ ledger_of c = map entry_of c.tenants
 
 -- ---- what an accepted call makes of a content
 
-abbrev pub new_tenant : ℕ → Terms → Tenant
-new_tenant id terms =
-    record { id = id; pages = terms.pages; held = Live (start_of id terms) }
+abbrev pub new_tenant : ℕ → Start → Tenant
+new_tenant id start =
+    record { id = id; pages = start.terms.pages; held = Live (start_of id start) }
 
-unfoldable pub after_admit : Content → ℕ → Terms → Content
-after_admit c id terms = record c { tenants = c.tenants ++ new_tenant id terms ∷ [] }
+unfoldable pub after_admit : Content → ℕ → Start → Content
+after_admit c id start = record c { tenants = c.tenants ++ new_tenant id start ∷ [] }
 
 -- One tenant's machine, and no other's.
 abbrev pub tenant_after_slice : ℕ → ℕ → Tenant → Tenant
@@ -80,7 +80,7 @@ unfoldable pub after_stop_of : Content → ℕ → Content
 after_stop_of c id = record c { tenants = map (tenant_after_stop id) c.tenants }
 
 unfoldable pub after_call : Content → Call → Content
-after_call c (Admit id terms) = after_admit c id terms
+after_call c (Admit id start) = after_admit c id start
 after_call c (Slice id n) = after_slice_of c id n
 after_call c (Stop id) = after_stop_of c id
 
@@ -120,6 +120,6 @@ after_calls c (e ∷ more) =
 abbrev pub tenant_of : Life → Tenant
 tenant_of life = record {
   id = life.id;
-  pages = life.terms.pages;
-  held = after_own_events (Live (start_of life.id life.terms)) life.own;
+  pages = life.start.terms.pages;
+  held = after_own_events (Live (start_of life.id life.start)) life.own;
 }

@@ -3,7 +3,7 @@ use Rattle.std.specs.Prelude.{◌≡◌, ℕ, ◌+◌, ◌==◌, List, [], ◌�
 use Rattle.std.specs.Prelude.{if◌then◌else◌}
 use Rattle.mte_tenant.specs.declared.refusal.Refusal.{Refusal}
 use Rattle.mte_tenant.specs.declared.refusal.Refused.{Refused}
-use Rattle.mte_tenant.specs.Machines.{Terms}
+use Rattle.mte_tenant.specs.Machines.{Start}
 use Rattle.mte_tenant.specs.Ledger.{Call, Admit, Slice, Stop, LedgerEntry, call_refusal}
 use Rattle.mte_tenant.specs.Ledger.{ledger_cases}
 
@@ -15,13 +15,13 @@ pub data TenantEvent : Type 0 where
 -- A tenant of a session.
 pub record Life : Type 0 where
   pub id : ℕ
-  pub terms : Terms
+  pub start : Start
   pub own : List TenantEvent
 
 -- ---- a tenant's own events: the accepted slices and the stop of its number
 
 abbrev pub own_event_of : ℕ → Call → List TenantEvent
-own_event_of id (Admit k terms) = []
+own_event_of id (Admit k start) = []
 own_event_of id (Slice k n) = if id == k then OwnSlice n ∷ [] else []
 own_event_of id (Stop k) = if id == k then OwnStop ∷ [] else []
 
@@ -39,7 +39,7 @@ own_events frames ledger (e ∷ more) id =
 
 -- An accepted admission's tenant, with what comes after it.
 abbrev pub life_of_call : Call → (ℕ → List TenantEvent) → List Life
-life_of_call (Admit id terms) own = record { id = id; terms = terms; own = own id } ∷ []
+life_of_call (Admit id start) own = record { id = id; start = start; own = own id } ∷ []
 life_of_call (Slice id steps) own = []
 life_of_call (Stop id) own = []
 

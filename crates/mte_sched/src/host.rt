@@ -6,13 +6,14 @@ ghost use Rattle.std.specs.Prelude.{count_by, option_copied, option_map};
 ghost use Rattle.std.specs.Option.{option_copied_mut};
 ghost use Rattle.std.specs.Borrow.{sem};
 ghost use Rattle.std.specs.List.{list_any};
+ghost use Rattle.obstacle.specs.Obstacles.{IfRefused};
 ghost use Rattle.mte_elf.specs.Headers.{entry_of, segments_of};
 ghost use Rattle.mte_elf.specs.Images.{refusal_of, pages_of};
 ghost use Rattle.mte_tenant.specs.Ledger.{admission_refusal, has_id, has_live_id, is_bad};
 ghost use Rattle.mte_tenant.specs.Ledger.{charge_of_entry};
 ghost use Rattle.mte_tenant.specs.Ledger.{is_live, charge_of, numbers_of};
 ghost use Rattle.mte_sched.specs.Tenants.{entries_in, tenants_in};
-ghost use Rattle.mte_tenant.specs.Admissions.{terms_of};
+ghost use Rattle.mte_tenant.specs.Admissions.{start_in};
 ghost use Rattle.mte_sched.specs.Sharing.{IsSharing, IsIndexed, HasId, HasLiveAt};
 
 use crate::index::Index;
@@ -30,6 +31,7 @@ use mte_tenant::{
     start_parts,
 };
 use mte_translate::Tlb;
+use obstacle::Obstacle;
 use scudo_heap::condition_of_calls;
 use std::alloc::Global;
 
@@ -85,17 +87,21 @@ impl Host {
     /// Admits a tenant, or returns the first refusal that applies. Only `OutOfMemory`, where an
     /// allocation failed, can come in place of the refusals from `Image` on.
     #[tactic(auto, unfolding(crate::specs::Contents::after_admit))]
-    pub fn admit(&mut self, alloc: Global, admission: &Admission<'_>) -> Result<(), AdmitError>
+    pub fn admit(
+        &mut self,
+        alloc: Global,
+        admission: &Admission<'_>,
+    ) -> Result<(), Obstacle<AdmitError>>
         ensures accepted { OnOk result (admission_refusal (content_of self.old).frames
-            (ledger_in self.old) admission.now.id (terms_of admission.now) ≡ None) }
+            (ledger_in self.old) admission.now.id (start_in admission.now) ≡ None) }
         ensures ok { OnOk result (content_of self.new
-            ≡ after_admit (content_of self.old) admission.now.id (terms_of admission.now)) }
-        ensures refused { IfErr result (λ e. (e ≡ AdmitError.OutOfMemory)
-            ⊎ (admission_refusal (content_of self.old).frames (ledger_in self.old)
-            admission.now.id (terms_of admission.now) ≡ Some e)) }
-        ensures memory { (result ≡ Err AdmitError.OutOfMemory)
+            ≡ after_admit (content_of self.old) admission.now.id (start_in admission.now)) }
+        ensures refused { IfErr result (λ o. IfRefused o (λ e.
+            admission_refusal (content_of self.old).frames (ledger_in self.old)
+            admission.now.id (start_in admission.now) ≡ Some e)) }
+        ensures memory { (result ≡ Err Obstacle.OutOfMemory)
             → (list_any (has_id admission.now.id) (ledger_in self.old) ≡ false)
-            × (is_bad (terms_of admission.now) ≡ false) }
+            × (is_bad admission.now.terms ≡ false) }
         ensures err { OnErr result (content_of self.new ≡ content_of self.old) }
     {
         condition_of_calls();
@@ -107,7 +113,7 @@ impl Host {
         self.index.enter(admission.id, asid);
         let place = start_place(&mut self.pool, &mut self.tlb, asid, admission, &plan);
         self.tenants.push_reserved(Tenant {
-            pages: admission.pages,
+            pages: admission.terms.pages,
             holding: Holding::Live(Live { parts, place }),
         });
         self.live += 1;
@@ -116,50 +122,50 @@ impl Host {
 
     /// The plan of an admission's image, or the first refusal that applies.
     #[tactic(auto, unfolding(mte_tenant::specs::Ledger::admission_refusal))]
-    fn accept(&self, alloc: Global, admission: &Admission<'_>) -> Result<Plan, AdmitError>
+    fn accept(&self, alloc: Global, admission: &Admission<'_>) -> Result<Plan, Obstacle<AdmitError>>
         ensures accepted { OnOk result (admission_refusal (length self.now.pool.frames)
-            (entries_in self.now.tenants.items) admission.now.id (terms_of admission.now)
+            (entries_in self.now.tenants.items) admission.now.id (start_in admission.now)
             ≡ None) }
         ensures image { IfOk result (λ p. refusal_of admission.now.image.now ≡ None) }
         ensures entry { IfOk result (λ p. p.entry ≡ entry_of admission.now.image.now) }
         ensures segments { IfOk result
             (λ p. p.segments.items ≡ segments_of admission.now.image.now) }
         ensures room { IfOk result
-            (λ p. pages_of admission.now.image.now + STACK_PAGES ≤ admission.now.pages) }
+            (λ p. pages_of admission.now.image.now + STACK_PAGES ≤ admission.now.terms.pages) }
         ensures fresh { IfOk result
             (λ p. list_any (has_id admission.now.id) (entries_in self.now.tenants.items)
             ≡ false) }
-        ensures good { IfOk result (λ p. is_bad (terms_of admission.now) ≡ false) }
-        ensures some { IfOk result (λ p. 0 < admission.now.pages) }
-        ensures most { IfOk result (λ p. admission.now.pages ≤ MAX_PAGES) }
-        ensures frames { IfOk result (λ p. charge_of admission.now.pages
+        ensures good { IfOk result (λ p. is_bad admission.now.terms ≡ false) }
+        ensures some { IfOk result (λ p. 0 < admission.now.terms.pages) }
+        ensures most { IfOk result (λ p. admission.now.terms.pages ≤ MAX_PAGES) }
+        ensures frames { IfOk result (λ p. charge_of admission.now.terms.pages
             ≤ length self.now.pool.frames - sum_by charge_of_entry
             (entries_in self.now.tenants.items)) }
         ensures few { IfOk result
             (λ p. count_by is_live (entries_in self.now.tenants.items) < MAX_LIVE) }
-        ensures refused { IfErr result (λ e. (e ≡ AdmitError.OutOfMemory)
-            ⊎ (admission_refusal (length self.now.pool.frames)
-            (entries_in self.now.tenants.items) admission.now.id (terms_of admission.now)
+        ensures refused { IfErr result (λ o. IfRefused o (λ e.
+            admission_refusal (length self.now.pool.frames)
+            (entries_in self.now.tenants.items) admission.now.id (start_in admission.now)
             ≡ Some e)) }
-        ensures memory { (result ≡ Err AdmitError.OutOfMemory)
+        ensures memory { (result ≡ Err Obstacle.OutOfMemory)
             → (list_any (has_id admission.now.id) (entries_in self.now.tenants.items) ≡ false)
-            × (is_bad (terms_of admission.now) ≡ false) }
+            × (is_bad admission.now.terms ≡ false) }
     {
         if self.knows(admission.id) {
-            return Err(AdmitError::Duplicate);
+            return Err(Obstacle::Refused(AdmitError::Duplicate));
         }
         if is_bad_reservation(admission) {
-            return Err(AdmitError::BadReservation);
+            return Err(Obstacle::Refused(AdmitError::BadReservation));
         }
         let plan = plan_of(alloc, admission.image)?;
-        if !holds_image(admission.pages, plan.pages) {
-            return Err(AdmitError::ReservationTooSmall);
+        if !holds_image(admission.terms.pages, plan.pages) {
+            return Err(Obstacle::Refused(AdmitError::ReservationTooSmall));
         }
-        if charge(admission.pages) > self.unreserved() {
-            return Err(AdmitError::NoFrames);
+        if charge(admission.terms.pages) > self.unreserved() {
+            return Err(Obstacle::Refused(AdmitError::NoFrames));
         }
         if self.live >= MAX_LIVE {
-            return Err(AdmitError::TooManyLive);
+            return Err(Obstacle::Refused(AdmitError::TooManyLive));
         }
         Ok(plan)
     }

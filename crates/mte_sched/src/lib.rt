@@ -17,6 +17,6 @@ pub use isolation::{
 pub use mte_arena::ArenaError;
 pub use mte_svc::{Output, Record, Status, TenantParts};
 pub use mte_tenant::{
-    Admission, AdmitError, MAX_LIVE, NotLive, Refusal, Refused, live_limit_in_digits,
+    Admission, AdmitError, MAX_LIVE, NotLive, Refusal, Refused, Terms, live_limit_in_digits,
 };
 pub use tenant::Tenant;

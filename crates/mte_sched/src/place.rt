@@ -44,25 +44,25 @@ pub(crate) fn start_place(
 ) -> TenantMemory
     requires image { refusal_of admission.now.image.now ≡ None }
     requires segments { plan.now.segments.items ≡ segments_of admission.now.image.now }
-    requires room { image_pages admission.now.image.now + STACK_PAGES ≤ admission.now.pages }
-    requires some { 0 < admission.now.pages }
-    requires most { admission.now.pages ≤ MAX_PAGES }
-    requires frames { charge_of admission.now.pages ≤ frames_left pool.old }
+    requires room { image_pages admission.now.image.now + STACK_PAGES ≤ admission.now.terms.pages }
+    requires some { 0 < admission.now.terms.pages }
+    requires most { admission.now.terms.pages ≤ MAX_PAGES }
+    requires frames { charge_of admission.now.terms.pages ≤ frames_left pool.old }
     requires fresh { All (λ u. u.asid ≢ asid) tlb.old }
-    ensures placed { IsPlaced pool.new tlb.new asid admission.now.pages result }
-    ensures memory { memory_at pool.new result admission.now.pages
-        ≡ first_memory admission.now.image.now admission.now.pages admission.now.mode }
-    ensures untouched { IsUntouched (memory_at pool.new result admission.now.pages) }
-    ensures limit { (memory_at pool.new result admission.now.pages).limit
-        ≡ admission.now.pages }
+    ensures placed { IsPlaced pool.new tlb.new asid admission.now.terms.pages result }
+    ensures memory { memory_at pool.new result admission.now.terms.pages
+        ≡ first_memory admission.now.image.now admission.now.terms.pages admission.now.terms.mode }
+    ensures untouched { IsUntouched (memory_at pool.new result admission.now.terms.pages) }
+    ensures limit { (memory_at pool.new result admission.now.terms.pages).limit
+        ≡ admission.now.terms.pages }
     ensures unused { reserved_by pool.old result.quota ≡ 0 }
     ensures reserved { sum pool.new.reserved
-        ≡ sum pool.old.reserved + charge_of admission.now.pages }
+        ≡ sum pool.old.reserved + charge_of admission.now.terms.pages }
     ensures others { KeepsOthers result.quota pool.old pool.new }
     ensures entries { NoneEnters asid tlb.old tlb.new }
 {
     pages_of_a_space();
-    let mut place = reserve_place(pool, admission.pages, admission.mode);
+    let mut place = reserve_place(pool, admission.terms.pages, admission.terms.mode);
     pool.recall();
     fill_place(pool, tlb, asid, admission, plan, &mut place);
     pool.recall();
@@ -112,22 +112,22 @@ fn fill_place(
 )
     requires image { refusal_of admission.now.image.now ≡ None }
     requires segments { plan.now.segments.items ≡ segments_of admission.now.image.now }
-    requires room { image_pages admission.now.image.now + STACK_PAGES ≤ admission.now.pages }
-    requires empty { memory_at pool.old place.old admission.now.pages
-        ≡ no_pages admission.now.pages admission.now.mode }
+    requires room { image_pages admission.now.image.now + STACK_PAGES ≤ admission.now.terms.pages }
+    requires empty { memory_at pool.old place.old admission.now.terms.pages
+        ≡ no_pages admission.now.terms.pages admission.now.terms.mode }
     requires table { IsTable pool.old place.old.quota place.old.table }
-    requires few { place.old.table.len ≤ admission.now.pages }
+    requires few { place.old.table.len ≤ admission.now.terms.pages }
     requires once { MapsOnce (pages_of pool.old place.old.table.frame) }
     requires left { taken_by pool.old place.old.quota
-        + (2 * admission.now.pages - place.old.table.len - place.old.table.leaves)
+        + (2 * admission.now.terms.pages - place.old.table.len - place.old.table.leaves)
         ≤ reserved_by pool.old place.old.quota }
     requires cached { IsCached (pages_of pool.old place.old.table.frame) asid tlb.old }
-    ensures memory { memory_at pool.new place.new admission.now.pages
-        ≡ first_memory admission.now.image.now admission.now.pages admission.now.mode }
-    ensures limit { (memory_at pool.new place.new admission.now.pages).limit
-        ≡ admission.now.pages }
-    ensures untouched { IsUntouched (memory_at pool.new place.new admission.now.pages) }
-    ensures space { IsSpace pool.new place.new.quota place.new.table admission.now.pages }
+    ensures memory { memory_at pool.new place.new admission.now.terms.pages
+        ≡ first_memory admission.now.image.now admission.now.terms.pages admission.now.terms.mode }
+    ensures limit { (memory_at pool.new place.new admission.now.terms.pages).limit
+        ≡ admission.now.terms.pages }
+    ensures untouched { IsUntouched (memory_at pool.new place.new admission.now.terms.pages) }
+    ensures space { IsSpace pool.new place.new.quota place.new.table admission.now.terms.pages }
     ensures cached { IsCached (pages_of pool.new place.new.table.frame) asid tlb.new }
     ensures rest { KeepsRest place.old.quota pool.old pool.new place.old.table place.new.table }
     ensures same { place.new.quota ≡ place.old.quota }
@@ -140,13 +140,13 @@ fn fill_place(
         tlb,
         &mut place.state,
         asid,
-        admission.pages as usize,
+        admission.terms.pages as usize,
     );
     fill(
         plan,
         admission.image,
-        admission.pages,
-        admission.mode,
+        admission.terms.pages,
+        admission.terms.mode,
         &mut memory,
     );
 }

@@ -2,6 +2,7 @@
 use Rattle.std.proofs.Common.{◌≡◌, ℕ, suc, ◌+◌, ◌-◌, ◌*◌, ◌^◌, ◌<◌, ◌≤◌, ◌==◌, ◌&&◌, nat_le, Bool}
 use Rattle.std.proofs.Common.{true, false, List, [], ◌∷◌, ◌++◌, length, take, drop, get_or, Option}
 use Rattle.std.proofs.Common.{Some, None, Result, Ok, Err, IfSome, IsNone, nat_lt, append_assoc}
+use Rattle.std.specs.Prelude.{option_map, option_to_list, if◌then◌else◌}
 use Rattle.std.proofs.Common.{refl, ap, sym, ◌∙◌, arith, add-one, length-drop, inl, inr}
 use Rattle.std.specs.List.{list_all}
 use Rattle.std.proofs.lemmas.List.{drop_more, nil_from_length, take_all, append-nil, take-append-le}
@@ -11,12 +12,12 @@ use Rattle.std.proofs.Math.Nat.{pow-suc}
 use Rattle.std.proofs.lemmas.Bool.{leb-true, lt-ltb, le-ltb, cases_lt, cond-false}
 use Rattle.mte_script.specs.declared.event.Event.{Event}
 use Rattle.mte_script.specs.declared.error.ScriptFault.{ScriptFault}
-use Rattle.mte_script.specs.declared.error.ScriptFault.TheVariants.{TooManyEvents}
+use Rattle.mte_script.specs.declared.error.ScriptFault.TheVariants.{Syntax, TooManyEvents}
 use Rattle.mte_script.specs.declared.error.ScriptError.{ScriptError}
 use Rattle.mte_script.specs.Faults.{IsLineFault, IsFirstFault}
-use Rattle.mte_script.specs.Scripts.{after_event, events_from, event_of_line, read_cases, pieces_at}
-use Rattle.mte_script.specs.Scripts.{piece_len_of, words_of, digits_value, is_digit, line_of}
-use Rattle.mte_script.specs.Scripts.{event_cases, event_of_words, starts_comment}
+use Rattle.mte_script.specs.Scripts.{after_event, event_of_line, readings, events_of, Parsed, pieces_at}
+use Rattle.mte_script.specs.Scripts.{piece_len_of, words_of, digits_value, is_digit}
+use Rattle.mte_script.specs.Scripts.{event_by, event_of_words, starts_comment}
 
 -- How much of a text is left to cut.
 abbrev pub measure_of : Option (Bor (List ℕ)) → ℕ
@@ -35,33 +36,33 @@ pub read_end : (read all : List (List ℕ)) (rest : Option (Bor (List ℕ))) →
 read_end read all None few never h = sym (take_all 14 read few) ∙ ap (take 14) (sym (append-nil read)) ∙ h
 read_end read all (Some x) few never h = absurd (never x refl)
 
-line_of-many : (words : List (List ℕ)) → 14 ≤ length words → line_of words ≡ None
-unfolding line_of
-line_of-many words h =
+event_by-many : (files : ℕ) (words : List (List ℕ)) → 14 ≤ length words → event_by files words ≡ Err Syntax
+unfolding event_by
+event_by-many files words h =
     let two : (length words == 2) ≡ false = grind arith in
     let three : (length words == 3) ≡ false = grind arith in
     let twelve : (length words == 12) ≡ false = grind arith in
     let thirteen : (length words == 13) ≡ false = grind arith in
     rw (two, three, twelve, thirteen) refl
 
-line_of-first : (words : List (List ℕ)) → line_of (take 14 words) ≡ line_of words
-line_of-first words = elim (cases_lt 14 (length words)) [
-  | inl many ↦ line_of-many (take 14 words) (simp length-take (omega arith)) ∙ sym (line_of-many words (omega arith))
-  | inr few ↦ ap line_of (take_all 14 words few)
+event_by-first : (files : ℕ) (words : List (List ℕ)) → event_by files (take 14 words) ≡ event_by files words
+event_by-first files words = elim (cases_lt 14 (length words)) [
+  | inl many ↦ event_by-many files (take 14 words) (simp length-take (omega arith)) ∙ sym (event_by-many files words (omega arith))
+  | inr few ↦ ap (event_by files) (take_all 14 words few)
 ]
 
 -- The words that are read say what a line is.
 pub event_of-first : (files : ℕ) (words : List (List ℕ)) → event_of_words files (take 14 words) ≡ event_of_words files words
 event_of-first files [] = refl
-event_of-first files (word ∷ more) = ap (λ t. Some (event_cases files t)) (line_of-first (word ∷ more))
+event_of-first files (word ∷ more) = ap (λ e. Some e) (event_by-first files (word ∷ more))
 
-words_event : (files : ℕ) (ws : List (List ℕ)) → 0 < length ws → event_of_words files ws ≡ Some (event_cases files (line_of ws))
+words_event : (files : ℕ) (ws : List (List ℕ)) → 0 < length ws → event_of_words files ws ≡ Some (event_by files ws)
 words_event files [] some = absurd (omega (arith, some))
 words_event files (word ∷ more) some = refl
 
 -- the event of a line whose first words were read
 pub line_event : (files : ℕ) (line : List ℕ) (ws : List (List ℕ)) (r : Result Event ScriptFault) → starts_comment line ≡ false → ws ≡ take 14 (words_of line) → 0 < length ws
-    → r ≡ event_cases files (line_of ws) → event_of_line files line ≡ Some r
+    → r ≡ event_by files ws → event_of_line files line ≡ Some r
 unfolding event_of_line
 line_event files line ws r other first some is =
     cond-false _ _ _ other
@@ -188,6 +189,35 @@ value_end word i value over h =
 abbrev pub lines_left : Option (Bor (List ℕ)) → List (List ℕ)
 lines_left None = []
 lines_left (Some text) = pieces_at 10 text.now
+
+-- A script line by line: the line's number is n, and k events stand before it.
+abbrev pub read_cases : Option (Result Event ScriptFault) → ℕ → ℕ → Parsed → Parsed → Parsed
+read_cases None n k skipped taken = skipped
+read_cases (Some (Err fault)) n k skipped taken = Err (n, fault)
+read_cases (Some (Ok e)) n k skipped taken = if nat_lt k 10000 then after_event e taken else Err (n, TooManyEvents)
+
+unfoldable pub events_from : ℕ → List (List ℕ) → ℕ → ℕ → Parsed
+events_from files [] n k = Ok []
+events_from files (line ∷ more) n k = read_cases (event_of_line files line) n k (events_from files more (n + 1) k) (events_from files more (n + 1) (k + 1))
+
+nothing_left : (k : ℕ) → Ok [] ≡ events_of k []
+unfolding events_of
+nothing_left k = refl
+
+reading_is : (o : Option (Result Event ScriptFault)) (n k : ℕ) (more : List (ℕ × Result Event ScriptFault))
+    → read_cases o n k (events_of k more) (events_of (k + 1) more) ≡ events_of k (option_to_list (option_map (λ r. (n, r)) o) ++ more)
+unfolding events_of
+reading_is None n k more = refl
+reading_is (Some (Err fault)) n k more = refl
+reading_is (Some (Ok e)) n k more = refl
+
+pub lines_are : (files n k : ℕ) (lines : List (List ℕ)) → events_from files lines n k ≡ events_of k (readings files n lines)
+unfolding events_from readings
+lines_are files n k [] = nothing_left k
+lines_are files n k (line ∷ more) =
+    ap (λ x. read_cases (event_of_line files line) n k x (events_from files more (n + 1) (k + 1))) (lines_are files (n + 1) k more)
+    ∙ ap (λ x. read_cases (event_of_line files line) n k (events_of k (readings files (n + 1) more)) x) (lines_are files (n + 1) (k + 1) more)
+    ∙ reading_is (event_of_line files line) n k (readings files (n + 1) more)
 
 -- Events before what the rest of a script gives.
 abbrev pub behind : List Event → Result (List Event) (ℕ × ScriptFault) → Result (List Event) (ℕ × ScriptFault)

@@ -5,7 +5,6 @@ use Rattle.mte_script.specs.declared.error.ScriptFault.{ScriptFault}
 use Rattle.mte_script.specs.declared.error.ScriptFault.TheVariants.{Syntax, BadNumber, NoSuchFile}
 use Rattle.mte_script.specs.declared.error.ScriptFault.TheVariants.{TooManyEvents}
 use Rattle.mte_script.specs.declared.error.ScriptError.{ScriptError}
-use Rattle.mte_script.specs.declared.error.ScriptError.TheVariants.{Script}
 
 abbrev pub fault_name : ScriptFault → List ℕ
 fault_name Syntax = codes "Syntax"
@@ -16,9 +15,9 @@ fault_name TooManyEvents = codes "TooManyEvents"
 -- The error says the first faulty line and its first fault.
 abbrev pub IsFirstFault : Result (List Event) (ℕ × ScriptFault) → ScriptError → Type 0
 IsFirstFault (Ok events) e = ⊥
-IsFirstFault (Err fault) e = e ≡ Script fault.0 fault.1
+IsFirstFault (Err fault) e = e ≡ record { line = fault.0; fault = fault.1 }
 
 abbrev pub IsLineFault : ℕ → Option (Result Event ScriptFault) → ScriptError → Type 0
 IsLineFault number None e = ⊥
 IsLineFault number (Some (Ok event)) e = ⊥
-IsLineFault number (Some (Err fault)) e = e ≡ Script number fault
+IsLineFault number (Some (Err fault)) e = e ≡ record { line = number; fault = fault }

@@ -1,7 +1,8 @@
 -- Scripts: lines of words, one event per line.
-use Rattle.std.specs.Prelude.{ℕ, ◌+◌, ◌-◌, ◌*◌, ◌^◌, ◌==◌, nat_lt, nat_le, nat_eq, ◌&&◌, ◌||◌, Bool}
-use Rattle.std.specs.Prelude.{true, false, List, [], ◌∷◌, length, slice_index_or, filter, codes}
-use Rattle.std.specs.Prelude.{Option, Some, None, Result, Ok, Err, if◌then◌else◌, option_map}
+use Rattle.std.specs.Prelude.{ℕ, ◌+◌, ◌-◌, ◌*◌, ◌^◌, ◌==◌, nat_lt, nat_le, nat_eq, ◌&&◌, Bool}
+use Rattle.std.specs.Prelude.{true, false, not, List, [], ◌∷◌, ◌++◌, length, slice_index_or}
+use Rattle.std.specs.Prelude.{filter, codes, Option, Some, None, is_some, unwrap_or, option_map}
+use Rattle.std.specs.Prelude.{option_to_list, Result, Ok, Err, if◌then◌else◌}
 use Rattle.std.specs.List.{list_all, starts_with}
 use Rattle.std.specs.Int.{from_be_bytes, w64}
 use Rattle.address_map.specs.declared.limits.TheConstants.{MAX_STEPS}
@@ -11,8 +12,6 @@ use Rattle.hex.specs.Hex.{decode_sized}
 use Rattle.hex.specs.declared.FromHexError.{FromHexError}
 use Rattle.mte_script.specs.declared.event.Event.{Event}
 use Rattle.mte_script.specs.declared.event.Event.TheVariants as event
-use Rattle.mte_script.specs.declared.grammar.Line.{Line}
-use Rattle.mte_script.specs.declared.grammar.Line.TheVariants as raw
 use Rattle.mte_script.specs.declared.error.ScriptFault.{ScriptFault}
 use Rattle.mte_script.specs.declared.error.ScriptFault.TheVariants.{Syntax, BadNumber, NoSuchFile}
 use Rattle.mte_script.specs.declared.error.ScriptFault.TheVariants.{TooManyEvents}
@@ -70,67 +69,44 @@ seed_of word = seed_cases (decode_sized word 8)
 abbrev pub is_word : List ℕ → List ℕ → Bool
 is_word word text = (length word == length text) && starts_with nat_eq word text
 
-abbrev pub stop_cases : Option ℕ → Option Line
-stop_cases id = option_map raw.Stop id
-
-abbrev pub slice_cases : Option ℕ → Option ℕ → Option Line
-slice_cases (Some id) (Some steps) = Some (raw.Slice id steps)
-slice_cases (Some id) None = None
-slice_cases None steps = None
-
-abbrev pub admit_by : Option ℕ → Option ℕ → Option ℕ → Option ℕ → Option ℕ → Option ℕ
-    → TagMode → Option Line
-admit_by (Some id) (Some image) (Some input) (Some seed) (Some pages) (Some room) mode =
-    Some (raw.Admit id image input seed pages room mode)
-admit_by (Some id) (Some image) (Some input) (Some seed) (Some pages) None mode = None
-admit_by (Some id) (Some image) (Some input) (Some seed) None room mode = None
-admit_by (Some id) (Some image) (Some input) None pages room mode = None
-admit_by (Some id) (Some image) None seed pages room mode = None
-admit_by (Some id) None input seed pages room mode = None
-admit_by None image input seed pages room mode = None
-
--- `stop ID`, `slice ID STEPS`, and `admit ID image I input J seed HEX16 frames R out O`, after
--- which one more word `async` may follow: the mode is synchronous without it.
-unfoldable pub stop_line : List ℕ → List ℕ → Option Line
-stop_line verb id = if is_word verb (codes "stop") then stop_cases (decimal_of id) else None
-
-unfoldable pub slice_line : List ℕ → List ℕ → List ℕ → Option Line
-slice_line verb id steps =
-    if is_word verb (codes "slice") then slice_cases (decimal_of id) (decimal_of steps) else None
-
-unfoldable pub admit_line : List ℕ → List ℕ → List ℕ → List ℕ → List ℕ → List ℕ
-    → List ℕ → List ℕ → List ℕ → List ℕ → List ℕ → List ℕ → TagMode → Option Line
-admit_line verb id image_word image input_word input
-    seed_word seed frames_word pages out_word out mode =
-    if is_word verb (codes "admit") && is_word image_word (codes "image")
-    && is_word input_word (codes "input") && is_word seed_word (codes "seed")
-    && is_word frames_word (codes "frames") && is_word out_word (codes "out")
-    then admit_by (decimal_of id) (decimal_of image) (decimal_of input)
-    (seed_of seed) (decimal_of pages) (decimal_of out) mode
-    else None
+-- ---- the forms of a line
 
 abbrev pub nth : List (List ℕ) → ℕ → List ℕ
 nth words i = slice_index_or words i []
 
--- The line of an admission's first twelve words.
-abbrev pub admission_in : TagMode → List (List ℕ) → Option Line
-admission_in mode words = admit_line (nth words 0) (nth words 1) (nth words 2) (nth words 3)
-    (nth words 4) (nth words 5) (nth words 6) (nth words 7)
-    (nth words 8) (nth words 9) (nth words 10) (nth words 11) mode
+abbrev pub is_number : List ℕ → Bool
+is_number word = is_some (decimal_of word)
 
-abbrev pub admission_of : List (List ℕ) → Option Line
-admission_of words =
-    if length words == 12 then admission_in Sync words
-    else (if (length words == 13) && is_word (nth words 12) (codes "async")
-    then admission_in Async words
-    else None)
+abbrev pub is_seed : List ℕ → Bool
+is_seed word = is_some (seed_of word)
 
--- The line that some words are, if they are one.
-unfoldable pub line_of : List (List ℕ) → Option Line
-line_of words =
-    if length words == 2 then stop_line (nth words 0) (nth words 1)
-    else (if length words == 3 then slice_line (nth words 0) (nth words 1) (nth words 2)
-    else admission_of words)
+-- The number that is the i-th word, and the seed; 0 where it is none.
+abbrev pub number_at : List (List ℕ) → ℕ → ℕ
+number_at words i = unwrap_or (decimal_of (nth words i)) 0
+
+abbrev pub seed_at : List (List ℕ) → ℕ → ℕ
+seed_at words i = unwrap_or (seed_of (nth words i)) 0
+
+-- `stop ID`
+abbrev pub is_stop : List (List ℕ) → Bool
+is_stop words = is_word (nth words 0) (codes "stop") && is_number (nth words 1)
+
+-- `slice ID STEPS`
+abbrev pub is_slice : List (List ℕ) → Bool
+is_slice words =
+    is_word (nth words 0) (codes "slice") && is_number (nth words 1) && is_number (nth words 2)
+
+-- `admit ID image I input J seed HEX16 frames R out O`
+unfoldable pub is_admission : List (List ℕ) → Bool
+is_admission words =
+    is_word (nth words 0) (codes "admit") && is_number (nth words 1)
+    && is_word (nth words 2) (codes "image") && is_number (nth words 3)
+    && is_word (nth words 4) (codes "input") && is_number (nth words 5)
+    && is_word (nth words 6) (codes "seed") && is_seed (nth words 7)
+    && is_word (nth words 8) (codes "frames") && is_number (nth words 9)
+    && is_word (nth words 10) (codes "out") && is_number (nth words 11)
+
+-- ---- the event of a line
 
 abbrev pub first_fault_of : List (Bool × ScriptFault) → Option ScriptFault
 first_fault_of [] = None
@@ -140,24 +116,51 @@ abbrev pub event_or : Option ScriptFault → Event → Result Event ScriptFault
 event_or None e = Ok e
 event_or (Some fault) e = Err fault
 
--- A line's event, or the first limit that it breaks; `files` is how many files there are.
-unfoldable pub checked_event : ℕ → Line → Result Event ScriptFault
-checked_event files (raw.Stop id) =
-    event_or (first_fault_of ((nat_lt 65535 id, BadNumber) ∷ [])) (event.Stop id)
-checked_event files (raw.Slice id steps) = event_or
-    (first_fault_of ((nat_lt 65535 id, BadNumber) ∷ (nat_lt MAX_STEPS steps, BadNumber) ∷ []))
-    (event.Slice id steps)
-checked_event files (raw.Admit id image input seed pages room mode) = event_or
+unfoldable pub stop_event : List (List ℕ) → Result Event ScriptFault
+stop_event words = event_or
     (first_fault_of (
-    (nat_lt 65535 id, BadNumber)
-    ∷ (nat_lt 4294967295 image, BadNumber) ∷ (nat_lt 4294967295 input, BadNumber)
-    ∷ (nat_lt 4294967295 pages, BadNumber) ∷ (nat_lt 4294967295 room, BadNumber)
-    ∷ ((image == 0) || nat_lt files image || nat_lt files input, NoSuchFile) ∷ []))
-    (event.Admit id image input seed pages room mode)
+    (not (is_stop words), Syntax)
+    ∷ (nat_lt 65535 (number_at words 1), BadNumber) ∷ []))
+    (event.Stop (number_at words 1))
 
-abbrev pub event_cases : ℕ → Option Line → Result Event ScriptFault
-event_cases files None = Err Syntax
-event_cases files (Some line) = checked_event files line
+unfoldable pub slice_event : List (List ℕ) → Result Event ScriptFault
+slice_event words = event_or
+    (first_fault_of (
+    (not (is_slice words), Syntax)
+    ∷ (nat_lt 65535 (number_at words 1), BadNumber)
+    ∷ (nat_lt MAX_STEPS (number_at words 2), BadNumber) ∷ []))
+    (event.Slice (number_at words 1) (number_at words 2))
+
+-- `files` is how many files there are.
+unfoldable pub admit_event : ℕ → TagMode → List (List ℕ) → Result Event ScriptFault
+admit_event files mode words = event_or
+    (first_fault_of (
+    (not (is_admission words), Syntax)
+    ∷ (nat_lt 65535 (number_at words 1), BadNumber)
+    ∷ (nat_lt 4294967295 (number_at words 3), BadNumber)
+    ∷ (nat_lt 4294967295 (number_at words 5), BadNumber)
+    ∷ (nat_lt 4294967295 (number_at words 9), BadNumber)
+    ∷ (nat_lt 4294967295 (number_at words 11), BadNumber)
+    ∷ (number_at words 3 == 0, NoSuchFile)
+    ∷ (nat_lt files (number_at words 3), NoSuchFile)
+    ∷ (nat_lt files (number_at words 5), NoSuchFile) ∷ []))
+    (event.Admit (number_at words 1) (number_at words 3) (number_at words 5) (record {
+      seed = seed_at words 7;
+      pages = number_at words 9;
+      room = number_at words 11;
+      mode = mode;
+    }))
+
+-- The event of some words, or its first fault. One more word `async` may follow an admission, whose
+-- mode is synchronous without it.
+unfoldable pub event_by : ℕ → List (List ℕ) → Result Event ScriptFault
+event_by files words =
+    if length words == 2 then stop_event words
+    else (if length words == 3 then slice_event words
+    else (if length words == 12 then admit_event files Sync words
+    else (if (length words == 13) && is_word (nth words 12) (codes "async")
+    then admit_event files Async words
+    else Err Syntax)))
 
 abbrev pub starts_comment : List ℕ → Bool
 starts_comment [] = false
@@ -167,7 +170,7 @@ starts_comment (b ∷ more) = b == 35
 -- `#` have none.
 abbrev pub event_of_words : ℕ → List (List ℕ) → Option (Result Event ScriptFault)
 event_of_words files [] = None
-event_of_words files (word ∷ more) = Some (event_cases files (line_of (word ∷ more)))
+event_of_words files (word ∷ more) = Some (event_by files (word ∷ more))
 
 unfoldable pub event_of_line : ℕ → List ℕ → Option (Result Event ScriptFault)
 event_of_line files line =
@@ -181,19 +184,21 @@ abbrev pub after_event : Event → Parsed → Parsed
 after_event e (Ok more) = Ok (e ∷ more)
 after_event e (Err fault) = Err fault
 
--- The line's number is n, and k events stand before it: a script has at most 10000.
-abbrev pub read_cases : Option (Result Event ScriptFault) → ℕ → ℕ → Parsed → Parsed → Parsed
-read_cases None n k skipped taken = skipped
-read_cases (Some (Err fault)) n k skipped taken = Err (n, fault)
-read_cases (Some (Ok e)) n k skipped taken =
-    if nat_lt k 10000 then after_event e taken else Err (n, TooManyEvents)
+-- What the lines of a script say, from the n-th on, each with its number: lines without an event
+-- are left out. `files` is how many files there are.
+unfoldable pub readings : ℕ → ℕ → List (List ℕ) → List (ℕ × Result Event ScriptFault)
+readings files n [] = []
+readings files n (line ∷ more) =
+    option_to_list (option_map (λ r. (n, r)) (event_of_line files line))
+    ++ readings files (n + 1) more
 
-unfoldable pub events_from : ℕ → List (List ℕ) → ℕ → ℕ → Parsed
-events_from files [] n k = Ok []
-events_from files (line ∷ more) n k = read_cases (event_of_line files line) n k
-    (events_from files more (n + 1) k) (events_from files more (n + 1) (k + 1))
+-- Their events, of which k came before, or the first fault: a script has at most 10000 events.
+unfoldable pub events_of : ℕ → List (ℕ × Result Event ScriptFault) → Parsed
+events_of k [] = Ok []
+events_of k ((n, Err fault) ∷ more) = Err (n, fault)
+events_of k ((n, Ok e) ∷ more) =
+    if nat_lt k 10000 then after_event e (events_of (k + 1) more) else Err (n, TooManyEvents)
 
--- A script's events, or the number of its first faulty line and its first fault; `files` is how
--- many files there are.
+-- A script's events, or the number of its first faulty line and its first fault.
 unfoldable pub script_events : ℕ → List ℕ → Parsed
-script_events files script = events_from files (lines_of script) 1 0
+script_events files script = events_of 0 (readings files 1 (lines_of script))

@@ -2,9 +2,7 @@
 
 ghost use Rattle.std.specs.Prelude.{◌≡◌, Some};
 ghost use Rattle.mte_script.specs.Faults.{fault_name};
-ghost use Rattle.mte_script.specs.declared.error.ScriptError.TheVariants.{OutOfMemory};
 
-use std::alloc::{AllocError, AllocFailed};
 use std::fmt;
 use thiserror::Error;
 
@@ -45,29 +43,12 @@ impl fmt::Display for ScriptFault {
 
 impl std::error::Error for ScriptFault {}
 
-/// Why a script is not run.
+/// Why a script is refused: its first faulty line, and what is wrong with it.
 #[derive(Clone, Copy, Debug, PartialEq, Eq, Error)]
-pub enum ScriptError {
-    /// The first faulty line, counted from 1, and what is wrong with it.
-    #[error("line {0}: {1}")]
-    Script(u64, ScriptFault),
-    /// An allocation failed.
-    #[error("out of memory")]
-    OutOfMemory,
-}
-
-impl From<AllocError> for ScriptError {
-    ghost from_gives = { λ _ e. e ≡ OutOfMemory };
-
-    fn from(_error: AllocError) -> ScriptError {
-        ScriptError::OutOfMemory
-    }
-}
-
-impl<T: Drop> From<AllocFailed<T>> for ScriptError {
-    ghost from_gives = { λ _ e. e ≡ OutOfMemory };
-
-    fn from(_error: AllocFailed<T>) -> ScriptError {
-        ScriptError::OutOfMemory
-    }
+#[error("line {line}: {fault}")]
+pub struct ScriptError {
+    /// The line, counted from 1.
+    pub line: u64,
+    /// The first of its faults.
+    pub fault: ScriptFault,
 }

@@ -1,6 +1,6 @@
 //! The events of a script.
 
-use mte_tags::TagMode;
+use tenant_terms::Terms;
 
 /// What a line of a script requests. Files are numbered from 1.
 #[derive(Clone, Copy, Debug, PartialEq, Eq)]
@@ -13,14 +13,8 @@ pub enum Event {
         image: u32,
         /// The file that is its input, from 1; 0 for no input.
         input: u32,
-        /// Seeds its tag generator (bits 19:0) and its heap's cookie (bits 63:32).
-        seed: u64,
-        /// Its reservation in pages.
-        pages: u32,
-        /// How many bytes it may write.
-        room: u32,
-        /// What a tag that differs does to its accesses.
-        mode: TagMode,
+        /// Its seed, reservation, room and tag mode.
+        terms: Terms,
     },
     /// Lets a tenant attempt at most `steps` instructions.
     Slice {

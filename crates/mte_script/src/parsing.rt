@@ -1,6 +1,7 @@
 //! Scripts: one event per line.
 
-ghost use Rattle.std.specs.Prelude.{◌≡◌, ◌⊎◌, length, option_map, Ok, IfOk, IfErr};
+ghost use Rattle.std.specs.Prelude.{◌≡◌, length, option_map, Ok, IfOk, IfErr};
+ghost use Rattle.obstacle.specs.Obstacles.{IfRefused};
 ghost use Rattle.mte_script.specs.Scripts.{script_events, event_of_line};
 ghost use Rattle.mte_script.specs.Faults.{IsFirstFault, IsLineFault};
 
@@ -9,6 +10,7 @@ use crate::event::Event;
 use crate::grammar::event_of;
 use crate::text::{WORD_LIMIT, cut, read_words};
 use arrayvec::ArrayVec;
+use obstacle::Obstacle;
 use std::alloc::Global;
 
 /// The most events of a script.
@@ -24,12 +26,11 @@ pub fn parse_script(
     alloc: Global,
     script: &[u8],
     files: &[Vec<u8>],
-) -> Result<Vec<Event>, ScriptError>
+) -> Result<Vec<Event>, Obstacle<ScriptError>>
     ensures events { IfOk result (λ events.
         script_events (length files.now) script.now ≡ Ok events.items) }
-    ensures fault { IfErr result (λ e.
-        (e ≡ ScriptError.OutOfMemory)
-        ⊎ IsFirstFault (script_events (length files.now) script.now) e) }
+    ensures fault { IfErr result (λ o.
+        IfRefused o (IsFirstFault (script_events (length files.now) script.now))) }
 {
     let most = (script.len() / SHORTEST_LINE + 1).min(EVENT_LIMIT);
     let mut events = Vec::with_capacity(alloc, most)?;
@@ -40,11 +41,14 @@ pub fn parse_script(
         let (line, more) = cut(text, b'\n');
         number += 1;
         match read_event(line, &mut words, number, files.len()) {
-            Err(error) => return Err(error),
+            Err(error) => return Err(Obstacle::Refused(error)),
             Ok(None) => {}
             Ok(Some(event)) => {
                 if events.len() >= EVENT_LIMIT {
-                    return Err(ScriptError::Script(number, ScriptFault::TooManyEvents));
+                    return Err(Obstacle::Refused(ScriptError {
+                        line: number,
+                        fault: ScriptFault::TooManyEvents,
+                    }));
                 }
                 events.push(event)?;
             }
@@ -75,6 +79,9 @@ fn read_event<'a>(
     }
     match event_of(words.as_slice(), files) {
         Ok(event) => Ok(Some(event)),
-        Err(fault) => Err(ScriptError::Script(number, fault)),
+        Err(fault) => Err(ScriptError {
+            line: number,
+            fault,
+        }),
     }
 }

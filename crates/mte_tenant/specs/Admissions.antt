@@ -1,13 +1,6 @@
--- What an admission asks for, as the terms of a machine.
+-- What a tenant starts with, by its admission.
 use Rattle.mte_tenant.specs.declared.admission.Admission.{Admission}
-use Rattle.mte_tenant.specs.Machines.{Terms}
+use Rattle.mte_tenant.specs.Machines.{Start}
 
-abbrev pub terms_of : Admission → Terms
-terms_of a = record {
-  image = a.image.now;
-  input = a.input.now;
-  seed = a.seed;
-  pages = a.pages;
-  room = a.room;
-  mode = a.mode;
-}
+abbrev pub start_in : Admission → Start
+start_in a = record { image = a.image.now; input = a.input.now; terms = a.terms }

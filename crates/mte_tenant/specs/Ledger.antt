@@ -14,12 +14,13 @@ use Rattle.mte_tenant.specs.declared.admission.AdmitError.TheVariants.{Image, Re
 use Rattle.mte_tenant.specs.declared.admission.AdmitError.TheVariants.{NoFrames, TooManyLive}
 use Rattle.mte_tenant.specs.declared.refusal.Refusal.{Refusal}
 use Rattle.mte_tenant.specs.declared.refusal.Refusal.TheVariants as refusal
-use Rattle.mte_tenant.specs.Machines.{Terms}
+use Rattle.tenant_terms.specs.declared.Terms.{Terms}
+use Rattle.mte_tenant.specs.Machines.{Start}
 
 -- What is requested of a host: the admission of a tenant with a number, a slice of a tenant of so
 -- many steps, the stop of a tenant.
 pub data Call : Type 0 where
-  Admit : ℕ → Terms → Call
+  Admit : ℕ → Start → Call
   Slice : ℕ → ℕ → Call
   Stop : ℕ → Call
 
@@ -64,13 +65,14 @@ abbrev pub is_bad : Terms → Bool
 is_bad t = (t.pages == 0) || nat_lt MAX_PAGES t.pages || nat_lt MAX_OUTPUT t.room
 
 -- Why an admission to a host of so many frames is refused, if it is.
-unfoldable pub admission_refusal : ℕ → List LedgerEntry → ℕ → Terms → Option AdmitError
-admission_refusal frames ledger id terms = first_of (
+unfoldable pub admission_refusal : ℕ → List LedgerEntry → ℕ → Start → Option AdmitError
+admission_refusal frames ledger id start = first_of (
     refuse_if (list_any (has_id id) ledger) Duplicate
-    ∷ refuse_if (is_bad terms) BadReservation
-    ∷ option_map Image (refusal_of terms.image)
-    ∷ refuse_if (nat_lt terms.pages (pages_of terms.image + STACK_PAGES)) ReservationTooSmall
-    ∷ refuse_if (nat_lt (frames - sum_by charge_of_entry ledger) (charge_of terms.pages)) NoFrames
+    ∷ refuse_if (is_bad start.terms) BadReservation
+    ∷ option_map Image (refusal_of start.image)
+    ∷ refuse_if (nat_lt start.terms.pages (pages_of start.image + STACK_PAGES)) ReservationTooSmall
+    ∷ refuse_if (nat_lt (frames - sum_by charge_of_entry ledger) (charge_of start.terms.pages))
+    NoFrames
     ∷ refuse_if (nat_lt (MAX_LIVE - 1) (count_by is_live ledger)) TooManyLive
     ∷ [])
 
@@ -79,8 +81,8 @@ unless_live live = if live then None else Some refusal.NotLive
 
 -- Why a call is refused, if it is.
 unfoldable pub call_refusal : ℕ → List LedgerEntry → Call → Option Refusal
-call_refusal frames ledger (Admit id terms) =
-    option_map refusal.Admit (admission_refusal frames ledger id terms)
+call_refusal frames ledger (Admit id start) =
+    option_map refusal.Admit (admission_refusal frames ledger id start)
 call_refusal frames ledger (Slice id steps) = unless_live (list_any (has_live_id id) ledger)
 call_refusal frames ledger (Stop id) = unless_live (list_any (has_live_id id) ledger)
 
@@ -93,7 +95,7 @@ abbrev pub new_entry : ℕ → ℕ → LedgerEntry
 new_entry id pages = record { id = id; pages = pages; live = true }
 
 abbrev pub ledger_after : List LedgerEntry → Call → List LedgerEntry
-ledger_after ledger (Admit id terms) = ledger ++ new_entry id terms.pages ∷ []
+ledger_after ledger (Admit id start) = ledger ++ new_entry id start.terms.pages ∷ []
 ledger_after ledger (Slice id steps) = ledger
 ledger_after ledger (Stop id) = map (without_live id) ledger
 

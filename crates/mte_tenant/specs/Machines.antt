@@ -9,6 +9,7 @@ use Rattle.a64_step.specs.declared.outcome.Outcome.{Outcome}
 use Rattle.a64_step.specs.declared.outcome.Outcome.TheVariants as outcome
 use Rattle.a64_step.specs.Registers.{fresh}
 use Rattle.a64_step.specs.Steps.{step_of}
+use Rattle.tenant_terms.specs.declared.Terms.{Terms}
 use Rattle.mte_tags.specs.declared.state.TagMode.{TagMode}
 use Rattle.mte_tags.specs.Memory.{Memory, no_pages, with_new_pages}
 use Rattle.mte_elf.specs.Headers.{segments_of, entry_of}
@@ -40,15 +41,11 @@ with_status m s =
 
 -- ---- the first machine
 
--- What a tenant is admitted with: its image and its input, the seed, its reservation in pages, the
--- room for its output, and what a tag that differs does.
-pub record Terms : Type 0 where
+-- What a tenant starts with: its image, its input, and the terms of its admission.
+pub record Start : Type 0 where
   pub image : List ℕ
   pub input : List ℕ
-  pub seed : ℕ
-  pub pages : ℕ
-  pub room : ℕ
-  pub mode : TagMode
+  pub terms : Terms
 
 -- All registers are 0 but SP and PC; the seed's low 16 bits are RGSR_EL1.SEED, the next four
 -- RGSR_EL1.TAG, and its high 32 bits the cookie of the heap.
@@ -63,24 +60,24 @@ first_memory image pages mode =
     with_new_pages (with_segments image (no_pages pages mode) (segments_of image))
     (STACK_START / PAGE_SIZE) STACK_PAGES (record { 0 = 11 })
 
-unfoldable pub first_parts : ℕ → Terms → TenantParts
-first_parts id terms = record {
+unfoldable pub first_parts : ℕ → Start → TenantParts
+first_parts id start = record {
   log = record {
     id = id;
     status = Running;
     steps = 0;
-    output = record { bytes = []; left = terms.room };
+    output = record { bytes = []; left = start.terms.room };
     calls = record { last = []; count = 0 };
   };
-  regs = first_registers (entry_of terms.image) terms.seed;
-  heap = empty_heap (terms.seed / 2 ^ 32) terms.pages;
-  input = terms.input;
+  regs = first_registers (entry_of start.image) start.terms.seed;
+  heap = empty_heap (start.terms.seed / 2 ^ 32) start.terms.pages;
+  input = start.input;
   left = 0;
 }
 
-unfoldable pub start_of : ℕ → Terms → Machine
-start_of id terms =
-    machine_of (first_parts id terms) (first_memory terms.image terms.pages terms.mode)
+unfoldable pub start_of : ℕ → Start → Machine
+start_of id start =
+    machine_of (first_parts id start) (first_memory start.image start.terms.pages start.terms.mode)
 
 -- ---- an attempted instruction
 

@@ -5,7 +5,6 @@ use Rattle.mte_tenant.specs.declared.admission.AdmitError.{AdmitError}
 use Rattle.mte_tenant.specs.declared.admission.AdmitError.TheVariants.{Duplicate, BadReservation}
 use Rattle.mte_tenant.specs.declared.admission.AdmitError.TheVariants.{Image, ReservationTooSmall}
 use Rattle.mte_tenant.specs.declared.admission.AdmitError.TheVariants.{NoFrames, TooManyLive}
-use Rattle.mte_tenant.specs.declared.admission.AdmitError.TheVariants.{OutOfMemory}
 use Rattle.mte_tenant.specs.declared.refusal.Refusal.{Refusal}
 use Rattle.mte_tenant.specs.declared.refusal.Refusal.TheVariants as refusal
 
@@ -17,7 +16,6 @@ admit_name (Image e) = image_name e
 admit_name ReservationTooSmall = codes "ReservationTooSmall"
 admit_name NoFrames = codes "NoFrames"
 admit_name TooManyLive = codes "TooManyLive"
-admit_name OutOfMemory = codes "OutOfMemory"
 
 abbrev pub not_live_name : List ℕ
 not_live_name = codes "NotLive"

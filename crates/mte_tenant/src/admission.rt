@@ -3,14 +3,12 @@
 ghost use Rattle.std.specs.Prelude.{◌≡◌, Some};
 ghost use Rattle.mte_tenant.specs.Ledger.{charge_of};
 ghost use Rattle.mte_tenant.specs.Names.{admit_name, not_live_name};
-ghost use Rattle.mte_tenant.specs.declared.admission.AdmitError.TheVariants.{OutOfMemory};
 
 use crate::refusal::Refusal;
 use mte_elf::ElfError;
-use mte_tags::TagMode;
-use std::alloc::{AllocError, AllocFailed};
 use std::error::Error;
 use std::fmt;
+use tenant_terms::Terms;
 
 /// The most tenants that are live at once.
 pub const MAX_LIVE: usize = 255;
@@ -29,15 +27,8 @@ pub struct Admission<'a> {
     pub image: &'a [u8],
     /// The bytes that it may read.
     pub input: &'a [u8],
-    /// Seeds its tag generator (RGSR_EL1.SEED is bits 15:0, RGSR_EL1.TAG bits 19:16) and its heap's
-    /// cookie (bits 63:32).
-    pub seed: u64,
-    /// Its reservation, 1 to `MAX_PAGES` pages.
-    pub pages: u32,
-    /// How many bytes it may write, at most `MAX_OUTPUT`.
-    pub room: u32,
-    /// What a tag that differs does to its accesses.
-    pub mode: TagMode,
+    /// Its seed, reservation, room and tag mode.
+    pub terms: Terms,
 }
 
 /// Why an admission is refused, in the order in which it is tested. A refusal changes nothing.
@@ -55,8 +46,6 @@ pub enum AdmitError {
     NoFrames,
     /// The host has as many tenants as it can have.
     TooManyLive,
-    /// An allocation failed; this can come in place of the refusals from `Image` on.
-    OutOfMemory,
 }
 
 /// No live tenant has the number.
@@ -75,7 +64,6 @@ impl AdmitError {
             AdmitError::ReservationTooSmall => "ReservationTooSmall",
             AdmitError::NoFrames => "NoFrames",
             AdmitError::TooManyLive => "TooManyLive",
-            AdmitError::OutOfMemory => "OutOfMemory",
         }
     }
 }
@@ -99,22 +87,6 @@ impl fmt::Display for NotLive {
 }
 
 impl Error for NotLive {}
-
-impl From<AllocError> for AdmitError {
-    ghost from_gives = { λ _ e. e ≡ OutOfMemory };
-
-    fn from(_error: AllocError) -> AdmitError {
-        AdmitError::OutOfMemory
-    }
-}
-
-impl<T: Drop> From<AllocFailed<T>> for AdmitError {
-    ghost from_gives = { λ _ e. e ≡ OutOfMemory };
-
-    fn from(_error: AllocFailed<T>) -> AdmitError {
-        AdmitError::OutOfMemory
-    }
-}
 
 /// How many frames a reservation is charged: its pages, and one more than them for its tables.
 pub fn charge(pages: u32) -> u64

@@ -1,7 +1,8 @@
 //! A tenant alone, on a memory of its own, and what watches it.
 
-ghost use Rattle.std.specs.Prelude.{◌≡◌, ◌⊎◌, ◌<◌, [], ◌∷◌, Some, None, true, false};
+ghost use Rattle.std.specs.Prelude.{◌≡◌, ◌<◌, [], ◌∷◌, Some, None, true, false};
 ghost use Rattle.std.specs.Prelude.{IfOk, IfErr, IsErrOf, OnOk, OnErr};
+ghost use Rattle.obstacle.specs.Obstacles.{IfRefused};
 ghost use Rattle.mte_tags.specs.Memory.{no_pages};
 ghost use Rattle.mte_elf.specs.Headers.{segments_of, entry_of};
 ghost use Rattle.mte_elf.specs.Images.{refusal_of, pages_of};
@@ -10,14 +11,15 @@ ghost use Rattle.mte_svc.specs.Results.{is_running};
 ghost use Rattle.mte_tenant.specs.Ledger.{admission_refusal, charge_of, is_bad};
 ghost use Rattle.mte_tenant.specs.Machines.{machine_of, start_of, after_attempt, after_slice};
 ghost use Rattle.mte_tenant.specs.Watched.{WatchLog, with_shown, shown_of, Before, After};
-ghost use Rattle.mte_tenant.specs.Admissions.{terms_of};
+ghost use Rattle.mte_tenant.specs.Admissions.{start_in};
 
 use crate::accepting::{holds_image, is_bad_reservation, plan_of};
 use crate::admission::{Admission, AdmitError};
 use crate::machine::{fill, handle, settle, start_parts};
 use a64_step::{Decoder, run, steps_keep_pages};
 use mte_svc::TenantParts;
-use mte_tags::{Paged, Tagged};
+use mte_tags::Paged;
+use obstacle::Obstacle;
 use scudo_heap::condition_of_calls;
 use std::alloc::Global;
 
@@ -28,18 +30,18 @@ pub trait Watch {
     ghost log: { Self → WatchLog };
 
     /// An instruction is attempted next.
-    fn before<M: Tagged>(&mut self, parts: &TenantParts, memory: &mut M)
+    fn before<M: Paged>(&mut self, parts: &TenantParts, memory: &mut M)
         ensures log { log self.new ≡ with_shown (log self.old)
-            (Before (machine_of parts.now (M.memory memory.old)) ∷ []) }
-        ensures memory { M.memory memory.new ≡ M.memory memory.old }
-        ensures kept { M.kept memory.old memory.new };
+            (Before (machine_of parts.now (M.Tagged.memory memory.old)) ∷ []) }
+        ensures memory { M.Tagged.memory memory.new ≡ M.Tagged.memory memory.old }
+        ensures kept { M.Tagged.kept memory.old memory.new };
 
     /// It was attempted, and its service served where it was an SVC.
-    fn after<M: Tagged>(&mut self, parts: &TenantParts, memory: &mut M)
+    fn after<M: Paged>(&mut self, parts: &TenantParts, memory: &mut M)
         ensures log { log self.new ≡ with_shown (log self.old)
-            (After (machine_of parts.now (M.memory memory.old)) ∷ []) }
-        ensures memory { M.memory memory.new ≡ M.memory memory.old }
-        ensures kept { M.kept memory.old memory.new };
+            (After (machine_of parts.now (M.Tagged.memory memory.old)) ∷ []) }
+        ensures memory { M.Tagged.memory memory.new ≡ M.Tagged.memory memory.old }
+        ensures kept { M.Tagged.kept memory.old memory.new };
 }
 
 /// Admits a tenant to a memory of its own that has no pages: maps and loads its image and its
@@ -51,37 +53,37 @@ pub fn admit_alone<M: Paged>(
     alloc: Global,
     admission: &Admission<'_>,
     memory: &mut M,
-) -> Result<TenantParts, AdmitError>
+) -> Result<TenantParts, Obstacle<AdmitError>>
     requires empty { M.Tagged.memory memory.old
-        ≡ no_pages admission.now.pages admission.now.mode }
+        ≡ no_pages admission.now.terms.pages admission.now.terms.mode }
     ensures machine { IfOk result (λ parts. machine_of parts (M.Tagged.memory memory.new)
-        ≡ start_of admission.now.id (terms_of admission.now)) }
+        ≡ start_of admission.now.id (start_in admission.now)) }
     ensures heap { IfOk result (λ parts. HeapOwnsItsPages (M.Tagged.memory memory.new) parts.heap) }
     ensures tag { IfOk result (λ parts. parts.regs.rgsr.tag < 16) }
-    ensures accepted { OnOk result (admission_refusal (charge_of admission.now.pages) []
-        admission.now.id (terms_of admission.now) ≡ None) }
-    ensures refused { IfErr result (λ e. (e ≡ AdmitError.OutOfMemory)
-        ⊎ (admission_refusal (charge_of admission.now.pages) []
-        admission.now.id (terms_of admission.now) ≡ Some e)) }
-    ensures memory { IsErrOf result AdmitError.OutOfMemory
-        → is_bad (terms_of admission.now) ≡ false }
+    ensures accepted { OnOk result (admission_refusal (charge_of admission.now.terms.pages) []
+        admission.now.id (start_in admission.now) ≡ None) }
+    ensures refused { IfErr result (λ o. IfRefused o (λ e.
+        admission_refusal (charge_of admission.now.terms.pages) []
+        admission.now.id (start_in admission.now) ≡ Some e)) }
+    ensures memory { IsErrOf result Obstacle.OutOfMemory
+        → is_bad admission.now.terms ≡ false }
     ensures err { OnErr result (M.Tagged.memory memory.new ≡ M.Tagged.memory memory.old) }
     ensures kept { M.Tagged.kept memory.old memory.new }
 {
     condition_of_calls();
     if is_bad_reservation(admission) {
-        return Err(AdmitError::BadReservation);
+        return Err(Obstacle::Refused(AdmitError::BadReservation));
     }
     let plan = plan_of(alloc, admission.image)?;
-    if !holds_image(admission.pages, plan.pages) {
-        return Err(AdmitError::ReservationTooSmall);
+    if !holds_image(admission.terms.pages, plan.pages) {
+        return Err(Obstacle::Refused(AdmitError::ReservationTooSmall));
     }
     let parts = start_parts(alloc, admission, &plan)?;
     fill(
         &plan,
         admission.image,
-        admission.pages,
-        admission.mode,
+        admission.terms.pages,
+        admission.terms.mode,
         memory,
     );
     Ok(parts)

@@ -14,3 +14,4 @@ pub use alone::{Watch, admit_alone, attempt, slice_watched};
 pub use machine::{fill, halt, settle, slice, start_parts};
 pub use mte_svc::{Output, Record, Status, TenantParts};
 pub use refusal::{Refusal, Refused};
+pub use tenant_terms::Terms;

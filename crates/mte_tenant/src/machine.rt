@@ -11,7 +11,7 @@ ghost use Rattle.scudo_heap.specs.Served.{HeapOwnsItsPages, IsUntouched};
 ghost use Rattle.mte_svc.specs.Results.{is_running};
 ghost use Rattle.mte_svc.specs.Services.{after_svc};
 ghost use Rattle.mte_tenant.specs.Machines.{machine_of, first_parts, first_memory, first_registers};
-ghost use Rattle.mte_tenant.specs.Admissions.{terms_of};
+ghost use Rattle.mte_tenant.specs.Admissions.{start_in};
 ghost use Rattle.mte_tenant.specs.Machines.{after_slice, after_attempts, after_slice_end};
 ghost use Rattle.mte_tenant.specs.Machines.{after_outcome, after_stop, with_service};
 
@@ -32,17 +32,17 @@ pub fn start_parts(
     plan: &Plan,
 ) -> Result<TenantParts, AllocError>
     requires entry { plan.now.entry ≡ entry_of admission.now.image.now }
-    requires some { 0 < admission.now.pages }
-    requires most { admission.now.pages ≤ MAX_PAGES }
+    requires some { 0 < admission.now.terms.pages }
+    requires most { admission.now.terms.pages ≤ MAX_PAGES }
     ensures { IfOk result
-        (λ parts. parts ≡ first_parts admission.now.id (terms_of admission.now)) }
+        (λ parts. parts ≡ first_parts admission.now.id (start_in admission.now)) }
 {
-    let output = Output::new(alloc, admission.room)?;
+    let output = Output::new(alloc, admission.terms.room)?;
     let input = Input::new(alloc, admission.input)?;
     let heap = Heap::new(
         alloc,
-        (admission.seed >> 32) as u32,
-        u64::from(admission.pages),
+        (admission.terms.seed >> 32) as u32,
+        u64::from(admission.terms.pages),
     )?;
     let calls = HeapCalls::new(alloc)?;
     let log = Record {
@@ -54,7 +54,7 @@ pub fn start_parts(
     };
     Ok(TenantParts {
         log,
-        regs: registers_at(plan.entry, admission.seed),
+        regs: registers_at(plan.entry, admission.terms.seed),
         heap,
         input,
         left: 0,

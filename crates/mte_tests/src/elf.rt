@@ -4,6 +4,7 @@ use crate::calls::{Answer, Call, answers};
 use mte_elf::{ElfError, load, loading_keeps_memories_whole, plan};
 use mte_flat::Flat;
 use mte_tags::{Paged, TagMode, Tagged};
+use obstacle::Obstacle;
 use std::alloc::{AllocError, Global};
 use std::test::Fail;
 
@@ -112,11 +113,11 @@ fn push_words(bytes: &mut Vec<u8>) -> Result<(), AllocError> {
 }
 
 /// A memory of 8 pages that an image was loaded into. An image of more pages is `OutOfMemory`.
-fn loaded(alloc: Global, file: &[u8]) -> Result<Flat, ElfError> {
+fn loaded(alloc: Global, file: &[u8]) -> Result<Flat, Obstacle<ElfError>> {
     let plan = plan(alloc, file)?;
     let mut memory = Flat::new(alloc, 8, TagMode::Sync)?;
     if plan.pages > memory.pages_left() as u64 {
-        return Err(ElfError::OutOfMemory);
+        return Err(Obstacle::OutOfMemory);
     }
     load(&plan, file, &mut memory);
     Ok(memory)
@@ -131,26 +132,26 @@ fn answers_loaded(alloc: Global, file: &[u8], rows: &[(Call, Answer)]) -> bool {
 }
 
 /// The entry of a file, and how many pages and segments it has.
-fn planned(alloc: Global, file: &[u8]) -> Result<(u64, u64, usize), ElfError> {
+fn planned(alloc: Global, file: &[u8]) -> Result<(u64, u64, usize), Obstacle<ElfError>> {
     let plan = plan(alloc, file)?;
     Ok((plan.entry, plan.pages, plan.segments.len()))
 }
 
 /// Why an image is refused.
-fn refusal(alloc: Global, file: [u8; 64], headers: &[Header]) -> Option<ElfError> {
+fn refusal(alloc: Global, file: [u8; 64], headers: &[Header]) -> Option<Obstacle<ElfError>> {
     match image(alloc, file, headers) {
         Ok(bytes) => planned(alloc, &bytes).err(),
-        Err(_) => Some(ElfError::OutOfMemory),
+        Err(_) => Some(Obstacle::OutOfMemory),
     }
 }
 
 /// Why a file of one program header is refused that ends after so many bytes.
-fn refusal_of_length(length: usize) -> ElfError {
-    match length {
+fn refusal_of_length(length: usize) -> Obstacle<ElfError> {
+    Obstacle::Refused(match length {
         0..=63 => ElfError::Short,
         64..=119 => ElfError::BadHeaders,
         _ => ElfError::SegmentRange,
-    }
+    })
 }
 
 /// Whether a file is refused that ends before its last byte.
@@ -180,11 +181,12 @@ fn file_headers(rt: HostRuntime) {
     far[32..40].fill(0xFF);
     let of_shared = refusal(rt.alloc(), shared, &[text(1)]);
     let of_far = refusal(rt.alloc(), far, &[text(1)]);
-    assert!(rt; [of_shared, of_far] == [Some(ElfError::NotExec), Some(ElfError::BadHeaders)]);
+    assert!(rt; of_shared == Some(Obstacle::Refused(ElfError::NotExec)));
+    assert!(rt; of_far == Some(Obstacle::Refused(ElfError::BadHeaders)));
 }
 
 /// Why an image is refused whose second segment is this one.
-fn refusal_of_second(alloc: Global, second: Header) -> Option<ElfError> {
+fn refusal_of_second(alloc: Global, second: Header) -> Option<Obstacle<ElfError>> {
     refusal(alloc, EXECUTABLE, &[text(2), second])
 }
 
@@ -204,8 +206,9 @@ fn second_headers(rt: HostRuntime) {
         refusal_of_second(rt.alloc(), zeros(0x0FFF_F000, 0x1001)),
         refusal_of_second(rt.alloc(), outside),
     ];
-    let range = Some(ElfError::SegmentRange);
-    assert!(rt; refusals == [Some(ElfError::Overlap), range, range]);
+    let overlap = Some(Obstacle::Refused(ElfError::Overlap));
+    let range = Some(Obstacle::Refused(ElfError::SegmentRange));
+    assert!(rt; refusals == [overlap, range, range]);
     let permitted = [
         refusal_of_second(rt.alloc(), zeros(0x10800, 0)),
         refusal_of_second(rt.alloc(), zeros(0x0FFF_F000, 0x1000)),

@@ -13,6 +13,7 @@ use mte_frames::FramePool;
 use mte_space::{Space, pages_of_a_space};
 use mte_tags::{Attrs, Paged, TagMode, Tagged};
 use mte_translate::{Table, Tlb};
+use obstacle::Obstacle;
 use std::alloc::Global;
 use std::test::Fail;
 
@@ -115,7 +116,7 @@ fn file_is_loaded_alike(
     alloc: Global,
     pool: &mut FramePool,
     file: &[u8],
-) -> Result<bool, ElfError> {
+) -> Result<bool, Obstacle<ElfError>> {
     let plan = plan(alloc, file)?;
     let mut plain = Flat::new(alloc, PAGES, TagMode::Sync)?;
     Ok(is_loaded_alike(&plan, file, &mut plain, pool))

@@ -8,6 +8,6 @@ loop-i-preserved c =
     let pushed : c.push.new.self.items ≡ c.loop-i.headers.items ++ c.program_header.result ∷ [] = search rules in
     rw (pushed, c.program_header.ensures) next
 
-pub returns-clause-headers : goal.returns-clause-headers
-returns-clause-headers c =
+pub returns : goal.returns
+returns c =
     headers_from-all c.args.file.now c.table_offset-at.result c.loop-i.i c.header_count-count.result c.loop-i.headers.items _ (omega arith) c.loop-i.invariant

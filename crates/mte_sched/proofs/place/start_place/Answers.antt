@@ -8,7 +8,7 @@ pub returns-clause-placed : goal.returns-clause-placed
 returns-clause-placed c =
     let made = c.reserve_place-place.ensures in
     let fill = c.fill_place.ensures in
-    first_placed c.reserve_place-place.new.pool c.fill_place.new.pool c.fill_place.new.tlb c.args.asid c.args.admission.now.pages c.reserve_place-place.result c.fill_place.new.place
+    first_placed c.reserve_place-place.new.pool c.fill_place.new.pool c.fill_place.new.tlb c.args.asid c.args.admission.now.terms.pages c.reserve_place-place.result c.fill_place.new.place
     made.taken made.charged made.len made.leaves fill.rest fill.same fill.space fill.cached c.requires.some c.requires.most
 
 pub returns-clause-reserved : goal.returns-clause-reserved

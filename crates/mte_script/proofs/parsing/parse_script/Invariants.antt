@@ -1,6 +1,6 @@
 use Rattle.std.proofs.Common.{◌≡◌, ◌≤◌, ◌+◌, length}
-use Rattle.mte_script.specs.Scripts.{script_events, events_from}
-use Rattle.mte_script.proofs.ScriptLemmas.{measure_of, lines_left, behind}
+use Rattle.mte_script.specs.Scripts.{script_events}
+use Rattle.mte_script.proofs.ScriptLemmas.{measure_of, lines_left, behind, events_from}
 use Rattle.mte_script.proofs.parsing.parse_script.Given as goal
 
 abbrev pub decreases-loop-rest : goal.decreases-loop-rest

@@ -4,7 +4,7 @@ use Rattle.scudo_heap.specs.Served.{HeapOwnsItsPages}
 use Rattle.mte_svc.specs.declared.parts.TenantParts.{TenantParts}
 use Rattle.mte_tags.specs.Memory.{Memory}
 use Rattle.mte_tenant.specs.Machines.{machine_of, start_of, first_parts}
-use Rattle.mte_tenant.specs.Admissions.{terms_of}
+use Rattle.mte_tenant.specs.Admissions.{start_in}
 use Rattle.mte_tenant.specs.Ready.{IsReady}
 use Rattle.mte_tenant.proofs.FirstLemmas.{first_ready}
 use Rattle.mte_tenant.proofs.alone.admit_alone.Goals as goal
@@ -14,22 +14,22 @@ unfolding start_of
 returns-clause-machine g c =
     let a = c.args.admission.now in
     ap (λ (p : TenantParts). machine_of p (g.M.Tagged.memory c.fill.new.memory)) c.in_ok-parts.ensures
-    ∙ ap (λ (m : Memory). machine_of (first_parts a.id (terms_of a)) m) c.fill.ensures.memory
+    ∙ ap (λ (m : Memory). machine_of (first_parts a.id (start_in a)) m) c.fill.ensures.memory
 
 pub returns-clause-heap : goal.returns-clause-heap
 returns-clause-heap g c =
     let a = c.args.admission.now in
     let m = g.M.Tagged.memory c.fill.new.memory in
-    let served : HeapOwnsItsPages m (empty_heap (a.seed / 2 ^ 32) a.pages) =
-    c.condition_of_calls.ensures.first m (a.seed / 2 ^ 32) a.pages (omega (arith, c.fill.ensures.limit)) c.fill.ensures.untouched in
-    let ready : IsReady c.in_ok-parts.parts m = first_ready a.id (terms_of a) c.in_ok-parts.parts m c.in_ok-parts.ensures served in
+    let served : HeapOwnsItsPages m (empty_heap (a.terms.seed / 2 ^ 32) a.terms.pages) =
+    c.condition_of_calls.ensures.first m (a.terms.seed / 2 ^ 32) a.terms.pages (omega (arith, c.fill.ensures.limit)) c.fill.ensures.untouched in
+    let ready : IsReady c.in_ok-parts.parts m = first_ready a.id (start_in a) c.in_ok-parts.parts m c.in_ok-parts.ensures served in
     ready.heap
 
 pub returns-clause-tag : goal.returns-clause-tag
 returns-clause-tag g c =
     let a = c.args.admission.now in
     let m = g.M.Tagged.memory c.fill.new.memory in
-    let served : HeapOwnsItsPages m (empty_heap (a.seed / 2 ^ 32) a.pages) =
-    c.condition_of_calls.ensures.first m (a.seed / 2 ^ 32) a.pages (omega (arith, c.fill.ensures.limit)) c.fill.ensures.untouched in
-    let ready : IsReady c.in_ok-parts.parts m = first_ready a.id (terms_of a) c.in_ok-parts.parts m c.in_ok-parts.ensures served in
+    let served : HeapOwnsItsPages m (empty_heap (a.terms.seed / 2 ^ 32) a.terms.pages) =
+    c.condition_of_calls.ensures.first m (a.terms.seed / 2 ^ 32) a.terms.pages (omega (arith, c.fill.ensures.limit)) c.fill.ensures.untouched in
+    let ready : IsReady c.in_ok-parts.parts m = first_ready a.id (start_in a) c.in_ok-parts.parts m c.in_ok-parts.ensures served in
     ready.tag

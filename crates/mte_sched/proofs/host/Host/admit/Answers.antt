@@ -12,7 +12,7 @@ use Rattle.mte_tenant.specs.Machines.{first_parts}
 use Rattle.mte_sched.specs.Contents.{Tenant, Content, after_admit, new_tenant}
 use Rattle.mte_sched.specs.Places.{memory_at, IsPlaced}
 use Rattle.mte_sched.specs.Tenants.{record_in, tenants_in, entries_in}
-use Rattle.mte_tenant.specs.Admissions.{terms_of}
+use Rattle.mte_tenant.specs.Admissions.{start_in}
 use Rattle.mte_tenant.specs.Ledger.{is_live, numbers_of}
 use Rattle.mte_sched.specs.Sharing.{IsSharing, IsIndexed}
 use Rattle.mte_sched.proofs.EachLemmas.{ledger_is}
@@ -51,21 +51,21 @@ pub invariant_of-self-2 : goal.invariant_of-self-2
 invariant_of-self-2 c =
     let h = c.args.self.now in
     let ts : List code.Tenant = c.args.self.now.tenants.items in
-    let terms = terms_of c.args.admission.now in
-    let pages : ℕ = c.args.admission.now.pages in
+    let given = start_in c.args.admission.now in
+    let pages : ℕ = c.args.admission.now.terms.pages in
     let n : Pool = c.start_place-place.new.pool in
     let vs : List Translation = c.start_place-place.new.tlb in
     let b : TenantMemory = c.start_place-place.result in
     let start = c.start_place-place.ensures in
-    let boxed : c.in_ok-parts.parts.value ≡ first_parts c.args.admission.now.id terms = c.in_ok-parts.ensures.ok ∙ c.in_ok-first.ensures in
+    let boxed : c.in_ok-parts.parts.value ≡ first_parts c.args.admission.now.id given = c.in_ok-parts.ensures.ok ∙ c.in_ok-first.ensures in
     let asid : c.len-asid.result ≡ length ts = search rules in
     let placed : IsPlaced n vs (length ts) pages b = subst (λ k. IsPlaced n vs k pages b) asid start.placed in
     let entries : NoneEnters (length ts) h.tlb vs = subst (λ k. NoneEnters k h.tlb vs) asid start.entries in
     let limit : (memory_at n b pages).limit ≡ pages = start.limit in
-    let served : HeapOwnsItsPages (memory_at n b pages) (empty_heap (c.args.admission.now.seed / 2 ^ 32) pages) =
-    c.condition_of_calls.ensures.first (memory_at n b pages) (c.args.admission.now.seed / 2 ^ 32) pages (omega (arith, limit)) start.untouched in
-    let ready = first_ready c.args.admission.now.id terms c.in_ok-parts.parts.value (memory_at n b pages) boxed served in
-    let number = first_number c.args.admission.now.id terms c.in_ok-parts.parts.value boxed in
+    let served : HeapOwnsItsPages (memory_at n b pages) (empty_heap (c.args.admission.now.terms.seed / 2 ^ 32) pages) =
+    c.condition_of_calls.ensures.first (memory_at n b pages) (c.args.admission.now.terms.seed / 2 ^ 32) pages (omega (arith, limit)) start.untouched in
+    let ready = first_ready c.args.admission.now.id given c.in_ok-parts.parts.value (memory_at n b pages) boxed served in
+    let number = first_number c.args.admission.now.id given c.in_ok-parts.parts.value boxed in
     let all = entered_sharing h.pool n h.tlb vs ts c.args.admission.now.id b c.in_ok-parts.parts pages h.sharing placed start.unused start.others entries ready start.reserved number c.in_ok-plan.ensures.fresh in
     let t : code.Tenant = record { pages = pages; holding = kept.Live (record { parts = c.in_ok-parts.parts; place = b }) } in
     let pushed : c.push_reserved.new.self.items ≡ ts ++ t ∷ [] = c.push_reserved.ensures.items ∙ ap (λ l. l ++ t ∷ []) c.in_ok-reserve.ensures.items in
@@ -90,21 +90,21 @@ unfolding after_admit
 returns-clause-ok c =
     let h = c.args.self.now in
     let ts : List code.Tenant = c.args.self.now.tenants.items in
-    let terms = terms_of c.args.admission.now in
-    let pages : ℕ = c.args.admission.now.pages in
+    let given = start_in c.args.admission.now in
+    let pages : ℕ = c.args.admission.now.terms.pages in
     let n : Pool = c.start_place-place.new.pool in
     let vs : List Translation = c.start_place-place.new.tlb in
     let b : TenantMemory = c.start_place-place.result in
     let start = c.start_place-place.ensures in
-    let boxed : c.in_ok-parts.parts.value ≡ first_parts c.args.admission.now.id terms = c.in_ok-parts.ensures.ok ∙ c.in_ok-first.ensures in
+    let boxed : c.in_ok-parts.parts.value ≡ first_parts c.args.admission.now.id given = c.in_ok-parts.ensures.ok ∙ c.in_ok-first.ensures in
     let asid : c.len-asid.result ≡ length ts = search rules in
     let placed : IsPlaced n vs (length ts) pages b = subst (λ k. IsPlaced n vs k pages b) asid start.placed in
     let entries : NoneEnters (length ts) h.tlb vs = subst (λ k. NoneEnters k h.tlb vs) asid start.entries in
     let t : code.Tenant = record { pages = pages; holding = kept.Live (record { parts = c.in_ok-parts.parts; place = b }) } in
     let pushed : c.push_reserved.new.self.items ≡ ts ++ t ∷ [] = c.push_reserved.ensures.items ∙ ap (λ l. l ++ t ∷ []) c.in_ok-reserve.ensures.items in
-    let tenants : tenants_in n c.push_reserved.new.self.items ≡ tenants_in h.pool ts ++ new_tenant c.args.admission.now.id terms ∷ [] =
+    let tenants : tenants_in n c.push_reserved.new.self.items ≡ tenants_in h.pool ts ++ new_tenant c.args.admission.now.id given ∷ [] =
     ap (tenants_in n) pushed
     ∙ entered_tenants h.pool n h.tlb vs ts c.args.admission.now.id b c.in_ok-parts.parts pages h.sharing placed start.unused start.others entries
-    ∙ ap (λ u. tenants_in h.pool ts ++ u ∷ []) (first_tenant n c.args.admission.now.id terms c.in_ok-parts.parts b boxed start.memory) in
+    ∙ ap (λ u. tenants_in h.pool ts ++ u ∷ []) (first_tenant n c.args.admission.now.id given c.in_ok-parts.parts b boxed start.memory) in
     ap (λ (k : ℕ). let z : Content = record { frames = k; tenants = tenants_in n c.push_reserved.new.self.items } in z) start.others.count
     ∙ ap (λ (l : List Tenant). let z : Content = record { frames = length h.pool.frames; tenants = l } in z) tenants
