@@ -17,6 +17,10 @@ pub struct Access {
     pub second: Option<u8>,
     /// Whether they are stored.
     pub is_write: bool,
+    /// Whether the pointer's tag is compared with those of granules: not relative to PC, nor at a
+    /// constant offset from SP without a change of SP (Arm ARM DDI 0487, D10.8.2 "Tag Checked and
+    /// Tag Unchecked accesses").
+    pub is_checked: bool,
 }
 
 impl Access {
@@ -39,19 +43,20 @@ pub fn access_of(instr: &Instr, regs: &Regs) -> Option<Access> {
             imm12,
             rn,
             rt,
-        } => Some(single(regs, rn, scaled_offset(imm12, size), Form { size, opc, rt })),
+        } => {
+            let offset = scaled_offset(imm12, size);
+            Some(at_constant(rn, single(regs, rn, offset, Form { size, opc, rt })))
+        }
         Instr::LdStUnscaled {
             size,
             opc,
             imm9,
             rn,
             rt,
-        } => Some(single(
-            regs,
-            rn,
-            signed_offset(i64::from(imm9)),
-            Form { size, opc, rt },
-        )),
+        } => {
+            let offset = signed_offset(i64::from(imm9));
+            Some(at_constant(rn, single(regs, rn, offset, Form { size, opc, rt })))
+        }
         Instr::LdStPre {
             size,
             opc,
@@ -105,7 +110,10 @@ fn pair_of(instr: &Instr, regs: &Regs) -> Option<Access> {
             rt2,
             rn,
             rt,
-        } => Some(pair(regs, rn, i64::from(imm7), PairForm { opc, l, rt, rt2 })),
+        } => {
+            let access = pair(regs, rn, i64::from(imm7), PairForm { opc, l, rt, rt2 });
+            Some(at_constant(rn, access))
+        }
         Instr::PairPre {
             opc,
             l,
@@ -116,6 +124,14 @@ fn pair_of(instr: &Instr, regs: &Regs) -> Option<Access> {
         } => Some(pair(regs, rn, i64::from(imm7), PairForm { opc, l, rt, rt2 })),
         Instr::LdLit { opc, imm19, rt } => Some(literal(regs, opc, imm19, rt)),
         _ => None,
+    }
+}
+
+/// An access at a constant offset from its base, which keeps its value.
+fn at_constant(rn: u8, access: Access) -> Access {
+    Access {
+        is_checked: rn != 31,
+        ..access
     }
 }
 
@@ -136,6 +152,7 @@ fn single(regs: &Regs, rn: u8, offset: u64, form: Form) -> Access {
         first: rt,
         second: None,
         is_write: opc == 0,
+        is_checked: true,
     }
 }
 
@@ -159,6 +176,7 @@ fn pair(regs: &Regs, rn: u8, imm7: i64, fields: PairForm) -> Access {
         first: rt,
         second: Some(rt2),
         is_write: l == 0,
+        is_checked: true,
     }
 }
 
@@ -171,5 +189,6 @@ fn literal(regs: &Regs, opc: u8, imm19: i32, rt: u8) -> Access {
         first: rt,
         second: None,
         is_write: false,
+        is_checked: false,
     }
 }

@@ -3,7 +3,7 @@
 use crate::blocks::{Block, Range};
 use crate::calls::{Allocation, freed_by, made_by};
 use a64_bits::plain;
-use mte_svc::HeapCall;
+use mte_svc::AnsweredCall;
 use std::alloc::{AllocError, Global};
 use std::collections::BTreeMap;
 
@@ -75,7 +75,7 @@ impl Bounds {
     }
 
     /// Enters what a heap call did.
-    pub fn note(&mut self, call: &HeapCall) -> Result<(), AllocError> {
+    pub fn note(&mut self, call: &AnsweredCall) -> Result<(), AllocError> {
         if let Some(start) = freed_by(call) {
             self.free(start);
         }

@@ -1,7 +1,8 @@
 //! What a heap call does to chunks.
 
 use a64_bits::plain;
-use mte_svc::{HeapCall, HeapService};
+use mte_svc::AnsweredCall;
+use scudo_heap::HeapCall;
 
 /// A chunk as a heap call returned it.
 #[derive(Clone, Copy)]
@@ -13,12 +14,13 @@ pub struct Allocation {
 }
 
 /// The chunk that a call returned, if it returned one.
-pub fn made_by(call: &HeapCall) -> Option<Allocation> {
-    let size = match call.service {
-        HeapService::Malloc => call.first,
-        HeapService::Calloc => call.first.wrapping_mul(call.second),
-        HeapService::Realloc | HeapService::Memalign => call.second,
-        HeapService::Free | HeapService::UsableSize => return None,
+pub fn made_by(call: &AnsweredCall) -> Option<Allocation> {
+    let size = match call.call {
+        HeapCall::Malloc { size }
+        | HeapCall::Realloc { size, .. }
+        | HeapCall::Memalign { size, .. } => size,
+        HeapCall::Calloc { count, size } => count.wrapping_mul(size),
+        HeapCall::Free { .. } | HeapCall::UsableSize { .. } => return None,
     };
     if call.answer == 0 {
         return None;
@@ -30,10 +32,12 @@ pub fn made_by(call: &HeapCall) -> Option<Allocation> {
 }
 
 /// The plain address of the chunk that a call freed, or gave another size.
-pub fn freed_by(call: &HeapCall) -> Option<u64> {
-    match call.service {
-        HeapService::Free => Some(plain(call.first)),
-        HeapService::Realloc if call.answer != 0 || call.second == 0 => Some(plain(call.first)),
+pub fn freed_by(call: &AnsweredCall) -> Option<u64> {
+    match call.call {
+        HeapCall::Free { pointer } => Some(plain(pointer)),
+        HeapCall::Realloc { pointer, size } if call.answer != 0 || size == 0 => {
+            Some(plain(pointer))
+        }
         _ => None,
     }
 }

@@ -8,15 +8,9 @@ use Rattle.mte_tags.specs.Accesses.{tag_load_fault}
 use Rattle.mte_tags.specs.declared.fault.MemFault.{MemFault}
 use Rattle.scudo_heap.specs.declared.abort.HeapAbort.{HeapAbort}
 use Rattle.scudo_heap.specs.Placing.{World}
-use Rattle.scudo_heap.specs.Allocation.{AllocationResult, answer_of, after_malloc, after_calloc}
-use Rattle.scudo_heap.specs.Allocation.{after_memalign}
-use Rattle.scudo_heap.specs.Freeing.{Freed, free_of, usable_size_of}
-use Rattle.scudo_heap.specs.Realloc as realloc
-use Rattle.scudo_heap.specs.Realloc.{ReallocResult, after_realloc}
+use Rattle.scudo_heap.specs.Calls.{CallResult, after_call}
 use Rattle.heap_calls.specs.declared.op.HeapOp.{HeapOp}
-use Rattle.heap_calls.specs.declared.op.HeapOp.TheVariants.{Malloc, Calloc, Memalign, Realloc}
-use Rattle.heap_calls.specs.declared.op.HeapOp.TheVariants.{Free, UsableSize, Load, Store}
-use Rattle.heap_calls.specs.declared.op.HeapOp.TheVariants.{LoadTag}
+use Rattle.heap_calls.specs.declared.op.HeapOp.TheVariants.{Call, Load, Store, LoadTag}
 use Rattle.heap_calls.specs.declared.op.HeapAnswer.{HeapAnswer}
 use Rattle.heap_calls.specs.declared.op.HeapAnswer.TheVariants.{Value, Abort, Fault}
 
@@ -30,19 +24,8 @@ abbrev pub of_call : Result ℕ HeapAbort → HeapAnswer
 of_call (Ok value) = Value value
 of_call (Err abort) = Abort abort
 
-abbrev pub of_free : Result (Unit {0}) HeapAbort → HeapAnswer
-of_free (Ok done) = Value 0
-of_free (Err abort) = Abort abort
-
-abbrev pub answer_of_allocation : AllocationResult → Answered
-answer_of_allocation m = record { world = m.world; answer = Value (answer_of m.chunk) }
-
-abbrev pub answer_of_reallocation : ReallocResult → Answered
-answer_of_reallocation r =
-    record { world = r.world; answer = of_call (realloc.realloc_answer r.result) }
-
-abbrev pub answer_of_free : Freed → Answered
-answer_of_free f = record { world = f.world; answer = of_free f.result }
+abbrev pub answered_call : CallResult → Answered
+answered_call r = record { world = r.world; answer = of_call r.answer }
 
 -- ---- accesses, with the tags compared
 
@@ -74,13 +57,7 @@ in_world w x = record { world = record w { memory = x.memory }; answer = x.answe
 -- ---- all operations
 
 unfoldable pub after_operation : World → HeapOp → Answered
-after_operation w (Malloc size) = answer_of_allocation (after_malloc w size)
-after_operation w (Calloc count size) = answer_of_allocation (after_calloc w count size)
-after_operation w (Memalign alignment size) = answer_of_allocation (after_memalign w alignment size)
-after_operation w (Realloc pointer size) = answer_of_reallocation (after_realloc w pointer size)
-after_operation w (Free pointer) = answer_of_free (free_of w pointer)
-after_operation w (UsableSize pointer) =
-    record { world = w; answer = of_call (usable_size_of w.memory w.heap pointer) }
+after_operation w (Call call) = answered_call (after_call w call)
 after_operation w (Load addr) = in_world w (load_of w.memory addr)
 after_operation w (Store addr value) = in_world w (store_of w.memory addr value)
 after_operation w (LoadTag addr) = record { world = w; answer = load_tag_of w.memory addr }

@@ -24,21 +24,7 @@ pub fn answer<M: Paged>(heap: &mut Heap, rgsr: &mut Rgsr, memory: &mut M, op: &H
     ensures kept { M.Tagged.kept memory.old memory.new }
 {
     match *op {
-        HeapOp::Malloc { size } => HeapAnswer::Value(heap.malloc(rgsr, memory, size)),
-        HeapOp::Calloc { count, size } => {
-            HeapAnswer::Value(heap.calloc(rgsr, memory, count, size))
-        }
-        HeapOp::Memalign { alignment, size } => {
-            HeapAnswer::Value(heap.memalign(rgsr, memory, alignment, size))
-        }
-        HeapOp::Realloc { pointer, size } => {
-            HeapAnswer::of_call(heap.realloc(rgsr, memory, pointer, size))
-        }
-        HeapOp::Free { pointer } => match heap.free(rgsr, memory, pointer) {
-            Ok(()) => HeapAnswer::Value(0),
-            Err(abort) => HeapAnswer::Abort(abort),
-        },
-        HeapOp::UsableSize { pointer } => { HeapAnswer::of_call(heap.usable_size(memory, pointer)) }
+        HeapOp::Call(call) => HeapAnswer::of_call(heap.call(rgsr, memory, call)),
         HeapOp::Load { addr } => load(memory, addr),
         HeapOp::Store { addr, value } => store(memory, addr, value),
         HeapOp::LoadTag { addr } => load_tag(memory, addr),

@@ -4,24 +4,13 @@ ghost use Rattle.std.specs.Prelude.{◌≡◌};
 ghost use Rattle.heap_calls.specs.Answers.{of_call};
 
 use mte_tags::MemFault;
-use scudo_heap::HeapAbort;
+use scudo_heap::{HeapAbort, HeapCall};
 
-/// A call of a heap, or an access to its memory. Sizes are in bytes; a pointer and an address have
-/// their tag in bits 59:56.
+/// A call of a heap, or an access to its memory. An address has its tag in bits 59:56.
 #[derive(Clone, Copy)]
 pub enum HeapOp {
-    /// A chunk of `size` bytes.
-    Malloc { size: u64 },
-    /// A chunk for `count` elements of `size` bytes, all zero.
-    Calloc { count: u64, size: u64 },
-    /// A chunk of `size` bytes at a multiple of `alignment`.
-    Memalign { alignment: u64, size: u64 },
-    /// Gives a chunk another size.
-    Realloc { pointer: u64, size: u64 },
-    /// Frees a chunk.
-    Free { pointer: u64 },
-    /// How many bytes of a chunk its user may use.
-    UsableSize { pointer: u64 },
+    /// A heap call.
+    Call(HeapCall),
     /// A checked read of eight bytes, the lowest first.
     Load { addr: u64 },
     /// A checked write of eight bytes, the lowest first.
@@ -43,7 +32,7 @@ pub enum HeapAnswer {
 }
 
 impl HeapAnswer {
-    /// The answer of a heap call that checks a pointer.
+    /// The answer of a heap call.
     pub(crate) fn of_call(outcome: Result<u64, HeapAbort>) -> HeapAnswer
         ensures answer { result ≡ of_call outcome }
     {

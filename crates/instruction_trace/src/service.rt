@@ -2,8 +2,7 @@
 
 use a64_step::Regs;
 use mte_svc::{
-    CALLOC, EXIT, FREE, MALLOC, MEMALIGN, PAGES_LEFT, READ, REALLOC, STEPS_LEFT, USABLE_SIZE,
-    WRITE, YIELD,
+    CALLOC, EXIT, MALLOC, MEMALIGN, PAGES_LEFT, READ, REALLOC, STEPS_LEFT, WRITE, YIELD, heap_call,
 };
 use std::fmt;
 
@@ -19,13 +18,17 @@ pub struct Service<'a> {
 impl<'a> fmt::Display for Service<'a> {
     fn fmt<W: fmt::Write>(&self, f: &mut fmt::Formatter<W>) -> fmt::Result {
         let (number, first, second) = (self.before.x[8], self.before.x[0], self.before.x[1]);
-        let (name, answer) = (name_of(number), Answer(*self));
+        let answer = Answer(*self);
+        if let Some(call) = heap_call(number, first, second) {
+            return write!(f, "{call}{answer}");
+        }
         match number {
-            EXIT | MALLOC => write!(f, "{name}({first}){answer}"),
-            FREE | USABLE_SIZE => write!(f, "{name}({first:#x}){answer}"),
-            WRITE | READ | REALLOC => write!(f, "{name}({first:#x}, {second}){answer}"),
-            CALLOC | MEMALIGN => write!(f, "{name}({first}, {second}){answer}"),
-            YIELD | STEPS_LEFT | PAGES_LEFT => write!(f, "{name}(){answer}"),
+            EXIT => write!(f, "exit({first}){answer}"),
+            WRITE => write!(f, "write({first:#x}, {second}){answer}"),
+            READ => write!(f, "read({first:#x}, {second}){answer}"),
+            YIELD => write!(f, "yield(){answer}"),
+            STEPS_LEFT => write!(f, "steps_left(){answer}"),
+            PAGES_LEFT => write!(f, "pages_left(){answer}"),
             _ => write!(f, "service {number}({first:#x}, {second:#x}){answer}"),
         }
     }
@@ -47,24 +50,5 @@ impl<'a> fmt::Display for Answer<'a> {
             EXIT..=PAGES_LEFT => write!(f, " = {answer}"),
             _ => f.write_str(" = -1, as there is no such service"),
         }
-    }
-}
-
-/// The name of a service, by its number.
-fn name_of(number: u64) -> &'static str {
-    match number {
-        EXIT => "exit",
-        WRITE => "write",
-        READ => "read",
-        MALLOC => "malloc",
-        FREE => "free",
-        CALLOC => "calloc",
-        REALLOC => "realloc",
-        MEMALIGN => "memalign",
-        USABLE_SIZE => "usable_size",
-        YIELD => "yield",
-        STEPS_LEFT => "steps_left",
-        PAGES_LEFT => "pages_left",
-        _ => "service",
     }
 }

@@ -4,8 +4,8 @@ use Rattle.std.specs.Prelude.{IfSome, IsNone, option_map}
 use Rattle.std.proofs.lemmas.List.{get_or_default}
 use Rattle.std.specs.List.{All}
 use Rattle.mte_tags.specs.Memory.{Memory, page_at, with_page}
-use Rattle.mte_flat.specs.Slots.{page_of, slots_memory, AreSlots}
-use Rattle.mte_flat.specs.Places.{no_slot}
+use Rattle.mte_flat.specs.Inner.Slots.{page_of, slots_memory, AreSlots}
+use Rattle.mte_flat.specs.Inner.Places.{no_slot}
 use Rattle.mte_tags.specs.Runs.{with_bytes_run, with_bytes_in, with_granule_tags}
 use Rattle.mte_flat.specs.declared.slot.Slot.{Slot}
 use Rattle.mte_flat.proofs.Places.{page_at-slots_some, slots_memory-set}

@@ -9,7 +9,7 @@ use Rattle.std.specs.FinMap.{find, get-from_entries, from_entries_push, nat_cmp-
 use Rattle.mte_tags.specs.Memory.{Memory, Page, page_at, with_page, without_page, pages_left, no_pages}
 use Rattle.mte_tags.specs.declared.state.TagMode.TheVariants.{Sync}
 use Rattle.std.specs.List.{All, swap_remove}
-use Rattle.mte_flat.specs.Slots.{page_of, entry_of, slots_memory, AreSlots}
+use Rattle.mte_flat.specs.Inner.Slots.{page_of, entry_of, slots_memory, AreSlots}
 use Rattle.mte_flat.specs.declared.slot.Slot.{Slot}
 use Rattle.mte_tags.proofs.Pages.{tied_same, tied_other, same_memory, rest_of, page_at-with_page_same, page_at-with_page_other, rest-with_page, page_at-without_page_same, page_at-without_page_other, rest-without_page}
 

@@ -1,3 +1,1 @@
-pub mod Slots
-pub mod Places
-pub mod FlatMemory
+pub mod Inner

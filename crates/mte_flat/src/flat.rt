@@ -16,7 +16,7 @@ pub struct Flat {
 
 impl Model for Flat {
     ghost use Rattle.mte_tags.specs.Memory.{Memory, coded_memory};
-    ghost use Rattle.mte_flat.specs.FlatMemory.{flat_memory};
+    ghost use Rattle.mte_flat.specs.Inner.FlatMemory.{flat_memory};
 
     ghost Value = { Memory };
 

@@ -4,7 +4,7 @@ ghost use Rattle.std.specs.Prelude.{◌≡◌, ◌<◌, ◌≤◌, ◌+◌, ◌^
 ghost use Rattle.std.specs.Prelude.{length, slice_index_or, vec_len, vec_capacity};
 ghost use Rattle.mte_tags.specs.Memory.{Memory, page_at, no_pages};
 ghost use Rattle.mte_tags.specs.Memory.{with_new_pages, without_pages, IsFree, ArePages};
-ghost use Rattle.mte_flat.specs.Slots.{slots_memory, AreSlots};
+ghost use Rattle.mte_flat.specs.Inner.Slots.{slots_memory, AreSlots};
 
 use crate::finder::Finder;
 use crate::slot::{Slot, find, holds, new_slot};
@@ -25,7 +25,7 @@ pub(crate) struct Pages {
 }
 
 impl Pages {
-    ghost use Rattle.mte_flat.specs.Places.{memory_of};
+    ghost use Rattle.mte_flat.specs.Inner.Places.{memory_of};
 
     /// No pages, with memory for `limit`.
     pub(crate) fn new(alloc: Global, limit: usize, mode: TagMode) -> Result<Pages, AllocError>
@@ -48,7 +48,7 @@ impl Pages {
 
 impl PageStore for Pages {
     ghost use Rattle.std.specs.Prelude.{⊤};
-    ghost use Rattle.mte_flat.specs.Places.{memory_of, IsPlace, number_in, page_in};
+    ghost use Rattle.mte_flat.specs.Inner.Places.{memory_of, IsPlace, number_in, page_in};
 
     ghost memory = { memory_of };
 

@@ -5,7 +5,7 @@ ghost use Rattle.std.specs.Prelude.{Some, None, IfSome, IsNone, IsSome, IsTrue};
 ghost use Rattle.std.specs.Prelude.{length, slice_index_or};
 ghost use Rattle.std.specs.List.{All};
 ghost use Rattle.mte_tags.specs.Memory.{Memory, page_at, new_page};
-ghost use Rattle.mte_flat.specs.Slots.{page_of, slots_memory};
+ghost use Rattle.mte_flat.specs.Inner.Slots.{page_of, slots_memory};
 ghost use Rattle.mte_tags.specs.Runs.{with_bytes_run, with_granule_tags};
 
 use crate::finder::Finder;

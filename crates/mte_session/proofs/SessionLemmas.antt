@@ -1,6 +1,6 @@
 -- Calls one after another.
-use Rattle.std.proofs.Common.{◌≡◌, ◌⊎◌, ℕ, ◌+◌, ◌<◌, ◌≤◌, List, [], ◌∷◌, ◌++◌, length, map, drop, get_or}
-use Rattle.std.proofs.Common.{Option, Some, None, refl, ap, sym, ◌∙◌, arith, inl, inr, length-drop}
+use Rattle.std.proofs.Common.{◌≡◌, ℕ, ◌+◌, ◌<◌, ◌≤◌, List, [], ◌∷◌, ◌++◌, length, map, drop, get_or}
+use Rattle.std.proofs.Common.{Option, Some, None, refl, ap, sym, ◌∙◌, arith, length-drop}
 use Rattle.std.proofs.Common.{append_assoc}
 use Rattle.std.proofs.lemmas.List.{drop_more, nil_from_length, append-nil}
 use Rattle.mte_script.specs.declared.event.Event.{Event}
@@ -55,10 +55,6 @@ run_end files p all events i n over h =
     let none : drop i events ≡ [] = nil_from_length (drop i events) (simp length-drop (omega arith)) in
     rw none at h
 
-pub not_first : {A B : Type 0} → A ⊎ B → (A → ⊥) → B
-not_first (inl a) f = absurd (f a)
-not_first (inr b) f = b
-
 -- ---- what the calls leave, by the definitions of a session
 
 abbrev pub Ends : LedgerFollows → Content → List Refused → List Call → ℕ → Type 0
@@ -67,7 +63,7 @@ Ends law c done calls n =
 
 kept_frames : (c : Content) (e : Call) → (after_call c e).frames ≡ c.frames
 unfolding after_call after_admit after_slice_of after_stop_of
-kept_frames c (Admit id terms) = refl
+kept_frames c (Admit id start) = refl
 kept_frames c (Slice id n) = refl
 kept_frames c (Stop id) = refl
 

@@ -3,15 +3,16 @@ use Rattle.std.specs.Prelude.{◌≡◌, ℕ, List, length, Ok, Err}
 use Rattle.mte_streams.specs.Writing.{WriteLog, WroteAll, WrotePart}
 use Rattle.mte_script.specs.declared.event.Event.{Event}
 use Rattle.mte_script.specs.declared.error.ScriptError.{ScriptError}
-use Rattle.mte_script.specs.declared.error.ScriptError.TheVariants as script
+use Rattle.obstacle.specs.declared.Obstacle.{Obstacle}
+use Rattle.obstacle.specs.declared.Obstacle.TheVariants as obstacle
 use Rattle.mte_script.specs.Scripts.{script_events}
 use Rattle.mte_session.specs.declared.session.SessionError.{SessionError}
 use Rattle.mte_session.specs.declared.session.SessionError.TheVariants.{Script, OutOfMemory, Write}
 use Rattle.mte_session.specs.Sessions.{session_of, session_text}
 
-abbrev pub session_error : ScriptError → SessionError
-session_error (script.Script line fault) = Script line fault
-session_error script.OutOfMemory = OutOfMemory
+abbrev pub session_error : Obstacle ScriptError → SessionError
+session_error obstacle.OutOfMemory = OutOfMemory
+session_error (obstacle.Refused e) = Script e.line e.fault
 
 -- What a session is run on.
 pub record Input : Type 0 where

@@ -6,12 +6,13 @@ use Rattle.std.specs.Int.{to_be_bytes, w32, w64}
 use Rattle.hex.specs.Hex.{encode_lower}
 use Rattle.mte_tags.specs.FaultNames.{kind_name}
 use Rattle.scudo_heap.specs.AbortNames.{abort_name}
+use Rattle.scudo_heap.specs.Calls.{call_name, arguments_of}
 use Rattle.mte_svc.specs.declared.record.Status.{Status}
 use Rattle.mte_svc.specs.declared.record.Status.TheVariants.{Running, Exited, Faulted, Illegal}
 use Rattle.mte_svc.specs.declared.record.Status.TheVariants.{Breakpoint, AsyncTag, Aborted, Stopped}
 use Rattle.mte_svc.specs.declared.record.Record.{Record}
-use Rattle.mte_svc.specs.declared.calls.HeapCall.{HeapCall}
-use Rattle.mte_svc.specs.Calls.{Calls, service_name}
+use Rattle.mte_svc.specs.declared.calls.AnsweredCall.{AnsweredCall}
+use Rattle.mte_svc.specs.Calls.{Calls}
 
 -- Parts in a row, and the end of the line.
 abbrev pub line : List (List ℕ) → List ℕ
@@ -68,12 +69,12 @@ long_output_line bytes =
     concat (codes "output " ∷ decimal (length bytes) ∷ codes " " ∷ [])
     ++ encode_lower bytes ++ concat (codes "\n" ∷ [])
 
--- A heap call: its service, its two arguments, its result.
-unfoldable pub call_line : HeapCall → List ℕ
+-- A heap call: its name, its two arguments, its result.
+unfoldable pub call_line : AnsweredCall → List ℕ
 call_line c =
-    line (codes "call " ∷ service_name c.service
-    ∷ codes " 0x" ∷ sixteen_digits c.first
-    ∷ codes " 0x" ∷ sixteen_digits c.second
+    line (codes "call " ∷ call_name c.call
+    ∷ codes " 0x" ∷ sixteen_digits (arguments_of c.call).0
+    ∷ codes " 0x" ∷ sixteen_digits (arguments_of c.call).1
     ∷ codes " = 0x" ∷ sixteen_digits c.answer ∷ [])
 
 -- How many calls there were, and those that are kept.

@@ -10,6 +10,8 @@ use Rattle.mte_tenant.specs.declared.refusal.Refusal.TheVariants as refusal
 use Rattle.mte_tenant.specs.declared.refusal.Refused.{Refused}
 use Rattle.mte_tenant.specs.Names.{refusal_name}
 use Rattle.mte_tenant.specs.Ledger.{Call, Admit, Slice, Stop}
+use Rattle.mte_tenant.specs.Machines.{Start}
+use Rattle.tenant_terms.specs.declared.Terms.{Terms}
 use Rattle.mte_sched.specs.Lives.{Session, Life, lives, refusals}
 use Rattle.mte_sched.specs.Contents.{Tenant, record_of, tenant_of}
 use Rattle.mte_session.specs.Report.{line, record_text}
@@ -20,16 +22,14 @@ use Rattle.mte_session.specs.Report.{line, record_text}
 abbrev pub file_at : List (List ℕ) → ℕ → List ℕ
 file_at files n = if n == 0 then [] else unwrap_or (slice_get files (n - 1)) []
 
+-- What a tenant starts with, by the numbers of its files.
+abbrev pub start_at : List (List ℕ) → ℕ → ℕ → Terms → Start
+start_at files image input terms =
+    record { image = file_at files image; input = file_at files input; terms = terms }
+
 -- What an event requests of a host.
 abbrev pub call_of : List (List ℕ) → Event → Call
-call_of files (event.Admit id image input seed pages room mode) = Admit id (record {
-  image = file_at files image;
-  input = file_at files input;
-  seed = seed;
-  pages = pages;
-  room = room;
-  mode = mode;
-})
+call_of files (event.Admit id image input terms) = Admit id (start_at files image input terms)
 call_of files (event.Slice id steps) = Slice id steps
 call_of files (event.Stop id) = Stop id
 

@@ -8,7 +8,7 @@ ghost use Rattle.mte_session.specs.Report.{calls_text, call_line};
 use crate::report::write_number_line;
 use crate::text::{sixteen_hex, write_parts};
 use mte_streams::{Sink, WriteFault};
-use mte_svc::{HeapCall, HeapCalls};
+use mte_svc::{AnsweredCall, HeapCalls};
 
 /// Writes how many heap calls there were, and those that are kept.
 pub fn write_calls<W: Sink>(out: &mut W, calls: &HeapCalls) -> Result<(), WriteFault>
@@ -36,18 +36,19 @@ fn write_kept_calls<W: Sink>(out: &mut W, calls: &HeapCalls) -> Result<(), Write
 
 /// Writes a heap call.
 #[tactic(auto, unfolding(crate::specs::Report::call_line))]
-fn write_call<W: Sink>(out: &mut W, call: &HeapCall) -> Result<(), WriteFault>
+fn write_call<W: Sink>(out: &mut W, call: &AnsweredCall) -> Result<(), WriteFault>
     ensures { Writes (W.log out.old) (W.log out.new) result (call_line call.now) }
 {
+    let (first, second) = call.call.arguments();
     write_parts(
         out,
         &[
             b"call ",
-            call.service.name().as_bytes(),
+            call.call.name().as_bytes(),
             b" 0x",
-            &sixteen_hex(call.first),
+            &sixteen_hex(first),
             b" 0x",
-            &sixteen_hex(call.second),
+            &sixteen_hex(second),
             b" = 0x",
             &sixteen_hex(call.answer),
             b"\n",

@@ -3,6 +3,7 @@
 
 mod calls;
 mod ending;
+mod files;
 mod headline;
 mod refusals;
 mod report;
@@ -11,6 +12,7 @@ mod status;
 mod text;
 
 pub use ending::{Ending, finish};
+pub use files::{admission_of, file_of};
 pub use headline::{Session, run_both};
 pub use mte_script::{Event, ScriptError, ScriptFault, parse_script};
 pub use mte_streams::{ReadFault, Sink, Source, StreamError, WriteFault, read_whole, write_all};

@@ -1,24 +1,25 @@
 //! A session: a script in, its report out.
 
-ghost use Rattle.std.specs.Prelude.{◌≡◌, ◌⊎◌, [], ◌≤◌, map, OnOk, OnErr, IfOk, IfErr, Err, Some};
-ghost use Rattle.std.specs.Prelude.{None, IsTrue, ◌↔◌};
+ghost use Rattle.std.specs.Prelude.{◌≡◌, [], ◌≤◌, map, OnOk, OnErr, IfOk, IfErr, Err, Some};
+ghost use Rattle.std.specs.Prelude.{None};
+ghost use Rattle.obstacle.specs.Obstacles.{IfRefused};
 ghost use Rattle.mte_streams.specs.Writing.{Writes};
 ghost use Rattle.mte_sched.specs.Contents.{after_call};
 ghost use Rattle.mte_sched.specs.Hosts.{content_of};
 ghost use Rattle.mte_session.specs.declared.session.SessionError.TheVariants.{OutOfMemory};
 ghost use Rattle.mte_session.specs.Files.{contents};
-ghost use Rattle.mte_session.specs.Sessions.{file_at, call_of, calls_of, refused_texts};
+ghost use Rattle.mte_session.specs.Sessions.{call_of, calls_of, refused_texts};
 ghost use Rattle.mte_session.specs.Progress.{record_texts};
 ghost use Rattle.mte_session.specs.Progress.{progress_text, refusal_in, run_all};
 ghost use Rattle.mte_session.specs.Outcomes.{session_error, Reported, Failed};
 
+use crate::files::admission_of;
 use crate::refusals::write_refusal;
 use crate::report::write_report;
-use mte_sched::{
-    Admission, AdmitError, Host, Refusal, Refused, Tenant, ledger_follows, tenants_are_alone,
-};
+use mte_sched::{Host, Refusal, Refused, Tenant, ledger_follows, tenants_are_alone};
 use mte_script::{Event, ScriptError, ScriptFault, parse_script};
 use mte_streams::{Sink, WriteFault};
+use obstacle::Obstacle;
 use std::alloc::{AllocError, Global};
 use thiserror::Error;
 
@@ -120,10 +121,8 @@ fn run_events(
     for (before, event) in events.iter().enumerate() {
         match play(alloc, host, event, files) {
             Ok(()) => {}
-            Err(refusal) => {
-                if is_out_of_memory(&refusal) {
-                    return Err(SessionError::OutOfMemory);
-                }
+            Err(Obstacle::OutOfMemory) => return Err(SessionError::OutOfMemory),
+            Err(Obstacle::Refused(refusal)) => {
                 let event = before as u64 + 1;
                 refused.push_reserved(Refused { event, refusal });
             }
@@ -132,30 +131,24 @@ fn run_events(
     Ok(refused)
 }
 
-/// Whether an event failed because an allocation failed.
-fn is_out_of_memory(refusal: &Refusal) -> bool
-    ensures { IsTrue result ↔ (refusal.now ≡ Refusal.Admit AdmitError.OutOfMemory) }
-{
-    match refusal {
-        Refusal::Admit(AdmitError::OutOfMemory) => true,
-        _ => false,
-    }
-}
-
-/// Executes one event. Only an admission's `OutOfMemory`, where an allocation failed, can come in
-/// place of its refusal or success.
+/// Executes one event. `OutOfMemory` comes of an admission alone.
 #[rattlefmt::skip]
 #[tactic(
     auto,
     unfolding(mte_tenant::specs::Ledger::call_refusal, mte_sched::specs::Contents::after_call)
 )]
-fn play(alloc: Global, host: &mut Host, event: &Event, files: &[Vec<u8>]) -> Result<(), Refusal>
+fn play(
+    alloc: Global,
+    host: &mut Host,
+    event: &Event,
+    files: &[Vec<u8>],
+) -> Result<(), Obstacle<Refusal>>
     ensures accepted { OnOk result
         (refusal_in (content_of host.old) (call_of (contents files.now) event.now) ≡ None) }
     ensures ok { OnOk result (content_of host.new
         ≡ after_call (content_of host.old) (call_of (contents files.now) event.now)) }
-    ensures refused { IfErr result (λ r. (r ≡ Refusal.Admit AdmitError.OutOfMemory)
-        ⊎ (refusal_in (content_of host.old) (call_of (contents files.now) event.now) ≡ Some r)) }
+    ensures refused { IfErr result (λ o. IfRefused o (λ r.
+        refusal_in (content_of host.old) (call_of (contents files.now) event.now) ≡ Some r)) }
     ensures err { OnErr result (content_of host.new ≡ content_of host.old) }
 {
     match *event {
@@ -163,53 +156,33 @@ fn play(alloc: Global, host: &mut Host, event: &Event, files: &[Vec<u8>]) -> Res
             id,
             image,
             input,
-            seed,
-            pages,
-            room,
-            mode,
+            terms,
         } => {
-            let admission = Admission {
-                id,
-                image: file_of(files, image),
-                input: file_of(files, input),
-                seed,
-                pages,
-                room,
-                mode,
-            };
+            let admission = admission_of(files, id, image, input, terms);
             match host.admit(alloc, &admission) {
                 Ok(()) => Ok(()),
-                Err(error) => Err(Refusal::Admit(error)),
+                Err(Obstacle::OutOfMemory) => Err(Obstacle::OutOfMemory),
+                Err(Obstacle::Refused(error)) => Err(Obstacle::Refused(Refusal::Admit(error))),
             }
         }
         Event::Slice { id, steps } => match host.slice(id, steps) {
             Ok(()) => Ok(()),
-            Err(_) => Err(Refusal::NotLive),
+            Err(_) => Err(Obstacle::Refused(Refusal::NotLive)),
         },
         Event::Stop { id } => match host.stop(id) {
             Ok(()) => Ok(()),
-            Err(_) => Err(Refusal::NotLive),
+            Err(_) => Err(Obstacle::Refused(Refusal::NotLive)),
         },
     }
 }
 
-/// The bytes of a file by its number from 1; none for 0.
-fn file_of(files: &[Vec<u8>], number: u32) -> &[u8]
-    ensures { result.now ≡ file_at (contents files.now) number }
-{
-    if number == 0 || number as usize > files.len() {
-        return &[];
-    }
-    files[number as usize - 1].as_slice()
-}
+impl From<Obstacle<ScriptError>> for SessionError {
+    ghost from_gives = { λ o r. r ≡ session_error o };
 
-impl From<ScriptError> for SessionError {
-    ghost from_gives = { λ e r. r ≡ session_error e };
-
-    fn from(error: ScriptError) -> SessionError {
-        match error {
-            ScriptError::Script(line, fault) => SessionError::Script(line, fault),
-            ScriptError::OutOfMemory => SessionError::OutOfMemory,
+    fn from(obstacle: Obstacle<ScriptError>) -> SessionError {
+        match obstacle {
+            Obstacle::OutOfMemory => SessionError::OutOfMemory,
+            Obstacle::Refused(error) => SessionError::Script(error.line, error.fault),
         }
     }
 }

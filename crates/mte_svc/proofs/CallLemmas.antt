@@ -1,76 +1,55 @@
 -- A heap call that was answered, and one that aborted.
-use Rattle.std.proofs.Common.{◌≡◌, ℕ, ◌==◌, ◌∙◌, Bool, true, false, Ok, Err, refl, ap}
-use Rattle.std.proofs.Common.{if◌then◌else◌}
-use Rattle.a64_bits.specs.Addresses.{plain}
+use Rattle.std.proofs.Common.{◌≡◌, ℕ, ◌∙◌, Ok, Err, refl, sym, ap}
 use Rattle.mte_tags.specs.Memory.{Memory}
 use Rattle.mte_tags.specs.declared.generator.Rgsr.{Rgsr}
 use Rattle.scudo_heap.specs.Heaps.{HeapState}
 use Rattle.scudo_heap.specs.declared.abort.HeapAbort.{HeapAbort}
+use Rattle.scudo_heap.specs.declared.call.HeapCall.{HeapCall}
 use Rattle.scudo_heap.specs.Placing.{World, world_of}
-use Rattle.scudo_heap.specs.Allocation.{AllocationResult, answer_of, after_malloc}
-use Rattle.scudo_heap.specs.Freeing as freeing
-use Rattle.scudo_heap.specs.Freeing.{free_of, Freed}
-use Rattle.scudo_heap.specs.Checks.{check_pointer}
-use Rattle.scudo_heap.specs.Realloc as realloc
-use Rattle.scudo_heap.specs.Realloc.{reallocation_of, checked_realloc_cases, after_realloc}
-use Rattle.mte_svc.specs.declared.calls.HeapCall.{HeapCall}
-use Rattle.mte_svc.specs.declared.calls.HeapService.{HeapService}
+use Rattle.scudo_heap.specs.Calls.{after_call}
+use Rattle.scudo_heap.proofs.CallLemmas.{call_stays}
 use Rattle.mte_svc.specs.declared.parts.TenantParts.{TenantParts}
 use Rattle.mte_svc.specs.declared.services.SvcEnd.{SvcEnd}
-use Rattle.mte_svc.specs.declared.services.SvcEnd.TheVariants.{Resume}
+use Rattle.mte_svc.specs.declared.services.SvcEnd.TheVariants.{Resume, Abort}
 use Rattle.mte_svc.specs.Results.{Served, x_of, with_answer, with_logged_call, ends}
-use Rattle.mte_svc.specs.HeapServices.{world_in, finish_call, answer_allocation}
+use Rattle.mte_svc.specs.HeapServices.{world_in, heap_service_cases, after_heap_service}
 
 -- a tenant's parts with a heap and a generator
 abbrev pub with_both : TenantParts → HeapState → Rgsr → TenantParts
 with_both p h r = record p { heap = h; regs = record p.regs { rgsr = r } }
 
-abbrev pub call_by : TenantParts → HeapService → ℕ → ℕ → HeapCall
-call_by p s second answer = record { service = s; first = x_of p 0; second = second; answer = answer }
+-- the parts and the memory that a service leaves, and how it ends
+abbrev served_of : TenantParts → Memory → SvcEnd → Served
+served_of p m end = record { parts = p; memory = m; end = end }
 
-pub called_from : (p p' : TenantParts) (s : HeapService) (second answer : ℕ) (w : World) (m' : Memory) (h' : HeapState) (r' : Rgsr)
-    → world_of m' h' r' ≡ w → p' ≡ with_answer (with_logged_call (with_both p h' r') (call_by p s second answer)) answer
-    → (let t : Served = record { parts = p'; memory = m'; end = Resume } in t) ≡ finish_call p s second w answer
-called_from p p' s second answer w m' h' r' world parts = rw (parts, ← world) refl
+-- what the call of the heap leaves, and its answer
+abbrev IsCallOf : TenantParts → Memory → HeapCall → Memory → HeapState → Rgsr → Type 0
+IsCallOf p m call m' h' r' = world_of m' h' r' ≡ (after_call (world_in p m) call).world
 
-pub made_from : (p p' : TenantParts) (s : HeapService) (second answer : ℕ) (made : AllocationResult) (m' : Memory) (h' : HeapState) (r' : Rgsr)
-    → answer ≡ answer_of made.chunk → world_of m' h' r' ≡ made.world → p' ≡ with_answer (with_logged_call (with_both p h' r') (call_by p s second answer)) answer
-    → (let t : Served = record { parts = p'; memory = m'; end = Resume } in t) ≡ answer_allocation p s second made
-made_from p p' s second answer made m' h' r' same world parts =
-    called_from p p' s second answer made.world m' h' r' world parts ∙ ap (λ n. finish_call p s second made.world n) same
+answered_cases : (p p' : TenantParts) (m : Memory) (call : HeapCall) (answer : ℕ) (w : World) (m' : Memory) (h' : HeapState) (r' : Rgsr)
+    → world_of m' h' r' ≡ w → p' ≡ with_answer (with_logged_call (with_both p h' r') (record { call = call; answer = answer })) answer
+    → served_of p' m' Resume ≡ heap_service_cases p m call w (Ok answer)
+answered_cases p p' m call answer w m' h' r' world parts = rw (parts, ← world) refl
 
--- ---- calls that check a pointer
-
-freed_stays : (w : World) (f : _) (e : HeapAbort) → (freeing.free_cases w f).result ≡ Err e → (freeing.free_cases w f).world ≡ w
-freed_stays w (Err d) e h = refl
-freed_stays w (Ok f) e h = cc
-
-free_if : (b : Bool) (w : World) (f : _) (e : HeapAbort)
-    → (if b then (let t : Freed = record { world = w; result = Ok tt } in t) else freeing.free_cases w f).result ≡ Err e
-    → (if b then (let t : Freed = record { world = w; result = Ok tt } in t) else freeing.free_cases w f).world ≡ w
-free_if true w f e h = cc
-free_if false w f e h = freed_stays w f e h
-
-pub free_stays : (w : World) (pointer : ℕ) (e : HeapAbort) → (free_of w pointer).result ≡ Err e → (free_of w pointer).world ≡ w
-unfolding free_of
-free_stays w pointer e h = free_if (pointer == 0) w (check_pointer w.memory w.heap (plain pointer)) e h
-
-reallocated_stays : (w : World) (n : ℕ) (r : _) (e : HeapAbort) → realloc.realloc_answer (checked_realloc_cases w n r).result ≡ Err e → (checked_realloc_cases w n r).world ≡ w
-reallocated_stays w n (Err d) e h = refl
-reallocated_stays w n (Ok f) e h = cc
-
-realloc_if : (b : Bool) (w : World) (n : ℕ) (r : _) (e : HeapAbort)
-    → realloc.realloc_answer (if b then reallocation_of (after_malloc w n) else checked_realloc_cases w n r).result ≡ Err e
-    → (if b then reallocation_of (after_malloc w n) else checked_realloc_cases w n r).world ≡ w
-realloc_if true w n r e h = cc
-realloc_if false w n r e h = reallocated_stays w n r e h
-
-pub realloc_stays : (w : World) (pointer n : ℕ) (e : HeapAbort) → realloc.realloc_answer (after_realloc w pointer n).result ≡ Err e → (after_realloc w pointer n).world ≡ w
-unfolding after_realloc
-realloc_stays w pointer n e h = realloc_if (pointer == 0) w n (check_pointer w.memory w.heap (plain pointer)) e h
+pub answered_from : (p p' : TenantParts) (m : Memory) (call : HeapCall) (answer : ℕ) (m' : Memory) (h' : HeapState) (r' : Rgsr)
+    → IsCallOf p m call m' h' r' → Ok answer ≡ (after_call (world_in p m) call).answer
+    → p' ≡ with_answer (with_logged_call (with_both p h' r') (record { call = call; answer = answer })) answer
+    → served_of p' m' Resume ≡ after_heap_service p m call
+unfolding after_heap_service
+answered_from p p' m call answer m' h' r' world is parts =
+    let w = (after_call (world_in p m) call).world in
+    answered_cases p p' m call answer w m' h' r' world parts ∙ ap (heap_service_cases p m call w) is
 
 -- the same tenant and memory
-pub aborted_from : (p : TenantParts) (m m' : Memory) (h' : HeapState) (r' : Rgsr) (end : SvcEnd)
-    → world_of m' h' r' ≡ world_in p m
-    → (let t : Served = record { parts = with_both p h' r'; memory = m'; end = end } in t) ≡ ends p m end
-aborted_from p m m' h' r' end world = ap (λ (w : World). let t : Served = record { parts = with_both p w.heap w.rgsr; memory = w.memory; end = end } in t) world
+aborted_cases : (p : TenantParts) (m m' : Memory) (h' : HeapState) (r' : Rgsr) (end : SvcEnd)
+    → world_of m' h' r' ≡ world_in p m → served_of (with_both p h' r') m' end ≡ ends p m end
+aborted_cases p m m' h' r' end world = ap (λ (w : World). served_of (with_both p w.heap w.rgsr) w.memory end) world
+
+pub aborted_from : (p : TenantParts) (m : Memory) (call : HeapCall) (abort : HeapAbort) (m' : Memory) (h' : HeapState) (r' : Rgsr)
+    → IsCallOf p m call m' h' r' → Err abort ≡ (after_call (world_in p m) call).answer
+    → served_of (with_both p h' r') m' (Abort abort (x_of p 0)) ≡ after_heap_service p m call
+unfolding after_heap_service
+aborted_from p m call abort m' h' r' world is =
+    let w = world_in p m in
+    aborted_cases p m m' h' r' (Abort abort (x_of p 0)) (world ∙ call_stays w call abort (sym is))
+    ∙ ap (heap_service_cases p m call (after_call w call).world) is

@@ -9,18 +9,18 @@ use Rattle.a64_step.proofs.FixedPages.{fixed_same, fixed-after_read, fixed-after
 use Rattle.scudo_heap.specs.declared.abort.HeapAbort.{HeapAbort}
 use Rattle.scudo_heap.specs.Heaps.{HeapState}
 use Rattle.scudo_heap.specs.Placing.{World}
-use Rattle.scudo_heap.specs.Freeing.{free_of, usable_size_of}
-use Rattle.scudo_heap.specs.Realloc.{after_realloc, realloc_answer}
+use Rattle.scudo_heap.specs.declared.call.HeapCall.{HeapCall}
+use Rattle.scudo_heap.specs.Calls.{after_call}
 use Rattle.scudo_heap.specs.Served.{HeapOwnsItsPages}
 use Rattle.scudo_heap.specs.Others.{KeepsOthers}
 use Rattle.scudo_heap.specs.Sound.{IsSound}
-use Rattle.scudo_heap.proofs.OtherPages.{range_pages, malloc_others, calloc_others, memalign_others, free_others, realloc_others}
-use Rattle.mte_svc.specs.declared.calls.HeapService.{HeapService}
+use Rattle.scudo_heap.proofs.OtherPages.{range_pages}
+use Rattle.scudo_heap.proofs.CallLemmas.{call_others}
 use Rattle.mte_svc.specs.declared.parts.TenantParts.{TenantParts}
-use Rattle.mte_svc.specs.declared.services.TheConstants.{EXIT, WRITE, READ, MALLOC, FREE, CALLOC, REALLOC, MEMALIGN, USABLE_SIZE, YIELD, STEPS_LEFT, PAGES_LEFT}
+use Rattle.mte_svc.specs.declared.services.TheConstants.{EXIT, WRITE, READ, YIELD, STEPS_LEFT, PAGES_LEFT}
 use Rattle.mte_svc.specs.Results.{Served, x_of}
-use Rattle.mte_svc.specs.HeapServices.{world_in, free_answer_cases, answer_cases, malloc_service, calloc_service, memalign_service, free_service, realloc_service, usable_size_service}
-use Rattle.mte_svc.specs.Services.{write_cases, write_count, after_write_service, read_cases, read_count, after_read_service, by_number, after_svc}
+use Rattle.mte_svc.specs.HeapServices.{heap_call_in, world_in, heap_service_cases, after_heap_service}
+use Rattle.mte_svc.specs.Services.{write_cases, write_count, after_write_service, read_cases, read_count, after_read_service, by_number, after_other_service, service_cases, after_svc}
 
 -- a page of the heap's ranges has WRITE, if it is mapped
 has-write : (o : Option ℕ) → (o ≡ None) ⊎ (o ≡ Some 11) → lacks_write o ≡ true → ⊥
@@ -56,41 +56,15 @@ fixed-read p m = fixed-read-cases (write_fault m (x_of p 0) (read_count p) true)
 
 -- ---- the heap
 
-fixed-freed : (p : TenantParts) (m : Memory) (w : World) (r : Result (Unit {0}) HeapAbort) → KeepsFixed m w.memory → KeepsFixed m (free_answer_cases p m w r).memory
-fixed-freed p m w (Err e) k = fixed_same m
-fixed-freed p m w (Ok u) k = k
+fixed-call-cases : (p : TenantParts) (m : Memory) (call : HeapCall) (w : World) (r : Result ℕ HeapAbort) → KeepsFixed m w.memory → KeepsFixed m (heap_service_cases p m call w r).memory
+fixed-call-cases p m call w (Err e) k = fixed_same m
+fixed-call-cases p m call w (Ok a) k = k
 
-fixed-found : (p : TenantParts) (m : Memory) (s : HeapService) (n : ℕ) (w : World) (r : Result ℕ HeapAbort) → KeepsFixed m w.memory → KeepsFixed m (answer_cases p m s n w r).memory
-fixed-found p m s n w (Err e) k = fixed_same m
-fixed-found p m s n w (Ok a) k = k
-
-fixed-malloc : (p : TenantParts) (m : Memory) → HeapOwnsItsPages m p.heap → IsSound p.heap → KeepsFixed m (malloc_service p m).memory
-unfolding malloc_service
-fixed-malloc p m v s = fixed_others m _ p.heap v (malloc_others (world_in p m) (x_of p 0) v s)
-
-fixed-calloc : (p : TenantParts) (m : Memory) → HeapOwnsItsPages m p.heap → IsSound p.heap → KeepsFixed m (calloc_service p m).memory
-unfolding calloc_service
-fixed-calloc p m v s = fixed_others m _ p.heap v (calloc_others (world_in p m) (x_of p 0) (x_of p 1) v s)
-
-fixed-memalign : (p : TenantParts) (m : Memory) → HeapOwnsItsPages m p.heap → IsSound p.heap → KeepsFixed m (memalign_service p m).memory
-unfolding memalign_service
-fixed-memalign p m v s = fixed_others m _ p.heap v (memalign_others (world_in p m) (x_of p 0) (x_of p 1) v s)
-
-fixed-free : (p : TenantParts) (m : Memory) → HeapOwnsItsPages m p.heap → IsSound p.heap → KeepsFixed m (free_service p m).memory
-unfolding free_service
-fixed-free p m v k =
-    let f = free_of (world_in p m) (x_of p 0) in
-    fixed-freed p m f.world f.result (fixed_others m _ p.heap v (free_others (world_in p m) (x_of p 0) v k))
-
-fixed-realloc : (p : TenantParts) (m : Memory) → HeapOwnsItsPages m p.heap → IsSound p.heap → KeepsFixed m (realloc_service p m).memory
-unfolding realloc_service
-fixed-realloc p m v s =
-    let r = after_realloc (world_in p m) (x_of p 0) (x_of p 1) in
-    fixed-found p m _ (x_of p 1) r.world (realloc_answer r.result) (fixed_others m _ p.heap v (realloc_others (world_in p m) (x_of p 0) (x_of p 1) v s))
-
-fixed-usable : (p : TenantParts) (m : Memory) → KeepsFixed m (usable_size_service p m).memory
-unfolding usable_size_service
-fixed-usable p m = fixed-found p m _ 0 (world_in p m) (usable_size_of m p.heap (x_of p 0)) (fixed_same m)
+fixed-call : (p : TenantParts) (m : Memory) (call : HeapCall) → HeapOwnsItsPages m p.heap → IsSound p.heap → KeepsFixed m (after_heap_service p m call).memory
+unfolding after_heap_service
+fixed-call p m call v s =
+    let r = after_call (world_in p m) call in
+    fixed-call-cases p m call r.world r.answer (fixed_others m _ p.heap v (call_others (world_in p m) call v s))
 
 -- ---- all services
 
@@ -98,21 +72,20 @@ either : (b : Bool) (m : Memory) (s t : Served) → KeepsFixed m s.memory → Ke
 either true m s t h k = h
 either false m s t h k = k
 
-fixed-by_number : (n : ℕ) (p : TenantParts) (m : Memory) → HeapOwnsItsPages m p.heap → IsSound p.heap → KeepsFixed m (by_number n p m).memory
-fixed-by_number n p m v s =
+fixed-by_number : (n : ℕ) (p : TenantParts) (m : Memory) → KeepsFixed m (by_number n p m).memory
+fixed-by_number n p m =
     either (n == EXIT) m _ _ (fixed_same m)
     (either (n == WRITE) m _ _ (fixed-after-write-service p m)
     (either (n == READ) m _ _ (fixed-read p m)
-    (either (n == MALLOC) m _ _ (fixed-malloc p m v s)
-    (either (n == FREE) m _ _ (fixed-free p m v s)
-    (either (n == CALLOC) m _ _ (fixed-calloc p m v s)
-    (either (n == REALLOC) m _ _ (fixed-realloc p m v s)
-    (either (n == MEMALIGN) m _ _ (fixed-memalign p m v s)
-    (either (n == USABLE_SIZE) m _ _ (fixed-usable p m)
     (either (n == YIELD) m _ _ (fixed_same m)
     (either (n == STEPS_LEFT) m _ _ (fixed_same m)
-    (either (n == PAGES_LEFT) m _ _ (fixed_same m) (fixed_same m))))))))))))
+    (either (n == PAGES_LEFT) m _ _ (fixed_same m) (fixed_same m))))))
+
+fixed-cases : (o : Option HeapCall) (p : TenantParts) (m : Memory) → HeapOwnsItsPages m p.heap → IsSound p.heap → KeepsFixed m (service_cases o p m).memory
+unfolding after_other_service
+fixed-cases (Some call) p m v s = fixed-call p m call v s
+fixed-cases None p m v s = fixed-by_number (x_of p 8) p m
 
 pub services_fixed : (p : TenantParts) (m : Memory) → HeapOwnsItsPages m p.heap → IsSound p.heap → KeepsFixed m (after_svc p m).memory
 unfolding after_svc
-services_fixed p m v s = fixed-by_number (x_of p 8) p m v s
+services_fixed p m v s = fixed-cases (heap_call_in p) p m v s

@@ -1,80 +1,78 @@
--- The heap calls of a tenant: the last of them, the oldest first, and how many there were.
+-- The heap calls of a tenant: which service makes which, the last of them, the oldest first, and how
+-- many there were.
 use Rattle.std.specs.Prelude.{◌≡◌, ℕ, ◌+◌, ◌-◌, ◌==◌, min, List, [], ◌∷◌, ◌++◌, drop, length, refl}
-use Rattle.std.specs.Prelude.{if◌then◌else◌, codes}
+use Rattle.std.specs.Prelude.{Option, Some, None, unwrap_or, if◌then◌else◌}
 use Rattle.std.specs.Coded.{Coded, code_by, coded×, coded_ℕ, coded_list}
 use Rattle.mte_svc.specs.declared.calls.TheConstants.{KEPT_CALLS}
-use Rattle.mte_svc.specs.declared.calls.HeapCall.{HeapCall}
-use Rattle.mte_svc.specs.declared.calls.HeapService.{HeapService}
-use Rattle.mte_svc.specs.declared.calls.HeapService.TheVariants.{Malloc, Free, Calloc, Realloc}
-use Rattle.mte_svc.specs.declared.calls.HeapService.TheVariants.{Memalign, UsableSize}
+use Rattle.scudo_heap.specs.declared.call.HeapCall.{HeapCall}
+use Rattle.scudo_heap.specs.declared.call.HeapCall.TheVariants.{Malloc, Free, Calloc, Realloc}
+use Rattle.scudo_heap.specs.declared.call.HeapCall.TheVariants.{Memalign, UsableSize}
+use Rattle.scudo_heap.specs.Calls.{arguments_of}
+use Rattle.mte_svc.specs.declared.calls.AnsweredCall.{AnsweredCall}
+use Rattle.mte_svc.specs.declared.services.TheConstants.{MALLOC, FREE, CALLOC, REALLOC, MEMALIGN}
+use Rattle.mte_svc.specs.declared.services.TheConstants.{USABLE_SIZE}
 use Rattle.mte_svc.specs.declared.calls.HeapCalls.TheInside.{Inside}
 
+-- ---- by its service
+
+-- The heap call of the service with a number, by its arguments, x0 and x1.
+unfoldable pub heap_call_of : ℕ → ℕ → ℕ → Option HeapCall
+heap_call_of n first second =
+    if n == MALLOC then Some (Malloc first)
+    else (if n == FREE then Some (Free first)
+    else (if n == CALLOC then Some (Calloc first second)
+    else (if n == REALLOC then Some (Realloc first second)
+    else (if n == MEMALIGN then Some (Memalign first second)
+    else (if n == USABLE_SIZE then Some (UsableSize first)
+    else None)))))
+
+-- The number of a heap call's service.
+abbrev pub number_of : HeapCall → ℕ
+number_of (Malloc size) = MALLOC
+number_of (Free pointer) = FREE
+number_of (Calloc count size) = CALLOC
+number_of (Realloc pointer size) = REALLOC
+number_of (Memalign alignment size) = MEMALIGN
+number_of (UsableSize pointer) = USABLE_SIZE
+
+-- ---- those of a tenant
+
 pub record Calls : Type 0 where
-  pub last : List HeapCall
+  pub last : List AnsweredCall
   pub count : ℕ
 
 -- The last 64, and a count that stops at 2^64 - 1.
-unfoldable pub with_call : Calls → HeapCall → Calls
+unfoldable pub with_call : Calls → AnsweredCall → Calls
 with_call c call = record {
   last = drop (length (c.last ++ call ∷ []) - KEPT_CALLS) (c.last ++ call ∷ []);
   count = min (c.count + 1) 18446744073709551615;
 }
 
--- A service's name in a report.
-abbrev pub service_name : HeapService → List ℕ
-service_name Malloc = codes "malloc"
-service_name Free = codes "free"
-service_name Calloc = codes "calloc"
-service_name Realloc = codes "realloc"
-service_name Memalign = codes "memalign"
-service_name UsableSize = codes "usable_size"
+-- ---- as numbers
 
--- A service's number, in x8.
-abbrev pub number_of : HeapService → ℕ
-number_of Malloc = 3
-number_of Free = 4
-number_of Calloc = 5
-number_of Realloc = 6
-number_of Memalign = 7
-number_of UsableSize = 8
+abbrev pub call_of : ℕ → ℕ → ℕ → HeapCall
+call_of n first second = unwrap_or (heap_call_of n first second) (UsableSize first)
 
-abbrev pub service_of : ℕ → HeapService
-service_of n =
-    if n == 3 then Malloc
-    else (if n == 4 then Free
-    else (if n == 5 then Calloc
-    else (if n == 6 then Realloc
-    else (if n == 7 then Memalign
-    else UsableSize))))
+pub call_of-number_of :
+    (c : HeapCall) → call_of (number_of c) (arguments_of c).0 (arguments_of c).1 ≡ c
+unfolding heap_call_of
+call_of-number_of (Malloc size) = refl
+call_of-number_of (Free pointer) = refl
+call_of-number_of (Calloc count size) = refl
+call_of-number_of (Realloc pointer size) = refl
+call_of-number_of (Memalign alignment size) = refl
+call_of-number_of (UsableSize pointer) = refl
 
-pub service_of-number_of : (s : HeapService) → service_of (number_of s) ≡ s
-service_of-number_of Malloc = refl
-service_of-number_of Free = refl
-service_of-number_of Calloc = refl
-service_of-number_of Realloc = refl
-service_of-number_of Memalign = refl
-service_of-number_of UsableSize = refl
-
-abbrev pub coded_call : Coded HeapCall
+abbrev pub coded_call : Coded AnsweredCall
 coded_call =
     code_by (ℕ × (ℕ × (ℕ × ℕ))) (coded× coded_ℕ (coded× coded_ℕ (coded× coded_ℕ coded_ℕ)))
-    (λ c. (number_of c.service, (c.first, (c.second, c.answer))))
-    (λ k. record {
-      service = service_of k.0;
-      first = k.1.0;
-      second = k.1.1.0;
-      answer = k.1.1.1;
-    })
-    (λ c. λ i. record {
-      service = service_of-number_of c.service i;
-      first = c.first;
-      second = c.second;
-      answer = c.answer;
-    })
+    (λ c. (number_of c.call, ((arguments_of c.call).0, ((arguments_of c.call).1, c.answer))))
+    (λ k. record { call = call_of k.0 k.1.0 k.1.1.0; answer = k.1.1.1 })
+    (λ c. λ i. record { call = call_of-number_of c.call i; answer = c.answer })
 
 abbrev pub coded_calls : Coded Calls
 coded_calls =
-    code_by (List HeapCall × ℕ) (coded× (coded_list coded_call) coded_ℕ)
+    code_by (List AnsweredCall × ℕ) (coded× (coded_list coded_call) coded_ℕ)
     (λ c. (c.last, c.count))
     (λ k. record { last = k.0; count = k.1 })
     (λ _. refl)

@@ -1,7 +1,7 @@
 -- What a service leaves, and how it ends. Its arguments are x0 and x1, its result is x0.
 use Rattle.std.specs.Prelude.{ℕ, ◌+◌, ◌%◌, ◌^◌, Bool, true, false, slice_index, slice_set}
 use Rattle.mte_tags.specs.Memory.{Memory}
-use Rattle.mte_svc.specs.declared.calls.HeapCall.{HeapCall}
+use Rattle.mte_svc.specs.declared.calls.AnsweredCall.{AnsweredCall}
 use Rattle.mte_svc.specs.declared.parts.TenantParts.{TenantParts}
 use Rattle.mte_svc.specs.declared.record.Status.{Status}
 use Rattle.mte_svc.specs.declared.record.Status.TheVariants.{Running}
@@ -35,6 +35,6 @@ abbrev pub ends : TenantParts → Memory → SvcEnd → Served
 ends p m end = record { parts = p; memory = m; end = end }
 
 -- A heap call that was answered is entered.
-unfoldable pub with_logged_call : TenantParts → HeapCall → TenantParts
+unfoldable pub with_logged_call : TenantParts → AnsweredCall → TenantParts
 with_logged_call p call =
     record p { log = record p.log { calls = with_call p.log.calls call } }

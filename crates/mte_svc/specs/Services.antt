@@ -4,15 +4,13 @@ use Rattle.std.specs.Prelude.{true, Option, Some, None, if◌then◌else◌}
 use Rattle.mte_tags.specs.declared.fault.MemFault.{MemFault}
 use Rattle.mte_tags.specs.Memory.{Memory, pages_left}
 use Rattle.mte_tags.specs.Accesses.{read_fault, read_bytes, after_read, write_fault, after_write}
+use Rattle.scudo_heap.specs.declared.call.HeapCall.{HeapCall}
 use Rattle.mte_svc.specs.declared.parts.TenantParts.{TenantParts}
 use Rattle.mte_svc.specs.declared.services.SvcEnd.TheVariants.{Yield, Exit, Fault}
-use Rattle.mte_svc.specs.declared.services.TheConstants.{EXIT, WRITE, READ, MALLOC, FREE, CALLOC}
-use Rattle.mte_svc.specs.declared.services.TheConstants.{REALLOC, MEMALIGN, USABLE_SIZE, YIELD}
+use Rattle.mte_svc.specs.declared.services.TheConstants.{EXIT, WRITE, READ, YIELD}
 use Rattle.mte_svc.specs.declared.services.TheConstants.{STEPS_LEFT, PAGES_LEFT}
 use Rattle.mte_svc.specs.Results.{Served, x_of, with_answer, resume_with, ends}
-use Rattle.mte_svc.specs.HeapServices.{malloc_service, free_service, calloc_service}
-use Rattle.mte_svc.specs.HeapServices.{realloc_service, memalign_service}
-use Rattle.mte_svc.specs.HeapServices.{usable_size_service}
+use Rattle.mte_svc.specs.HeapServices.{heap_call_in, after_heap_service}
 
 -- ---- write: the x1 bytes at x0, or as many as there is room for, by one checked read
 
@@ -59,21 +57,23 @@ after_read_service p m =
 abbrev pub no_such_service : ℕ
 no_such_service = 2 ^ 64 - 1
 
+-- A service that is no call of the heap, by its number.
 abbrev pub by_number : ℕ → TenantParts → Memory → Served
 by_number n p m =
     if n == EXIT then ends p m (Exit (x_of p 0 % 256))
     else (if n == WRITE then after_write_service p m
     else (if n == READ then after_read_service p m
-    else (if n == MALLOC then malloc_service p m
-    else (if n == FREE then free_service p m
-    else (if n == CALLOC then calloc_service p m
-    else (if n == REALLOC then realloc_service p m
-    else (if n == MEMALIGN then memalign_service p m
-    else (if n == USABLE_SIZE then usable_size_service p m
     else (if n == YIELD then record { parts = with_answer p 0; memory = m; end = Yield }
     else (if n == STEPS_LEFT then resume_with p m p.left
     else (if n == PAGES_LEFT then resume_with p m (pages_left m)
-    else resume_with p m no_such_service)))))))))))
+    else resume_with p m no_such_service)))))
+
+unfoldable pub after_other_service : TenantParts → Memory → Served
+after_other_service p m = by_number (x_of p 8) p m
+
+abbrev pub service_cases : Option HeapCall → TenantParts → Memory → Served
+service_cases (Some call) p m = after_heap_service p m call
+service_cases None p m = after_other_service p m
 
 unfoldable pub after_svc : TenantParts → Memory → Served
-after_svc p m = by_number (x_of p 8) p m
+after_svc p m = service_cases (heap_call_in p) p m

@@ -2,9 +2,11 @@
 
 ghost use Rattle.std.specs.Prelude.{◌≡◌, ◌+◌, [], ◌∷◌, ◌++◌, ◌≤◌, min, length, slice_get};
 ghost use Rattle.std.specs.Prelude.{IfOk};
-ghost use Rattle.mte_svc.specs.Calls.{with_call, service_name};
+ghost use Rattle.mte_svc.specs.Calls.{heap_call_of, number_of, with_call};
 
+use crate::services::{CALLOC, FREE, MALLOC, MEMALIGN, REALLOC, USABLE_SIZE};
 use circular_buffer::HeapCircularBuffer;
+use scudo_heap::HeapCall;
 use std::alloc::{AllocError, Global};
 use std::marker::Model;
 
@@ -16,57 +18,62 @@ pub fn kept_calls_in_digits()
     ensures { KEPT_CALLS ≡ 64 }
 {}
 
-/// A service of the heap.
-#[derive(Clone, Copy)]
-pub enum HeapService {
-    /// 3: a chunk of x0 bytes.
-    Malloc,
-    /// 4: frees the chunk at x0.
-    Free,
-    /// 5: a chunk of x0 times x1 bytes.
-    Calloc,
-    /// 6: gives the chunk at x0 a size of x1 bytes.
-    Realloc,
-    /// 7: a chunk of x1 bytes at a multiple of x0.
-    Memalign,
-    /// 8: the size of the chunk at x0.
-    UsableSize,
-}
-
-impl HeapService {
-    /// Its name in a report.
-    pub fn name(self) -> &'static str
-        ensures { result.now ≡ service_name self }
-    {
-        match self {
-            HeapService::Malloc => "malloc",
-            HeapService::Free => "free",
-            HeapService::Calloc => "calloc",
-            HeapService::Realloc => "realloc",
-            HeapService::Memalign => "memalign",
-            HeapService::UsableSize => "usable_size",
-        }
+/// The heap call of a service, by its number and its arguments, x0 and x1; none where the service
+/// is no call of the heap.
+#[tactic(auto, unfolding(crate::specs::Calls::heap_call_of))]
+pub fn heap_call(number: u64, first: u64, second: u64) -> Option<HeapCall>
+    ensures { result ≡ heap_call_of number first second }
+{
+    match number {
+        MALLOC => Some(HeapCall::Malloc { size: first }),
+        FREE => Some(HeapCall::Free { pointer: first }),
+        CALLOC => Some(HeapCall::Calloc {
+            count: first,
+            size: second,
+        }),
+        REALLOC => Some(HeapCall::Realloc {
+            pointer: first,
+            size: second,
+        }),
+        MEMALIGN => Some(HeapCall::Memalign {
+            alignment: first,
+            size: second,
+        }),
+        USABLE_SIZE => Some(HeapCall::UsableSize { pointer: first }),
+        _ => None,
     }
 }
 
 /// A heap call that was answered.
 #[derive(Clone, Copy)]
-pub struct HeapCall {
-    /// Which service.
-    pub service: HeapService,
-    /// x0.
-    pub first: u64,
-    /// x1, or 0 where the service has one argument.
-    pub second: u64,
-    /// Its result.
+pub struct AnsweredCall {
+    /// The call.
+    pub call: HeapCall,
+    /// Its answer.
     pub answer: u64,
+}
+
+impl AnsweredCall {
+    /// The number of its service.
+    pub fn number(self) -> u64
+        ensures { result ≡ number_of self.call }
+    {
+        match self.call {
+            HeapCall::Malloc { .. } => MALLOC,
+            HeapCall::Free { .. } => FREE,
+            HeapCall::Calloc { .. } => CALLOC,
+            HeapCall::Realloc { .. } => REALLOC,
+            HeapCall::Memalign { .. } => MEMALIGN,
+            HeapCall::UsableSize { .. } => USABLE_SIZE,
+        }
+    }
 }
 
 /// The last 64 heap calls of a tenant, the oldest first, and how many there were; the count stops
 /// at 2^64 - 1.
 #[derive(Drop)]
 pub struct HeapCalls {
-    last: HeapCircularBuffer<HeapCall>,
+    last: HeapCircularBuffer<AnsweredCall>,
     count: u64,
 }
 
@@ -107,7 +114,7 @@ impl HeapCalls {
     }
 
     /// The call at an index among those that are kept, the oldest first.
-    pub fn get(&self, index: usize) -> Option<HeapCall>
+    pub fn get(&self, index: usize) -> Option<AnsweredCall>
         ensures { result ≡ slice_get self.now.last index }
     {
         self.last.get(index).copied()
@@ -115,7 +122,7 @@ impl HeapCalls {
 
     /// Enters a call.
     #[tactic(auto, unfolding(crate::specs::Calls::with_call))]
-    pub(crate) fn note(&mut self, call: HeapCall)
+    pub(crate) fn note(&mut self, call: AnsweredCall)
         ensures { self.new ≡ with_call self.old call }
     {
         self.last.push_back(call);

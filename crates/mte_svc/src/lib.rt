@@ -10,7 +10,7 @@ mod parts;
 mod record;
 mod services;
 
-pub use calls::{HeapCall, HeapCalls, HeapService, KEPT_CALLS, kept_calls_in_digits};
+pub use calls::{AnsweredCall, HeapCalls, KEPT_CALLS, heap_call, kept_calls_in_digits};
 pub use input::Input;
 pub use laws::services_keep_fixed_pages;
 pub use output::Output;

@@ -3,7 +3,7 @@
 ghost use Rattle.std.specs.Prelude.{◌≡◌};
 ghost use Rattle.mte_svc.specs.Results.{with_answer, with_logged_call, is_running};
 
-use crate::calls::HeapCall;
+use crate::calls::AnsweredCall;
 use crate::input::Input;
 use crate::record::{Record, Status};
 use a64_step::Regs;
@@ -37,7 +37,7 @@ impl TenantParts {
 
     /// Enters a heap call that was answered, and returns its result.
     #[tactic(auto, unfolding(crate::specs::Results::with_logged_call))]
-    pub(crate) fn enter(&mut self, call: HeapCall)
+    pub(crate) fn enter(&mut self, call: AnsweredCall)
         ensures parts { self.new ≡ with_answer (with_logged_call self.old call) call.answer }
         ensures heap { self.new.heap ≡ self.old.heap }
         ensures rgsr { self.new.regs.rgsr ≡ self.old.regs.rgsr }

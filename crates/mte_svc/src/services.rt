@@ -3,9 +3,11 @@
 ghost use Rattle.std.specs.Prelude.{◌≡◌, ◌<◌};
 ghost use Rattle.a64_step.specs.Fixed.{KeepsFixed};
 ghost use Rattle.scudo_heap.specs.Served.{HeapOwnsItsPages};
-ghost use Rattle.mte_svc.specs.Services.{after_svc, after_write_service, after_read_service};
+ghost use Rattle.mte_svc.specs.Services.{after_svc, after_other_service, after_write_service};
+ghost use Rattle.mte_svc.specs.Services.{after_read_service};
 
-use crate::heap_services::{calloc, free, malloc, memalign, realloc, usable_size};
+use crate::calls::heap_call;
+use crate::heap_services::call_heap;
 use crate::laws::services_keep_fixed_pages;
 use crate::parts::TenantParts;
 use mte_tags::{MemFault, Paged, Tagged};
@@ -93,12 +95,12 @@ pub fn svc<M: Paged>(parts: &mut TenantParts, memory: &mut M) -> SvcEnd
 {
     services_keep_fixed_pages();
     parts.heap.is_sound();
-    by_number(parts, memory)
+    serve(parts, memory)
 }
 
 /// The service with the number in x8.
 #[tactic(auto, unfolding(crate::specs::Services::after_svc))]
-fn by_number<M: Paged>(parts: &mut TenantParts, memory: &mut M) -> SvcEnd
+fn serve<M: Paged>(parts: &mut TenantParts, memory: &mut M) -> SvcEnd
     requires heap { HeapOwnsItsPages (M.Tagged.memory memory.old) parts.old.heap }
     requires tag { parts.old.regs.rgsr.tag < 16 }
     ensures served { record { parts = parts.new; memory = M.Tagged.memory memory.new; end = result }
@@ -107,16 +109,28 @@ fn by_number<M: Paged>(parts: &mut TenantParts, memory: &mut M) -> SvcEnd
     ensures tag { parts.new.regs.rgsr.tag < 16 }
     ensures kept { M.Tagged.kept memory.old memory.new }
 {
+    let (number, first, second) = (parts.regs.x[8], parts.regs.x[0], parts.regs.x[1]);
+    match heap_call(number, first, second) {
+        Some(call) => call_heap(parts, memory, call),
+        None => serve_other(parts, memory),
+    }
+}
+
+/// The service with the number in x8, which is no call of the heap.
+#[tactic(auto, unfolding(crate::specs::Services::after_other_service))]
+fn serve_other<M: Paged>(parts: &mut TenantParts, memory: &mut M) -> SvcEnd
+    requires heap { HeapOwnsItsPages (M.Tagged.memory memory.old) parts.old.heap }
+    requires tag { parts.old.regs.rgsr.tag < 16 }
+    ensures served { record { parts = parts.new; memory = M.Tagged.memory memory.new; end = result }
+        ≡ after_other_service parts.old (M.Tagged.memory memory.old) }
+    ensures heap { HeapOwnsItsPages (M.Tagged.memory memory.new) parts.new.heap }
+    ensures tag { parts.new.regs.rgsr.tag < 16 }
+    ensures kept { M.Tagged.kept memory.old memory.new }
+{
     match parts.regs.x[8] {
         EXIT => SvcEnd::Exit((parts.regs.x[0] % 256) as u8),
         WRITE => write(parts, memory),
         READ => read(parts, memory),
-        MALLOC => malloc(parts, memory),
-        FREE => free(parts, memory),
-        CALLOC => calloc(parts, memory),
-        REALLOC => realloc(parts, memory),
-        MEMALIGN => memalign(parts, memory),
-        USABLE_SIZE => usable_size(parts, memory),
         YIELD => {
             parts.answer(0);
             SvcEnd::Yield

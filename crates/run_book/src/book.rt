@@ -6,9 +6,10 @@ use a64_bits::plain;
 use circular_buffer::HeapCircularBuffer;
 use heap_bounds::{Allocation, Block, freed_by, made_by};
 use mte_backtrace::Callers;
-use mte_svc::{HeapCall, HeapService};
+use mte_svc::AnsweredCall;
 use mte_tags::{Tagged, tag_of};
 use mte_tenant::TenantParts;
+use scudo_heap::HeapCall;
 use std::alloc::{AllocError, Global};
 use std::collections::BTreeMap;
 
@@ -25,7 +26,7 @@ pub struct Entry {
     /// The address of its SVC.
     pub pc: u64,
     /// The call.
-    pub call: HeapCall,
+    pub call: AnsweredCall,
     /// The calls that led to it.
     pub callers: Callers,
 }
@@ -92,16 +93,11 @@ impl Entry {
 
     /// Whether the call asked for a chunk and returned none.
     fn is_refused(&self) -> bool {
-        let HeapCall {
-            service,
-            second,
-            answer,
-            ..
-        } = self.call;
-        let asks = match service {
-            HeapService::Malloc | HeapService::Calloc | HeapService::Memalign => true,
-            HeapService::Realloc => second != 0,
-            HeapService::Free | HeapService::UsableSize => false,
+        let AnsweredCall { call, answer } = self.call;
+        let asks = match call {
+            HeapCall::Malloc { .. } | HeapCall::Calloc { .. } | HeapCall::Memalign { .. } => true,
+            HeapCall::Realloc { size, .. } => size != 0,
+            HeapCall::Free { .. } | HeapCall::UsableSize { .. } => false,
         };
         asks && answer == 0
     }
@@ -166,7 +162,7 @@ impl Book {
 
     /// Enters the heap call that the last step made, if it made one, with at most eight return
     /// addresses, which are read from the tenant's memory. Returns that call.
-    pub fn note<M: Tagged>(&mut self, parts: &TenantParts, memory: &mut M) -> Option<HeapCall>
+    pub fn note<M: Tagged>(&mut self, parts: &TenantParts, memory: &mut M) -> Option<AnsweredCall>
         ensures memory { M.memory memory.new ≡ M.memory memory.old }
         ensures kept { M.kept memory.old memory.new }
     {

@@ -8,4 +8,4 @@ mod words;
 
 pub use book::{Book, Chunk, Entry, Wanted};
 pub use owner::Owner;
-pub use words::{Bytes, Call, Request};
+pub use words::{Bytes, Call};

@@ -1,7 +1,7 @@
 //! Texts of heap calls, chunks and numbers of bytes.
 
 use crate::book::{Chunk, Entry};
-use mte_svc::{HeapCall, HeapService};
+use mte_svc::AnsweredCall;
 use std::fmt;
 
 /// A heap call: its number, its arguments and result, and when it was made.
@@ -16,25 +16,8 @@ impl<'a> fmt::Display for Call<'a> {
             call,
             ..
         } = self.0;
-        let (request, answer) = (Request(call), call.answer);
-        write!(f, "call {number}, {request} = {answer:#x}, step {step}")
-    }
-}
-
-/// A heap call's service and its arguments.
-#[derive(Clone, Copy)]
-pub struct Request<'a>(pub &'a HeapCall);
-
-impl<'a> fmt::Display for Request<'a> {
-    fn fmt<W: fmt::Write>(&self, f: &mut fmt::Formatter<W>) -> fmt::Result {
-        let HeapCall { first, second, .. } = self.0;
-        let name = self.0.service.name();
-        match self.0.service {
-            HeapService::Malloc => write!(f, "{name}({first})"),
-            HeapService::Free | HeapService::UsableSize => write!(f, "{name}({first:#x})"),
-            HeapService::Realloc => write!(f, "{name}({first:#x}, {second})"),
-            HeapService::Calloc | HeapService::Memalign => write!(f, "{name}({first}, {second})"),
-        }
+        let AnsweredCall { call, answer } = call;
+        write!(f, "call {number}, {call} = {answer:#x}, step {step}")
     }
 }
 

@@ -7,7 +7,7 @@ use a64_step::Regs;
 use heap_bounds::{Bounds, Trespass, access_of};
 use instruction_trace::{Moment, SVC};
 use mte_backtrace::Callers;
-use mte_svc::{HeapCall, READ, WRITE};
+use mte_svc::{AnsweredCall, READ, WRITE};
 use mte_tags::Tagged;
 use mte_tenant::TenantParts;
 use std::alloc::Global;
@@ -84,7 +84,7 @@ impl Exact {
         &mut self,
         moment: &Moment,
         parts: &TenantParts,
-        call: Option<&HeapCall>,
+        call: Option<&AnsweredCall>,
         memory: &mut M,
     )
         ensures memory { M.memory memory.new ≡ M.memory memory.old }
@@ -125,7 +125,7 @@ impl Exact {
     }
 
     /// Enters what a heap call did to chunks.
-    fn enter(&mut self, call: &HeapCall) {
+    fn enter(&mut self, call: &AnsweredCall) {
         if self.bounds.note(call).is_err() {
             self.is_complete = false;
         }

@@ -9,7 +9,7 @@ use Rattle.scudo_header.specs.declared.classes.TheConstants.{CLASSES}
 use Rattle.scudo_primary.specs.Blocks.{carved_count, block_at, number_of, IsBlock, blocks_from}
 use Rattle.scudo_primary.specs.Batches.{max_count_of}
 use Rattle.scudo_primary.specs.Pools.{ClassState, PoolState, IsLoose, is_member, is_marked, class_at, pages_of, stack_of, class_after_carve, class_after_push, class_after_pop, after_pop, after_push, with_pages, new_count}
-use Rattle.scudo_primary.specs.Lists.{IsClass}
+use Rattle.scudo_primary.specs.Blocks.{IsClass}
 use Rattle.scudo_primary.proofs.BlockLemmas.{number_of-block_at, IsBlock-more}
 use Rattle.scudo_primary.proofs.ListLemmas.{member-other, member-first}
 use Rattle.scudo_primary.proofs.PoolLaws.{class_at-with_pages, class_at-with_pages_other, class_at-after-push, class_at-pushed_other, class_at-after-pop, class_at-popped_other, left-after-push, left-with_mark, left-without_batch, left-with_batch, left-with_pages}

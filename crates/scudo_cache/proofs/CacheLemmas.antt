@@ -7,9 +7,9 @@ use Rattle.std.specs.Vec.{with_item}
 use Rattle.scudo_header.specs.declared.classes.TheConstants.{CLASSES}
 use Rattle.scudo_primary.specs.Batches.{max_count_of}
 use Rattle.scudo_primary.specs.Pools.{ClassState, PoolState, IsLoose, class_at}
-use Rattle.scudo_primary.specs.Lists.{IsClass}
+use Rattle.scudo_primary.specs.Blocks.{IsClass}
 use Rattle.scudo_cache.specs.Caches.{CacheState, entries_of, with_entries, empty_cache, IsAbove}
-use Rattle.scudo_cache.specs.Whole.{cache_of, IsCache}
+use Rattle.scudo_cache.specs.Inner.{cache_of, IsCache}
 use Rattle.scudo_cache.specs.declared.cache.Cache.TheInside.{Inside}
 
 pub entries-same : (v : CacheState) (c : ℕ) (ys : List ℕ) → length v.lists ≡ CLASSES → IsClass c → entries_of (with_entries v c ys) c ≡ ys

@@ -7,7 +7,7 @@ use Rattle.std.specs.List.{IsDistinct}
 use Rattle.scudo_primary.specs.Blocks.{carved_count, block_at, number_of, IsBlock, blocks_from}
 use Rattle.scudo_primary.specs.Batches.{max_count_of}
 use Rattle.scudo_primary.specs.Pools.{ClassState, PoolState, is_member, class_at, pages_of, new_count, with_class, with_mark, with_batch, without_batch, with_pages, empty_pool}
-use Rattle.scudo_primary.specs.Lists.{IsClass}
+use Rattle.scudo_primary.specs.Blocks.{IsClass}
 use Rattle.scudo_primary.proofs.BlockLemmas.{size-pos, number-apart, block_at-number, block_at-IsBlock, number_of-block_at, IsBlock-more, carved_count-≤}
 use Rattle.scudo_primary.proofs.ListLemmas.{member-other, member-first, distinct-head, distinct-cons}
 use Rattle.scudo_primary.proofs.PoolLaws.{class_at-with_mark, class_at-without_batch, class_at-with_pages, class_at-with_pages_other, class_at-empty_pool}

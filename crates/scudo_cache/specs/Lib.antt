@@ -1,2 +1,2 @@
 pub mod Caches
-pub mod Whole
+pub mod Inner

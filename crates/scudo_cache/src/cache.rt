@@ -26,7 +26,7 @@ pub struct Cache {
 
 impl Model for Cache {
     ghost use Rattle.scudo_cache.specs.Caches.{CacheState, coded_cache};
-    ghost use Rattle.scudo_cache.specs.Whole.{cache_of, IsCache};
+    ghost use Rattle.scudo_cache.specs.Inner.{cache_of, IsCache};
 
     ghost Value = { CacheState };
 

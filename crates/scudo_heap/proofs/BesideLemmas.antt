@@ -11,7 +11,7 @@ use Rattle.scudo_header.specs.Classes.{size_of, class_for}
 use Rattle.scudo_header.specs.declared.headers.Origin.{Origin}
 use Rattle.scudo_header.specs.declared.headers.Origin.TheVariants.{Malloc}
 use Rattle.scudo_primary.specs.Blocks.{IsBlock}
-use Rattle.scudo_primary.specs.Lists.{IsClass}
+use Rattle.scudo_primary.specs.Blocks.{IsClass}
 use Rattle.scudo_primary.specs.Pools.{is_member}
 use Rattle.scudo_primary.proofs.ListLemmas.{member-first}
 use Rattle.scudo_secondary.specs.Mappings as secondary

@@ -10,7 +10,7 @@ use Rattle.mte_tags.specs.declared.fault.MemFault.{MemFault}
 use Rattle.mte_tags.proofs.ModeLaws.{after_access-without-check}
 use Rattle.mte_tags.proofs.PageLaws.{attrs_at-with-bytes-at, pages_left-with-bytes-at}
 use Rattle.mte_tags.proofs.Pages.{page_at-no_pages}
-use Rattle.scudo_primary.specs.Lists.{IsClass}
+use Rattle.scudo_primary.specs.Blocks.{IsClass}
 use Rattle.scudo_heap.specs.Stacks.{ClassHeap, empty_class, empty_stacks, memory_for, class_at}
 use Rattle.scudo_heap.specs.Heaps.{HeapState, empty_heap}
 use Rattle.address_map.specs.declared.limits.TheConstants.{PAGE_SIZE}

@@ -9,7 +9,7 @@ use Rattle.address_map.specs.declared.ranges.TheConstants.{REGION_SIZE}
 use Rattle.scudo_header.specs.Classes.{size_of}
 use Rattle.scudo_header.specs.Regions.{region_of}
 use Rattle.scudo_primary.specs.Blocks.{carved_count, block_at, number_of, IsBlock, blocks_from}
-use Rattle.scudo_primary.specs.Lists.{IsClass}
+use Rattle.scudo_primary.specs.Blocks.{IsClass}
 use Rattle.scudo_primary.specs.Pools.{is_member}
 use Rattle.scudo_primary.proofs.BlockLemmas.{block-whole, block_at-number, number_of-block_at, block_at-IsBlock, number-apart, IsBlock-more}
 use Rattle.scudo_primary.proofs.ListLemmas.{member-other}

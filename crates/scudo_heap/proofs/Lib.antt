@@ -15,3 +15,4 @@ pub mod KeptLemmas
 pub mod BesideLemmas
 pub mod ReallocLemmas
 pub mod OtherPages
+pub mod CallLemmas

@@ -4,7 +4,7 @@ use Rattle.std.proofs.lemmas.Bool.{cond-true, cond-false}
 use Rattle.std.proofs.lemmas.Bool.Decides.{nat_tests}
 use Rattle.a64_bits.specs.Addresses.{plain}
 use Rattle.scudo_header.specs.declared.headers.Header.{Header}
-use Rattle.scudo_primary.specs.Lists.{IsClass}
+use Rattle.scudo_primary.specs.Blocks.{IsClass}
 use Rattle.scudo_primary.proofs.BlockLemmas.{size-IsSize, block-IsCell}
 use Rattle.scudo_secondary.specs.declared.mappings.Mapping.{Mapping}
 use Rattle.scudo_heap.specs.declared.limits.TheConstants.{MAX_REQUEST}

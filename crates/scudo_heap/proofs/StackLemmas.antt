@@ -9,7 +9,7 @@ use Rattle.std.specs.Cmp.{nat_cmp_total}
 use Rattle.std.specs.FinMap as finite
 use Rattle.std.specs.FinMap.{FinMap, get-insert, get-from_entries, same_map, nat_cmp-IsAntisymmetric}
 use Rattle.scudo_header.specs.declared.classes.TheConstants.{CLASSES}
-use Rattle.scudo_primary.specs.Lists.{IsClass}
+use Rattle.scudo_primary.specs.Blocks.{IsClass}
 use Rattle.scudo_primary.proofs.ModelLemmas.{tied-same, tied-other, entries-in, entries-out, is-class}
 use Rattle.scudo_primary.specs.Blocks.{carved_count, blocks_from}
 use Rattle.scudo_primary.specs.Pools as primary

@@ -1,3 +1,4 @@
+-- For the code's own clauses, views and invariants.
 -- What the parts of the stacks of free blocks are, and what a chunk is that the checks found.
 use Rattle.std.specs.Prelude.{◌≡◌, ℕ, ◌+◌, ◌-◌, ◌%◌, ◌^◌, ◌<◌, ◌≤◌, ◌⊎◌, Some, false, List, ◌++◌, ◌∷◌, []}
 use Rattle.scudo_header.specs.declared.classes.TheConstants.{CLASSES}

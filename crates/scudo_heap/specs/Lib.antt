@@ -7,6 +7,7 @@ pub mod Allocation
 pub mod Checks
 pub mod Freeing
 pub mod Realloc
+pub mod Calls
 pub mod Served
 pub mod Inner
 pub mod Others

@@ -15,11 +15,12 @@ use crate::chunk::{Chunk, by_fields};
 use crate::classes::take_block;
 use crate::limits::MAX_REQUEST;
 use crate::pages::take_pages;
+use crate::request::Request;
 use crate::stacks::Stacks;
 use crate::tagging::granules;
 use address_map::PAGE_SIZE;
 use mte_tags::{Paged, Rgsr};
-use scudo_header::{Origin, class_of};
+use scudo_header::class_of;
 use scudo_secondary::Secondary;
 
 /// Whether an alignment is a power of two up to `MAX_ALIGNMENT`.
@@ -41,31 +42,29 @@ fn make_some<M: Paged>(
     maps: &mut Secondary,
     rgsr: &mut Rgsr,
     memory: &mut M,
-    origin: Origin,
-    align: u64,
-    size: u64,
+    request: Request,
 ) -> Option<Chunk>
     requires drawn { rgsr.old.tag < 16 }
-    requires align { IsAlign align }
-    requires some { 0 < size }
-    requires most { size ≤ MAX_REQUEST }
+    requires align { IsAlign request.align }
+    requires some { 0 < request.size }
+    requires most { request.size ≤ MAX_REQUEST }
     requires served { HeapOwnsItsPages (M.memory memory.old) (heap_of cookie stacks.old maps.old) }
     ensures made { allocation_of
         (world_of (M.memory memory.new) (heap_of cookie stacks.new maps.new) rgsr.new) result
         ≡ allocate_cases (world_of (M.memory memory.old)
         (heap_of cookie stacks.old maps.old) rgsr.old)
-        origin align size (class_for (need_of align size)) }
+        request.origin request.align request.size (class_for (need_of request.align request.size)) }
     ensures low_chunk { IfSome result IsLow }
     ensures tag { rgsr.new.tag < 16 }
     ensures served { HeapOwnsItsPages (M.memory memory.new) (heap_of cookie stacks.new maps.new) }
     ensures kept { M.kept memory.old memory.new }
 {
-    let need = 16 * granules(size) + align;
+    let need = 16 * granules(request.size) + request.align;
     match class_of(need) {
-        Some(class) => take_block(cookie, stacks, rgsr, memory, origin, align, size, class),
+        Some(class) => take_block(cookie, stacks, rgsr, memory, request, class),
         None => {
             let pages = (need + (PAGE_SIZE - 1)) / PAGE_SIZE;
-            let chunk = take_pages(cookie, maps, memory, origin, align, size, pages);
+            let chunk = take_pages(cookie, maps, memory, request, pages);
             by_fields(chunk)
         }
     }
@@ -80,26 +79,25 @@ pub(crate) fn allocate<M: Paged>(
     maps: &mut Secondary,
     rgsr: &mut Rgsr,
     memory: &mut M,
-    origin: Origin,
-    align: u64,
-    size: u64,
+    request: Request,
 ) -> Option<Chunk>
     requires drawn { rgsr.old.tag < 16 }
-    requires align { IsAlign align }
+    requires align { IsAlign request.align }
     requires served { HeapOwnsItsPages (M.memory memory.old) (heap_of cookie stacks.old maps.old) }
     ensures made { allocation_of
         (world_of (M.memory memory.new) (heap_of cookie stacks.new maps.new) rgsr.new) result
         ≡ after_allocate (world_of (M.memory memory.old)
         (heap_of cookie stacks.old maps.old) rgsr.old)
-        origin align size }
+        request.origin request.align request.size }
     ensures low_chunk { IfSome result IsLow }
     ensures tag { rgsr.new.tag < 16 }
     ensures served { HeapOwnsItsPages (M.memory memory.new) (heap_of cookie stacks.new maps.new) }
     ensures kept { M.kept memory.old memory.new }
 {
-    if size > MAX_REQUEST {
+    if request.size > MAX_REQUEST {
         return None;
     }
-    let some = if size == 0 { 1 } else { size };
-    make_some(cookie, stacks, maps, rgsr, memory, origin, align, some)
+    let size = if request.size == 0 { 1 } else { request.size };
+    let some = Request { size, ..request };
+    make_some(cookie, stacks, maps, rgsr, memory, some)
 }

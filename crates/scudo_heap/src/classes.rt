@@ -18,10 +18,11 @@ ghost use Rattle.scudo_heap.specs.Inner.{IsAlign, IsLow};
 use crate::chunk::{Chunk, Place, by_fields};
 use crate::limits::MIN_ALIGNMENT;
 use crate::placing::make_chunk;
+use crate::request::Request;
 use crate::stacks::Stacks;
 use address_map::{PAGE_SIZE, REGION_SIZE, REGIONS_START};
 use mte_tags::{Attrs, Paged, Rgsr, Tagged};
-use scudo_header::{CLASSES, Origin, size_of_class};
+use scudo_header::{CLASSES, size_of_class};
 
 /// The first multiple of an alignment after a block's header. Most chunks are aligned to a granule,
 /// where it takes no division.
@@ -59,25 +60,23 @@ fn take_top<M: Paged>(
     stacks: &mut Stacks,
     rgsr: &mut Rgsr,
     memory: &mut M,
-    origin: Origin,
-    align: u64,
-    size: u64,
+    request: Request,
     class: u8,
 ) -> Option<Chunk>
     requires low { 0 < class }
     requires high { class ≤ CLASSES }
     requires drawn { rgsr.old.tag < 16 }
-    requires align { IsAlign align }
-    requires some { 0 < size }
-    requires small { size < 2 ^ 20 }
-    requires fits { need_of align size ≤ size_of class }
+    requires align { IsAlign request.align }
+    requires some { 0 < request.size }
+    requires small { request.size < 2 ^ 20 }
+    requires fits { need_of request.align request.size ≤ size_of class }
     requires regions { AreRegions (M.memory memory.old) stacks.old }
     ensures made { (ms : SecondaryState)
         → allocation_of (world_of (M.memory memory.new)
         (heap_of cookie stacks.new ms) rgsr.new) result
         ≡ after_take (world_of (M.memory memory.old) (heap_of cookie stacks.old ms) rgsr.old)
         (world_of (M.memory memory.old) (heap_of cookie stacks.old ms) rgsr.old)
-        origin align size class (stack_of stacks.old class) }
+        request.origin request.align request.size class (stack_of stacks.old class) }
     ensures empty { IsNone result → stack_of stacks.old class ≡ [] }
     ensures stacks { IsNone result → stacks.new ≡ stacks.old }
     ensures memory { IsNone result → M.memory memory.new ≡ M.memory memory.old }
@@ -91,8 +90,8 @@ fn take_top<M: Paged>(
     match stacks.take(class) {
         None => None,
         Some(block) => {
-            let place = place(class, block, align, size);
-            let tag = make_chunk(cookie, rgsr, memory, origin, place);
+            let place = place(class, block, request.align, request.size);
+            let tag = make_chunk(cookie, rgsr, memory, request.origin, place);
             Some(Chunk::Small(place, tag))
         }
     }
@@ -138,18 +137,16 @@ fn grow_and_take<M: Paged>(
     stacks: &mut Stacks,
     rgsr: &mut Rgsr,
     memory: &mut M,
-    origin: Origin,
-    align: u64,
-    size: u64,
+    request: Request,
     class: u8,
 ) -> Option<Chunk>
     requires low { 0 < class }
     requires high { class ≤ CLASSES }
     requires drawn { rgsr.old.tag < 16 }
-    requires align { IsAlign align }
-    requires some { 0 < size }
-    requires small { size < 2 ^ 20 }
-    requires fits { need_of align size ≤ size_of class }
+    requires align { IsAlign request.align }
+    requires some { 0 < request.size }
+    requires small { request.size < 2 ^ 20 }
+    requires fits { need_of request.align request.size ≤ size_of class }
     requires empty { stack_of stacks.old class ≡ [] }
     requires regions { AreRegions (M.memory memory.old) stacks.old }
     ensures made { (ms : SecondaryState)
@@ -157,7 +154,7 @@ fn grow_and_take<M: Paged>(
         (heap_of cookie stacks.new ms) rgsr.new) result
         ≡ after_class_allocation (world_of (M.memory memory.old)
         (heap_of cookie stacks.old ms) rgsr.old)
-        origin align size class }
+        request.origin request.align request.size class }
     ensures low_chunk { IfSome result IsLow }
     ensures tag { rgsr.new.tag < 16 }
     ensures served { KeepsServed (M.memory memory.old) stacks.old (M.memory memory.new)
@@ -167,7 +164,7 @@ fn grow_and_take<M: Paged>(
     if !grow(stacks, memory, class) {
         return None;
     }
-    take_top(cookie, stacks, rgsr, memory, origin, align, size, class)
+    take_top(cookie, stacks, rgsr, memory, request, class)
 }
 
 /// A chunk in a block of a class, where there is a block or pages for one.
@@ -177,34 +174,32 @@ pub(crate) fn take_block<M: Paged>(
     stacks: &mut Stacks,
     rgsr: &mut Rgsr,
     memory: &mut M,
-    origin: Origin,
-    align: u64,
-    size: u64,
+    request: Request,
     class: u8,
 ) -> Option<Chunk>
     requires low { 0 < class }
     requires high { class ≤ CLASSES }
     requires drawn { rgsr.old.tag < 16 }
-    requires align { IsAlign align }
-    requires some { 0 < size }
-    requires small { size < 2 ^ 20 }
-    requires fits { need_of align size ≤ size_of class }
+    requires align { IsAlign request.align }
+    requires some { 0 < request.size }
+    requires small { request.size < 2 ^ 20 }
+    requires fits { need_of request.align request.size ≤ size_of class }
     requires regions { AreRegions (M.memory memory.old) stacks.old }
     ensures made { (ms : SecondaryState)
         → allocation_of (world_of (M.memory memory.new)
         (heap_of cookie stacks.new ms) rgsr.new) result
         ≡ after_class_allocation (world_of (M.memory memory.old)
         (heap_of cookie stacks.old ms) rgsr.old)
-        origin align size class }
+        request.origin request.align request.size class }
     ensures low_chunk { IfSome result IsLow }
     ensures tag { rgsr.new.tag < 16 }
     ensures served { KeepsServed (M.memory memory.old) stacks.old (M.memory memory.new)
         stacks.new }
     ensures kept { M.kept memory.old memory.new }
 {
-    if let Some(chunk) = take_top(cookie, stacks, rgsr, memory, origin, align, size, class) {
+    if let Some(chunk) = take_top(cookie, stacks, rgsr, memory, request, class) {
         return Some(chunk);
     }
-    let chunk = grow_and_take(cookie, stacks, rgsr, memory, origin, align, size, class);
+    let chunk = grow_and_take(cookie, stacks, rgsr, memory, request, class);
     by_fields(chunk)
 }

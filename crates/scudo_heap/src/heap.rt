@@ -7,15 +7,18 @@ ghost use Rattle.scudo_heap.specs.Allocation.{answer_of, after_malloc, after_cal
 ghost use Rattle.scudo_heap.specs.Allocation.{after_memalign};
 ghost use Rattle.scudo_heap.specs.Freeing.{free_of, usable_size_of};
 ghost use Rattle.scudo_heap.specs.Realloc.{realloc_answer, after_realloc};
+ghost use Rattle.scudo_heap.specs.Calls.{after_call};
 ghost use Rattle.scudo_heap.specs.Served.{HeapOwnsItsPages};
 ghost use Rattle.scudo_heap.specs.Sound.{IsSound};
 
 use crate::abort::HeapAbort;
 use crate::allocation::{allocate, is_power};
+use crate::call::HeapCall;
 use crate::checks::find_chunk;
 use crate::chunk::address_or_null;
 use crate::freeing::free_found;
 use crate::limits::MIN_ALIGNMENT;
+use crate::request::Request;
 use crate::resizing::reallocate;
 use crate::stacks::Stacks;
 use a64_bits::plain;
@@ -83,16 +86,12 @@ impl Heap {
     {
         let align = MIN_ALIGNMENT;
         let (stacks, maps) = (&mut self.stacks, &mut self.maps);
-        let chunk = allocate(
-            self.cookie,
-            stacks,
-            maps,
-            rgsr,
-            memory,
-            Origin::Malloc,
+        let request = Request {
+            origin: Origin::Malloc,
             align,
             size,
-        );
+        };
+        let chunk = allocate(self.cookie, stacks, maps, rgsr, memory, request);
         address_or_null(&chunk)
     }
 
@@ -148,16 +147,12 @@ impl Heap {
         }
         let align = alignment.max(MIN_ALIGNMENT);
         let (stacks, maps) = (&mut self.stacks, &mut self.maps);
-        let chunk = allocate(
-            self.cookie,
-            stacks,
-            maps,
-            rgsr,
-            memory,
-            Origin::Memalign,
+        let request = Request {
+            origin: Origin::Memalign,
             align,
             size,
-        );
+        };
+        let chunk = allocate(self.cookie, stacks, maps, rgsr, memory, request);
         address_or_null(&chunk)
     }
 
@@ -240,6 +235,40 @@ impl Heap {
                 );
                 Ok(address_or_null(&chunk))
             }
+        }
+    }
+
+    /// Makes a call, and returns its answer: the address of a chunk with its tag, or 0 where there
+    /// is none; the size; 0 of a free. One that aborts has changed nothing.
+    #[tactic(auto, unfolding(crate::specs::Calls::after_call))]
+    pub fn call<M: Paged>(
+        &mut self,
+        rgsr: &mut Rgsr,
+        memory: &mut M,
+        call: HeapCall,
+    ) -> Result<u64, HeapAbort>
+        requires served { HeapOwnsItsPages (M.memory memory.old) self.old }
+        requires tag { rgsr.old.tag < 16 }
+        ensures answer { let w = world_of (M.memory memory.old) self.old rgsr.old in
+            result ≡ (after_call w call).answer }
+        ensures world { let w = world_of (M.memory memory.old) self.old rgsr.old in
+            world_of (M.memory memory.new) self.new rgsr.new ≡ (after_call w call).world }
+        ensures served { HeapOwnsItsPages (M.memory memory.new) self.new }
+        ensures tag { rgsr.new.tag < 16 }
+        ensures kept { M.kept memory.old memory.new }
+    {
+        match call {
+            HeapCall::Malloc { size } => Ok(self.malloc(rgsr, memory, size)),
+            HeapCall::Free { pointer } => match self.free(rgsr, memory, pointer) {
+                Ok(()) => Ok(0),
+                Err(abort) => Err(abort),
+            },
+            HeapCall::Calloc { count, size } => Ok(self.calloc(rgsr, memory, count, size)),
+            HeapCall::Realloc { pointer, size } => self.realloc(rgsr, memory, pointer, size),
+            HeapCall::Memalign { alignment, size } => {
+                Ok(self.memalign(rgsr, memory, alignment, size))
+            }
+            HeapCall::UsableSize { pointer } => self.usable_size(memory, pointer),
         }
     }
 

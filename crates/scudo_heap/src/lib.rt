@@ -4,6 +4,7 @@
 
 mod abort;
 mod allocation;
+mod call;
 mod checks;
 mod chunk;
 mod classes;
@@ -15,11 +16,13 @@ mod laws;
 mod limits;
 mod pages;
 mod placing;
+mod request;
 mod resizing;
 mod stacks;
 mod tagging;
 
 pub use abort::HeapAbort;
+pub use call::HeapCall;
 pub use chunk::{Chunk, Found, Place};
 pub use heap::Heap;
 pub use laws::{calls_keep_other_pages, condition_of_calls};

@@ -16,6 +16,7 @@ ghost use Rattle.scudo_heap.specs.Inner.{IsAlign, IsLarge, IsLow};
 
 use crate::chunk::Chunk;
 use crate::granules::put_header;
+use crate::request::Request;
 use address_map::PAGE_SIZE;
 use mte_tags::{Attrs, Paged, Tagged};
 use scudo_header::{Header, Origin, State};
@@ -37,7 +38,7 @@ fn mapping_at(start: u64, pages: u64, align: u64, size: u64) -> Mapping
     }
 }
 
-/// Secondary the pages of a chunk and writes its header.
+/// Maps the pages of a chunk and writes its header.
 fn map_chunk<M: Paged>(
     cookie: u32,
     maps: &mut Secondary,
@@ -83,21 +84,19 @@ pub(crate) fn take_pages<M: Paged>(
     cookie: u32,
     maps: &mut Secondary,
     memory: &mut M,
-    origin: Origin,
-    align: u64,
-    size: u64,
+    request: Request,
     pages: u64,
 ) -> Option<Chunk>
     requires places { ArePlaces (M.memory memory.old) maps.old }
-    requires align { IsAlign align }
-    requires some { 0 < size }
-    requires small { size ≤ 2 ^ 20 }
+    requires align { IsAlign request.align }
+    requires some { 0 < request.size }
+    requires small { request.size ≤ 2 ^ 20 }
     requires pages { pages ≤ 4096 }
-    requires fits { need_of align size ≤ PAGE_SIZE * pages }
+    requires fits { need_of request.align request.size ≤ PAGE_SIZE * pages }
     ensures made { (s : StackState) (r : Rgsr)
         → allocation_of (world_of (M.memory memory.new) (heap_of cookie s maps.new) r) result
         ≡ after_large_allocation (world_of (M.memory memory.old) (heap_of cookie s maps.old) r)
-        origin align size pages }
+        request.origin request.align request.size pages }
     ensures low_chunk { IfSome result IsLow }
     ensures served { KeepsMapped (M.memory memory.old) maps.old (M.memory memory.new) maps.new }
     ensures kept { M.kept memory.old memory.new }
@@ -108,7 +107,7 @@ pub(crate) fn take_pages<M: Paged>(
     if pages > memory.pages_left() as u64 {
         return None;
     }
-    let mapping = mapping_at(start, pages, align, size);
-    map_chunk(cookie, maps, memory, origin, mapping, size);
-    Some(Chunk::Large(mapping, size))
+    let mapping = mapping_at(start, pages, request.align, request.size);
+    map_chunk(cookie, maps, memory, request.origin, mapping, request.size);
+    Some(Chunk::Large(mapping, request.size))
 }

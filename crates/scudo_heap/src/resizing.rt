@@ -19,6 +19,7 @@ use crate::freeing::free_found;
 use crate::granules::{put_header, set_tags, tag_there};
 use crate::limits::{MAX_REQUEST, MIN_ALIGNMENT};
 use crate::placing::close;
+use crate::request::Request;
 use crate::stacks::Stacks;
 use crate::tagging::granules;
 use mte_tags::{Paged, Rgsr, Tagged};
@@ -129,9 +130,12 @@ fn move_chunk<M: Paged>(
 {
     stacks.recall();
     maps.recall();
-    let origin = Origin::Malloc;
-    let align = MIN_ALIGNMENT;
-    let Some(chunk) = allocate(cookie, stacks, maps, rgsr, memory, origin, align, size) else {
+    let request = Request {
+        origin: Origin::Malloc,
+        align: MIN_ALIGNMENT,
+        size,
+    };
+    let Some(chunk) = allocate(cookie, stacks, maps, rgsr, memory, request) else {
         return None;
     };
     maps.recall();

@@ -7,7 +7,8 @@ use Rattle.std.specs.List.{All, IsDistinct}
 use Rattle.scudo_primary.specs.Blocks.{IsBlock, number_of}
 use Rattle.scudo_primary.specs.Batches.{max_count_of}
 use Rattle.scudo_primary.specs.Pools.{ClassState, IsLoose, is_member, class_after_push_batch}
-use Rattle.scudo_primary.specs.Lists.{IsClass, Each, sizes_after_push, list_at, class_in, class_after_link, IsTable, Became}
+use Rattle.scudo_primary.specs.Inner.{Each, sizes_after_push, list_at, class_in, class_after_link, IsTable, Became}
+use Rattle.scudo_primary.specs.Blocks.{IsClass}
 use Rattle.scudo_primary.specs.declared.lists.BlockEntry.{BlockEntry}
 use Rattle.scudo_primary.specs.declared.lists.ClassList.{ClassList}
 use Rattle.scudo_primary.proofs.ListLemmas.{not-member, Each-other}

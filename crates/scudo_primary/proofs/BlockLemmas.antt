@@ -9,7 +9,7 @@ use Rattle.scudo_header.proofs.ClassLemmas.{IsSize, size_of-IsSize}
 use Rattle.scudo_primary.specs.Blocks.{carved_count, block_at, number_of, IsBlock}
 use Rattle.std.specs.Prelude.{IsTrue}
 use Rattle.std.proofs.lemmas.Bool.Decides.{nat_tests}
-use Rattle.scudo_primary.specs.Lists.{IsClass}
+use Rattle.scudo_primary.specs.Blocks.{IsClass}
 
 pub size-IsSize : (c : ℕ) → IsClass c → IsSize (size_of c)
 size-IsSize c h = size_of-IsSize c h.low h.high

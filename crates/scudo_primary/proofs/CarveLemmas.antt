@@ -6,7 +6,8 @@ use Rattle.scudo_header.specs.Regions.{region_of}
 use Rattle.scudo_primary.specs.Blocks.{carved_count, block_at, number_of, blocks_from, IsBlock}
 use Rattle.scudo_primary.specs.Batches.{max_count_of}
 use Rattle.scudo_primary.specs.Pools.{ClassState, is_member}
-use Rattle.scudo_primary.specs.Lists.{IsClass, Each, sizes_after_push, is_last_at, list_at, class_in, class_after_link, class_after_link_new, IsTable, Became}
+use Rattle.scudo_primary.specs.Inner.{Each, sizes_after_push, is_last_at, list_at, class_in, class_after_link, class_after_link_new, IsTable, Became}
+use Rattle.scudo_primary.specs.Blocks.{IsClass}
 use Rattle.scudo_primary.specs.declared.lists.BlockEntry.{BlockEntry}
 use Rattle.scudo_primary.specs.declared.lists.ClassList.{ClassList}
 use Rattle.scudo_primary.proofs.BlockLemmas.{number_of-block_at, block_at-IsBlock}

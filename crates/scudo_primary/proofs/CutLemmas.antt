@@ -5,7 +5,7 @@ use Rattle.std.proofs.lemmas.Bool.Decides.{nat_tests}
 use Rattle.std.proofs.Math.Nat.{zero-div}
 use Rattle.std.proofs.lemmas.Nat.{div-add-mod', div-mul-add, mod-mul-add, mod_below}
 use Rattle.scudo_primary.specs.Batches.{cut_sizes}
-use Rattle.scudo_primary.specs.Lists.{Each, sizes_after_push, one_more, is_last_at}
+use Rattle.scudo_primary.specs.Inner.{Each, sizes_after_push, one_more, is_last_at}
 
 -- the sizes of the batches of the r highest of n new blocks
 pub cut : ℕ → ℕ → ℕ → List ℕ

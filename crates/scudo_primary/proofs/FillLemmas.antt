@@ -6,7 +6,8 @@ use Rattle.std.specs.declared.alloc.Global.{Global}
 use Rattle.scudo_header.specs.Regions.{region_of}
 use Rattle.address_map.specs.declared.limits.TheConstants.{PAGE_SIZE}
 use Rattle.scudo_primary.specs.Pools.{PoolState}
-use Rattle.scudo_primary.specs.Lists.{IsClass, page_number, slot_of, place_of, no_entry, entry_at, list_at, class_in, capacities_in, pool_in, IsFilledUp, IsTable, IsPool}
+use Rattle.scudo_primary.specs.Inner.{page_number, slot_of, place_of, no_entry, entry_at, list_at, class_in, capacities_in, pool_in, IsFilledUp, IsTable, IsPool}
+use Rattle.scudo_primary.specs.Blocks.{IsClass}
 use Rattle.scudo_primary.specs.declared.lists.BlockEntry.{BlockEntry}
 use Rattle.scudo_primary.specs.declared.lists.ClassList.{ClassList}
 use Rattle.scudo_primary.specs.declared.pool.Primary.TheInside.{Inside}

@@ -1,7 +1,7 @@
 -- What the words of a pool's state say of its pages and of each class, for the layers above.
 use Rattle.std.proofs.Common.{◌≡◌, ◌≢◌, ℕ, ◌-◌, Bool, List, refl}
 use Rattle.scudo_primary.specs.Pools.{PoolState, empty_class, empty_pool, class_at, with_class, after_pop, after_push, with_mark, without_batch, with_batch, with_pages, new_count, class_after_pop, class_after_push, class_with_mark, class_after_pop_batch, class_after_push_batch, class_after_carve}
-use Rattle.scudo_primary.specs.Lists.{IsClass}
+use Rattle.scudo_primary.specs.Blocks.{IsClass}
 use Rattle.scudo_primary.proofs.ModelLemmas.{class_at-pool_by, class_at-with_class, class_at-with_class_other}
 
 -- ---- pages left

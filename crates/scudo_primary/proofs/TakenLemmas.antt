@@ -9,7 +9,8 @@ use Rattle.std.specs.List.{All, IsDistinct}
 use Rattle.scudo_primary.specs.Blocks.{IsBlock}
 use Rattle.scudo_primary.specs.Batches.{max_count_of, first_size}
 use Rattle.scudo_primary.specs.Pools.{ClassState, PoolState, IsLoose, is_member, batch_in, class_after_pop_batch, class_at, with_class, without_batch, top_batch}
-use Rattle.scudo_primary.specs.Lists.{IsClass, Each, sizes_of_marks, list_at, free_in, last_in, stack_from, sizes_from, class_in, state_of, capacities_in, pool_in, IsLinked, IsTable, IsPool, Became}
+use Rattle.scudo_primary.specs.Inner.{Each, sizes_of_marks, list_at, free_in, last_in, stack_from, sizes_from, class_in, state_of, capacities_in, pool_in, IsLinked, IsTable, IsPool, Became}
+use Rattle.scudo_primary.specs.Blocks.{IsClass}
 use Rattle.scudo_primary.specs.declared.lists.BlockEntry.{BlockEntry}
 use Rattle.scudo_primary.specs.declared.lists.ClassList.{ClassList}
 use Rattle.scudo_primary.specs.declared.pool.Primary.TheInside.{Inside}

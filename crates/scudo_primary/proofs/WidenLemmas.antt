@@ -14,7 +14,8 @@ use Rattle.address_map.specs.declared.limits.TheConstants.{PAGE_SIZE, MAX_PAGES}
 use Rattle.scudo_primary.specs.Blocks.{carved_count, block_at, number_of, blocks_from, IsBlock}
 use Rattle.scudo_primary.specs.Batches.{batch_sizes}
 use Rattle.scudo_primary.specs.Pools.{ClassState, PoolState, class_at, with_class, with_pages, class_after_carve, new_count}
-use Rattle.scudo_primary.specs.Lists.{IsClass, Each, page_number, no_entry, entry_at, list_at, free_in, marks_in, class_in, class_after_link_new, state_of, capacities_in, pool_in, IsNumbered, IsNumberedOn, IsFilledUp, IsLinked, IsTable, IsPool, Became}
+use Rattle.scudo_primary.specs.Inner.{Each, page_number, no_entry, entry_at, list_at, free_in, marks_in, class_in, class_after_link_new, state_of, capacities_in, pool_in, IsNumbered, IsNumberedOn, IsFilledUp, IsLinked, IsTable, IsPool, Became}
+use Rattle.scudo_primary.specs.Blocks.{IsClass}
 use Rattle.scudo_primary.specs.declared.lists.BlockEntry.{BlockEntry}
 use Rattle.scudo_primary.specs.declared.lists.ClassList.{ClassList}
 use Rattle.scudo_primary.specs.declared.pool.Primary.TheInside.{Inside}

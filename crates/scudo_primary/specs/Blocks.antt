@@ -3,8 +3,14 @@
 use Rattle.std.specs.Prelude.{◌≡◌, ℕ, ◌+◌, ◌-◌, ◌*◌, ◌/◌, ◌%◌, ◌<◌, ◌≤◌, List, map}
 use Rattle.std.specs.List.{range_with_len}
 use Rattle.scudo_header.specs.Classes.{size_of}
+use Rattle.scudo_header.specs.declared.classes.TheConstants.{CLASSES}
 use Rattle.scudo_header.specs.Regions.{region_of}
 use Rattle.address_map.specs.declared.limits.TheConstants.{PAGE_SIZE}
+
+-- A size class by its number.
+pub record IsClass (class : ℕ) : Type 0 where
+  pub low : 0 < class
+  pub high : class ≤ CLASSES
 
 -- How many blocks lie whole in the first pages of a class's region.
 abbrev pub carved_count : ℕ → ℕ → ℕ

@@ -1,4 +1,4 @@
 pub mod Blocks
 pub mod Batches
 pub mod Pools
-pub mod Lists
+pub mod Inner

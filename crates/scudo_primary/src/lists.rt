@@ -36,11 +36,12 @@ pub(crate) struct ClassList {
     pub(crate) pages: u64,
 }
 
-ghost use Rattle.scudo_primary.specs.Lists.{IsClass, IsTable, Became, Each, sizes_after_push};
-ghost use Rattle.scudo_primary.specs.Lists.{is_last_at};
-ghost use Rattle.scudo_primary.specs.Lists.{list_at, entry_at, state_in, class_after_link};
-ghost use Rattle.scudo_primary.specs.Lists.{class_after_link_new};
-ghost use Rattle.scudo_primary.specs.Lists.{IsFilledUp, IsNumberedOn, place_of, slot_of};
+ghost use Rattle.scudo_primary.specs.Inner.{IsTable, Became, Each, sizes_after_push};
+ghost use Rattle.scudo_primary.specs.Blocks.{IsClass};
+ghost use Rattle.scudo_primary.specs.Inner.{is_last_at};
+ghost use Rattle.scudo_primary.specs.Inner.{list_at, entry_at, state_in, class_after_link};
+ghost use Rattle.scudo_primary.specs.Inner.{class_after_link_new};
+ghost use Rattle.scudo_primary.specs.Inner.{IsFilledUp, IsNumberedOn, place_of, slot_of};
 
 /// The first address of a class's region.
 #[inline(always)]

@@ -39,7 +39,7 @@ pub struct Primary {
 
 impl Model for Primary {
     ghost use Rattle.scudo_primary.specs.Pools.{PoolState, coded_pool};
-    ghost use Rattle.scudo_primary.specs.Lists.{pool_in, IsPool};
+    ghost use Rattle.scudo_primary.specs.Inner.{pool_in, IsPool};
 
     ghost Value = { PoolState };
 

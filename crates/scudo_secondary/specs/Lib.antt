@@ -1,2 +1,2 @@
 pub mod Mappings
-pub mod Secondary
+pub mod Inner

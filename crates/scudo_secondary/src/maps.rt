@@ -20,7 +20,7 @@ pub struct Secondary {
 
 impl Model for Secondary {
     ghost use Rattle.scudo_secondary.specs.Mappings.{SecondaryState, coded_maps};
-    ghost use Rattle.scudo_secondary.specs.Secondary.{secondary_state, IsSecondary};
+    ghost use Rattle.scudo_secondary.specs.Inner.{secondary_state, IsSecondary};
 
     ghost Value = { SecondaryState };
 

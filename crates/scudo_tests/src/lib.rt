@@ -26,3 +26,5 @@ mod secondary;
 mod shadow;
 #[cfg(test)]
 mod tables;
+#[cfg(test)]
+mod words;

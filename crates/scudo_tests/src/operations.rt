@@ -2,7 +2,7 @@
 
 use heap_calls::{HeapAnswer, HeapBench, HeapOp};
 use mte_tags::{FaultKind, MemFault, Rgsr, TagMode};
-use scudo_heap::HeapAbort;
+use scudo_heap::{HeapAbort, HeapCall};
 use std::alloc::Global;
 
 /// The address of the first chunk of class 2, whose blocks have 64 bytes.
@@ -19,8 +19,14 @@ const REFUSED: HeapAnswer = HeapAnswer::Fault(MemFault {
 
 /// Each kind of operation once, and what a chunk that was freed is kept from.
 const TABLE: [(HeapOp, HeapAnswer); 14] = [
-    (HeapOp::Malloc { size: 24 }, HeapAnswer::Value(CHUNK)),
-    (HeapOp::UsableSize { pointer: CHUNK }, HeapAnswer::Value(24)),
+    (
+        HeapOp::Call(HeapCall::Malloc { size: 24 }),
+        HeapAnswer::Value(CHUNK),
+    ),
+    (
+        HeapOp::Call(HeapCall::UsableSize { pointer: CHUNK }),
+        HeapAnswer::Value(24),
+    ),
     (
         HeapOp::Store {
             addr: CHUNK,
@@ -33,42 +39,45 @@ const TABLE: [(HeapOp, HeapAnswer); 14] = [
         HeapAnswer::Value(0x0102_0304_0506_0708),
     ),
     (HeapOp::LoadTag { addr: CHUNK }, HeapAnswer::Value(1)),
-    (HeapOp::Free { pointer: CHUNK }, HeapAnswer::Value(0)),
+    (
+        HeapOp::Call(HeapCall::Free { pointer: CHUNK }),
+        HeapAnswer::Value(0),
+    ),
     (HeapOp::LoadTag { addr: CHUNK }, HeapAnswer::Value(3)),
     (HeapOp::Load { addr: CHUNK }, REFUSED),
     (
-        HeapOp::Free { pointer: CHUNK },
+        HeapOp::Call(HeapCall::Free { pointer: CHUNK }),
         HeapAnswer::Abort(HeapAbort::InvalidState),
     ),
     (
-        HeapOp::Calloc { count: 3, size: 8 },
+        HeapOp::Call(HeapCall::Calloc { count: 3, size: 8 }),
         HeapAnswer::Value(0x0500_0000_1200_0010),
     ),
     (
-        HeapOp::Realloc {
+        HeapOp::Call(HeapCall::Realloc {
             pointer: 0x0500_0000_1200_0010,
             size: 32,
-        },
+        }),
         HeapAnswer::Value(0x0500_0000_1200_0010),
     ),
     (
-        HeapOp::UsableSize {
+        HeapOp::Call(HeapCall::UsableSize {
             pointer: 0x0500_0000_1200_0010,
-        },
+        }),
         HeapAnswer::Value(32),
     ),
     (
-        HeapOp::Memalign {
+        HeapOp::Call(HeapCall::Memalign {
             alignment: 24,
             size: 8,
-        },
+        }),
         HeapAnswer::Value(0),
     ),
     (
-        HeapOp::Realloc {
+        HeapOp::Call(HeapCall::Realloc {
             pointer: 0x0500_0000_1200_0010,
             size: 0,
-        },
+        }),
         HeapAnswer::Value(0),
     ),
 ];

@@ -9,7 +9,7 @@ use Rattle.mte_tags.specs.RandomTags.{after_draw}
 use Rattle.scudo_header.specs.Classes.{size_of, class_for}
 use Rattle.scudo_header.specs.declared.headers.Origin.{Origin}
 use Rattle.scudo_primary.specs.Pools.{is_member}
-use Rattle.scudo_primary.specs.Lists.{IsClass}
+use Rattle.scudo_primary.specs.Blocks.{IsClass}
 use Rattle.scudo_primary.proofs.ListLemmas.{member-first}
 use Rattle.scudo_heap.specs.Stacks.{StackState, stack_of, with_stack, after_pop}
 use Rattle.tag_discipline.specs.LiveChunks.{IsCarved, IsPlace, BlockChunk, LiveBlocks, chunk_at, with_chunk, new_chunk}

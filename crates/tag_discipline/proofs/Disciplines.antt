@@ -12,7 +12,7 @@ use Rattle.mte_tags.specs.declared.access.Access.{Access}
 use Rattle.mte_tags.specs.declared.state.TagMode.TheVariants.{Sync}
 use Rattle.mte_tags.proofs.PageLaws.{page_at-no_attrs, attrs_at-without_pages_in}
 use Rattle.scudo_primary.specs.Pools.{is_member}
-use Rattle.scudo_primary.specs.Lists.{IsClass}
+use Rattle.scudo_primary.specs.Blocks.{IsClass}
 use Rattle.scudo_header.specs.declared.headers.Header.{Header}
 use Rattle.scudo_secondary.proofs.MappingLemmas.{none_ordered}
 use Rattle.scudo_heap.proofs.StackLemmas.{class_at-stacks_by}
@@ -24,6 +24,8 @@ use Rattle.scudo_secondary.specs.Mappings as secondary
 use Rattle.scudo_secondary.specs.declared.mappings.Mapping.{Mapping}
 use Rattle.address_map.specs.declared.limits.TheConstants.{PAGE_SIZE}
 use Rattle.scudo_heap.specs.Chunks.{end_of}
+use Rattle.scudo_heap.specs.declared.call.HeapCall.{HeapCall}
+use Rattle.scudo_heap.specs.declared.call.HeapCall.TheVariants.{Free}
 use Rattle.scudo_heap.specs.declared.chunk.Place.{Place}
 use Rattle.scudo_heap.specs.declared.chunk.Chunk.{Chunk}
 use Rattle.scudo_heap.specs.declared.chunk.Chunk.TheVariants.{Small}
@@ -43,7 +45,7 @@ use Rattle.tag_discipline.specs.LiveChunks.{BlockChunk, chunk_at, IsCarved}
 use Rattle.tag_discipline.specs.LivePages.{PageChunk, large_at}
 use Rattle.tag_discipline.proofs.Freed.{Freed, IsStale}
 use Rattle.tag_discipline.specs.Laws.{IsRefused}
-use Rattle.tag_discipline.specs.CarefulRuns.{State, HeapRequest, Free, found_at, after_call, IsLiveBlock, IsCareful, HasFree}
+use Rattle.tag_discipline.specs.CarefulRuns.{State, found_at, state_after_call, IsLiveBlock, IsCareful, HasFree}
 use Rattle.tag_discipline.specs.SoundHeaps.{Sound}
 use Rattle.tag_discipline.specs.Discipline.{StartsSound, StaysSound, MayFree, FreedBlocksAreRefused, IsUnmapped, FreedPagesAreUnmapped, IsFreshIn, NewTagsDiffer, NeighboursDiffer, ChunksAreApart, ChunksAreGuarded, SlicesStaySound, FreedBlocksStayRefused, IsNewIn, malloc, calloc, memalign, realloc as realloc_call, ReusedTagsDiffer, ReusedTagsStayDifferent, FreedPagesAreRefused, FreedBlocksAreFree, ChunksAreTagged}
 use Rattle.mte_tenant.specs.Machines.{after_attempt}
@@ -124,7 +126,7 @@ fresh = record {
 -- ---- freed chunks
 
 -- a call that names a live chunk of a size class is careful
-block-careful : (s : State) (pointer : ℕ) (c : HeapRequest) (x : BlockChunk) → IsLiveBlock s (plain pointer) x → MayFree pointer c → IsCareful s c
+block-careful : (s : State) (pointer : ℕ) (c : HeapCall) (x : BlockChunk) → IsLiveBlock s (plain pointer) x → MayFree pointer c → IsCareful s c
 block-careful s pointer c x l (inl e) = subst (IsCareful s) (sym e) (λ n f g. inl (x, l))
 block-careful s pointer c x l (inr e) = subst (IsCareful s) (sym e.1) (λ n f g. inl (x, l))
 
@@ -135,11 +137,11 @@ not-zero s pointer x k l = λ e.
     let above = (k.placed.place (plain pointer) x l.live).above in
     omega arith
 
-pub stale-by : (s : State) (pointer : ℕ) (c : HeapRequest) (x : BlockChunk) → Sound s → pointer ≢ 0 → IsLiveBlock s (plain pointer) x → MayFree pointer c → HasFree x.place.class x.place.block (after_call c s) → IsStaleAfter (after_call c s).world x
-stale-by s pointer c x k n l (inl e) on = subst (λ d. IsStaleAfter (after_call d s).world x) (sym e) (free-stale s pointer x k n l)
+pub stale-by : (s : State) (pointer : ℕ) (c : HeapCall) (x : BlockChunk) → Sound s → pointer ≢ 0 → IsLiveBlock s (plain pointer) x → MayFree pointer c → HasFree x.place.class x.place.block (state_after_call c s) → IsStaleAfter (state_after_call c s).world x
+stale-by s pointer c x k n l (inl e) on = subst (λ d. IsStaleAfter (state_after_call d s).world x) (sym e) (free-stale s pointer x k n l)
 stale-by s pointer c x k n l (inr e) on =
-    let on' = subst (λ d. HasFree x.place.class x.place.block (after_call d s)) e.1 on in
-    subst (λ d. IsStaleAfter (after_call d s).world x) (sym e.1) (realloc-stale s pointer e.0 x k n l on')
+    let on' = subst (λ d. HasFree x.place.class x.place.block (state_after_call d s)) e.1 on in
+    subst (λ d. IsStaleAfter (state_after_call d s).world x) (sym e.1) (realloc-stale s pointer e.0 x k n l on')
 
 pub freed-blocks : FreedBlocksAreRefused
 freed-blocks = λ a b pointer addr c x k fr run low high.
@@ -147,7 +149,7 @@ freed-blocks = λ a b pointer addr c x k fr run low high.
     let m = fr.may in
     let on = fr.free in
     let n = not-zero a pointer x k l in
-    let f : Freed = record { place = x.place; tag = x.tag; given = (after_call c a).world.rgsr.tag } in
+    let f : Freed = record { place = x.place; tag = x.tag; given = (state_after_call c a).world.rgsr.tag } in
     let t = call-kept a c k (block-careful a pointer c x l m) in
     let st = stale-by a pointer c x k n l m on in
     let last = run-stale f run t.sound st in
@@ -171,10 +173,10 @@ freed-pages = record {
       let start = k.large.above (plain pointer) x l.live in
       let n : pointer ≢ 0 = λ z. omega arith in
       elim may [
-        | inl e ↦ subst (λ d. list_any (is_inside a) (after_call d s).world.heap.maps.mappings ≡ false) (sym e) (free-gone s pointer x a k n l low high)
+        | inl e ↦ subst (λ d. list_any (is_inside a) (state_after_call d s).world.heap.maps.mappings ≡ false) (sym e) (free-gone s pointer x a k n l low high)
         | inr e ↦
-            let none' = subst (λ d. large_at (after_call d s).live.pages (plain pointer) ≡ None) e.1 none in
-            subst (λ d. list_any (is_inside a) (after_call d s).world.heap.maps.mappings ≡ false) (sym e.1) (realloc-gone s pointer x a k n l low high e.0 none')
+            let none' = subst (λ d. large_at (state_after_call d s).live.pages (plain pointer) ≡ None) e.1 none in
+            subst (λ d. list_any (is_inside a) (state_after_call d s).world.heap.maps.mappings ≡ false) (sym e.1) (realloc-gone s pointer x a k n l low high e.0 none')
       ];
   refused = unmapped-refused;
 }
@@ -264,9 +266,9 @@ freed-stay = λ m k l j n pointer addr c x sound careful e may live on run low h
     let first = step-quiet m l careful.tags sound in
     let some = not-zero (state_of (before_service m) l) pointer x first.sound live in
     let is = after-attempt-done n m l c e in
-    let on' : HasFree x.place.class x.place.block (after_call c (state_of (before_service m) l)) = subst (HasFree x.place.class x.place.block) is on in
+    let on' : HasFree x.place.class x.place.block (state_after_call c (state_of (before_service m) l)) = subst (HasFree x.place.class x.place.block) is on in
     let st = stale-by (state_of (before_service m) l) pointer c x first.sound some live may on' in
-    let f : Freed = record { place = x.place; tag = x.tag; given = (after_call c (state_of (before_service m) l)).world.rgsr.tag } in
+    let f : Freed = record { place = x.place; tag = x.tag; given = (state_after_call c (state_of (before_service m) l)).world.rgsr.tag } in
     let after = (after-attempt-kept n m l sound careful).sound in
     let last = steps-stale f run after (subst (λ (s : State). IsStale s.world.memory s.world.heap.stacks f) (sym is) st) in
     (kept-in (state_of k j) (steps-sound run after)).freed f addr last low high
@@ -285,12 +287,12 @@ reused-differ = λ a b pointer c x r p t k fr run new e at.
     let m = fr.may in
     let on = fr.free in
     let n = not-zero a pointer x k l in
-    let f : Freed = record { place = x.place; tag = x.tag; given = (after_call c a).world.rgsr.tag } in
+    let f : Freed = record { place = x.place; tag = x.tag; given = (state_after_call c a).world.rgsr.tag } in
     let h = call-kept a c k (block-careful a pointer c x l m) in
     let st = stale-by a pointer c x k n l m on in
     let last = run-stale f run h.sound st in
     let some = st.place.some in
-    let there : tag_at (after_call c a).world.memory x.place.user ≡ f.given = st.inside x.place.user (omega arith) (omega arith) in
+    let there : tag_at (state_after_call c a).world.memory x.place.user ≡ f.given = st.inside x.place.user (omega arith) (omega arith) in
     let new' = fresh-new b r (run-sound run h.sound) new in
     let still : tag_at b.world.memory p.user ≡ f.given = ap (tag_at b.world.memory) at ∙ last.inside x.place.user (omega arith) (omega arith) in
     λ q. new'.other p t e (q ∙ there ∙ sym still)
@@ -300,8 +302,8 @@ reused-stay = λ m k l j n pointer c x r p t sound careful e may live on run the
     let first = step-quiet m l careful.tags sound in
     let some = not-zero (state_of (before_service m) l) pointer x first.sound live in
     let is = after-attempt-done n m l c e in
-    let on' : HasFree x.place.class x.place.block (after_call c (state_of (before_service m) l)) = subst (HasFree x.place.class x.place.block) is on in
-    let f : Freed = record { place = x.place; tag = x.tag; given = (after_call c (state_of (before_service m) l)).world.rgsr.tag } in
+    let on' : HasFree x.place.class x.place.block (state_after_call c (state_of (before_service m) l)) = subst (HasFree x.place.class x.place.block) is on in
+    let f : Freed = record { place = x.place; tag = x.tag; given = (state_after_call c (state_of (before_service m) l)).world.rgsr.tag } in
     let st = subst (λ (s : State). IsStale s.world.memory s.world.heap.stacks f) (sym is) (stale-by (state_of (before_service m) l) pointer c x first.sound some live may on') in
     let after = (after-attempt-kept n m l sound careful).sound in
     let last = steps-stale f run after st in

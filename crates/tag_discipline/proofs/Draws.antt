@@ -9,7 +9,7 @@ use Rattle.std.proofs.lemmas.List.FromFn.{get_or-range_with_len, length-range_wi
 use Rattle.std.specs.Int.Count.{count_trailing_zeros}
 use Rattle.std.proofs.Math.Nat.{add-mul-div_left}
 use Rattle.std.proofs.lemmas.Nat.{pow_pos}
-use Rattle.scudo_primary.specs.Lists.{IsClass}
+use Rattle.scudo_primary.specs.Blocks.{IsClass}
 use Rattle.mte_tags.specs.TagChoice.{is_allowed, allowed_tags, tag_in_turn, chosen_of, chosen_tag}
 use Rattle.mte_tags.specs.RandomTags.{after_draw, drawn_tag, offset_of}
 use Rattle.mte_tags.specs.Memory.{Memory, tag_at}

@@ -10,6 +10,7 @@ use Rattle.scudo_header.specs.declared.headers.Origin.TheVariants.{Malloc}
 use Rattle.scudo_header.specs.declared.headers.State.TheVariants.{Available}
 use Rattle.scudo_primary.specs.Pools.{is_member}
 use Rattle.scudo_heap.specs.declared.limits.TheConstants.{MAX_REQUEST}
+use Rattle.scudo_heap.specs.declared.call.HeapCall.TheVariants.{Realloc, Free}
 use Rattle.scudo_heap.specs.declared.chunk.Chunk.{Chunk}
 use Rattle.scudo_heap.specs.declared.chunk.Found.{Found}
 use Rattle.scudo_heap.specs.declared.chunk.Found.TheVariants.{InBlock}
@@ -21,8 +22,9 @@ use Rattle.scudo_heap.specs.Checks.{check_pointer, size_found}
 use Rattle.scudo_heap.specs.Freeing.{Freed as Outcome, without_chunk as freed_world, free_cases, free_of}
 use Rattle.scudo_heap.specs.Realloc as heap
 use Rattle.scudo_heap.specs.Realloc.{ReallocResult, checked_realloc_cases, after_realloc, user_of, user_of_chunk, after_copy, with_copied_bytes, after_move, with_new_size, realloc_cases}
+use Rattle.scudo_heap.specs.Calls.{after_call}
 use Rattle.tag_discipline.specs.LiveChunks.{BlockChunk, chunk_at}
-use Rattle.tag_discipline.specs.CarefulRuns.{State, Realloc, Free, found_at, with_made_chunk, state_after_realloc, after_call, HasHeader, IsLiveBlock}
+use Rattle.tag_discipline.specs.CarefulRuns.{State, found_at, with_made_chunk, state_after_call, HasHeader, IsLiveBlock}
 use Rattle.tag_discipline.specs.SoundHeaps.{Sound}
 use Rattle.tag_discipline.proofs.Freed.{IsStale}
 use Rattle.tag_discipline.proofs.Draws.{after-draw-fresh}
@@ -131,14 +133,13 @@ realloc-world s pointer size f n e =
     ap (λ (o : ReallocResult). o.world) (ap (checked_realloc_cases s.world size) (sym e))
     ∙ sym (ap (λ (o : ReallocResult). o.world) (cond-false (pointer == 0) (heap.reallocation_of (after_malloc s.world size)) (checked_realloc_cases s.world size (found_at s.world pointer)) (not-null pointer n)))
 
-pub free-stale : (s : State) (pointer : ℕ) (x : BlockChunk) → Sound s → pointer ≢ 0 → IsLiveBlock s (plain pointer) x → IsStaleAfter (after_call (Free pointer) s).world x
-unfolding after_call
+pub free-stale : (s : State) (pointer : ℕ) (x : BlockChunk) → Sound s → pointer ≢ 0 → IsLiveBlock s (plain pointer) x → IsStaleAfter (state_after_call (Free pointer) s).world x
+unfolding after_call state_after_call
 free-stale s pointer x k n l = let h = named s pointer x k l in subst (λ w. IsStaleAfter w x) (free-world s pointer (InBlock x.place x.header) n h.1) (freed-stale s x k h.0)
 
-pub realloc-stale : (s : State) (pointer size : ℕ) (x : BlockChunk) → Sound s → pointer ≢ 0 → IsLiveBlock s (plain pointer) x → IsFreeIn (after_call (Realloc pointer size) s).world x → IsStaleAfter (after_call (Realloc pointer size) s).world x
-unfolding after_call
+pub realloc-stale : (s : State) (pointer size : ℕ) (x : BlockChunk) → Sound s → pointer ≢ 0 → IsLiveBlock s (plain pointer) x → IsFreeIn (state_after_call (Realloc pointer size) s).world x → IsStaleAfter (state_after_call (Realloc pointer size) s).world x
+unfolding after_call state_after_call
 realloc-stale s pointer size x k n l on =
     let h = named s pointer x k l in
-    let e : (realloc_cases s.world (InBlock x.place x.header) size).world ≡ (state_after_realloc s pointer size).world =
-    realloc-world s pointer size (InBlock x.place x.header) n h.1 ∙ sym (ap (λ (t : State). t.world) (cond-false (pointer == 0) _ _ (not-null pointer n))) in
+    let e : (realloc_cases s.world (InBlock x.place x.header) size).world ≡ (after_realloc s.world pointer size).world = realloc-world s pointer size (InBlock x.place x.header) n h.1 in
     subst (λ w. IsStaleIf w x) e (realloc-cases-stale s x size k h.0) on

@@ -14,7 +14,8 @@ use Rattle.scudo_header.specs.Regions.{region_of}
 use Rattle.address_map.specs.declared.limits.TheConstants.{PAGE_SIZE, MAX_PAGES}
 use Rattle.scudo_primary.specs.Blocks.{IsBlock, carved_count, block_at, number_of, blocks_from}
 use Rattle.scudo_primary.specs.Pools.{is_member}
-use Rattle.scudo_primary.specs.Lists.{IsClass, Each}
+use Rattle.scudo_primary.specs.Inner.{Each}
+use Rattle.scudo_primary.specs.Blocks.{IsClass}
 use Rattle.scudo_primary.proofs.BlockLemmas.{number_of-block_at, block_at-IsBlock, carved_count-≤, IsBlock-more}
 use Rattle.scudo_primary.proofs.ListLemmas.{Each-map, member-fact, not-member, distinct-cons}
 use Rattle.scudo_heap.specs.Stacks.{StackState, ClassHeap, class_at, pages_of, stack_of, new_blocks, after_carve}

@@ -5,7 +5,7 @@ use Rattle.mte_tags.specs.Memory.{Memory, tag_at, attrs_at}
 use Rattle.mte_tags.specs.Whole.{IsWhole}
 use Rattle.scudo_header.specs.Classes.{size_of}
 use Rattle.scudo_primary.specs.Blocks.{IsBlock}
-use Rattle.scudo_primary.specs.Lists.{IsClass}
+use Rattle.scudo_primary.specs.Blocks.{IsClass}
 use Rattle.scudo_heap.specs.Stacks.{StackState, pages_of}
 use Rattle.tag_discipline.specs.LiveChunks.{IsCarved, IsPlace, IsHalfTag, BlockChunk, LiveBlocks, chunk_at, ArePlaced, IsTagged, IsOutside, AreTagged}
 use Rattle.scudo_heap.specs.declared.chunk.Place.{Place}

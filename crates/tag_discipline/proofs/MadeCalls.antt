@@ -18,13 +18,13 @@ use Rattle.scudo_heap.specs.Allocation.{no_chunk, nonzero_size, need_of, is_alig
 use Rattle.scudo_heap.specs.Inner.{IsAlign}
 use Rattle.scudo_heap.proofs.AllocationLemmas.{power-align}
 use Rattle.tag_discipline.specs.LivePages.{AreLarge}
-use Rattle.tag_discipline.specs.CarefulRuns.{State, Live, with_made_chunk, state_after_allocation}
+use Rattle.tag_discipline.specs.CarefulRuns.{State, Live, with_made_chunk}
 use Rattle.tag_discipline.specs.SoundHeaps.{Sound}
 use Rattle.tag_discipline.proofs.Views.{SoundBlocks}
 use Rattle.tag_discipline.proofs.Serving.{blocks-of}
 use Rattle.tag_discipline.proofs.WorldRests.{after-class-allocation-rest}
 use Rattle.tag_discipline.proofs.Allocations.{branch, blocks_listed, IsClassFor, class-for, after-class-allocation-sound, asked_some}
-use Rattle.tag_discipline.proofs.MadeStates.{IsMade, rest-of, state-sound, no-chunk-state-after-allocation}
+use Rattle.tag_discipline.proofs.MadeStates.{state_after_allocation, IsMade, rest-of, state-sound, no-chunk-state-after-allocation}
 use Rattle.tag_discipline.proofs.MadeLarges.{large-state}
 
 -- ---- a chunk in a block

@@ -26,14 +26,14 @@ use Rattle.scudo_heap.proofs.LargeLemmas.{is-large}
 use Rattle.scudo_heap.proofs.MapLemmas.{IsAt, is-at, without, inside-in}
 use Rattle.scudo_heap.proofs.ServedLemmas.{served-more, served-on, same-pages, pages-free, places-of}
 use Rattle.tag_discipline.specs.LivePages.{new_large, AreLarge}
-use Rattle.tag_discipline.specs.CarefulRuns.{State, state_after_allocation}
+use Rattle.tag_discipline.specs.CarefulRuns.{State}
 use Rattle.tag_discipline.specs.SoundHeaps.{Sound}
 use Rattle.tag_discipline.proofs.Rests.{rest-with-header}
 use Rattle.tag_discipline.proofs.Serving.{blocks-of}
 use Rattle.tag_discipline.proofs.WorldRests.{IsRest}
 use Rattle.tag_discipline.proofs.BlockSteps.{IsSameTags, same-with-bytes-at, same-mapped, same-tags_sound, same-tags_stale}
 use Rattle.tag_discipline.proofs.Larges.{IsNewMapping, check-pointer-of, large-state-after-allocation}
-use Rattle.tag_discipline.proofs.MadeStates.{IsMade, state-sound}
+use Rattle.tag_discipline.proofs.MadeStates.{state_after_allocation, IsMade, state-sound}
 
 -- what is found passes
 find-passes : {X : Type 0} (p : X → Bool) (xs : List X) (y : X) → find p xs ≡ Some y → p y ≡ true

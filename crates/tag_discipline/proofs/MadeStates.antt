@@ -8,7 +8,7 @@ use Rattle.scudo_heap.specs.Placing.{World}
 use Rattle.scudo_heap.specs.Allocation.{AllocationResult, no_chunk}
 use Rattle.tag_discipline.specs.LiveChunks.{BlockChunk, chunk_at}
 use Rattle.tag_discipline.specs.LivePages.{PageChunk, large_at, AreLarge}
-use Rattle.tag_discipline.specs.CarefulRuns.{State, state_after_allocation, HasFree}
+use Rattle.tag_discipline.specs.CarefulRuns.{State, Live, with_made_chunk, HasFree}
 use Rattle.tag_discipline.specs.SoundHeaps.{Sound}
 use Rattle.tag_discipline.proofs.Freed.{Freed, IsStale}
 use Rattle.mte_tags.specs.Memory.{tag_at}
@@ -32,6 +32,9 @@ state-sound v t b r g = record {
   tagged = b.tagged;
   large = g;
 }
+
+abbrev pub state_after_allocation : Origin → Live → AllocationResult → State
+state_after_allocation o l m = record { world = m.world; live = with_made_chunk o l m.chunk }
 
 -- what an allocation leaves
 pub record IsMade (o : Origin) (s : State) (r : AllocationResult) : Type 0 where

@@ -8,6 +8,7 @@ use Rattle.mte_tags.specs.Accesses.{read_bytes}
 use Rattle.scudo_header.specs.declared.headers.Origin.TheVariants.{Malloc}
 use Rattle.scudo_secondary.specs.Mappings.{mapping_of, end_of}
 use Rattle.scudo_heap.specs.declared.limits.TheConstants.{MAX_REQUEST}
+use Rattle.scudo_heap.specs.declared.call.HeapCall.TheVariants.{Realloc, Free}
 use Rattle.scudo_heap.specs.declared.chunk.Chunk.{Chunk}
 use Rattle.scudo_heap.specs.declared.chunk.Chunk.TheVariants.{Small, Large}
 use Rattle.scudo_heap.specs.declared.chunk.Found.{Found}
@@ -19,11 +20,12 @@ use Rattle.scudo_heap.specs.Allocation.{AllocationResult, no_chunk, after_malloc
 use Rattle.scudo_heap.specs.Checks.{size_found}
 use Rattle.scudo_heap.specs.Freeing.{without_chunk as freed_world}
 use Rattle.scudo_heap.specs.Realloc as heap
-use Rattle.scudo_heap.specs.Realloc.{user_of, user_of_chunk, after_copy, with_copied_bytes, after_move, with_new_size, realloc_cases}
+use Rattle.scudo_heap.specs.Realloc.{user_of, user_of_chunk, after_copy, with_copied_bytes, after_move, with_new_size, realloc_cases, after_realloc}
+use Rattle.scudo_heap.specs.Calls.{after_call}
 use Rattle.scudo_heap.specs.Served.{is_inside}
 use Rattle.scudo_heap.proofs.MapLemmas.{without, inside-in}
 use Rattle.tag_discipline.specs.LivePages.{PageChunk, large_at, new_large}
-use Rattle.tag_discipline.specs.CarefulRuns.{State, Live, HeapRequest, Realloc, Free, found_at, with_made_chunk, without_freed_chunk, live_move_cases, live_after_resize, live_after_realloc, live_realloc_cases, state_after_realloc, after_call, IsLiveLarge}
+use Rattle.tag_discipline.specs.CarefulRuns.{State, Live, found_at, with_made_chunk, without_freed_chunk, live_move_cases, live_after_resize, live_after_realloc, live_realloc_cases, live_realloc, state_after_call, IsLiveLarge}
 use Rattle.tag_discipline.specs.SoundHeaps.{Sound}
 use Rattle.tag_discipline.proofs.Larges.{check-pointer-of}
 use Rattle.tag_discipline.proofs.FoundStates.{large-named}
@@ -97,18 +99,17 @@ module _ (s : State) (pointer : ℕ) (x : PageChunk) (a : ℕ) (k : Sound s) (so
   live : large_at s.live.pages x.mapping.user ≡ Some x
   live = ap (large_at s.live.pages) user ∙ l.live
 
-  pub free-gone : IsGone (after_call (Free pointer) s).world a
-  unfolding after_call
+  pub free-gone : IsGone (state_after_call (Free pointer) s).world a
+  unfolding after_call state_after_call
   free-gone = subst (λ w. IsGone w a) (free-world s pointer (InPages x.mapping x.header) some (large-named s pointer x k l)) (freed-gone x a lo hi s k live)
 
-  pub realloc-gone : (size : ℕ) → large_at (after_call (Realloc pointer size) s).live.pages (plain pointer) ≡ None → IsGone (after_call (Realloc pointer size) s).world a
-  unfolding after_call
+  pub realloc-gone : (size : ℕ) → large_at (state_after_call (Realloc pointer size) s).live.pages (plain pointer) ≡ None → IsGone (state_after_call (Realloc pointer size) s).world a
+  unfolding after_call state_after_call
   realloc-gone size n =
       let f = InPages x.mapping x.header in
       let e = large-named s pointer x k l in
-      let w : (realloc_cases s.world f size).world ≡ (state_after_realloc s pointer size).world =
-      realloc-world s pointer size f some e ∙ sym (ap (λ (t : State). t.world) (cond-false (pointer == 0) _ _ (not-null pointer some))) in
-      let v : (state_after_realloc s pointer size).live ≡ live_after_realloc s.world s.live f size =
-      ap (λ (t : State). t.live) (cond-false (pointer == 0) _ _ (not-null pointer some)) ∙ ap (live_realloc_cases s.world s.live size) e in
-      let none : large_at (live_after_realloc s.world s.live f size).pages x.mapping.user ≡ None = ap (λ (t : Live). large_at t.pages x.mapping.user) (sym v) ∙ ap (large_at (state_after_realloc s pointer size).live.pages) user ∙ n in
+      let w : (realloc_cases s.world f size).world ≡ (after_realloc s.world pointer size).world = realloc-world s pointer size f some e in
+      let v : live_realloc s pointer size ≡ live_after_realloc s.world s.live f size =
+      cond-false (pointer == 0) (with_made_chunk Malloc s.live (after_malloc s.world size).chunk) (live_realloc_cases s.world s.live size (found_at s.world pointer)) (not-null pointer some) ∙ ap (live_realloc_cases s.world s.live size) e in
+      let none : large_at (live_after_realloc s.world s.live f size).pages x.mapping.user ≡ None = ap (λ (t : Live). large_at t.pages x.mapping.user) (sym v) ∙ ap (large_at (live_realloc s pointer size).pages) user ∙ n in
       subst (λ (t : World). IsGone t a) w (realloc-cases-gone x a lo hi s size k live none)

@@ -24,14 +24,14 @@ use Rattle.scudo_heap.specs.Realloc as heap
 use Rattle.scudo_heap.specs.Realloc.{user_of, user_of_chunk, after_copy, with_copied_bytes, after_move, with_new_size, realloc_cases}
 use Rattle.tag_discipline.specs.LiveChunks.{BlockChunk, LiveBlocks, chunk_at, with_chunk, new_chunk}
 use Rattle.tag_discipline.specs.LivePages.{PageChunk, LivePages, large_at, with_large, new_large, AreLarge}
-use Rattle.tag_discipline.specs.CarefulRuns.{State, Live, with_made_chunk, without_freed_chunk, state_after_allocation, live_move_cases, with_size_of, live_after_resize_in_block, live_after_resize, live_after_realloc, HasFree}
+use Rattle.tag_discipline.specs.CarefulRuns.{State, Live, with_made_chunk, without_freed_chunk, live_move_cases, with_size_of, live_after_resize_in_block, live_after_resize, live_after_realloc, HasFree}
 use Rattle.tag_discipline.specs.SoundHeaps.{Sound}
 use Rattle.tag_discipline.proofs.Views.{SoundBlocks}
 use Rattle.tag_discipline.proofs.Serving.{blocks-of}
 use Rattle.tag_discipline.proofs.WorldRests.{after-resize-rest}
 use Rattle.tag_discipline.proofs.BlockSounds.{present-tag}
 use Rattle.tag_discipline.proofs.BlockSteps.{at-with, after-resize-kept}
-use Rattle.tag_discipline.proofs.MadeStates.{IsMade, rest-of, state-sound}
+use Rattle.tag_discipline.proofs.MadeStates.{state_after_allocation, IsMade, rest-of, state-sound}
 use Rattle.tag_discipline.proofs.MadeCalls.{malloc-state-after-allocation}
 use Rattle.tag_discipline.proofs.FoundStates.{IsListed, block, pages}
 use Rattle.tag_discipline.proofs.FreeStates.{IsKeptOn, kept-same, free-kept, with-bytes-at-kept, after-move-kept}

@@ -1,15 +1,17 @@
 -- Careful runs keep the live chunks Sound, and what is freed as it is until an allocation takes its block.
 use Rattle.std.proofs.Common.{◌≡◌, ◌≢◌, ℕ, ◌/◌, ◌==◌, Bool, true, false, cond, Result, Ok, Err, refl, sym, subst, ◌∙◌, inl, arith}
-use Rattle.std.proofs.lemmas.Bool.{cond-false}
 use Rattle.std.proofs.lemmas.Bool.Decides.{nat_tests}
 use Rattle.scudo_heap.specs.declared.abort.HeapAbort.{HeapAbort}
+use Rattle.scudo_heap.specs.declared.call.HeapCall.{HeapCall}
+use Rattle.scudo_heap.specs.declared.call.HeapCall.TheVariants.{Malloc, Free, Calloc, Realloc, Memalign, UsableSize}
 use Rattle.scudo_heap.specs.declared.chunk.Found.{Found}
 use Rattle.scudo_heap.specs.Freeing.{Freed as Outcome, free_cases, free_of}
-use Rattle.scudo_heap.specs.Realloc.{ReallocResult, checked_realloc_cases, after_realloc}
+use Rattle.scudo_heap.specs.Realloc.{ReallocResult, reallocation_of, checked_realloc_cases, after_realloc}
+use Rattle.scudo_heap.specs.Calls.{after_call}
 use Rattle.scudo_heap.specs.Allocation.{after_malloc}
 use Rattle.scudo_heap.proofs.ServedLemmas.{served-on, same-pages}
 use Rattle.scudo_header.specs.declared.headers.Origin.TheVariants as origin
-use Rattle.tag_discipline.specs.CarefulRuns.{State, Live, HeapRequest, Malloc, Calloc, Memalign, Realloc, Free, live_free_cases, live_realloc_cases, found_at, state_after_realloc, state_after_free, after_call, IsPointerTo, IsCareful, IsQuiet, Step, quiet, call, Run, stop, next, HasFree}
+use Rattle.tag_discipline.specs.CarefulRuns.{State, Live, with_made_chunk, live_free_cases, live_realloc_cases, live_free, live_realloc, found_at, state_after_call, IsPointerTo, IsCareful, IsQuiet, Step, quiet, call, Run, stop, next, HasFree}
 use Rattle.tag_discipline.specs.SoundHeaps.{Sound}
 use Rattle.tag_discipline.proofs.Freed.{Freed, IsStale}
 use Rattle.tag_discipline.proofs.Serving.{blocks-of}
@@ -32,7 +34,7 @@ branch-free : (s : State) (b : Bool) (x y : Outcome) (l m : Live) → (b ≡ tru
 branch-free s true x y l m f g = f refl
 branch-free s false x y l m f g = g refl
 
-state-after-free-kept : (s : State) (pointer : ℕ) → Sound s → IsPointerTo s pointer → IsKeptOn s (state_after_free s pointer)
+state-after-free-kept : (s : State) (pointer : ℕ) → Sound s → IsPointerTo s pointer → IsKeptOn s (record { world = (free_of s.world pointer).world; live = live_free s pointer })
 unfolding free_of
 state-after-free-kept s pointer k c =
     branch-free s (pointer == 0) (record { world = s.world; result = Ok tt }) (free_cases s.world (found_at s.world pointer)) s.live (live_free_cases s.live (found_at s.world pointer))
@@ -44,28 +46,27 @@ realloc_by-kept : (s : State) (pointer size : ℕ) (r : Result Found HeapAbort) 
 realloc_by-kept s pointer size (Err e) k c n f = kept-same s k
 realloc_by-kept s pointer size (Ok g) k c n f = realloc-cases-kept s size k (listed s pointer g k c n f)
 
-elsewhere : (s : State) (pointer size : ℕ) → (pointer == 0) ≡ false → IsKeptOn s (record { world = (checked_realloc_cases s.world size (found_at s.world pointer)).world; live = live_realloc_cases s.world s.live size (found_at s.world pointer) })
-    → IsKeptOn s (record { world = (after_realloc s.world pointer size).world; live = live_realloc_cases s.world s.live size (found_at s.world pointer) })
+branch-realloc : (s : State) (b : Bool) (x y : ReallocResult) (l m : Live) → (b ≡ true → IsKeptOn s (record { world = x.world; live = l })) → (b ≡ false → IsKeptOn s (record { world = y.world; live = m }))
+    → IsKeptOn s (record { world = (cond b x y).world; live = cond b l m })
+branch-realloc s true x y l m f g = f refl
+branch-realloc s false x y l m f g = g refl
+
+state-after-realloc-kept : (s : State) (pointer size : ℕ) → Sound s → IsPointerTo s pointer → IsKeptOn s (record { world = (after_realloc s.world pointer size).world; live = live_realloc s pointer size })
 unfolding after_realloc
-elsewhere s pointer size e k =
-    subst (λ (r : ReallocResult). IsKeptOn s (record { world = r.world; live = live_realloc_cases s.world s.live size (found_at s.world pointer) })) (sym (cond-false _ _ _ e)) k
+state-after-realloc-kept s pointer size k c =
+    let made = after_malloc s.world size in
+    branch-realloc s (pointer == 0) (reallocation_of made) (checked_realloc_cases s.world size (found_at s.world pointer)) (with_made_chunk origin.Malloc s.live made.chunk) (live_realloc_cases s.world s.live size (found_at s.world pointer))
+    (λ t. state-after-allocation-kept origin.Malloc s made (malloc-state-after-allocation s size k))
+    (λ t. realloc_by-kept s pointer size (found_at s.world pointer) k c (grind (arith, nat_tests)) refl)
 
-branch-state : (s : State) (b : Bool) (x y : State) → (b ≡ true → IsKeptOn s x) → (b ≡ false → IsKeptOn s y) → IsKeptOn s (cond b x y)
-branch-state s true x y f g = f refl
-branch-state s false x y f g = g refl
-
-state-after-realloc-kept : (s : State) (pointer size : ℕ) → Sound s → IsPointerTo s pointer → IsKeptOn s (state_after_realloc s pointer size)
-state-after-realloc-kept s pointer size k c = branch-state s (pointer == 0) _ _
-    (λ t. state-after-allocation-kept origin.Malloc s (after_malloc s.world size) (malloc-state-after-allocation s size k))
-    (λ t. elsewhere s pointer size t (realloc_by-kept s pointer size (found_at s.world pointer) k c (grind (arith, nat_tests)) refl))
-
-pub call-kept : (s : State) (c : HeapRequest) → Sound s → IsCareful s c → IsKeptOn s (after_call c s)
-unfolding after_call
+pub call-kept : (s : State) (c : HeapCall) → Sound s → IsCareful s c → IsKeptOn s (state_after_call c s)
+unfolding after_call state_after_call
 call-kept s (Malloc size) k c = state-after-allocation-kept origin.Malloc s _ (malloc-state-after-allocation s size k)
-call-kept s (Calloc count size) k c = state-after-allocation-kept origin.Malloc s _ (calloc-state-after-allocation s count size k)
-call-kept s (Memalign align size) k c = state-after-allocation-kept origin.Memalign s _ (memalign-state-after-allocation s align size k)
-call-kept s (Realloc pointer size) k c = state-after-realloc-kept s pointer size k c
 call-kept s (Free pointer) k c = state-after-free-kept s pointer k c
+call-kept s (Calloc count size) k c = state-after-allocation-kept origin.Malloc s _ (calloc-state-after-allocation s count size k)
+call-kept s (Realloc pointer size) k c = state-after-realloc-kept s pointer size k c
+call-kept s (Memalign align size) k c = state-after-allocation-kept origin.Memalign s _ (memalign-state-after-allocation s align size k)
+call-kept s (UsableSize pointer) k c = kept-same s k
 
 -- ---- steps and runs
 

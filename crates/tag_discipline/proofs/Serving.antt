@@ -5,7 +5,7 @@ use Rattle.mte_tags.specs.Memory.{Memory, attrs_at}
 use Rattle.scudo_header.specs.Regions.{region_of}
 use Rattle.address_map.specs.declared.limits.TheConstants.{PAGE_SIZE}
 use Rattle.address_map.specs.declared.ranges.TheConstants.{REGIONS_START, REGION_SIZE, SECONDARY_START}
-use Rattle.scudo_primary.specs.Lists.{IsClass}
+use Rattle.scudo_primary.specs.Blocks.{IsClass}
 use Rattle.scudo_secondary.specs.Mappings.{AreMappings}
 use Rattle.scudo_heap.specs.Stacks.{StackState, pages_of, AreSound}
 use Rattle.scudo_heap.specs.Heaps.{HeapState}

@@ -4,6 +4,8 @@ use Rattle.std.specs.Prelude.{filter, All, option_map}
 use Rattle.std.proofs.lemmas.List.Elements.{All-nil, All-cons}
 use Rattle.a64_bits.specs.Addresses.{plain}
 use Rattle.scudo_heap.specs.declared.abort.HeapAbort.{HeapAbort}
+use Rattle.scudo_heap.specs.declared.call.HeapCall.{HeapCall}
+use Rattle.scudo_heap.specs.declared.call.HeapCall.TheVariants.{Malloc, Free, Calloc, Realloc, Memalign, UsableSize}
 use Rattle.scudo_heap.specs.declared.chunk.Found.{Found}
 use Rattle.scudo_heap.specs.Chunks.{end_of}
 use Rattle.mte_svc.specs.declared.record.Record.{Record}
@@ -20,9 +22,9 @@ use Rattle.mte_sched.proofs.IsolationLemmas.{tenants_are_alone, among_tenants}
 use Rattle.tag_discipline.specs.LiveChunks.{BlockChunk, chunk_at}
 use Rattle.tag_discipline.proofs.Freed.{IsStale}
 use Rattle.tag_discipline.specs.Laws.{IsRefused}
-use Rattle.tag_discipline.specs.CarefulRuns.{State, Live, no_chunks, HeapRequest, Malloc, Calloc, Memalign, Realloc, Free, found_at, after_call, IsPointerTo, IsLive, IsLiveBlock, HasFree}
+use Rattle.tag_discipline.specs.CarefulRuns.{State, Live, no_chunks, found_at, state_after_call, IsPointerTo, IsLive, IsLiveBlock, HasFree}
 use Rattle.tag_discipline.specs.CarefulRuns as heap
-use Rattle.tag_discipline.specs.CarefulTenants.{state_of, before_service, next_request, live_after, IsCarefulNext, live_through, IsCareful}
+use Rattle.tag_discipline.specs.CarefulTenants.{state_of, before_service, next_call, live_after, IsCarefulNext, live_through, IsCareful}
 use Rattle.tag_discipline.specs.CarefulSessions.{named_chunk_cases, named_at, named_chunks, has_free_block, freed_after, freed_through, live_of, freed_of, AreCareful, machine_held, machine_cases, first_machine, IsCarefulIn, state_in, freed_in}
 use Rattle.tag_discipline.specs.SoundHeaps.{Sound}
 use Rattle.tag_discipline.specs.Discipline.{MayFree, TenantsStaySound, FreedBlocksOfTenantsAreRefused, ChunksOfTenantsAreGuarded, FreedPagesOfTenantsAreRefused}
@@ -54,7 +56,7 @@ StaleIn k x = (given : ℕ) × IsStale k.memory k.parts.heap.stacks (record { pl
 
 -- ---- the chunk that a call names
 
-pointer-to : (s : State) (pointer : ℕ) (c : HeapRequest) → MayFree pointer c → heap.IsCareful s c → IsPointerTo s pointer
+pointer-to : (s : State) (pointer : ℕ) (c : HeapCall) → MayFree pointer c → heap.IsCareful s c → IsPointerTo s pointer
 pointer-to s pointer c (inl e) k = subst (heap.IsCareful s) e k
 pointer-to s pointer c (inr e) k = subst (heap.IsCareful s) e.1 k
 
@@ -69,10 +71,10 @@ live-block s u x k e (inr l) =
     absurd (omega arith)
 
 -- a call after which its block is free has freed it
-abbrev FreesIt : State → HeapRequest → BlockChunk → Type 0
-FreesIt s c x = HasFree x.place.class x.place.block (after_call c s) → IsStaleAfter (after_call c s).world x
+abbrev FreesIt : State → HeapCall → BlockChunk → Type 0
+FreesIt s c x = HasFree x.place.class x.place.block (state_after_call c s) → IsStaleAfter (state_after_call c s).world x
 
-named-in : (s : State) (pointer : ℕ) (c : HeapRequest) → Sound s → heap.IsCareful s c → MayFree pointer c → (r : Result Found HeapAbort) → found_at s.world pointer ≡ r
+named-in : (s : State) (pointer : ℕ) (c : HeapCall) → Sound s → heap.IsCareful s c → MayFree pointer c → (r : Result Found HeapAbort) → found_at s.world pointer ≡ r
     → (o : Option BlockChunk) → chunk_at s.live.blocks (plain pointer) ≡ o → Each (FreesIt s c) (named_chunk_cases r o)
 named-in s pointer c k careful may (Err a) h o e = tt
 named-in s pointer c k careful may (Ok f) h None e = tt
@@ -84,7 +86,7 @@ named-in s pointer c k careful may (Ok f) h (Some x) e =
     let live = live-block s (plain pointer) x k e (pointer-to s pointer c may careful some f h) in
     (λ on. stale-by s pointer c x k some live may on, tt)
 
-named : (s : State) (pointer : ℕ) (c : HeapRequest) → Sound s → heap.IsCareful s c → MayFree pointer c → Each (FreesIt s c) (named_at s pointer)
+named : (s : State) (pointer : ℕ) (c : HeapCall) → Sound s → heap.IsCareful s c → MayFree pointer c → Each (FreesIt s c) (named_at s pointer)
 named s pointer c k careful may = named-in s pointer c k careful may (found_at s.world pointer) refl (chunk_at s.live.blocks (plain pointer)) refl
 
 -- ---- an attempted instruction
@@ -101,36 +103,37 @@ all-filter p Q (x ∷ xs) a = all-cond Q (p x) x (filter p xs) a.0 (all-filter p
 abbrev MayBeStale : Machine → BlockChunk → Type 0
 MayBeStale k x = has_free_block k.parts.heap.stacks x ≡ true → StaleIn k x
 
-request-stale : (n : ℕ) (m : Machine) (l : Live) (c : HeapRequest) (pointer : ℕ) → Sound (state_of m l) → IsCarefulNext m l → next_request m ≡ Some c → MayFree pointer c
+call-stale : (n : ℕ) (m : Machine) (l : Live) (c : HeapCall) (pointer : ℕ) → Sound (state_of m l) → IsCarefulNext m l → next_call m ≡ Some c → MayFree pointer c
     → Each (MayBeStale (after_attempt n m).machine) (named_at (state_of (before_service m) l) pointer)
-request-stale n m l c pointer k careful e may =
+call-stale n m l c pointer k careful e may =
     let s = state_of (before_service m) l in
     let first = step-quiet m l careful.tags k in
     let is = after-attempt-done n m l c e in
     each-weaker (FreesIt s c) (MayBeStale (after_attempt n m).machine)
     (λ x f on.
-    let given = (after_call c s).world.rgsr.tag in
-    let st : IsStaleAfter (after_call c s).world x = f (subst (HasFree x.place.class x.place.block) is on) in
+    let given = (state_after_call c s).world.rgsr.tag in
+    let st : IsStaleAfter (state_after_call c s).world x = f (subst (HasFree x.place.class x.place.block) is on) in
     (given, subst (λ (t : State). IsStale t.world.memory t.world.heap.stacks (record { place = x.place; tag = x.tag; given = given })) (sym is) st))
-    (named_at s pointer) (named s pointer c first.sound (careful.request c e) may)
+    (named_at s pointer) (named s pointer c first.sound (careful.call c e) may)
 
-named-stale : (n : ℕ) (m : Machine) (l : Live) → Sound (state_of m l) → IsCarefulNext m l → (r : Option HeapRequest) → next_request m ≡ r
+named-stale : (n : ℕ) (m : Machine) (l : Live) → Sound (state_of m l) → IsCarefulNext m l → (r : Option HeapCall) → next_call m ≡ r
     → Each (MayBeStale (after_attempt n m).machine) (named_chunks (state_of (before_service m) l) r)
 named-stale n m l k c None e = tt
 named-stale n m l k c (Some (Malloc size)) e = tt
 named-stale n m l k c (Some (Calloc count size)) e = tt
 named-stale n m l k c (Some (Memalign align size)) e = tt
-named-stale n m l k c (Some (Realloc pointer size)) e = request-stale n m l (Realloc pointer size) pointer k c e (inr (size, refl))
-named-stale n m l k c (Some (Free pointer)) e = request-stale n m l (Free pointer) pointer k c e (inl refl)
+named-stale n m l k c (Some (Realloc pointer size)) e = call-stale n m l (Realloc pointer size) pointer k c e (inr (size, refl))
+named-stale n m l k c (Some (Free pointer)) e = call-stale n m l (Free pointer) pointer k c e (inl refl)
+named-stale n m l k c (Some (UsableSize pointer)) e = tt
 
 freed-step : (n : ℕ) (m : Machine) (l : Live) (xs : List BlockChunk) → Sound (state_of m l) → IsCarefulNext m l → Each (StaleIn m) xs → Each (StaleIn (after_attempt n m).machine) (freed_after n m l xs)
 unfolding freed_after
 freed-step n m l xs k c a =
     let after = after-attempt-kept n m l k c in
-    let new = named_chunks (state_of (before_service m) l) (next_request m) in
+    let new = named_chunks (state_of (before_service m) l) (next_call m) in
     let old = each-weaker (StaleIn m) (MayBeStale (after_attempt n m).machine) (λ x st on. (st.0, after.stale (record { place = x.place; tag = x.tag; given = st.0 }) st.1 on)) xs a in
     all-filter (has_free_block (after_attempt n m).machine.parts.heap.stacks) (StaleIn (after_attempt n m).machine) (new ++ xs)
-    (each-append (MayBeStale (after_attempt n m).machine) new xs (named-stale n m l k c (next_request m) refl) old)
+    (each-append (MayBeStale (after_attempt n m).machine) new xs (named-stale n m l k c (next_call m) refl) old)
 
 -- ---- a slice
 
@@ -189,7 +192,7 @@ own-kept (OwnStop ∷ more) m k l xs s a c e = absurd (gone-stays more _ k e)
 -- ---- admitted tenants
 
 abbrev IsAccepted : ℕ → Life → Type 0
-IsAccepted frames life = (ledger : List LedgerEntry) × (admission_refusal frames ledger life.id life.terms ≡ None)
+IsAccepted frames life = (ledger : List LedgerEntry) × (admission_refusal frames ledger life.id life.start ≡ None)
 
 refused-none : (o : Option AdmitError) → option_map refusal.Admit o ≡ None → o ≡ None
 refused-none (Some e) h = absurd cc
@@ -198,7 +201,7 @@ refused-none None h = refl
 life-is : (a b : Life) → Some a ≡ Some b → a ≡ b
 life-is a b e = cc
 
-accepted-among : (b : Bool) (frames : ℕ) (ledger : List LedgerEntry) (a life : Life) (o : Option Life) → admission_refusal frames ledger a.id a.terms ≡ None → cond b (Some a) o ≡ Some life → (o ≡ Some life → IsAccepted frames life) → IsAccepted frames life
+accepted-among : (b : Bool) (frames : ℕ) (ledger : List LedgerEntry) (a life : Life) (o : Option Life) → admission_refusal frames ledger a.id a.start ≡ None → cond b (Some a) o ≡ Some life → (o ≡ Some life → IsAccepted frames life) → IsAccepted frames life
 accepted-among true frames ledger a life o r e rest = subst (IsAccepted frames) (life-is a life e) (ledger, r)
 accepted-among false frames ledger a life o r e rest = rest e
 
@@ -208,8 +211,8 @@ unfolding call_refusal
 accepted-by (Some x) e frames ledger own more id life h f rest = rest f
 accepted-by None (Slice k n) frames ledger own more id life h f rest = rest f
 accepted-by None (Stop k) frames ledger own more id life h f rest = rest f
-accepted-by None (Admit k terms) frames ledger own more id life h f rest =
-    let a : Life = record { id = k; terms = terms; own = own k } in
+accepted-by None (Admit k start) frames ledger own more id life h f rest =
+    let a : Life = record { id = k; start = start; own = own k } in
     accepted-among (k == id) frames ledger a life (life_among id more) (refused-none _ h) f rest
 
 accepted : (frames : ℕ) (ledger : List LedgerEntry) (calls : List Call) (id : ℕ) (life : Life) → life_among id (lives_from frames ledger calls) ≡ Some life → IsAccepted frames life
@@ -235,7 +238,7 @@ machine-of s life m h =
 kept-in-session : (s : Session) (life : Life) (m : Machine) → IsCarefulIn s life m → AreKept m (live_of life.own (first_machine life) no_chunks) (freed_in life)
 kept-in-session s life m h =
     let a = accepted s.frames [] s.calls life.id life h.admitted in
-    own-kept life.own (first_machine life) m no_chunks [] (tenants-start s.frames a.0 life.id life.terms a.1 h.sync) tt h.careful (machine-of s life m h)
+    own-kept life.own (first_machine life) m no_chunks [] (tenants-start s.frames a.0 life.id life.start a.1 h.sync) tt h.careful (machine-of s life m h)
 
 pub tenants-stay : TenantsStaySound
 tenants-stay = λ s life m h. (kept-in-session s life m h).sound

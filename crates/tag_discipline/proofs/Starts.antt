@@ -22,7 +22,7 @@ use Rattle.mte_elf.proofs.WholeLemmas.{image_whole, limit-with_segments, state-w
 use Rattle.scudo_heap.specs.Served.{IsUntouched}
 use Rattle.mte_tenant.specs.declared.admission.TheConstants.{MAX_LIVE}
 use Rattle.mte_tenant.specs.declared.admission.AdmitError.TheVariants.{Duplicate, BadReservation, Image, ReservationTooSmall, NoFrames, TooManyLive}
-use Rattle.mte_tenant.specs.Machines.{Terms, start_of, first_memory, first_parts, first_registers}
+use Rattle.mte_tenant.specs.Machines.{Start, start_of, first_memory, first_parts, first_registers}
 use Rattle.mte_tenant.specs.Ledger.{LedgerEntry, charge_of, charge_of_entry, is_live, has_id, first_of, refuse_if, is_bad, admission_refusal}
 use Rattle.mte_tenant.proofs.MachineLemmas.{none-no_pages, left-no_pages, limit-no_pages, attrs-none}
 use Rattle.tag_discipline.specs.Discipline.{IsNew, TenantsStartSound}
@@ -39,22 +39,22 @@ no-refusal false false small full many (Some e) h = absurd cc
 no-refusal false false true full many None h = absurd cc
 no-refusal false false false full many None h = (refl, refl, refl)
 
-record Passed (t : Terms) : Type 0 where
+record Passed (t : Start) : Type 0 where
   image : refusal_of t.image ≡ None
-  room : pages_of t.image + STACK_PAGES ≤ t.pages
-  most : t.pages ≤ MAX_PAGES
+  room : pages_of t.image + STACK_PAGES ≤ t.terms.pages
+  most : t.terms.pages ≤ MAX_PAGES
 
-passed : (frames : ℕ) (ledger : List LedgerEntry) (id : ℕ) (t : Terms) → admission_refusal frames ledger id t ≡ None → Passed t
+passed : (frames : ℕ) (ledger : List LedgerEntry) (id : ℕ) (t : Start) → admission_refusal frames ledger id t ≡ None → Passed t
 unfolding admission_refusal
 passed frames ledger id t h =
-    let n = no-refusal (list_any (has_id id) ledger) (is_bad t) (nat_lt t.pages (pages_of t.image + STACK_PAGES)) (nat_lt (frames - sum_by charge_of_entry ledger) (charge_of t.pages))
+    let n = no-refusal (list_any (has_id id) ledger) (is_bad t.terms) (nat_lt t.terms.pages (pages_of t.image + STACK_PAGES)) (nat_lt (frames - sum_by charge_of_entry ledger) (charge_of t.terms.pages))
     (nat_lt (MAX_LIVE - 1) (count_by is_live ledger)) (refusal_of t.image) h in
-    let bad = or_false _ (nat_lt MAX_OUTPUT t.room) n.0 in
-    let big = or_false (t.pages == 0) (nat_lt MAX_PAGES t.pages) bad.0 in
+    let bad = or_false _ (nat_lt MAX_OUTPUT t.terms.room) n.0 in
+    let big = or_false (t.terms.pages == 0) (nat_lt MAX_PAGES t.terms.pages) bad.0 in
     record {
       image = n.1;
-      room = ltb-false t.pages (pages_of t.image + STACK_PAGES) n.2;
-      most = ltb-false MAX_PAGES t.pages big.1;
+      room = ltb-false t.terms.pages (pages_of t.image + STACK_PAGES) n.2;
+      most = ltb-false MAX_PAGES t.terms.pages big.1;
     }
 
 -- ---- the first memory
@@ -92,18 +92,18 @@ module _ (image : List ℕ) (pages : ℕ) (mode : TagMode) (good : refusal_of im
   first-untouched = λ q lo hi.
       attrs_at-with_new_pages_out 4 loaded 0x3FFFC (record { 0 = 11 }) q (λ l h. absurd (omega arith)) ∙ attrs-none loaded q (above q (omega arith))
 
-first-new : (t : Terms) → Passed t → t.mode ≡ Sync → IsNew (first_memory t.image t.pages t.mode) t.pages
+first-new : (t : Start) → Passed t → t.terms.mode ≡ Sync → IsNew (first_memory t.image t.terms.pages t.terms.mode) t.terms.pages
 first-new t p sync =
-    let limit = first-limit t.image t.pages t.mode p.image p.room in
+    let limit = first-limit t.image t.terms.pages t.terms.mode p.image p.room in
     record {
-      whole = first-whole t.image t.pages t.mode p.image p.room;
-      sync = first-mode t.image t.pages t.mode p.image p.room ∙ sync;
+      whole = first-whole t.image t.terms.pages t.terms.mode p.image p.room;
+      sync = first-mode t.image t.terms.pages t.terms.mode p.image p.room ∙ sync;
       limit = omega arith;
       most = p.most;
-      untouched = first-untouched t.image t.pages t.mode p.image p.room;
+      untouched = first-untouched t.image t.terms.pages t.terms.mode p.image p.room;
     }
 
 pub tenants-start : TenantsStartSound
 unfolding start_of first_parts
 tenants-start = λ frames ledger id t r sync.
-    starts (first_memory t.image t.pages t.mode) (t.seed / 2 ^ 32) t.pages (first_registers (entry_of t.image) t.seed).rgsr (first-new t (passed frames ledger id t r) sync)
+    starts (first_memory t.image t.terms.pages t.terms.mode) (t.terms.seed / 2 ^ 32) t.terms.pages (first_registers (entry_of t.image) t.terms.seed).rgsr (first-new t (passed frames ledger id t r) sync)

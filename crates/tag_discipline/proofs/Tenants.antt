@@ -1,7 +1,5 @@
 -- A machine's careful instructions keep its live chunks Sound.
 use Rattle.std.proofs.Common.{◌≡◌, ◌≢◌, ℕ, zero, suc, ◌==◌, ◌&&◌, Bool, true, false, cond, Option, Some, None, List, Result, Ok, Err, refl, sym, ap, subst, ◌∙◌, inl, inr, arith}
-use Rattle.std.proofs.lemmas.Bool.{cases_eq, cond-false, eqb-true}
-use Rattle.std.proofs.lemmas.Bool.Decides.{nat_tests}
 use Rattle.mte_tags.specs.Memory.{Memory, page_at, attrs_at, pages_left, with_pending}
 use Rattle.mte_tags.specs.Accesses.{read_fault, write_fault, access_cases, after_access, after_read, after_write}
 use Rattle.mte_tags.specs.declared.access.Access.{Access}
@@ -13,26 +11,20 @@ use Rattle.a64_step.specs.declared.outcome.Outcome.TheVariants as outcome
 use Rattle.a64_step.specs.Steps.{step_of, next_stores_tags}
 use Rattle.a64_step.proofs.Effects.{step_orderly}
 use Rattle.scudo_heap.specs.declared.abort.HeapAbort.{HeapAbort}
-use Rattle.scudo_heap.specs.declared.chunk.Found.{Found}
+use Rattle.scudo_heap.specs.declared.call.HeapCall.{HeapCall}
 use Rattle.scudo_heap.specs.Placing.{World, world_of}
-use Rattle.scudo_heap.specs.Freeing as freeing
-use Rattle.scudo_heap.specs.Freeing.{free_of}
-use Rattle.scudo_heap.specs.Realloc as reallocation
-use Rattle.scudo_heap.specs.Allocation.{after_malloc}
-use Rattle.scudo_header.specs.declared.headers.Origin.TheVariants as origin
-use Rattle.mte_svc.specs.declared.calls.HeapService.{HeapService}
-use Rattle.mte_svc.specs.declared.calls.HeapService.TheVariants as calls
-use Rattle.scudo_heap.specs.Realloc.{after_realloc}
+use Rattle.scudo_heap.specs.Calls.{after_call}
+use Rattle.scudo_heap.proofs.CallLemmas.{call_stays}
 use Rattle.mte_svc.specs.declared.parts.TenantParts.{TenantParts}
 use Rattle.mte_svc.specs.declared.services.SvcEnd.{SvcEnd}
 use Rattle.mte_svc.specs.declared.services.SvcEnd.TheVariants as end
 use Rattle.mte_svc.specs.Results.{Served, x_of, with_answer, with_logged_call}
-use Rattle.mte_svc.specs.Services.{write_count, write_cases, after_write_service, read_count, read_cases, after_read_service, by_number, after_svc}
-use Rattle.mte_svc.specs.HeapServices.{malloc_service, calloc_service, memalign_service, free_answer_cases, free_service, answer_cases, realloc_service, usable_size_service}
+use Rattle.mte_svc.specs.Services.{write_count, write_cases, after_write_service, read_count, read_cases, after_read_service, after_other_service, service_cases, after_svc}
+use Rattle.mte_svc.specs.HeapServices.{heap_call_in, heap_service_cases, after_heap_service}
 use Rattle.mte_tenant.specs.Machines.{Machine, machine_of, with_regs, with_steps, runs, continues, stop_by_tag, after_service, with_service, after_outcome, after_attempt, after_attempts, after_slice_end, after_slice}
-use Rattle.tag_discipline.specs.CarefulRuns.{State, Live, HeapRequest, Malloc, Calloc, Memalign, Realloc, Free, after_call, IsQuiet, HasFree}
+use Rattle.tag_discipline.specs.CarefulRuns.{State, Live, live_after_call, state_after_call, IsQuiet, HasFree}
 use Rattle.tag_discipline.specs.CarefulRuns as heap
-use Rattle.tag_discipline.specs.CarefulTenants.{state_of, before_service, request_of_service, request_at, next_request, live_after_request, live_after, IsCarefulNext, live_through, IsCareful, Steps, stop, next}
+use Rattle.tag_discipline.specs.CarefulTenants.{state_of, before_service, call_at, next_call, live_after_cases, live_after, IsCarefulNext, live_through, IsCareful, Steps, stop, next}
 use Rattle.tag_discipline.specs.SoundHeaps.{Sound}
 use Rattle.tag_discipline.proofs.Freed.{Freed, IsStale}
 use Rattle.tag_discipline.proofs.FreeStates.{IsKeptOn, kept-same}
@@ -110,61 +102,23 @@ read-kept p m l n None k = quiet-kept (before p m l) _ k (record {
   whole = whole-after_write m (x_of p 0) _ true k.whole;
 })
 
--- ---- a free or realloc that aborts leaves the world as it was
-
-freed-error : (w : World) (r : Result Found HeapAbort) (e : HeapAbort) → (freeing.free_cases w r).result ≡ Err e → (freeing.free_cases w r).world ≡ w
-freed-error w (Err a) e h = refl
-freed-error w (Ok f) e h = cc
-
-free-either : (b : Bool) (w : World) (x y : freeing.Freed) (e : HeapAbort) → (x.result ≡ Err e → x.world ≡ w) → (y.result ≡ Err e → y.world ≡ w) → (cond b x y).result ≡ Err e → (cond b x y).world ≡ w
-free-either true w x y e f g h = f h
-free-either false w x y e f g h = g h
-
-free-error : (w : World) (pointer : ℕ) (e : HeapAbort) → (free_of w pointer).result ≡ Err e → (free_of w pointer).world ≡ w
-unfolding free_of
-free-error w pointer e = free-either (pointer == 0) w _ (freeing.free_cases w (heap.found_at w pointer)) e (λ h. refl) (freed-error w (heap.found_at w pointer) e)
-
-reallocated-error : (w : World) (size : ℕ) (r : Result Found HeapAbort) (e : HeapAbort) → reallocation.realloc_answer (reallocation.checked_realloc_cases w size r).result ≡ Err e → (reallocation.checked_realloc_cases w size r).world ≡ w
-reallocated-error w size (Err a) e h = refl
-reallocated-error w size (Ok f) e h = cc
-
-realloc-either : (b : Bool) (w : World) (x y : reallocation.ReallocResult) (e : HeapAbort) → (reallocation.realloc_answer x.result ≡ Err e → x.world ≡ w) → (reallocation.realloc_answer y.result ≡ Err e → y.world ≡ w)
-    → reallocation.realloc_answer (cond b x y).result ≡ Err e → (cond b x y).world ≡ w
-realloc-either true w x y e f g h = f h
-realloc-either false w x y e f g h = g h
-
-realloc-error : (w : World) (pointer size : ℕ) (e : HeapAbort) → reallocation.realloc_answer (after_realloc w pointer size).result ≡ Err e → (after_realloc w pointer size).world ≡ w
-unfolding after_realloc
-realloc-error w pointer size e = realloc-either (pointer == 0) w (reallocation.reallocation_of (after_malloc w size)) (reallocation.checked_realloc_cases w size (heap.found_at w pointer)) e (λ h. cc) (reallocated-error w size (heap.found_at w pointer) e)
+-- ---- a heap call
 
 abbrev of_world : World → Live → State
 of_world w l = record { world = w; live = l }
 
-freed-is : (p : TenantParts) (m : Memory) (j : Live) (w : World) (r : Result (Unit {0}) HeapAbort) → ((e : HeapAbort) → r ≡ Err e → w ≡ world_of m p.heap p.regs.rgsr) → after (free_answer_cases p m w r) j ≡ of_world w j
+-- one that aborts leaves the world as it was
+call-cases-are : (p : TenantParts) (m : Memory) (j : Live) (c : HeapCall) (w : World) (r : Result ℕ HeapAbort) → ((e : HeapAbort) → r ≡ Err e → w ≡ world_of m p.heap p.regs.rgsr) → after (heap_service_cases p m c w r) j ≡ of_world w j
 unfolding with_answer with_logged_call
-freed-is p m j w (Err e) h = ap (λ v. of_world v j) (sym (h e refl))
-freed-is p m j w (Ok done) h = refl
+call-cases-are p m j c w (Err e) h = ap (λ v. of_world v j) (sym (h e refl))
+call-cases-are p m j c w (Ok value) h = refl
 
-check-pointer-is : (p : TenantParts) (m : Memory) (j : Live) (service : HeapService) (second : ℕ) (w : World) (r : Result ℕ HeapAbort) → ((e : HeapAbort) → r ≡ Err e → w ≡ world_of m p.heap p.regs.rgsr) → after (answer_cases p m service second w r) j ≡ of_world w j
-unfolding with_answer with_logged_call
-check-pointer-is p m j service second w (Err e) h = ap (λ v. of_world v j) (sym (h e refl))
-check-pointer-is p m j service second w (Ok value) h = refl
-
--- ---- the services, by number
-
-abbrev IsServiceKept : ℕ → TenantParts → Memory → Live → Type 0
-IsServiceKept n p m l = IsKeptOn (before p m l) (after (by_number n p m) (live_after_request (request_of_service n p) (before p m l)))
-
--- the world after a realloc is that of the call
-realloc-both : (b : Bool) (u v : State) (x y : reallocation.ReallocResult) → u.world ≡ x.world → (b ≡ false → v.world ≡ y.world) → (cond b u v).world ≡ (cond b x y).world
-realloc-both true u v x y e f = e
-realloc-both false u v x y e f = f refl
-
-realloc-world-is : (s : State) (pointer size : ℕ) → (heap.state_after_realloc s pointer size).world ≡ (after_realloc s.world pointer size).world
-unfolding after_realloc
-realloc-world-is s pointer size =
-    realloc-both (pointer == 0) (heap.state_after_allocation origin.Malloc s.live (after_malloc s.world size)) _ (reallocation.reallocation_of (after_malloc s.world size)) (reallocation.checked_realloc_cases s.world size (heap.found_at s.world pointer)) refl
-    (λ e. ap (λ (r : reallocation.ReallocResult). r.world) (cond-false (pointer == 0) (reallocation.reallocation_of (after_malloc s.world size)) (reallocation.checked_realloc_cases s.world size (heap.found_at s.world pointer)) e))
+-- what the service leaves is what the call leaves
+heap-service-done : (p : TenantParts) (m : Memory) (l : Live) (c : HeapCall) → after (after_heap_service p m c) (state_after_call c (before p m l)).live ≡ state_after_call c (before p m l)
+unfolding after_heap_service state_after_call
+heap-service-done p m l c =
+    let w = world_of m p.heap p.regs.rgsr in
+    call-cases-are p m (live_after_call c (before p m l)) c (after_call w c).world (after_call w c).answer (call_stays w c)
 
 -- ---- all services
 
@@ -172,127 +126,32 @@ pick : (p : TenantParts) (m : Memory) (l : Live) (b : Bool) (x y : Served) → (
 pick p m l true x y f g = f refl
 pick p m l false x y f g = g refl
 
--- what a service that asks nothing of the heap leaves
-record IsOther (n : ℕ) : Type 0 where
-  malloc : n ≢ 3
-  free : n ≢ 4
-  calloc : n ≢ 5
-  realloc : n ≢ 6
-  memalign : n ≢ 7
-
-usable-kept : (p : TenantParts) (m : Memory) (l : Live) → Sound (before p m l) → IsKeptOn (before p m l) (after (usable_size_service p m) l)
-unfolding usable_size_service
-usable-kept p m l k =
-    let w = world_of m p.heap p.regs.rgsr in
-    subst (IsKeptOn (before p m l)) (sym (check-pointer-is p m l calls.UsableSize 0 w (freeing.usable_size_of m p.heap (x_of p 0)) (λ e h. refl))) (kept-same (before p m l) k)
-
-other-service : (n : ℕ) (p : TenantParts) (m : Memory) (l : Live) → IsOther n → Sound (before p m l) → IsKeptOn (before p m l) (after (by_number n p m) l)
-unfolding after_write_service after_read_service with_answer
-other-service n p m l o k =
+other-service : (p : TenantParts) (m : Memory) (l : Live) → Sound (before p m l) → IsKeptOn (before p m l) (after (after_other_service p m) l)
+unfolding after_other_service after_write_service after_read_service with_answer
+other-service p m l k =
+    let n = x_of p 8 in
     let same = kept-same (before p m l) k in
     pick p m l (n == 0) _ _ (λ e. same)
     (λ e. pick p m l (n == 1) _ _ (λ f. after-write-service-kept p m l (write_count p) (read_fault m (x_of p 0) (write_count p) true) k)
     (λ f. pick p m l (n == 2) _ _ (λ g. read-kept p m l (read_count p) (write_fault m (x_of p 0) (read_count p) true) k)
-    (λ g. pick p m l (n == 3) _ _ (λ h. absurd (o.malloc (eqb-true n 3 h)))
-    (λ h. pick p m l (n == 4) _ _ (λ i. absurd (o.free (eqb-true n 4 i)))
-    (λ i. pick p m l (n == 5) _ _ (λ j. absurd (o.calloc (eqb-true n 5 j)))
-    (λ j. pick p m l (n == 6) _ _ (λ q. absurd (o.realloc (eqb-true n 6 q)))
-    (λ q. pick p m l (n == 7) _ _ (λ r. absurd (o.memalign (eqb-true n 7 r)))
-    (λ r. pick p m l (n == 8) _ _ (λ s. usable-kept p m l k)
-    (λ s. pick p m l (n == 9) _ _ (λ t. same)
-    (λ t. pick p m l (n == 10) _ _ (λ u. same)
-    (λ u. pick p m l (n == 11) _ _ (λ v. same) (λ v. same))))))))))))
+    (λ g. pick p m l (n == 9) _ _ (λ h. same)
+    (λ h. pick p m l (n == 10) _ _ (λ i. same)
+    (λ i. pick p m l (n == 11) _ _ (λ j. same) (λ j. same))))))
 
-off : (n k : ℕ) → n ≢ k → (n == k) ≡ false
-off n k h = grind (arith, nat_tests)
+abbrev MayServe : Option HeapCall → TenantParts → Memory → Live → Type 0
+MayServe o p m l = (c : HeapCall) → o ≡ Some c → heap.IsCareful (before p m l) c
 
-no-request : (n : ℕ) (p : TenantParts) → IsOther n → request_of_service n p ≡ None
-no-request n p o =
-    let a : (n == 3) ≡ false = off n 3 o.malloc in
-    let b : (n == 4) ≡ false = off n 4 o.free in
-    let c : (n == 5) ≡ false = off n 5 o.calloc in
-    let d : (n == 6) ≡ false = off n 6 o.realloc in
-    let e : (n == 7) ≡ false = off n 7 o.memalign in
-    cond-false _ _ _ a ∙ cond-false _ _ _ b ∙ cond-false _ _ _ c ∙ cond-false _ _ _ d ∙ cond-false _ _ _ e
+cases-kept : (o : Option HeapCall) (p : TenantParts) (m : Memory) (l : Live) → Sound (before p m l) → MayServe o p m l → IsKeptOn (before p m l) (after (service_cases o p m) (live_after_cases o (before p m l)))
+cases-kept None p m l k c = other-service p m l k
+cases-kept (Some d) p m l k c = subst (IsKeptOn (before p m l)) (sym (heap-service-done p m l d)) (call-kept (before p m l) d k (c d refl))
 
-abbrev MayServe : ℕ → TenantParts → Memory → Live → Type 0
-MayServe n p m l = (c : HeapRequest) → request_of_service n p ≡ Some c → heap.IsCareful (before p m l) c
-
--- ---- what a service asks of the heap is what it leaves
-
-abbrev IsDone : ℕ → TenantParts → Memory → Live → HeapRequest → Type 0
-IsDone n p m l c = after (by_number n p m) (after_call c (before p m l)).live ≡ after_call c (before p m l)
-
-some-is : (c d : HeapRequest) → Some c ≡ Some d → c ≡ d
+some-is : (c d : HeapCall) → Some c ≡ Some d → c ≡ d
 some-is c d e = cc
 
-malloc-done : (p : TenantParts) (m : Memory) (l : Live) → IsDone 3 p m l (Malloc (x_of p 0))
-unfolding malloc_service with_answer with_logged_call after_call
-malloc-done p m l = refl
-
-free-done : (p : TenantParts) (m : Memory) (l : Live) → IsDone 4 p m l (Free (x_of p 0))
-unfolding free_service after_call
-free-done p m l =
-    let w = world_of m p.heap p.regs.rgsr in
-    freed-is p m (heap.state_after_free (before p m l) (x_of p 0)).live (free_of w (x_of p 0)).world (free_of w (x_of p 0)).result (free-error w (x_of p 0))
-
-calloc-done : (p : TenantParts) (m : Memory) (l : Live) → IsDone 5 p m l (Calloc (x_of p 0) (x_of p 1))
-unfolding calloc_service with_answer with_logged_call after_call
-calloc-done p m l = refl
-
-realloc-done : (p : TenantParts) (m : Memory) (l : Live) → IsDone 6 p m l (Realloc (x_of p 0) (x_of p 1))
-unfolding realloc_service after_call
-realloc-done p m l =
-    let w = world_of m p.heap p.regs.rgsr in
-    let s = before p m l in
-    let r = after_realloc w (x_of p 0) (x_of p 1) in
-    let j = (heap.state_after_realloc s (x_of p 0) (x_of p 1)).live in
-    check-pointer-is p m j calls.Realloc (x_of p 1) r.world (reallocation.realloc_answer r.result) (realloc-error w (x_of p 0) (x_of p 1))
-    ∙ ap (λ v. of_world v j) (sym (realloc-world-is s (x_of p 0) (x_of p 1)))
-
-memalign-done : (p : TenantParts) (m : Memory) (l : Live) → IsDone 7 p m l (Memalign (x_of p 0) (x_of p 1))
-unfolding memalign_service with_answer with_logged_call after_call
-memalign-done p m l = refl
-
-abbrev IsDoneFor : ℕ → TenantParts → Memory → Live → HeapRequest → Type 0
-IsDoneFor n p m l c = request_of_service n p ≡ Some c → IsDone n p m l c
-
-number-done : (n : ℕ) (p : TenantParts) (m : Memory) (l : Live) (c : HeapRequest) → IsDoneFor n p m l c
-number-done n p m l c = elim (cases_eq n 3) [
-  | inl e ↦ subst (λ t. IsDoneFor t p m l c) (sym e) (λ f. subst (IsDone 3 p m l) (some-is _ c f) (malloc-done p m l))
-  | inr a ↦ elim (cases_eq n 4) [
-    | inl e ↦ subst (λ t. IsDoneFor t p m l c) (sym e) (λ f. subst (IsDone 4 p m l) (some-is _ c f) (free-done p m l))
-    | inr b ↦ elim (cases_eq n 5) [
-      | inl e ↦ subst (λ t. IsDoneFor t p m l c) (sym e) (λ f. subst (IsDone 5 p m l) (some-is _ c f) (calloc-done p m l))
-      | inr d ↦ elim (cases_eq n 6) [
-        | inl e ↦ subst (λ t. IsDoneFor t p m l c) (sym e) (λ f. subst (IsDone 6 p m l) (some-is _ c f) (realloc-done p m l))
-        | inr g ↦ elim (cases_eq n 7) [
-          | inl e ↦ subst (λ t. IsDoneFor t p m l c) (sym e) (λ f. subst (IsDone 7 p m l) (some-is _ c f) (memalign-done p m l))
-          | inr h ↦ λ f.
-              let none = no-request n p (record { malloc = a; free = b; calloc = d; realloc = g; memalign = h }) in
-              let z : None ≡ Some c = sym none ∙ f in
-              cc
-        ]
-      ]
-    ]
-  ]
-]
-
-is-other : (n : ℕ) (p : TenantParts) → request_of_service n p ≡ None → IsOther n
-is-other n p h = record {
-  malloc = λ e. let z : Some (Malloc (x_of p 0)) ≡ None = subst (λ t. request_of_service t p ≡ None) e h in cc;
-  free = λ e. let z : Some (Free (x_of p 0)) ≡ None = subst (λ t. request_of_service t p ≡ None) e h in cc;
-  calloc = λ e. let z : Some (Calloc (x_of p 0) (x_of p 1)) ≡ None = subst (λ t. request_of_service t p ≡ None) e h in cc;
-  realloc = λ e. let z : Some (Realloc (x_of p 0) (x_of p 1)) ≡ None = subst (λ t. request_of_service t p ≡ None) e h in cc;
-  memalign = λ e. let z : Some (Memalign (x_of p 0) (x_of p 1)) ≡ None = subst (λ t. request_of_service t p ≡ None) e h in cc;
-}
-
-by-request : (r : Option HeapRequest) (n : ℕ) (p : TenantParts) (m : Memory) (l : Live) → request_of_service n p ≡ r → Sound (before p m l) → MayServe n p m l → IsKeptOn (before p m l) (after (by_number n p m) (live_after_request r (before p m l)))
-by-request None n p m l e k c = other-service n p m l (is-other n p e) k
-by-request (Some d) n p m l e k c = subst (IsKeptOn (before p m l)) (sym (number-done n p m l d e)) (call-kept (before p m l) d k (c d e))
-
-by-number : (n : ℕ) (p : TenantParts) (m : Memory) (l : Live) → Sound (before p m l) → MayServe n p m l → IsServiceKept n p m l
-by-number n p m l k c = by-request (request_of_service n p) n p m l refl k c
+cases-done : (o : Option HeapCall) (p : TenantParts) (m : Memory) (l : Live) (c : HeapCall) → o ≡ Some c → after (service_cases o p m) (state_after_call c (before p m l)).live ≡ state_after_call c (before p m l)
+cases-done None p m l c e = cc
+cases-done (Some d) p m l c e =
+    subst (λ t. after (after_heap_service p m t) (state_after_call c (before p m l)).live ≡ state_after_call c (before p m l)) (some-is c d (sym e)) (heap-service-done p m l c)
 
 -- ---- an attempted instruction
 
@@ -304,20 +163,20 @@ ended-state (end.Exit code) k l = refl
 ended-state (end.Fault f) k l = refl
 ended-state (end.Abort a pointer) k l = refl
 
-after-svc-kept : (p : TenantParts) (m : Memory) (l : Live) → Sound (before p m l) → MayServe (x_of p 8) p m l → IsKeptOn (before p m l) (state_of (with_service (after_svc p m)).machine (live_after_request (request_of_service (x_of p 8) p) (before p m l)))
+after-svc-kept : (p : TenantParts) (m : Memory) (l : Live) → Sound (before p m l) → MayServe (heap_call_in p) p m l → IsKeptOn (before p m l) (state_of (with_service (after_svc p m)).machine (live_after_cases (heap_call_in p) (before p m l)))
 unfolding after_svc
 after-svc-kept p m l k c =
-    let s = by_number (x_of p 8) p m in
-    let j = live_after_request (request_of_service (x_of p 8) p) (before p m l) in
-    subst (IsKeptOn (before p m l)) (ended-state s.end (machine_of s.parts s.memory) j) (by-number (x_of p 8) p m l k c)
+    let s = service_cases (heap_call_in p) p m in
+    let j = live_after_cases (heap_call_in p) (before p m l) in
+    subst (IsKeptOn (before p m l)) (ended-state s.end (machine_of s.parts s.memory) j) (cases-kept (heap_call_in p) p m l k c)
 
-flag-kept : (b : Bool) (p : TenantParts) (m : Memory) (l : Live) → Sound (before p m l) → ((c : HeapRequest) → cond b None (request_of_service (x_of p 8) p) ≡ Some c → heap.IsCareful (before p m l) c)
-    → IsKeptOn (before p m l) (state_of (cond b (continues (stop_by_tag (machine_of p m))) (with_service (after_svc p m))).machine (live_after_request (cond b None (request_of_service (x_of p 8) p)) (before p m l)))
+flag-kept : (b : Bool) (p : TenantParts) (m : Memory) (l : Live) → Sound (before p m l) → ((c : HeapCall) → cond b None (heap_call_in p) ≡ Some c → heap.IsCareful (before p m l) c)
+    → IsKeptOn (before p m l) (state_of (cond b (continues (stop_by_tag (machine_of p m))) (with_service (after_svc p m))).machine (live_after_cases (cond b None (heap_call_in p)) (before p m l)))
 flag-kept true p m l k c = kept-same (before p m l) k
 flag-kept false p m l k c = after-svc-kept p m l k c
 
-after-outcome-kept : (o : Outcome) (p : TenantParts) (m : Memory) (l : Live) → Sound (before p m l) → ((c : HeapRequest) → request_at o (machine_of p m) ≡ Some c → heap.IsCareful (before p m l) c)
-    → IsKeptOn (before p m l) (state_of (after_outcome o (machine_of p m)).machine (live_after_request (request_at o (machine_of p m)) (before p m l)))
+after-outcome-kept : (o : Outcome) (p : TenantParts) (m : Memory) (l : Live) → Sound (before p m l) → ((c : HeapCall) → call_at o (machine_of p m) ≡ Some c → heap.IsCareful (before p m l) c)
+    → IsKeptOn (before p m l) (state_of (after_outcome o (machine_of p m)).machine (live_after_cases (call_at o (machine_of p m)) (before p m l)))
 unfolding after_outcome
 after-outcome-kept outcome.Next p m l k c = kept-same (before p m l) k
 after-outcome-kept outcome.Svc p m l k c = flag-kept m.state.pending p m l k c
@@ -341,40 +200,40 @@ step-quiet m l tagless k =
     })
 
 -- the counts are no part of what is asked
-request-with-steps : (o : Outcome) (n : ℕ) (p : TenantParts) (m : Memory) → request_at o (machine_of p m) ≡ request_at o (machine_of (with_steps 1 n p) m)
-request-with-steps outcome.Next n p m = refl
-request-with-steps outcome.Svc n p m = refl
-request-with-steps (outcome.Fault f) n p m = refl
-request-with-steps (outcome.Illegal w) n p m = refl
-request-with-steps (outcome.Breakpoint i) n p m = refl
+call-with-steps : (o : Outcome) (n : ℕ) (p : TenantParts) (m : Memory) → call_at o (machine_of p m) ≡ call_at o (machine_of (with_steps 1 n p) m)
+call-with-steps outcome.Next n p m = refl
+call-with-steps outcome.Svc n p m = refl
+call-with-steps (outcome.Fault f) n p m = refl
+call-with-steps (outcome.Illegal w) n p m = refl
+call-with-steps (outcome.Breakpoint i) n p m = refl
 
 pub after-attempt-kept : (n : ℕ) (m : Machine) (l : Live) → Sound (state_of m l) → IsCarefulNext m l → IsKeptOn (state_of m l) (state_of (after_attempt n m).machine (live_after m l))
-unfolding after_attempt live_after next_request
+unfolding after_attempt live_after next_call
 after-attempt-kept n m l k c =
     let o = (step_of m.parts.regs m.memory).outcome in
     let memory = (step_of m.parts.regs m.memory).memory in
     let q = with_regs m.parts (step_of m.parts.regs m.memory).regs in
     let p = with_steps 1 n q in
-    let e : request_at o (machine_of q memory) ≡ request_at o (machine_of p memory) = request-with-steps o n q memory in
+    let e : call_at o (machine_of q memory) ≡ call_at o (machine_of p memory) = call-with-steps o n q memory in
     let first = step-quiet m l c.tags k in
-    let last = after-outcome-kept o p memory l first.sound (λ d f. c.request d (e ∙ f)) in
-    let then = subst (λ r. IsKeptOn (before p memory l) (state_of (after_outcome o (machine_of p memory)).machine (live_after_request r (before p memory l)))) (sym e) last in
+    let last = after-outcome-kept o p memory l first.sound (λ d f. c.call d (e ∙ f)) in
+    let then = subst (λ r. IsKeptOn (before p memory l) (state_of (after_outcome o (machine_of p memory)).machine (live_after_cases r (before p memory l)))) (sym e) last in
     record { sound = then.sound; stale = λ f st continues. then.stale f (first.stale f st st.stacked) continues }
 
 -- ---- what an instruction asks of the heap is what it leaves
 
-after-svc-done : (p : TenantParts) (m : Memory) (l : Live) (c : HeapRequest) → request_of_service (x_of p 8) p ≡ Some c → state_of (with_service (after_svc p m)).machine (after_call c (before p m l)).live ≡ after_call c (before p m l)
+after-svc-done : (p : TenantParts) (m : Memory) (l : Live) (c : HeapCall) → heap_call_in p ≡ Some c → state_of (with_service (after_svc p m)).machine (state_after_call c (before p m l)).live ≡ state_after_call c (before p m l)
 unfolding after_svc
 after-svc-done p m l c e =
-    let s = by_number (x_of p 8) p m in
-    sym (ended-state s.end (machine_of s.parts s.memory) (after_call c (before p m l)).live) ∙ number-done (x_of p 8) p m l c e
+    let s = service_cases (heap_call_in p) p m in
+    sym (ended-state s.end (machine_of s.parts s.memory) (state_after_call c (before p m l)).live) ∙ cases-done (heap_call_in p) p m l c e
 
-flag-done : (b : Bool) (p : TenantParts) (m : Memory) (l : Live) (c : HeapRequest) → cond b None (request_of_service (x_of p 8) p) ≡ Some c
-    → state_of (cond b (continues (stop_by_tag (machine_of p m))) (with_service (after_svc p m))).machine (after_call c (before p m l)).live ≡ after_call c (before p m l)
+flag-done : (b : Bool) (p : TenantParts) (m : Memory) (l : Live) (c : HeapCall) → cond b None (heap_call_in p) ≡ Some c
+    → state_of (cond b (continues (stop_by_tag (machine_of p m))) (with_service (after_svc p m))).machine (state_after_call c (before p m l)).live ≡ state_after_call c (before p m l)
 flag-done true p m l c e = cc
 flag-done false p m l c e = after-svc-done p m l c e
 
-after-outcome-done : (o : Outcome) (p : TenantParts) (m : Memory) (l : Live) (c : HeapRequest) → request_at o (machine_of p m) ≡ Some c → state_of (after_outcome o (machine_of p m)).machine (after_call c (before p m l)).live ≡ after_call c (before p m l)
+after-outcome-done : (o : Outcome) (p : TenantParts) (m : Memory) (l : Live) (c : HeapCall) → call_at o (machine_of p m) ≡ Some c → state_of (after_outcome o (machine_of p m)).machine (state_after_call c (before p m l)).live ≡ state_after_call c (before p m l)
 unfolding after_outcome
 after-outcome-done outcome.Next p m l c e = cc
 after-outcome-done outcome.Svc p m l c e = flag-done m.state.pending p m l c e
@@ -382,15 +241,15 @@ after-outcome-done (outcome.Fault f) p m l c e = cc
 after-outcome-done (outcome.Illegal w) p m l c e = cc
 after-outcome-done (outcome.Breakpoint i) p m l c e = cc
 
-pub after-attempt-done : (n : ℕ) (m : Machine) (l : Live) (c : HeapRequest) → next_request m ≡ Some c → state_of (after_attempt n m).machine (live_after m l) ≡ after_call c (state_of (before_service m) l)
-unfolding after_attempt live_after next_request
+pub after-attempt-done : (n : ℕ) (m : Machine) (l : Live) (c : HeapCall) → next_call m ≡ Some c → state_of (after_attempt n m).machine (live_after m l) ≡ state_after_call c (state_of (before_service m) l)
+unfolding after_attempt live_after next_call
 after-attempt-done n m l c e =
     let o = (step_of m.parts.regs m.memory).outcome in
     let memory = (step_of m.parts.regs m.memory).memory in
     let q = with_regs m.parts (step_of m.parts.regs m.memory).regs in
     let p = with_steps 1 n q in
-    let f : request_at o (machine_of p memory) ≡ Some c = sym (request-with-steps o n q memory) ∙ e in
-    ap (λ r. state_of (after_outcome o (machine_of p memory)).machine (live_after_request r (before p memory l))) e ∙ after-outcome-done o p memory l c f
+    let f : call_at o (machine_of p memory) ≡ Some c = sym (call-with-steps o n q memory) ∙ e in
+    ap (λ r. state_of (after_outcome o (machine_of p memory)).machine (live_after_cases r (before p memory l))) e ∙ after-outcome-done o p memory l c f
 
 -- ---- a slice
 

@@ -9,7 +9,7 @@ use Rattle.address_map.specs.declared.limits.TheConstants.{PAGE_SIZE, MAX_PAGES}
 use Rattle.address_map.specs.declared.ranges.TheConstants.{SECONDARY_START}
 use Rattle.scudo_primary.specs.Blocks.{IsBlock}
 use Rattle.scudo_primary.specs.Pools.{is_member}
-use Rattle.scudo_primary.specs.Lists.{IsClass}
+use Rattle.scudo_primary.specs.Blocks.{IsClass}
 use Rattle.scudo_heap.specs.Stacks.{StackState, pages_of, stack_of}
 use Rattle.tag_discipline.specs.LiveChunks.{LiveBlocks, ArePlaced, AreTagged}
 

@@ -1,9 +1,9 @@
 -- A heap and its live chunks through the calls of a tenant that stores no tags and leaves the
 -- headers of its chunks as the heap wrote them.
---     after_call c s      the state after a heap call: the call's world, and the live chunks
---     IsCareful s c       the pointer is one to a live chunk, whose header was not written
---     IsQuiet a b         a step that changes no tag, as every other one of such a tenant
---     Run P a b           steps from a to b, with P after each of them
+--     state_after_call c s   the state after a heap call: the call's world, and the live chunks
+--     IsCareful s c          the pointer is one to a live chunk, whose header was not written
+--     IsQuiet a b            a step that changes no tag, as every other one of such a tenant
+--     Run P a b              steps from a to b, with P after each of them
 use Rattle.std.specs.Prelude.{◌≡◌, ◌≢◌, ℕ, ◌-◌, ◌==◌, ◌⊎◌, nat_le, true}
 use Rattle.std.specs.Prelude.{Option, Some, None, Result, Ok, Err, if◌then◌else◌}
 use Rattle.std.specs.FinMap as finite
@@ -18,6 +18,9 @@ use Rattle.scudo_header.specs.declared.headers.Origin.{Origin}
 use Rattle.scudo_header.specs.declared.headers.Origin.TheVariants as origin
 use Rattle.scudo_primary.specs.Pools.{is_member}
 use Rattle.scudo_heap.specs.declared.abort.HeapAbort.{HeapAbort}
+use Rattle.scudo_heap.specs.declared.call.HeapCall.{HeapCall}
+use Rattle.scudo_heap.specs.declared.call.HeapCall.TheVariants.{Malloc, Free, Calloc, Realloc}
+use Rattle.scudo_heap.specs.declared.call.HeapCall.TheVariants.{Memalign, UsableSize}
 use Rattle.scudo_heap.specs.declared.limits.TheConstants.{MAX_REQUEST}
 use Rattle.scudo_heap.specs.declared.chunk.Place.{Place}
 use Rattle.scudo_heap.specs.declared.chunk.Chunk.{Chunk}
@@ -27,11 +30,9 @@ use Rattle.scudo_heap.specs.declared.chunk.Found.TheVariants.{InBlock, InPages}
 use Rattle.scudo_heap.specs.Stacks.{stack_of}
 use Rattle.scudo_heap.specs.Chunks.{end_of, block_end, with_size}
 use Rattle.scudo_heap.specs.Placing.{World}
-use Rattle.scudo_heap.specs.Allocation.{AllocationResult, after_malloc, after_calloc}
-use Rattle.scudo_heap.specs.Allocation.{after_memalign}
+use Rattle.scudo_heap.specs.Allocation.{after_malloc, after_calloc, after_memalign}
 use Rattle.scudo_heap.specs.Checks.{check_pointer}
-use Rattle.scudo_heap.specs.Freeing.{free_of}
-use Rattle.scudo_heap.specs.Realloc.{after_realloc}
+use Rattle.scudo_heap.specs.Calls.{after_call}
 use Rattle.tag_discipline.specs.LiveChunks.{BlockChunk, LiveBlocks, chunk_at, with_chunk}
 use Rattle.tag_discipline.specs.LiveChunks.{without_chunk, new_chunk}
 use Rattle.tag_discipline.specs.LivePages.{PageChunk, LivePages, large_at, with_large}
@@ -104,41 +105,33 @@ live_realloc_cases w l size (Ok f) = live_after_realloc w l f size
 
 -- ---- calls
 
-pub data HeapRequest : Type 0 where
-  Malloc : ℕ → HeapRequest
-  Calloc : ℕ → ℕ → HeapRequest
-  Memalign : ℕ → ℕ → HeapRequest
-  Realloc : ℕ → ℕ → HeapRequest
-  Free : ℕ → HeapRequest
-
 abbrev pub found_at : World → ℕ → Result Found HeapAbort
 found_at w pointer = check_pointer w.memory w.heap (plain pointer)
 
-abbrev pub state_after_allocation : Origin → Live → AllocationResult → State
-state_after_allocation o l m = record { world = m.world; live = with_made_chunk o l m.chunk }
+-- The null pointer: as malloc.
+abbrev pub live_realloc : State → ℕ → ℕ → Live
+live_realloc s pointer size = if pointer == 0
+    then with_made_chunk origin.Malloc s.live (after_malloc s.world size).chunk
+    else live_realloc_cases s.world s.live size (found_at s.world pointer)
 
-abbrev pub state_after_realloc : State → ℕ → ℕ → State
-state_after_realloc s pointer size = if pointer == 0
-    then state_after_allocation origin.Malloc s.live (after_malloc s.world size)
-    else record {
-      world = (after_realloc s.world pointer size).world;
-      live = live_realloc_cases s.world s.live size (found_at s.world pointer);
-    }
+abbrev pub live_free : State → ℕ → Live
+live_free s pointer =
+    if pointer == 0 then s.live else live_free_cases s.live (found_at s.world pointer)
 
-abbrev pub state_after_free : State → ℕ → State
-state_after_free s pointer = record {
-  world = (free_of s.world pointer).world;
-  live = if pointer == 0 then s.live else live_free_cases s.live (found_at s.world pointer);
-}
+abbrev pub live_after_call : HeapCall → State → Live
+live_after_call (Malloc size) s =
+    with_made_chunk origin.Malloc s.live (after_malloc s.world size).chunk
+live_after_call (Free pointer) s = live_free s pointer
+live_after_call (Calloc count size) s =
+    with_made_chunk origin.Malloc s.live (after_calloc s.world count size).chunk
+live_after_call (Realloc pointer size) s = live_realloc s pointer size
+live_after_call (Memalign align size) s =
+    with_made_chunk origin.Memalign s.live (after_memalign s.world align size).chunk
+live_after_call (UsableSize pointer) s = s.live
 
-unfoldable pub after_call : HeapRequest → State → State
-after_call (Malloc size) s = state_after_allocation origin.Malloc s.live (after_malloc s.world size)
-after_call (Calloc count size) s =
-    state_after_allocation origin.Malloc s.live (after_calloc s.world count size)
-after_call (Memalign align size) s =
-    state_after_allocation origin.Memalign s.live (after_memalign s.world align size)
-after_call (Realloc pointer size) s = state_after_realloc s pointer size
-after_call (Free pointer) s = state_after_free s pointer
+unfoldable pub state_after_call : HeapCall → State → State
+state_after_call c s =
+    record { world = (after_call s.world c).world; live = live_after_call c s }
 
 -- ---- careful calls
 
@@ -164,12 +157,13 @@ abbrev pub IsPointerTo : State → ℕ → Type 0
 IsPointerTo s pointer =
     pointer ≢ 0 → (f : Found) → found_at s.world pointer ≡ Ok f → IsLive s (plain pointer)
 
-abbrev pub IsCareful : State → HeapRequest → Type 0
+abbrev pub IsCareful : State → HeapCall → Type 0
 IsCareful s (Malloc size) = Unit {0}
-IsCareful s (Calloc count size) = Unit {0}
-IsCareful s (Memalign align size) = Unit {0}
-IsCareful s (Realloc pointer size) = IsPointerTo s pointer
 IsCareful s (Free pointer) = IsPointerTo s pointer
+IsCareful s (Calloc count size) = Unit {0}
+IsCareful s (Realloc pointer size) = IsPointerTo s pointer
+IsCareful s (Memalign align size) = Unit {0}
+IsCareful s (UsableSize pointer) = Unit {0}
 
 -- ---- runs
 
@@ -187,7 +181,7 @@ pub record IsQuiet (a b : State) : Type 0 where
 
 pub data Step (a b : State) : Type 0 where
   quiet : IsQuiet a b → Step a b
-  call : (c : HeapRequest) → IsCareful a c → b ≡ after_call c a → Step a b
+  call : (c : HeapCall) → IsCareful a c → b ≡ state_after_call c a → Step a b
 
 -- Steps whose states after each all have P.
 pub data Run (P : State → Type 0) : State → State → Type 0 where

@@ -13,6 +13,9 @@ use Rattle.a64_bits.specs.Addresses.{plain}
 use Rattle.mte_tags.specs.declared.state.TagMode.TheVariants.{Sync}
 use Rattle.scudo_primary.specs.Pools.{is_member}
 use Rattle.scudo_heap.specs.declared.abort.HeapAbort.{HeapAbort}
+use Rattle.scudo_heap.specs.declared.call.HeapCall.{HeapCall}
+use Rattle.scudo_heap.specs.declared.call.HeapCall.TheVariants.{Malloc, Free, Calloc, Realloc}
+use Rattle.scudo_heap.specs.declared.call.HeapCall.TheVariants.{Memalign, UsableSize}
 use Rattle.scudo_heap.specs.declared.chunk.Found.{Found}
 use Rattle.scudo_heap.specs.Stacks.{StackState, stack_of}
 use Rattle.mte_tenant.specs.Machines.{Machine, start_of, runs, after_attempt, after_slice}
@@ -21,9 +24,8 @@ use Rattle.mte_sched.specs.Contents as contents
 use Rattle.mte_sched.specs.Contents.{TenantState, Gone, Tenant}
 use Rattle.mte_sched.specs.Isolation.{content_after, tenant_among}
 use Rattle.tag_discipline.specs.LiveChunks.{BlockChunk, chunk_at}
-use Rattle.tag_discipline.specs.CarefulRuns.{State, Live, no_chunks, HeapRequest, Malloc, Calloc}
-use Rattle.tag_discipline.specs.CarefulRuns.{Memalign, Realloc, Free, found_at}
-use Rattle.tag_discipline.specs.CarefulTenants.{state_of, before_service, next_request, live_after}
+use Rattle.tag_discipline.specs.CarefulRuns.{State, Live, no_chunks, found_at}
+use Rattle.tag_discipline.specs.CarefulTenants.{state_of, before_service, next_call, live_after}
 use Rattle.tag_discipline.specs.CarefulTenants.{live_through, IsCareful}
 
 -- ---- freed chunks
@@ -39,13 +41,14 @@ named_at s pointer =
     named_chunk_cases (found_at s.world pointer) (chunk_at s.live.blocks (plain pointer))
 
 -- The chunk that a free or a reallocation may free.
-abbrev pub named_chunks : State → Option HeapRequest → List BlockChunk
+abbrev pub named_chunks : State → Option HeapCall → List BlockChunk
 named_chunks s None = []
 named_chunks s (Some (Malloc size)) = []
-named_chunks s (Some (Calloc count size)) = []
-named_chunks s (Some (Memalign align size)) = []
-named_chunks s (Some (Realloc pointer size)) = named_at s pointer
 named_chunks s (Some (Free pointer)) = named_at s pointer
+named_chunks s (Some (Calloc count size)) = []
+named_chunks s (Some (Realloc pointer size)) = named_at s pointer
+named_chunks s (Some (Memalign align size)) = []
+named_chunks s (Some (UsableSize pointer)) = []
 
 abbrev pub has_free_block : StackState → BlockChunk → Bool
 has_free_block s x = is_member (stack_of s x.place.class) x.place.block
@@ -53,7 +56,7 @@ has_free_block s x = is_member (stack_of s x.place.class) x.place.block
 unfoldable pub freed_after : ℕ → Machine → Live → List BlockChunk → List BlockChunk
 freed_after n m l xs =
     filter (has_free_block (after_attempt n m).machine.parts.heap.stacks)
-    (named_chunks (state_of (before_service m) l) (next_request m) ++ xs)
+    (named_chunks (state_of (before_service m) l) (next_call m) ++ xs)
 
 unfoldable pub freed_through : ℕ → Machine → Live → List BlockChunk → List BlockChunk
 freed_through zero m l xs = xs
@@ -94,11 +97,11 @@ machine_cases None = None
 machine_cases (Some t) = machine_held t.held
 
 abbrev pub first_machine : Life → Machine
-first_machine life = start_of life.id life.terms
+first_machine life = start_of life.id life.start
 
 pub record IsCarefulIn (s : Session) (life : Life) (m : Machine) : Type 0 where
   pub admitted : life_among life.id (lives s) ≡ Some life
-  pub sync : life.terms.mode ≡ Sync
+  pub sync : life.start.terms.mode ≡ Sync
   pub careful : AreCareful life.own (first_machine life) no_chunks
   pub machine : machine_cases (tenant_among life.id (content_after s).tenants) ≡ Some m
 

@@ -1,22 +1,20 @@
 -- A tenant's machine through careful instructions, with its live chunks beside it.
 --     state_of m l         the state of the machine m with the live chunks l
---     next_request m       what the next instruction asks of the heap, if it is a service that does
+--     next_call m          the heap call of the next instruction, if it is a service of the heap
 --     live_after m l       the live chunks after the next attempted instruction
 --     IsCarefulNext m l    the next instruction stores no tags, and a heap call of it is careful
 --     IsCareful n m l      so are the next n, while the machine runs and has not yielded
 --     live_through n m l   the live chunks after them
-use Rattle.std.specs.Prelude.{◌≡◌, ℕ, zero, suc, ◌==◌, true, false, Option, Some, None}
+use Rattle.std.specs.Prelude.{◌≡◌, ℕ, zero, suc, true, false, Option, Some, None}
 use Rattle.std.specs.Prelude.{if◌then◌else◌}
 use Rattle.a64_step.specs.declared.outcome.Outcome.{Outcome}
 use Rattle.a64_step.specs.declared.outcome.Outcome.TheVariants as outcome
 use Rattle.a64_step.specs.Steps.{step_of, next_stores_tags}
 use Rattle.scudo_heap.specs.Placing.{world_of}
-use Rattle.mte_svc.specs.declared.parts.TenantParts.{TenantParts}
-use Rattle.mte_svc.specs.declared.services.TheConstants.{MALLOC, FREE, CALLOC, REALLOC, MEMALIGN}
-use Rattle.mte_svc.specs.Results.{x_of}
+use Rattle.scudo_heap.specs.declared.call.HeapCall.{HeapCall}
+use Rattle.mte_svc.specs.HeapServices.{heap_call_in}
 use Rattle.mte_tenant.specs.Machines.{Machine, machine_of, with_regs, runs, after_attempt}
-use Rattle.tag_discipline.specs.CarefulRuns.{State, Live, HeapRequest, Malloc, Calloc, Memalign}
-use Rattle.tag_discipline.specs.CarefulRuns.{Realloc, Free, after_call}
+use Rattle.tag_discipline.specs.CarefulRuns.{State, Live, state_after_call}
 use Rattle.tag_discipline.specs.CarefulRuns as heap
 
 abbrev pub state_of : Machine → Live → State
@@ -28,35 +26,25 @@ before_service m =
     machine_of (with_regs m.parts (step_of m.parts.regs m.memory).regs)
     (step_of m.parts.regs m.memory).memory
 
--- What the service with a number asks of the heap; one that finds the flag set is not served.
-abbrev pub request_of_service : ℕ → TenantParts → Option HeapRequest
-request_of_service n p =
-    if n == MALLOC then Some (Malloc (x_of p 0))
-    else (if n == FREE then Some (Free (x_of p 0))
-    else (if n == CALLOC then Some (Calloc (x_of p 0) (x_of p 1))
-    else (if n == REALLOC then Some (Realloc (x_of p 0) (x_of p 1))
-    else (if n == MEMALIGN then Some (Memalign (x_of p 0) (x_of p 1))
-    else None))))
+-- The heap call of a service; one that finds the flag set is not served.
+abbrev pub call_at : Outcome → Machine → Option HeapCall
+call_at outcome.Svc m = if m.memory.state.pending then None else heap_call_in m.parts
+call_at other m = None
 
-abbrev pub request_at : Outcome → Machine → Option HeapRequest
-request_at outcome.Svc m =
-    if m.memory.state.pending then None else request_of_service (x_of m.parts 8) m.parts
-request_at other m = None
+-- The heap call of the next instruction.
+unfoldable pub next_call : Machine → Option HeapCall
+next_call m = call_at (step_of m.parts.regs m.memory).outcome (before_service m)
 
-unfoldable pub next_request : Machine → Option HeapRequest
-next_request m = request_at (step_of m.parts.regs m.memory).outcome (before_service m)
-
-abbrev pub live_after_request : Option HeapRequest → State → Live
-live_after_request None s = s.live
-live_after_request (Some c) s = (after_call c s).live
+abbrev pub live_after_cases : Option HeapCall → State → Live
+live_after_cases None s = s.live
+live_after_cases (Some c) s = (state_after_call c s).live
 
 unfoldable pub live_after : Machine → Live → Live
-live_after m l = live_after_request (next_request m) (state_of (before_service m) l)
+live_after m l = live_after_cases (next_call m) (state_of (before_service m) l)
 
 pub record IsCarefulNext (m : Machine) (l : Live) : Type 0 where
   pub tags : next_stores_tags m.parts.regs m.memory ≡ false
-  pub request :
-      (c : HeapRequest) → next_request m ≡ Some c → heap.IsCareful (state_of (before_service m) l) c
+  pub call : (c : HeapCall) → next_call m ≡ Some c → heap.IsCareful (state_of (before_service m) l) c
 
 -- ---- instructions in turn
 

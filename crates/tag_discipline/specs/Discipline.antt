@@ -13,6 +13,8 @@ use Rattle.mte_tags.specs.declared.state.TagMode.TheVariants.{Sync}
 use Rattle.mte_tags.specs.Whole.{IsWhole}
 use Rattle.address_map.specs.declared.limits.TheConstants.{MAX_PAGES}
 use Rattle.scudo_secondary.specs.Mappings as secondary
+use Rattle.scudo_heap.specs.declared.call.HeapCall.{HeapCall}
+use Rattle.scudo_heap.specs.declared.call.HeapCall.TheVariants.{Realloc, Free}
 use Rattle.scudo_heap.specs.declared.chunk.Place.{Place}
 use Rattle.scudo_heap.specs.declared.chunk.Chunk.TheVariants.{Small}
 use Rattle.scudo_heap.specs.declared.chunk.Found.{Found}
@@ -23,15 +25,15 @@ use Rattle.scudo_heap.specs.Placing.{world_of}
 use Rattle.scudo_heap.specs.Allocation.{AllocationResult, after_malloc, after_calloc}
 use Rattle.scudo_heap.specs.Allocation.{after_memalign}
 use Rattle.scudo_heap.specs.Served.{IsUntouched, is_inside}
-use Rattle.mte_tenant.specs.Machines.{Terms, Machine, start_of, after_attempt, after_slice}
+use Rattle.mte_tenant.specs.Machines.{Start, Machine, start_of, after_attempt, after_slice}
 use Rattle.mte_tenant.specs.Ledger.{LedgerEntry, admission_refusal}
 use Rattle.mte_sched.specs.Lives.{Session, Life}
 use Rattle.tag_discipline.specs.LiveChunks.{BlockChunk, chunk_at}
 use Rattle.tag_discipline.specs.LivePages.{PageChunk, large_at}
 use Rattle.tag_discipline.specs.Laws.{IsRefused, AreNeighbours}
-use Rattle.tag_discipline.specs.CarefulRuns.{State, Live, no_chunks, HeapRequest, Realloc, Free}
-use Rattle.tag_discipline.specs.CarefulRuns.{after_call, IsLiveBlock, IsLiveLarge, Run, HasFree}
-use Rattle.tag_discipline.specs.CarefulTenants.{state_of, before_service, next_request, live_after}
+use Rattle.tag_discipline.specs.CarefulRuns.{State, Live, no_chunks, state_after_call}
+use Rattle.tag_discipline.specs.CarefulRuns.{IsLiveBlock, IsLiveLarge, Run, HasFree}
+use Rattle.tag_discipline.specs.CarefulTenants.{state_of, before_service, next_call, live_after}
 use Rattle.tag_discipline.specs.CarefulTenants.{live_through, IsCarefulNext, IsCareful, Steps}
 use Rattle.tag_discipline.specs.CarefulSessions.{IsCarefulIn, state_in, freed_in}
 use Rattle.tag_discipline.specs.SoundHeaps.{Sound}
@@ -54,9 +56,9 @@ StartsSound =
 -- So a tenant that is admitted in the synchronous mode.
 abbrev pub TenantsStartSound : Type 0
 TenantsStartSound =
-    (frames : ℕ) (ledger : List LedgerEntry) (id : ℕ) (terms : Terms)
-    → admission_refusal frames ledger id terms ≡ None → terms.mode ≡ Sync
-    → Sound (state_of (start_of id terms) no_chunks)
+    (frames : ℕ) (ledger : List LedgerEntry) (id : ℕ) (start : Start)
+    → admission_refusal frames ledger id start ≡ None → start.terms.mode ≡ Sync
+    → Sound (state_of (start_of id start) no_chunks)
 
 abbrev pub StaysSound : Type 0
 StaysSound = (a b : State) → Run (λ s. Unit {0}) a b → Sound a → Sound b
@@ -64,29 +66,29 @@ StaysSound = (a b : State) → Run (λ s. Unit {0}) a b → Sound a → Sound b
 -- ---- a freed chunk
 
 -- The call is one that may free the chunk that a pointer names.
-abbrev pub MayFree : ℕ → HeapRequest → Type 0
+abbrev pub MayFree : ℕ → HeapCall → Type 0
 MayFree pointer c = (c ≡ Free pointer) ⊎ ((size : ℕ) × (c ≡ Realloc pointer size))
 
 -- The call frees the live chunk of a size class that a pointer names.
-pub record Frees (a : State) (pointer : ℕ) (c : HeapRequest) (x : BlockChunk) : Type 0 where
+pub record Frees (a : State) (pointer : ℕ) (c : HeapCall) (x : BlockChunk) : Type 0 where
   pub live : IsLiveBlock a (plain pointer) x
   pub may : MayFree pointer c
-  pub free : HasFree x.place.class x.place.block (after_call c a)
+  pub free : HasFree x.place.class x.place.block (state_after_call c a)
 
 -- From the call that freed a chunk of a size class until an allocation takes its block, each
 -- checked access through the pointer to it that touches one of its granules faults.
 abbrev pub FreedBlocksAreRefused : Type 0
 FreedBlocksAreRefused =
-    (a b : State) (pointer addr : ℕ) (c : HeapRequest) (x : BlockChunk)
+    (a b : State) (pointer addr : ℕ) (c : HeapCall) (x : BlockChunk)
     → Sound a → Frees a pointer c x
-    → Run (HasFree x.place.class x.place.block) (after_call c a) b
+    → Run (HasFree x.place.class x.place.block) (state_after_call c a) b
     → x.place.user ≤ addr → addr < end_of x.place → IsRefused b.world.memory x.tag addr
 
 -- After the free of a live chunk of a size class its block is free.
 abbrev pub FreedBlocksAreFree : Type 0
 FreedBlocksAreFree =
     (s : State) (pointer : ℕ) (x : BlockChunk) → Sound s → IsLiveBlock s (plain pointer) x
-    → HasFree x.place.class x.place.block (after_call (Free pointer) s)
+    → HasFree x.place.class x.place.block (state_after_call (Free pointer) s)
 
 -- Each access that touches an address faults, checked or not.
 abbrev pub IsUnmapped : Memory → ℕ → Type 0
@@ -98,11 +100,11 @@ IsUnmapped m a =
 -- page is not mapped, each access to it faults.
 pub record FreedPagesAreUnmapped : Type 0 where
   pub gone :
-      (a : State) (pointer addr : ℕ) (c : HeapRequest) (x : PageChunk)
+      (a : State) (pointer addr : ℕ) (c : HeapCall) (x : PageChunk)
       → Sound a → IsLiveLarge a (plain pointer) x → MayFree pointer c
-      → large_at (after_call c a).live.pages (plain pointer) ≡ None
+      → large_at (state_after_call c a).live.pages (plain pointer) ≡ None
       → x.mapping.start ≤ addr → addr < secondary.end_of x.mapping
-      → list_any (is_inside addr) (after_call c a).world.heap.maps.mappings ≡ false
+      → list_any (is_inside addr) (state_after_call c a).world.heap.maps.mappings ≡ false
   pub refused :
       (m : Memory) (addr : ℕ)
       → m.state.mode ≡ Sync → attrs_at m (addr / 4096) ≡ None → IsUnmapped m addr
@@ -153,12 +155,12 @@ pub data IsNewIn (s : State) (r : AllocationResult) : Type 0 where
 -- its tag is not the one that the free gave.
 abbrev pub ReusedTagsDiffer : Type 0
 ReusedTagsDiffer =
-    (a b : State) (pointer : ℕ) (c : HeapRequest) (x : BlockChunk) (r : AllocationResult)
+    (a b : State) (pointer : ℕ) (c : HeapCall) (x : BlockChunk) (r : AllocationResult)
     (p : Place) (t : ℕ)
     → Sound a → Frees a pointer c x
-    → Run (HasFree x.place.class x.place.block) (after_call c a) b
+    → Run (HasFree x.place.class x.place.block) (state_after_call c a) b
     → IsNewIn b r → r.chunk ≡ Some (Small p t) → p.user ≡ x.place.user
-    → t ≢ tag_at (after_call c a).world.memory x.place.user
+    → t ≢ tag_at (state_after_call c a).world.memory x.place.user
 
 -- ---- live chunks
 
@@ -222,9 +224,9 @@ SlicesStaySound =
 -- careful instructions come between.
 abbrev pub FreedBlocksStayRefused : Type 0
 FreedBlocksStayRefused =
-    (m k : Machine) (l j : Live) (n pointer addr : ℕ) (c : HeapRequest) (x : BlockChunk)
+    (m k : Machine) (l j : Live) (n pointer addr : ℕ) (c : HeapCall) (x : BlockChunk)
     → Sound (state_of m l) → IsCarefulNext m l
-    → next_request m ≡ Some c → MayFree pointer c
+    → next_call m ≡ Some c → MayFree pointer c
     → IsLiveBlock (state_of (before_service m) l) (plain pointer) x
     → HasFree x.place.class x.place.block (state_of (after_attempt n m).machine (live_after m l))
     → Steps (HasFree x.place.class x.place.block) (after_attempt n m).machine (live_after m l) k j
@@ -235,10 +237,10 @@ FreedBlocksStayRefused =
 -- between.
 abbrev pub ReusedTagsStayDifferent : Type 0
 ReusedTagsStayDifferent =
-    (m k : Machine) (l j : Live) (n pointer : ℕ) (c : HeapRequest) (x : BlockChunk)
+    (m k : Machine) (l j : Live) (n pointer : ℕ) (c : HeapCall) (x : BlockChunk)
     (r : AllocationResult) (p : Place) (t : ℕ)
     → Sound (state_of m l) → IsCarefulNext m l
-    → next_request m ≡ Some c → MayFree pointer c
+    → next_call m ≡ Some c → MayFree pointer c
     → IsLiveBlock (state_of (before_service m) l) (plain pointer) x
     → HasFree x.place.class x.place.block (state_of (after_attempt n m).machine (live_after m l))
     → Steps (HasFree x.place.class x.place.block) (after_attempt n m).machine (live_after m l) k j

@@ -19,7 +19,7 @@ use Rattle.scudo_header.specs.declared.headers.Origin.{Origin}
 use Rattle.scudo_header.specs.declared.headers.State.TheVariants.{Allocated}
 use Rattle.scudo_primary.specs.Blocks.{IsBlock}
 use Rattle.scudo_primary.specs.Pools.{is_member}
-use Rattle.scudo_primary.specs.Lists.{IsClass}
+use Rattle.scudo_primary.specs.Blocks.{IsClass}
 use Rattle.scudo_heap.specs.declared.chunk.Place.{Place}
 use Rattle.scudo_heap.specs.Stacks.{StackState, pages_of, stack_of}
 use Rattle.scudo_heap.specs.Chunks.{end_of, block_end, parity_mask, with_size}

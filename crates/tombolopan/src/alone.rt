@@ -1,15 +1,17 @@
 //! A tenant alone on a memory of its own.
 
-ghost use Rattle.std.specs.Prelude.{◌≡◌, ◌<◌, ◌⊎◌, [], Some, None, false, IfOk, IfErr, OnOk};
+ghost use Rattle.std.specs.Prelude.{◌≡◌, ◌<◌, Some, None, IfOk, IfErr, OnOk};
+ghost use Rattle.obstacle.specs.Obstacles.{IfRefused};
 ghost use Rattle.scudo_heap.specs.Served.{HeapOwnsItsPages};
-ghost use Rattle.mte_tenant.specs.Ledger.{is_bad};
-ghost use Rattle.mte_tenant.specs.Admissions.{terms_of};
+ghost use Rattle.mte_tenant.specs.Admissions.{start_in};
 ghost use Rattle.tombolopan.specs.Alone.{refusal_alone, record_after};
 
 use a64_step::OpCache;
-use address_map::{MAX_OUTPUT, MAX_PAGES};
 use mte_flat::Flat;
-use mte_tenant::{Admission, AdmitError, Record, TenantParts, admit_alone, slice};
+use mte_tenant::{
+    Admission, AdmitError, Record, TenantParts, admit_alone, is_bad_reservation, slice,
+};
+use obstacle::Obstacle;
 use std::alloc::Global;
 
 /// A tenant's machine, which is that of the definition: it is made by `admit_alone` and changed by
@@ -25,15 +27,6 @@ pub struct Lone {
     ghost tag: { parts.regs.rgsr.tag < 16 },
 }
 
-/// Whether a reservation or a room is out of its limits.
-fn is_out_of_limits(admission: &Admission<'_>) -> bool
-    ensures bad { result ≡ is_bad (terms_of admission.now) }
-    ensures some { result ≡ false → 0 < admission.now.pages }
-{
-    let (pages, room) = (u64::from(admission.pages), u64::from(admission.room));
-    pages == 0 || pages > MAX_PAGES || room > MAX_OUTPUT
-}
-
 impl Lone {
     ghost use Rattle.mte_tenant.specs.Machines.{machine_of, start_of, after_slice};
     ghost use Rattle.tombolopan.specs.Alone.{after_slices};
@@ -41,19 +34,19 @@ impl Lone {
     /// A tenant at its first instruction, or why it is refused. Only `OutOfMemory`, where an
     /// allocation failed, can come in place of the refusals from `Image` on.
     #[tactic(auto, unfolding(mte_tenant::specs::Ledger::admission_refusal))]
-    pub fn new(alloc: Global, admission: &Admission<'_>) -> Result<Lone, AdmitError>
+    pub fn new(alloc: Global, admission: &Admission<'_>) -> Result<Lone, Obstacle<AdmitError>>
         ensures machine { IfOk result (λ l. machine_of l.parts l.memory
-            ≡ start_of admission.now.id (terms_of admission.now)) }
+            ≡ start_of admission.now.id (start_in admission.now)) }
         ensures accepted { OnOk result
-            (refusal_alone admission.now.id (terms_of admission.now) ≡ None) }
-        ensures refused { IfErr result (λ e. (e ≡ AdmitError.OutOfMemory)
-            ⊎ (refusal_alone admission.now.id (terms_of admission.now) ≡ Some e)) }
+            (refusal_alone admission.now.id (start_in admission.now) ≡ None) }
+        ensures refused { IfErr result (λ o. IfRefused o (λ e.
+            refusal_alone admission.now.id (start_in admission.now) ≡ Some e)) }
     {
-        if is_out_of_limits(admission) {
-            return Err(AdmitError::BadReservation);
+        if is_bad_reservation(admission) {
+            return Err(Obstacle::Refused(AdmitError::BadReservation));
         }
         let words = OpCache::new(alloc)?;
-        let mut memory = Flat::new(alloc, admission.pages as usize, admission.mode)?;
+        let mut memory = Flat::new(alloc, admission.terms.pages as usize, admission.terms.mode)?;
         let parts = admit_alone(alloc, admission, &mut memory)?;
         Ok(Lone {
             parts,
@@ -88,13 +81,13 @@ pub fn run_alone(
     alloc: Global,
     admission: &Admission<'_>,
     slices: &[u32],
-) -> Result<Record, AdmitError>
+) -> Result<Record, Obstacle<AdmitError>>
     ensures accepted { OnOk result
-        (refusal_alone admission.now.id (terms_of admission.now) ≡ None) }
+        (refusal_alone admission.now.id (start_in admission.now) ≡ None) }
     ensures record { IfOk result (λ r.
-        r ≡ record_after admission.now.id (terms_of admission.now) slices.now) }
-    ensures refused { IfErr result (λ e. (e ≡ AdmitError.OutOfMemory)
-        ⊎ (refusal_alone admission.now.id (terms_of admission.now) ≡ Some e)) }
+        r ≡ record_after admission.now.id (start_in admission.now) slices.now) }
+    ensures refused { IfErr result (λ o. IfRefused o (λ e.
+        refusal_alone admission.now.id (start_in admission.now) ≡ Some e)) }
 {
     let mut lone = Lone::new(alloc, admission)?;
     lone.slices(slices);

@@ -29,14 +29,15 @@ pub use mte_session::{
     Event, ScriptError, ScriptFault, Session, SessionError, Sink, Source, StreamError, WriteFault,
     parse_script, read_whole, run_both, run_session, write_report,
 };
-pub use mte_svc::{HeapCall, HeapCalls, HeapService, Input, Output};
+pub use mte_svc::{AnsweredCall, HeapCalls, Input, Output};
 pub use mte_tags::{
     Attrs, FaultKind, MemFault, NoPagesLeft, PageStore, Paged, Rgsr, TagMode, TagState, Tagged,
     choose_non_excluded, tag_of, with_tag,
 };
 pub use mte_tenant::{
-    Admission, AdmitError, NotLive, Record, Refusal, Status, TenantParts, Watch, admit_alone,
-    settle, slice, slice_watched,
+    Admission, AdmitError, NotLive, Record, Refusal, Status, TenantParts, Terms, Watch,
+    admit_alone, settle, slice, slice_watched,
 };
-pub use scudo_heap::{Heap, HeapAbort, condition_of_calls};
+pub use obstacle::Obstacle;
+pub use scudo_heap::{Heap, HeapAbort, HeapCall, condition_of_calls};
 pub use session_report::report;

@@ -9,6 +9,7 @@ use Rattle.scudo_heap.specs.Heaps.{empty_heap}
 use Rattle.scudo_heap.specs.Placing.{World, world_of}
 use Rattle.scudo_heap.specs.declared.abort.HeapAbort.{HeapAbort}
 use Rattle.scudo_heap.specs.declared.abort.HeapAbort.TheVariants as abort
+use Rattle.scudo_heap.specs.declared.call.HeapCall.TheVariants as heap
 use Rattle.heap_calls.specs.Answers.{after_operation}
 use Rattle.heap_calls.specs.declared.op.HeapOp.{HeapOp}
 use Rattle.heap_calls.specs.declared.op.HeapOp.TheVariants as op
@@ -42,12 +43,12 @@ start_of s = world_of (no_pages s.pages (mode_of s)) (empty_heap s.cookie s.page
 
 abbrev pub op_of : LentHeapCall → Option HeapOp
 op_of c =
-    if c.op == MALLOC then Some (op.Malloc c.first)
-    else if c.op == FREE then Some (op.Free c.first)
-    else if c.op == CALLOC then Some (op.Calloc c.first c.second)
-    else if c.op == REALLOC then Some (op.Realloc c.first c.second)
-    else if c.op == MEMALIGN then Some (op.Memalign c.first c.second)
-    else if c.op == USABLE_SIZE then Some (op.UsableSize c.first)
+    if c.op == MALLOC then Some (op.Call (heap.Malloc c.first))
+    else if c.op == FREE then Some (op.Call (heap.Free c.first))
+    else if c.op == CALLOC then Some (op.Call (heap.Calloc c.first c.second))
+    else if c.op == REALLOC then Some (op.Call (heap.Realloc c.first c.second))
+    else if c.op == MEMALIGN then Some (op.Call (heap.Memalign c.first c.second))
+    else if c.op == USABLE_SIZE then Some (op.Call (heap.UsableSize c.first))
     else if c.op == LOAD then Some (op.Load c.first)
     else if c.op == STORE then Some (op.Store c.first c.second)
     else if c.op == LOAD_TAG then Some (op.LoadTag c.first)

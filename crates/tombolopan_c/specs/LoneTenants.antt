@@ -1,17 +1,20 @@
 -- A tenant alone, of terms that the caller lends: its slices, and what is told of it.
 use Rattle.std.specs.Prelude.{◌≡◌, ℕ, ◌==◌, ◌&&◌, not, nat_le, List, map, length}
-use Rattle.std.specs.Prelude.{Some, None, Result, Ok, Err, ◌⊎◌, if◌then◌else◌}
+use Rattle.std.specs.Prelude.{Some, None, Result, Ok, Err, if◌then◌else◌}
+use Rattle.obstacle.specs.Obstacles.{IfRefused}
+use Rattle.obstacle.specs.declared.Obstacle.{Obstacle}
+use Rattle.obstacle.specs.declared.Obstacle.TheVariants as obstacle
 use Rattle.mte_elf.specs.declared.error.ElfError.{ElfError}
 use Rattle.mte_elf.specs.declared.error.ElfError.TheVariants as image
-use Rattle.mte_svc.specs.declared.calls.HeapCall.{HeapCall}
-use Rattle.mte_svc.specs.declared.calls.HeapService.{HeapService}
-use Rattle.mte_svc.specs.declared.calls.HeapService.TheVariants as heap
+use Rattle.scudo_heap.specs.Calls.{arguments_of}
+use Rattle.mte_svc.specs.Calls.{number_of}
+use Rattle.mte_svc.specs.declared.calls.AnsweredCall.{AnsweredCall}
 use Rattle.mte_svc.specs.declared.record.Record.{Record}
 use Rattle.mte_svc.specs.declared.record.Status.{Status}
 use Rattle.mte_svc.specs.declared.record.Status.TheVariants as status
 use Rattle.mte_tenant.specs.declared.admission.AdmitError.{AdmitError}
 use Rattle.mte_tenant.specs.declared.admission.AdmitError.TheVariants as refusal
-use Rattle.mte_tenant.specs.Machines.{Terms}
+use Rattle.mte_tenant.specs.Machines.{Start}
 use Rattle.tombolopan.specs.Alone.{refusal_alone, record_after}
 use Rattle.tombolopan_c.specs.Faults.{no_fault, report_of}
 use Rattle.tombolopan_c.specs.HeapCalls.{abort_code}
@@ -25,14 +28,16 @@ use Rattle.tombolopan_c.specs.declared.status_report.StatusReport.{StatusReport}
 
 -- ---- the tenant
 
-abbrev pub terms_in : LentTerms → Terms
-terms_in t = record {
+abbrev pub lent_start : LentTerms → Start
+lent_start t = record {
   image = t.image.now;
   input = t.input.now;
-  seed = t.seed;
-  pages = t.pages;
-  room = t.room;
-  mode = mode_for (not (t.asynchronous == 0));
+  terms = record {
+    seed = t.seed;
+    pages = t.pages;
+    room = t.room;
+    mode = mode_for (not (t.asynchronous == 0));
+  };
 }
 
 -- ---- what is told of its status
@@ -55,19 +60,11 @@ status_told (status.Aborted a pointer pc) =
 
 -- ---- what is told of its heap calls
 
-abbrev pub service_number : HeapService → ℕ
-service_number heap.Malloc = 3
-service_number heap.Free = 4
-service_number heap.Calloc = 5
-service_number heap.Realloc = 6
-service_number heap.Memalign = 7
-service_number heap.UsableSize = 8
-
-abbrev pub call_told : HeapCall → KeptCall
+abbrev pub call_told : AnsweredCall → KeptCall
 call_told c = record {
-  service = service_number c.service;
-  first = c.first;
-  second = c.second;
+  service = number_of c.call;
+  first = (arguments_of c.call).0;
+  second = (arguments_of c.call).1;
   answer = c.answer;
 }
 
@@ -83,7 +80,6 @@ image_code image.Interpreter = code.INTERPRETER
 image_code image.SegmentRange = code.SEGMENT_RANGE
 image_code image.Overlap = code.OVERLAP
 image_code image.NoEntry = code.NO_ENTRY
-image_code image.OutOfMemory = code.NO_REFUSAL
 
 abbrev pub refusal_code : AdmitError → ℕ
 refusal_code refusal.Duplicate = code.DUPLICATE
@@ -92,7 +88,6 @@ refusal_code (refusal.Image e) = image_code e
 refusal_code refusal.ReservationTooSmall = code.RESERVATION_TOO_SMALL
 refusal_code refusal.NoFrames = code.NO_FRAMES
 refusal_code refusal.TooManyLive = code.TOO_MANY_LIVE
-refusal_code refusal.OutOfMemory = code.NO_REFUSAL
 
 abbrev pub without_tenant : ℕ → ℕ → AloneEnd
 without_tenant c r = record {
@@ -105,9 +100,10 @@ without_tenant c r = record {
   refusal = r;
 }
 
-abbrev pub refused_end : AdmitError → AloneEnd
-refused_end refusal.OutOfMemory = without_tenant code.OUT_OF_MEMORY code.NO_REFUSAL
-refused_end e = without_tenant code.REFUSED (refusal_code e)
+-- The end of a tenant that was not admitted.
+abbrev pub end_without : Obstacle AdmitError → AloneEnd
+end_without obstacle.OutOfMemory = without_tenant code.OUT_OF_MEMORY code.NO_REFUSAL
+end_without (obstacle.Refused e) = without_tenant code.REFUSED (refusal_code e)
 
 abbrev pub told_end : ℕ → Record → AloneEnd
 told_end c r = record {
@@ -142,22 +138,22 @@ buffers_after r old = record {
 -- ---- all of it
 
 -- A tenant is admitted and has its record at the end of its slices, or is refused.
-abbrev pub IsAnswer : LentTerms → Result Record AdmitError → Type 0
+abbrev pub IsAnswer : LentTerms → Result Record (Obstacle AdmitError) → Type 0
 IsAnswer t (Ok r) =
-    (refusal_alone 0 (terms_in t) ≡ None) × (r ≡ record_after 0 (terms_in t) t.slices.now)
-IsAnswer t (Err e) = (e ≡ refusal.OutOfMemory) ⊎ (refusal_alone 0 (terms_in t) ≡ Some e)
+    (refusal_alone 0 (lent_start t) ≡ None) × (r ≡ record_after 0 (lent_start t) t.slices.now)
+IsAnswer t (Err o) = IfRefused o (λ e. refusal_alone 0 (lent_start t) ≡ Some e)
 
-abbrev pub alone_end : Result Record AdmitError → Buffers → AloneEnd
+abbrev pub alone_end : Result Record (Obstacle AdmitError) → Buffers → AloneEnd
 alone_end (Ok r) old = record_end r (length old.output) (length old.calls)
-alone_end (Err e) old = refused_end e
+alone_end (Err o) old = end_without o
 
-abbrev pub buffers_left : Result Record AdmitError → Buffers → Buffers
+abbrev pub buffers_left : Result Record (Obstacle AdmitError) → Buffers → Buffers
 buffers_left (Ok r) old = buffers_after r old
-buffers_left (Err e) old = old
+buffers_left (Err o) old = old
 
 -- What became of a tenant alone stands in the buffers and in what is told of its end.
 pub record HasLived (t : LentTerms) (old new : Buffers) (e : AloneEnd) : Type 0 where
-  pub answer : Result Record AdmitError
+  pub answer : Result Record (Obstacle AdmitError)
   pub is : IsAnswer t answer
   pub buffers : new ≡ buffers_left answer old
   pub told : e ≡ alone_end answer old

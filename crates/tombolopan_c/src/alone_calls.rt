@@ -31,7 +31,7 @@ pub extern "C" fn tb_alone(
 {
     *end = match run_alone(alloc, &terms.admission(), terms.slices) {
         Ok(log) => told(&log, output, calls),
-        Err(error) => AloneEnd::of_refusal(error),
+        Err(obstacle) => AloneEnd::of_obstacle(obstacle),
     };
     end.code
 }

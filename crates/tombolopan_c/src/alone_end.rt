@@ -1,7 +1,7 @@
 //! What a call reports of a tenant alone.
 
 ghost use Rattle.std.specs.Prelude.{◌≡◌};
-ghost use Rattle.tombolopan_c.specs.LoneTenants.{image_code, refusal_code, refused_end, told_end};
+ghost use Rattle.tombolopan_c.specs.LoneTenants.{image_code, refusal_code, end_without, told_end};
 
 use crate::codes::{
     BAD_HEADERS, BAD_RESERVATION, DUPLICATE, INTERPRETER, NO_ENTRY, NO_FRAMES, NO_REFUSAL,
@@ -11,6 +11,7 @@ use crate::codes::{
 use crate::status_report::StatusReport;
 use mte_elf::ElfError;
 use mte_tenant::{AdmitError, Record};
+use obstacle::Obstacle;
 
 /// How a tenant alone ended.
 #[repr(C)]
@@ -45,7 +46,6 @@ fn code_of_image(error: ElfError) -> u32
         ElfError::SegmentRange => SEGMENT_RANGE,
         ElfError::Overlap => OVERLAP,
         ElfError::NoEntry => NO_ENTRY,
-        ElfError::OutOfMemory => NO_REFUSAL,
     }
 }
 
@@ -59,18 +59,17 @@ fn code_of_refusal(error: AdmitError) -> u32
         AdmitError::ReservationTooSmall => RESERVATION_TOO_SMALL,
         AdmitError::NoFrames => NO_FRAMES,
         AdmitError::TooManyLive => TOO_MANY_LIVE,
-        AdmitError::OutOfMemory => NO_REFUSAL,
     }
 }
 
 impl AloneEnd {
     /// That of a tenant that was not admitted.
-    pub(crate) fn of_refusal(error: AdmitError) -> AloneEnd
-        ensures { result ≡ refused_end error }
+    pub(crate) fn of_obstacle(obstacle: Obstacle<AdmitError>) -> AloneEnd
+        ensures { result ≡ end_without obstacle }
     {
-        let code = match error {
-            AdmitError::OutOfMemory => OUT_OF_MEMORY,
-            _ => REFUSED,
+        let (code, refusal) = match obstacle {
+            Obstacle::OutOfMemory => (OUT_OF_MEMORY, NO_REFUSAL),
+            Obstacle::Refused(error) => (REFUSED, code_of_refusal(error)),
         };
         AloneEnd {
             steps: 0,
@@ -79,7 +78,7 @@ impl AloneEnd {
             kept: 0,
             status: StatusReport::none(),
             code,
-            refusal: code_of_refusal(error),
+            refusal,
         }
     }
 

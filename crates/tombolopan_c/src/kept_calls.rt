@@ -1,13 +1,10 @@
 //! The heap calls of a tenant, which are entered in an array of the caller's.
 
 ghost use Rattle.std.specs.Prelude.{◌≡◌, map};
-ghost use Rattle.tombolopan_c.specs.LoneTenants.{service_number, call_told};
+ghost use Rattle.tombolopan_c.specs.LoneTenants.{call_told};
 
 use arrayvec::ArrayVec;
-use mte_svc::{
-    CALLOC, FREE, HeapCall, HeapCalls, HeapService, KEPT_CALLS, MALLOC, MEMALIGN, REALLOC,
-    USABLE_SIZE,
-};
+use mte_svc::{AnsweredCall, HeapCalls, KEPT_CALLS};
 
 /// A heap call of a tenant.
 #[repr(C)]
@@ -23,27 +20,15 @@ pub struct KeptCall {
     pub answer: u64,
 }
 
-fn number_of(service: HeapService) -> u64
-    ensures { result ≡ service_number service }
-{
-    match service {
-        HeapService::Malloc => MALLOC,
-        HeapService::Free => FREE,
-        HeapService::Calloc => CALLOC,
-        HeapService::Realloc => REALLOC,
-        HeapService::Memalign => MEMALIGN,
-        HeapService::UsableSize => USABLE_SIZE,
-    }
-}
-
 impl KeptCall {
-    fn of(call: &HeapCall) -> KeptCall
+    fn of(call: &AnsweredCall) -> KeptCall
         ensures { result ≡ call_told call.now }
     {
+        let (first, second) = call.call.arguments();
         KeptCall {
-            service: number_of(call.service),
-            first: call.first,
-            second: call.second,
+            service: call.number(),
+            first,
+            second,
             answer: call.answer,
         }
     }

@@ -13,7 +13,7 @@ use crate::faults::FaultReport;
 use address_map::MAX_PAGES;
 use heap_calls::{HeapAnswer, HeapOp};
 use mte_tags::{Rgsr, TagMode};
-use scudo_heap::HeapAbort;
+use scudo_heap::{HeapAbort, HeapCall};
 
 /// What a heap and its memory begin with.
 #[repr(C)]
@@ -98,21 +98,21 @@ impl LentHeapCall {
     {
         let (first, second) = (self.first, self.second);
         match self.op {
-            MALLOC => Some(HeapOp::Malloc { size: first }),
-            FREE => Some(HeapOp::Free { pointer: first }),
-            CALLOC => Some(HeapOp::Calloc {
+            MALLOC => Some(HeapOp::Call(HeapCall::Malloc { size: first })),
+            FREE => Some(HeapOp::Call(HeapCall::Free { pointer: first })),
+            CALLOC => Some(HeapOp::Call(HeapCall::Calloc {
                 count: first,
                 size: second,
-            }),
-            REALLOC => Some(HeapOp::Realloc {
+            })),
+            REALLOC => Some(HeapOp::Call(HeapCall::Realloc {
                 pointer: first,
                 size: second,
-            }),
-            MEMALIGN => Some(HeapOp::Memalign {
+            })),
+            MEMALIGN => Some(HeapOp::Call(HeapCall::Memalign {
                 alignment: first,
                 size: second,
-            }),
-            USABLE_SIZE => Some(HeapOp::UsableSize { pointer: first }),
+            })),
+            USABLE_SIZE => Some(HeapOp::Call(HeapCall::UsableSize { pointer: first })),
             LOAD => Some(HeapOp::Load { addr: first }),
             STORE => Some(HeapOp::Store {
                 addr: first,

@@ -1,11 +1,11 @@
 //! What a tenant alone is admitted with and run for, which the caller lends.
 
 ghost use Rattle.std.specs.Prelude.{◌≡◌};
-ghost use Rattle.mte_tenant.specs.Admissions.{terms_of};
-ghost use Rattle.tombolopan_c.specs.LoneTenants.{terms_in};
+ghost use Rattle.mte_tenant.specs.Admissions.{start_in};
+ghost use Rattle.tombolopan_c.specs.LoneTenants.{lent_start};
 
 use mte_tags::TagMode;
-use mte_tenant::Admission;
+use mte_tenant::{Admission, Terms};
 
 /// What a tenant alone is admitted with, and its slices.
 #[repr(C)]
@@ -32,9 +32,9 @@ pub struct LentTerms<'a> {
 impl<'a> LentTerms<'a> {
     /// They as an admission, under the number 0.
     pub(crate) fn admission(&self) -> Admission<'a>
-        ensures terms { terms_of result ≡ terms_in self.now }
+        ensures start { start_in result ≡ lent_start self.now }
         ensures number { result.id ≡ 0 }
-        ensures pages { result.pages ≡ self.now.pages }
+        ensures pages { result.terms.pages ≡ self.now.pages }
     {
         let mode = if self.asynchronous == 0 {
             TagMode::Sync
@@ -45,10 +45,12 @@ impl<'a> LentTerms<'a> {
             id: 0,
             image: self.image,
             input: self.input,
-            seed: self.seed,
-            pages: self.pages,
-            room: self.room,
-            mode,
+            terms: Terms {
+                seed: self.seed,
+                pages: self.pages,
+                room: self.room,
+                mode,
+            },
         }
     }
 }

@@ -1,6 +1,6 @@
 use Rattle.std.proofs.Common.{◌≡◌, ◌∙◌, ◌<◌, ◌^◌, ◌+◌, ◌-◌, sym, ap, subst, arith, None}
 use Rattle.mte_tags.specs.Memory.{Memory, page_at, with_page, with_new_pages, new_page}
-use Rattle.mte_flat.specs.Slots.{slots_memory, page_of, AreSlots}
+use Rattle.mte_flat.specs.Inner.Slots.{slots_memory, page_of, AreSlots}
 use Rattle.mte_tags.proofs.Pages.{page_at-with_page_other}
 use Rattle.mte_tags.proofs.PageLaws.{with_new_pages-step}
 use Rattle.mte_flat.proofs.Places.{AreSlots-push, slots_memory-push, any_memory}

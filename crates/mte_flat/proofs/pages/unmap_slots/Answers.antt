@@ -1,6 +1,6 @@
 use Rattle.std.proofs.Common.{◌≡◌, ◌∙◌, ◌<◌, ◌^◌, ◌+◌, ◌-◌, IsSome, None, sym, ap, subst, arith, refl, length, get_or}
 use Rattle.mte_tags.specs.Memory.{Memory, page_at, without_page, without_pages}
-use Rattle.mte_flat.specs.Slots.{slots_memory, AreSlots}
+use Rattle.mte_flat.specs.Inner.Slots.{slots_memory, AreSlots}
 use Rattle.mte_flat.specs.declared.slot.Slot.{Slot}
 use Rattle.mte_tags.proofs.Pages.{page_at-without_page_other}
 use Rattle.mte_tags.proofs.PageLaws.{without_pages-step}

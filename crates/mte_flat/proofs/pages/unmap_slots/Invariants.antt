@@ -1,6 +1,6 @@
 use Rattle.std.proofs.Common.{◌≡◌, ℕ, ◌<◌, ◌≤◌, ◌+◌, ◌-◌, IsSome, vec_len, vec_capacity}
 use Rattle.mte_tags.specs.Memory.{Memory, page_at, without_pages}
-use Rattle.mte_flat.specs.Slots.{slots_memory, AreSlots}
+use Rattle.mte_flat.specs.Inner.Slots.{slots_memory, AreSlots}
 use Rattle.mte_flat.proofs.pages.unmap_slots.Given as goal
 
 abbrev pub invariant-loop-i : goal.invariant-loop-i

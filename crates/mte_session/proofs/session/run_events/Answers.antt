@@ -1,9 +1,7 @@
 use Rattle.std.proofs.Common.{◌≡◌, sym, ◌∙◌, map, arith}
-use Rattle.mte_tenant.specs.declared.refusal.Refusal.TheVariants.{Admit}
-use Rattle.mte_tenant.specs.declared.admission.AdmitError.TheVariants.{OutOfMemory}
 use Rattle.mte_sched.specs.Hosts.{content_of}
-use Rattle.mte_session.proofs.SessionLemmas.{run_accepted, run_refused, run_end, not_first}
-use Rattle.mte_session.proofs.session.run_events.Goals.{in-Ok, in-Err+else-is_out_of_memory}
+use Rattle.mte_session.proofs.SessionLemmas.{run_accepted, run_refused, run_end}
+use Rattle.mte_session.proofs.session.run_events.Goals.{in-Ok, in-Err-Refused}
 use Rattle.mte_session.proofs.session.run_events.Goals as goal
 
 pub loop-before-preserved : goal.loop-before-preserved
@@ -15,12 +13,11 @@ loop-before-preserved c =
         few = rw w.refused-is (let a = i.few in omega arith);
         room = rw w.refused-is i.room;
       }
-      | in-Err+else-is_out_of_memory w ↦
-          let differs : (w.in-Err.refusal ≡ Admit OutOfMemory) → ⊥ = λ e. let t = w.is_out_of_memory.ensures.1 e in cc in
-          let refused = not_first w.in-Err.ensures.refused differs in
+      | in-Err-Refused w ↦
+          let refused = rw w.in-Err-Refused.field-0-is at w.in-Err-Refused.ensures.refused in
           let push = w.push_reserved.ensures in
           record {
-            run = rw (w.refused-is, push.items) (run_refused (map (λ f. f.items) c.args.files.now) (content_of c.loop-before.host) (content_of c.play.new.host) c.loop-before.refused.items w.in-Err.refusal c.args.events.now c.loop-before.before _ _ c.loop-before-test.true refused w.in-Err.ensures.err i.run);
+            run = rw (w.refused-is, push.items) (run_refused (map (λ f. f.items) c.args.files.now) (content_of c.loop-before.host) (content_of c.play.new.host) c.loop-before.refused.items w.in-Err-Refused.refusal c.args.events.now c.loop-before.before _ _ c.loop-before-test.true refused w.in-Err-Refused.ensures.err i.run);
             few = rw w.refused-is (let a = i.few in let b = push.len in omega arith);
             room = rw w.refused-is (push.capacity ∙ i.room);
           }

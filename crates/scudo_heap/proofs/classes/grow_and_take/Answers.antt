@@ -18,7 +18,7 @@ returns-then-not-grow-clause-made g c = λ ms.
     let w = world_of m (heap_of c.args.cookie s ms) c.args.rgsr.now in
     let same : world_of (g.M.Tagged.memory c.grow.new.memory) (heap_of c.args.cookie c.grow.new.stacks ms) c.args.rgsr.now ≡ w =
     λ i. world_of (memory i) (heap_of c.args.cookie (stacks i) ms) c.args.rgsr.now in
-    ap no_chunk same ∙ after-class-allocation-refused w c.args.origin c.args.align c.args.size c.args.class c.requires.empty (sym no ∙ c.grow.ensures.answer)
+    ap no_chunk same ∙ after-class-allocation-refused w c.args.request.origin c.args.request.align c.args.request.size c.args.class c.requires.empty (sym no ∙ c.grow.ensures.answer)
 
 pub returns-clause-made : goal.returns-clause-made
 unfolding after_grow
@@ -35,5 +35,5 @@ returns-clause-made g c = λ ms.
     let same : v ≡ after_grow w k = λ i. world_of (memory i) (heap_of c.args.cookie (stacks i) ms) c.args.rgsr.now in
     let some : stack_of (after_grow w k).heap.stacks k ≢ [] = λ z. c.grow.ensures.some yes (ap (λ (t : StackState). stack_of t k) stacks ∙ z) in
     c.take_top.ensures.made ms
-    ∙ ap (λ (t : World). after_take t t c.args.origin c.args.align c.args.size k (stack_of t.heap.stacks k)) same
-    ∙ in_class-after-grow w c.args.origin c.args.align c.args.size k c.requires.empty (sym yes ∙ c.grow.ensures.answer) some
+    ∙ ap (λ (t : World). after_take t t c.args.request.origin c.args.request.align c.args.request.size k (stack_of t.heap.stacks k)) same
+    ∙ in_class-after-grow w c.args.request.origin c.args.request.align c.args.request.size k c.requires.empty (sym yes ∙ c.grow.ensures.answer) some

@@ -13,4 +13,4 @@ returns-clause-made g c = λ ms.
     let e = c.in_default.ensures in
     let x = world_of (g.M.Tagged.memory c.grow_and_take-chunk.new.memory) (heap_of c.args.cookie c.grow_and_take-chunk.new.stacks ms) c.grow_and_take-chunk.new.rgsr in
     ap (allocation_of x) c.by_fields.ensures ∙ c.grow_and_take-chunk.ensures.made ms
-    ∙ (λ i. after_class_allocation (world_of (e.memory refl i) (heap_of c.args.cookie (e.stacks refl i) ms) (e.rgsr refl i)) c.args.origin c.args.align c.args.size c.args.class)
+    ∙ (λ i. after_class_allocation (world_of (e.memory refl i) (heap_of c.args.cookie (e.stacks refl i) ms) (e.rgsr refl i)) c.args.request.origin c.args.request.align c.args.request.size c.args.class)

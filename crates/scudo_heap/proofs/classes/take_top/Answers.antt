@@ -13,15 +13,15 @@ use Rattle.scudo_heap.proofs.classes.take_top.Goals as goal
 
 pub make_chunk-tag-requires-clause-aligned : goal.make_chunk-tag-requires-clause-aligned
 make_chunk-tag-requires-clause-aligned g c = (subst FitsIn (sym c.place-place.ensures)
-    (fits-in c.args.class _ c.in-Some.block c.args.align c.args.size (record { low = c.requires.low; high = c.requires.high }) c.in-Some.ensures.block c.requires.align c.requires.fits)).aligned
+    (fits-in c.args.class _ c.in-Some.block c.args.request.align c.args.request.size (record { low = c.requires.low; high = c.requires.high }) c.in-Some.ensures.block c.requires.align c.requires.fits)).aligned
 
 pub make_chunk-tag-requires-clause-whole : goal.make_chunk-tag-requires-clause-whole
 make_chunk-tag-requires-clause-whole g c = (subst FitsIn (sym c.place-place.ensures)
-    (fits-in c.args.class _ c.in-Some.block c.args.align c.args.size (record { low = c.requires.low; high = c.requires.high }) c.in-Some.ensures.block c.requires.align c.requires.fits)).whole
+    (fits-in c.args.class _ c.in-Some.block c.args.request.align c.args.request.size (record { low = c.requires.low; high = c.requires.high }) c.in-Some.ensures.block c.requires.align c.requires.fits)).whole
 
 pub make_chunk-tag-requires-clause-within : goal.make_chunk-tag-requires-clause-within
 make_chunk-tag-requires-clause-within g c = (subst FitsIn (sym c.place-place.ensures)
-    (fits-in c.args.class _ c.in-Some.block c.args.align c.args.size (record { low = c.requires.low; high = c.requires.high }) c.in-Some.ensures.block c.requires.align c.requires.fits)).within
+    (fits-in c.args.class _ c.in-Some.block c.args.request.align c.args.request.size (record { low = c.requires.low; high = c.requires.high }) c.in-Some.ensures.block c.requires.align c.requires.fits)).within
 
 pub make_chunk-tag-requires-clause-open : goal.make_chunk-tag-requires-clause-open
 make_chunk-tag-requires-clause-open g c =
@@ -39,10 +39,10 @@ returns-in-Some-clause-made g c = λ ms.
     let p = c.place-place.result in
     let e = c.make_chunk-tag.ensures in
     let popped = c.take.ensures.stacks ∙ ap (λ (t : Place). Rattle.scudo_heap.specs.Stacks.after_pop c.args.stacks.now t.class) (sym c.place-place.ensures) in
-    let done : allocation_of (world_of (g.M.Tagged.memory c.make_chunk-tag.new.memory) (heap_of c.args.cookie c.take.new.self ms) c.make_chunk-tag.new.rgsr) (Some (Small p c.make_chunk-tag.result)) ≡ allocation_at p (after_place w c.args.origin p) =
+    let done : allocation_of (world_of (g.M.Tagged.memory c.make_chunk-tag.new.memory) (heap_of c.args.cookie c.take.new.self ms) c.make_chunk-tag.new.rgsr) (Some (Small p c.make_chunk-tag.result)) ≡ allocation_at p (after_place w c.args.request.origin p) =
     λ i. allocation_of (world_of (e.memory i) (heap_of c.args.cookie (popped i) ms) (e.rgsr i)) (Some (Small p (e.tag i))) in
-    done ∙ ap (λ (t : Place). allocation_at t (after_place w c.args.origin t)) c.place-place.ensures
-    ∙ after-take-some w w c.args.origin c.args.align c.args.size c.args.class c.in-Some.block (stack_of c.args.stacks.now c.args.class) c.in-Some.ensures.answer
+    done ∙ ap (λ (t : Place). allocation_at t (after_place w c.args.request.origin t)) c.place-place.ensures
+    ∙ after-take-some w w c.args.request.origin c.args.request.align c.args.request.size c.args.class c.in-Some.block (stack_of c.args.stacks.now c.args.class) c.in-Some.ensures.answer
 
 pub returns-in-Some-clause-served : goal.returns-in-Some-clause-served
 returns-in-Some-clause-served g c = λ k ms v.
@@ -53,7 +53,7 @@ returns-in-Some-clause-served g c = λ k ms v.
 pub returns-in-Some-clause-low_chunk : goal.returns-in-Some-clause-low_chunk
 returns-in-Some-clause-low_chunk g c =
     let f = subst FitsIn (sym c.place-place.ensures)
-    (fits-in c.args.class _ c.in-Some.block c.args.align c.args.size (record { low = c.requires.low; high = c.requires.high }) c.in-Some.ensures.block c.requires.align c.requires.fits) in
+    (fits-in c.args.class _ c.in-Some.block c.args.request.align c.args.request.size (record { low = c.requires.low; high = c.requires.high }) c.in-Some.ensures.block c.requires.align c.requires.fits) in
     let within = f.within in
     let m = g.M.Tagged.memory c.args.memory.now in
     let o = subst (λ (p : Place). IsOpen m p.block (p.block + size_of p.class)) (sym c.place-place.ensures)

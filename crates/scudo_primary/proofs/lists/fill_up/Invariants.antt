@@ -1,6 +1,6 @@
 use Rattle.std.proofs.Common.{◌-◌}
 use Rattle.std.specs.Prelude.{vec_len}
-use Rattle.scudo_primary.specs.Lists.{IsFilledUp}
+use Rattle.scudo_primary.specs.Inner.{IsFilledUp}
 use Rattle.scudo_primary.proofs.lists.fill_up.Given as goal
 
 abbrev pub invariant-loop-value : goal.invariant-loop-value

@@ -1,5 +1,5 @@
 use Rattle.std.proofs.Common.{◌<◌, arith, length, sym, subst}
-use Rattle.scudo_primary.specs.Lists.{list_at}
+use Rattle.scudo_primary.specs.Inner.{list_at}
 use Rattle.scudo_primary.proofs.BlockLemmas.{block-IsCell}
 use Rattle.scudo_primary.proofs.TableLemmas.{slot-in, place-in}
 use Rattle.scudo_primary.proofs.LinkLemmas.{linked, block-below, count-below}

@@ -1,5 +1,6 @@
 use Rattle.std.proofs.Common.{◌≡◌, ◌≢◌, ◌+◌, ◌<◌, ℕ}
-use Rattle.scudo_primary.specs.Lists.{IsClass, page_number}
+use Rattle.scudo_primary.specs.Inner.{page_number}
+use Rattle.scudo_primary.specs.Blocks.{IsClass}
 use Rattle.scudo_primary.proofs.lists.number_pages.Given as goal
 
 abbrev pub invariant-loop-i : goal.invariant-loop-i

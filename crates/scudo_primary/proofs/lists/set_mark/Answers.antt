@@ -1,5 +1,5 @@
 use Rattle.std.proofs.Common.{set, get_or, ap}
-use Rattle.scudo_primary.specs.Lists.{no_entry, entry_at}
+use Rattle.scudo_primary.specs.Inner.{no_entry, entry_at}
 use Rattle.scudo_primary.proofs.lists.set_mark.Goals as goal
 
 pub returns : goal.returns

@@ -1,5 +1,5 @@
 use Rattle.std.proofs.Common.{◌<◌, List, ℕ, arith, ap, length, sym, subst, slice_get}
-use Rattle.scudo_primary.specs.Lists.{list_at}
+use Rattle.scudo_primary.specs.Inner.{list_at}
 use Rattle.scudo_primary.proofs.TableLemmas.{slot-in, place-in}
 use Rattle.scudo_primary.proofs.LinkLemmas.{top-of, unlink-done, unlink-unlisted}
 use Rattle.scudo_primary.proofs.lists.unlink.Goals as goal

@@ -1,5 +1,5 @@
 use Rattle.std.proofs.Common.{◌<◌, ◌++◌, arith, length, drop, sym, subst, ap, ◌∙◌}
-use Rattle.scudo_primary.specs.Lists.{list_at}
+use Rattle.scudo_primary.specs.Inner.{list_at}
 use Rattle.scudo_primary.proofs.TableLemmas.{slot-in, place-in}
 use Rattle.scudo_primary.proofs.TakingLemmas.{taking-init, taking-next, taking-step, taken, taken-buffer, more-at-first}
 use Rattle.scudo_primary.proofs.lists.unlink_batch.Goals as goal

@@ -1,14 +1,14 @@
 use Rattle.std.proofs.Common.{◌≡◌, ◌∙◌, ◌+◌, ◌<◌, ◌++◌, [], ◌∷◌, sym, ap, arith, get_or, take, map, length}
 use Rattle.std.proofs.lemmas.List.{take_more, map-append}
 use Rattle.std.proofs.lemmas.Option.{get_or_from_slice_get}
-use Rattle.mte_svc.specs.declared.calls.HeapCall.{HeapCall}
+use Rattle.mte_svc.specs.declared.calls.AnsweredCall.{AnsweredCall}
 use Rattle.tombolopan_c.specs.LoneTenants.{call_told}
 use Rattle.tombolopan_c.specs.declared.kept_calls.KeptCall.{KeptCall}
 use Rattle.tombolopan_c.proofs.kept_calls.told_calls.Goals as goal
 
 pub loop-i-preserved : goal.loop-i-preserved
 loop-i-preserved c =
-    let call : HeapCall = c.in-Some.call in
+    let call : AnsweredCall = c.in-Some.call in
     let last = c.args.calls.now.last in
     let i = c.loop-i.i in
     let below : i < length last = omega arith in

@@ -1,4 +1,4 @@
-use Rattle.mte_flat.specs.Places.{beside_pages}
+use Rattle.mte_flat.specs.Inner.Places.{beside_pages}
 use Rattle.mte_flat.proofs.Found.{found_slot}
 use Rattle.mte_flat.proofs.pages.PagesPageStore.find.Goals as goal
 

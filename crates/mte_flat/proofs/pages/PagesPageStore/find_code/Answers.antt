@@ -1,5 +1,5 @@
 use Rattle.std.proofs.Common.{Some, refl}
-use Rattle.mte_flat.specs.Places.{beside_pages}
+use Rattle.mte_flat.specs.Inner.Places.{beside_pages}
 use Rattle.mte_flat.proofs.Found.{found_slot}
 use Rattle.mte_flat.proofs.pages.PagesPageStore.find_code.Goals as goal
 

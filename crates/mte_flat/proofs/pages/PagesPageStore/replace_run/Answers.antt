@@ -1,6 +1,6 @@
 use Rattle.std.proofs.Common.{◌∙◌}
 use Rattle.std.proofs.lemmas.List.{get_or_default}
-use Rattle.mte_flat.specs.Places.{beside_pages, no_slot}
+use Rattle.mte_flat.specs.Inner.Places.{beside_pages, no_slot}
 use Rattle.mte_flat.proofs.Found.{slot_replaced}
 use Rattle.mte_flat.proofs.pages.PagesPageStore.replace_run.Goals as goal
 

@@ -1,6 +1,6 @@
 use Rattle.std.proofs.Common.{◌∙◌, ap, length}
 use Rattle.mte_tags.specs.Accesses.{addresses, with_bytes_at, with_bytes}
-use Rattle.mte_flat.specs.Places.{memory_of}
+use Rattle.mte_flat.specs.Inner.Places.{memory_of}
 use Rattle.mte_flat.proofs.pages.PagesPaged.load_bytes.Goals as goal
 
 pub returns-clause-memory : goal.returns-clause-memory

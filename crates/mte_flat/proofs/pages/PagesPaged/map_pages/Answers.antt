@@ -1,7 +1,7 @@
 use Rattle.std.proofs.Common.{◌≡◌, ◌∙◌, ◌-◌, sym, ap, arith, refl}
 use Rattle.mte_tags.specs.Memory.{pages_left, page_at}
-use Rattle.mte_flat.specs.Slots.{slots_memory}
-use Rattle.mte_flat.specs.Places.{beside_pages, memory_of}
+use Rattle.mte_flat.specs.Inner.Slots.{slots_memory}
+use Rattle.mte_flat.specs.Inner.Places.{beside_pages, memory_of}
 use Rattle.mte_flat.proofs.Places.{pages_left-slots}
 use Rattle.mte_flat.proofs.pages.PagesPaged.map_pages.Goals as goal
 

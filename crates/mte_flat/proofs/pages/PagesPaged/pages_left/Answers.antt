@@ -1,5 +1,5 @@
 use Rattle.std.proofs.Common.{◌≡◌, ◌∙◌, ◌-◌, sym, ap, length}
-use Rattle.mte_flat.specs.Places.{beside_pages}
+use Rattle.mte_flat.specs.Inner.Places.{beside_pages}
 use Rattle.mte_flat.proofs.Places.{pages_left-slots}
 use Rattle.mte_flat.proofs.pages.PagesPaged.pages_left.Goals as goal
 

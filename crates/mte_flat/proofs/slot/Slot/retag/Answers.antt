@@ -1,5 +1,5 @@
 use Rattle.std.proofs.Common.{◌∙◌, ◌*◌, sym, ap, refl, arith}
-use Rattle.mte_flat.specs.Slots.{page_of}
+use Rattle.mte_flat.specs.Inner.Slots.{page_of}
 use Rattle.mte_tags.specs.Runs.{with_granule_tags}
 use Rattle.mte_tags.proofs.PageRuns.{filled, filled_spliced}
 use Rattle.mte_tags.proofs.TagRuns.{page_parts}

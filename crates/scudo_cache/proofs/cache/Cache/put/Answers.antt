@@ -3,10 +3,10 @@ use Rattle.std.proofs.lemmas.Bool.{cases_eq}
 use Rattle.scudo_primary.specs.Batches.{max_count_of}
 use Rattle.scudo_primary.specs.Blocks.{number_of}
 use Rattle.scudo_primary.specs.Pools.{ClassState, PoolState, class_at, pages_of}
-use Rattle.scudo_primary.specs.Lists.{IsClass}
+use Rattle.scudo_primary.specs.Blocks.{IsClass}
 use Rattle.scudo_cache.specs.Caches.{Class, entries_of, with_entries, one_stack, with_room, after_put}
 use Rattle.scudo_cache.proofs.ClassLemmas.{room-left, room-other, put-other, put-lists}
-use Rattle.scudo_cache.specs.Whole.{cache_of}
+use Rattle.scudo_cache.specs.Inner.{cache_of}
 use Rattle.scudo_cache.proofs.CacheLemmas.{all-classes, at-class, inside_with, view-with, entries-with, entries-other, put-back, above-kept}
 use Rattle.scudo_cache.proofs.CacheLaws.{left-put}
 use Rattle.scudo_cache.proofs.StackLemmas.{IsAfter, put-after, stack-put, stack-is, stacks-kept, caps-put}

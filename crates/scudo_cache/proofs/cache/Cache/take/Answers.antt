@@ -3,10 +3,10 @@ use Rattle.std.proofs.lemmas.Bool.{cases_eq}
 use Rattle.std.specs.List.{All, IsDistinct}
 use Rattle.scudo_primary.specs.Batches.{max_count_of}
 use Rattle.scudo_primary.specs.Pools.{IsLoose, ClassState, PoolState, class_at, pages_of}
-use Rattle.scudo_primary.specs.Lists.{IsClass}
+use Rattle.scudo_primary.specs.Blocks.{IsClass}
 use Rattle.scudo_cache.specs.Caches.{Class, entries_of, with_entries, one_stack, after_refill, newest, after_take}
 use Rattle.scudo_cache.proofs.ClassLemmas.{some, after-refill-some, after-refill-other, taken-other, taken-lists}
-use Rattle.scudo_cache.specs.Whole.{cache_of}
+use Rattle.scudo_cache.specs.Inner.{cache_of}
 use Rattle.scudo_cache.proofs.CacheLemmas.{all-classes, at-class, inside_with, view-with, entries-with, entries-other, put-back, above-kept}
 use Rattle.scudo_cache.proofs.CacheLaws.{left-taken}
 use Rattle.scudo_cache.proofs.StackLemmas.{marks_after, IsAfter, taken-after, stack-taken, stack-is, stacks-kept, caps-taken}

@@ -1,5 +1,6 @@
 use Rattle.std.proofs.Common.{arith}
-use Rattle.scudo_primary.specs.Lists.{IsClass, list_at}
+use Rattle.scudo_primary.specs.Inner.{list_at}
+use Rattle.scudo_primary.specs.Blocks.{IsClass}
 use Rattle.scudo_primary.proofs.BlockLemmas.{block-test, no-room}
 use Rattle.scudo_primary.proofs.ModelLemmas.{pages-few, pages-value}
 use Rattle.scudo_primary.proofs.pool.Primary.is_block.Goals as goal

@@ -1,7 +1,7 @@
 use Rattle.std.proofs.Common.{◌≡◌, ◌<◌, length, subst, sym, refl, ap, ◌∙◌}
 use Rattle.std.proofs.lemmas.List.{get_or_default}
 use Rattle.scudo_primary.specs.Pools.{is_marked}
-use Rattle.scudo_primary.specs.Lists.{no_entry, place_of}
+use Rattle.scudo_primary.specs.Inner.{no_entry, place_of}
 use Rattle.scudo_primary.proofs.ModelLemmas.{placed, mark-entry}
 use Rattle.scudo_primary.proofs.pool.Primary.is_free.Goals as goal
 

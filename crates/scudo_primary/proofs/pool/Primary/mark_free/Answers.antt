@@ -2,7 +2,8 @@ use Rattle.std.proofs.Common.{◌≡◌, true, false, get_or, ap, subst, sym, �
 use Rattle.std.proofs.lemmas.List.{get_or-set_same}
 use Rattle.scudo_primary.specs.Blocks.{IsBlock, number_of}
 use Rattle.scudo_primary.specs.Pools.{ClassState, IsLoose, class_at, with_mark, class_with_mark}
-use Rattle.scudo_primary.specs.Lists.{IsClass, list_at}
+use Rattle.scudo_primary.specs.Inner.{list_at}
+use Rattle.scudo_primary.specs.Blocks.{IsClass}
 use Rattle.scudo_primary.proofs.TableLemmas.{length-marks}
 use Rattle.scudo_primary.proofs.ModelLemmas.{PoolDone, placed, mark-done, table-same, class_at-slices, class_at-with_class, used-unlisted}
 use Rattle.scudo_primary.proofs.pool.Primary.mark_free.Goals as goal

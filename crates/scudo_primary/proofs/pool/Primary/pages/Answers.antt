@@ -1,6 +1,6 @@
 use Rattle.std.proofs.Common.{◌-◌, ◌≡◌, arith, ap, sym}
 use Rattle.scudo_primary.specs.Pools.{PoolState}
-use Rattle.scudo_primary.specs.Lists.{list_at}
+use Rattle.scudo_primary.specs.Inner.{list_at}
 use Rattle.scudo_primary.proofs.ModelLemmas.{pages-value}
 use Rattle.scudo_primary.proofs.pool.Primary.pages.Goals as goal
 

@@ -1,7 +1,7 @@
 use Rattle.std.proofs.Common.{ℕ, List, ap, subst, sym, ◌∙◌, arith, slice_get}
 use Rattle.scudo_primary.specs.Blocks.{IsBlock}
 use Rattle.scudo_primary.specs.Pools.{ClassState, after_pop, class_after_pop, is_member}
-use Rattle.scudo_primary.specs.Lists.{list_at}
+use Rattle.scudo_primary.specs.Inner.{list_at}
 use Rattle.scudo_primary.proofs.ModelLemmas.{PoolDone, pool-done, class_at-slices, empty-stack, after-pop-empty, after-pop-used}
 use Rattle.scudo_primary.proofs.pool.Primary.pop.Goals as goal
 

@@ -1,7 +1,7 @@
 use Rattle.std.proofs.Common.{◌≡◌, false, get_or, subst}
 use Rattle.scudo_primary.specs.Blocks.{IsBlock, number_of}
 use Rattle.scudo_primary.specs.Pools.{ClassState, after_push, class_after_push}
-use Rattle.scudo_primary.specs.Lists.{IsClass}
+use Rattle.scudo_primary.specs.Blocks.{IsClass}
 use Rattle.scudo_primary.proofs.ListLemmas.{max_count-pos}
 use Rattle.scudo_primary.proofs.ModelLemmas.{PoolDone, pool-done, table-same, class_at-slices, used-unlisted}
 use Rattle.scudo_primary.proofs.pool.Primary.push.Goals as goal

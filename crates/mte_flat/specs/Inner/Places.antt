@@ -1,8 +1,9 @@
+-- For the code's own clauses, views and invariants.
 -- The places of the plain memory: its slots.
 use Rattle.std.specs.Prelude.{ℕ, ◌<◌, [], get_or, length}
 use Rattle.std.specs.FinMap as map
 use Rattle.mte_tags.specs.Memory.{Memory, Page}
-use Rattle.mte_flat.specs.Slots.{page_of, slots_memory}
+use Rattle.mte_flat.specs.Inner.Slots.{page_of, slots_memory}
 use Rattle.mte_flat.specs.declared.pages.Pages.{Pages}
 use Rattle.mte_flat.specs.declared.slot.Slot.{Slot}
 

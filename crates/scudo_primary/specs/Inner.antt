@@ -1,3 +1,4 @@
+-- For the code's own clauses, views and invariants.
 -- How the pool keeps its stacks: linked through one table of entries. A carved block has its own
 -- entry as long as the pool lives: each carved page has a number, and 128 entries from 128 times
 -- that number on, one for each 32 bytes.
@@ -10,17 +11,13 @@ use Rattle.std.specs.List.{range_with_len, IsDistinct}
 use Rattle.scudo_header.specs.Regions.{region_of}
 use Rattle.scudo_header.specs.declared.classes.TheConstants.{CLASSES}
 use Rattle.address_map.specs.declared.limits.TheConstants.{PAGE_SIZE}
-use Rattle.scudo_primary.specs.Blocks.{carved_count, block_at, number_of, IsBlock, blocks_from}
+use Rattle.scudo_primary.specs.Blocks.{IsClass, carved_count, block_at, number_of, IsBlock, blocks_from}
 use Rattle.scudo_primary.specs.Batches.{max_count_of, batch_sizes}
 use Rattle.scudo_primary.specs.Pools.{ClassState, PoolState, pool_by}
 use Rattle.address_map.specs.declared.limits.TheConstants.{MAX_PAGES}
 use Rattle.scudo_primary.specs.declared.lists.BlockEntry.{BlockEntry}
 use Rattle.scudo_primary.specs.declared.lists.ClassList.{ClassList}
 use Rattle.scudo_primary.specs.declared.pool.Primary.TheInside.{Inside}
-
-pub record IsClass (class : ℕ) : Type 0 where
-  pub low : 0 < class
-  pub high : class ≤ CLASSES
 
 -- ---- a list that is linked through a function from each member to the next
 

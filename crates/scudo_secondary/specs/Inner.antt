@@ -1,3 +1,4 @@
+-- For the code's own clauses, views and invariants.
 -- What the list of mappings in the code is.
 use Rattle.std.specs.Prelude.{◌≤◌, vec_capacity}
 use Rattle.scudo_secondary.specs.Mappings.{SecondaryState, AreMappings, pages_of}

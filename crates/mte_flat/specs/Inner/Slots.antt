@@ -1,3 +1,4 @@
+-- For the code's own clauses, views and invariants.
 -- The slots of the plain memory, one for each mapped page, and what they say of the tagged memory.
 use Rattle.std.specs.Prelude.{◌≡◌, ℕ, ◌<◌, ◌^◌, List, map, length, slice_index_or}
 use Rattle.std.specs.List.{All}

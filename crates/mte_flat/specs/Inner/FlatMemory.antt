@@ -1,6 +1,7 @@
+-- For the code's own clauses, views and invariants.
 -- What the plain memory holds.
 use Rattle.mte_tags.specs.Memory.{Memory}
-use Rattle.mte_flat.specs.Places.{memory_of}
+use Rattle.mte_flat.specs.Inner.Places.{memory_of}
 use Rattle.mte_flat.specs.declared.flat.Flat.TheInside.{Inside}
 
 abbrev pub flat_memory : Inside → Memory

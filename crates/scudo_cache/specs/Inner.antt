@@ -1,3 +1,4 @@
+-- For the code's own clauses, views and invariants.
 -- What holds of the fields of a cache.
 use Rattle.std.specs.Prelude.{◌≡◌, ℕ, ◌<◌, ◌≤◌, length, nat_eq, vec_capacity}
 use Rattle.std.specs.List.{IsDistinct}
