@@ -3,7 +3,7 @@
 ghost use Rattle.std.specs.Prelude.{◌≡◌, ◌<◌};
 ghost use Rattle.scudo_heap.specs.Served.{HeapOwnsItsPages};
 ghost use Rattle.mte_tenant.specs.Machines.{machine_of, start_of};
-ghost use Rattle.mte_tenant.specs.Admissions.{terms_of};
+ghost use Rattle.mte_tenant.specs.Admissions.{start_in};
 ghost use Rattle.debuggee.specs.Courses.{IsAt};
 
 use crate::cuts::Cuts;
@@ -13,6 +13,7 @@ use elf_core::Region;
 use mte_flat::Flat;
 use mte_tags::TagMode;
 use mte_tenant::{Admission, AdmitError, TenantParts, admit_alone, attempt, settle, slice};
+use obstacle::Obstacle;
 use run_book::Book;
 use std::alloc::{AllocError, Global};
 
@@ -20,7 +21,7 @@ use std::alloc::{AllocError, Global};
 /// begin anew. Nothing else changes it.
 #[derive(Drop)]
 pub struct Debuggee<'a> {
-    terms: Admission<'a>,
+    admission: Admission<'a>,
     cuts: Cuts<'a>,
     parts: TenantParts,
     memory: Watched,
@@ -34,9 +35,9 @@ pub struct Debuggee<'a> {
     done: u32,
     ghost served: { HeapOwnsItsPages memory.flat parts.heap },
     ghost tag: { parts.regs.rgsr.tag < 16 },
-    ghost some: { 0 < terms.pages },
+    ghost some: { 0 < admission.terms.pages },
     // It is where the definition has it after these slices and attempts, whatever was done before.
-    ghost law: { ∥ IsAt cuts (start_of terms.id (terms_of terms)) slices cut done
+    ghost law: { ∥ IsAt cuts (start_of admission.id (start_in admission)) slices cut done
         (machine_of parts memory.flat) ∥₁ },
 }
 
@@ -44,17 +45,17 @@ impl<'a> Debuggee<'a> {
     /// A tenant at its first instruction, or why it is refused.
     pub fn new(
         alloc: Global,
-        terms: &Admission<'a>,
+        admission: &Admission<'a>,
         cuts: &Cuts<'a>,
-    ) -> Result<Debuggee<'a>, AdmitError>
-        requires { 0 < terms.now.pages }
+    ) -> Result<Debuggee<'a>, Obstacle<AdmitError>>
+        requires { 0 < admission.now.terms.pages }
     {
         let words = OpCache::new(alloc)?;
-        let mut memory = Flat::new(alloc, terms.pages as usize, terms.mode)?;
-        let parts = admit_alone(alloc, terms, &mut memory)?;
+        let mut memory = Flat::new(alloc, admission.terms.pages as usize, admission.terms.mode)?;
+        let parts = admit_alone(alloc, admission, &mut memory)?;
         let cut = cuts.next(0, parts.log.steps);
         Ok(Debuggee {
-            terms: *terms,
+            admission: *admission,
             cuts: *cuts,
             parts,
             memory: Watched::new(alloc, memory),
@@ -68,7 +69,7 @@ impl<'a> Debuggee<'a> {
 
     /// The same tenant at its first instruction.
     pub fn anew(&self, alloc: Global) -> Result<Debuggee<'a>, AllocError> {
-        match Debuggee::new(alloc, &self.terms, &self.cuts) {
+        match Debuggee::new(alloc, &self.admission, &self.cuts) {
             Ok(debuggee) => Ok(debuggee),
             Err(_) => Err(AllocError),
         }
@@ -106,7 +107,7 @@ impl<'a> Debuggee<'a> {
 
     /// What a tag that differs does.
     pub fn mode(&self) -> TagMode {
-        self.terms.mode
+        self.admission.terms.mode
     }
 
     /// Whether it is running, and has steps left.

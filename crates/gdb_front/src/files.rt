@@ -1,4 +1,4 @@
-//! The files that GDB reads: the maps of the tenant's memory.
+//! The files that GDB reads: the maps of the tenant's memory, and its image.
 
 use crate::front::Front;
 use crate::reply::Reply;
@@ -7,13 +7,16 @@ use gdb_packets::{FileCall, read_hex};
 use gdb_target::{Text, put_file_part, put_file_status, put_maps, put_smaps};
 use std::alloc::Global;
 
-/// The descriptor of the file that is open.
-const DESCRIPTOR: u64 = 3;
+/// The descriptor of a map, one of which is open at a time.
+const MAP: u64 = 3;
+
+/// The descriptor of the image, which is open always: GDB opens it several times at once.
+const IMAGE: u64 = 4;
 
 /// The most bytes of a path.
-const PATH_LIMIT: usize = 64;
+const PATH_LIMIT: usize = 4096;
 
-/// The file that is open: one at a time.
+/// The map that is open, if one is.
 #[derive(Drop)]
 pub struct File {
     text: Text,
@@ -31,24 +34,33 @@ impl File {
 }
 
 impl File {
-    /// Opens a file of a memory's regions.
-    fn open(&mut self, named: Named, all: &[Region], image: &[u8]) {
+    /// Opens the map of a memory's regions.
+    fn open_map(&mut self, map: Map, all: &[Region], image: &[u8]) {
         self.text.clear();
-        match named {
-            Named::Maps => put_maps(&mut self.text, all, image),
-            Named::Smaps => put_smaps(&mut self.text, all, image),
+        match map {
+            Map::Maps => put_maps(&mut self.text, all, image),
+            Map::Smaps => put_smaps(&mut self.text, all, image),
         }
         self.is_open = true;
     }
 }
 
-/// Which file a path names.
+/// Which map a path names.
 #[derive(Clone, Copy, Debug, PartialEq, Eq)]
-enum Named {
+enum Map {
     /// `/proc/1/maps`, or that of a task.
     Maps,
     /// `/proc/1/smaps`
     Smaps,
+}
+
+/// Which file a path names.
+#[derive(Clone, Copy, Debug, PartialEq, Eq)]
+enum Named {
+    /// A map of the memory.
+    Map(Map),
+    /// The image, by the name that it was started with.
+    Image,
 }
 
 impl Front<'_> {
@@ -70,71 +82,83 @@ impl Front<'_> {
 
     /// Opens the file with a path, which is in digits.
     fn open_file(&mut self, alloc: Global, path: &[u8], reply: &mut Reply) {
-        let Some(named) = named_by(path) else {
-            reply.answer.put(b"F-1,2");
-            return;
-        };
+        match named_by(path, self.subject.name.as_bytes()) {
+            Some(Named::Map(map)) => self.open_map(alloc, map, reply),
+            Some(Named::Image) => reply.answer.put(b"F4"),
+            None => reply.answer.put(b"F-1,2"),
+        }
+    }
+
+    /// Opens a map of the memory.
+    fn open_map(&mut self, alloc: Global, map: Map, reply: &mut Reply) {
         let Ok(all) = self.tenant.regions(alloc) else {
             reply.answer.fail();
             return;
         };
         let image = self.subject.name.as_bytes();
-        self.file.open(named, all.as_slice(), image);
+        self.file.open_map(map, all.as_slice(), image);
         if self.file.text.is_short() {
             reply.answer.fail();
         }
         reply.answer.put(b"F3");
     }
 
-    /// Answers a part of the file that is open.
+    /// The bytes of the file with a descriptor, where it is open.
+    fn content(&self, descriptor: u64) -> Option<&[u8]> {
+        match descriptor {
+            MAP if self.file.is_open => Some(self.file.text.as_slice()),
+            IMAGE => Some(self.subject.image),
+            _ => None,
+        }
+    }
+
+    /// Answers a part of a file.
     fn put_file(&self, descriptor: u64, offset: u64, count: u64, reply: &mut Reply) {
-        if self.is_open(descriptor) {
-            put_file_part(&mut reply.answer, self.file.text.as_slice(), offset, count);
-        } else {
-            reply.answer.put(b"F-1,9");
+        match self.content(descriptor) {
+            Some(bytes) => put_file_part(&mut reply.answer, bytes, offset, count),
+            None => reply.answer.put(b"F-1,9"),
         }
     }
 
-    /// Answers how many bytes the file has that is open.
+    /// Answers how many bytes a file has.
     fn put_status(&self, descriptor: u64, reply: &mut Reply) {
-        if self.is_open(descriptor) {
-            put_file_status(&mut reply.answer, self.file.text.as_slice().len() as u64);
-        } else {
-            reply.answer.put(b"F-1,9");
+        match self.content(descriptor) {
+            Some(bytes) => put_file_status(&mut reply.answer, bytes.len() as u64),
+            None => reply.answer.put(b"F-1,9"),
         }
     }
 
-    /// Closes the file that is open.
+    /// Closes a file.
     fn close_file(&mut self, descriptor: u64, reply: &mut Reply) {
-        if self.is_open(descriptor) {
-            self.file.is_open = false;
-            reply.answer.put(b"F0");
-        } else {
+        if self.content(descriptor).is_none() {
             reply.answer.put(b"F-1,9");
+            return;
         }
-    }
-
-    /// Whether a descriptor is that of the file that is open.
-    fn is_open(&self, descriptor: u64) -> bool {
-        self.file.is_open && descriptor == DESCRIPTOR
+        if descriptor == MAP {
+            self.file.is_open = false;
+        }
+        reply.answer.put(b"F0");
     }
 }
 
 /// The file that a path in digits names, if it is one of these.
-fn named_by(path: &[u8]) -> Option<Named> {
+fn named_by(path: &[u8], image: &[u8]) -> Option<Named> {
     if path.len() > 2 * PATH_LIMIT {
         return None;
     }
     let mut room = [0; PATH_LIMIT];
     let len = read_hex(path, &mut room)?;
     let name = room.get(..len)?;
+    if name == image {
+        return Some(Named::Image);
+    }
     if !name.starts_with(b"/proc/1/") {
         return None;
     }
     if name.ends_with(b"/smaps") {
-        Some(Named::Smaps)
+        Some(Named::Map(Map::Smaps))
     } else if name.ends_with(b"/maps") {
-        Some(Named::Maps)
+        Some(Named::Map(Map::Maps))
     } else {
         None
     }

@@ -9,7 +9,8 @@ use std::alloc::Global;
 
 /// What the front can do, whoever asks.
 const FEATURES: &[u8] = b"PacketSize=4000;QStartNoAckMode+;multiprocess+;vContSupported+;\
-ReverseStep+;ReverseContinue+;memory-tagging+;qXfer:features:read+;qXfer:siginfo:read+";
+ReverseStep+;ReverseContinue+;memory-tagging+;qXfer:features:read+;qXfer:siginfo:read+;\
+qXfer:exec-file:read+";
 
 impl Front<'_> {
     /// Answers a packet that is answered the same whatever the tenant does. Those that would change
@@ -72,6 +73,9 @@ impl Front<'_> {
     ) {
         match object {
             b"features" => put_description_part(alloc, offset, len, reply),
+            b"exec-file" => {
+                put_part(&mut reply.answer, self.subject.name.as_bytes(), offset, len);
+            }
             b"siginfo" => {
                 let signal = Signal::of(&self.tenant.parts().log.status);
                 put_part(&mut reply.answer, &signal.info(), offset, len);

@@ -1,7 +1,7 @@
 //! The heap calls of a tenant.
 
 use gdb_travel::Traveller;
-use mte_svc::{HeapCall, HeapService};
+use mte_svc::AnsweredCall;
 use std::alloc::{AllocError, Global};
 use std::io::Write;
 use std::{fmt, io};
@@ -19,7 +19,7 @@ pub struct Made {
     /// The address of its SVC.
     pub pc: u64,
     /// The call.
-    pub call: HeapCall,
+    pub call: AnsweredCall,
 }
 
 impl fmt::Display for Made {
@@ -30,29 +30,11 @@ impl fmt::Display for Made {
             pc,
             call,
         } = self;
-        let (words, answer) = (Words(call), call.answer);
+        let AnsweredCall { call, answer } = call;
         write!(
             f,
-            "call {number}, {words} = {answer:#x} by the SVC at {pc:#x}, step {step}"
+            "call {number}, {call} = {answer:#x} by the SVC at {pc:#x}, step {step}"
         )
-    }
-}
-
-/// A call as C has it.
-#[derive(Clone, Copy)]
-struct Words<'a>(&'a HeapCall);
-
-impl<'a> fmt::Display for Words<'a> {
-    fn fmt<W: fmt::Write>(&self, f: &mut fmt::Formatter<W>) -> fmt::Result {
-        let (first, second) = (self.0.first, self.0.second);
-        match self.0.service {
-            HeapService::Malloc => write!(f, "malloc({first})"),
-            HeapService::Free => write!(f, "free({first:#x})"),
-            HeapService::Calloc => write!(f, "calloc({first}, {second})"),
-            HeapService::Realloc => write!(f, "realloc({first:#x}, {second})"),
-            HeapService::Memalign => write!(f, "memalign({first}, {second})"),
-            HeapService::UsableSize => write!(f, "usable_size({first:#x})"),
-        }
     }
 }
 

@@ -65,6 +65,7 @@ fn report_of<'x>(
         image: name,
         seed,
         finding: None,
+        statistics: None,
     }
 }
 

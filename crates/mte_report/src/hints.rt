@@ -98,7 +98,8 @@ fn loaded_from(moment: &Moment, register: u8) -> Option<u64> {
 /// Writes a call that returned no chunk, and why.
 fn tell_refused<W: Write>(out: &mut W, entry: &Entry) -> io::Result<()> {
     let call = Call(entry);
-    let why = if entry.call.first.max(entry.call.second) > MOST {
+    let (first, second) = entry.call.call.arguments();
+    let why = if first.max(second) > MOST {
         "a chunk has at most 1,048,576 bytes"
     } else {
         "too few pages were left, or the request was none that can be met"

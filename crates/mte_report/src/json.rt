@@ -8,8 +8,9 @@ use mte_backtrace::{Names, Quoted};
 use mte_flat::Flat;
 use mte_tags::MemFault;
 use mte_tenant::Status;
-use run_book::{Chunk, Entry, Request};
+use run_book::{Chunk, Entry};
 use run_cause::{Cause, Finding, Wrong};
+use run_statistics::Object;
 use std::alloc::Global;
 use std::io::Write;
 use std::{fmt, io};
@@ -41,7 +42,12 @@ impl<'a> Report<'a> {
         if let Some(seed) = self.seed {
             writeln!(out, "\"seed\":\"{seed:016x}\",")?;
         }
-        writeln!(out, "\"exit_status\":{exit_status},\n\"steps\":{steps},")
+        writeln!(out, "\"exit_status\":{exit_status},\n\"steps\":{steps},")?;
+        if let Some(table) = self.statistics {
+            let object = Object(table);
+            writeln!(out, "\"statistics\":{object},")?;
+        }
+        Ok(())
     }
 
     /// Writes how it ended, and the calls that led there.
@@ -149,11 +155,11 @@ fn write_call<W: Write>(
     entry: &Entry,
     names: &Names<'_>,
 ) -> io::Result<()> {
-    let (number, step, request) = (entry.number, entry.step, Request(&entry.call));
-    let answer = entry.call.answer;
+    let (number, step) = (entry.number, entry.step);
+    let (call, answer) = (entry.call.call, entry.call.answer);
     write!(
         out,
-        "{{\"number\":{number},\"call\":\"{request}\",\"result\":\"{answer:#x}\","
+        "{{\"number\":{number},\"call\":\"{call}\",\"result\":\"{answer:#x}\","
     )?;
     write!(out, "\"step\":{step},\"stack\":")?;
     let stack = stack_of(alloc, entry, names)?;

@@ -13,3 +13,4 @@ pub use instruction_trace::{Line, Moment, SVC, Service, Turn};
 pub use report::Report;
 pub use run_book::Book;
 pub use run_cause::{Exact, Finding};
+pub use run_statistics::{Statistics, Table};

@@ -16,6 +16,7 @@ use run_cause::{
     Cause, Finding, Wrong, abort_words, breakpoint_words, family_of, fault_words, is_undefined,
     trespass_words,
 };
+use run_statistics::Table;
 use scudo_heap::HeapAbort;
 use std::alloc::Global;
 use std::io::Write;
@@ -43,9 +44,19 @@ pub struct Report<'a> {
     pub seed: Option<u64>,
     /// The access that ended it beyond what its tags forbid, if one did.
     pub finding: Option<&'a Finding>,
+    /// The numbers of the run, where they are wanted.
+    pub statistics: Option<Table<'a>>,
 }
 
 impl<'a> Report<'a> {
+    /// Writes the numbers of the run, where they are wanted.
+    pub fn write_statistics<W: Write>(&self, out: &mut W) -> io::Result<()> {
+        if let Some(table) = &self.statistics {
+            write!(out, "mte_run: {table}")?;
+        }
+        out.flush()
+    }
+
     /// Writes what happened, the cause first.
     pub fn write<W: Write>(&self, alloc: Global, out: &mut W, memory: &mut Flat) -> io::Result<()> {
         write!(out, "mte_run: ")?;

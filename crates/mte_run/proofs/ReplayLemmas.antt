@@ -8,7 +8,7 @@ use Rattle.mte_tenant.specs.declared.refusal.Refusal.{Refusal}
 use Rattle.mte_tenant.specs.declared.refusal.Refusal.TheVariants as refusal
 use Rattle.mte_tenant.specs.declared.admission.AdmitError.{AdmitError}
 use Rattle.mte_tenant.specs.declared.admission.AdmitError.TheVariants.{Duplicate, BadReservation}
-use Rattle.mte_tenant.specs.Machines.{Terms, Machine, runs, start_of, with_status, after_attempts, stop_if_pending, stop_by_tag, after_slice_end, after_slice, after_stop}
+use Rattle.mte_tenant.specs.Machines.{Start, Machine, runs, start_of, with_status, after_attempts, stop_if_pending, stop_by_tag, after_slice_end, after_slice, after_stop}
 use Rattle.mte_tenant.specs.Ledger.{Call, Admit, Slice, Stop, LedgerEntry, first_of, refuse_if, is_bad, admission_refusal, call_refusal, ledger_after, ledger_cases}
 use Rattle.mte_sched.specs.Lives.{Session, Life, lives, lives_from, life_among, own_events}
 use Rattle.mte_sched.specs.Contents.{Content, TenantState, Live, Gone, state_after_slice, state_after_stop, after_own_events, tenant_of, ledger_of, after_admit, after_slice_of, after_stop_of, after_call}
@@ -73,13 +73,13 @@ like-is (Gone r) m h = h.0
 -- ---- the ledger, whose host attempts no instruction
 
 pub ledger_next : (law : LedgerFollows) (c new : Content) (e : Call) → new ≡ after_call c (with_no_steps e) → ledger_of new ≡ ledger_after (ledger_of c) e
-ledger_next law c new (Admit id terms) h = ap ledger_of h ∙ law c (Admit id terms)
+ledger_next law c new (Admit id start) h = ap ledger_of h ∙ law c (Admit id start)
 ledger_next law c new (Slice id n) h = ap ledger_of h ∙ law c (Slice id 0)
 ledger_next law c new (Stop id) h = ap ledger_of h ∙ law c (Stop id)
 
 pub frames_next : (c new : Content) (e : Call) → new ≡ after_call c (with_no_steps e) → new.frames ≡ c.frames
 unfolding after_call after_admit after_slice_of after_stop_of
-frames_next c new (Admit id terms) h = ap (λ (k : Content). k.frames) h
+frames_next c new (Admit id start) h = ap (λ (k : Content). k.frames) h
 frames_next c new (Slice id n) h = ap (λ (k : Content). k.frames) h
 frames_next c new (Stop id) h = ap (λ (k : Content). k.frames) h
 
@@ -94,7 +94,7 @@ some_pages (suc n) b c h = omega arith
 
 pub has_pages : (frames : ℕ) (ledger : List LedgerEntry) (e : Call) → call_refusal frames ledger e ≡ None → HasPages e
 unfolding call_refusal admission_refusal
-has_pages frames ledger (Admit id terms) h = some_pages terms.pages _ _ (not_bad _ (is_bad terms) _ h)
+has_pages frames ledger (Admit id start) h = some_pages start.terms.pages _ _ (not_bad _ (is_bad start.terms) _ h)
 has_pages frames ledger (Slice id n) h = tt
 has_pages frames ledger (Stop id) h = tt
 
@@ -104,7 +104,7 @@ has_pages frames ledger (Stop id) h = tt
 pub record Grows (id : ℕ) (files : List (List ℕ)) (s : Session) (ledger : List LedgerEntry) (calls : List Call) (t : Replayed) : Type 0 where
   pub life : Life
   pub admitted : life_among id (lives s) ≡ Some life
-  pub image : file_at files t.image ≡ life.terms.image
+  pub image : file_at files t.image ≡ life.start.image
   pub held : TenantState
   pub like : IsLike held (machine_in t)
   pub rest : after_own_events held (own_events s.frames ledger calls id) ≡ (tenant_of life).held
@@ -130,7 +130,7 @@ known_refused id files s ledger e more r (Some t) e_some h = record {
 none_other : (id : ℕ) (files : List (List ℕ)) (s : Session) (ledger : List LedgerEntry) (e : Call) (more : List Call)
     → call_refusal s.frames ledger e ≡ None → (number_in e ≡ id → ⊥) → Known id files s ledger (e ∷ more) None → Known id files s (ledger_after ledger e) more None
 unfolding lives_from
-none_other id files s ledger (Admit k terms) more e_none other h =
+none_other id files s ledger (Admit k start) more e_none other h =
     let k_differs : (k == id) ≡ false = ne_eqb k id other in
     let next = rw e_none at h in
     rw k_differs at next
@@ -140,7 +140,7 @@ none_other id files s ledger (Stop k) more e_none other h = rw e_none at h
 rest_other : (id f : ℕ) (ledger : List LedgerEntry) (e : Call) (more : List Call) (held all : TenantState)
     → call_refusal f ledger e ≡ None → (number_in e ≡ id → ⊥) → after_own_events held (own_events f ledger (e ∷ more) id) ≡ all → after_own_events held (own_events f (ledger_after ledger e) more id) ≡ all
 unfolding own_events
-rest_other id f ledger (Admit k terms) more held all e_none other h = rw e_none at h
+rest_other id f ledger (Admit k start) more held all e_none other h = rw e_none at h
 rest_other id f ledger (Slice k n) more held all e_none other h =
     let differs : (id == k) ≡ false = ne_eqb id k (λ e. other (sym e)) in
     let next = rw e_none at h in
@@ -171,7 +171,7 @@ pub record Next (id f : ℕ) (ledger : List LedgerEntry) (e : Call) (more : List
 next_own : (id f : ℕ) (ledger : List LedgerEntry) (e : Call) (more : List Call) (held all : TenantState) (m : Machine)
     → call_refusal f ledger e ≡ None → number_in e ≡ id → IsLike held m → after_own_events held (own_events f ledger (e ∷ more) id) ≡ all → Next id f ledger e more all m
 unfolding own_events after_own_events
-next_own id f ledger (Admit k terms) more held all m e_none own like h = record { held = held; like = like; rest = rw e_none at h }
+next_own id f ledger (Admit k start) more held all m e_none own like h = record { held = held; like = like; rest = rw e_none at h }
 next_own id f ledger (Slice k n) more held all m e_none own like h =
     let same : (id == k) ≡ true = eq-eqb id k (sym own) in
     let next = rw e_none at h in
@@ -196,29 +196,29 @@ grows_own id files s ledger e more t u e_none own p h =
     }
 
 -- The admission of the tenant.
-grows_first : (id k : ℕ) (files : List (List ℕ)) (s : Session) (ledger : List LedgerEntry) (terms : Terms) (more : List Call) (u : Replayed)
-    → call_refusal s.frames ledger (Admit k terms) ≡ None → k ≡ id → IsStarted files (Admit k terms) (Some u)
-    → life_among id (lives_from s.frames ledger (Admit k terms ∷ more)) ≡ life_among id (lives s) → Grows id files s (ledger_after ledger (Admit k terms)) more u
+grows_first : (id k : ℕ) (files : List (List ℕ)) (s : Session) (ledger : List LedgerEntry) (start : Start) (more : List Call) (u : Replayed)
+    → call_refusal s.frames ledger (Admit k start) ≡ None → k ≡ id → IsStarted files (Admit k start) (Some u)
+    → life_among id (lives_from s.frames ledger (Admit k start ∷ more)) ≡ life_among id (lives s) → Grows id files s (ledger_after ledger (Admit k start)) more u
 unfolding lives_from
-grows_first id k files s ledger terms more u e_none own p h =
+grows_first id k files s ledger start more u e_none own p h =
     let same : (k == id) ≡ true = eq-eqb k id own in
     let next = rw e_none at h in
     let first = rw same at next in
     record {
-      life = record { id = k; terms = terms; own = own_events s.frames (ledger_after ledger (Admit k terms)) more k };
+      life = record { id = k; start = start; own = own_events s.frames (ledger_after ledger (Admit k start)) more k };
       admitted = sym first;
       image = p.1;
-      held = Live (start_of k terms);
+      held = Live (start_of k start);
       like = p.0;
-      rest = ap (λ j. after_own_events (Live (start_of k terms)) (own_events s.frames (ledger_after ledger (Admit k terms)) more j)) (sym own);
+      rest = ap (λ j. after_own_events (Live (start_of k start)) (own_events s.frames (ledger_after ledger (Admit k start)) more j)) (sym own);
     }
 
 known_first : (id : ℕ) (files : List (List ℕ)) (s : Session) (ledger : List LedgerEntry) (e : Call) (more : List Call) (o : Option Replayed)
     → call_refusal s.frames ledger e ≡ None → number_in e ≡ id → IsStarted files e o
     → Known id files s ledger (e ∷ more) None → Known id files s (ledger_after ledger e) more o
 unfolding lives_from
-known_first id files s ledger (Admit k terms) more (Some u) e_none own p h = grows_first id k files s ledger terms more u e_none own p h
-known_first id files s ledger (Admit k terms) more None e_none own p h = absurd p
+known_first id files s ledger (Admit k start) more (Some u) e_none own p h = grows_first id k files s ledger start more u e_none own p h
+known_first id files s ledger (Admit k start) more None e_none own p h = absurd p
 known_first id files s ledger (Slice k n) more o e_none own p h = rw p (rw e_none at h)
 known_first id files s ledger (Stop k) more o e_none own p h = rw p (rw e_none at h)
 

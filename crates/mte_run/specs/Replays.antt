@@ -21,7 +21,7 @@ IsOf (Gone r) n = n.parts.log ≡ r
 pub record IsTenant (id : ℕ) (files : List (List ℕ)) (s : Session) (t : Replayed) : Type 0 where
   pub life : Life
   pub admitted : life_among id (lives s) ≡ Some life
-  pub image : file_at files t.image ≡ life.terms.image
+  pub image : file_at files t.image ≡ life.start.image
   pub machine : IsOf (tenant_of life).held (machine_in t)
 
 -- The tenant with a number, or none where the session never admits it.
@@ -33,33 +33,33 @@ IsReplay id files s None = life_among id (lives s) ≡ None
 
 -- The number of the tenant that a call names.
 abbrev pub number_in : Call → ℕ
-number_in (Admit id terms) = id
+number_in (Admit id start) = id
 number_in (Slice id n) = id
 number_in (Stop id) = id
 
 -- The same call, whose slice attempts no instruction.
 abbrev pub with_no_steps : Call → Call
-with_no_steps (Admit id terms) = Admit id terms
+with_no_steps (Admit id start) = Admit id start
 with_no_steps (Slice id n) = Slice id 0
 with_no_steps (Stop id) = Stop id
 
 -- What an accepted call makes of the machine of the tenant that it names.
 abbrev pub machine_after : Call → Machine → Machine
-machine_after (Admit id terms) m = m
+machine_after (Admit id start) m = m
 machine_after (Slice id n) m = after_slice n m
 machine_after (Stop id) m = after_stop m
 
 -- An admission reserves a page at least, as each that a host accepts does.
 abbrev pub HasPages : Call → Type 0
-HasPages (Admit id terms) = 0 < terms.pages
+HasPages (Admit id start) = 0 < start.terms.pages
 HasPages (Slice id n) = ⊤
 HasPages (Stop id) = ⊤
 
 -- An admission makes a tenant at its first instruction, and no other call makes one.
 abbrev pub IsStarted : List (List ℕ) → Call → Option Replayed → Type 0
-IsStarted files (Admit id terms) (Some t) =
-    (machine_in t ≡ start_of id terms) × (file_at files t.image ≡ terms.image)
-IsStarted files (Admit id terms) None = ⊥
+IsStarted files (Admit id start) (Some t) =
+    (machine_in t ≡ start_of id start) × (file_at files t.image ≡ start.image)
+IsStarted files (Admit id start) None = ⊥
 IsStarted files (Slice id n) t = t ≡ None
 IsStarted files (Stop id) t = t ≡ None
 

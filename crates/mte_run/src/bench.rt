@@ -1,10 +1,12 @@
 //! A tenant alone on a memory of its own.
 
-ghost use Rattle.std.specs.Prelude.{◌≡◌, ◌<◌, ◌⊎◌, [], Some, IfOk, IfErr};
+ghost use Rattle.std.specs.Prelude.{◌≡◌, ◌<◌, [], Some, IfOk, IfErr};
+ghost use Rattle.obstacle.specs.Obstacles.{IfRefused};
 ghost use Rattle.scudo_heap.specs.Served.{HeapOwnsItsPages};
 
 use mte_flat::Flat;
 use mte_tenant::{Admission, AdmitError, Status, TenantParts, Watch, admit_alone, slice_watched};
+use obstacle::Obstacle;
 use std::alloc::Global;
 
 /// A tenant's machine, which is the machine of the definition: it is made by `admit_alone` and
@@ -21,19 +23,19 @@ pub struct Bench {
 
 impl Bench {
     ghost use Rattle.mte_tenant.specs.Machines.{machine_of, start_of, after_slice, after_stop};
-    ghost use Rattle.mte_tenant.specs.Admissions.{terms_of};
+    ghost use Rattle.mte_tenant.specs.Admissions.{start_in};
     ghost use Rattle.mte_tenant.specs.Ledger.{admission_refusal, charge_of};
 
     /// A tenant at its first instruction, or why it is refused.
-    pub fn new(alloc: Global, admission: &Admission<'_>) -> Result<Bench, AdmitError>
-        requires { 0 < admission.now.pages }
+    pub fn new(alloc: Global, admission: &Admission<'_>) -> Result<Bench, Obstacle<AdmitError>>
+        requires { 0 < admission.now.terms.pages }
         ensures machine { IfOk result (λ b. machine_of b.parts b.memory
-            ≡ start_of admission.now.id (terms_of admission.now)) }
-        ensures refused { IfErr result (λ e. (e ≡ AdmitError.OutOfMemory)
-            ⊎ (admission_refusal (charge_of admission.now.pages) []
-            admission.now.id (terms_of admission.now) ≡ Some e)) }
+            ≡ start_of admission.now.id (start_in admission.now)) }
+        ensures refused { IfErr result (λ o. IfRefused o (λ e.
+            admission_refusal (charge_of admission.now.terms.pages) []
+            admission.now.id (start_in admission.now) ≡ Some e)) }
     {
-        let mut memory = Flat::new(alloc, admission.pages as usize, admission.mode)?;
+        let mut memory = Flat::new(alloc, admission.terms.pages as usize, admission.terms.mode)?;
         let parts = admit_alone(alloc, admission, &mut memory)?;
         Ok(Bench { parts, memory })
     }

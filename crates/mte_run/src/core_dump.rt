@@ -16,7 +16,7 @@ pub fn dump_core<'a>(
     subject: &Subject<'_>,
     memory: &mut Flat,
 ) -> Result<(), Failure<'a>> {
-    match &options.told.core {
+    match &options.output.core {
         Some(name) => dump(rt, name.as_str(), subject, memory),
         None => Ok(()),
     }
@@ -29,14 +29,14 @@ pub fn mode_in<'a>(
     replay: &'a Replay,
     files: &[Vec<u8>],
 ) -> Result<TagMode, Failure<'a>> {
-    if options.told.core.is_none() {
+    if options.output.core.is_none() {
         return Ok(TagMode::Sync);
     }
     let course = course_in(rt, replay, files)?;
     Ok(
         course
             .admitted
-            .map_or(TagMode::Sync, |admitted| admitted.mode),
+            .map_or(TagMode::Sync, |admitted| admitted.terms.mode),
     )
 }
 

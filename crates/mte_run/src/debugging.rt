@@ -9,7 +9,8 @@ use address_map::MAX_STEPS;
 use debuggee::{Cuts, Debuggee};
 use gdb_front::{Front, serve};
 use gdb_monitor::Subject;
-use mte_tenant::{Admission, AdmitError};
+use mte_tenant::Admission;
+use obstacle::Obstacle;
 use run_options::{Failure, Options, Replay};
 use std::alloc::{AllocError, Global};
 
@@ -40,8 +41,8 @@ fn debug_image<'a, 'x>(
     input: &'x [u8],
     listed: &'x [u32],
 ) -> Result<u8, Failure<'a>> {
-    let seed = options.terms.seed;
-    let terms = admission_of(options, image, input, seed);
+    let seed = options.run.terms.seed;
+    let admission = admission_of(options, image, input, seed);
     let cuts = Cuts {
         listed,
         others: others_of(options),
@@ -52,7 +53,7 @@ fn debug_image<'a, 'x>(
         name,
         seed: Some(seed),
     };
-    debug(rt, &terms, &cuts, subject)
+    debug(rt, &admission, &cuts, subject)
 }
 
 /// Answers GDB of a tenant of a session, and returns the exit status.
@@ -88,8 +89,8 @@ fn debug_course<'a, 'x>(
     files: &'x [Vec<u8>],
     listed: &'x [u32],
 ) -> Result<u8, Failure<'a>> {
-    let terms = admitted.terms(id, files);
-    if terms.pages == 0 {
+    let admission = admitted.admission(id, files);
+    if admission.terms.pages == 0 {
         return Ok(refuse_unadmitted(rt));
     }
     let cuts = Cuts {
@@ -98,11 +99,11 @@ fn debug_course<'a, 'x>(
         limit: u64::MAX,
     };
     let subject = Subject {
-        image: terms.image,
+        image: admission.image,
         name,
         seed: None,
     };
-    debug(rt, &terms, &cuts, subject)
+    debug(rt, &admission, &cuts, subject)
 }
 
 /// The slices that are named and have steps.
@@ -126,19 +127,19 @@ fn others_of(options: &Options) -> u32 {
     }
 }
 
-/// Answers GDB of a tenant that is admitted with these terms.
+/// Answers GDB of a tenant that is admitted like this.
 fn debug<'a, 'x>(
     rt: &HostRuntime,
-    terms: &Admission<'x>,
+    admission: &Admission<'x>,
     cuts: &Cuts<'x>,
     subject: Subject<'x>,
 ) -> Result<u8, Failure<'a>>
-    requires { 0 < terms.now.pages }
+    requires { 0 < admission.now.terms.pages }
 {
-    let tenant = match Debuggee::new(rt.alloc(), terms, cuts) {
+    let tenant = match Debuggee::new(rt.alloc(), admission, cuts) {
         Ok(tenant) => tenant,
-        Err(AdmitError::OutOfMemory) => return Err(Failure::Memory),
-        Err(error) => return Ok(refuse(rt, error)),
+        Err(Obstacle::OutOfMemory) => return Err(Failure::Memory),
+        Err(Obstacle::Refused(error)) => return Ok(refuse(rt, error)),
     };
     let mut front = Front::new(rt.alloc(), tenant, subject);
     serve(rt.alloc(), &mut front, &mut rt.stdin(), &mut rt.stdout())?;

@@ -1,8 +1,7 @@
 //! The files that are read.
 
-use crate::replay::file_of;
 use mte_program::StreamSource;
-use mte_session::{ReadFault, read_whole};
+use mte_session::{ReadFault, file_of, read_whole};
 use run_options::{Failure, Options};
 use std::fs::File;
 
@@ -34,7 +33,7 @@ pub fn read_files<'a>(rt: &HostRuntime, options: &'a Options) -> Result<Vec<Vec<
 
 /// All bytes of the input, if one is named.
 pub fn read_input<'a>(rt: &HostRuntime, options: &'a Options) -> Result<Vec<u8>, Failure<'a>> {
-    match &options.terms.input {
+    match &options.run.input {
         Some(name) => read_file(rt, name.as_str()),
         None => Ok(Vec::new(rt.alloc())),
     }

@@ -18,7 +18,7 @@ pub fn draw_map<'a>(
     options: &'a Options,
     memory: &mut Flat,
 ) -> Result<(), Failure<'a>> {
-    match &options.told.map {
+    match &options.output.map {
         Some(name) => {
             let name = name.as_str();
             draw_file(rt, report, options, name, memory).map_err(|error| Failure::of_write(

@@ -4,9 +4,9 @@ ghost use Rattle.std.specs.Prelude.{None};
 
 use crate::tracer::Tracer;
 use circular_buffer::HeapCircularBuffer;
-use mte_report::{Book, Exact, Finding, Moment, SVC, Turn};
+use mte_report::{Book, Exact, Finding, Moment, SVC, Statistics, Table, Turn};
 use mte_svc::WRITE;
-use mte_tags::Tagged;
+use mte_tags::Paged;
 use mte_tenant::{TenantParts, Watch};
 use run_options::Exactness;
 use std::alloc::{AllocError, Global};
@@ -26,6 +26,8 @@ pub struct Observer<'a, W: Write + Drop> {
     tracer: Option<Tracer<'a, W>>,
     /// The bounds of chunks, where accesses are to keep to them.
     exact: Option<Exact>,
+    /// The numbers of the run, where they are wanted.
+    statistics: Option<Statistics>,
     /// Whether a service wrote fewer bytes than it was handed.
     pub is_cut: bool,
 }
@@ -44,6 +46,7 @@ impl<'a, W: Write + Drop> Observer<'a, W> {
             turns: None,
             tracer,
             exact,
+            statistics: None,
             is_cut: false,
         })
     }
@@ -60,6 +63,14 @@ impl<'a, W: Write + Drop> Observer<'a, W> {
         Ok(self)
     }
 
+    /// The same that also counts what the tenant does, where that is wanted.
+    pub fn with_statistics(mut self, wanted: bool) -> Observer<'a, W> {
+        if wanted {
+            self.statistics = Some(Statistics::new());
+        }
+        self
+    }
+
     /// The last instructions, unless their number is 0.
     pub fn last(&self, count: usize) -> Option<&HeapCircularBuffer<Moment>> {
         if count > 0 { Some(&self.last) } else { None }
@@ -68,6 +79,17 @@ impl<'a, W: Write + Drop> Observer<'a, W> {
     /// The last calls and returns, where they are wanted.
     pub fn turns(&self) -> Option<&HeapCircularBuffer<Turn>> {
         self.turns.as_ref()
+    }
+
+    /// The numbers of the run, where they are wanted, of a tenant with so many pages reserved.
+    pub fn table(&self, reserved: u64) -> Option<Table<'_>> {
+        match &self.statistics {
+            Some(statistics) => Some(Table {
+                statistics,
+                reserved,
+            }),
+            None => None,
+        }
     }
 
     /// The access that ended the tenant beyond what its tags forbid, if one did.
@@ -95,7 +117,7 @@ impl<'a, W: Write + Drop> Observer<'a, W> {
 impl<'a, W: Write + Drop> Watch for Observer<'a, W> {
     ghost log = { λ _. None };
 
-    fn before<M: Tagged>(&mut self, parts: &TenantParts, memory: &mut M) {
+    fn before<M: Paged>(&mut self, parts: &TenantParts, memory: &mut M) {
         if self.finding().is_some() {
             return;
         }
@@ -106,7 +128,7 @@ impl<'a, W: Write + Drop> Watch for Observer<'a, W> {
         });
     }
 
-    fn after<M: Tagged>(&mut self, parts: &TenantParts, memory: &mut M) {
+    fn after<M: Paged>(&mut self, parts: &TenantParts, memory: &mut M) {
         if self.finding().is_some() {
             return;
         }
@@ -119,6 +141,9 @@ impl<'a, W: Write + Drop> Watch for Observer<'a, W> {
         }
         note_turn(&mut self.turns, moment, parts);
         self.is_cut = self.is_cut || cuts_output(moment, parts);
+        if let Some(statistics) = &mut self.statistics {
+            statistics.note(moment, parts, call.as_ref().map(|call| &call.call), memory);
+        }
         if let Some(exact) = &mut self.exact {
             exact.note(moment, parts, call.as_ref(), memory);
         }

@@ -1,20 +1,22 @@
 //! One tenant of a session, without the others.
 
-ghost use Rattle.std.specs.Prelude.{◌≡◌, ℕ, ◌⊎◌, List, [], if◌then◌else◌, OnOk, OnErr, IfOk, IfErr};
-ghost use Rattle.std.specs.Prelude.{IsTrue, ◌↔◌, Some, None};
+ghost use Rattle.std.specs.Prelude.{◌≡◌, ℕ, List, [], if◌then◌else◌, OnOk, OnErr, IfOk, IfErr};
+ghost use Rattle.std.specs.Prelude.{Some, None};
+ghost use Rattle.obstacle.specs.Obstacles.{IfRefused};
 ghost use Rattle.mte_tenant.specs.Machines.{machine_of};
 ghost use Rattle.mte_tenant.specs.Ledger.{call_refusal};
 ghost use Rattle.mte_sched.specs.Contents.{after_call};
 ghost use Rattle.mte_sched.specs.Hosts.{content_of, ledger_in};
 ghost use Rattle.mte_session.specs.Files.{contents};
-ghost use Rattle.mte_session.specs.Sessions.{file_at, call_of, session_of};
+ghost use Rattle.mte_session.specs.Sessions.{call_of, session_of};
 ghost use Rattle.mte_run.specs.Replays.{IsReplay, number_in, with_no_steps, machine_after, HasPages};
 ghost use Rattle.mte_run.specs.Replays.{IsStarted, IsPlayed};
 
 use crate::bench::Bench;
 use mte_sched::{Host, ledger_follows};
-use mte_session::{Event, Sink, write_refusal};
-use mte_tenant::{Admission, AdmitError, Refusal, Refused, Watch};
+use mte_session::{Event, Sink, admission_of, write_refusal};
+use mte_tenant::{Refusal, Refused, Watch};
+use obstacle::Obstacle;
 use run_options::Failure;
 use std::alloc::Global;
 
@@ -50,7 +52,8 @@ pub fn replay_tenant<'a, W: Sink, O: Watch>(
             Ok(()) => {
                 replayed = followed(alloc, id, replayed, event, files, observer)?;
             }
-            Err(refusal) => {
+            Err(Obstacle::OutOfMemory) => return Err(Failure::Memory),
+            Err(Obstacle::Refused(refusal)) => {
                 let event_number = before as u64 + 1;
                 tell_refusal(event_number, refusal, number_of(event) == id, out)?;
             }
@@ -65,26 +68,11 @@ fn tell_refusal<'a, W: Sink>(
     refusal: Refusal,
     is_own: bool,
     out: &mut W,
-) -> Result<(), Failure<'a>>
-    ensures { OnOk result ((refusal ≡ Refusal.Admit AdmitError.OutOfMemory) → ⊥) }
-{
-    if is_out_of_memory(&refusal) {
-        return Err(Failure::Memory);
-    }
+) -> Result<(), Failure<'a>> {
     if is_own {
         write_refusal(&Refused { event, refusal }, out)?;
     }
     Ok(())
-}
-
-/// Whether an event failed because an allocation failed.
-fn is_out_of_memory(refusal: &Refusal) -> bool
-    ensures { IsTrue result ↔ (refusal.now ≡ Refusal.Admit AdmitError.OutOfMemory) }
-{
-    match refusal {
-        Refusal::Admit(AdmitError::OutOfMemory) => true,
-        _ => false,
-    }
 }
 
 /// Whether a host accepts an event, whose slices attempt no instruction.
@@ -93,13 +81,18 @@ fn is_out_of_memory(refusal: &Refusal) -> bool
     auto,
     unfolding(mte_tenant::specs::Ledger::call_refusal, mte_sched::specs::Contents::after_call)
 )]
-pub fn decide(alloc: Global, host: &mut Host, event: &Event, files: &[Vec<u8>]) -> Result<(), Refusal>
+pub fn decide(
+    alloc: Global,
+    host: &mut Host,
+    event: &Event,
+    files: &[Vec<u8>],
+) -> Result<(), Obstacle<Refusal>>
     ensures accepted { OnOk result (call_refusal (content_of host.old).frames (ledger_in host.old)
         (call_of (contents files.now) event.now) ≡ None) }
     ensures ok { OnOk result (content_of host.new ≡ after_call (content_of host.old)
         (with_no_steps (call_of (contents files.now) event.now))) }
-    ensures refused { IfErr result (λ r. (r ≡ Refusal.Admit AdmitError.OutOfMemory)
-        ⊎ (call_refusal (content_of host.old).frames (ledger_in host.old)
+    ensures refused { IfErr result (λ o. IfRefused o (λ r.
+        call_refusal (content_of host.old).frames (ledger_in host.old)
         (call_of (contents files.now) event.now) ≡ Some r)) }
     ensures err { OnErr result (content_of host.new ≡ content_of host.old) }
 {
@@ -108,32 +101,22 @@ pub fn decide(alloc: Global, host: &mut Host, event: &Event, files: &[Vec<u8>]) 
             id,
             image,
             input,
-            seed,
-            pages,
-            room,
-            mode,
+            terms,
         } => {
-            let admission = Admission {
-                id,
-                image: file_of(files, image),
-                input: file_of(files, input),
-                seed,
-                pages,
-                room,
-                mode,
-            };
+            let admission = admission_of(files, id, image, input, terms);
             match host.admit(alloc, &admission) {
                 Ok(()) => Ok(()),
-                Err(error) => Err(Refusal::Admit(error)),
+                Err(Obstacle::OutOfMemory) => Err(Obstacle::OutOfMemory),
+                Err(Obstacle::Refused(error)) => Err(Obstacle::Refused(Refusal::Admit(error))),
             }
         }
         Event::Slice { id, .. } => match host.slice(id, 0) {
             Ok(()) => Ok(()),
-            Err(_) => Err(Refusal::NotLive),
+            Err(_) => Err(Obstacle::Refused(Refusal::NotLive)),
         },
         Event::Stop { id } => match host.stop(id) {
             Ok(()) => Ok(()),
-            Err(_) => Err(Refusal::NotLive),
+            Err(_) => Err(Obstacle::Refused(Refusal::NotLive)),
         },
     }
 }
@@ -208,20 +191,9 @@ fn started<'a>(
             id,
             image,
             input,
-            seed,
-            pages,
-            room,
-            mode,
+            terms,
         } => {
-            let admission = Admission {
-                id,
-                image: file_of(files, image),
-                input: file_of(files, input),
-                seed,
-                pages,
-                room,
-                mode,
-            };
+            let admission = admission_of(files, id, image, input, terms);
             match Bench::new(alloc, &admission) {
                 Ok(bench) => Ok(Some(Replayed { bench, image })),
                 Err(_) => Err(Failure::Memory),
@@ -238,14 +210,4 @@ fn number_of(event: &Event) -> u16
     match event {
         Event::Admit { id, .. } | Event::Slice { id, .. } | Event::Stop { id } => *id,
     }
-}
-
-/// The bytes of a file by its number from 1; none for 0.
-pub fn file_of(files: &[Vec<u8>], number: u32) -> &[u8]
-    ensures { result.now ≡ file_at (contents files.now) number }
-{
-    if number == 0 || number as usize > files.len() {
-        return &[];
-    }
-    files[number as usize - 1].as_slice()
 }

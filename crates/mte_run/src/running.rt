@@ -18,8 +18,9 @@ use elf_symbols::Symbols;
 use mte_program::StreamSink;
 use mte_sched::Host;
 use mte_session::{Event, parse_script, write_all, write_report};
-use mte_tenant::{Admission, AdmitError};
-use run_options::{Failure, Options, Replay, Told, remedy_of};
+use mte_tenant::{Admission, AdmitError, Terms};
+use obstacle::Obstacle;
+use run_options::{Failure, Options, OutputOptions, Replay, remedy_of};
 use std::alloc::Global;
 use std::fs::File;
 use std::io;
@@ -51,19 +52,20 @@ fn observer_of<'i>(
     options: &Options,
     image: &'i [u8],
 ) -> io::Result<Observer<'i, Log>> {
-    let told = &options.told;
-    let tracer = match told.traced {
-        Some(traced) => Some(Tracer::new(traced, Symbols::of(image), open_log(rt, told)?)),
+    let output = &options.output;
+    let tracer = match output.traced {
+        Some(traced) => Some(Tracer::new(traced, Symbols::of(image), open_log(rt, output)?)),
         None => None,
     };
-    let exact = exact_of(rt.alloc(), told.exact);
-    let observer = Observer::new(rt.alloc(), told.last, exact, tracer)?;
-    Ok(observer.with_turns(rt.alloc(), told.turns)?)
+    let exact = exact_of(rt.alloc(), output.exact);
+    let observer = Observer::new(rt.alloc(), output.last, exact, tracer)?;
+    let observer = observer.with_turns(rt.alloc(), output.turns)?;
+    Ok(observer.with_statistics(output.statistics))
 }
 
 /// Where the lines go that are written while a tenant runs.
-fn open_log(rt: &HostRuntime, told: &Told) -> io::Result<Log> {
-    let out = match &told.trace_file {
+fn open_log(rt: &HostRuntime, output: &OutputOptions) -> io::Result<Log> {
+    let out = match &output.trace_file {
         Some(name) => Either::Right(File::create(rt, name.as_str())?),
         None => Either::Left(rt.stderr()),
     };
@@ -77,16 +79,16 @@ pub fn admission_of<'a>(
     input: &'a [u8],
     seed: u64,
 ) -> Admission<'a>
-    ensures { 0 < result.pages }
+    ensures { 0 < result.terms.pages }
 {
     Admission {
         id: ID,
         image,
         input,
-        seed,
-        pages: options.terms.pages,
-        room: options.terms.room,
-        mode: options.terms.mode,
+        terms: Terms {
+            seed,
+            ..options.run.terms
+        },
     }
 }
 
@@ -99,8 +101,8 @@ fn run_alone<'a>(
     let input = read_input(rt, options)?;
     match admitted(rt, options, image.bytes, input.as_slice()) {
         Ok((bench, seed)) => run_bench(rt, options, bench, image, seed),
-        Err(AdmitError::OutOfMemory) => Err(Failure::Memory),
-        Err(error) => Ok(refuse(rt, error)),
+        Err(Obstacle::OutOfMemory) => Err(Failure::Memory),
+        Err(Obstacle::Refused(error)) => Ok(refuse(rt, error)),
     }
 }
 
@@ -110,7 +112,7 @@ fn admitted<'x>(
     options: &Options,
     image: &'x [u8],
     input: &'x [u8],
-) -> Result<(Bench, u64), AdmitError> {
+) -> Result<(Bench, u64), Obstacle<AdmitError>> {
     let seed = seed_of(rt, options, image, input)?;
     let bench = Bench::new(rt.alloc(), &admission_of(options, image, input, seed))?;
     Ok((bench, seed))
@@ -138,9 +140,9 @@ fn seed_of<'x>(
     options: &Options,
     image: &'x [u8],
     input: &'x [u8],
-) -> Result<u64, AdmitError> {
-    let given = options.terms.seed;
-    if options.terms.seeds < 2 {
+) -> Result<u64, Obstacle<AdmitError>> {
+    let given = options.run.terms.seed;
+    if options.run.seeds < 2 {
         return Ok(given);
     }
     let survey = Survey::of(rt.alloc(), options, image, input)?;
@@ -165,7 +167,7 @@ fn run_bench<'a>(
     )?;
     let run = Run {
         seed: Some(seed),
-        mode: options.terms.mode,
+        mode: options.run.terms.mode,
     };
     tell_end(rt, bench, &mut observer, options, image, run)
 }
@@ -198,7 +200,7 @@ pub fn events_of<'a>(
 ) -> Result<Vec<Event>, Failure<'a>> {
     match parse_script(alloc, script, files) {
         Ok(events) => Ok(events),
-        Err(error) => Err(Failure::of_script(&error, script, files.len())),
+        Err(obstacle) => Err(Failure::of_script(&obstacle, script, files.len())),
     }
 }
 

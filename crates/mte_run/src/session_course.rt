@@ -1,12 +1,12 @@
 //! What a session does to one of its tenants.
 
 use crate::files::read_file;
-use crate::replay::{decide, file_of};
+use crate::replay::decide;
 use crate::running::events_of;
 use mte_sched::Host;
-use mte_session::Event;
-use mte_tags::TagMode;
-use mte_tenant::{Admission, AdmitError, Refusal};
+use mte_session::{Event, admission_of};
+use mte_tenant::{Admission, Terms};
+use obstacle::Obstacle;
 use run_options::{Failure, Replay};
 use std::alloc::{AllocError, Global};
 
@@ -17,28 +17,14 @@ pub struct Admitted {
     pub image: u32,
     /// The file that it may read.
     pub input: u32,
-    /// Its seed.
-    pub seed: u64,
-    /// Its reservation.
-    pub pages: u32,
-    /// Its room for output.
-    pub room: u32,
-    /// What a tag that differs does.
-    pub mode: TagMode,
+    /// Its seed, reservation, room and tag mode.
+    pub terms: Terms,
 }
 
 impl Admitted {
     /// The same with the bytes of its files.
-    pub fn terms<'x>(&self, id: u16, files: &'x [Vec<u8>]) -> Admission<'x> {
-        Admission {
-            id,
-            image: file_of(files, self.image),
-            input: file_of(files, self.input),
-            seed: self.seed,
-            pages: self.pages,
-            room: self.room,
-            mode: self.mode,
-        }
+    pub fn admission<'x>(&self, id: u16, files: &'x [Vec<u8>]) -> Admission<'x> {
+        admission_of(files, id, self.image, self.input, self.terms)
     }
 }
 
@@ -59,18 +45,12 @@ impl SessionCourse {
                 id,
                 image,
                 input,
-                seed,
-                pages,
-                room,
-                mode,
+                terms,
             } if id == own => {
                 self.admitted = Some(Admitted {
                     image,
                     input,
-                    seed,
-                    pages,
-                    room,
-                    mode,
+                    terms,
                 });
             }
             Event::Slice { id, steps } if id == own && steps > 0 => self.slices.push(steps)?,
@@ -109,8 +89,8 @@ fn course_of<'a>(
     for event in events {
         match decide(alloc, host, event, files) {
             Ok(()) => course.note(id, event)?,
-            Err(Refusal::Admit(AdmitError::OutOfMemory)) => return Err(Failure::Memory),
-            Err(_) => {}
+            Err(Obstacle::OutOfMemory) => return Err(Failure::Memory),
+            Err(Obstacle::Refused(_)) => {}
         }
     }
     Ok(course)

@@ -6,6 +6,7 @@ use crate::observer::{Observer, exact_of};
 use crate::running::{Log, admission_of, run_slices};
 use crate::seeds::seed_of_run;
 use mte_tenant::AdmitError;
+use obstacle::Obstacle;
 use run_options::Options;
 use std::alloc::Global;
 use std::fmt;
@@ -28,14 +29,14 @@ impl Survey {
         options: &Options,
         image: &'x [u8],
         input: &'x [u8],
-    ) -> Result<Survey, AdmitError> {
+    ) -> Result<Survey, Obstacle<AdmitError>> {
         let mut survey = Survey {
             runs: 0,
             counts: [0; ENDINGS],
             found: None,
         };
-        for number in 0..options.terms.seeds {
-            let seed = seed_of_run(options.terms.seed, number);
+        for number in 0..options.run.seeds {
+            let seed = seed_of_run(options.run.terms.seed, number);
             let ending = ending_under(alloc, options, image, input, seed)?;
             survey.enter(seed, ending);
         }
@@ -66,8 +67,8 @@ fn ending_under<'x>(
     image: &'x [u8],
     input: &'x [u8],
     seed: u64,
-) -> Result<Ending, AdmitError> {
-    let exact = exact_of(alloc, options.told.exact);
+) -> Result<Ending, Obstacle<AdmitError>> {
+    let exact = exact_of(alloc, options.output.exact);
     let mut observer: Observer<'_, Log> = Observer::new(alloc, 1, exact, None)?;
     let mut bench = Bench::new(alloc, &admission_of(options, image, input, seed))?;
     run_slices(&mut bench, &mut observer, options);

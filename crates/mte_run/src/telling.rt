@@ -7,15 +7,18 @@ use crate::files::Image;
 use crate::map::draw_map;
 use crate::observer::Observer;
 use crate::running::Log;
+use address_map::PAGE_SIZE;
 use elf_core::Subject;
 use mte_backtrace::Names;
 use mte_flat::Flat;
 use mte_report::Report;
-use mte_tags::TagMode;
+use mte_tags::{Paged, TagMode};
 use run_options::{Failure, Options};
+use std::alloc::{AllocError, Global};
 use std::fs::File;
 use std::io;
 use std::io::BufWriter;
+use tenant_map::page_map;
 
 /// What is told of a run beside its tenant.
 #[derive(Clone, Copy)]
@@ -51,19 +54,22 @@ pub fn tell_end<'a>(
         name: image.name,
     };
     dump_core(rt, options, &subject, &mut memory)?;
+    let reserved = reserved_pages(rt.alloc(), &mut memory)?;
     let report = Report {
         parts: &parts,
         book: &observer.book,
-        last: observer.last(options.told.last),
+        last: observer.last(options.output.last),
         turns: observer.turns(),
         limit: options.limit(),
         names: Names::of(image.bytes),
         image: image.name,
         seed: run.seed,
         finding: observer.finding(),
+        statistics: observer.table(reserved),
     };
     tell_report(rt, &report, &mut memory)?;
     tell_leaks(rt, &report, options)?;
+    tell_statistics(rt, &report)?;
     write_json(rt, &report, options, &mut memory)?;
     draw_map(rt, &report, options, &mut memory)?;
     Ok(tell_last_line(rt, &report))
@@ -88,11 +94,26 @@ fn tell_report(rt: &HostRuntime, report: &Report<'_>, memory: &mut Flat) -> io::
 
 /// Tells the live chunks, on standard error, where that is wanted.
 fn tell_leaks(rt: &HostRuntime, report: &Report<'_>, options: &Options) -> io::Result<()> {
-    if !options.told.leaks {
+    if !options.output.leaks {
         return Ok(());
     }
     let mut out = BufWriter::new(rt.alloc(), rt.stderr())?;
     report.write_leaks(rt.alloc(), &mut out)
+}
+
+/// Tells the numbers of the run, on standard error, where they are wanted.
+fn tell_statistics(rt: &HostRuntime, report: &Report<'_>) -> io::Result<()> {
+    let mut out = BufWriter::new(rt.alloc(), rt.stderr())?;
+    report.write_statistics(&mut out)
+}
+
+/// The reservation in pages: those that are mapped and those that are left.
+fn reserved_pages(alloc: Global, memory: &mut Flat) -> Result<u64, AllocError> {
+    let mut count = memory.pages_left() as u64;
+    for pages in page_map(alloc, memory)?.iter() {
+        count = count.saturating_add(pages.end.saturating_sub(pages.start) / PAGE_SIZE);
+    }
+    Ok(count)
 }
 
 /// Writes what happened into the file that is named, if one is, for a program to read.
@@ -102,7 +123,7 @@ fn write_json<'a>(
     options: &'a Options,
     memory: &mut Flat,
 ) -> Result<(), Failure<'a>> {
-    match &options.told.json {
+    match &options.output.json {
         Some(name) => {
             let name = name.as_str();
             write_json_file(rt, report, name, memory).map_err(|error| Failure::of_write(

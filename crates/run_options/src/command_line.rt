@@ -1,9 +1,10 @@
 //! The command line.
 
-use crate::options::{Fault, Options};
+use crate::options::Options;
 use clap::error::ErrorKind;
 use clap::{Arg, ArgAction, ArgMatches, Command, Error, value_parser};
 use mte_program::collect_words;
+use obstacle::Obstacle;
 use std::alloc::Global;
 use std::{env, io};
 
@@ -79,8 +80,11 @@ fn options_of<'a>(
 ) -> Result<Option<Options>, Error> {
     match Options::of(alloc, matches) {
         Ok(options) => Ok(Some(options)),
-        Err(Fault::Memory) => Ok(None),
-        Err(fault) => Err(command.error(ErrorKind::ValueValidation, fault.text())?),
+        Err(Obstacle::OutOfMemory) => Ok(None),
+        Err(Obstacle::Refused(fault)) => Err(command.error(
+            ErrorKind::ValueValidation,
+            fault.text(),
+        )?),
     }
 }
 
@@ -192,6 +196,8 @@ fn told_options<'a>(alloc: Global, command: Command<'a>) -> Result<Command<'a>, 
     let command = command.arg(calls(alloc))?;
     let help = "Tells the live chunks at the end, by the calls that made them";
     let command = command.arg(flag(alloc, "leaks", help))?;
+    let help = "Tells the numbers of the run: steps, accesses, heap calls, tags, pages";
+    let command = command.arg(flag(alloc, "statistics", help))?;
     let help = "Draws the heap and its tags at the end: into an SVG file, `-` or as `text`";
     let command = command.arg(named(alloc, "map", "FILE", help))?;
     let help = "Writes what happened into a file, as JSON";

@@ -1,6 +1,7 @@
 //! Why the program has nothing to tell of a tenant, or cannot.
 
 use mte_session::{ReadFault, ScriptError, ScriptFault, WriteFault};
+use obstacle::Obstacle;
 use script_lines::Wrong;
 use std::alloc::{AllocError, AllocFailed};
 use std::{fmt, io};
@@ -39,13 +40,13 @@ impl<'a> Failure<'a> {
     }
 
     /// A script that cannot be read as one, where so many files are named.
-    pub fn of_script(error: &ScriptError, script: &[u8], files: usize) -> Failure<'a> {
-        match *error {
-            ScriptError::Script(line, fault) => {
+    pub fn of_script(obstacle: &Obstacle<ScriptError>, script: &[u8], files: usize) -> Failure<'a> {
+        match *obstacle {
+            Obstacle::OutOfMemory => Failure::Memory,
+            Obstacle::Refused(ScriptError { line, fault }) => {
                 let wrong = Wrong::of(script, line, fault, files);
                 Failure::Script(line, fault, wrong)
             }
-            ScriptError::OutOfMemory => Failure::Memory,
         }
     }
 

@@ -8,5 +8,7 @@ mod refusal;
 
 pub use command_line::{Invocation, read_command_line};
 pub use failure::{Failure, report};
-pub use options::{Exactness, Fault, Length, Options, Replay, Terms, Told, Traced};
+pub use options::{
+    Exactness, Fault, Options, OutputOptions, Replay, RunLength, RunOptions, Traced,
+};
 pub use refusal::remedy_of;

@@ -4,7 +4,9 @@ ghost use Rattle.std.specs.Prelude.{◌<◌, ◌≤◌};
 
 use clap::ArgMatches;
 use mte_tags::TagMode;
-use std::alloc::{AllocError, AllocFailed, Global};
+use obstacle::Obstacle;
+use std::alloc::{AllocError, Global};
+use tenant_terms::Terms;
 
 /// A tenant of a session.
 #[derive(Drop)]
@@ -19,26 +21,20 @@ pub struct Replay {
 
 /// What a tenant that is alone is admitted with, besides its image.
 #[derive(Drop)]
-pub struct Terms {
+pub struct RunOptions {
     /// The input's file name.
     pub input: Option<String>,
-    /// The reservation.
-    pub pages: u32,
-    /// The room for output.
-    pub room: u32,
-    /// The seed of tags and of the heap's cookie.
-    pub seed: u64,
-    /// Under how many seeds it is run, the first of them that one.
+    /// Its terms.
+    pub terms: Terms,
+    /// Under how many seeds it is run, the first of them that of its terms.
     pub seeds: u32,
-    /// What a tag that differs does.
-    pub mode: TagMode,
-    ghost some: { 0 < pages },
-    ghost most: { pages ≤ 4096 },
+    ghost some: { 0 < terms.pages },
+    ghost most: { terms.pages ≤ 4096 },
 }
 
 /// How long a tenant that is alone runs.
 #[derive(Drop)]
-pub struct Length {
+pub struct RunLength {
     /// After how many steps the tenant is given up.
     pub steps: u64,
     /// The steps of its slices, where they are named.
@@ -58,7 +54,7 @@ pub struct Traced {
 
 /// What is told of a run.
 #[derive(Drop)]
-pub struct Told {
+pub struct OutputOptions {
     /// How many of the last instructions are told.
     pub last: usize,
     /// How many of the last calls and returns are told.
@@ -69,6 +65,8 @@ pub struct Told {
     pub trace_file: Option<String>,
     /// Whether the live chunks are told.
     pub leaks: bool,
+    /// Whether the numbers of the run are told.
+    pub statistics: bool,
     /// The name of the file that the heap is drawn into.
     pub map: Option<String>,
     /// The name of the file that what happened is written into, for a program to read.
@@ -98,11 +96,11 @@ pub struct Options {
     /// The tenant of a session that is replayed, if one is.
     pub replay: Option<Replay>,
     /// What a tenant that is alone is admitted with.
-    pub terms: Terms,
+    pub run: RunOptions,
     /// How long it runs.
-    pub length: Length,
+    pub length: RunLength,
     /// What is told of it.
-    pub told: Told,
+    pub output: OutputOptions,
     /// Whether GDB debugs it.
     pub is_debugged: bool,
 }
@@ -110,8 +108,6 @@ pub struct Options {
 /// Why values that `clap` accepted are refused.
 #[derive(Clone, Copy)]
 pub enum Fault {
-    /// An allocation failed.
-    Memory,
     /// The seed is no number of up to 16 digits.
     Seed,
     /// The trace is not from one step to another.
@@ -126,7 +122,6 @@ impl Fault {
     /// What is wrong.
     pub fn text(self) -> &'static str {
         match self {
-            Fault::Memory => "out of memory",
             Fault::Seed => "the seed is not a number of 1 to 16 hexadecimal digits",
             Fault::Trace => "the trace is not FROM-TO, two step numbers",
             Fault::Script => {
@@ -137,34 +132,22 @@ impl Fault {
     }
 }
 
-impl From<AllocError> for Fault {
-    fn from(_error: AllocError) -> Fault {
-        Fault::Memory
-    }
-}
-
-impl<T: Drop> From<AllocFailed<T>> for Fault {
-    fn from(_error: AllocFailed<T>) -> Fault {
-        Fault::Memory
-    }
-}
-
 impl Options {
     /// The values of a command line that `clap` accepted.
-    pub fn of(alloc: Global, matches: &ArgMatches<'_>) -> Result<Options, Fault> {
-        let terms = Terms::of(alloc, matches)?;
-        let told = Told::of(alloc, matches)?;
+    pub fn of(alloc: Global, matches: &ArgMatches<'_>) -> Result<Options, Obstacle<Fault>> {
+        let run = RunOptions::of(alloc, matches)?;
+        let output = OutputOptions::of(alloc, matches)?;
         let replay = Replay::of(alloc, matches)?;
         let files = files_of(alloc, matches)?;
         if replay.is_none() && files.len() != 1 {
-            return Err(Fault::Files);
+            return Err(Obstacle::Refused(Fault::Files));
         }
         Ok(Options {
             files,
             replay,
-            terms,
-            length: Length::of(alloc, matches)?,
-            told,
+            run,
+            length: RunLength::of(alloc, matches)?,
+            output,
             is_debugged: matches.get_flag("gdb"),
         })
     }
@@ -185,7 +168,7 @@ impl Options {
 }
 
 /// The names of the files.
-fn files_of(alloc: Global, matches: &ArgMatches<'_>) -> Result<Vec<String>, Fault> {
+fn files_of(alloc: Global, matches: &ArgMatches<'_>) -> Result<Vec<String>, AllocError> {
     let mut files = Vec::new(alloc);
     if let Some(names) = matches.get_strs("files") {
         for name in names {
@@ -209,35 +192,38 @@ fn name_of(
 
 impl Replay {
     /// The tenant of a session that is to be replayed, if one is.
-    fn of(alloc: Global, matches: &ArgMatches<'_>) -> Result<Option<Replay>, Fault> {
+    fn of(alloc: Global, matches: &ArgMatches<'_>) -> Result<Option<Replay>, Obstacle<Fault>> {
         let Some(words) = matches.get_strs("script") else {
             return Ok(None);
         };
         let (Some(script), Some(id)) = (words.first(), words.get(1)) else {
-            return Err(Fault::Script);
+            return Err(Obstacle::Refused(Fault::Script));
         };
         let (Ok(id), Some(frames)) = (id.parse::<u16>(), matches.get_one::<u32>("frames")) else {
-            return Err(Fault::Script);
+            return Err(Obstacle::Refused(Fault::Script));
         };
         let script = String::from_str(alloc, script)?;
         Ok(Some(Replay { script, id, frames }))
     }
 }
 
-impl Terms {
+impl RunOptions {
     /// What a tenant that is alone is admitted with.
-    fn of(alloc: Global, matches: &ArgMatches<'_>) -> Result<Terms, Fault> {
+    fn of(alloc: Global, matches: &ArgMatches<'_>) -> Result<RunOptions, Obstacle<Fault>> {
         let Some(seed) = seed_of(matches.get_str("seed").unwrap_or("")) else {
-            return Err(Fault::Seed);
+            return Err(Obstacle::Refused(Fault::Seed));
         };
         let pages = matches.get_one::<u32>("pages").unwrap_or(4096);
-        Ok(Terms {
-            input: name_of(alloc, matches, "input")?,
+        let terms = Terms {
+            seed,
             pages: pages.max(1).min(4096),
             room: matches.get_one::<u32>("out").unwrap_or(65536),
-            seed,
-            seeds: matches.get_one::<u32>("seeds").unwrap_or(1),
             mode: mode_of(matches),
+        };
+        Ok(RunOptions {
+            input: name_of(alloc, matches, "input")?,
+            terms,
+            seeds: matches.get_one::<u32>("seeds").unwrap_or(1),
         })
     }
 }
@@ -260,29 +246,30 @@ fn seed_of(text: &str) -> Option<u64> {
     u64::from_str_radix(digits, 16).ok()
 }
 
-impl Length {
+impl RunLength {
     /// How long a tenant that is alone runs.
-    fn of(alloc: Global, matches: &ArgMatches<'_>) -> Result<Length, AllocError> {
+    fn of(alloc: Global, matches: &ArgMatches<'_>) -> Result<RunLength, AllocError> {
         let slices = match matches.get_many::<u32>("slices") {
             Some(values) => Some(values.filter_map(|value| value.ok()).collect(alloc)?),
             None => None,
         };
-        Ok(Length {
+        Ok(RunLength {
             steps: matches.get_one::<u64>("steps").unwrap_or(0),
             slices,
         })
     }
 }
 
-impl Told {
+impl OutputOptions {
     /// What is told of a run.
-    fn of(alloc: Global, matches: &ArgMatches<'_>) -> Result<Told, Fault> {
-        Ok(Told {
+    fn of(alloc: Global, matches: &ArgMatches<'_>) -> Result<OutputOptions, Obstacle<Fault>> {
+        Ok(OutputOptions {
             last: matches.get_one::<u32>("last").unwrap_or(16) as usize,
             turns: matches.get_one::<u32>("calls").unwrap_or(0) as usize,
             traced: traced_by(matches.get_str("trace"), matches.get_flag("services"))?,
             trace_file: name_of(alloc, matches, "trace-file")?,
             leaks: matches.get_flag("leaks"),
+            statistics: matches.get_flag("statistics"),
             map: name_of(alloc, matches, "map")?,
             json: name_of(alloc, matches, "json")?,
             core: name_of(alloc, matches, "core")?,
@@ -296,10 +283,10 @@ impl Told {
 }
 
 /// The lines that are written while it runs, by the values of two options.
-fn traced_by(steps: Option<&str>, services: bool) -> Result<Option<Traced>, Fault> {
+fn traced_by(steps: Option<&str>, services: bool) -> Result<Option<Traced>, Obstacle<Fault>> {
     match steps {
         Some(text) => {
-            let (from, to) = steps_of(text).ok_or(Fault::Trace)?;
+            let (from, to) = steps_of(text).ok_or(Obstacle::Refused(Fault::Trace))?;
             Ok(Some(Traced { from, to, services }))
         }
         None if services => Ok(Some(Traced {

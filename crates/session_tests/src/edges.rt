@@ -1,7 +1,7 @@
 //! Services at the edges of their arguments.
 
 use crate::images::{CALLS_FROM_INPUT, append, image};
-use mte_sched::{Admission, Host, NotLive, Status};
+use mte_sched::{Admission, Host, NotLive, Status, Terms};
 use mte_svc::{
     CALLOC, EXIT, FREE, MALLOC, MEMALIGN, PAGES_LEFT, READ, REALLOC, STEPS_LEFT, USABLE_SIZE,
     WRITE, YIELD,
@@ -160,10 +160,12 @@ fn host_of(alloc: Global, input: &[u8]) -> Result<Host, Fail> {
         id: 1,
         image: file.as_slice(),
         input,
-        seed: 1,
-        pages: 50,
-        room: 1024,
-        mode: TagMode::Sync,
+        terms: Terms {
+            seed: 1,
+            pages: 50,
+            room: 1024,
+            mode: TagMode::Sync,
+        },
     };
     host.admit(alloc, &admission)?;
     host.slice(1, 1000)?;

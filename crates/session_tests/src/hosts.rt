@@ -4,11 +4,13 @@ use crate::doubles::MemorySink;
 use crate::images::{HEADERS, HI, ILLEGAL, image};
 use address_map::{PAGE_SIZE, STACK_START};
 use mte_sched::{
-    Admission, AdmitError, Host, NotLive, Record, Refusal, Status, flag_is_clear, ledger_follows,
-    live_limit_in_digits, slices_are_bounded, tenants_are_alone, tenants_are_isolated,
+    Admission, AdmitError, Host, NotLive, Record, Refusal, Status, Terms, flag_is_clear,
+    ledger_follows, live_limit_in_digits, slices_are_bounded, tenants_are_alone,
+    tenants_are_isolated,
 };
 use mte_session::{ScriptFault, write_report};
 use mte_tags::TagMode;
+use obstacle::Obstacle;
 use std::alloc::Global;
 use std::process::Abort;
 use std::test::Fail;
@@ -19,10 +21,12 @@ fn admission_of(id: u16, image: &[u8]) -> Admission<'_> {
         id,
         image,
         input: &[],
-        seed: 1,
-        pages: 5,
-        room: 16,
-        mode: TagMode::Sync,
+        terms: Terms {
+            seed: 1,
+            pages: 5,
+            room: 16,
+            mode: TagMode::Sync,
+        },
     }
 }
 
@@ -31,7 +35,7 @@ fn admit_once(rt: &impl Abort, alloc: Global, host: &mut Host) -> Result<(), Fai
     let file = image(alloc, &HI)?;
     let admission = admission_of(7, file.as_slice());
     host.admit(alloc, &admission)?;
-    assert!(rt; host.admit(alloc, &admission) == Err(AdmitError::Duplicate));
+    assert!(rt; host.admit(alloc, &admission) == Err(Obstacle::Refused(AdmitError::Duplicate)));
     Ok(())
 }
 
@@ -100,7 +104,7 @@ fn too_many_live(rt: HostRuntime) -> Result<(), Fail> {
         let admission = admission_of(id, file.as_slice());
         let result = host.admit(rt.alloc(), &admission);
         if id == 255 {
-            assert!(rt; result == Err(AdmitError::TooManyLive));
+            assert!(rt; result == Err(Obstacle::Refused(AdmitError::TooManyLive)));
             host.stop(7)?;
             host.admit(rt.alloc(), &admission)?;
         } else {

@@ -27,3 +27,5 @@ mod streams;
 mod tenant_alone;
 #[cfg(test)]
 mod tenants;
+#[cfg(test)]
+mod wrong_lines;

@@ -1,6 +1,7 @@
 //! The grammar of scripts at its edges.
 
-use mte_session::{Event, ScriptError, ScriptFault, parse_script};
+use mte_session::{Event, ScriptFault, parse_script};
+use obstacle::Obstacle;
 use std::alloc::{AllocError, Global};
 use std::process::Abort;
 use std::test::Fail;
@@ -55,8 +56,8 @@ const SCRIPTS: [(&[u8], Option<(u64, ScriptFault)>); 18] = [
 fn refusal_of(alloc: Global, script: &[u8], files: &[Vec<u8>]) -> Option<(u64, ScriptFault)> {
     match parse_script(alloc, script, files) {
         Ok(_) => None,
-        Err(ScriptError::Script(line, fault)) => Some((line, fault)),
-        Err(ScriptError::OutOfMemory) => Some((0, ScriptFault::Syntax)),
+        Err(Obstacle::OutOfMemory) => Some((0, ScriptFault::Syntax)),
+        Err(Obstacle::Refused(error)) => Some((error.line, error.fault)),
     }
 }
 

@@ -4,7 +4,8 @@ use crate::images::{COUNTS, image};
 use mte_flat::Flat;
 use mte_tags::TagMode;
 use mte_tenant::{
-    Admission, Status, charge, fill, halt, holds_image, is_bad_reservation, plan_of, start_parts,
+    Admission, Status, Terms, charge, fill, halt, holds_image, is_bad_reservation, plan_of,
+    start_parts,
 };
 use std::test::Fail;
 
@@ -18,22 +19,24 @@ fn calls_of_a_host(rt: HostRuntime) -> Result<(), Fail> {
         id: 7,
         image: file.as_slice(),
         input: b"",
-        seed: 1,
-        pages: 60,
-        room: 16,
-        mode: TagMode::Sync,
+        terms: Terms {
+            seed: 1,
+            pages: 60,
+            room: 16,
+            mode: TagMode::Sync,
+        },
     };
     assert!(rt; !is_bad_reservation(&admission));
-    assert_eq!(rt; charge(admission.pages), 121);
+    assert_eq!(rt; charge(admission.terms.pages), 121);
     let plan = plan_of(alloc, admission.image)?;
-    assert!(rt; holds_image(admission.pages, plan.pages));
+    assert!(rt; holds_image(admission.terms.pages, plan.pages));
     let mut parts = start_parts(alloc, &admission, &plan)?;
     let mut memory = Flat::new(alloc, 60, TagMode::Sync)?;
     fill(
         &plan,
         admission.image,
-        admission.pages,
-        admission.mode,
+        admission.terms.pages,
+        admission.terms.mode,
         &mut memory,
     );
     halt(&mut parts);

@@ -1,9 +1,8 @@
 use Rattle.std.proofs.Common.{map}
 use Rattle.mte_sched.specs.Hosts.{content_of, ledger_in}
 use Rattle.mte_session.specs.Sessions.{session_of}
-use Rattle.mte_session.proofs.SessionLemmas.{not_first}
 use Rattle.mte_run.proofs.ReplayLemmas.{has_pages, accepted_next, refused_next, all_played}
-use Rattle.mte_run.proofs.replay.replay_tenant.Goals.{in-Ok+in_ok-replayed-in-Ok, in-Err+in_ok-tell_refusal-in-Err}
+use Rattle.mte_run.proofs.replay.replay_tenant.Goals.{in-Ok+in_ok-replayed-in-Ok, in-Err-Refused+in_ok-tell_refusal-in-Err-Refused}
 use Rattle.mte_run.proofs.replay.replay_tenant.Goals as goal
 
 pub followed-requires : goal.followed-requires
@@ -18,9 +17,9 @@ loop-before-preserved g c =
       | in-Ok+in_ok-replayed-in-Ok w ↦
           let n = accepted_next c.ledger_follows.ensures c.args.id files s (content_of c.loop-before.host) (content_of c.decide.new.host) c.args.events.now c.loop-before.before _ c.loop-before.replayed _ c.loop-before-test.true i.frames w.in-Ok.ensures.accepted w.in-Ok.ensures.ok w.in_ok-replayed-in-Ok.ensures.own w.in_ok-replayed-in-Ok.ensures.other i.known in
           record { frames = n.0; known = rw w.replayed-is n.1 }
-      | in-Err+in_ok-tell_refusal-in-Err w ↦
-          let refused = not_first w.in-Err.ensures.refused w.in_ok-tell_refusal-in-Err.ensures in
-          let n = refused_next c.args.id files s (content_of c.loop-before.host) (content_of c.decide.new.host) c.args.events.now c.loop-before.before _ _ c.loop-before.replayed c.loop-before-test.true i.frames refused w.in-Err.ensures.err i.known in
+      | in-Err-Refused+in_ok-tell_refusal-in-Err-Refused w ↦
+          let refused = rw w.in-Err-Refused.field-0-is at w.in-Err-Refused.ensures.refused in
+          let n = refused_next c.args.id files s (content_of c.loop-before.host) (content_of c.decide.new.host) c.args.events.now c.loop-before.before _ _ c.loop-before.replayed c.loop-before-test.true i.frames refused w.in-Err-Refused.ensures.err i.known in
           record { frames = n.0; known = rw w.replayed-is n.1 }
     ]
 
