@@ -101,7 +101,7 @@ def plants(source, top):
         yield from ((path, *plant) for plant in changed_lines(source, text, data_lines(text), 2))
     for path, pattern in DEFINITIONS.items():
         text = (top / path).read_text()
-        start = text.index("\nexecuted (") if "\nexecuted (" in text else text.index("\nword_of (")
+        start = re.search(r"\n(step_of_instr|word_of) \(", text).start()
         first = text[:start].count("\n") + 1
         numbers = [n for n in data_lines(text) if n >= first and n < first + 80
                    and re.search(pattern, text.split("\n")[n])]

@@ -18,13 +18,13 @@ import subprocess
 import sys
 
 HERE = pathlib.Path(__file__).resolve().parent
-SPEC = importlib.util.spec_from_file_location("build_image", HERE / "build_image.py")
+SPEC = importlib.util.spec_from_file_location("build_image", HERE.parent / "examples" / "build_image.py")
 BUILD = importlib.util.module_from_spec(SPEC)
 SPEC.loader.exec_module(BUILD)
 
 OPTIONS = ["--pages", "--out", "--seed", "--async", "--steps", "--slices", "--last", "--trace",
            "--trace=2-9", "--trace-file", "--input", "--script", "--frames", "--map", "--map=text", "--json",
-           "--seeds=3", "--core", "--exact", "--exact=writes", "--leaks", "--services", "--calls", "--help",
+           "--seeds=3", "--core", "--exact", "--exact=writes", "--leaks", "--statistics", "--services", "--calls", "--help",
            "--version"]
 VALUES = ["0", "1", "5", "64", "4096", "4097", "65536", "-1", "18446744073709551615",
           "18446744073709551616", "00000000000000ff", "zz", "", "1,2,3", "7-", "/dev/null", "é"]

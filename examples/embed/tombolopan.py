@@ -30,6 +30,24 @@ A tenant alone does what it does in any session:
 >>> tenant.status, tenant.number, tenant.steps, tenant.output
 ('exit', 0, 8, b'Hi')
 
+A session that goes on is one whose script grows: each report is that of all lines so far, so a
+tenant that is running goes on where it was, and what was told stays.
+
+>>> host = Session(frames=11)
+>>> image = host.add_file(example("hi.elf"))
+>>> host.admit(1, image, pages=5, room=16)
+>>> host.slice(1, 4)
+>>> print(host.report().decode(), end="")
+tenant 1
+status running
+steps 4
+output 0
+heap 0
+end
+>>> host.slice(1, 4)
+>>> host.lines_of(1)
+['status exit 0', 'steps 8', 'output 2 4869', 'heap 0']
+
 A memory has pages, and a core steps in it:
 
 >>> memory = Memory(places=2)
@@ -316,6 +334,69 @@ def session(frames: int, script: bytes, files: Sequence[bytes]) -> bytes:
     if code != OK:
         raise ValueError("frames are 1 to 65536")
     return report.raw[: end.length]
+
+
+class Session:
+    """A session that goes on, on a host of `frames` frames: its events are entered one by one.
+
+    Nothing is kept but the script and the files. A report runs all events anew, so it is that of
+    `session`, and it takes the time of all steps so far.
+    """
+
+    def __init__(self, frames: int) -> None:
+        self.frames = frames
+        self.script = ""
+        self.files: list[bytes] = []
+
+    def add_file(self, data: bytes) -> int:
+        """A file that events may name, by the number that is returned."""
+        self.files.append(bytes(data))
+        return len(self.files)
+
+    def admit(
+        self,
+        id: int,
+        image: int,
+        input: int = 0,
+        seed: int = 1,
+        pages: int = 256,
+        room: int = 65536,
+        asynchronous: bool = False,
+    ) -> None:
+        """Requests the admission of a tenant, its image and input by the numbers of files."""
+        mode = " async" if asynchronous else ""
+        self._enter(
+            f"admit {id} image {image} input {input} seed {seed:016x} frames {pages} out {room}{mode}"
+        )
+
+    def slice(self, id: int, steps: int) -> None:
+        """Lets a tenant attempt at most `steps` instructions, at most 1048576."""
+        self._enter(f"slice {id} {steps}")
+
+    def stop(self, id: int) -> None:
+        """Stops a tenant."""
+        self._enter(f"stop {id}")
+
+    def _enter(self, line: str) -> None:
+        """Enters a line, unless it is faulty: then ScriptError comes, and nothing is entered."""
+        try:
+            session(1, f"{line}\n".encode(), self.files)
+        except ScriptError as error:
+            raise ScriptError(self.script.count("\n") + 1, error.kind) from None
+        self.script += f"{line}\n"
+
+    def report(self) -> bytes:
+        """The report of the events so far."""
+        return session(self.frames, self.script.encode(), self.files)
+
+    def lines_of(self, id: int) -> list[str]:
+        """What the report says of a tenant, without its first line and its last; KeyError where it
+        was never admitted."""
+        lines = self.report().decode().splitlines()
+        if f"tenant {id}" not in lines:
+            raise KeyError(id)
+        rest = lines[lines.index(f"tenant {id}") + 1 :]
+        return rest[: rest.index("end")]
 
 
 @dataclass(frozen=True)

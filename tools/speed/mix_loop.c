@@ -1,6 +1,6 @@
-// The functions of ../mix.c, again and again: a tenant that runs as long as its slices.
+// The functions of mix.c, again and again: a tenant that runs as long as its slices.
 #define _start run_once
-#include "../mix.c"
+#include "mix.c"
 #undef _start
 
 void _start(void)
