@@ -18,8 +18,8 @@ pub struct Access {
     /// Whether they are stored.
     pub is_write: bool,
     /// Whether the pointer's tag is compared with those of granules: not relative to PC, nor at a
-    /// constant offset from SP without a change of SP (Arm ARM DDI 0487, D10.8.2 "Tag Checked and
-    /// Tag Unchecked accesses").
+    /// constant offset from SP that leaves SP as it is (Arm ARM DDI 0487, "Tag Checked and Tag
+    /// Unchecked accesses").
     pub is_checked: bool,
 }
 
