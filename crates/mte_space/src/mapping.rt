@@ -14,6 +14,13 @@ use mte_frames::{FramePool, Quota};
 use mte_tags::Attrs;
 use mte_translate::{Table, Tlb};
 
+/// Consecutive pages: the number of the first, and how many there are.
+#[derive(Clone, Copy)]
+pub(crate) struct PageRange {
+    pub(crate) first: u64,
+    pub(crate) count: usize,
+}
+
 /// Maps a page to a frame of zero bytes and tags.
 fn map_page(
     pool: &mut FramePool,
@@ -54,27 +61,27 @@ pub(crate) fn map_range(
     table: &mut Table,
     quota: &mut Quota,
     limit: usize,
-    page: u64,
-    count: usize,
+    pages: PageRange,
     attrs: Attrs,
 )
     requires space { IsSpace pool.old quota.old table.old limit }
-    requires left { table.old.len + count ≤ limit }
-    requires in_range { page + count ≤ 2 ^ 18 }
+    requires left { table.old.len + pages.count ≤ limit }
+    requires in_range { pages.first + pages.count ≤ 2 ^ 18 }
     requires free { (s : TagState)
-        → IsFree (space_memory pool.old table.old limit s) page count }
+        → IsFree (space_memory pool.old table.old limit s) pages.first pages.count }
     ensures space { IsSpace pool.new quota.new table.new limit }
     ensures memory { (s : TagState)
         → space_memory pool.new table.new limit s
-        ≡ with_new_pages (space_memory pool.old table.old limit s) page count attrs }
+        ≡ with_new_pages (space_memory pool.old table.old limit s) pages.first pages.count
+        attrs }
     ensures cached { (asid : ℕ) (ts : List Translation)
         → IsCached (pages_of pool.old table.old.frame) asid ts
         → IsCached (pages_of pool.new table.new.frame) asid ts }
     ensures rest { KeepsRest quota.old pool.old pool.new table.old table.new }
     ensures same { quota.new ≡ quota.old }
 {
-    for i in 0..count {
-        map_page(pool, table, quota, limit, page + i as u64, attrs);
+    for i in 0..pages.count {
+        map_page(pool, table, quota, limit, pages.first + i as u64, attrs);
     }
 }
 
@@ -119,24 +126,23 @@ pub(crate) fn unmap_range(
     tlb: &mut Tlb,
     asid: usize,
     limit: usize,
-    page: u64,
-    count: usize,
+    pages: PageRange,
 )
     requires space { IsSpace pool.old quota.old table.old limit }
     requires cached { IsCached (pages_of pool.old table.old.frame) asid tlb.old }
     requires mapped { (s : TagState)
-        → ArePages (space_memory pool.old table.old limit s) page count }
+        → ArePages (space_memory pool.old table.old limit s) pages.first pages.count }
     ensures space { IsSpace pool.new quota.new table.new limit }
     ensures memory { (s : TagState)
         → space_memory pool.new table.new limit s
-        ≡ without_pages (space_memory pool.old table.old limit s) page count }
+        ≡ without_pages (space_memory pool.old table.old limit s) pages.first pages.count }
     ensures cached { IsCached (pages_of pool.new table.new.frame) asid tlb.new }
     ensures entries { NoneEnters asid tlb.old tlb.new }
     ensures rest { KeepsRest quota.old pool.old pool.new table.old table.new }
     ensures same { quota.new ≡ quota.old }
 {
-    for i in 0..count {
-        let gone = page + i as u64;
+    for i in 0..pages.count {
+        let gone = pages.first + i as u64;
         unmap_page(pool, table, quota, limit, gone);
         tlb.forget(asid, gone);
     }

@@ -7,7 +7,7 @@ ghost use Rattle.mte_translate.specs.Tables.{pages_of, IsTable, MapsOnce, IsCach
 ghost use Rattle.mte_space.specs.Remembered.{AreUpToDate};
 ghost use Rattle.mte_space.specs.Spaces.{space_memory, IsSpace};
 
-use crate::mapping::{map_range, unmap_range};
+use crate::mapping::{PageRange, map_range, unmap_range};
 use crate::remembered::{CODE_PLACE, DATA_PAGES, PLACES, RememberedPage, no_pages};
 use crate::translation::remember;
 use crate::writing::{retag_frame, write_frame};
@@ -170,16 +170,16 @@ impl Paged for Space<'_> {
         if count > self.limit - self.table.len() {
             return Err(NoPagesLeft);
         }
-        map_range(
-            self.pool, self.table, self.quota, self.limit, page, count, attrs,
-        );
+        let pages = PageRange { first: page, count };
+        map_range(self.pool, self.table, self.quota, self.limit, pages, attrs);
         Ok(())
     }
 
     fn unmap_pages(&mut self, page: u64, count: usize) {
         self.remembered = no_pages();
+        let pages = PageRange { first: page, count };
         unmap_range(
-            self.pool, self.table, self.quota, self.tlb, self.asid, self.limit, page, count,
+            self.pool, self.table, self.quota, self.tlb, self.asid, self.limit, pages,
         );
     }
 

@@ -1,8 +1,8 @@
 //! Two tenants' memories over one pool and one translation lookaside buffer.
 
-ghost use Rattle.std.specs.Prelude.{◌≡◌, ◌≢◌, ◌+◌, ◌-◌, ◌*◌, ◌≤◌, IfSome, IsTrue};
+ghost use Rattle.std.specs.Prelude.{◌≡◌, ◌≢◌, ◌+◌, ◌-◌, ◌*◌, ◌≤◌, ℕ, IfSome, IsTrue};
 ghost use Rattle.mte_frames.specs.Pool.{KeepsOthers, taken_by, reserved_by};
-ghost use Rattle.mte_translate.specs.Tables.{IsTable, MapsOnce, pages_of};
+ghost use Rattle.mte_translate.specs.Tables.{IsTable, MapsOnce, Root, pages_of};
 ghost use Rattle.mte_space.specs.Spaces.{NoneEnters};
 ghost use Rattle.mte_tests.specs.Tenants.{IsReady};
 
@@ -102,7 +102,7 @@ fn ask(
     reply(&mut memory, call)
 }
 
-/// A tenant's answers beside another tenant.
+/// A tenant's answer, and what stays of each tenant beside it.
 fn ask_beside(
     pool: &mut FramePool,
     table: &mut Table,
@@ -110,21 +110,16 @@ fn ask_beside(
     tlb: &mut Tlb,
     asid: usize,
     call: Call,
-    other_table: &Table,
-    other_quota: &Quota,
-    other_asid: usize,
 ) -> Answer
-    requires apart { other_quota.now ≢ quota.old }
-    requires asids { other_asid ≢ asid }
-    requires ready { IsReady pool.old quota.old table.old asid tlb.old }
-    requires other { IsReady pool.old other_quota.now other_table.now other_asid tlb.old }
+    requires { IsReady pool.old quota.old table.old asid tlb.old }
     ensures ready { IsReady pool.new quota.new table.new asid tlb.new }
     ensures same { quota.new ≡ quota.old }
-    ensures other { IsReady pool.new other_quota.now other_table.now other_asid tlb.new }
+    ensures others { (k : ℕ) (t : Root) (other : ℕ)
+        → k ≢ quota.old
+        → other ≢ asid
+        → IsReady pool.old k t other tlb.old
+        → IsReady pool.new k t other tlb.new }
 {
-    let _ = other_table;
-    let _ = other_quota;
-    let _ = other_asid;
     other_tenants_stay();
     tables_stay();
     ask(pool, table, quota, tlb, asid, call)
@@ -209,9 +204,9 @@ fn are_answered(
 {
     for row in rows {
         let answer = if row.second {
-            ask_beside(pool, u, r, tlb, 2, row.call, t, q, 1)
+            ask_beside(pool, u, r, tlb, 2, row.call)
         } else {
-            ask_beside(pool, t, q, tlb, 1, row.call, u, r, 2)
+            ask_beside(pool, t, q, tlb, 1, row.call)
         };
         if answer != row.answer {
             return false;

@@ -15,18 +15,18 @@ some_state = record { mode = Sync; pending = false }
 
 pub overflow_add-gone : goal.overflow_add-gone
 overflow_add-gone c =
-    let low = mapped_low c.loop-i.pool c.loop-i.table.frame (c.args.page + c.loop-i.i) (c.loop-i.invariant.mapped c.loop-i.i (omega arith) (omega arith)) in
+    let low = mapped_low c.loop-i.pool c.loop-i.table.frame (c.args.pages.first + c.loop-i.i) (c.loop-i.invariant.mapped c.loop-i.i (omega arith) (omega arith)) in
     omega (arith, low)
 
 pub loop-i-init : goal.loop-i-init
 loop-i-init c =
     let m = space_memory c.args.pool.now c.args.table.now c.args.limit in
-    let zero : c.args.page + 0 ≡ c.args.page = omega arith in
-    let all : c.args.count - 0 ≡ c.args.count = omega arith in
+    let zero : c.args.pages.first + 0 ≡ c.args.pages.first = omega arith in
+    let all : c.args.pages.count - 0 ≡ c.args.pages.count = omega arith in
     record {
       space = c.requires.space;
-      mapped = λ k a b. mapped_there c.args.pool.now c.args.table.now c.args.limit some_state (c.args.page + k) (c.requires.mapped some_state k b);
-      memory = λ s. ap (λ q. without_pages (m s) q (c.args.count - 0)) zero ∙ ap (λ k. without_pages (m s) c.args.page k) all;
+      mapped = λ k a b. mapped_there c.args.pool.now c.args.table.now c.args.limit some_state (c.args.pages.first + k) (c.requires.mapped some_state k b);
+      memory = λ s. ap (λ q. without_pages (m s) q (c.args.pages.count - 0)) zero ∙ ap (λ k. without_pages (m s) c.args.pages.first k) all;
       cached = c.requires.cached;
       entries = none_enters_same c.args.asid c.args.tlb.now;
       rest = rest_same c.args.quota.now c.args.pool.now c.args.table.now;
@@ -37,18 +37,18 @@ pub loop-i-preserved : goal.loop-i-preserved
 loop-i-preserved c =
     let unmap = c.unmap_page.ensures in
     let was = c.loop-i.invariant in
-    let q = c.args.page + c.loop-i.i in
+    let q = c.args.pages.first + c.loop-i.i in
     let old = λ (s : TagState). space_memory c.loop-i.pool c.loop-i.table c.args.limit s in
-    let next : c.args.page + (c.loop-i.i + 1) ≡ q + 1 = omega arith in
-    let less : c.args.count - (c.loop-i.i + 1) ≡ c.args.count - c.loop-i.i - 1 = omega arith in
+    let next : c.args.pages.first + (c.loop-i.i + 1) ≡ q + 1 = omega arith in
+    let less : c.args.pages.count - (c.loop-i.i + 1) ≡ c.args.pages.count - c.loop-i.i - 1 = omega arith in
     record {
       space = unmap.space;
-      mapped = λ k a b. ap is_some (unmap.others (c.args.page + k) (λ e. omega (arith, e, a))) ∙ was.mapped k (omega (arith, a)) b;
+      mapped = λ k a b. ap is_some (unmap.others (c.args.pages.first + k) (λ e. omega (arith, e, a))) ∙ was.mapped k (omega (arith, a)) b;
       memory = λ s.
-          ap (λ m. without_pages m (c.args.page + (c.loop-i.i + 1)) (c.args.count - (c.loop-i.i + 1))) (unmap.memory s)
-          ∙ ap (λ k. without_pages (without_page (old s) q) k (c.args.count - (c.loop-i.i + 1))) next
+          ap (λ m. without_pages m (c.args.pages.first + (c.loop-i.i + 1)) (c.args.pages.count - (c.loop-i.i + 1))) (unmap.memory s)
+          ∙ ap (λ k. without_pages (without_page (old s) q) k (c.args.pages.count - (c.loop-i.i + 1))) next
           ∙ ap (λ k. without_pages (without_page (old s) q) (q + 1) k) less
-          ∙ sym (without_pages-step (old s) q (c.args.count - c.loop-i.i) (omega arith))
+          ∙ sym (without_pages-step (old s) q (c.args.pages.count - c.loop-i.i) (omega arith))
           ∙ was.memory s;
       cached = subst (λ ts. IsCached (pages_of c.unmap_page.new.pool c.unmap_page.new.table.frame) c.args.asid ts) (sym c.forget.ensures) (unmap.cached c.args.asid c.loop-i.tlb was.cached);
       entries = none_enters_on c.args.asid c.args.tlb.now c.loop-i.tlb c.forget.new.self was.entries
@@ -60,5 +60,5 @@ loop-i-preserved c =
 pub returns-clause-memory : goal.returns-clause-memory
 unfolding without_pages
 returns-clause-memory c = λ s.
-    let e : c.args.count - c.loop-i.i ≡ 0 = omega arith in
-    ap (λ k. without_pages (space_memory c.loop-i.pool c.loop-i.table c.args.limit s) (c.args.page + c.loop-i.i) k) (sym e) ∙ c.loop-i.invariant.memory s
+    let e : c.args.pages.count - c.loop-i.i ≡ 0 = omega arith in
+    ap (λ k. without_pages (space_memory c.loop-i.pool c.loop-i.table c.args.limit s) (c.args.pages.first + c.loop-i.i) k) (sym e) ∙ c.loop-i.invariant.memory s
