@@ -116,6 +116,3 @@ impl<'a> fmt::Display for Origin<'a> {
         }
     }
 }
-
-#[cfg(test)]
-mod tests;

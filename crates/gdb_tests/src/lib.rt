@@ -1,5 +1,6 @@
-//! Tests of GDB's packets: frames that GDB 13.1 sent, values of its documentation, and malformed
-//! packets, in a crate at the top: a crate with tests of its own would be proved twice.
+//! Tests of what a debugger uses: GDB's packets (frames that GDB 13.1 sent, values of its
+//! documentation, and malformed packets) and tables of source lines, in a crate at the top: a crate
+//! with tests of its own would be proved twice.
 #![tactic(auto)]
 
 #[cfg(test)]
@@ -8,3 +9,5 @@ mod commands;
 mod digits;
 #[cfg(test)]
 mod frames;
+#[cfg(test)]
+mod lines;

@@ -1,6 +1,6 @@
 -- A tenant's number stays, a slice attempts at most its steps, and what a machine becomes is what
 -- its tenant becomes.
-use Rattle.std.proofs.Common.{◌≡◌, ℕ, zero, suc, ◌+◌, ◌/◌, ◌^◌, ◌<◌, ◌≤◌, ◌==◌, ◌&&◌, ◌∙◌, min, Bool, true, false, List, [], ◌∷◌, map, Option, Some, None, Result, Ok, Err}
+use Rattle.std.proofs.Common.{◌≡◌, ℕ, zero, suc, ◌+◌, ◌≤◌, ◌==◌, ◌&&◌, ◌∙◌, min, Bool, true, false, List, [], ◌∷◌, map, Option, Some, None, Result, Ok, Err}
 use Rattle.std.specs.Prelude.{option_map}
 use Rattle.std.proofs.Common.{if◌then◌else◌, refl, ap, arith}
 use Rattle.a64_step.specs.declared.outcome.Outcome.{Outcome}

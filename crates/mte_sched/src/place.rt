@@ -16,12 +16,12 @@ ghost use Rattle.mte_tenant.specs.Machines.{machine_of, first_memory, after_slic
 ghost use Rattle.mte_sched.specs.Places.{memory_at, IsPlaced};
 ghost use Rattle.mte_tenant.specs.Ready.{IsReady};
 
+use crate::tenant::Live;
 use a64_step::OpCache;
 use address_map::{MAX_PAGES, STACK_PAGES};
 use mte_elf::Plan;
 use mte_frames::{FramePool, Quota};
 use mte_space::{Space, pages_of_a_space, unmap_all};
-use mte_svc::TenantParts;
 use mte_tags::{TagMode, TagState};
 use mte_tenant::{Admission, charge, fill, slice};
 use mte_translate::{Table, Tlb};
@@ -151,38 +151,39 @@ fn fill_place(
     );
 }
 
-/// Lets a tenant attempt at most `steps` instructions over its place.
-pub(crate) fn slice_place(
+/// Lets a live tenant attempt at most `steps` instructions.
+pub(crate) fn slice_live(
     kept: &mut OpCache,
     pool: &mut FramePool,
     tlb: &mut Tlb,
     asid: usize,
     pages: u32,
-    parts: &mut TenantParts,
-    place: &mut TenantMemory,
+    live: &mut Live,
     steps: u32,
 )
-    requires placed { IsPlaced pool.old tlb.old asid pages place.old }
-    requires ready { IsReady parts.old (memory_at pool.old place.old pages) }
-    ensures ready { IsReady parts.new (memory_at pool.new place.new pages) }
-    ensures machine { machine_of parts.new (memory_at pool.new place.new pages)
-        ≡ after_slice steps (machine_of parts.old (memory_at pool.old place.old pages)) }
-    ensures space { IsSpace pool.new place.new.quota place.new.table pages }
-    ensures cached { IsCached (pages_of pool.new place.new.table.frame) asid tlb.new }
-    ensures rest { KeepsRest place.old.quota pool.old pool.new place.old.table place.new.table }
-    ensures same { place.new.quota ≡ place.old.quota }
+    requires placed { IsPlaced pool.old tlb.old asid pages live.old.place }
+    requires ready { IsReady live.old.parts.value (memory_at pool.old live.old.place pages) }
+    ensures ready { IsReady live.new.parts.value (memory_at pool.new live.new.place pages) }
+    ensures machine { machine_of live.new.parts.value (memory_at pool.new live.new.place pages)
+        ≡ after_slice steps
+        (machine_of live.old.parts.value (memory_at pool.old live.old.place pages)) }
+    ensures space { IsSpace pool.new live.new.place.quota live.new.place.table pages }
+    ensures cached { IsCached (pages_of pool.new live.new.place.table.frame) asid tlb.new }
+    ensures rest { KeepsRest live.old.place.quota pool.old pool.new live.old.place.table
+        live.new.place.table }
+    ensures same { live.new.place.quota ≡ live.old.place.quota }
     ensures entries { NoneEnters asid tlb.old tlb.new }
 {
     let mut memory = Space::new(
         pool,
-        &mut place.table,
-        &mut place.quota,
+        &mut live.place.table,
+        &mut live.place.quota,
         tlb,
-        &mut place.state,
+        &mut live.place.state,
         asid,
         pages as usize,
     );
-    slice(kept, parts, &mut memory, steps);
+    slice(kept, &mut *live.parts, &mut memory, steps);
 }
 
 /// Gives all frames of a place back, ends its quota, and forgets its translations.

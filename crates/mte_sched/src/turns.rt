@@ -6,7 +6,7 @@ ghost use Rattle.mte_tenant.specs.Ledger.{is_live};
 ghost use Rattle.mte_sched.specs.Tenants.{tenants_in, entries_in};
 ghost use Rattle.mte_sched.specs.Sharing.{IsSharing, HasLiveAt};
 
-use crate::place::{slice_place, stop_place};
+use crate::place::{slice_live, stop_place};
 use crate::tenant::{Holding, Live, Tenant};
 use a64_step::OpCache;
 use mte_frames::FramePool;
@@ -35,16 +35,7 @@ pub(crate) fn slice_at(
     let tenant = &mut tenants[asid];
     if let Holding::Live(live) = &mut tenant.holding {
         pool.recall();
-        slice_place(
-            kept,
-            pool,
-            tlb,
-            asid,
-            tenant.pages,
-            &mut *live.parts,
-            &mut live.place,
-            steps,
-        );
+        slice_live(kept, pool, tlb, asid, tenant.pages, live, steps);
         pool.recall();
     }
 }

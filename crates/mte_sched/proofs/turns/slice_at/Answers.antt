@@ -1,26 +1,23 @@
-use Rattle.std.proofs.Common.{◌≡◌, ◌==◌, ◌∙◌, Box, List, get_or, ap}
+use Rattle.std.proofs.Common.{◌==◌, Box, List, get_or}
 use Rattle.std.specs.declared.alloc.Global.{Global}
-use Rattle.std.specs.Box.{with_value}
 use Rattle.mte_svc.specs.declared.parts.TenantParts.{TenantParts}
-use Rattle.mte_tenant.specs.Machines.{machine_of, after_slice}
-use Rattle.mte_sched.specs.Places.{memory_at}
 use Rattle.mte_sched.specs.declared.tenant.Tenant.{Tenant}
 use Rattle.mte_sched.specs.Tenants.{record_in, is_live_holding}
 use Rattle.mte_sched.specs.Sharing.{LiesAt}
 use Rattle.mte_sched.proofs.TurnLemmas.{live_within, live_at, live_id, both_left, both_right, not_gone, sliced_sharing, sliced_tenants}
 use Rattle.mte_sched.proofs.turns.slice_at.Goals as goal
 
-pub slice_place-requires-clause-placed : goal.slice_place-requires-clause-placed
-slice_place-requires-clause-placed c =
+pub slice_live-requires-clause-placed : goal.slice_live-requires-clause-placed
+slice_live-requires-clause-placed c =
     let t : Tenant = get_or c.args.tenants.now c.args.asid c.index-tenants-asid.result in
     let lies : LiesAt c.args.tenants.now c.args.asid t c.in-Live.live = record { tenant = live_at c.args.tenants.now c.args.asid c.args.id c.index-tenants-asid.result c.requires.live; live = c.in-Live.is } in
     c.requires.sharing.placed c.args.asid t c.in-Live.live lies
 
-pub slice_place-requires-clause-ready : goal.slice_place-requires-clause-ready
-slice_place-requires-clause-ready c =
+pub slice_live-requires-clause-ready : goal.slice_live-requires-clause-ready
+slice_live-requires-clause-ready c =
     let t : Tenant = get_or c.args.tenants.now c.args.asid c.index-tenants-asid.result in
     let lies : LiesAt c.args.tenants.now c.args.asid t c.in-Live.live = record { tenant = live_at c.args.tenants.now c.args.asid c.args.id c.index-tenants-asid.result c.requires.live; live = c.in-Live.is } in
-    rw c.deref_mut.ensures.value (c.requires.sharing.ready c.args.asid t c.in-Live.live lies)
+    c.requires.sharing.ready c.args.asid t c.in-Live.live lies
 
 pub returns-in-Live : goal.returns-in-Live
 returns-in-Live c =
@@ -30,17 +27,15 @@ returns-in-Live c =
     let lies : LiesAt ts c.args.asid t c.in-Live.live = record { tenant = live_at ts c.args.asid c.args.id c.index-tenants-asid.result c.requires.live; live = c.in-Live.is } in
     let same = both_right (is_live_holding t.holding) ((record_in t).id == c.args.id) live in
     let within = live_within ts c.args.asid c.args.id c.requires.live in
-    let turn = c.slice_place.ensures in
-    let parts : Box TenantParts Global = with_value c.in-Live.live.parts c.slice_place.new.parts in
-    let machine : machine_of parts.value (memory_at c.slice_place.new.pool c.slice_place.new.place t.pages) ≡ after_slice c.args.steps (machine_of c.in-Live.live.parts.value (memory_at c.args.pool.now c.in-Live.live.place t.pages)) =
-    turn.machine ∙ ap (λ (q : TenantParts). after_slice c.args.steps (machine_of q (memory_at c.args.pool.now c.in-Live.live.place t.pages))) c.deref_mut.ensures.value in
+    let turn = c.slice_live.ensures in
+    let parts : Box TenantParts Global = c.slice_live.new.live.parts in
     record {
-      sharing = sliced_sharing c.args.pool.now c.slice_place.new.pool c.args.tlb.now c.slice_place.new.tlb ts c.args.asid c.args.id t c.in-Live.live c.requires.sharing lies same within turn.rest.others turn.entries
-          c.args.steps c.slice_place.new.place parts turn.rest turn.same turn.space turn.cached turn.ready machine c.recall.ensures.sound c.recall-in-Live.ensures.sound;
+      sharing = sliced_sharing c.args.pool.now c.slice_live.new.pool c.args.tlb.now c.slice_live.new.tlb ts c.args.asid c.args.id t c.in-Live.live c.requires.sharing lies same within turn.rest.others turn.entries
+          c.args.steps c.slice_live.new.live.place parts turn.rest turn.same turn.space turn.cached turn.ready turn.machine c.recall.ensures.sound c.recall-in-Live.ensures.sound;
       frames = turn.rest.others.count;
       capacities = turn.rest.capacities;
-      tenants = sliced_tenants c.args.pool.now c.slice_place.new.pool c.args.tlb.now c.slice_place.new.tlb ts c.args.asid c.args.id t c.in-Live.live c.requires.sharing lies same within turn.rest.others turn.entries
-          c.args.steps c.slice_place.new.place parts turn.rest turn.same turn.space turn.cached turn.ready machine c.recall.ensures.sound c.recall-in-Live.ensures.sound;
+      tenants = sliced_tenants c.args.pool.now c.slice_live.new.pool c.args.tlb.now c.slice_live.new.tlb ts c.args.asid c.args.id t c.in-Live.live c.requires.sharing lies same within turn.rest.others turn.entries
+          c.args.steps c.slice_live.new.live.place parts turn.rest turn.same turn.space turn.cached turn.ready turn.machine c.recall.ensures.sound c.recall-in-Live.ensures.sound;
     }
 
 pub returns-in_default-clause-tenants : goal.returns-in_default-clause-tenants

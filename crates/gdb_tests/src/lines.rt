@@ -1,7 +1,7 @@
-//! Tables as compilers wrote them; the lines are those that llvm-symbolizer 14 tells.
+//! Tables of source lines as compilers wrote them; the lines are those that llvm-symbolizer 14
+//! tells.
 
-use super::DebugLines;
-use crate::form::Strings;
+use debug_lines::DebugLines;
 use std::alloc::{AllocError, Global};
 use std::test::Fail;
 
@@ -31,54 +31,57 @@ const GCC: [u8; 105] = [
     0x05, 0x01, 0x16, 0x20, 0x02, 0x01, 0x00, 0x01, 0x01,
 ];
 
-/// The file header and the section headers of a file with the three sections that follow them:
-/// their names, `CLANG` and `STRINGS`.
-const HEADERS: [[u64; 8]; 5] = [
-    // 0x7F ELF 2 1 1; e_shoff; e_shentsize, e_shnum and e_shstrndx.
-    [
-        0x0001_0102_464C_457F,
-        0,
-        0,
-        0,
-        0,
-        64,
-        0,
-        0x0001_0004_0040_0000,
-    ],
-    [0, 0, 0, 0, 0, 0, 0, 0],
-    // sh_name and sh_type; sh_flags; sh_addr; sh_offset; sh_size.
-    [0x3_0000_0001, 0, 0, 320, 39, 0, 0, 0],
-    [0x1_0000_000B, 0, 0, 359, 126, 0, 0, 0],
-    [0x1_0000_0017, 0, 0, 485, 25, 0, 0, 0],
-];
-
-/// The names of its sections.
+/// The names of the sections of a file.
 const NAMES: &[u8] = b"\0.shstrtab\0.debug_line\0.debug_line_str\0";
 
-fn lines_of<'a>(tables: &'a [u8]) -> DebugLines<'a> {
-    let strings = Strings {
-        lines: STRINGS,
-        info: &[],
-    };
-    DebugLines { tables, strings }
-}
-
-fn image(alloc: Global) -> Result<Vec<u8>, AllocError> {
+/// An ELF64 file of a file header, five section headers and three sections: `NAMES`, tables and
+/// `STRINGS`.
+fn image(alloc: Global, tables: &[u8]) -> Result<Vec<u8>, AllocError> {
+    let at = 320 + NAMES.len() as u64;
+    let len = tables.len() as u64;
+    let headers: [[u64; 8]; 5] = [
+        // 0x7F ELF 2 1 1; e_shoff; e_shentsize, e_shnum and e_shstrndx.
+        [
+            0x0001_0102_464C_457F,
+            0,
+            0,
+            0,
+            0,
+            64,
+            0,
+            0x0001_0004_0040_0000,
+        ],
+        [0; 8],
+        // sh_name and sh_type; sh_flags; sh_addr; sh_offset; sh_size.
+        [0x3_0000_0001, 0, 0, 320, NAMES.len() as u64, 0, 0, 0],
+        [0x1_0000_000B, 0, 0, at, len, 0, 0, 0],
+        [
+            0x1_0000_0017,
+            0,
+            0,
+            at.wrapping_add(len),
+            STRINGS.len() as u64,
+            0,
+            0,
+            0,
+        ],
+    ];
     let mut file = Vec::new(alloc);
-    for header in &HEADERS {
+    for header in &headers {
         for number in header {
             file.extend_from_slice(&number.to_le_bytes())?;
         }
     }
     file.extend_from_slice(NAMES)?;
-    file.extend_from_slice(&CLANG)?;
+    file.extend_from_slice(tables)?;
     file.extend_from_slice(STRINGS)?;
     Ok(file)
 }
 
 #[test]
 fn tells_version_5(rt: HostRuntime) -> Result<(), Fail> {
-    let lines = lines_of(&CLANG);
+    let file = image(rt.alloc(), &CLANG)?;
+    let lines = DebugLines::of(file.as_slice());
     let inlined = lines.line_of(0x40_0003).ok_or("no line")?;
     assert_eq!(rt; inlined.file, "twice.h");
     assert_eq!(rt; inlined.directory.ok_or("no directory")?, "./lib");
@@ -94,7 +97,8 @@ fn tells_version_5(rt: HostRuntime) -> Result<(), Fail> {
 
 #[test]
 fn tells_version_4(rt: HostRuntime) -> Result<(), Fail> {
-    let lines = lines_of(&GCC);
+    let file = image(rt.alloc(), &GCC)?;
+    let lines = DebugLines::of(file.as_slice());
     let inlined = lines.line_of(0x40_0000).ok_or("no line")?;
     assert_eq!(rt; inlined.file, "twice.h");
     assert_eq!(rt; inlined.directory.ok_or("no directory")?, "lib");
@@ -108,8 +112,8 @@ fn tells_version_4(rt: HostRuntime) -> Result<(), Fail> {
 }
 
 #[test]
-fn finds_the_sections_of_a_file(rt: HostRuntime) -> Result<(), Fail> {
-    let file = image(rt.alloc())?;
+fn writes_where_code_comes_from(rt: HostRuntime) -> Result<(), Fail> {
+    let file = image(rt.alloc(), &CLANG)?;
     let lines = DebugLines::of(file.as_slice());
     let told = format!(in rt.alloc(); "_start{}", lines.origin(0x40_0008))?;
     assert_eq!(rt; told.as_str(), "_start at sum.c:5");
@@ -125,7 +129,8 @@ fn goes_on_behind_units_that_are_not_read(rt: HostRuntime) -> Result<(), Fail> {
     tables.extend_from_slice(&[2, 0, 0, 0, 9, 0])?;
     tables.extend_from_slice(&[6, 0, 0, 0, 4, 0, 99, 0, 0, 0])?;
     tables.extend_from_slice(&CLANG)?;
-    let line = lines_of(tables.as_slice())
+    let file = image(rt.alloc(), tables.as_slice())?;
+    let line = DebugLines::of(file.as_slice())
         .line_of(0x40_0004)
         .ok_or("no line")?;
     assert_eq!(rt; line.line, 5);
