@@ -141,7 +141,7 @@ pub record IsReady (w r : World) (c : ℕ) : Type 0 where
 top-there : (s : StackState) (c b : ℕ) (more : List ℕ) → AreSound s → IsClass c → stack_of s c ≡ b ∷ more → IsBlock c (pages_of s c) b
 top-there s c b more k h e = k.blocks c b h.low h.high (ap (λ t. is_member t b) e ∙ member-first b more)
 
-empty-of : (s : List ℕ) → is_empty s ≡ true → s ≡ []
+pub empty-of : (s : List ℕ) → is_empty s ≡ true → s ≡ []
 empty-of [] e = refl
 empty-of (x ∷ xs) e = cc
 

@@ -1,4 +1,4 @@
--- A call that aborts leaves the world as it was, and no call changes another page.
+-- A call that aborts leaves the world as it was, and each keeps the other pages and leaves a sound world.
 use Rattle.std.proofs.Common.{◌≡◌, ℕ, ◌==◌, Bool, true, false, cond, Result, Ok, Err, refl, ap}
 use Rattle.a64_bits.specs.Addresses.{plain}
 use Rattle.scudo_heap.specs.declared.abort.HeapAbort.{HeapAbort}
@@ -12,9 +12,9 @@ use Rattle.scudo_heap.specs.Freeing.{Freed, free_cases, free_of}
 use Rattle.scudo_heap.specs.Realloc.{ReallocResult, realloc_answer, reallocation_of, checked_realloc_cases, after_realloc}
 use Rattle.scudo_heap.specs.Calls.{free_answer, after_call}
 use Rattle.scudo_heap.specs.Served.{HeapOwnsItsPages}
-use Rattle.scudo_heap.specs.Sound.{IsSound}
+use Rattle.scudo_heap.specs.Sound.{IsSound, IsSoundWorld}
 use Rattle.scudo_heap.specs.Others.{KeepsOthers}
-use Rattle.scudo_heap.proofs.OtherPages.{malloc_others, calloc_others, memalign_others, free_others, realloc_others}
+use Rattle.scudo_heap.proofs.CallSteps.{IsLeft, left-same, malloc_left, calloc_left, memalign_left, free_left, realloc_left}
 
 -- ---- a call that aborts
 
@@ -60,13 +60,19 @@ call_stays w (Realloc pointer size) e h = realloc_stays w pointer size e h
 call_stays w (Memalign alignment size) e h = cc
 call_stays w (UsableSize pointer) e h = refl
 
--- ---- other pages
+-- ---- what it leaves
+
+pub call_left : (w : World) (call : HeapCall) → HeapOwnsItsPages w.memory w.heap → IsSound w.heap → IsLeft w (after_call w call).world
+unfolding after_call
+call_left w (Malloc size) v s = malloc_left w size v s
+call_left w (Free pointer) v s = free_left w pointer v s
+call_left w (Calloc count size) v s = calloc_left w count size v s
+call_left w (Realloc pointer size) v s = realloc_left w pointer size v s
+call_left w (Memalign alignment size) v s = memalign_left w alignment size v s
+call_left w (UsableSize pointer) v s = left-same w
 
 pub call_others : (w : World) (call : HeapCall) → HeapOwnsItsPages w.memory w.heap → IsSound w.heap → KeepsOthers w.memory (after_call w call).world.memory
-unfolding after_call
-call_others w (Malloc size) v s = malloc_others w size v s
-call_others w (Free pointer) v s = free_others w pointer v s
-call_others w (Calloc count size) v s = calloc_others w count size v s
-call_others w (Realloc pointer size) v s = realloc_others w pointer size v s
-call_others w (Memalign alignment size) v s = memalign_others w alignment size v s
-call_others w (UsableSize pointer) v s = λ page other. refl
+call_others w call v s = (call_left w call v s).others
+
+pub call_sound : (w : World) (call : HeapCall) → IsSoundWorld w → IsSoundWorld (after_call w call).world
+call_sound w call v = (call_left w call v.owned v.parts).sound v

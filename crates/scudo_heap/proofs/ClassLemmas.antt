@@ -51,10 +51,6 @@ pub none-top : (s : List ℕ) → None ≡ slice_get s 0 → s ≡ []
 none-top [] e = refl
 none-top (x ∷ s) e = cc
 
-pub after-take-none : (before w : World) (o : Origin) (a z c : ℕ) (s : List ℕ) → None ≡ slice_get s 0 → no_chunk before ≡ after_take before w o a z c s
-after-take-none before w o a z c [] e = refl
-after-take-none before w o a z c (x ∷ s) e = cc
-
 pub after-take-some : (before w : World) (o : Origin) (a z c b : ℕ) (s : List ℕ) → Some b ≡ slice_get s 0 → allocation_at (place_in c b a z) (after_place w o (place_in c b a z)) ≡ after_take before w o a z c s
 after-take-some before w o a z c b [] e = cc
 after-take-some before w o a z c b (x ∷ s) e = let same : b ≡ x = cc in ap (λ t. allocation_at (place_in c t a z) (after_place w o (place_in c t a z))) same

@@ -1,11 +1,11 @@
 -- Bytes that are copied in parts.
 use Rattle.std.proofs.Common.{◌≡◌, ℕ, ◌+◌, ◌%◌, ◌^◌, ◌<◌, ◌≤◌, ◌⊎◌, List, ◌++◌, length, map, false, None, refl, sym, ap, ◌∙◌, inl, inr, arith, length-append}
 use Rattle.std.proofs.lemmas.List.{map-append}
-use Rattle.mte_tags.specs.Memory.{Memory, byte_at, attrs_at, pages_left}
+use Rattle.mte_tags.specs.Memory.{Memory, byte_at, attrs_at}
 use Rattle.mte_tags.specs.Accesses.{addresses, bytes_at, first_fault, read_access, read_fault, read_bytes, with_bytes, with_bytes_at}
 use Rattle.mte_tags.proofs.AddressLists.{addresses-append, with_bytes-append, length-addresses}
 use Rattle.mte_tags.proofs.ByteLaws.{byte_at-written_other, read_bytes-same, length-read_bytes}
-use Rattle.mte_tags.proofs.PageLaws.{attrs_at-with-bytes-at, pages_left-with-bytes-at}
+use Rattle.mte_tags.proofs.PageLaws.{attrs_at-with-bytes-at}
 use Rattle.mte_tags.proofs.ModeLaws.{access_fault-none}
 use Rattle.scudo_heap.specs.Realloc.{after_copy}
 use Rattle.scudo_heap.specs.Served.{IsOpen}
@@ -77,10 +77,6 @@ after-copy-none m from to = refl
 pub attrs_at-after-copy : (m : Memory) (from to n q : ℕ) → attrs_at (after_copy m from to n) q ≡ attrs_at m q
 unfolding after_copy
 attrs_at-after-copy m from to n q = attrs_at-with-bytes-at m to (read_bytes m from n) q
-
-pub pages_left-after-copy : (m : Memory) (from to n : ℕ) → pages_left (after_copy m from to n) ≡ pages_left m
-unfolding after_copy
-pages_left-after-copy m from to n = pages_left-with-bytes-at m to (read_bytes m from n)
 
 pub apart-less : (a b j n : ℕ) → j ≤ n → AreApart a b n → AreApart a b j
 apart-less a b j n l h = elim h [

@@ -1,25 +1,32 @@
 -- The condition of the calls, at the start and after what others do.
-use Rattle.std.proofs.Common.{◌≡◌, ℕ, ◌+◌, ◌/◌, ◌<◌, ◌≤◌, nat_lt, Bool, true, false, Result, is_ok, length, List, None, refl, sym, ap, subst, ◌∙◌, arith}
+use Rattle.std.proofs.Common.{◌≡◌, ℕ, ◌+◌, ◌/◌, ◌<◌, ◌≤◌, nat_lt, Bool, true, false, Result, is_ok, List, None, refl, sym, ap, subst, ◌∙◌, arith, cond, []}
 use Rattle.std.proofs.lemmas.Bool.{cond-false}
-use Rattle.mte_tags.specs.Memory.{Memory, attrs_at, attrs_cases, pages_left, no_pages}
+use Rattle.mte_tags.specs.Memory.{Memory, attrs_at, attrs_cases, pages_left, no_pages, page_at, with_pending, with_granules}
 use Rattle.mte_tags.specs.declared.state.TagMode.{TagMode}
-use Rattle.std.specs.Prelude.{if◌then◌else◌}
-use Rattle.a64_bits.specs.Addresses.{plain}
-use Rattle.mte_tags.specs.Accesses.{addresses, write_access, after_write, with_bytes_at}
+use Rattle.std.specs.Prelude.{if◌then◌else◌, nat_eq}
+use Rattle.mte_tags.specs.Accesses.{after_write, access_cases, after_access, after_read}
 use Rattle.mte_tags.specs.declared.fault.MemFault.{MemFault}
-use Rattle.mte_tags.proofs.ModeLaws.{after_access-without-check}
-use Rattle.mte_tags.proofs.PageLaws.{attrs_at-with-bytes-at, pages_left-with-bytes-at}
+use Rattle.mte_tags.proofs.PageLaws.{attrs_at-with-bytes-at, pages_left-with-bytes-at, attrs_at-with_granules, pages_left-with_granules}
 use Rattle.mte_tags.proofs.Pages.{page_at-no_pages}
 use Rattle.scudo_primary.specs.Blocks.{IsClass}
 use Rattle.scudo_heap.specs.Stacks.{ClassHeap, empty_class, empty_stacks, memory_for, class_at}
 use Rattle.scudo_heap.specs.Heaps.{HeapState, empty_heap}
-use Rattle.address_map.specs.declared.limits.TheConstants.{PAGE_SIZE}
+use Rattle.address_map.specs.declared.limits.TheConstants.{PAGE_SIZE, MAX_PAGES}
 use Rattle.address_map.specs.declared.ranges.TheConstants.{SECONDARY_END}
 use Rattle.scudo_header.specs.Regions.{region_of}
 use Rattle.scudo_secondary.specs.Mappings.{pages_of}
 use Rattle.scudo_heap.specs.Served.{HeapOwnsItsPages, IsUntouched}
 use Rattle.scudo_heap.proofs.StackLemmas.{class_at-stacks_by}
 use Rattle.scudo_heap.proofs.ServedLemmas.{served-on, same-pages, lt-false}
+use Rattle.std.specs.List.{IsDistinct}
+use Rattle.mte_tags.specs.declared.access.Access.{Access}
+use Rattle.mte_tags.specs.declared.generator.Rgsr.{Rgsr}
+use Rattle.scudo_primary.specs.Pools.{is_member}
+use Rattle.scudo_secondary.proofs.MappingLemmas.{none_ordered}
+use Rattle.scudo_heap.specs.Placing.{world_of}
+use Rattle.scudo_heap.specs.Sound.{IsSoundWorld}
+use Rattle.scudo_heap.specs.Inner.{AreHeapParts}
+use Rattle.scudo_heap.proofs.SoundLemmas.{none-distinct}
 
 left-most : (m : Memory) → pages_left m ≤ m.limit
 unfolding pages_left
@@ -45,6 +52,24 @@ served-first m cookie pages l u =
           ∙ sym (cond-false _ _ _ (ap (λ (t : ClassHeap). nat_lt i t.pages) (class-empty pages c (record { low = lo; high = hi })) ∙ lt-false i 0 (omega arith)));
       mappings = λ a lo hi. u _ (omega arith) (omega arith);
     }
+
+pub parts-first : (cookie pages : ℕ) → pages ≤ MAX_PAGES → AreHeapParts (empty_heap cookie pages)
+parts-first cookie pages most =
+    let left = left-empty pages in
+    let class : (c : ℕ) → IsClass c → class_at (empty_stacks pages) c ≡ empty_class = λ c k. class-empty pages c k in
+    record {
+      room = λ c lo hi. let e = ap (λ (k : ClassHeap). k.pages) (class c (record { low = lo; high = hi })) in omega arith;
+      sound = record {
+        stacks = record {
+          blocks = λ c b lo hi e. let f : false ≡ true = sym (ap (λ (k : ClassHeap). is_member k.stack b) (class c (record { low = lo; high = hi }))) ∙ e in cc;
+          distinct = λ c lo hi. subst (λ (k : ClassHeap). IsDistinct nat_eq k.stack) (sym (class c (record { low = lo; high = hi }))) none-distinct;
+        };
+        mappings = none_ordered [] refl;
+      };
+    }
+
+pub sound-first : (m : Memory) (cookie pages : ℕ) (r : Rgsr) → m.limit ≤ pages → pages ≤ MAX_PAGES → IsUntouched m → IsSoundWorld (world_of m (empty_heap cookie pages) r)
+sound-first m cookie pages r l most u = let p = parts-first cookie pages most in record { owned = served-first m cookie pages l u; room = p.room; parts = p.sound }
 
 limit-no_pages : (n : ℕ) (mode : TagMode) → (no_pages n mode).limit ≡ n
 unfolding no_pages
@@ -73,15 +98,41 @@ served-others m m' h v a l = record {
   mappings = λ x lo hi. a _ (omega arith) (omega arith) ∙ v.mappings x lo hi;
 }
 
--- a write that compares no tags
-with-bytes-at-pages : (b : Bool) (m : Memory) (a : ℕ) (bs : List ℕ) (h : HeapState) → HeapOwnsItsPages m h → HeapOwnsItsPages (if b then after_write m a bs false else m) h
+-- ---- accesses
+
+attrs-pending : (b : Bool) (m : Memory) (q : ℕ) → attrs_at (cond b (with_pending m) m) q ≡ attrs_at m q
+unfolding attrs_at page_at with_pending
+attrs-pending true m q = refl
+attrs-pending false m q = refl
+
+left-pending : (b : Bool) (m : Memory) → pages_left (cond b (with_pending m) m) ≡ pages_left m
+unfolding pages_left with_pending
+left-pending true m = refl
+left-pending false m = refl
+
+served-access : (m : Memory) (x : Access) (addrs : List ℕ) (h : HeapState) → HeapOwnsItsPages m h → HeapOwnsItsPages (after_access m x addrs) h
+unfolding after_access
+served-access m x addrs h v =
+    let b = (access_cases m.state.mode m x addrs).pending in
+    served-same m (cond b (with_pending m) m) h v (λ q. attrs-pending b m q) (left-pending b m)
+
+pub served-read : (m : Memory) (a n : ℕ) (check : Bool) (h : HeapState) → HeapOwnsItsPages m h → HeapOwnsItsPages (after_read m a n check) h
+unfolding after_read
+served-read m a n check h v = served-access m _ _ h v
+
+pub served-write : (m : Memory) (a : ℕ) (bytes : List ℕ) (check : Bool) (h : HeapState) → HeapOwnsItsPages m h → HeapOwnsItsPages (after_write m a bytes check) h
 unfolding after_write
-with-bytes-at-pages false m a bs h v = v
-with-bytes-at-pages true m a bs h v =
-    subst (λ t. HeapOwnsItsPages (with_bytes_at t a bs) h) (sym (after_access-without-check m (write_access a false) (addresses (plain a) (length bs)) refl))
-    (served-same m (with_bytes_at m a bs) h v (λ q. attrs_at-with-bytes-at m a bs q) (pages_left-with-bytes-at m a bs))
+served-write m a bytes check h v = served-same _ _ h (served-access m _ _ h v) (λ q. attrs_at-with-bytes-at _ a bytes q) (pages_left-with-bytes-at _ a bytes)
+
+pub served-tags : (m : Memory) (a n tag : ℕ) (zero_bytes : Bool) (h : HeapState) → HeapOwnsItsPages m h → HeapOwnsItsPages (with_granules m a n tag zero_bytes) h
+served-tags m a n tag zero_bytes h v = served-same m _ h v (λ q. attrs_at-with_granules n m a tag zero_bytes q) (pages_left-with_granules n m a tag zero_bytes)
+
+-- an access that was made or not
+pub served-either : (b : Bool) (m n k : Memory) (h : HeapState) → HeapOwnsItsPages m h → HeapOwnsItsPages n h → k ≡ (if b then n else m) → HeapOwnsItsPages k h
+served-either true m n k h v w e = subst (λ t. HeapOwnsItsPages t h) (sym e) w
+served-either false m n k h v w e = subst (λ t. HeapOwnsItsPages t h) (sym e) v
 
 pub served-with-bytes-at : (m m' : Memory) (a : ℕ) (bs : List ℕ) (h : HeapState) (r : Result (Unit {0}) MemFault) → HeapOwnsItsPages m h → m' ≡ (if is_ok r then after_write m a bs false else m) → HeapOwnsItsPages m' h
-served-with-bytes-at m m' a bs h r v e = subst (λ t. HeapOwnsItsPages t h) (sym e) (with-bytes-at-pages (is_ok r) m a bs h v)
+served-with-bytes-at m m' a bs h r v e = served-either (is_ok r) m (after_write m a bs false) m' h v (served-write m a bs false h v) e
 
 pub ruleset served_laws = (served-new, served-with-bytes-at)

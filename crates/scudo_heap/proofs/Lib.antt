@@ -3,6 +3,8 @@ pub mod OpenLemmas
 pub mod CheckLemmas
 pub mod MapLemmas
 pub mod ServedLemmas
+pub mod RestLemmas
+pub mod SoundLemmas
 pub mod FoundLemmas
 pub mod FreeLemmas
 pub mod ClassLemmas
@@ -15,4 +17,6 @@ pub mod KeptLemmas
 pub mod BesideLemmas
 pub mod ReallocLemmas
 pub mod OtherPages
+pub mod CallSteps
+pub mod PartLemmas
 pub mod CallLemmas

@@ -72,7 +72,7 @@ left-with_class : (s : StackState) (c : ℕ) (k : ClassHeap) → (with_class s c
 unfolding with_class
 left-with_class s c k = refl
 
-same-with_stack : (s : StackState) (c : ℕ) (stack : List ℕ) → SamePages s (with_class s c (record { pages = pages_of s c; stack = stack }))
+pub same-with_stack : (s : StackState) (c : ℕ) (stack : List ℕ) → SamePages s (with_class s c (record { pages = pages_of s c; stack = stack }))
 same-with_stack s c stack = record {
   left = left-with_class s c _;
   pages = λ d. elim (cases_eq d c) [
@@ -157,7 +157,7 @@ served-less m h n cookie v k e =
 
 -- ---- a class gets pages
 
-left-after-carve : (s : StackState) (c n : ℕ) → (after_carve s c n).left ≡ s.left - n
+pub left-after-carve : (s : StackState) (c n : ℕ) → (after_carve s c n).left ≡ s.left - n
 unfolding after_carve
 left-after-carve s c n = refl
 

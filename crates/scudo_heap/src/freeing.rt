@@ -1,7 +1,7 @@
 //! What is left after a chunk is freed.
 
 ghost use Rattle.std.specs.Prelude.{◌≡◌, ◌-◌, ◌<◌, ◌≤◌, ◌/◌, ◌%◌, ◌^◌, ℕ, Some};
-ghost use Rattle.mte_tags.specs.Memory.{attrs_at, pages_left, without_pages};
+ghost use Rattle.mte_tags.specs.Memory.{attrs_at, without_pages};
 ghost use Rattle.mte_tags.specs.RandomTags.{after_draw};
 ghost use Rattle.scudo_header.specs.declared.headers.State.TheVariants.{Available};
 ghost use Rattle.scudo_secondary.specs.Mappings as secondary;
@@ -38,9 +38,6 @@ fn write_freed<M: Paged>(memory: &mut M, cookie: u32, place: Place, tag: u8, hea
     ensures memory { M.memory memory.new
         ≡ with_header (with_chunk_tag
         (M.memory memory.old) place tag) cookie place.user header.now }
-    ensures attrs { (q : ℕ)
-        → attrs_at (M.memory memory.new) q ≡ attrs_at (M.memory memory.old) q }
-    ensures left { pages_left (M.memory memory.new) ≡ pages_left (M.memory memory.old) }
     ensures kept { M.kept memory.old memory.new }
 {
     let count = granules(place.size);
@@ -74,9 +71,6 @@ fn free_block<M: Paged>(
     ensures rgsr { rgsr.new ≡ (after_draw rgsr.old
         (excluded_tags (M.memory memory.old) place)).rgsr }
     ensures tag { rgsr.new.tag < 16 }
-    ensures attrs { (q : ℕ)
-        → attrs_at (M.memory memory.new) q ≡ attrs_at (M.memory memory.old) q }
-    ensures left { pages_left (M.memory memory.new) ≡ pages_left (M.memory memory.old) }
     ensures kept { M.kept memory.old memory.new }
 {
     let tag = choose_tag(rgsr, memory, place);
@@ -120,7 +114,6 @@ pub(crate) fn free_found<M: Paged>(
         ≡ without_chunk
         (world_of (M.memory memory.old) (heap_of cookie stacks.old maps.old) rgsr.old)
         found }
-    ensures served { HeapOwnsItsPages (M.memory memory.new) (heap_of cookie stacks.new maps.new) }
     ensures tag { rgsr.new.tag < 16 }
     ensures kept { M.kept memory.old memory.new }
 {

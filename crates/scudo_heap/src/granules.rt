@@ -2,7 +2,7 @@
 //! tags, so none sets the flag of the asynchronous mode.
 
 ghost use Rattle.std.specs.Prelude.{◌≡◌, ◌+◌, ◌-◌, ◌*◌, ◌%◌, ◌^◌, ◌<◌, ◌≤◌, ℕ};
-ghost use Rattle.mte_tags.specs.Memory.{attrs_at, pages_left, tag_at, with_granules};
+ghost use Rattle.mte_tags.specs.Memory.{attrs_at, tag_at, with_granules};
 ghost use Rattle.scudo_heap.specs.Chunks.{with_header};
 ghost use Rattle.scudo_heap.specs.Served.{IsOpen};
 
@@ -19,7 +19,6 @@ pub(crate) fn set_tags<M: Paged>(memory: &mut M, addr: u64, granules: u64, tag: 
         ≡ with_granules (M.memory memory.old) addr granules tag zero }
     ensures attrs { (q : ℕ)
         → attrs_at (M.memory memory.new) q ≡ attrs_at (M.memory memory.old) q }
-    ensures left { pages_left (M.memory memory.new) ≡ pages_left (M.memory memory.old) }
     ensures kept { M.kept memory.old memory.new }
 {
     // The heap's pages lack nothing that it requires.
@@ -51,9 +50,6 @@ pub(crate) fn put_header<M: Paged>(memory: &mut M, cookie: u32, user: u64, heade
     requires open { IsOpen (M.memory memory.old) (user - 16) user }
     ensures memory { M.memory memory.new
         ≡ with_header (M.memory memory.old) cookie user header.now }
-    ensures attrs { (q : ℕ)
-        → attrs_at (M.memory memory.new) q ≡ attrs_at (M.memory memory.old) q }
-    ensures left { pages_left (M.memory memory.new) ≡ pages_left (M.memory memory.old) }
     ensures kept { M.kept memory.old memory.new }
 {
     let word = pack(cookie, user, header);

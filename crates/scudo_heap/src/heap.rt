@@ -41,12 +41,15 @@ pub struct Heap {
 
 impl Model for Heap {
     ghost use Rattle.scudo_heap.specs.Heaps.{HeapState, coded_heap, heap_of};
+    ghost use Rattle.scudo_heap.specs.Inner.{AreHeapParts};
 
     ghost Value = { HeapState };
 
     ghost coded = { coded_heap };
 
     ghost view = { λ f. heap_of f.cookie f.stacks f.maps };
+
+    ghost invariant = { λ f. AreHeapParts (heap_of f.cookie f.stacks f.maps) };
 }
 
 impl Heap {

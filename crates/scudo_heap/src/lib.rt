@@ -25,5 +25,8 @@ pub use abort::HeapAbort;
 pub use call::HeapCall;
 pub use chunk::{Chunk, Found, Place};
 pub use heap::Heap;
-pub use laws::{calls_keep_other_pages, condition_of_calls};
+pub use laws::{
+    accesses_keep_the_condition, calls_keep_other_pages, calls_keep_the_condition,
+    condition_of_calls,
+};
 pub use limits::{MAX_ALIGNMENT, MAX_REQUEST, requests_in_digits};

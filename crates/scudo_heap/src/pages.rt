@@ -11,7 +11,7 @@ ghost use Rattle.scudo_heap.specs.Chunks.{with_header};
 ghost use Rattle.scudo_heap.specs.Placing.{world_of, heap_attrs};
 ghost use Rattle.scudo_heap.specs.Large.{mapping_for, large_header};
 ghost use Rattle.scudo_heap.specs.Allocation.{allocation_of, need_of, after_large_allocation};
-ghost use Rattle.scudo_heap.specs.Served.{ArePlaces, KeepsMapped};
+ghost use Rattle.scudo_heap.specs.Served.{ArePlaces};
 ghost use Rattle.scudo_heap.specs.Inner.{IsAlign, IsLarge, IsLow};
 
 use crate::chunk::Chunk;
@@ -57,7 +57,6 @@ fn map_chunk<M: Paged>(
         (with_new_pages (M.memory memory.old) (mapping.start / PAGE_SIZE) mapping.pages heap_attrs)
         cookie mapping.user (large_header origin mapping size) }
     ensures maps { maps.new ≡ with_more maps.old mapping }
-    ensures served { KeepsMapped (M.memory memory.old) maps.old (M.memory memory.new) maps.new }
     ensures kept { M.kept memory.old memory.new }
 {
     // So many pages are left.
@@ -98,7 +97,6 @@ pub(crate) fn take_pages<M: Paged>(
         ≡ after_large_allocation (world_of (M.memory memory.old) (heap_of cookie s maps.old) r)
         request.origin request.align request.size pages }
     ensures low_chunk { IfSome result IsLow }
-    ensures served { KeepsMapped (M.memory memory.old) maps.old (M.memory memory.new) maps.new }
     ensures kept { M.kept memory.old memory.new }
 {
     let Some(start) = maps.place(pages) else {

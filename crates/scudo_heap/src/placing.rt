@@ -1,7 +1,7 @@
 //! A chunk is made in a block of a size class.
 
 ghost use Rattle.std.specs.Prelude.{◌≡◌, ◌+◌, ◌-◌, ◌*◌, ◌/◌, ◌%◌, ◌^◌, ◌<◌, ◌≤◌, ℕ};
-ghost use Rattle.mte_tags.specs.Memory.{attrs_at, pages_left};
+ghost use Rattle.mte_tags.specs.Memory.{attrs_at};
 ghost use Rattle.mte_tags.specs.RandomTags.{after_draw};
 ghost use Rattle.scudo_heap.specs.Chunks.{end_of, block_end, excluded_tags, with_chunk_tag};
 ghost use Rattle.scudo_heap.specs.Chunks.{with_end_tag_0, with_header_tag_0};
@@ -30,7 +30,6 @@ pub(crate) fn close<M: Paged>(memory: &mut M, place: Place)
     ensures memory { M.memory memory.new ≡ with_end_tag_0 (M.memory memory.old) place }
     ensures attrs { (q : ℕ)
         → attrs_at (M.memory memory.new) q ≡ attrs_at (M.memory memory.old) q }
-    ensures left { pages_left (M.memory memory.new) ≡ pages_left (M.memory memory.old) }
     ensures kept { M.kept memory.old memory.new }
 {
     let end = place.user + 16 * granules(place.size);
@@ -49,7 +48,6 @@ fn open<M: Paged>(memory: &mut M, place: Place)
     ensures memory { M.memory memory.new ≡ with_header_tag_0 (M.memory memory.old) place }
     ensures attrs { (q : ℕ)
         → attrs_at (M.memory memory.new) q ≡ attrs_at (M.memory memory.old) q }
-    ensures left { pages_left (M.memory memory.new) ≡ pages_left (M.memory memory.old) }
     ensures kept { M.kept memory.old memory.new }
 {
     set_tags(memory, place.user - 16, 1, 0, false);
@@ -74,7 +72,6 @@ fn tag_by_three_runs<M: Paged>(memory: &mut M, place: Place, tag: u8)
         (with_chunk_tag (M.memory memory.old) place tag) place) place }
     ensures attrs { (q : ℕ)
         → attrs_at (M.memory memory.new) q ≡ attrs_at (M.memory memory.old) q }
-    ensures left { pages_left (M.memory memory.new) ≡ pages_left (M.memory memory.old) }
     ensures kept { M.kept memory.old memory.new }
 {
     set_tags(memory, place.user, granules(place.size), tag, true);
@@ -101,9 +98,6 @@ fn write_around<M: Paged>(memory: &mut M, cookie: u32, place: Place, tag: u8, he
         (with_end_tag_0 (with_header_tag_0
         (with_chunk_tag (M.memory memory.old) place tag) place) place)
         cookie place.user header.now }
-    ensures attrs { (q : ℕ)
-        → attrs_at (M.memory memory.new) q ≡ attrs_at (M.memory memory.old) q }
-    ensures left { pages_left (M.memory memory.new) ≡ pages_left (M.memory memory.old) }
     ensures kept { M.kept memory.old memory.new }
 {
     let count = granules(place.size);
@@ -154,9 +148,6 @@ pub(crate) fn make_chunk<M: Paged>(
         (with_chunk_tag (M.memory memory.old) place
         (after_draw rgsr.old (excluded_tags (M.memory memory.old) place)).tag) place) place)
         cookie place.user (new_header origin place) }
-    ensures attrs { (q : ℕ)
-        → attrs_at (M.memory memory.new) q ≡ attrs_at (M.memory memory.old) q }
-    ensures left { pages_left (M.memory memory.new) ≡ pages_left (M.memory memory.old) }
     ensures kept { M.kept memory.old memory.new }
 {
     let tag = choose_tag(rgsr, memory, place);

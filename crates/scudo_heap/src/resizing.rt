@@ -1,7 +1,7 @@
 //! Another size for a chunk (Scudo, `combined.h`, `Allocator::reallocate`).
 
 ghost use Rattle.std.specs.Prelude.{◌≡◌, ◌+◌, ◌-◌, ◌%◌, ◌^◌, ◌<◌, ◌≤◌, ℕ, IfSome, nat_le};
-ghost use Rattle.mte_tags.specs.Memory.{attrs_at, pages_left, tag_at};
+ghost use Rattle.mte_tags.specs.Memory.{attrs_at, tag_at};
 ghost use Rattle.scudo_heap.specs.Heaps.{heap_of};
 ghost use Rattle.scudo_heap.specs.Chunks.{block_end, end_of, with_size, after_retag_tail};
 ghost use Rattle.scudo_heap.specs.Chunks.{with_header};
@@ -9,7 +9,8 @@ ghost use Rattle.scudo_heap.specs.Placing.{world_of};
 ghost use Rattle.scudo_heap.specs.Allocation.{allocation_of};
 ghost use Rattle.scudo_heap.specs.Checks.{HasEnd};
 ghost use Rattle.scudo_heap.specs.Realloc.{after_move, realloc_cases};
-ghost use Rattle.scudo_heap.specs.Served.{HeapOwnsItsPages, IsOpen};
+ghost use Rattle.scudo_heap.specs.Served.{IsOpen};
+ghost use Rattle.scudo_heap.specs.Sound.{IsSoundWorld};
 ghost use Rattle.scudo_heap.specs.Inner.{IsPlaced, IsFound, IsLow};
 
 use crate::allocation::allocate;
@@ -59,7 +60,6 @@ fn refit<M: Paged>(memory: &mut M, place: Place, size: u64, tag: u8)
     ensures memory { M.memory memory.new ≡ after_retag_tail (M.memory memory.old) place size }
     ensures attrs { (q : ℕ)
         → attrs_at (M.memory memory.new) q ≡ attrs_at (M.memory memory.old) q }
-    ensures left { pages_left (M.memory memory.new) ≡ pages_left (M.memory memory.old) }
     ensures kept { M.kept memory.old memory.new }
 {
     let (before, after) = (granules(place.size), granules(size));
@@ -89,9 +89,6 @@ fn resize<M: Paged>(
     ensures memory { M.memory memory.new
         ≡ with_header (after_retag_tail (M.memory memory.old) place size) cookie place.user
         (record header.now { size_or_unused_bytes = size }) }
-    ensures attrs { (q : ℕ)
-        → attrs_at (M.memory memory.new) q ≡ attrs_at (M.memory memory.old) q }
-    ensures left { pages_left (M.memory memory.new) ≡ pages_left (M.memory memory.old) }
     ensures kept { M.kept memory.old memory.new }
 {
     let tag = tag_there(memory, place.user);
@@ -116,7 +113,8 @@ fn move_chunk<M: Paged>(
     requires drawn { rgsr.old.tag < 16 }
     requires some { 0 < size }
     requires most { size ≤ MAX_REQUEST }
-    requires served { HeapOwnsItsPages (M.memory memory.old) (heap_of cookie stacks.old maps.old) }
+    requires sound { IsSoundWorld
+        (world_of (M.memory memory.old) (heap_of cookie stacks.old maps.old) rgsr.old) }
     requires found { IsFound (heap_of cookie stacks.old maps.old) found }
     requires end { HasEnd found }
     ensures made { allocation_of
@@ -125,11 +123,8 @@ fn move_chunk<M: Paged>(
         found size }
     ensures low_chunk { IfSome result IsLow }
     ensures tag { rgsr.new.tag < 16 }
-    ensures served { HeapOwnsItsPages (M.memory memory.new) (heap_of cookie stacks.new maps.new) }
     ensures kept { M.kept memory.old memory.new }
 {
-    stacks.recall();
-    maps.recall();
     let request = Request {
         origin: Origin::Malloc,
         align: MIN_ALIGNMENT,
@@ -138,7 +133,6 @@ fn move_chunk<M: Paged>(
     let Some(chunk) = allocate(cookie, stacks, maps, rgsr, memory, request) else {
         return None;
     };
-    maps.recall();
     let count = found.size().min(size);
     copy_bytes(memory, found.user(), chunk.user(), count);
     free_found(cookie, stacks, maps, rgsr, memory, found);
@@ -157,7 +151,8 @@ pub(crate) fn reallocate<M: Paged>(
     size: u64,
 ) -> Option<Chunk>
     requires drawn { rgsr.old.tag < 16 }
-    requires served { HeapOwnsItsPages (M.memory memory.old) (heap_of cookie stacks.old maps.old) }
+    requires sound { IsSoundWorld
+        (world_of (M.memory memory.old) (heap_of cookie stacks.old maps.old) rgsr.old) }
     requires found { IsFound (heap_of cookie stacks.old maps.old) found }
     requires end { HasEnd found }
     ensures made { allocation_of
@@ -167,7 +162,6 @@ pub(crate) fn reallocate<M: Paged>(
         found size }
     ensures low_chunk { IfSome result IsLow }
     ensures tag { rgsr.new.tag < 16 }
-    ensures served { HeapOwnsItsPages (M.memory memory.new) (heap_of cookie stacks.new maps.new) }
     ensures kept { M.kept memory.old memory.new }
 {
     if size == 0 {

@@ -1,2 +1,1 @@
 pub mod MappingTests
-pub mod ServedTests

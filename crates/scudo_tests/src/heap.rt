@@ -7,7 +7,10 @@ use crate::calls::{Row, answers};
 use crate::tables::{NOT_CAREFUL, TABLES, Table};
 use mte_flat::Flat;
 use mte_tags::{Attrs, Paged, Rgsr, TagMode, Tagged};
-use scudo_heap::{Heap, calls_keep_other_pages, condition_of_calls};
+use scudo_heap::{
+    Heap, accesses_keep_the_condition, calls_keep_other_pages, calls_keep_the_condition,
+    condition_of_calls,
+};
 use std::alloc::{AllocError, Global};
 use std::test::Fail;
 
@@ -79,6 +82,8 @@ fn page_that_no_heap_mapped(rt: HostRuntime) -> Result<(), Fail> {
 fn laws_of_a_new_heap(rt: HostRuntime) -> Result<(), Fail> {
     let heap = Heap::new(rt.alloc(), 0, 1)?;
     condition_of_calls();
+    calls_keep_the_condition();
+    accesses_keep_the_condition();
     calls_keep_other_pages();
     heap.is_sound();
     Ok(())

@@ -17,7 +17,12 @@ use Rattle.scudo_heap.specs.declared.chunk.Place.{Place}
 use Rattle.scudo_heap.specs.Placing.{World, more_pages, new_header, after_place, after_grow}
 use Rattle.scudo_heap.specs.Chunks.{excluded_tags, with_header}
 use Rattle.tag_discipline.proofs.BlockCalls.{fenced}
-use Rattle.tag_discipline.proofs.Views.{SoundBlocks}
+use Rattle.tag_discipline.proofs.Views.{SoundBlocks, TaggedBlocks, tagged-of}
+use Rattle.tag_discipline.proofs.Serving.{stacked-of, blocks-with}
+use Rattle.scudo_heap.specs.Sound.{IsSoundWorld}
+use Rattle.scudo_heap.proofs.BesideLemmas.{empty-of}
+use Rattle.scudo_heap.proofs.ServedLemmas.{MayGrow, next-free, regions-of}
+use Rattle.scudo_heap.proofs.SoundLemmas.{sound-after-grow}
 use Rattle.scudo_heap.specs.Allocation.{AllocationResult, no_chunk, nonzero_size, need_of, place_in, is_empty, with_free_block, after_take, after_class_allocation}
 use Rattle.scudo_heap.specs.Inner.{IsAlign}
 use Rattle.scudo_heap.specs.declared.chunk.Chunk.{Chunk}
@@ -40,13 +45,9 @@ pub both_true : (a b : Bool) → (a && b) ≡ true → (a ≡ true) × (b ≡ tr
 both_true true b e = (refl, e)
 both_true false b e = cc
 
-empty_is : (xs : List ℕ) → is_empty xs ≡ true → xs ≡ []
-empty_is [] e = refl
-empty_is (x ∷ xs) e = cc
-
--- a world after a call: its live chunks are SoundBlocks, and what was freed stays as it was while its block is free
+-- a world after a call: its live chunks are TaggedBlocks, and what was freed stays as it was while its block is free
 pub record IsKept (w v : World) (l : LiveBlocks) : Type 0 where
-  pub sound : IsSoundIn v l
+  pub sound : TaggedBlocks v.memory v.heap.stacks l
   pub stale : (f : Freed) → IsStale w.memory w.heap.stacks f → is_member (stack_of v.heap.stacks f.place.class) f.place.block ≡ true → IsStale v.memory v.heap.stacks f
 
 pub record IsReady (w v : World) (l : LiveBlocks) : Type 0 where
@@ -54,14 +55,22 @@ pub record IsReady (w v : World) (l : LiveBlocks) : Type 0 where
   pub stale : (f : Freed) → IsStale w.memory w.heap.stacks f → IsStale v.memory v.heap.stacks f
   pub tags : (a : ℕ) → tag_at v.memory a ≡ tag_at w.memory a
 
-pub ready_sound : (w : World) (l : LiveBlocks) (c : ℕ) → IsClass c → IsSoundIn w l → IsReady w (with_free_block w c) l
+ready_sound : (w : World) (l : LiveBlocks) (c : ℕ) → IsClass c → IsSoundWorld w → IsSoundIn w l → IsReady w (with_free_block w c) l
 unfolding with_free_block after_grow
-ready_sound w l c hc s =
-    branch (λ v. IsReady w v l) (is_empty (stack_of w.heap.stacks c) && nat_le (more_pages c) (pages_left w.memory)) _ w
+ready_sound w l c hc v s =
+    branch (λ r. IsReady w r l) (is_empty (stack_of w.heap.stacks c) && nat_le (more_pages c) (pages_left w.memory)) _ w
     (λ e.
-    let b = both_true _ _ e in
-    let g : IsGrowth w.memory w.heap.stacks c (more_pages c) = record { class = hc; empty = empty_is _ b.0; left = (let f = b.1 in grind (arith, nat_tests)) } in
-    record { sound = grown_sound w.memory w.heap.stacks l c (more_pages c) s g; stale = after-grow-stale w.memory w.heap.stacks l c (more_pages c) s g; tags = after-grow-tags w.memory w.heap.stacks l c (more_pages c) s g })
+    let b = both_true (is_empty (stack_of w.heap.stacks c)) (nat_le (more_pages c) (pages_left w.memory)) e in
+    let empty = empty-of (stack_of w.heap.stacks c) b.0 in
+    let enough : more_pages c ≤ pages_left w.memory = (let f = b.1 in grind (arith, nat_tests)) in
+    let grown = sound-after-grow w c hc empty enough v in
+    let may : MayGrow w.memory w.heap.stacks c (more_pages c) = record { class = hc; enough = enough; most = v.room c hc.low hc.high } in
+    let g : IsGrowth w.memory w.heap.stacks c (more_pages c) = record { class = hc; empty = empty; left = enough; free = next-free w.memory w.heap.stacks c (more_pages c) (regions-of w.memory w.heap v.owned) may; stacked = stacked-of (after_grow w c) grown } in
+    record {
+      sound = blocks-with (after_grow w c) l grown (grown_sound w.memory w.heap.stacks l c (more_pages c) s g);
+      stale = after-grow-stale w.memory w.heap.stacks l c (more_pages c) s g;
+      tags = after-grow-tags w.memory w.heap.stacks l c (more_pages c) s g;
+    })
     (λ e. record { sound = s; stale = λ f st. st; tags = λ a. refl })
 
 -- ---- the place in a block
@@ -94,15 +103,15 @@ same_tag w origin p = refl
 fresh_in : (w : World) (l : LiveBlocks) (p : Place) → IsSoundIn w l → IsPlace w.heap.stacks p → IsFresh w.memory p (after_draw w.rgsr (excluded_tags w.memory p)).tag
 fresh_in w l p s i = after-draw-fresh w.memory p w.rgsr (present w.memory w.heap.stacks l s p i)
 
-pub after-place-sound : (w : World) (l : LiveBlocks) (origin : Origin) (p : Place) (more : List ℕ) → IsSoundIn w l → stack_of w.heap.stacks p.class ≡ p.block ∷ more → IsPlace w.heap.stacks p
-    → IsSoundIn (after_place w origin p) (with_chunk l (new_chunk origin p (after_place w origin p).rgsr.tag))
+after-place-sound : (w : World) (l : LiveBlocks) (origin : Origin) (p : Place) (more : List ℕ) → IsSoundIn w l → stack_of w.heap.stacks p.class ≡ p.block ∷ more → IsPlace w.heap.stacks p
+    → TaggedBlocks (after_place w origin p).memory (after_place w origin p).heap.stacks (with_chunk l (new_chunk origin p (after_place w origin p).rgsr.tag))
 unfolding after_place after_pop
 after-place-sound w l origin p more s top i =
     let t = (after_draw w.rgsr (excluded_tags w.memory p)).tag in
     let e : drop 1 (stack_of w.heap.stacks p.class) ≡ more = ap (drop 1) top in
     let m' = with_header (fenced w.memory p t) w.heap.cookie p.user (new_header origin p) in
-    subst (λ k. SoundBlocks m' (after_pop w.heap.stacks p.class) (with_chunk l (new_chunk origin p k))) (sym (same_tag w origin p))
-    (subst (λ xs. SoundBlocks m' (with_stack w.heap.stacks p.class xs) (with_chunk l (new_chunk origin p t))) (sym e) (placed_sound w.memory w.heap.stacks l s w.heap.cookie p origin more t (fresh_in w l p s i) top i))
+    subst (λ k. TaggedBlocks m' (after_pop w.heap.stacks p.class) (with_chunk l (new_chunk origin p k))) (sym (same_tag w origin p))
+    (subst (λ xs. TaggedBlocks m' (with_stack w.heap.stacks p.class xs) (with_chunk l (new_chunk origin p t))) (sym e) (placed_sound w.memory w.heap.stacks l s w.heap.cookie p origin more t (fresh_in w l p s i) top i))
 
 pub after-place-kept : (w : World) (l : LiveBlocks) (origin : Origin) (p : Place) (more : List ℕ) → IsSoundIn w l → stack_of w.heap.stacks p.class ≡ p.block ∷ more → IsPlace w.heap.stacks p
     → IsKept w (after_place w origin p) (with_chunk l (new_chunk origin p (after_place w origin p).rgsr.tag))
@@ -130,7 +139,7 @@ pub record IsMadeSound (o : Origin) (w : World) (l : LiveBlocks) (r : Allocation
   pub fresh : (p : Place) (t : ℕ) → r.chunk ≡ Some (Small p t) → (t ≢ 0) × (t ≢ tag_at w.memory p.user)
 
 pub nothing_sound : (o : Origin) (w : World) (l : LiveBlocks) → IsSoundIn w l → IsMadeSound o w l (no_chunk w)
-nothing_sound o w l s = record { kept = record { sound = s; stale = λ f st on. st }; apart = λ p t e. cc; fresh = λ p t e. cc }
+nothing_sound o w l s = record { kept = record { sound = tagged-of w.memory w.heap.stacks l s; stale = λ f st on. st }; apart = λ p t e. cc; fresh = λ p t e. cc }
 
 -- chunks in two blocks have two user addresses
 users-differ : (w : World) (l : LiveBlocks) (p : Place) (u : ℕ) (x : BlockChunk) → IsSoundIn w l → IsPlace w.heap.stacks p → chunk_at l u ≡ Some x → x.place.block ≢ p.block → p.user ≢ u
@@ -184,10 +193,10 @@ pub class-for : (need c : ℕ) → class_for need ≡ Some c → IsClassFor need
 unfolding class_for
 class-for need c e = found_class 44 1 need c (omega arith) (omega arith) e
 
-pub after-class-allocation-sound : (w : World) (l : LiveBlocks) (origin : Origin) (a size c : ℕ) → IsSoundIn w l → IsAlign a → 0 < size → IsClassFor (need_of a size) c → IsMadeSound origin w l (after_class_allocation w origin a size c)
+pub after-class-allocation-sound : (w : World) (l : LiveBlocks) (origin : Origin) (a size c : ℕ) → IsSoundWorld w → IsSoundIn w l → IsAlign a → 0 < size → IsClassFor (need_of a size) c → IsMadeSound origin w l (after_class_allocation w origin a size c)
 unfolding after_class_allocation
-after-class-allocation-sound w l origin a size c s al p k =
-    taken_sound w (with_free_block w c) l origin a size c (stack_of (with_free_block w c).heap.stacks c) s (ready_sound w l c k.class s) k.class al p k.holds refl
+after-class-allocation-sound w l origin a size c v s al p k =
+    taken_sound w (with_free_block w c) l origin a size c (stack_of (with_free_block w c).heap.stacks c) s (ready_sound w l c k.class v s) k.class al p k.holds refl
 
 pub asked_some : (size : ℕ) → 0 < nonzero_size size
 asked_some size = grind (arith, nat_tests)

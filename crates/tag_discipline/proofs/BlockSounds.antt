@@ -8,23 +8,22 @@ use Rattle.mte_tags.specs.Memory.{Memory, tag_at}
 use Rattle.scudo_header.specs.Headers.{packed_header}
 use Rattle.scudo_header.specs.declared.headers.Origin.{Origin}
 use Rattle.scudo_header.specs.declared.headers.Header.{Header}
-use Rattle.scudo_primary.specs.Blocks.{IsBlock}
 use Rattle.scudo_primary.specs.Pools.{is_member}
-use Rattle.scudo_primary.specs.Blocks.{IsClass}
-use Rattle.scudo_primary.proofs.ListLemmas.{member-other, member-first, distinct-head, distinct-tail, distinct-cons}
-use Rattle.scudo_heap.specs.Stacks.{StackState, pages_of, stack_of, with_stack}
+use Rattle.scudo_primary.proofs.ListLemmas.{member-other, member-first, distinct-head}
+use Rattle.scudo_heap.specs.Stacks.{StackState, stack_of, with_stack}
 use Rattle.tag_discipline.specs.LiveChunks.{IsCarved, IsPlace, IsHalfTag, BlockChunk, LiveBlocks, chunk_at, with_chunk, without_chunk, new_chunk, IsHeaderOf, ArePlaced, IsTagged}
 use Rattle.scudo_heap.specs.declared.chunk.Place.{Place}
 use Rattle.scudo_heap.specs.Chunks.{with_size, with_chunk_tag, after_retag_tail, with_header}
 use Rattle.tag_discipline.proofs.BlockCalls.{fenced}
 use Rattle.scudo_heap.specs.Placing.{new_header}
-use Rattle.tag_discipline.proofs.Views.{IsStacked, SoundBlocks}
+use Rattle.tag_discipline.proofs.Views.{SoundBlocks, TaggedBlocks}
 use Rattle.tag_discipline.proofs.Draws.{IsFresh}
 use Rattle.tag_discipline.proofs.Blocks.{same-class}
 use Rattle.tag_discipline.proofs.Keeps.{IsCallOn, IsSamePages, IsStep, keeps-with-chunk-tag}
 use Rattle.tag_discipline.proofs.BlockCalls.{fenced-both, with-chunk-tag-call, with-bytes-at-call, with-bytes-at-with-chunk-tag}
 use Rattle.tag_discipline.proofs.Refits.{after-retag-tail-fits}
-use Rattle.tag_discipline.proofs.ListLaws.{stack-own, stack-other, same-pages, stacked-with, served-same, place-on, chunk_at-with, chunk_at-without}
+use Rattle.scudo_heap.proofs.SoundLemmas.{stack-own, stack-other}
+use Rattle.tag_discipline.proofs.ListLaws.{same-pages, place-on, chunk_at-with, chunk_at-without}
 
 -- a chunk after it got another size where it is
 abbrev pub resized_chunk : BlockChunk → ℕ → BlockChunk
@@ -33,12 +32,6 @@ resized_chunk x size = record {
   tag = x.tag;
   header = record (x.header) { size_or_unused_bytes = size };
 }
-
-member_on : (d b : ℕ) (more : List ℕ) → is_member more d ≡ true → is_member (b ∷ more) d ≡ true
-member_on d b more e = elim (cases_eq d b) [
-  | inl q ↦ subst (λ t. is_member (t ∷ more) d ≡ true) q (member-first d more)
-  | inr n ↦ member-other b more d n ∙ e
-]
 
 module _ (m : Memory) (h : StackState) (l : LiveBlocks) (s : SoundBlocks m h l) where
   -- the tag at a place's user address is below 16
@@ -109,11 +102,6 @@ module _ (m : Memory) (h : StackState) (l : LiveBlocks) (s : SoundBlocks m h l) 
       let off = s.placed.unstacked u y e in
       (other, off-stack c more y.place.class y.place.block off (λ q. sym (member-other x.place.block more y.place.block other) ∙ sym (ap (λ t. is_member t y.place.block) (ap (stack_of h) q ∙ top)) ∙ off)))
 
-  placed_stacked : (c b : ℕ) (more : List ℕ) → IsClass c → stack_of h c ≡ b ∷ more → IsStacked (with_stack h c more)
-  placed_stacked c b more hc top =
-      let distinct : IsDistinct nat_eq (b ∷ more) = subst (IsDistinct nat_eq) top (s.stacked.distinct c hc) in
-      stacked-with h c more s.stacked (λ d e. s.stacked.blocks c d hc (ap (λ t. is_member t d) top ∙ member_on d b more e)) (distinct-tail b more distinct)
-
   -- what the first call leaves of the tags
   pub placed_call : (cookie : ℕ) (p : Place) (origin : Origin) (t : ℕ) → IsFresh m p t → IsPlace h p → IsCallOn m (with_header (fenced m p t) cookie p.user (new_header origin p)) p t
   unfolding with_header
@@ -122,7 +110,7 @@ module _ (m : Memory) (h : StackState) (l : LiveBlocks) (s : SoundBlocks m h l) 
 
   -- the first call: a chunk is made
   pub placed_sound : (cookie : ℕ) (p : Place) (origin : Origin) (more : List ℕ) (t : ℕ) → IsFresh m p t → stack_of h p.class ≡ p.block ∷ more → IsPlace h p
-      → SoundBlocks (with_header (fenced m p t) cookie p.user (new_header origin p)) (with_stack h p.class more) (with_chunk l (new_chunk origin p t))
+      → TaggedBlocks (with_header (fenced m p t) cookie p.user (new_header origin p)) (with_stack h p.class more) (with_chunk l (new_chunk origin p t))
   unfolding with_header
   placed_sound cookie p origin more t fresh top i =
       let x = new_chunk origin p t in
@@ -140,8 +128,8 @@ module _ (m : Memory) (h : StackState) (l : LiveBlocks) (s : SoundBlocks m h l) 
         ];
       } in
       record {
-        stacked = placed_stacked p.class p.block more i.carved.class top;
-        served = served-same m m' h h' call.limit call.attrs call.whole pages s.served;
+        whole = call.whole;
+        limit = let e = call.limit in let f = s.served.limit in omega arith;
         placed = placed_live x more (record { class = refl; state = refl; size = refl; offset = refl }) top i;
         tagged = keeps-with-chunk-tag m m' h h' l (with_chunk l x) p t s.stacked s.placed s.tagged i fresh.half call pages step;
       }
@@ -157,21 +145,12 @@ module _ (m : Memory) (h : StackState) (l : LiveBlocks) (s : SoundBlocks m h l) 
     unstacked = λ v y e. let k = chunk_at-without l u v y e in off v y k.1 k.0;
   }
 
-  given_back_stacked : (p : Place) → IsPlace h p → is_member (stack_of h p.class) p.block ≡ false → IsStacked (with_stack h p.class (p.block ∷ stack_of h p.class))
-  given_back_stacked p i off =
-      stacked-with h p.class (p.block ∷ stack_of h p.class) s.stacked
-      (λ d e. elim (cases_eq d p.block) [
-        | inl q ↦ subst (IsBlock p.class (pages_of h p.class)) (sym q) i.carved.block
-        | inr n ↦ s.stacked.blocks p.class d i.carved.class (sym (member-other p.block (stack_of h p.class) d n) ∙ e)
-      ])
-      (distinct-cons p.block (stack_of h p.class) off (s.stacked.distinct p.class i.carved.class))
-
   pub given_back_call : (cookie : ℕ) (p : Place) (header : Header) (t : ℕ) → IsPlace h p → IsCallOn m (with_header (with_chunk_tag m p t) cookie p.user header) p t
   unfolding with_header
   given_back_call cookie p header t i = with-bytes-at-call m (with_chunk_tag m p t) p t (p.user - 16) (to_le_bytes w64 (packed_header cookie p.user header)) (with-chunk-tag-call m h p t s.stacked s.served i)
 
   pub given_back_sound : (cookie u : ℕ) (x : BlockChunk) (header : Header) (t : ℕ) → chunk_at l u ≡ Some x → IsFresh m x.place t
-      → SoundBlocks (with_header (with_chunk_tag m x.place t) cookie x.place.user header) (with_stack h x.place.class (x.place.block ∷ stack_of h x.place.class)) (without_chunk l u)
+      → TaggedBlocks (with_header (with_chunk_tag m x.place t) cookie x.place.user header) (with_stack h x.place.class (x.place.block ∷ stack_of h x.place.class)) (without_chunk l u)
   unfolding with_header
   given_back_sound cookie u x header t at fresh =
       let p = x.place in
@@ -188,8 +167,8 @@ module _ (m : Memory) (h : StackState) (l : LiveBlocks) (s : SoundBlocks m h l) 
       off-stack p.class (p.block ∷ stack_of h p.class) y.place.class y.place.block (s.placed.unstacked v y e)
       (λ q. member-other p.block (stack_of h p.class) y.place.block (other v y e n) ∙ sym (ap (λ c. is_member (stack_of h c) y.place.block) q) ∙ s.placed.unstacked v y e) in
       record {
-        stacked = given_back_stacked p i (s.placed.unstacked u x at);
-        served = served-same m m' h h' call.limit call.attrs call.whole pages s.served;
+        whole = call.whole;
+        limit = let e = call.limit in let f = s.served.limit in omega arith;
         placed = live-without h' u pages off;
         tagged = keeps-with-chunk-tag m m' h h' l (without_chunk l u) p t s.stacked s.placed s.tagged i fresh.half call pages step;
       }
@@ -218,7 +197,7 @@ module _ (m : Memory) (h : StackState) (l : LiveBlocks) (s : SoundBlocks m h l) 
       (after-retag-tail-fits m h x.place size x.tag s.stacked s.served (s.placed.place u x at) j (s.tagged.chunks u x at) s.tagged.outside (present-tag u x at)).call
 
   pub resized_sound : (cookie u size : ℕ) (x : BlockChunk) → chunk_at l u ≡ Some x → IsPlace h (with_size x.place size)
-      → SoundBlocks (with_header (after_retag_tail m x.place size) cookie x.place.user (record (x.header) { size_or_unused_bytes = size })) h (with_chunk l (resized_chunk x size))
+      → TaggedBlocks (with_header (after_retag_tail m x.place size) cookie x.place.user (record (x.header) { size_or_unused_bytes = size })) h (with_chunk l (resized_chunk x size))
   unfolding with_header
   resized_sound cookie u size x at j =
       let p = x.place in
@@ -243,8 +222,8 @@ module _ (m : Memory) (h : StackState) (l : LiveBlocks) (s : SoundBlocks m h l) 
       } in
       let old = s.placed.header u x at in
       record {
-        stacked = s.stacked;
-        served = served-same m m' h h call.limit call.attrs call.whole pages s.served;
+        whole = call.whole;
+        limit = let e = call.limit in let f = s.served.limit in omega arith;
         placed = live-with h x' pages j (record { class = old.class; state = old.state; size = refl; offset = old.offset }) (s.placed.unstacked u x at) others;
         tagged = keeps-with-chunk-tag m m' h h l (with_chunk l x') (with_size p size) x.tag s.stacked s.placed s.tagged j (live_half u x at) call pages step;
       }

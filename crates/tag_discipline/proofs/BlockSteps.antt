@@ -1,5 +1,5 @@
 -- Careful runs keep the live chunks Sound, and what is freed as it is until an allocation takes its block.
-use Rattle.std.proofs.Common.{◌≡◌, ◌≢◌, ℕ, ◌+◌, ◌/◌, ◌%◌, ◌<◌, ◌≤◌, ◌⊎◌, true, cond, Some, None, List, ◌∷◌, refl, sym, ap, subst, ◌∙◌, inl, inr, arith}
+use Rattle.std.proofs.Common.{◌≡◌, ◌≢◌, ℕ, ◌+◌, ◌/◌, ◌%◌, ◌<◌, ◌≤◌, ◌⊎◌, true, cond, Some, List, ◌∷◌, refl, sym, ap, subst, ◌∙◌, inl, inr, arith}
 use Rattle.std.proofs.lemmas.Bool.{cases_eq, cases_lt}
 use Rattle.std.specs.Ordering.{nat_cmp, eq_by_cmp}
 use Rattle.std.specs.Cmp.{nat_cmp_total}
@@ -22,13 +22,13 @@ use Rattle.scudo_heap.specs.declared.chunk.Place.{Place}
 use Rattle.tag_discipline.specs.LiveChunks.{IsPlace, IsHalfTag, BlockChunk, LiveBlocks, chunk_at, with_chunk, without_chunk, IsCarved}
 use Rattle.scudo_heap.specs.Placing.{World, after_give_back, after_resize}
 use Rattle.scudo_heap.specs.Chunks.{with_size, end_of, excluded_tags, with_header, with_chunk_tag, after_retag_tail}
-use Rattle.tag_discipline.proofs.Views.{IsStacked, SoundBlocks}
+use Rattle.tag_discipline.proofs.Views.{IsStacked, SoundBlocks, TaggedBlocks}
 use Rattle.tag_discipline.proofs.Freed.{Freed, IsStale}
 use Rattle.tag_discipline.proofs.Blocks.{block-in, same-class}
 use Rattle.tag_discipline.proofs.BlockCalls.{room}
 use Rattle.tag_discipline.proofs.Draws.{after-draw-fresh}
 use Rattle.mte_tags.proofs.StateLaws.{limit-with-bytes-at}
-use Rattle.tag_discipline.proofs.ListLaws.{stack-own, stack-other}
+use Rattle.scudo_heap.proofs.SoundLemmas.{stack-own, stack-other}
 use Rattle.tag_discipline.proofs.BlockSounds.{present, given_back_call, given_back_sound, resized_call, resized_sound, resized_chunk}
 use Rattle.tag_discipline.proofs.Stales.{stale-call, stale-after-give-back}
 use Rattle.tag_discipline.proofs.Allocations.{IsSoundIn, IsKept}
@@ -57,16 +57,22 @@ below m h p a k i l =
     let rw = r.within in
     omega arith
 
-pub same-tags_sound : (m m' : Memory) (h : StackState) (l : LiveBlocks) → IsSameTags m m' → SoundBlocks m h l → SoundBlocks m' h l
+pub same-tags-then : (a b c : Memory) → IsSameTags a b → IsSameTags b c → IsSameTags a c
+same-tags-then a b c h k = record {
+  limit = k.limit ∙ h.limit;
+  attrs = λ x l. k.attrs x l ∙ h.attrs x l;
+  tags = λ x l. k.tags x l ∙ h.tags x l;
+  high = λ x l. elim (k.high x l) [
+    | inl e ↦ elim (h.high x l) [ inl f ↦ inl (e ∙ f) | inr f ↦ inr (e ∙ f) ]
+    | inr e ↦ inr e
+  ];
+  whole = k.whole;
+}
+
+pub same-tags_sound : (m m' : Memory) (h : StackState) (l : LiveBlocks) → IsSameTags m m' → SoundBlocks m h l → TaggedBlocks m' h l
 same-tags_sound m m' h l e s = record {
-  stacked = s.stacked;
-  served = record {
-    whole = e.whole;
-    limit = let f = s.served.limit in let g = e.limit in omega arith;
-    mapped = λ c a hc x y. e.attrs a (let f = s.stacked.few c hc in let g = hc.high in omega arith) ∙ s.served.mapped c a hc x y;
-    others = λ a x y. subst (λ t. (t ≡ None) ⊎ (t ≡ Some 11)) (sym (e.attrs a y)) (s.served.others a x y);
-    free = λ c a hc x y. e.attrs a (let g = hc.high in omega arith) ∙ s.served.free c a hc x y;
-  };
+  whole = e.whole;
+  limit = let f = s.served.limit in let g = e.limit in omega arith;
   placed = s.placed;
   tagged = record {
     chunks = λ u x g.

@@ -1,7 +1,6 @@
 -- The laws of careful runs.
-use Rattle.std.proofs.Common.{◌≡◌, ◌≢◌, ℕ, ◌/◌, ◌%◌, ◌<◌, ◌≤◌, true, false, Option, Some, None, IsSome, Ok, [], refl, sym, ap, subst, ◌∙◌, inl, inr, arith}
-use Rattle.std.specs.Prelude.{nat_eq}
-use Rattle.std.specs.List.{IsDistinct, list_any}
+use Rattle.std.proofs.Common.{◌≡◌, ◌≢◌, ℕ, ◌/◌, ◌%◌, ◌<◌, ◌≤◌, false, Option, Some, None, IsSome, refl, sym, ap, subst, ◌∙◌, inl, inr, arith}
+use Rattle.std.specs.List.{list_any}
 use Rattle.std.specs.Ordering.{nat_cmp}
 use Rattle.std.specs.FinMap as finite
 use Rattle.std.specs.FinMap.{get-empty}
@@ -10,22 +9,13 @@ use Rattle.mte_tags.specs.Memory.{Memory, tag_cases, tag_at, attrs_at}
 use Rattle.mte_tags.specs.Accesses.{byte_fault, fault_cases, addresses, read_access, write_access, read_fault, write_fault}
 use Rattle.mte_tags.specs.declared.access.Access.{Access}
 use Rattle.mte_tags.specs.declared.state.TagMode.TheVariants.{Sync}
-use Rattle.mte_tags.proofs.PageLaws.{page_at-no_attrs, attrs_at-without_pages_in}
-use Rattle.scudo_primary.specs.Pools.{is_member}
+use Rattle.mte_tags.proofs.PageLaws.{page_at-no_attrs}
 use Rattle.scudo_primary.specs.Blocks.{IsClass}
-use Rattle.scudo_header.specs.declared.headers.Header.{Header}
-use Rattle.scudo_secondary.proofs.MappingLemmas.{none_ordered}
 use Rattle.scudo_heap.proofs.StackLemmas.{class_at-stacks_by}
-use Rattle.scudo_heap.proofs.FirstLemmas.{served-first}
-use Rattle.tag_discipline.proofs.Grows.{none_distinct}
-use Rattle.tag_discipline.proofs.FoundStates.{large-named}
+use Rattle.scudo_heap.proofs.FirstLemmas.{sound-first}
 use Rattle.scudo_primary.proofs.BlockLemmas.{block-whole, size-IsSize}
-use Rattle.scudo_secondary.specs.Mappings as secondary
-use Rattle.scudo_secondary.specs.declared.mappings.Mapping.{Mapping}
-use Rattle.address_map.specs.declared.limits.TheConstants.{PAGE_SIZE}
 use Rattle.scudo_heap.specs.Chunks.{end_of}
 use Rattle.scudo_heap.specs.declared.call.HeapCall.{HeapCall}
-use Rattle.scudo_heap.specs.declared.call.HeapCall.TheVariants.{Free}
 use Rattle.scudo_heap.specs.declared.chunk.Place.{Place}
 use Rattle.scudo_heap.specs.declared.chunk.Chunk.{Chunk}
 use Rattle.scudo_heap.specs.declared.chunk.Chunk.TheVariants.{Small}
@@ -34,18 +24,15 @@ use Rattle.scudo_heap.proofs.MapLemmas.{without}
 use Rattle.scudo_secondary.specs.Mappings.{mapping_of}
 use Rattle.tag_discipline.proofs.Blocks.{block-in}
 use Rattle.scudo_heap.specs.declared.chunk.Found.{Found}
-use Rattle.scudo_heap.specs.declared.chunk.Found.TheVariants.{InPages}
-use Rattle.scudo_heap.specs.Stacks.{ClassHeap, class_at, empty_class, empty_stacks, memory_for, pages_of, stack_of}
+use Rattle.scudo_heap.specs.Stacks.{ClassHeap, class_at, empty_class, empty_stacks, memory_for, pages_of}
 use Rattle.scudo_heap.specs.Placing.{World}
-use Rattle.scudo_heap.specs.Large.{large_given_back}
 use Rattle.scudo_heap.specs.Allocation.{AllocationResult, after_malloc}
 use Rattle.scudo_heap.specs.Served.{heap_page, is_inside}
-use Rattle.scudo_heap.specs.Freeing.{without_chunk as freed_world}
 use Rattle.tag_discipline.specs.LiveChunks.{BlockChunk, chunk_at, IsCarved}
 use Rattle.tag_discipline.specs.LivePages.{PageChunk, large_at}
 use Rattle.tag_discipline.proofs.Freed.{Freed, IsStale}
 use Rattle.tag_discipline.specs.Laws.{IsRefused}
-use Rattle.tag_discipline.specs.CarefulRuns.{State, found_at, state_after_call, IsLiveBlock, IsCareful, HasFree}
+use Rattle.tag_discipline.specs.CarefulRuns.{State, state_after_call, IsLiveBlock, IsCareful, HasFree}
 use Rattle.tag_discipline.specs.SoundHeaps.{Sound}
 use Rattle.tag_discipline.specs.Discipline.{StartsSound, StaysSound, MayFree, FreedBlocksAreRefused, IsUnmapped, FreedPagesAreUnmapped, IsFreshIn, NewTagsDiffer, NeighboursDiffer, ChunksAreApart, ChunksAreGuarded, SlicesStaySound, FreedBlocksStayRefused, IsNewIn, malloc, calloc, memalign, realloc as realloc_call, ReusedTagsDiffer, ReusedTagsStayDifferent, FreedPagesAreRefused, FreedBlocksAreFree, ChunksAreTagged}
 use Rattle.mte_tenant.specs.Machines.{after_attempt}
@@ -56,7 +43,7 @@ use Rattle.tag_discipline.proofs.BlockCalls.{room}
 use Rattle.tag_discipline.proofs.Faults.{AreKept, are-kept, in-sync, touching}
 use Rattle.tag_discipline.proofs.Larges.{check-pointer-of, large-apart}
 use Rattle.tag_discipline.proofs.MadeCalls.{malloc-state-after-allocation, calloc-state-after-allocation, memalign-state-after-allocation}
-use Rattle.tag_discipline.proofs.Freeings.{IsStaleAfter, free-world, free-stale, realloc-stale}
+use Rattle.tag_discipline.proofs.Freeings.{IsStaleAfter, free-stale, realloc-stale}
 use Rattle.tag_discipline.proofs.PagesGone.{free-gone, realloc-gone}
 use Rattle.tag_discipline.proofs.Runs.{call-kept, run-sound, run-stale}
 
@@ -79,7 +66,7 @@ guarded = record {
 pub apart : ChunksAreApart
 apart = record {
   blocks = λ s u v x y k e f n. (kept-in s k).apart u v x y e f n;
-  pages = λ s u v x y k e f n. large-apart s.world.heap.maps.mappings s.live.pages u v x y k.large e f n;
+  pages = λ s u v x y k e f n. large-apart s.world.heap.maps.mappings s.live.pages u v x y k.heap.parts.mappings k.large e f n;
   both = λ s u v x y k e f.
       let b = blocks-of s k in
       let r = room s.world.heap.stacks x.place b.stacked (k.placed.place u x e) in
@@ -88,7 +75,7 @@ apart = record {
       let few = i.few in
       let high = i.high in
       let end = r.within in
-      let m = check-pointer-of s.world.heap.maps.mappings v y.mapping k.large.ordered (k.large.place v y f) in
+      let m = check-pointer-of s.world.heap.maps.mappings v y.mapping k.heap.parts.mappings (k.large.place v y f) in
       let above = m.above in
       let start = k.large.above v y f in
       omega arith;
@@ -206,13 +193,6 @@ no-block left c b k =
     let least = s.least in
     omega arith
 
-no-member : (left c b : ℕ) → IsClass c → is_member (stack_of (empty_stacks left) c) b ≡ true → ⊥
-no-member left c b k e = let f : false ≡ true = sym (ap (λ (t : ClassHeap). is_member t.stack b) (class-new left c k)) ∙ e in cc
-
-left-new : (left : ℕ) → (empty_stacks left).left ≡ left
-unfolding empty_stacks
-left-new left = refl
-
 no_tag : (m : Memory) (a : ℕ) → attrs_at m (a / 4096) ≡ None → tag_at m a ≡ 0
 unfolding tag_at
 no_tag m a e = ap (λ o. tag_cases o (a % 4096 / 16)) (page_at-no_attrs m (a / 4096) e)
@@ -225,12 +205,7 @@ starts = λ m cookie pages r n.
       whole = n.whole;
       limit = omega arith;
       sync = n.sync;
-      served = served-first m cookie pages n.limit n.untouched;
-      most = λ c lo hi. let k : IsClass c = record { low = lo; high = hi } in let e = pages-new pages c k in let f = left-new pages in omega arith;
-      stacks = record {
-        blocks = λ c b lo hi e. absurd (no-member pages c b (record { low = lo; high = hi }) e);
-        distinct = λ c lo hi. subst (λ (t : ClassHeap). IsDistinct nat_eq t.stack) (sym (class-new pages c (record { low = lo; high = hi }))) none_distinct;
-      };
+      heap = sound-first m cookie pages r n.limit n.most n.untouched;
       placed = record {
         place = λ u x e. absurd (chunk-new u x e);
         user = λ u x e. absurd (chunk-new u x e);
@@ -244,7 +219,6 @@ starts = λ m cookie pages r n.
         outside = λ a x y o. no_tag m a (n.untouched (a / 4096) (omega arith) (omega arith));
       };
       large = record {
-        ordered = none_ordered [] refl;
         place = λ u x e. absurd (large-new u x e);
         aligned = λ u x e. absurd (large-new u x e);
         above = λ u x e. absurd (large-new u x e);
@@ -325,9 +299,9 @@ chunks-tagged = record {
   blocks = λ s u a x k e lo hi. (k.tagged.chunks u x e).inside a lo hi;
   pages = λ s u a x k e lo hi.
       let there = k.large.place u x e in
-      let f = check-pointer-of s.world.heap.maps.mappings u x.mapping k.large.ordered there in
+      let f = check-pointer-of s.world.heap.maps.mappings u x.mapping k.heap.parts.mappings there in
       let above = f.above in
-      let w = without s.world.heap.maps.mappings x.mapping k.large.ordered (sym there ∙ ap (mapping_of s.world.heap.maps.mappings) (sym f.user)) in
+      let w = without s.world.heap.maps.mappings x.mapping k.heap.parts.mappings (sym there ∙ ap (mapping_of s.world.heap.maps.mappings) (sym f.user)) in
       let last = w.last in
       k.tagged.outside a (omega arith) (omega arith) (λ c b d v y.
       let i = block-in s.world.heap.stacks c b (blocks-of s k).stacked d in
@@ -339,5 +313,5 @@ chunks-tagged = record {
 
 pub freed-pages-refused : FreedPagesAreRefused
 freed-pages-refused = λ s addr k lo hi e.
-    let gone : attrs_at s.world.memory (addr / 4096) ≡ None = k.served.mappings addr lo hi ∙ ap heap_page e in
+    let gone : attrs_at s.world.memory (addr / 4096) ≡ None = k.heap.owned.mappings addr lo hi ∙ ap heap_page e in
     (unmapped-refused s.world.memory addr k.sync gone, λ x. no_page s.world.memory x addr gone)

@@ -72,7 +72,7 @@ listed s pointer f k careful n e = elim (careful n f e) [
   | inr l ↦
       let x = l.0 in
       let there = k.large.place (plain pointer) x l.1.live in
-      let at = check-pointer-of s.world.heap.maps.mappings (plain pointer) x.mapping k.large.ordered there in
+      let at = check-pointer-of s.world.heap.maps.mappings (plain pointer) x.mapping k.heap.parts.mappings there in
       let live : large_at s.live.pages x.mapping.user ≡ Some x = ap (large_at s.live.pages) at.user ∙ l.1.live in
       subst (IsListed s) (large-check-pointer s (plain pointer) x f k l.1 e) (pages x live)
 ]
@@ -95,11 +95,11 @@ large-named s pointer x k l =
     let unused = hd.unused in
     let sm : AreSmall x.header = record { class = omega arith; state = ap state_number hd.state; size = hd.fits; offset = omega arith } in
     let there = k.large.place u x l.live in
-    let f = check-pointer-of h.maps.mappings u x.mapping k.large.ordered there in
+    let f = check-pointer-of h.maps.mappings u x.mapping k.heap.parts.mappings there in
     let last = f.last in
     let user : x.mapping.user ≡ u = f.user in
     let start = k.large.above u x l.live in
-    let around = mapping-open m h x.mapping k.served k.large.ordered (sym there ∙ ap (mapping_of h.maps.mappings) (sym user)) in
+    let around = mapping-open m h x.mapping k.heap.owned k.heap.parts.mappings (sym there ∙ ap (mapping_of h.maps.mappings) (sym user)) in
     let a : (u % 16 == 0) ≡ true = eq-eqb _ _ (k.large.aligned u x l.live) in
     let b : nat_le 16 u ≡ true = grind (arith, nat_tests) in
     let c : page_has m ((u - 16) / PAGE_SIZE) 3 ≡ true = ap (λ t. has_cases t 3) (around.pages (u - 16) (omega arith) (omega arith)) in

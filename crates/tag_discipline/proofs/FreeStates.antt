@@ -1,5 +1,5 @@
 -- A careful free, and a careful realloc, keep the live chunks Sound, and what was freed before as it is.
-use Rattle.std.proofs.Common.{◌≡◌, ℕ, ◌+◌, ◌*◌, ◌/◌, ◌<◌, Some, List, refl, sym, ap, subst, ◌∙◌, arith}
+use Rattle.std.proofs.Common.{◌≡◌, ℕ, ◌+◌, ◌*◌, ◌/◌, ◌<◌, Some, List, sym, ap, ◌∙◌, arith}
 use Rattle.mte_tags.specs.Memory.{without_pages, attrs_at}
 use Rattle.mte_tags.specs.Accesses.{with_bytes_at}
 use Rattle.mte_tags.proofs.StateLaws.{state-without_pages, state-with-bytes-at}
@@ -11,17 +11,19 @@ use Rattle.scudo_heap.specs.declared.chunk.Found.TheVariants.{InBlock, InPages}
 use Rattle.scudo_heap.specs.Heaps.{with_less}
 use Rattle.scudo_heap.specs.Large.{large_given_back}
 use Rattle.scudo_heap.specs.Freeing.{without_chunk as freed_world}
-use Rattle.scudo_heap.proofs.ServedLemmas.{served-less, served-on, same-pages, mapping-open}
+use Rattle.scudo_heap.proofs.ServedLemmas.{mapping-open}
 use Rattle.tag_discipline.specs.LiveChunks.{BlockChunk, chunk_at}
-use Rattle.tag_discipline.specs.LivePages.{PageChunk, large_at, AreLarge}
+use Rattle.tag_discipline.specs.LivePages.{PageChunk, large_at}
 use Rattle.tag_discipline.specs.CarefulRuns.{State, without_freed_chunk, HasFree}
 use Rattle.tag_discipline.specs.SoundHeaps.{Sound}
 use Rattle.tag_discipline.proofs.Freed.{Freed, IsStale}
 use Rattle.tag_discipline.proofs.Serving.{blocks-of}
-use Rattle.tag_discipline.proofs.WorldRests.{IsRest, after-give-back-rest}
+use Rattle.scudo_heap.proofs.SoundLemmas.{sound-same, sound-less}
+use Rattle.scudo_heap.proofs.CallSteps.{given_rest, given_sound}
+use Rattle.scudo_heap.specs.Placing.{after_give_back}
 use Rattle.tag_discipline.proofs.BlockSteps.{IsSameTags, same-with-bytes-at, same-unmapped, same-tags_sound, same-tags_stale, after-give-back-kept, free-before, stale-other}
 use Rattle.tag_discipline.proofs.Larges.{check-pointer-of, large-freed}
-use Rattle.tag_discipline.proofs.MadeStates.{rest-of, state-sound}
+use Rattle.tag_discipline.proofs.MadeStates.{state-sound}
 use Rattle.tag_discipline.proofs.FoundStates.{IsListed, block, pages}
 
 -- a state after another: its live chunks are Sound, and what was freed stays as it is while its block is free
@@ -38,12 +40,14 @@ freed s f = record { world = freed_world s.world f; live = without_freed_chunk s
 -- ---- a chunk in a block
 
 block-freed : (s : State) (x : BlockChunk) → Sound s → chunk_at s.live.blocks x.place.user ≡ Some x → IsKeptOn s (freed s (InBlock x.place x.header))
-unfolding freed_world
+unfolding freed_world after_give_back
 block-freed s x k e =
-    let g = after-give-back-kept s.world s.live.blocks x x.header (blocks-of s k) e in
-    let r = after-give-back-rest s.world s.world x.place x.header (rest-of s k) in
+    let w = s.world in
+    let i = k.placed.place x.place.user x e in
+    let g = after-give-back-kept w s.live.blocks x x.header (blocks-of s k) e in
+    let v = given_sound w x.place x.header i.carved.class i.carved.block (k.placed.unstacked x.place.user x e) k.heap in
     record {
-      sound = state-sound s.world (freed s (InBlock x.place x.header)) g.sound r (subst (λ ms. AreLarge ms s.live.pages) (ap (λ ms. ms.mappings) (sym r.maps)) k.large);
+      sound = state-sound s (freed s (InBlock x.place x.header)) k (ap (λ t. t.mode) (given_rest w x.place x.header).state) v g.sound k.large;
       stale = g.stale;
     }
 
@@ -56,8 +60,8 @@ pages-freed s x k e =
     let n = x.mapping in
     let m' = without_pages w.memory (n.start / PAGE_SIZE) n.pages in
     let there : Some n ≡ mapping_of w.heap.maps.mappings n.user = sym (k.large.place n.user x e) in
-    let around = mapping-open w.memory w.heap n k.served k.large.ordered there in
-    let f = check-pointer-of w.heap.maps.mappings n.user n k.large.ordered (sym there) in
+    let around = mapping-open w.memory w.heap n k.heap.owned k.heap.parts.mappings there in
+    let f = check-pointer-of w.heap.maps.mappings n.user n k.heap.parts.mappings (sym there) in
     let above = f.above in
     let aligned = f.aligned in
     let at : (i : ℕ) → i < n.pages → attrs_at w.memory (n.start / PAGE_SIZE + i) ≡ Some 11 = λ i l.
@@ -65,15 +69,8 @@ pages-freed s x k e =
     ap (attrs_at w.memory) q ∙ around.pages (n.start + PAGE_SIZE * i) (omega arith) (omega arith) in
     let same : IsSameTags w.memory m' = same-unmapped w.memory (n.start / PAGE_SIZE) n.pages k.whole (ArePages-attrs w.memory (n.start / PAGE_SIZE) n.pages 11 at) (omega arith) in
     let b = blocks-of s k in
-    let t = freed s (InPages n x.header) in
-    let rest : IsRest t.world t.world = record {
-      served = served-less w.memory w.heap n w.heap.cookie k.served k.large.ordered there;
-      sync = ap (λ v. v.mode) (state-without_pages n.pages w.memory (n.start / PAGE_SIZE)) ∙ k.sync;
-      most = k.most;
-      maps = refl;
-    } in
     record {
-      sound = state-sound t.world t (same-tags_sound w.memory m' w.heap.stacks s.live.blocks same b) rest (large-freed w.heap.maps.mappings s.live.pages n.user k.large);
+      sound = state-sound s (freed s (InPages n x.header)) k (ap (λ v. v.mode) (state-without_pages n.pages w.memory (n.start / PAGE_SIZE))) (sound-less w n there k.heap) (same-tags_sound w.memory m' w.heap.stacks s.live.blocks same b) (large-freed w.heap.maps.mappings s.live.pages n.user k.large);
       stale = λ g st on. same-tags_stale w.memory m' w.heap.stacks g b.stacked same st;
     }
 
@@ -89,14 +86,9 @@ with-bytes-at-kept s a bs k =
     let m' = with_bytes_at s.world.memory a bs in
     let t : State = record s { world = record s.world { memory = m' } } in
     let same = same-with-bytes-at s.world.memory a bs k.whole in
-    let rest : IsRest t.world t.world = record {
-      served = served-on s.world.memory m' s.world.heap s.world.heap.stacks s.world.heap.cookie k.served (attrs_at-with-bytes-at s.world.memory a bs) (pages_left-with-bytes-at s.world.memory a bs) (same-pages s.world.heap.stacks);
-      sync = ap (λ v. v.mode) (state-with-bytes-at s.world.memory a bs) ∙ k.sync;
-      most = k.most;
-      maps = refl;
-    } in
+    let v = sound-same s.world m' k.heap (attrs_at-with-bytes-at s.world.memory a bs) (pages_left-with-bytes-at s.world.memory a bs) in
     record {
-      sound = state-sound t.world t (same-tags_sound s.world.memory m' s.world.heap.stacks s.live.blocks same b) rest k.large;
+      sound = state-sound s t k (ap (λ t. t.mode) (state-with-bytes-at s.world.memory a bs)) v (same-tags_sound s.world.memory m' s.world.heap.stacks s.live.blocks same b) k.large;
       stale = λ g st on. same-tags_stale s.world.memory m' s.world.heap.stacks g b.stacked same st;
     }
 

@@ -6,7 +6,6 @@ use Rattle.std.specs.Ordering.{nat_cmp, eq_by_cmp}
 use Rattle.std.specs.Cmp.{nat_cmp_total}
 use Rattle.std.specs.FinMap.{get-insert, get-remove}
 use Rattle.mte_tags.proofs.Pages.{tied_same, tied_other}
-use Rattle.scudo_secondary.proofs.MappingLemmas.{AreMappings-filter}
 use Rattle.address_map.specs.declared.limits.TheConstants.{PAGE_SIZE}
 use Rattle.address_map.specs.declared.ranges.TheConstants.{SECONDARY_START}
 use Rattle.scudo_secondary.specs.Mappings.{AreMappings, AreFrom, mapping_of, end_of, with_mapping}
@@ -74,13 +73,13 @@ unfolding AreMappings
 mappings-apart ms u v x y h e f n = apart_from ms (SECONDARY_START + PAGE_SIZE) u v x y h e f n
 
 -- no two live chunks with pages of their own overlap, the granule before each taken along
-pub large-apart : (ms : List Mapping) (g : LivePages) (u v : ℕ) (x y : PageChunk) → AreLarge ms g → large_at g u ≡ Some x → large_at g v ≡ Some y → u ≢ v → (u + x.size + 16 ≤ v) ⊎ (v + y.size + 16 ≤ u)
-large-apart ms g u v x y k e f n =
+pub large-apart : (ms : List Mapping) (g : LivePages) (u v : ℕ) (x y : PageChunk) → AreMappings ms → AreLarge ms g → large_at g u ≡ Some x → large_at g v ≡ Some y → u ≢ v → (u + x.size + 16 ≤ v) ⊎ (v + y.size + 16 ≤ u)
+large-apart ms g u v x y o k e f n =
     let xa = k.above u x e in
     let xw = k.within u x e in
     let ya = k.above v y f in
     let yw = k.within v y f in
-    elim (mappings-apart ms u v x.mapping y.mapping k.ordered (k.place u x e) (k.place v y f) n) [ inl r ↦ inl (omega arith) | inr r ↦ inr (omega arith) ]
+    elim (mappings-apart ms u v x.mapping y.mapping o (k.place u x e) (k.place v y f) n) [ inl r ↦ inl (omega arith) | inr r ↦ inr (omega arith) ]
 
 -- the mappings without one
 pub mapping_of-without : (ms : List Mapping) (v u : ℕ) → u ≢ v → mapping_of (others_of v ms) u ≡ mapping_of ms u
@@ -100,18 +99,6 @@ pub check-pointer-of : (ms : List Mapping) (u : ℕ) (x : Mapping) → AreMappin
 unfolding AreMappings
 check-pointer-of ms u x h e = found ms (SECONDARY_START + PAGE_SIZE) u x h e
 
-none-without : (ms : List Mapping) (v : ℕ) (x : Mapping) → mapping_of (others_of v ms) v ≡ Some x → ⊥
-none-without [] v x e = cc
-none-without (m ∷ ms) v x e = elim (cases_eq m.user v) [
-  | inl q ↦
-      let a : not (m.user == v) ≡ false = ap not (eq-eqb _ _ q) in
-      none-without ms v x (sym (ap (λ xs. mapping_of xs v) (cond-false {A = List Mapping} (not (m.user == v)) (m ∷ others_of v ms) (others_of v ms) a)) ∙ e)
-  | inr k ↦
-      let c : (m.user == v) ≡ false = grind (arith, nat_tests) in
-      let a : not (m.user == v) ≡ true = ap not c in
-      none-without ms v x (sym (ap (λ xs. mapping_of xs v) (cond-true {A = List Mapping} (not (m.user == v)) (m ∷ others_of v ms) (others_of v ms) a) ∙ cond-false _ _ _ c) ∙ e)
-]
-
 -- ---- the free of a chunk with pages of its own
 
 pub large-removed : (g : LivePages) (v u : ℕ) (y : PageChunk) → large_at (without_large g v) u ≡ Some y → (u ≢ v) × (large_at g u ≡ Some y)
@@ -121,18 +108,8 @@ large-removed g v u y e = elim (cases_eq u v) [
   | inr n ↦ (n, sym (get-remove nat_cmp_total g v u ∙ cond-false _ _ _ (tied_other u v n)) ∙ e)
 ]
 
-pub other-of : (ms : List Mapping) (v u : ℕ) (y : Mapping) → mapping_of (others_of v ms) u ≡ Some y → (u ≢ v) × (mapping_of ms u ≡ Some y)
-other-of ms v u y e = elim (cases_eq u v) [
-  | inl q ↦ absurd (none-without ms v y (ap (mapping_of (others_of v ms)) (sym q) ∙ e))
-  | inr n ↦ (n, sym (mapping_of-without ms v u n) ∙ e)
-]
-
-unmapped-ordered : (ms : List Mapping) (v : ℕ) → AreMappings ms → AreMappings (others_of v ms)
-unmapped-ordered ms v h = AreMappings-filter (λ m. not (m.user == v)) ms h
-
 pub large-freed : (ms : List Mapping) (g : LivePages) (v : ℕ) → AreLarge ms g → AreLarge (others_of v ms) (without_large g v)
 large-freed ms g v k = record {
-  ordered = unmapped-ordered ms v k.ordered;
   place = λ u y h. let o = large-removed g v u y h in mapping_of-without ms v u o.0 ∙ k.place u y o.1;
   aligned = λ u y h. k.aligned u y (large-removed g v u y h).1;
   above = λ u y h. k.above u y (large-removed g v u y h).1;
@@ -165,12 +142,6 @@ mapping_of-with (m ∷ more) n u e = elim (cases_eq m.user n.user) [
       refl
 ]
 
-of-with : (ms : List Mapping) (n : Mapping) (u : ℕ) (y : Mapping) → mapping_of ms n.user ≡ None → mapping_of (with_mapping ms n) u ≡ Some y → ((u ≡ n.user) × (n ≡ y)) ⊎ ((u ≢ n.user) × (mapping_of ms u ≡ Some y))
-of-with ms n u y none e = elim (cases_eq n.user u) [
-  | inl q ↦ let f : Some n ≡ Some y = sym (mapping_of-with ms n u none ∙ cond-true _ _ _ (eq-eqb _ _ q)) ∙ e in inl (sym q, cc)
-  | inr k ↦ let t : (n.user == u) ≡ false = grind (arith, nat_tests) in inr ((λ q. k (sym q)), sym (mapping_of-with ms n u none ∙ cond-false _ _ _ t) ∙ e)
-]
-
 pub large-added : (g : LivePages) (x : PageChunk) (u : ℕ) (y : PageChunk) → large_at (with_large g x) u ≡ Some y → ((u ≡ x.mapping.user) × (x ≡ y)) ⊎ ((u ≢ x.mapping.user) × (large_at g u ≡ Some y))
 unfolding large_at with_large
 large-added g x u y e = elim (cases_eq u x.mapping.user) [
@@ -180,7 +151,6 @@ large-added g x u y e = elim (cases_eq u x.mapping.user) [
 
 -- what a place gives
 pub record IsNewMapping (ms : List Mapping) (n : Mapping) : Type 0 where
-  pub ordered : AreMappings (with_mapping ms n)
   pub none : mapping_of ms n.user ≡ None
   pub aligned : n.start % PAGE_SIZE ≡ 0
 
@@ -193,7 +163,6 @@ large-state-after-allocation ms g x k new above within header aligned =
     let there : (u : ℕ) (y : Mapping) → mapping_of ms u ≡ Some y → u ≢ n.user → mapping_of (with_mapping ms n) u ≡ Some y = λ u y h q.
     let t : (n.user == u) ≡ false = grind (arith, nat_tests) in mapping_of-with ms n u new.none ∙ cond-false _ _ _ t ∙ h in
     record {
-      ordered = new.ordered;
       place = λ u y h. elim (large-added g x u y h) [
         | inl b ↦ ap (mapping_of (with_mapping ms n)) b.0 ∙ here ∙ ap (λ (t : PageChunk). Some t.mapping) b.1
         | inr b ↦ there u y.mapping (k.place u y b.1) b.0

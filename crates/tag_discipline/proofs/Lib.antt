@@ -16,8 +16,6 @@ pub mod Allocations
 pub mod Frees
 pub mod Serving
 pub mod BlockSteps
-pub mod Rests
-pub mod WorldRests
 pub mod MadeStates
 pub mod MadeLarges
 pub mod MadeCalls

@@ -1,5 +1,5 @@
 -- malloc, calloc and memalign keep the live chunks Sound.
-use Rattle.std.proofs.Common.{◌≡◌, ℕ, ◌*◌, ◌^◌, ◌<◌, ◌≤◌, nat_le, max, Option, Some, None, List, [], ◌∷◌, refl, sym, ap, subst, arith}
+use Rattle.std.proofs.Common.{◌≡◌, ℕ, ◌*◌, ◌^◌, ◌<◌, ◌≤◌, nat_le, max, Option, Some, None, List, [], ◌∷◌, refl, sym, ap, subst, ◌∙◌, arith}
 use Rattle.std.proofs.lemmas.Bool.Decides.{nat_tests}
 use Rattle.mte_tags.specs.Memory.{pages_left}
 use Rattle.scudo_header.specs.Classes.{class_for}
@@ -11,20 +11,23 @@ use Rattle.address_map.specs.declared.limits.TheConstants.{PAGE_SIZE}
 use Rattle.scudo_heap.specs.declared.limits.TheConstants.{MAX_REQUEST}
 use Rattle.scudo_heap.specs.declared.chunk.Chunk.{Chunk}
 use Rattle.scudo_heap.specs.declared.chunk.Chunk.TheVariants.{Small, Large}
-use Rattle.scudo_heap.specs.Stacks.{stack_of}
-use Rattle.scudo_heap.specs.Placing.{World, pages_for}
+use Rattle.scudo_heap.specs.Stacks.{AreSound, stack_of}
+use Rattle.scudo_heap.specs.Placing.{World, pages_for, after_place}
 use Rattle.scudo_heap.specs.Large.{mapping_for}
-use Rattle.scudo_heap.specs.Allocation.{no_chunk, nonzero_size, need_of, is_alignment, with_free_block, after_take, after_class_allocation, allocate_cases, after_map_chunk, map_chunk_cases, after_large_allocation, after_allocate, after_malloc, after_calloc, after_memalign}
+use Rattle.scudo_heap.specs.Allocation.{no_chunk, nonzero_size, need_of, is_alignment, place_in, with_free_block, after_take, after_class_allocation, allocate_cases, after_map_chunk, map_chunk_cases, after_large_allocation, after_allocate, after_malloc, after_calloc, after_memalign}
 use Rattle.scudo_heap.specs.Inner.{IsAlign}
 use Rattle.scudo_heap.proofs.AllocationLemmas.{power-align}
 use Rattle.tag_discipline.specs.LivePages.{AreLarge}
 use Rattle.tag_discipline.specs.CarefulRuns.{State, Live, with_made_chunk}
 use Rattle.tag_discipline.specs.SoundHeaps.{Sound}
-use Rattle.tag_discipline.proofs.Views.{SoundBlocks}
+use Rattle.tag_discipline.proofs.Views.{TaggedBlocks}
 use Rattle.tag_discipline.proofs.Serving.{blocks-of}
-use Rattle.tag_discipline.proofs.WorldRests.{after-class-allocation-rest}
+use Rattle.scudo_primary.specs.Blocks.{IsClass}
+use Rattle.scudo_heap.specs.declared.chunk.Place.{Place}
+use Rattle.scudo_heap.proofs.BesideLemmas.{is-with-free-block}
+use Rattle.scudo_heap.proofs.CallSteps.{class-made}
 use Rattle.tag_discipline.proofs.Allocations.{branch, blocks_listed, IsClassFor, class-for, after-class-allocation-sound, asked_some}
-use Rattle.tag_discipline.proofs.MadeStates.{state_after_allocation, IsMade, rest-of, state-sound, no-chunk-state-after-allocation}
+use Rattle.tag_discipline.proofs.MadeStates.{state_after_allocation, IsMade, state-sound, no-chunk-state-after-allocation}
 use Rattle.tag_discipline.proofs.MadeLarges.{large-state}
 
 -- ---- a chunk in a block
@@ -47,16 +50,30 @@ with-made-chunk-pages o l None h = refl
 with-made-chunk-pages o l (Some (Small p tag)) h = refl
 with-made-chunk-pages o l (Some (Large m size)) h = absurd (h m size refl)
 
+maps-after-place : (w : World) (o : Origin) (p : Place) → (after_place w o p).heap.maps ≡ w.heap.maps
+unfolding after_place
+maps-after-place w o p = refl
+
+maps-after-take : (before w : World) (o : Origin) (a size c : ℕ) (xs : List ℕ) → w.heap.maps ≡ before.heap.maps → (after_take before w o a size c xs).world.heap.maps ≡ before.heap.maps
+maps-after-take before w o a size c [] e = refl
+maps-after-take before w o a size c (b ∷ more) e = maps-after-place w o (place_in c b a size) ∙ e
+
+maps-after-class : (w : World) (o : Origin) (a size c : ℕ) → AreSound w.heap.stacks → IsClass c → (after_class_allocation w o a size c).world.heap.maps ≡ w.heap.maps
+unfolding after_class_allocation
+maps-after-class w o a size c s k = maps-after-take w (with_free_block w c) o a size c (stack_of (with_free_block w c).heap.stacks c) (is-with-free-block w c s k).maps
+
 after-class-allocation-state-after-allocation : (o : Origin) (s : State) (a size c : ℕ) → Sound s → IsAlign a → 0 < size → IsClassFor (need_of a size) c → IsMade o s (after_class_allocation s.world o a size c)
 after-class-allocation-state-after-allocation o s a size c k al some f =
+    let v = k.heap in
     let r = after_class_allocation s.world o a size c in
-    let q = after-class-allocation-sound s.world s.live.blocks o a size c (blocks-of s k) al some f in
-    let rest = after-class-allocation-rest s.world o a size c f.class (rest-of s k) in
-    let blocks = subst (λ b. SoundBlocks r.world.memory r.world.heap.stacks b) (sym (with-made-chunk-blocks o s.live r.chunk)) q.kept.sound in
-    let larges = subst (λ ms. AreLarge ms (with_made_chunk o s.live r.chunk).pages) (ap (λ ms. ms.mappings) (sym rest.maps))
+    let q = after-class-allocation-sound s.world s.live.blocks o a size c v (blocks-of s k) al some f in
+    let step = (class-made s.world o a size c v.owned v.parts.stacks f.class al f.holds).left in
+    let maps = maps-after-class s.world o a size c v.parts.stacks f.class in
+    let blocks = subst (λ b. TaggedBlocks r.world.memory r.world.heap.stacks b) (sym (with-made-chunk-blocks o s.live r.chunk)) q.kept.sound in
+    let larges = subst (λ ms. AreLarge ms (with_made_chunk o s.live r.chunk).pages) (ap (λ ms. ms.mappings) (sym maps))
     (subst (AreLarge s.world.heap.maps.mappings) (with-made-chunk-pages o s.live r.chunk (after-class-allocation-small s.world o a size c)) k.large) in
     record {
-      sound = state-sound s.world (state_after_allocation o s.live r) blocks rest larges;
+      sound = state-sound s (state_after_allocation o s.live r) k (ap (λ t. t.mode) step.state) (step.sound v) blocks larges;
       stale = q.kept.stale;
       apart = q.apart;
       apart_large = λ m n e. absurd (after-class-allocation-small s.world o a size c m n e);

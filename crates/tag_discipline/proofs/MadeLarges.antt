@@ -1,19 +1,14 @@
 -- An allocation with pages of its own keeps the live chunks Sound.
-use Rattle.std.proofs.Common.{◌≡◌, ◌≢◌, ℕ, ◌+◌, ◌-◌, ◌*◌, ◌/◌, ◌%◌, ◌^◌, ◌<◌, ◌≤◌, Bool, true, false, cond, Some, None, List, [], ◌∷◌, refl, sym, ap, subst, ◌∙◌, arith}
-use Rattle.std.specs.List.{find, list_any}
+use Rattle.std.proofs.Common.{◌≡◌, ◌≢◌, ℕ, ◌+◌, ◌-◌, ◌*◌, ◌/◌, ◌%◌, ◌^◌, ◌<◌, ◌≤◌, true, false, Some, None, List, refl, sym, ap, subst, ◌∙◌, arith}
+use Rattle.std.specs.List.{list_any}
 use Rattle.mte_tags.specs.Memory.{Memory, pages_left, with_new_pages}
 use Rattle.mte_tags.specs.Whole.{IsWhole}
-use Rattle.scudo_heap.specs.Served.{HeapOwnsItsPages}
-use Rattle.mte_tags.proofs.StateLaws.{state-with_new_pages}
 use Rattle.scudo_header.specs.declared.headers.Origin.{Origin}
 use Rattle.scudo_header.specs.declared.headers.Header.{Header}
-use Rattle.scudo_secondary.specs.Mappings.{IsMapping, AreMappings, place_of, is_place, mapping_of}
+use Rattle.scudo_secondary.specs.Mappings.{AreMappings, place_of, mapping_of}
 use Rattle.scudo_secondary.specs.declared.mappings.Mapping.{Mapping}
-use Rattle.scudo_secondary.proofs.PlaceLemmas.{place-facts}
-use Rattle.scudo_secondary.proofs.MappingLemmas.{AreMappings-with_mapping}
 use Rattle.address_map.specs.declared.limits.TheConstants.{PAGE_SIZE}
-use Rattle.address_map.specs.declared.ranges.TheConstants.{SECONDARY_START}
-use Rattle.scudo_heap.specs.Heaps.{heap_of, with_more}
+use Rattle.scudo_heap.specs.Heaps.{with_more}
 use Rattle.scudo_heap.specs.Placing.{World, heap_attrs}
 use Rattle.scudo_heap.specs.Chunks.{with_header}
 use Rattle.scudo_heap.specs.Large.{mapping_for, large_header, large_placed}
@@ -24,28 +19,16 @@ use Rattle.std.proofs.Math.Nat.{mul-mod_left}
 use Rattle.scudo_heap.proofs.ClassLemmas.{divides}
 use Rattle.scudo_heap.proofs.LargeLemmas.{is-large}
 use Rattle.scudo_heap.proofs.MapLemmas.{IsAt, is-at, without, inside-in}
-use Rattle.scudo_heap.proofs.ServedLemmas.{served-more, served-on, same-pages, pages-free, places-of}
+use Rattle.scudo_heap.proofs.ServedLemmas.{pages-free, places-of}
 use Rattle.tag_discipline.specs.LivePages.{new_large, AreLarge}
 use Rattle.tag_discipline.specs.CarefulRuns.{State}
 use Rattle.tag_discipline.specs.SoundHeaps.{Sound}
-use Rattle.tag_discipline.proofs.Rests.{rest-with-header}
+use Rattle.scudo_heap.proofs.BesideLemmas.{place-fits}
+use Rattle.scudo_heap.proofs.CallSteps.{IsLeft, large_left}
 use Rattle.tag_discipline.proofs.Serving.{blocks-of}
-use Rattle.tag_discipline.proofs.WorldRests.{IsRest}
-use Rattle.tag_discipline.proofs.BlockSteps.{IsSameTags, same-with-bytes-at, same-mapped, same-tags_sound, same-tags_stale}
+use Rattle.tag_discipline.proofs.BlockSteps.{IsSameTags, same-with-bytes-at, same-mapped, same-tags-then, same-tags_sound, same-tags_stale}
 use Rattle.tag_discipline.proofs.Larges.{IsNewMapping, check-pointer-of, large-state-after-allocation}
 use Rattle.tag_discipline.proofs.MadeStates.{state_after_allocation, IsMade, state-sound}
-
--- what is found passes
-find-passes : {X : Type 0} (p : X → Bool) (xs : List X) (y : X) → find p xs ≡ Some y → p y ≡ true
-find-passes p [] y e = cc
-find-passes p (x ∷ xs) y e = elim (p x) as (λ b. p x ≡ b → cond b (Some x) (find p xs) ≡ Some y → p y ≡ true) [
-  | true ↦ λ t f. let q : x ≡ y = cc in subst (λ z. p z ≡ true) q t
-  | false ↦ λ t f. find-passes p xs y f
-] refl e
-
-pub place-is : (ms : List Mapping) (n start : ℕ) → place_of ms n ≡ Some start → is_place ms n start ≡ true
-unfolding place_of
-place-is ms n start e = find-passes (is_place ms n) _ start e
 
 -- the user address of a mapping at a place is no other's
 none-at : (ms : List Mapping) (n start u : ℕ) → AreMappings ms → IsAt ms n start → start ≤ u → u < start + PAGE_SIZE * n → mapping_of ms u ≡ None
@@ -75,7 +58,7 @@ module _ (o : Origin) (s : State) (align size n start : ℕ) (k : Sound s) (al :
   m = mapping_for start n align size
 
   at : IsAt w.heap.maps.mappings n start
-  at = is-at w.heap.maps.mappings n start (place-is w.heap.maps.mappings n start place)
+  at = is-at w.heap.maps.mappings n start (place-fits w.heap.maps.mappings n start place)
 
   large : IsLarge m size
   large = let a = at in is-large start n align size a.aligned a.above a.below few al some small need
@@ -89,42 +72,20 @@ module _ (o : Origin) (s : State) (align size n start : ℕ) (k : Sound s) (al :
   mapped : IsSameTags w.memory first
   mapped =
       let above = at.above in
-      same-mapped w.memory (start / PAGE_SIZE) n heap_attrs k.whole (pages-free w.memory w.heap.maps n start (places-of w.memory w.heap k.served) at) left (omega arith)
+      same-mapped w.memory (start / PAGE_SIZE) n heap_attrs k.whole (pages-free w.memory w.heap.maps n start (places-of w.memory w.heap k.heap.owned) at) left (omega arith)
 
   abbrev pub after : State
   after = state_after_allocation o s.live (after_map_chunk w o size m)
 
-  served : HeapOwnsItsPages last (heap_of w.heap.cookie w.heap.stacks (with_more w.heap.maps m))
-  served =
-      let v = served-more w.memory w.heap.stacks w.heap.maps m w.heap.cookie at left k.served in
-      let e = rest-with-header first w.heap.cookie m.user (large_header o m size) in
-      served-on first last (heap_of w.heap.cookie w.heap.stacks (with_more w.heap.maps m)) w.heap.stacks w.heap.cookie v e.attrs e.left (same-pages w.heap.stacks)
-
-  rest : IsRest after.world after.world
-  unfolding large_placed
-  rest = record {
-    served = served;
-    sync = ap (λ t. t.mode) ((rest-with-header first w.heap.cookie m.user (large_header o m size)).state ∙ state-with_new_pages n w.memory (start / PAGE_SIZE) heap_attrs) ∙ k.sync;
-    most = k.most;
-    maps = refl;
-  }
+  step : IsLeft w after.world
+  step = large_left w o m size (place-fits w.heap.maps.mappings n start place) large left
 
   new : IsNewMapping w.heap.maps.mappings m
   new =
-      let a = at in
-      let above = a.above in
-      let below = a.below in
       let l = large in
-      let l1 = l.above in
-      let l2 = l.below in
-      let l3 = l.some in
-      let f = place-facts w.heap.maps.mappings n start (place-is w.heap.maps.mappings n start place) in
-      let one : IsMapping (SECONDARY_START + PAGE_SIZE) m = record { above = above; aligned = a.aligned; some = l3; first = omega arith; last = l2 } in
-      record {
-        ordered = AreMappings-with_mapping w.heap.maps.mappings m k.large.ordered one below f.fits.apart;
-        none = none-at w.heap.maps.mappings n start m.user k.large.ordered at (omega arith) (omega arith);
-        aligned = a.aligned;
-      }
+      let above = l.above in
+      let below = l.below in
+      record { none = none-at w.heap.maps.mappings n start m.user k.heap.parts.mappings at (omega arith) (omega arith); aligned = at.aligned }
 
   even : m.user % 16 ≡ 0
   even =
@@ -141,11 +102,12 @@ module _ (o : Origin) (s : State) (align size n start : ℕ) (k : Sound s) (al :
   pub large-state : IsMade o s (after_map_chunk w o size m)
   unfolding large_placed
   large-state =
-      let b1 = same-tags_sound w.memory first w.heap.stacks s.live.blocks mapped (blocks-of s k) in
-      let e = same-with-header first w.heap.cookie m.user (large_header o m size) b1.served.whole in
+      let b = blocks-of s k in
+      let same = same-tags-then w.memory first last mapped (same-with-header first w.heap.cookie m.user (large_header o m size) mapped.whole) in
+      let e = step in
       record {
-        sound = state-sound after.world after (same-tags_sound first last w.heap.stacks s.live.blocks e b1) rest larges;
-        stale = λ f st on. same-tags_stale first last w.heap.stacks f b1.stacked e (same-tags_stale w.memory first w.heap.stacks f b1.stacked mapped st);
+        sound = state-sound s after k (ap (λ t. t.mode) e.state) (e.sound k.heap) (same-tags_sound w.memory last w.heap.stacks s.live.blocks same b) larges;
+        stale = λ f st on. same-tags_stale w.memory last w.heap.stacks f b.stacked same st;
         apart = λ p t f. cc;
         apart_large = λ q z f u x g.
             let h : m ≡ q = cc in

@@ -1,10 +1,9 @@
 -- An allocation keeps the live chunks Sound, whether its chunk lies in a block or has pages of its own.
-use Rattle.std.proofs.Common.{◌≡◌, ◌≢◌, ℕ, Some, refl}
+use Rattle.std.proofs.Common.{◌≡◌, ◌≢◌, ℕ, Some, ◌∙◌}
 use Rattle.scudo_header.specs.declared.headers.Origin.{Origin}
 use Rattle.scudo_secondary.specs.declared.mappings.Mapping.{Mapping}
 use Rattle.scudo_heap.specs.declared.chunk.Place.{Place}
 use Rattle.scudo_heap.specs.declared.chunk.Chunk.TheVariants.{Small, Large}
-use Rattle.scudo_heap.specs.Placing.{World}
 use Rattle.scudo_heap.specs.Allocation.{AllocationResult, no_chunk}
 use Rattle.tag_discipline.specs.LiveChunks.{BlockChunk, chunk_at}
 use Rattle.tag_discipline.specs.LivePages.{PageChunk, large_at, AreLarge}
@@ -12,26 +11,12 @@ use Rattle.tag_discipline.specs.CarefulRuns.{State, Live, with_made_chunk, HasFr
 use Rattle.tag_discipline.specs.SoundHeaps.{Sound}
 use Rattle.tag_discipline.proofs.Freed.{Freed, IsStale}
 use Rattle.mte_tags.specs.Memory.{tag_at}
-use Rattle.tag_discipline.proofs.Views.{SoundBlocks}
-use Rattle.tag_discipline.proofs.Serving.{sound-of}
-use Rattle.tag_discipline.proofs.WorldRests.{IsRest}
+use Rattle.scudo_heap.specs.Sound.{IsSoundWorld}
+use Rattle.tag_discipline.proofs.Views.{TaggedBlocks}
 
-pub rest-of : (s : State) → Sound s → IsRest s.world s.world
-rest-of s k = record { served = k.served; sync = k.sync; most = k.most; maps = refl }
-
--- a state from what holds of its blocks, of its mappings, and of the rest
-pub state-sound : (v : World) (t : State) → SoundBlocks t.world.memory t.world.heap.stacks t.live.blocks → IsRest v t.world → AreLarge t.world.heap.maps.mappings t.live.pages → Sound t
-state-sound v t b r g = record {
-  whole = b.served.whole;
-  limit = b.served.limit;
-  sync = r.sync;
-  served = r.served;
-  most = r.most;
-  stacks = sound-of t.world.heap.stacks b.stacked;
-  placed = b.placed;
-  tagged = b.tagged;
-  large = g;
-}
+-- a state after another, from what holds of its world, of its blocks and of its mappings
+pub state-sound : (s t : State) → Sound s → t.world.memory.state.mode ≡ s.world.memory.state.mode → IsSoundWorld t.world → TaggedBlocks t.world.memory t.world.heap.stacks t.live.blocks → AreLarge t.world.heap.maps.mappings t.live.pages → Sound t
+state-sound s t k e v b g = record { whole = b.whole; limit = b.limit; sync = e ∙ k.sync; heap = v; placed = b.placed; tagged = b.tagged; large = g }
 
 abbrev pub state_after_allocation : Origin → Live → AllocationResult → State
 state_after_allocation o l m = record { world = m.world; live = with_made_chunk o l m.chunk }

@@ -1,5 +1,5 @@
 -- A call that frees or moves a chunk with pages of its own leaves no mapping there.
-use Rattle.std.proofs.Common.{◌≡◌, ◌≢◌, ℕ, ◌<◌, ◌≤◌, ◌==◌, nat_le, Bool, true, false, cond, Option, Some, None, Ok, refl, sym, ap, subst, ◌∙◌}
+use Rattle.std.proofs.Common.{◌≡◌, ◌≢◌, ℕ, ◌<◌, ◌≤◌, ◌==◌, nat_le, Bool, true, false, cond, Option, Some, None, refl, sym, ap, subst, ◌∙◌}
 use Rattle.std.proofs.lemmas.Bool.{cond-false}
 use Rattle.std.specs.Prelude.{min}
 use Rattle.std.specs.List.{list_any}
@@ -11,7 +11,6 @@ use Rattle.scudo_heap.specs.declared.limits.TheConstants.{MAX_REQUEST}
 use Rattle.scudo_heap.specs.declared.call.HeapCall.TheVariants.{Realloc, Free}
 use Rattle.scudo_heap.specs.declared.chunk.Chunk.{Chunk}
 use Rattle.scudo_heap.specs.declared.chunk.Chunk.TheVariants.{Small, Large}
-use Rattle.scudo_heap.specs.declared.chunk.Found.{Found}
 use Rattle.scudo_heap.specs.declared.chunk.Found.TheVariants.{InPages}
 use Rattle.scudo_heap.specs.Heaps.{with_less}
 use Rattle.scudo_heap.specs.Large.{large_given_back}
@@ -50,7 +49,7 @@ module _ (x : PageChunk) (a : ℕ) (lo : x.mapping.start ≤ a) (hi : a < end_of
   unfolding freed_world large_given_back with_less
   freed-gone t k e =
       let there : Some x.mapping ≡ mapping_of t.world.heap.maps.mappings x.mapping.user = sym (k.large.place x.mapping.user x e) in
-      (without t.world.heap.maps.mappings x.mapping k.large.ordered there).in_it a (inside-in a x.mapping lo hi)
+      (without t.world.heap.maps.mappings x.mapping k.heap.parts.mappings there).in_it a (inside-in a x.mapping lo hi)
 
   branch-both : (b : Bool) (u v : AllocationResult) (l m : Live) → (b ≡ true → IsGoneIf u.world l) → (b ≡ false → IsGoneIf v.world m) → IsGoneIf (cond b u v).world (cond b l m)
   branch-both true u v l m f g = f refl
@@ -94,7 +93,7 @@ module _ (x : PageChunk) (a : ℕ) (lo : x.mapping.start ≤ a) (hi : a < end_of
 
 module _ (s : State) (pointer : ℕ) (x : PageChunk) (a : ℕ) (k : Sound s) (some : pointer ≢ 0) (l : IsLiveLarge s (plain pointer) x) (lo : x.mapping.start ≤ a) (hi : a < end_of x.mapping) where
   user : x.mapping.user ≡ plain pointer
-  user = (check-pointer-of s.world.heap.maps.mappings (plain pointer) x.mapping k.large.ordered (k.large.place (plain pointer) x l.live)).user
+  user = (check-pointer-of s.world.heap.maps.mappings (plain pointer) x.mapping k.heap.parts.mappings (k.large.place (plain pointer) x l.live)).user
 
   live : large_at s.live.pages x.mapping.user ≡ Some x
   live = ap (large_at s.live.pages) user ∙ l.live

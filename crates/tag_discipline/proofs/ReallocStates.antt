@@ -23,15 +23,15 @@ use Rattle.scudo_heap.specs.Checks.{size_found}
 use Rattle.scudo_heap.specs.Realloc as heap
 use Rattle.scudo_heap.specs.Realloc.{user_of, user_of_chunk, after_copy, with_copied_bytes, after_move, with_new_size, realloc_cases}
 use Rattle.tag_discipline.specs.LiveChunks.{BlockChunk, LiveBlocks, chunk_at, with_chunk, new_chunk}
-use Rattle.tag_discipline.specs.LivePages.{PageChunk, LivePages, large_at, with_large, new_large, AreLarge}
+use Rattle.tag_discipline.specs.LivePages.{PageChunk, LivePages, large_at, with_large, new_large}
 use Rattle.tag_discipline.specs.CarefulRuns.{State, Live, with_made_chunk, without_freed_chunk, live_move_cases, with_size_of, live_after_resize_in_block, live_after_resize, live_after_realloc, HasFree}
 use Rattle.tag_discipline.specs.SoundHeaps.{Sound}
-use Rattle.tag_discipline.proofs.Views.{SoundBlocks}
+use Rattle.tag_discipline.proofs.Views.{TaggedBlocks}
 use Rattle.tag_discipline.proofs.Serving.{blocks-of}
-use Rattle.tag_discipline.proofs.WorldRests.{after-resize-rest}
+use Rattle.scudo_heap.proofs.CallSteps.{resized_rest, resized_sound}
 use Rattle.tag_discipline.proofs.BlockSounds.{present-tag}
 use Rattle.tag_discipline.proofs.BlockSteps.{at-with, after-resize-kept}
-use Rattle.tag_discipline.proofs.MadeStates.{state_after_allocation, IsMade, rest-of, state-sound}
+use Rattle.tag_discipline.proofs.MadeStates.{state_after_allocation, IsMade, state-sound}
 use Rattle.tag_discipline.proofs.MadeCalls.{malloc-state-after-allocation}
 use Rattle.tag_discipline.proofs.FoundStates.{IsListed, block, pages}
 use Rattle.tag_discipline.proofs.FreeStates.{IsKeptOn, kept-same, free-kept, with-bytes-at-kept, after-move-kept}
@@ -40,16 +40,16 @@ use Rattle.tag_discipline.proofs.FreeStates.{IsKeptOn, kept-same, free-kept, wit
 
 after-resize-state : (s : State) (x : BlockChunk) (size : ℕ) → Sound s → chunk_at s.live.blocks x.place.user ≡ Some x → 0 < size → end_of (with_size x.place size) ≤ block_end x.place
     → IsKeptOn s (record { world = after_resize s.world x.place x.header size; live = live_after_resize_in_block s.world s.live x.place x.header size })
+unfolding after_resize
 after-resize-state s x size k e some fits =
     let b = blocks-of s k in
     let i = b.placed.place x.place.user x e in
     let h = after-resize-kept s.world s.live.blocks size x b e (record { carved = i.carved; aligned = i.aligned; above = i.above; within = fits; some = some }) in
-    let r = after-resize-rest s.world s.world x.place size x.header (rest-of s k) in
     let t : State = record { world = after_resize s.world x.place x.header size; live = live_after_resize_in_block s.world s.live x.place x.header size } in
     let tag : tag_at s.world.memory x.place.user ≡ x.tag = present-tag s.world.memory s.world.heap.stacks s.live.blocks b x.place.user x e in
-    let blocks = subst (λ v. SoundBlocks t.world.memory t.world.heap.stacks (with_chunk s.live.blocks (record { place = with_size x.place size; tag = v; header = with_size_of x.header size }))) (sym tag) h.sound in
+    let blocks = subst (λ v. TaggedBlocks t.world.memory t.world.heap.stacks (with_chunk s.live.blocks (record { place = with_size x.place size; tag = v; header = with_size_of x.header size }))) (sym tag) h.sound in
     record {
-      sound = state-sound s.world t blocks r (subst (λ ms. AreLarge ms s.live.pages) (ap (λ ms. ms.mappings) (sym r.maps)) k.large);
+      sound = state-sound s t k (ap (λ t. t.mode) (resized_rest s.world x.place x.header size).state) (resized_sound s.world x.place x.header size k.heap) blocks k.large;
       stale = h.stale;
     }
 

@@ -1,5 +1,5 @@
 -- Careful runs keep the live chunks Sound, and what is freed as it is until an allocation takes its block.
-use Rattle.std.proofs.Common.{◌≡◌, ◌≢◌, ℕ, ◌/◌, ◌==◌, Bool, true, false, cond, Result, Ok, Err, refl, sym, subst, ◌∙◌, inl, arith}
+use Rattle.std.proofs.Common.{◌≡◌, ◌≢◌, ℕ, ◌/◌, ◌==◌, Bool, true, false, cond, Result, Ok, Err, refl, sym, subst, inl, arith}
 use Rattle.std.proofs.lemmas.Bool.Decides.{nat_tests}
 use Rattle.scudo_heap.specs.declared.abort.HeapAbort.{HeapAbort}
 use Rattle.scudo_heap.specs.declared.call.HeapCall.{HeapCall}
@@ -9,13 +9,13 @@ use Rattle.scudo_heap.specs.Freeing.{Freed as Outcome, free_cases, free_of}
 use Rattle.scudo_heap.specs.Realloc.{ReallocResult, reallocation_of, checked_realloc_cases, after_realloc}
 use Rattle.scudo_heap.specs.Calls.{after_call}
 use Rattle.scudo_heap.specs.Allocation.{after_malloc}
-use Rattle.scudo_heap.proofs.ServedLemmas.{served-on, same-pages}
+use Rattle.scudo_heap.specs.Sound.{IsSoundWorld}
+use Rattle.scudo_heap.proofs.SoundLemmas.{sound-same}
 use Rattle.scudo_header.specs.declared.headers.Origin.TheVariants as origin
 use Rattle.tag_discipline.specs.CarefulRuns.{State, Live, with_made_chunk, live_free_cases, live_realloc_cases, live_free, live_realloc, found_at, state_after_call, IsPointerTo, IsCareful, IsQuiet, Step, quiet, call, Run, stop, next, HasFree}
 use Rattle.tag_discipline.specs.SoundHeaps.{Sound}
 use Rattle.tag_discipline.proofs.Freed.{Freed, IsStale}
 use Rattle.tag_discipline.proofs.Serving.{blocks-of}
-use Rattle.tag_discipline.proofs.WorldRests.{IsRest}
 use Rattle.tag_discipline.proofs.BlockSteps.{IsSameTags, same-tags_sound, same-tags_stale}
 use Rattle.tag_discipline.proofs.MadeStates.{state-sound}
 use Rattle.tag_discipline.proofs.MadeCalls.{malloc-state-after-allocation, calloc-state-after-allocation, memalign-state-after-allocation}
@@ -78,14 +78,10 @@ quiet-kept s t k q =
     let same : IsSameTags m m' = record { limit = q.limit; attrs = λ a l. q.attrs (a / 4096); tags = λ a l. q.tags a; high = λ a l. inl (q.tags a); whole = q.whole } in
     let u : State = record { world = record s.world { memory = m'; rgsr = t.world.rgsr }; live = s.live } in
     let is : u ≡ t = λ i. record { world = record { memory = m'; heap = sym q.heap i; rgsr = t.world.rgsr }; live = sym q.live i } in
-    let rest : IsRest u.world u.world = record {
-      served = served-on m m' s.world.heap s.world.heap.stacks s.world.heap.cookie k.served q.attrs q.left (same-pages s.world.heap.stacks);
-      sync = q.mode ∙ k.sync;
-      most = k.most;
-      maps = refl;
-    } in
+    let same_heap = sound-same s.world m' k.heap q.attrs q.left in
+    let v : IsSoundWorld u.world = record { owned = same_heap.owned; room = same_heap.room; parts = same_heap.parts } in
     let kept : IsKeptOn s u = record {
-      sound = state-sound u.world u (same-tags_sound m m' s.world.heap.stacks s.live.blocks same b) rest k.large;
+      sound = state-sound s u k q.mode v (same-tags_sound m m' s.world.heap.stacks s.live.blocks same b) k.large;
       stale = λ f st on. same-tags_stale m m' s.world.heap.stacks f b.stacked same st;
     } in
     subst (IsKeptOn s) is kept

@@ -1,4 +1,4 @@
--- What the tags of the size classes need, of the heap's condition; and the condition after each change.
+-- What the tags of the size classes need, of the heap's condition.
 use Rattle.std.proofs.Common.{◌≡◌, ℕ, ◌+◌, ◌-◌, ◌/◌, ◌<◌, ◌≤◌, ◌⊎◌, Bool, true, false, Option, Some, None, nat_lt, refl, ap, ◌∙◌, inl, inr, arith}
 use Rattle.std.proofs.lemmas.Bool.{cases_lt, cond-true, cond-false}
 use Rattle.mte_tags.specs.Memory.{Memory, attrs_at}
@@ -7,14 +7,17 @@ use Rattle.address_map.specs.declared.limits.TheConstants.{PAGE_SIZE}
 use Rattle.address_map.specs.declared.ranges.TheConstants.{REGIONS_START, REGION_SIZE, SECONDARY_START}
 use Rattle.scudo_primary.specs.Blocks.{IsClass}
 use Rattle.scudo_secondary.specs.Mappings.{AreMappings}
-use Rattle.scudo_heap.specs.Stacks.{StackState, pages_of, AreSound}
+use Rattle.scudo_heap.specs.Stacks.{pages_of}
+use Rattle.scudo_heap.specs.Placing.{World}
+use Rattle.scudo_heap.specs.Sound.{IsSoundWorld}
+use Rattle.tag_discipline.specs.LiveChunks.{LiveBlocks}
 use Rattle.scudo_heap.specs.Heaps.{HeapState}
 use Rattle.scudo_heap.specs.Served.{HeapOwnsItsPages, heap_page}
 use Rattle.scudo_heap.proofs.MapLemmas.{none-below}
 use Rattle.scudo_heap.proofs.ServedLemmas.{lt-true, lt-false}
 use Rattle.tag_discipline.specs.CarefulRuns.{State}
 use Rattle.tag_discipline.specs.SoundHeaps.{Sound}
-use Rattle.tag_discipline.proofs.Views.{IsStacked, SoundBlocks}
+use Rattle.tag_discipline.proofs.Views.{IsStacked, SoundBlocks, TaggedBlocks}
 
 heap_page_is : (b : Bool) → (heap_page b ≡ None) ⊎ (heap_page b ≡ Some 11)
 heap_page_is true = inr refl
@@ -42,33 +45,30 @@ others m h a v k l u = elim (cases_lt a SECONDARY_START) [
   | inr y ↦ inl (before-mappings m h a v k y (omega arith))
 ]
 
-pub stacked-of : (m : Memory) (h : HeapState) → HeapOwnsItsPages m h → AreSound h.stacks → IsStacked h.stacks
-stacked-of m h v s = record {
-  few = λ c k. let few = v.few c k.low k.high in omega arith;
-  blocks = λ c b k e. s.blocks c b k.low k.high e;
-  distinct = λ c k. s.distinct c k.low k.high;
+pub stacked-of : (w : World) → IsSoundWorld w → IsStacked w.heap.stacks
+stacked-of w v = record {
+  few = λ c k. let few = v.owned.few c k.low k.high in omega arith;
+  blocks = λ c b k e. v.parts.stacks.blocks c b k.low k.high e;
+  distinct = λ c k. v.parts.stacks.distinct c k.low k.high;
 }
 
-pub sound-of : (h : StackState) → IsStacked h → AreSound h
-sound-of h k = record {
-  blocks = λ c b low high e. k.blocks c b (record { low = low; high = high }) e;
-  distinct = λ c low high. k.distinct c (record { low = low; high = high });
-}
-
-pub blocks-of : (s : State) → Sound s → SoundBlocks s.world.memory s.world.heap.stacks s.live.blocks
-blocks-of s k =
-    let m = s.world.memory in
-    let h = s.world.heap in
-    let v = k.served in
+pub blocks-with : (w : World) (l : LiveBlocks) → IsSoundWorld w → TaggedBlocks w.memory w.heap.stacks l → SoundBlocks w.memory w.heap.stacks l
+blocks-with w l k t =
+    let m = w.memory in
+    let h = w.heap in
+    let v = k.owned in
     record {
-      stacked = stacked-of m h v k.stacks;
+      stacked = stacked-of w k;
       served = record {
-        whole = k.whole;
-        limit = k.limit;
+        whole = t.whole;
+        limit = t.limit;
         mapped = λ c a hc l u. let few = v.few c hc.low hc.high in in-region m h c a v hc l (omega arith) ∙ cond-true _ _ _ (lt-true ((a - region_of c) / PAGE_SIZE) (pages_of h.stacks c) (omega arith));
-        others = λ a l u. others m h a v k.large.ordered l u;
+        others = λ a l u. others m h a v k.parts.mappings l u;
         free = λ c a hc l u. in-region m h c a v hc (omega arith) (omega arith) ∙ cond-false _ _ _ (lt-false ((a - region_of c) / PAGE_SIZE) (pages_of h.stacks c) (omega arith));
       };
-      placed = k.placed;
-      tagged = k.tagged;
+      placed = t.placed;
+      tagged = t.tagged;
     }
+
+pub blocks-of : (s : State) → Sound s → SoundBlocks s.world.memory s.world.heap.stacks s.live.blocks
+blocks-of s k = blocks-with s.world s.live.blocks k.heap (record { whole = k.whole; limit = k.limit; placed = k.placed; tagged = k.tagged })

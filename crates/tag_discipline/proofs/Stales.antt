@@ -13,7 +13,8 @@ use Rattle.scudo_heap.specs.declared.chunk.Place.{Place}
 use Rattle.tag_discipline.proofs.Views.{IsStacked}
 use Rattle.tag_discipline.proofs.Freed.{Freed, IsStale}
 use Rattle.tag_discipline.proofs.Keeps.{IsCallOn, IsSamePages, other}
-use Rattle.tag_discipline.proofs.ListLaws.{stack-own, stack-other, same-pages, place-on}
+use Rattle.scudo_heap.proofs.SoundLemmas.{stack-own, stack-other}
+use Rattle.tag_discipline.proofs.ListLaws.{same-pages, place-on}
 
 -- a call on another block keeps it
 pub stale-call : (m m' : Memory) (h h' : StackState) (p : Place) (t : ℕ) (f : Freed) → IsStacked h → IsPlace h p → IsCallOn m m' p t → IsSamePages h h' → f.place.block ≢ p.block → is_member (stack_of h' f.place.class) f.place.block ≡ true

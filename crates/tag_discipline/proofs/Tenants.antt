@@ -1,5 +1,5 @@
 -- A machine's careful instructions keep its live chunks Sound.
-use Rattle.std.proofs.Common.{◌≡◌, ◌≢◌, ℕ, zero, suc, ◌==◌, ◌&&◌, Bool, true, false, cond, Option, Some, None, List, Result, Ok, Err, refl, sym, ap, subst, ◌∙◌, inl, inr, arith}
+use Rattle.std.proofs.Common.{◌≡◌, ℕ, zero, suc, ◌==◌, ◌&&◌, Bool, true, false, cond, Option, Some, None, List, Result, Ok, Err, refl, sym, ap, subst, ◌∙◌}
 use Rattle.mte_tags.specs.Memory.{Memory, page_at, attrs_at, pages_left, with_pending}
 use Rattle.mte_tags.specs.Accesses.{read_fault, write_fault, access_cases, after_access, after_read, after_write}
 use Rattle.mte_tags.specs.declared.access.Access.{Access}

@@ -32,3 +32,13 @@ pub record SoundBlocks (m : Memory) (h : StackState) (l : LiveBlocks) : Type 0 w
   pub served : IsView m h
   pub placed : ArePlaced h l
   pub tagged : AreTagged m h l
+
+-- of these, what a change of one block shows anew; the rest is the heap's condition
+pub record TaggedBlocks (m : Memory) (h : StackState) (l : LiveBlocks) : Type 0 where
+  pub whole : IsWhole m
+  pub limit : m.limit ≤ MAX_PAGES
+  pub placed : ArePlaced h l
+  pub tagged : AreTagged m h l
+
+pub tagged-of : (m : Memory) (h : StackState) (l : LiveBlocks) → SoundBlocks m h l → TaggedBlocks m h l
+tagged-of m h l s = record { whole = s.served.whole; limit = s.served.limit; placed = s.placed; tagged = s.tagged }

@@ -22,7 +22,7 @@ use Rattle.scudo_primary.specs.Pools.{is_member}
 use Rattle.scudo_primary.specs.Blocks.{IsClass}
 use Rattle.scudo_heap.specs.declared.chunk.Place.{Place}
 use Rattle.scudo_heap.specs.Stacks.{StackState, pages_of, stack_of}
-use Rattle.scudo_heap.specs.Chunks.{end_of, block_end, parity_mask, with_size}
+use Rattle.scudo_heap.specs.Chunks.{end_of, block_end, parity_mask}
 use Rattle.scudo_heap.specs.Placing.{new_header}
 
 pub record BlockChunk : Type 0 where

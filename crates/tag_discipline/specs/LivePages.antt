@@ -8,7 +8,7 @@ use Rattle.std.specs.FinMap.{FinMap}
 use Rattle.scudo_header.specs.declared.headers.Header.{Header}
 use Rattle.scudo_header.specs.declared.headers.Origin.{Origin}
 use Rattle.scudo_header.specs.declared.headers.State.TheVariants.{Allocated}
-use Rattle.scudo_secondary.specs.Mappings.{AreMappings, mapping_of, end_of}
+use Rattle.scudo_secondary.specs.Mappings.{mapping_of, end_of}
 use Rattle.scudo_secondary.specs.declared.mappings.Mapping.{Mapping}
 use Rattle.scudo_heap.specs.Large.{large_header, unused_in}
 
@@ -44,7 +44,6 @@ pub record IsLargeHeaderOf (x : PageChunk) : Type 0 where
 
 -- Each live chunk lies, with a granule for its header, in the mapping of its user address.
 pub record AreLarge (ms : List Mapping) (g : LivePages) : Type 0 where
-  pub ordered : AreMappings ms
   pub place :
       (u : ℕ) (x : PageChunk) → large_at g u ≡ Some x → mapping_of ms u ≡ Some x.mapping
   pub aligned : (u : ℕ) (x : PageChunk) → large_at g u ≡ Some x → u % 16 ≡ 0

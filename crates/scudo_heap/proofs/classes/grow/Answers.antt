@@ -3,10 +3,9 @@ use Rattle.std.specs.Result.{IsOk, OnOk}
 use Rattle.mte_tags.specs.declared.tagged.NoPagesLeft.{NoPagesLeft}
 use Rattle.mte_tags.specs.Memory.{page_at, pages_left, with_new_pages}
 use Rattle.scudo_heap.specs.Stacks.{StackState, stack_of, after_carve}
-use Rattle.scudo_heap.specs.Heaps.{heap_of}
 use Rattle.scudo_heap.specs.Placing.{next_page, heap_attrs}
-use Rattle.scudo_heap.specs.Served.{HeapOwnsItsPages, AreRegions}
-use Rattle.scudo_heap.proofs.ServedLemmas.{MayGrow, next-free, regions-grown, served-after-grow, grown-some}
+use Rattle.scudo_heap.specs.Served.{AreRegions}
+use Rattle.scudo_heap.proofs.ServedLemmas.{MayGrow, next-free, regions-grown, grown-some}
 use Rattle.scudo_heap.proofs.classes.grow.Goals as goal
 
 on-ok : (r : Result (Unit {0}) NoPagesLeft) (P : Type 0) → IsOk r → OnOk r P → P
@@ -54,23 +53,3 @@ returns-clause-regions g c =
     on-ok c.map_pages.result _ ok c.map_pages.ensures.ok ∙ (λ i. with_new_pages (c.pages_left.ensures.memory i) (first i) n heap_attrs) in
     let stacks : c.carve.new.self ≡ after_carve s k n = c.carve.ensures in
     subst (λ t. AreRegions t c.carve.new.self) (sym memory) (subst (AreRegions (with_new_pages m (next_page s k) n heap_attrs)) (sym stacks) (regions-grown m s k n c.requires.regions may))
-
-pub returns-clause-served : goal.returns-clause-served
-returns-clause-served g c = λ cookie ms v.
-    let m = g.M.Tagged.memory c.args.memory.now in
-    let s = c.args.stacks.now in
-    let k = c.args.class in
-    let n = (c.size_of_class.result + 4095) / 4096 in
-    let left = c.pages_left.ensures.answer in
-    let most = c.pages.ensures.most in
-    let same = c.pages.ensures.pages in
-    let enough = c.if-pages-pages_left.false in
-    let may : MayGrow m s k n = record { class = record { low = c.requires.low; high = c.requires.high }; enough = omega arith; most = omega arith } in
-    let own = c.size_of_class.ensures.size in
-    let first : (268435456 + c.from.result * 16777216) / 4096 + c.pages.result ≡ next_page s k = omega arith in
-    let ok : IsOk c.map_pages.result = c.map_pages.ensures.answer.1 (let e = ap pages_left c.pages_left.ensures.memory in omega arith) in
-    let memory : g.M.Tagged.memory c.map_pages.new.self ≡ with_new_pages m (next_page s k) n heap_attrs =
-    on-ok c.map_pages.result _ ok c.map_pages.ensures.ok ∙ (λ i. with_new_pages (c.pages_left.ensures.memory i) (first i) n heap_attrs) in
-    let stacks : c.carve.new.self ≡ after_carve s k n = c.carve.ensures in
-    subst (λ t. HeapOwnsItsPages t (heap_of cookie c.carve.new.self ms)) (sym memory)
-    (subst (λ t. HeapOwnsItsPages (with_new_pages m (next_page s k) n heap_attrs) (heap_of cookie t ms)) (sym stacks) (served-after-grow m s k n cookie ms may v))

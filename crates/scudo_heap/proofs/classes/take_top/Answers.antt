@@ -7,7 +7,7 @@ use Rattle.scudo_heap.specs.Heaps.{heap_of}
 use Rattle.scudo_heap.specs.Placing.{world_of, after_place}
 use Rattle.scudo_heap.specs.Allocation.{allocation_of, allocation_at}
 use Rattle.scudo_heap.specs.Served.{IsOpen}
-use Rattle.scudo_heap.proofs.ServedLemmas.{block-open-in, same-after-pop, served-on, SamePages}
+use Rattle.scudo_heap.proofs.ServedLemmas.{block-open-in}
 use Rattle.scudo_heap.proofs.ClassLemmas.{FitsIn, fits-in, none-top, after-take-some}
 use Rattle.scudo_heap.proofs.classes.take_top.Goals as goal
 
@@ -43,12 +43,6 @@ returns-in-Some-clause-made g c = λ ms.
     λ i. allocation_of (world_of (e.memory i) (heap_of c.args.cookie (popped i) ms) (e.rgsr i)) (Some (Small p (e.tag i))) in
     done ∙ ap (λ (t : Place). allocation_at t (after_place w c.args.request.origin t)) c.place-place.ensures
     ∙ after-take-some w w c.args.request.origin c.args.request.align c.args.request.size c.args.class c.in-Some.block (stack_of c.args.stacks.now c.args.class) c.in-Some.ensures.answer
-
-pub returns-in-Some-clause-served : goal.returns-in-Some-clause-served
-returns-in-Some-clause-served g c = λ k ms v.
-    let e = c.make_chunk-tag.ensures in
-    served-on _ _ (heap_of k c.args.stacks.now ms) c.take.new.self k v e.attrs e.left
-    (subst (SamePages c.args.stacks.now) (sym c.take.ensures.stacks) (same-after-pop c.args.stacks.now c.args.class))
 
 pub returns-in-Some-clause-low_chunk : goal.returns-in-Some-clause-low_chunk
 returns-in-Some-clause-low_chunk g c =

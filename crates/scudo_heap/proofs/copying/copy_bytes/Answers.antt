@@ -1,8 +1,8 @@
 use Rattle.std.proofs.Common.{◌≡◌, ◌+◌, length, take, sym, ap, ◌∙◌, arith}
 use Rattle.std.proofs.lemmas.List.{length-take-le}
-use Rattle.mte_tags.specs.Memory.{attrs_at, pages_left}
+use Rattle.mte_tags.specs.Memory.{attrs_at}
 use Rattle.scudo_heap.specs.Realloc.{after_copy}
-use Rattle.scudo_heap.proofs.CopyLemmas.{apart-less, after-copy-none, after-copy-more, attrs_at-after-copy, pages_left-after-copy, open-with-bytes-at}
+use Rattle.scudo_heap.proofs.CopyLemmas.{apart-less, after-copy-none, after-copy-more, attrs_at-after-copy, open-with-bytes-at}
 use Rattle.scudo_heap.proofs.copying.copy_bytes.Goals as goal
 
 pub loop-done-init : goal.loop-done-init
@@ -52,11 +52,3 @@ pub returns-clause-memory : goal.returns-clause-memory
 returns-clause-memory g c =
     let all : c.loop-done.done ≡ c.args.count = omega arith in
     c.loop-done.invariant.memory ∙ ap (after_copy (g.M.Tagged.memory c.args.memory.now) c.args.from c.args.to) all
-
-pub returns-clause-attrs : goal.returns-clause-attrs
-returns-clause-attrs g c = λ q.
-    ap (λ t. attrs_at t q) c.loop-done.invariant.memory ∙ attrs_at-after-copy (g.M.Tagged.memory c.args.memory.now) c.args.from c.args.to c.loop-done.done q
-
-pub returns-clause-left : goal.returns-clause-left
-returns-clause-left g c =
-    ap pages_left c.loop-done.invariant.memory ∙ pages_left-after-copy (g.M.Tagged.memory c.args.memory.now) c.args.from c.args.to c.loop-done.done

@@ -1,13 +1,10 @@
-use Rattle.std.proofs.Common.{◌≡◌, ◌/◌, ◌∙◌, sym, ap, subst}
-use Rattle.address_map.specs.declared.limits.TheConstants.{PAGE_SIZE}
-use Rattle.mte_tags.specs.Memory.{without_pages}
+use Rattle.std.proofs.Common.{◌≡◌, ◌∙◌, sym, ap, subst}
 use Rattle.scudo_heap.specs.Heaps.{heap_of}
 use Rattle.scudo_heap.specs.Placing.{world_of, after_give_back}
 use Rattle.scudo_heap.specs.Large.{large_given_back}
 use Rattle.scudo_heap.specs.Freeing.{without_chunk}
-use Rattle.scudo_heap.specs.Served.{HeapOwnsItsPages}
 use Rattle.scudo_heap.specs.Inner.{IsFound}
-use Rattle.scudo_heap.proofs.ServedLemmas.{block-open, mapping-open, same-after-push, served-on, served-less, SamePages}
+use Rattle.scudo_heap.proofs.ServedLemmas.{block-open, mapping-open}
 use Rattle.scudo_heap.proofs.freeing.free_found.Goals as goal
 
 pub free_block-requires-clause-open : goal.free_block-requires-clause-open
@@ -32,13 +29,6 @@ returns-in-InBlock-clause-world g c =
     λ i. record { memory = e.memory i; heap = heap_of c.args.cookie (e.stacks i) c.args.maps.now; rgsr = e.rgsr i } in
     done ∙ ap (without_chunk w) (sym c.in-InBlock.is)
 
-pub returns-in-InBlock-clause-served : goal.returns-in-InBlock-clause-served
-returns-in-InBlock-clause-served g c =
-    let h = heap_of c.args.cookie c.args.stacks.now c.args.maps.now in
-    let e = c.free_block.ensures in
-    served-on _ _ h c.free_block.new.stacks c.args.cookie c.requires.served e.attrs e.left
-    (subst (SamePages c.args.stacks.now) (sym e.stacks) (same-after-push c.args.stacks.now c.in-InBlock.place.class c.in-InBlock.place.block))
-
 pub returns-in-InPages-clause-world : goal.returns-in-InPages-clause-world
 unfolding without_chunk large_given_back
 returns-in-InPages-clause-world g c =
@@ -47,12 +37,3 @@ returns-in-InPages-clause-world g c =
     let done : world_of (g.M.Tagged.memory c.free_pages.new.memory) (heap_of c.args.cookie c.args.stacks.now c.free_pages.new.maps) c.args.rgsr.now ≡ large_given_back w c.in-InPages.mapping =
     λ i. record { memory = e.memory i; heap = heap_of c.args.cookie c.args.stacks.now (e.maps i); rgsr = c.args.rgsr.now } in
     done ∙ ap (without_chunk w) (sym c.in-InPages.is)
-
-pub returns-in-InPages-clause-served : goal.returns-in-InPages-clause-served
-returns-in-InPages-clause-served g c =
-    let m = g.M.Tagged.memory c.args.memory.now in
-    let h = heap_of c.args.cookie c.args.stacks.now c.args.maps.now in
-    let e = c.free_pages.ensures in
-    subst (λ t. HeapOwnsItsPages t (heap_of c.args.cookie c.args.stacks.now c.free_pages.new.maps)) (sym e.memory)
-    (subst (λ t. HeapOwnsItsPages (without_pages m (c.in-InPages.mapping.start / PAGE_SIZE) c.in-InPages.mapping.pages) (heap_of c.args.cookie c.args.stacks.now t)) (sym e.maps)
-    (served-less m h c.in-InPages.mapping c.args.cookie c.requires.served e.mappings (subst (IsFound h) c.in-InPages.is c.requires.found)))

@@ -1,8 +1,6 @@
 use Rattle.std.proofs.Common.{◌≡◌, ◌-◌, ap, ◌∙◌, length, arith}
 use Rattle.std.specs.Int.{to_le_bytes, w64}
-use Rattle.mte_tags.specs.Memory.{attrs_at, pages_left}
 use Rattle.mte_tags.specs.Accesses.{with_bytes_at}
-use Rattle.mte_tags.proofs.PageLaws.{attrs_at-with-bytes-at, pages_left-with-bytes-at}
 use Rattle.scudo_heap.specs.Chunks.{with_header}
 use Rattle.scudo_heap.proofs.OpenLemmas.{bytes_written}
 use Rattle.scudo_heap.proofs.granules.put_header.Goals as goal
@@ -18,25 +16,3 @@ returns-clause-memory g c =
     bytes_written m _ (c.args.user - 16) _ _ c.write.ensures.answer c.write.ensures.memory
     (record { pages = λ a l h. o.pages a l (omega arith); below = omega arith })
     ∙ ap (λ bs. with_bytes_at m (c.args.user - 16) bs) (c.to_le_bytes.ensures ∙ ap (to_le_bytes w64) c.pack-word.ensures.word)
-
-pub returns-clause-attrs : goal.returns-clause-attrs
-returns-clause-attrs g c =
-    let m = g.M.Tagged.memory c.args.memory.now in
-    let eight : length c.to_le_bytes.result ≡ 8 = ap length c.to_le_bytes.ensures in
-    let o = c.requires.open in
-    let up = c.requires.above in
-    let below = o.below in
-    λ q. ap (λ k. attrs_at k q) (bytes_written m _ (c.args.user - 16) _ _ c.write.ensures.answer c.write.ensures.memory
-    (record { pages = λ a l h. o.pages a l (omega arith); below = omega arith }))
-    ∙ attrs_at-with-bytes-at m (c.args.user - 16) _ q
-
-pub returns-clause-left : goal.returns-clause-left
-returns-clause-left g c =
-    let m = g.M.Tagged.memory c.args.memory.now in
-    let eight : length c.to_le_bytes.result ≡ 8 = ap length c.to_le_bytes.ensures in
-    let o = c.requires.open in
-    let up = c.requires.above in
-    let below = o.below in
-    ap pages_left (bytes_written m _ (c.args.user - 16) _ _ c.write.ensures.answer c.write.ensures.memory
-    (record { pages = λ a l h. o.pages a l (omega arith); below = omega arith }))
-    ∙ pages_left-with-bytes-at m (c.args.user - 16) _

@@ -1,13 +1,10 @@
-use Rattle.std.proofs.Common.{◌-◌, ◌/◌, Result, Ok, Err, sym, subst, arith}
+use Rattle.std.proofs.Common.{◌-◌, Result, Ok, Err, sym, subst, arith}
 use Rattle.std.specs.Result.{IsOk, OnOk}
 use Rattle.mte_tags.specs.declared.tagged.NoPagesLeft.{NoPagesLeft}
-use Rattle.mte_tags.specs.Memory.{with_new_pages}
-use Rattle.address_map.specs.declared.limits.TheConstants.{PAGE_SIZE}
-use Rattle.scudo_heap.specs.Heaps.{heap_of, with_more}
-use Rattle.scudo_heap.specs.Placing.{heap_attrs}
-use Rattle.scudo_heap.specs.Served.{HeapOwnsItsPages, IsOpen}
+use Rattle.scudo_heap.specs.Heaps.{with_more}
+use Rattle.scudo_heap.specs.Served.{IsOpen}
 use Rattle.scudo_heap.proofs.MapLemmas.{is-at}
-use Rattle.scudo_heap.proofs.ServedLemmas.{pages-free, pages-open, served-more, served-on, same-pages}
+use Rattle.scudo_heap.proofs.ServedLemmas.{pages-free, pages-open}
 use Rattle.scudo_heap.proofs.pages.map_chunk.Goals as goal
 
 on-ok : (r : Result (Unit {0}) NoPagesLeft) (P : Type 0) → IsOk r → OnOk r P → P
@@ -40,16 +37,3 @@ put_header-requires-clause-open g c =
 pub returns-clause-maps : goal.returns-clause-maps
 unfolding with_more
 returns-clause-maps g c = c.add.ensures
-
-pub returns-clause-served : goal.returns-clause-served
-returns-clause-served g c = λ k s v.
-    let m = g.M.Tagged.memory c.args.memory.now in
-    let n = c.args.mapping in
-    let w = is-at c.args.maps.now.mappings n.pages n.start c.requires.place in
-    let memory = on-ok c.map_pages.result _ (c.map_pages.ensures.answer.1 c.requires.left) c.map_pages.ensures.ok in
-    let e = c.put_header.ensures in
-    let new = with_new_pages m (n.start / PAGE_SIZE) n.pages heap_attrs in
-    let more = served-more m s c.args.maps.now n k w c.requires.left v in
-    subst (λ t. HeapOwnsItsPages (g.M.Tagged.memory c.put_header.new.memory) (heap_of k s t)) (sym (returns-clause-maps g c))
-    (served-on (g.M.Tagged.memory c.map_pages.new.self) _ (heap_of k s (with_more c.args.maps.now n)) s k
-    (subst (λ t. HeapOwnsItsPages t (heap_of k s (with_more c.args.maps.now n))) (sym memory) more) e.attrs e.left (same-pages s))

@@ -6,7 +6,6 @@ use Rattle.scudo_heap.specs.Heaps.{heap_of}
 use Rattle.scudo_heap.specs.Placing.{world_of}
 use Rattle.scudo_heap.specs.Large.{large_placed}
 use Rattle.scudo_heap.specs.Allocation.{allocation_of, no_chunk, after_map_chunk}
-use Rattle.scudo_heap.specs.Served.{KeepsMapped}
 use Rattle.scudo_heap.specs.Inner.{IsLarge}
 use Rattle.scudo_heap.proofs.MapLemmas.{is-at}
 use Rattle.scudo_heap.proofs.LargeLemmas.{is-large, after-large-allocation-none, after-large-allocation-refused, after-large-allocation-made}
@@ -58,10 +57,6 @@ returns-clause-made g c = λ s r.
     done ∙ ap (λ t. after_map_chunk (world_of t (heap_of c.args.cookie s c.args.maps.now) r) c.args.request.origin c.args.request.size n) c.pages_left.ensures.memory
     ∙ ap (after_map_chunk w c.args.request.origin c.args.request.size) c.mapping_at-mapping.ensures
     ∙ after-large-allocation-made w c.args.request.origin c.args.request.align c.args.request.size c.args.pages c.in-Some.start c.in-Some.ensures.place (omega arith)
-
-pub returns-clause-served : goal.returns-clause-served
-returns-clause-served g c =
-    subst (λ t. KeepsMapped t c.args.maps.now (g.M.Tagged.memory c.map_chunk.new.memory) c.map_chunk.new.maps) c.pages_left.ensures.memory c.map_chunk.ensures.served
 
 pub returns-clause-low_chunk : goal.returns-clause-low_chunk
 returns-clause-low_chunk g c =

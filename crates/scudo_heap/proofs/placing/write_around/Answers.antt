@@ -2,9 +2,8 @@ use Rattle.std.proofs.Common.{◌≡◌, ◌+◌, ◌-◌, ◌<◌, nat_lt, true
 use Rattle.std.proofs.lemmas.Bool.{cond-true, cond-false}
 use Rattle.std.proofs.lemmas.Bool.Decides.{nat_tests}
 use Rattle.std.specs.Int.{to_le_bytes, w64}
-use Rattle.mte_tags.specs.Memory.{attrs_at, pages_left, with_granules}
+use Rattle.mte_tags.specs.Memory.{with_granules}
 use Rattle.mte_tags.specs.Accesses.{with_bytes_at}
-use Rattle.mte_tags.proofs.PageLaws.{attrs_at-with-bytes-at, pages_left-with-bytes-at, attrs_at-with_granules, pages_left-with_granules}
 use Rattle.scudo_heap.specs.Chunks.{granules_of, end_of, block_end, with_chunk_tag, with_end_tag_0, with_header_tag_0, with_header}
 use Rattle.scudo_heap.proofs.AroundLemmas.{around, around_before}
 use Rattle.scudo_heap.proofs.placing.write_around.Goals as goal
@@ -45,17 +44,3 @@ returns-then-write_chunk-clause-memory g c =
     c.if-write_chunk.ensures.memory
     ∙ ap (λ k. with_bytes_at k (p.user - 16) c.to_le_bytes-bytes.result) (wide ∙ tags)
     ∙ ap (λ bs. with_bytes_at (with_end_tag_0 (with_header_tag_0 (with_chunk_tag m p c.args.tag) p) p) (p.user - 16) bs) (c.to_le_bytes-bytes.ensures ∙ ap (to_le_bytes w64) c.pack.ensures.word)
-
-pub returns-then-write_chunk-clause-attrs : goal.returns-then-write_chunk-clause-attrs
-returns-then-write_chunk-clause-attrs g c = λ q.
-    ap (λ k. attrs_at k q) c.if-write_chunk.ensures.memory
-    ∙ attrs_at-with-bytes-at _ (c.args.place.user - 16) _ q
-    ∙ attrs_at-with_granules c.granules-count.result _ c.args.place.user c.args.tag true q
-    ∙ attrs_at-with_granules (1 + c.granules-count.result + c.if-end-place.behind) _ (c.args.place.user - 16) 0 false q
-
-pub returns-then-write_chunk-clause-left : goal.returns-then-write_chunk-clause-left
-returns-then-write_chunk-clause-left g c =
-    ap pages_left c.if-write_chunk.ensures.memory
-    ∙ pages_left-with-bytes-at _ (c.args.place.user - 16) _
-    ∙ pages_left-with_granules c.granules-count.result _ c.args.place.user c.args.tag true
-    ∙ pages_left-with_granules (1 + c.granules-count.result + c.if-end-place.behind) _ (c.args.place.user - 16) 0 false

@@ -34,7 +34,7 @@ resize-tag-requires-clause-open g c =
     let p = c.in-InBlock.place in
     let there : IsFoundBlock c.args.stacks.now p c.in-InBlock.header = subst (IsFound h) c.in-InBlock.is c.requires.found in
     let q = there.place in
-    block-open (g.M.Tagged.memory c.args.memory.now) h p.class p.block c.requires.served (record { low = q.low; high = q.high }) q.carved
+    block-open (g.M.Tagged.memory c.args.memory.now) h p.class p.block c.requires.sound.owned (record { low = q.low; high = q.high }) q.carved
 
 pub returns-in-InBlock-clause-made : goal.returns-in-InBlock-clause-made
 unfolding after_resize

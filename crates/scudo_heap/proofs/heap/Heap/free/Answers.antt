@@ -5,6 +5,7 @@ use Rattle.scudo_heap.specs.Checks.{check_pointer}
 use Rattle.scudo_heap.specs.Freeing.{Freed, without_chunk}
 use Rattle.scudo_heap.proofs.FoundLemmas.{check-pointer-is}
 use Rattle.scudo_heap.proofs.FreeLemmas.{free-null, free-by}
+use Rattle.scudo_heap.proofs.PartLemmas.{parts-of, sound-after-free}
 use Rattle.scudo_heap.proofs.heap.Heap.free.Goals as goal
 
 pub returns-then-pointer-eq0-clause-answer : goal.returns-then-pointer-eq0-clause-answer
@@ -43,3 +44,9 @@ returns-in-Ok-clause-world g c =
     ∙ ap (λ t. without_chunk (world_of t (heap_of c.self.inside.cookie c.self.inside.stacks c.self.inside.maps) c.args.rgsr.now) c.in-Ok.found) c.find_chunk.ensures.memory
     ∙ ap (λ h. without_chunk (world_of m h c.args.rgsr.now) c.in-Ok.found) c.self.view_is
     ∙ ap (λ (f : Freed). f.world) (free-by (world_of m c.args.self.now c.args.rgsr.now) c.args.pointer (Ok c.in-Ok.found) c.if-pointer-eq0.false e)
+
+pub invariant_of-self : goal.invariant_of-self
+invariant_of-self g c = parts-of _ (sound-after-free _ _ _ _ _ _ _ _ c.self.view_is c.self.invariant c.requires.served c.find_chunk.ensures.memory c.in-Ok.ensures.answer c.free_found.ensures.world)
+
+pub returns-in-Ok-clause-served : goal.returns-in-Ok-clause-served
+returns-in-Ok-clause-served g c = (sound-after-free _ _ _ _ _ _ _ _ c.self.view_is c.self.invariant c.requires.served c.find_chunk.ensures.memory c.in-Ok.ensures.answer c.free_found.ensures.world).owned

@@ -6,6 +6,7 @@ use Rattle.scudo_heap.specs.Checks.{check_pointer}
 use Rattle.scudo_heap.specs.Realloc.{ReallocResult, realloc_answer, realloc_cases}
 use Rattle.scudo_heap.proofs.FoundLemmas.{check-pointer-is}
 use Rattle.scudo_heap.proofs.ReallocLemmas.{realloc-null, realloc-by}
+use Rattle.scudo_heap.proofs.PartLemmas.{parts-of, sound-after-realloc}
 use Rattle.scudo_heap.proofs.heap.Heap.realloc.Goals as goal
 
 pub returns-then-pointer-eq0-clause-answer : goal.returns-then-pointer-eq0-clause-answer
@@ -55,3 +56,9 @@ returns-in-Ok-clause-world g c =
     let made = c.reallocate-chunk.ensures.made ∙ ap (λ t. realloc_cases (world_of t h c.args.rgsr.now) f n) c.find_chunk.ensures.memory ∙ ap (λ h. realloc_cases (world_of m h c.args.rgsr.now) f n) c.self.view_is in
     ap (λ (x : AllocationResult). x.world) made
     ∙ ap (λ (r : ReallocResult). r.world) (realloc-by (world_of m c.args.self.now c.args.rgsr.now) c.args.pointer n (Ok f) c.if-pointer-eq0.false e)
+
+pub invariant_of-self : goal.invariant_of-self
+invariant_of-self g c = parts-of _ (sound-after-realloc _ _ _ _ _ _ _ _ _ _ c.self.view_is c.self.invariant c.requires.served c.find_chunk.ensures.memory c.in-Ok.ensures.answer c.reallocate-chunk.ensures.made)
+
+pub returns-in-Ok-clause-served : goal.returns-in-Ok-clause-served
+returns-in-Ok-clause-served g c = (sound-after-realloc _ _ _ _ _ _ _ _ _ _ c.self.view_is c.self.invariant c.requires.served c.find_chunk.ensures.memory c.in-Ok.ensures.answer c.reallocate-chunk.ensures.made).owned
