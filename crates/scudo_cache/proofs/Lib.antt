@@ -1,5 +1,5 @@
 pub mod EntryLemmas
 pub mod ClassLemmas
 pub mod CacheLemmas
-pub mod CacheLaws
 pub mod StackLemmas
+pub mod CacheLaws

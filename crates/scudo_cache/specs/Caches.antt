@@ -1,47 +1,52 @@
 -- The local cache above a pool (Scudo, local_cache.h): for each size class the blocks that it
 -- holds, the oldest first.
---     entries_of c class        the blocks of a class
---     one_stack c p class       the class's ONE stack of free blocks, the top first: the cache's
---                               blocks, the newest on top, and then the pool's
---     IsAbove c p               what the cache holds is carved, marked free and in no list of the
---                               pool
---     AreStacks c p             each stack has carved blocks, none twice: those that are marked
---                               free
-use Rattle.std.specs.Prelude.{ℕ, ◌-◌, ◌/◌, ◌<◌, ◌≤◌, ◌≡◌, ◌==◌, Bool, true, false, List, [], ◌∷◌}
-use Rattle.std.specs.Prelude.{◌++◌, length, take, drop, reverse, replicate, get_or, slice_get}
-use Rattle.std.specs.Prelude.{slice_set, slice_index_or, nat_eq, Option, Some, None, IfSome}
+--     entries_of c class               the blocks of a class
+--     one_stack c p class              the class's ONE stack of free blocks, the top first: the
+--                                      cache's blocks, the newest on top, and then the pool's
+--     IsAbove c p                      what the cache holds is carved, marked free and in no list
+--                                      of the pool
+--     AreStacks c p                    each stack has carved blocks, none twice: those that are
+--                                      marked free
+--     block_taken c p class            the block that a take gives
+--     class_after_take c p class       what a take leaves of the class's blocks and of the pool
+--     class_after_put c p class block  what a put leaves of them
+--     KeepsRest class c p c' p'        a call leaves all but the stack of its class
+use Rattle.std.specs.Prelude.{ℕ, ◌-◌, ◌/◌, ◌<◌, ◌≤◌, ◌≡◌, ◌≢◌, ◌==◌, Bool, true, false, List, []}
+use Rattle.std.specs.Prelude.{◌∷◌, ◌++◌, length, take, drop, reverse, slice_get}
+use Rattle.std.specs.Prelude.{slice_index_or, Option, Some, None}
 use Rattle.std.specs.Prelude.{if◌then◌else◌, refl}
+use Rattle.std.specs.FinMap as finite
 use Rattle.std.specs.Coded.{Coded, code_by, coded×, coded_ℕ, coded_list}
-use Rattle.std.specs.List.{All, IsDistinct}
+use Rattle.std.specs.List.{All}
 use Rattle.scudo_header.specs.declared.classes.TheConstants.{CLASSES}
+use Rattle.scudo_header.specs.ByClass.{ByClass, by_class, value_of, with_value}
 use Rattle.scudo_primary.specs.Batches.{max_count_of}
-use Rattle.scudo_primary.specs.Blocks.{carved_count, number_of, IsBlock}
-use Rattle.scudo_primary.specs.Pools.{PoolState, class_at, stack_of, pages_of, IsCached}
-use Rattle.scudo_primary.specs.Pools.{is_marked, is_member}
+use Rattle.scudo_primary.specs.Blocks.{carved_count, number_of, IsBlock, AreBlocks, is_member}
+use Rattle.scudo_primary.specs.Pools.{PoolState, class_at, stack_of, sizes_of, pages_of, IsCached}
 use Rattle.scudo_primary.specs.Pools.{top_batch, without_batch, with_batch, with_mark}
 
--- lists: the blocks of each class
+-- classes: the blocks of each class
 -- capacity: for how many classes there is memory
 pub record CacheState : Type 0 where
-  pub lists : List (List ℕ)
+  pub classes : ByClass (List ℕ)
   pub capacity : ℕ
 
 abbrev pub coded_cache : Coded CacheState
 coded_cache =
-    code_by (List (List ℕ) × ℕ) (coded× (coded_list (coded_list coded_ℕ)) coded_ℕ)
-    (λ c. (c.lists, c.capacity))
-    (λ t. record { lists = t.0; capacity = t.1 })
+    code_by (ByClass (List ℕ) × ℕ) (coded× (finite.code coded_ℕ (coded_list coded_ℕ)) coded_ℕ)
+    (λ c. (c.classes, c.capacity))
+    (λ t. record { classes = t.0; capacity = t.1 })
     (λ _. refl)
 
 -- a cache that holds no block
 abbrev pub empty_cache : ℕ → CacheState
-empty_cache capacity = record { lists = replicate CLASSES []; capacity = capacity }
+empty_cache capacity = record { classes = by_class (λ _. []); capacity = capacity }
 
 abbrev pub entries_of : CacheState → ℕ → List ℕ
-entries_of c class = get_or c.lists (class - 1) []
+entries_of c class = value_of c.classes [] class
 
 abbrev pub with_entries : CacheState → ℕ → List ℕ → CacheState
-with_entries c class entries = record c { lists = slice_set c.lists (class - 1) entries }
+with_entries c class entries = record c { classes = with_value c.classes class entries }
 
 -- a class's blocks, the oldest first, on the pool's
 abbrev pub stack_over : List ℕ → PoolState → ℕ → List ℕ
@@ -56,8 +61,7 @@ pub record IsAbove (c : CacheState) (p : PoolState) : Type 0 where
 
 -- A class's stack: carved blocks, none of them twice, and just those that are marked free.
 pub record IsStack (class pages : ℕ) (marks : List Bool) (stack : List ℕ) : Type 0 where
-  pub blocks : (b : ℕ) → is_member stack b ≡ true → IsBlock class pages b
-  pub distinct : IsDistinct nat_eq stack
+  pub blocks : AreBlocks class pages stack
   pub marked :
       (b : ℕ) → IsBlock class pages b
       → slice_index_or marks (number_of class b) false ≡ is_member stack b
@@ -68,14 +72,27 @@ pub record AreStacks (c : CacheState) (p : PoolState) : Type 0 where
       (class : ℕ) → 0 < class → class ≤ CLASSES
       → IsStack class (pages_of p class) (class_at p class).marks (one_stack c p class)
 
+-- What a call leaves of all but the stack of its class.
+pub record KeepsRest (class : ℕ) (c : CacheState) (p : PoolState) (c' : CacheState) (p' : PoolState)
+    : Type 0 where
+  pub above : IsAbove c' p'
+  pub stacks : AreStacks c p → AreStacks c' p'
+  pub others :
+      (other : ℕ) → 0 < other → other ≢ class → one_stack c' p' other ≡ one_stack c p other
+  pub pages : (other : ℕ) → pages_of p' other ≡ pages_of p other
+  pub left : p'.left ≡ p.left
+  pub capacities : p'.capacities ≡ p.capacities
+
+-- The pool's own stack of a class, and how it is cut into batches, stay.
+pub record KeepsLists (class : ℕ) (p p' : PoolState) : Type 0 where
+  pub stack : stack_of p' class ≡ stack_of p class
+  pub sizes : sizes_of p' class ≡ sizes_of p class
+
 -- ---- one class: the blocks that the cache holds of it, and the pool
 
 pub record Class : Type 0 where
   pub entries : List ℕ
   pub pool : PoolState
-
-abbrev pub class_with : List ℕ → PoolState → Class
-class_with entries p = record { entries = entries; pool = p }
 
 -- where the cache holds none, it gets the pool's top batch
 unfoldable pub after_refill : ℕ → List ℕ → PoolState → Class
@@ -110,17 +127,13 @@ unfoldable pub after_put : ℕ → ℕ → Class → Class
 after_put class block k =
     record { entries = k.entries ++ block ∷ []; pool = with_mark k.pool class block true }
 
--- the blocks that the cache holds of a class
-pub record IsHeld (class : ℕ) (entries : List ℕ) (p : PoolState) : Type 0 where
-  pub cached : All (IsCached p class) entries
-  pub distinct : IsDistinct nat_eq entries
-  pub most : length entries ≤ max_count_of class
+-- ---- what the calls give and leave
 
--- a block that is taken: the top of the class's stack, carved, and marked used
-pub record Took
-    (class : ℕ) (old : List ℕ) (p : PoolState) (new : List ℕ) (p' : PoolState)
-    (result : Option ℕ) : Type 0 where
-  pub top : result ≡ slice_get (stack_over old p class) 0
-  pub rest : stack_over new p' class ≡ drop 1 (stack_over old p class)
-  pub block : IfSome result (IsBlock class (pages_of p' class))
-  pub used : IfSome result (λ block. is_marked p' class block ≡ false)
+abbrev pub block_taken : CacheState → PoolState → ℕ → Option ℕ
+block_taken c p class = newest (after_refill class (entries_of c class) p).entries
+
+abbrev pub class_after_take : CacheState → PoolState → ℕ → Class
+class_after_take c p class = after_take class (after_refill class (entries_of c class) p)
+
+abbrev pub class_after_put : CacheState → PoolState → ℕ → ℕ → Class
+class_after_put c p class block = after_put class block (with_room class (entries_of c class) p)

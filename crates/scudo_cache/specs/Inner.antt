@@ -1,22 +1,35 @@
 -- For the code's own clauses, views and invariants.
--- What holds of the fields of a cache.
-use Rattle.std.specs.Prelude.{◌≡◌, ℕ, ◌<◌, ◌≤◌, length, nat_eq, vec_capacity}
-use Rattle.std.specs.List.{IsDistinct}
+-- What holds of the fields of a cache, and of the blocks of one class and the pool.
+use Rattle.std.specs.Prelude.{◌≡◌, ℕ, ◌-◌, ◌≤◌, List, [], length, nat_eq, slice_index_or}
+use Rattle.std.specs.Prelude.{vec_capacity}
+use Rattle.std.specs.List.{All, IsDistinct}
 use Rattle.scudo_header.specs.declared.classes.TheConstants.{CLASSES}
+use Rattle.scudo_header.specs.ByClass.{by_class}
+use Rattle.scudo_header.specs.Classes.{IsClass}
 use Rattle.scudo_primary.specs.Batches.{max_count_of}
-use Rattle.scudo_cache.specs.Caches.{CacheState, entries_of}
+use Rattle.scudo_primary.specs.Pools.{PoolState, IsCached}
+use Rattle.scudo_cache.specs.Caches.{CacheState, Class}
 use Rattle.scudo_cache.specs.declared.cache.Cache.TheInside.{Inside}
+
+abbrev pub list_in : Inside → ℕ → List ℕ
+list_in f class = slice_index_or f.entries.items (class - 1) []
 
 abbrev pub cache_of : Inside → CacheState
 cache_of f = record {
-  lists = f.entries.items;
+  classes = by_class (list_in f);
   capacity = vec_capacity f.entries;
 }
 
 pub record IsCache (f : Inside) : Type 0 where
   pub all : length f.entries.items ≡ CLASSES
-  pub most :
-      (class : ℕ) → 0 < class → class ≤ CLASSES
-      → length (entries_of (cache_of f) class) ≤ max_count_of class
-  pub distinct :
-      (class : ℕ) → 0 < class → class ≤ CLASSES → IsDistinct nat_eq (entries_of (cache_of f) class)
+  pub most : (class : ℕ) → IsClass class → length (list_in f class) ≤ max_count_of class
+  pub distinct : (class : ℕ) → IsClass class → IsDistinct nat_eq (list_in f class)
+
+abbrev pub class_with : List ℕ → PoolState → Class
+class_with entries p = record { entries = entries; pool = p }
+
+-- the blocks that the cache holds of a class
+pub record IsHeld (class : ℕ) (entries : List ℕ) (p : PoolState) : Type 0 where
+  pub cached : All (IsCached p class) entries
+  pub distinct : IsDistinct nat_eq entries
+  pub most : length entries ≤ max_count_of class

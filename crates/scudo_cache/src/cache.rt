@@ -1,14 +1,14 @@
 //! The blocks of each class that are at hand.
 
-ghost use Rattle.std.specs.Prelude.{◌≡◌, ◌≢◌, ◌<◌, ◌≤◌, ◌∷◌, [], ℕ, length};
-ghost use Rattle.std.specs.Prelude.{drop, slice_get, false, IfSome, IfOk};
+ghost use Rattle.std.specs.Prelude.{◌≡◌, ◌<◌, ◌≤◌, [], length, slice_get, false, IfSome, IfOk};
 ghost use Rattle.scudo_primary.specs.Batches.{max_count_of};
-ghost use Rattle.scudo_primary.specs.Blocks.{IsBlock};
-ghost use Rattle.scudo_primary.specs.Pools.{pages_of, stack_of, sizes_of, is_marked, is_member};
-ghost use Rattle.scudo_cache.specs.Caches.{entries_of, with_entries, one_stack, stack_over};
-ghost use Rattle.scudo_cache.specs.Caches.{empty_cache, AreStacks};
-ghost use Rattle.scudo_cache.specs.Caches.{IsAbove, IsHeld, Took, class_with, after_refill, newest};
-ghost use Rattle.scudo_cache.specs.Caches.{after_take, with_room, after_put};
+ghost use Rattle.scudo_primary.specs.Blocks.{IsBlock, is_member};
+ghost use Rattle.scudo_primary.specs.Pools.{pages_of, stack_of, is_marked};
+ghost use Rattle.scudo_cache.specs.Caches.{one_stack, stack_over, with_entries, empty_cache};
+ghost use Rattle.scudo_cache.specs.Caches.{AreStacks, IsAbove, KeepsRest};
+ghost use Rattle.scudo_cache.specs.Caches.{block_taken, class_after_take, class_after_put};
+ghost use Rattle.scudo_cache.specs.Caches.{after_refill, newest, after_take, with_room, after_put};
+ghost use Rattle.scudo_cache.specs.Inner.{IsHeld, class_with};
 
 use crate::per_class::PerClass;
 use scudo_header::CLASSES;
@@ -55,34 +55,15 @@ impl Cache {
         requires low { 0 < class }
         requires high { class ≤ CLASSES }
         requires above { IsAbove self.old pool.old }
-        ensures answer { result
-            ≡ newest (after_refill class (entries_of self.old class) pool.old).entries }
+        ensures answer { result ≡ block_taken self.old pool.old class }
         ensures cache { self.new
-            ≡ with_entries self.old class
-            (after_take class (after_refill class (entries_of self.old class) pool.old)).entries }
-        ensures pool { pool.new
-            ≡ (after_take class (after_refill class (entries_of self.old class) pool.old)).pool }
-        ensures above { IsAbove self.new pool.new }
+            ≡ with_entries self.old class (class_after_take self.old pool.old class).entries }
+        ensures pool { pool.new ≡ (class_after_take self.old pool.old class).pool }
 
-        // Cache and pool are one stack, and a block that is at hand leaves the pool's lists as they
-        // are.
+        // Cache and pool are one stack: `stacks_after_calls` says what is left of it.
         ensures top { result ≡ slice_get (one_stack self.old pool.old class) 0 }
-        ensures rest { one_stack self.new pool.new class
-            ≡ drop 1 (one_stack self.old pool.old class) }
         ensures block { IfSome result (IsBlock class (pages_of pool.new class)) }
-        ensures used { IfSome result (λ block. is_marked pool.new class block ≡ false) }
-        ensures stacks { AreStacks self.old pool.old → AreStacks self.new pool.new }
-        ensures others { (other : ℕ)
-            → 0 < other
-            → other ≢ class
-            → one_stack self.new pool.new other ≡ one_stack self.old pool.old other }
-        ensures pages { (other : ℕ) → pages_of pool.new other ≡ pages_of pool.old other }
-        ensures left { pool.new.left ≡ pool.old.left }
-        ensures capacities { pool.new.capacities ≡ pool.old.capacities }
-        ensures lists { entries_of self.old class ≢ []
-            → (stack_of pool.new class ≡ stack_of pool.old class) }
-        ensures batches { entries_of self.old class ≢ []
-            → (sizes_of pool.new class ≡ sizes_of pool.old class) }
+        ensures rest { KeepsRest class self.old pool.old self.new pool.new }
     {
         take_from(&mut self.entries[class as usize - 1], class, pool)
     }
@@ -96,28 +77,9 @@ impl Cache {
         requires carved { IsBlock class (pages_of pool.old class) block }
         requires used { is_marked pool.old class block ≡ false }
         ensures cache { self.new
-            ≡ with_entries self.old class
-            (after_put class block (with_room class (entries_of self.old class) pool.old)).entries }
-        ensures pool { pool.new
-            ≡ (after_put class block (with_room class (entries_of self.old class) pool.old)).pool }
-        ensures above { IsAbove self.new pool.new }
-
-        // Cache and pool are one stack, and a cache that has room leaves the pool's lists as they
-        // are.
-        ensures stack { one_stack self.new pool.new class
-            ≡ block ∷ one_stack self.old pool.old class }
-        ensures stacks { AreStacks self.old pool.old → AreStacks self.new pool.new }
-        ensures others { (other : ℕ)
-            → 0 < other
-            → other ≢ class
-            → one_stack self.new pool.new other ≡ one_stack self.old pool.old other }
-        ensures pages { (other : ℕ) → pages_of pool.new other ≡ pages_of pool.old other }
-        ensures left { pool.new.left ≡ pool.old.left }
-        ensures capacities { pool.new.capacities ≡ pool.old.capacities }
-        ensures lists { length (entries_of self.old class) < max_count_of class
-            → (stack_of pool.new class ≡ stack_of pool.old class) }
-        ensures batches { length (entries_of self.old class) < max_count_of class
-            → (sizes_of pool.new class ≡ sizes_of pool.old class) }
+            ≡ with_entries self.old class (class_after_put self.old pool.old class block).entries }
+        ensures pool { pool.new ≡ (class_after_put self.old pool.old class block).pool }
+        ensures rest { KeepsRest class self.old pool.old self.new pool.new }
     {
         put_into(&mut self.entries[class as usize - 1], class, block, pool);
     }
@@ -146,7 +108,8 @@ fn take_from(entries: &mut PerClass, class: u8, pool: &mut Primary) -> Option<u6
     ensures state { class_with entries.new pool.new
         ≡ after_take class (after_refill class entries.old pool.old) }
     ensures held { IsHeld class entries.new pool.new }
-    ensures took { Took class entries.old pool.old entries.new pool.new result }
+    ensures top { result ≡ slice_get (stack_over entries.old pool.old class) 0 }
+    ensures block { IfSome result (IsBlock class (pages_of pool.new class)) }
 {
     if entries.is_empty() {
         return refill_and_take(entries, class, pool);
@@ -164,7 +127,8 @@ fn refill_and_take(entries: &mut PerClass, class: u8, pool: &mut Primary) -> Opt
     ensures state { class_with entries.new pool.new
         ≡ after_take class (after_refill class entries.old pool.old) }
     ensures held { IsHeld class entries.new pool.new }
-    ensures took { Took class entries.old pool.old entries.new pool.new result }
+    ensures top { result ≡ slice_get (stack_over entries.old pool.old class) 0 }
+    ensures block { IfSome result (IsBlock class (pages_of pool.new class)) }
 {
     entries.refill(class, pool);
     hand_out(entries, class, pool)
@@ -181,7 +145,8 @@ fn hand_out(entries: &mut PerClass, class: u8, pool: &mut Primary) -> Option<u64
     ensures state { class_with entries.new pool.new
         ≡ after_take class (class_with entries.old pool.old) }
     ensures held { IsHeld class entries.new pool.new }
-    ensures took { Took class entries.old pool.old entries.new pool.new result }
+    ensures top { result ≡ slice_get (stack_over entries.old pool.old class) 0 }
+    ensures block { IfSome result (IsBlock class (pages_of pool.new class)) }
 {
     let block = entries.pop()?;
     pool.mark_used(class, block);
@@ -199,8 +164,6 @@ fn put_into(entries: &mut PerClass, class: u8, block: u64, pool: &mut Primary)
     ensures state { class_with entries.new pool.new
         ≡ after_put class block (with_room class entries.old pool.old) }
     ensures held { IsHeld class entries.new pool.new }
-    ensures stack { stack_over entries.new pool.new class
-        ≡ block ∷ stack_over entries.old pool.old class }
 {
     if entries.len() >= max_count(class) {
         return make_room_and_put(entries, class, block, pool);
@@ -220,8 +183,6 @@ fn make_room_and_put(entries: &mut PerClass, class: u8, block: u64, pool: &mut P
     ensures state { class_with entries.new pool.new
         ≡ after_put class block (with_room class entries.old pool.old) }
     ensures held { IsHeld class entries.new pool.new }
-    ensures stack { stack_over entries.new pool.new class
-        ≡ block ∷ stack_over entries.old pool.old class }
 {
     make_room(entries, class, pool);
     add(entries, class, block, pool);
@@ -239,8 +200,6 @@ fn add(entries: &mut PerClass, class: u8, block: u64, pool: &mut Primary)
     ensures state { class_with entries.new pool.new
         ≡ after_put class block (class_with entries.old pool.old) }
     ensures held { IsHeld class entries.new pool.new }
-    ensures stack { stack_over entries.new pool.new class
-        ≡ block ∷ stack_over entries.old pool.old class }
 {
     entries.push(block);
     pool.mark_free(class, block);
@@ -255,7 +214,6 @@ fn make_room(entries: &mut PerClass, class: u8, pool: &mut Primary)
     ensures state { class_with entries.new pool.new ≡ with_room class entries.old pool.old }
     ensures held { IsHeld class entries.new pool.new }
     ensures room { length entries.new < max_count_of class }
-    ensures stack { stack_over entries.new pool.new class ≡ stack_over entries.old pool.old class }
 {
     let half = max_count(class) / 2;
     pool.push_batch(class, entries.oldest(half));

@@ -7,4 +7,4 @@ mod laws;
 mod per_class;
 
 pub use cache::Cache;
-pub use laws::stacks_of_parts;
+pub use laws::{stacks_after_calls, stacks_of_parts};

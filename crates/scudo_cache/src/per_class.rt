@@ -3,8 +3,8 @@
 ghost use Rattle.std.specs.Prelude.{◌≡◌, ◌<◌, ◌≤◌, ◌==◌, ◌∷◌, ◌++◌, []};
 ghost use Rattle.std.specs.Prelude.{length, take, drop, IfSome};
 ghost use Rattle.scudo_primary.specs.Pools.{stack_of};
-ghost use Rattle.scudo_cache.specs.Caches.{newest, without_newest, stack_over};
-ghost use Rattle.scudo_cache.specs.Caches.{class_with, after_refill, IsHeld};
+ghost use Rattle.scudo_cache.specs.Caches.{newest, without_newest, after_refill};
+ghost use Rattle.scudo_cache.specs.Inner.{IsHeld, class_with};
 
 use scudo_header::CLASSES;
 use scudo_primary::{MAX_COUNT, Primary};
@@ -102,7 +102,6 @@ impl PerClass {
         ensures state { class_with self.new pool.new ≡ after_refill class self.old pool.old }
         ensures held { IsHeld class self.new pool.new }
         ensures none { self.new ≡ [] → stack_of pool.new class ≡ [] }
-        ensures stack { stack_over self.new pool.new class ≡ stack_over self.old pool.old class }
     {
         self.count = pool.pop_batch(class, &mut self.blocks);
     }

@@ -5,6 +5,11 @@ use Rattle.std.specs.Prelude.{if◌then◌else◌}
 use Rattle.std.specs.List.{find, range_with_len}
 use Rattle.scudo_header.specs.declared.classes.TheConstants.{CLASSES}
 
+-- A size class by its number.
+pub record IsClass (class : ℕ) : Type 0 where
+  pub low : 0 < class
+  pub high : class ≤ CLASSES
+
 -- The power of two at or below the size of the k-th class above the middle one, class 8.
 abbrev pub power_below : ℕ → ℕ
 power_below k = 256 * 2 ^ (k / 4)

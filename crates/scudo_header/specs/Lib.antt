@@ -1,3 +1,4 @@
 pub mod Classes
+pub mod ByClass
 pub mod Regions
 pub mod Headers

@@ -5,13 +5,12 @@
 --     after_carve s class pages  s with pages more for a class, and the new blocks on top, the
 --                                lowest first
 use Rattle.std.specs.Prelude.{◌≡◌, ℕ, ◌+◌, ◌-◌, ◌*◌, ◌<◌, ◌≤◌, true, nat_eq, List, [], ◌∷◌, ◌++◌, drop}
-use Rattle.std.specs.Prelude.{map, refl, unwrap_or}
-use Rattle.std.specs.List.{range_with_len, IsDistinct}
-use Rattle.std.specs.Ordering.{nat_cmp}
+use Rattle.std.specs.Prelude.{refl}
+use Rattle.std.specs.List.{IsDistinct}
 use Rattle.std.specs.FinMap as finite
-use Rattle.std.specs.FinMap.{FinMap}
 use Rattle.std.specs.Coded.{Coded, code_by, coded×, coded_ℕ, coded_list}
 use Rattle.scudo_header.specs.declared.classes.TheConstants.{CLASSES}
+use Rattle.scudo_header.specs.ByClass.{ByClass, by_class, value_of, with_value}
 use Rattle.scudo_primary.specs.Blocks.{carved_count, IsBlock, blocks_from}
 use Rattle.scudo_primary.specs.Pools.{is_member}
 
@@ -27,7 +26,7 @@ pub record ClassHeap : Type 0 where
 pub record StackState : Type 0 where
   pub left : ℕ
   pub capacities : List ℕ
-  pub classes : FinMap nat_cmp ClassHeap
+  pub classes : ByClass ClassHeap
 
 abbrev pub coded_class : Coded ClassHeap
 coded_class =
@@ -38,7 +37,7 @@ coded_class =
 
 abbrev pub coded_stacks : Coded StackState
 coded_stacks =
-    code_by (ℕ × (List ℕ × FinMap nat_cmp ClassHeap))
+    code_by (ℕ × (List ℕ × ByClass ClassHeap))
     (coded× coded_ℕ (coded× (coded_list coded_ℕ) (finite.code coded_ℕ coded_class)))
     (λ s. (s.left, (s.capacities, s.classes)))
     (λ c. record { left = c.0; capacities = c.1.0; classes = c.1.1 })
@@ -49,11 +48,8 @@ empty_class = record { pages = 0; stack = [] }
 
 -- the classes, by what each has
 abbrev pub stacks_by : ℕ → List ℕ → (ℕ → ClassHeap) → StackState
-stacks_by left capacities f = record {
-  left = left;
-  capacities = capacities;
-  classes = finite.from_entries (map (λ class. (class, f class)) (range_with_len 1 CLASSES));
-}
+stacks_by left capacities f =
+    record { left = left; capacities = capacities; classes = by_class f }
 
 -- The memory of the lists of a heap for so many pages: it is there from the start, and stays.
 abbrev pub memory_for : ℕ → List ℕ
@@ -64,7 +60,7 @@ unfoldable pub empty_stacks : ℕ → StackState
 empty_stacks left = stacks_by left (memory_for left) (λ _. empty_class)
 
 unfoldable pub class_at : StackState → ℕ → ClassHeap
-class_at s class = unwrap_or (finite.get s.classes class) empty_class
+class_at s class = value_of s.classes empty_class class
 
 abbrev pub pages_of : StackState → ℕ → ℕ
 pages_of s class = (class_at s class).pages
@@ -73,7 +69,7 @@ abbrev pub stack_of : StackState → ℕ → List ℕ
 stack_of s class = (class_at s class).stack
 
 unfoldable pub with_class : StackState → ℕ → ClassHeap → StackState
-with_class s class k = record s { classes = finite.insert s.classes class k }
+with_class s class k = record s { classes = with_value s.classes class k }
 
 abbrev pub with_stack : StackState → ℕ → List ℕ → StackState
 with_stack s class stack = with_class s class (record { pages = pages_of s class; stack = stack })

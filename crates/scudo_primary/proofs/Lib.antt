@@ -1,5 +1,6 @@
 pub mod BlockLemmas
 pub mod ListLemmas
+pub mod BlockLists
 pub mod TableLemmas
 pub mod LinkLemmas
 pub mod ModelLemmas
@@ -11,4 +12,3 @@ pub mod WidenLemmas
 pub mod BatchLemmas
 pub mod TakingLemmas
 pub mod TakenLemmas
-pub mod PoolLaws

@@ -1,10 +1,9 @@
 -- A block put on a list, the top of a list taken, a block marked.
-use Rattle.std.proofs.Common.{◌≡◌, ◌≢◌, ℕ, suc, ◌+◌, ◌-◌, ◌<◌, ◌≤◌, ◌^◌, Bool, true, false, List, ◌∷◌, map, get_or, set, refl, sym, ap, subst, ◌∙◌, inl, inr, arith, eqb}
+use Rattle.std.proofs.Common.{◌≡◌, ◌≢◌, ℕ, suc, ◌+◌, ◌-◌, ◌<◌, ◌≤◌, ◌^◌, Bool, true, false, List, ◌∷◌, map, get_or, set, refl, sym, ap, subst, ◌∙◌, inl, inr, arith}
 use Rattle.std.proofs.lemmas.Bool.{cases_eq}
 use Rattle.std.proofs.lemmas.List.{length-set}
-use Rattle.std.specs.List.{IsDistinct}
 use Rattle.std.proofs.lemmas.Map.Steps.{length-le_from_distinct_below}
-use Rattle.scudo_primary.specs.Blocks.{number_of, IsBlock}
+use Rattle.scudo_primary.specs.Blocks.{AreBlocks, number_of, IsBlock}
 use Rattle.scudo_primary.specs.Batches.{max_count_of, one_less}
 use Rattle.scudo_primary.specs.Pools.{ClassState, is_member, class_after_pop, class_with_mark}
 use Rattle.scudo_primary.specs.Inner.{Each, sizes_after_push, sizes_of_marks, place_of, no_entry, entry_at, list_at, next_in, last_in, free_in, stack_from, sizes_from, marks_in, class_in, class_after_link, IsLinked, IsTable, Became}
@@ -12,8 +11,9 @@ use Rattle.scudo_primary.specs.Blocks.{IsClass}
 use Rattle.address_map.specs.declared.limits.TheConstants.{MAX_PAGES}
 use Rattle.scudo_primary.specs.declared.lists.BlockEntry.{BlockEntry}
 use Rattle.scudo_primary.specs.declared.lists.ClassList.{ClassList}
+use Rattle.scudo_primary.proofs.BlockLists.{each-block, blocks-more, blocks-rest}
 use Rattle.scudo_primary.proofs.BlockLemmas.{IsCell, block-IsCell}
-use Rattle.scudo_primary.proofs.ListLemmas.{follow-suc, length-follow, Each-map, Each-both, Each-other, distinct-cons, distinct-head, distinct-tail, member-fact, sizes-of-marks-cons, one_less-sizes-after-push, Each-sizes-after-push}
+use Rattle.scudo_primary.proofs.ListLemmas.{member-first, follow-suc, length-follow, Each-map, Each-both, Each-other, distinct-head, sizes-of-marks-cons, one_less-sizes-after-push, Each-sizes-after-push}
 use Rattle.scudo_primary.proofs.TableLemmas.{Writes, writes, writes-others, became, marks-set, stack-agree, sizes-agree, next-same, last-same, free-same, list-same, list-other}
 
 stack-cons : (es : List BlockEntry) (ns : List ℕ) (c n at : ℕ) → stack_from es ns c (suc n) at ≡ at ∷ stack_from es ns c n (next_in es ns c at)
@@ -64,7 +64,7 @@ link-class : (es es' : List BlockEntry) (ns : List ℕ) (c b : ℕ) (k : ClassLi
 link-class es es' ns c b k last hc old block out room w =
     let xs = stack_from es ns c k.count k.head in
     let e = link_entry k last in
-    let away = Each-both xs (IsBlock c k.pages) (λ x. x ≢ b) old.blocks (Each-other xs b out) in
+    let away = Each-both xs (IsBlock c k.pages) (λ x. x ≢ b) (each-block c k.pages xs old.blocks) (Each-other xs b out) in
     let stay : (x : ℕ) → IsBlock c k.pages x × (x ≢ b) → entry_at es' ns c x ≡ entry_at es ns c x = λ x q. w.other x q.0 q.1 in
     let below : stack_from es' ns c k.count k.head ≡ xs = stack-agree es es' ns ns c k.count k.head _ away (λ x q. next-same es es' ns ns c x (stay x q)) in
     let sizes_below : sizes_from es' ns c k.count k.head ≡ sizes_from es ns c k.count k.head =
@@ -78,8 +78,7 @@ link-class es es' ns c b k last hc old block out room w =
     ∙ ap (λ t. sizes_after_push last (sizes_from es' ns c k.count t)) (next-of es' ns c b e w.own) ∙ ap (sizes_after_push last) sizes_below in
     let marks = marks-set es es' ns c k.pages b e hc block w in (
       record {
-        blocks = subst (Each (IsBlock c k.pages)) (sym stack) (block, old.blocks);
-        distinct = subst (IsDistinct eqb) (sym stack) (distinct-cons b xs out old.distinct);
+        blocks = subst (AreBlocks c k.pages) (sym stack) (blocks-more c k.pages b xs block out old.blocks);
         marked = subst (Each (λ x. free_in es' ns c x ≡ true)) (sym stack) (free-of es' ns c b e w.own, marked-kept es es' ns c xs _ away old.marked stay);
         batches = subst (Each (λ n. n ≤ max_count_of c)) (sym sizes) room;
       },
@@ -117,23 +116,21 @@ unlink-class es es' ns c k hc old some w =
     let xs = stack_from es ns c k'.count k'.head in
     let is : stack_from es ns c k.count k.head ≡ b ∷ xs = stack-split es ns c k.count b some in
     let cut : sizes_from es ns c k.count k.head ≡ sizes_after_push (last_in es ns c b) (sizes_from es ns c k'.count k'.head) = sizes-split es ns c k.count b some in
-    let blocks : IsBlock c k.pages b × Each (IsBlock c k.pages) xs = subst (Each (IsBlock c k.pages)) is old.blocks in
+    let mine : AreBlocks c k.pages (b ∷ xs) = subst (AreBlocks c k.pages) is old.blocks in
     let marked : (free_in es ns c b ≡ true) × Each (λ x. free_in es ns c x ≡ true) xs = subst (Each (λ x. free_in es ns c x ≡ true)) is old.marked in
-    let distinct = subst (IsDistinct eqb) is old.distinct in
-    let away = Each-both xs (IsBlock c k.pages) (λ x. x ≢ b) blocks.1 (Each-other xs b (distinct-head b xs distinct)) in
+    let away = Each-both xs (IsBlock c k.pages) (λ x. x ≢ b) (each-block c k.pages (b ∷ xs) mine).1 (Each-other xs b (distinct-head b xs mine.distinct)) in
     let stay : (x : ℕ) → IsBlock c k.pages x × (x ≢ b) → entry_at es' ns c x ≡ entry_at es ns c x = λ x q. w.other x q.0 q.1 in
     let stack : stack_from es' ns c k'.count k'.head ≡ xs = stack-agree es es' ns ns c k'.count k'.head _ away (λ x q. next-same es es' ns ns c x (stay x q)) in
     let sizes : sizes_from es' ns c k'.count k'.head ≡ sizes_from es ns c k'.count k'.head =
     sizes-agree es es' ns ns c k'.count k'.head _ away stack (λ x q. last-same es es' ns ns c x (stay x q)) in
     let less : sizes_from es ns c k'.count k'.head ≡ one_less (sizes_from es ns c k.count k.head) =
     sym (ap one_less cut ∙ sizes-less es ns c k'.count k'.head (last_in es ns c b)) in
-    let marks = marks-set es es' ns c k.pages b e hc blocks.0 w in
+    let marks = marks-set es es' ns c k.pages b e hc (mine.carved b (member-first b xs)) w in
     let room = Each-sizes-after-push (last_in es ns c b) _ (max_count_of c) (subst (Each (λ n. n ≤ max_count_of c)) cut old.batches) in
     let after : ClassState = record { pages = k.pages; stack = xs; sizes = one_less (sizes_from es ns c k.count k.head); marks = set (marks_in es ns c k.pages) (number_of c b) false } in
     let done : class_in es' ns c k' ≡ after = λ i. record { pages = k.pages; stack = stack i; sizes = (sizes ∙ less) i; marks = marks i } in (
       record {
-        blocks = subst (Each (IsBlock c k.pages)) (sym stack) blocks.1;
-        distinct = subst (IsDistinct eqb) (sym stack) (distinct-tail b xs distinct);
+        blocks = subst (AreBlocks c k.pages) (sym stack) (blocks-rest c k.pages b xs mine);
         marked = subst (Each (λ x. free_in es' ns c x ≡ true)) (sym stack) (marked-kept es es' ns c xs _ away marked.1 stay);
         batches = subst (Each (λ n. n ≤ max_count_of c)) (sym sizes) room;
       },
@@ -153,12 +150,13 @@ top-of es ns ks c h hc some =
     let old = h.linked c hc in
     let xs = stack_from es ns c (k.count - 1) (next_in es ns c k.head) in
     let is = stack-split es ns c k.count k.head some in
-    let blocks : IsBlock c k.pages k.head × Each (IsBlock c k.pages) xs = subst (Each (IsBlock c k.pages)) is old.blocks in
+    let blocks : AreBlocks c k.pages (k.head ∷ xs) = subst (AreBlocks c k.pages) is old.blocks in
+    let top : IsBlock c k.pages k.head = blocks.carved k.head (member-first k.head xs) in
     record {
-      block = blocks.0;
-      cell = block-IsCell c k.pages k.head hc blocks.0;
+      block = top;
+      cell = block-IsCell c k.pages k.head hc top;
       stack = is;
-      unlisted = distinct-head k.head xs (subst (IsDistinct eqb) is old.distinct);
+      unlisted = distinct-head k.head xs blocks.distinct;
     }
 
 pub unlinked : (es : List BlockEntry) (ns : List ℕ) (ks : List ClassList) (c : ℕ) → IsTable es ns ks → IsClass c → 0 < (list_at ks c).count
@@ -211,19 +209,19 @@ mark-class es es' ns c b k free hc old block out w =
       | inl s ↦ ap (last_in es' ns c) s ∙ ap (λ (t : BlockEntry). t.last) w.own ∙ sym (ap (last_in es ns c) s)
       | inr n ↦ last-same es es' ns ns c x (w.other x q n)
     ] in
-    let stack = stack-agree es es' ns ns c k.count k.head _ old.blocks nexts in
-    let sizes = sizes-agree es es' ns ns c k.count k.head _ old.blocks stack lasts in
+    let blocks = each-block c k.pages xs old.blocks in
+    let stack = stack-agree es es' ns ns c k.count k.head _ blocks nexts in
+    let sizes = sizes-agree es es' ns ns c k.count k.head _ blocks stack lasts in
     let marks = marks-set es es' ns c k.pages b e hc block w in
     let keep : (f : Bool) → free ≡ f → Each (λ x. free_in es' ns c x ≡ true) xs = λ f. elim f as (λ f. free ≡ f → Each (λ x. free_in es' ns c x ≡ true) xs) [
-      | true ↦ λ is. Each-map xs _ _ (Each-both xs (IsBlock c k.pages) (λ x. free_in es ns c x ≡ true) old.blocks old.marked) (λ x q. elim (cases_eq x b) [
+      | true ↦ λ is. Each-map xs _ _ (Each-both xs (IsBlock c k.pages) (λ x. free_in es ns c x ≡ true) blocks old.marked) (λ x q. elim (cases_eq x b) [
         | inl s ↦ ap (free_in es' ns c) s ∙ ap (λ (t : BlockEntry). t.free) w.own ∙ is
         | inr n ↦ free-same es es' ns ns c x (w.other x q.0 n) ∙ q.1
       ])
-      | false ↦ λ is. marked-kept es es' ns c xs _ (Each-both xs (IsBlock c k.pages) (λ x. x ≢ b) old.blocks (Each-other xs b (out is))) old.marked (λ x q. w.other x q.0 q.1)
+      | false ↦ λ is. marked-kept es es' ns c xs _ (Each-both xs (IsBlock c k.pages) (λ x. x ≢ b) blocks (Each-other xs b (out is))) old.marked (λ x q. w.other x q.0 q.1)
     ] in (
       record {
-        blocks = subst (Each (IsBlock c k.pages)) (sym stack) old.blocks;
-        distinct = subst (IsDistinct eqb) (sym stack) old.distinct;
+        blocks = subst (AreBlocks c k.pages) (sym stack) old.blocks;
         marked = subst (Each (λ x. free_in es' ns c x ≡ true)) (sym stack) (keep free refl);
         batches = subst (Each (λ n. n ≤ max_count_of c)) (sym sizes) old.batches;
       },
@@ -256,6 +254,6 @@ count-below es ns ks c h hc =
     let k = list_at ks c in
     let old = h.linked c hc in
     let xs = stack_from es ns c k.count k.head in
-    let m = length-le_from_distinct_below xs (2 ^ 30) old.distinct
-    (λ q t. block-below c k.pages q hc (h.numbered.few c hc) (member-fact xs (IsBlock c k.pages) q old.blocks t)) in
+    let m = length-le_from_distinct_below xs (2 ^ 30) old.blocks.distinct
+    (λ q t. block-below c k.pages q hc (h.numbered.few c hc) (old.blocks.carved q t)) in
     subst (λ t. t ≤ 2 ^ 30) (length-follow k.count (next_in es ns c) k.head) m

@@ -1,17 +1,12 @@
 -- What the table says of the value that callers see.
-use Rattle.std.proofs.Common.{◌≡◌, ◌≢◌, ℕ, zero, suc, ◌+◌, ◌-◌, ◌/◌, ◌<◌, ◌≤◌, Bool, true, false, List, [], ◌∷◌, length, map, get_or, set, slice_get, Some, None, ◌⊎◌, refl, sym, ap, subst, ◌∙◌, inl, inr, arith, unwrap_or, eq-eqb}
-use Rattle.std.proofs.lemmas.Bool.{cases_eq, cases_lt, cond-true, cond-false}
+use Rattle.std.proofs.Common.{◌≡◌, ℕ, zero, suc, ◌-◌, ◌/◌, ◌<◌, ◌≤◌, Bool, true, false, List, [], ◌∷◌, length, get_or, set, slice_get, Some, refl, sym, ap, subst, ◌∙◌, arith}
 use Rattle.std.proofs.lemmas.List.{with_items_is}
-use Rattle.std.specs.List.{range_with_len}
 use Rattle.std.specs.Prelude.{vec_len}
 use Rattle.std.specs.Vec.{with_items}
-use Rattle.std.specs.Ordering.{nat_cmp, eq_by_cmp}
-use Rattle.std.specs.Cmp.{unsigned_tied, nat_cmp_total}
-use Rattle.std.specs.FinMap as finite
-use Rattle.std.specs.FinMap.{find, get-insert, get-from_entries, same_map, nat_cmp-IsAntisymmetric}
 use Rattle.scudo_header.specs.Regions.{region_of}
+use Rattle.scudo_header.specs.ByClass.{ByClass, by_class}
+use Rattle.scudo_header.proofs.ByClassLaws.{value_of-by_class, value_of-with_value, by_class-same, by_class-with_value}
 use Rattle.address_map.specs.declared.limits.TheConstants.{PAGE_SIZE}
-use Rattle.scudo_header.specs.declared.classes.TheConstants.{CLASSES}
 use Rattle.scudo_primary.specs.Blocks.{number_of, IsBlock}
 use Rattle.scudo_primary.specs.Pools.{ClassState, PoolState, empty_class, pool_by, class_at, with_class, after_pop, class_after_pop, class_with_mark, is_marked, is_member}
 use Rattle.scudo_primary.specs.Inner.{list_at, class_in, state_of, capacities_in, pool_in, follow, free_in, stack_from, marks_in, slot_of, place_of, no_entry, entry_at, IsLinked, IsTable, IsPool, Became}
@@ -25,75 +20,17 @@ use Rattle.scudo_primary.proofs.BlockLemmas.{block-IsCell}
 use Rattle.scudo_primary.proofs.TableLemmas.{mark-block, slot-in, place-in}
 use Rattle.scudo_primary.proofs.LinkLemmas.{used_entry, marked}
 
--- ---- maps by class
-
-pub tied-same : (q : ℕ) → eq_by_cmp nat_cmp q q ≡ true
-tied-same q = unsigned_tied q q ∙ eq-eqb q q refl
-
-pub tied-other : (q r : ℕ) → q ≢ r → eq_by_cmp nat_cmp q r ≡ false
-tied-other q r n = unsigned_tied q r ∙ grind arith
-
-pub entries-in : {X : Type 0} (f : ℕ → X) (n a q : ℕ) → a ≤ q → q < a + n → find nat_cmp q (map (λ c. (c, f c)) (range_with_len a n)) ≡ Some (f q)
-entries-in f zero a q l h = absurd (omega arith)
-entries-in f (suc n) a q l h = elim (cases_eq q a) [
-  | inl s ↦ ap (λ t. find nat_cmp t (map (λ c. (c, f c)) (range_with_len a (suc n)))) s ∙ cond-true _ _ _ (tied-same a) ∙ ap (λ t. Some (f t)) (sym s)
-  | inr o ↦ cond-false _ _ _ (tied-other q a o) ∙ entries-in f n (a + 1) q (omega arith) (omega arith)
-]
-
-pub entries-out : {X : Type 0} (f : ℕ → X) (n a q : ℕ) → ((a ≤ q) × (q < a + n) → ⊥) → find nat_cmp q (map (λ c. (c, f c)) (range_with_len a n)) ≡ None
-entries-out f zero a q h = refl
-entries-out f (suc n) a q h =
-    let o : q ≢ a = λ e. h (omega arith, omega arith) in
-    cond-false _ _ _ (tied-other q a o) ∙ entries-out f n (a + 1) q (λ t. let l = t.0 in let u = t.1 in h (omega arith, omega arith))
-
-get-in : (left : ℕ) (cs : List ℕ) (f : ℕ → ClassState) (c : ℕ) → IsClass c → finite.get (pool_by left cs f).classes c ≡ Some (f c)
-get-in left cs f c h = let a = h.low in let b = h.high in get-from_entries nat_cmp_total (map (λ d. (d, f d)) (range_with_len 1 CLASSES)) c ∙ entries-in f CLASSES 1 c (omega arith) (omega arith)
-
-get-out : (left : ℕ) (cs : List ℕ) (f : ℕ → ClassState) (c : ℕ) → (IsClass c → ⊥) → finite.get (pool_by left cs f).classes c ≡ None
-get-out left cs f c h =
-    get-from_entries nat_cmp_total (map (λ d. (d, f d)) (range_with_len 1 CLASSES)) c ∙ entries-out f CLASSES 1 c (λ t. let l = t.0 in let u = t.1 in h (record { low = omega arith; high = omega arith }))
-
-pub class_at-pool_by : (left : ℕ) (cs : List ℕ) (f : ℕ → ClassState) (c : ℕ) → IsClass c → class_at (pool_by left cs f) c ≡ f c
-unfolding class_at
-class_at-pool_by left cs f c h = ap (λ o. unwrap_or o empty_class) (get-in left cs f c h)
-
-pub is-class : (c : ℕ) → IsClass c ⊎ (IsClass c → ⊥)
-is-class c = elim (cases_lt 0 c) [
-  | inl p ↦ elim (cases_lt CLASSES c) [
-    | inl q ↦ inr (λ h. let b = h.high in omega arith)
-    | inr q ↦ inl (record { low = p; high = q })
-  ]
-  | inr q ↦ inr (λ h. let a = h.low in omega arith)
-]
+abbrev pub pool_of : ℕ → List ℕ → ByClass ClassState → PoolState
+pool_of left cs m = record { left = left; capacities = cs; classes = m }
 
 -- two pools whose classes agree
 pub pool_by-agree : (m n : ℕ) (cs : List ℕ) (f g : ℕ → ClassState) → m ≡ n → ((c : ℕ) → IsClass c → f c ≡ g c) → pool_by m cs f ≡ pool_by n cs g
-pool_by-agree m n cs f g e h =
-    let same : (q : ℕ) → finite.get (pool_by m cs f).classes q ≡ finite.get (pool_by m cs g).classes q = λ q.
-    elim (is-class q) [
-      | inl hq ↦ get-in m cs f q hq ∙ ap Some (h q hq) ∙ sym (get-in m cs g q hq)
-      | inr o ↦ get-out m cs f q o ∙ sym (get-out m cs g q o)
-    ] in
-    ap (λ t. record { left = m; capacities = cs; classes = t }) (same_map nat_cmp_total nat_cmp-IsAntisymmetric _ _ same) ∙ ap (λ t. pool_by t cs g) e
-
--- one class of a pool by classes
-pub pool_by-with_class : (left : ℕ) (cs : List ℕ) (f g : ℕ → ClassState) (c : ℕ) (k : ClassState) → IsClass c → g c ≡ k → ((d : ℕ) → IsClass d → d ≢ c → g d ≡ f d) → pool_by left cs g ≡ with_class (pool_by left cs f) c k
-unfolding with_class
-pool_by-with_class left cs f g c k h own other =
-    let same : (q : ℕ) → finite.get (pool_by left cs g).classes q ≡ finite.get (finite.insert (pool_by left cs f).classes c k) q = λ q.
-    (elim (is-class q) [
-      | inl hq ↦ get-in left cs g q hq ∙ elim (cases_eq q c) [
-        | inl s ↦ ap Some (ap g s ∙ own) ∙ sym (cond-true _ _ _ (ap (λ t. eq_by_cmp nat_cmp t c) s ∙ tied-same c))
-        | inr n ↦ ap Some (other q hq n) ∙ sym (get-in left cs f q hq) ∙ sym (cond-false _ _ _ (tied-other q c n))
-      ]
-      | inr o ↦ get-out left cs g q o ∙ sym (get-out left cs f q o) ∙ sym (cond-false _ _ _ (tied-other q c (λ e. o (subst IsClass (sym e) h))))
-    ]) ∙ sym (get-insert nat_cmp_total (pool_by left cs f).classes c k q) in
-    ap (λ m. record { left = left; capacities = cs; classes = m }) (same_map nat_cmp_total nat_cmp-IsAntisymmetric _ _ same)
+pool_by-agree m n cs f g e h = ap (λ t. pool_of t cs (by_class f)) e ∙ ap (pool_of n cs) (by_class-same f g h)
 
 -- ---- a pool's value
 
 pub class_at-state : (left : ℕ) (cs : List ℕ) (es : List BlockEntry) (ns : List ℕ) (ks : List ClassList) (c : ℕ) → IsClass c → class_at (state_of left cs es ns ks) c ≡ class_in es ns c (list_at ks c)
-class_at-state left cs es ns ks c h = class_at-pool_by left cs (λ d. class_in es ns d (list_at ks d)) c h
+class_at-state left cs es ns ks c h = value_of-by_class (λ d. class_in es ns d (list_at ks d)) empty_class c h
 
 pub class_at-value : (f : Inside) (v : PoolState) (c : ℕ) → pool_in f ≡ v → IsClass c → class_at v c ≡ class_in f.entries.items f.numbers.items c (list_at f.lists c)
 class_at-value f v c e h = ap (λ p. class_at p c) (sym e) ∙ class_at-state (f.limit - f.used) (capacities_in f) f.entries.items f.numbers.items f.lists c h
@@ -101,7 +38,8 @@ class_at-value f v c e h = ap (λ p. class_at p c) (sym e) ∙ class_at-state (f
 pub became-state : (left : ℕ) (cs : List ℕ) (es es' : List BlockEntry) (ns : List ℕ) (ks ks' : List ClassList) (c : ℕ) (k : ClassState) → IsClass c → Became es ns ks es' ks' c k
     → state_of left cs es' ns ks' ≡ with_class (state_of left cs es ns ks) c k
 became-state left cs es es' ns ks ks' c k h b =
-    pool_by-with_class left cs (λ d. class_in es ns d (list_at ks d)) (λ d. class_in es' ns d (list_at ks' d)) c k h b.class b.others
+    ap (pool_of left cs)
+    (by_class-with_value (λ d. class_in es ns d (list_at ks d)) (λ d. class_in es' ns d (list_at ks' d)) c k h b.class b.others)
 
 abbrev pub inside_with : Inside → List BlockEntry → List ClassList → Inside
 inside_with f es ks = record { entries = with_items f.entries es; numbers = f.numbers; lists = ks; used = f.used; limit = f.limit }
@@ -141,19 +79,11 @@ pool-done f v es ns es' ks' c F e h hc ee le en b =
       pages = old.pages c hc;
     }
 
-pub class_at-with_class : (p : PoolState) (c : ℕ) (k : ClassState) → class_at (with_class p c k) c ≡ k
-unfolding class_at with_class
-class_at-with_class p c k = ap (λ o. unwrap_or o empty_class) (get-insert nat_cmp_total p.classes c k c ∙ cond-true _ _ _ (tied-same c))
-
-pub class_at-with_class_other : (p : PoolState) (c d : ℕ) (k : ClassState) → d ≢ c → class_at (with_class p c k) d ≡ class_at p d
-unfolding class_at with_class
-class_at-with_class_other p c d k n = ap (λ o. unwrap_or o empty_class) (get-insert nat_cmp_total p.classes c k d ∙ cond-false _ _ _ (tied-other d c n))
-
 -- a class put in as it stands
 pub with_class-kept : (f : Inside) (v : PoolState) (c : ℕ) → pool_in f ≡ v → IsClass c → v ≡ with_class v c (class_at v c)
 with_class-kept f v c e h =
     let own : ℕ → ClassState = λ d. class_in f.entries.items f.numbers.items d (list_at f.lists d) in
-    sym e ∙ pool_by-with_class (f.limit - f.used) (capacities_in f) own own c (own c) h refl (λ d hd n. refl) ∙ ap (λ t. with_class t c (own c)) e ∙ ap (with_class v c) (sym (class_at-value f v c e h))
+    sym e ∙ ap (pool_of (f.limit - f.used) (capacities_in f)) (by_class-with_value own own c (own c) h refl (λ d hd n. refl)) ∙ ap (λ t. with_class t c (own c)) e ∙ ap (with_class v c) (sym (class_at-value f v c e h))
 
 pub empty-stack : (f : Inside) (v : PoolState) (c : ℕ) → pool_in f ≡ v → IsClass c → (list_at f.lists c).count ≡ 0 → (class_at v c).stack ≡ []
 unfolding stack_from follow
@@ -161,7 +91,6 @@ empty-stack f v c e h z =
     ap (λ (t : ClassState). t.stack) (class_at-value f v c e h) ∙ ap (λ n. stack_from f.entries.items f.numbers.items c n (list_at f.lists c).head) z
 
 pub after-pop-empty : (f : Inside) (v : PoolState) (c : ℕ) → pool_in f ≡ v → IsClass c → (list_at f.lists c).count ≡ 0 → v ≡ after_pop v c
-unfolding after_pop
 after-pop-empty f v c e h z = with_class-kept f v c e h ∙ ap (λ t. with_class v c (class_after_pop c (class_at v c) t)) (sym (empty-stack f v c e h z))
 
 cleared : (marks : List Bool) (n : ℕ) → get_or (set marks n false) n false ≡ false
@@ -178,7 +107,7 @@ pop-cleared c k (x ∷ xs) b e =
 -- a block that was popped is marked used
 pub after-pop-used : (v v' : PoolState) (c b : ℕ) → v' ≡ with_class v c (class_after_pop c (class_at v c) (class_at v c).stack) → slice_get (class_at v c).stack 0 ≡ Some b → is_marked v' c b ≡ false
 after-pop-used v v' c b e top =
-    ap (λ (k : ClassState). get_or k.marks (number_of c b) false) (ap (λ p. class_at p c) e ∙ class_at-with_class v c (class_after_pop c (class_at v c) (class_at v c).stack))
+    ap (λ (k : ClassState). get_or k.marks (number_of c b) false) (ap (λ p. class_at p c) e ∙ value_of-with_value v.classes empty_class c (class_after_pop c (class_at v c) (class_at v c).stack))
     ∙ pop-cleared c (class_at v c) (class_at v c).stack b top
 
 -- the table of an open pool, as slices

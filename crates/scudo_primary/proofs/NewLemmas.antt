@@ -14,6 +14,7 @@ use Rattle.address_map.specs.declared.limits.TheConstants.{MAX_PAGES}
 use Rattle.scudo_primary.specs.declared.lists.BlockEntry.{BlockEntry}
 use Rattle.scudo_primary.specs.declared.lists.ClassList.{ClassList}
 use Rattle.scudo_primary.specs.declared.pool.Primary.TheInside.{Inside}
+use Rattle.scudo_primary.proofs.BlockLists.{no-blocks}
 use Rattle.scudo_primary.proofs.ModelLemmas.{pool_by-agree}
 
 none-carved : (c : ℕ) → carved_count c 0 ≡ 0
@@ -25,7 +26,7 @@ class-empty es ns c = ap (λ n. record { pages = 0; stack = []; sizes = []; mark
 
 linked-empty : (es : List BlockEntry) (ns : List ℕ) (c : ℕ) → IsLinked es ns c no_list
 unfolding stack_from sizes_from follow sizes_of_marks IsDistinct
-linked-empty es ns c = record { blocks = tt; distinct = tt; marked = tt; batches = tt }
+linked-empty es ns c = record { blocks = no-blocks c 0; marked = tt; batches = tt }
 
 list-empty : (ks : List ClassList) (c : ℕ) → ks ≡ replicate CLASSES no_list → IsClass c → list_at ks c ≡ no_list
 unfolding list_at
@@ -54,7 +55,6 @@ new-invariant f n e u l m le ln =
     }
 
 pub new-view : (f : Inside) (n : ℕ) → f.lists ≡ replicate CLASSES no_list → f.used ≡ 0 → f.limit ≡ n → pool_in f ≡ empty_pool n (capacities_in f)
-unfolding empty_pool
 new-view f n e u l =
     let left : f.limit - f.used ≡ n = omega arith in
     pool_by-agree (f.limit - f.used) n (capacities_in f) _ _ left (λ c h. ap (class_in f.entries.items f.numbers.items c) (list-empty f.lists c e h) ∙ class-empty f.entries.items f.numbers.items c)

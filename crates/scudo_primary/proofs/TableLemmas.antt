@@ -1,13 +1,12 @@
 -- What a write to the table leaves of the classes' lists.
-use Rattle.std.proofs.Common.{◌≡◌, ◌≢◌, ℕ, ◌-◌, ◌/◌, ◌<◌, ◌≤◌, Bool, true, false, List, [], ◌∷◌, length, map, get_or, set, sym, ap, subst, ◌∙◌, inl, inr, arith, eqb}
+use Rattle.std.proofs.Common.{◌≡◌, ◌≢◌, ℕ, ◌-◌, ◌/◌, ◌<◌, ◌≤◌, Bool, true, false, List, [], ◌∷◌, length, map, get_or, set, sym, ap, subst, ◌∙◌, inl, inr, arith}
 use Rattle.std.proofs.lemmas.Bool.{cases_eq}
 use Rattle.std.proofs.lemmas.List.{get_or-set_same, get_or-set_other, length-set, ext_get_or}
 use Rattle.std.proofs.lemmas.List.FromFn.{length-map-range_with_len, get_or-map-range_with_len}
-use Rattle.std.specs.List.{IsDistinct}
 use Rattle.scudo_header.specs.Regions.{region_of}
 use Rattle.scudo_header.specs.declared.classes.TheConstants.{CLASSES}
 use Rattle.address_map.specs.declared.limits.TheConstants.{PAGE_SIZE}
-use Rattle.scudo_primary.specs.Blocks.{carved_count, block_at, number_of, IsBlock}
+use Rattle.scudo_primary.specs.Blocks.{AreBlocks, carved_count, block_at, number_of, IsBlock}
 use Rattle.scudo_primary.specs.Batches.{max_count_of}
 use Rattle.scudo_primary.specs.Pools.{ClassState}
 use Rattle.scudo_primary.specs.Inner.{Each, sizes_of_marks, place_of, page_number, slot_of, no_entry, no_list, entry_at, list_at, next_in, last_in, free_in, stack_from, sizes_from, marks_in, class_in, IsNumbered, IsLinked, IsTable, Became}
@@ -15,6 +14,7 @@ use Rattle.scudo_primary.specs.Blocks.{IsClass}
 use Rattle.address_map.specs.declared.limits.TheConstants.{MAX_PAGES}
 use Rattle.scudo_primary.specs.declared.lists.BlockEntry.{BlockEntry}
 use Rattle.scudo_primary.specs.declared.lists.ClassList.{ClassList}
+use Rattle.scudo_primary.proofs.BlockLists.{each-block}
 use Rattle.scudo_primary.proofs.BlockLemmas.{IsCell, block-IsCell, block_at-IsBlock, number_of-block_at, block_at-number}
 use Rattle.scudo_primary.proofs.ListLemmas.{follow-agree, map-agree}
 
@@ -105,15 +105,15 @@ free-same es es' ns ns' c x e = ap (λ (t : BlockEntry). t.free) e
 pub class-kept : (es es' : List BlockEntry) (ns ns' : List ℕ) (c : ℕ) (k : ClassList) → IsClass c → IsLinked es ns c k → ((x : ℕ) → IsBlock c k.pages x → entry_at es' ns' c x ≡ entry_at es ns c x)
     → (class_in es' ns' c k ≡ class_in es ns c k) × IsLinked es' ns' c k
 class-kept es es' ns ns' c k h old e =
-    let stack = stack-agree es es' ns ns' c k.count k.head _ old.blocks (λ x q. next-same es es' ns ns' c x (e x q)) in
-    let sizes = sizes-agree es es' ns ns' c k.count k.head _ old.blocks stack (λ x q. last-same es es' ns ns' c x (e x q)) in
+    let blocks = each-block c k.pages (stack_from es ns c k.count k.head) old.blocks in
+    let stack = stack-agree es es' ns ns' c k.count k.head _ blocks (λ x q. next-same es es' ns ns' c x (e x q)) in
+    let sizes = sizes-agree es es' ns ns' c k.count k.head _ blocks stack (λ x q. last-same es es' ns ns' c x (e x q)) in
     let marks = marks-agree es es' ns ns' c k.pages h (λ x q. free-same es es' ns ns' c x (e x q)) in (
       (λ i. record { pages = k.pages; stack = stack i; sizes = sizes i; marks = marks i }),
       record {
-        blocks = subst (Each (IsBlock c k.pages)) (sym stack) old.blocks;
-        distinct = subst (IsDistinct eqb) (sym stack) old.distinct;
+        blocks = subst (AreBlocks c k.pages) (sym stack) old.blocks;
         marked = subst (Each (λ b. free_in es' ns' c b ≡ true)) (sym stack)
-            (both-map (stack_from es ns c k.count k.head) (IsBlock c k.pages) (λ b. free_in es ns c b ≡ true) (λ b. free_in es' ns' c b ≡ true) old.blocks old.marked (λ x q m. free-same es es' ns ns' c x (e x q) ∙ m));
+            (both-map (stack_from es ns c k.count k.head) (IsBlock c k.pages) (λ b. free_in es ns c b ≡ true) (λ b. free_in es' ns' c b ≡ true) blocks old.marked (λ x q m. free-same es es' ns ns' c x (e x q) ∙ m));
         batches = subst (Each (λ n. n ≤ max_count_of c)) (sym sizes) old.batches;
       },
     )

@@ -8,17 +8,19 @@ use Rattle.std.proofs.lemmas.Map.Keys.{IsDistinct-IsPermutation}
 use Rattle.std.specs.List.{All, IsDistinct}
 use Rattle.scudo_primary.specs.Blocks.{IsBlock}
 use Rattle.scudo_primary.specs.Batches.{max_count_of, first_size}
-use Rattle.scudo_primary.specs.Pools.{ClassState, PoolState, IsLoose, is_member, batch_in, class_after_pop_batch, class_at, with_class, without_batch, top_batch}
+use Rattle.scudo_primary.specs.Pools.{empty_class, ClassState, PoolState, IsLoose, is_member, batch_in, class_after_pop_batch, class_at, with_class, without_batch, top_batch}
 use Rattle.scudo_primary.specs.Inner.{Each, sizes_of_marks, list_at, free_in, last_in, stack_from, sizes_from, class_in, state_of, capacities_in, pool_in, IsLinked, IsTable, IsPool, Became}
 use Rattle.scudo_primary.specs.Blocks.{IsClass}
+use Rattle.scudo_header.proofs.ByClassLaws.{value_of-with_value}
 use Rattle.scudo_primary.specs.declared.lists.BlockEntry.{BlockEntry}
 use Rattle.scudo_primary.specs.declared.lists.ClassList.{ClassList}
 use Rattle.scudo_primary.specs.declared.pool.Primary.TheInside.{Inside}
+use Rattle.scudo_primary.proofs.BlockLists.{each-block}
 use Rattle.scudo_primary.proofs.ListLemmas.{Each-both, Each-map, distinct-head, distinct-tail, distinct-cons}
 use Rattle.scudo_primary.proofs.TableLemmas.{mark-block}
 use Rattle.scudo_primary.proofs.BatchLemmas.{Each-reverse}
 use Rattle.scudo_primary.proofs.TakingLemmas.{first-pos, first-more, first-below}
-use Rattle.scudo_primary.proofs.ModelLemmas.{class_at-slices, class_at-with_class, table-same, became-state}
+use Rattle.scudo_primary.proofs.ModelLemmas.{class_at-slices, table-same, became-state}
 
 Each-All : (xs : List ℕ) (P : ℕ → Type 0) → Each P xs → All P xs
 Each-All [] P h k d l = absurd (omega arith)
@@ -82,8 +84,8 @@ batch-of es ns c k h =
     let short : n ≤ length s = let a = first-length (map (last_in es ns c) s) in let b = length-map s (last_in es ns c) in omega arith in
     let cut : take n s ++ drop n s ≡ s = take-append-drop n s in
     let facts : Each (λ x. IsBlock c k.pages x × (free_in es ns c x ≡ true)) (take n s) =
-    Each-left (take n s) (drop n s) _ (subst (Each (λ x. IsBlock c k.pages x × (free_in es ns c x ≡ true))) (sym cut) (Each-both s (IsBlock c k.pages) (λ x. free_in es ns c x ≡ true) h.blocks h.marked)) in
-    let distinct = subst (IsDistinct eqb) (sym cut) h.distinct in
+    Each-left (take n s) (drop n s) _ (subst (Each (λ x. IsBlock c k.pages x × (free_in es ns c x ≡ true))) (sym cut) (Each-both s (IsBlock c k.pages) (λ x. free_in es ns c x ≡ true) (each-block c k.pages s h.blocks) h.marked)) in
+    let distinct = subst (IsDistinct eqb) (sym cut) h.blocks.distinct in
     let loose : Each (IsLoose (class_after_pop_batch (class_in es ns c k)) c) (take n s) =
     Each-map (take n s) _ _ (Each-both (take n s) _ (λ x. is_member (drop n s) x ≡ false) facts (distinct-across (take n s) (drop n s) distinct))
     (λ x q. record { carved = q.0.0; marked = mark-block es ns c k.pages x false q.0.0 ∙ q.0.1; unlisted = q.1 }) in
@@ -114,7 +116,6 @@ pub record BatchDone (f : Inside) (v : PoolState) (ks' : List ClassList) (c n : 
 pub batch-done : (f : Inside) (v : PoolState) (es : List BlockEntry) (ns : List ℕ) (ks' : List ClassList) (c n : ℕ) (buffer buffer' : List ℕ) → pool_in f ≡ v → IsPool f → IsClass c → es ≡ f.entries.items → ns ≡ f.numbers.items
     → n ≡ first_size (class_in es ns c (list_at f.lists c)).sizes → buffer' ≡ batch_in (class_in es ns c (list_at f.lists c)) ++ drop n buffer
     → Became es ns f.lists es ks' c (class_after_pop_batch (class_in es ns c (list_at f.lists c))) → BatchDone f v ks' c n buffer buffer'
-unfolding without_batch top_batch
 batch-done f v es ns ks' c n buffer buffer' e h hc ee en count blocks b =
     let K = class_in es ns c (list_at f.lists c) in
     let at : class_at v c ≡ K = class_at-slices f v es ns c e hc ee en in
@@ -126,7 +127,7 @@ batch-done f v es ns ks' c n buffer buffer' e h hc ee en count blocks b =
     ∙ became-state (f.limit - f.used) (capacities_in f) es es ns f.lists ks' c (class_after_pop_batch K) hc b
     ∙ ap (λ t. with_class (state_of (f.limit - f.used) (capacities_in f) t ns f.lists) c (class_after_pop_batch K)) ee ∙ ap (λ t. with_class (state_of (f.limit - f.used) (capacities_in f) f.entries.items t f.lists) c (class_after_pop_batch K)) en
     ∙ ap (λ t. with_class t c (class_after_pop_batch K)) e ∙ ap (λ (t : ClassState). with_class v c (class_after_pop_batch t)) (sym at) in
-    let now : class_at (pool_in (inside_lists f ks')) c ≡ class_after_pop_batch K = ap (λ t. class_at t c) view ∙ class_at-with_class v c (class_after_pop_batch (class_at v c)) ∙ ap (λ (t : ClassState). class_after_pop_batch t) at in
+    let now : class_at (pool_in (inside_lists f ks')) c ≡ class_after_pop_batch K = ap (λ t. class_at t c) view ∙ value_of-with_value v.classes empty_class c (class_after_pop_batch (class_at v c)) ∙ ap (λ (t : ClassState). class_after_pop_batch t) at in
     record {
       invariant = record {
         table = subst (λ t. IsTable f.entries.items t ks') en (subst (λ t. IsTable t ns ks') ee b.table);

@@ -3,7 +3,7 @@ use Rattle.std.proofs.Common.{◌≡◌, ℕ, zero, suc, ◌+◌, ◌-◌, ◌<�
 use Rattle.std.proofs.lemmas.Bool.Decides.{nat_tests}
 use Rattle.std.proofs.lemmas.List.{take_more_set, length-set, take_at, drop_at, length-take-le, drop-drop, drop-set-lt, append_assoc}
 use Rattle.std.specs.List.{IsDistinct}
-use Rattle.scudo_primary.specs.Blocks.{IsBlock}
+use Rattle.scudo_primary.specs.Blocks.{AreBlocks, IsBlock}
 use Rattle.scudo_primary.specs.Batches.{max_count_of, first_size}
 use Rattle.scudo_primary.specs.Pools.{batch_in, class_after_pop_batch}
 use Rattle.scudo_primary.specs.Inner.{Each, follow, sizes_of_marks, sizes_after_push, one_more, place_of, no_entry, entry_at, list_at, next_in, last_in, free_in, stack_from, sizes_from, marks_in, class_in, IsLinked, IsTable, Became}
@@ -11,6 +11,7 @@ use Rattle.scudo_primary.specs.Blocks.{IsClass}
 use Rattle.scudo_primary.specs.declared.batches.TheConstants.{MAX_COUNT}
 use Rattle.scudo_primary.specs.declared.lists.BlockEntry.{BlockEntry}
 use Rattle.scudo_primary.specs.declared.lists.ClassList.{ClassList}
+use Rattle.scudo_primary.proofs.BlockLists.{each-block, blocks-behind}
 use Rattle.scudo_primary.proofs.BlockLemmas.{IsCell, block-IsCell}
 use Rattle.scudo_primary.proofs.ListLemmas.{distinct-tail, max_count-high}
 use Rattle.scudo_primary.proofs.TableLemmas.{became, list-same, list-other}
@@ -88,7 +89,7 @@ taking-next es ns ks c start buffer count next more h hc t e =
     let some : 0 < k.count - count = let l = g.0 in omega arith in
     let xs = stack_from es ns c (k.count - count - 1) (next_in es ns c next) in
     let is : stack_from es ns c (k.count - count) next ≡ next ∷ xs = stack-split es ns c (k.count - count) next some in
-    let all : Each (IsBlock c k.pages) (next ∷ xs) = subst (Each (IsBlock c k.pages)) is (Each-right (take count buffer) _ (IsBlock c k.pages) (subst (Each (IsBlock c k.pages)) t.stack old.blocks)) in
+    let all : Each (IsBlock c k.pages) (next ∷ xs) = subst (Each (IsBlock c k.pages)) is (Each-right (take count buffer) _ (IsBlock c k.pages) (subst (Each (IsBlock c k.pages)) t.stack (each-block c k.pages (stack_from es ns c k.count k.head) old.blocks))) in
     let pos : 0 < first_size (sizes_from es ns c (k.count - count) next) =
     subst (λ s. 0 < first_size s) (sym (sizes-split es ns c (k.count - count) next some)) (first-pos (last_in es ns c next) _) in
     let up = first-below (sizes_from es ns c k.count k.head) (max_count_of c) old.batches in
@@ -159,8 +160,7 @@ taken-class es ns c k start buffer count next more old t e =
     let dropped : drop count (stack_from es ns c k.count k.head) ≡ xs = ap (drop count) t.stack ∙ drop_at (take count buffer) xs count len in
     let stack : xs ≡ drop (first_size (sizes_from es ns c k.count k.head)) (stack_from es ns c k.count k.head) = sym dropped ∙ ap (λ m. drop m (stack_from es ns c k.count k.head)) g.0 in (
       record {
-        blocks = Each-right (take count buffer) xs (IsBlock c k.pages) (subst (Each (IsBlock c k.pages)) t.stack old.blocks);
-        distinct = distinct-right (take count buffer) xs (subst (IsDistinct eqb) t.stack old.distinct);
+        blocks = blocks-behind c k.pages (take count buffer) xs (subst (AreBlocks c k.pages) t.stack old.blocks);
         marked = Each-right (take count buffer) xs (λ b. free_in es ns c b ≡ true) (subst (Each (λ b. free_in es ns c b ≡ true)) t.stack old.marked);
         batches = subst (Each (λ n. n ≤ max_count_of c)) (sym g.1) (Each-drop (sizes_from es ns c k.count k.head) (λ n. n ≤ max_count_of c) old.batches);
       },

@@ -16,14 +16,16 @@ use Rattle.scudo_primary.specs.Batches.{batch_sizes}
 use Rattle.scudo_primary.specs.Pools.{ClassState, PoolState, class_at, with_class, with_pages, class_after_carve, new_count}
 use Rattle.scudo_primary.specs.Inner.{Each, page_number, no_entry, entry_at, list_at, free_in, marks_in, class_in, class_after_link_new, state_of, capacities_in, pool_in, IsNumbered, IsNumberedOn, IsFilledUp, IsLinked, IsTable, IsPool, Became}
 use Rattle.scudo_primary.specs.Blocks.{IsClass}
+use Rattle.scudo_header.proofs.ByClassLaws.{by_class-with_value}
 use Rattle.scudo_primary.specs.declared.lists.BlockEntry.{BlockEntry}
 use Rattle.scudo_primary.specs.declared.lists.ClassList.{ClassList}
 use Rattle.scudo_primary.specs.declared.pool.Primary.TheInside.{Inside}
-use Rattle.scudo_primary.proofs.BlockLemmas.{block-IsCell, IsBlock-more, carved_count-≤}
+use Rattle.scudo_primary.proofs.BlockLists.{each-block, blocks-wider}
+use Rattle.scudo_primary.proofs.BlockLemmas.{block-IsCell, carved_count-≤}
 use Rattle.scudo_primary.proofs.ListLemmas.{Each-map}
 use Rattle.scudo_primary.proofs.TableLemmas.{class-kept, list-same, list-other}
 use Rattle.scudo_primary.proofs.FillLemmas.{filled, filled-pool, filled-view}
-use Rattle.scudo_primary.proofs.ModelLemmas.{pool_by-with_class, class_at-state, table-same}
+use Rattle.scudo_primary.proofs.ModelLemmas.{pool_of, class_at-state, table-same}
 
 abbrev pub wide : ClassList → ℕ → ClassList
 wide k pages = record { head = k.head; count = k.count; pages = k.pages + pages }
@@ -126,8 +128,7 @@ widened es ns ns' ks c pages used limit h r m =
     λ d hd. class-kept es es ns ns' d (list_at ks d) hd (h.linked d hd) (λ x b. entry-kept es ns ns' ks c pages used d x m hd b) in
     let mine = (kept c r.class).1 in
     let more : IsLinked es ns' c (wide k pages) = record {
-      blocks = Each-map _ _ _ mine.blocks (λ x b. IsBlock-more c k.pages (k.pages + pages) x r.class (omega arith) b);
-      distinct = mine.distinct;
+      blocks = blocks-wider c k.pages (k.pages + pages) _ r.class (omega arith) mine.blocks;
       marked = mine.marked;
       batches = mine.batches;
     } in
@@ -227,7 +228,7 @@ old-below f v es ns ns' ns2 c pages from r e =
     let same : (class_in es ns2 c (list_at (set f.lists (c - 1) (wide k pages)) c)).stack ≡ (class_in es ns c k).stack =
     ap (λ (t : ClassList). (class_in es ns2 c t).stack) w.own ∙ ap (λ (t : ClassState). t.stack) w.old in
     subst (Each (λ b. number_of c b < from)) (sym same)
-    (Each-map (class_in es ns c k).stack (IsBlock c k.pages) (λ b. number_of c b < from) (r.table.linked c r.roomy.class).blocks (λ x b. subst (λ t. number_of c x < t) (sym e) b.carved))
+    (Each-map (class_in es ns c k).stack (IsBlock c k.pages) (λ b. number_of c b < from) (each-block c k.pages (class_in es ns c k).stack (r.table.linked c r.roomy.class).blocks) (λ x b. subst (λ t. number_of c x < t) (sym e) b.carved))
 
 pub record CarveDone (f : Inside) (v : PoolState) (es' : List BlockEntry) (ns' : List ℕ) (ks'' : List ClassList) (c pages : ℕ) : Type 0 where
   pub invariant : IsPool (inside_carved f es' ns' ks'' (f.used + pages))
@@ -258,15 +259,10 @@ carve-invariant f v es es' ns ns' ns2 ks'' c pages k r h b =
       slots = h.slots;
     }
 
-same-capacities : (v : PoolState) (c : ℕ) (k : ClassState) (n : ℕ) → record { left = n; capacities = v.capacities; classes = (with_class v c k).classes } ≡ record (with_class v c k) { left = n }
-unfolding with_class
-same-capacities v c k n = λ i. record { left = n; capacities = v.capacities; classes = (with_class v c k).classes }
-
 pub carve-view : (f : Inside) (v : PoolState) (es es' : List BlockEntry) (ns ns' ns2 : List ℕ) (ks'' : List ClassList) (c pages : ℕ) → IsReady f v es ns ns' ns2 c pages
     → Became es ns2 (set f.lists (c - 1) (wide (list_at f.lists c) pages)) es' ks'' c
     (class_after_link_new c (class_in es ns2 c (list_at (set f.lists (c - 1) (wide (list_at f.lists c) pages)) c)) (carved_count c (list_at f.lists c).pages) (new_count c (list_at f.lists c).pages pages))
     → pool_in (inside_carved f es' ns' ks'' (f.used + pages)) ≡ with_pages v c pages
-unfolding with_pages
 carve-view f v es es' ns ns' ns2 ks'' c pages r b =
     let k = list_at f.lists c in
     let ks' = set f.lists (c - 1) (wide k pages) in
@@ -283,11 +279,10 @@ carve-view f v es es' ns ns' ns2 ks'' c pages r b =
     let at : class_at v c ≡ class_in es ns c k = ap (λ t. class_at t c) (sym r.state) ∙ class_at-state left (capacities_in f) es ns f.lists c hc in
     let less : left' ≡ v.left - pages = let q = ap (λ (p : PoolState). p.left) r.state in omega arith in
     ap (λ t. state_of left' (capacities_in f) t (with_items f.numbers ns').items ks'') items ∙ ap (λ t. state_of left' (capacities_in f) es' t ks'') r.same
-    ∙ ap (λ (p : PoolState). record { left = left'; capacities = capacities_in f; classes = p.classes }) (pool_by-with_class left (capacities_in f) old new c K hc own others)
-    ∙ ap (λ (t : PoolState). record { left = left'; capacities = t.capacities; classes = (with_class t c K).classes }) r.state
-    ∙ ap (λ (t : ClassState). record { left = left'; capacities = v.capacities; classes = (with_class v c (class_after_carve c t pages (new_count c t.pages pages))).classes }) (sym at)
-    ∙ ap (λ t. record { left = t; capacities = v.capacities; classes = (with_class v c (class_after_carve c (class_at v c) pages (new_count c (class_at v c).pages pages))).classes }) less
-    ∙ same-capacities v c (class_after_carve c (class_at v c) pages (new_count c (class_at v c).pages pages)) (v.left - pages)
+    ∙ ap (pool_of left' (capacities_in f)) (by_class-with_value old new c K hc own others)
+    ∙ ap (λ (t : PoolState). pool_of left' t.capacities (with_class t c K).classes) r.state
+    ∙ ap (λ (t : ClassState). pool_of left' v.capacities (with_class v c (class_after_carve c t pages (new_count c t.pages pages))).classes) (sym at)
+    ∙ ap (λ t. pool_of t v.capacities (with_class v c (class_after_carve c (class_at v c) pages (new_count c (class_at v c).pages pages))).classes) less
 
 -- ---- as the code has it
 

@@ -1,16 +1,12 @@
 -- The blocks of a size class: they lie one after another from the start of the class's region on
 -- (Scudo, primary64.h).
-use Rattle.std.specs.Prelude.{◌≡◌, ℕ, ◌+◌, ◌-◌, ◌*◌, ◌/◌, ◌%◌, ◌<◌, ◌≤◌, List, map}
-use Rattle.std.specs.List.{range_with_len}
+use Rattle.std.specs.Prelude.{◌≡◌, ℕ, ◌+◌, ◌-◌, ◌*◌, ◌/◌, ◌%◌, ◌<◌, ◌≤◌, ◌==◌}
+use Rattle.std.specs.Prelude.{Bool, true, List, map, nat_eq}
+use Rattle.std.specs.List.{range_with_len, list_any, IsDistinct}
 use Rattle.scudo_header.specs.Classes.{size_of}
-use Rattle.scudo_header.specs.declared.classes.TheConstants.{CLASSES}
+pub use Rattle.scudo_header.specs.Classes.{IsClass}
 use Rattle.scudo_header.specs.Regions.{region_of}
 use Rattle.address_map.specs.declared.limits.TheConstants.{PAGE_SIZE}
-
--- A size class by its number.
-pub record IsClass (class : ℕ) : Type 0 where
-  pub low : 0 < class
-  pub high : class ≤ CLASSES
 
 -- How many blocks lie whole in the first pages of a class's region.
 abbrev pub carved_count : ℕ → ℕ → ℕ
@@ -33,3 +29,11 @@ pub record IsBlock (class pages block : ℕ) : Type 0 where
 -- The n blocks from the one with the number m on, in ascending order.
 abbrev pub blocks_from : ℕ → ℕ → ℕ → List ℕ
 blocks_from class m n = map (block_at class) (range_with_len m n)
+
+abbrev pub is_member : List ℕ → ℕ → Bool
+is_member blocks block = list_any (λ other. block == other) blocks
+
+-- Blocks that are carved when the class has so many pages, none of them twice.
+pub record AreBlocks (class pages : ℕ) (blocks : List ℕ) : Type 0 where
+  pub carved : (block : ℕ) → is_member blocks block ≡ true → IsBlock class pages block
+  pub distinct : IsDistinct nat_eq blocks

@@ -3,15 +3,15 @@
 -- entry as long as the pool lives: each carved page has a number, and 128 entries from 128 times
 -- that number on, one for each 32 bytes.
 use Rattle.std.specs.Prelude.{◌≡◌, ◌≢◌, ℕ, zero, suc, ◌==◌, ◌||◌, ◌+◌, ◌-◌, ◌*◌, ◌/◌, ◌%◌, ◌<◌, ◌≤◌}
-use Rattle.std.specs.Prelude.{Bool, true, false, nat_eq, List, [], ◌∷◌, ◌++◌, length, map, take}
+use Rattle.std.specs.Prelude.{Bool, true, false, List, [], ◌∷◌, ◌++◌, length, map, take}
 use Rattle.std.specs.Prelude.{replicate, slice_index, slice_index_or, slice_set, vec_len}
 use Rattle.std.specs.Prelude.{vec_capacity}
 use Rattle.std.specs.declared.vec.Vec.{Vec}
-use Rattle.std.specs.List.{range_with_len, IsDistinct}
+use Rattle.std.specs.List.{range_with_len}
 use Rattle.scudo_header.specs.Regions.{region_of}
 use Rattle.scudo_header.specs.declared.classes.TheConstants.{CLASSES}
 use Rattle.address_map.specs.declared.limits.TheConstants.{PAGE_SIZE}
-use Rattle.scudo_primary.specs.Blocks.{IsClass, carved_count, block_at, number_of, IsBlock, blocks_from}
+use Rattle.scudo_primary.specs.Blocks.{IsClass, carved_count, block_at, number_of, AreBlocks, blocks_from}
 use Rattle.scudo_primary.specs.Batches.{max_count_of, batch_sizes}
 use Rattle.scudo_primary.specs.Pools.{ClassState, PoolState, pool_by}
 use Rattle.address_map.specs.declared.limits.TheConstants.{MAX_PAGES}
@@ -148,8 +148,7 @@ pub record IsNumbered (ns : List ℕ) (ks : List ClassList) (n : ℕ) : Type 0 w
   pub few : (c : ℕ) → IsClass c → (list_at ks c).pages ≤ MAX_PAGES
 
 pub record IsLinked (es : List BlockEntry) (ns : List ℕ) (c : ℕ) (k : ClassList) : Type 0 where
-  pub blocks : Each (IsBlock c k.pages) (stack_from es ns c k.count k.head)
-  pub distinct : IsDistinct nat_eq (stack_from es ns c k.count k.head)
+  pub blocks : AreBlocks c k.pages (stack_from es ns c k.count k.head)
   pub marked : Each (λ b. free_in es ns c b ≡ true) (stack_from es ns c k.count k.head)
   pub batches : Each (λ n. n ≤ max_count_of c) (sizes_from es ns c k.count k.head)
 

@@ -7,15 +7,13 @@
 --     with_batch p class blocks     p with a batch more on top
 --     with_mark p class block mark  p with a block marked free or used
 --     with_pages p class pages      p with pages more for the class, and the new blocks on top
-use Rattle.std.specs.Prelude.{◌≡◌, ℕ, ◌+◌, ◌-◌, ◌==◌, Bool, true, false, List, [], ◌∷◌, ◌++◌}
-use Rattle.std.specs.Prelude.{length, map, take, drop, reverse, replicate, slice_set}
-use Rattle.std.specs.Prelude.{slice_index_or, unwrap_or, refl}
-use Rattle.std.specs.List.{range_with_len, list_any}
-use Rattle.std.specs.Ordering.{nat_cmp}
+use Rattle.std.specs.Prelude.{◌≡◌, ℕ, ◌+◌, ◌-◌, Bool, true, false, List, [], ◌∷◌, ◌++◌}
+use Rattle.std.specs.Prelude.{length, take, drop, reverse, replicate, slice_set}
+use Rattle.std.specs.Prelude.{slice_index_or, refl}
 use Rattle.std.specs.FinMap as finite
-use Rattle.std.specs.FinMap.{FinMap}
 use Rattle.std.specs.Coded.{Coded, code_by, coded×, coded_ℕ, coded_bool, coded_list}
-use Rattle.scudo_header.specs.declared.classes.TheConstants.{CLASSES}
+use Rattle.scudo_header.specs.ByClass.{ByClass, by_class, value_of, with_value}
+pub use Rattle.scudo_primary.specs.Blocks.{is_member}
 use Rattle.scudo_primary.specs.Blocks.{carved_count, number_of, IsBlock, blocks_from}
 use Rattle.scudo_primary.specs.Batches.{batch_sizes, first_size, one_less}
 
@@ -35,7 +33,7 @@ pub record ClassState : Type 0 where
 pub record PoolState : Type 0 where
   pub left : ℕ
   pub capacities : List ℕ
-  pub classes : FinMap nat_cmp ClassState
+  pub classes : ByClass ClassState
 
 abbrev pub coded_class : Coded ClassState
 coded_class =
@@ -48,7 +46,7 @@ coded_class =
 
 abbrev pub coded_pool : Coded PoolState
 coded_pool =
-    code_by (ℕ × (List ℕ × FinMap nat_cmp ClassState))
+    code_by (ℕ × (List ℕ × ByClass ClassState))
     (coded× coded_ℕ (coded× (coded_list coded_ℕ) (finite.code coded_ℕ coded_class)))
     (λ p. (p.left, (p.capacities, p.classes)))
     (λ c. record { left = c.0; capacities = c.1.0; classes = c.1.1 })
@@ -60,21 +58,17 @@ empty_class = record { pages = 0; stack = []; sizes = []; marks = [] }
 -- a pool by what each class has
 abbrev pub pool_by : ℕ → List ℕ → (ℕ → ClassState) → PoolState
 pool_by left capacities f =
-    record {
-      left = left;
-      capacities = capacities;
-      classes = finite.from_entries (map (λ class. (class, f class)) (range_with_len 1 CLASSES));
-    }
+    record { left = left; capacities = capacities; classes = by_class f }
 
 -- A pool for so many pages, none of them carved.
-unfoldable pub empty_pool : ℕ → List ℕ → PoolState
+abbrev pub empty_pool : ℕ → List ℕ → PoolState
 empty_pool pages capacities = pool_by pages capacities (λ _. empty_class)
 
-unfoldable pub class_at : PoolState → ℕ → ClassState
-class_at p class = unwrap_or (finite.get p.classes class) empty_class
+abbrev pub class_at : PoolState → ℕ → ClassState
+class_at p class = value_of p.classes empty_class class
 
-unfoldable pub with_class : PoolState → ℕ → ClassState → PoolState
-with_class p class k = record p { classes = finite.insert p.classes class k }
+abbrev pub with_class : PoolState → ℕ → ClassState → PoolState
+with_class p class k = record p { classes = with_value p.classes class k }
 
 abbrev pub pages_of : PoolState → ℕ → ℕ
 pages_of p class = (class_at p class).pages
@@ -88,9 +82,6 @@ sizes_of p class = (class_at p class).sizes
 -- Whether the mark of a carved block says free: it is in the pool, or in a cache above it.
 abbrev pub is_marked : PoolState → ℕ → ℕ → Bool
 is_marked p class block = slice_index_or (class_at p class).marks (number_of class block) false
-
-abbrev pub is_member : List ℕ → ℕ → Bool
-is_member blocks block = list_any (λ other. block == other) blocks
 
 -- Whether the pool's own stack of the class has the block.
 abbrev pub is_listed : PoolState → ℕ → ℕ → Bool
@@ -159,30 +150,30 @@ class_after_carve class k pages n = record {
 
 -- ---- what the calls leave of a pool
 
-unfoldable pub after_pop : PoolState → ℕ → PoolState
+abbrev pub after_pop : PoolState → ℕ → PoolState
 after_pop p class = with_class p class (class_after_pop class (class_at p class) (stack_of p class))
 
-unfoldable pub after_push : PoolState → ℕ → ℕ → PoolState
+abbrev pub after_push : PoolState → ℕ → ℕ → PoolState
 after_push p class block = with_class p class (class_after_push class (class_at p class) block)
 
-unfoldable pub with_mark : PoolState → ℕ → ℕ → Bool → PoolState
+abbrev pub with_mark : PoolState → ℕ → ℕ → Bool → PoolState
 with_mark p class block mark =
     with_class p class (class_with_mark class (class_at p class) block mark)
 
-unfoldable pub top_batch : PoolState → ℕ → List ℕ
+abbrev pub top_batch : PoolState → ℕ → List ℕ
 top_batch p class = batch_in (class_at p class)
 
-unfoldable pub without_batch : PoolState → ℕ → PoolState
+abbrev pub without_batch : PoolState → ℕ → PoolState
 without_batch p class = with_class p class (class_after_pop_batch (class_at p class))
 
-unfoldable pub with_batch : PoolState → ℕ → List ℕ → PoolState
+abbrev pub with_batch : PoolState → ℕ → List ℕ → PoolState
 with_batch p class blocks = with_class p class (class_after_push_batch (class_at p class) blocks)
 
 -- The blocks that become whole with so many more pages are those that are carved.
 abbrev pub new_count : ℕ → ℕ → ℕ → ℕ
 new_count class before more = carved_count class (before + more) - carved_count class before
 
-unfoldable pub with_pages : PoolState → ℕ → ℕ → PoolState
+abbrev pub with_pages : PoolState → ℕ → ℕ → PoolState
 with_pages p class pages =
     let count = new_count class (pages_of p class) pages in
     let carved = class_after_carve class (class_at p class) pages count in

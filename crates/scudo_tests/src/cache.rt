@@ -34,7 +34,6 @@ fn pops_first(pool: &mut Primary, class: u8, size: u64, count: u64) -> bool
 }
 
 /// A pool whose first `count` blocks of a class were popped.
-#[tactic(auto, using(scudo_primary::proofs::PoolLaws::left_laws))]
 fn pool_without(alloc: Global, class: u8, size: u64, count: u64) -> Result<Primary, Fail>
     requires low { 0 < class }
     requires high { class ≤ 44 }

@@ -37,7 +37,6 @@ fn has_twelve(pool: &Primary) -> bool {
 
 /// Class 9 has 320 bytes: a page holds 12 blocks, two pages 25.
 #[test]
-#[tactic(auto, using(scudo_primary::proofs::PoolLaws::left_laws))]
 fn thirteen_blocks_of_class_9(rt: HostRuntime) -> Result<(), Fail> {
     let mut pool = Primary::new(rt.alloc(), 2)?;
     let none = has_none(&pool);
@@ -56,7 +55,6 @@ fn has_two_batches(pool: &mut Primary) -> bool {
 }
 
 #[test]
-#[tactic(auto, using(scudo_primary::proofs::PoolLaws::left_laws))]
 fn batches_of_a_carve(rt: HostRuntime) -> Result<(), Fail> {
     let mut pool = Primary::new(rt.alloc(), 1)?;
     pool.carve(13, 1);
@@ -79,7 +77,6 @@ fn keeps_order(pool: &mut Primary) -> bool {
 }
 
 #[test]
-#[tactic(auto, using(scudo_primary::proofs::PoolLaws::left_laws))]
 fn a_batch_keeps_its_order(rt: HostRuntime) -> Result<(), Fail> {
     let mut pool = Primary::new(rt.alloc(), 1)?;
     pool.carve(13, 1);
@@ -103,7 +100,6 @@ fn are_marked(pool: &mut Primary) -> bool {
 }
 
 #[test]
-#[tactic(auto, using(scudo_primary::proofs::PoolLaws::left_laws))]
 fn marks(rt: HostRuntime) -> Result<(), Fail> {
     let mut pool = Primary::new(rt.alloc(), 32)?;
     pool.carve(44, 32);

@@ -1,7 +1,7 @@
-use Rattle.std.proofs.Common.{◌<◌, ◌∷◌, [], length, refl, ap, arith}
+use Rattle.std.proofs.Common.{◌<◌, ◌∷◌, [], length, ap, arith}
 use Rattle.std.proofs.lemmas.List.{length-append}
 use Rattle.scudo_primary.specs.Batches.{max_count_of}
-use Rattle.scudo_cache.proofs.ClassLemmas.{put-state, put-loose, put-distinct, put-stack}
+use Rattle.scudo_cache.proofs.ClassLemmas.{put-state, put-loose, put-distinct}
 use Rattle.scudo_cache.proofs.cache.add.Goals as goal
 
 pub returns-clause-state : goal.returns-clause-state
@@ -19,7 +19,3 @@ returns-clause-held c =
       distinct = put-distinct c.args.pool.now c.args.class c.args.block c.args.entries.now c.push.new.self c.push.ensures c.requires.used h.cached h.distinct;
       most = omega arith;
     }
-
-pub returns-clause-stack : goal.returns-clause-stack
-returns-clause-stack c =
-    put-stack c.args.pool.now c.mark_free.new.self c.args.class c.args.block c.args.entries.now c.push.new.self _ c.mark_free.ensures.pool c.push.ensures refl

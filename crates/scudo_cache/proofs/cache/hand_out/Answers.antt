@@ -1,6 +1,6 @@
 use Rattle.std.proofs.Common.{◌≡◌, None, Some, refl, rules}
 use Rattle.scudo_cache.specs.Caches.{newest}
-use Rattle.scudo_cache.proofs.ClassLemmas.{taken-state, taken-loose, taken-distinct, taken-top, after-take-rest, taken-block, taken-used}
+use Rattle.scudo_cache.proofs.ClassLemmas.{taken-state, taken-loose, taken-distinct, taken-top, taken-block}
 use Rattle.scudo_cache.proofs.cache.hand_out.Goals as goal
 
 pub returns-in_err-block-clause-state : goal.returns-in_err-block-clause-state
@@ -20,10 +20,8 @@ returns-clause-held c =
       most = search rules;
     }
 
-pub returns-clause-took : goal.returns-clause-took
-returns-clause-took c = record {
-  top = taken-top c.in_ok-block.block c.args.entries.now c.pop.new.self _ c.in_ok-block.ensures.blocks;
-  rest = after-take-rest c.args.pool.now c.mark_used.new.self c.args.class c.in_ok-block.block c.args.entries.now c.pop.new.self _ c.mark_used.ensures c.in_ok-block.ensures.blocks refl;
-  block = taken-block c.args.pool.now c.mark_used.new.self c.args.class c.in_ok-block.block c.args.entries.now c.mark_used.ensures c.in_ok-block.ensures.value c.requires.held.cached;
-  used = taken-used c.args.pool.now c.mark_used.new.self c.args.class c.in_ok-block.block c.mark_used.ensures;
-}
+pub returns-clause-top : goal.returns-clause-top
+returns-clause-top c = taken-top c.in_ok-block.block c.args.entries.now c.pop.new.self _ c.in_ok-block.ensures.blocks
+
+pub returns-clause-block : goal.returns-clause-block
+returns-clause-block c = taken-block c.args.pool.now c.mark_used.new.self c.args.class c.in_ok-block.block c.args.entries.now c.mark_used.ensures c.in_ok-block.ensures.value c.requires.held.cached

@@ -3,7 +3,7 @@ use Rattle.std.specs.List.{IsDistinct}
 use Rattle.scudo_primary.specs.Batches.{max_count_of}
 use Rattle.scudo_primary.specs.Pools.{with_batch}
 use Rattle.scudo_cache.proofs.EntryLemmas.{distinct-take}
-use Rattle.scudo_cache.proofs.ClassLemmas.{class-same, halved_class, room-full, room-halved}
+use Rattle.scudo_cache.proofs.ClassLemmas.{class-same, halved_class, room-full, held-room}
 use Rattle.scudo_cache.proofs.cache.make_room.Goals as goal
 
 pub push_batch-requires-clause-distinct : goal.push_batch-requires-clause-distinct
@@ -23,7 +23,4 @@ returns-clause-state c =
     ∙ room-full c.args.class c.args.entries.now c.args.pool.now f
 
 pub returns-clause-held : goal.returns-clause-held
-returns-clause-held c = (room-halved _ _ c.args.class c.args.entries.now _ c.requires.full (returns-clause-state c) c.requires.held).held
-
-pub returns-clause-stack : goal.returns-clause-stack
-returns-clause-stack c = (room-halved _ _ c.args.class c.args.entries.now _ c.requires.full (returns-clause-state c) c.requires.held).stack
+returns-clause-held c = held-room _ _ c.args.class c.args.entries.now _ c.requires.full (returns-clause-state c) c.requires.held

@@ -1,4 +1,4 @@
-use Rattle.std.proofs.Common.{◌∙◌, ◌∷◌, ap}
+use Rattle.std.proofs.Common.{◌∙◌, ap}
 use Rattle.scudo_cache.specs.Caches.{Class, after_put}
 use Rattle.scudo_cache.proofs.ClassLemmas.{block-still, used-still}
 use Rattle.scudo_cache.proofs.cache.make_room_and_put.Goals as goal
@@ -11,6 +11,3 @@ add-requires-clause-used c = used-still c.args.class c.args.block c.args.entries
 
 pub returns-clause-state : goal.returns-clause-state
 returns-clause-state c = c.add.ensures.state ∙ ap (after_put c.args.class c.args.block) c.make_room.ensures.state
-
-pub returns-clause-stack : goal.returns-clause-stack
-returns-clause-stack c = c.add.ensures.stack ∙ ap (λ s. c.args.block ∷ s) c.make_room.ensures.stack

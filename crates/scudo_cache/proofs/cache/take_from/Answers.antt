@@ -1,5 +1,6 @@
 use Rattle.std.proofs.Common.{◌≡◌, ◌<◌, ◌∙◌, length, rules, ap}
-use Rattle.scudo_cache.specs.Caches.{Class, class_with, after_refill, newest, after_take}
+use Rattle.scudo_cache.specs.Caches.{Class, after_refill, newest, after_take}
+use Rattle.scudo_cache.specs.Inner.{class_with}
 use Rattle.scudo_cache.proofs.ClassLemmas.{after-refill-some}
 use Rattle.scudo_cache.proofs.cache.take_from.Goals as goal
 

@@ -1,9 +1,8 @@
 use Rattle.std.proofs.Common.{◌≡◌, ◌∷◌, ◌++◌, ◌∙◌, [], replicate, sym, ap, arith}
-use Rattle.std.specs.Prelude.{vec_len, vec_capacity}
+use Rattle.std.specs.Prelude.{vec_len}
 use Rattle.std.proofs.lemmas.List.{replicate_more}
 use Rattle.scudo_header.specs.declared.classes.TheConstants.{CLASSES}
-use Rattle.scudo_cache.specs.Caches.{CacheState, empty_cache}
-use Rattle.scudo_cache.proofs.CacheLemmas.{new-cache}
+use Rattle.scudo_cache.proofs.CacheLemmas.{new-cache, new-view}
 use Rattle.scudo_cache.proofs.cache.Cache.new.Goals as goal
 
 pub loop-entries-preserved : goal.loop-entries-preserved
@@ -17,15 +16,14 @@ loop-entries-preserved c =
       capacity = push.capacity ∙ i.capacity;
     }
 
-pub invariant_of-result : goal.invariant_of-result
-invariant_of-result c =
+all-items : (c : goal.After-loop-entries) → c.loop-entries.entries.items ≡ replicate CLASSES []
+all-items c =
     let i = c.loop-entries.invariant in
     let all : vec_len c.loop-entries.entries ≡ CLASSES = omega (arith, i.few) in
-    new-cache _ _ (ap (λ t. record { lists = t; capacity = vec_capacity c.loop-entries.entries }) (i.items ∙ ap (λ k. replicate k []) all))
+    i.items ∙ ap (λ k. replicate k []) all
+
+pub invariant_of-result : goal.invariant_of-result
+invariant_of-result c = new-cache _ (all-items c)
 
 pub returns : goal.returns
-returns c =
-    let i = c.loop-entries.invariant in
-    let all : vec_len c.loop-entries.entries ≡ CLASSES = omega (arith, i.few) in
-    ap (λ t. let s : CacheState = record { lists = t; capacity = vec_capacity c.loop-entries.entries } in s) (i.items ∙ ap (λ k. replicate k []) all)
-    ∙ ap (λ n. empty_cache n) i.capacity
+returns c = new-view (record { entries = c.loop-entries.entries }) CLASSES (all-items c) c.loop-entries.invariant.capacity

@@ -1,99 +1,54 @@
-use Rattle.std.proofs.Common.{◌≡◌, ◌≢◌, ◌<◌, ◌∙◌, ◌∷◌, ◌++◌, ℕ, true, length, reverse, set, sym, ap, subst, inl, inr}
-use Rattle.std.proofs.lemmas.Bool.{cases_eq}
-use Rattle.scudo_primary.specs.Batches.{max_count_of}
-use Rattle.scudo_primary.specs.Blocks.{number_of}
-use Rattle.scudo_primary.specs.Pools.{ClassState, PoolState, class_at, pages_of}
-use Rattle.scudo_primary.specs.Blocks.{IsClass}
-use Rattle.scudo_cache.specs.Caches.{Class, entries_of, with_entries, one_stack, with_room, after_put}
-use Rattle.scudo_cache.proofs.ClassLemmas.{room-left, room-other, put-other, put-lists}
-use Rattle.scudo_cache.specs.Inner.{cache_of}
-use Rattle.scudo_cache.proofs.CacheLemmas.{all-classes, at-class, inside_with, view-with, entries-with, entries-other, put-back, above-kept}
-use Rattle.scudo_cache.proofs.CacheLaws.{left-put}
-use Rattle.scudo_cache.proofs.StackLemmas.{IsAfter, put-after, stack-put, stack-is, stacks-kept, caps-put}
+use Rattle.std.proofs.Common.{◌≡◌, ◌∙◌, ◌∷◌, ap, subst, sym}
+use Rattle.scudo_header.specs.Classes.{IsClass}
+use Rattle.scudo_primary.specs.Pools.{class_at, pages_of}
+use Rattle.scudo_cache.specs.Caches.{Class, entries_of, with_entries, stack_over, one_stack, with_room, after_put, class_after_put, KeepsRest}
+use Rattle.scudo_cache.specs.Inner.{class_with}
+use Rattle.scudo_cache.proofs.ClassLemmas.{KeepsOthers, keeps-put, stack-put}
+use Rattle.scudo_cache.proofs.CacheLemmas.{at-class, entries-in, held-at, view-with, put-back}
+use Rattle.scudo_cache.proofs.StackLemmas.{marks-put, stack-pushed, stack-is, keeps-rest}
 use Rattle.scudo_cache.proofs.cache.Cache.put.Goals as goal
 
 is-class : (c : goal.After-self-1) → IsClass c.args.class
 is-class c = record { low = c.requires.low; high = c.requires.high }
 
 read : (c : goal.After-self-1) → c.index_mut.result.now ≡ entries_of c.args.self.now c.args.class
-read c = at-class c.self.inside c.args.self.now c.args.class c.index_mut.result.now c.self.invariant c.self.view_is (is-class c) c.index_mut.ensures.value
+read c =
+    at-class c.self.inside c.args.self.now c.args.class c.index_mut.result.now c.self.invariant c.self.view_is (is-class c) c.index_mut.ensures.value
+    ∙ entries-in c.self.inside c.args.self.now c.args.class c.self.view_is (is-class c)
+
+pub put_into-requires-clause-held : goal.put_into-requires-clause-held
+put_into-requires-clause-held c =
+    let hk : IsClass c.args.class = record { low = c.requires.low; high = c.requires.high } in
+    held-at c.self.inside c.args.self.now c.args.pool.now c.args.class c.index_mut.result.now c.self.invariant c.self.view_is hk c.requires.above
+    (at-class c.self.inside c.args.self.now c.args.class c.index_mut.result.now c.self.invariant c.self.view_is hk c.index_mut.ensures.value)
 
 pub invariant_of-self : goal.invariant_of-self
-invariant_of-self c =
-    put-back c.self.inside c.args.self.now c.args.class c.put_into.new.entries c.self.invariant c.self.view_is (is-class c) c.put_into.ensures.held.most c.put_into.ensures.held.distinct
+invariant_of-self c = put-back c.self.inside c.args.class c.put_into.new.entries c.self.invariant (is-class c) c.put_into.ensures.held.most c.put_into.ensures.held.distinct
+
+-- what the class is left with
+after : (c : goal.After-self-1) → class_with c.put_into.new.entries c.put_into.new.pool ≡ class_after_put c.args.self.now c.args.pool.now c.args.class c.args.block
+after c = c.put_into.ensures.state ∙ ap (λ xs. after_put c.args.class c.args.block (with_room c.args.class xs c.args.pool.now)) (read c)
 
 pub returns-clause-cache : goal.returns-clause-cache
 returns-clause-cache c =
-    (view-with c.self.inside c.args.self.now c.args.class c.put_into.new.entries c.self.view_is)
-    ∙ ap (with_entries c.args.self.now c.args.class) (ap (λ (k : Class). k.entries) c.put_into.ensures.state ∙ ap (λ xs. (after_put c.args.class c.args.block (with_room c.args.class xs c.args.pool.now)).entries) (read c))
+    view-with c.self.inside c.args.self.now c.args.class c.put_into.new.entries c.self.invariant c.self.view_is (is-class c)
+    ∙ ap (λ (k : Class). with_entries c.args.self.now c.args.class k.entries) (after c)
 
-others : (c : goal.After-self-1) (d : ℕ) → d ≢ c.args.class → class_at c.put_into.new.pool d ≡ class_at c.args.pool.now d
-others c d n =
-    ap (λ (k : Class). class_at k.pool d) c.put_into.ensures.state ∙ put-other c.args.class c.args.block (with_room c.args.class c.index_mut.result.now c.args.pool.now) d n
-    ∙ room-other c.args.class c.index_mut.result.now c.args.pool.now d n
+pub returns-clause-pool : goal.returns-clause-pool
+returns-clause-pool c = ap (λ (k : Class). k.pool) (after c)
 
-pub returns-clause-above : goal.returns-clause-above
-returns-clause-above c =
-    above-kept c.args.self.now _ c.args.pool.now c.put_into.new.pool c.args.class c.put_into.new.entries (all-classes c.self.inside c.args.self.now c.self.invariant c.self.view_is)
-    (view-with c.self.inside c.args.self.now c.args.class c.put_into.new.entries c.self.view_is)
-    (is-class c) c.requires.above c.put_into.ensures.held.cached (others c)
-
-over : (c : goal.After-self-1) (d : ℕ) → 0 < d → d ≢ c.args.class → entries_of (cache_of (inside_with c.self.inside c.args.class c.put_into.new.entries)) d ≡ entries_of c.args.self.now d
-over c d a n =
-    ap (λ t. entries_of t d) (view-with c.self.inside c.args.self.now c.args.class c.put_into.new.entries c.self.view_is)
-    ∙ entries-other c.args.self.now c.args.class d c.put_into.new.entries c.requires.low a n
-
-pub returns-clause-others : goal.returns-clause-others
-returns-clause-others c = λ d a n.
-    ap (λ xs. reverse xs ++ (class_at c.put_into.new.pool d).stack) (over c d a n)
-    ∙ ap (λ (k : ClassState). reverse (entries_of c.args.self.now d) ++ k.stack) (others c d n)
-
-after : (c : goal.After-self-1) → IsAfter c.args.class (set (class_at c.args.pool.now c.args.class).marks (number_of c.args.class c.args.block) true) (class_at c.args.pool.now c.args.class).pages (class_at c.put_into.new.pool c.args.class)
-after c =
-    let xs = c.index_mut.result.now in
-    let p = c.args.pool.now in
-    subst (λ t. IsAfter c.args.class (set (class_at p c.args.class).marks (number_of c.args.class c.args.block) true) (class_at p c.args.class).pages (class_at t c.args.class))
-    (sym (ap (λ (k : Class). k.pool) c.put_into.ensures.state)) (put-after c.args.class c.args.block xs p)
-
-pub returns-clause-pages : goal.returns-clause-pages
-returns-clause-pages c = λ d. elim (cases_eq d c.args.class) [
-  | inl e ↦ subst (λ t. pages_of c.put_into.new.pool t ≡ pages_of c.args.pool.now t) (sym e) (after c).pages_same
-  | inr n ↦ ap (λ (k : ClassState). k.pages) (others c d n)
-]
-
-pub returns-clause-left : goal.returns-clause-left
-returns-clause-left c = ap (λ (k : Class). k.pool.left) c.put_into.ensures.state ∙ left-put c.args.class c.args.block c.index_mut.result.now c.args.pool.now
-
-pub returns-clause-capacities : goal.returns-clause-capacities
-returns-clause-capacities c = ap (λ (k : Class). k.pool.capacities) c.put_into.ensures.state ∙ caps-put c.args.class c.args.block c.index_mut.result.now c.args.pool.now
-
-pub returns-clause-stack : goal.returns-clause-stack
-returns-clause-stack c =
-    ap (λ xs. reverse xs ++ (class_at c.put_into.new.pool c.args.class).stack) (entries-with c.self.inside c.args.self.now c.args.class c.put_into.new.entries c.self.invariant c.self.view_is (is-class c))
-    ∙ c.put_into.ensures.stack
-    ∙ ap (λ xs. c.args.block ∷ (reverse xs ++ (class_at c.args.pool.now c.args.class).stack)) (read c)
-
-kept : (c : goal.After-self-1) → length (entries_of c.args.self.now c.args.class) < max_count_of c.args.class → (with_room c.args.class c.index_mut.result.now c.args.pool.now).pool ≡ c.args.pool.now
-kept c l = ap (λ (k : Class). k.pool) (sym (room-left c.args.class c.index_mut.result.now c.args.pool.now (subst (λ xs. length xs < max_count_of c.args.class) (sym (read c)) l)))
-
-pub returns-clause-lists : goal.returns-clause-lists
-returns-clause-lists c l =
-    ap (λ (k : Class). (class_at k.pool c.args.class).stack) c.put_into.ensures.state
-    ∙ (put-lists c.args.class c.args.block (with_room c.args.class c.index_mut.result.now c.args.pool.now)).0
-    ∙ ap (λ (p : PoolState). (class_at p c.args.class).stack) (kept c l)
-
-pub returns-clause-batches : goal.returns-clause-batches
-returns-clause-batches c l =
-    ap (λ (k : Class). (class_at k.pool c.args.class).sizes) c.put_into.ensures.state
-    ∙ (put-lists c.args.class c.args.block (with_room c.args.class c.index_mut.result.now c.args.pool.now)).1
-    ∙ ap (λ (p : PoolState). (class_at p c.args.class).sizes) (kept c l)
-
-pub returns-clause-stacks : goal.returns-clause-stacks
-returns-clause-stacks c = λ h.
+pub returns-clause-rest : goal.returns-clause-rest
+returns-clause-rest c =
+    let k = c.args.class in
+    let b = c.args.block in
     let v = c.args.self.now in
     let p = c.args.pool.now in
-    let k = c.args.class in
-    let a = after c in
-    stacks-kept v _ p c.put_into.new.pool k
-    (stack-is k _ _ _ _ _ _ a.marks a.pages_same (returns-clause-stack c) (stack-put k (pages_of p k) (class_at p k).marks c.args.block (one_stack v p k) c.requires.carved c.requires.used (h.each k c.requires.low c.requires.high)))
-    (others c) (returns-clause-others c) h
+    let p' = c.put_into.new.pool in
+    let ys = c.put_into.new.entries in
+    let xs = entries_of v k in
+    let kept : KeepsOthers k p p' = subst (λ (t : Class). KeepsOthers k p t.pool) (sym (after c)) (keeps-put k b xs p) in
+    let marks = ap (λ (t : Class). (class_at t.pool k).marks) (after c) ∙ marks-put k b xs p in
+    let stack : stack_over ys p' k ≡ b ∷ one_stack v p k = ap (λ (t : Class). stack_over t.entries t.pool k) (after c) ∙ stack-put k b xs p in
+    subst (λ t. KeepsRest k v p t p') (sym (view-with c.self.inside v k ys c.self.invariant c.self.view_is (is-class c)))
+    (keeps-rest v p p' k ys c.requires.above kept c.put_into.ensures.held.cached
+    (λ h. stack-is k _ _ _ _ _ _ marks kept.pages stack (stack-pushed k (pages_of p k) (class_at p k).marks b (one_stack v p k) c.requires.carved c.requires.used (h.each k c.requires.low c.requires.high))))

@@ -1,7 +1,7 @@
 use Rattle.std.proofs.Common.{◌≡◌, ◌∙◌, length, rules, arith}
 use Rattle.scudo_primary.specs.Pools.{top_batch, without_batch}
 use Rattle.scudo_primary.proofs.ListLemmas.{max_count-high}
-use Rattle.scudo_cache.specs.Caches.{class_with}
+use Rattle.scudo_cache.specs.Inner.{class_with}
 use Rattle.scudo_cache.proofs.ClassLemmas.{after-refill-none, front, class-same}
 use Rattle.scudo_cache.proofs.per_class.PerClass.refill.Goals as goal
 

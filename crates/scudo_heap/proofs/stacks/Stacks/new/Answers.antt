@@ -7,10 +7,10 @@ use Rattle.scudo_heap.proofs.stacks.Stacks.new.Goals as goal
 
 pub invariant_of-result : goal.invariant_of-result
 invariant_of-result c =
-    let lists = ap (λ (t : CacheState). t.lists) c.in_ok-cache.ensures in
+    let none = ap (λ (t : CacheState). t.classes) c.in_ok-cache.ensures in
     record {
-      above = above-new c.in_ok-cache.cache c.in_ok-pool.pool lists;
-      stacks = stacks-new c.in_ok-cache.cache c.in_ok-pool.pool c.args.pages _ lists c.in_ok-pool.ensures;
+      above = above-new c.in_ok-cache.cache c.in_ok-pool.pool none;
+      stacks = stacks-new c.in_ok-cache.cache c.in_ok-pool.pool c.args.pages _ none c.in_ok-pool.ensures;
     }
 
 pub returns : goal.returns

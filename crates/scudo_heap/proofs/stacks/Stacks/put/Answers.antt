@@ -1,9 +1,7 @@
 use Rattle.std.proofs.Common.{◌∙◌, sym, ap, subst}
-use Rattle.scudo_primary.specs.Blocks.{IsBlock}
-use Rattle.scudo_primary.specs.Pools.{is_member}
-use Rattle.scudo_cache.specs.Caches.{CacheState}
+use Rattle.scudo_primary.specs.Blocks.{IsBlock, is_member}
 use Rattle.scudo_heap.specs.Stacks.{ClassHeap}
-use Rattle.scudo_heap.proofs.StackLemmas.{same-memory, at-inside, view-after-push}
+use Rattle.scudo_heap.proofs.StackLemmas.{at-inside, view-after-push}
 use Rattle.scudo_heap.proofs.stacks.Stacks.put.Goals as goal
 
 pub put-requires-clause-carved : goal.put-requires-clause-carved
@@ -15,7 +13,10 @@ put-requires-clause-used c =
     (c.self.invariant.stacks.each c.args.class c.requires.low c.requires.high).marked c.args.block (subst (λ (k : ClassHeap). IsBlock c.args.class k.pages c.args.block) at c.requires.carved)
     ∙ ap (λ (k : ClassHeap). is_member k.stack c.args.block) (sym at) ∙ c.requires.used
 
+pub invariant_of-self : goal.invariant_of-self
+invariant_of-self c = record { above = c.put.ensures.rest.above; stacks = c.put.ensures.rest.stacks c.self.invariant.stacks }
+
 pub returns : goal.returns
 returns c =
     view-after-push c.self.inside (record { pool = c.put.new.pool; cache = c.put.new.self }) c.args.self.now c.args.class c.args.block c.self.view_is (record { low = c.requires.low; high = c.requires.high })
-    c.put.ensures.left (same-memory _ _ _ _ c.put.ensures.capacities (ap (λ (t : CacheState). t.capacity) c.put.ensures.cache)) c.put.ensures.pages c.put.ensures.stack c.put.ensures.others
+    c.put.ensures.rest c.put.ensures.cache c.put.ensures.pool

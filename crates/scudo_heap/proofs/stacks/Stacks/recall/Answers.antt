@@ -10,8 +10,8 @@ pub returns : goal.returns
 returns c = record {
   blocks = λ k b lo hi m.
       let at = at-inside c.self.inside c.args.self.now k c.self.view_is (record { low = lo; high = hi }) in
-      subst (λ (t : ClassHeap). IsBlock k t.pages b) (sym at) ((c.self.invariant.stacks.each k lo hi).blocks b (subst (λ (t : ClassHeap). is_member t.stack b ≡ true) at m));
+      subst (λ (t : ClassHeap). IsBlock k t.pages b) (sym at) ((c.self.invariant.stacks.each k lo hi).blocks.carved b (subst (λ (t : ClassHeap). is_member t.stack b ≡ true) at m));
   distinct = λ k lo hi.
       let at = at-inside c.self.inside c.args.self.now k c.self.view_is (record { low = lo; high = hi }) in
-      subst (λ (t : ClassHeap). IsDistinct nat_eq t.stack) (sym at) (c.self.invariant.stacks.each k lo hi).distinct;
+      subst (λ (t : ClassHeap). IsDistinct nat_eq t.stack) (sym at) (c.self.invariant.stacks.each k lo hi).blocks.distinct;
 }

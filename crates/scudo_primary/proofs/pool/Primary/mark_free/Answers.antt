@@ -1,11 +1,12 @@
 use Rattle.std.proofs.Common.{◌≡◌, true, false, get_or, ap, subst, sym, ◌∙◌, arith}
 use Rattle.std.proofs.lemmas.List.{get_or-set_same}
 use Rattle.scudo_primary.specs.Blocks.{IsBlock, number_of}
-use Rattle.scudo_primary.specs.Pools.{ClassState, IsLoose, class_at, with_mark, class_with_mark}
+use Rattle.scudo_primary.specs.Pools.{empty_class, ClassState, IsLoose, class_at, class_with_mark}
 use Rattle.scudo_primary.specs.Inner.{list_at}
 use Rattle.scudo_primary.specs.Blocks.{IsClass}
+use Rattle.scudo_header.proofs.ByClassLaws.{value_of-with_value}
 use Rattle.scudo_primary.proofs.TableLemmas.{length-marks}
-use Rattle.scudo_primary.proofs.ModelLemmas.{PoolDone, placed, mark-done, table-same, class_at-slices, class_at-with_class, used-unlisted}
+use Rattle.scudo_primary.proofs.ModelLemmas.{PoolDone, placed, mark-done, table-same, class_at-slices, used-unlisted}
 use Rattle.scudo_primary.proofs.pool.Primary.mark_free.Goals as goal
 
 pub set_mark-requires-clause-slot : goal.set_mark-requires-clause-slot
@@ -22,7 +23,6 @@ done c =
     c.deref_mut.ensures.value c.deref_mut.ensures.len c.deref.ensures.value c.requires.carved (λ e. cc) c.set_mark.ensures
 
 pub returns-clause-pool : goal.returns-clause-pool
-unfolding with_mark
 returns-clause-pool c = (done c).view
 
 pub returns-clause-cached : goal.returns-clause-cached
@@ -33,7 +33,7 @@ returns-clause-cached c u =
     let block = subst (λ (k : ClassState). IsBlock c.args.class k.pages c.args.block) at c.requires.carved in
     let carved = block.carved in
     let length-is = length-marks c.deref_mut.result.now c.deref.result.now c.args.class (list_at c.self.inside.lists c.args.class).pages in
-    let now = ap (λ p. class_at p c.args.class) (done c).view ∙ class_at-with_class c.args.self.now c.args.class _ ∙ ap (λ (k : ClassState). class_with_mark c.args.class k c.args.block true) at in
+    let now = ap (λ p. class_at p c.args.class) (done c).view ∙ value_of-with_value c.args.self.now.classes empty_class c.args.class _ ∙ ap (λ (k : ClassState). class_with_mark c.args.class k c.args.block true) at in
     subst (λ (k : ClassState). IsLoose k c.args.class c.args.block) (sym now) (record {
       carved = block;
       marked = get_or-set_same _ (number_of c.args.class c.args.block) true false (omega arith);

@@ -1,5 +1,5 @@
 use Rattle.std.proofs.Common.{false}
-use Rattle.scudo_primary.specs.Pools.{ClassState, with_mark, class_with_mark}
+use Rattle.scudo_primary.specs.Pools.{ClassState, class_with_mark}
 use Rattle.scudo_primary.proofs.ModelLemmas.{PoolDone, placed, mark-done}
 use Rattle.scudo_primary.proofs.pool.Primary.mark_used.Goals as goal
 
@@ -17,7 +17,6 @@ done c =
     c.deref_mut.ensures.value c.deref_mut.ensures.len c.deref.ensures.value c.requires.carved (λ e. c.requires.unlisted) c.set_mark.ensures
 
 pub returns : goal.returns
-unfolding with_mark
 returns c = (done c).view
 
 pub invariant_of-self : goal.invariant_of-self

@@ -1,6 +1,6 @@
 use Rattle.std.proofs.Common.{ℕ, List, ap, subst, sym, ◌∙◌, arith, slice_get}
 use Rattle.scudo_primary.specs.Blocks.{IsBlock}
-use Rattle.scudo_primary.specs.Pools.{ClassState, after_pop, class_after_pop, is_member}
+use Rattle.scudo_primary.specs.Pools.{ClassState, class_after_pop, is_member}
 use Rattle.scudo_primary.specs.Inner.{list_at}
 use Rattle.scudo_primary.proofs.ModelLemmas.{PoolDone, pool-done, class_at-slices, empty-stack, after-pop-empty, after-pop-used}
 use Rattle.scudo_primary.proofs.pool.Primary.pop.Goals as goal
@@ -33,7 +33,6 @@ returns-clause-answer c =
     ∙ c.unlink.ensures.top)
 
 pub returns-clause-pool : goal.returns-clause-pool
-unfolding after_pop
 returns-clause-pool c = (done c).view
 
 pub returns-clause-block : goal.returns-clause-block

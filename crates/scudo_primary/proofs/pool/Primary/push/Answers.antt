@@ -1,6 +1,6 @@
 use Rattle.std.proofs.Common.{◌≡◌, false, get_or, subst}
 use Rattle.scudo_primary.specs.Blocks.{IsBlock, number_of}
-use Rattle.scudo_primary.specs.Pools.{ClassState, after_push, class_after_push}
+use Rattle.scudo_primary.specs.Pools.{ClassState, class_after_push}
 use Rattle.scudo_primary.specs.Blocks.{IsClass}
 use Rattle.scudo_primary.proofs.ListLemmas.{max_count-pos}
 use Rattle.scudo_primary.proofs.ModelLemmas.{PoolDone, pool-done, table-same, class_at-slices, used-unlisted}
@@ -30,7 +30,6 @@ link-requires-clause-room c =
     (max_count-pos c.args.class, (t.linked _ (record { low = c.requires.low; high = c.requires.high })).batches)
 
 pub returns : goal.returns
-unfolding after_push
 returns c = (done c).view
 
 pub invariant_of-self : goal.invariant_of-self

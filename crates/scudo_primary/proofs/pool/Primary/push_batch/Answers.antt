@@ -1,6 +1,6 @@
 use Rattle.std.proofs.Common.{subst}
 use Rattle.std.specs.List.{All}
-use Rattle.scudo_primary.specs.Pools.{ClassState, IsLoose, with_batch, class_after_push_batch}
+use Rattle.scudo_primary.specs.Pools.{ClassState, IsLoose, class_after_push_batch}
 use Rattle.scudo_primary.proofs.ModelLemmas.{PoolDone, pool-done, class_at-slices}
 use Rattle.scudo_primary.proofs.pool.Primary.push_batch.Goals as goal
 
@@ -15,7 +15,6 @@ done c =
     (record { low = c.requires.low; high = c.requires.high }) c.deref_mut.ensures.value c.deref_mut.ensures.len c.deref.ensures.value c.link_batch.ensures
 
 pub returns : goal.returns
-unfolding with_batch
 returns c = (done c).view
 
 pub invariant_of-self : goal.invariant_of-self
