@@ -1,50 +1,88 @@
-"""What the hand-written functions of a64_step take and return, as their files say."""
+"""What the hand-written functions of a64_step take and return, as their files say, and the calls of
+them: a parameter or a field of a struct that has the name of an instruction's field gets it."""
 
 import re
 from dataclasses import dataclass
 
 from a64 import table
+from a64.layout import braces
 from a64.table import TableError
 
 SOURCES = "crates/a64_step/src"
+
+# What a function takes beside fields, under the same name wherever it is called.
+STATE = {"regs", "memory", "pc", "outcome"}
 
 
 @dataclass
 class Function:
     name: str
     module: str
-    parameters: list  # their names
+    parameters: list  # of (name, type)
     result: str  # its type, or "" where it returns nothing
 
 
-def read_functions(written):
-    """The public functions of the crate, by name, but those of the files in `written`."""
-    found = {}
+@dataclass
+class Struct:
+    """Fields of instructions that are passed together."""
+    module: str
+    fields: list  # their names
+
+
+@dataclass
+class Sources:
+    """The functions and the structs of the crate, by name."""
+    functions: dict
+    structs: dict
+
+
+@dataclass
+class Call:
+    text: str
+    function: Function
+    structs: set  # the names of those that it makes
+    fields: set  # the names of those that it passes
+
+
+def read_sources(written):
+    """The public functions and structs of the crate, but those of the files in `written`."""
+    functions, structs = {}, {}
     for path in sorted((table.ROOT / SOURCES).glob("*.rt")):
         if f"{SOURCES}/{path.name}" in written:
             continue
         text = path.read_text()
         for head in re.finditer(r"^pub fn (\w+)(?:<[^>]*>)?\(([^)]*)\)(?: -> (.*\S))?", text, re.M):
-            parameters = re.findall(r"(\w+): ", head[2])
-            found[head[1]] = Function(head[1], path.stem, parameters, head[3] or "")
-    return found
+            parameters = re.findall(r"(\w+): ([^,\n]+)", head[2])
+            functions[head[1]] = Function(head[1], path.stem, parameters, head[3] or "")
+        for head in re.finditer(r"^pub struct (\w+) {\n(.*?)^}", text, re.M | re.S):
+            fields = re.findall(r"^    pub (\w+): ", head[2], re.M)
+            structs[head[1]] = Struct(path.stem, fields)
+    return Sources(functions, structs)
 
 
-def split_call(call):
-    """The name and the arguments of a call."""
-    found = re.fullmatch(r"(\w+)\((.*)\)", call)
-    if not found:
-        raise TableError(f"no call: {call}")
-    return found[1], [argument.strip() for argument in found[2].split(",")]
-
-
-def paired(call, functions, place):
-    """The function of a call, and its parameters with the arguments."""
-    name, arguments = split_call(call)
-    if name not in functions:
+def call_of(name, values, sources, place):
+    """The call of a function, where each field has the value that `values` gives it."""
+    if name not in sources.functions:
         raise TableError(f"{place}: {SOURCES} has no function {name}")
-    function = functions[name]
-    if len(arguments) != len(function.parameters):
-        raise TableError(f"{place}: {name} takes {len(function.parameters)} arguments, "
-                         f"not {len(arguments)}")
-    return function, dict(zip(function.parameters, arguments))
+    function = sources.functions[name]
+    call = Call("", function, set(), set())
+
+    def value(field):
+        if field not in values:
+            raise TableError(f"{place}: {name} takes {field}, which has no value")
+        call.fields.add(field)
+        return str(values[field])
+
+    def argument(parameter, type_name):
+        if parameter in STATE:
+            return parameter
+        if type_name not in sources.structs:
+            return value(parameter)
+        call.structs.add(type_name)
+        given = {field: value(field) for field in sources.structs[type_name].fields}
+        return braces(type_name, [field if field == what else f"{field}: {what}"
+                                  for field, what in given.items()])
+
+    arguments = ", ".join(argument(*parameter) for parameter in function.parameters)
+    call.text = f"{name}({arguments})"
+    return call

@@ -9,7 +9,7 @@ from a64.table import TableError
 def takes(form, values):
     """Whether a form takes the row's instruction with these values."""
     return (all(values[name] == value for name, value in form.given.items())
-            and all(values[name] < 31 for name in form.low)
+            and all(values[name] < 31 for name in form.gprs)
             and all(values[name] < bound for name, bound in form.limits.items()))
 
 

@@ -302,9 +302,10 @@ class Form:
     given: dict  # the constant fields of the row, name to value
     kept: list  # the fields that the form keeps: (name, type)
     effect: str  # the effect of a form that is no row's, or None
-    low: list  # the registers that must be below 31
+    gprs: list  # the registers that must be below 31
     limits: dict  # other limits that the row doesn't give, name to bound
-    call: str  # what executes it
+    function: str  # what executes it
+    passed: dict  # the constants that it takes and the row does not give, name to value
     text: str
     family: str  # the match that has its arm; empty for the first
 
@@ -329,18 +330,23 @@ def parse_form(line, rows, place):
             if value >> rows[row].field(f).width:
                 raise TableError(f"{place}: {f}={value} is wider than the field")
         kept = [(f.name, f.type) for f in rows[row].fields if f.name not in given]
-    low, others = [], {}
+    gprs, others = [], {}
     for limit in limits.split(","):
         words = limit.split()
-        if words[:1] == ["low"]:
-            low = words[1:]
+        if words[:1] == ["gpr"]:
+            gprs = words[1:]
         elif words:
             f, _, bound = limit.strip().partition("<")
             others[f] = int(bound)
-    for f in [*low, *others]:
+    for f in [*gprs, *others]:
         if f not in dict(kept):
             raise TableError(f"{place}: {name} keeps no field {f}")
-    return Form(name, row, given, kept, effect, low, others, call, text, family)
+    function, *constants = call.split()
+    passed = {f: int(v) for f, v in (c.split("=") for c in constants)}
+    for f in passed:
+        if row or f in dict(kept):
+            raise TableError(f"{place}: {name} has {f} already, or has it from its row")
+    return Form(name, row, given, kept, effect, gprs, others, function, passed, text, family)
 
 
 def read_forms(rows):
@@ -360,7 +366,7 @@ def bounds(form, rows):
     for name, type_name in form.kept:
         if type_name.startswith("i"):
             continue
-        if name in form.low:
+        if name in form.gprs:
             found[name] = 31
         elif name in form.limits:
             found[name] = form.limits[name]

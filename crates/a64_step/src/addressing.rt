@@ -3,6 +3,7 @@
 ghost use Rattle.std.specs.Prelude.{◌≡◌, ◌<◌, ◌≤◌, ◌+◌, ◌*◌, ◌%◌, ◌^◌};
 ghost use Rattle.a64_step.specs.Operands.{bytes_of};
 
+use crate::fields::RegisterOffset;
 use crate::operands::{byte_count, extend};
 use crate::registers::Regs;
 use a64_bits::plain;
@@ -86,16 +87,16 @@ impl Target {
     /// Base plus a register offset.
     #[inline(always)]
     #[tactic(auto, unfolding(crate::specs::Addressing::register_target))]
-    pub fn register(regs: &Regs, size: u8, rm: u8, option: u8, s: u8, rn: u8) -> Target
-        requires option { option < 8 }
-        requires rm { rm < 32 }
+    pub fn register(regs: &Regs, size: u8, offset: RegisterOffset, rn: u8) -> Target
+        requires option { offset.option < 8 }
+        requires rm { offset.rm < 32 }
         requires rn { rn < 32 }
-        ensures { result ≡ register_target regs.now size rm option s rn }
+        ensures { result ≡ register_target regs.now size offset.rm offset.option offset.s rn }
     {
-        let unit = if s == 1 { byte_count(size) } else { 1 };
-        let offset = extend(option, regs.get(rm)).wrapping_mul(unit);
+        let unit = if offset.s == 1 { byte_count(size) } else { 1 };
+        let bytes = extend(offset.option, regs.get(offset.rm)).wrapping_mul(unit);
         Target {
-            address: regs.get_or_sp(rn).wrapping_add(offset),
+            address: regs.get_or_sp(rn).wrapping_add(bytes),
             checked: true,
             new_base: None,
         }

@@ -6,6 +6,7 @@ ghost use Rattle.a64_step.specs.Branches.{branch_cases, with_link, test_branch_o
 
 use crate::addressing::moved_by;
 use crate::conditions::condition_holds;
+use crate::fields::TestedBit;
 use crate::operands::truncate;
 use crate::registers::Regs;
 
@@ -71,15 +72,15 @@ pub fn cmp_branch(regs: &mut Regs, sf: u8, op: u8, imm19: i32, rt: u8)
 /// TBZ, TBNZ.
 #[inline(always)]
 #[tactic(auto, unfolding(crate::specs::Branches::test_branch_of))]
-pub fn test_branch(regs: &mut Regs, b5: u8, op: u8, b40: u8, imm14: i16, rt: u8)
-    requires b5 { b5 < 2 }
-    requires b40 { b40 < 32 }
-    requires rt { rt < 32 }
-    ensures { regs.new ≡ test_branch_of regs.old b5 op b40 imm14 rt }
+pub fn test_branch(regs: &mut Regs, bit: TestedBit, imm14: i16)
+    requires b5 { bit.b5 < 2 }
+    requires b40 { bit.b40 < 32 }
+    requires rt { bit.rt < 32 }
+    ensures { regs.new ≡ test_branch_of regs.old bit.b5 bit.op bit.b40 imm14 bit.rt }
 {
-    let position = 32 * u32::from(b5) + u32::from(b40);
-    let bit = (regs.get(rt) >> position) % 2;
-    jump_if(regs, bit == u64::from(op), i64::from(imm14));
+    let position = 32 * u32::from(bit.b5) + u32::from(bit.b40);
+    let value = (regs.get(bit.rt) >> position) % 2;
+    jump_if(regs, value == u64::from(bit.op), i64::from(imm14));
 }
 
 /// BR, BLR, RET.

@@ -7,6 +7,7 @@ ghost use Rattle.a64_step.specs.DataProcessing.{two_source_of};
 ghost use Rattle.a64_step.specs.Operands.{size_of};
 ghost use Rattle.a64_step.specs.Registers.{with_next_pc};
 
+use crate::fields::{ProductOperands, RegisterOperands};
 use crate::operands::{shift_by, size_of_operands, truncate};
 use crate::registers::Regs;
 use a64_bits::{
@@ -49,24 +50,26 @@ pub fn one_source(regs: &mut Regs, sf: u8, opcode: u8, rn: u8, rd: u8)
     crate::specs::DataProcessing::two_source_of,
     crate::specs::DataProcessing::two_source_value
 ))]
-pub fn two_source(regs: &mut Regs, sf: u8, rm: u8, opcode: u8, rn: u8, rd: u8)
-    requires rm { rm < 32 }
+pub fn two_source(regs: &mut Regs, operands: RegisterOperands, opcode: u8)
+    requires rm { operands.rm < 32 }
     requires opcode { opcode < 64 }
     requires known { (opcode ≡ 2) ⊎ (opcode ≡ 3) ⊎ (opcode ≡ 8) ⊎ (opcode ≡ 9)
         ⊎ (opcode ≡ 10) ⊎ (opcode ≡ 11) }
-    requires rn { rn < 32 }
-    requires rd { rd < 32 }
-    ensures { regs.new ≡ with_next_pc (two_source_of regs.old sf rm opcode rn rd) }
+    requires rn { operands.rn < 32 }
+    requires rd { operands.rd < 32 }
+    ensures { regs.new
+        ≡ with_next_pc
+        (two_source_of regs.old operands.sf operands.rm opcode operands.rn operands.rd) }
 {
-    let x = truncate(sf, regs.get(rn));
-    let y = truncate(sf, regs.get(rm));
-    let size = size_of_operands(sf);
+    let x = truncate(operands.sf, regs.get(operands.rn));
+    let y = truncate(operands.sf, regs.get(operands.rm));
+    let size = size_of_operands(operands.sf);
     let value = match opcode {
         2 => divide(x, y, size, false),
         3 => divide(x, y, size, true),
         _ => shift_by(opcode - 8, x, (y % u64::from(size)) as u32, size),
     };
-    regs.set(rd, value);
+    regs.set(operands.rd, value);
     regs.advance();
 }
 
@@ -87,17 +90,18 @@ pub fn multiply_and_add(sf: u8, o0: u8, a: u64, x: u64, y: u64) -> u64
 /// MADD, MSUB.
 #[inline(always)]
 #[tactic(auto, unfolding(crate::specs::DataProcessing::mul_add_of))]
-pub fn mul_add(regs: &mut Regs, sf: u8, rm: u8, o0: u8, ra: u8, rn: u8, rd: u8)
-    requires rm { rm < 32 }
-    requires ra { ra < 32 }
-    requires rn { rn < 32 }
-    requires rd { rd < 32 }
-    ensures { regs.new ≡ with_next_pc (mul_add_of regs.old sf rm o0 ra rn rd) }
+pub fn mul_add(regs: &mut Regs, sf: u8, o0: u8, product: ProductOperands)
+    requires rm { product.rm < 32 }
+    requires ra { product.ra < 32 }
+    requires rn { product.rn < 32 }
+    requires rd { product.rd < 32 }
+    ensures { regs.new
+        ≡ with_next_pc (mul_add_of regs.old sf product.rm o0 product.ra product.rn product.rd) }
 {
-    let a = truncate(sf, regs.get(ra));
-    let x = truncate(sf, regs.get(rn));
-    let y = truncate(sf, regs.get(rm));
-    regs.set(rd, multiply_and_add(sf, o0, a, x, y));
+    let a = truncate(sf, regs.get(product.ra));
+    let x = truncate(sf, regs.get(product.rn));
+    let y = truncate(sf, regs.get(product.rm));
+    regs.set(product.rd, multiply_and_add(sf, o0, a, x, y));
     regs.advance();
 }
 
@@ -117,16 +121,20 @@ fn low_half(u: u8, value: u64) -> u64
 /// SMADDL, SMSUBL, UMADDL, UMSUBL.
 #[inline(never)]
 #[tactic(auto, unfolding(crate::specs::DataProcessing::mul_add_long_of))]
-pub fn mul_add_long(regs: &mut Regs, u: u8, rm: u8, o0: u8, ra: u8, rn: u8, rd: u8)
-    requires rm { rm < 32 }
-    requires ra { ra < 32 }
-    requires rn { rn < 32 }
-    requires rd { rd < 32 }
-    ensures { regs.new ≡ with_next_pc (mul_add_long_of regs.old u rm o0 ra rn rd) }
+pub fn mul_add_long(regs: &mut Regs, u: u8, o0: u8, product: ProductOperands)
+    requires rm { product.rm < 32 }
+    requires ra { product.ra < 32 }
+    requires rn { product.rn < 32 }
+    requires rd { product.rd < 32 }
+    ensures { regs.new
+        ≡ with_next_pc (mul_add_long_of regs.old u product.rm o0 product.ra product.rn product.rd) }
 {
-    let x = low_half(u, regs.get(rn));
-    let y = low_half(u, regs.get(rm));
-    regs.set(rd, multiply_and_add(1, o0, regs.get(ra), x, y));
+    let x = low_half(u, regs.get(product.rn));
+    let y = low_half(u, regs.get(product.rm));
+    regs.set(
+        product.rd,
+        multiply_and_add(1, o0, regs.get(product.ra), x, y),
+    );
     regs.advance();
 }
 

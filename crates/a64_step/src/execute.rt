@@ -13,6 +13,11 @@ use crate::bitfield::{bitfield, extr};
 use crate::branches::{branch, branch_cond, branch_reg, cmp_branch, test_branch};
 use crate::conditional::{cond_cmp, cond_sel};
 use crate::data_processing::{mul_add, mul_add_long, mul_high, one_source, two_source};
+use crate::fields::{
+    AddSub, ComparedOperands, ExtendedRegister, FieldMove, Logical, LogicalImmediate, PairTransfer,
+    ProductOperands, RegisterOffset, RegisterOperands, ShiftedRegister, TagPairTransfer,
+    TagTransfer, TestedBit, Transfer,
+};
 use crate::load_store::{ld_lit, ld_st_imm, ld_st_post, ld_st_pre, ld_st_reg, ld_st_unscaled};
 use crate::load_store_pair::{pair_off, pair_post, pair_pre};
 use crate::logical::{log_imm, log_shift};
@@ -26,7 +31,7 @@ use mte_tags::Tagged;
 
 /// Executes an instruction. An arm with constants in its pattern passes them on, so that its copy
 /// of the function does not test them again. A part with a match of its own has at most ten rows,
-/// next to one another in `Instr`: so the compiler makes one jump of both matches.
+/// next to one another in `Instr`: so the compiler makes one jump of both matches if it is in line.
 #[rattlefmt::skip]
 #[inline(always)]
 #[tactic(auto, unfolding(crate::specs::Steps::step_of_instr))]
@@ -38,22 +43,22 @@ pub fn execute<M: Tagged>(instr: &Instr, regs: &mut Regs, memory: &mut M, outcom
     ensures kept { M.kept memory.old memory.new }
 {
     match *instr {
-        Instr::AddSubImm { sf: 1, op, s, sh, imm12, rn, rd } => add_sub_imm(regs, 1, op, s, sh, imm12, rn, rd),
-        Instr::AddSubImm { sf, op, s, sh, imm12, rn, rd } => add_sub_imm(regs, sf, op, s, sh, imm12, rn, rd),
-        Instr::AddSubShift { sf: 1, op, s, shift, rm, imm6, rn, rd } => add_sub_shift(regs, 1, op, s, shift, rm, imm6, rn, rd),
-        Instr::AddSubShift { sf, op, s, shift, rm, imm6, rn, rd } => add_sub_shift(regs, sf, op, s, shift, rm, imm6, rn, rd),
-        Instr::AddSubExt { sf: 1, op, s, rm, option, imm3, rn, rd } => add_sub_ext(regs, 1, op, s, rm, option, imm3, rn, rd),
-        Instr::AddSubExt { sf, op, s, rm, option, imm3, rn, rd } => add_sub_ext(regs, sf, op, s, rm, option, imm3, rn, rd),
-        Instr::LogImm { sf, opc, n, immr, imms, rn, rd } => log_imm(regs, sf, opc, n, immr, imms, rn, rd),
-        Instr::LogShift { sf: 1, opc, shift, n: 0, rm, imm6: 0, rn, rd } => log_shift(regs, 1, opc, shift, 0, rm, 0, rn, rd),
-        Instr::LogShift { sf: 1, opc, shift, n, rm, imm6, rn, rd } => log_shift(regs, 1, opc, shift, n, rm, imm6, rn, rd),
-        Instr::LogShift { sf, opc, shift, n, rm, imm6, rn, rd } => log_shift(regs, sf, opc, shift, n, rm, imm6, rn, rd),
+        Instr::AddSubImm { sf: 1, op, s, sh, imm12, rn, rd } => add_sub_imm(regs, 1, AddSub { op, s, rn, rd }, sh, imm12),
+        Instr::AddSubImm { sf, op, s, sh, imm12, rn, rd } => add_sub_imm(regs, sf, AddSub { op, s, rn, rd }, sh, imm12),
+        Instr::AddSubShift { sf: 1, op, s, shift, rm, imm6, rn, rd } => add_sub_shift(regs, AddSub { op, s, rn, rd }, ShiftedRegister { sf: 1, shift, rm, imm6 }),
+        Instr::AddSubShift { sf, op, s, shift, rm, imm6, rn, rd } => add_sub_shift(regs, AddSub { op, s, rn, rd }, ShiftedRegister { sf, shift, rm, imm6 }),
+        Instr::AddSubExt { sf: 1, op, s, rm, option, imm3, rn, rd } => add_sub_ext(regs, AddSub { op, s, rn, rd }, ExtendedRegister { sf: 1, rm, option, imm3 }),
+        Instr::AddSubExt { sf, op, s, rm, option, imm3, rn, rd } => add_sub_ext(regs, AddSub { op, s, rn, rd }, ExtendedRegister { sf, rm, option, imm3 }),
+        Instr::LogImm { sf, opc, n, immr, imms, rn, rd } => log_imm(regs, LogicalImmediate { sf, opc, rn, rd }, n, immr, imms),
+        Instr::LogShift { sf: 1, opc, shift, n: 0, rm, imm6: 0, rn, rd } => log_shift(regs, Logical { opc, n: 0, rn, rd }, ShiftedRegister { sf: 1, shift, rm, imm6: 0 }),
+        Instr::LogShift { sf: 1, opc, shift, n, rm, imm6, rn, rd } => log_shift(regs, Logical { opc, n, rn, rd }, ShiftedRegister { sf: 1, shift, rm, imm6 }),
+        Instr::LogShift { sf, opc, shift, n, rm, imm6, rn, rd } => log_shift(regs, Logical { opc, n, rn, rd }, ShiftedRegister { sf, shift, rm, imm6 }),
         Instr::MoveWide { sf, opc, hw, imm16, rd } => move_wide(regs, sf, opc, hw, imm16, rd),
-        Instr::Bitfield { sf: 1, opc: 2, immr, imms, rn, rd, .. } => bitfield(regs, 1, 2, immr, imms, rn, rd),
-        Instr::Bitfield { sf: 1, opc, immr, imms, rn, rd, .. } => bitfield(regs, 1, opc, immr, imms, rn, rd),
-        Instr::Bitfield { sf, opc, immr, imms, rn, rd, .. } => bitfield(regs, sf, opc, immr, imms, rn, rd),
-        Instr::Extr { sf: 1, rm, imms, rn, rd, .. } => extr(regs, 1, rm, imms, rn, rd),
-        Instr::Extr { sf, rm, imms, rn, rd, .. } => extr(regs, sf, rm, imms, rn, rd),
+        Instr::Bitfield { sf: 1, opc: 2, immr, imms, rn, rd, .. } => bitfield(regs, FieldMove { sf: 1, opc: 2, immr, imms }, rn, rd),
+        Instr::Bitfield { sf: 1, opc, immr, imms, rn, rd, .. } => bitfield(regs, FieldMove { sf: 1, opc, immr, imms }, rn, rd),
+        Instr::Bitfield { sf, opc, immr, imms, rn, rd, .. } => bitfield(regs, FieldMove { sf, opc, immr, imms }, rn, rd),
+        Instr::Extr { sf: 1, rm, imms, rn, rd, .. } => extr(regs, RegisterOperands { sf: 1, rm, rn, rd }, imms),
+        Instr::Extr { sf, rm, imms, rn, rd, .. } => extr(regs, RegisterOperands { sf, rm, rn, rd }, imms),
         Instr::Adr { op, immlo, immhi, rd } => adr(regs, op, immlo, immhi, rd),
         Instr::Branch { .. }
         | Instr::BranchCond { .. }
@@ -68,7 +73,7 @@ pub fn execute<M: Tagged>(instr: &Instr, regs: &mut Regs, memory: &mut M, outcom
         | Instr::MulAdd { .. }
         | Instr::MulAddLong { .. }
         | Instr::MulHigh { .. } => execute_other_data_processing(instr, regs, memory, outcome),
-        Instr::LdStImm { size, opc, imm12, rn, rt } => ld_st_imm(regs, memory, size, opc, imm12, rn, rt, outcome),
+        Instr::LdStImm { size, opc, imm12, rn, rt } => ld_st_imm(regs, memory, Transfer { size, opc, rn, rt }, imm12, outcome),
         Instr::LdStUnscaled { .. }
         | Instr::LdStPost { .. }
         | Instr::LdStPre { .. }
@@ -97,7 +102,7 @@ fn execute_branch<M: Tagged>(instr: &Instr, regs: &mut Regs, memory: &mut M, out
         Instr::Branch { op, imm26 } => branch(regs, op, imm26),
         Instr::BranchCond { imm19, cond } => branch_cond(regs, imm19, cond),
         Instr::CmpBranch { sf, op, imm19, rt } => cmp_branch(regs, sf, op, imm19, rt),
-        Instr::TestBranch { b5, op, b40, imm14, rt } => test_branch(regs, b5, op, b40, imm14, rt),
+        Instr::TestBranch { b5, op, b40, imm14, rt } => test_branch(regs, TestedBit { op, b5, b40, rt }, imm14),
         Instr::BranchReg { opc, rn } => branch_reg(regs, opc, rn),
         _ => {}
     }
@@ -117,13 +122,13 @@ fn execute_other_data_processing<M: Tagged>(instr: &Instr, regs: &mut Regs, memo
     ensures kept { M.kept memory.old memory.new }
 {
     match *instr {
-        Instr::AdcSbc { sf, op, s, rm, rn, rd } => adc_sbc(regs, sf, op, s, rm, rn, rd),
-        Instr::CondCmp { sf, op, rm, cond, i, rn, nzcv } => cond_cmp(regs, sf, op, rm, cond, i, rn, nzcv),
-        Instr::CondSel { sf, op, rm, cond, o2, rn, rd } => cond_sel(regs, sf, op, rm, cond, o2, rn, rd),
-        Instr::TwoSource { sf, rm, opcode, rn, rd } => two_source(regs, sf, rm, opcode, rn, rd),
+        Instr::AdcSbc { sf, op, s, rm, rn, rd } => adc_sbc(regs, sf, AddSub { op, s, rn, rd }, rm),
+        Instr::CondCmp { sf, op, rm, cond, i, rn, nzcv } => cond_cmp(regs, ComparedOperands { sf, rm, i, rn }, op, cond, nzcv),
+        Instr::CondSel { sf, op, rm, cond, o2, rn, rd } => cond_sel(regs, RegisterOperands { sf, rm, rn, rd }, op, cond, o2),
+        Instr::TwoSource { sf, rm, opcode, rn, rd } => two_source(regs, RegisterOperands { sf, rm, rn, rd }, opcode),
         Instr::OneSource { sf, opcode, rn, rd } => one_source(regs, sf, opcode, rn, rd),
-        Instr::MulAdd { sf, rm, o0, ra, rn, rd } => mul_add(regs, sf, rm, o0, ra, rn, rd),
-        Instr::MulAddLong { u, rm, o0, ra, rn, rd } => mul_add_long(regs, u, rm, o0, ra, rn, rd),
+        Instr::MulAdd { sf, rm, o0, ra, rn, rd } => mul_add(regs, sf, o0, ProductOperands { rm, ra, rn, rd }),
+        Instr::MulAddLong { u, rm, o0, ra, rn, rd } => mul_add_long(regs, u, o0, ProductOperands { rm, ra, rn, rd }),
         Instr::MulHigh { u, rm, rn, rd } => mul_high(regs, u, rm, rn, rd),
         _ => {}
     }
@@ -131,7 +136,7 @@ fn execute_other_data_processing<M: Tagged>(instr: &Instr, regs: &mut Regs, memo
 
 /// Executes loads and stores but those of a register at an unsigned offset.
 #[rattlefmt::skip]
-#[inline(always)]
+#[inline(never)]
 #[tactic(auto, unfolding(crate::specs::Steps::step_of_instr))]
 fn execute_other_load_or_store<M: Tagged>(instr: &Instr, regs: &mut Regs, memory: &mut M, outcome: &mut Outcome)
     requires allowed { IsAllowed instr.now }
@@ -142,14 +147,14 @@ fn execute_other_load_or_store<M: Tagged>(instr: &Instr, regs: &mut Regs, memory
     ensures kept { M.kept memory.old memory.new }
 {
     match *instr {
-        Instr::LdStUnscaled { size, opc, imm9, rn, rt } => ld_st_unscaled(regs, memory, size, opc, imm9, rn, rt, outcome),
-        Instr::LdStPost { size, opc, imm9, rn, rt } => ld_st_post(regs, memory, size, opc, imm9, rn, rt, outcome),
-        Instr::LdStPre { size, opc, imm9, rn, rt } => ld_st_pre(regs, memory, size, opc, imm9, rn, rt, outcome),
-        Instr::LdStReg { size, opc, rm, option, s, rn, rt } => ld_st_reg(regs, memory, size, opc, rm, option, s, rn, rt, outcome),
+        Instr::LdStUnscaled { size, opc, imm9, rn, rt } => ld_st_unscaled(regs, memory, Transfer { size, opc, rn, rt }, imm9, outcome),
+        Instr::LdStPost { size, opc, imm9, rn, rt } => ld_st_post(regs, memory, Transfer { size, opc, rn, rt }, imm9, outcome),
+        Instr::LdStPre { size, opc, imm9, rn, rt } => ld_st_pre(regs, memory, Transfer { size, opc, rn, rt }, imm9, outcome),
+        Instr::LdStReg { size, opc, rm, option, s, rn, rt } => ld_st_reg(regs, memory, Transfer { size, opc, rn, rt }, RegisterOffset { rm, option, s }, outcome),
         Instr::LdLit { opc, imm19, rt } => ld_lit(regs, memory, opc, imm19, rt, outcome),
-        Instr::PairPost { opc, l, imm7, rt2, rn, rt } => pair_post(regs, memory, opc, l, imm7, rt2, rn, rt, outcome),
-        Instr::PairOff { opc, l, imm7, rt2, rn, rt } => pair_off(regs, memory, opc, l, imm7, rt2, rn, rt, outcome),
-        Instr::PairPre { opc, l, imm7, rt2, rn, rt } => pair_pre(regs, memory, opc, l, imm7, rt2, rn, rt, outcome),
+        Instr::PairPost { opc, l, imm7, rt2, rn, rt } => pair_post(regs, memory, l, PairTransfer { opc, rt2, rn, rt }, imm7, outcome),
+        Instr::PairOff { opc, l, imm7, rt2, rn, rt } => pair_off(regs, memory, l, PairTransfer { opc, rt2, rn, rt }, imm7, outcome),
+        Instr::PairPre { opc, l, imm7, rt2, rn, rt } => pair_pre(regs, memory, l, PairTransfer { opc, rt2, rn, rt }, imm7, outcome),
         _ => {}
     }
 }
@@ -175,8 +180,8 @@ fn execute_system_or_tag<M: Tagged>(instr: &Instr, regs: &mut Regs, memory: &mut
         Instr::Irg { rm, rn, rd } => irg(regs, rm, rn, rd),
         Instr::Gmi { rm, rn, rd } => gmi(regs, rm, rn, rd),
         Instr::Ldg { imm9, rn, rt } => ldg(regs, memory, imm9, rn, rt, outcome),
-        Instr::StG { opc, imm9, mode, rn, rt } => st_g(regs, memory, opc, imm9, mode, rn, rt, outcome),
-        Instr::StGP { mode, imm7, rt2, rn, rt } => st_g_p(regs, memory, mode, imm7, rt2, rn, rt, outcome),
+        Instr::StG { opc, imm9, mode, rn, rt } => st_g(regs, memory, TagTransfer { opc, mode, rn, rt }, imm9, outcome),
+        Instr::StGP { mode, imm7, rt2, rn, rt } => st_g_p(regs, memory, TagPairTransfer { mode, rt2, rn, rt }, imm7, outcome),
         _ => {}
     }
 }

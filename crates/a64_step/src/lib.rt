@@ -12,6 +12,7 @@ mod data_processing;
 mod entry;
 mod execute;
 mod execute_op;
+mod fields;
 mod laws;
 mod load_store;
 mod load_store_pair;

@@ -16,6 +16,7 @@ ghost use Rattle.a64_step.specs.Results.{Leaves};
 
 use crate::add_subtract::{add_into, add_or_subtract};
 use crate::addressing::{Target, fault_of_stack, moved_by, write_back};
+use crate::fields::{AddSub, TagPairTransfer, TagTransfer};
 use crate::load_store_pair::{Pair, write_pair};
 use crate::outcome::Outcome;
 use crate::registers::Regs;
@@ -53,7 +54,7 @@ pub fn sub_p(regs: &mut Regs, s: u8, rm: u8, rn: u8, rd: u8)
 {
     let x = sign_extend(regs.get_or_sp(rn), 56);
     let y = sign_extend(regs.get_or_sp(rm), 56);
-    add_into(regs, 1, 1, s, rd, x, y);
+    add_into(regs, 1, AddSub { op: 1, s, rn, rd }, x, y);
     regs.advance();
 }
 
@@ -126,22 +127,20 @@ pub fn ldg<M: Tagged>(
 pub fn st_g<M: Tagged>(
     regs: &mut Regs,
     memory: &mut M,
-    opc: u8,
+    transfer: TagTransfer,
     imm9: i16,
-    mode: u8,
-    rn: u8,
-    rt: u8,
     outcome: &mut Outcome,
 )
-    requires rn { rn < 32 }
-    requires rt { rt < 32 }
+    requires rn { transfer.rn < 32 }
+    requires rt { transfer.rt < 32 }
     requires outcome { outcome.old ≡ Outcome.Next }
-    ensures leaves { Leaves (st_g_of regs.old (M.memory memory.old) opc imm9 mode rn rt)
+    ensures leaves { Leaves (st_g_of regs.old (M.memory memory.old)
+        transfer.opc imm9 transfer.mode transfer.rn transfer.rt)
         outcome.new regs.new (M.memory memory.new) }
     ensures kept { M.kept memory.old memory.new }
 {
-    let target = target_of_tags(regs, i64::from(imm9), mode, rn);
-    store_at(regs, memory, opc, rn, rt, target, outcome)
+    let target = target_of_tags(regs, i64::from(imm9), transfer.mode, transfer.rn);
+    store_at(regs, memory, transfer, target, outcome)
 }
 
 /// The target of a store of tags.
@@ -162,31 +161,34 @@ fn target_of_tags(regs: &Regs, offset: i64, mode: u8, rn: u8) -> Target
 fn store_at<M: Tagged>(
     regs: &mut Regs,
     memory: &mut M,
-    opc: u8,
-    rn: u8,
-    rt: u8,
+    transfer: TagTransfer,
     target: Target,
     outcome: &mut Outcome,
 )
-    requires rn { rn < 32 }
-    requires rt { rt < 32 }
+    requires rn { transfer.rn < 32 }
+    requires rt { transfer.rt < 32 }
     requires outcome { outcome.old ≡ Outcome.Next }
-    ensures leaves { Leaves (st_g_at regs.old (M.memory memory.old) opc rn rt target)
+    ensures leaves { Leaves (st_g_at regs.old (M.memory memory.old)
+        transfer.opc transfer.rn transfer.rt target)
         outcome.new regs.new (M.memory memory.new) }
     ensures kept { M.kept memory.old memory.new }
 {
-    if let Some(fault) = fault_of_stack(regs, rn, true) {
+    if let Some(fault) = fault_of_stack(regs, transfer.rn, true) {
         *outcome = Outcome::Fault(fault);
         return;
     }
-    let granules = if opc == 2 || opc == 3 { 2 } else { 1 };
-    let zero = opc == 1 || opc == 3;
-    let tag = tag_of(regs.get_or_sp(rt));
+    let granules = if transfer.opc == 2 || transfer.opc == 3 {
+        2
+    } else {
+        1
+    };
+    let zero = transfer.opc == 1 || transfer.opc == 3;
+    let tag = tag_of(regs.get_or_sp(transfer.rt));
     if let Err(fault) = memory.store_tags(target.address, granules, tag, zero) {
         *outcome = Outcome::Fault(fault);
         return;
     }
-    write_back(regs, rn, target.new_base);
+    write_back(regs, transfer.rn, target.new_base);
     regs.advance();
 }
 
@@ -196,23 +198,21 @@ fn store_at<M: Tagged>(
 pub fn st_g_p<M: Tagged>(
     regs: &mut Regs,
     memory: &mut M,
-    mode: u8,
+    transfer: TagPairTransfer,
     imm7: i8,
-    rt2: u8,
-    rn: u8,
-    rt: u8,
     outcome: &mut Outcome,
 )
-    requires rt2 { rt2 < 32 }
-    requires rn { rn < 32 }
-    requires rt { rt < 32 }
+    requires rt2 { transfer.rt2 < 32 }
+    requires rn { transfer.rn < 32 }
+    requires rt { transfer.rt < 32 }
     requires outcome { outcome.old ≡ Outcome.Next }
-    ensures leaves { Leaves (st_g_p_of regs.old (M.memory memory.old) mode imm7 rt2 rn rt)
+    ensures leaves { Leaves (st_g_p_of regs.old (M.memory memory.old)
+        transfer.mode imm7 transfer.rt2 transfer.rn transfer.rt)
         outcome.new regs.new (M.memory memory.new) }
     ensures kept { M.kept memory.old memory.new }
 {
-    let target = target_of_tags(regs, i64::from(imm7), mode, rn);
-    store_pair_at(regs, memory, rt2, rn, rt, target, outcome)
+    let target = target_of_tags(regs, i64::from(imm7), transfer.mode, transfer.rn);
+    store_pair_at(regs, memory, transfer, target, outcome)
 }
 
 /// Stores the tag of one granule and two registers into it.
@@ -220,33 +220,32 @@ pub fn st_g_p<M: Tagged>(
 fn store_pair_at<M: Tagged>(
     regs: &mut Regs,
     memory: &mut M,
-    rt2: u8,
-    rn: u8,
-    rt: u8,
+    transfer: TagPairTransfer,
     target: Target,
     outcome: &mut Outcome,
 )
-    requires rt2 { rt2 < 32 }
-    requires rn { rn < 32 }
-    requires rt { rt < 32 }
+    requires rt2 { transfer.rt2 < 32 }
+    requires rn { transfer.rn < 32 }
+    requires rt { transfer.rt < 32 }
     requires outcome { outcome.old ≡ Outcome.Next }
-    ensures leaves { Leaves (st_g_p_at regs.old (M.memory memory.old) rt2 rn rt target)
+    ensures leaves { Leaves (st_g_p_at regs.old (M.memory memory.old)
+        transfer.rt2 transfer.rn transfer.rt target)
         outcome.new regs.new (M.memory memory.new) }
     ensures kept { M.kept memory.old memory.new }
 {
-    if let Some(fault) = fault_of_stack(regs, rn, true) {
+    if let Some(fault) = fault_of_stack(regs, transfer.rn, true) {
         *outcome = Outcome::Fault(fault);
         return;
     }
     let values = Pair {
-        first: regs.get(rt),
-        second: regs.get(rt2),
+        first: regs.get(transfer.rt),
+        second: regs.get(transfer.rt2),
     };
     if let Err(fault) = store_granule(memory, target.address, values) {
         *outcome = Outcome::Fault(fault);
         return;
     }
-    write_back(regs, rn, target.new_base);
+    write_back(regs, transfer.rn, target.new_base);
     regs.advance();
 }
 

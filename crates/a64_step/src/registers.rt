@@ -96,7 +96,7 @@ impl Regs {
         crate::specs::Registers::register,
         crate::specs::Registers::register_or_sp
     ))]
-    pub(crate) fn low(&self, n: u8) -> u64
+    pub(crate) fn gpr(&self, n: u8) -> u64
         requires { n < 31 }
         ensures register { result ≡ register self.now n }
         ensures or_sp { result ≡ register_or_sp self.now n }
@@ -111,7 +111,7 @@ impl Regs {
         crate::specs::Registers::with_register,
         crate::specs::Registers::with_register_or_sp
     ))]
-    pub(crate) fn set_low(&mut self, n: u8, value: u64)
+    pub(crate) fn set_gpr(&mut self, n: u8, value: u64)
         requires { n < 31 }
         ensures register { self.new ≡ with_register self.old n value }
         ensures or_sp { self.new ≡ with_register_or_sp self.old n value }
