@@ -10,7 +10,7 @@ use mte_tags::{Attrs, MemFault, NoPagesLeft, Paged, Tagged};
 use std::alloc::{AllocError, Global};
 
 /// Which accesses are watched.
-#[derive(Clone, Copy, Debug, PartialEq, Eq)]
+#[derive(Clone, Copy, PartialEq, Eq)]
 pub enum Access {
     /// Those that write.
     Write,
@@ -21,7 +21,7 @@ pub enum Access {
 }
 
 /// Addresses that are watched, without their tags.
-#[derive(Clone, Copy, Debug, PartialEq, Eq)]
+#[derive(Clone, Copy, PartialEq, Eq)]
 pub struct Watchpoint {
     /// Which accesses.
     pub access: Access,
@@ -32,7 +32,7 @@ pub struct Watchpoint {
 }
 
 /// An access that met a watchpoint.
-#[derive(Clone, Copy, Debug, PartialEq, Eq)]
+#[derive(Clone, Copy)]
 pub struct Hit {
     /// Which accesses the watchpoint is for.
     pub access: Access,

@@ -7,7 +7,7 @@ use mte_tags::{Attrs, Tagged};
 use std::alloc::{AllocError, Global};
 
 /// Pages one after another with the same attributes.
-#[derive(Clone, Copy, Debug, PartialEq, Eq)]
+#[derive(Clone, Copy)]
 pub struct Region {
     /// The first address.
     pub start: u64,

@@ -7,7 +7,7 @@ use mte_tenant::Status;
 pub const INFO_SIZE: usize = 128;
 
 /// A signal as `sigaction(2)` tells of it, with Linux's numbers.
-#[derive(Clone, Copy, Debug, PartialEq, Eq)]
+#[derive(Clone, Copy)]
 pub struct Signal {
     /// `si_signo`: 4 SIGILL, 5 SIGTRAP, 6 SIGABRT, 7 SIGBUS, 11 SIGSEGV, 24 SIGXCPU.
     pub number: u32,

@@ -46,7 +46,7 @@ impl File {
 }
 
 /// Which map a path names.
-#[derive(Clone, Copy, Debug, PartialEq, Eq)]
+#[derive(Clone, Copy)]
 enum Map {
     /// `/proc/1/maps`, or that of a task.
     Maps,
@@ -55,7 +55,7 @@ enum Map {
 }
 
 /// Which file a path names.
-#[derive(Clone, Copy, Debug, PartialEq, Eq)]
+#[derive(Clone, Copy)]
 enum Named {
     /// A map of the memory.
     Map(Map),

@@ -16,7 +16,7 @@ const COMMAND_LIMIT: usize = 256;
 const MACHINE: &[u8] = b"\ninstruction at ";
 
 /// What a user may ask.
-#[derive(Clone, Copy, Debug, PartialEq, Eq)]
+#[derive(Clone, Copy)]
 enum Request {
     Why,
     Calls,

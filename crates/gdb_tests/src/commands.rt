@@ -33,7 +33,7 @@ fn reads_letters(rt: HostRuntime) {
         (b"", Command::Unknown),
     ];
     for (text, command) in expected {
-        assert_eq!(rt; parse_command(text), command);
+        assert!(rt; parse_command(text) == command);
     }
 }
 
@@ -47,19 +47,19 @@ fn reads_writes(rt: HostRuntime) {
         len: 2,
         digits,
     };
-    assert_eq!(rt; parse_command(b"M400200,2:01ff"), written);
+    assert!(rt; parse_command(b"M400200,2:01ff") == written);
     let written = Command::WriteBytes {
         address,
         len: 4,
         bytes,
     };
-    assert_eq!(rt; parse_command(b"X400200,4:$}*#"), written);
+    assert!(rt; parse_command(b"X400200,4:$}*#") == written);
     let asked = Command::WriteBytes {
         address,
         len: 0,
         bytes: b"",
     };
-    assert_eq!(rt; parse_command(b"X400200,0:"), asked);
+    assert!(rt; parse_command(b"X400200,0:") == asked);
 }
 
 #[test]
@@ -72,7 +72,7 @@ fn reads_threads(rt: HostRuntime) {
         resumes: true,
         thread: all,
     };
-    assert_eq!(rt; parse_command(b"Hc-1"), selected);
+    assert!(rt; parse_command(b"Hc-1") == selected);
     let any = Thread {
         process: Some(Id::Any),
         thread: Id::Any,
@@ -81,15 +81,12 @@ fn reads_threads(rt: HostRuntime) {
         resumes: false,
         thread: any,
     };
-    assert_eq!(rt; parse_command(b"Hgp0.0"), selected);
+    assert!(rt; parse_command(b"Hgp0.0") == selected);
     let whole = Thread {
         process: Some(Id::One(1)),
         thread: Id::All,
     };
-    assert_eq!(rt;
-        parse_command(b"Tp1"),
-        Command::IsThreadAlive { thread: whole }
-    );
+    assert!(rt; parse_command(b"Tp1") == Command::IsThreadAlive { thread: whole });
 }
 
 #[test]
@@ -151,7 +148,7 @@ fn reads_resumes(rt: HostRuntime) {
         ),
     ];
     for (text, command) in expected {
-        assert_eq!(rt; parse_command(text), command);
+        assert!(rt; parse_command(text) == command);
     }
 }
 
@@ -174,23 +171,23 @@ fn reads_points(rt: HostRuntime) {
         b"Z4,400300,4",
     ];
     for (text, kind) in texts.into_iter().zip(kinds) {
-        assert_eq!(rt;
-            parse_command(text),
-            Command::InsertPoint {
+        assert!(rt;
+            parse_command(text)
+                == Command::InsertPoint {
+                    kind,
+                    address,
+                    size
+                }
+        );
+    }
+    let kind = Point::WriteWatchpoint;
+    assert!(rt;
+        parse_command(b"z2,400300,4")
+            == Command::RemovePoint {
                 kind,
                 address,
                 size
             }
-        );
-    }
-    let kind = Point::WriteWatchpoint;
-    assert_eq!(rt;
-        parse_command(b"z2,400300,4"),
-        Command::RemovePoint {
-            kind,
-            address,
-            size
-        }
     );
 }
 
@@ -236,7 +233,7 @@ fn reads_queries(rt: HostRuntime) {
         (b"qThreadExtraInfo,p1.1", Command::Unknown),
     ];
     for (text, command) in expected {
-        assert_eq!(rt; parse_command(text), command);
+        assert!(rt; parse_command(text) == command);
     }
 }
 
@@ -259,7 +256,7 @@ fn reads_names(rt: HostRuntime) {
         (b"vCtrlC", Command::Unknown),
     ];
     for (text, command) in expected {
-        assert_eq!(rt; parse_command(text), command);
+        assert!(rt; parse_command(text) == command);
     }
 }
 
@@ -291,9 +288,9 @@ fn reads_file_calls(rt: HostRuntime) {
         ),
     ];
     for (text, call) in expected {
-        assert_eq!(rt; parse_command(text), Command::File(call));
+        assert!(rt; parse_command(text) == Command::File(call));
     }
-    assert_eq!(rt; parse_command(b"vFile:unlink:2f"), Command::Unknown);
+    assert!(rt; parse_command(b"vFile:unlink:2f") == Command::Unknown);
 }
 
 /// Packets that have not their form, and three that have one and make no sense.
@@ -329,17 +326,14 @@ fn refuses_packets(rt: HostRuntime) {
         b"gg",
     ];
     for text in malformed {
-        assert_eq!(rt; parse_command(text), Command::Malformed);
+        assert!(rt; parse_command(text) == Command::Malformed);
     }
-    assert_eq!(rt; parse_command(b"Z9,0,0"), Command::Unknown);
-    assert_eq!(rt;
-        parse_command(b"G00"),
-        Command::WriteRegisters { digits: b"00" }
-    );
+    assert!(rt; parse_command(b"Z9,0,0") == Command::Unknown);
+    assert!(rt; parse_command(b"G00") == Command::WriteRegisters { digits: b"00" });
     let read = FileCall::Read {
         descriptor: 0x99,
         count: 16,
         offset: 0,
     };
-    assert_eq!(rt; parse_command(b"vFile:pread:99,10,0"), Command::File(read));
+    assert!(rt; parse_command(b"vFile:pread:99,10,0") == Command::File(read));
 }

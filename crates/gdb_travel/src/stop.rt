@@ -4,7 +4,7 @@ use crate::points::Points;
 use debuggee::Hit;
 
 /// Why it stands still.
-#[derive(Clone, Copy, Debug, PartialEq, Eq)]
+#[derive(Clone, Copy)]
 pub enum Stop {
     /// The step was done, or the range was left.
     Step,
@@ -28,7 +28,7 @@ pub enum Stop {
 }
 
 /// How far it moves forwards, if nothing stops it before.
-#[derive(Clone, Copy, Debug, PartialEq, Eq)]
+#[derive(Clone, Copy, PartialEq, Eq)]
 pub enum Until {
     /// One step.
     Step,

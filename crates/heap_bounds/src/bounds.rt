@@ -8,7 +8,7 @@ use std::alloc::{AllocError, Global};
 use std::collections::BTreeMap;
 
 /// What an access does that a chunk's bounds forbid.
-#[derive(Clone, Copy, PartialEq, Eq, Debug)]
+#[derive(Clone, Copy, Debug)]
 pub enum Trespass {
     /// It goes past the size of a live chunk, in the chunk's last granule.
     PastSize,
