@@ -139,7 +139,7 @@ pub record IsReady (w r : World) (c : ℕ) : Type 0 where
   pub top : (b : ℕ) (more : List ℕ) → stack_of r.heap.stacks c ≡ b ∷ more → IsBlock c (pages_of r.heap.stacks c) b
 
 top-there : (s : StackState) (c b : ℕ) (more : List ℕ) → AreSound s → IsClass c → stack_of s c ≡ b ∷ more → IsBlock c (pages_of s c) b
-top-there s c b more k h e = k.blocks c b h.low h.high (ap (λ t. is_member t b) e ∙ member-first b more)
+top-there s c b more k h e = (k.each c h.low h.high).carved b (ap (λ t. is_member t b) e ∙ member-first b more)
 
 pub empty-of : (s : List ℕ) → is_empty s ≡ true → s ≡ []
 empty-of [] e = refl

@@ -3,7 +3,7 @@ use Rattle.std.proofs.Common.{◌≡◌, ℕ, ◌+◌, ◌/◌, ◌<◌, ◌≤�
 use Rattle.std.proofs.lemmas.Bool.{cond-false}
 use Rattle.mte_tags.specs.Memory.{Memory, attrs_at, attrs_cases, pages_left, no_pages, page_at, with_pending, with_granules}
 use Rattle.mte_tags.specs.declared.state.TagMode.{TagMode}
-use Rattle.std.specs.Prelude.{if◌then◌else◌, nat_eq}
+use Rattle.std.specs.Prelude.{if◌then◌else◌}
 use Rattle.mte_tags.specs.Accesses.{after_write, access_cases, after_access, after_read}
 use Rattle.mte_tags.specs.declared.fault.MemFault.{MemFault}
 use Rattle.mte_tags.proofs.PageLaws.{attrs_at-with-bytes-at, pages_left-with-bytes-at, attrs_at-with_granules, pages_left-with_granules}
@@ -18,15 +18,14 @@ use Rattle.scudo_secondary.specs.Mappings.{pages_of}
 use Rattle.scudo_heap.specs.Served.{HeapOwnsItsPages, IsUntouched}
 use Rattle.scudo_heap.proofs.StackLemmas.{class_at-stacks_by}
 use Rattle.scudo_heap.proofs.ServedLemmas.{served-on, same-pages, lt-false}
-use Rattle.std.specs.List.{IsDistinct}
 use Rattle.mte_tags.specs.declared.access.Access.{Access}
 use Rattle.mte_tags.specs.declared.generator.Rgsr.{Rgsr}
-use Rattle.scudo_primary.specs.Pools.{is_member}
 use Rattle.scudo_secondary.proofs.MappingLemmas.{none_ordered}
 use Rattle.scudo_heap.specs.Placing.{world_of}
 use Rattle.scudo_heap.specs.Sound.{IsSoundWorld}
 use Rattle.scudo_heap.specs.Inner.{AreHeapParts}
-use Rattle.scudo_heap.proofs.SoundLemmas.{none-distinct}
+use Rattle.scudo_primary.specs.Blocks.{AreBlocks}
+use Rattle.scudo_primary.proofs.BlockLists.{no-blocks}
 
 left-most : (m : Memory) → pages_left m ≤ m.limit
 unfolding pages_left
@@ -61,8 +60,7 @@ parts-first cookie pages most =
       room = λ c lo hi. let e = ap (λ (k : ClassHeap). k.pages) (class c (record { low = lo; high = hi })) in omega arith;
       sound = record {
         stacks = record {
-          blocks = λ c b lo hi e. let f : false ≡ true = sym (ap (λ (k : ClassHeap). is_member k.stack b) (class c (record { low = lo; high = hi }))) ∙ e in cc;
-          distinct = λ c lo hi. subst (λ (k : ClassHeap). IsDistinct nat_eq k.stack) (sym (class c (record { low = lo; high = hi }))) none-distinct;
+          each = λ c lo hi. subst (λ (k : ClassHeap). AreBlocks c k.pages k.stack) (sym (class c (record { low = lo; high = hi }))) (no-blocks c 0);
         };
         mappings = none_ordered [] refl;
       };

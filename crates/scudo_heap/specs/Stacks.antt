@@ -4,15 +4,12 @@
 --     after_push s class block   s with a block more on top
 --     after_carve s class pages  s with pages more for a class, and the new blocks on top, the
 --                                lowest first
-use Rattle.std.specs.Prelude.{◌≡◌, ℕ, ◌+◌, ◌-◌, ◌*◌, ◌<◌, ◌≤◌, true, nat_eq, List, [], ◌∷◌, ◌++◌, drop}
-use Rattle.std.specs.Prelude.{refl}
-use Rattle.std.specs.List.{IsDistinct}
+use Rattle.std.specs.Prelude.{ℕ, ◌+◌, ◌-◌, ◌*◌, ◌<◌, ◌≤◌, List, [], ◌∷◌, ◌++◌, drop, refl}
 use Rattle.std.specs.FinMap as finite
 use Rattle.std.specs.Coded.{Coded, code_by, coded×, coded_ℕ, coded_list}
 use Rattle.scudo_header.specs.declared.classes.TheConstants.{CLASSES}
 use Rattle.scudo_header.specs.ByClass.{ByClass, by_class, value_of, with_value}
-use Rattle.scudo_primary.specs.Blocks.{carved_count, IsBlock, blocks_from}
-use Rattle.scudo_primary.specs.Pools.{is_member}
+use Rattle.scudo_primary.specs.Blocks.{AreBlocks, carved_count, blocks_from}
 
 -- pages: the pages of the class's region that are mapped; the blocks that lie whole in them are
 -- carved
@@ -100,8 +97,6 @@ after_carve s class more =
 
 -- Each stack has carved blocks, none of them twice.
 pub record AreSound (s : StackState) : Type 0 where
-  pub blocks :
-      (class block : ℕ) → 0 < class → class ≤ CLASSES → is_member (stack_of s class) block ≡ true
-      → IsBlock class (pages_of s class) block
-  pub distinct :
-      (class : ℕ) → 0 < class → class ≤ CLASSES → IsDistinct nat_eq (stack_of s class)
+  pub each :
+      (class : ℕ) → 0 < class → class ≤ CLASSES
+      → AreBlocks class (pages_of s class) (stack_of s class)

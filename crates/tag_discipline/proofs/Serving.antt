@@ -48,8 +48,8 @@ others m h a v k l u = elim (cases_lt a SECONDARY_START) [
 pub stacked-of : (w : World) → IsSoundWorld w → IsStacked w.heap.stacks
 stacked-of w v = record {
   few = λ c k. let few = v.owned.few c k.low k.high in omega arith;
-  blocks = λ c b k e. v.parts.stacks.blocks c b k.low k.high e;
-  distinct = λ c k. v.parts.stacks.distinct c k.low k.high;
+  blocks = λ c b k e. (v.parts.stacks.each c k.low k.high).carved b e;
+  distinct = λ c k. (v.parts.stacks.each c k.low k.high).distinct;
 }
 
 pub blocks-with : (w : World) (l : LiveBlocks) → IsSoundWorld w → TaggedBlocks w.memory w.heap.stacks l → SoundBlocks w.memory w.heap.stacks l
