@@ -1,8 +1,8 @@
 //! The blocks of each class that are at hand.
 
-ghost use Rattle.std.specs.Prelude.{◌≡◌, ◌<◌, ◌≤◌, [], length, slice_get, false, IfSome, IfOk};
+ghost use Rattle.std.specs.Prelude.{◌≡◌, ◌<◌, [], length, slice_get, false, IfSome, IfOk};
 ghost use Rattle.scudo_primary.specs.Batches.{max_count_of};
-ghost use Rattle.scudo_primary.specs.Blocks.{IsBlock, is_member};
+ghost use Rattle.scudo_primary.specs.Blocks.{IsClass, IsBlock, is_member};
 ghost use Rattle.scudo_primary.specs.Pools.{pages_of, stack_of, is_marked};
 ghost use Rattle.scudo_cache.specs.Caches.{one_stack, stack_over, with_entries, empty_cache};
 ghost use Rattle.scudo_cache.specs.Caches.{AreStacks, IsAbove, KeepsRest};
@@ -52,8 +52,7 @@ impl Cache {
     /// Takes the newest block of a class and marks it used. A cache that holds none of the class
     /// first gets the pool's top batch; there is no block where the pool has none either.
     pub fn take(&mut self, class: u8, pool: &mut Primary) -> Option<u64>
-        requires low { 0 < class }
-        requires high { class ≤ CLASSES }
+        requires class { IsClass class }
         requires above { IsAbove self.old pool.old }
         ensures answer { result ≡ block_taken self.old pool.old class }
         ensures cache { self.new
@@ -71,8 +70,7 @@ impl Cache {
     /// Puts a carved block that is marked used, and marks it free. A full cache first gives its
     /// oldest half to the pool, as one batch that keeps its order.
     pub fn put(&mut self, class: u8, block: u64, pool: &mut Primary)
-        requires low { 0 < class }
-        requires high { class ≤ CLASSES }
+        requires class { IsClass class }
         requires above { IsAbove self.old pool.old }
         requires carved { IsBlock class (pages_of pool.old class) block }
         requires used { is_marked pool.old class block ≡ false }
@@ -87,8 +85,7 @@ impl Cache {
     /// Whether a carved block of a class is in its stack.
     #[inline(always)]
     pub fn is_free(&self, class: u8, block: u64, pool: &Primary) -> bool
-        requires low { 0 < class }
-        requires high { class ≤ CLASSES }
+        requires class { IsClass class }
         requires stacks { AreStacks self.now pool.now }
         requires carved { IsBlock class (pages_of pool.now class) block }
         ensures answer { result ≡ is_member (one_stack self.now pool.now class) block }
@@ -101,8 +98,7 @@ impl Cache {
 /// Takes the newest of a class's entries.
 #[inline]
 fn take_from(entries: &mut PerClass, class: u8, pool: &mut Primary) -> Option<u64>
-    requires low { 0 < class }
-    requires high { class ≤ CLASSES }
+    requires class { IsClass class }
     requires held { IsHeld class entries.old pool.old }
     ensures answer { result ≡ newest (after_refill class entries.old pool.old).entries }
     ensures state { class_with entries.new pool.new
@@ -120,8 +116,7 @@ fn take_from(entries: &mut PerClass, class: u8, pool: &mut Primary) -> Option<u6
 /// Slow path of `take_from`: refills from the pool. Apart, so that the fast path stays short.
 #[inline(never)]
 fn refill_and_take(entries: &mut PerClass, class: u8, pool: &mut Primary) -> Option<u64>
-    requires low { 0 < class }
-    requires high { class ≤ CLASSES }
+    requires class { IsClass class }
     requires empty { length entries.old ≡ 0 }
     ensures answer { result ≡ newest (after_refill class entries.old pool.old).entries }
     ensures state { class_with entries.new pool.new
@@ -137,8 +132,7 @@ fn refill_and_take(entries: &mut PerClass, class: u8, pool: &mut Primary) -> Opt
 /// Takes the newest entry and marks it used. Where there is none, the pool has none either.
 #[inline]
 fn hand_out(entries: &mut PerClass, class: u8, pool: &mut Primary) -> Option<u64>
-    requires low { 0 < class }
-    requires high { class ≤ CLASSES }
+    requires class { IsClass class }
     requires held { IsHeld class entries.old pool.old }
     requires none { entries.old ≡ [] → stack_of pool.old class ≡ [] }
     ensures answer { result ≡ newest entries.old }
@@ -156,8 +150,7 @@ fn hand_out(entries: &mut PerClass, class: u8, pool: &mut Primary) -> Option<u64
 /// Appends a block to a class's entries.
 #[inline]
 fn put_into(entries: &mut PerClass, class: u8, block: u64, pool: &mut Primary)
-    requires low { 0 < class }
-    requires high { class ≤ CLASSES }
+    requires class { IsClass class }
     requires held { IsHeld class entries.old pool.old }
     requires carved { IsBlock class (pages_of pool.old class) block }
     requires used { is_marked pool.old class block ≡ false }
@@ -174,8 +167,7 @@ fn put_into(entries: &mut PerClass, class: u8, block: u64, pool: &mut Primary)
 /// Slow path of `put_into`: makes room first. Apart, so that the fast path stays short.
 #[inline(never)]
 fn make_room_and_put(entries: &mut PerClass, class: u8, block: u64, pool: &mut Primary)
-    requires low { 0 < class }
-    requires high { class ≤ CLASSES }
+    requires class { IsClass class }
     requires held { IsHeld class entries.old pool.old }
     requires full { length entries.old ≡ max_count_of class }
     requires carved { IsBlock class (pages_of pool.old class) block }
@@ -191,8 +183,7 @@ fn make_room_and_put(entries: &mut PerClass, class: u8, block: u64, pool: &mut P
 /// Adds a block where there is room, and marks it free.
 #[inline]
 fn add(entries: &mut PerClass, class: u8, block: u64, pool: &mut Primary)
-    requires low { 0 < class }
-    requires high { class ≤ CLASSES }
+    requires class { IsClass class }
     requires held { IsHeld class entries.old pool.old }
     requires room { length entries.old < max_count_of class }
     requires carved { IsBlock class (pages_of pool.old class) block }
@@ -207,8 +198,7 @@ fn add(entries: &mut PerClass, class: u8, block: u64, pool: &mut Primary)
 
 /// Gives the oldest half of full entries to the pool.
 fn make_room(entries: &mut PerClass, class: u8, pool: &mut Primary)
-    requires low { 0 < class }
-    requires high { class ≤ CLASSES }
+    requires class { IsClass class }
     requires held { IsHeld class entries.old pool.old }
     requires full { length entries.old ≡ max_count_of class }
     ensures state { class_with entries.new pool.new ≡ with_room class entries.old pool.old }

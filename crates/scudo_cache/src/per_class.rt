@@ -2,11 +2,11 @@
 
 ghost use Rattle.std.specs.Prelude.{◌≡◌, ◌<◌, ◌≤◌, ◌==◌, ◌∷◌, ◌++◌, []};
 ghost use Rattle.std.specs.Prelude.{length, take, drop, IfSome};
+ghost use Rattle.scudo_primary.specs.Blocks.{IsClass};
 ghost use Rattle.scudo_primary.specs.Pools.{stack_of};
 ghost use Rattle.scudo_cache.specs.Caches.{newest, without_newest, after_refill};
 ghost use Rattle.scudo_cache.specs.Inner.{IsHeld, class_with};
 
-use scudo_header::CLASSES;
 use scudo_primary::{MAX_COUNT, Primary};
 use std::marker::Model;
 
@@ -96,8 +96,7 @@ impl PerClass {
 
     /// Where there is no block, takes the pool's top batch.
     pub(crate) fn refill(&mut self, class: u8, pool: &mut Primary)
-        requires low { 0 < class }
-        requires high { class ≤ CLASSES }
+        requires class { IsClass class }
         requires empty { length self.old ≡ 0 }
         ensures state { class_with self.new pool.new ≡ after_refill class self.old pool.old }
         ensures held { IsHeld class self.new pool.new }

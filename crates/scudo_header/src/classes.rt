@@ -2,7 +2,7 @@
 //! 2).
 
 ghost use Rattle.std.specs.Prelude.{◌≡◌, ◌↔◌, ◌≤◌, ◌<◌, ◌%◌, ◌^◌, ◌==◌, IfSome, IsNone};
-ghost use Rattle.scudo_header.specs.Classes.{size_of, class_for, IsLeastClass};
+ghost use Rattle.scudo_header.specs.Classes.{size_of, class_for, IsClass, IsLeastClass};
 
 /// The number of size classes: they are 1 to this.
 pub const CLASSES: u8 = 44;
@@ -80,8 +80,7 @@ static RECIPROCALS: [u64; 45] = [
 /// The bytes of the blocks of a class, 1 to `CLASSES` (`getSizeByClassId`).
 #[inline]
 pub fn size_of_class(class: u8) -> u64
-    requires low { 0 < class }
-    requires high { class ≤ CLASSES }
+    requires class { IsClass class }
     ensures size { result ≡ size_of class }
     ensures least { 32 ≤ result }
     ensures most { result ≤ LARGEST_CLASS_SIZE }
@@ -94,8 +93,7 @@ pub fn size_of_class(class: u8) -> u64
 /// reciprocal gives the one number that it may be the multiple by.
 #[inline]
 pub fn is_multiple(class: u8, distance: u64) -> bool
-    requires low { 0 < class }
-    requires high { class ≤ CLASSES }
+    requires class { IsClass class }
     requires near { distance < 2 ^ 24 }
     ensures { result ≡ (distance % size_of class == 0) }
 {

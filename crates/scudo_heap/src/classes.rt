@@ -4,7 +4,7 @@ ghost use Rattle.std.specs.Prelude.{◌≡◌, ◌≢◌, ◌+◌, ◌-◌, ◌*
 ghost use Rattle.std.specs.Prelude.{IfSome, IsTrue};
 ghost use Rattle.std.specs.Prelude.{if◌then◌else◌};
 ghost use Rattle.mte_tags.specs.Memory.{pages_left, with_new_pages};
-ghost use Rattle.scudo_header.specs.Classes.{size_of};
+ghost use Rattle.scudo_header.specs.Classes.{IsClass, size_of};
 ghost use Rattle.scudo_header.specs.Regions.{region_of};
 ghost use Rattle.scudo_secondary.specs.Mappings.{SecondaryState};
 ghost use Rattle.scudo_heap.specs.Stacks.{stack_of, after_carve};
@@ -22,7 +22,7 @@ use crate::request::Request;
 use crate::stacks::Stacks;
 use address_map::{PAGE_SIZE, REGION_SIZE, REGIONS_START};
 use mte_tags::{Attrs, Paged, Rgsr, Tagged};
-use scudo_header::{CLASSES, size_of_class};
+use scudo_header::size_of_class;
 
 /// The first multiple of an alignment after a block's header. Most chunks are aligned to a granule,
 /// where it takes no division.
@@ -63,8 +63,7 @@ fn take_top<M: Paged>(
     request: Request,
     class: u8,
 ) -> Option<Chunk>
-    requires low { 0 < class }
-    requires high { class ≤ CLASSES }
+    requires class { IsClass class }
     requires drawn { rgsr.old.tag < 16 }
     requires align { IsAlign request.align }
     requires some { 0 < request.size }
@@ -97,8 +96,7 @@ fn take_top<M: Paged>(
 
 /// Gives a class without free blocks pages, where so many are left.
 fn grow<M: Paged>(stacks: &mut Stacks, memory: &mut M, class: u8) -> bool
-    requires low { 0 < class }
-    requires high { class ≤ CLASSES }
+    requires class { IsClass class }
     requires empty { stack_of stacks.old class ≡ [] }
     requires regions { AreRegions (M.memory memory.old) stacks.old }
     ensures answer { result ≡ nat_le (more_pages class) (pages_left (M.memory memory.old)) }
@@ -136,8 +134,7 @@ fn grow_and_take<M: Paged>(
     request: Request,
     class: u8,
 ) -> Option<Chunk>
-    requires low { 0 < class }
-    requires high { class ≤ CLASSES }
+    requires class { IsClass class }
     requires drawn { rgsr.old.tag < 16 }
     requires align { IsAlign request.align }
     requires some { 0 < request.size }
@@ -171,8 +168,7 @@ pub(crate) fn take_block<M: Paged>(
     request: Request,
     class: u8,
 ) -> Option<Chunk>
-    requires low { 0 < class }
-    requires high { class ≤ CLASSES }
+    requires class { IsClass class }
     requires drawn { rgsr.old.tag < 16 }
     requires align { IsAlign request.align }
     requires some { 0 < request.size }

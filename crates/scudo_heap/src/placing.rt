@@ -3,6 +3,7 @@
 ghost use Rattle.std.specs.Prelude.{◌≡◌, ◌+◌, ◌-◌, ◌*◌, ◌/◌, ◌%◌, ◌^◌, ◌<◌, ◌≤◌, ℕ};
 ghost use Rattle.mte_tags.specs.Memory.{attrs_at};
 ghost use Rattle.mte_tags.specs.RandomTags.{after_draw};
+ghost use Rattle.scudo_header.specs.Classes.{IsClass};
 ghost use Rattle.scudo_heap.specs.Chunks.{end_of, block_end, excluded_tags, with_chunk_tag};
 ghost use Rattle.scudo_heap.specs.Chunks.{with_end_tag_0, with_header_tag_0};
 ghost use Rattle.scudo_heap.specs.Chunks.{with_header};
@@ -13,14 +14,13 @@ use crate::chunk::Place;
 use crate::granules::{put_header, set_tags};
 use crate::tagging::{choose_tag, granules};
 use mte_tags::{Paged, Rgsr, Tagged};
-use scudo_header::{CLASSES, Header, Origin, State, pack, size_of_class};
+use scudo_header::{Header, Origin, State, pack, size_of_class};
 
 /// Tag 0 on the granule after a chunk, where its block goes on.
 #[tactic(auto, unfolding(crate::specs::Chunks::with_end_tag_0))]
 #[inline(always)]
 pub(crate) fn close<M: Paged>(memory: &mut M, place: Place)
-    requires low { 0 < place.class }
-    requires high { place.class ≤ CLASSES }
+    requires class { IsClass place.class }
     requires user { place.user < 2 ^ 32 }
     requires block { place.block < 2 ^ 32 }
     requires small { place.size < 2 ^ 20 }
@@ -58,8 +58,7 @@ fn open<M: Paged>(memory: &mut M, place: Place)
 #[tactic(auto, unfolding(crate::specs::Chunks::with_chunk_tag))]
 #[inline(always)]
 fn tag_by_three_runs<M: Paged>(memory: &mut M, place: Place, tag: u8)
-    requires low { 0 < place.class }
-    requires high { place.class ≤ CLASSES }
+    requires class { IsClass place.class }
     requires tag { tag < 16 }
     requires aligned { place.user % 16 ≡ 0 }
     requires whole { block_end place % 16 ≡ 0 }
@@ -83,8 +82,7 @@ fn tag_by_three_runs<M: Paged>(memory: &mut M, place: Place, tag: u8)
 /// tag goes over a run of tag 0.
 #[inline(always)]
 fn write_around<M: Paged>(memory: &mut M, cookie: u32, place: Place, tag: u8, header: &Header)
-    requires low { 0 < place.class }
-    requires high { place.class ≤ CLASSES }
+    requires class { IsClass place.class }
     requires tag { tag < 16 }
     requires aligned { place.user % 16 ≡ 0 }
     requires whole { block_end place % 16 ≡ 0 }
@@ -124,8 +122,7 @@ pub(crate) fn make_chunk<M: Paged>(
     origin: Origin,
     place: Place,
 ) -> u8
-    requires low { 0 < place.class }
-    requires high { place.class ≤ CLASSES }
+    requires class { IsClass place.class }
     requires drawn { rgsr.old.tag < 16 }
     requires aligned { place.user % 16 ≡ 0 }
     requires whole { block_end place % 16 ≡ 0 }

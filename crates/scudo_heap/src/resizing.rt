@@ -2,6 +2,7 @@
 
 ghost use Rattle.std.specs.Prelude.{◌≡◌, ◌+◌, ◌-◌, ◌%◌, ◌^◌, ◌<◌, ◌≤◌, ℕ, IfSome, nat_le};
 ghost use Rattle.mte_tags.specs.Memory.{attrs_at, tag_at};
+ghost use Rattle.scudo_header.specs.Classes.{IsClass};
 ghost use Rattle.scudo_heap.specs.Heaps.{heap_of};
 ghost use Rattle.scudo_heap.specs.Chunks.{block_end, end_of, with_size, after_retag_tail};
 ghost use Rattle.scudo_heap.specs.Chunks.{with_header};
@@ -24,13 +25,12 @@ use crate::request::Request;
 use crate::stacks::Stacks;
 use crate::tagging::granules;
 use mte_tags::{Paged, Rgsr, Tagged};
-use scudo_header::{CLASSES, Header, Origin, size_of_class};
+use scudo_header::{Header, Origin, size_of_class};
 use scudo_secondary::Secondary;
 
 /// Whether a chunk's block holds another size of it.
 fn fits(place: Place, size: u64) -> bool
-    requires low { 0 < place.class }
-    requires high { place.class ≤ CLASSES }
+    requires class { IsClass place.class }
     requires user { place.user < 2 ^ 32 }
     requires block { place.block < 2 ^ 32 }
     requires size { size ≤ MAX_REQUEST }
@@ -43,8 +43,7 @@ fn fits(place: Place, size: u64) -> bool
 /// tag 0.
 #[tactic(auto, unfolding(crate::specs::Chunks::after_retag_tail))]
 fn refit<M: Paged>(memory: &mut M, place: Place, size: u64, tag: u8)
-    requires low { 0 < place.class }
-    requires high { place.class ≤ CLASSES }
+    requires class { IsClass place.class }
     requires user { place.user < 2 ^ 32 }
     requires block { place.block < 2 ^ 32 }
     requires above { place.block ≤ place.user }

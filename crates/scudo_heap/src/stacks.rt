@@ -2,7 +2,7 @@
 
 ghost use Rattle.std.specs.Prelude.{◌≡◌, ◌≤◌, ◌<◌, ◌+◌, ◌↔◌, [], false, slice_get, IfOk, IfSome};
 ghost use Rattle.std.specs.Prelude.{IsTrue, IsNone};
-ghost use Rattle.scudo_primary.specs.Blocks.{IsBlock};
+ghost use Rattle.scudo_primary.specs.Blocks.{IsClass, IsBlock};
 ghost use Rattle.scudo_primary.specs.Pools.{is_member};
 ghost use Rattle.scudo_heap.specs.Stacks.{pages_of, stack_of, empty_stacks, after_pop, after_push};
 ghost use Rattle.scudo_heap.specs.Stacks.{after_carve};
@@ -10,7 +10,6 @@ ghost use Rattle.scudo_heap.specs.Stacks.{AreSound};
 
 use address_map::MAX_PAGES;
 use scudo_cache::Cache;
-use scudo_header::CLASSES;
 use scudo_primary::Primary;
 use std::alloc::{AllocError, Global};
 use std::marker::Model;
@@ -50,8 +49,7 @@ impl Stacks {
     /// Takes the top of a class's stack.
     #[inline]
     pub(crate) fn take(&mut self, class: u8) -> Option<u64>
-        requires low { 0 < class }
-        requires high { class ≤ CLASSES }
+        requires class { IsClass class }
         ensures answer { result ≡ slice_get (stack_of self.old class) 0 }
         ensures stacks { self.new ≡ after_pop self.old class }
         ensures block { IfSome result (IsBlock class (pages_of self.old class)) }
@@ -63,8 +61,7 @@ impl Stacks {
     /// Puts a carved block that is not there on top of its class's stack.
     #[inline]
     pub(crate) fn put(&mut self, class: u8, block: u64)
-        requires low { 0 < class }
-        requires high { class ≤ CLASSES }
+        requires class { IsClass class }
         requires carved { IsBlock class (pages_of self.old class) block }
         requires used { is_member (stack_of self.old class) block ≡ false }
         ensures { self.new ≡ after_push self.old class block }
@@ -74,8 +71,7 @@ impl Stacks {
 
     /// Carves `pages` pages more for a class without free blocks.
     pub(crate) fn carve(&mut self, class: u8, pages: u64)
-        requires low { 0 < class }
-        requires high { class ≤ CLASSES }
+        requires class { IsClass class }
         requires room { pages ≤ self.old.left }
         requires empty { stack_of self.old class ≡ [] }
         ensures { self.new ≡ after_carve self.old class pages }
@@ -92,8 +88,7 @@ impl Stacks {
 
     /// How many pages a class has.
     pub(crate) fn pages(&self, class: u8) -> u64
-        requires low { 0 < class }
-        requires high { class ≤ CLASSES }
+        requires class { IsClass class }
         ensures pages { result ≡ pages_of self.now class }
         ensures most { result + self.now.left ≤ MAX_PAGES }
     {
@@ -103,8 +98,7 @@ impl Stacks {
     /// Whether an address is that of a carved block of a class.
     #[inline(always)]
     pub(crate) fn is_block(&self, class: u8, block: u64) -> bool
-        requires low { 0 < class }
-        requires high { class ≤ CLASSES }
+        requires class { IsClass class }
         ensures { IsTrue result ↔ IsBlock class (pages_of self.now class) block }
     {
         self.pool.is_block(class, block)
@@ -113,8 +107,7 @@ impl Stacks {
     /// Whether a carved block is in its class's stack.
     #[inline(always)]
     pub(crate) fn is_free(&self, class: u8, block: u64) -> bool
-        requires low { 0 < class }
-        requires high { class ≤ CLASSES }
+        requires class { IsClass class }
         requires carved { IsBlock class (pages_of self.now class) block }
         ensures { result ≡ is_member (stack_of self.now class) block }
     {

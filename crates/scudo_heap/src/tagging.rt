@@ -4,6 +4,7 @@ ghost use Rattle.std.specs.Prelude.{◌≡◌, ◌+◌, ◌-◌, ◌*◌, ◌%�
 ghost use Rattle.std.specs.Int.RustNames.{bit_or};
 ghost use Rattle.mte_tags.specs.Memory.{attrs_at, pages_left};
 ghost use Rattle.mte_tags.specs.RandomTags.{after_draw};
+ghost use Rattle.scudo_header.specs.Classes.{IsClass};
 ghost use Rattle.scudo_heap.specs.Chunks.{granules_of, end_of, parity_mask, excluded_tags};
 ghost use Rattle.scudo_heap.specs.Chunks.{with_chunk_tag};
 ghost use Rattle.scudo_heap.specs.Served.{IsOpen};
@@ -11,13 +12,12 @@ ghost use Rattle.scudo_heap.specs.Served.{IsOpen};
 use crate::chunk::Place;
 use crate::granules::{set_tags, tag_there};
 use mte_tags::{Paged, Rgsr, Tagged};
-use scudo_header::{CLASSES, size_of_class};
+use scudo_header::size_of_class;
 
 /// The tags that a chunk may not get: 0, those of the other half, and the one that is there.
 #[inline(always)]
 fn exclude(place: Place, present: u8) -> u16
-    requires low { 0 < place.class }
-    requires high { place.class ≤ CLASSES }
+    requires class { IsClass place.class }
     requires present { present < 16 }
     ensures { result ≡ bit_or (bit_or 1 (parity_mask place.class place.block)) (2 ^ present) }
 {
@@ -40,8 +40,7 @@ pub(crate) fn granules(size: u64) -> u64
 #[tactic(auto, unfolding(crate::specs::Chunks::excluded_tags))]
 #[inline(always)]
 pub(crate) fn choose_tag<M: Paged>(rgsr: &mut Rgsr, memory: &mut M, place: Place) -> u8
-    requires low { 0 < place.class }
-    requires high { place.class ≤ CLASSES }
+    requires class { IsClass place.class }
     requires drawn { rgsr.old.tag < 16 }
     requires open { IsOpen (M.memory memory.old) place.user (place.user + 1) }
     ensures tag { result

@@ -1,9 +1,10 @@
 //! How many blocks a batch holds.
 
-ghost use Rattle.std.specs.Prelude.{◌≡◌, ◌<◌, ◌≤◌};
+ghost use Rattle.std.specs.Prelude.{◌≡◌};
 ghost use Rattle.scudo_primary.specs.Batches.{max_count_of};
+ghost use Rattle.scudo_primary.specs.Blocks.{IsClass};
 
-use scudo_header::{CLASSES, size_of_class};
+use scudo_header::size_of_class;
 
 /// The largest size of a class's blocks of which a local cache holds `MAX_COUNT`.
 pub const SMALL_SIZE: u64 = 512;
@@ -25,8 +26,7 @@ pub fn counts_in_digits()
 /// The most blocks of a class that a local cache or a batch holds.
 #[inline]
 pub fn max_count(class: u8) -> usize
-    requires low { 0 < class }
-    requires high { class ≤ CLASSES }
+    requires class { IsClass class }
     ensures { result ≡ max_count_of class }
 {
     if size_of_class(class) <= SMALL_SIZE {

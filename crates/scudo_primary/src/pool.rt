@@ -4,7 +4,7 @@ ghost use Rattle.std.specs.Prelude.{◌≡◌, ◌≤◌, ◌<◌, ◌+◌, ◌*
 ghost use Rattle.std.specs.Prelude.{drop};
 ghost use Rattle.std.specs.Prelude.{reverse, slice_get, nat_eq, IfSome, IfOk, IsTrue};
 ghost use Rattle.std.specs.List.{All, IsDistinct};
-ghost use Rattle.scudo_primary.specs.Blocks.{IsBlock, carved_count};
+ghost use Rattle.scudo_primary.specs.Blocks.{IsClass, IsBlock, carved_count};
 ghost use Rattle.scudo_primary.specs.Batches.{max_count_of, first_size};
 ghost use Rattle.scudo_primary.specs.Pools.{pages_of, stack_of, sizes_of, is_listed, is_marked};
 ghost use Rattle.scudo_primary.specs.Pools.{IsFree, IsCached, empty_pool, after_pop, after_push};
@@ -79,8 +79,7 @@ impl Primary {
     /// stack, marked free, the lowest on top, in batches of at most half of what a local cache
     /// holds.
     pub fn carve(&mut self, class: u8, pages: u64)
-        requires low { 0 < class }
-        requires high { class ≤ CLASSES }
+        requires class { IsClass class }
         requires room { pages ≤ self.old.left }
         ensures { self.new ≡ with_pages self.old class pages }
     {
@@ -111,8 +110,7 @@ impl Primary {
     /// Takes the top block of the stack of a class and marks it used. There is none where the stack
     /// is empty.
     pub fn pop(&mut self, class: u8) -> Option<u64>
-        requires low { 0 < class }
-        requires high { class ≤ CLASSES }
+        requires class { IsClass class }
         ensures answer { result ≡ slice_get (stack_of self.old class) 0 }
         ensures pool { self.new ≡ after_pop self.old class }
         ensures block { IfSome result (IsBlock class (pages_of self.new class)) }
@@ -128,8 +126,7 @@ impl Primary {
     /// Puts a carved block that is marked used on top of the stack of its class, as a batch of its
     /// own, and marks it free.
     pub fn push(&mut self, class: u8, block: u64)
-        requires low { 0 < class }
-        requires high { class ≤ CLASSES }
+        requires class { IsClass class }
         requires carved { IsBlock class (pages_of self.old class) block }
         requires used { is_marked self.old class block ≡ false }
         ensures { self.new ≡ after_push self.old class block }
@@ -148,8 +145,7 @@ impl Primary {
     /// order, its top block last, and returns its length: 0 where the stack is empty. The blocks
     /// stay marked free.
     pub fn pop_batch(&mut self, class: u8, buffer: &mut [u64; MAX_COUNT]) -> usize
-        requires low { 0 < class }
-        requires high { class ≤ CLASSES }
+        requires class { IsClass class }
         ensures count { result ≡ first_size (sizes_of self.old class) }
         ensures blocks { buffer.new ≡ top_batch self.old class ++ drop result buffer.old }
         ensures pool { self.new ≡ without_batch self.old class }
@@ -168,8 +164,7 @@ impl Primary {
     /// Puts blocks on top of the stack of their class as one batch that keeps their order: the last
     /// comes on top.
     pub fn push_batch(&mut self, class: u8, blocks: &[u64])
-        requires low { 0 < class }
-        requires high { class ≤ CLASSES }
+        requires class { IsClass class }
         requires some { 0 < length blocks.now }
         requires most { length blocks.now ≤ max_count_of class }
         requires cached { All (IsCached self.old class) blocks.now }
@@ -188,8 +183,7 @@ impl Primary {
     /// Marks a carved block free. One that was marked used is in no list of the pool, so a cache
     /// may hold it from now on.
     pub fn mark_free(&mut self, class: u8, block: u64)
-        requires low { 0 < class }
-        requires high { class ≤ CLASSES }
+        requires class { IsClass class }
         requires carved { IsBlock class (pages_of self.old class) block }
         ensures pool { self.new ≡ with_mark self.old class block true }
         ensures cached { is_marked self.old class block ≡ false
@@ -200,8 +194,7 @@ impl Primary {
 
     /// Marks a carved block used, which is in no list of the pool.
     pub fn mark_used(&mut self, class: u8, block: u64)
-        requires low { 0 < class }
-        requires high { class ≤ CLASSES }
+        requires class { IsClass class }
         requires carved { IsBlock class (pages_of self.old class) block }
         requires unlisted { is_listed self.old class block ≡ false }
         ensures { self.new ≡ with_mark self.old class block false }
@@ -212,8 +205,7 @@ impl Primary {
     /// Whether an address is that of a carved block of a class.
     #[inline(always)]
     pub fn is_block(&self, class: u8, block: u64) -> bool
-        requires low { 0 < class }
-        requires high { class ≤ CLASSES }
+        requires class { IsClass class }
         ensures { IsTrue result ↔ IsBlock class (pages_of self.now class) block }
     {
         let start = region_start(class);
@@ -230,8 +222,7 @@ impl Primary {
     /// pool, or in a cache above it.
     #[inline(always)]
     pub fn is_free(&self, class: u8, block: u64) -> bool
-        requires low { 0 < class }
-        requires high { class ≤ CLASSES }
+        requires class { IsClass class }
         ensures free { IsTrue result ↔ IsFree self.now class block }
         ensures mark { IsBlock class (pages_of self.now class) block
             → result ≡ is_marked self.now class block }
@@ -242,8 +233,7 @@ impl Primary {
     /// How many pages of a class's region are carved. With those that still may be, no more than
     /// the region has.
     pub fn pages(&self, class: u8) -> u64
-        requires low { 0 < class }
-        requires high { class ≤ CLASSES }
+        requires class { IsClass class }
         ensures pages { result ≡ pages_of self.now class }
         ensures most { result + self.now.left ≤ MAX_PAGES }
     {
@@ -253,8 +243,7 @@ impl Primary {
 
     /// How many blocks of a class are carved.
     pub fn carved(&self, class: u8) -> u64
-        requires low { 0 < class }
-        requires high { class ≤ CLASSES }
+        requires class { IsClass class }
         ensures { result ≡ carved_count class (pages_of self.now class) }
     {
         PAGE_SIZE * self.lists[class as usize - 1].pages / size_of_class(class)

@@ -1,6 +1,7 @@
 //! Worked numbers of the cache, and plain lists beside a cache above its pool.
 
 ghost use Rattle.std.specs.Prelude.{◌≡◌, ◌<◌, ◌≤◌, false, IsTrue};
+ghost use Rattle.scudo_header.specs.Classes.{IsClass};
 ghost use Rattle.scudo_primary.specs.Blocks.{IsBlock};
 ghost use Rattle.scudo_primary.specs.Pools.{pages_of, is_marked};
 ghost use Rattle.scudo_cache.specs.Caches.{IsAbove};
@@ -20,8 +21,7 @@ fn block_at(class: u8, size: u64, number: u64) -> u64
 
 /// Whether the first `count` blocks of a class are popped in their order.
 fn pops_first(pool: &mut Primary, class: u8, size: u64, count: u64) -> bool
-    requires low { 0 < class }
-    requires high { class ≤ 44 }
+    requires class { IsClass class }
     requires size { size ≤ 65552 }
     requires count { count ≤ 100000 }
 {
@@ -35,8 +35,7 @@ fn pops_first(pool: &mut Primary, class: u8, size: u64, count: u64) -> bool
 
 /// A pool whose first `count` blocks of a class were popped.
 fn pool_without(alloc: Global, class: u8, size: u64, count: u64) -> Result<Primary, Fail>
-    requires low { 0 < class }
-    requires high { class ≤ 44 }
+    requires class { IsClass class }
     requires size { size ≤ 65552 }
     requires count { count ≤ 100000 }
 {
@@ -50,8 +49,7 @@ fn pool_without(alloc: Global, class: u8, size: u64, count: u64) -> Result<Prima
 
 /// Puts a block that is used, and returns whether it was and is free then.
 fn put_one(cache: &mut Cache, pool: &mut Primary, class: u8, block: u64) -> bool
-    requires low { 0 < class }
-    requires high { class ≤ 44 }
+    requires class { IsClass class }
     requires above { IsAbove cache.old pool.old }
     ensures above { IsAbove cache.new pool.new }
 {
@@ -64,8 +62,7 @@ fn put_one(cache: &mut Cache, pool: &mut Primary, class: u8, block: u64) -> bool
 
 /// Puts the first `count` blocks of a class.
 fn put_first(cache: &mut Cache, pool: &mut Primary, class: u8, size: u64, count: u64) -> bool
-    requires low { 0 < class }
-    requires high { class ≤ 44 }
+    requires class { IsClass class }
     requires above { IsAbove cache.old pool.old }
     requires size { size ≤ 65552 }
     requires count { count ≤ 100000 }
@@ -81,8 +78,7 @@ fn put_first(cache: &mut Cache, pool: &mut Primary, class: u8, size: u64, count:
 
 /// Whether a batch of the first `count` blocks of a class, and no second one, is in the pool.
 fn has_one_batch(pool: &mut Primary, class: u8, size: u64, count: usize) -> bool
-    requires low { 0 < class }
-    requires high { class ≤ 44 }
+    requires class { IsClass class }
     requires size { size ≤ 65552 }
     requires count { count < 28 }
 {
@@ -108,8 +104,7 @@ fn moves_a_batch(
     puts: u64,
     moved: usize,
 ) -> Result<bool, Fail>
-    requires low { 0 < class }
-    requires high { class ≤ 44 }
+    requires class { IsClass class }
     requires size { size ≤ 65552 }
     requires all { all ≤ 100000 }
     requires puts { puts ≤ 100000 }

@@ -22,7 +22,7 @@ map_pages-requires-clause-free g c = λ i l.
     let most = c.pages.ensures.most in
     let same = c.pages.ensures.pages in
     let enough = c.if-pages-pages_left.false in
-    let may : MayGrow m s k n = record { class = record { low = c.requires.low; high = c.requires.high }; enough = omega arith; most = omega arith } in
+    let may : MayGrow m s k n = record { class = c.requires.class; enough = omega arith; most = omega arith } in
     let first : (268435456 + c.from.result * 16777216) / 4096 + c.pages.result + i ≡ next_page s k + i = omega arith in
     ap (λ t. page_at t ((268435456 + c.from.result * 16777216) / 4096 + c.pages.result + i)) c.pages_left.ensures.memory ∙ ap (page_at m) first
     ∙ next-free m s k n c.requires.regions may i l
@@ -33,7 +33,7 @@ returns-clause-some g c = λ _ e.
     let k = c.args.class in
     let n = (c.size_of_class.result + 4095) / 4096 in
     let own = c.size_of_class.ensures.size in
-    grown-some s k n (record { low = c.requires.low; high = c.requires.high }) (omega arith) (ap (λ (t : StackState). stack_of t k) (sym c.carve.ensures) ∙ e)
+    grown-some s k n c.requires.class (omega arith) (ap (λ (t : StackState). stack_of t k) (sym c.carve.ensures) ∙ e)
 
 pub returns-clause-regions : goal.returns-clause-regions
 returns-clause-regions g c =
@@ -45,7 +45,7 @@ returns-clause-regions g c =
     let most = c.pages.ensures.most in
     let same = c.pages.ensures.pages in
     let enough = c.if-pages-pages_left.false in
-    let may : MayGrow m s k n = record { class = record { low = c.requires.low; high = c.requires.high }; enough = omega arith; most = omega arith } in
+    let may : MayGrow m s k n = record { class = c.requires.class; enough = omega arith; most = omega arith } in
     let own = c.size_of_class.ensures.size in
     let first : (268435456 + c.from.result * 16777216) / 4096 + c.pages.result ≡ next_page s k = omega arith in
     let ok : IsOk c.map_pages.result = c.map_pages.ensures.answer.1 (let e = ap pages_left c.pages_left.ensures.memory in omega arith) in

@@ -1,5 +1,4 @@
 use Rattle.std.proofs.Common.{◌≡◌, ◌∙◌, drop, slice_get, sym, ap, subst}
-use Rattle.scudo_header.specs.Classes.{IsClass}
 use Rattle.scudo_primary.specs.Pools.{class_at, pages_of}
 use Rattle.scudo_cache.specs.Caches.{Class, entries_of, with_entries, stack_over, one_stack, after_refill, newest, after_take, class_after_take, KeepsRest}
 use Rattle.scudo_cache.specs.Inner.{class_with}
@@ -8,22 +7,18 @@ use Rattle.scudo_cache.proofs.CacheLemmas.{at-class, entries-in, held-at, view-w
 use Rattle.scudo_cache.proofs.StackLemmas.{marks-taken, stack-taken, stack-is, keeps-rest}
 use Rattle.scudo_cache.proofs.cache.Cache.take.Goals as goal
 
-is-class : (c : goal.After-self-1) → IsClass c.args.class
-is-class c = record { low = c.requires.low; high = c.requires.high }
-
 read : (c : goal.After-self-1) → c.index_mut.result.now ≡ entries_of c.args.self.now c.args.class
 read c =
-    at-class c.self.inside c.args.self.now c.args.class c.index_mut.result.now c.self.invariant c.self.view_is (is-class c) c.index_mut.ensures.value
-    ∙ entries-in c.self.inside c.args.self.now c.args.class c.self.view_is (is-class c)
+    at-class c.self.inside c.args.self.now c.args.class c.index_mut.result.now c.self.invariant c.self.view_is c.requires.class c.index_mut.ensures.value
+    ∙ entries-in c.self.inside c.args.self.now c.args.class c.self.view_is c.requires.class
 
 pub take_from-requires-clause-held : goal.take_from-requires-clause-held
 take_from-requires-clause-held c =
-    let hk : IsClass c.args.class = record { low = c.requires.low; high = c.requires.high } in
-    held-at c.self.inside c.args.self.now c.args.pool.now c.args.class c.index_mut.result.now c.self.invariant c.self.view_is hk c.requires.above
-    (at-class c.self.inside c.args.self.now c.args.class c.index_mut.result.now c.self.invariant c.self.view_is hk c.index_mut.ensures.value)
+    held-at c.self.inside c.args.self.now c.args.pool.now c.args.class c.index_mut.result.now c.self.invariant c.self.view_is c.requires.class c.requires.above
+    (at-class c.self.inside c.args.self.now c.args.class c.index_mut.result.now c.self.invariant c.self.view_is c.requires.class c.index_mut.ensures.value)
 
 pub invariant_of-self : goal.invariant_of-self
-invariant_of-self c = put-back c.self.inside c.args.class c.take_from.new.entries c.self.invariant (is-class c) c.take_from.ensures.held.most c.take_from.ensures.held.distinct
+invariant_of-self c = put-back c.self.inside c.args.class c.take_from.new.entries c.self.invariant c.requires.class c.take_from.ensures.held.most c.take_from.ensures.held.distinct
 
 -- what the class is left with
 after : (c : goal.After-self-1) → class_with c.take_from.new.entries c.take_from.new.pool ≡ class_after_take c.args.self.now c.args.pool.now c.args.class
@@ -34,7 +29,7 @@ returns-clause-answer c = c.take_from.ensures.answer ∙ ap (λ xs. newest (afte
 
 pub returns-clause-cache : goal.returns-clause-cache
 returns-clause-cache c =
-    view-with c.self.inside c.args.self.now c.args.class c.take_from.new.entries c.self.invariant c.self.view_is (is-class c)
+    view-with c.self.inside c.args.self.now c.args.class c.take_from.new.entries c.self.invariant c.self.view_is c.requires.class
     ∙ ap (λ (k : Class). with_entries c.args.self.now c.args.class k.entries) (after c)
 
 pub returns-clause-pool : goal.returns-clause-pool
@@ -55,6 +50,6 @@ returns-clause-rest c =
     let marks = ap (λ (t : Class). (class_at t.pool k).marks) (after c) ∙ marks-taken k xs p in
     let e = sym (returns-clause-answer c) ∙ returns-clause-top c in
     let rest : stack_over ys p' k ≡ drop 1 (one_stack v p k) = ap (λ (t : Class). stack_over t.entries t.pool k) (after c) ∙ rest-taken k xs p e in
-    subst (λ t. KeepsRest k v p t p') (sym (view-with c.self.inside v k ys c.self.invariant c.self.view_is (is-class c)))
+    subst (λ t. KeepsRest k v p t p') (sym (view-with c.self.inside v k ys c.self.invariant c.self.view_is c.requires.class))
     (keeps-rest v p p' k ys c.requires.above kept c.take_from.ensures.held.cached
-    (λ h. stack-is k _ _ _ _ _ _ marks kept.pages rest (stack-taken k (pages_of p k) (class_at p k).marks _ (one_stack v p k) e (h.each k c.requires.low c.requires.high))))
+    (λ h. stack-is k _ _ _ _ _ _ marks kept.pages rest (stack-taken k (pages_of p k) (class_at p k).marks _ (one_stack v p k) e (h.each k c.requires.class.low c.requires.class.high))))

@@ -6,7 +6,7 @@ use Rattle.scudo_heap.proofs.stacks.Stacks.is_block.Goals as goal
 
 pub returns : goal.returns
 returns c =
-    let at = (at-inside c.self.inside c.args.self.now c.args.class c.self.view_is (record { low = c.requires.low; high = c.requires.high })) in (
+    let at = (at-inside c.self.inside c.args.self.now c.args.class c.self.view_is c.requires.class) in (
       λ t. subst (λ (k : ClassHeap). IsBlock c.args.class k.pages c.args.block) (sym at) (c.is_block.ensures.0 t),
       λ b. c.is_block.ensures.1 (subst (λ (k : ClassHeap). IsBlock c.args.class k.pages c.args.block) at b),
     )

@@ -3,7 +3,7 @@ use Rattle.scudo_primary.proofs.pool.Primary.pop_batch.Goals as goal
 
 done : (c : goal.After-unlink_batch) → BatchDone c.self.inside c.args.self.now c.unlink_batch.new.lists c.args.class c.unlink_batch.result c.args.buffer.now c.unlink_batch.new.buffer
 done c =
-    batch-done c.self.inside c.args.self.now _ _ _ _ _ _ _ c.self.view_is c.self.invariant (record { low = c.requires.low; high = c.requires.high }) c.deref.ensures.value c.deref-2.ensures.value
+    batch-done c.self.inside c.args.self.now _ _ _ _ _ _ _ c.self.view_is c.self.invariant c.requires.class c.deref.ensures.value c.deref-2.ensures.value
     c.unlink_batch.ensures.count c.unlink_batch.ensures.buffer c.unlink_batch.ensures.rest
 
 pub invariant_of-self : goal.invariant_of-self
