@@ -12,6 +12,7 @@ use elf_core::Subject;
 use mte_backtrace::Names;
 use mte_flat::Flat;
 use mte_report::Report;
+use mte_svc::TenantParts;
 use mte_tags::{Paged, TagMode};
 use run_options::{Failure, Options};
 use std::alloc::{AllocError, Global};
@@ -48,15 +49,29 @@ pub fn tell_end<'a>(
         let _ = eprintln!(rt; "mte_run: output was cut: there was no more room (--out)");
     }
     let Bench { parts, mut memory } = bench;
+    tell_parts(rt, &parts, &mut memory, observer, options, image, run)
+}
+
+/// Tells what happened of a tenant's parts and its memory, and returns the exit status. It borrows
+/// them, so that none of its many ends has to drop them.
+fn tell_parts<'a>(
+    rt: &HostRuntime,
+    parts: &TenantParts,
+    memory: &mut Flat,
+    observer: &Observer<'_, Log>,
+    options: &'a Options,
+    image: &Image<'_>,
+    run: Run,
+) -> Result<u8, Failure<'a>> {
     let subject = Subject {
-        parts: &parts,
+        parts,
         mode: run.mode,
         name: image.name,
     };
-    dump_core(rt, options, &subject, &mut memory)?;
-    let reserved = reserved_pages(rt.alloc(), &mut memory)?;
+    dump_core(rt, options, &subject, memory)?;
+    let reserved = reserved_pages(rt.alloc(), memory)?;
     let report = Report {
-        parts: &parts,
+        parts,
         book: &observer.book,
         last: observer.last(options.output.last),
         turns: observer.turns(),
@@ -67,11 +82,11 @@ pub fn tell_end<'a>(
         finding: observer.finding(),
         statistics: observer.table(reserved),
     };
-    tell_report(rt, &report, &mut memory)?;
+    tell_report(rt, &report, memory)?;
     tell_leaks(rt, &report, options)?;
     tell_statistics(rt, &report)?;
-    write_json(rt, &report, options, &mut memory)?;
-    draw_map(rt, &report, options, &mut memory)?;
+    write_json(rt, &report, options, memory)?;
+    draw_map(rt, &report, options, memory)?;
     Ok(tell_last_line(rt, &report))
 }
 
