@@ -1,7 +1,7 @@
 """The encoding groups: the decisions by which the row of a word is found.
 
-Written from isa/a64.groups are the functions of the decoder and their definitions; and the way to
-each row, by which it is proved that a row's words are found.
+Written from the groups of isa/a64.rows are the functions of the decoder and their definitions; and
+the way to each row, by which it is proved that a row's words are found.
 """
 
 import re
@@ -9,7 +9,6 @@ from dataclasses import dataclass
 
 from a64 import table
 
-GROUPS = "isa/a64.groups"
 CODE = "crates/a64_decode/src/groups.rt"
 DEFINITIONS = "crates/a64_decode/specs/Groups.antt"
 
@@ -59,7 +58,7 @@ def parse_test(token, place):
 def read_groups(rows):
     """The classes (first, last, group) of bits 28 to 24, and the groups by name."""
     classes, groups, group = [], {}, None
-    for place, line in table.numbered_lines(GROUPS):
+    for place, line in table.lines_of_rows_and_groups()[1]:
         if not line.startswith(" "):
             name, _, text = line.partition(" ")
             group = Group(name, text, [], [])
@@ -86,7 +85,7 @@ def check_groups(classes, groups, rows):
         reach(name, [known], groups, reached)
     for name in [*rows, *groups]:
         if reached.count(name) != 1:
-            raise table.TableError(f"{GROUPS}: {name} is reached {reached.count(name)} times")
+            raise table.TableError(f"{table.ROWS}: {name} is reached {reached.count(name)} times")
 
 
 def reach(name, known, groups, reached):
@@ -107,7 +106,7 @@ def reach(name, known, groups, reached):
 # ---- the functions of the decoder
 
 CODE_HEAD = """\
-// Written by tools/isa.py from isa/a64.groups. Do not edit.
+// Written by tools/isa.py from isa/a64.rows. Do not edit.
 //! The row of a word, by the encoding groups of the Arm ARM (DDI 0487, C4.1): bits 28 to 24 select
 //! the group, and other fixed bits the row.
 
@@ -226,7 +225,7 @@ def code(classes, groups, rows):
 # ---- their definitions
 
 DEFINITIONS_HEAD = """\
--- Written by tools/isa.py from isa/a64.groups. Do not edit.
+-- Written by tools/isa.py from isa/a64.rows. Do not edit.
 -- The row that a word belongs to by its fixed bits, whether allowed or not: first by bits 28 to 24,
 -- then by the other fixed bits of the group. It only serves the proof of the decoder, whose private
 -- functions have the same names.
@@ -296,7 +295,7 @@ def find_way(target, classes, groups):
         way = below(name)
         if way:
             return (first, last, name), way
-    raise table.TableError(f"{GROUPS}: no way to {target}")
+    raise table.TableError(f"{table.ROWS}: no way to {target}")
 
 
 def field_text(test, row):

@@ -1,6 +1,9 @@
-"""Writes what each row stores, which `mte_run` tells."""
+"""Writes what each row stores, and the register that it writes, which `mte_run` tells."""
+
+from a64 import layout
 
 PATH = "crates/instruction_trace/src/stores.rt"
+WRITTEN = "crates/instruction_trace/src/written.rt"
 
 HEAD = """\
 // Written by tools/isa.py from isa/a64.rows. Do not edit.
@@ -15,6 +18,19 @@ use a64_step::Regs;
 /// What the instruction stores, by the registers before it. `None` where it stores nothing.
 #[rattlefmt::skip]
 pub(crate) fn stored(instr: &Instr, regs: &Regs) -> Option<Stored> {
+    match *instr {
+"""
+
+WRITTEN_HEAD = """\
+// Written by tools/isa.py from isa/a64.rows. Do not edit.
+//! The register that an instruction writes, beside those that it loads.
+
+use a64_instr::Instr;
+
+/// The numbered register that an instruction writes, 31 for none, if it is of data processing or a
+/// branch. `None` for loads, stores and what writes no register.
+#[rattlefmt::skip]
+pub fn written_by(instr: &Instr) -> Option<u8> {
     match *instr {
 """
 
@@ -45,8 +61,11 @@ def words_of(call):
 def split_stores(row):
     """The constant fields of `stores`, and its call; both are empty for `nothing`."""
     said = row.said.get("stores", "nothing")
-    if said == "nothing":
-        return {}, ""
+    return ({}, "") if said == "nothing" else split_constants(row, said)
+
+
+def split_constants(row, said):
+    """The constant fields that a line begins with, and its rest."""
     constants = {}
     while "=" in said.split("(")[0]:
         constant, _, said = said.partition(" ")
@@ -56,8 +75,29 @@ def split_stores(row):
     return constants, said
 
 
-def other_pattern(row):
-    return f"Instr::{row.name} {{ .. }}" if row.fields else f"Instr::{row.name}"
+def split_writes(row):
+    """The constant fields of `writes`, and the register; `rd` where nothing is said and there is
+    one, else nothing."""
+    has_rd = any(f.name == "rd" for f in row.fields)
+    return split_constants(row, row.said.get("writes", "rd" if has_rd else ""))
+
+
+def written_pattern(row):
+    """The row, with its constants and the field of the register."""
+    constants, register = split_writes(row)
+    field = [] if register.isdigit() else [row.field(register).name]
+    return f"Instr::{row.name} {{ {', '.join([*map(': '.join, constants.items()), *field])}, .. }}"
+
+
+def registers(rows):
+    """The file that tells which register an instruction writes."""
+    split = {row.name: split_writes(row) for row in rows.values()}
+    text = WRITTEN_HEAD
+    for register in dict.fromkeys(said for _, said in split.values() if said):
+        ours = [row for row in rows.values() if split[row.name][1] == register]
+        text += layout.alternatives([written_pattern(row) for row in ours], f"Some({register})")
+    others = [row for row in rows.values() if split[row.name][0] or not split[row.name][1]]
+    return text + layout.alternatives([layout.any_row(row) for row in others], "None") + TAIL
 
 
 def written(rows):
@@ -65,5 +105,5 @@ def written(rows):
     arms = [store_arm(row) for row in rows.values() if split[row.name][1]]
     # The rows that store nothing, and the loads of those that may: none is left to `_`.
     others = [row for row in rows.values() if split[row.name][0] or not split[row.name][1]]
-    arms.append("        " + "\n        | ".join(map(other_pattern, others)) + " => None,\n")
-    return {PATH: HEAD + "".join(arms) + TAIL}
+    arms.append("        " + "\n        | ".join(map(layout.any_row, others)) + " => None,\n")
+    return {PATH: HEAD + "".join(arms) + TAIL, WRITTEN: registers(rows)}

@@ -16,7 +16,7 @@ TESTS = {"below": 2, "equal": 2, "differ": 2, "mask": 2, "load_store": 2, "load_
 # The values that two of these tests allow.
 ONE_OF = {"two_source": (2, 3, 8, 9, 10, 11), "offset_register": (2, 3, 6, 7)}
 
-KEYS = {"names", "allows", "part", "step", "copies", "text", "stores", "overlaps",
+KEYS = {"names", "allows", "part", "step", "copies", "text", "stores", "writes", "overlaps",
         "example"}
 
 
@@ -211,10 +211,21 @@ def numbered_lines(path):
             yield f"{path}:{number}", line
 
 
+def lines_of_rows_and_groups():
+    """The lines of the rows, whose names begin with a capital, and those of the encoding groups."""
+    rows, groups = [], []
+    lines = rows
+    for place, line in numbered_lines(ROWS):
+        if not line.startswith(" "):
+            lines = rows if line[0].isupper() else groups
+        lines.append((place, line))
+    return rows, groups
+
+
 def read_rows():
     """The rows, by name, in their order."""
     rows, row = {}, None
-    for place, line in numbered_lines(ROWS):
+    for place, line in lines_of_rows_and_groups()[0]:
         word, _, rest = line.strip().partition(" ")
         if not line.startswith(" "):
             if word in rows:

@@ -1,4 +1,4 @@
-// Written by tools/isa.py from isa/a64.groups. Do not edit.
+// Written by tools/isa.py from isa/a64.rows. Do not edit.
 //! The row of a word, by the encoding groups of the Arm ARM (DDI 0487, C4.1): bits 28 to 24 select
 //! the group, and other fixed bits the row.
 

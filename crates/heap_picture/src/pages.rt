@@ -75,9 +75,9 @@ pub struct List<'a>(pub &'a [Pages]);
 impl<'a> List<'a> {
     /// The height in pixels.
     pub fn height(&self) -> u64 {
-        let listed = self.0.len().min(LISTED);
-        let lines = listed.div_ceil(COLUMNS) + usize::from(listed < self.0.len());
-        LINE * lines as u64
+        let lines = self.0.len().min(LISTED).div_ceil(COLUMNS) as u64;
+        let more = u64::from(self.0.len() > LISTED);
+        LINE.saturating_mul(lines.saturating_add(more))
     }
 }
 

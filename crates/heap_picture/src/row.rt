@@ -51,7 +51,8 @@ impl Row {
     fn begins_block(&self, index: usize) -> bool {
         let distance = GRANULE_SIZE.saturating_mul(index as u64);
         let address = self.address.saturating_add(distance);
-        self.size != 0 && address >= self.first && (address - self.first) % self.size == 0
+        let behind = address.checked_sub(self.first);
+        behind.and_then(|bytes| bytes.checked_rem(self.size)) == Some(0)
     }
 
     /// The number of the granule that an address is in, where it is one of the row.

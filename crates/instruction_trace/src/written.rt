@@ -1,3 +1,4 @@
+// Written by tools/isa.py from isa/a64.rows. Do not edit.
 //! The register that an instruction writes, beside those that it loads.
 
 use a64_instr::Instr;
@@ -27,8 +28,8 @@ pub fn written_by(instr: &Instr) -> Option<u8> {
         | Instr::SubP { rd, .. }
         | Instr::Irg { rd, .. }
         | Instr::Gmi { rd, .. } => Some(rd),
-        Instr::Ldg { rt, .. } => Some(rt),
         Instr::Branch { op: 1, .. } | Instr::BranchReg { opc: 1, .. } => Some(30),
+        Instr::Ldg { rt, .. } => Some(rt),
         Instr::Branch { .. }
         | Instr::BranchCond { .. }
         | Instr::CmpBranch { .. }
