@@ -7,8 +7,6 @@ mod asm;
 #[cfg(test)]
 mod bits;
 #[cfg(test)]
-mod blocks;
-#[cfg(test)]
 mod decode;
 #[cfg(test)]
 mod kept;

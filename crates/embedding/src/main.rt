@@ -1,5 +1,5 @@
-//! `embedding SCRIPT IMAGE`: what docs/EMBEDDING.md shows in Rattle, once each: a heap of its own, a
-//! tenant alone, a host of two tenants, and the report of a session.
+//! `embedding SCRIPT IMAGE`: what docs/EMBEDDING.md shows in Rattle, once each: a step, a heap of its
+//! own, a tenant alone, a host of two tenants, and the report of a session.
 #![tactic(auto)]
 
 use anyhow::{Result, bail};
@@ -7,9 +7,37 @@ use std::env;
 use std::fs::File;
 use std::io::{Read, Write};
 use tombolopan::{
-    Admission, HeapAnswer, HeapBench, HeapCall, HeapOp, Host, Lone, Rgsr, TagMode, Terms, report,
-    run_alone,
+    Admission, Attrs, Flat, HeapAnswer, HeapBench, HeapCall, HeapOp, Host, Lone, Paged, Regs, Rgsr,
+    TagMode, Tagged, Terms, Text, decode, report, run_alone, step,
 };
+
+/// `add x0, x0, #1`
+const WORD: u32 = 0x9100_0400;
+
+const CODE: u64 = 0x10000;
+
+const STACK_END: u64 = 0x4000_0000;
+
+/// An instruction is decoded and printed, written into a page of a tagged memory, and stepped.
+fn show_step(rt: &HostRuntime) -> Result<()> {
+    let Some(instr) = decode(WORD) else {
+        bail!("no instruction has this word");
+    };
+    println!(rt; "{}", Text(instr))?;
+    let mut memory = Flat::new(rt.alloc(), 1, TagMode::Sync)?;
+    if memory.map_pages(CODE / 4096, 1, Attrs::ALL).is_err() {
+        bail!("no page is left");
+    }
+    if let Err(fault) = memory.write(CODE, &WORD.to_le_bytes(), false) {
+        bail!("{fault:?}");
+    }
+    let mut regs = Regs::new(CODE, STACK_END);
+    regs.x[0] = 41;
+    let outcome = step(&mut regs, &mut memory);
+    let (sum, pc) = (regs.x[0], regs.pc);
+    println!(rt; "{outcome:?}: x0 is {sum}, pc is {pc:#x}")?;
+    Ok(())
+}
 
 /// A tenant of an image.
 fn admission_of(id: u16, image: &[u8]) -> Admission<'_> {
@@ -99,6 +127,7 @@ fn main(rt: HostRuntime) -> Result<()> {
     };
     let script = read_file(&rt, script.as_str())?;
     let image = read_file(&rt, image.as_str())?;
+    show_step(&rt)?;
     show_heap(&rt)?;
     show_alone(&rt, image.as_slice())?;
     show_host(&rt, image.as_slice())?;

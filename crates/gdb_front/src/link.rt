@@ -118,7 +118,7 @@ impl Link {
         }
         self.send_reply(alloc, &reply, out)?;
         self.is_over = reply.ends;
-        if parse_command(data.as_slice()) == Command::StartNoAckMode {
+        if matches!(parse_command(data.as_slice()), Command::StartNoAckMode) {
             self.acknowledges = false;
         }
         Ok(())

@@ -4,7 +4,7 @@
 /// "Host I/O Packets").
 /// Texts are parts of the packet's data. A text of hexadecimal digits has an even number of them,
 /// of either case, and `read_hex` or `read_register` reads it; other texts are as they came.
-#[derive(Clone, Copy, PartialEq, Eq)]
+#[derive(Clone, Copy)]
 pub enum Command<'a> {
     /// `?`: why the program stands still.
     StopReason,
@@ -148,7 +148,7 @@ pub enum Command<'a> {
 }
 
 /// How a program is resumed. Signals have GDB's numbers.
-#[derive(Clone, Copy, PartialEq, Eq)]
+#[derive(Clone, Copy)]
 pub enum Action {
     /// `c`, or `C` with a signal.
     Continue { signal: Option<u8> },
@@ -161,7 +161,7 @@ pub enum Action {
 }
 
 /// A breakpoint or a watchpoint.
-#[derive(Clone, Copy, PartialEq, Eq)]
+#[derive(Clone, Copy)]
 pub enum Point {
     /// 0.
     SoftwareBreakpoint,
@@ -176,7 +176,7 @@ pub enum Point {
 }
 
 /// A process or a thread.
-#[derive(Clone, Copy, PartialEq, Eq)]
+#[derive(Clone, Copy)]
 pub enum Id {
     /// -1.
     All,
@@ -187,14 +187,14 @@ pub enum Id {
 }
 
 /// A thread: `THREAD`, `pPROCESS`, which means all of its threads, or `pPROCESS.THREAD`.
-#[derive(Clone, Copy, PartialEq, Eq)]
+#[derive(Clone, Copy)]
 pub struct Thread {
     pub process: Option<Id>,
     pub thread: Id,
 }
 
 /// An operation on a file.
-#[derive(Clone, Copy, PartialEq, Eq)]
+#[derive(Clone, Copy)]
 pub enum FileCall<'a> {
     /// `setfs:PROCESS`: whose files the later operations mean.
     SetFilesystem {

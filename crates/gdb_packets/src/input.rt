@@ -16,7 +16,7 @@ pub const PACKET_SIZE: usize = 16_384;
 pub const FRAME_LIMIT: usize = PACKET_SIZE + 4;
 
 /// What the first of the bytes that came are.
-#[derive(Clone, Copy, PartialEq, Eq)]
+#[derive(Clone, Copy)]
 pub enum Input<'a> {
     /// `$data#cc`: the data as they came, with their escapes, and the length of the whole.
     Packet { bytes: &'a [u8], len: usize },

@@ -7,9 +7,6 @@ use mte_flat::Flat;
 use mte_tags::{Attrs, MemFault, Paged, TagMode, Tagged};
 use std::alloc::Global;
 
-/// Six pages over two leaves of a table, of which a tenant may map five.
-const PAGES: [u64; 6] = [0x100, 0x101, 0x1FF, 0x200, 0x201, 0x3FF];
-
 /// A call at an address, or a few.
 #[derive(Clone, Copy)]
 pub enum Call {
@@ -179,53 +176,5 @@ pub fn flat_answers(alloc: Global, pages: usize, rows: &[(Call, Answer)]) -> boo
     match Flat::new(alloc, pages, TagMode::Sync) {
         Ok(mut memory) => answers(&mut memory, rows),
         Err(_) => false,
-    }
-}
-
-/// How many calls are drawn.
-const DRAWN: u64 = 1000;
-
-/// How many words and granules the six pages have.
-const WORDS: u64 = 6 * 512;
-
-const GRANULES: u64 = 6 * 256;
-
-/// How many calls there are.
-pub const CALLS: u64 = DRAWN + WORDS + GRANULES;
-
-/// The calls in their order: those that are drawn, then a read of each word, then of each tag.
-pub fn call_at(i: u64, draw: u64) -> Call {
-    if i < DRAWN {
-        call_of(draw)
-    } else if i < DRAWN + WORDS {
-        let word = i - DRAWN;
-        Call::Read(
-            PAGES[(word / 512) as usize % 6] * 4096 + word % 512 * 8,
-            false,
-        )
-    } else {
-        let granule = i - DRAWN - WORDS;
-        Call::LoadTag(PAGES[(granule / 256) as usize % 6] * 4096 + granule % 256 * 16)
-    }
-}
-
-/// A call by a number: mostly near the end of a page, with the tags 0 to 3.
-fn call_of(draw: u64) -> Call {
-    let page = PAGES[(draw >> 8) as usize % 6];
-    let tag = (draw >> 16) % 4;
-    let at = (tag << 56) + page * 4096 + (draw >> 20) % 4096;
-    let near = (tag << 56) + page * 4096 + 4088 + (draw >> 20) % 8;
-    match draw % 18 {
-        0..3 => Call::Turn(page),
-        3..6 => Call::Read(at, draw & 0x80 == 0),
-        6..8 => Call::Read(near, true),
-        8..10 => Call::Write(at, draw, draw & 0x80 == 0),
-        10 => Call::Write(near, draw, true),
-        11..13 => Call::StoreTags(page * 4096 + at % 256 * 16, (draw >> 40) % 8, tag as u8),
-        13 => Call::LoadTag(at),
-        14 => Call::Fetch(at & !3),
-        15 => Call::ReadChunk(at),
-        16 => Call::WriteChunk(page * 4096 + at % 4096, tag as u8, draw),
-        _ => Call::PagesLeft,
     }
 }

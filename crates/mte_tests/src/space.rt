@@ -6,14 +6,13 @@ ghost use Rattle.mte_translate.specs.Tables.{IsTable, MapsOnce, Root, pages_of};
 ghost use Rattle.mte_space.specs.Spaces.{NoneEnters};
 ghost use Rattle.mte_tests.specs.Tenants.{IsReady};
 
-use crate::calls::{Answer, CALLS, Call, call_at, reply};
+use crate::calls::{Answer, Call, reply};
 use mte_arena::Arena;
-use mte_flat::Flat;
 use mte_frames::{FramePool, Quota};
 use mte_space::{Space, other_tenants_stay, pages_of_a_space, written_frames_are_pages};
 use mte_tags::{Attrs, FaultKind, MemFault, PageStore, TagMode, TagState};
 use mte_translate::{Table, Tlb, tables_stay};
-use std::alloc::{AllocError, Global};
+use std::alloc::Global;
 use std::test::Fail;
 
 pub(crate) const PAGES: usize = 5;
@@ -215,52 +214,6 @@ fn are_answered(
     true
 }
 
-/// Pushes a call of each tenant, and what two plain memories answer.
-fn push_calls(
-    rows: &mut Vec<Row>,
-    first: &mut Flat,
-    second: &mut Flat,
-    one: Call,
-    other: Call,
-) -> Result<(), AllocError> {
-    rows.push(Row {
-        second: false,
-        call: one,
-        answer: reply(first, one),
-    })?;
-    rows.push(Row {
-        second: true,
-        call: other,
-        answer: reply(second, other),
-    })?;
-    Ok(())
-}
-
-fn push_drawn(rows: &mut Vec<Row>, first: &mut Flat, second: &mut Flat) -> Result<(), AllocError> {
-    let mut draw: u64 = 7;
-    for i in 0..CALLS {
-        draw = draw
-            .wrapping_mul(6_364_136_223_846_793_005)
-            .wrapping_add(1_442_695_040_888_963_407);
-        let (one, other) = (call_at(i, draw >> 16), call_at(i, draw >> 8));
-        push_calls(rows, first, second, one, other)?;
-    }
-    Ok(())
-}
-
-/// A thousand drawn calls of each tenant in turn, then a read of each word and of each tag, with
-/// what plain memories answer that are as the worked calls leave the two.
-fn drawn(alloc: Global) -> Result<Vec<Row>, AllocError> {
-    let mut first = Flat::new(alloc, PAGES, TagMode::Sync)?;
-    let mut second = Flat::new(alloc, PAGES, TagMode::Sync)?;
-    reply(&mut first, Call::Turn(PAGE));
-    reply(&mut first, Call::Fill(PAGE, 0xFF, 15));
-    reply(&mut second, Call::Turn(PAGE));
-    let mut rows = Vec::new(alloc);
-    push_drawn(&mut rows, &mut first, &mut second)?;
-    Ok(rows)
-}
-
 fn frame_of(walked: Option<(usize, Attrs)>) -> Option<usize> {
     match walked {
         Some((frame, _)) => Some(frame),
@@ -268,7 +221,7 @@ fn frame_of(walked: Option<(usize, Attrs)>) -> Option<usize> {
     }
 }
 
-/// Whether the worked calls are answered, and then those that were drawn.
+/// Whether the worked calls are answered.
 fn answer_all(
     pool: &mut FramePool,
     t: &mut Table,
@@ -276,7 +229,6 @@ fn answer_all(
     u: &mut Table,
     r: &mut Quota,
     tlb: &mut Tlb,
-    rows: &[Row],
 ) -> bool
     requires apart { r.old ≢ q.old }
     requires first { IsReady pool.old q.old t.old 1 tlb.old }
@@ -292,10 +244,10 @@ fn answer_all(
     let first = tlb.len() == 2 && tlb.lookup(1, PAGE) == t.walk(pool, PAGE);
     let second = tlb.lookup(2, PAGE) == u.walk(pool, PAGE);
     let worked = touched && is_cached && taken_over && is_handed_on && is_forgotten;
-    worked && apart && first && second && are_answered(pool, t, q, u, r, tlb, rows)
+    worked && apart && first && second
 }
 
-fn tenants_answer(pool: &mut FramePool, rows: &[Row]) -> bool {
+fn tenants_answer(pool: &mut FramePool) -> bool {
     let Some((mut q, mut r)) = two_quotas(pool) else {
         return false;
     };
@@ -307,7 +259,7 @@ fn tenants_answer(pool: &mut FramePool, rows: &[Row]) -> bool {
         return false;
     };
     let mut tlb = Tlb::new();
-    answer_all(pool, &mut t, &mut q, &mut u, &mut r, &mut tlb, rows)
+    answer_all(pool, &mut t, &mut q, &mut u, &mut r, &mut tlb)
 }
 
 /// Whether a page that a memory maps is written and read in its place, and the flag is set.
@@ -351,13 +303,11 @@ fn place_of_a_page(rt: HostRuntime) -> Result<(), Fail> {
     Ok(())
 }
 
-/// Two tenants over one pool: the worked calls, and then each answers as a plain memory does, while
-/// pages come and go.
+/// Two tenants over one pool: the frame of a page that the one gives up comes to the other.
 #[test]
 fn two_tenants_over_one_pool(rt: HostRuntime) -> Result<(), Fail> {
-    let rows = drawn(rt.alloc())?;
     let mut pool = pool_of(rt.alloc(), 22)?;
-    assert!(rt; tenants_answer(&mut pool, &rows));
+    assert!(rt; tenants_answer(&mut pool));
     written_frames_are_pages();
     pages_of_a_space();
     Ok(())

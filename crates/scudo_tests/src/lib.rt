@@ -7,8 +7,6 @@ mod cache;
 #[cfg(test)]
 mod calls;
 #[cfg(test)]
-mod discipline;
-#[cfg(test)]
 mod frames;
 #[cfg(test)]
 mod header;
@@ -22,8 +20,6 @@ mod picture;
 mod primary;
 #[cfg(test)]
 mod secondary;
-#[cfg(test)]
-mod shadow;
 #[cfg(test)]
 mod tables;
 #[cfg(test)]

@@ -8,8 +8,6 @@ mod doubles;
 #[cfg(test)]
 mod edges;
 #[cfg(test)]
-mod hostile;
-#[cfg(test)]
 mod hosts;
 #[cfg(test)]
 mod images;

@@ -1,8 +1,7 @@
 //! Sessions of several tenants.
 
 use crate::doubles::MemorySink;
-use crate::images::{ALL, CORRUPTS, COUNTS, LARGE_FREED, UNTAGGED, YIELDS, image};
-use crate::sessions::report;
+use crate::images::{ALL, CORRUPTS, LARGE_FREED, UNTAGGED, image};
 use mte_session::{Session, run_both};
 use std::alloc::{AllocError, Global};
 use std::test::Fail;
@@ -57,37 +56,6 @@ fn alone_and_beside_others(rt: HostRuntime) -> Result<(), Fail> {
         assert!(rt; one.starts_with(b"tenant 7\nstatus "));
         assert!(rt; other.len() > one.len());
         assert!(rt; other.ends_with(one.as_slice()));
-    }
-    Ok(())
-}
-
-/// The report of a program after as many slices, each by the same line.
-fn report_after_slices(
-    alloc: Global,
-    words: &[u32],
-    slice: &[u8],
-    slices: usize,
-) -> Result<Vec<u8>, Fail> {
-    let admission = b"admit 7 image 1 input 1 seed 0000000000000001 frames 60 out 16\n";
-    let mut script = Vec::from_slice(alloc, admission)?;
-    for _ in 0..slices {
-        script.extend_from_slice(slice)?;
-    }
-    report(alloc, 300, script.as_slice(), &[words])
-}
-
-/// In a slice of one step no block of instructions is kept. Services of some programs map pages and
-/// unmap them.
-#[test]
-fn long_and_short_slices(rt: HostRuntime) -> Result<(), Fail> {
-    for words in ALL {
-        // The one asks how many steps its slice has left, the other ends its slice.
-        if words == COUNTS.as_slice() || words == YIELDS.as_slice() {
-            continue;
-        }
-        let one = report_after_slices(rt.alloc(), words, b"slice 7 256\n", 4)?;
-        let many = report_after_slices(rt.alloc(), words, b"slice 7 1\n", 1024)?;
-        assert_eq!(rt; one.as_slice(), many.as_slice());
     }
     Ok(())
 }
