@@ -82,12 +82,32 @@ fn tell_parts<'a>(
         finding: observer.finding(),
         statistics: observer.table(reserved),
     };
-    tell_report(rt, &report, memory)?;
-    tell_leaks(rt, &report, options)?;
-    tell_statistics(rt, &report)?;
-    write_json(rt, &report, options, memory)?;
-    draw_map(rt, &report, options, memory)?;
+    tell_all(rt, &report, options, memory)?;
+    write_files(rt, &report, options, memory)?;
     Ok(tell_last_line(rt, &report))
+}
+
+/// Tells what the options request, on standard error.
+fn tell_all(
+    rt: &HostRuntime,
+    report: &Report<'_>,
+    options: &Options,
+    memory: &mut Flat,
+) -> io::Result<()> {
+    tell_report(rt, report, memory)?;
+    tell_leaks(rt, report, options)?;
+    tell_statistics(rt, report)
+}
+
+/// Writes the files that the options name.
+fn write_files<'a>(
+    rt: &HostRuntime,
+    report: &Report<'_>,
+    options: &'a Options,
+    memory: &mut Flat,
+) -> Result<(), Failure<'a>> {
+    write_json(rt, report, options, memory)?;
+    draw_map(rt, report, options, memory)
 }
 
 /// How the tenant ended.
