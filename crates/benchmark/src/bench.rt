@@ -3,7 +3,6 @@
 ghost use Rattle.std.specs.Prelude.{◌<◌};
 
 use crate::accesses::{fetch_each, load_each, store_each};
-use crate::decoding::{decode_each, in_order, shuffled};
 use crate::measured::Batch;
 use crate::paging::{map_each, map_page, put_byte};
 use crate::programs::{
@@ -30,11 +29,9 @@ const DATA: u64 = 0x1_1000;
 /// The tag of the data.
 const TAG: u8 = 5;
 
-/// The words that are decoded, and the addresses that are reached.
+/// The addresses that are reached.
 #[derive(Drop)]
 pub struct Lists {
-    text: Vec<u32>,
-    shuffled: Vec<u32>,
     within: Vec<u64>,
     across: Vec<u64>,
     code: Vec<u64>,
@@ -45,8 +42,6 @@ impl Lists {
         let data = with_tag(DATA, TAG);
         let across = data.wrapping_add(4096 - 7);
         Ok(Lists {
-            text: in_order(alloc)?,
-            shuffled: shuffled(alloc)?,
             within: places(alloc, data, 512, 8)?,
             across: places(alloc, across, 7, 1)?,
             code: places(alloc, CODE, 1024, 4)?,
@@ -90,8 +85,6 @@ impl<'a, M: Paged> Bench<'a, M> {
     /// Runs a batch of a workload, `None` where an access is refused.
     pub fn batch(&mut self, lists: &Lists, workload: Workload) -> Option<Batch> {
         match workload {
-            Workload::Decode => Some(decode_each(&lists.text)),
-            Workload::DecodeShuffled => Some(decode_each(&lists.shuffled)),
             Workload::Load => load_each(self.memory, &lists.within),
             Workload::Store => store_each(self.memory, &lists.within),
             Workload::LoadAcross => load_each(self.memory, &lists.across),

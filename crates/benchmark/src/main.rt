@@ -4,18 +4,14 @@
 
 mod accesses;
 mod bench;
-mod decoding;
-mod heap;
 mod measured;
 mod paging;
 mod programs;
 mod shared;
-mod text;
 mod workload;
 
 use anyhow::{Result, bail};
 use bench::{Bench, Lists, PAGES};
-use heap::{HEAP_PAGES, report_heap};
 use measured::Measured;
 use mte_flat::Flat;
 use mte_space::{Space, pages_of_a_space};
@@ -30,8 +26,6 @@ use workload::{Asked, Workload, read_words};
 const USAGE: &str = "usage: benchmark WORKLOAD
 Runs a workload for about a second and prints its rate: over a plain memory, over shared frames,
 and how much longer it takes there. The workloads:
-  decode           the words of a compiled program, in their order
-  decode_shuffled  words of 32 instructions, in a random order
   load             checked loads of 8 bytes within a tagged page
   store            checked stores of 8 bytes within a tagged page
   load_across      checked loads of 8 bytes over two tagged pages
@@ -43,7 +37,6 @@ and how much longer it takes there. The workloads:
   services         steps of a loop with an SVC in every seven instructions
   map              a page that is mapped and unmapped
   all              each of them in turn
-  heap             malloc and free of 24 bytes, 1 KiB and 33 pages, with 10 and 10,000 live chunks
   compare          a batch of each on both memories, and whether the results and registers are equal
 ";
 
@@ -73,20 +66,16 @@ fn main(rt: HostRuntime) -> Result<ExitCode> {
 
 /// Makes a plain memory and one over shared frames, and does there what is asked.
 fn run_asked(rt: &HostRuntime, asked: Asked) -> Result<()> {
-    let pages = match asked {
-        Asked::Heap => HEAP_PAGES,
-        _ => PAGES,
-    };
-    let mut plain = Flat::new(rt.alloc(), pages, TagMode::Sync)?;
-    let mut pool = pool_for(rt.alloc(), pages)?;
-    let Ok(mut quota) = pool.reserve(2 * pages + 1) else {
+    let mut plain = Flat::new(rt.alloc(), PAGES, TagMode::Sync)?;
+    let mut pool = pool_for(rt.alloc(), PAGES)?;
+    let Ok(mut quota) = pool.reserve(2 * PAGES + 1) else {
         bail!("the frames could not be reserved");
     };
     if pool.taken(&quota) >= pool.reserved(&quota) {
         bail!("there is no frame for the table");
     }
     let mut table = Table::new(&mut pool, &mut quota);
-    if !has_room(&pool, &table, &quota, pages) {
+    if !has_room(&pool, &table, &quota, PAGES) {
         bail!("there are too few frames");
     }
     let mut tlb = Tlb::new();
@@ -96,14 +85,8 @@ fn run_asked(rt: &HostRuntime, asked: Asked) -> Result<()> {
     };
     pages_of_a_space();
     let mut shared = Space::new(
-        &mut pool, &mut table, &mut quota, &mut tlb, &mut state, 1, pages,
+        &mut pool, &mut table, &mut quota, &mut tlb, &mut state, 1, PAGES,
     );
-    if pages == HEAP_PAGES {
-        println!(rt; "over a plain memory:")?;
-        report_heap(rt, &mut plain)?;
-        println!(rt; "over shared frames:")?;
-        return report_heap(rt, &mut shared);
-    }
     let lists = Lists::new(rt.alloc())?;
     let mut plain = Bench::new(rt.alloc(), &mut plain, &lists)?;
     let mut shared = Bench::new(rt.alloc(), &mut shared, &lists)?;
@@ -127,7 +110,7 @@ fn report_all<A: Paged, B: Paged>(
     Ok(())
 }
 
-/// Runs a workload for about a second on each memory that it may reach, and prints its rate.
+/// Runs a workload for about a second on each memory, and prints its rate.
 fn report<A: Paged, B: Paged>(
     rt: &HostRuntime,
     lists: &Lists,
@@ -139,17 +122,15 @@ fn report<A: Paged, B: Paged>(
     let tenths = measured.tenths();
     let (name, unit) = (workload.name(), workload.unit());
     print!(rt; "{name}: {}.{} ns {unit}", tenths / 10, tenths % 10)?;
-    if workload.has_memory() {
-        let other = measure(rt, lists, shared, workload)?;
-        let tenths = other.tenths();
-        let ratio = other.tenths() * 100 / measured.tenths().max(1);
-        print!(rt;
-            ", over shared frames {}.{} ns, {ratio} %",
-            tenths / 10,
-            tenths % 10
-        )?;
-    }
-    println!(rt; " ({})", measured.sum)?;
+    let other = measure(rt, lists, shared, workload)?;
+    let tenths = other.tenths();
+    let ratio = tenths * 100 / measured.tenths().max(1);
+    println!(rt;
+        ", over shared frames {}.{} ns, {ratio} % ({})",
+        tenths / 10,
+        tenths % 10,
+        measured.sum
+    )?;
     Ok(())
 }
 

@@ -39,11 +39,4 @@ impl Measured {
     {
         u128::from(self.nanos) * 10 / u128::from(self.count.max(1))
     }
-
-    /// How many millions a second, rounded down.
-    pub fn millions(&self) -> u128
-        ensures { result ≡ self.now.count * 1000 / max self.now.nanos 1 }
-    {
-        u128::from(self.count) * 1000 / u128::from(self.nanos.max(1))
-    }
 }

@@ -3,10 +3,6 @@
 /// What is timed.
 #[derive(Clone, Copy)]
 pub enum Workload {
-    /// Decoding of a program's words, in their order.
-    Decode,
-    /// Decoding of mixed words, in a random order.
-    DecodeShuffled,
     /// Checked loads of 8 bytes within a tagged page.
     Load,
     /// Checked stores of 8 bytes within a tagged page.
@@ -31,9 +27,7 @@ pub enum Workload {
 
 impl Workload {
     /// All of them, in the order in which they are run.
-    pub const ALL: [Workload; 12] = [
-        Workload::Decode,
-        Workload::DecodeShuffled,
+    pub const ALL: [Workload; 10] = [
         Workload::Load,
         Workload::Store,
         Workload::LoadAcross,
@@ -49,8 +43,6 @@ impl Workload {
     /// Its name on the command line.
     pub fn name(self) -> &'static str {
         match self {
-            Workload::Decode => "decode",
-            Workload::DecodeShuffled => "decode_shuffled",
             Workload::Load => "load",
             Workload::Store => "store",
             Workload::LoadAcross => "load_across",
@@ -67,7 +59,6 @@ impl Workload {
     /// What is counted, after "ns".
     pub fn unit(self) -> &'static str {
         match self {
-            Workload::Decode | Workload::DecodeShuffled => "a word",
             Workload::Load | Workload::LoadAcross => "a load",
             Workload::Store | Workload::StoreAcross => "a store",
             Workload::Fetch => "a fetch",
@@ -75,11 +66,6 @@ impl Workload {
                 "an instruction",
             Workload::Map => "a page",
         }
-    }
-
-    /// Whether it reaches a memory.
-    pub fn has_memory(self) -> bool {
-        !matches!(self, Workload::Decode | Workload::DecodeShuffled)
     }
 
     /// The workload of a name.
@@ -101,8 +87,6 @@ pub enum Asked {
     One(Workload),
     /// Each workload in turn.
     All,
-    /// Pairs of a malloc and a free.
-    Heap,
     /// The programs on both memories, and whether their registers are equal.
     Compare,
 }
@@ -114,7 +98,6 @@ pub fn read_words(words: &[String]) -> Asked {
         [_, name] => {
             match (name.as_str(), Workload::from_name(name.as_str())) {
                 ("all", _) => Asked::All,
-                ("heap", _) => Asked::Heap,
                 ("compare", _) => Asked::Compare,
                 (_, Some(workload)) => Asked::One(workload),
                 (_, None) => Asked::Unknown,
