@@ -8,7 +8,8 @@ use Rattle.std.specs.List.{range_with_len, slice_range}
 use Rattle.mte_tags.specs.Memory.{Memory, Page, page_at, with_page, tag_at, tag_cases, with_granules}
 use Rattle.mte_tags.specs.declared.fault.FaultKind.TheVariants.{Translation}
 use Rattle.mte_tags.specs.Accesses.{addresses, granules, byte_fault, first_fault, fault, fault_cases, bytes_at, with_bytes, fetch_result, fetch_cases, fetch_access, word_at, read_bytes}
-use Rattle.mte_tags.specs.Runs.{with_bytes_run, with_bytes_in, first_in, with_granule_tags}
+use Rattle.mte_tags.specs.Runs.{with_bytes_run, with_bytes_in, with_granule_tags}
+use Rattle.mte_tags.specs.Inner.{first_in}
 use Rattle.mte_tags.specs.declared.access.Access.{Access}
 use Rattle.mte_tags.specs.declared.fault.MemFault.{MemFault}
 use Rattle.mte_tags.proofs.AddressLists.{addresses_in_page}

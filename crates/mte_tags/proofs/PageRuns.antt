@@ -10,7 +10,8 @@ use Rattle.mte_tags.specs.Accesses.{byte_fault, first_fault, or_else, fault, fau
 use Rattle.mte_tags.specs.declared.fault.MemFault.{MemFault}
 use Rattle.mte_tags.specs.declared.access.Access.{Access}
 use Rattle.mte_tags.specs.declared.fault.FaultKind.TheVariants.{Translation, Permission, TagCheck}
-use Rattle.mte_tags.specs.Runs.{first_in, with_bytes_run}
+use Rattle.mte_tags.specs.Runs.{with_bytes_run}
+use Rattle.mte_tags.specs.Inner.{first_in}
 use Rattle.mte_tags.proofs.Pages.{with_page_twice, with_page_kept, page_at-with_page_same}
 use Rattle.mte_tags.proofs.AddressLists.{first_none}
 use Rattle.mte_tags.proofs.RunSteps.{length_range}

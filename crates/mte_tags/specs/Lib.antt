@@ -5,3 +5,4 @@ pub mod TagChoice
 pub mod RandomTags
 pub mod Runs
 pub mod FaultNames
+pub mod Inner

@@ -1,15 +1,7 @@
 -- Runs of bytes and of granules within one page.
 use Rattle.std.specs.Prelude.{ℕ, ◌+◌, ◌*◌, Bool, List, [], ◌∷◌, ◌++◌, take, drop, replicate}
-use Rattle.std.specs.Prelude.{slice_set, Option, None, if◌then◌else◌}
+use Rattle.std.specs.Prelude.{slice_set, if◌then◌else◌}
 use Rattle.mte_tags.specs.Memory.{Page}
-use Rattle.mte_tags.specs.Accesses.{or_else, fault_cases}
-use Rattle.mte_tags.specs.declared.access.Access.{Access}
-use Rattle.mte_tags.specs.declared.fault.MemFault.{MemFault}
-
--- how the first of a list of bytes fails in a page
-unfoldable pub first_in : Access → Option Page → List ℕ → Option MemFault
-first_in x p [] = None
-first_in x p (a ∷ more) = or_else (fault_cases x p a) (first_in x p more)
 
 -- a list written into a list from a place on
 unfoldable pub with_bytes_run : List ℕ → ℕ → List ℕ → List ℕ

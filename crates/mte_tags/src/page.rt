@@ -5,7 +5,8 @@ ghost use Rattle.std.specs.Prelude.{true, Some, IsTrue, is_none, length, slice_r
 ghost use Rattle.std.specs.List.{range_with_len};
 ghost use Rattle.std.specs.Int.{from_le_bytes, w32};
 ghost use Rattle.mte_tags.specs.Memory.{has, tag_cases};
-ghost use Rattle.mte_tags.specs.Runs.{first_in, with_bytes_run};
+ghost use Rattle.mte_tags.specs.Runs.{with_bytes_run};
+ghost use Rattle.mte_tags.specs.Inner.{IsPageRun, first_in};
 
 use crate::access::Access;
 use crate::attrs::Attrs;
@@ -38,9 +39,7 @@ pub(crate) fn run_fault<S: PageStore>(
     access: &Access,
 ) -> Option<MemFault>
     requires place { S.is_place store.now place }
-    requires some { 0 < count }
-    requires inside { at % 4096 + count ≤ 4096 }
-    requires plain { at < 2 ^ 56 }
+    requires run { IsPageRun at count }
     ensures { result
         ≡ first_in access.now (Some (S.page_in store.now place)) (range_with_len at count) }
 {
@@ -95,9 +94,7 @@ pub(crate) fn run_passes<S: PageStore>(
     access: &Access,
 ) -> bool
     requires place { S.is_place store.now place }
-    requires some { 0 < count }
-    requires inside { at % 4096 + count ≤ 4096 }
-    requires plain { at < 2 ^ 56 }
+    requires run { IsPageRun at count }
     ensures { result
         ≡ is_none
         (first_in access.now (Some (S.page_in store.now place)) (range_with_len at count)) }
@@ -125,9 +122,7 @@ pub(crate) fn run_passes<S: PageStore>(
 #[inline(never)]
 fn tags_pass<S: PageStore>(store: &S, place: usize, at: u64, count: usize, access: &Access) -> bool
     requires place { S.is_place store.now place }
-    requires some { 0 < count }
-    requires inside { at % 4096 + count ≤ 4096 }
-    requires plain { at < 2 ^ 56 }
+    requires run { IsPageRun at count }
     requires permitted { has (S.page_in store.now place).attrs access.now.need ≡ true }
     requires checked { (access.now.checked && has (S.page_in store.now place).attrs 8) ≡ true }
     ensures { result
@@ -147,9 +142,7 @@ fn tag_fault<S: PageStore>(
     access: &Access,
 ) -> Option<MemFault>
     requires place { S.is_place store.now place }
-    requires some { 0 < count }
-    requires inside { at % 4096 + count ≤ 4096 }
-    requires plain { at < 2 ^ 56 }
+    requires run { IsPageRun at count }
     requires permitted { has (S.page_in store.now place).attrs access.now.need ≡ true }
     requires checked { (access.now.checked && has (S.page_in store.now place).attrs 8) ≡ true }
     ensures { result

@@ -5,6 +5,7 @@
 
 ghost use Rattle.std.specs.Prelude.{◌≡◌, ◌<◌, ◌≤◌, ◌+◌, ◌*◌, ◌/◌, ◌%◌, ◌^◌, false, None, IfOk};
 ghost use Rattle.std.specs.Prelude.{IsTrue, is_ok, length, if◌then◌else◌};
+ghost use Rattle.mte_tags.specs.Inner.{IsPageRun};
 ghost use Rattle.mte_tags.specs.Memory.{tag_at, page_has, with_granules};
 ghost use Rattle.mte_tags.specs.Accesses.{result_of, tag_result, addresses, granules, byte_fault};
 ghost use Rattle.mte_tags.specs.Accesses.{first_fault, bytes_at, with_bytes, fetch_result};
@@ -27,9 +28,7 @@ pub(crate) fn fault_of_run<S: PageStore>(
     count: usize,
     access: &Access,
 ) -> Option<MemFault>
-    requires some { 0 < count }
-    requires inside { at % 4096 + count ≤ 4096 }
-    requires plain { at < 2 ^ 56 }
+    requires run { IsPageRun at count }
     ensures answer { result
         ≡ first_fault (S.memory store.old) access.now (addresses at count) }
     ensures memory { S.memory store.new ≡ S.memory store.old }
@@ -81,9 +80,7 @@ pub(crate) fn read_in_page<S: PageStore>(
     buffer: &mut [u8],
     access: &Access,
 ) -> Result<(), MemFault>
-    requires some { 0 < length buffer.old }
-    requires inside { at % 4096 + length buffer.old ≤ 4096 }
-    requires plain { at < 2 ^ 56 }
+    requires run { IsPageRun at (length buffer.old) }
     ensures answer { result
         ≡ result_of
         (first_fault (S.memory store.old) access.now (addresses at (length buffer.old))) }
@@ -176,9 +173,7 @@ pub(crate) fn write_in_page<S: PageStore>(
     bytes: &[u8],
     access: &Access,
 ) -> Result<(), MemFault>
-    requires some { 0 < length bytes.now }
-    requires inside { at % 4096 + length bytes.now ≤ 4096 }
-    requires plain { at < 2 ^ 56 }
+    requires run { IsPageRun at (length bytes.now) }
     ensures answer { result
         ≡ result_of
         (first_fault (S.memory store.old) access.now (addresses at (length bytes.now))) }

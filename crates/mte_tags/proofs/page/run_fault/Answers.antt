@@ -7,7 +7,7 @@ pub returns-then-attrs-access : goal.returns-then-attrs-access
 returns-then-attrs-access g c =
     let p = g.S.PageStore.page_in c.args.store.now c.args.place in
     let refused : has p.attrs c.args.access.now.need ≡ false = ap (λ a. has a c.args.access.now.need) (sym c.attrs-attrs.ensures) ∙ grind (arith, c.if-attrs-access.true) in
-    let e = first_in-refused c.args.access.now p c.args.at c.args.count c.requires.some refused in
+    let e = first_in-refused c.args.access.now p c.args.at c.args.count c.requires.run.some refused in
     cc (e, c.fault.ensures)
 
 pub returns-then-not-access : goal.returns-then-not-access

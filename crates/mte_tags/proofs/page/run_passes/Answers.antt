@@ -9,7 +9,7 @@ returns-then-not-permitted g c =
     let p = g.S.PageStore.page_in c.args.store.now c.args.place in
     let x = c.args.access.now in
     let refused : has p.attrs x.need ≡ false = ap (λ a. has a x.need) (sym c.attrs-attrs.ensures) ∙ grind (arith, c.if-not-permitted.true) in
-    sym (ap is_none (first_in-refused x p c.args.at c.args.count c.requires.some refused))
+    sym (ap is_none (first_in-refused x p c.args.at c.args.count c.requires.run.some refused))
 
 pub returns-then-not-compared : goal.returns-then-not-compared
 returns-then-not-compared g c =
@@ -33,7 +33,7 @@ returns-then-granule_tag-access g c =
       | then-access w ↦ w.compared-is ∙ w.contains-compared.ensures ∙ same 8 ∙ sym (ap (λ b. b && has p.attrs 8) w.if-access.true)
       | else-access w ↦ w.compared-is ∙ w.if-access.false ∙ sym (ap (λ b. b && has p.attrs 8) w.if-access.false)
     ] in
-    sym (ap is_none (first_in-tag x p c.args.at c.args.count c.requires.some permitted (sym compared ∙ c.if-not-compared.false) (λ e. c.if-granule_tag-access.true (c.granule_tag.ensures.tag ∙ e))))
+    sym (ap is_none (first_in-tag x p c.args.at c.args.count c.requires.run.some permitted (sym compared ∙ c.if-not-compared.false) (λ e. c.if-granule_tag-access.true (c.granule_tag.ensures.tag ∙ e))))
 
 pub returns-then-count-le16 : goal.returns-then-count-le16
 returns-then-count-le16 g c =
@@ -46,4 +46,4 @@ returns-then-count-le16 g c =
       | else-access w ↦ w.compared-is ∙ w.if-access.false ∙ sym (ap (λ b. b && has p.attrs 8) w.if-access.false)
     ] in
     ap (λ t. t == x.tag) c.granule_tag-then-count-le16.ensures.tag
-    ∙ short_run_passes x p c.args.at c.args.count c.requires.some c.if-count-le16.true c.requires.inside permitted (sym compared ∙ c.if-not-compared.false) (sym c.granule_tag.ensures.tag ∙ c.if-granule_tag-access.false)
+    ∙ short_run_passes x p c.args.at c.args.count c.requires.run.some c.if-count-le16.true c.requires.run.inside permitted (sym compared ∙ c.if-not-compared.false) (sym c.granule_tag.ensures.tag ∙ c.if-granule_tag-access.false)

@@ -1,6 +1,6 @@
 use Rattle.std.proofs.Common.{◌≡◌, ◌∙◌, sym, ap, arith, Some}
 use Rattle.std.specs.List.{range_with_len}
-use Rattle.mte_tags.specs.Runs.{first_in}
+use Rattle.mte_tags.specs.Inner.{first_in}
 use Rattle.mte_tags.proofs.PageRuns.{first_in-tag, first_in-next}
 use Rattle.mte_tags.proofs.page.tag_fault.Goals as goal
 

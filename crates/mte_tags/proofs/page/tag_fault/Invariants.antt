@@ -1,6 +1,6 @@
 use Rattle.std.proofs.Common.{◌≡◌, ◌≤◌, ◌+◌, Some}
 use Rattle.std.specs.List.{range_with_len}
-use Rattle.mte_tags.specs.Runs.{first_in}
+use Rattle.mte_tags.specs.Inner.{first_in}
 use Rattle.mte_tags.proofs.page.tag_fault.Given as goal
 
 abbrev pub invariant-loop-left : goal.invariant-loop-left
