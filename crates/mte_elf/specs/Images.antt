@@ -50,9 +50,20 @@ abbrev pub any_share_page : List Segment → Bool
 any_share_page [] = false
 any_share_page (s ∷ more) = list_any (share_page s) more || any_share_page more
 
+-- what p_flags says: PF_R is 4, PF_W is 2, PF_X is 1
+abbrev pub is_readable : ℕ → Bool
+is_readable flags = flags / 4 % 2 == 1
+
+abbrev pub is_writable : ℕ → Bool
+is_writable flags = flags / 2 % 2 == 1
+
+abbrev pub is_executable : ℕ → Bool
+is_executable flags = flags % 2 == 1
+
 -- the entry is an address of an executable segment
 abbrev pub is_entry : ℕ → Segment → Bool
-is_entry entry s = (s.flags % 2 == 1) && nat_le s.vaddr entry && nat_lt entry (s.vaddr + s.memsz)
+is_entry entry s =
+    is_executable s.flags && nat_le s.vaddr entry && nat_lt entry (s.vaddr + s.memsz)
 
 -- the first test of a list that fails
 abbrev pub first_refusal : List (Bool × ElfError) → Option ElfError

@@ -1,15 +1,18 @@
 -- What loading an image makes of a memory.
-use Rattle.std.specs.Prelude.{ℕ, ◌+◌, ◌*◌, ◌/◌, ◌%◌, ◌==◌, List, [], ◌∷◌, if◌then◌else◌}
-use Rattle.std.specs.Prelude.{slice_range}
+use Rattle.std.specs.Prelude.{ℕ, ◌+◌, ◌==◌, List, [], ◌∷◌, if◌then◌else◌, slice_range}
 use Rattle.mte_tags.specs.Memory.{Memory, with_new_pages}
 use Rattle.mte_tags.specs.Accesses.{with_bytes_at}
 use Rattle.mte_tags.specs.declared.attrs.Attrs.{Attrs}
-use Rattle.mte_elf.specs.Images.{first_page, page_count}
+use Rattle.mte_tags.specs.declared.attrs.TheConstants.Attrs.{READ, EXEC, DATA}
+use Rattle.mte_elf.specs.Images.{first_page, page_count, is_readable, is_writable, is_executable}
 use Rattle.mte_elf.specs.declared.image.Segment.{Segment}
 
--- READ (1) for read (4) or write (2), EXEC (4) for execute (1), WRITE (2) and TAGGED (8) for write
+-- the attributes of a segment's pages: what may be written is DATA, which is READ, WRITE and TAGGED
 abbrev pub attrs_of : ℕ → Attrs
-attrs_of flags = record { 0 = (if flags / 2 % 2 == 1 then 11 else flags / 4 % 2) + 4 * (flags % 2) }
+attrs_of flags = record {
+  0 = (if is_writable flags then DATA.0 else (if is_readable flags then READ.0 else 0))
+      + (if is_executable flags then EXEC.0 else 0);
+}
 
 -- a segment's bytes that lie in the file
 abbrev pub file_part : List ℕ → Segment → List ℕ
