@@ -1,7 +1,7 @@
 //! A pool of frames for one tenant.
 
-ghost use Rattle.std.specs.Prelude.{◌≡◌, ◌+◌, ◌-◌, ◌*◌, ◌≤◌, IsTrue};
-ghost use Rattle.mte_frames.specs.Pool.{taken_by, reserved_by};
+ghost use Rattle.std.specs.Prelude.{◌≤◌, IsTrue};
+ghost use Rattle.mte_space.specs.Spaces.{HasFrames};
 
 use anyhow::{Result, bail};
 use mte_arena::Arena;
@@ -26,13 +26,9 @@ pub fn pool_for(alloc: Global, pages: usize) -> Result<FramePool>
 pub fn has_room(pool: &FramePool, table: &Table, quota: &Quota, pages: usize) -> bool
     requires { pages ≤ 4096 }
     ensures { IsTrue result
-        → (table.now.len ≤ pages)
-        × (taken_by pool.now quota.now + (2 * pages - table.now.len - table.now.leaves)
-        ≤ reserved_by pool.now quota.now) }
+        → (table.now.len ≤ pages) × HasFrames pool.now quota.now table.now pages }
 {
     let free = pool.reserved(quota).saturating_sub(pool.taken(quota));
-    let wanted = 2 * pages - table.len().min(pages);
-    table.len() <= pages
-        && pool.taken(quota) <= pool.reserved(quota)
-        && wanted.saturating_sub(table.leaves()) <= free
+    let to_come = pages.saturating_sub(table.len()) + pages.saturating_sub(table.leaves());
+    table.len() <= pages && pool.taken(quota) <= pool.reserved(quota) && to_come <= free
 }

@@ -13,12 +13,6 @@ use Rattle.mte_sched.specs.declared.place.TenantMemory.{TenantMemory}
 use Rattle.mte_tenant.specs.Ledger.{charge_of}
 use Rattle.mte_sched.specs.Places.{IsPlaced}
 
-pub room_of : (p : Pool) (us : List Translation) (i pages : ℕ) (a : TenantMemory) → IsPlaced p us i pages a
-    → taken_by p a.quota + (2 * pages - a.table.len - a.table.leaves) ≤ reserved_by p a.quota
-room_of p us i pages a h =
-    let few : a.table.leaves ≤ a.table.len = leaves-len p a.quota a.table h.space.table in
-    omega (arith, h.charged, h.counted, h.space.below, few)
-
 pub placed_after : (p n : Pool) (us vs : List Translation) (i pages : ℕ) (a b : TenantMemory) → IsPlaced p us i pages a
     → KeepsRest a.quota p n a.table b.table → b.quota ≡ a.quota → IsSpace n b.quota b.table pages → IsCached (pages_of n b.table.frame) i vs
     → IsPlaced n vs i pages b

@@ -1,12 +1,12 @@
 //! Where a live tenant's memory lies: its table, its quota and its tag state, over the frames and
 //! the translation lookaside buffer that all tenants share.
 
-ghost use Rattle.std.specs.Prelude.{◌≡◌, ◌≢◌, ◌+◌, ◌-◌, ◌*◌, ◌<◌, ◌≤◌, None, All, sum, false};
+ghost use Rattle.std.specs.Prelude.{◌≡◌, ◌≢◌, ◌+◌, ◌<◌, ◌≤◌, None, All, sum, false};
 ghost use Rattle.std.specs.FinMap.{empty};
 ghost use Rattle.mte_elf.specs.Headers.{segments_of};
 ghost use Rattle.mte_elf.specs.Images.{refusal_of, pages_of as image_pages};
 ghost use Rattle.mte_frames.specs.Pool.{frames_left, reserved_by, taken_by, KeepsOthers};
-ghost use Rattle.mte_space.specs.Spaces.{IsSpace, KeepsRest, NoneEnters};
+ghost use Rattle.mte_space.specs.Spaces.{IsSpace, HasFrames, KeepsRest, NoneEnters};
 ghost use Rattle.mte_tags.specs.Memory.{no_pages};
 ghost use Rattle.mte_translate.specs.Tables.{pages_of, IsTable, MapsOnce, IsCached};
 ghost use Rattle.mte_translate.specs.Translations.{without_asid};
@@ -118,9 +118,8 @@ fn fill_place(
     requires table { IsTable pool.old place.old.quota place.old.table }
     requires few { place.old.table.len ≤ admission.now.terms.pages }
     requires once { MapsOnce (pages_of pool.old place.old.table.frame) }
-    requires left { taken_by pool.old place.old.quota
-        + (2 * admission.now.terms.pages - place.old.table.len - place.old.table.leaves)
-        ≤ reserved_by pool.old place.old.quota }
+    requires left { HasFrames pool.old place.old.quota place.old.table
+        admission.now.terms.pages }
     requires cached { IsCached (pages_of pool.old place.old.table.frame) asid tlb.old }
     ensures memory { memory_at pool.new place.new admission.now.terms.pages
         ≡ first_memory admission.now.image.now admission.now.terms.pages admission.now.terms.mode }

@@ -29,7 +29,7 @@ use Rattle.mte_space.specs.KeptSpaces.{rest_same}
 use Rattle.mte_space.proofs.Memories.{space_mapped, space_removed}
 
 pub room_for_two : (p : Pool) (k : ℕ) (t : Root) (l : ℕ) → IsSpace p k t l → t.len < l → taken_by p k + 2 ≤ reserved_by p k
-room_for_two p k t l h left = omega (arith, h.room, left, leaves-len p k t h.table)
+room_for_two p k t l h left = omega (arith, h.frames, left, leaves-len p k t h.table)
 
 -- from p to m a page was mapped
 pub record Mapped (p m : Pool) (k q l : ℕ) (a : Attrs) (t u : Root) : Type 0 where
@@ -97,7 +97,7 @@ module _ (p n : Pool) (k f q l : ℕ) (t : Root) (h : IsSpace p k t l) (sound : 
       table = table;
       once = once never once_taken;
       below = omega (arith, ap (λ (x : Root). x.len) counts, left);
-      room = omega (arith, h.room, taken, taken_one, reserved, reserved_same, ap (λ (x : Root). x.len) counts, ap (λ (x : Root). x.leaves) counts);
+      frames = omega (arith, h.frames, left, leaves-len p k t h.table, taken, taken_one, reserved, reserved_same, missing-one n t.frame q, ap (λ (x : Root). x.len) counts, ap (λ (x : Root). x.leaves) counts);
     }
 
     zero_here : frame_at m.frames f ≡ zero_frame
@@ -166,7 +166,7 @@ module _ (p m n : Pool) (k f q l : ℕ) (a : Attrs) (t u : Root) (h : IsSpace p 
     table = given.table;
     once = λ r s g b c d e. once r s g b c (ap (λ x. finite.get x r) (sym given.pages) ∙ d) (ap (λ x. finite.get x s) (sym given.pages) ∙ e);
     below = omega (arith, h.below, ap (λ (x : Root). x.len) counts);
-    room = omega (arith, h.room, balance, given_reserved);
+    frames = omega (arith, h.frames, h.below, leaves-len p k t h.table, balance, given_reserved, ap (λ (x : Root). x.len) counts, ap (λ (x : Root). x.leaves) counts);
   }
 
   data_there : (r g : ℕ) (b : Attrs) → finite.get (pages_of p t.frame) r ≡ Some (g, b) → frame_at n.frames g ≡ frame_at p.frames g

@@ -30,7 +30,7 @@ other_space p n j k l t d keeps h =
       table = stays.table;
       once = λ q r f a b e g. h.once q r f a b (ap (λ m. finite.get m q) (sym stays.pages) ∙ e) (ap (λ m. finite.get m r) (sym stays.pages) ∙ g);
       below = h.below;
-      room = let counts = keeps.counts k d in omega (arith, h.room, counts.0, counts.1);
+      frames = let counts = keeps.counts k d in omega (arith, h.frames, counts.0, counts.1);
     }
 
 pub other_cached : (p n : Pool) (j k asid other : ℕ) (t : Root) (ts us : List Translation) → k ≢ j → KeepsOthers j p n → IsTable p k t → other ≢ asid → NoneEnters asid ts us

@@ -48,7 +48,7 @@ module _ (p : Pool) (k : ℕ) (t : Root) (l q f : ℕ) (a : Attrs) (x : Frame) (
     table = stays.table;
     once = λ r s g b c e d. h.once r s g b c (ap (λ m. finite.get m r) (sym pages) ∙ e) (ap (λ m. finite.get m s) (sym pages) ∙ d);
     below = h.below;
-    room = h.room;
+    frames = h.frames;
   }
 
   pub cached_framed : (asid : ℕ) (ts : List Translation) → IsCached (pages_of p t.frame) asid ts → IsCached (pages_of (with_frame p f x) t.frame) asid ts

@@ -3,11 +3,12 @@
 --     page_of p (f, a)            the page with the attributes a that the frame f holds
 --     with_values g m             the finite map m with g of each value in its place
 --     space_memory p t n state    the tenant's memory
+--     HasFrames p k t n           the quota k has the frames that the table t may still take
 --     IsSpace p k t n             the table t is whole, has n pages at most, each in a frame of its
---                                 own, and the quota k has frames left for the others
+--                                 own, and the quota k has frames for the others
 --     KeepsRest k p n t u         what a call leaves of pool and table beside the memory
 --     NoneEnters asid ts us       of other ASIDs no translation has come
-use Rattle.std.specs.Prelude.{◌≡◌, ◌≢◌, ℕ, ◌+◌, ◌*◌, ◌≤◌, List, map, All, Contains}
+use Rattle.std.specs.Prelude.{◌≡◌, ◌≢◌, ℕ, ◌+◌, ◌-◌, ◌≤◌, List, map, All, Contains}
 use Rattle.std.specs.Ordering.{nat_cmp}
 use Rattle.std.specs.FinMap as finite
 use Rattle.std.specs.FinMap.{FinMap}
@@ -34,12 +35,20 @@ unfoldable pub space_memory : Pool → Root → ℕ → TagState → Memory
 space_memory p t limit state =
     record { limit = limit; pages = with_values (page_of p) (pages_of p t.frame); state = state }
 
+-- how many frames a table of at most so many pages may still take: one for each page to come, and
+-- one for each leaf, of which there may be as many as pages
+abbrev pub frames_to_come : Root → ℕ → ℕ
+frames_to_come t limit = (limit - t.len) + (limit - t.leaves)
+
+-- the quota has reserved what it has taken, and what is to come
+abbrev pub HasFrames : Pool → ℕ → Root → ℕ → Type 0
+HasFrames p k t limit = taken_by p k + frames_to_come t limit ≤ reserved_by p k
+
 pub record IsSpace (p : Pool) (k : ℕ) (t : Root) (limit : ℕ) : Type 0 where
   pub table : IsTable p k t
   pub once : MapsOnce (pages_of p t.frame)
   pub below : t.len ≤ limit
-  -- a page takes two frames at most: its own, and one for its leaf
-  pub room : taken_by p k + 2 * limit ≤ reserved_by p k + t.len + t.leaves
+  pub frames : HasFrames p k t limit
 
 pub record KeepsRest (k : ℕ) (p n : Pool) (t u : Root) : Type 0 where
   pub others : KeepsOthers k p n

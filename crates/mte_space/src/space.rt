@@ -1,11 +1,10 @@
 //! A tenant's memory over borrowed parts.
 
-ghost use Rattle.std.specs.Prelude.{◌≡◌, ◌<◌, ◌≤◌, ◌+◌, ◌-◌, ◌*◌, ◌^◌, IfSome, option_map};
+ghost use Rattle.std.specs.Prelude.{◌≡◌, ◌<◌, ◌≤◌, ◌^◌, IfSome, option_map};
 ghost use Rattle.mte_tags.specs.Memory.{page_at};
-ghost use Rattle.mte_frames.specs.Pool.{taken_by, reserved_by};
 ghost use Rattle.mte_translate.specs.Tables.{pages_of, IsTable, MapsOnce, IsCached};
 ghost use Rattle.mte_space.specs.Remembered.{AreUpToDate};
-ghost use Rattle.mte_space.specs.Spaces.{space_memory, IsSpace};
+ghost use Rattle.mte_space.specs.Spaces.{space_memory, IsSpace, HasFrames};
 
 use crate::mapping::{PageRange, map_range, unmap_range};
 use crate::remembered::{CODE_PLACE, DATA_PAGES, PLACES, RememberedPage, no_pages};
@@ -40,8 +39,8 @@ impl<'a> Space<'a> {
     ghost use Rattle.mte_space.specs.Places.{IsPlace, number_in, page_in};
 
     /// A tenant's memory of at most `pages` pages, over its table, its quota and its tag state. The
-    /// table maps no more, each in a frame of its own; the quota has a frame left for each page and
-    /// each leaf that may come; what the lookaside buffer remembers of the ASID is what the table
+    /// table maps no more, each in a frame of its own; the quota has a frame for each page and each
+    /// leaf that may come; what the lookaside buffer remembers of the ASID is what the table
     /// maps.
     pub fn new(
         pool: &'a mut FramePool,
@@ -55,9 +54,7 @@ impl<'a> Space<'a> {
         requires table { IsTable pool.old quota.old table.old }
         requires most { table.old.len ≤ pages }
         requires once { MapsOnce (pages_of pool.old table.old.frame) }
-        requires room { taken_by pool.old quota.old
-            + (2 * pages - table.old.len - table.old.leaves)
-            ≤ reserved_by pool.old quota.old }
+        requires frames { HasFrames pool.old quota.old table.old pages }
         requires cached { IsCached (pages_of pool.old table.old.frame) asid tlb.old }
         ensures memory { memory_of result
             ≡ space_memory pool.old table.old pages state.old }

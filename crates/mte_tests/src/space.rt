@@ -1,9 +1,9 @@
 //! Two tenants' memories over one pool and one translation lookaside buffer.
 
-ghost use Rattle.std.specs.Prelude.{◌≡◌, ◌≢◌, ◌+◌, ◌-◌, ◌*◌, ◌≤◌, ℕ, IfSome, IsTrue};
-ghost use Rattle.mte_frames.specs.Pool.{KeepsOthers, taken_by, reserved_by};
+ghost use Rattle.std.specs.Prelude.{◌≡◌, ◌≢◌, ◌≤◌, ℕ, IfSome, IsTrue};
+ghost use Rattle.mte_frames.specs.Pool.{KeepsOthers};
 ghost use Rattle.mte_translate.specs.Tables.{IsTable, MapsOnce, Root, pages_of};
-ghost use Rattle.mte_space.specs.Spaces.{NoneEnters};
+ghost use Rattle.mte_space.specs.Spaces.{HasFrames, NoneEnters};
 ghost use Rattle.mte_tests.specs.Tenants.{IsReady};
 
 use crate::calls::{Answer, Call, reply};
@@ -67,15 +67,11 @@ pub(crate) fn new_table(pool: &mut FramePool, quota: &mut Quota) -> Option<Table
 
 pub(crate) fn has_room(pool: &FramePool, table: &Table, quota: &Quota) -> bool
     ensures { IsTrue result
-        → (table.now.len ≤ 5)
-        × (taken_by pool.now quota.now + (2 * 5 - table.now.len - table.now.leaves)
-        ≤ reserved_by pool.now quota.now) }
+        → (table.now.len ≤ 5) × HasFrames pool.now quota.now table.now 5 }
 {
     let free = pool.reserved(quota).saturating_sub(pool.taken(quota));
-    let wanted = 2 * PAGES - table.len().min(5);
-    table.len() <= PAGES
-        && pool.taken(quota) <= pool.reserved(quota)
-        && wanted.saturating_sub(table.leaves()) <= free
+    let to_come = PAGES.saturating_sub(table.len()) + PAGES.saturating_sub(table.leaves());
+    table.len() <= PAGES && pool.taken(quota) <= pool.reserved(quota) && to_come <= free
 }
 
 /// A tenant's memory answers a call.
