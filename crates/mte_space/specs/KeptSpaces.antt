@@ -7,7 +7,7 @@ use Rattle.mte_frames.proofs.Keeps.{keeps_self, keeps_on}
 use Rattle.mte_translate.specs.Tables.{Root}
 use Rattle.mte_translate.specs.declared.translation.Translation.{Translation}
 use Rattle.mte_space.specs.Spaces.{KeepsRest, NoneEnters}
-use Rattle.mte_space.specs.SpaceMemory.{IsKept}
+use Rattle.mte_space.specs.SpaceMemory.{IsKept, SameBorrows}
 use Rattle.mte_space.specs.declared.space.Space.{Space}
 
 pub rest_same : (k : ℕ) (p : Pool) (t : Root) → KeepsRest k p p t t
@@ -43,13 +43,12 @@ none_enters_on asid ts us vs h k =
     All-weaker (λ v. v.asid ≢ asid → Contains us v) (λ v. v.asid ≢ asid → Contains ts v)
     (λ v c d. All-contains (λ u. u.asid ≢ asid → Contains ts u) us v h (c d) d) vs k
 
+pub same_borrows : (a : Space) → SameBorrows a a
+same_borrows a = record { pool = refl; table = refl; quota = refl; tlb = refl; state = refl }
+
 pub kept_same : (a : Space) → IsKept a a
 kept_same a = record {
-  same_pool = refl;
-  same_table = refl;
-  same_quota = refl;
-  same_tlb = refl;
-  same_state = refl;
+  borrows = same_borrows a;
   asid = refl;
   limit = refl;
   quota = refl;
@@ -59,11 +58,13 @@ kept_same a = record {
 
 pub kept_on : (a b c : Space) → IsKept a b → IsKept b c → IsKept a c
 kept_on a b c h k = record {
-  same_pool = k.same_pool ∙ h.same_pool;
-  same_table = k.same_table ∙ h.same_table;
-  same_quota = k.same_quota ∙ h.same_quota;
-  same_tlb = k.same_tlb ∙ h.same_tlb;
-  same_state = k.same_state ∙ h.same_state;
+  borrows = record {
+    pool = k.borrows.pool ∙ h.borrows.pool;
+    table = k.borrows.table ∙ h.borrows.table;
+    quota = k.borrows.quota ∙ h.borrows.quota;
+    tlb = k.borrows.tlb ∙ h.borrows.tlb;
+    state = k.borrows.state ∙ h.borrows.state;
+  };
   asid = k.asid ∙ h.asid;
   limit = k.limit ∙ h.limit;
   quota = k.quota ∙ h.quota;

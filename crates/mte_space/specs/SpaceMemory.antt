@@ -13,13 +13,18 @@ use Rattle.mte_space.specs.declared.space.Space.{Space}
 abbrev pub memory_of : Space → Memory
 memory_of s = space_memory s.pool.now s.table.now s.limit s.state.now
 
+-- A ghost name says which borrow a reference is, whatever is written through it: so who lent it
+-- has what was written last.
+pub record SameBorrows (a b : Space) : Type 0 where
+  pub pool : b.pool.ghost_name ≡ a.pool.ghost_name
+  pub table : b.table.ghost_name ≡ a.table.ghost_name
+  pub quota : b.quota.ghost_name ≡ a.quota.ghost_name
+  pub tlb : b.tlb.ghost_name ≡ a.tlb.ghost_name
+  pub state : b.state.ghost_name ≡ a.state.ghost_name
+
 -- the borrows are the same, and what they hold beside the memory stays
 pub record IsKept (a b : Space) : Type 0 where
-  pub same_pool : b.pool.ghost_name ≡ a.pool.ghost_name
-  pub same_table : b.table.ghost_name ≡ a.table.ghost_name
-  pub same_quota : b.quota.ghost_name ≡ a.quota.ghost_name
-  pub same_tlb : b.tlb.ghost_name ≡ a.tlb.ghost_name
-  pub same_state : b.state.ghost_name ≡ a.state.ghost_name
+  pub borrows : SameBorrows a b
   pub asid : b.asid ≡ a.asid
   pub limit : b.limit ≡ a.limit
   pub quota : b.quota.now ≡ a.quota.now

@@ -11,19 +11,17 @@ use Rattle.tombolopan_c.specs.declared.lent_page.LentPage.{LentPage}
 abbrev pub memory_of : Lent → Memory
 memory_of l = lent_memory (state_of l.state.now) l.pages.now
 
--- the borrows are the same
-pub record IsKept (a b : Lent) : Type 0 where
-  pub same_pages : b.pages.ghost_name ≡ a.pages.ghost_name
-  pub same_state : b.state.ghost_name ≡ a.state.ghost_name
+-- A ghost name says which borrow a reference is, whatever is written through it: so who lent it
+-- has what was written last.
+pub record SameBorrows (a b : Lent) : Type 0 where
+  pub pages : b.pages.ghost_name ≡ a.pages.ghost_name
+  pub state : b.state.ghost_name ≡ a.state.ghost_name
 
-pub kept_same : (a : Lent) → IsKept a a
-kept_same a = record { same_pages = refl; same_state = refl }
+pub kept_same : (a : Lent) → SameBorrows a a
+kept_same a = record { pages = refl; state = refl }
 
-pub kept_on : (a b c : Lent) → IsKept a b → IsKept b c → IsKept a c
-kept_on a b c h k = record {
-  same_pages = k.same_pages ∙ h.same_pages;
-  same_state = k.same_state ∙ h.same_state;
-}
+pub kept_on : (a b c : Lent) → SameBorrows a b → SameBorrows b c → SameBorrows a c
+kept_on a b c h k = record { pages = k.pages ∙ h.pages; state = k.state ∙ h.state }
 
 -- a memory over these borrows
 pub record IsOver (l : Lent) (pages : MutBor (List LentPage)) (state : MutBor LentTagState)

@@ -45,12 +45,12 @@ impl<'a> Lent<'a> {
 }
 
 impl PageStore for Lent<'_> {
-    ghost use Rattle.tombolopan_c.specs.LentMemory.{memory_of, IsKept, kept_same, kept_on};
+    ghost use Rattle.tombolopan_c.specs.LentMemory.{memory_of, SameBorrows, kept_same, kept_on};
     ghost use Rattle.tombolopan_c.specs.LentPlaces.{IsPlace, number_in, page_in};
 
     ghost memory = { memory_of };
 
-    ghost kept = { IsKept };
+    ghost kept = { SameBorrows };
 
     ghost is_place = { IsPlace };
 

@@ -39,11 +39,7 @@ pub returns-clause-kept : goal.returns-clause-kept
 returns-clause-kept c =
     let s = c.args.self.now in
     record {
-      same_pool = refl;
-      same_table = refl;
-      same_quota = refl;
-      same_tlb = refl;
-      same_state = refl;
+      borrows = record { pool = refl; table = refl; quota = refl; tlb = refl; state = refl };
       asid = refl;
       limit = refl;
       quota = refl;
