@@ -130,21 +130,19 @@ with_regs p regs = record p { regs = regs }
 
 -- One attempted instruction, after which so many steps of the slice are left.
 unfoldable pub after_attempt : ℕ → Machine → Attempt
-after_attempt left m = after_outcome (step_of m.parts.regs m.memory).outcome
-    (machine_of
-    (with_steps 1 left (with_regs m.parts (step_of m.parts.regs m.memory).regs))
-    (step_of m.parts.regs m.memory).memory)
+after_attempt left m =
+    let step = step_of m.parts.regs m.memory in
+    after_outcome step.outcome
+    (machine_of (with_steps 1 left (with_regs m.parts step.regs)) step.memory)
 
 -- ---- a slice
 
 -- At most n attempted instructions, while it is running and has not yielded.
 unfoldable pub after_attempts : ℕ → Machine → Machine
 after_attempts zero m = m
-after_attempts (suc n) m = if runs m
-    then (if (after_attempt n m).goes_on
-    then after_attempts n (after_attempt n m).machine
-    else (after_attempt n m).machine)
-    else m
+after_attempts (suc n) m =
+    let a = after_attempt n m in
+    if runs m then (if a.goes_on then after_attempts n a.machine else a.machine) else m
 
 -- Where the flag is set at the end of a slice, a tenant that is still running ends.
 abbrev pub stop_if_pending : Machine → Machine

@@ -17,7 +17,8 @@ with_shown log more = option_map (λ shown. shown ++ more) log
 -- What a slice of n steps shows: each attempt once, in order.
 unfoldable pub shown_of : ℕ → Machine → List Shown
 shown_of zero m = []
-shown_of (suc n) m = if runs m
-    then Before m ∷ After (after_attempt n m).machine
-    ∷ (if (after_attempt n m).goes_on then shown_of n (after_attempt n m).machine else [])
+shown_of (suc n) m =
+    let a = after_attempt n m in
+    if runs m
+    then Before m ∷ After a.machine ∷ (if a.goes_on then shown_of n a.machine else [])
     else []
