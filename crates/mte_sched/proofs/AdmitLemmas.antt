@@ -1,5 +1,5 @@
 -- An admission beside the tenants that are there.
-use Rattle.std.proofs.Common.{◌≡◌, ◌≢◌, ℕ, zero, suc, ◌+◌, ◌==◌, true, false, List, [], ◌∷◌, ◌++◌, length, sum, sum_by}
+use Rattle.std.proofs.Common.{◌≡◌, ◌≢◌, ℕ, zero, suc, ◌+◌, ◌==◌, Bool, true, false, List, [], ◌∷◌, ◌++◌, length, sum, sum_by}
 use Rattle.std.specs.declared.alloc.Global.{Global}
 use Rattle.std.proofs.Common.{Box, Some, cond, count_by, None, refl, ap, sym, subst, ◌∙◌, arith}
 use Rattle.std.specs.Prelude.{All}
@@ -17,6 +17,7 @@ use Rattle.mte_sched.specs.declared.place.TenantMemory.{TenantMemory}
 use Rattle.mte_sched.specs.declared.tenant.Tenant as code
 use Rattle.mte_sched.specs.declared.tenant.Live.{Live}
 use Rattle.mte_sched.specs.declared.tenant.Holding.TheVariants as kept
+use Rattle.mte_tenant.specs.declared.admission.LedgerFacts.{LedgerFacts}
 use Rattle.mte_tenant.specs.Machines.{Start, first_parts, first_memory, start_of}
 use Rattle.mte_tenant.specs.Ledger.{charge_of_entry, charge_of, has_id, is_live}
 use Rattle.mte_sched.specs.Contents.{new_tenant}
@@ -28,6 +29,11 @@ use Rattle.mte_sched.proofs.PlaceLists.{has_more, some_same, map_same}
 use Rattle.mte_sched.proofs.EachLemmas.{or_left, or_right}
 use Rattle.mte_sched.proofs.TurnLemmas.{live_same}
 use Rattle.mte_sched.proofs.SharingLemmas.{Turn, tenant_stays, cached_after, sharing_after}
+
+-- What a ledger tells, by its parts.
+pub facts_same : (b c : Bool) (k l m n : ℕ) → b ≡ c → k ≡ l → m ≡ n
+    → (let f : LedgerFacts = record { known = b; left = k; live = m } in f) ≡ record { known = c; left = l; live = n }
+facts_same b c k l m n e f g = rw (e, f, g) refl
 
 -- No translation is of an ASID that no tenant has.
 pub fresh_asid : (p : Pool) (us : List Translation) (ts : List code.Tenant) → IsSharing p us ts → All (λ u. u.asid ≢ length ts) us

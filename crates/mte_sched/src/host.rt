@@ -1,17 +1,14 @@
 //! The host: admission, slices, stops.
 
-ghost use Rattle.std.specs.Prelude.{◌≡◌, ℕ, ◌⊎◌, ◌-◌, ◌+◌, ◌<◌, ◌≤◌, ◌↔◌, IfOk, IfErr, Err, OnOk};
-ghost use Rattle.std.specs.Prelude.{OnErr, IsOk, IfSome, Some, None, true, false, length, sum_by};
-ghost use Rattle.std.specs.Prelude.{count_by, option_copied, option_map};
+ghost use Rattle.std.specs.Prelude.{◌≡◌, ℕ, ◌⊎◌, ◌<◌, ◌↔◌, IfOk, IfErr, Err, OnOk, OnErr, IsOk};
+ghost use Rattle.std.specs.Prelude.{IfSome, Some, None, true, false, length, count_by};
+ghost use Rattle.std.specs.Prelude.{option_copied, option_map};
 ghost use Rattle.std.specs.Option.{option_copied_mut};
 ghost use Rattle.std.specs.Borrow.{sem};
 ghost use Rattle.std.specs.List.{list_any};
 ghost use Rattle.obstacle.specs.Obstacles.{IfRefused};
-ghost use Rattle.mte_elf.specs.Headers.{entry_of, segments_of};
-ghost use Rattle.mte_elf.specs.Images.{refusal_of, pages_of};
-ghost use Rattle.mte_tenant.specs.Ledger.{admission_refusal, has_id, has_live_id, is_bad};
-ghost use Rattle.mte_tenant.specs.Ledger.{charge_of_entry};
-ghost use Rattle.mte_tenant.specs.Ledger.{is_live, charge_of, numbers_of};
+ghost use Rattle.mte_tenant.specs.Ledger.{admission_refusal, facts_of, has_id, has_live_id};
+ghost use Rattle.mte_tenant.specs.Ledger.{is_bad, is_live, numbers_of};
 ghost use Rattle.mte_sched.specs.Tenants.{entries_in, tenants_in};
 ghost use Rattle.mte_tenant.specs.Admissions.{start_in};
 ghost use Rattle.mte_sched.specs.Sharing.{IsSharing, IsIndexed, HasId, HasLiveAt};
@@ -21,15 +18,11 @@ use crate::place::start_place;
 use crate::tenant::{Holding, Live, Tenant};
 use crate::turns::{slice_at, stop_at};
 use a64_step::OpCache;
-use address_map::{MAX_FRAMES, MAX_PAGES, STACK_PAGES};
+use address_map::MAX_FRAMES;
 use mte_arena::{Arena, ArenaError, FRAME_BYTES};
-use mte_elf::Plan;
 use mte_frames::FramePool;
 use mte_svc::Record;
-use mte_tenant::{
-    Admission, AdmitError, MAX_LIVE, NotLive, charge, holds_image, is_bad_reservation, plan_of,
-    start_parts,
-};
+use mte_tenant::{Admission, AdmitError, LedgerFacts, NotLive, accept, start_parts};
 use mte_translate::Tlb;
 use obstacle::Obstacle;
 use scudo_heap::condition_of_calls;
@@ -105,7 +98,7 @@ impl Host {
         ensures err { OnErr result (content_of self.new ≡ content_of self.old) }
     {
         condition_of_calls();
-        let plan = self.accept(alloc, admission)?;
+        let plan = accept(alloc, admission, self.ledger_facts(admission.id))?;
         let first = start_parts(alloc, admission, &plan)?;
         let parts = Box::new(alloc, first)?;
         self.tenants.reserve(1)?;
@@ -118,56 +111,6 @@ impl Host {
         });
         self.live += 1;
         Ok(())
-    }
-
-    /// The plan of an admission's image, or the first refusal that applies.
-    #[tactic(auto, unfolding(mte_tenant::specs::Ledger::admission_refusal))]
-    fn accept(&self, alloc: Global, admission: &Admission<'_>) -> Result<Plan, Obstacle<AdmitError>>
-        ensures accepted { OnOk result (admission_refusal (length self.now.pool.frames)
-            (entries_in self.now.tenants.items) admission.now.id (start_in admission.now)
-            ≡ None) }
-        ensures image { IfOk result (λ p. refusal_of admission.now.image.now ≡ None) }
-        ensures entry { IfOk result (λ p. p.entry ≡ entry_of admission.now.image.now) }
-        ensures segments { IfOk result
-            (λ p. p.segments.items ≡ segments_of admission.now.image.now) }
-        ensures room { IfOk result
-            (λ p. pages_of admission.now.image.now + STACK_PAGES ≤ admission.now.terms.pages) }
-        ensures fresh { IfOk result
-            (λ p. list_any (has_id admission.now.id) (entries_in self.now.tenants.items)
-            ≡ false) }
-        ensures good { IfOk result (λ p. is_bad admission.now.terms ≡ false) }
-        ensures some { IfOk result (λ p. 0 < admission.now.terms.pages) }
-        ensures most { IfOk result (λ p. admission.now.terms.pages ≤ MAX_PAGES) }
-        ensures frames { IfOk result (λ p. charge_of admission.now.terms.pages
-            ≤ length self.now.pool.frames - sum_by charge_of_entry
-            (entries_in self.now.tenants.items)) }
-        ensures few { IfOk result
-            (λ p. count_by is_live (entries_in self.now.tenants.items) < MAX_LIVE) }
-        ensures refused { IfErr result (λ o. IfRefused o (λ e.
-            admission_refusal (length self.now.pool.frames)
-            (entries_in self.now.tenants.items) admission.now.id (start_in admission.now)
-            ≡ Some e)) }
-        ensures memory { (result ≡ Err Obstacle.OutOfMemory)
-            → (list_any (has_id admission.now.id) (entries_in self.now.tenants.items) ≡ false)
-            × (is_bad admission.now.terms ≡ false) }
-    {
-        if self.knows(admission.id) {
-            return Err(Obstacle::Refused(AdmitError::Duplicate));
-        }
-        if is_bad_reservation(admission) {
-            return Err(Obstacle::Refused(AdmitError::BadReservation));
-        }
-        let plan = plan_of(alloc, admission.image)?;
-        if !holds_image(admission.terms.pages, plan.pages) {
-            return Err(Obstacle::Refused(AdmitError::ReservationTooSmall));
-        }
-        if charge(admission.terms.pages) > self.unreserved() {
-            return Err(Obstacle::Refused(AdmitError::NoFrames));
-        }
-        if self.live >= MAX_LIVE {
-            return Err(Obstacle::Refused(AdmitError::TooManyLive));
-        }
-        Ok(plan)
     }
 
     /// Lets a live tenant attempt at most `steps` instructions; one that has ended does nothing. It
@@ -265,11 +208,16 @@ impl Host {
         &self.pool
     }
 
-    /// Whether a tenant with the number was admitted.
-    fn knows(&self, id: u16) -> bool
-        ensures { result ≡ list_any (has_id id) (entries_in self.now.tenants.items) }
+    /// What the ledger tells of an admission with the number.
+    fn ledger_facts(&self, id: u16) -> LedgerFacts
+        ensures { result ≡ facts_of (length self.now.pool.frames)
+            (entries_in self.now.tenants.items) id }
     {
-        self.find(id).is_some()
+        LedgerFacts {
+            known: self.find(id).is_some(),
+            left: self.pool.unreserved() as u64,
+            live: self.live,
+        }
     }
 
     /// The tenant that was admitted with the number.
@@ -308,13 +256,5 @@ impl Host {
     {
         let tenant = self.find(id)?;
         tenant.find_frame(&self.pool, page)
-    }
-
-    /// How many frames live tenants leave.
-    fn unreserved(&self) -> u64
-        ensures { result ≡ length self.now.pool.frames
-            - sum_by charge_of_entry (entries_in self.now.tenants.items) }
-    {
-        self.pool.unreserved() as u64
     }
 }

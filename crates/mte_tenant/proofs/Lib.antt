@@ -1,3 +1,4 @@
 pub mod MachineLemmas
 mod AloneLemmas
 pub mod FirstLemmas
+pub mod Refusals

@@ -1,13 +1,14 @@
 -- The ledger of admissions: which events are accepted, and why one is refused. It has numbers,
 -- reservations and stops, and no machine: what a tenant does cannot change it.
-use Rattle.std.specs.Prelude.{ℕ, ◌+◌, ◌-◌, ◌*◌, ◌==◌, nat_lt, ◌&&◌, ◌||◌, Bool, true, false, List}
-use Rattle.std.specs.Prelude.{[], ◌∷◌, ◌++◌, map, sum_by, count_by, Option, Some, None, option_map}
-use Rattle.std.specs.Prelude.{if◌then◌else◌}
+use Rattle.std.specs.Prelude.{ℕ, ◌+◌, ◌-◌, ◌*◌, ◌==◌, nat_lt, nat_le, ◌&&◌, ◌||◌, Bool, true}
+use Rattle.std.specs.Prelude.{false, List, [], ◌∷◌, ◌++◌, map, sum_by, count_by, Option, Some, None}
+use Rattle.std.specs.Prelude.{option_map, if◌then◌else◌}
 use Rattle.std.specs.List.{list_any}
 use Rattle.address_map.specs.declared.limits.TheConstants.{MAX_PAGES, MAX_OUTPUT}
 use Rattle.address_map.specs.declared.ranges.TheConstants.{STACK_PAGES}
 use Rattle.mte_elf.specs.Images.{refusal_of, pages_of}
 use Rattle.mte_tenant.specs.declared.admission.TheConstants.{MAX_LIVE}
+use Rattle.mte_tenant.specs.declared.admission.LedgerFacts.{LedgerFacts}
 use Rattle.mte_tenant.specs.declared.admission.AdmitError.{AdmitError}
 use Rattle.mte_tenant.specs.declared.admission.AdmitError.TheVariants.{Duplicate, BadReservation}
 use Rattle.mte_tenant.specs.declared.admission.AdmitError.TheVariants.{Image, ReservationTooSmall}
@@ -64,17 +65,29 @@ refuse_if test e = if test then Some e else None
 abbrev pub is_bad : Terms → Bool
 is_bad t = (t.pages == 0) || nat_lt MAX_PAGES t.pages || nat_lt MAX_OUTPUT t.room
 
--- Why an admission to a host of so many frames is refused, if it is.
-unfoldable pub admission_refusal : ℕ → List LedgerEntry → ℕ → Start → Option AdmitError
-admission_refusal frames ledger id start = first_of (
-    refuse_if (list_any (has_id id) ledger) Duplicate
+-- What the ledger of a host of so many frames tells of an admission with a number.
+abbrev pub facts_of : ℕ → List LedgerEntry → ℕ → LedgerFacts
+facts_of frames ledger id = record {
+  known = list_any (has_id id) ledger;
+  left = frames - sum_by charge_of_entry ledger;
+  live = count_by is_live ledger;
+}
+
+-- What an admission is tested for, in this order, each test with its refusal.
+abbrev pub admission_tests : LedgerFacts → Start → List (Option AdmitError)
+admission_tests facts start =
+    refuse_if facts.known Duplicate
     ∷ refuse_if (is_bad start.terms) BadReservation
     ∷ option_map Image (refusal_of start.image)
     ∷ refuse_if (nat_lt start.terms.pages (pages_of start.image + STACK_PAGES)) ReservationTooSmall
-    ∷ refuse_if (nat_lt (frames - sum_by charge_of_entry ledger) (charge_of start.terms.pages))
-    NoFrames
-    ∷ refuse_if (nat_lt (MAX_LIVE - 1) (count_by is_live ledger)) TooManyLive
-    ∷ [])
+    ∷ refuse_if (nat_lt facts.left (charge_of start.terms.pages)) NoFrames
+    ∷ refuse_if (nat_le MAX_LIVE facts.live) TooManyLive
+    ∷ []
+
+-- Why an admission to a host of so many frames is refused, if it is.
+unfoldable pub admission_refusal : ℕ → List LedgerEntry → ℕ → Start → Option AdmitError
+admission_refusal frames ledger id start =
+    first_of (admission_tests (facts_of frames ledger id) start)
 
 abbrev pub unless_live : Bool → Option Refusal
 unless_live live = if live then None else Some refusal.NotLive

@@ -1,11 +1,20 @@
 //! What a tenant is admitted with, and why it is refused.
 
-ghost use Rattle.std.specs.Prelude.{◌≡◌, Some};
-ghost use Rattle.mte_tenant.specs.Ledger.{charge_of};
+ghost use Rattle.std.specs.Prelude.{◌≡◌, ◌↔◌, ◌+◌, ◌<◌, ◌≤◌, IfOk, IfErr, OnOk, IsErrOf, Some};
+ghost use Rattle.std.specs.Prelude.{None, IsTrue, false, option_map};
+ghost use Rattle.obstacle.specs.Obstacles.{IfRefused};
+ghost use Rattle.mte_elf.specs.Headers.{entry_of, segments_of};
+ghost use Rattle.mte_elf.specs.Images.{refusal_of, pages_of};
+ghost use Rattle.mte_tenant.specs.declared.admission.AdmitError.TheVariants.{Image};
+ghost use Rattle.mte_tenant.specs.Admissions.{start_in};
+ghost use Rattle.mte_tenant.specs.Ledger.{charge_of, is_bad, first_of, admission_tests};
 ghost use Rattle.mte_tenant.specs.Names.{admit_name, not_live_name};
 
 use crate::refusal::Refusal;
-use mte_elf::ElfError;
+use address_map::{MAX_OUTPUT, MAX_PAGES, STACK_PAGES};
+use mte_elf::{ElfError, Plan, plan};
+use obstacle::Obstacle;
+use std::alloc::Global;
 use std::error::Error;
 use std::fmt;
 use tenant_terms::Terms;
@@ -29,6 +38,17 @@ pub struct Admission<'a> {
     pub input: &'a [u8],
     /// Its seed, reservation, room and tag mode.
     pub terms: Terms,
+}
+
+/// What a ledger tells of an admission.
+#[derive(Clone, Copy)]
+pub struct LedgerFacts {
+    /// Whether its number was admitted before, stopped or not.
+    pub known: bool,
+    /// How many frames live tenants leave.
+    pub left: u64,
+    /// How many tenants are live.
+    pub live: usize,
 }
 
 /// Why an admission is refused, in the order in which it is tested. A refusal changes nothing.
@@ -93,4 +113,84 @@ pub fn charge(pages: u32) -> u64
     ensures { result ≡ charge_of pages }
 {
     2 * u64::from(pages) + 1
+}
+
+/// The plan of an admission's image, or the first refusal that applies. Only `OutOfMemory`, where
+/// an allocation failed, can come in place of the refusals from `Image` on.
+pub fn accept(
+    alloc: Global,
+    admission: &Admission<'_>,
+    facts: LedgerFacts,
+) -> Result<Plan, Obstacle<AdmitError>>
+    ensures accepted { OnOk result
+        (first_of (admission_tests facts (start_in admission.now)) ≡ None) }
+    ensures entry { IfOk result (λ p. p.entry ≡ entry_of admission.now.image.now) }
+    ensures segments { IfOk result (λ p. p.segments.items ≡ segments_of admission.now.image.now) }
+    ensures image { OnOk result (refusal_of admission.now.image.now ≡ None) }
+    ensures room { OnOk result
+        (pages_of admission.now.image.now + STACK_PAGES ≤ admission.now.terms.pages) }
+    ensures fresh { OnOk result (facts.known ≡ false) }
+    ensures good { OnOk result (is_bad admission.now.terms ≡ false) }
+    ensures some { OnOk result (0 < admission.now.terms.pages) }
+    ensures most { OnOk result (admission.now.terms.pages ≤ MAX_PAGES) }
+    ensures frames { OnOk result (charge_of admission.now.terms.pages ≤ facts.left) }
+    ensures few { OnOk result (facts.live < MAX_LIVE) }
+    ensures refused { IfErr result (λ o. IfRefused o (λ e.
+        first_of (admission_tests facts (start_in admission.now)) ≡ Some e)) }
+    ensures memory { IsErrOf result Obstacle.OutOfMemory
+        → (facts.known ≡ false) × (is_bad admission.now.terms ≡ false) }
+{
+    if facts.known {
+        return Err(Obstacle::Refused(AdmitError::Duplicate));
+    }
+    if is_bad_reservation(admission) {
+        return Err(Obstacle::Refused(AdmitError::BadReservation));
+    }
+    let plan = plan_of(alloc, admission.image)?;
+    if !holds_image(admission.terms.pages, plan.pages) {
+        return Err(Obstacle::Refused(AdmitError::ReservationTooSmall));
+    }
+    if charge(admission.terms.pages) > facts.left {
+        return Err(Obstacle::Refused(AdmitError::NoFrames));
+    }
+    if facts.live >= MAX_LIVE {
+        return Err(Obstacle::Refused(AdmitError::TooManyLive));
+    }
+    Ok(plan)
+}
+
+/// Whether a reservation or a room is out of its limits.
+pub fn is_bad_reservation(admission: &Admission<'_>) -> bool
+    ensures bad { result ≡ is_bad admission.now.terms }
+    ensures some { result ≡ false → 0 < admission.now.terms.pages }
+    ensures most { result ≡ false → admission.now.terms.pages ≤ MAX_PAGES }
+{
+    let (pages, room) = (
+        u64::from(admission.terms.pages),
+        u64::from(admission.terms.room),
+    );
+    pages == 0 || pages > MAX_PAGES || room > MAX_OUTPUT
+}
+
+/// An image's plan, or its refusal as one of the admission.
+fn plan_of(alloc: Global, image: &[u8]) -> Result<Plan, Obstacle<AdmitError>>
+    ensures image { IfOk result (λ p. refusal_of image.now ≡ None) }
+    ensures entry { IfOk result (λ p. p.entry ≡ entry_of image.now) }
+    ensures pages { IfOk result (λ p. p.pages ≡ pages_of image.now) }
+    ensures segments { IfOk result (λ p. p.segments.items ≡ segments_of image.now) }
+    ensures refused { IfErr result (λ o.
+        IfRefused o (λ e. option_map Image (refusal_of image.now) ≡ Some e)) }
+{
+    match plan(alloc, image) {
+        Ok(plan) => Ok(plan),
+        Err(Obstacle::OutOfMemory) => Err(Obstacle::OutOfMemory),
+        Err(Obstacle::Refused(error)) => Err(Obstacle::Refused(AdmitError::Image(error))),
+    }
+}
+
+/// Whether a reservation holds an image's pages and a stack's.
+fn holds_image(reservation: u32, pages: u64) -> bool
+    ensures { IsTrue result ↔ (pages + STACK_PAGES ≤ reservation) }
+{
+    u128::from(pages) + u128::from(STACK_PAGES) <= u128::from(reservation)
 }

@@ -4,17 +4,14 @@ ghost use Rattle.std.specs.Prelude.{◌≡◌, ◌<◌, [], ◌∷◌, Some, Non
 ghost use Rattle.std.specs.Prelude.{IfOk, IfErr, IsErrOf, OnOk, OnErr};
 ghost use Rattle.obstacle.specs.Obstacles.{IfRefused};
 ghost use Rattle.mte_tags.specs.Memory.{no_pages};
-ghost use Rattle.mte_elf.specs.Headers.{segments_of, entry_of};
-ghost use Rattle.mte_elf.specs.Images.{refusal_of, pages_of};
 ghost use Rattle.scudo_heap.specs.Served.{HeapOwnsItsPages};
 ghost use Rattle.mte_svc.specs.Results.{is_running};
-ghost use Rattle.mte_tenant.specs.Ledger.{admission_refusal, charge_of, is_bad};
+ghost use Rattle.mte_tenant.specs.Ledger.{admission_refusal, charge_of, facts_of, is_bad};
 ghost use Rattle.mte_tenant.specs.Machines.{machine_of, start_of, after_attempt, after_slice};
 ghost use Rattle.mte_tenant.specs.Watched.{WatchLog, with_shown, shown_of, Before, After};
 ghost use Rattle.mte_tenant.specs.Admissions.{start_in};
 
-use crate::accepting::{holds_image, is_bad_reservation, plan_of};
-use crate::admission::{Admission, AdmitError};
+use crate::admission::{Admission, AdmitError, LedgerFacts, accept, charge};
 use crate::machine::{fill, handle, settle, start_parts};
 use a64_step::{Decoder, run, steps_keep_pages};
 use mte_svc::TenantParts;
@@ -71,13 +68,7 @@ pub fn admit_alone<M: Paged>(
     ensures kept { M.Tagged.kept memory.old memory.new }
 {
     condition_of_calls();
-    if is_bad_reservation(admission) {
-        return Err(Obstacle::Refused(AdmitError::BadReservation));
-    }
-    let plan = plan_of(alloc, admission.image)?;
-    if !holds_image(admission.terms.pages, plan.pages) {
-        return Err(Obstacle::Refused(AdmitError::ReservationTooSmall));
-    }
+    let plan = accept(alloc, admission, facts_alone(admission))?;
     let parts = start_parts(alloc, admission, &plan)?;
     fill(
         &plan,
@@ -87,6 +78,17 @@ pub fn admit_alone<M: Paged>(
         memory,
     );
     Ok(parts)
+}
+
+/// What the ledger of a host tells that has no tenant and just the frames of the charge.
+fn facts_alone(admission: &Admission<'_>) -> LedgerFacts
+    ensures { result ≡ facts_of (charge_of admission.now.terms.pages) [] admission.now.id }
+{
+    LedgerFacts {
+        known: false,
+        left: charge(admission.terms.pages),
+        live: 0,
+    }
 }
 
 /// A slice that is watched: what `slice` makes of the machine, whatever watches it. Each attempt is

@@ -2,14 +2,15 @@
 //! its own.
 #![tactic(auto)]
 
-mod accepting;
 mod admission;
 mod alone;
 mod machine;
 mod refusal;
 
-pub use accepting::{holds_image, is_bad_reservation, plan_of};
-pub use admission::{Admission, AdmitError, MAX_LIVE, NotLive, charge, live_limit_in_digits};
+pub use admission::{
+    Admission, AdmitError, LedgerFacts, MAX_LIVE, NotLive, accept, charge, is_bad_reservation,
+    live_limit_in_digits,
+};
 pub use alone::{Watch, admit_alone, attempt, slice_watched};
 pub use machine::{fill, halt, settle, slice, start_parts};
 pub use mte_svc::{Output, Record, Status, TenantParts};

@@ -4,7 +4,7 @@ use crate::images::{COUNTS, image};
 use mte_flat::Flat;
 use mte_tags::TagMode;
 use mte_tenant::{
-    Admission, Status, Terms, charge, fill, halt, holds_image, is_bad_reservation, plan_of,
+    Admission, LedgerFacts, Status, Terms, accept, charge, fill, halt, is_bad_reservation,
     start_parts,
 };
 use std::test::Fail;
@@ -28,8 +28,12 @@ fn calls_of_a_host(rt: HostRuntime) -> Result<(), Fail> {
     };
     assert!(rt; !is_bad_reservation(&admission));
     assert_eq!(rt; charge(admission.terms.pages), 121);
-    let plan = plan_of(alloc, admission.image)?;
-    assert!(rt; holds_image(admission.terms.pages, plan.pages));
+    let facts = LedgerFacts {
+        known: false,
+        left: 121,
+        live: 0,
+    };
+    let plan = accept(alloc, &admission, facts)?;
     let mut parts = start_parts(alloc, &admission, &plan)?;
     let mut memory = Flat::new(alloc, 60, TagMode::Sync)?;
     fill(

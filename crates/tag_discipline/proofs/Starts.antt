@@ -1,9 +1,5 @@
 -- A tenant whose admission is accepted starts Sound.
-use Rattle.std.proofs.Common.{◌≡◌, ℕ, ◌+◌, ◌-◌, ◌/◌, ◌^◌, ◌≤◌, ◌==◌, nat_lt, Bool, true, false, Option, Some, None, List, [], ◌∷◌, refl, ap, ◌∙◌, arith}
-use Rattle.std.specs.Prelude.{option_map, sum_by, count_by}
-use Rattle.std.specs.List.{list_any}
-use Rattle.std.proofs.lemmas.Bool.{ltb-false}
-use Rattle.address_map.specs.declared.limits.TheConstants.{MAX_PAGES, MAX_OUTPUT}
+use Rattle.std.proofs.Common.{◌≡◌, ℕ, ◌+◌, ◌/◌, ◌^◌, ◌≤◌, None, List, ap, ◌∙◌, arith}
 use Rattle.address_map.specs.declared.ranges.TheConstants.{STACK_PAGES}
 use Rattle.mte_tags.specs.Memory.{Memory, page_at, pages_left, no_pages}
 use Rattle.mte_tags.specs.Whole.{IsWhole}
@@ -16,46 +12,14 @@ use Rattle.mte_tags.proofs.Whole.{whole-no_pages, whole-with_new_pages}
 use Rattle.mte_elf.specs.Headers.{segments_of, entry_of}
 use Rattle.mte_elf.specs.Images.{refusal_of, pages_of}
 use Rattle.mte_elf.specs.Loading.{with_segments}
-use Rattle.mte_elf.specs.declared.error.ElfError.{ElfError}
-use Rattle.mte_elf.proofs.LoadingLemmas.{image_above, image_left, or_false}
+use Rattle.mte_elf.proofs.LoadingLemmas.{image_above, image_left}
 use Rattle.mte_elf.proofs.WholeLemmas.{image_whole, limit-with_segments, state-with_segments}
 use Rattle.scudo_heap.specs.Served.{IsUntouched}
-use Rattle.mte_tenant.specs.declared.admission.TheConstants.{MAX_LIVE}
-use Rattle.mte_tenant.specs.declared.admission.AdmitError.TheVariants.{Duplicate, BadReservation, Image, ReservationTooSmall, NoFrames, TooManyLive}
 use Rattle.mte_tenant.specs.Machines.{Start, start_of, first_memory, first_parts, first_registers}
-use Rattle.mte_tenant.specs.Ledger.{LedgerEntry, charge_of, charge_of_entry, is_live, has_id, first_of, refuse_if, is_bad, admission_refusal}
 use Rattle.mte_tenant.proofs.MachineLemmas.{none-no_pages, left-no_pages, limit-no_pages, attrs-none}
+use Rattle.mte_tenant.proofs.Refusals.{Passed, passed}
 use Rattle.tag_discipline.specs.Discipline.{IsNew, TenantsStartSound}
 use Rattle.tag_discipline.proofs.Disciplines.{starts}
-
--- ---- what an accepted admission passed
-
-no-refusal : (old bad small full many : Bool) (o : Option ElfError)
-    → first_of (refuse_if old Duplicate ∷ refuse_if bad BadReservation ∷ option_map Image o ∷ refuse_if small ReservationTooSmall ∷ refuse_if full NoFrames ∷ refuse_if many TooManyLive ∷ []) ≡ None
-    → (bad ≡ false) × (o ≡ None) × (small ≡ false)
-no-refusal true bad small full many o h = absurd cc
-no-refusal false true small full many o h = absurd cc
-no-refusal false false small full many (Some e) h = absurd cc
-no-refusal false false true full many None h = absurd cc
-no-refusal false false false full many None h = (refl, refl, refl)
-
-record Passed (t : Start) : Type 0 where
-  image : refusal_of t.image ≡ None
-  room : pages_of t.image + STACK_PAGES ≤ t.terms.pages
-  most : t.terms.pages ≤ MAX_PAGES
-
-passed : (frames : ℕ) (ledger : List LedgerEntry) (id : ℕ) (t : Start) → admission_refusal frames ledger id t ≡ None → Passed t
-unfolding admission_refusal
-passed frames ledger id t h =
-    let n = no-refusal (list_any (has_id id) ledger) (is_bad t.terms) (nat_lt t.terms.pages (pages_of t.image + STACK_PAGES)) (nat_lt (frames - sum_by charge_of_entry ledger) (charge_of t.terms.pages))
-    (nat_lt (MAX_LIVE - 1) (count_by is_live ledger)) (refusal_of t.image) h in
-    let bad = or_false _ (nat_lt MAX_OUTPUT t.terms.room) n.0 in
-    let big = or_false (t.terms.pages == 0) (nat_lt MAX_PAGES t.terms.pages) bad.0 in
-    record {
-      image = n.1;
-      room = ltb-false t.terms.pages (pages_of t.image + STACK_PAGES) n.2;
-      most = ltb-false MAX_PAGES t.terms.pages big.1;
-    }
 
 -- ---- the first memory
 

@@ -13,7 +13,7 @@ use Rattle.mte_sched.specs.Contents.{Tenant, Content, after_admit, new_tenant}
 use Rattle.mte_sched.specs.Places.{memory_at, IsPlaced}
 use Rattle.mte_sched.specs.Tenants.{record_in, tenants_in, entries_in}
 use Rattle.mte_tenant.specs.Admissions.{start_in}
-use Rattle.mte_tenant.specs.Ledger.{is_live, numbers_of}
+use Rattle.mte_tenant.specs.Ledger.{admission_refusal, is_live, numbers_of}
 use Rattle.mte_sched.specs.Sharing.{IsSharing, IsIndexed}
 use Rattle.mte_sched.proofs.EachLemmas.{ledger_is}
 use Rattle.mte_sched.proofs.IndexLemmas.{entered_position, entered_index}
@@ -22,19 +22,35 @@ use Rattle.mte_sched.proofs.AdmitLemmas.{fresh_asid, entered_sharing, entered_te
 use Rattle.mte_sched.proofs.host.Host.admit.Goals as goal
 
 pub returns-in_err-plan-clause-refused : goal.returns-in_err-plan-clause-refused
-returns-in_err-plan-clause-refused c = rw (ledger_is c.args.self.now.pool c.args.self.now.tenants.items) (search rules)
+unfolding admission_refusal
+returns-in_err-plan-clause-refused c =
+    let told = rw c.ledger_facts.ensures at c.in_err-plan.ensures.refused in
+    rw (ledger_is c.args.self.now.pool c.args.self.now.tenants.items) (search (rules, told))
 
 pub returns-in_err-plan-clause-memory : goal.returns-in_err-plan-clause-memory
-returns-in_err-plan-clause-memory c = rw (ledger_is c.args.self.now.pool c.args.self.now.tenants.items) (search rules)
+returns-in_err-plan-clause-memory c =
+    let told = rw c.ledger_facts.ensures at c.in_err-plan.ensures.memory in
+    rw (ledger_is c.args.self.now.pool c.args.self.now.tenants.items) (search (rules, told))
 
 pub returns-in_err-parts-clause-memory : goal.returns-in_err-parts-clause-memory
-returns-in_err-parts-clause-memory c = rw (ledger_is c.args.self.now.pool c.args.self.now.tenants.items) (search rules)
+returns-in_err-parts-clause-memory c =
+    let fresh = rw c.ledger_facts.ensures at c.in_ok-plan.ensures.fresh in
+    rw (ledger_is c.args.self.now.pool c.args.self.now.tenants.items) (search (rules, fresh))
 
 pub returns-in_err-first-clause-memory : goal.returns-in_err-first-clause-memory
-returns-in_err-first-clause-memory c = rw (ledger_is c.args.self.now.pool c.args.self.now.tenants.items) (search rules)
+returns-in_err-first-clause-memory c =
+    let fresh = rw c.ledger_facts.ensures at c.in_ok-plan.ensures.fresh in
+    rw (ledger_is c.args.self.now.pool c.args.self.now.tenants.items) (search (rules, fresh))
 
 pub returns-in_err-reserve-clause-memory : goal.returns-in_err-reserve-clause-memory
-returns-in_err-reserve-clause-memory c = rw (ledger_is c.args.self.now.pool c.args.self.now.tenants.items) (search rules)
+returns-in_err-reserve-clause-memory c =
+    let fresh = rw c.ledger_facts.ensures at c.in_ok-plan.ensures.fresh in
+    rw (ledger_is c.args.self.now.pool c.args.self.now.tenants.items) (search (rules, fresh))
+
+pub start_place-place-requires-clause-frames : goal.start_place-place-requires-clause-frames
+start_place-place-requires-clause-frames c =
+    let told = rw c.ledger_facts.ensures at c.in_ok-plan.ensures.frames in
+    omega (arith, told, c.args.self.now.sharing.reserved)
 
 pub start_place-place-requires-clause-fresh : goal.start_place-place-requires-clause-fresh
 start_place-place-requires-clause-fresh c =
@@ -45,7 +61,7 @@ pub enter-requires-clause-position : goal.enter-requires-clause-position
 enter-requires-clause-position c =
     let h = c.args.self.now in
     let asid : c.len-asid.result ≡ length h.tenants.items = search rules in
-    rw asid (entered_position h.index.positions.items h.tenants.items c.args.admission.now.id h.indexed (search rules) c.in_ok-plan.ensures.fresh)
+    rw asid (entered_position h.index.positions.items h.tenants.items c.args.admission.now.id h.indexed (search rules) (rw c.ledger_facts.ensures at c.in_ok-plan.ensures.fresh))
 
 pub invariant_of-self-2 : goal.invariant_of-self-2
 invariant_of-self-2 c =
@@ -66,12 +82,12 @@ invariant_of-self-2 c =
     c.condition_of_calls.ensures.first (memory_at n b pages) (c.args.admission.now.terms.seed / 2 ^ 32) pages (omega (arith, limit)) start.untouched in
     let ready = first_ready c.args.admission.now.id given c.in_ok-parts.parts.value (memory_at n b pages) boxed served in
     let number = first_number c.args.admission.now.id given c.in_ok-parts.parts.value boxed in
-    let all = entered_sharing h.pool n h.tlb vs ts c.args.admission.now.id b c.in_ok-parts.parts pages h.sharing placed start.unused start.others entries ready start.reserved number c.in_ok-plan.ensures.fresh in
+    let all = entered_sharing h.pool n h.tlb vs ts c.args.admission.now.id b c.in_ok-parts.parts pages h.sharing placed start.unused start.others entries ready start.reserved number (rw c.ledger_facts.ensures at c.in_ok-plan.ensures.fresh) in
     let t : code.Tenant = record { pages = pages; holding = kept.Live (record { parts = c.in_ok-parts.parts; place = b }) } in
     let pushed : c.push_reserved.new.self.items ≡ ts ++ t ∷ [] = c.push_reserved.ensures.items ∙ ap (λ l. l ++ t ∷ []) c.in_ok-reserve.ensures.items in
     let number_of : (record_in t).id ≡ c.args.admission.now.id = number in
     let index : IsIndexed (slice_set h.index.positions.items c.args.admission.now.id (length ts)) (numbers_of (entries_in (ts ++ t ∷ []))) =
-    entered_index h.index.positions.items ts c.args.admission.now.id h.indexed (search rules) c.in_ok-plan.ensures.fresh t number_of in
+    entered_index h.index.positions.items ts c.args.admission.now.id h.indexed (search rules) (rw c.ledger_facts.ensures at c.in_ok-plan.ensures.fresh) t number_of in
     let positions : c.enter.new.self.positions.items ≡ slice_set h.index.positions.items c.args.admission.now.id (length ts) =
     c.enter.ensures ∙ ap (slice_set h.index.positions.items c.args.admission.now.id) asid in
     let count : count_by is_live (entries_in (ts ++ t ∷ [])) ≡ count_by is_live (entries_in ts) + 1 =
@@ -83,7 +99,10 @@ invariant_of-self-2 c =
     }
 
 pub returns-clause-accepted : goal.returns-clause-accepted
-returns-clause-accepted c = rw (ledger_is c.args.self.now.pool c.args.self.now.tenants.items) (search rules)
+unfolding admission_refusal
+returns-clause-accepted c =
+    let told = rw c.ledger_facts.ensures at c.in_ok-plan.ensures.accepted in
+    rw (ledger_is c.args.self.now.pool c.args.self.now.tenants.items) (search (rules, told))
 
 pub returns-clause-ok : goal.returns-clause-ok
 unfolding after_admit
