@@ -7,7 +7,7 @@ the way to each row, by which it is proved that a row's words are found.
 import re
 from dataclasses import dataclass
 
-from a64 import table
+from a64 import layout, table
 
 CODE = "crates/a64_decode/src/groups.rt"
 DEFINITIONS = "crates/a64_decode/specs/Groups.antt"
@@ -252,7 +252,8 @@ def test_definition(test):
 
 
 def definition(group, rows):
-    text = f"\nunfoldable pub {group.name}_of : ℕ → Option Instr\n{group.name}_of w =\n"
+    text = "\n" + layout.comment("--", group.text)
+    text += f"unfoldable pub {group.name}_of : ℕ → Option Instr\n{group.name}_of w =\n"
     closing = ""
     for line in group.lines:
         tests = " && ".join(test_definition(test) for test in line.tests)
@@ -268,7 +269,7 @@ def definitions(classes, groups, rows):
     text = DEFINITIONS_HEAD
     for group in reversed(groups.values()):
         text += definition(group, rows)
-    text += "\nunfoldable pub row_of : ℕ → Option Instr\nrow_of w =\n"
+    text += "\n-- The row of a word.\nunfoldable pub row_of : ℕ → Option Instr\nrow_of w =\n"
     text += "    let class = field_of 24 5 w in\n"
     for first, last, name in classes:
         test = (f"class == {first}" if first == last

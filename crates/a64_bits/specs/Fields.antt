@@ -3,6 +3,7 @@
 use Rattle.std.specs.Prelude.{ℕ, ◌+◌, ◌-◌, ◌/◌, ◌%◌, ◌^◌, ◌<◌, ℤ, pos, negsuc}
 use Rattle.std.specs.Prelude.{if◌then◌else◌, nat_lt}
 
+-- The field of a word.
 abbrev pub field_of : ℕ → ℕ → ℕ → ℕ
 field_of position width word = word / 2 ^ position % 2 ^ width
 

@@ -7,6 +7,7 @@ use Rattle.debug_lines.specs.declared.operation.Operation.TheVariants as op
 use Rattle.debug_lines.specs.declared.registers.Registers.{Registers}
 use Rattle.debug_lines.specs.declared.row.Row.{Row}
 
+-- Registers after an advance of address and line.
 abbrev pub after_advance : Registers → Advance → Registers
 after_advance r by = record r {
   address = (r.address + by.address) % 2 ^ 64;
@@ -31,6 +32,7 @@ start = record { address = 0; file = 1; line = 1; is_placed = false }
 abbrev pub is_place : ℕ → Bool
 is_place address = not (address == 0) && not (address == 2 ^ 64 - 1)
 
+-- Registers after an operation.
 abbrev pub registers_after : Operation → Registers → Registers
 registers_after (op.Special by) r = after_advance r by
 registers_after (op.Advance by) r = after_advance r by

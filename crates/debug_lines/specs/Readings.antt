@@ -24,5 +24,6 @@ abbrev pub rest_cases : List ℕ → Option ℕ → List ℕ
 rest_cases bytes None = bytes
 rest_cases bytes (Some last) = drop (last + 1) bytes
 
+-- The bytes behind a text that a zero ends.
 abbrev pub after_text : List ℕ → List ℕ
 after_text bytes = rest_cases bytes (text_end bytes)

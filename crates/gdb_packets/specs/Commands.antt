@@ -17,6 +17,7 @@ use Rattle.gdb_packets.specs.declared.command.Id.TheVariants as id
 use Rattle.gdb_packets.specs.declared.command.Thread.{Thread}
 
 infixl 10 ◌>>=◌
+-- A value is handed on, if there is one.
 abbrev pub ◌>>=◌ : {A B : Type 0} → Option A → (A → Option B) → Option B
 o >>= f = option_and_then f o
 
@@ -40,6 +41,7 @@ triple_of text = do
 abbrev pub optional_of : List ℕ → Option (Option ℕ)
 optional_of text = if length text == 0 then Some None else option_map Some (number_of text)
 
+-- The kind of a breakpoint or watchpoint with a number.
 abbrev pub point_kind : ℕ → Option Point
 point_kind n =
     if n == 0 then Some point.SoftwareBreakpoint
@@ -72,6 +74,7 @@ abbrev pub is_minus_one : List ℕ → Bool
 is_minus_one (a ∷ b ∷ []) = (a == 45) && (b == 49)
 is_minus_one _ = false
 
+-- The id of a process or of a thread.
 unfoldable pub id_of : List ℕ → Option Id
 id_of text =
     if is_minus_one text then Some id.All
@@ -114,9 +117,11 @@ signal_cases (Some parts) text = do
   signal ← signal_of parts.0
   Some (signal, Some address)
 
+-- A signal, and an address behind a semicolon if there is one.
 unfoldable pub signal_and_address : List ℕ → Option (ℕ × Option ℕ)
 signal_and_address text = signal_cases (cut_at (λ b. b == 59) text) text
 
+-- An action with nothing behind its letter.
 abbrev pub lone : List ℕ → Action → Option Action
 lone rest a = if length rest == 0 then Some a else None
 
@@ -141,6 +146,7 @@ thread_action_by (Some parts) text = do
   t ← thread_of parts.1
   Some (a, Some t)
 
+-- An action, and the thread behind a colon if there is one.
 unfoldable pub thread_action : List ℕ → Option (Action × Option Thread)
 thread_action text = thread_action_by (cut_at (λ b. b == 58) text) text
 
@@ -279,5 +285,6 @@ pub record AsksNamed (name rest : List ℕ) (c : Command) : Type 0 where
 abbrev pub name_in : List ℕ → List ℕ
 name_in text = before_first is_separator text
 
+-- The text behind the name of a packet.
 abbrev pub behind_name : List ℕ → List ℕ
 behind_name text = drop (position_or_len is_separator text) text

@@ -13,6 +13,7 @@ is_reserved b = (b == 35) || (b == 36) || (b == 125) || (b == 42)
 abbrev pub escape_of : ℕ → List ℕ
 escape_of b = if is_reserved b then 125 ∷ bit_xor b 32 ∷ [] else b ∷ []
 
+-- A payload with an escape for each byte that needs one.
 abbrev pub with_escapes : List ℕ → List ℕ
 with_escapes payload = flat_map escape_of payload
 
@@ -24,9 +25,11 @@ checksum_of bytes = sum bytes % 256
 abbrev pub frame_of : List ℕ → List ℕ
 frame_of bytes = 36 ∷ bytes ++ 35 ∷ encode_lower (checksum_of bytes ∷ [])
 
+-- The frame of a payload.
 abbrev pub frame_of_payload : List ℕ → List ℕ
 frame_of_payload payload = frame_of (with_escapes payload)
 
+-- Bytes with one put before them, if there are any.
 abbrev pub with_first : ℕ → Option (List ℕ) → Option (List ℕ)
 with_first b more = option_map (λ bytes. b ∷ bytes) more
 

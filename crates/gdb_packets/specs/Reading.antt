@@ -51,6 +51,7 @@ is_data b = not ((b == 35) || (b == 36))
 abbrev pub digits_byte : ℕ → ℕ → Option ℕ
 digits_byte high low = result_ok (pair_value high low 0)
 
+-- Whether a number was read and is this one.
 abbrev pub is_value : Option ℕ → ℕ → Bool
 is_value (Some v) n = v == n
 is_value None n = false
@@ -75,6 +76,7 @@ after_dollar rest =
     if nat_lt PACKET_SIZE (length bytes) then bad (PACKET_SIZE + 2)
     else after_data bytes (drop n rest)
 
+-- What the first of the bytes are: a packet, an answer to one, an interrupt, or noise.
 abbrev pub reading_of : List ℕ → Reading
 reading_of [] = more
 reading_of (b ∷ rest) =

@@ -20,6 +20,7 @@ abbrev pub after : ℕ → List ℕ → Option (List ℕ)
 after first [] = None
 after first (b ∷ rest) = if b == first then Some rest else None
 
+-- The text that a borrow refers to, if there is one.
 abbrev pub rest_of : Option (Bor (List ℕ)) → Option (List ℕ)
 rest_of o = option_map (λ r. r.now) o
 

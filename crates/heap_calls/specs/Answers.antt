@@ -14,21 +14,25 @@ use Rattle.heap_calls.specs.declared.op.HeapOp.TheVariants.{Call, Load, Store, L
 use Rattle.heap_calls.specs.declared.op.HeapAnswer.{HeapAnswer}
 use Rattle.heap_calls.specs.declared.op.HeapAnswer.TheVariants.{Value, Abort, Fault}
 
+-- What an operation leaves: the world, and its answer.
 pub record Answered : Type 0 where
   pub world : World
   pub answer : HeapAnswer
 
 -- ---- heap calls
 
+-- The answer of a heap call.
 abbrev pub of_call : Result ℕ HeapAbort → HeapAnswer
 of_call (Ok value) = Value value
 of_call (Err abort) = Abort abort
 
+-- A heap call as an operation.
 abbrev pub answered_call : CallResult → Answered
 answered_call r = record { world = r.world; answer = of_call r.answer }
 
 -- ---- accesses, with the tags compared
 
+-- What an access leaves: the memory, and its answer.
 pub record Accessed : Type 0 where
   pub memory : Memory
   pub answer : HeapAnswer
@@ -43,6 +47,7 @@ unfoldable pub load_of : Memory → ℕ → Accessed
 load_of m a =
     unless (read_fault m a 8 true) m (from_le_bytes w64 (read_bytes m a 8)) (after_read m a 8 true)
 
+-- A checked store of eight bytes, the lowest first.
 unfoldable pub store_of : Memory → ℕ → ℕ → Accessed
 store_of m a value =
     unless (write_fault m a 8 true) m 0 (after_write m a (to_le_bytes w64 value) true)
@@ -51,11 +56,13 @@ store_of m a value =
 unfoldable pub load_tag_of : Memory → ℕ → HeapAnswer
 load_tag_of m a = (unless (tag_load_fault m a) m (tag_at m (plain a)) m).answer
 
+-- An access as an operation.
 abbrev pub in_world : World → Accessed → Answered
 in_world w x = record { world = record w { memory = x.memory }; answer = x.answer }
 
 -- ---- all operations
 
+-- What an operation makes of a world.
 unfoldable pub after_operation : World → HeapOp → Answered
 after_operation w (Call call) = answered_call (after_call w call)
 after_operation w (Load addr) = in_world w (load_of w.memory addr)

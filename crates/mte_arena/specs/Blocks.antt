@@ -19,6 +19,7 @@ abbrev pub tags_of_bytes : List ℕ → List ℕ
 tags_of_bytes [] = []
 tags_of_bytes (b ∷ bs) = b % 16 ∷ b / 16 % 16 ∷ tags_of_bytes bs
 
+-- The frame in a block of 4224 bytes: 4096 bytes of data, and then two tags a byte.
 abbrev pub frame_of : List ℕ → Frame
 frame_of xs = make_frame (take 4096 xs) (tags_of_bytes (drop 4096 xs))
 
@@ -26,13 +27,16 @@ abbrev pub frame_cases : Option (List ℕ) → Option Frame
 frame_cases (Some xs) = Some (frame_of xs)
 frame_cases None = None
 
+-- The frames in blocks.
 abbrev pub frames_of : List (Option (List ℕ)) → List (Option Frame)
 frames_of = map frame_cases
 
+-- Whether a frame is present.
 abbrev pub is_there : Option (List ℕ) → Bool
 is_there (Some xs) = true
 is_there None = false
 
+-- Which frames are present.
 abbrev pub presence : List (Option (List ℕ)) → List Bool
 presence = map is_there
 
@@ -40,6 +44,7 @@ presence = map is_there
 abbrev pub IsPresent : List (Option (List ℕ)) → ℕ → Type 0
 IsPresent cs f = (xs : List ℕ) × (get_or cs f None ≡ Some xs)
 
+-- The block of a frame, empty where it is absent.
 abbrev pub block_or : Option (List ℕ) → List ℕ
 block_or (Some xs) = xs
 block_or None = []
@@ -48,9 +53,11 @@ block_or None = []
 abbrev pub block_at : List (Option (List ℕ)) → ℕ → List ℕ
 block_at cs f = block_or (get_or cs f None)
 
+-- A block of zeros.
 unfoldable pub zero_block : List ℕ
 zero_block = replicate 4224 0
 
+-- A block with n bytes from i on replaced by those of another list.
 abbrev pub with_part : List ℕ → ℕ → ℕ → List ℕ → List ℕ
 with_part xs i n ws = take i xs ++ (refill n (take n (drop i xs)) ws ++ drop (i + n) xs)
 

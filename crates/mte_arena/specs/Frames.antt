@@ -17,27 +17,34 @@ pub record Frame : Type 0 where
   pub bytes : List ℕ
   pub tags : List ℕ
 
+-- A frame of bytes and tags.
 abbrev pub make_frame : List ℕ → List ℕ → Frame
 make_frame bytes tags = record { bytes = bytes; tags = tags }
 
+-- A frame of zeros, with tag 0 on each granule.
 unfoldable pub zero_frame : Frame
 zero_frame = make_frame (replicate 4096 0) (replicate 256 0)
 
+-- The frame is present.
 abbrev pub IsLive : List (Option Frame) → ℕ → Type 0
 IsLive fs f = (p : Frame) × (get_or fs f None ≡ Some p)
 
+-- A frame that is absent counts as one of zeros.
 abbrev pub frame_or : Option Frame → Frame
 frame_or (Some p) = p
 frame_or None = zero_frame
 
+-- The frame with a number, of zeros where it is absent.
 abbrev pub frame_at : List (Option Frame) → ℕ → Frame
 frame_at fs f = frame_or (get_or fs f None)
 
+-- A frame has 4096 bytes and 256 tags, each below 16.
 pub record IsFrame (p : Frame) : Type 0 where
   pub bytes : length p.bytes ≡ 4096
   pub tags : length p.tags ≡ 256
   pub small : (g : ℕ) → get_or p.tags g 0 < 16
 
+-- Each frame that is present is one.
 abbrev pub AreFrames : List (Option Frame) → Type 0
 AreFrames fs = (f : ℕ) (p : Frame) → get_or fs f None ≡ Some p → IsFrame p
 

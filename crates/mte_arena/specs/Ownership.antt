@@ -12,6 +12,7 @@ use denote.Memory.{lone, part_at, shared_of}
 use denote.Sharing.{nothing, said, beside}
 use denote.RawPtr.{Ptr, block_ptr, null_ptr}
 
+-- The type of a block.
 abbrev pub Block : RattleType
 Block = Array u8 4224
 
@@ -29,6 +30,7 @@ frames_owned b o (c ∷ cs) = fsep (frame_owned b o c) (frames_owned b (o + 4224
 abbrev pub addressable : List (Option (List ℕ)) → Fml
 addressable cs = flt (length cs * 4224) (2 ^ 63)
 
+-- The blocks of a region are owned, from a pointer on.
 abbrev pub region_owned : Ptr → List (Option (List ℕ)) → Fml
 region_owned null_ptr cs = ffalse
 region_owned (block_ptr b o) cs = fsep (addressable cs) (frames_owned b o cs)
@@ -38,10 +40,12 @@ abbrev pub frame_shown : ℕ → ℕ → Option (List ℕ) → Lft → Fml
 frame_shown b o None = nothing
 frame_shown b o (Some xs) = shared_of Block xs b o
 
+-- The blocks from an offset on are lent for reading.
 abbrev pub frames_shown : ℕ → ℕ → List (Option (List ℕ)) → Lft → Fml
 frames_shown b o [] = nothing
 frames_shown b o (c ∷ cs) = beside (frame_shown b o c) (frames_shown b (o + 4224) cs)
 
+-- The blocks of a region are lent for reading.
 abbrev pub region_shown : Ptr → List (Option (List ℕ)) → Lft → Fml
 region_shown null_ptr cs = said ffalse
 region_shown (block_ptr b o) cs = beside (said (addressable cs)) (frames_shown b o cs)

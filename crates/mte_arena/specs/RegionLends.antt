@@ -5,6 +5,7 @@ use Rattle.mte_arena.specs.Blocks.{block_at, with_part}
 use Rattle.mte_arena.specs.declared.region.Region.{Region}
 use Rattle.mte_arena.specs.contracts.region.Region.{the_row}
 
+-- A region with other blocks.
 abbrev pub with_blocks : Region → List (Option (List ℕ)) → Region
 with_blocks r cs = record { mark = r.mark; start = r.start; blocks = cs }
 

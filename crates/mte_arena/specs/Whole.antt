@@ -4,6 +4,7 @@ use Rattle.address_map.specs.declared.limits.TheConstants.{MAX_FRAMES}
 use Rattle.mte_arena.specs.Blocks.{presence, AreBlocks}
 use Rattle.mte_arena.specs.declared.arena.Arena.TheInside.{Inside}
 
+-- The region, the right to free it and the flags of an arena belong together.
 pub record IsArena (a : Inside) : Type 0 where
   pub start : a.region.start ≡ a.start.pointer
   pub right_start : a.right.start ≡ a.start.pointer

@@ -3,6 +3,7 @@ use Rattle.std.specs.Prelude.{ℕ, List, codes}
 use Rattle.mte_elf.specs.declared.error.ElfError.{ElfError}
 use Rattle.mte_elf.specs.declared.error.ElfError.TheVariants as elf
 
+-- The name of a refusal of an image.
 abbrev pub image_name : ElfError → List ℕ
 image_name elf.Short = codes "Short"
 image_name elf.NotElf64 = codes "NotElf64"

@@ -10,21 +10,27 @@ use Rattle.mte_elf.specs.declared.image.Segment.{Segment}
 unfoldable pub number_at : List ℕ → ℕ → ℕ → ℕ
 number_at file n at = little_number n (drop at file)
 
+-- e_type
 abbrev pub file_type_of : List ℕ → ℕ
 file_type_of file = number_at file 2 16
 
+-- e_machine
 abbrev pub machine_of : List ℕ → ℕ
 machine_of file = number_at file 2 18
 
+-- e_entry
 abbrev pub entry_of : List ℕ → ℕ
 entry_of file = number_at file 8 24
 
+-- e_phoff
 abbrev pub table_offset_of : List ℕ → ℕ
 table_offset_of file = number_at file 8 32
 
+-- e_phentsize
 abbrev pub header_size_of : List ℕ → ℕ
 header_size_of file = number_at file 2 54
 
+-- e_phnum
 abbrev pub header_count_of : List ℕ → ℕ
 header_count_of file = number_at file 2 56
 
@@ -56,6 +62,7 @@ is_interpreter header = header.kind == 3
 abbrev pub is_loaded : ProgramHeader → Bool
 is_loaded header = (header.kind == 1) && nat_lt 0 header.memsz
 
+-- The segment of a program header.
 abbrev pub segment_of : ProgramHeader → Segment
 segment_of header = record {
   vaddr = header.vaddr;

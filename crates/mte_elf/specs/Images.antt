@@ -35,6 +35,7 @@ is_in_range size s =
 abbrev pub first_page : Segment → ℕ
 first_page s = s.vaddr / 4096
 
+-- The number of the last page of a segment.
 abbrev pub last_page : Segment → ℕ
 last_page s = (s.vaddr + s.memsz - 1) / 4096
 
@@ -42,6 +43,7 @@ last_page s = (s.vaddr + s.memsz - 1) / 4096
 abbrev pub page_count : Segment → ℕ
 page_count s = last_page s + 1 - first_page s
 
+-- Whether two segments have a page in common.
 abbrev pub share_page : Segment → Segment → Bool
 share_page s t = nat_le (first_page s) (last_page t) && nat_le (first_page t) (last_page s)
 
@@ -54,9 +56,11 @@ any_share_page (s ∷ more) = list_any (share_page s) more || any_share_page mor
 abbrev pub is_readable : ℕ → Bool
 is_readable flags = flags / 4 % 2 == 1
 
+-- PF_W
 abbrev pub is_writable : ℕ → Bool
 is_writable flags = flags / 2 % 2 == 1
 
+-- PF_X
 abbrev pub is_executable : ℕ → Bool
 is_executable flags = flags % 2 == 1
 
@@ -90,6 +94,7 @@ segment_tests file =
     ∷ (not (list_any (is_entry (entry_of file)) (segments_of file)), NoEntry)
     ∷ []
 
+-- What a file is tested for, in this order, each test with its refusal.
 abbrev pub tests_of : List ℕ → List (Bool × ElfError)
 tests_of file = header_tests file ++ segment_tests file
 

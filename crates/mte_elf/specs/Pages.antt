@@ -24,6 +24,7 @@ segment_page file s q = record {
   tags = replicate 256 0;
 }
 
+-- Whether a page is one of a segment.
 abbrev pub touches_page : Segment → ℕ → Bool
 touches_page s q = nat_le (first_page s) q && nat_le q (last_page s)
 

@@ -15,6 +15,7 @@ use Rattle.address_map.specs.declared.limits.TheConstants.{MAX_FRAMES}
 use Rattle.mte_arena.specs.Blocks.{with_block}
 use Rattle.mte_arena.specs.Frames.{Frame, IsLive, with_bytes, with_bytes_cases}
 
+-- Frames, under which quota each one is out, and how many each quota has reserved and taken.
 pub record Pool : Type 0 where
   pub frames : List (Option Frame)
   pub owners : List (Option ℕ)
@@ -23,6 +24,7 @@ pub record Pool : Type 0 where
   -- for how many elements each of the pool's lists has memory
   pub capacities : List ℕ
 
+-- A pool of its parts.
 abbrev pub make_pool : List ℕ → List (Option Frame) → List (Option ℕ) → List ℕ → List ℕ → Pool
 make_pool cs fs os rs ts =
     record { frames = fs; owners = os; reserved = rs; taken = ts; capacities = cs }
@@ -42,18 +44,23 @@ abbrev pub with_block_at : Pool → ℕ → List ℕ → Pool
 with_block_at p f ws =
     make_pool p.capacities (with_block p.frames f ws) p.owners p.reserved p.taken
 
+-- The frames that no quota has reserved.
 abbrev pub frames_left : Pool → ℕ
 frames_left p = length p.frames - sum p.reserved
 
+-- The frames that a quota has reserved.
 abbrev pub reserved_by : Pool → ℕ → ℕ
 reserved_by p q = get_or p.reserved q 0
 
+-- The frames that a quota has taken.
 abbrev pub taken_by : Pool → ℕ → ℕ
 taken_by p q = get_or p.taken q 0
 
+-- A frame was taken by a quota.
 abbrev pub IsHeldBy : Pool → ℕ → ℕ → Type 0
 IsHeldBy p f q = get_or p.owners f None ≡ Some q
 
+-- A frame was taken by some quota.
 abbrev pub IsTaken : Pool → ℕ → Type 0
 IsTaken p f = (q : ℕ) × IsHeldBy p f q
 
@@ -67,6 +74,7 @@ abbrev pub owned_by : ℕ → List (Option ℕ) → ℕ
 owned_by q [] = 0
 owned_by q (c ∷ cs) = is_owned q c + owned_by q cs
 
+-- What holds of every pool: nobody takes more than was reserved, and what is reserved is there.
 pub record IsSound (p : Pool) : Type 0 where
   pub few : length p.frames ≤ MAX_FRAMES
   -- there is a place for each frame and for each number of a quota, of which there are as many
@@ -80,6 +88,7 @@ pub record IsSound (p : Pool) : Type 0 where
   -- a frame that is out is present
   pub live : (f q : ℕ) → IsHeldBy p f q → IsLive p.frames f
 
+-- What a call for quota q leaves of all other quotas: their counts and their frames.
 pub record KeepsOthers (q : ℕ) (p n : Pool) : Type 0 where
   -- how many frames there are
   pub count : length n.frames ≡ length p.frames

@@ -14,12 +14,14 @@ abbrev pub vacant : Option ℕ → ℕ
 vacant None = 1
 vacant (Some k) = 0
 
+-- The pool that the code keeps.
 abbrev pub pool_of : Inside → Pool
 pool_of a =
     let counts = vec_capacity a.reserved ∷ vec_capacity a.taken ∷ [] in
     let capacities = vec_capacity a.free ∷ vec_capacity a.owners ∷ counts in
     make_pool capacities a.arena a.owners.items a.reserved.items a.taken.items
 
+-- The free list and the counts are those of the pool.
 pub record IsPool (a : Inside) : Type 0 where
   pub sound : IsSound (pool_of a)
   -- each frame that is out under no quota stands in the free list once, and nothing else does

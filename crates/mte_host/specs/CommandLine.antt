@@ -17,9 +17,11 @@ frames_rule = record (new_rule (codes "frames")) {
   required = true;
 }
 
+-- SCRIPT, one word.
 abbrev pub script_rule : Rule
 script_rule = record (new_rule (codes "script")) { value_names = 1; required = true }
 
+-- FILE.., any number of words.
 abbrev pub files_rule : Rule
 files_rule = record (new_rule (codes "files")) {
   value_names = 1;
@@ -27,6 +29,7 @@ files_rule = record (new_rule (codes "files")) {
   action = Some Append;
 }
 
+-- The form of the command line.
 abbrev pub form : App
 form =
     with_rule (with_rule (with_rule (new_app (codes "mte_host")) frames_rule) script_rule) files_rule

@@ -32,6 +32,7 @@ pub record Untouched (old new : Logs) : Type 0 where
   pub files : new.files ≡ old.files
   pub out : new.out ≡ old.out
 
+-- What became of a command line, with the exit status.
 abbrev pub Concluded : Invocation → Logs → Logs → ℕ → Type 0
 Concluded (Run p) old new status = HasEnded p old new status
 Concluded (Exit n) old new status = (status ≡ n) × (new ≡ old)

@@ -8,6 +8,7 @@ use Rattle.mte_streams.specs.declared.reading.ReadFault.TheVariants as fault
 use Rattle.mte_session.specs.declared.ending.Ending.{Ending}
 use Rattle.mte_session.specs.declared.ending.Ending.TheVariants.{Done, Script, Memory, Read, Write}
 
+-- The bytes of names.
 abbrev pub names_of : List (String Global) → List (List ℕ)
 names_of names = map string_bytes names
 
@@ -20,13 +21,16 @@ pub record FileRead : Type 0 where
 abbrev pub FilesLog : Type 0
 FilesLog = Option (List FileRead)
 
+-- The bytes of a file, or why it is not read.
 abbrev pub bytes_or_fault : Result (Vec ℕ Global) ReadFault → Result (List ℕ) ReadFault
 bytes_or_fault (Ok whole) = Ok whole.items
 bytes_or_fault (Err e) = Err e
 
+-- A log with more files that were read.
 abbrev pub with_reads : FilesLog → List FileRead → FilesLog
 with_reads log more = option_map (λ reads. reads ++ more) log
 
+-- A log after one more file.
 abbrev pub after_file : FilesLog → List ℕ → Result (Vec ℕ Global) ReadFault → FilesLog
 after_file log name result =
     with_reads log (record { name = name; came = bytes_or_fault result } ∷ [])
@@ -62,6 +66,7 @@ pub record StoppedAt (names : List (List ℕ)) (e : ReadFault) (name : List ℕ)
   pub log : new ≡ with_reads old
       (whole_reads before contents ++ record { name = name; came = Err e } ∷ [])
 
+-- One of the files was not read, and none behind it.
 pub record StoppedSomewhere (names : List (List ℕ)) (e : ReadFault) (old new : FilesLog)
     : Type 0 where
   pub name : List ℕ

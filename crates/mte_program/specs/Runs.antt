@@ -16,6 +16,7 @@ pub record OfSession (p : Program) (old new : FilesLog) (Holds : Input → Type 
   pub read : ReadInOrder (names_of p.names.items) (script ∷ files) old new
   pub holds : Holds (record { frames = p.frames; files = files; script = script })
 
+-- How a run of the program ended, with what was read and written.
 abbrev pub Ran : Program → FilesLog → FilesLog → WriteLog → WriteLog → Ending → Type 0
 Ran p read_old read_new old new Done = OfSession p read_old read_new (λ i. Reported i old new)
 Ran p read_old read_new old new (Script number e) =

@@ -6,6 +6,7 @@ use Rattle.mte_script.specs.declared.error.ScriptFault.TheVariants.{Syntax, BadN
 use Rattle.mte_script.specs.declared.error.ScriptFault.TheVariants.{TooManyEvents}
 use Rattle.mte_script.specs.declared.error.ScriptError.{ScriptError}
 
+-- The name of a fault of a script.
 abbrev pub fault_name : ScriptFault → List ℕ
 fault_name Syntax = codes "Syntax"
 fault_name BadNumber = codes "BadNumber"
@@ -17,6 +18,7 @@ abbrev pub IsFirstFault : Result (List Event) (ℕ × ScriptFault) → ScriptErr
 IsFirstFault (Ok events) e = ⊥
 IsFirstFault (Err fault) e = e ≡ record { line = fault.0; fault = fault.1 }
 
+-- A line with a number has this fault.
 abbrev pub IsLineFault : ℕ → Option (Result Event ScriptFault) → ScriptError → Type 0
 IsLineFault number None e = ⊥
 IsLineFault number (Some (Ok event)) e = ⊥

@@ -16,6 +16,7 @@ use Rattle.mte_script.specs.declared.error.ScriptFault.{ScriptFault}
 use Rattle.mte_script.specs.declared.error.ScriptFault.TheVariants.{Syntax, BadNumber, NoSuchFile}
 use Rattle.mte_script.specs.declared.error.ScriptFault.TheVariants.{TooManyEvents}
 
+-- Pieces with a byte put before the first.
 abbrev pub onto_first : ℕ → List (List ℕ) → List (List ℕ)
 onto_first b [] = (b ∷ []) ∷ []
 onto_first b (piece ∷ more) = (b ∷ piece) ∷ more
@@ -37,6 +38,7 @@ abbrev pub is_some_text : List ℕ → Bool
 is_some_text [] = false
 is_some_text (b ∷ more) = true
 
+-- The words of a line, which spaces separate.
 abbrev pub words_of : List ℕ → List (List ℕ)
 words_of line = filter is_some_text (pieces_at 32 line)
 
@@ -44,6 +46,7 @@ words_of line = filter is_some_text (pieces_at 32 line)
 abbrev pub lines_of : List ℕ → List (List ℕ)
 lines_of script = pieces_at 10 script
 
+-- Whether a byte is a decimal digit.
 abbrev pub is_digit : ℕ → Bool
 is_digit b = nat_le 48 b && nat_le b 57
 
@@ -66,17 +69,21 @@ seed_cases (Err e) = None
 unfoldable pub seed_of : List ℕ → Option ℕ
 seed_of word = seed_cases (decode_sized word 8)
 
+-- Whether a text is this word.
 abbrev pub is_word : List ℕ → List ℕ → Bool
 is_word word text = (length word == length text) && starts_with nat_eq word text
 
 -- ---- the forms of a line
 
+-- The word with an index, empty where there is none.
 abbrev pub nth : List (List ℕ) → ℕ → List ℕ
 nth words i = slice_index_or words i []
 
+-- Whether a word is a decimal number.
 abbrev pub is_number : List ℕ → Bool
 is_number word = is_some (decimal_of word)
 
+-- Whether a word is a seed.
 abbrev pub is_seed : List ℕ → Bool
 is_seed word = is_some (seed_of word)
 
@@ -84,6 +91,7 @@ is_seed word = is_some (seed_of word)
 abbrev pub number_at : List (List ℕ) → ℕ → ℕ
 number_at words i = unwrap_or (decimal_of (nth words i)) 0
 
+-- The seed in the word with an index.
 abbrev pub seed_at : List (List ℕ) → ℕ → ℕ
 seed_at words i = unwrap_or (seed_of (nth words i)) 0
 
@@ -108,14 +116,17 @@ is_admission words =
 
 -- ---- the event of a line
 
+-- The fault of the first test that holds.
 abbrev pub first_fault_of : List (Bool × ScriptFault) → Option ScriptFault
 first_fault_of [] = None
 first_fault_of (test ∷ more) = if test.0 then Some test.1 else first_fault_of more
 
+-- The event, unless there is a fault.
 abbrev pub event_or : Option ScriptFault → Event → Result Event ScriptFault
 event_or None e = Ok e
 event_or (Some fault) e = Err fault
 
+-- The event of a line `stop ID`.
 unfoldable pub stop_event : List (List ℕ) → Result Event ScriptFault
 stop_event words = event_or
     (first_fault_of (
@@ -123,6 +134,7 @@ stop_event words = event_or
     ∷ (nat_lt 65535 (number_at words 1), BadNumber) ∷ []))
     (event.Stop (number_at words 1))
 
+-- The event of a line `slice ID STEPS`.
 unfoldable pub slice_event : List (List ℕ) → Result Event ScriptFault
 slice_event words = event_or
     (first_fault_of (
@@ -162,6 +174,7 @@ event_by files words =
     then admit_event files Async words
     else Err Syntax)))
 
+-- Whether a line is a comment: it begins with #.
 abbrev pub starts_comment : List ℕ → Bool
 starts_comment [] = false
 starts_comment (b ∷ more) = b == 35
@@ -172,6 +185,7 @@ abbrev pub event_of_words : ℕ → List (List ℕ) → Option (Result Event Scr
 event_of_words files [] = None
 event_of_words files (word ∷ more) = Some (event_by files (word ∷ more))
 
+-- The event or the fault of a line; none of a comment or of an empty line.
 unfoldable pub event_of_line : ℕ → List ℕ → Option (Result Event ScriptFault)
 event_of_line files line =
     if starts_comment line then None else event_of_words files (words_of line)
@@ -180,6 +194,7 @@ event_of_line files line =
 abbrev pub Parsed : Type 0
 Parsed = Result (List Event) (ℕ × ScriptFault)
 
+-- A script that begins with an event.
 abbrev pub after_event : Event → Parsed → Parsed
 after_event e (Ok more) = Ok (e ∷ more)
 after_event e (Err fault) = Err fault

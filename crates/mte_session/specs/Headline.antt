@@ -11,6 +11,7 @@ use Rattle.mte_session.specs.Outcomes.{Input}
 use Rattle.mte_session.specs.Report.{record_text}
 use Rattle.mte_session.specs.Sessions.{session_of}
 
+-- What a session is given: frames, files and script.
 abbrev pub input_of : Session → Input
 input_of s = record { frames = s.frames; files = contents s.files.now; script = s.script.now }
 

@@ -10,6 +10,7 @@ use Rattle.mte_session.specs.declared.session.SessionError.{SessionError}
 use Rattle.mte_session.specs.declared.session.SessionError.TheVariants.{Script, OutOfMemory, Write}
 use Rattle.mte_session.specs.Sessions.{session_of, session_text}
 
+-- The error of a session whose script is not read.
 abbrev pub session_error : Obstacle ScriptError → SessionError
 session_error obstacle.OutOfMemory = OutOfMemory
 session_error (obstacle.Refused e) = Script e.line e.fault

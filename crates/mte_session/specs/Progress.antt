@@ -11,10 +11,12 @@ use Rattle.mte_sched.specs.Tenants.{record_in}
 use Rattle.mte_session.specs.Report.{record_text}
 use Rattle.mte_session.specs.Sessions.{refused_texts, tenant_texts}
 
+-- A session under way: the content of its host, and the events that were refused.
 pub record Progress : Type 0 where
   pub content : Content
   pub refused : List Refused
 
+-- Why a call is refused by a host with this content, if it is.
 abbrev pub refusal_in : Content → Call → Option Refusal
 refusal_in c e = call_refusal c.frames (ledger_of c) e
 
@@ -32,6 +34,7 @@ unfoldable pub run_all : Progress → List Call → ℕ → Progress
 run_all p [] n = p
 run_all p (e ∷ more) n = run_all (after_event p e n) more (n + 1)
 
+-- The report of a session under way.
 abbrev pub progress_text : Progress → List ℕ
 progress_text p = refused_texts p.refused ++ tenant_texts p.content.tenants
 

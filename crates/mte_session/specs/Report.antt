@@ -22,9 +22,11 @@ line parts = concat (parts ++ codes "\n" ∷ [])
 abbrev pub sixteen_digits : ℕ → List ℕ
 sixteen_digits n = encode_lower (to_be_bytes w64 n)
 
+-- A number of 32 bits in eight digits.
 abbrev pub eight_digits : ℕ → List ℕ
 eight_digits n = encode_lower (to_be_bytes w32 n)
 
+-- The word for an access that writes or reads.
 abbrev pub access_name : Bool → List ℕ
 access_name true = codes "write"
 access_name false = codes "read"
@@ -53,12 +55,15 @@ abbrev pub output_parts : List ℕ → List (List ℕ)
 output_parts [] = codes "0" ∷ []
 output_parts (b ∷ more) = decimal (length (b ∷ more)) ∷ codes " " ∷ encode_lower (b ∷ more) ∷ []
 
+-- A line with a label and a number.
 abbrev pub number_line : List ℕ → ℕ → List ℕ
 number_line label n = line (label ∷ decimal n ∷ [])
 
+-- The line of a status.
 abbrev pub status_line : Status → List ℕ
 status_line s = line (codes "status " ∷ status_parts s)
 
+-- The line of an output.
 abbrev pub output_line : List ℕ → List ℕ
 output_line bytes = line (codes "output " ∷ output_parts bytes)
 

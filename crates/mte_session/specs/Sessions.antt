@@ -33,9 +33,11 @@ call_of files (event.Admit id image input terms) = Admit id (start_at files imag
 call_of files (event.Slice id steps) = Slice id steps
 call_of files (event.Stop id) = Stop id
 
+-- The calls that the events of a script make.
 abbrev pub calls_of : List (List ℕ) → List Event → List Call
 calls_of files events = map (call_of files) events
 
+-- The session of a script over files.
 abbrev pub session_of : ℕ → List (List ℕ) → List Event → Session
 session_of frames files events = record { frames = frames; calls = calls_of files events }
 
@@ -53,12 +55,15 @@ refused_text r =
     line (codes "refused " ∷ decimal r.event ∷ codes " "
     ∷ prefix_of r.refusal ∷ refusal_name r.refusal ∷ [])
 
+-- The lines of all refused events.
 abbrev pub refused_texts : List Refused → List ℕ
 refused_texts refusals = concat (map refused_text refusals)
 
+-- The lines of a tenant.
 abbrev pub tenant_text : Tenant → List ℕ
 tenant_text t = record_text (record_of t.held)
 
+-- The lines of all tenants, in the order of their admissions.
 abbrev pub tenant_texts : List Tenant → List ℕ
 tenant_texts ts = concat (map tenant_text ts)
 
@@ -66,6 +71,7 @@ tenant_texts ts = concat (map tenant_text ts)
 abbrev pub life_text : Life → List ℕ
 life_text life = tenant_text (tenant_of life)
 
+-- The lines of all tenants of a session.
 abbrev pub life_texts : List Life → List ℕ
 life_texts all = concat (map life_text all)
 

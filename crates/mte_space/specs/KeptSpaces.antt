@@ -10,6 +10,7 @@ use Rattle.mte_space.specs.Spaces.{KeepsRest, NoneEnters}
 use Rattle.mte_space.specs.SpaceMemory.{IsKept, SameBorrows}
 use Rattle.mte_space.specs.declared.space.Space.{Space}
 
+-- A call that does nothing leaves the rest.
 pub rest_same : (k : ℕ) (p : Pool) (t : Root) → KeepsRest k p p t t
 rest_same k p t =
     record {
@@ -20,6 +21,7 @@ rest_same k p t =
       taken = λ x e. e;
     }
 
+-- Two calls that leave the rest leave it together.
 pub rest_on :
     (k : ℕ) (p n m : Pool) (t u v : Root) → KeepsRest k p n t u → KeepsRest k n m u v
     → KeepsRest k p m t v
@@ -31,11 +33,13 @@ rest_on k p n m t u v a b = record {
   taken = λ x e. b.taken x (a.taken x e);
 }
 
+-- No translation comes into a buffer that stays.
 pub none_enters_same : (asid : ℕ) (ts : List Translation) → NoneEnters asid ts ts
 none_enters_same asid ts =
     All-weaker (Contains ts) (λ u. u.asid ≢ asid → Contains ts u) (λ u c d. c) ts
     (All-contains_itself ts)
 
+-- No translation comes in by two calls by which none does.
 pub none_enters_on :
     (asid : ℕ) (ts us vs : List Translation) → NoneEnters asid ts us → NoneEnters asid us vs
     → NoneEnters asid ts vs
@@ -43,9 +47,11 @@ none_enters_on asid ts us vs h k =
     All-weaker (λ v. v.asid ≢ asid → Contains us v) (λ v. v.asid ≢ asid → Contains ts v)
     (λ v c d. All-contains (λ u. u.asid ≢ asid → Contains ts u) us v h (c d) d) vs k
 
+-- The borrows are those that they are.
 pub same_borrows : (a : Space) → SameBorrows a a
 same_borrows a = record { pool = refl; table = refl; quota = refl; tlb = refl; state = refl }
 
+-- A call that does nothing keeps a space.
 pub kept_same : (a : Space) → IsKept a a
 kept_same a = record {
   borrows = same_borrows a;
@@ -56,6 +62,7 @@ kept_same a = record {
   entries = none_enters_same a.asid a.tlb.now;
 }
 
+-- Two calls that keep a space keep it together.
 pub kept_on : (a b c : Space) → IsKept a b → IsKept b c → IsKept a c
 kept_on a b c h k = record {
   borrows = record {

@@ -9,6 +9,7 @@ use Rattle.mte_space.specs.declared.space.Space.{Space}
 abbrev pub no_page : RememberedPage
 no_page = record { page = 0; frame = 0; attrs = record { 0 = 0 } }
 
+-- The remembered page with an index.
 abbrev pub remembered_in : Space → ℕ → RememberedPage
 remembered_in s i = get_or s.remembered i no_page
 
@@ -16,8 +17,10 @@ remembered_in s i = get_or s.remembered i no_page
 abbrev pub IsPlace : Space → ℕ → Type 0
 IsPlace s i = (i < length s.remembered) × ((remembered_in s i).page < 2 ^ 44)
 
+-- The number of a remembered page.
 abbrev pub number_in : Space → ℕ → ℕ
 number_in s i = (remembered_in s i).page
 
+-- The bytes, tags and attributes of a remembered page.
 abbrev pub page_in : Space → ℕ → Page
 page_in s i = page_of s.pool.now ((remembered_in s i).frame, (remembered_in s i).attrs)

@@ -10,6 +10,7 @@ use Rattle.mte_translate.specs.declared.tlb.Tlb.{Tlb}
 use Rattle.mte_space.specs.Spaces.{space_memory, KeepsRest, NoneEnters}
 use Rattle.mte_space.specs.declared.space.Space.{Space}
 
+-- The tagged memory of a space.
 abbrev pub memory_of : Space → Memory
 memory_of s = space_memory s.pool.now s.table.now s.limit s.state.now
 

@@ -20,6 +20,7 @@ use Rattle.mte_frames.specs.Pool.{Pool, KeepsOthers, taken_by, reserved_by}
 use Rattle.mte_translate.specs.Tables.{Root, pages_of, IsTable, MapsOnce}
 use Rattle.mte_translate.specs.declared.translation.Translation.{Translation}
 
+-- The page in a frame, with its attributes.
 abbrev pub page_of : Pool → ℕ × Attrs → Page
 page_of p t =
     record {
@@ -28,9 +29,11 @@ page_of p t =
       tags = (frame_at p.frames t.0).tags;
     }
 
+-- A finite map with each value replaced.
 unfoldable pub with_values : {X Y : Type 0} → (X → Y) → FinMap nat_cmp X → FinMap nat_cmp Y
 with_values g m = finite.from_sorted (map (λ e. (e.0, g e.1)) (finite.entries m))
 
+-- The memory of a table: each page is in the frame that the table names.
 unfoldable pub space_memory : Pool → Root → ℕ → TagState → Memory
 space_memory p t limit state =
     record { limit = limit; pages = with_values (page_of p) (pages_of p t.frame); state = state }
@@ -44,12 +47,14 @@ frames_to_come t limit = (limit - t.len) + (limit - t.leaves)
 abbrev pub HasFrames : Pool → ℕ → Root → ℕ → Type 0
 HasFrames p k t limit = taken_by p k + frames_to_come t limit ≤ reserved_by p k
 
+-- A table of quota k is the memory of a tenant of at most `limit` pages.
 pub record IsSpace (p : Pool) (k : ℕ) (t : Root) (limit : ℕ) : Type 0 where
   pub table : IsTable p k t
   pub once : MapsOnce (pages_of p t.frame)
   pub below : t.len ≤ limit
   pub frames : HasFrames p k t limit
 
+-- What a call of a tenant leaves of pool and table beside its pages.
 pub record KeepsRest (k : ℕ) (p n : Pool) (t u : Root) : Type 0 where
   pub others : KeepsOthers k p n
   pub reserved : reserved_by n k ≡ reserved_by p k
@@ -59,5 +64,6 @@ pub record KeepsRest (k : ℕ) (p n : Pool) (t u : Root) : Type 0 where
   -- as many frames as before are out beside those of pages and leaves
   pub taken : (x : ℕ) → taken_by p k ≡ x + t.len + t.leaves → taken_by n k ≡ x + u.len + u.leaves
 
+-- No translation of another ASID came into the lookaside buffer.
 abbrev pub NoneEnters : ℕ → List Translation → List Translation → Type 0
 NoneEnters asid ts us = All (λ u. u.asid ≢ asid → Contains ts u) us

@@ -44,9 +44,11 @@ pub record GaveAtMost (old new : ReadLog) (limit : ℕ) : Type 0 where
   pub given : new.given ≡ append_known old.given bytes
   pub most : length bytes ≤ limit
 
+-- No read failed.
 abbrev pub NoneFailed : ReadLog → ReadLog → Type 0
 NoneFailed old new = new.failures ≡ old.failures
 
+-- One read failed.
 abbrev pub FailedOnce : ReadLog → ReadLog → Type 0
 FailedOnce old new = new.failures ≡ add_known old.failures 1
 

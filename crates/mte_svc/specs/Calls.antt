@@ -37,6 +37,7 @@ number_of (UsableSize pointer) = USABLE_SIZE
 
 -- ---- those of a tenant
 
+-- The last heap calls of a tenant, the oldest first, and how many it made in all.
 pub record Calls : Type 0 where
   pub last : List AnsweredCall
   pub count : ℕ
@@ -50,9 +51,11 @@ with_call c call = record {
 
 -- ---- as numbers
 
+-- The heap call with a number and its arguments; another number is read as a usable_size.
 abbrev pub call_of : ℕ → ℕ → ℕ → HeapCall
 call_of n first second = unwrap_or (heap_call_of n first second) (UsableSize first)
 
+-- A call is read back from its number and its arguments.
 pub call_of-number_of :
     (c : HeapCall) → call_of (number_of c) (arguments_of c).0 (arguments_of c).1 ≡ c
 unfolding heap_call_of
@@ -63,6 +66,7 @@ call_of-number_of (Realloc pointer size) = refl
 call_of-number_of (Memalign alignment size) = refl
 call_of-number_of (UsableSize pointer) = refl
 
+-- The code of a call with its answer, by which proofs tell two apart.
 abbrev pub coded_call : Coded AnsweredCall
 coded_call =
     code_by (ℕ × (ℕ × (ℕ × ℕ))) (coded× coded_ℕ (coded× coded_ℕ (coded× coded_ℕ coded_ℕ)))
@@ -70,6 +74,7 @@ coded_call =
     (λ k. record { call = call_of k.0 k.1.0 k.1.1.0; answer = k.1.1.1 })
     (λ c. λ i. record { call = call_of-number_of c.call i; answer = c.answer })
 
+-- The code of the calls of a tenant, by which proofs tell two apart.
 abbrev pub coded_calls : Coded Calls
 coded_calls =
     code_by (List AnsweredCall × ℕ) (coded× (coded_list coded_call) coded_ℕ)
@@ -77,8 +82,10 @@ coded_calls =
     (λ k. record { last = k.0; count = k.1 })
     (λ _. refl)
 
+-- The calls that the code keeps.
 abbrev pub calls_of : Inside → Calls
 calls_of f = record { last = f.last.items; count = f.count }
 
+-- The list has memory for as many calls as are kept.
 abbrev pub IsRoomy : Inside → Type 0
 IsRoomy f = f.last.capacity ≡ KEPT_CALLS

@@ -19,6 +19,7 @@ heap_call_in p = heap_call_of (x_of p 8) (x_of p 0) (x_of p 1)
 abbrev pub world_in : TenantParts → Memory → World
 world_in p m = world_of m p.heap p.regs.rgsr
 
+-- The parts of a tenant with the heap and the generator of a world.
 abbrev pub with_world : TenantParts → World → TenantParts
 with_world p w = record p { heap = w.heap; regs = record p.regs { rgsr = w.rgsr } }
 
@@ -31,8 +32,10 @@ heap_service_cases p m call w (Ok answer) = resume_with
     (with_logged_call (with_world p w) (record { call = call; answer = answer }))
     w.memory answer
 
+-- The service that ends with the result of a heap call.
 abbrev pub finish_call : TenantParts → Memory → HeapCall → CallResult → Served
 finish_call p m call r = heap_service_cases p m call r.world r.answer
 
+-- What the service of a heap call makes of a tenant.
 unfoldable pub after_heap_service : TenantParts → Memory → HeapCall → Served
 after_heap_service p m call = finish_call p m call (after_call (world_in p m) call)

@@ -3,14 +3,17 @@ use Rattle.std.specs.Prelude.{◌≡◌, ℕ, ◌-◌, ◌≤◌, List, vec_len,
 use Rattle.std.specs.Coded.{Coded, code_by, coded×, coded_ℕ, coded_list}
 use Rattle.mte_svc.specs.declared.output.Output.TheInside.{Inside}
 
+-- What a tenant wrote, and how many bytes more it may write.
 pub record Written : Type 0 where
   pub bytes : List ℕ
   pub left : ℕ
 
+-- The code of an output, by which proofs tell two apart.
 abbrev pub coded_written : Coded Written
 coded_written = code_by (List ℕ × ℕ) (coded× (coded_list coded_ℕ) coded_ℕ)
     (λ w. (w.bytes, w.left)) (λ c. record { bytes = c.0; left = c.1 }) (λ _. refl)
 
+-- The output that the code keeps.
 abbrev pub written_of : Inside → Written
 written_of o = record {
   bytes = o.bytes.items;

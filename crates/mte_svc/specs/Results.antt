@@ -9,15 +9,18 @@ use Rattle.mte_svc.specs.declared.services.SvcEnd.{SvcEnd}
 use Rattle.mte_svc.specs.declared.services.SvcEnd.TheVariants.{Resume}
 use Rattle.mte_svc.specs.Calls.{with_call}
 
+-- Whether a tenant is running.
 abbrev pub is_running : Status → Bool
 is_running Running = true
 is_running other = false
 
+-- What a service leaves: the parts of the tenant, its memory, and how the service ends.
 pub record Served : Type 0 where
   pub parts : TenantParts
   pub memory : Memory
   pub end : SvcEnd
 
+-- The register X with a number.
 abbrev pub x_of : TenantParts → ℕ → ℕ
 x_of p n = slice_index p.regs.x n
 
@@ -27,6 +30,7 @@ with_answer p value = record p {
   regs = record p.regs { x = slice_set p.regs.x 0 value; pc = (p.regs.pc + 4) % 2 ^ 56 };
 }
 
+-- The tenant goes on, with a value in x0.
 abbrev pub resume_with : TenantParts → Memory → ℕ → Served
 resume_with p m value = record { parts = with_answer p value; memory = m; end = Resume }
 

@@ -14,9 +14,11 @@ use Rattle.mte_svc.specs.HeapServices.{heap_call_in, after_heap_service}
 
 -- ---- write: the x1 bytes at x0, or as many as there is room for, by one checked read
 
+-- How many bytes a write takes: those that were requested, as far as there is room for output.
 abbrev pub write_count : TenantParts → ℕ
 write_count p = min (x_of p 1) p.log.output.left
 
+-- The parts with n bytes more of output.
 abbrev pub with_output : TenantParts → List ℕ → ℕ → TenantParts
 with_output p bytes n = record p {
   log = record p.log {
@@ -32,12 +34,14 @@ write_cases (Some fault) p m n = ends p m (Fault fault)
 write_cases None p m n =
     resume_with (with_output p (read_bytes m (x_of p 0) n) n) (after_read m (x_of p 0) n true) n
 
+-- Service 1, write: bytes of memory go to the output, and x0 tells how many.
 unfoldable pub after_write_service : TenantParts → Memory → Served
 after_write_service p m =
     write_cases (read_fault m (x_of p 0) (write_count p) true) p m (write_count p)
 
 -- ---- read: the next x1 bytes of the input to x0, or as many as are left, by one checked write
 
+-- How many bytes a read gives: those that were requested, as far as there is input.
 abbrev pub read_count : TenantParts → ℕ
 read_count p = min (x_of p 1) (length p.input)
 
@@ -47,6 +51,7 @@ read_cases None p m n =
     resume_with (record p { input = drop n p.input })
     (after_write m (x_of p 0) (take n p.input) true) n
 
+-- Service 2, read: bytes of the input go to memory, and x0 tells how many.
 unfoldable pub after_read_service : TenantParts → Memory → Served
 after_read_service p m =
     read_cases (write_fault m (x_of p 0) (read_count p) true) p m (read_count p)
@@ -68,6 +73,7 @@ by_number n p m =
     else (if n == PAGES_LEFT then resume_with p m (pages_left m)
     else resume_with p m no_such_service)))))
 
+-- A service that is no heap call, by its number in x8.
 unfoldable pub after_other_service : TenantParts → Memory → Served
 after_other_service p m = by_number (x_of p 8) p m
 
@@ -75,5 +81,6 @@ abbrev pub service_cases : Option HeapCall → TenantParts → Memory → Served
 service_cases (Some call) p m = after_heap_service p m call
 service_cases None p m = after_other_service p m
 
+-- What an SVC makes of a tenant: a heap call, or another service.
 unfoldable pub after_svc : TenantParts → Memory → Served
 after_svc p m = service_cases (heap_call_in p) p m

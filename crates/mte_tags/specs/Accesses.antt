@@ -30,13 +30,16 @@ unfoldable pub addresses : ℕ → ℕ → List ℕ
 addresses a zero = []
 addresses a (suc n) = a ∷ addresses ((a + 1) % 2 ^ 56) n
 
+-- The allocation tag of the granule that an address is in.
 abbrev pub granule_tag : Page → ℕ → ℕ
 granule_tag p a = slice_index p.tags (a % 4096 / 16)
 
+-- A fault of an access at an address, with the allocation tag there.
 abbrev pub fault : FaultKind → Access → ℕ → ℕ → MemFault
 fault kind x a tag =
     record { kind = kind; addr = a; write = x.write; ptr_tag = x.tag; mem_tag = tag }
 
+-- The fault of a byte whose granule has another tag than the pointer.
 abbrev pub tag_fault : Access → Page → ℕ → Option MemFault
 tag_fault x p a =
     if granule_tag p a == x.tag then None else Some (fault TagCheck x a (granule_tag p a))
@@ -56,6 +59,7 @@ fault_cases x (Some p) a = page_fault x p a
 unfoldable pub byte_fault : Memory → Access → ℕ → Option MemFault
 byte_fault m x a = fault_cases x (page_at m (a / 4096)) a
 
+-- The first of two faults, if any.
 abbrev pub or_else : Option MemFault → Option MemFault → Option MemFault
 or_else (Some f) g = Some f
 or_else None g = g
@@ -98,16 +102,20 @@ unfoldable pub after_access : Memory → Access → List ℕ → Memory
 after_access m x addrs =
     if (access_cases m.state.mode m x addrs).pending then with_pending m else m
 
+-- The result of an access with that fault, if any.
 abbrev pub result_of : Option MemFault → Result (Unit {0}) MemFault
 result_of None = Ok tt
 result_of (Some f) = Err f
 
+-- A load asks for READ (1).
 abbrev pub read_access : ℕ → Bool → Access
 read_access a check = record { need = 1; write = false; checked = check; tag = address_tag a }
 
+-- A store asks for WRITE (2).
 abbrev pub write_access : ℕ → Bool → Access
 write_access a check = record { need = 2; write = true; checked = check; tag = address_tag a }
 
+-- A fetch asks for EXEC (4), and compares no tag.
 abbrev pub fetch_access : ℕ → Access
 fetch_access a = record { need = 4; write = false; checked = false; tag = address_tag a }
 
@@ -175,9 +183,11 @@ unfoldable pub granules : ℕ → ℕ → List ℕ
 granules a zero = []
 granules a (suc n) = a ∷ granules ((a + 16) % 2 ^ 56) n
 
+-- A store of tags asks for WRITE (2), and compares no tag.
 abbrev pub store_access : ℕ → Access
 store_access a = record { need = 2; write = true; checked = false; tag = address_tag a }
 
+-- A load of a tag asks for READ (1), and compares no tag.
 abbrev pub load_access : ℕ → Access
 load_access a = record { need = 1; write = false; checked = false; tag = address_tag a }
 
@@ -192,6 +202,7 @@ tags_fault m a n =
 unfoldable pub tag_load_fault : Memory → ℕ → Option MemFault
 tag_load_fault m a = byte_fault m (load_access a) (plain a / 16 * 16)
 
+-- The result of a load of a tag.
 abbrev pub tag_result : Option MemFault → ℕ → Result ℕ MemFault
 tag_result None t = Ok t
 tag_result (Some f) t = Err f

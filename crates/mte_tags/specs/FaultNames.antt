@@ -5,6 +5,7 @@ use Rattle.mte_tags.specs.declared.fault.FaultKind.TheVariants.{Translation, Per
 use Rattle.mte_tags.specs.declared.fault.FaultKind.TheVariants.{Alignment, SpAlignment}
 use Rattle.mte_tags.specs.declared.fault.FaultKind.TheVariants.{PcAlignment}
 
+-- The name of a kind of fault, as reports have it.
 abbrev pub kind_name : FaultKind → List ℕ
 kind_name Translation = codes "Translation"
 kind_name Permission = codes "Permission"

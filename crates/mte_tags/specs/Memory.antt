@@ -28,15 +28,19 @@ pub record Page : Type 0 where
   pub bytes : List ℕ
   pub tags : List ℕ
 
+-- A tagged memory: the most pages that it may have, a finite map of its pages, the tag mode and the
+-- flag.
 pub record Memory : Type 0 where
   pub limit : ℕ
   pub pages : FinMap nat_cmp Page
   pub state : TagState
 
+-- Whether the mode is the asynchronous one.
 abbrev pub is_async : TagMode → Bool
 is_async Sync = false
 is_async Async = true
 
+-- The mode with that answer.
 abbrev pub mode_of : Bool → TagMode
 mode_of false = Sync
 mode_of true = Async
@@ -45,6 +49,7 @@ pub mode_of-is_async : (mode : TagMode) → mode_of (is_async mode) ≡ mode
 mode_of-is_async Sync = refl
 mode_of-is_async Async = refl
 
+-- The code of a tag state, by which proofs tell two apart.
 abbrev pub coded_state : Coded TagState
 coded_state =
     code_by (Bool × Bool) (coded× coded_bool coded_bool)
@@ -52,6 +57,7 @@ coded_state =
     (λ c. record { mode = mode_of c.0; pending = c.1 })
     (λ s. λ i. record { mode = mode_of-is_async s.mode i; pending = s.pending })
 
+-- The code of a page, by which proofs tell two apart.
 abbrev pub coded_page : Coded Page
 coded_page =
     code_by (ℕ × (List ℕ × List ℕ))
@@ -60,6 +66,7 @@ coded_page =
     (λ c. record { attrs = c.0; bytes = c.1.0; tags = c.1.1 })
     (λ _. refl)
 
+-- The code of a memory, by which proofs tell two apart.
 abbrev pub coded_memory : Coded Memory
 coded_memory =
     code_by (ℕ × (FinMap nat_cmp Page × TagState))
@@ -68,15 +75,19 @@ coded_memory =
     (λ c. record { limit = c.0; pages = c.1.0; state = c.1.1 })
     (λ _. refl)
 
+-- The page with a number, if it is mapped.
 unfoldable pub page_at : Memory → ℕ → Option Page
 page_at m q = map.get m.pages q
 
+-- The memory with a page put in or replaced.
 unfoldable pub with_page : Memory → ℕ → Page → Memory
 with_page m q p = record m { pages = map.insert m.pages q p }
 
+-- The memory without the page with a number.
 unfoldable pub without_page : Memory → ℕ → Memory
 without_page m q = record m { pages = map.remove m.pages q }
 
+-- How many pages may still be mapped.
 unfoldable pub pages_left : Memory → ℕ
 pages_left m = m.limit - map.len m.pages
 
@@ -85,6 +96,7 @@ unfoldable pub no_pages : ℕ → TagMode → Memory
 no_pages limit mode =
     record { limit = limit; pages = map.empty; state = record { mode = mode; pending = false } }
 
+-- The memory with its flag set (TFSRE0_EL1.TF0).
 unfoldable pub with_pending : Memory → Memory
 with_pending m = record m { state = record m.state { pending = true } }
 

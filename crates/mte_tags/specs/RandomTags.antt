@@ -41,10 +41,12 @@ offset_of seed d = random_number seed (16 + 4 * d) 4
 abbrev pub seed_after : ℕ → ℕ → ℕ
 seed_after seed d = random_number seed (4 * d) 16
 
+-- A tag that was drawn, and the generator after it.
 pub record Drawn : Type 0 where
   pub tag : ℕ
   pub rgsr : Rgsr
 
+-- The tag that a draw gives, by the offset of the seed (RandomTag).
 abbrev pub drawn_tag : Rgsr → ℕ → ℕ
 drawn_tag r exclude = chosen_tag r.tag (offset_of r.seed 0) exclude
 

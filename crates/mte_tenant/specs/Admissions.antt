@@ -2,5 +2,6 @@
 use Rattle.mte_tenant.specs.declared.admission.Admission.{Admission}
 use Rattle.mte_tenant.specs.Machines.{Start}
 
+-- What a tenant of this admission starts with.
 abbrev pub start_in : Admission → Start
 start_in a = record { image = a.image.now; input = a.input.now; terms = a.terms }

@@ -35,18 +35,23 @@ pub record LedgerEntry : Type 0 where
 abbrev pub charge_of : ℕ → ℕ
 charge_of pages = 2 * pages + 1
 
+-- The frames that an entry is charged: none once it was stopped.
 abbrev pub charge_of_entry : LedgerEntry → ℕ
 charge_of_entry e = if e.live then charge_of e.pages else 0
 
+-- Whether an entry was not stopped yet.
 abbrev pub is_live : LedgerEntry → Bool
 is_live e = e.live
 
+-- The numbers of entries.
 abbrev pub numbers_of : List LedgerEntry → List ℕ
 numbers_of es = map (λ e. e.id) es
 
+-- Whether an entry has the number.
 abbrev pub has_id : ℕ → LedgerEntry → Bool
 has_id id e = e.id == id
 
+-- Whether an entry has the number and was not stopped yet.
 abbrev pub has_live_id : ℕ → LedgerEntry → Bool
 has_live_id id e = e.live && (e.id == id)
 
@@ -58,6 +63,7 @@ first_of [] = None
 first_of (Some e ∷ more) = Some e
 first_of (None ∷ more) = first_of more
 
+-- A refusal where a test holds.
 abbrev pub refuse_if : Bool → AdmitError → Option AdmitError
 refuse_if test e = if test then Some e else None
 
@@ -89,6 +95,7 @@ unfoldable pub admission_refusal : ℕ → List LedgerEntry → ℕ → Start �
 admission_refusal frames ledger id start =
     first_of (admission_tests (facts_of frames ledger id) start)
 
+-- NotLive, unless there is a live tenant.
 abbrev pub unless_live : Bool → Option Refusal
 unless_live live = if live then None else Some refusal.NotLive
 
@@ -101,12 +108,15 @@ call_refusal frames ledger (Stop id) = unless_live (list_any (has_live_id id) le
 
 -- ---- what an accepted call makes of the ledger
 
+-- An entry, stopped where it has the number.
 abbrev pub without_live : ℕ → LedgerEntry → LedgerEntry
 without_live id e = if e.id == id then record e { live = false } else e
 
+-- The entry of an accepted admission.
 abbrev pub new_entry : ℕ → ℕ → LedgerEntry
 new_entry id pages = record { id = id; pages = pages; live = true }
 
+-- The ledger after an accepted call.
 abbrev pub ledger_after : List LedgerEntry → Call → List LedgerEntry
 ledger_after ledger (Admit id start) = ledger ++ new_entry id start.terms.pages ∷ []
 ledger_after ledger (Slice id steps) = ledger

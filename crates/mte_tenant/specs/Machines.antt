@@ -29,12 +29,15 @@ pub record Machine : Type 0 where
   pub parts : TenantParts
   pub memory : Memory
 
+-- A machine of its parts and its memory.
 abbrev pub machine_of : TenantParts → Memory → Machine
 machine_of p m = record { parts = p; memory = m }
 
+-- Whether a machine is running.
 abbrev pub runs : Machine → Bool
 runs m = is_running m.parts.log.status
 
+-- A machine with another status.
 abbrev pub with_status : Machine → Status → Machine
 with_status m s =
     record m { parts = record m.parts { log = record m.parts.log { status = s } } }
@@ -60,6 +63,7 @@ first_memory image pages mode =
     with_new_pages (with_segments image (no_pages pages mode) (segments_of image))
     (STACK_START / PAGE_SIZE) STACK_PAGES (record { 0 = 11 })
 
+-- The parts of a tenant before its first instruction.
 unfoldable pub first_parts : ℕ → Start → TenantParts
 first_parts id start = record {
   log = record {
@@ -75,6 +79,7 @@ first_parts id start = record {
   left = 0;
 }
 
+-- The machine of a tenant before its first instruction.
 unfoldable pub start_of : ℕ → Start → Machine
 start_of id start =
     machine_of (first_parts id start) (first_memory start.image start.terms.pages start.terms.mode)
@@ -86,6 +91,7 @@ pub record Attempt : Type 0 where
   pub machine : Machine
   pub goes_on : Bool
 
+-- An attempt after which the slice goes on.
 abbrev pub continues : Machine → Attempt
 continues m = record { machine = m; goes_on = true }
 
@@ -98,6 +104,7 @@ after_service (end.Fault fault) m = continues (with_status m (Faulted fault m.pa
 after_service (end.Abort abort pointer) m =
     continues (with_status m (Aborted abort pointer m.parts.regs.pc))
 
+-- An attempt that a service ended.
 abbrev pub with_service : Served → Attempt
 with_service s = after_service s.end (machine_of s.parts s.memory)
 
@@ -125,6 +132,7 @@ with_steps n left p = record p {
   left = left;
 }
 
+-- Parts with other registers.
 abbrev pub with_regs : TenantParts → Regs → TenantParts
 with_regs p regs = record p { regs = regs }
 

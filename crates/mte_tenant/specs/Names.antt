@@ -17,9 +17,11 @@ admit_name ReservationTooSmall = codes "ReservationTooSmall"
 admit_name NoFrames = codes "NoFrames"
 admit_name TooManyLive = codes "TooManyLive"
 
+-- The name of the refusal of a slice or a stop.
 abbrev pub not_live_name : List ℕ
 not_live_name = codes "NotLive"
 
+-- The name of a refusal.
 abbrev pub refusal_name : Refusal → List ℕ
 refusal_name (refusal.Admit e) = admit_name e
 refusal_name refusal.NotLive = not_live_name

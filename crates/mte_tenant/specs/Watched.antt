@@ -11,6 +11,7 @@ pub data Shown : Type 0 where
 abbrev pub WatchLog : Type 0
 WatchLog = Option (List Shown)
 
+-- A log with more that was shown.
 abbrev pub with_shown : WatchLog → List Shown → WatchLog
 with_shown log more = option_map (λ shown. shown ++ more) log
 

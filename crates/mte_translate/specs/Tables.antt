@@ -27,10 +27,12 @@ use Rattle.mte_tags.specs.declared.attrs.Attrs.{Attrs}
 use Rattle.mte_translate.specs.declared.entries.TheConstants.{TABLE_PAGES}
 use Rattle.mte_translate.specs.declared.translation.Translation.{Translation}
 
+-- Entry i of the table in frame f: eight bytes, the lowest first.
 unfoldable pub entry_at : Pool → ℕ → ℕ → ℕ
 entry_at p f i =
     from_le_bytes w64 (slice_range (frame_at p.frames f).bytes (8 * i) (8 * i + 8))
 
+-- Bit 0 of an entry says that it is valid.
 abbrev pub is_valid : ℕ → Bool
 is_valid e = e % 2 == 1
 
@@ -38,6 +40,7 @@ is_valid e = e % 2 == 1
 abbrev pub count_in : ℕ → ℕ
 count_in e = e / 2 % 1024
 
+-- The frame of the leaf that an entry of the root names.
 abbrev pub leaf_in : ℕ → ℕ
 leaf_in e = e / 2048
 
@@ -45,9 +48,11 @@ leaf_in e = e / 2048
 abbrev pub attrs_in : ℕ → Attrs
 attrs_in e = record { 0 = e / 2 % 256 }
 
+-- The frame of the page that an entry of a leaf names.
 abbrev pub frame_in : ℕ → ℕ
 frame_in e = e / 512
 
+-- Whether the root has a leaf for a page.
 abbrev pub has_leaf : Pool → ℕ → ℕ → Bool
 has_leaf p root q = is_valid (entry_at p root (q / 512))
 
@@ -55,16 +60,21 @@ has_leaf p root q = is_valid (entry_at p root (q / 512))
 abbrev pub missing_leaf : Pool → ℕ → ℕ → ℕ
 missing_leaf p root q = if has_leaf p root q then 0 else 1
 
+-- The entry that the walk for a page finds: that of the leaf which the root names; 0 without a
+-- leaf.
 unfoldable pub walk_at : Pool → ℕ → ℕ → ℕ
 walk_at p root q =
     if has_leaf p root q then entry_at p (leaf_in (entry_at p root (q / 512))) (q % 512) else 0
 
+-- The frame and the attributes of a valid entry.
 abbrev pub translation_in : ℕ → Option (ℕ × Attrs)
 translation_in e = if is_valid e then Some (frame_in e, attrs_in e) else None
 
+-- What a page is mapped to.
 abbrev pub translation_at : Pool → ℕ → ℕ → Option (ℕ × Attrs)
 translation_at p root q = translation_in (walk_at p root q)
 
+-- A list with a key and its value put before it, where there is a value.
 abbrev pub before : {X : Type 0} → ℕ → Option X → List (ℕ × X) → List (ℕ × X)
 before q None more = more
 before q (Some x) more = (q, x) ∷ more
@@ -78,9 +88,11 @@ entries_from g q (suc n) = before q (g q) (entries_from g (q + 1) n)
 unfoldable pub map_below : {X : Type 0} → ℕ → (ℕ → Option X) → FinMap nat_cmp X
 map_below n g = map.from_entries (entries_from g 0 n)
 
+-- What each mapped page is mapped to: its frame and its attributes.
 abbrev pub Pages : Type 0
 Pages = FinMap nat_cmp (ℕ × Attrs)
 
+-- The finite map of all pages of a table.
 unfoldable pub pages_of : Pool → ℕ → Pages
 pages_of p root = map_below TABLE_PAGES (translation_at p root)
 
@@ -115,6 +127,7 @@ pub record IsTree (p : Pool) (k root : ℕ) (use_of : ℕ → ℕ) : Type 0 wher
   pub counted : (s : ℕ) → s < 512 → is_valid (entry_at p root s) ≡ true
       → count_in (entry_at p root s) ≡ valid_in p (leaf_in (entry_at p root s)) 512
 
+-- A tree with the use of each frame.
 pub record IsTreeOf (p : Pool) (k root : ℕ) : Type 0 where
   pub use_of : ℕ → ℕ
   pub tree : IsTree p k root use_of
@@ -150,6 +163,7 @@ pub record Root : Type 0 where
   pub len : ℕ
   pub leaves : ℕ
 
+-- A table whose tree is sound and has no empty leaf, with the counts of its pages and leaves.
 pub record IsTable (p : Pool) (k : ℕ) (t : Root) : Type 0 where
   pub tree : IsSoundTree p k t.frame
   pub tight : IsTight p t.frame
@@ -174,10 +188,12 @@ pub record Stays (k : ℕ) (t : Root) (p n : Pool) : Type 0 where
   pub pages : pages_of n t.frame ≡ pages_of p t.frame
   pub apart : (f : ℕ) → IsApart p t.frame f → IsApart n t.frame f
 
+-- No frame is that of two pages.
 abbrev pub MapsOnce : Pages → Type 0
 MapsOnce m =
     (q r f : ℕ) (a b : Attrs) → map.get m q ≡ Some (f, a) → map.get m r ≡ Some (f, b) → q ≡ r
 
+-- A frame is that of no page.
 abbrev pub MapsNever : Pages → ℕ → Type 0
 MapsNever m f = (q : ℕ) (a : Attrs) → map.get m q ≢ Some (f, a)
 
@@ -186,8 +202,10 @@ pub record IsFirst (m : Pages) (q : ℕ) : Type 0 where
   pub mapped : map.get m q ≢ None
   pub least : (r : ℕ) → r < q → map.get m r ≡ None
 
+-- A translation of this ASID is what the table maps.
 abbrev pub Agrees : Pages → ℕ → Translation → Type 0
 Agrees m asid t = t.asid ≡ asid → map.get m t.page ≡ Some (t.frame, t.attrs)
 
+-- Each translation of this ASID is what the table maps.
 abbrev pub IsCached : Pages → ℕ → List Translation → Type 0
 IsCached m asid ts = All (Agrees m asid) ts

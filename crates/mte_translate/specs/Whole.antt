@@ -11,12 +11,15 @@ use Rattle.mte_translate.specs.Translations.{IsOneEach}
 use Rattle.mte_translate.specs.declared.translation.Translation.{Translation}
 use Rattle.mte_translate.specs.declared.tlb.Tlb.TheInside.{Inside}
 
+-- The hash of an ASID and a page, below 256.
 abbrev pub hash_of : ℕ → ℕ → ℕ
 hash_of asid page = (page % 256 + page / 1024 % 256 + asid % 256 * 67) % 256
 
+-- The hashes of translations, in their order.
 abbrev pub hashes_of : List Translation → List ℕ
 hashes_of ts = map (λ t. hash_of t.asid t.page) ts
 
+-- The translations of one hash are a chain, from the newest at its head to the oldest.
 pub record IsChained (first : ℕ) (heads gaps hs : List ℕ) : Type 0 where
   pub most : (h : ℕ) → slice_index heads h ≤ first + length hs
   -- none of a hash is newer than its head, and its head has the hash
@@ -30,9 +33,11 @@ pub record IsChained (first : ℕ) (heads gaps hs : List ℕ) : Type 0 where
       (i j : ℕ) → j < length hs → i + 1 + slice_index gaps (first + j) ≡ j
       → slice_index hs i ≡ slice_index hs j
 
+-- The translations of a lookaside buffer.
 abbrev pub translations_of : Inside → List Translation
 translations_of f = f.translations.items
 
+-- No translation is there twice, and the chains are those of the hashes.
 pub record IsTlb (f : Inside) : Type 0 where
   pub one_each : IsOneEach (translations_of f)
   pub chained :

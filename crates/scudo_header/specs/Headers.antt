@@ -13,12 +13,14 @@ use Rattle.scudo_header.specs.declared.headers.State.TheVariants.{Reserved}
 use Rattle.scudo_header.specs.declared.headers.Origin.{Origin}
 use Rattle.scudo_header.specs.declared.headers.Origin.TheVariants.{Malloc, New, NewArray, Memalign}
 
+-- The two bits of a state (Scudo, chunk.h, Chunk::State).
 abbrev pub state_number : State → ℕ
 state_number Available = 0
 state_number Allocated = 1
 state_number Quarantined = 2
 state_number Reserved = 3
 
+-- The two bits of an origin (Scudo, chunk.h, Chunk::Origin).
 abbrev pub origin_number : Origin → ℕ
 origin_number Malloc = 0
 origin_number New = 1
@@ -45,21 +47,25 @@ checksum_of cookie pointer word =
     fold with_byte (cookie % 2 ^ 16)
     (to_le_bytes w64 (plain pointer) ++ to_le_bytes w64 (word % 2 ^ 48))
 
+-- The word of a header, with its checksum.
 unfoldable pub packed_header : ℕ → ℕ → Header → ℕ
 packed_header cookie pointer h = header_word h + 2 ^ 48 * checksum_of cookie pointer (header_word h)
 
 -- ---- unpacking
 
+-- The state with these two bits.
 abbrev pub state_of : ℕ → State
 state_of n =
     if n == 0
     then Available
     else (if n == 1 then Allocated else (if n == 2 then Quarantined else Reserved))
 
+-- The origin with these two bits.
 abbrev pub origin_of : ℕ → Origin
 origin_of n =
     if n == 0 then Malloc else (if n == 1 then New else (if n == 2 then NewArray else Memalign))
 
+-- The fields of a word.
 abbrev pub header_of : ℕ → Header
 header_of word = record {
   class_id = word % 2 ^ 8;
@@ -69,6 +75,7 @@ header_of word = record {
   offset = field_of 32 16 word;
 }
 
+-- The header of a word whose checksum is right.
 unfoldable pub unpacked_header : ℕ → ℕ → ℕ → Option Header
 unpacked_header cookie pointer word =
     if field_of 48 16 word == checksum_of cookie pointer word then Some (header_of word) else None

@@ -4,6 +4,7 @@ use Rattle.std.specs.Prelude.{◌≤◌, vec_capacity}
 use Rattle.scudo_secondary.specs.Mappings.{SecondaryState, AreMappings, pages_of}
 use Rattle.scudo_secondary.specs.declared.maps.Secondary.TheInside.{Inside}
 
+-- The mappings that the code keeps.
 abbrev pub secondary_state : Inside → SecondaryState
 secondary_state f = record { limit = vec_capacity f.mappings; mappings = f.mappings.items }
 

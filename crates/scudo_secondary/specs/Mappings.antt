@@ -14,6 +14,7 @@ pub record SecondaryState : Type 0 where
   pub limit : ℕ
   pub mappings : List Mapping
 
+-- The code of a mapping, by which proofs tell two apart.
 abbrev pub coded_mapping : Coded Mapping
 coded_mapping =
     code_by (ℕ × (ℕ × ℕ)) (coded× coded_ℕ (coded× coded_ℕ coded_ℕ))
@@ -21,6 +22,7 @@ coded_mapping =
     (λ c. record { start = c.0; pages = c.1.0; user = c.1.1 })
     (λ _. refl)
 
+-- The code of the mappings, by which proofs tell two apart.
 abbrev pub coded_maps : Coded SecondaryState
 coded_maps =
     code_by (ℕ × List Mapping) (coded× coded_ℕ (coded_list coded_mapping))
@@ -32,6 +34,7 @@ coded_maps =
 abbrev pub end_of : Mapping → ℕ
 end_of m = m.start + PAGE_SIZE * m.pages
 
+-- The pages that mappings have together.
 abbrev pub pages_of : List Mapping → ℕ
 pages_of ms = sum_by (λ m. m.pages) ms
 
@@ -77,6 +80,8 @@ abbrev pub AreFrom : ℕ → List Mapping → Type 0
 AreFrom least [] = least ≤ SECONDARY_END
 AreFrom least (m ∷ more) = IsMapping least m × AreFrom (end_of m + PAGE_SIZE) more
 
+-- Mappings in the order of their starts, with a page between neighbours, in the range of chunks
+-- with pages of their own.
 unfoldable pub AreMappings : List Mapping → Type 0
 AreMappings ms = AreFrom (SECONDARY_START + PAGE_SIZE) ms
 

@@ -14,6 +14,7 @@ use Rattle.tombolopan_c.specs.declared.codes.TheConstants.{TAG_CHECK, ALIGNMENT,
 use Rattle.tombolopan_c.specs.declared.codes.TheConstants.{PC_ALIGNMENT, PAGES}
 use Rattle.tombolopan_c.specs.declared.faults.FaultReport.{FaultReport}
 
+-- The number of a kind of fault.
 abbrev pub kind_code : FaultKind → ℕ
 kind_code kind.Translation = TRANSLATION
 kind_code kind.Permission = PERMISSION
@@ -22,9 +23,11 @@ kind_code kind.Alignment = ALIGNMENT
 kind_code kind.SpAlignment = SP_ALIGNMENT
 kind_code kind.PcAlignment = PC_ALIGNMENT
 
+-- What is reported where there is no fault.
 abbrev pub no_fault : FaultReport
 no_fault = record { addr = 0; kind = 0; write = 0; ptr_tag = 0; mem_tag = 0 }
 
+-- A fault in numbers.
 abbrev pub report_of : MemFault → FaultReport
 report_of f =
     record {
@@ -35,10 +38,12 @@ report_of f =
       mem_tag = f.mem_tag;
     }
 
+-- A fault in numbers, if there is one.
 abbrev pub fault_report : Option MemFault → FaultReport
 fault_report None = no_fault
 fault_report (Some f) = report_of f
 
+-- The code of a call that may fault.
 abbrev pub fault_code : Option MemFault → ℕ
 fault_code None = OK
 fault_code (Some f) = FAULT
@@ -47,6 +52,7 @@ fault_code (Some f) = FAULT
 abbrev pub tags_code : ℕ → Option MemFault → ℕ
 tags_code t o = if nat_lt t 16 then fault_code o else BAD_ARGUMENT
 
+-- The fault of a store of tags; a tag of 16 or more is a bad argument, and no fault.
 abbrev pub tags_report : ℕ → Option MemFault → FaultReport
 tags_report t o = if nat_lt t 16 then fault_report o else no_fault
 
@@ -57,6 +63,7 @@ map_code m room q attrs =
     then (if is_some (page_at m q) then ALREADY_MAPPED else (if room then OK else NO_ROOM))
     else BAD_ARGUMENT
 
+-- The code of an unmapping.
 abbrev pub unmap_code : Memory → ℕ → ℕ
 unmap_code m q = if is_some (page_at m q) then OK else NOT_MAPPED
 

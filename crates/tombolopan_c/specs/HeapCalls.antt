@@ -27,20 +27,25 @@ use Rattle.tombolopan_c.specs.declared.lent_heap.LentHeapCall.{LentHeapCall}
 
 -- ---- the heap that a setup asks for
 
+-- Whether a heap may be made: of 1 to MAX_PAGES pages.
 abbrev pub is_setup : HeapSetup → Bool
 is_setup s = nat_lt 0 s.pages && nat_le s.pages MAX_PAGES
 
+-- The tag mode of a setup.
 abbrev pub mode_of : HeapSetup → TagMode
 mode_of s = mode_for (not (s.asynchronous == 0))
 
+-- The generator that a setup begins with.
 abbrev pub rgsr_of : HeapSetup → Rgsr
 rgsr_of s = record { tag = s.rgsr_tag % 16; seed = s.rgsr_seed }
 
+-- The world that a setup begins with: no pages, and an empty heap.
 abbrev pub start_of : HeapSetup → World
 start_of s = world_of (no_pages s.pages (mode_of s)) (empty_heap s.cookie s.pages) (rgsr_of s)
 
 -- ---- a call
 
+-- The operation that a call of C asks for, if it is one.
 abbrev pub op_of : LentHeapCall → Option HeapOp
 op_of c =
     if c.op == MALLOC then Some (op.Call (heap.Malloc c.first))
@@ -54,6 +59,7 @@ op_of c =
     else if c.op == LOAD_TAG then Some (op.LoadTag c.first)
     else None
 
+-- The number of an abort of the heap.
 abbrev pub abort_code : HeapAbort → ℕ
 abort_code abort.Misaligned = MISALIGNED
 abort_code abort.Unmapped = UNMAPPED
@@ -62,15 +68,18 @@ abort_code abort.InvalidState = INVALID_STATE
 abort_code abort.NotABlock = NOT_A_BLOCK
 abort_code abort.AlreadyFree = ALREADY_FREE
 
+-- A call with its answer.
 abbrev pub with_heap_answer : LentHeapCall → HeapAnswer → LentHeapCall
 with_heap_answer c (answer.Value v) = record c { code = OK; answer = v; fault = no_fault }
 with_heap_answer c (answer.Abort a) =
     record c { code = ABORT; answer = abort_code a; fault = no_fault }
 with_heap_answer c (answer.Fault f) = record c { code = FAULT; answer = 0; fault = report_of f }
 
+-- A call that is marked as no operation.
 abbrev pub with_bad_argument : LentHeapCall → LentHeapCall
 with_bad_argument c = record c { code = BAD_ARGUMENT; answer = 0; fault = no_fault }
 
+-- What a call leaves: the world, and the call with its answer.
 pub record MadeCall : Type 0 where
   pub world : World
   pub call : LentHeapCall
@@ -84,6 +93,7 @@ heap_call_cases w c (Some o) =
           (after_operation w o).answer;
     }
 
+-- What a call of C makes of a world.
 abbrev pub after_heap_call : World → LentHeapCall → MadeCall
 after_heap_call w c = heap_call_cases w c (op_of c)
 

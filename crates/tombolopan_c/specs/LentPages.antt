@@ -12,10 +12,12 @@ use Rattle.mte_tags.specs.declared.state.TagState.{TagState}
 use Rattle.tombolopan_c.specs.declared.lent.LentTagState.{LentTagState}
 use Rattle.tombolopan_c.specs.declared.lent_page.LentPage.{LentPage}
 
+-- The page in a place; of attributes and tags the low four bits count.
 abbrev pub page_of : LentPage → Page
 page_of p =
     record { attrs = p.attrs % 16; bytes = p.bytes; tags = map (λ t. t % 16) p.tags }
 
+-- Whether a place holds the page with a number.
 abbrev pub is_place_of : LentPage → ℕ → Bool
 is_place_of p q = not (p.mapped == 0) && p.number == q
 
@@ -25,13 +27,16 @@ entries_of [] = []
 entries_of (p ∷ more) =
     if p.mapped == 0 then entries_of more else (p.number, page_of p) ∷ entries_of more
 
+-- The memory in places: as many pages as places at most.
 unfoldable pub lent_memory : TagState → List LentPage → Memory
 lent_memory s pages =
     record { limit = length pages; pages = finite.from_entries (entries_of pages); state = s }
 
+-- The tag mode of a flag.
 abbrev pub mode_for : Bool → TagMode
 mode_for asynchronous = if asynchronous then Async else Sync
 
+-- The tag state in numbers; a number other than 0 is true.
 abbrev pub state_of : LentTagState → TagState
 state_of s =
     record { mode = mode_for (not (s.asynchronous == 0)); pending = not (s.pending == 0) }
@@ -46,6 +51,7 @@ abbrev pub NoneBefore : List LentPage → ℕ → ℕ → Type 0
 NoneBefore pages i q =
     (k : ℕ) (d : LentPage) → k < i → is_place_of (slice_index_or pages k d) q ≡ false
 
+-- No place holds the page.
 abbrev pub HasNone : List LentPage → ℕ → Type 0
 HasNone pages q = NoneBefore pages (length pages) q
 

@@ -14,11 +14,13 @@ flags_of nzcv =
       v = nzcv / 2 ^ 28 % 2 == 1;
     }
 
+-- The flags in bits 31 to 28 (NZCV).
 abbrev pub nzcv_of : Flags → ℕ
 nzcv_of f =
     (if f.n then 2 ^ 31 else 0) + (if f.z then 2 ^ 30 else 0)
     + (if f.c then 2 ^ 29 else 0) + (if f.v then 2 ^ 28 else 0)
 
+-- The registers that C lends.
 abbrev pub regs_of : LentRegs → Regs
 regs_of r =
     record {

@@ -20,6 +20,7 @@ use Rattle.tombolopan_c.specs.declared.session_end.SessionEnd.{SessionEnd}
 abbrev pub is_frames : ℕ → Bool
 is_frames frames = not (frames == 0) && nat_le frames MAX_FRAMES
 
+-- What a session is given: frames, the files and the script.
 abbrev pub lent_input : ℕ → List ℕ → List LentBytes → Input
 lent_input frames script files =
     record { frames = frames; files = lent_contents files; script = script }
@@ -33,19 +34,23 @@ Comes input (Err e) = FailsBy input e
 
 -- ---- what is told of it
 
+-- The number of a fault of a script.
 abbrev pub script_code : ScriptFault → ℕ
 script_code fault.Syntax = SYNTAX
 script_code fault.BadNumber = BAD_NUMBER
 script_code fault.NoSuchFile = NO_SUCH_FILE
 script_code fault.TooManyEvents = TOO_MANY_EVENTS
 
+-- The end of a session that writes no report.
 abbrev pub without_report : ℕ → SessionEnd
 without_report code = record { length = 0; line = 0; code = code; fault = 0 }
 
+-- The end of a session with a report, which the buffer holds or not.
 abbrev pub with_report : ℕ → Bool → SessionEnd
 with_report length fits =
     record { length = length; line = 0; code = if fits then OK else NO_ROOM; fault = 0 }
 
+-- The end of a session whose script has a faulty line.
 abbrev pub with_fault : ℕ → ScriptFault → SessionEnd
 with_fault line e = record { length = 0; line = line; code = SCRIPT; fault = script_code e }
 
@@ -56,6 +61,7 @@ end_told (Err (Script line e)) room = with_fault line e
 end_told (Err OutOfMemory) room = without_report OUT_OF_MEMORY
 end_told (Err Write) room = without_report OUT_OF_MEMORY
 
+-- What the buffer holds after a session.
 abbrev pub report_left : Result (List ℕ) SessionError → List ℕ → List ℕ
 report_left (Ok text) old = filled text old
 report_left (Err e) old = old

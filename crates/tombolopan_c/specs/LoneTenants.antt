@@ -28,6 +28,7 @@ use Rattle.tombolopan_c.specs.declared.status_report.StatusReport.{StatusReport}
 
 -- ---- the tenant
 
+-- What a tenant of C starts with.
 abbrev pub lent_start : LentTerms → Start
 lent_start t = record {
   image = t.image.now;
@@ -42,10 +43,12 @@ lent_start t = record {
 
 -- ---- what is told of its status
 
+-- A status with a number and PC, and no fault.
 abbrev pub plain_status : ℕ → ℕ → ℕ → StatusReport
 plain_status s number pc =
     record { status = s; number = number; pc = pc; pointer = 0; fault = no_fault }
 
+-- A status in numbers.
 abbrev pub status_told : Status → StatusReport
 status_told status.Running = plain_status code.STATUS_RUNNING 0 0
 status_told status.Stopped = plain_status code.STATUS_STOPPED 0 0
@@ -60,6 +63,7 @@ status_told (status.Aborted a pointer pc) =
 
 -- ---- what is told of its heap calls
 
+-- An answered heap call in numbers.
 abbrev pub call_told : AnsweredCall → KeptCall
 call_told c = record {
   service = number_of c.call;
@@ -70,6 +74,7 @@ call_told c = record {
 
 -- ---- what is told of its end
 
+-- The number of a refusal of an image.
 abbrev pub image_code : ElfError → ℕ
 image_code image.Short = code.SHORT
 image_code image.NotElf64 = code.NOT_ELF64
@@ -81,6 +86,7 @@ image_code image.SegmentRange = code.SEGMENT_RANGE
 image_code image.Overlap = code.OVERLAP
 image_code image.NoEntry = code.NO_ENTRY
 
+-- The number of a refusal of an admission; of an image it is that of the image.
 abbrev pub refusal_code : AdmitError → ℕ
 refusal_code refusal.Duplicate = code.DUPLICATE
 refusal_code refusal.BadReservation = code.BAD_RESERVATION
@@ -89,6 +95,7 @@ refusal_code refusal.ReservationTooSmall = code.RESERVATION_TOO_SMALL
 refusal_code refusal.NoFrames = code.NO_FRAMES
 refusal_code refusal.TooManyLive = code.TOO_MANY_LIVE
 
+-- The end of a tenant that was not admitted.
 abbrev pub without_tenant : ℕ → ℕ → AloneEnd
 without_tenant c r = record {
   steps = 0;
@@ -105,6 +112,7 @@ abbrev pub end_without : Obstacle AdmitError → AloneEnd
 end_without obstacle.OutOfMemory = without_tenant code.OUT_OF_MEMORY code.NO_REFUSAL
 end_without (obstacle.Refused e) = without_tenant code.REFUSED (refusal_code e)
 
+-- The end of a tenant with its record.
 abbrev pub told_end : ℕ → Record → AloneEnd
 told_end c r = record {
   steps = r.steps;
@@ -129,6 +137,7 @@ pub record Buffers : Type 0 where
   pub output : List ℕ
   pub calls : List KeptCall
 
+-- What the buffers hold after a tenant.
 abbrev pub buffers_after : Record → Buffers → Buffers
 buffers_after r old = record {
   output = filled r.output.bytes old.output;
@@ -143,10 +152,12 @@ IsAnswer t (Ok r) =
     (refusal_alone 0 (lent_start t) ≡ None) × (r ≡ record_after 0 (lent_start t) t.slices.now)
 IsAnswer t (Err o) = IfRefused o (λ e. refusal_alone 0 (lent_start t) ≡ Some e)
 
+-- The end of a tenant, or of an admission that is refused.
 abbrev pub alone_end : Result Record (Obstacle AdmitError) → Buffers → AloneEnd
 alone_end (Ok r) old = record_end r (length old.output) (length old.calls)
 alone_end (Err o) old = end_without o
 
+-- What the buffers hold in the end.
 abbrev pub buffers_left : Result Record (Obstacle AdmitError) → Buffers → Buffers
 buffers_left (Ok r) old = buffers_after r old
 buffers_left (Err o) old = old

@@ -12,6 +12,7 @@ use Rattle.tombolopan_c.specs.Stops.{stop_code, stop_report}
 use Rattle.tombolopan_c.specs.declared.codes.TheConstants.{STOPPED}
 use Rattle.tombolopan_c.specs.declared.stops.StopReport.{StopReport}
 
+-- Whether PC is one of the stops.
 abbrev pub is_among : List ℕ → ℕ → Bool
 is_among stops pc = list_any (λ a. a == pc) stops
 
@@ -22,6 +23,7 @@ pub record RanUntil : Type 0 where
   pub stop : Stop
   pub reached : Bool
 
+-- A run goes on after Next alone.
 abbrev pub goes_on : Outcome → RanUntil → RanUntil → RanUntil
 goes_on outcome.Next more stopped = more
 goes_on other more stopped = stopped
@@ -47,8 +49,10 @@ run_until_of (suc n) stops r m =
       reached = false;
     })
 
+-- The code of a run with stops.
 abbrev pub until_code : Option Outcome → Bool → ℕ
 until_code o reached = if reached then STOPPED else stop_code o
 
+-- The report of a run with stops.
 abbrev pub until_report : Stop → Bool → StopReport
 until_report s reached = record (stop_report s) { code = until_code s.outcome reached }

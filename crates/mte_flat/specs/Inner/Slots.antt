@@ -6,9 +6,11 @@ use Rattle.std.specs.FinMap as finite
 use Rattle.mte_tags.specs.Memory.{Memory, Page}
 use Rattle.mte_flat.specs.declared.slot.Slot.{Slot}
 
+-- The page in a slot.
 abbrev pub page_of : Slot → Page
 page_of s = record { attrs = s.attrs.0; bytes = s.bytes; tags = s.tags }
 
+-- The number and the page of a slot.
 abbrev pub entry_of : Slot → ℕ × Page
 entry_of s = (s.page, page_of s)
 
