@@ -1,11 +1,18 @@
 -- A field of a word: `width` binary digits from the digit `position` up; and numbers in two's
 -- complement.
-use Rattle.std.specs.Prelude.{ℕ, ◌+◌, ◌-◌, ◌/◌, ◌%◌, ◌^◌, ◌<◌, ℤ, pos, negsuc}
+use Rattle.std.specs.Prelude.{ℕ, ◌+◌, ◌-◌, ◌*◌, ◌/◌, ◌%◌, ◌^◌, ◌<◌, ℤ, pos, negsuc}
 use Rattle.std.specs.Prelude.{if◌then◌else◌, nat_lt}
 
 -- The field of a word.
 abbrev pub field_of : ℕ → ℕ → ℕ → ℕ
 field_of position width word = word / 2 ^ position % 2 ^ width
+
+-- A word with the field replaced: the digits above it, the new value, the digits below it.
+abbrev pub with_field : ℕ → ℕ → ℕ → ℕ → ℕ
+with_field word position width value =
+    word / 2 ^ (position + width) * 2 ^ (position + width)
+    + value * 2 ^ position
+    + word % 2 ^ position
 
 -- The numbers that have `width` bits in two's complement; `negsuc n` is -(n + 1).
 abbrev pub FitsSignedField : ℕ → ℤ → Type 0

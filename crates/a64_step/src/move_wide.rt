@@ -1,6 +1,7 @@
 //! Move wide (immediate).
 
-ghost use Rattle.std.specs.Prelude.{◌≡◌, ◌<◌, ◌+◌, ◌-◌, ◌*◌, ◌/◌, ◌%◌, ◌^◌};
+ghost use Rattle.std.specs.Prelude.{◌≡◌, ◌<◌, ◌*◌, ◌^◌};
+ghost use Rattle.a64_bits.specs.Fields.{with_field};
 ghost use Rattle.a64_step.specs.MoveWide.{move_wide_of};
 ghost use Rattle.a64_step.specs.Registers.{with_next_pc};
 
@@ -27,8 +28,7 @@ pub fn placed_half(imm16: u16, hw: u8) -> u64
 #[inline(always)]
 pub fn with_half(old: u64, imm16: u16, hw: u8) -> u64
     requires { hw < 4 }
-    ensures { result
-        ≡ old - old / 2 ^ (16 * hw) % 2 ^ 16 * 2 ^ (16 * hw) + imm16 * 2 ^ (16 * hw) }
+    ensures { result ≡ with_field old (16 * hw) 16 imm16 }
 {
     let half = u64::from(imm16);
     match hw {
