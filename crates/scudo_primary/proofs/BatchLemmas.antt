@@ -7,7 +7,7 @@ use Rattle.std.specs.List.{All, IsDistinct}
 use Rattle.scudo_primary.specs.Blocks.{IsBlock, number_of}
 use Rattle.scudo_primary.specs.Batches.{max_count_of}
 use Rattle.scudo_primary.specs.Pools.{ClassState, IsLoose, is_member, class_after_push_batch}
-use Rattle.scudo_primary.specs.Inner.{Each, sizes_after_push, list_at, class_in, class_after_link, IsTable, Became}
+use Rattle.scudo_primary.specs.Inner.{block_table, Each, sizes_after_push, list_at, class_in, class_after_link, IsTable, Became}
 use Rattle.scudo_primary.specs.Blocks.{IsClass}
 use Rattle.scudo_primary.specs.declared.lists.BlockEntry.{BlockEntry}
 use Rattle.scudo_primary.specs.declared.lists.ClassList.{ClassList}
@@ -42,9 +42,9 @@ pushing_in k blocks n = record k { stack = reverse (take n blocks) ++ k.stack; s
 
 pub record IsPushing (es es' : List BlockEntry) (ns : List ℕ) (ks ks' : List ClassList) (c : ℕ) (blocks : List ℕ) (n : ℕ) (last : Bool) : Type 0 where
   pub began : last ≡ (n == 0)
-  pub became : Became es ns ks es' ks' c (pushing_in (class_in es ns c (list_at ks c)) blocks n)
+  pub became : Became (block_table es ns ks) (block_table es' ns ks') c (pushing_in (class_in es ns c (list_at ks c)) blocks n)
 
-pub pushing-init : (es : List BlockEntry) (ns : List ℕ) (ks : List ClassList) (c : ℕ) (blocks : List ℕ) → IsTable es ns ks → IsPushing es es ns ks ks c blocks 0 true
+pub pushing-init : (es : List BlockEntry) (ns : List ℕ) (ks : List ClassList) (c : ℕ) (blocks : List ℕ) → IsTable (block_table es ns ks) → IsPushing es es ns ks ks c blocks 0 true
 unfolding pushing_in grown
 pushing-init es ns ks c blocks h = record { began = refl; became = became-same es ns ks c h }
 
@@ -66,7 +66,7 @@ link-pushing k c blocks n b last h l e el =
     λ i. record { pages = k.pages; stack = stack i; sizes = sizes i; marks = marks i }
 
 pub pushing-step : (es es' es'' : List BlockEntry) (ns : List ℕ) (ks ks' ks'' : List ClassList) (c : ℕ) (blocks : List ℕ) (n b : ℕ) (last : Bool) → All (IsLoose (class_in es ns c (list_at ks c)) c) blocks
-    → IsPushing es es' ns ks ks' c blocks n last → n < length blocks → b ≡ get_or blocks n b → Became es' ns ks' es'' ks'' c (class_after_link c (class_in es' ns c (list_at ks' c)) b last) → IsPushing es es'' ns ks ks'' c blocks (n + 1) false
+    → IsPushing es es' ns ks ks' c blocks n last → n < length blocks → b ≡ get_or blocks n b → Became (block_table es' ns ks') (block_table es'' ns ks'') c (class_after_link c (class_in es' ns c (list_at ks' c)) b last) → IsPushing es es'' ns ks ks'' c blocks (n + 1) false
 pushing-step es es' es'' ns ks ks' ks'' c blocks n b last all p l e next =
     let k = class_in es ns c (list_at ks c) in
     let state = ap (λ t. class_after_link c t b last) p.became.class ∙ link-pushing k c blocks n b last (loose k c blocks n b all l e) l e p.began in
@@ -99,7 +99,7 @@ pushing-unlisted es es' ns ks ks' c blocks n b last all d p l e =
     Each-append (reverse (take n blocks)) k.stack (λ x. x ≢ b) (Each-reverse (take n blocks) (λ x. x ≢ b) (taken-apart blocks n b d l e)) (Each-other k.stack b (loose k c blocks n b all l e).unlisted) in
     ap (λ (t : ClassState). is_member t.stack b) p.became.class ∙ not-member (reverse (take n blocks) ++ k.stack) (λ x. x ≢ b) b out (λ q. q refl)
 
-pub pushing-room : (es es' : List BlockEntry) (ns : List ℕ) (ks ks' : List ClassList) (c : ℕ) (blocks : List ℕ) (n : ℕ) (last : Bool) → IsClass c → IsTable es ns ks → length blocks ≤ max_count_of c
+pub pushing-room : (es es' : List BlockEntry) (ns : List ℕ) (ks ks' : List ClassList) (c : ℕ) (blocks : List ℕ) (n : ℕ) (last : Bool) → IsClass c → IsTable (block_table es ns ks) → length blocks ≤ max_count_of c
     → IsPushing es es' ns ks ks' c blocks n last → n < length blocks → Each (λ m. m ≤ max_count_of c) (sizes_after_push last (class_in es' ns c (list_at ks' c)).sizes)
 unfolding pushing_in
 pushing-room es es' ns ks ks' c blocks n last hc h most p l =
@@ -107,7 +107,7 @@ pushing-room es es' ns ks ks' c blocks n last hc h most p l =
     subst (Each (λ m. m ≤ max_count_of c)) (sym (ap (λ (t : ClassState). sizes_after_push last t.sizes) p.became.class ∙ grown-next k.sizes n last p.began)) (omega arith, (h.linked c hc).batches)
 
 pub pushing-end : (es es' : List BlockEntry) (ns : List ℕ) (ks ks' : List ClassList) (c : ℕ) (blocks : List ℕ) (n : ℕ) (last : Bool) → IsPushing es es' ns ks ks' c blocks n last → n ≡ length blocks → 0 < length blocks
-    → Became es ns ks es' ks' c (class_after_push_batch (class_in es ns c (list_at ks c)) blocks)
+    → Became (block_table es ns ks) (block_table es' ns ks') c (class_after_push_batch (class_in es ns c (list_at ks c)) blocks)
 unfolding pushing_in
 pushing-end es es' ns ks ks' c blocks n last p e some =
     let k = class_in es ns c (list_at ks c) in

@@ -6,7 +6,7 @@ use Rattle.scudo_header.specs.Regions.{region_of}
 use Rattle.scudo_primary.specs.Blocks.{carved_count, block_at, number_of, blocks_from, IsBlock}
 use Rattle.scudo_primary.specs.Batches.{max_count_of}
 use Rattle.scudo_primary.specs.Pools.{ClassState, is_member}
-use Rattle.scudo_primary.specs.Inner.{Each, sizes_after_push, is_last_at, list_at, class_in, class_after_link, class_after_link_new, IsTable, Became}
+use Rattle.scudo_primary.specs.Inner.{block_table, Each, sizes_after_push, is_last_at, list_at, class_in, class_after_link, class_after_link_new, IsTable, Became}
 use Rattle.scudo_primary.specs.Blocks.{IsClass}
 use Rattle.scudo_primary.specs.declared.lists.BlockEntry.{BlockEntry}
 use Rattle.scudo_primary.specs.declared.lists.ClassList.{ClassList}
@@ -18,19 +18,20 @@ use Rattle.scudo_primary.proofs.CutLemmas.{cut, cut-zero, cut-all, cut-step, cut
 
 -- ---- changes of one class in a row
 
-pub became-same : (es : List BlockEntry) (ns : List ℕ) (ks : List ClassList) (c : ℕ) → IsTable es ns ks → Became es ns ks es ks c (class_in es ns c (list_at ks c))
-became-same es ns ks c h = record { table = h; class = refl; others = λ d hd n. refl; pages = λ d hd. refl; len = refl }
+pub became-same : (es : List BlockEntry) (ns : List ℕ) (ks : List ClassList) (c : ℕ) → IsTable (block_table es ns ks) → Became (block_table es ns ks) (block_table es ns ks) c (class_in es ns c (list_at ks c))
+became-same es ns ks c h = record { table = h; class = refl; others = λ d hd n. refl; pages = λ d hd. refl; len = refl; numbers = refl }
 
-pub became-is : (es es' : List BlockEntry) (ns : List ℕ) (ks ks' : List ClassList) (c : ℕ) (k k' : ClassState) → k ≡ k' → Became es ns ks es' ks' c k → Became es ns ks es' ks' c k'
-became-is es es' ns ks ks' c k k' e b = subst (Became es ns ks es' ks' c) e b
+pub became-is : (es es' : List BlockEntry) (ns : List ℕ) (ks ks' : List ClassList) (c : ℕ) (k k' : ClassState) → k ≡ k' → Became (block_table es ns ks) (block_table es' ns ks') c k → Became (block_table es ns ks) (block_table es' ns ks') c k'
+became-is es es' ns ks ks' c k k' e b = subst (Became (block_table es ns ks) (block_table es' ns ks') c) e b
 
-pub became-next : (es es' es'' : List BlockEntry) (ns : List ℕ) (ks ks' ks'' : List ClassList) (c : ℕ) (k k' : ClassState) → Became es ns ks es' ks' c k → Became es' ns ks' es'' ks'' c k' → Became es ns ks es'' ks'' c k'
+pub became-next : (es es' es'' : List BlockEntry) (ns : List ℕ) (ks ks' ks'' : List ClassList) (c : ℕ) (k k' : ClassState) → Became (block_table es ns ks) (block_table es' ns ks') c k → Became (block_table es' ns ks') (block_table es'' ns ks'') c k' → Became (block_table es ns ks) (block_table es'' ns ks'') c k'
 became-next es es' es'' ns ks ks' ks'' c k k' a b = record {
   table = b.table;
   class = b.class;
   others = λ d hd n. b.others d hd n ∙ a.others d hd n;
   pages = λ d hd. b.pages d hd ∙ a.pages d hd;
   len = b.len ∙ a.len;
+  numbers = b.numbers ∙ a.numbers;
 }
 
 -- ---- the blocks from n to below the last
@@ -86,9 +87,9 @@ partial-next c k from n to h l u len =
 pub record IsPartial (es es' : List BlockEntry) (ns : List ℕ) (ks ks' : List ClassList) (c from n to : ℕ) : Type 0 where
   pub low : from ≤ n
   pub high : n ≤ to
-  pub became : Became es ns ks es' ks' c (partial_in c (class_in es ns c (list_at ks c)) from n to)
+  pub became : Became (block_table es ns ks) (block_table es' ns ks') c (partial_in c (class_in es ns c (list_at ks c)) from n to)
 
-pub partial-init : (es : List BlockEntry) (ns : List ℕ) (ks : List ClassList) (c from to : ℕ) → IsTable es ns ks → from ≤ to → to ≡ carved_count c (list_at ks c).pages → IsPartial es es ns ks ks c from to to
+pub partial-init : (es : List BlockEntry) (ns : List ℕ) (ks : List ClassList) (c from to : ℕ) → IsTable (block_table es ns ks) → from ≤ to → to ≡ carved_count c (list_at ks c).pages → IsPartial es es ns ks ks c from to to
 partial-init es ns ks c from to h l e = record {
   low = l;
   high = omega arith;
@@ -97,7 +98,7 @@ partial-init es ns ks c from to h l e = record {
 
 pub partial-step : (es es' es'' : List BlockEntry) (ns : List ℕ) (ks ks' ks'' : List ClassList) (c from n to b : ℕ) (last : Bool) → IsClass c → to ≡ carved_count c (list_at ks c).pages → IsPartial es es' ns ks ks' c from n to → from < n
     → b ≡ block_at c (n - 1) → last ≡ is_last_at (max_count_of c / 2) (to - from) (n - 1 - from)
-    → Became es' ns ks' es'' ks'' c (class_after_link c (class_in es' ns c (list_at ks' c)) b last) → IsPartial es es'' ns ks ks'' c from (n - 1) to
+    → Became (block_table es' ns ks') (block_table es'' ns ks'') c (class_after_link c (class_in es' ns c (list_at ks' c)) b last) → IsPartial es es'' ns ks ks'' c from (n - 1) to
 partial-step es es' es'' ns ks ks' ks'' c from n to b last hc e p l eb el next =
     let h = p.high in
     let k = class_in es ns c (list_at ks c) in
@@ -112,7 +113,7 @@ partial-step es es' es'' ns ks ks' ks'' c from n to b last hc e p l eb el next =
       became = became-next es es' es'' ns ks ks' ks'' c _ _ p.became (became-is es' es'' ns ks' ks'' c _ _ state next);
     }
 
-pub partial-end : (es es' : List BlockEntry) (ns : List ℕ) (ks ks' : List ClassList) (c from n to : ℕ) → IsPartial es es' ns ks ks' c from n to → n ≤ from → Became es ns ks es' ks' c (class_after_link_new c (class_in es ns c (list_at ks c)) from (to - from))
+pub partial-end : (es es' : List BlockEntry) (ns : List ℕ) (ks ks' : List ClassList) (c from n to : ℕ) → IsPartial es es' ns ks ks' c from n to → n ≤ from → Became (block_table es ns ks) (block_table es' ns ks') c (class_after_link_new c (class_in es ns c (list_at ks c)) from (to - from))
 partial-end es es' ns ks ks' c from n to p l =
     let a = p.low in
     let b = p.high in
@@ -144,7 +145,7 @@ partial-unlisted es es' ns ks ks' c from n to b hc p l eb old =
     (Each-map k.stack (λ x. number_of c x < from) (λ x. number_of c x ≢ n - 1) old (λ x q s. omega arith)) in
     ap (λ (t : ClassState). is_member t.stack b) p.became.class ∙ not-member (blocks_from c n (to - n) ++ k.stack) (λ x. number_of c x ≢ n - 1) b all (λ q. q number)
 
-pub partial-room : (es es' : List BlockEntry) (ns : List ℕ) (ks ks' : List ClassList) (c from n to : ℕ) (last : Bool) → IsClass c → IsTable es ns ks → IsPartial es es' ns ks ks' c from n to → from < n
+pub partial-room : (es es' : List BlockEntry) (ns : List ℕ) (ks ks' : List ClassList) (c from n to : ℕ) (last : Bool) → IsClass c → IsTable (block_table es ns ks) → IsPartial es es' ns ks ks' c from n to → from < n
     → last ≡ is_last_at (max_count_of c / 2) (to - from) (n - 1 - from) → Each (λ m. m ≤ max_count_of c) (sizes_after_push last (class_in es' ns c (list_at ks' c)).sizes)
 unfolding partial_in
 partial-room es es' ns ks ks' c from n to last hc h p l el =

@@ -6,7 +6,7 @@ use Rattle.std.specs.declared.alloc.Global.{Global}
 use Rattle.scudo_header.specs.Regions.{region_of}
 use Rattle.address_map.specs.declared.limits.TheConstants.{PAGE_SIZE}
 use Rattle.scudo_primary.specs.Pools.{PoolState}
-use Rattle.scudo_primary.specs.Inner.{page_number, slot_of, place_of, no_entry, entry_at, list_at, class_in, capacities_in, pool_in, IsFilledUp, IsTable, IsPool}
+use Rattle.scudo_primary.specs.Inner.{block_table, page_number, slot_of, place_of, no_entry, entry_at, list_at, class_in, capacities_in, pool_in, IsFilledUp, IsTable, IsPool}
 use Rattle.scudo_primary.specs.Blocks.{IsClass}
 use Rattle.scudo_primary.specs.declared.lists.BlockEntry.{BlockEntry}
 use Rattle.scudo_primary.specs.declared.lists.ClassList.{ClassList}
@@ -27,7 +27,7 @@ entry-filled : (es es' : List BlockEntry) (ns ns' : List ℕ) (c x : ℕ) → Is
 unfolding entry_at
 entry-filled es es' ns ns' c x fe fn = fe (place_of ns' c x) ∙ ap (λ t. get_or es (t * 128 + (x - region_of c) % PAGE_SIZE / 32) no_entry) (fn _)
 
-table-filled : (es es' : List BlockEntry) (ns ns' : List ℕ) (ks : List ClassList) → length es ≤ length es' → length ns ≤ length ns' → IsReadAs es es' no_entry → IsReadAs ns ns' 0 → IsTable es ns ks → IsTable es' ns' ks
+table-filled : (es es' : List BlockEntry) (ns ns' : List ℕ) (ks : List ClassList) → length es ≤ length es' → length ns ≤ length ns' → IsReadAs es es' no_entry → IsReadAs ns ns' 0 → IsTable (block_table es ns ks) → IsTable (block_table es' ns' ks)
 table-filled es es' ns ns' ks le ln fe fn h =
     let same : (c i : ℕ) → page_number ns' c i ≡ page_number ns c i = λ c i. fn _ in
     record {

@@ -6,7 +6,7 @@ use Rattle.std.proofs.lemmas.Map.Steps.{length-le_from_distinct_below}
 use Rattle.scudo_primary.specs.Blocks.{AreBlocks, number_of, IsBlock}
 use Rattle.scudo_primary.specs.Batches.{max_count_of, one_less}
 use Rattle.scudo_primary.specs.Pools.{ClassState, is_member, class_after_pop, class_with_mark}
-use Rattle.scudo_primary.specs.Inner.{Each, sizes_after_push, sizes_of_marks, place_of, no_entry, entry_at, list_at, next_in, last_in, free_in, stack_from, sizes_from, marks_in, class_in, class_after_link, IsLinked, IsTable, Became}
+use Rattle.scudo_primary.specs.Inner.{block_table, Each, sizes_after_push, sizes_of_marks, place_of, no_entry, entry_at, list_at, next_in, last_in, free_in, stack_from, sizes_from, marks_in, class_in, class_after_link, IsLinked, IsTable, Became}
 use Rattle.scudo_primary.specs.Blocks.{IsClass}
 use Rattle.address_map.specs.declared.limits.TheConstants.{MAX_PAGES}
 use Rattle.scudo_primary.specs.declared.lists.BlockEntry.{BlockEntry}
@@ -85,15 +85,15 @@ link-class es es' ns c b k last hc old block out room w =
       (λ i. record { pages = k.pages; stack = stack i; sizes = sizes i; marks = marks i }),
     )
 
-pub linked : (es : List BlockEntry) (ns : List ℕ) (ks : List ClassList) (c b at : ℕ) (last : Bool) → IsTable es ns ks → IsClass c → IsBlock c (list_at ks c).pages b
+pub linked : (es : List BlockEntry) (ns : List ℕ) (ks : List ClassList) (c b at : ℕ) (last : Bool) → IsTable (block_table es ns ks) → IsClass c → IsBlock c (list_at ks c).pages b
     → is_member (stack_from es ns c (list_at ks c).count (list_at ks c).head) b ≡ false
     → Each (λ n. n ≤ max_count_of c) (sizes_after_push last (sizes_from es ns c (list_at ks c).count (list_at ks c).head)) → at ≡ place_of ns c b
-    → Became es ns ks (set es at (link_entry (list_at ks c) last)) (set ks (c - 1) (link_list (list_at ks c) b)) c (class_after_link c (class_in es ns c (list_at ks c)) b last)
+    → Became (block_table es ns ks) (block_table (set es at (link_entry (list_at ks c) last)) ns (set ks (c - 1) (link_list (list_at ks c) b))) c (class_after_link c (class_in es ns c (list_at ks c)) b last)
 linked es ns ks c b at last h hc block out room is =
     let k = list_at ks c in
     let e = link_entry k last in
     let new = link-class es (set es (place_of ns c b) e) ns c b k last hc (h.linked c hc) block out room (writes es ns ks c b e h hc block) in
-    subst (λ t. Became es ns ks (set es t e) (set ks (c - 1) (link_list k b)) c (class_after_link c (class_in es ns c k) b last)) (sym is)
+    subst (λ t. Became (block_table es ns ks) (block_table (set es t e) ns (set ks (c - 1) (link_list k b))) c (class_after_link c (class_in es ns c k) b last)) (sym is)
     (became es (set es (place_of ns c b) e) ns ks (set ks (c - 1) (link_list k b)) c (link_list k b) (class_after_link c (class_in es ns c k) b last) h hc
     (length-set es (place_of ns c b) e) (length-set ks (c - 1) (link_list k b)) (list-same ks c (link_list k b) hc h.all) (λ d hd n. list-other ks c d (link_list k b) hc hd n) refl
     (writes-others es ns ks c b e h hc block) new.0 new.1)
@@ -144,7 +144,7 @@ pub record IsTop (es : List BlockEntry) (ns : List ℕ) (ks : List ClassList) (c
   pub stack : stack_from es ns c (list_at ks c).count (list_at ks c).head ≡ (list_at ks c).head ∷ stack_from es ns c ((list_at ks c).count - 1) (next_in es ns c (list_at ks c).head)
   pub unlisted : is_member (stack_from es ns c ((list_at ks c).count - 1) (next_in es ns c (list_at ks c).head)) (list_at ks c).head ≡ false
 
-pub top-of : (es : List BlockEntry) (ns : List ℕ) (ks : List ClassList) (c : ℕ) → IsTable es ns ks → IsClass c → 0 < (list_at ks c).count → IsTop es ns ks c
+pub top-of : (es : List BlockEntry) (ns : List ℕ) (ks : List ClassList) (c : ℕ) → IsTable (block_table es ns ks) → IsClass c → 0 < (list_at ks c).count → IsTop es ns ks c
 top-of es ns ks c h hc some =
     let k = list_at ks c in
     let old = h.linked c hc in
@@ -159,8 +159,8 @@ top-of es ns ks c h hc some =
       unlisted = distinct-head k.head xs blocks.distinct;
     }
 
-pub unlinked : (es : List BlockEntry) (ns : List ℕ) (ks : List ClassList) (c : ℕ) → IsTable es ns ks → IsClass c → 0 < (list_at ks c).count
-    → Became es ns ks (set es (place_of ns c (list_at ks c).head) (used_entry es ns c (list_at ks c).head false)) (set ks (c - 1) (unlink_list es ns c (list_at ks c))) c
+pub unlinked : (es : List BlockEntry) (ns : List ℕ) (ks : List ClassList) (c : ℕ) → IsTable (block_table es ns ks) → IsClass c → 0 < (list_at ks c).count
+    → Became (block_table es ns ks) (block_table (set es (place_of ns c (list_at ks c).head) (used_entry es ns c (list_at ks c).head false)) ns (set ks (c - 1) (unlink_list es ns c (list_at ks c)))) c
     (class_after_pop c (class_in es ns c (list_at ks c)) (class_in es ns c (list_at ks c)).stack)
 unlinked es ns ks c h hc some =
     let k = list_at ks c in
@@ -172,20 +172,20 @@ unlinked es ns ks c h hc some =
     (length-set es (place_of ns c k.head) e) (length-set ks (c - 1) k') (list-same ks c k' hc h.all) (λ d hd n. list-other ks c d k' hc hd n) refl
     (writes-others es ns ks c k.head e h hc block) new.0 new.1
 
-pub unlink-done : (es es' : List BlockEntry) (ns : List ℕ) (ks : List ClassList) (c at : ℕ) → IsTable es ns ks → IsClass c → 0 < (list_at ks c).count → at ≡ place_of ns c (list_at ks c).head
+pub unlink-done : (es es' : List BlockEntry) (ns : List ℕ) (ks : List ClassList) (c at : ℕ) → IsTable (block_table es ns ks) → IsClass c → 0 < (list_at ks c).count → at ≡ place_of ns c (list_at ks c).head
     → es' ≡ set es (place_of ns c (list_at ks c).head) (used_entry es ns c (list_at ks c).head false)
-    → Became es ns ks es' (set ks (c - 1) (record { head = (get_or es at no_entry).next; count = (list_at ks c).count - 1; pages = (list_at ks c).pages })) c
+    → Became (block_table es ns ks) (block_table es' ns (set ks (c - 1) (record { head = (get_or es at no_entry).next; count = (list_at ks c).count - 1; pages = (list_at ks c).pages }))) c
     (class_after_pop c (class_in es ns c (list_at ks c)) (class_in es ns c (list_at ks c)).stack)
 unfolding entry_at
 unlink-done es es' ns ks c at h hc some is new =
     let k = list_at ks c in
     let K = class_after_pop c (class_in es ns c k) (class_in es ns c k).stack in
-    subst (λ t. Became es ns ks t (set ks (c - 1) (record { head = (get_or es at no_entry).next; count = k.count - 1; pages = k.pages })) c K) (sym new)
-    (subst (λ t. Became es ns ks (set es (place_of ns c k.head) (used_entry es ns c k.head false)) (set ks (c - 1) (record { head = (get_or es t no_entry).next; count = k.count - 1; pages = k.pages })) c K) (sym is)
+    subst (λ t. Became (block_table es ns ks) (block_table t ns (set ks (c - 1) (record { head = (get_or es at no_entry).next; count = k.count - 1; pages = k.pages }))) c K) (sym new)
+    (subst (λ t. Became (block_table es ns ks) (block_table (set es (place_of ns c k.head) (used_entry es ns c k.head false)) ns (set ks (c - 1) (record { head = (get_or es t no_entry).next; count = k.count - 1; pages = k.pages }))) c K) (sym is)
     (unlinked es ns ks c h hc some))
 
-pub unlink-unlisted : (es es' : List BlockEntry) (ns : List ℕ) (ks ks' : List ClassList) (c : ℕ) → IsTable es ns ks → IsClass c → 0 < (list_at ks c).count
-    → Became es ns ks es' ks' c (class_after_pop c (class_in es ns c (list_at ks c)) (class_in es ns c (list_at ks c)).stack)
+pub unlink-unlisted : (es es' : List BlockEntry) (ns : List ℕ) (ks ks' : List ClassList) (c : ℕ) → IsTable (block_table es ns ks) → IsClass c → 0 < (list_at ks c).count
+    → Became (block_table es ns ks) (block_table es' ns ks') c (class_after_pop c (class_in es ns c (list_at ks c)) (class_in es ns c (list_at ks c)).stack)
     → is_member (class_in es' ns c (list_at ks' c)).stack (list_at ks c).head ≡ false
 unlink-unlisted es es' ns ks ks' c h hc some b =
     let k = list_at ks c in
@@ -228,9 +228,9 @@ mark-class es es' ns c b k free hc old block out w =
       (λ i. record { pages = k.pages; stack = stack i; sizes = sizes i; marks = marks i }),
     )
 
-pub marked : (es : List BlockEntry) (ns : List ℕ) (ks : List ClassList) (c b : ℕ) (free : Bool) → IsTable es ns ks → IsClass c → IsBlock c (list_at ks c).pages b
+pub marked : (es : List BlockEntry) (ns : List ℕ) (ks : List ClassList) (c b : ℕ) (free : Bool) → IsTable (block_table es ns ks) → IsClass c → IsBlock c (list_at ks c).pages b
     → (free ≡ false → is_member (stack_from es ns c (list_at ks c).count (list_at ks c).head) b ≡ false)
-    → Became es ns ks (set es (place_of ns c b) (used_entry es ns c b free)) ks c (class_with_mark c (class_in es ns c (list_at ks c)) b free)
+    → Became (block_table es ns ks) (block_table (set es (place_of ns c b) (used_entry es ns c b free)) ns ks) c (class_with_mark c (class_in es ns c (list_at ks c)) b free)
 marked es ns ks c b free h hc block out =
     let k = list_at ks c in
     let e = used_entry es ns c b free in
@@ -248,7 +248,7 @@ block-below c pages b hc few k =
     let l = k.inside in
     omega arith
 
-pub count-below : (es : List BlockEntry) (ns : List ℕ) (ks : List ClassList) (c : ℕ) → IsTable es ns ks → IsClass c → (list_at ks c).count ≤ 2 ^ 30
+pub count-below : (es : List BlockEntry) (ns : List ℕ) (ks : List ClassList) (c : ℕ) → IsTable (block_table es ns ks) → IsClass c → (list_at ks c).count ≤ 2 ^ 30
 unfolding stack_from
 count-below es ns ks c h hc =
     let k = list_at ks c in

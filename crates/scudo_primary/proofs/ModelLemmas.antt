@@ -9,7 +9,7 @@ use Rattle.scudo_header.proofs.ByClassLaws.{value_of-by_class, value_of-with_val
 use Rattle.address_map.specs.declared.limits.TheConstants.{PAGE_SIZE}
 use Rattle.scudo_primary.specs.Blocks.{number_of, IsBlock}
 use Rattle.scudo_primary.specs.Pools.{ClassState, PoolState, empty_class, pool_by, class_at, with_class, after_pop, class_after_pop, class_with_mark, is_marked, is_member}
-use Rattle.scudo_primary.specs.Inner.{list_at, class_in, state_of, capacities_in, pool_in, follow, free_in, stack_from, marks_in, slot_of, place_of, no_entry, entry_at, IsLinked, IsTable, IsPool, Became}
+use Rattle.scudo_primary.specs.Inner.{block_table, list_at, class_in, state_of, capacities_in, pool_in, follow, free_in, stack_from, marks_in, slot_of, place_of, no_entry, entry_at, IsLinked, IsTable, IsPool, Became}
 use Rattle.scudo_primary.specs.Blocks.{IsClass}
 use Rattle.address_map.specs.declared.limits.TheConstants.{MAX_PAGES}
 use Rattle.scudo_primary.specs.declared.lists.BlockEntry.{BlockEntry}
@@ -29,14 +29,14 @@ pool_by-agree m n cs f g e h = ap (λ t. pool_of t cs (by_class f)) e ∙ ap (po
 
 -- ---- a pool's value
 
-pub class_at-state : (left : ℕ) (cs : List ℕ) (es : List BlockEntry) (ns : List ℕ) (ks : List ClassList) (c : ℕ) → IsClass c → class_at (state_of left cs es ns ks) c ≡ class_in es ns c (list_at ks c)
+pub class_at-state : (left : ℕ) (cs : List ℕ) (es : List BlockEntry) (ns : List ℕ) (ks : List ClassList) (c : ℕ) → IsClass c → class_at (state_of left cs (block_table es ns ks)) c ≡ class_in es ns c (list_at ks c)
 class_at-state left cs es ns ks c h = value_of-by_class (λ d. class_in es ns d (list_at ks d)) empty_class c h
 
 pub class_at-value : (f : Inside) (v : PoolState) (c : ℕ) → pool_in f ≡ v → IsClass c → class_at v c ≡ class_in f.entries.items f.numbers.items c (list_at f.lists c)
 class_at-value f v c e h = ap (λ p. class_at p c) (sym e) ∙ class_at-state (f.limit - f.used) (capacities_in f) f.entries.items f.numbers.items f.lists c h
 
-pub became-state : (left : ℕ) (cs : List ℕ) (es es' : List BlockEntry) (ns : List ℕ) (ks ks' : List ClassList) (c : ℕ) (k : ClassState) → IsClass c → Became es ns ks es' ks' c k
-    → state_of left cs es' ns ks' ≡ with_class (state_of left cs es ns ks) c k
+pub became-state : (left : ℕ) (cs : List ℕ) (es es' : List BlockEntry) (ns : List ℕ) (ks ks' : List ClassList) (c : ℕ) (k : ClassState) → IsClass c → Became (block_table es ns ks) (block_table es' ns ks') c k
+    → state_of left cs (block_table es' ns ks') ≡ with_class (state_of left cs (block_table es ns ks)) c k
 became-state left cs es es' ns ks ks' c k h b =
     ap (pool_of left cs)
     (by_class-with_value (λ d. class_in es ns d (list_at ks d)) (λ d. class_in es' ns d (list_at ks' d)) c k h b.class b.others)
@@ -52,18 +52,18 @@ pub record PoolDone (f : Inside) (v : PoolState) (ns : List ℕ) (es' : List Blo
   pub pages : (list_at ks' c).pages ≡ (list_at f.lists c).pages
 
 pub pool-done : (f : Inside) (v : PoolState) (es : List BlockEntry) (ns : List ℕ) (es' : List BlockEntry) (ks' : List ClassList) (c : ℕ) (F : ClassState → ClassState) → pool_in f ≡ v → IsPool f → IsClass c
-    → es ≡ f.entries.items → length es ≡ vec_len f.entries → ns ≡ f.numbers.items → Became es ns f.lists es' ks' c (F (class_in es ns c (list_at f.lists c))) → PoolDone f v ns es' ks' c F
+    → es ≡ f.entries.items → length es ≡ vec_len f.entries → ns ≡ f.numbers.items → Became (block_table es ns f.lists) (block_table es' ns ks') c (F (class_in es ns c (list_at f.lists c))) → PoolDone f v ns es' ks' c F
 pool-done f v es ns es' ks' c F e h hc ee le en b =
     let xs = f.entries.items in
     let ys = f.numbers.items in
-    let old : Became xs ys f.lists es' ks' c (F (class_in xs ys c (list_at f.lists c))) =
-    subst (λ t. Became xs t f.lists es' ks' c (F (class_in xs t c (list_at f.lists c)))) en
-    (subst (λ t. Became t ns f.lists es' ks' c (F (class_in t ns c (list_at f.lists c)))) ee b) in
+    let old : Became (block_table xs ys f.lists) (block_table es' ys ks') c (F (class_in xs ys c (list_at f.lists c))) =
+    subst (λ t. Became (block_table xs t f.lists) (block_table es' t ks') c (F (class_in xs t c (list_at f.lists c)))) en
+    (subst (λ t. Became (block_table t ns f.lists) (block_table es' ns ks') c (F (class_in t ns c (list_at f.lists c)))) ee b) in
     let items : (with_items f.entries es').items ≡ es' = with_items_is f.entries es' (b.len ∙ le) in
     let few = h.few in
     record {
       invariant = record {
-        table = subst (λ t. IsTable t ys ks') (sym items) old.table;
+        table = subst (λ t. IsTable (block_table t ys ks')) (sym items) old.table;
         counted = λ d i hd l. h.counted d i hd (subst (λ t. i < t) (old.pages d hd) l);
         few = λ d hd. subst (λ t. t ≤ f.used) (sym (old.pages d hd)) (h.few d hd);
         below = h.below;
@@ -71,7 +71,7 @@ pool-done f v es ns es' ks' c F e h hc ee le en b =
         room = h.room;
         slots = h.slots;
       };
-      view = ap (λ t. state_of (f.limit - f.used) (capacities_in f) t ys ks') items
+      view = ap (λ t. state_of (f.limit - f.used) (capacities_in f) (block_table t ys ks')) items
           ∙ became-state (f.limit - f.used) (capacities_in f) xs es' ys f.lists ks' c _ hc old
           ∙ ap (λ t. with_class t c (F (class_in xs ys c (list_at f.lists c)))) e
           ∙ ap (λ t. with_class v c (F t)) (sym (class_at-value f v c e hc));
@@ -111,8 +111,8 @@ after-pop-used v v' c b e top =
     ∙ pop-cleared c (class_at v c) (class_at v c).stack b top
 
 -- the table of an open pool, as slices
-pub table-same : (f : Inside) (es : List BlockEntry) (ns : List ℕ) → IsPool f → es ≡ f.entries.items → ns ≡ f.numbers.items → IsTable es ns f.lists
-table-same f es ns h ee en = subst (λ t. IsTable es t f.lists) (sym en) (subst (λ t. IsTable t f.numbers.items f.lists) (sym ee) h.table)
+pub table-same : (f : Inside) (es : List BlockEntry) (ns : List ℕ) → IsPool f → es ≡ f.entries.items → ns ≡ f.numbers.items → IsTable (block_table es ns f.lists)
+table-same f es ns h ee en = subst (λ t. IsTable (block_table es t f.lists)) (sym en) (subst (λ t. IsTable (block_table t f.numbers.items f.lists)) (sym ee) h.table)
 
 pub class_at-slices : (f : Inside) (v : PoolState) (es : List BlockEntry) (ns : List ℕ) (c : ℕ) → pool_in f ≡ v → IsClass c → es ≡ f.entries.items → ns ≡ f.numbers.items → class_at v c ≡ class_in es ns c (list_at f.lists c)
 class_at-slices f v es ns c e h ee en =
@@ -156,7 +156,7 @@ mark-done f v es es' ns c b free e h hc ee le en block out new =
     let done = marked es ns f.lists c b free (table-same f es ns h ee en) hc (subst (λ (k : ClassState). IsBlock c k.pages b) at block)
     (λ i. subst (λ (k : ClassState). is_member k.stack b ≡ false) at (out i)) in
     pool-done f v es ns es' f.lists c (λ k. class_with_mark c k b free) e h hc ee le en
-    (subst (λ t. Became es ns f.lists t f.lists c (class_with_mark c (class_in es ns c (list_at f.lists c)) b free)) (sym new) done)
+    (subst (λ t. Became (block_table es ns f.lists) (block_table t ns f.lists) c (class_with_mark c (class_in es ns c (list_at f.lists c)) b free)) (sym new) done)
 
 -- the mark of a carved block is its entry's
 pub mark-entry : (f : Inside) (v : PoolState) (c b at : ℕ) (e : BlockEntry) → pool_in f ≡ v → IsClass c → IsBlock c (class_at v c).pages b → at ≡ place_of f.numbers.items c b → get_or f.entries.items at no_entry ≡ e → is_marked v c b ≡ e.free

@@ -1,5 +1,5 @@
 -- What a write to the table leaves of the classes' lists.
-use Rattle.std.proofs.Common.{◌≡◌, ◌≢◌, ℕ, ◌-◌, ◌/◌, ◌<◌, ◌≤◌, Bool, true, false, List, [], ◌∷◌, length, map, get_or, set, sym, ap, subst, ◌∙◌, inl, inr, arith}
+use Rattle.std.proofs.Common.{◌≡◌, ◌≢◌, ℕ, ◌-◌, ◌/◌, ◌<◌, ◌≤◌, Bool, true, false, List, [], ◌∷◌, length, map, get_or, set, refl, sym, ap, subst, ◌∙◌, inl, inr, arith}
 use Rattle.std.proofs.lemmas.Bool.{cases_eq}
 use Rattle.std.proofs.lemmas.List.{get_or-set_same, get_or-set_other, length-set, ext_get_or}
 use Rattle.std.proofs.lemmas.List.FromFn.{length-map-range_with_len, get_or-map-range_with_len}
@@ -9,7 +9,7 @@ use Rattle.address_map.specs.declared.limits.TheConstants.{PAGE_SIZE}
 use Rattle.scudo_primary.specs.Blocks.{AreBlocks, carved_count, block_at, number_of, IsBlock}
 use Rattle.scudo_primary.specs.Batches.{max_count_of}
 use Rattle.scudo_primary.specs.Pools.{ClassState}
-use Rattle.scudo_primary.specs.Inner.{Each, sizes_of_marks, place_of, page_number, slot_of, no_entry, no_list, entry_at, list_at, next_in, last_in, free_in, stack_from, sizes_from, marks_in, class_in, IsNumbered, IsLinked, IsTable, Became}
+use Rattle.scudo_primary.specs.Inner.{block_table, Each, sizes_of_marks, place_of, page_number, slot_of, no_entry, no_list, entry_at, list_at, next_in, last_in, free_in, stack_from, sizes_from, marks_in, class_in, IsNumbered, IsLinked, IsTable, Became}
 use Rattle.scudo_primary.specs.Blocks.{IsClass}
 use Rattle.address_map.specs.declared.limits.TheConstants.{MAX_PAGES}
 use Rattle.scudo_primary.specs.declared.lists.BlockEntry.{BlockEntry}
@@ -131,10 +131,10 @@ numbered-pages ns ks ks' n m h s e = record {
 }
 
 -- a change of one class alone
-pub became : (es es' : List BlockEntry) (ns : List ℕ) (ks ks' : List ClassList) (c : ℕ) (k' : ClassList) (K : ClassState) → IsTable es ns ks → IsClass c → length es' ≡ length es → length ks' ≡ length ks
+pub became : (es es' : List BlockEntry) (ns : List ℕ) (ks ks' : List ClassList) (c : ℕ) (k' : ClassList) (K : ClassState) → IsTable (block_table es ns ks) → IsClass c → length es' ≡ length es → length ks' ≡ length ks
     → list_at ks' c ≡ k' → ((d : ℕ) → IsClass d → d ≢ c → list_at ks' d ≡ list_at ks d) → k'.pages ≡ (list_at ks c).pages
     → ((d x : ℕ) → IsClass d → d ≢ c → IsBlock d (list_at ks d).pages x → entry_at es' ns d x ≡ entry_at es ns d x)
-    → IsLinked es' ns c k' → class_in es' ns c k' ≡ K → Became es ns ks es' ks' c K
+    → IsLinked es' ns c k' → class_in es' ns c k' ≡ K → Became (block_table es ns ks) (block_table es' ns ks') c K
 became es es' ns ks ks' c k' K h hc le lk own other pages entries new is =
     let same : (d : ℕ) → IsClass d → (list_at ks' d).pages ≡ (list_at ks d).pages =
     λ d hd. elim (cases_eq d c) [
@@ -156,6 +156,7 @@ became es es' ns ks ks' c k' K h hc le lk own other pages entries new is =
       others = λ d hd n. ap (class_in es' ns d) (other d hd n) ∙ (kept d hd n).0;
       pages = same;
       len = le;
+      numbers = refl;
     }
 
 pub list-same : (ks : List ClassList) (c : ℕ) (k : ClassList) → IsClass c → length ks ≡ CLASSES → list_at (set ks (c - 1) k) c ≡ k
@@ -174,7 +175,7 @@ pub record Writes (es es' : List BlockEntry) (ns : List ℕ) (c pages b : ℕ) (
   pub own : entry_at es' ns c b ≡ e
   pub other : (x : ℕ) → IsBlock c pages x → x ≢ b → entry_at es' ns c x ≡ entry_at es ns c x
 
-pub writes : (es : List BlockEntry) (ns : List ℕ) (ks : List ClassList) (c b : ℕ) (e : BlockEntry) → IsTable es ns ks → IsClass c → IsBlock c (list_at ks c).pages b
+pub writes : (es : List BlockEntry) (ns : List ℕ) (ks : List ClassList) (c b : ℕ) (e : BlockEntry) → IsTable (block_table es ns ks) → IsClass c → IsBlock c (list_at ks c).pages b
     → Writes es (set es (place_of ns c b) e) ns c (list_at ks c).pages b e
 writes es ns ks c b e h hc k =
     let cell = block-IsCell c (list_at ks c).pages b hc k in
@@ -183,7 +184,7 @@ writes es ns ks c b e h hc k =
       other = λ x q n. entry-other es ns ks c c b x e h.numbered hc hc cell (block-IsCell c (list_at ks c).pages x hc q) (λ t. n t.1);
     }
 
-pub writes-others : (es : List BlockEntry) (ns : List ℕ) (ks : List ClassList) (c b : ℕ) (e : BlockEntry) → IsTable es ns ks → IsClass c → IsBlock c (list_at ks c).pages b
+pub writes-others : (es : List BlockEntry) (ns : List ℕ) (ks : List ClassList) (c b : ℕ) (e : BlockEntry) → IsTable (block_table es ns ks) → IsClass c → IsBlock c (list_at ks c).pages b
     → (d x : ℕ) → IsClass d → d ≢ c → IsBlock d (list_at ks d).pages x → entry_at (set es (place_of ns c b) e) ns d x ≡ entry_at es ns d x
 writes-others es ns ks c b e h hc k d x hd n q =
     entry-other es ns ks c d b x e h.numbered hc hd (block-IsCell c (list_at ks c).pages b hc k) (block-IsCell d (list_at ks d).pages x hd q) (λ t. n t.0)

@@ -9,7 +9,7 @@ use Rattle.std.specs.List.{All, IsDistinct}
 use Rattle.scudo_primary.specs.Blocks.{IsBlock}
 use Rattle.scudo_primary.specs.Batches.{max_count_of, first_size}
 use Rattle.scudo_primary.specs.Pools.{empty_class, ClassState, PoolState, IsLoose, is_member, batch_in, class_after_pop_batch, class_at, with_class, without_batch, top_batch}
-use Rattle.scudo_primary.specs.Inner.{Each, sizes_of_marks, list_at, free_in, last_in, stack_from, sizes_from, class_in, state_of, capacities_in, pool_in, IsLinked, IsTable, IsPool, Became}
+use Rattle.scudo_primary.specs.Inner.{block_table, Each, sizes_of_marks, list_at, free_in, last_in, stack_from, sizes_from, class_in, state_of, capacities_in, pool_in, IsLinked, IsTable, IsPool, Became}
 use Rattle.scudo_primary.specs.Blocks.{IsClass}
 use Rattle.scudo_header.proofs.ByClassLaws.{value_of-with_value}
 use Rattle.scudo_primary.specs.declared.lists.BlockEntry.{BlockEntry}
@@ -115,7 +115,7 @@ pub record BatchDone (f : Inside) (v : PoolState) (ks' : List ClassList) (c n : 
 
 pub batch-done : (f : Inside) (v : PoolState) (es : List BlockEntry) (ns : List ℕ) (ks' : List ClassList) (c n : ℕ) (buffer buffer' : List ℕ) → pool_in f ≡ v → IsPool f → IsClass c → es ≡ f.entries.items → ns ≡ f.numbers.items
     → n ≡ first_size (class_in es ns c (list_at f.lists c)).sizes → buffer' ≡ batch_in (class_in es ns c (list_at f.lists c)) ++ drop n buffer
-    → Became es ns f.lists es ks' c (class_after_pop_batch (class_in es ns c (list_at f.lists c))) → BatchDone f v ks' c n buffer buffer'
+    → Became (block_table es ns f.lists) (block_table es ns ks') c (class_after_pop_batch (class_in es ns c (list_at f.lists c))) → BatchDone f v ks' c n buffer buffer'
 batch-done f v es ns ks' c n buffer buffer' e h hc ee en count blocks b =
     let K = class_in es ns c (list_at f.lists c) in
     let at : class_at v c ≡ K = class_at-slices f v es ns c e hc ee en in
@@ -123,14 +123,14 @@ batch-done f v es ns ks' c n buffer buffer' e h hc ee en count blocks b =
     let batch = batch-of es ns c (list_at f.lists c) (t.linked c hc) in
     let taken : take n buffer' ≡ batch_in K = ap (take n) blocks ∙ take_at (batch_in K) (drop n buffer) n (batch.len ∙ sym count) in
     let view : pool_in (inside_lists f ks') ≡ with_class v c (class_after_pop_batch (class_at v c)) =
-    ap (λ t. state_of (f.limit - f.used) (capacities_in f) t f.numbers.items ks') (sym ee) ∙ ap (λ t. state_of (f.limit - f.used) (capacities_in f) es t ks') (sym en)
+    ap (λ t. state_of (f.limit - f.used) (capacities_in f) (block_table t f.numbers.items ks')) (sym ee) ∙ ap (λ t. state_of (f.limit - f.used) (capacities_in f) (block_table es t ks')) (sym en)
     ∙ became-state (f.limit - f.used) (capacities_in f) es es ns f.lists ks' c (class_after_pop_batch K) hc b
-    ∙ ap (λ t. with_class (state_of (f.limit - f.used) (capacities_in f) t ns f.lists) c (class_after_pop_batch K)) ee ∙ ap (λ t. with_class (state_of (f.limit - f.used) (capacities_in f) f.entries.items t f.lists) c (class_after_pop_batch K)) en
+    ∙ ap (λ t. with_class (state_of (f.limit - f.used) (capacities_in f) (block_table t ns f.lists)) c (class_after_pop_batch K)) ee ∙ ap (λ t. with_class (state_of (f.limit - f.used) (capacities_in f) (block_table f.entries.items t f.lists)) c (class_after_pop_batch K)) en
     ∙ ap (λ t. with_class t c (class_after_pop_batch K)) e ∙ ap (λ (t : ClassState). with_class v c (class_after_pop_batch t)) (sym at) in
     let now : class_at (pool_in (inside_lists f ks')) c ≡ class_after_pop_batch K = ap (λ t. class_at t c) view ∙ value_of-with_value v.classes empty_class c (class_after_pop_batch (class_at v c)) ∙ ap (λ (t : ClassState). class_after_pop_batch t) at in
     record {
       invariant = record {
-        table = subst (λ t. IsTable f.entries.items t ks') en (subst (λ t. IsTable t ns ks') ee b.table);
+        table = subst (λ t. IsTable (block_table f.entries.items t ks')) en (subst (λ t. IsTable (block_table t ns ks')) ee b.table);
         counted = λ d i hd l. h.counted d i hd (subst (λ t. i < t) (b.pages d hd) l);
         few = λ d hd. subst (λ t. t ≤ f.used) (sym (b.pages d hd)) (h.few d hd);
         below = h.below;

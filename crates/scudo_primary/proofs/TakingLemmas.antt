@@ -6,7 +6,7 @@ use Rattle.std.specs.List.{IsDistinct}
 use Rattle.scudo_primary.specs.Blocks.{AreBlocks, IsBlock}
 use Rattle.scudo_primary.specs.Batches.{max_count_of, first_size}
 use Rattle.scudo_primary.specs.Pools.{batch_in, class_after_pop_batch}
-use Rattle.scudo_primary.specs.Inner.{Each, follow, sizes_of_marks, sizes_after_push, one_more, place_of, no_entry, entry_at, list_at, next_in, last_in, free_in, stack_from, sizes_from, marks_in, class_in, IsLinked, IsTable, Became}
+use Rattle.scudo_primary.specs.Inner.{block_table, Each, follow, sizes_of_marks, sizes_after_push, one_more, place_of, no_entry, entry_at, list_at, next_in, last_in, free_in, stack_from, sizes_from, marks_in, class_in, IsLinked, IsTable, Became}
 use Rattle.scudo_primary.specs.Blocks.{IsClass}
 use Rattle.scudo_primary.specs.declared.batches.TheConstants.{MAX_COUNT}
 use Rattle.scudo_primary.specs.declared.lists.BlockEntry.{BlockEntry}
@@ -80,7 +80,7 @@ pub record IsNext (es : List BlockEntry) (ns : List ℕ) (ks : List ClassList) (
   pub cell : IsCell c (list_at ks c).pages next
   pub fits : count < MAX_COUNT
 
-pub taking-next : (es : List BlockEntry) (ns : List ℕ) (ks : List ClassList) (c : ℕ) (start buffer : List ℕ) (count next : ℕ) (more : Bool) → IsTable es ns ks → IsClass c
+pub taking-next : (es : List BlockEntry) (ns : List ℕ) (ks : List ClassList) (c : ℕ) (start buffer : List ℕ) (count next : ℕ) (more : Bool) → IsTable (block_table es ns ks) → IsClass c
     → IsTaking es ns c (list_at ks c).count (list_at ks c).head start buffer count next more → more ≡ true → IsNext es ns ks c buffer count next
 taking-next es ns ks c start buffer count next more h hc t e =
     let k = list_at ks c in
@@ -167,9 +167,9 @@ taken-class es ns c k start buffer count next more old t e =
       (λ i. record { pages = k.pages; stack = stack i; sizes = (g.1) i; marks = marks_in es ns c k.pages }),
     )
 
-pub taken : (es : List BlockEntry) (ns : List ℕ) (ks : List ClassList) (c : ℕ) (start buffer : List ℕ) (count next : ℕ) (more : Bool) → IsTable es ns ks → IsClass c
+pub taken : (es : List BlockEntry) (ns : List ℕ) (ks : List ClassList) (c : ℕ) (start buffer : List ℕ) (count next : ℕ) (more : Bool) → IsTable (block_table es ns ks) → IsClass c
     → IsTaking es ns c (list_at ks c).count (list_at ks c).head start buffer count next more → more ≡ false
-    → Became es ns ks es (set ks (c - 1) (below_list (list_at ks c) count next)) c (class_after_pop_batch (class_in es ns c (list_at ks c)))
+    → Became (block_table es ns ks) (block_table es ns (set ks (c - 1) (below_list (list_at ks c) count next))) c (class_after_pop_batch (class_in es ns c (list_at ks c)))
 taken es ns ks c start buffer count next more h hc t e =
     let k = list_at ks c in
     let k' = below_list k count next in

@@ -14,7 +14,7 @@ use Rattle.address_map.specs.declared.limits.TheConstants.{PAGE_SIZE, MAX_PAGES}
 use Rattle.scudo_primary.specs.Blocks.{carved_count, block_at, number_of, blocks_from, IsBlock}
 use Rattle.scudo_primary.specs.Batches.{batch_sizes}
 use Rattle.scudo_primary.specs.Pools.{ClassState, PoolState, class_at, with_class, with_pages, class_after_carve, new_count}
-use Rattle.scudo_primary.specs.Inner.{Each, page_number, no_entry, entry_at, list_at, free_in, marks_in, class_in, class_after_link_new, state_of, capacities_in, pool_in, IsNumbered, IsNumberedOn, IsFilledUp, IsLinked, IsTable, IsPool, Became}
+use Rattle.scudo_primary.specs.Inner.{block_table, Each, page_number, no_entry, entry_at, list_at, free_in, marks_in, class_in, class_after_link_new, state_of, capacities_in, pool_in, IsNumbered, IsNumberedOn, IsFilledUp, IsLinked, IsTable, IsPool, Became}
 use Rattle.scudo_primary.specs.Blocks.{IsClass}
 use Rattle.scudo_header.proofs.ByClassLaws.{by_class-with_value}
 use Rattle.scudo_primary.specs.declared.lists.BlockEntry.{BlockEntry}
@@ -114,12 +114,12 @@ entry-kept es ns ns' ks c pages first d x m hd b =
 
 -- what the table is after that
 pub record IsWide (es : List BlockEntry) (ns ns' : List ℕ) (ks : List ClassList) (c pages : ℕ) : Type 0 where
-  pub table : IsTable es ns' (set ks (c - 1) (wide (list_at ks c) pages))
+  pub table : IsTable (block_table es ns' (set ks (c - 1) (wide (list_at ks c) pages)))
   pub own : list_at (set ks (c - 1) (wide (list_at ks c) pages)) c ≡ wide (list_at ks c) pages
   pub old : class_in es ns' c (list_at ks c) ≡ class_in es ns c (list_at ks c)
   pub others : (d : ℕ) → IsClass d → d ≢ c → class_in es ns' d (list_at (set ks (c - 1) (wide (list_at ks c) pages)) d) ≡ class_in es ns d (list_at ks d)
 
-pub widened : (es : List BlockEntry) (ns ns' : List ℕ) (ks : List ClassList) (c pages used limit : ℕ) → IsTable es ns ks → IsRoomy ns ks (length es) c pages used limit → IsNumberedOn ns ns' c (list_at ks c).pages pages used
+pub widened : (es : List BlockEntry) (ns ns' : List ℕ) (ks : List ClassList) (c pages used limit : ℕ) → IsTable (block_table es ns ks) → IsRoomy ns ks (length es) c pages used limit → IsNumberedOn ns ns' c (list_at ks c).pages pages used
     → IsWide es ns ns' ks c pages
 widened es ns ns' ks c pages used limit h r m =
     let k = list_at ks c in
@@ -189,8 +189,8 @@ roomy f v es ns c pages e h hc l long le en ln =
 -- everything that stands before the new blocks are put on the list
 pub record IsReady (f : Inside) (v : PoolState) (es : List BlockEntry) (ns ns' ns2 : List ℕ) (c pages : ℕ) : Type 0 where
   pub roomy : IsRoomy ns f.lists (length es) c pages f.used f.limit
-  pub table : IsTable es ns f.lists
-  pub state : state_of (f.limit - f.used) (capacities_in f) es ns f.lists ≡ v
+  pub table : IsTable (block_table es ns f.lists)
+  pub state : state_of (f.limit - f.used) (capacities_in f) (block_table es ns f.lists) ≡ v
   pub numbered : IsNumberedOn ns ns2 c (list_at f.lists c).pages pages f.used
   pub same : (with_items f.numbers ns').items ≡ ns2
   pub entries : length es ≡ vec_len f.entries
@@ -202,7 +202,7 @@ ready f v es ns ns' ns2 c pages e h hc l long ee le en ln e2 m =
     record {
       roomy = roomy f v es ns c pages e h hc l long le en ln;
       table = table-same f es ns h ee en;
-      state = ap (λ t. state_of (f.limit - f.used) (capacities_in f) t ns f.lists) ee ∙ ap (λ t. state_of (f.limit - f.used) (capacities_in f) f.entries.items t f.lists) en ∙ e;
+      state = ap (λ t. state_of (f.limit - f.used) (capacities_in f) (block_table t ns f.lists)) ee ∙ ap (λ t. state_of (f.limit - f.used) (capacities_in f) (block_table f.entries.items t f.lists)) en ∙ e;
       numbered = subst (λ t. IsNumberedOn ns t c (list_at f.lists c).pages pages f.used) (sym is) m;
       same = sym e2;
       entries = le;
@@ -235,7 +235,7 @@ pub record CarveDone (f : Inside) (v : PoolState) (es' : List BlockEntry) (ns' :
   pub view : pool_in (inside_carved f es' ns' ks'' (f.used + pages)) ≡ with_pages v c pages
 
 pub carve-invariant : (f : Inside) (v : PoolState) (es es' : List BlockEntry) (ns ns' ns2 : List ℕ) (ks'' : List ClassList) (c pages : ℕ) (k : ClassState) → IsReady f v es ns ns' ns2 c pages
-    → IsPool f → Became es ns2 (set f.lists (c - 1) (wide (list_at f.lists c) pages)) es' ks'' c k → IsPool (inside_carved f es' ns' ks'' (f.used + pages))
+    → IsPool f → Became (block_table es ns2 (set f.lists (c - 1) (wide (list_at f.lists c) pages))) (block_table es' ns2 ks'') c k → IsPool (inside_carved f es' ns' ks'' (f.used + pages))
 carve-invariant f v es es' ns ns' ns2 ks'' c pages k r h b =
     let ks' = set f.lists (c - 1) (wide (list_at f.lists c) pages) in
     let items : (with_items f.entries es').items ≡ es' = with_items_is f.entries es' (b.len ∙ r.entries) in
@@ -243,7 +243,7 @@ carve-invariant f v es es' ns ns' ns2 ks'' c pages k r h b =
     let all = r.table.all in
     let few = r.roomy.few c hc in
     record {
-      table = subst (λ t. IsTable t (with_items f.numbers ns').items ks'') (sym items) (subst (λ t. IsTable es' t ks'') (sym r.same) b.table);
+      table = subst (λ t. IsTable (block_table t (with_items f.numbers ns').items ks'')) (sym items) (subst (λ t. IsTable (block_table es' t ks'')) (sym r.same) b.table);
       counted = λ d i hd l. subst (λ t. page_number t d i < f.used + pages) (sym r.same)
           (elim (number-cases ns ns2 f.lists (length es) c pages f.used f.limit d i all r.roomy r.numbered hd (subst (λ t. i < t) (b.pages d hd) l)) [
             | inl o ↦ (let x = r.roomy.counted d i hd o.0 in let y = o.1 in omega arith)
@@ -260,7 +260,7 @@ carve-invariant f v es es' ns ns' ns2 ks'' c pages k r h b =
     }
 
 pub carve-view : (f : Inside) (v : PoolState) (es es' : List BlockEntry) (ns ns' ns2 : List ℕ) (ks'' : List ClassList) (c pages : ℕ) → IsReady f v es ns ns' ns2 c pages
-    → Became es ns2 (set f.lists (c - 1) (wide (list_at f.lists c) pages)) es' ks'' c
+    → Became (block_table es ns2 (set f.lists (c - 1) (wide (list_at f.lists c) pages))) (block_table es' ns2 ks'') c
     (class_after_link_new c (class_in es ns2 c (list_at (set f.lists (c - 1) (wide (list_at f.lists c) pages)) c)) (carved_count c (list_at f.lists c).pages) (new_count c (list_at f.lists c).pages pages))
     → pool_in (inside_carved f es' ns' ks'' (f.used + pages)) ≡ with_pages v c pages
 carve-view f v es es' ns ns' ns2 ks'' c pages r b =
@@ -278,7 +278,7 @@ carve-view f v es es' ns ns' ns2 ks'' c pages r b =
     let others : (d : ℕ) → IsClass d → d ≢ c → new d ≡ old d = λ d hd n. b.others d hd n ∙ w.others d hd n in
     let at : class_at v c ≡ class_in es ns c k = ap (λ t. class_at t c) (sym r.state) ∙ class_at-state left (capacities_in f) es ns f.lists c hc in
     let less : left' ≡ v.left - pages = let q = ap (λ (p : PoolState). p.left) r.state in omega arith in
-    ap (λ t. state_of left' (capacities_in f) t (with_items f.numbers ns').items ks'') items ∙ ap (λ t. state_of left' (capacities_in f) es' t ks'') r.same
+    ap (λ t. state_of left' (capacities_in f) (block_table t (with_items f.numbers ns').items ks'')) items ∙ ap (λ t. state_of left' (capacities_in f) (block_table es' t ks'')) r.same
     ∙ ap (pool_of left' (capacities_in f)) (by_class-with_value old new c K hc own others)
     ∙ ap (λ (t : PoolState). pool_of left' t.capacities (with_class t c K).classes) r.state
     ∙ ap (λ (t : ClassState). pool_of left' v.capacities (with_class v c (class_after_carve c t pages (new_count c t.pages pages))).classes) (sym at)
@@ -304,12 +304,12 @@ carve-all f v es ns ns' ns2 c pages s r e =
     ap (λ t. PAGE_SIZE * ((list_at f.lists c).pages + pages) / t) e ∙ ap (λ (t : ClassList). carved_count c t.pages) (sym (ready-wide f v es ns ns' ns2 c pages r).own)
 
 pub carve-end : (f : Inside) (v : PoolState) (es es' : List BlockEntry) (ns ns' ns2 : List ℕ) (ks'' : List ClassList) (c pages s : ℕ) → IsReady f v es ns ns' ns2 c pages → s ≡ size_of c
-    → Became es ns2 (set f.lists (c - 1) (wide (list_at f.lists c) pages)) es' ks'' c
+    → Became (block_table es ns2 (set f.lists (c - 1) (wide (list_at f.lists c) pages))) (block_table es' ns2 ks'') c
     (class_after_link_new c (class_in es ns2 c (list_at (set f.lists (c - 1) (wide (list_at f.lists c) pages)) c)) (PAGE_SIZE * (list_at f.lists c).pages / s)
     (PAGE_SIZE * ((list_at f.lists c).pages + pages) / s - PAGE_SIZE * (list_at f.lists c).pages / s))
-    → Became es ns2 (set f.lists (c - 1) (wide (list_at f.lists c) pages)) es' ks'' c
+    → Became (block_table es ns2 (set f.lists (c - 1) (wide (list_at f.lists c) pages))) (block_table es' ns2 ks'') c
     (class_after_link_new c (class_in es ns2 c (list_at (set f.lists (c - 1) (wide (list_at f.lists c) pages)) c)) (carved_count c (list_at f.lists c).pages) (new_count c (list_at f.lists c).pages pages))
 carve-end f v es es' ns ns' ns2 ks'' c pages s r e b =
-    subst (λ t. Became es ns2 (set f.lists (c - 1) (wide (list_at f.lists c) pages)) es' ks'' c
+    subst (λ t. Became (block_table es ns2 (set f.lists (c - 1) (wide (list_at f.lists c) pages))) (block_table es' ns2 ks'') c
     (class_after_link_new c (class_in es ns2 c (list_at (set f.lists (c - 1) (wide (list_at f.lists c) pages)) c)) (PAGE_SIZE * (list_at f.lists c).pages / t)
     (PAGE_SIZE * ((list_at f.lists c).pages + pages) / t - PAGE_SIZE * (list_at f.lists c).pages / t))) e b

@@ -51,6 +51,17 @@ is_last_at half n place = (place + 1 == n) || ((place + 1) % half == 0)
 
 -- ---- the table
 
+-- entries: 128 for each carved page
+-- numbers: for each page of a region and each class the number of that page
+-- lists: for each class its stack
+pub record BlockTable : Type 0 where
+  pub entries : List BlockEntry
+  pub numbers : List ℕ
+  pub lists : List ClassList
+
+abbrev pub block_table : List BlockEntry → List ℕ → List ClassList → BlockTable
+block_table es ns ks = record { entries = es; numbers = ns; lists = ks }
+
 -- where the number of a class's page stands
 abbrev pub slot_of : ℕ → ℕ → ℕ
 slot_of class page = page * CLASSES + (class - 1)
@@ -106,18 +117,20 @@ class_in es ns class k = record {
 }
 
 -- a class, as its list says
-abbrev pub state_in : List BlockEntry → List ℕ → List ClassList → ℕ → ClassState
-state_in es ns ks class = class_in es ns class (list_at ks class)
+abbrev pub state_in : BlockTable → ℕ → ClassState
+state_in t class = class_in t.entries t.numbers class (list_at t.lists class)
 
-abbrev pub state_of : ℕ → List ℕ → List BlockEntry → List ℕ → List ClassList → PoolState
-state_of left capacities es ns ks = pool_by left capacities (state_in es ns ks)
+abbrev pub state_of : ℕ → List ℕ → BlockTable → PoolState
+state_of left capacities t = pool_by left capacities (state_in t)
 
 abbrev pub capacities_in : Inside → List ℕ
 capacities_in f = vec_capacity f.entries ∷ vec_capacity f.numbers ∷ []
 
+abbrev pub table_in : Inside → BlockTable
+table_in f = block_table f.entries.items f.numbers.items f.lists
+
 abbrev pub pool_in : Inside → PoolState
-pool_in f =
-    state_of (f.limit - f.used) (capacities_in f) f.entries.items f.numbers.items f.lists
+pool_in f = state_of (f.limit - f.used) (capacities_in f) (table_in f)
 
 -- the class with one block more on top, which begins a batch or joins the first, marked free
 abbrev pub class_after_link : ℕ → ClassState → ℕ → Bool → ClassState
@@ -152,13 +165,13 @@ pub record IsLinked (es : List BlockEntry) (ns : List ℕ) (c : ℕ) (k : ClassL
   pub marked : Each (λ b. free_in es ns c b ≡ true) (stack_from es ns c k.count k.head)
   pub batches : Each (λ n. n ≤ max_count_of c) (sizes_from es ns c k.count k.head)
 
-pub record IsTable (es : List BlockEntry) (ns : List ℕ) (ks : List ClassList) : Type 0 where
-  pub numbered : IsNumbered ns ks (length es)
-  pub all : length ks ≡ CLASSES
-  pub linked : (c : ℕ) → IsClass c → IsLinked es ns c (list_at ks c)
+pub record IsTable (t : BlockTable) : Type 0 where
+  pub numbered : IsNumbered t.numbers t.lists (length t.entries)
+  pub all : length t.lists ≡ CLASSES
+  pub linked : (c : ℕ) → IsClass c → IsLinked t.entries t.numbers c (list_at t.lists c)
 
 pub record IsPool (f : Inside) : Type 0 where
-  pub table : IsTable f.entries.items f.numbers.items f.lists
+  pub table : IsTable (table_in f)
   pub counted :
       (c i : ℕ) → IsClass c → i < (list_at f.lists c).pages
       → page_number f.numbers.items c i < f.used
@@ -185,11 +198,10 @@ pub record IsNumberedOn (ns ns' : List ℕ) (c from pages first : ℕ) : Type 0 
   pub others : (d i : ℕ) → IsClass d → d ≢ c → page_number ns' d i ≡ page_number ns d i
 
 -- a call changed the class c to k, and no other class
-pub record Became (es : List BlockEntry) (ns : List ℕ) (ks : List ClassList)
-    (es' : List BlockEntry) (ks' : List ClassList) (c : ℕ) (k : ClassState) : Type 0 where
-  pub table : IsTable es' ns ks'
-  pub class : state_in es' ns ks' c ≡ k
-  pub others :
-      (d : ℕ) → IsClass d → d ≢ c → state_in es' ns ks' d ≡ state_in es ns ks d
-  pub pages : (d : ℕ) → IsClass d → (list_at ks' d).pages ≡ (list_at ks d).pages
-  pub len : length es' ≡ length es
+pub record Became (t t' : BlockTable) (c : ℕ) (k : ClassState) : Type 0 where
+  pub table : IsTable t'
+  pub class : state_in t' c ≡ k
+  pub others : (d : ℕ) → IsClass d → d ≢ c → state_in t' d ≡ state_in t d
+  pub pages : (d : ℕ) → IsClass d → (list_at t'.lists d).pages ≡ (list_at t.lists d).pages
+  pub len : length t'.entries ≡ length t.entries
+  pub numbers : t'.numbers ≡ t.numbers

@@ -36,7 +36,7 @@ pub(crate) struct ClassList {
     pub(crate) pages: u64,
 }
 
-ghost use Rattle.scudo_primary.specs.Inner.{IsTable, Became, Each, sizes_after_push};
+ghost use Rattle.scudo_primary.specs.Inner.{block_table, IsTable, Became, Each, sizes_after_push};
 ghost use Rattle.scudo_primary.specs.Blocks.{IsClass};
 ghost use Rattle.scudo_primary.specs.Inner.{is_last_at};
 ghost use Rattle.scudo_primary.specs.Inner.{list_at, entry_at, state_in, class_after_link};
@@ -112,15 +112,16 @@ pub(crate) fn link(
     block: u64,
     last: bool,
 )
-    requires table { IsTable entries.old numbers.now lists.old }
+    requires table { IsTable (block_table entries.old numbers.now lists.old) }
     requires class { IsClass class }
     requires block { IsBlock class (list_at lists.old class).pages block }
-    requires unlisted { is_member (state_in entries.old numbers.now lists.old class).stack block
-        ≡ false }
-    requires room { Each (λ n. n ≤ max_count_of class)
-        (sizes_after_push last (state_in entries.old numbers.now lists.old class).sizes) }
-    ensures { Became entries.old numbers.now lists.old entries.new lists.new class
-        (class_after_link class (state_in entries.old numbers.now lists.old class) block last) }
+    requires unlisted { let t = block_table entries.old numbers.now lists.old in
+        is_member (state_in t class).stack block ≡ false }
+    requires room { let t = block_table entries.old numbers.now lists.old in
+        Each (λ n. n ≤ max_count_of class) (sizes_after_push last (state_in t class).sizes) }
+    ensures { let t = block_table entries.old numbers.now lists.old in
+        Became t (block_table entries.new numbers.now lists.new) class
+        (class_after_link class (state_in t class) block last) }
 {
     let list = lists[class as usize - 1];
     let at = place(numbers, class, block);
@@ -144,17 +145,17 @@ pub(crate) fn unlink(
     lists: &mut [ClassList; LISTS],
     class: u8,
 ) -> u64
-    requires table { IsTable entries.old numbers.now lists.old }
+    requires table { IsTable (block_table entries.old numbers.now lists.old) }
     requires class { IsClass class }
     requires some { 0 < (list_at lists.old class).count }
-    ensures top { slice_get (state_in entries.old numbers.now lists.old class).stack 0
-        ≡ Some result }
+    ensures top { let t = block_table entries.old numbers.now lists.old in
+        slice_get (state_in t class).stack 0 ≡ Some result }
     ensures block { IsBlock class (list_at lists.old class).pages result }
-    ensures unlisted { is_member (state_in entries.new numbers.now lists.new class).stack result
-        ≡ false }
-    ensures rest { Became entries.old numbers.now lists.old entries.new lists.new class
-        (class_after_pop class (state_in entries.old numbers.now lists.old class)
-        (state_in entries.old numbers.now lists.old class).stack) }
+    ensures unlisted { let t = block_table entries.new numbers.now lists.new in
+        is_member (state_in t class).stack result ≡ false }
+    ensures rest { let t = block_table entries.old numbers.now lists.old in
+        Became t (block_table entries.new numbers.now lists.new) class
+        (class_after_pop class (state_in t class) (state_in t class).stack) }
 {
     let list = lists[class as usize - 1];
     let block = list.head as u64;
@@ -186,13 +187,15 @@ pub(crate) fn unlink_batch(
     class: u8,
     buffer: &mut [u64; MAX_COUNT],
 ) -> usize
-    requires table { IsTable entries.now numbers.now lists.old }
+    requires table { IsTable (block_table entries.now numbers.now lists.old) }
     requires class { IsClass class }
-    ensures count { result ≡ first_size (state_in entries.now numbers.now lists.old class).sizes }
-    ensures buffer { buffer.new
-        ≡ batch_in (state_in entries.now numbers.now lists.old class) ++ drop result buffer.old }
-    ensures rest { Became entries.now numbers.now lists.old entries.now lists.new class
-        (class_after_pop_batch (state_in entries.now numbers.now lists.old class)) }
+    ensures count { let t = block_table entries.now numbers.now lists.old in
+        result ≡ first_size (state_in t class).sizes }
+    ensures buffer { let t = block_table entries.now numbers.now lists.old in
+        buffer.new ≡ batch_in (state_in t class) ++ drop result buffer.old }
+    ensures rest { let t = block_table entries.now numbers.now lists.old in
+        Became t (block_table entries.now numbers.now lists.new) class
+        (class_after_pop_batch (state_in t class)) }
 {
     let list = lists[class as usize - 1];
     let mut next = list.head;
@@ -224,15 +227,16 @@ pub(crate) fn link_batch(
     class: u8,
     blocks: &[u64],
 )
-    requires table { IsTable entries.old numbers.now lists.old }
+    requires table { IsTable (block_table entries.old numbers.now lists.old) }
     requires class { IsClass class }
     requires some { 0 < length blocks.now }
     requires most { length blocks.now ≤ max_count_of class }
-    requires blocks { All (IsLoose (state_in entries.old numbers.now lists.old class) class)
-        blocks.now }
+    requires blocks { let t = block_table entries.old numbers.now lists.old in
+        All (IsLoose (state_in t class) class) blocks.now }
     requires distinct { IsDistinct nat_eq blocks.now }
-    ensures { Became entries.old numbers.now lists.old entries.new lists.new class
-        (class_after_push_batch (state_in entries.old numbers.now lists.old class) blocks.now) }
+    ensures { let t = block_table entries.old numbers.now lists.old in
+        Became t (block_table entries.new numbers.now lists.new) class
+        (class_after_push_batch (state_in t class) blocks.now) }
 {
     let mut last = true;
     for block in blocks {
@@ -284,15 +288,15 @@ pub(crate) fn link_new(
     from: u64,
     to: u64,
 )
-    requires table { IsTable entries.old numbers.now lists.old }
+    requires table { IsTable (block_table entries.old numbers.now lists.old) }
     requires class { IsClass class }
     requires order { from ≤ to }
     requires all { to ≡ carved_count class (list_at lists.old class).pages }
-    requires new { Each (λ block. number_of class block < from)
-        (state_in entries.old numbers.now lists.old class).stack }
-    ensures { Became entries.old numbers.now lists.old entries.new lists.new class
-        (class_after_link_new class (state_in entries.old numbers.now lists.old class) from
-        (to - from)) }
+    requires new { let t = block_table entries.old numbers.now lists.old in
+        Each (λ block. number_of class block < from) (state_in t class).stack }
+    ensures { let t = block_table entries.old numbers.now lists.old in
+        Became t (block_table entries.new numbers.now lists.new) class
+        (class_after_link_new class (state_in t class) from (to - from)) }
 {
     let half = max_count(class) as u64 / 2;
     let size = size_of_class(class);
