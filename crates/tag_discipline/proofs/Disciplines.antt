@@ -32,10 +32,10 @@ use Rattle.tag_discipline.specs.LiveChunks.{BlockChunk, chunk_at, IsCarved}
 use Rattle.tag_discipline.specs.LivePages.{PageChunk, large_at}
 use Rattle.tag_discipline.proofs.Freed.{Freed, IsStale}
 use Rattle.tag_discipline.specs.Laws.{IsRefused}
-use Rattle.tag_discipline.specs.CarefulRuns.{State, state_after_call, IsLiveBlock, IsCareful, HasFree}
+use Rattle.tag_discipline.specs.CarefulRuns.{State, Live, state_after_call, IsLiveBlock, IsCareful, HasFree}
 use Rattle.tag_discipline.specs.SoundHeaps.{Sound}
-use Rattle.tag_discipline.specs.Discipline.{StartsSound, StaysSound, MayFree, FreedBlocksAreRefused, IsUnmapped, FreedPagesAreUnmapped, IsFreshIn, NewTagsDiffer, NeighboursDiffer, ChunksAreApart, ChunksAreGuarded, SlicesStaySound, FreedBlocksStayRefused, IsNewIn, malloc, calloc, memalign, realloc as realloc_call, ReusedTagsDiffer, ReusedTagsStayDifferent, FreedPagesAreRefused, FreedBlocksAreFree, ChunksAreTagged}
-use Rattle.mte_tenant.specs.Machines.{after_attempt}
+use Rattle.tag_discipline.specs.Discipline.{StartsSound, StaysSound, MayFree, Deallocation, KeepsFree, FreedBlocksAreRefused, IsUnmapped, FreedPagesAreUnmapped, IsFreshIn, NewTagsDiffer, NeighboursDiffer, ChunksAreApart, ChunksAreGuarded, SlicesStaySound, NextDeallocation, KeepsFreeTo, FreedBlocksStayRefused, IsNewIn, malloc, calloc, memalign, realloc as realloc_call, AreOtherTags, given_tag, ReusedTagsDiffer, ReusedTagsStayDifferent, FreedPagesAreRefused, FreedBlocksAreFree, ChunksAreTagged}
+use Rattle.mte_tenant.specs.Machines.{Machine, after_attempt}
 use Rattle.tag_discipline.specs.CarefulTenants.{state_of, before_service}
 use Rattle.tag_discipline.proofs.Tenants.{step-quiet, after-attempt-kept, after-attempt-done, after-slice-sound, steps-sound, steps-stale}
 use Rattle.tag_discipline.proofs.Serving.{blocks-of}
@@ -130,17 +130,32 @@ stale-by s pointer c x k n l (inr e) on =
     let on' = subst (λ d. HasFree x.place.class x.place.block (state_after_call d s)) e.1 on in
     subst (λ d. IsStaleAfter (state_after_call d s).world x) (sym e.1) (realloc-stale s pointer e.0 x k n l on')
 
+-- ---- a deallocation
+
+abbrev freed-of : (a : State) → Deallocation a → Freed
+freed-of a d = record { place = d.chunk.place; tag = d.chunk.tag; given = (state_after_call d.call a).world.rgsr.tag }
+
+-- the chunk that it freed is stale as long as its block is free
+record IsStaleIn (s : State) (f : Freed) : Type 0 where
+  sound : Sound s
+  stale : IsStale s.world.memory s.world.heap.stacks f
+
+deallocated : (a : State) (d : Deallocation a) → Sound a → IsStaleIn (state_after_call d.call a) (freed-of a d)
+deallocated a d k = record {
+  sound = (call-kept a d.call k (block-careful a d.pointer d.call d.chunk d.live d.may)).sound;
+  stale = stale-by a d.pointer d.call d.chunk k (not-zero a d.pointer d.chunk k d.live) d.live d.may d.free;
+}
+
+stays-stale : (a b : State) (d : Deallocation a) → Sound a → KeepsFree d b → IsStaleIn b (freed-of a d)
+stays-stale a b d k run =
+    let first = deallocated a d k in
+    record { sound = run-sound run first.sound; stale = run-stale (freed-of a d) run first.sound first.stale }
+
+out-of-reach : (s : State) (f : Freed) → IsStaleIn s f → (addr : ℕ) → f.place.user ≤ addr → addr < end_of f.place → IsRefused s.world.memory f.tag addr
+out-of-reach s f st addr low high = stale-refused s st.sound f st.stale addr low high
+
 pub freed-blocks : FreedBlocksAreRefused
-freed-blocks = λ a b pointer addr c x k fr run low high.
-    let l = fr.live in
-    let m = fr.may in
-    let on = fr.free in
-    let n = not-zero a pointer x k l in
-    let f : Freed = record { place = x.place; tag = x.tag; given = (state_after_call c a).world.rgsr.tag } in
-    let t = call-kept a c k (block-careful a pointer c x l m) in
-    let st = stale-by a pointer c x k n l m on in
-    let last = run-stale f run t.sound st in
-    (kept-in b (run-sound run t.sound)).freed f addr last low high
+freed-blocks = λ a b d k run. out-of-reach b (freed-of a d) (stays-stale a b d k run)
 
 -- an access to a page that is not mapped faults
 no_page : (m : Memory) (x : Access) (a : ℕ) → attrs_at m (a / 4096) ≡ None → IsSome (byte_fault m x a)
@@ -235,17 +250,19 @@ stays = λ a b r k. run-sound r k
 pub slices : SlicesStaySound
 slices = λ n m l k c. after-slice-sound n m l k c
 
+next-stale : (m k : Machine) (l j : Live) (d : NextDeallocation m l) → Sound (state_of m l) → KeepsFreeTo d k j → IsStaleIn (state_of k j) (freed-of (state_of (before_service m) l) d.freed)
+next-stale m k l j d sound run =
+    let s = state_of (before_service m) l in
+    let n = run.0 in
+    let first = step-quiet m l d.careful.tags sound in
+    let is = after-attempt-done n m l d.freed.call d.call in
+    let f = freed-of s d.freed in
+    let st = subst (λ (s : State). IsStale s.world.memory s.world.heap.stacks f) (sym is) (deallocated s d.freed first.sound).stale in
+    let after = (after-attempt-kept n m l sound d.careful).sound in
+    record { sound = steps-sound run.1 after; stale = steps-stale f run.1 after st }
+
 pub freed-stay : FreedBlocksStayRefused
-freed-stay = λ m k l j n pointer addr c x sound careful e may live on run low high.
-    let first = step-quiet m l careful.tags sound in
-    let some = not-zero (state_of (before_service m) l) pointer x first.sound live in
-    let is = after-attempt-done n m l c e in
-    let on' : HasFree x.place.class x.place.block (state_after_call c (state_of (before_service m) l)) = subst (HasFree x.place.class x.place.block) is on in
-    let st = stale-by (state_of (before_service m) l) pointer c x first.sound some live may on' in
-    let f : Freed = record { place = x.place; tag = x.tag; given = (state_after_call c (state_of (before_service m) l)).world.rgsr.tag } in
-    let after = (after-attempt-kept n m l sound careful).sound in
-    let last = steps-stale f run after (subst (λ (s : State). IsStale s.world.memory s.world.heap.stacks f) (sym is) st) in
-    (kept-in (state_of k j) (steps-sound run after)).freed f addr last low high
+freed-stay = λ m k l j d sound run. out-of-reach (state_of k j) (freed-of (state_of (before_service m) l) d.freed) (next-stale m k l j d sound run)
 
 -- ---- reuse
 
@@ -255,39 +272,29 @@ fresh-new s r k (calloc count size e) = subst (IsFreshIn s) (sym e) (fresh.callo
 fresh-new s r k (memalign align size e) = subst (IsFreshIn s) (sym e) (fresh.memalign s align size k)
 fresh-new s r k (realloc_call f size e) = subst (IsFreshIn s) (sym e) (fresh.realloc s f size k)
 
-pub reused-differ : ReusedTagsDiffer
-reused-differ = λ a b pointer c x r p t k fr run new e at.
-    let l = fr.live in
-    let m = fr.may in
-    let on = fr.free in
-    let n = not-zero a pointer x k l in
-    let f : Freed = record { place = x.place; tag = x.tag; given = (state_after_call c a).world.rgsr.tag } in
-    let h = call-kept a c k (block-careful a pointer c x l m) in
-    let st = stale-by a pointer c x k n l m on in
-    let last = run-stale f run h.sound st in
+-- the tag of the granules of a stale chunk
+stale-tag : (s : State) (f : Freed) → IsStale s.world.memory s.world.heap.stacks f → tag_at s.world.memory f.place.user ≡ f.given
+stale-tag s f st =
     let some = st.place.some in
-    let there : tag_at (state_after_call c a).world.memory x.place.user ≡ f.given = st.inside x.place.user (omega arith) (omega arith) in
-    let new' = fresh-new b r (run-sound run h.sound) new in
-    let still : tag_at b.world.memory p.user ≡ f.given = ap (tag_at b.world.memory) at ∙ last.inside x.place.user (omega arith) (omega arith) in
-    λ q. new'.other p t e (q ∙ there ∙ sym still)
+    st.inside f.place.user (omega arith) (omega arith)
+
+others-in : (s : State) (f : Freed) (tag : ℕ) → IsStaleIn s f → tag ≡ f.given → AreOtherTags s f.place.user tag
+others-in s f tag k is = λ r p t new e at.
+    let there : tag_at s.world.memory p.user ≡ f.given = ap (tag_at s.world.memory) at ∙ stale-tag s f k.stale in
+    λ q. (fresh-new s r k.sound new).other p t e (q ∙ is ∙ sym there)
+
+pub reused-differ : ReusedTagsDiffer
+reused-differ = λ a b d k run.
+    others-in b (freed-of a d) (given_tag d) (stays-stale a b d k run) (stale-tag (state_after_call d.call a) (freed-of a d) (deallocated a d k).stale)
 
 pub reused-stay : ReusedTagsStayDifferent
-reused-stay = λ m k l j n pointer c x r p t sound careful e may live on run then new made at.
-    let first = step-quiet m l careful.tags sound in
-    let some = not-zero (state_of (before_service m) l) pointer x first.sound live in
-    let is = after-attempt-done n m l c e in
-    let on' : HasFree x.place.class x.place.block (state_after_call c (state_of (before_service m) l)) = subst (HasFree x.place.class x.place.block) is on in
-    let f : Freed = record { place = x.place; tag = x.tag; given = (state_after_call c (state_of (before_service m) l)).world.rgsr.tag } in
-    let st = subst (λ (s : State). IsStale s.world.memory s.world.heap.stacks f) (sym is) (stale-by (state_of (before_service m) l) pointer c x first.sound some live may on') in
-    let after = (after-attempt-kept n m l sound careful).sound in
-    let last = steps-stale f run after st in
-    let quiet = step-quiet k j then.tags (steps-sound run after) in
-    let still = quiet.stale f last last.stacked in
-    let some = st.place.some in
-    let there : tag_at (after_attempt n m).machine.memory x.place.user ≡ f.given = st.inside x.place.user (omega arith) (omega arith) in
-    let new' = fresh-new (state_of (before_service k) j) r quiet.sound new in
-    let here : tag_at (before_service k).memory p.user ≡ f.given = ap (tag_at (before_service k).memory) at ∙ still.inside x.place.user (omega arith) (omega arith) in
-    λ q. new'.other p t made (q ∙ there ∙ sym here)
+reused-stay = λ m k l j d sound run then.
+    let s = state_of (before_service m) l in
+    let f = freed-of s d.freed in
+    let last = next-stale m k l j d sound run in
+    let quiet = step-quiet k j then.tags last.sound in
+    let first = step-quiet m l d.careful.tags sound in
+    others-in (state_of (before_service k) j) f (given_tag d.freed) (record { sound = quiet.sound; stale = quiet.stale f last.stale last.stale.stacked }) (stale-tag (state_after_call d.freed.call s) f (deallocated s d.freed first.sound).stale)
 
 -- ---- more of live and freed chunks
 

@@ -7,7 +7,6 @@ use Rattle.scudo_heap.specs.declared.abort.HeapAbort.{HeapAbort}
 use Rattle.scudo_heap.specs.declared.call.HeapCall.{HeapCall}
 use Rattle.scudo_heap.specs.declared.call.HeapCall.TheVariants.{Malloc, Free, Calloc, Realloc, Memalign, UsableSize}
 use Rattle.scudo_heap.specs.declared.chunk.Found.{Found}
-use Rattle.scudo_heap.specs.Chunks.{end_of}
 use Rattle.mte_svc.specs.declared.record.Record.{Record}
 use Rattle.mte_tenant.specs.declared.refusal.Refusal.{Refusal}
 use Rattle.mte_tenant.specs.declared.refusal.Refusal.TheVariants as refusal
@@ -21,7 +20,7 @@ use Rattle.mte_sched.specs.Isolation.{tenant_among}
 use Rattle.mte_sched.proofs.IsolationLemmas.{tenants_are_alone, among_tenants}
 use Rattle.tag_discipline.specs.LiveChunks.{BlockChunk, chunk_at}
 use Rattle.tag_discipline.proofs.Freed.{IsStale}
-use Rattle.tag_discipline.specs.Laws.{IsRefused}
+use Rattle.tag_discipline.specs.Laws.{IsOutOfReach}
 use Rattle.tag_discipline.specs.CarefulRuns.{State, Live, no_chunks, found_at, state_after_call, IsPointerTo, IsLive, IsLiveBlock, HasFree}
 use Rattle.tag_discipline.specs.CarefulRuns as heap
 use Rattle.tag_discipline.specs.CarefulTenants.{state_of, before_service, next_call, live_after, IsCarefulNext, live_through, IsCareful}
@@ -243,14 +242,11 @@ kept-in-session s life m h =
 pub tenants-stay : TenantsStaySound
 tenants-stay = λ s life m h. (kept-in-session s life m h).sound
 
-abbrev IsOutOfReach : Machine → BlockChunk → Type 0
-IsOutOfReach m x = (addr : ℕ) → x.place.user ≤ addr → addr < end_of x.place → IsRefused m.memory x.tag addr
-
 pub freed-of-tenants : FreedBlocksOfTenantsAreRefused
 freed-of-tenants = λ s life m h.
     let k = kept-in-session s life m h in
-    each-all (IsOutOfReach m) (freed_in life)
-    (each-weaker (StaleIn m) (IsOutOfReach m)
+    each-all (IsOutOfReach m.memory) (freed_in life)
+    (each-weaker (StaleIn m) (IsOutOfReach m.memory)
     (λ x st addr low high. stale-refused (state_in life m) k.sound (record { place = x.place; tag = x.tag; given = st.0 }) st.1 addr low high)
     (freed_in life) k.stale)
 

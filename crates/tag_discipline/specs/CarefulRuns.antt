@@ -191,3 +191,7 @@ pub data Run (P : State → Type 0) : State → State → Type 0 where
 -- A block is free: no allocation has taken it.
 abbrev pub HasFree : ℕ → ℕ → State → Type 0
 HasFree class block s = is_member (stack_of s.world.heap.stacks class) block ≡ true
+
+-- The block of a chunk is free.
+abbrev pub HasFreeBlock : BlockChunk → State → Type 0
+HasFreeBlock x = HasFree x.place.class x.place.block

@@ -30,9 +30,9 @@ use Rattle.mte_tenant.specs.Ledger.{LedgerEntry, admission_refusal}
 use Rattle.mte_sched.specs.Lives.{Session, Life}
 use Rattle.tag_discipline.specs.LiveChunks.{BlockChunk, chunk_at}
 use Rattle.tag_discipline.specs.LivePages.{PageChunk, large_at}
-use Rattle.tag_discipline.specs.Laws.{IsRefused, AreNeighbours}
+use Rattle.tag_discipline.specs.Laws.{IsRefused, IsOutOfReach, AreNeighbours}
 use Rattle.tag_discipline.specs.CarefulRuns.{State, Live, no_chunks, state_after_call}
-use Rattle.tag_discipline.specs.CarefulRuns.{IsLiveBlock, IsLiveLarge, Run, HasFree}
+use Rattle.tag_discipline.specs.CarefulRuns.{IsLiveBlock, IsLiveLarge, Run, HasFreeBlock}
 use Rattle.tag_discipline.specs.CarefulTenants.{state_of, before_service, next_call, live_after}
 use Rattle.tag_discipline.specs.CarefulTenants.{live_through, IsCarefulNext, IsCareful, Steps}
 use Rattle.tag_discipline.specs.CarefulSessions.{IsCarefulIn, state_in, freed_in}
@@ -69,26 +69,31 @@ StaysSound = (a b : State) → Run (λ s. Unit {0}) a b → Sound a → Sound b
 abbrev pub MayFree : ℕ → HeapCall → Type 0
 MayFree pointer c = (c ≡ Free pointer) ⊎ ((size : ℕ) × (c ≡ Realloc pointer size))
 
--- The call frees the live chunk of a size class that a pointer names.
-pub record Frees (a : State) (pointer : ℕ) (c : HeapCall) (x : BlockChunk) : Type 0 where
-  pub live : IsLiveBlock a (plain pointer) x
-  pub may : MayFree pointer c
-  pub free : HasFree x.place.class x.place.block (state_after_call c a)
+-- A heap call that frees the live chunk of a size class that its pointer names.
+pub record Deallocation (a : State) : Type 0 where
+  pub pointer : ℕ
+  pub call : HeapCall
+  pub chunk : BlockChunk
+  pub live : IsLiveBlock a (plain pointer) chunk
+  pub may : MayFree pointer call
+  pub free : HasFreeBlock chunk (state_after_call call a)
+
+-- From the call on, up to the state b, no allocation has taken the chunk's block.
+abbrev pub KeepsFree : {a : State} → Deallocation a → State → Type 0
+KeepsFree {a} d b = Run (HasFreeBlock d.chunk) (state_after_call d.call a) b
 
 -- From the call that freed a chunk of a size class until an allocation takes its block, each
 -- checked access through the pointer to it that touches one of its granules faults.
 abbrev pub FreedBlocksAreRefused : Type 0
 FreedBlocksAreRefused =
-    (a b : State) (pointer addr : ℕ) (c : HeapCall) (x : BlockChunk)
-    → Sound a → Frees a pointer c x
-    → Run (HasFree x.place.class x.place.block) (state_after_call c a) b
-    → x.place.user ≤ addr → addr < end_of x.place → IsRefused b.world.memory x.tag addr
+    (a b : State) (d : Deallocation a)
+    → Sound a → KeepsFree d b → IsOutOfReach b.world.memory d.chunk
 
 -- After the free of a live chunk of a size class its block is free.
 abbrev pub FreedBlocksAreFree : Type 0
 FreedBlocksAreFree =
     (s : State) (pointer : ℕ) (x : BlockChunk) → Sound s → IsLiveBlock s (plain pointer) x
-    → HasFree x.place.class x.place.block (state_after_call (Free pointer) s)
+    → HasFreeBlock x (state_after_call (Free pointer) s)
 
 -- Each access that touches an address faults, checked or not.
 abbrev pub IsUnmapped : Memory → ℕ → Type 0
@@ -151,16 +156,22 @@ pub data IsNewIn (s : State) (r : AllocationResult) : Type 0 where
   memalign : (align size : ℕ) → r ≡ after_memalign s.world align size → IsNewIn s r
   realloc : (f : Found) (size : ℕ) → r ≡ after_move s.world f size → IsNewIn s r
 
+-- A call that makes a new chunk at an address gives it another tag.
+abbrev pub AreOtherTags : State → ℕ → ℕ → Type 0
+AreOtherTags s user tag =
+    (r : AllocationResult) (p : Place) (t : ℕ)
+    → IsNewIn s r → r.chunk ≡ Some (Small p t) → p.user ≡ user → t ≢ tag
+
+-- The tag that the granules of a freed chunk have after the call.
+abbrev pub given_tag : {a : State} → Deallocation a → ℕ
+given_tag {a} d = tag_at (state_after_call d.call a).world.memory d.chunk.place.user
+
 -- The first allocation that takes the block of a freed chunk, where it gives out the same address:
 -- its tag is not the one that the free gave.
 abbrev pub ReusedTagsDiffer : Type 0
 ReusedTagsDiffer =
-    (a b : State) (pointer : ℕ) (c : HeapCall) (x : BlockChunk) (r : AllocationResult)
-    (p : Place) (t : ℕ)
-    → Sound a → Frees a pointer c x
-    → Run (HasFree x.place.class x.place.block) (state_after_call c a) b
-    → IsNewIn b r → r.chunk ≡ Some (Small p t) → p.user ≡ x.place.user
-    → t ≢ tag_at (state_after_call c a).world.memory x.place.user
+    (a b : State) (d : Deallocation a)
+    → Sound a → KeepsFree d b → AreOtherTags b d.chunk.place.user (given_tag d)
 
 -- ---- live chunks
 
@@ -219,34 +230,35 @@ SlicesStaySound =
     (n : ℕ) (m : Machine) (l : Live) → Sound (state_of m l) → IsCareful n m l
     → Sound (state_of (after_slice n m) (live_through n m l))
 
+-- The next instruction is careful, and a service that frees a live chunk of a size class.
+pub record NextDeallocation (m : Machine) (l : Live) : Type 0 where
+  pub careful : IsCarefulNext m l
+  pub freed : Deallocation (state_of (before_service m) l)
+  pub call : next_call m ≡ Some freed.call
+
+-- From that instruction on, after which so many steps of its slice are left, up to the machine k with
+-- the live chunks j, no allocation has taken the chunk's block.
+abbrev pub KeepsFreeTo : {m : Machine} {l : Live} → NextDeallocation m l → Machine → Live → Type 0
+KeepsFreeTo {m} {l} d k j =
+    (left : ℕ)
+    × Steps (HasFreeBlock d.freed.chunk) (after_attempt left m).machine (live_after m l) k j
+
 -- From the service that freed a chunk of a size class until an allocation takes its block, each
 -- checked access through the pointer to it that touches one of its granules faults, whatever
 -- careful instructions come between.
 abbrev pub FreedBlocksStayRefused : Type 0
 FreedBlocksStayRefused =
-    (m k : Machine) (l j : Live) (n pointer addr : ℕ) (c : HeapCall) (x : BlockChunk)
-    → Sound (state_of m l) → IsCarefulNext m l
-    → next_call m ≡ Some c → MayFree pointer c
-    → IsLiveBlock (state_of (before_service m) l) (plain pointer) x
-    → HasFree x.place.class x.place.block (state_of (after_attempt n m).machine (live_after m l))
-    → Steps (HasFree x.place.class x.place.block) (after_attempt n m).machine (live_after m l) k j
-    → x.place.user ≤ addr → addr < end_of x.place → IsRefused k.memory x.tag addr
+    (m k : Machine) (l j : Live) (d : NextDeallocation m l)
+    → Sound (state_of m l) → KeepsFreeTo d k j → IsOutOfReach k.memory d.freed.chunk
 
 -- The first allocation that takes the block of a chunk that a service freed, where it gives out the
 -- same address: its tag is not the one that the free gave, whatever careful instructions come
 -- between.
 abbrev pub ReusedTagsStayDifferent : Type 0
 ReusedTagsStayDifferent =
-    (m k : Machine) (l j : Live) (n pointer : ℕ) (c : HeapCall) (x : BlockChunk)
-    (r : AllocationResult) (p : Place) (t : ℕ)
-    → Sound (state_of m l) → IsCarefulNext m l
-    → next_call m ≡ Some c → MayFree pointer c
-    → IsLiveBlock (state_of (before_service m) l) (plain pointer) x
-    → HasFree x.place.class x.place.block (state_of (after_attempt n m).machine (live_after m l))
-    → Steps (HasFree x.place.class x.place.block) (after_attempt n m).machine (live_after m l) k j
-    → IsCarefulNext k j → IsNewIn (state_of (before_service k) j) r
-    → r.chunk ≡ Some (Small p t) → p.user ≡ x.place.user
-    → t ≢ tag_at (after_attempt n m).machine.memory x.place.user
+    (m k : Machine) (l j : Live) (d : NextDeallocation m l)
+    → Sound (state_of m l) → KeepsFreeTo d k j → IsCarefulNext k j
+    → AreOtherTags (state_of (before_service k) j) d.freed.chunk.place.user (given_tag d.freed)
 
 -- ---- tenants of a session
 
@@ -261,8 +273,7 @@ TenantsStaySound =
 abbrev pub FreedBlocksOfTenantsAreRefused : Type 0
 FreedBlocksOfTenantsAreRefused =
     (s : Session) (life : Life) (m : Machine) → IsCarefulIn s life m
-    → All (λ x. (addr : ℕ) → x.place.user ≤ addr → addr < end_of x.place
-    → IsRefused m.memory x.tag addr) (freed_in life)
+    → All (IsOutOfReach m.memory) (freed_in life)
 
 -- Each checked access through the pointer to a live chunk of its that touches the granule just
 -- before or just after the chunk's faults.
