@@ -61,7 +61,6 @@ impl Secondary {
 
     /// Adds a mapping at a place for it, with a user address in its pages.
     pub fn add(&mut self, start: u64, pages: u64, user: u64)
-        requires some { 0 < pages }
         requires place { IsTrue (is_place self.old.mappings pages start) }
         requires first { start ≤ user }
         requires last { user < start + PAGE_SIZE * pages }
