@@ -32,8 +32,8 @@ use Rattle.scudo_heap.specs.Large.{mapping_for, large_placed}
 use Rattle.scudo_heap.specs.Allocation.{AllocationResult, allocation_of, no_chunk, place_in, is_empty, with_free_block, after_take, after_class_allocation, after_map_chunk, map_chunk_cases, after_large_allocation, nonzero_size, need_of, allocate_cases, after_allocate, after_malloc}
 use Rattle.scudo_heap.specs.Checks.{size_found}
 use Rattle.scudo_heap.specs.Realloc.{user_of, user_of_chunk}
-use Rattle.scudo_heap.specs.Served.{HeapOwnsItsPages, IsOpen, heap_page, is_inside}
-use Rattle.scudo_heap.specs.Inner.{AreApart, IsFound, IsAlign}
+use Rattle.scudo_heap.specs.Served.{HeapOwnsItsPages, heap_page, is_inside}
+use Rattle.scudo_heap.specs.Inner.{AreApart, IsFound, IsAlign, IsOpen}
 use Rattle.scudo_heap.proofs.CheckLemmas.{mapping-bounds}
 use Rattle.scudo_heap.proofs.MapLemmas.{all-apart, inside-in, inside-more, is-at}
 use Rattle.scudo_heap.proofs.ClassLemmas.{fits-in}

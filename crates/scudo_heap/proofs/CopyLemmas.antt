@@ -8,8 +8,7 @@ use Rattle.mte_tags.proofs.ByteLaws.{byte_at-written_other, read_bytes-same, len
 use Rattle.mte_tags.proofs.PageLaws.{attrs_at-with-bytes-at}
 use Rattle.mte_tags.proofs.ModeLaws.{access_fault-none}
 use Rattle.scudo_heap.specs.Realloc.{after_copy}
-use Rattle.scudo_heap.specs.Served.{IsOpen}
-use Rattle.scudo_heap.specs.Inner.{AreApart}
+use Rattle.scudo_heap.specs.Inner.{AreApart, IsOpen}
 use Rattle.scudo_heap.proofs.OpenLemmas.{addresses_open}
 
 pub read_open : (m : Memory) (a n k : ℕ) → k ≡ n → IsOpen m a (a + n) → read_fault m a k false ≡ None

@@ -10,7 +10,7 @@ use Rattle.mte_tags.specs.declared.access.Access.{Access}
 use Rattle.mte_tags.specs.declared.fault.MemFault.{MemFault}
 use Rattle.mte_tags.proofs.ModeLaws.{access_fault-none, after_read-without-check, after_access-without-check}
 use Rattle.mte_tags.proofs.PageLaws.{page_at-attrs, IsMapped-from_pages}
-use Rattle.scudo_heap.specs.Served.{IsOpen}
+use Rattle.scudo_heap.specs.Inner.{IsOpen}
 
 fault_open : (x : Access) (p : Option Page) (a n : ℕ) → attrs_cases p ≡ Some n → x.checked ≡ false → has n x.need ≡ true → fault_cases x p a ≡ None
 fault_open x None a n e c h = cc

@@ -19,12 +19,13 @@ use Rattle.address_map.specs.declared.limits.TheConstants.{PAGE_SIZE}
 use Rattle.address_map.specs.declared.ranges.TheConstants.{REGION_SIZE}
 use Rattle.scudo_heap.specs.Stacks.{ClassHeap, StackState, class_at, with_class, pages_of, stack_of, after_pop, after_push, carved_class, after_carve}
 use Rattle.scudo_heap.specs.Heaps.{HeapState, heap_of}
-use Rattle.scudo_heap.specs.Served.{HeapOwnsItsPages, IsOpen, AreRegions, ArePlaces, heap_page, is_inside}
+use Rattle.scudo_heap.specs.Served.{HeapOwnsItsPages, heap_page, is_inside}
 use Rattle.scudo_secondary.specs.declared.mappings.Mapping.{Mapping}
 use Rattle.mte_tags.specs.Memory.{IsFree, with_new_pages, without_pages}
 use Rattle.mte_tags.proofs.PageLaws.{page_at-no_attrs, attrs_at-with_new_pages_in, attrs_at-with_new_pages_out, pages_left-with_new_pages, attrs_at-without_pages_in, attrs_at-without_pages_out}
 use Rattle.mte_tags.proofs.Whole.{pages_left-without_pages}
 use Rattle.scudo_heap.specs.Heaps.{with_less, with_more}
+use Rattle.scudo_heap.specs.Inner.{ArePlaces, AreRegions, IsOpen}
 use Rattle.scudo_secondary.proofs.MappingLemmas.{pages_of-with_mapping}
 use Rattle.scudo_heap.proofs.MapLemmas.{IsAt, inside-more, inside-in, inside-low, inside-high, others_of, without}
 use Rattle.scudo_heap.proofs.StackLemmas.{class_at-with_class, class_at-with_class_other}

@@ -1,6 +1,6 @@
 -- The six checks of a pointer, in their order (Scudo, combined.h, Allocator::deallocate). The tag
 -- of the pointer is not compared.
-use Rattle.std.specs.Prelude.{ℕ, ◌+◌, ◌-◌, ◌*◌, ◌/◌, ◌%◌, ◌^◌, ◌≤◌, ◌==◌, ◌&&◌, nat_lt, nat_le}
+use Rattle.std.specs.Prelude.{ℕ, ◌+◌, ◌-◌, ◌*◌, ◌/◌, ◌%◌, ◌==◌, ◌&&◌, nat_lt, nat_le}
 use Rattle.std.specs.Prelude.{Bool}
 use Rattle.std.specs.Prelude.{true, false, List, Option, Some, None, Result, Ok, Err, if◌then◌else◌}
 use Rattle.std.specs.Int.{from_le_bytes, w64}
@@ -34,14 +34,6 @@ use Rattle.scudo_heap.specs.Chunks.{end_of, block_end}
 abbrev pub size_found : Found → ℕ
 size_found (InBlock p header) = p.size
 size_found (InPages m header) = secondary.end_of m - m.user - header.size_or_unused_bytes
-
--- its end is an address
-abbrev pub HasEnd : Found → Type 0
-HasEnd (InBlock p header) = Unit {0}
-HasEnd (InPages m header) =
-    (secondary.end_of m ≤ 2 ^ 30)
-    × (m.user ≤ secondary.end_of m)
-    × (header.size_or_unused_bytes ≤ secondary.end_of m - m.user)
 
 -- ---- 1, 2: the address; 3: the checksum; 4: the state
 

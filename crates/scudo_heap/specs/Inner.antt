@@ -1,16 +1,23 @@
 -- For the code's own clauses, views and invariants.
--- What the parts of the stacks of free blocks are, and what a chunk is that the checks found.
+-- What the parts of the stacks of free blocks are, what of the condition of the calls the size
+-- classes and the mappings need, and what a chunk is that the checks found.
 use Rattle.std.specs.Prelude.{◌≡◌, ℕ, ◌+◌, ◌-◌, ◌%◌, ◌^◌, ◌<◌, ◌≤◌, ◌⊎◌, Some, false, List, ◌++◌, ◌∷◌, []}
+use Rattle.std.specs.Prelude.{◌/◌, nat_lt}
+use Rattle.std.specs.List.{list_any}
+use Rattle.mte_tags.specs.Memory.{Memory, attrs_at, pages_left}
 use Rattle.scudo_header.specs.declared.classes.TheConstants.{CLASSES}
+use Rattle.scudo_header.specs.Regions.{region_of}
 use Rattle.scudo_header.specs.declared.headers.Header.{Header}
 use Rattle.scudo_primary.specs.Blocks.{IsBlock}
 use Rattle.scudo_primary.specs.Pools as primary
 use Rattle.scudo_primary.specs.Pools.{is_member}
 use Rattle.scudo_cache.specs.Caches.{one_stack, IsAbove, AreStacks}
-use Rattle.scudo_secondary.specs.Mappings.{mapping_of}
+use Rattle.scudo_secondary.specs.Mappings.{SecondaryState, mapping_of}
 use Rattle.scudo_secondary.specs.Mappings as secondary
 use Rattle.scudo_secondary.specs.declared.mappings.Mapping.{Mapping}
 use Rattle.address_map.specs.declared.limits.TheConstants.{PAGE_SIZE}
+use Rattle.address_map.specs.declared.ranges.TheConstants.{REGION_SIZE}
+use Rattle.address_map.specs.declared.ranges.TheConstants.{SECONDARY_START, SECONDARY_END}
 use Rattle.scudo_heap.specs.declared.chunk.Place.{Place}
 use Rattle.scudo_heap.specs.declared.chunk.Chunk.{Chunk}
 use Rattle.scudo_heap.specs.declared.chunk.Chunk.TheVariants.{Small, Large}
@@ -19,6 +26,7 @@ use Rattle.scudo_heap.specs.declared.chunk.Found.TheVariants.{InBlock, InPages}
 use Rattle.scudo_heap.specs.Stacks.{ClassHeap, StackState, stacks_by, pages_of, stack_of}
 use Rattle.scudo_heap.specs.Heaps.{HeapState}
 use Rattle.scudo_heap.specs.Chunks.{end_of, block_end}
+use Rattle.scudo_heap.specs.Served.{heap_page, is_inside}
 use Rattle.scudo_heap.specs.Sound.{HasRoom, IsSound}
 use Rattle.scudo_heap.specs.declared.stacks.Stacks.TheInside.{Inside}
 
@@ -35,6 +43,27 @@ stacks_in f = stacks_by f.pool.left (capacities_in f) (class_in f)
 pub record AreParts (f : Inside) : Type 0 where
   pub above : IsAbove f.cache f.pool
   pub stacks : AreStacks f.cache f.pool
+
+-- what of the condition the size classes need
+pub record AreRegions (m : Memory) (s : StackState) : Type 0 where
+  pub room : pages_left m ≤ s.left
+  pub few :
+      (class : ℕ) → 0 < class → class ≤ CLASSES → pages_of s class ≤ REGION_SIZE / PAGE_SIZE
+  pub regions :
+      (class i : ℕ) → 0 < class → class ≤ CLASSES → i < REGION_SIZE / PAGE_SIZE
+      → attrs_at m (region_of class / PAGE_SIZE + i) ≡ heap_page (nat_lt i (pages_of s class))
+
+-- what of the condition the chunks with pages of their own need
+pub record ArePlaces (m : Memory) (ms : SecondaryState) : Type 0 where
+  pub room : pages_left m + secondary.pages_of ms.mappings ≤ ms.limit
+  pub mappings :
+      (a : ℕ) → SECONDARY_START ≤ a → a < SECONDARY_END
+      → attrs_at m (a / PAGE_SIZE) ≡ heap_page (list_any (is_inside a) ms.mappings)
+
+-- Each page from an address up to another has READ, WRITE and TAGGED.
+pub record IsOpen (m : Memory) (from to : ℕ) : Type 0 where
+  pub pages : (a : ℕ) → from ≤ a → a < to → attrs_at m (a / PAGE_SIZE) ≡ Some 11
+  pub below : to ≤ 2 ^ 30
 
 -- where a chunk may lie in a block of a size class
 pub record IsPlaced (s : StackState) (p : Place) : Type 0 where
@@ -56,6 +85,14 @@ pub record IsFoundBlock (s : StackState) (p : Place) (header : Header) : Type 0 
 abbrev pub IsFound : HeapState → Found → Type 0
 IsFound h (InBlock p header) = IsFoundBlock h.stacks p header
 IsFound h (InPages m header) = Some m ≡ mapping_of h.maps.mappings m.user
+
+-- its end is an address: of the mapping of a chunk with pages of its own
+abbrev pub HasEnd : Found → Type 0
+HasEnd (InBlock p header) = Unit {0}
+HasEnd (InPages m header) =
+    (secondary.end_of m ≤ 2 ^ 30)
+    × (m.user ≤ secondary.end_of m)
+    × (header.size_or_unused_bytes ≤ secondary.end_of m - m.user)
 
 -- two places of n bytes have none in common
 abbrev pub AreApart : ℕ → ℕ → ℕ → Type 0

@@ -1,6 +1,6 @@
 -- When a memory is one that a heap may be used with: the condition of the heap calls, which each of
 -- them keeps.
-use Rattle.std.specs.Prelude.{◌≡◌, ℕ, ◌+◌, ◌/◌, ◌^◌, ◌<◌, ◌≤◌, ◌&&◌, nat_lt, nat_le, Bool}
+use Rattle.std.specs.Prelude.{◌≡◌, ℕ, ◌+◌, ◌/◌, ◌<◌, ◌≤◌, ◌&&◌, nat_lt, nat_le, Bool}
 use Rattle.std.specs.Prelude.{Option, Some, None, if◌then◌else◌}
 use Rattle.std.specs.List.{list_any}
 use Rattle.mte_tags.specs.Memory.{Memory, attrs_at, pages_left}
@@ -11,8 +11,7 @@ use Rattle.scudo_secondary.specs.declared.mappings.Mapping.{Mapping}
 use Rattle.address_map.specs.declared.limits.TheConstants.{PAGE_SIZE}
 use Rattle.address_map.specs.declared.ranges.TheConstants.{REGION_SIZE}
 use Rattle.address_map.specs.declared.ranges.TheConstants.{SECONDARY_START, SECONDARY_END}
-use Rattle.scudo_secondary.specs.Mappings.{SecondaryState}
-use Rattle.scudo_heap.specs.Stacks.{StackState, pages_of}
+use Rattle.scudo_heap.specs.Stacks.{pages_of}
 use Rattle.scudo_heap.specs.Heaps.{HeapState}
 
 -- READ, WRITE and TAGGED where a page is the heap's, else no page.
@@ -41,30 +40,9 @@ pub record HeapOwnsItsPages (m : Memory) (h : HeapState) : Type 0 where
       (a : ℕ) → SECONDARY_START ≤ a → a < SECONDARY_END
       → attrs_at m (a / PAGE_SIZE) ≡ heap_page (list_any (is_inside a) h.maps.mappings)
 
--- Each page from an address up to another has READ, WRITE and TAGGED.
-pub record IsOpen (m : Memory) (from to : ℕ) : Type 0 where
-  pub pages : (a : ℕ) → from ≤ a → a < to → attrs_at m (a / PAGE_SIZE) ≡ Some 11
-  pub below : to ≤ 2 ^ 30
-
 -- no page lies where those of a heap do: from the first class's region to the end of the range of
 -- chunks with pages of their own
 abbrev pub IsUntouched : Memory → Type 0
 IsUntouched m =
     (page : ℕ) → region_of 1 / PAGE_SIZE ≤ page → page < SECONDARY_END / PAGE_SIZE
     → attrs_at m page ≡ None
-
--- what of the condition the size classes need
-pub record AreRegions (m : Memory) (s : StackState) : Type 0 where
-  pub room : pages_left m ≤ s.left
-  pub few :
-      (class : ℕ) → 0 < class → class ≤ CLASSES → pages_of s class ≤ REGION_SIZE / PAGE_SIZE
-  pub regions :
-      (class i : ℕ) → 0 < class → class ≤ CLASSES → i < REGION_SIZE / PAGE_SIZE
-      → attrs_at m (region_of class / PAGE_SIZE + i) ≡ heap_page (nat_lt i (pages_of s class))
-
--- what of the condition the chunks with pages of their own need
-pub record ArePlaces (m : Memory) (ms : SecondaryState) : Type 0 where
-  pub room : pages_left m + secondary.pages_of ms.mappings ≤ ms.limit
-  pub mappings :
-      (a : ℕ) → SECONDARY_START ≤ a → a < SECONDARY_END
-      → attrs_at m (a / PAGE_SIZE) ≡ heap_page (list_any (is_inside a) ms.mappings)

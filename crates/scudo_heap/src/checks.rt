@@ -9,7 +9,8 @@ ghost use Rattle.scudo_heap.specs.Heaps.{heap_of};
 ghost use Rattle.scudo_heap.specs.Checks.{is_allocated, is_place, place_of_header, size_found};
 ghost use Rattle.scudo_heap.specs.Checks.{is_mapped};
 ghost use Rattle.scudo_heap.specs.Checks.{check_pointer};
-ghost use Rattle.scudo_heap.specs.Checks.{check_block, check_mapping, check_chunk, HasEnd};
+ghost use Rattle.scudo_heap.specs.Checks.{check_block, check_mapping, check_chunk};
+ghost use Rattle.scudo_heap.specs.Inner.{HasEnd};
 
 use crate::abort::HeapAbort;
 use crate::chunk::{Found, Place};

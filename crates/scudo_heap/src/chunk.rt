@@ -3,8 +3,8 @@
 ghost use Rattle.std.specs.Prelude.{◌≡◌, ◌≤◌, ◌^◌, Some, IfSome};
 ghost use Rattle.scudo_heap.specs.Allocation.{answer_of};
 ghost use Rattle.scudo_heap.specs.Realloc.{user_of_chunk, user_of};
-ghost use Rattle.scudo_heap.specs.Inner.{IsLow};
-ghost use Rattle.scudo_heap.specs.Checks.{size_found, HasEnd};
+ghost use Rattle.scudo_heap.specs.Inner.{IsLow, HasEnd};
+ghost use Rattle.scudo_heap.specs.Checks.{size_found};
 
 use address_map::PAGE_SIZE;
 use scudo_header::Header;

@@ -12,8 +12,7 @@ ghost use Rattle.scudo_heap.specs.Heaps.{heap_of};
 ghost use Rattle.scudo_heap.specs.Placing.{world_of, more_pages, next_page, heap_attrs};
 ghost use Rattle.scudo_heap.specs.Allocation.{allocation_of, place_in, after_take, need_of};
 ghost use Rattle.scudo_heap.specs.Allocation.{after_class_allocation};
-ghost use Rattle.scudo_heap.specs.Served.{AreRegions};
-ghost use Rattle.scudo_heap.specs.Inner.{IsAlign, IsLow};
+ghost use Rattle.scudo_heap.specs.Inner.{IsAlign, IsLow, AreRegions};
 
 use crate::chunk::{Chunk, Place, by_fields};
 use crate::limits::MIN_ALIGNMENT;

@@ -3,8 +3,7 @@
 ghost use Rattle.std.specs.Prelude.{◌≡◌, ◌+◌, ◌≤◌, length, ℕ};
 ghost use Rattle.mte_tags.specs.Memory.{attrs_at};
 ghost use Rattle.scudo_heap.specs.Realloc.{after_copy};
-ghost use Rattle.scudo_heap.specs.Served.{IsOpen};
-ghost use Rattle.scudo_heap.specs.Inner.{AreApart};
+ghost use Rattle.scudo_heap.specs.Inner.{AreApart, IsOpen};
 
 use mte_tags::{Paged, Tagged};
 

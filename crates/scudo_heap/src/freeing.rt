@@ -11,8 +11,8 @@ ghost use Rattle.scudo_heap.specs.Chunks.{end_of, block_end, excluded_tags, with
 ghost use Rattle.scudo_heap.specs.Chunks.{with_header};
 ghost use Rattle.scudo_heap.specs.Placing.{world_of};
 ghost use Rattle.scudo_heap.specs.Freeing.{without_chunk};
-ghost use Rattle.scudo_heap.specs.Served.{HeapOwnsItsPages, IsOpen};
-ghost use Rattle.scudo_heap.specs.Inner.{IsFoundBlock, IsFound};
+ghost use Rattle.scudo_heap.specs.Served.{HeapOwnsItsPages};
+ghost use Rattle.scudo_heap.specs.Inner.{IsFoundBlock, IsFound, IsOpen};
 
 use crate::chunk::{Found, Place};
 use crate::granules::{put_header, set_tags};

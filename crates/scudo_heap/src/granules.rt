@@ -4,7 +4,7 @@
 ghost use Rattle.std.specs.Prelude.{◌≡◌, ◌+◌, ◌-◌, ◌*◌, ◌%◌, ◌^◌, ◌<◌, ◌≤◌, ℕ};
 ghost use Rattle.mte_tags.specs.Memory.{attrs_at, tag_at, with_granules};
 ghost use Rattle.scudo_heap.specs.Chunks.{with_header};
-ghost use Rattle.scudo_heap.specs.Served.{IsOpen};
+ghost use Rattle.scudo_heap.specs.Inner.{IsOpen};
 
 use mte_tags::{Paged, Tagged};
 use scudo_header::{Header, pack};

@@ -11,8 +11,7 @@ ghost use Rattle.scudo_heap.specs.Chunks.{with_header};
 ghost use Rattle.scudo_heap.specs.Placing.{world_of, heap_attrs};
 ghost use Rattle.scudo_heap.specs.Large.{mapping_for, large_header};
 ghost use Rattle.scudo_heap.specs.Allocation.{allocation_of, need_of, after_large_allocation};
-ghost use Rattle.scudo_heap.specs.Served.{ArePlaces};
-ghost use Rattle.scudo_heap.specs.Inner.{IsAlign, IsLarge, IsLow};
+ghost use Rattle.scudo_heap.specs.Inner.{IsAlign, IsLarge, IsLow, ArePlaces};
 
 use crate::chunk::Chunk;
 use crate::granules::put_header;

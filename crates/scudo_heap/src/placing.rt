@@ -8,7 +8,7 @@ ghost use Rattle.scudo_heap.specs.Chunks.{end_of, block_end, excluded_tags, with
 ghost use Rattle.scudo_heap.specs.Chunks.{with_end_tag_0, with_header_tag_0};
 ghost use Rattle.scudo_heap.specs.Chunks.{with_header};
 ghost use Rattle.scudo_heap.specs.Placing.{new_header};
-ghost use Rattle.scudo_heap.specs.Served.{IsOpen};
+ghost use Rattle.scudo_heap.specs.Inner.{IsOpen};
 
 use crate::chunk::Place;
 use crate::granules::{put_header, set_tags};

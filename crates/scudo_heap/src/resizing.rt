@@ -8,11 +8,9 @@ ghost use Rattle.scudo_heap.specs.Chunks.{block_end, end_of, with_size, after_re
 ghost use Rattle.scudo_heap.specs.Chunks.{with_header};
 ghost use Rattle.scudo_heap.specs.Placing.{world_of};
 ghost use Rattle.scudo_heap.specs.Allocation.{allocation_of};
-ghost use Rattle.scudo_heap.specs.Checks.{HasEnd};
 ghost use Rattle.scudo_heap.specs.Realloc.{after_move, realloc_cases};
-ghost use Rattle.scudo_heap.specs.Served.{IsOpen};
 ghost use Rattle.scudo_heap.specs.Sound.{IsSoundWorld};
-ghost use Rattle.scudo_heap.specs.Inner.{IsPlaced, IsFound, IsLow};
+ghost use Rattle.scudo_heap.specs.Inner.{IsPlaced, IsFound, IsLow, HasEnd, IsOpen};
 
 use crate::allocation::allocate;
 use crate::chunk::{Chunk, Found, Place};

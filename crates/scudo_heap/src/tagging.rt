@@ -7,7 +7,7 @@ ghost use Rattle.mte_tags.specs.RandomTags.{after_draw};
 ghost use Rattle.scudo_header.specs.Classes.{IsClass};
 ghost use Rattle.scudo_heap.specs.Chunks.{granules_of, end_of, parity_mask, excluded_tags};
 ghost use Rattle.scudo_heap.specs.Chunks.{with_chunk_tag};
-ghost use Rattle.scudo_heap.specs.Served.{IsOpen};
+ghost use Rattle.scudo_heap.specs.Inner.{IsOpen};
 
 use crate::chunk::Place;
 use crate::granules::{set_tags, tag_there};

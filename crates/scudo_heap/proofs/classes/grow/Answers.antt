@@ -4,7 +4,7 @@ use Rattle.mte_tags.specs.declared.tagged.NoPagesLeft.{NoPagesLeft}
 use Rattle.mte_tags.specs.Memory.{page_at, pages_left, with_new_pages}
 use Rattle.scudo_heap.specs.Stacks.{StackState, stack_of, after_carve}
 use Rattle.scudo_heap.specs.Placing.{next_page, heap_attrs}
-use Rattle.scudo_heap.specs.Served.{AreRegions}
+use Rattle.scudo_heap.specs.Inner.{AreRegions}
 use Rattle.scudo_heap.proofs.ServedLemmas.{MayGrow, next-free, regions-grown, grown-some}
 use Rattle.scudo_heap.proofs.classes.grow.Goals as goal
 

@@ -6,7 +6,7 @@ use Rattle.scudo_heap.specs.Stacks.{StackState, stack_of}
 use Rattle.scudo_heap.specs.Heaps.{heap_of}
 use Rattle.scudo_heap.specs.Placing.{world_of, after_place}
 use Rattle.scudo_heap.specs.Allocation.{allocation_of, allocation_at}
-use Rattle.scudo_heap.specs.Served.{IsOpen}
+use Rattle.scudo_heap.specs.Inner.{IsOpen}
 use Rattle.scudo_heap.proofs.ServedLemmas.{block-open-in}
 use Rattle.scudo_heap.proofs.ClassLemmas.{FitsIn, fits-in, none-top, after-take-some}
 use Rattle.scudo_heap.proofs.classes.take_top.Goals as goal

@@ -3,7 +3,7 @@ use Rattle.std.proofs.lemmas.Bool.{cond-true}
 use Rattle.mte_tags.specs.Accesses.{result_of, with_bytes_at}
 use Rattle.mte_tags.proofs.ByteLaws.{length-read_bytes}
 use Rattle.scudo_heap.specs.Realloc.{after_copy}
-use Rattle.scudo_heap.specs.Served.{IsOpen}
+use Rattle.scudo_heap.specs.Inner.{IsOpen}
 use Rattle.scudo_heap.proofs.OpenLemmas.{open-mapped, either_way}
 use Rattle.scudo_heap.proofs.CopyLemmas.{read_open}
 use Rattle.scudo_heap.proofs.copying.copy_part.Goals as goal

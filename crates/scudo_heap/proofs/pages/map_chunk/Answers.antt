@@ -2,7 +2,7 @@ use Rattle.std.proofs.Common.{◌-◌, Result, Ok, Err, sym, subst, arith}
 use Rattle.std.specs.Result.{IsOk, OnOk}
 use Rattle.mte_tags.specs.declared.tagged.NoPagesLeft.{NoPagesLeft}
 use Rattle.scudo_heap.specs.Heaps.{with_more}
-use Rattle.scudo_heap.specs.Served.{IsOpen}
+use Rattle.scudo_heap.specs.Inner.{IsOpen}
 use Rattle.scudo_heap.proofs.MapLemmas.{is-at}
 use Rattle.scudo_heap.proofs.ServedLemmas.{pages-free, pages-open}
 use Rattle.scudo_heap.proofs.pages.map_chunk.Goals as goal
