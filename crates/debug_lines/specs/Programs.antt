@@ -4,18 +4,18 @@ use Rattle.std.specs.Prelude.{Option, Some, None}
 use Rattle.debug_lines.specs.declared.operation.Advance.{Advance}
 use Rattle.debug_lines.specs.declared.operation.Operation.{Operation}
 use Rattle.debug_lines.specs.declared.operation.Operation.TheVariants as op
-use Rattle.debug_lines.specs.declared.registers.Registers.{Registers}
+use Rattle.debug_lines.specs.declared.registers.LineRegisters.{LineRegisters}
 use Rattle.debug_lines.specs.declared.row.Row.{Row}
 
 -- Registers after an advance of address and line.
-abbrev pub after_advance : Registers → Advance → Registers
+abbrev pub after_advance : LineRegisters → Advance → LineRegisters
 after_advance r by = record r {
   address = (r.address + by.address) % 2 ^ 64;
   line = (r.line + by.line) % 2 ^ 32;
 }
 
 -- the row of the registers' values
-abbrev pub row_of : Registers → Bool → Row
+abbrev pub row_of : LineRegisters → Bool → Row
 row_of r ends = record {
   address = r.address;
   file = r.file;
@@ -25,7 +25,7 @@ row_of r ends = record {
 }
 
 -- the registers at the start of a sequence (6.2.2, table 6.4)
-abbrev pub start : Registers
+abbrev pub start : LineRegisters
 start = record { address = 0; file = 1; line = 1; is_placed = false }
 
 -- an address that a linker gives no code is 0 or the highest
@@ -33,7 +33,7 @@ abbrev pub is_place : ℕ → Bool
 is_place address = not (address == 0) && not (address == 2 ^ 64 - 1)
 
 -- Registers after an operation.
-abbrev pub registers_after : Operation → Registers → Registers
+abbrev pub registers_after : Operation → LineRegisters → LineRegisters
 registers_after (op.Special by) r = after_advance r by
 registers_after (op.Advance by) r = after_advance r by
 registers_after (op.SetAddress a) r = record r { address = a; is_placed = is_place a }
@@ -42,7 +42,7 @@ registers_after op.Copy r = r
 registers_after op.EndSequence r = start
 
 -- special opcodes, copies and ends of sequences make rows
-abbrev pub row_after : Operation → Registers → Option Row
+abbrev pub row_after : Operation → LineRegisters → Option Row
 row_after (op.Special by) r = Some (row_of (after_advance r by) false)
 row_after (op.Advance by) r = None
 row_after (op.SetAddress address) r = None

@@ -4,7 +4,7 @@ ghost use Rattle.std.specs.Prelude.{length};
 ghost use Rattle.std.specs.Iterator.{at_most};
 
 use crate::reader::Reader;
-use crate::tables::Entry;
+use crate::tables::NameEntry;
 
 /// The directories, from number 1 on. They end with an empty text.
 #[derive(Clone, Copy)]
@@ -40,11 +40,11 @@ impl<'a> Files<'a> {
 }
 
 impl<'a> Iterator for Files<'a> {
-    type Item = Entry<'a>;
+    type Item = NameEntry<'a>;
 
     ghost remaining = { λ s. at_most (length s.table.rest.now) };
 
-    fn next(&mut self) -> Option<Entry<'a>> {
+    fn next(&mut self) -> Option<NameEntry<'a>> {
         let path = self.table.text()?;
         if path.is_empty() {
             return None;
@@ -53,7 +53,7 @@ impl<'a> Iterator for Files<'a> {
         // The time of its last change, and its size.
         self.table.unsigned()?;
         self.table.unsigned()?;
-        Some(Entry {
+        Some(NameEntry {
             path: Some(path),
             directory,
         })

@@ -5,7 +5,7 @@ ghost use Rattle.std.specs.Iterator.{at_most};
 
 use crate::form::{Strings, Value};
 use crate::reader::Reader;
-use crate::tables::Entry;
+use crate::tables::NameEntry;
 
 /// DW_LNCT_path.
 const PATH: u64 = 1;
@@ -60,14 +60,14 @@ impl<'a> Entries<'a> {
     }
 
     /// Reads the values of an entry, of which each takes some bytes.
-    fn entry(&mut self) -> Option<Entry<'a>>
+    fn entry(&mut self) -> Option<NameEntry<'a>>
         requires { 0 < self.old.values }
         ensures shorter { IfSome result
             (λ _. length self.new.table.rest.now < length self.old.table.rest.now) }
         ensures values { self.new.values ≡ self.old.values }
     {
         let mut formats = self.formats;
-        let mut entry = Entry::NOTHING;
+        let mut entry = NameEntry::NOTHING;
         for _ in 0..self.values {
             let kind = formats.unsigned()?;
             let form = formats.unsigned()?;
@@ -82,11 +82,11 @@ impl<'a> Entries<'a> {
 }
 
 impl<'a> Iterator for Entries<'a> {
-    type Item = Entry<'a>;
+    type Item = NameEntry<'a>;
 
     ghost remaining = { λ s. at_most (length s.table.rest.now) };
 
-    fn next(&mut self) -> Option<Entry<'a>> {
+    fn next(&mut self) -> Option<NameEntry<'a>> {
         let count = self.count.checked_sub(1)?;
         let entry = self.entry()?;
         self.count = count;

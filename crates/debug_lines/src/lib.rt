@@ -15,5 +15,5 @@ mod source_line;
 mod tables;
 mod unit;
 
-pub use lines::{DebugLines, Origin};
+pub use lines::{DebugLines, SourceOrigin};
 pub use source_line::SourceLine;

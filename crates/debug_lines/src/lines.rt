@@ -52,8 +52,8 @@ impl<'a> DebugLines<'a> {
     }
 
     /// An address, to be told by its source line.
-    pub fn origin(&self, address: u64) -> Origin<'a> {
-        Origin(self.line_of(address))
+    pub fn origin(&self, address: u64) -> SourceOrigin<'a> {
+        SourceOrigin(self.line_of(address))
     }
 
     /// The source line that a row tells of.
@@ -106,9 +106,9 @@ fn contents<'a>(sections: &Sections<'a>, name: &[u8]) -> &'a [u8] {
 
 /// Where the code of an address comes from: ` at FILE:LINE`, or nothing where no line tells it.
 #[derive(Clone, Copy)]
-pub struct Origin<'a>(Option<SourceLine<'a>>);
+pub struct SourceOrigin<'a>(Option<SourceLine<'a>>);
 
-impl<'a> fmt::Display for Origin<'a> {
+impl<'a> fmt::Display for SourceOrigin<'a> {
     fn fmt<W: fmt::Write>(&self, f: &mut fmt::Formatter<W>) -> fmt::Result {
         match &self.0 {
             Some(line) => write!(f, " at {line}"),

@@ -8,16 +8,16 @@ use crate::row::Row;
 
 /// Its registers, as far as an address's line needs them.
 #[derive(Clone, Copy)]
-pub struct Registers {
+pub struct LineRegisters {
     pub address: u64,
     pub file: u64,
     pub line: u32,
     pub is_placed: bool,
 }
 
-impl Registers {
+impl LineRegisters {
     /// The registers at the start of a sequence.
-    pub const START: Registers = Registers {
+    pub const START: LineRegisters = LineRegisters {
         address: 0,
         file: 1,
         line: 1,
@@ -37,7 +37,7 @@ impl Registers {
             Operation::Copy => Some(self.row(false)),
             Operation::EndSequence => {
                 let row = self.row(true);
-                *self = Registers::START;
+                *self = LineRegisters::START;
                 Some(row)
             }
             Operation::Advance(advance) => {

@@ -7,16 +7,16 @@ use crate::unit::Unit;
 
 /// A directory or a file.
 #[derive(Clone, Copy)]
-pub struct Entry<'a> {
+pub struct NameEntry<'a> {
     /// Its path, where the table has one.
     pub path: Option<&'a [u8]>,
     /// The number of the directory that a file's path begins in.
     pub directory: u64,
 }
 
-impl<'a> Entry<'a> {
+impl<'a> NameEntry<'a> {
     /// An entry without a path.
-    pub const NOTHING: Entry<'static> = Entry {
+    pub const NOTHING: NameEntry<'static> = NameEntry {
         path: None,
         directory: 0,
     };
@@ -24,7 +24,7 @@ impl<'a> Entry<'a> {
 
 impl<'a> Unit<'a> {
     /// The file of a number.
-    pub fn file(&self, number: u64, strings: Strings<'a>) -> Option<Entry<'a>> {
+    pub fn file(&self, number: u64, strings: Strings<'a>) -> Option<NameEntry<'a>> {
         if self.version == 5 {
             let directories = Entries::read(self.tables, strings)?;
             return directories.next_list()?.nth(number as usize);

@@ -7,7 +7,7 @@ ghost use Rattle.std.specs.Iterator.{at_most};
 use crate::encoding::Encoding;
 use crate::operation::Operations;
 use crate::reader::Reader;
-use crate::registers::Registers;
+use crate::registers::LineRegisters;
 use crate::row::Row;
 
 /// The length that says that a unit is of the 64-bit format (7.4).
@@ -74,7 +74,7 @@ impl<'a> Unit<'a> {
         ensures placed { IfSome result (λ row. IsTrue row.is_placed) }
         ensures below { IfSome result (λ row. row.address ≤ address) }
     {
-        let mut registers = Registers::START;
+        let mut registers = LineRegisters::START;
         let mut last: Option<Row> = None;
         for operation in self.operations() {
             if let Some(row) = registers.run(operation) {

@@ -8,4 +8,4 @@ mod watched;
 
 pub use cuts::Cuts;
 pub use tenant::Debuggee;
-pub use watched::{Access, Hit, Watchpoint};
+pub use watched::{Hit, WatchedAccess, Watchpoint};

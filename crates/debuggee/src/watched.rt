@@ -11,7 +11,7 @@ use std::alloc::{AllocError, Global};
 
 /// Which accesses are watched.
 #[derive(Clone, Copy, PartialEq, Eq)]
-pub enum Access {
+pub enum WatchedAccess {
     /// Those that write.
     Write,
     /// Those that read.
@@ -24,7 +24,7 @@ pub enum Access {
 #[derive(Clone, Copy, PartialEq, Eq)]
 pub struct Watchpoint {
     /// Which accesses.
-    pub access: Access,
+    pub access: WatchedAccess,
     /// The first address.
     pub start: u64,
     /// The address after the last.
@@ -35,7 +35,7 @@ pub struct Watchpoint {
 #[derive(Clone, Copy)]
 pub struct Hit {
     /// Which accesses the watchpoint is for.
-    pub access: Access,
+    pub access: WatchedAccess,
     /// The first address that is watched and was accessed.
     pub address: u64,
 }
@@ -44,9 +44,9 @@ impl Watchpoint {
     /// What an access of some bytes from an address on meets of it.
     fn meet(&self, start: u64, end: u64, writes: bool) -> Option<Hit> {
         let is_wanted = match self.access {
-            Access::Write => writes,
-            Access::Read => !writes,
-            Access::Any => true,
+            WatchedAccess::Write => writes,
+            WatchedAccess::Read => !writes,
+            WatchedAccess::Any => true,
         };
         if !is_wanted || start >= self.end || self.start >= end {
             return None;

@@ -31,7 +31,7 @@ const TAGS: u32 = 0x7000_0002;
 
 /// A tenant of which a core file tells.
 #[derive(Clone, Copy)]
-pub struct Subject<'a> {
+pub struct CoreSubject<'a> {
     /// All of its machine but the memory.
     pub parts: &'a TenantParts,
     /// What a tag that differs does.
@@ -44,7 +44,7 @@ pub struct Subject<'a> {
 pub fn write_core<M: Tagged, W: Write>(
     alloc: Global,
     out: &mut W,
-    subject: &Subject<'_>,
+    subject: &CoreSubject<'_>,
     memory: &mut M,
 ) -> io::Result<()> {
     let noted = Noted {

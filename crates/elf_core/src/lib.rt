@@ -8,6 +8,6 @@ mod memory_map;
 mod notes;
 mod signal;
 
-pub use core_file::{Subject, write_core};
+pub use core_file::{CoreSubject, write_core};
 pub use memory_map::{Region, regions};
 pub use signal::{Signal, tag_control};

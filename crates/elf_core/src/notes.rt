@@ -34,17 +34,17 @@ const ENTRY: u64 = 9;
 
 /// Whose a note is: a name with a zero, and how long both are.
 #[derive(Clone, Copy)]
-struct Owner {
+struct NoteOwner {
     name: [u8; 8],
     len: u32,
 }
 
-const CORE: Owner = Owner {
+const CORE: NoteOwner = NoteOwner {
     name: *b"CORE\0\0\0\0",
     len: 5,
 };
 
-const LINUX: Owner = Owner {
+const LINUX: NoteOwner = NoteOwner {
     name: *b"LINUX\0\0\0",
     len: 6,
 };
@@ -115,7 +115,7 @@ impl<'a> Noted<'a> {
 
 /// A note: its name's length without the padding, its length, its type, name and contents. Each
 /// part begins at a multiple of 4.
-fn write_note(out: &mut Vec<u8>, owner: &Owner, kind: u32, text: &[u8]) -> io::Result<()> {
+fn write_note(out: &mut Vec<u8>, owner: &NoteOwner, kind: u32, text: &[u8]) -> io::Result<()> {
     let len = u32::try_from(text.len()).unwrap_or(u32::MAX);
     write_words(out, &[owner.len, len, kind])?;
     out.write_all(&owner.name)?;

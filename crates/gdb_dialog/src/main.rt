@@ -8,7 +8,7 @@ use address_map::MAX_STEPS;
 use anyhow::{Result, bail};
 use debuggee::{Cuts, Debuggee};
 use gdb_front::{Front, serve};
-use gdb_monitor::Subject;
+use gdb_monitor::DebugSubject;
 use mte_tags::TagMode;
 use mte_tenant::Admission;
 use std::env;
@@ -40,7 +40,7 @@ fn answer_all<'x>(rt: &HostRuntime, image: &'x [u8], name: &'x str) -> Result<()
     let Ok(tenant) = Debuggee::new(rt.alloc(), &terms, &cuts) else {
         bail!("the tenant is refused");
     };
-    let subject = Subject {
+    let subject = DebugSubject {
         image,
         name,
         seed: Some(1),

@@ -4,7 +4,7 @@ use crate::front::Front;
 use crate::reply::Reply;
 use elf_core::Region;
 use gdb_packets::{FileCall, read_hex};
-use gdb_target::{Text, put_file_part, put_file_status, put_maps, put_smaps};
+use gdb_target::{TextBuffer, put_file_part, put_file_status, put_maps, put_smaps};
 use std::alloc::Global;
 
 /// The descriptor of a map, one of which is open at a time.
@@ -19,7 +19,7 @@ const PATH_LIMIT: usize = 4096;
 /// The map that is open, if one is.
 #[derive(Drop)]
 pub struct File {
-    text: Text,
+    text: TextBuffer,
     is_open: bool,
 }
 
@@ -27,7 +27,7 @@ impl File {
     /// None.
     pub fn new(alloc: Global) -> File {
         File {
-            text: Text::new(alloc),
+            text: TextBuffer::new(alloc),
             is_open: false,
         }
     }

@@ -3,10 +3,10 @@
 use crate::files::File;
 use crate::reply::Reply;
 use debuggee::Debuggee;
-use gdb_monitor::Subject;
+use gdb_monitor::DebugSubject;
 use gdb_packets::{Command, parse_command};
-use gdb_target::{Registers, Text};
-use gdb_travel::{Points, Stop, Traveller};
+use gdb_target::{TargetRegisters, TextBuffer};
+use gdb_travel::{Points, StopReason, Traveller};
 use std::alloc::Global;
 
 /// A tenant, and what GDB was told of it.
@@ -17,7 +17,7 @@ pub struct Front<'a> {
     /// Where it stands still.
     pub(crate) points: Points,
     /// Why it stands still.
-    pub(crate) stop: Stop,
+    pub(crate) stop: StopReason,
     /// How many bytes of its output GDB was told.
     pub(crate) shown: usize,
     /// Whether GDB wants to be told that a breakpoint was reached.
@@ -25,16 +25,16 @@ pub struct Front<'a> {
     /// The file that GDB has open.
     pub(crate) file: File,
     /// The image, its name and the seed.
-    pub(crate) subject: Subject<'a>,
+    pub(crate) subject: DebugSubject<'a>,
 }
 
 impl<'a> Front<'a> {
     /// A front of a tenant at its first instruction.
-    pub fn new(alloc: Global, tenant: Debuggee<'a>, subject: Subject<'a>) -> Front<'a> {
+    pub fn new(alloc: Global, tenant: Debuggee<'a>, subject: DebugSubject<'a>) -> Front<'a> {
         Front {
             tenant: Traveller::new(tenant),
             points: Points::new(alloc),
-            stop: Stop::Step,
+            stop: StopReason::Step,
             shown: 0,
             tells_breakpoints: false,
             file: File::new(alloc),
@@ -88,8 +88,8 @@ impl<'a> Front<'a> {
     }
 
     /// Its registers.
-    pub(crate) fn registers(&self) -> Registers<'_> {
-        Registers {
+    pub(crate) fn registers(&self) -> TargetRegisters<'_> {
+        TargetRegisters {
             regs: &self.tenant.parts().regs,
             mode: self.tenant.mode(),
             step: self.tenant.position(),
@@ -97,7 +97,7 @@ impl<'a> Front<'a> {
     }
 
     /// Takes the output that GDB was not told yet.
-    pub(crate) fn tell_output(&mut self, console: &mut Text) {
+    pub(crate) fn tell_output(&mut self, console: &mut TextBuffer) {
         let shown = self.shown;
         let output = self.tenant.parts().log.output.as_slice();
         self.shown = put_from(output, shown, console);
@@ -105,7 +105,7 @@ impl<'a> Front<'a> {
 }
 
 /// Appends the bytes from a place on, and returns how many there are.
-fn put_from(output: &[u8], shown: usize, console: &mut Text) -> usize {
+fn put_from(output: &[u8], shown: usize, console: &mut TextBuffer) -> usize {
     if let Some(more) = output.get(shown..) {
         console.put(more);
     }

@@ -3,7 +3,7 @@
 use crate::front::Front;
 use crate::reply::Reply;
 use gdb_packets::{Command, FRAME_LIMIT, Input, parse_command, read_input, unescape, write_packet};
-use gdb_target::Text;
+use gdb_target::TextBuffer;
 use std::alloc::Global;
 use std::io;
 use std::io::{Read, Write};
@@ -132,7 +132,7 @@ impl Link {
         out: &mut W,
     ) -> io::Result<()> {
         for part in reply.console.as_slice().chunks(CONSOLE_PART) {
-            let mut text = Text::new(alloc);
+            let mut text = TextBuffer::new(alloc);
             text.put(b"O");
             text.put_hex(part);
             self.send(text.as_slice(), out)?;

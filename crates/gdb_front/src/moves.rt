@@ -3,7 +3,7 @@
 use crate::front::Front;
 use crate::reply::Reply;
 use gdb_packets::Action;
-use gdb_travel::{Stop, Until};
+use gdb_travel::{StopReason, Until};
 use std::alloc::{AllocError, Global};
 
 impl Front<'_> {
@@ -36,7 +36,12 @@ impl Front<'_> {
     }
 
     /// Tells why it stands still.
-    fn tell_stop(&mut self, alloc: Global, stop: Result<Stop, AllocError>, reply: &mut Reply) {
+    fn tell_stop(
+        &mut self,
+        alloc: Global,
+        stop: Result<StopReason, AllocError>,
+        reply: &mut Reply,
+    ) {
         let Ok(stop) = stop else {
             reply.answer.fail();
             return;

@@ -3,7 +3,7 @@
 use crate::front::Front;
 use crate::reply::Reply;
 use a64_bits::plain;
-use debuggee::{Access, Watchpoint};
+use debuggee::{WatchedAccess, Watchpoint};
 use gdb_packets::Point;
 
 impl Front<'_> {
@@ -30,9 +30,9 @@ impl Front<'_> {
 fn watchpoint(kind: Point, address: u64, size: u64) -> Option<Watchpoint> {
     let access = match kind {
         Point::SoftwareBreakpoint | Point::HardwareBreakpoint => return None,
-        Point::WriteWatchpoint => Access::Write,
-        Point::ReadWatchpoint => Access::Read,
-        Point::AccessWatchpoint => Access::Any,
+        Point::WriteWatchpoint => WatchedAccess::Write,
+        Point::ReadWatchpoint => WatchedAccess::Read,
+        Point::AccessWatchpoint => WatchedAccess::Any,
     };
     let start = plain(address);
     Some(Watchpoint {

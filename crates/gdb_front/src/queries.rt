@@ -4,7 +4,7 @@ use crate::front::Front;
 use crate::reply::Reply;
 use elf_core::Signal;
 use gdb_packets::{Command, read_register};
-use gdb_target::{Text, put_description, put_part};
+use gdb_target::{TextBuffer, put_description, put_part};
 use std::alloc::Global;
 
 /// What the front can do, whoever asks.
@@ -87,7 +87,7 @@ impl Front<'_> {
 
 /// Answers a part of the target's description.
 fn put_description_part(alloc: Global, offset: u64, len: u64, reply: &mut Reply) {
-    let mut text = Text::new(alloc);
+    let mut text = TextBuffer::new(alloc);
     put_description(&mut text);
     if text.is_short() {
         reply.answer.fail();

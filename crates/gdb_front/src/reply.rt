@@ -1,15 +1,15 @@
 //! What a packet is answered.
 
-use gdb_target::Text;
+use gdb_target::TextBuffer;
 use std::alloc::Global;
 
 /// What a packet is answered: a text for GDB's user, and the answer.
 #[derive(Drop)]
 pub struct Reply {
     /// What GDB prints before the answer.
-    pub console: Text,
+    pub console: TextBuffer,
     /// The answer. It is empty where a packet is not known.
-    pub answer: Text,
+    pub answer: TextBuffer,
     /// Whether the dialog ends with it.
     pub ends: bool,
 }
@@ -18,8 +18,8 @@ impl Reply {
     /// An empty one.
     pub fn new(alloc: Global) -> Reply {
         Reply {
-            console: Text::new(alloc),
-            answer: Text::new(alloc),
+            console: TextBuffer::new(alloc),
+            answer: TextBuffer::new(alloc),
             ends: false,
         }
     }

@@ -2,10 +2,10 @@
 
 use crate::front::Front;
 use crate::reply::Reply;
-use debuggee::{Access, Hit};
+use debuggee::{Hit, WatchedAccess};
 use elf_core::Signal;
-use gdb_target::Text;
-use gdb_travel::Stop;
+use gdb_target::TextBuffer;
+use gdb_travel::StopReason;
 
 /// GDB's numbers of SIGTRAP and SIGXCPU, which are Linux's.
 const TRAP: u8 = 5;
@@ -17,10 +17,10 @@ impl Front<'_> {
     pub(crate) fn put_stop(&self, reply: &mut Reply) {
         let signal = self.signal();
         match self.stop {
-            Stop::Exit(code) => put_end(&mut reply.answer, b"W", code),
-            Stop::Ended => put_end(&mut reply.answer, b"X", signal),
-            Stop::End => self.put_halt(signal, reply),
-            Stop::Limit => self.put_halt(LIMIT, reply),
+            StopReason::Exit(code) => put_end(&mut reply.answer, b"W", code),
+            StopReason::Ended => put_end(&mut reply.answer, b"X", signal),
+            StopReason::End => self.put_halt(signal, reply),
+            StopReason::Limit => self.put_halt(LIMIT, reply),
             _ => self.put_halt(TRAP, reply),
         }
     }
@@ -35,12 +35,12 @@ impl Front<'_> {
     }
 
     /// Appends the reason, where it is more than a signal.
-    fn put_reason(&self, text: &mut Text) {
+    fn put_reason(&self, text: &mut TextBuffer) {
         match self.stop {
-            Stop::Breakpoint if self.tells_breakpoints => text.put(b"swbreak:;"),
-            Stop::Watch(hit) => put_hit(text, &hit),
-            Stop::Start => text.put(b"replaylog:begin;"),
-            Stop::BeforeExit(_) => text.put(b"replaylog:end;"),
+            StopReason::Breakpoint if self.tells_breakpoints => text.put(b"swbreak:;"),
+            StopReason::Watch(hit) => put_hit(text, &hit),
+            StopReason::Start => text.put(b"replaylog:begin;"),
+            StopReason::BeforeExit(_) => text.put(b"replaylog:end;"),
             _ => {}
         }
     }
@@ -60,18 +60,18 @@ fn gdb_number(signal: &Signal) -> u8 {
 }
 
 /// An end: `W` and a code, or `X` and a signal.
-fn put_end(text: &mut Text, letter: &[u8], number: u8) {
+fn put_end(text: &mut TextBuffer, letter: &[u8], number: u8) {
     text.put(letter);
     text.put_hex(&[number]);
     text.put(b";process:1");
 }
 
 /// The access that is watched.
-fn put_hit(text: &mut Text, hit: &Hit) {
+fn put_hit(text: &mut TextBuffer, hit: &Hit) {
     text.put(match hit.access {
-        Access::Write => b"watch:",
-        Access::Read => b"rwatch:",
-        Access::Any => b"awatch:",
+        WatchedAccess::Write => b"watch:",
+        WatchedAccess::Read => b"rwatch:",
+        WatchedAccess::Any => b"awatch:",
     });
     text.put_number(hit.address);
     text.put(b";");

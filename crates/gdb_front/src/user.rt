@@ -4,7 +4,7 @@ use crate::front::Front;
 use crate::reply::Reply;
 use gdb_monitor::{made_calls, tell_calls, tell_chunks, tell_tags, tell_why};
 use gdb_packets::{read_hex, read_number};
-use gdb_travel::Stop;
+use gdb_travel::StopReason;
 use std::alloc::Global;
 use std::io;
 use std::io::Write;
@@ -92,8 +92,13 @@ impl Front<'_> {
     pub(crate) fn tell_end(&mut self, alloc: Global, reply: &mut Reply) {
         let mut out = Vec::new(alloc);
         let told = match self.stop {
-            Stop::End | Stop::Limit => tell_why(alloc, &mut out, &self.tenant, &self.subject),
-            Stop::BeforeExit(code) => self.tell_exit(code, &mut out),
+            StopReason::End | StopReason::Limit => tell_why(
+                alloc,
+                &mut out,
+                &self.tenant,
+                &self.subject,
+            ),
+            StopReason::BeforeExit(code) => self.tell_exit(code, &mut out),
             _ => return,
         };
         if told.is_err() {

@@ -8,4 +8,4 @@ mod why;
 
 pub use calls::{Made, made_calls, tell_calls};
 pub use chunks::{tell_chunks, tell_tags};
-pub use why::{Subject, tell_why};
+pub use why::{DebugSubject, tell_why};

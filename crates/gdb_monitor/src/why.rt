@@ -11,7 +11,7 @@ use std::io::Write;
 
 /// What is debugged.
 #[derive(Clone, Copy)]
-pub struct Subject<'a> {
+pub struct DebugSubject<'a> {
     /// The image.
     pub image: &'a [u8],
     /// The name of its file.
@@ -26,7 +26,7 @@ pub fn tell_why<W: Write>(
     alloc: Global,
     out: &mut W,
     tenant: &Traveller<'_>,
-    subject: &Subject<'_>,
+    subject: &DebugSubject<'_>,
 ) -> io::Result<()> {
     if tenant.can_go_on() {
         let steps = tenant.position();

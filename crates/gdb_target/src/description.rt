@@ -1,6 +1,6 @@
 //! The target's description.
 
-use crate::text::Text;
+use crate::text::TextBuffer;
 
 const HEAD: &[u8] = b"<?xml version=\"1.0\"?><!DOCTYPE target SYSTEM \"gdb-target.dtd\">\
 <target version=\"1.0\"><architecture>aarch64</architecture><osabi>GNU/Linux</osabi>\n";
@@ -12,7 +12,7 @@ const FLAGS: &[u8] =
 
 /// Appends the target's description: the registers in the order of `g`. Those of the feature
 /// `tombolopan.tenant` are how many steps were done, and RGSR_EL1.
-pub fn put_description(text: &mut Text) {
+pub fn put_description(text: &mut TextBuffer) {
     text.put(HEAD);
     text.put(b"<feature name=\"org.gnu.gdb.aarch64.core\">\n");
     for number in 0..31 {
@@ -33,7 +33,7 @@ pub fn put_description(text: &mut Text) {
 }
 
 /// A register of 64 bits with a type.
-fn put_typed(text: &mut Text, name: &[u8], kind: &[u8]) {
+fn put_typed(text: &mut TextBuffer, name: &[u8], kind: &[u8]) {
     text.put(b"<reg name=\"");
     text.put(name);
     text.put(b"\" bitsize=\"64\" type=\"");
@@ -42,7 +42,7 @@ fn put_typed(text: &mut Text, name: &[u8], kind: &[u8]) {
 }
 
 /// A register of 64 bits that is the system's.
-fn put_system(text: &mut Text, name: &[u8]) {
+fn put_system(text: &mut TextBuffer, name: &[u8]) {
     text.put(b"<reg name=\"");
     text.put(name);
     text.put(b"\" bitsize=\"64\" type=\"uint64\" group=\"system\"/>\n");

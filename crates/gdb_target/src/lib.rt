@@ -12,5 +12,5 @@ mod text;
 pub use description::put_description;
 pub use mappings::{put_maps, put_smaps};
 pub use parts::{PART_LIMIT, put_file_part, put_file_status, put_part};
-pub use registers::Registers;
-pub use text::Text;
+pub use registers::TargetRegisters;
+pub use text::TextBuffer;

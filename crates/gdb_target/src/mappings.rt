@@ -1,6 +1,6 @@
 //! The regions of a memory as Linux tells them (proc(5)).
 
-use crate::text::Text;
+use crate::text::TextBuffer;
 use elf_core::Region;
 use mte_tags::Attrs;
 
@@ -13,14 +13,14 @@ const HEAP_END: u64 = 0x3F00_0000;
 const STACK: u64 = 0x3FFF_C000;
 
 /// Appends the text of `/proc/PID/maps`.
-pub fn put_maps(text: &mut Text, all: &[Region], image: &[u8]) {
+pub fn put_maps(text: &mut TextBuffer, all: &[Region], image: &[u8]) {
     for region in all {
         put_line(text, region, image);
     }
 }
 
 /// Appends the text of `/proc/PID/smaps`: of its lines those that GDB reads.
-pub fn put_smaps(text: &mut Text, all: &[Region], image: &[u8]) {
+pub fn put_smaps(text: &mut TextBuffer, all: &[Region], image: &[u8]) {
     for region in all {
         put_line(text, region, image);
         text.put(b"Size: ");
@@ -32,7 +32,7 @@ pub fn put_smaps(text: &mut Text, all: &[Region], image: &[u8]) {
 }
 
 /// `12000000-12001000 rw-p 00000000 00:00 0 [heap]`
-fn put_line(text: &mut Text, region: &Region, image: &[u8]) {
+fn put_line(text: &mut TextBuffer, region: &Region, image: &[u8]) {
     text.put_number(region.start);
     text.put(b"-");
     text.put_number(region.end);
@@ -46,12 +46,12 @@ fn put_line(text: &mut Text, region: &Region, image: &[u8]) {
 }
 
 /// An attribute's letter, or `-`.
-fn put_attr(text: &mut Text, attrs: Attrs, attr: Attrs, letter: &[u8]) {
+fn put_attr(text: &mut TextBuffer, attrs: Attrs, attr: Attrs, letter: &[u8]) {
     text.put(if attrs.contains(attr) { letter } else { b"-" });
 }
 
 /// `rd wr ex mt `, each where a region has it.
-fn put_flags(text: &mut Text, attrs: Attrs) {
+fn put_flags(text: &mut TextBuffer, attrs: Attrs) {
     put_flag(text, attrs, Attrs::READ, b"rd ");
     put_flag(text, attrs, Attrs::WRITE, b"wr ");
     put_flag(text, attrs, Attrs::EXEC, b"ex ");
@@ -59,7 +59,7 @@ fn put_flags(text: &mut Text, attrs: Attrs) {
 }
 
 /// A flag, where a region has it.
-fn put_flag(text: &mut Text, attrs: Attrs, attr: Attrs, word: &[u8]) {
+fn put_flag(text: &mut TextBuffer, attrs: Attrs, attr: Attrs, word: &[u8]) {
     if attrs.contains(attr) {
         text.put(word);
     }

@@ -1,6 +1,6 @@
 //! Registers.
 
-use crate::text::Text;
+use crate::text::TextBuffer;
 use a64_step::Regs;
 use elf_core::tag_control;
 use mte_tags::TagMode;
@@ -10,7 +10,7 @@ const COUNT: u64 = 37;
 
 /// The registers of a tenant.
 #[derive(Clone, Copy)]
-pub struct Registers<'a> {
+pub struct TargetRegisters<'a> {
     /// Its core's.
     pub regs: &'a Regs,
     /// What a tag that differs does.
@@ -19,16 +19,16 @@ pub struct Registers<'a> {
     pub step: u64,
 }
 
-impl<'a> Registers<'a> {
+impl<'a> TargetRegisters<'a> {
     /// Appends all registers, in the description's order.
-    pub fn put_all(&self, text: &mut Text) {
+    pub fn put_all(&self, text: &mut TextBuffer) {
         for number in 0..COUNT {
             self.put_one(number, text);
         }
     }
 
     /// Appends the register with a number; nothing where there is none.
-    pub fn put_one(&self, number: u64, text: &mut Text) {
+    pub fn put_one(&self, number: u64, text: &mut TextBuffer) {
         match self.value(number) {
             Some(value) if number == 33 => text.put_word(value),
             Some(value) => text.put_double_word(value),

@@ -7,15 +7,15 @@ use std::io::Write;
 /// Bytes that are appended part by part. A part for which there is no memory is left out, and the
 /// text says so from then on.
 #[derive(Drop)]
-pub struct Text {
+pub struct TextBuffer {
     bytes: Vec<u8>,
     is_short: bool,
 }
 
-impl Text {
+impl TextBuffer {
     /// An empty text.
-    pub fn new(alloc: Global) -> Text {
-        Text {
+    pub fn new(alloc: Global) -> TextBuffer {
+        TextBuffer {
             bytes: Vec::new(alloc),
             is_short: false,
         }

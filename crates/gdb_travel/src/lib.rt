@@ -8,5 +8,5 @@ mod traveller;
 mod ways;
 
 pub use points::{POINT_LIMIT, Points};
-pub use stop::{Stop, Until};
+pub use stop::{StopReason, Until};
 pub use traveller::Traveller;

@@ -5,7 +5,7 @@ use debuggee::Hit;
 
 /// Why it stands still.
 #[derive(Clone, Copy)]
-pub enum Stop {
+pub enum StopReason {
     /// The step was done, or the range was left.
     Step,
     /// A breakpoint was reached.
@@ -40,15 +40,15 @@ pub enum Until {
 
 impl Until {
     /// Why it stands still with a program counter that it came to, if it does.
-    pub fn stop_at(&self, points: &Points, pc: u64) -> Option<Stop> {
+    pub fn stop_at(&self, points: &Points, pc: u64) -> Option<StopReason> {
         if *self == Until::Step {
-            return Some(Stop::Step);
+            return Some(StopReason::Step);
         }
         if points.is_breakpoint(pc) {
-            return Some(Stop::Breakpoint);
+            return Some(StopReason::Breakpoint);
         }
         match *self {
-            Until::Outside(start, end) if pc < start || end <= pc => Some(Stop::Step),
+            Until::Outside(start, end) if pc < start || end <= pc => Some(StopReason::Step),
             _ => None,
         }
     }

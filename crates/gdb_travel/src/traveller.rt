@@ -1,7 +1,7 @@
 //! The tenant that is moved.
 
 use crate::points::Points;
-use crate::stop::{Stop, Until};
+use crate::stop::{StopReason, Until};
 use crate::ways::{advance, last_point, look_ahead};
 use debuggee::Debuggee;
 use elf_core::Region;
@@ -88,9 +88,9 @@ impl<'a> Traveller<'a> {
         alloc: Global,
         points: &Points,
         until: Until,
-    ) -> Result<Stop, AllocError> {
+    ) -> Result<StopReason, AllocError> {
         if !self.now.parts().is_running() {
-            return Ok(Stop::Ended);
+            return Ok(StopReason::Ended);
         }
         if points.watchpoints().is_empty() {
             self.run_to_breakpoint(alloc, points, until)
@@ -105,7 +105,7 @@ impl<'a> Traveller<'a> {
         alloc: Global,
         points: &Points,
         until: Until,
-    ) -> Result<Stop, AllocError> {
+    ) -> Result<StopReason, AllocError> {
         self.now.forget_hit();
         match look_ahead(&mut self.now, points, until) {
             Some(stop) => Ok(stop),
@@ -119,16 +119,16 @@ impl<'a> Traveller<'a> {
         alloc: Global,
         points: &Points,
         until: Until,
-    ) -> Result<Stop, AllocError> {
+    ) -> Result<StopReason, AllocError> {
         let mut ahead = self.take_ahead(alloc)?;
         ahead.watch(points.watchpoints())?;
         let stop = look_ahead(&mut ahead, points, until);
         let steps = ahead.steps();
         self.ahead = Some(ahead);
         match stop {
-            Some(Stop::Watch(hit)) => {
+            Some(StopReason::Watch(hit)) => {
                 advance(&mut self.now, steps.saturating_sub(1));
-                Ok(Stop::Watch(hit))
+                Ok(StopReason::Watch(hit))
             }
             Some(stop) => {
                 advance(&mut self.now, steps);
@@ -156,18 +156,18 @@ impl<'a> Traveller<'a> {
 
     /// Why it stands still where it can go on no more. An exit is told in front of its instruction
     /// first.
-    fn stop_at_end(&mut self, alloc: Global) -> Result<Stop, AllocError> {
+    fn stop_at_end(&mut self, alloc: Global) -> Result<StopReason, AllocError> {
         let status = self.now.parts().log.status;
         match status {
-            Status::Running | Status::Stopped => Ok(Stop::Limit),
-            Status::Exited(code) if self.is_exit_told => Ok(Stop::Exit(code)),
+            Status::Running | Status::Stopped => Ok(StopReason::Limit),
+            Status::Exited(code) if self.is_exit_told => Ok(StopReason::Exit(code)),
             Status::Exited(code) => {
                 self.is_exit_told = true;
                 let steps = self.now.steps().saturating_sub(1);
                 self.go_back(alloc, steps)?;
-                Ok(Stop::BeforeExit(code))
+                Ok(StopReason::BeforeExit(code))
             }
-            _ => Ok(Stop::End),
+            _ => Ok(StopReason::End),
         }
     }
 
@@ -180,21 +180,25 @@ impl<'a> Traveller<'a> {
     }
 
     /// Moves it back by one step.
-    pub fn step_back(&mut self, alloc: Global) -> Result<Stop, AllocError> {
+    pub fn step_back(&mut self, alloc: Global) -> Result<StopReason, AllocError> {
         self.is_exit_told = false;
         let steps = self.position();
         self.go_back(alloc, steps.saturating_sub(1))?;
-        Ok(if steps == 0 { Stop::Start } else { Stop::Step })
+        Ok(if steps == 0 {
+            StopReason::Start
+        } else {
+            StopReason::Step
+        })
     }
 
     /// Moves it back to a breakpoint, to where an access that is watched has just been made, or to
     /// its start.
-    pub fn run_back(&mut self, alloc: Global, points: &Points) -> Result<Stop, AllocError> {
+    pub fn run_back(&mut self, alloc: Global, points: &Points) -> Result<StopReason, AllocError> {
         self.is_exit_told = false;
         let steps = self.position();
         let mut past = self.now.anew(alloc)?;
         past.watch(points.watchpoints())?;
-        let (found, stop) = last_point(&mut past, points, steps).unwrap_or((0, Stop::Start));
+        let (found, stop) = last_point(&mut past, points, steps).unwrap_or((0, StopReason::Start));
         self.go_back(alloc, found)?;
         Ok(stop)
     }

@@ -1,7 +1,7 @@
 //! How a tenant is moved alone.
 
 use crate::points::Points;
-use crate::stop::{Stop, Until};
+use crate::stop::{StopReason, Until};
 use a64_bits::plain;
 use address_map::MAX_STEPS;
 use debuggee::Debuggee;
@@ -29,14 +29,14 @@ fn run_slices(tenant: &mut Debuggee<'_>, steps: u64) {
 
 /// Moves a tenant on up to the first access that is watched or point that stops it; `None` where it
 /// ends before that. The access has been made.
-pub fn look_ahead(tenant: &mut Debuggee<'_>, points: &Points, until: Until) -> Option<Stop> {
+pub fn look_ahead(tenant: &mut Debuggee<'_>, points: &Points, until: Until) -> Option<StopReason> {
     tenant.forget_hit();
     for _ in 0..u64::MAX {
         if !tenant.attempt() || !tenant.parts().is_running() {
             return None;
         }
         if let Some(hit) = tenant.hit() {
-            return Some(Stop::Watch(hit));
+            return Some(StopReason::Watch(hit));
         }
         let stop = until.stop_at(points, plain(tenant.regs().pc));
         if stop.is_some() {
@@ -48,21 +48,25 @@ pub fn look_ahead(tenant: &mut Debuggee<'_>, points: &Points, until: Until) -> O
 
 /// Moves a tenant from its first instruction to a number of steps, and returns the last point on
 /// the way that stops it when it moves back from there: after how many steps, and why.
-pub fn last_point(tenant: &mut Debuggee<'_>, points: &Points, steps: u64) -> Option<(u64, Stop)> {
+pub fn last_point(
+    tenant: &mut Debuggee<'_>,
+    points: &Points,
+    steps: u64,
+) -> Option<(u64, StopReason)> {
     let mut last = None;
     if points.is_empty() {
         return last;
     }
     for step in 0..steps {
         if points.is_breakpoint(plain(tenant.regs().pc)) {
-            last = Some((step, Stop::Breakpoint));
+            last = Some((step, StopReason::Breakpoint));
         }
         tenant.forget_hit();
         if !tenant.attempt() {
             return last;
         }
         if let Some(hit) = tenant.hit() {
-            last = Some((step.saturating_add(1), Stop::Watch(hit)));
+            last = Some((step.saturating_add(1), StopReason::Watch(hit)));
         }
     }
     last

@@ -6,7 +6,7 @@ use a64_step::Regs;
 
 /// The bytes that an instruction loads or stores.
 #[derive(Clone, Copy)]
-pub struct Access {
+pub struct MemoryAccess {
     /// The address of the first, with the pointer's tag.
     pub addr: u64,
     /// How many there are for each register.
@@ -23,7 +23,7 @@ pub struct Access {
     pub is_checked: bool,
 }
 
-impl Access {
+impl MemoryAccess {
     /// How many bytes there are.
     pub fn len(&self) -> u64 {
         match self.second {
@@ -35,7 +35,7 @@ impl Access {
 
 /// What the instruction loads or stores, by the registers before it. `None` where it does neither,
 /// or loads or stores tags alone.
-pub fn access_of(instr: &Instr, regs: &Regs) -> Option<Access> {
+pub fn access_of(instr: &Instr, regs: &Regs) -> Option<MemoryAccess> {
     match *instr {
         Instr::LdStImm {
             size,
@@ -93,7 +93,7 @@ pub fn access_of(instr: &Instr, regs: &Regs) -> Option<Access> {
 }
 
 /// What a pair accesses, and a load relative to PC.
-fn pair_of(instr: &Instr, regs: &Regs) -> Option<Access> {
+fn pair_of(instr: &Instr, regs: &Regs) -> Option<MemoryAccess> {
     match *instr {
         Instr::PairPost {
             opc,
@@ -128,8 +128,8 @@ fn pair_of(instr: &Instr, regs: &Regs) -> Option<Access> {
 }
 
 /// An access at a constant offset from its base, which keeps its value.
-fn at_constant(rn: u8, access: Access) -> Access {
-    Access {
+fn at_constant(rn: u8, access: MemoryAccess) -> MemoryAccess {
+    MemoryAccess {
         is_checked: rn != 31,
         ..access
     }
@@ -144,9 +144,9 @@ struct Form {
 }
 
 /// A load or store of one register, of 2 to the power of `size` bytes.
-fn single(regs: &Regs, rn: u8, offset: u64, form: Form) -> Access {
+fn single(regs: &Regs, rn: u8, offset: u64, form: Form) -> MemoryAccess {
     let Form { size, opc, rt } = form;
-    Access {
+    MemoryAccess {
         addr: base(regs, rn).wrapping_add(offset),
         bytes: unit(size),
         first: rt,
@@ -166,11 +166,11 @@ struct PairForm {
 }
 
 /// A load or store of two registers, of eight bytes each or four; the offset counts them.
-fn pair(regs: &Regs, rn: u8, imm7: i64, fields: PairForm) -> Access {
+fn pair(regs: &Regs, rn: u8, imm7: i64, fields: PairForm) -> MemoryAccess {
     let PairForm { opc, l, rt, rt2 } = fields;
     let bytes = if opc >= 2 { 8 } else { 4 };
     let offset = signed_offset(imm7).wrapping_mul(bytes);
-    Access {
+    MemoryAccess {
         addr: base(regs, rn).wrapping_add(offset),
         bytes,
         first: rt,
@@ -181,9 +181,9 @@ fn pair(regs: &Regs, rn: u8, imm7: i64, fields: PairForm) -> Access {
 }
 
 /// A load relative to PC.
-fn literal(regs: &Regs, opc: u8, imm19: i32, rt: u8) -> Access {
+fn literal(regs: &Regs, opc: u8, imm19: i32, rt: u8) -> MemoryAccess {
     let offset = signed_offset(i64::from(imm19)).wrapping_mul(4);
-    Access {
+    MemoryAccess {
         addr: regs.pc.wrapping_add(offset),
         bytes: if opc == 1 { 8 } else { 4 },
         first: rt,

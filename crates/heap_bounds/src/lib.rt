@@ -7,7 +7,7 @@ mod blocks;
 mod bounds;
 mod calls;
 
-pub use access::{Access, access_of};
+pub use access::{MemoryAccess, access_of};
 pub use addressing::{base, register_offset, scaled_offset, signed_offset, unit, zero_or};
 pub use blocks::{Block, Range};
 pub use bounds::{Bounds, Trespass};

@@ -2,7 +2,7 @@
 
 use crate::layout::{PITCH, ROWS};
 use crate::legend::{Definitions, Legend};
-use crate::pages::{List, Pages};
+use crate::pages::{List, PageRange};
 use crate::part::Part::{Number, Text};
 use crate::part::{Escaped, write_parts};
 use std::fmt;
@@ -13,7 +13,7 @@ pub struct Heading<'a> {
     /// The title, any text of one line.
     pub title: &'a str,
     /// The pages that are mapped; the first 60 ranges are listed.
-    pub pages: &'a [Pages],
+    pub pages: &'a [PageRange],
     /// The rows that follow; what is beyond the first [`ROWS`] is below the picture.
     pub rows: usize,
 }

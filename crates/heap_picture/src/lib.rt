@@ -1,7 +1,7 @@
 //! A heap and its tags as a picture in SVG: rows of granules, each in the colour of its tag, with
 //! the blocks, the chunks that are live or freed, and the access or pointer that was refused.
 //!
-//! A picture is the text of a [`Heading`], of its [`Line`]s in order, each with its [`Note`]s
+//! A picture is the text of a [`Heading`], of its [`PictureLine`]s in order, each with its [`Note`]s
 //! behind it, of an [`Arrow`] where there is one, and [`END`]. A [`Gap`] stands between rows that
 //! do not follow each other.
 #![tactic(auto)]
@@ -23,7 +23,7 @@ pub use arrow::{Arrow, Spot};
 pub use gap::Gap;
 pub use heading::{END, Heading};
 pub use layout::{GRANULES, ROWS};
-pub use line::{Line, Mark, Marked};
+pub use line::{Mark, Marked, PictureLine};
 pub use note::Note;
-pub use pages::{Kind, Pages};
-pub use row::{Granule, Owner, Row};
+pub use pages::{Kind, PageRange};
+pub use row::{GranuleOwner, PictureGranule, Row};

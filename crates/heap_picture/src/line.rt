@@ -39,7 +39,7 @@ pub struct Mark {
 
 /// A line of a picture, as `{}` writes it.
 #[derive(Clone, Copy)]
-pub struct Line {
+pub struct PictureLine {
     /// The row that it shows.
     pub row: Row,
     /// Its number in the picture, from 0.
@@ -48,7 +48,7 @@ pub struct Line {
     pub mark: Option<Mark>,
 }
 
-impl Line {
+impl PictureLine {
     /// The mark of the row, if its address is there.
     fn frame(&self) -> Option<Frame> {
         let mark = self.mark?;
@@ -62,7 +62,7 @@ impl Line {
     }
 }
 
-impl fmt::Display for Line {
+impl fmt::Display for PictureLine {
     fn fmt<W: fmt::Write>(&self, f: &mut fmt::Formatter<W>) -> fmt::Result {
         let row = &self.row;
         let y = Number(PITCH.saturating_mul(self.number as u64));

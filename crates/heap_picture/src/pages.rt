@@ -31,7 +31,7 @@ impl fmt::Display for Kind {
 
 /// Mapped pages that follow each other.
 #[derive(Clone, Copy)]
-pub struct Pages {
+pub struct PageRange {
     /// The address of the first.
     pub start: u64,
     /// Their number.
@@ -40,7 +40,7 @@ pub struct Pages {
     pub kind: Kind,
 }
 
-impl fmt::Display for Pages {
+impl fmt::Display for PageRange {
     fn fmt<W: fmt::Write>(&self, f: &mut fmt::Formatter<W>) -> fmt::Result {
         let size = self.count.saturating_mul(PAGE_SIZE);
         let end = Hexadecimal(self.start.saturating_add(size));
@@ -70,7 +70,7 @@ const COLUMN: u64 = 440;
 
 /// The list of pages.
 #[derive(Clone, Copy)]
-pub struct List<'a>(pub &'a [Pages]);
+pub struct List<'a>(pub &'a [PageRange]);
 
 impl<'a> List<'a> {
     /// The height in pixels.

@@ -13,7 +13,7 @@ use std::fmt;
 
 /// Whose a granule is.
 #[derive(Clone, Copy)]
-pub enum Owner {
+pub enum GranuleOwner {
     /// No chunk's: a header, the rest of a block, or a block that was never given out.
     Nothing,
     /// A chunk's that is in use.
@@ -24,11 +24,11 @@ pub enum Owner {
 
 /// A granule of memory.
 #[derive(Clone, Copy)]
-pub struct Granule {
+pub struct PictureGranule {
     /// Its allocation tag, 0 to 15; none where no page is mapped.
     pub tag: Option<u8>,
     /// Whose it is.
-    pub owner: Owner,
+    pub owner: GranuleOwner,
 }
 
 /// [`GRANULES`] granules that follow each other.
@@ -43,7 +43,7 @@ pub struct Row {
     /// The bytes of a block; 0 where there are none.
     pub size: u64,
     /// The granules.
-    pub granules: [Granule; GRANULES],
+    pub granules: [PictureGranule; GRANULES],
 }
 
 impl Row {

@@ -4,7 +4,7 @@ use crate::cell::CELL_WIDTH;
 use crate::layout::GRANULES;
 use crate::part::Part::{Number, Text};
 use crate::part::write_parts;
-use crate::row::{Owner, Row};
+use crate::row::{GranuleOwner, Row};
 use std::fmt;
 
 /// How far a frame at a row's end is drawn beyond the row. It is clipped there, and so open: the
@@ -14,7 +14,7 @@ const BEYOND: u64 = 8;
 /// Granules of one owner that follow each other.
 #[derive(Clone, Copy)]
 struct Run {
-    owner: Owner,
+    owner: GranuleOwner,
     /// The number of the first.
     start: usize,
     /// The number after the last's.
@@ -41,9 +41,9 @@ impl Run {
 impl fmt::Display for Run {
     fn fmt<W: fmt::Write>(&self, f: &mut fmt::Formatter<W>) -> fmt::Result {
         let start = match self.owner {
-            Owner::Nothing => return Ok(()),
-            Owner::Live => Text("<rect class=\"live\" y=\"1\" height=\"16\" x=\""),
-            Owner::Freed => Text("<rect class=\"freed\" y=\"1\" height=\"16\" x=\""),
+            GranuleOwner::Nothing => return Ok(()),
+            GranuleOwner::Live => Text("<rect class=\"live\" y=\"1\" height=\"16\" x=\""),
+            GranuleOwner::Freed => Text("<rect class=\"freed\" y=\"1\" height=\"16\" x=\""),
         };
         let (left, right) = self.sides();
         let (left, width) = (Number(left), Number(right.saturating_sub(left)));
@@ -58,7 +58,7 @@ pub struct Chunks<'a>(pub &'a Row);
 impl<'a> fmt::Display for Chunks<'a> {
     fn fmt<W: fmt::Write>(&self, f: &mut fmt::Formatter<W>) -> fmt::Result {
         let mut run = Run {
-            owner: Owner::Nothing,
+            owner: GranuleOwner::Nothing,
             start: 0,
             end: 0,
         };

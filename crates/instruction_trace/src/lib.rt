@@ -12,6 +12,6 @@ mod turns;
 mod written;
 
 pub use instruction::{Instruction, SVC};
-pub use moment::{Line, Moment, Nzcv};
+pub use moment::{Moment, Nzcv, TraceLine};
 pub use service::Service;
 pub use turns::{Turn, tell_turns};

@@ -23,14 +23,14 @@ pub struct Moment {
 
 /// An instruction's line: where it stands, what it is, and what it changed.
 #[derive(Clone, Copy)]
-pub struct Line<'a> {
+pub struct TraceLine<'a> {
     /// Before it.
     pub moment: &'a Moment,
     /// The registers after it.
     pub after: &'a Regs,
 }
 
-impl<'a> fmt::Display for Line<'a> {
+impl<'a> fmt::Display for TraceLine<'a> {
     fn fmt<W: fmt::Write>(&self, f: &mut fmt::Formatter<W>) -> fmt::Result {
         let Moment { step, word, regs } = self.moment;
         let pc = regs.pc;

@@ -1,7 +1,7 @@
 //! What the addresses of an image are called.
 
 use crate::json::FrameObject;
-use debug_lines::{DebugLines, Origin};
+use debug_lines::{DebugLines, SourceOrigin};
 use elf_symbols::{Label, Symbols};
 use std::fmt;
 
@@ -68,7 +68,7 @@ impl<'a> Names<'a> {
 #[derive(Clone, Copy)]
 pub struct Frame<'a> {
     label: Label<'a>,
-    origin: Origin<'a>,
+    origin: SourceOrigin<'a>,
 }
 
 impl<'a> fmt::Display for Frame<'a> {

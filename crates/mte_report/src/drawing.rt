@@ -50,7 +50,7 @@ impl<'a> Report<'a> {
     fn title_of<'t>(&'t self, name: &'t str) -> Title<'t> {
         Title {
             name,
-            ending: Ending(self),
+            ending: EndingNote(self),
             run: Run {
                 step: self.step(),
                 seed: self.seed,
@@ -114,7 +114,7 @@ struct Title<'a> {
     /// What was run.
     name: &'a str,
     /// What ended it.
-    ending: Ending<'a>,
+    ending: EndingNote<'a>,
     /// How it can be run again.
     run: Run,
 }
@@ -146,9 +146,9 @@ impl<'a> fmt::Display for Title<'a> {
 
 /// What ended a tenant, in a few words.
 #[derive(Clone, Copy)]
-struct Ending<'a>(&'a Report<'a>);
+struct EndingNote<'a>(&'a Report<'a>);
 
-impl<'a> fmt::Display for Ending<'a> {
+impl<'a> fmt::Display for EndingNote<'a> {
     fn fmt<W: fmt::Write>(&self, f: &mut fmt::Formatter<W>) -> fmt::Result {
         let report = self.0;
         if let Some(cause) = &report.cause() {

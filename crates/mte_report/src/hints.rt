@@ -6,7 +6,7 @@ use a64_instr::Instr;
 use circular_buffer::HeapCircularBuffer;
 use heap_bounds::access_of;
 use instruction_trace::{Instruction, Moment};
-use run_book::{Call, Entry};
+use run_book::{BookEntry, Call};
 use run_cause::Cause;
 use std::io;
 use std::io::Write;
@@ -96,7 +96,7 @@ fn loaded_from(moment: &Moment, register: u8) -> Option<u64> {
 }
 
 /// Writes a call that returned no chunk, and why.
-fn tell_refused<W: Write>(out: &mut W, entry: &Entry) -> io::Result<()> {
+fn tell_refused<W: Write>(out: &mut W, entry: &BookEntry) -> io::Result<()> {
     let call = Call(entry);
     let (first, second) = entry.call.call.arguments();
     let why = if first.max(second) > MOST {

@@ -8,13 +8,13 @@ use mte_backtrace::{Names, Quoted};
 use mte_flat::Flat;
 use mte_tags::MemFault;
 use mte_tenant::Status;
-use run_book::{Chunk, Entry};
+use run_book::{BookChunk, BookEntry};
 use run_cause::{Cause, Finding, Wrong};
 use run_statistics::Object;
 use std::alloc::Global;
 use std::io::Write;
 use std::{fmt, io};
-use tenant_map::{GRANULES, Letters, Pages, first_granule, page_map, tag_at};
+use tenant_map::{GRANULES, Letters, MappedPages, first_granule, page_map, tag_at};
 
 impl<'a> Report<'a> {
     /// Writes what happened as one object of JSON, under the program's exit status.
@@ -131,7 +131,7 @@ fn write_chunks<W: Write>(
 fn write_chunk<W: Write>(
     alloc: Global,
     out: &mut W,
-    chunk: &Chunk,
+    chunk: &BookChunk,
     names: &Names<'_>,
 ) -> io::Result<()> {
     let (pointer, size) = (chunk.pointer, chunk.size);
@@ -152,7 +152,7 @@ fn write_chunk<W: Write>(
 fn write_call<W: Write>(
     alloc: Global,
     out: &mut W,
-    entry: &Entry,
+    entry: &BookEntry,
     names: &Names<'_>,
 ) -> io::Result<()> {
     let (number, step) = (entry.number, entry.step);
@@ -196,11 +196,11 @@ fn write_pages<W: Write>(alloc: Global, out: &mut W, memory: &mut Flat) -> io::R
 
 /// Pages one after another.
 #[derive(Clone, Copy)]
-struct PagesObject<'a>(&'a Pages);
+struct PagesObject<'a>(&'a MappedPages);
 
 impl<'a> fmt::Display for PagesObject<'a> {
     fn fmt<W: fmt::Write>(&self, f: &mut fmt::Formatter<W>) -> fmt::Result {
-        let Pages { start, range, .. } = self.0;
+        let MappedPages { start, range, .. } = self.0;
         let (last, letters) = (self.0.end.wrapping_sub(1), Letters(self.0.attrs));
         write!(f, "{{\"first\":\"{start:#x}\",\"last\":\"{last:#x}\",")?;
         write!(f, "\"attributes\":\"{letters}\",\"use\":\"{range}\"}}")

@@ -2,7 +2,7 @@
 
 use crate::report::Report;
 use crate::stacks::stack_of;
-use run_book::{Bytes, Entry};
+use run_book::{BookEntry, Bytes};
 use std::alloc::{AllocError, Global};
 use std::io::Write;
 use std::{fmt, io};
@@ -12,9 +12,9 @@ const PLACES: usize = 256;
 
 /// Chunks that were made at one place, by the same calls.
 #[derive(Clone, Copy)]
-struct Place {
+struct LeakPlace {
     /// The call that made the first of them.
-    entry: Entry,
+    entry: BookEntry,
     chunks: u64,
     bytes: u64,
 }
@@ -22,14 +22,14 @@ struct Place {
 /// All places, and what no longer has room among them.
 #[derive(Drop)]
 struct Places {
-    places: Vec<Place>,
+    places: Vec<LeakPlace>,
     chunks: u64,
     bytes: u64,
 }
 
 impl Places {
     /// Enters a chunk of some bytes that a call made.
-    fn enter(&mut self, entry: &Entry, bytes: u64) -> Result<(), AllocError> {
+    fn enter(&mut self, entry: &BookEntry, bytes: u64) -> Result<(), AllocError> {
         self.chunks = self.chunks.saturating_add(1);
         self.bytes = self.bytes.saturating_add(bytes);
         if let Some(place) = find(self.places.as_mut_slice(), entry) {
@@ -40,7 +40,7 @@ impl Places {
         if self.places.len() >= PLACES {
             return Ok(());
         }
-        self.places.push(Place {
+        self.places.push(LeakPlace {
             entry: *entry,
             chunks: 1,
             bytes,
@@ -65,7 +65,7 @@ impl fmt::Display for Chunks {
 }
 
 /// The place of a call.
-fn find<'a>(places: &'a mut [Place], entry: &Entry) -> Option<&'a mut Place> {
+fn find<'a>(places: &'a mut [LeakPlace], entry: &BookEntry) -> Option<&'a mut LeakPlace> {
     places.iter_mut().find(|place| place.entry.pc == entry.pc
         && place.entry.callers == entry.callers)
 }
@@ -99,7 +99,12 @@ impl<'a> Report<'a> {
     }
 
     /// Writes a place.
-    fn write_place<W: Write>(&self, alloc: Global, out: &mut W, place: &Place) -> io::Result<()> {
+    fn write_place<W: Write>(
+        &self,
+        alloc: Global,
+        out: &mut W,
+        place: &LeakPlace,
+    ) -> io::Result<()> {
         let (chunks, bytes, number) = (place.chunks, place.bytes, place.entry.number);
         writeln!(
             out,

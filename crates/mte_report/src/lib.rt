@@ -9,8 +9,8 @@ mod leaks;
 mod report;
 mod stacks;
 
-pub use instruction_trace::{Line, Moment, SVC, Service, Turn};
+pub use instruction_trace::{Moment, SVC, Service, TraceLine, Turn};
 pub use report::Report;
 pub use run_book::Book;
 pub use run_cause::{Exact, Finding};
-pub use run_statistics::{Statistics, Table};
+pub use run_statistics::{Statistics, StatisticsTable};

@@ -6,22 +6,22 @@ use a64_step::Regs;
 use circular_buffer::HeapCircularBuffer;
 use elf_symbols::SymbolOffset;
 use heap_bounds::{Range, access_of};
-use instruction_trace::{Instruction, Line, Moment, Nzcv, Turn, tell_turns};
+use instruction_trace::{Instruction, Moment, Nzcv, TraceLine, Turn, tell_turns};
 use mte_backtrace::Names;
 use mte_flat::Flat;
 use mte_tags::{FaultKind, MemFault, Tagged};
 use mte_tenant::{Status, TenantParts};
-use run_book::{Book, Bytes, Owner, Wanted};
+use run_book::{Book, Bytes, ChunkOwner, Wanted};
 use run_cause::{
     Cause, Finding, Wrong, abort_words, breakpoint_words, family_of, fault_words, is_undefined,
     trespass_words,
 };
-use run_statistics::Table;
+use run_statistics::StatisticsTable;
 use scudo_heap::HeapAbort;
 use std::alloc::Global;
 use std::io::Write;
 use std::{fmt, io};
-use tenant_map::{Pages, attrs_at, page_map, tell_tags};
+use tenant_map::{MappedPages, attrs_at, page_map, tell_tags};
 
 /// A tenant that ran, and what was remembered of it.
 #[derive(Clone, Copy)]
@@ -45,7 +45,7 @@ pub struct Report<'a> {
     /// The access that ended it beyond what its tags forbid, if one did.
     pub finding: Option<&'a Finding>,
     /// The numbers of the run, where they are wanted.
-    pub statistics: Option<Table<'a>>,
+    pub statistics: Option<StatisticsTable<'a>>,
 }
 
 impl<'a> Report<'a> {
@@ -330,7 +330,7 @@ fn tell_place<W: Write>(out: &mut W, report: &Report<'_>, memory: &mut Flat) -> 
     let Some(addr) = report.address() else {
         return Ok(());
     };
-    let owner = Owner {
+    let owner = ChunkOwner {
         addr,
         mapped: attrs_at(memory, addr).is_some(),
         chunk: report.book.newest(&Wanted::InGranules(addr)),
@@ -384,7 +384,7 @@ fn tell_pages<W: Write>(alloc: Global, out: &mut W, memory: &mut Flat) -> io::Re
 }
 
 /// Pages, each in a line.
-fn tell_map<W: Write>(out: &mut W, map: &[Pages]) -> io::Result<()> {
+fn tell_map<W: Write>(out: &mut W, map: &[MappedPages]) -> io::Result<()> {
     for pages in map {
         writeln!(out, "  {pages}")?;
     }
@@ -412,7 +412,7 @@ fn tell_last<W: Write>(
 /// An instruction, if there is one.
 fn tell_moment<W: Write>(out: &mut W, moment: Option<&Moment>, after: &Regs) -> io::Result<()> {
     match moment {
-        Some(moment) => writeln!(out, "{}", Line { moment, after }),
+        Some(moment) => writeln!(out, "{}", TraceLine { moment, after }),
         None => Ok(()),
     }
 }

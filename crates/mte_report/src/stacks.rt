@@ -3,8 +3,8 @@
 use crate::report::Report;
 use mte_backtrace::{CallStack, Names};
 use mte_flat::Flat;
-use run_book::{Book, Call, Chunk, Entry};
-use run_cause::{Cause, Finding, Found};
+use run_book::{Book, BookChunk, BookEntry, Call};
+use run_cause::{Cause, Finding, FoundCause};
 use std::alloc::{AllocError, Global};
 use std::io;
 use std::io::Write;
@@ -51,8 +51,8 @@ impl<'a> Report<'a> {
     }
 
     /// A cause, behind what found it.
-    pub(crate) fn found<'b>(&self, cause: &'b Cause) -> Found<'b> {
-        Found {
+    pub(crate) fn found<'b>(&self, cause: &'b Cause) -> FoundCause<'b> {
+        FoundCause {
             cause,
             is_exact: self.finding.is_some(),
         }
@@ -96,7 +96,7 @@ fn write_cause_addresses<W: Write>(
 /// The calls that led to a heap call.
 pub(crate) fn stack_of(
     alloc: Global,
-    entry: &Entry,
+    entry: &BookEntry,
     names: &Names<'_>,
 ) -> Result<CallStack, AllocError> {
     CallStack::of_heap_call(alloc, entry.pc, &entry.callers, &names.symbols)
@@ -130,7 +130,7 @@ fn tell_chunks<W: Write>(
 fn tell_young<W: Write>(
     alloc: Global,
     out: &mut W,
-    young: &Chunk,
+    young: &BookChunk,
     names: &Names<'_>,
 ) -> io::Result<()> {
     writeln!(out, "  its block was given again, as the {young}:")?;
@@ -141,7 +141,7 @@ fn tell_young<W: Write>(
 fn tell_chunk<W: Write>(
     alloc: Global,
     out: &mut W,
-    chunk: &Chunk,
+    chunk: &BookChunk,
     names: &Names<'_>,
 ) -> io::Result<()> {
     tell_call(alloc, out, "allocated", &chunk.made, names)?;
@@ -156,7 +156,7 @@ fn tell_call<W: Write>(
     alloc: Global,
     out: &mut W,
     did: &str,
-    entry: &Entry,
+    entry: &BookEntry,
     names: &Names<'_>,
 ) -> io::Result<()> {
     let call = Call(entry);

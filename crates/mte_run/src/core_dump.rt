@@ -1,7 +1,7 @@
 //! The core file of a tenant's end.
 
 use crate::session_course::course_in;
-use elf_core::{Subject, write_core};
+use elf_core::{CoreSubject, write_core};
 use mte_flat::Flat;
 use mte_tags::TagMode;
 use run_options::{Failure, Options, Replay};
@@ -13,7 +13,7 @@ use std::io::BufWriter;
 pub fn dump_core<'a>(
     rt: &HostRuntime,
     options: &'a Options,
-    subject: &Subject<'_>,
+    subject: &CoreSubject<'_>,
     memory: &mut Flat,
 ) -> Result<(), Failure<'a>> {
     match &options.output.core {
@@ -44,7 +44,7 @@ pub fn mode_in<'a>(
 fn dump<'a>(
     rt: &HostRuntime,
     name: &'a str,
-    subject: &Subject<'_>,
+    subject: &CoreSubject<'_>,
     memory: &mut Flat,
 ) -> Result<(), Failure<'a>> {
     write_file(rt, name, subject, memory).map_err(|error| Failure::of_write(&error, name))
@@ -54,7 +54,7 @@ fn dump<'a>(
 fn write_file(
     rt: &HostRuntime,
     name: &str,
-    subject: &Subject<'_>,
+    subject: &CoreSubject<'_>,
     memory: &mut Flat,
 ) -> io::Result<()> {
     let mut out = BufWriter::new(rt.alloc(), File::create(rt, name)?)?;

@@ -8,7 +8,7 @@ use crate::session_course::{Admitted, course_in};
 use address_map::MAX_STEPS;
 use debuggee::{Cuts, Debuggee};
 use gdb_front::{Front, serve};
-use gdb_monitor::Subject;
+use gdb_monitor::DebugSubject;
 use mte_tenant::Admission;
 use obstacle::Obstacle;
 use run_options::{Failure, Options, Replay};
@@ -48,7 +48,7 @@ fn debug_image<'a, 'x>(
         others: others_of(options),
         limit: options.length.steps,
     };
-    let subject = Subject {
+    let subject = DebugSubject {
         image,
         name,
         seed: Some(seed),
@@ -98,7 +98,7 @@ fn debug_course<'a, 'x>(
         others: 0,
         limit: u64::MAX,
     };
-    let subject = Subject {
+    let subject = DebugSubject {
         image: admission.image,
         name,
         seed: None,
@@ -132,7 +132,7 @@ fn debug<'a, 'x>(
     rt: &HostRuntime,
     admission: &Admission<'x>,
     cuts: &Cuts<'x>,
-    subject: Subject<'x>,
+    subject: DebugSubject<'x>,
 ) -> Result<u8, Failure<'a>>
     requires { 0 < admission.now.terms.pages }
 {

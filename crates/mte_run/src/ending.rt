@@ -5,7 +5,7 @@ use std::fmt;
 
 /// How a tenant ended. The exit status is 128 and the number of the way, or the tenant's own.
 #[derive(Clone, Copy, PartialEq, Eq)]
-pub enum Ending {
+pub enum TenantEnding {
     /// It exited.
     Exit = 0,
     /// An access failed.
@@ -34,60 +34,60 @@ pub const ENDINGS: usize = 10;
 /// The exit status of a tenant that is refused.
 pub const REFUSED: u8 = 136;
 
-impl Ending {
+impl TenantEnding {
     /// That of a tenant whose steps may be `limit`.
-    pub fn of(log: &Record, limit: u64) -> Ending {
+    pub fn of(log: &Record, limit: u64) -> TenantEnding {
         match log.status {
-            Status::Exited(_) => Ending::Exit,
-            Status::Faulted(_, _) => Ending::Fault,
-            Status::AsyncTag(_) => Ending::AsyncTag,
-            Status::Aborted(_, _, _) => Ending::Abort,
-            Status::Illegal(_, _) => Ending::Illegal,
-            Status::Breakpoint(_, _) => Ending::Breakpoint,
-            Status::Running if log.steps >= limit => Ending::StepLimit,
-            Status::Running | Status::Stopped => Ending::NotEnded,
+            Status::Exited(_) => TenantEnding::Exit,
+            Status::Faulted(_, _) => TenantEnding::Fault,
+            Status::AsyncTag(_) => TenantEnding::AsyncTag,
+            Status::Aborted(_, _, _) => TenantEnding::Abort,
+            Status::Illegal(_, _) => TenantEnding::Illegal,
+            Status::Breakpoint(_, _) => TenantEnding::Breakpoint,
+            Status::Running if log.steps >= limit => TenantEnding::StepLimit,
+            Status::Running | Status::Stopped => TenantEnding::NotEnded,
         }
     }
 
     /// The exit status.
     pub fn status(self, log: &Record) -> u8 {
         match log.status {
-            Status::Exited(code) if self == Ending::Exit => code,
+            Status::Exited(code) if self == TenantEnding::Exit => code,
             _ => 128 + self as u8,
         }
     }
 }
 
-impl fmt::Display for Ending {
+impl fmt::Display for TenantEnding {
     fn fmt<W: fmt::Write>(&self, f: &mut fmt::Formatter<W>) -> fmt::Result {
         f.write_str(match self {
-            Ending::Exit => "exit",
-            Ending::Fault => "fault",
-            Ending::AsyncTag => "async",
-            Ending::Abort => "abort",
-            Ending::Illegal => "illegal word",
-            Ending::Breakpoint => "breakpoint",
-            Ending::StepLimit => "limit of steps",
-            Ending::NotEnded => "end of its slices",
-            Ending::Refused => "refusal",
-            Ending::Exact => "exact",
+            TenantEnding::Exit => "exit",
+            TenantEnding::Fault => "fault",
+            TenantEnding::AsyncTag => "async",
+            TenantEnding::Abort => "abort",
+            TenantEnding::Illegal => "illegal word",
+            TenantEnding::Breakpoint => "breakpoint",
+            TenantEnding::StepLimit => "limit of steps",
+            TenantEnding::NotEnded => "end of its slices",
+            TenantEnding::Refused => "refusal",
+            TenantEnding::Exact => "exact",
         })
     }
 }
 
 /// The way with a number.
-pub fn ending_at(index: usize) -> Ending {
+pub fn ending_at(index: usize) -> TenantEnding {
     match index {
-        0 => Ending::Exit,
-        1 => Ending::Fault,
-        2 => Ending::AsyncTag,
-        3 => Ending::Abort,
-        4 => Ending::Illegal,
-        5 => Ending::Breakpoint,
-        6 => Ending::StepLimit,
-        7 => Ending::NotEnded,
-        8 => Ending::Refused,
-        _ => Ending::Exact,
+        0 => TenantEnding::Exit,
+        1 => TenantEnding::Fault,
+        2 => TenantEnding::AsyncTag,
+        3 => TenantEnding::Abort,
+        4 => TenantEnding::Illegal,
+        5 => TenantEnding::Breakpoint,
+        6 => TenantEnding::StepLimit,
+        7 => TenantEnding::NotEnded,
+        8 => TenantEnding::Refused,
+        _ => TenantEnding::Exact,
     }
 }
 
@@ -96,7 +96,7 @@ pub fn ending_at(index: usize) -> Ending {
 #[derive(Clone, Copy)]
 pub struct LastLine<'a> {
     /// How it ended.
-    pub ending: Ending,
+    pub ending: TenantEnding,
     /// Its record.
     pub log: &'a Record,
 }
@@ -105,7 +105,7 @@ impl<'a> LastLine<'a> {
     /// Whether it is written: not for an exit status that only a tenant has.
     pub fn is_told(&self) -> bool {
         let status = self.ending.status(self.log);
-        self.ending != Ending::Exit || matches!(status, 2..=6 | 129..=137)
+        self.ending != TenantEnding::Exit || matches!(status, 2..=6 | 129..=137)
     }
 }
 
@@ -113,7 +113,7 @@ impl<'a> fmt::Display for LastLine<'a> {
     fn fmt<W: fmt::Write>(&self, f: &mut fmt::Formatter<W>) -> fmt::Result {
         let (ending, status) = (self.ending, self.ending.status(self.log));
         match &self.log.status {
-            _ if ending == Ending::Exact => write!(f, "ended by {ending}, status {status}"),
+            _ if ending == TenantEnding::Exact => write!(f, "ended by {ending}, status {status}"),
             Status::Exited(_) => write!(f, "exited with {status}"),
             Status::Faulted(fault, _) => {
                 let kind = fault.kind;

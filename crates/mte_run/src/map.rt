@@ -38,7 +38,7 @@ fn draw_file(
     name: &str,
     memory: &mut Flat,
 ) -> io::Result<()> {
-    let subject = Subject(options);
+    let subject = MapTitle(options);
     let title = format!(in rt.alloc(); "{subject}")?;
     if name == TEXT {
         let mut out = BufWriter::new(rt.alloc(), rt.stderr())?;
@@ -55,9 +55,9 @@ fn draw_file(
 
 /// What was run: the image's name without its folder, or a tenant of a script.
 #[derive(Clone, Copy)]
-struct Subject<'a>(&'a Options);
+struct MapTitle<'a>(&'a Options);
 
-impl<'a> fmt::Display for Subject<'a> {
+impl<'a> fmt::Display for MapTitle<'a> {
     fn fmt<W: fmt::Write>(&self, f: &mut fmt::Formatter<W>) -> fmt::Result {
         if let Some(replay) = &self.0.replay {
             let (id, script) = (replay.id, without_folder(replay.script.as_str()));

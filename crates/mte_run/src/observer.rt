@@ -4,7 +4,7 @@ ghost use Rattle.std.specs.Prelude.{None};
 
 use crate::tracer::Tracer;
 use circular_buffer::HeapCircularBuffer;
-use mte_report::{Book, Exact, Finding, Moment, SVC, Statistics, Table, Turn};
+use mte_report::{Book, Exact, Finding, Moment, SVC, Statistics, StatisticsTable, Turn};
 use mte_svc::WRITE;
 use mte_tags::Paged;
 use mte_tenant::{TenantParts, Watch};
@@ -82,9 +82,9 @@ impl<'a, W: Write + Drop> Observer<'a, W> {
     }
 
     /// The numbers of the run, where they are wanted, of a tenant with so many pages reserved.
-    pub fn table(&self, reserved: u64) -> Option<Table<'_>> {
+    pub fn table(&self, reserved: u64) -> Option<StatisticsTable<'_>> {
         match &self.statistics {
-            Some(statistics) => Some(Table {
+            Some(statistics) => Some(StatisticsTable {
                 statistics,
                 reserved,
             }),

@@ -1,7 +1,7 @@
 //! How a tenant ends under several seeds.
 
 use crate::bench::Bench;
-use crate::ending::{ENDINGS, Ending, ending_at};
+use crate::ending::{ENDINGS, TenantEnding, ending_at};
 use crate::observer::{Observer, exact_of};
 use crate::running::{Log, admission_of, run_slices};
 use crate::seeds::seed_of_run;
@@ -44,12 +44,12 @@ impl Survey {
     }
 
     /// Enters how a run under a seed ended.
-    fn enter(&mut self, seed: u64, ending: Ending) {
+    fn enter(&mut self, seed: u64, ending: TenantEnding) {
         self.runs = self.runs.saturating_add(1);
         if let Some(count) = self.counts.get_mut(ending as usize) {
             *count = count.saturating_add(1);
         }
-        if ending != Ending::Exit && self.found.is_none() {
+        if ending != TenantEnding::Exit && self.found.is_none() {
             self.found = Some(seed);
         }
     }
@@ -67,15 +67,15 @@ fn ending_under<'x>(
     image: &'x [u8],
     input: &'x [u8],
     seed: u64,
-) -> Result<Ending, Obstacle<AdmitError>> {
+) -> Result<TenantEnding, Obstacle<AdmitError>> {
     let exact = exact_of(alloc, options.output.exact);
     let mut observer: Observer<'_, Log> = Observer::new(alloc, 1, exact, None)?;
     let mut bench = Bench::new(alloc, &admission_of(options, image, input, seed))?;
     run_slices(&mut bench, &mut observer, options);
     if observer.finding().is_some() {
-        return Ok(Ending::Exact);
+        return Ok(TenantEnding::Exact);
     }
-    Ok(Ending::of(&bench.parts.log, options.limit()))
+    Ok(TenantEnding::of(&bench.parts.log, options.limit()))
 }
 
 impl fmt::Display for Survey {

@@ -2,13 +2,13 @@
 
 use crate::bench::Bench;
 use crate::core_dump::dump_core;
-use crate::ending::{Ending, LastLine};
+use crate::ending::{LastLine, TenantEnding};
 use crate::files::Image;
 use crate::map::draw_map;
 use crate::observer::Observer;
 use crate::running::Log;
 use address_map::PAGE_SIZE;
-use elf_core::Subject;
+use elf_core::CoreSubject;
 use mte_backtrace::Names;
 use mte_flat::Flat;
 use mte_report::Report;
@@ -63,7 +63,7 @@ fn tell_parts<'a>(
     image: &Image<'_>,
     run: Run,
 ) -> Result<u8, Failure<'a>> {
-    let subject = Subject {
+    let subject = CoreSubject {
         parts,
         mode: run.mode,
         name: image.name,
@@ -111,16 +111,16 @@ fn write_files<'a>(
 }
 
 /// How the tenant ended.
-fn ending_of(report: &Report<'_>) -> Ending {
+fn ending_of(report: &Report<'_>) -> TenantEnding {
     match report.finding {
-        Some(_) => Ending::Exact,
-        None => Ending::of(&report.parts.log, report.limit),
+        Some(_) => TenantEnding::Exact,
+        None => TenantEnding::of(&report.parts.log, report.limit),
     }
 }
 
 /// Tells what happened, on standard error, unless the tenant exited.
 fn tell_report(rt: &HostRuntime, report: &Report<'_>, memory: &mut Flat) -> io::Result<()> {
-    if ending_of(report) == Ending::Exit {
+    if ending_of(report) == TenantEnding::Exit {
         return Ok(());
     }
     let mut out = BufWriter::new(rt.alloc(), rt.stderr())?;

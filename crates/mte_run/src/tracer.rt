@@ -2,7 +2,7 @@
 
 use a64_step::Regs;
 use elf_symbols::Symbols;
-use mte_report::{Line, Moment, SVC, Service};
+use mte_report::{Moment, SVC, Service, TraceLine};
 use run_options::Traced;
 use std::io;
 use std::io::Write;
@@ -68,7 +68,7 @@ impl<'a, W: Write + Drop> Tracer<'a, W> {
                 writeln!(self.out, "{name}:")?;
             }
         }
-        let line = Line { moment, after };
+        let line = TraceLine { moment, after };
         writeln!(self.out, "{line}")
     }
 

@@ -18,7 +18,7 @@ pub const KEPT: usize = 65_536;
 
 /// A heap call that was answered.
 #[derive(Clone, Copy)]
-pub struct Entry {
+pub struct BookEntry {
     /// Its number among the heap calls, from 1.
     pub number: u64,
     /// The step that made it, from 1.
@@ -33,21 +33,21 @@ pub struct Entry {
 
 /// A chunk that a heap call returned.
 #[derive(Clone, Copy)]
-pub struct Chunk {
+pub struct BookChunk {
     /// The pointer that was returned.
     pub pointer: u64,
     /// The bytes that were asked for.
     pub size: u64,
     /// The call that made it.
-    pub made: Entry,
+    pub made: BookEntry,
     /// The call that freed it.
-    pub freed: Option<Entry>,
+    pub freed: Option<BookEntry>,
 }
 
 /// The last heap calls of a tenant, the oldest first.
 #[derive(Drop)]
 pub struct Book {
-    entries: HeapCircularBuffer<Entry>,
+    entries: HeapCircularBuffer<BookEntry>,
     seen: u64,
 }
 
@@ -68,7 +68,7 @@ pub enum Wanted {
 
 impl Wanted {
     /// Whether a chunk is one of these.
-    fn is(&self, chunk: &Chunk) -> bool {
+    fn is(&self, chunk: &BookChunk) -> bool {
         match self {
             Wanted::Holding(addr) => chunk.distance(*addr) == 0,
             Wanted::Tagged(addr, tag) => chunk.distance(*addr) == 0 && chunk.tag() == *tag,
@@ -79,11 +79,11 @@ impl Wanted {
     }
 }
 
-impl Entry {
+impl BookEntry {
     /// The chunk that the call returned, as it was then.
-    pub fn made(&self) -> Option<Chunk> {
+    pub fn made(&self) -> Option<BookChunk> {
         let Allocation { pointer, size } = made_by(&self.call)?;
-        Some(Chunk {
+        Some(BookChunk {
             pointer,
             size,
             made: *self,
@@ -108,7 +108,7 @@ impl Entry {
     }
 }
 
-impl Chunk {
+impl BookChunk {
     /// Its first plain address.
     pub fn start(&self) -> u64 {
         plain(self.pointer)
@@ -132,7 +132,7 @@ impl Chunk {
 
     /// Whether it lies in the block of a size class that begins at an address.
     fn is_in_block(&self, start: u64) -> bool {
-        Chunk::block_of(self.start()) == start
+        BookChunk::block_of(self.start()) == start
     }
 
     /// The tag of its pointer.
@@ -173,7 +173,7 @@ impl Book {
         self.seen = calls.count();
         let call = calls.get(calls.kept().saturating_sub(1))?;
         let callers = Callers::of(memory, &parts.regs);
-        self.entries.push_back(Entry {
+        self.entries.push_back(BookEntry {
             number: self.seen,
             step: parts.log.steps,
             pc: parts.regs.pc.wrapping_sub(4),
@@ -189,7 +189,7 @@ impl Book {
     }
 
     /// The newest chunk that is the wanted one, with the call that freed it.
-    pub fn newest(&self, wanted: &Wanted) -> Option<Chunk> {
+    pub fn newest(&self, wanted: &Wanted) -> Option<BookChunk> {
         let mut found = None;
         for (i, entry) in self.entries.iter().enumerate() {
             if let Some(chunk) = entry.made() {
@@ -203,8 +203,8 @@ impl Book {
     }
 
     /// The chunk, of those with a tag, that lies nearest to an address; of several the newest.
-    pub fn nearest(&self, addr: u64, tag: u8) -> Option<Chunk> {
-        let mut found: Option<(usize, Chunk)> = None;
+    pub fn nearest(&self, addr: u64, tag: u8) -> Option<BookChunk> {
+        let mut found: Option<(usize, BookChunk)> = None;
         for (i, entry) in self.entries.iter().enumerate() {
             if let Some(chunk) = entry.made() {
                 let nearer = match &found {
@@ -221,7 +221,7 @@ impl Book {
     }
 
     /// The newest call that asked for a chunk and returned none.
-    pub fn newest_refused(&self) -> Option<Entry> {
+    pub fn newest_refused(&self) -> Option<BookEntry> {
         let mut found = None;
         for entry in self.entries.iter() {
             if entry.is_refused() {
@@ -232,7 +232,7 @@ impl Book {
     }
 
     /// A chunk that the call at an index made, with the call that freed it.
-    fn with_end(&self, index: usize, chunk: Chunk) -> Chunk {
+    fn with_end(&self, index: usize, chunk: BookChunk) -> BookChunk {
         let start = chunk.start();
         let freed = self
             .entries
@@ -240,12 +240,12 @@ impl Book {
             .skip(index.saturating_add(1))
             .find(|entry| entry.ended() == Some(start))
             .copied();
-        Chunk { freed, ..chunk }
+        BookChunk { freed, ..chunk }
     }
 
     /// The chunks that are live, by their addresses.
-    pub fn live(&self, alloc: Global) -> Result<Vec<Chunk>, AllocError> {
-        let mut live: BTreeMap<u64, Chunk> = BTreeMap::new(alloc);
+    pub fn live(&self, alloc: Global) -> Result<Vec<BookChunk>, AllocError> {
+        let mut live: BTreeMap<u64, BookChunk> = BTreeMap::new(alloc);
         for entry in self.entries.iter() {
             if let Some(start) = entry.ended() {
                 live.remove(&start);
@@ -258,7 +258,7 @@ impl Book {
     }
 
     /// The calls that are kept, the oldest first.
-    pub fn entries(&self) -> &HeapCircularBuffer<Entry> {
+    pub fn entries(&self) -> &HeapCircularBuffer<BookEntry> {
         &self.entries
     }
 }

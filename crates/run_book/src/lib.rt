@@ -6,6 +6,6 @@ mod book;
 mod owner;
 mod words;
 
-pub use book::{Book, Chunk, Entry, Wanted};
-pub use owner::Owner;
+pub use book::{Book, BookChunk, BookEntry, Wanted};
+pub use owner::ChunkOwner;
 pub use words::{Bytes, Call};

@@ -1,23 +1,23 @@
 //! Whose granule an address is in.
 
-use crate::book::Chunk;
+use crate::book::BookChunk;
 use heap_bounds::{Block, Range};
 use std::fmt;
 
 /// Whose granule an address is in.
 #[derive(Clone, Copy)]
-pub struct Owner {
+pub struct ChunkOwner {
     /// Its plain address.
     pub addr: u64,
     /// Whether its page is mapped.
     pub mapped: bool,
     /// The newest chunk of whose granules it is one.
-    pub chunk: Option<Chunk>,
+    pub chunk: Option<BookChunk>,
 }
 
-impl fmt::Display for Owner {
+impl fmt::Display for ChunkOwner {
     fn fmt<W: fmt::Write>(&self, f: &mut fmt::Formatter<W>) -> fmt::Result {
-        let Owner { addr, mapped, .. } = *self;
+        let ChunkOwner { addr, mapped, .. } = *self;
         let (spot, inside) = (Spot(addr), Inside(self));
         let page = if mapped { "" } else { ", in no mapped page" };
         write!(f, "{addr:#018x} is in {spot}{page}, {inside}")
@@ -41,7 +41,7 @@ impl fmt::Display for Spot {
 
 /// Where in its chunk an address is.
 #[derive(Clone, Copy)]
-struct Inside<'a>(&'a Owner);
+struct Inside<'a>(&'a ChunkOwner);
 
 impl<'a> fmt::Display for Inside<'a> {
     fn fmt<W: fmt::Write>(&self, f: &mut fmt::Formatter<W>) -> fmt::Result {

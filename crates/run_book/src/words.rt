@@ -1,16 +1,16 @@
 //! Texts of heap calls, chunks and numbers of bytes.
 
-use crate::book::{Chunk, Entry};
+use crate::book::{BookChunk, BookEntry};
 use mte_svc::AnsweredCall;
 use std::fmt;
 
 /// A heap call: its number, its arguments and result, and when it was made.
 #[derive(Clone, Copy)]
-pub struct Call<'a>(pub &'a Entry);
+pub struct Call<'a>(pub &'a BookEntry);
 
 impl<'a> fmt::Display for Call<'a> {
     fn fmt<W: fmt::Write>(&self, f: &mut fmt::Formatter<W>) -> fmt::Result {
-        let Entry {
+        let BookEntry {
             number,
             step,
             call,
@@ -21,7 +21,7 @@ impl<'a> fmt::Display for Call<'a> {
     }
 }
 
-impl fmt::Display for Chunk {
+impl fmt::Display for BookChunk {
     fn fmt<W: fmt::Write>(&self, f: &mut fmt::Formatter<W>) -> fmt::Result {
         write!(f, "{}-byte allocation at {:#018x}", self.size, self.pointer)
     }

@@ -7,7 +7,7 @@ use heap_bounds::{Block, Trespass};
 use mte_svc::FREE;
 use mte_tags::{FaultKind, MemFault};
 use mte_tenant::{Record, Status};
-use run_book::{Book, Bytes, Chunk, Entry, Wanted};
+use run_book::{Book, BookChunk, BookEntry, Bytes, Wanted};
 use std::fmt;
 
 /// How far from a chunk an access is still taken for one past its end or in front of it, and from
@@ -21,29 +21,29 @@ const FIRST: u64 = 100;
 #[derive(Clone, Copy)]
 pub enum Cause {
     /// An access so many bytes into a chunk that was freed.
-    UseAfterFree(Chunk, u64),
+    UseAfterFree(BookChunk, u64),
     /// The same, and its block was given again, as another chunk.
-    StalePointer(Chunk, u64, Chunk),
+    StalePointer(BookChunk, u64, BookChunk),
     /// An access so many bytes after a chunk.
-    Overflow(Chunk, u64),
+    Overflow(BookChunk, u64),
     /// An access so many bytes before a chunk.
-    Underflow(Chunk, u64),
+    Underflow(BookChunk, u64),
     /// An access to a live chunk by its pointer, but its tags were changed.
-    TagsChanged(Chunk),
+    TagsChanged(BookChunk),
     /// An access to a chunk by a pointer whose tag no chunk there had.
-    ForeignPointer(Chunk),
+    ForeignPointer(BookChunk),
     /// An access near address 0.
     NullPointer,
     /// An access so many bytes below the stack.
     StackOverflow(u64),
     /// A chunk that was freed is freed again.
-    DoubleFree(Chunk),
+    DoubleFree(BookChunk),
     /// A chunk that was freed is handed to the heap.
-    FreedPointer(Chunk),
+    FreedPointer(BookChunk),
     /// A live chunk whose header was overwritten.
-    HeaderOverwritten(Chunk),
+    HeaderOverwritten(BookChunk),
     /// A pointer so many bytes into a chunk is handed to the heap.
-    InsideChunk(Chunk, u64),
+    InsideChunk(BookChunk, u64),
     /// A pointer that no call returned is handed to the heap.
     NoChunk,
     /// An access to bytes of the heap that no chunk has.
@@ -142,7 +142,7 @@ impl Cause {
     }
 
     /// The cause of an access to a chunk whose pointer had the tag.
-    fn of_own(book: &Book, addr: u64, chunk: Chunk) -> Cause {
+    fn of_own(book: &Book, addr: u64, chunk: BookChunk) -> Cause {
         if chunk.freed.is_none() {
             return Cause::TagsChanged(chunk);
         }
@@ -154,7 +154,7 @@ impl Cause {
     }
 
     /// The cause of an access beside a chunk whose pointer had the tag.
-    fn of_neighbour(addr: u64, chunk: Chunk) -> Cause {
+    fn of_neighbour(addr: u64, chunk: BookChunk) -> Cause {
         let start = chunk.start();
         if addr < start {
             Cause::Underflow(chunk, start - addr)
@@ -180,7 +180,7 @@ impl Cause {
     }
 
     /// The chunk that it names.
-    pub fn chunk(&self) -> Option<&Chunk> {
+    pub fn chunk(&self) -> Option<&BookChunk> {
         match self {
             Cause::UseAfterFree(chunk, _)
             | Cause::StalePointer(chunk, _, _)
@@ -197,7 +197,7 @@ impl Cause {
     }
 
     /// The chunk that its block was given to again.
-    pub fn young(&self) -> Option<&Chunk> {
+    pub fn young(&self) -> Option<&BookChunk> {
         match self {
             Cause::StalePointer(_, _, young) => Some(young),
             _ => None,
@@ -205,7 +205,7 @@ impl Cause {
     }
 
     /// The calls that made and freed the chunks that it names, in the order in which they are told.
-    pub fn calls(&self) -> [Option<&Entry>; 4] {
+    pub fn calls(&self) -> [Option<&BookEntry>; 4] {
         let (chunk, young) = (self.chunk(), self.young());
         [
             made_of(chunk),
@@ -292,12 +292,12 @@ impl Cause {
 }
 
 /// The call that made a chunk.
-fn made_of(chunk: Option<&Chunk>) -> Option<&Entry> {
+fn made_of(chunk: Option<&BookChunk>) -> Option<&BookEntry> {
     Some(&chunk?.made)
 }
 
 /// The call that freed a chunk.
-fn freed_of(chunk: Option<&Chunk>) -> Option<&Entry> {
+fn freed_of(chunk: Option<&BookChunk>) -> Option<&BookEntry> {
     chunk?.freed.as_ref()
 }
 
@@ -318,16 +318,16 @@ impl fmt::Display for Cause {
 
 /// A cause, behind what found it: a tag, a chunk's bounds or neither.
 #[derive(Clone, Copy)]
-pub struct Found<'a> {
+pub struct FoundCause<'a> {
     /// The cause.
     pub cause: &'a Cause,
     /// Whether the bounds of chunks found it.
     pub is_exact: bool,
 }
 
-impl<'a> fmt::Display for Found<'a> {
+impl<'a> fmt::Display for FoundCause<'a> {
     fn fmt<W: fmt::Write>(&self, f: &mut fmt::Formatter<W>) -> fmt::Result {
-        let Found { cause, is_exact } = *self;
+        let FoundCause { cause, is_exact } = *self;
         let finder = if is_exact {
             "[exact]: "
         } else {

@@ -6,7 +6,7 @@ mod exact;
 mod families;
 mod words;
 
-pub use cause::{Cause, Found};
+pub use cause::{Cause, FoundCause};
 pub use exact::{Exact, Finding, Span, Wrong, span_of};
 pub use families::{breakpoint_words, family_of, is_undefined};
 pub use words::{abort_words, fault_words, trespass_words};

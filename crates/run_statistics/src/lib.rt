@@ -6,4 +6,4 @@ mod statistics;
 mod table;
 
 pub use statistics::Statistics;
-pub use table::{Object, Table};
+pub use table::{Object, StatisticsTable};

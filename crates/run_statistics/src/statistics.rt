@@ -4,7 +4,7 @@ ghost use Rattle.std.specs.Prelude.{◌≡◌};
 
 use crate::draws::draws_between;
 use a64_decode::decode;
-use heap_bounds::{Access, access_of};
+use heap_bounds::{MemoryAccess, access_of};
 use instruction_trace::{Moment, SVC};
 use mte_tags::{Attrs, Paged, Tagged};
 use mte_tenant::TenantParts;
@@ -142,6 +142,6 @@ fn index_of(call: &HeapCall) -> usize {
 }
 
 /// The bytes that the instruction of a moment loads or stores, if it does.
-fn access_at(moment: &Moment) -> Option<Access> {
+fn access_at(moment: &Moment) -> Option<MemoryAccess> {
     access_of(&decode(moment.word?)?, &moment.regs)
 }

@@ -5,14 +5,14 @@ use std::fmt;
 
 /// The numbers of a tenant that may map so many pages, a line each.
 #[derive(Clone, Copy)]
-pub struct Table<'a> {
+pub struct StatisticsTable<'a> {
     /// The numbers.
     pub statistics: &'a Statistics,
     /// The reservation in pages.
     pub reserved: u64,
 }
 
-impl<'a> fmt::Display for Table<'a> {
+impl<'a> fmt::Display for StatisticsTable<'a> {
     fn fmt<W: fmt::Write>(&self, f: &mut fmt::Formatter<W>) -> fmt::Result {
         let (statistics, reserved) = (self.statistics, self.reserved);
         writeln!(f, "statistics:")?;
@@ -40,11 +40,11 @@ fn write_line<W: fmt::Write>(f: &mut fmt::Formatter<W>, name: &str, count: u64) 
 
 /// The numbers as an object of JSON (RFC 8259).
 #[derive(Clone, Copy)]
-pub struct Object<'a>(pub Table<'a>);
+pub struct Object<'a>(pub StatisticsTable<'a>);
 
 impl<'a> fmt::Display for Object<'a> {
     fn fmt<W: fmt::Write>(&self, f: &mut fmt::Formatter<W>) -> fmt::Result {
-        let Table {
+        let StatisticsTable {
             statistics,
             reserved,
         } = self.0;

@@ -1,21 +1,22 @@
 //! What a picture says of a row, its pages and its title.
 
 use heap_picture::{
-    Arrow, GRANULES, Gap, Granule, Heading, Kind, Line, Mark, Marked, Owner, Pages, Row, Spot,
+    Arrow, GRANULES, Gap, GranuleOwner, Heading, Kind, Mark, Marked, PageRange, PictureGranule,
+    PictureLine, Row, Spot,
 };
 use std::alloc::Global;
 
 /// The first granules of class 2: a header, a live chunk of two granules with tag 14, and a header.
 fn row() -> Row {
-    let unused = Granule {
+    let unused = PictureGranule {
         tag: Some(0),
-        owner: Owner::Nothing,
+        owner: GranuleOwner::Nothing,
     };
     let mut granules = [unused; GRANULES];
     for granule in &mut granules[1..3] {
-        *granule = Granule {
+        *granule = PictureGranule {
             tag: Some(14),
-            owner: Owner::Live,
+            owner: GranuleOwner::Live,
         };
     }
     Row {
@@ -28,8 +29,8 @@ fn row() -> Row {
 }
 
 /// The line of the row, with a mark of a pointer whose tag is 14.
-fn line(marked: Marked, addr: u64) -> Line {
-    Line {
+fn line(marked: Marked, addr: u64) -> PictureLine {
+    PictureLine {
         row: row(),
         number: 2,
         mark: Some(Mark {
@@ -92,7 +93,7 @@ fn an_access_in_another_row(rt: HostRuntime) {
 }
 
 /// Whether a range of pages is shown by this text.
-fn is_shown_as(alloc: Global, pages: &Pages, expected: &str) -> bool {
+fn is_shown_as(alloc: Global, pages: &PageRange, expected: &str) -> bool {
     match format!(in alloc; "{pages}") {
         Ok(text) => text.as_str() == expected,
         Err(_) => false,
@@ -101,7 +102,7 @@ fn is_shown_as(alloc: Global, pages: &Pages, expected: &str) -> bool {
 
 #[test]
 fn ranges_of_pages(rt: HostRuntime) {
-    let pages = Pages {
+    let pages = PageRange {
         start: 0x1200_0000,
         count: 2,
         kind: Kind::Class(2),

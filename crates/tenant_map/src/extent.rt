@@ -1,8 +1,8 @@
 //! The granules of a chunk, as a picture shows them.
 
 use address_map::GRANULE_SIZE;
-use heap_picture::{GRANULES, Owner, Row};
-use run_book::Chunk;
+use heap_picture::{GRANULES, GranuleOwner, Row};
+use run_book::BookChunk;
 
 /// The bytes of a row.
 pub const ROW_SIZE: u64 = GRANULES as u64 * GRANULE_SIZE;
@@ -17,7 +17,7 @@ pub struct Extent {
     /// Whether the chunk is in use.
     pub live: bool,
     /// The chunk, with the call that freed it.
-    pub chunk: Chunk,
+    pub chunk: BookChunk,
     /// The number of the call that gave its block before.
     pub earlier: Option<u64>,
     /// Whether no newer chunk has its block.
@@ -41,8 +41,12 @@ impl Extent {
     }
 
     /// Whose its granules are.
-    fn owner(&self) -> Owner {
-        if self.live { Owner::Live } else { Owner::Freed }
+    fn owner(&self) -> GranuleOwner {
+        if self.live {
+            GranuleOwner::Live
+        } else {
+            GranuleOwner::Freed
+        }
     }
 
     /// Whether an address is in one of its granules.

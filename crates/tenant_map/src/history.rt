@@ -1,7 +1,7 @@
 //! The chunks of a tenant in the order in which they were made.
 
 use crate::extent::Extent;
-use run_book::{Book, Chunk, Entry};
+use run_book::{Book, BookChunk, BookEntry};
 use std::alloc::{AllocError, Global};
 use std::collections::BTreeMap;
 
@@ -24,9 +24,11 @@ impl History {
     }
 
     /// Enters that a chunk was made.
-    fn make(&mut self, chunk: &Chunk) -> Result<(), AllocError> {
+    fn make(&mut self, chunk: &BookChunk) -> Result<(), AllocError> {
         let index = self.extents.len();
-        let before = self.newest.insert(Chunk::block_of(chunk.start()), index)?;
+        let before = self
+            .newest
+            .insert(BookChunk::block_of(chunk.start()), index)?;
         let earlier = self.outdate(before);
         self.extents.push(Extent {
             start: chunk.start(),
@@ -48,8 +50,8 @@ impl History {
     }
 
     /// Enters that a call freed the chunk at a plain address.
-    fn end(&mut self, start: u64, entry: &Entry) {
-        let block = Chunk::block_of(start);
+    fn end(&mut self, start: u64, entry: &BookEntry) {
+        let block = BookChunk::block_of(start);
         let Some(index) = self.newest.get(&block).copied() else {
             return;
         };

@@ -15,6 +15,6 @@ mod text;
 pub use attributes::Letters;
 pub use extent::Extent;
 pub use history::extents;
-pub use pages::{Pages, attrs_at, page_map};
+pub use pages::{MappedPages, attrs_at, page_map};
 pub use picture::Picture;
 pub use tags::{GRANULES, first_granule, tag_at, tell_tags};

@@ -3,7 +3,7 @@
 use crate::extent::Extent;
 use heap_picture::Note;
 use mte_backtrace::Names;
-use run_book::{Bytes, Call, Chunk};
+use run_book::{BookChunk, Bytes, Call};
 use std::alloc::Global;
 use std::io::Write;
 use std::{fmt, io};
@@ -91,7 +91,7 @@ struct Title<'a> {
 
 impl<'a> fmt::Display for Title<'a> {
     fn fmt<W: fmt::Write>(&self, f: &mut fmt::Formatter<W>) -> fmt::Result {
-        let Chunk {
+        let BookChunk {
             size,
             made,
             freed,

@@ -9,7 +9,7 @@ use std::fmt;
 
 /// Pages one after another in one range, with the same attributes.
 #[derive(Clone, Copy)]
-pub struct Pages {
+pub struct MappedPages {
     /// The first address.
     pub start: u64,
     /// The address after the last.
@@ -20,17 +20,17 @@ pub struct Pages {
     pub range: Range,
 }
 
-impl fmt::Display for Pages {
+impl fmt::Display for MappedPages {
     fn fmt<W: fmt::Write>(&self, f: &mut fmt::Formatter<W>) -> fmt::Result {
-        let Pages { start, range, .. } = self;
+        let MappedPages { start, range, .. } = self;
         let (last, letters) = (self.end.wrapping_sub(1), Letters(self.attrs));
         write!(f, "{start:#010x} to {last:#010x}  {letters}  {range}")
     }
 }
 
 /// All pages of a memory, the lowest first.
-pub fn page_map<M: Tagged>(alloc: Global, memory: &mut M) -> Result<Vec<Pages>, AllocError> {
-    let mut map: Vec<Pages> = Vec::new(alloc);
+pub fn page_map<M: Tagged>(alloc: Global, memory: &mut M) -> Result<Vec<MappedPages>, AllocError> {
+    let mut map: Vec<MappedPages> = Vec::new(alloc);
     for number in 0..ADDRESS_END / PAGE_SIZE {
         let start = number * PAGE_SIZE;
         if let Some(attrs) = attrs_at(memory, start) {
@@ -44,8 +44,8 @@ pub fn page_map<M: Tagged>(alloc: Global, memory: &mut M) -> Result<Vec<Pages>, 
 }
 
 /// The page at an address.
-fn page_of(start: u64, attrs: Attrs) -> Pages {
-    Pages {
+fn page_of(start: u64, attrs: Attrs) -> MappedPages {
+    MappedPages {
         start,
         end: start.saturating_add(PAGE_SIZE),
         attrs,
@@ -54,7 +54,7 @@ fn page_of(start: u64, attrs: Attrs) -> Pages {
 }
 
 /// Lengthens the last pages by one that follows them and is like them, and returns whether it did.
-fn extend(map: &mut [Pages], page: &Pages) -> bool {
+fn extend(map: &mut [MappedPages], page: &MappedPages) -> bool {
     let Some(last) = map.last_mut() else {
         return false;
     };

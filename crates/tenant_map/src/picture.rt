@@ -2,11 +2,11 @@
 
 use crate::extent::{Extent, ROW_SIZE};
 use crate::notes::Notes;
-use crate::pages::{Pages, page_map};
-use crate::selection::{Place, Window, place_of, places, row_at};
+use crate::pages::{MappedPages, page_map};
+use crate::selection::{CandidateRow, Window, place_of, places, row_at};
 use address_map::{GRANULE_SIZE, PAGE_SIZE};
 use heap_bounds::Range;
-use heap_picture::{Arrow, END, Gap, Heading, Kind, Line, Mark, Spot};
+use heap_picture::{Arrow, END, Gap, Heading, Kind, Mark, PictureLine, Spot};
 use mte_backtrace::Names;
 use mte_flat::Flat;
 use std::alloc::{AllocError, Global};
@@ -43,7 +43,7 @@ impl<'a> Picture<'a> {
         alloc: Global,
         out: &mut W,
         memory: &mut Flat,
-        map: &[Pages],
+        map: &[MappedPages],
     ) -> io::Result<()> {
         let addr = self.mark.map(|mark| mark.addr);
         let places = places(alloc, memory, map, self.extents, addr)?;
@@ -80,7 +80,7 @@ struct Rows<'a> {
     /// Of what.
     picture: &'a Picture<'a>,
     /// The rows that may be shown.
-    places: &'a [Place],
+    places: &'a [CandidateRow],
     /// Those that are.
     window: Window,
 }
@@ -95,7 +95,12 @@ impl<'a> Rows<'a> {
     }
 
     /// Writes what stands above them.
-    fn write_heading<W: Write>(&self, alloc: Global, out: &mut W, map: &[Pages]) -> io::Result<()> {
+    fn write_heading<W: Write>(
+        &self,
+        alloc: Global,
+        out: &mut W,
+        map: &[MappedPages],
+    ) -> io::Result<()> {
         let title = Title {
             text: self.picture.title,
             left_out: self.left_out(),
@@ -127,8 +132,8 @@ impl<'a> Rows<'a> {
     fn write_gap<W: Write>(
         &self,
         out: &mut W,
-        before: Option<&Place>,
-        place: &Place,
+        before: Option<&CandidateRow>,
+        place: &CandidateRow,
         number: usize,
     ) -> io::Result<()> {
         let Some(before) = before else {
@@ -179,7 +184,7 @@ impl<'a> Rows<'a> {
         address: u64,
         number: usize,
     ) -> io::Result<()> {
-        let line = Line {
+        let line = PictureLine {
             row: row_at(memory, self.picture.extents, address),
             number,
             mark: self.picture.mark,
@@ -193,7 +198,7 @@ fn write_titled<W: Write>(
     alloc: Global,
     out: &mut W,
     title: &str,
-    map: &[Pages],
+    map: &[MappedPages],
     rows: usize,
 ) -> io::Result<()> {
     let pages = listed(alloc, map)?;
@@ -206,11 +211,11 @@ fn write_titled<W: Write>(
 }
 
 /// The pages as a picture lists them.
-fn listed(alloc: Global, map: &[Pages]) -> Result<Vec<heap_picture::Pages>, AllocError> {
+fn listed(alloc: Global, map: &[MappedPages]) -> Result<Vec<heap_picture::PageRange>, AllocError> {
     let mut list = Vec::new(alloc);
     for pages in map {
         if let Some(kind) = kind_of(pages.range) {
-            list.push(heap_picture::Pages {
+            list.push(heap_picture::PageRange {
                 start: pages.start,
                 count: pages.end.saturating_sub(pages.start) / PAGE_SIZE,
                 kind,

@@ -1,10 +1,10 @@
 //! Which rows a picture has, and what they show.
 
 use crate::extent::{Extent, ROW_SIZE, paint_all};
-use crate::pages::Pages;
+use crate::pages::MappedPages;
 use address_map::{ADDRESS_END, GRANULE_SIZE, REGION_SIZE, REGIONS_START};
 use heap_bounds::{Block, Range};
-use heap_picture::{GRANULES, Granule, Owner, ROWS, Row};
+use heap_picture::{GRANULES, GranuleOwner, PictureGranule, ROWS, Row};
 use mte_tags::{FaultKind, Tagged};
 use std::alloc::{AllocError, Global};
 
@@ -13,7 +13,7 @@ const PLAIN: u32 = 1;
 
 /// A row that may be shown.
 #[derive(Clone, Copy)]
-pub struct Place {
+pub struct CandidateRow {
     /// The address of its first granule.
     pub address: u64,
     /// Its number from the first row, where a gap in the addresses counts as a row.
@@ -31,7 +31,7 @@ pub struct Window {
 
 impl Window {
     /// The rows around an address, or the first ones.
-    pub fn around(places: &[Place], mark: Option<u64>) -> Window {
+    pub fn around(places: &[CandidateRow], mark: Option<u64>) -> Window {
         let total = match places.last() {
             Some(last) => last.number.saturating_add(1),
             None => 0,
@@ -48,7 +48,7 @@ impl Window {
     }
 
     /// How many of the rows are shown.
-    pub fn shown(&self, places: &[Place]) -> usize {
+    pub fn shown(&self, places: &[CandidateRow]) -> usize {
         places
             .iter()
             .filter(|place| self.number(*place).is_some())
@@ -56,7 +56,7 @@ impl Window {
     }
 
     /// The number of a row in the picture, if it is shown.
-    pub fn number(&self, place: &Place) -> Option<usize> {
+    pub fn number(&self, place: &CandidateRow) -> Option<usize> {
         let number = place.number.checked_sub(self.first)?;
         if number < self.count {
             Some(number)
@@ -67,12 +67,12 @@ impl Window {
 }
 
 /// The number of the row that an address is in.
-fn number_of(places: &[Place], addr: u64) -> usize {
+fn number_of(places: &[CandidateRow], addr: u64) -> usize {
     place_of(places, addr).map_or(0, |place| place.number)
 }
 
 /// The row that an address is in.
-pub fn place_of(places: &[Place], addr: u64) -> Option<&Place> {
+pub fn place_of(places: &[CandidateRow], addr: u64) -> Option<&CandidateRow> {
     places.iter().find(|place| place.address == row_of(addr))
 }
 
@@ -85,10 +85,10 @@ fn row_of(addr: u64) -> u64 {
 pub fn places<M: Tagged>(
     alloc: Global,
     memory: &mut M,
-    map: &[Pages],
+    map: &[MappedPages],
     extents: &[Extent],
     mark: Option<u64>,
-) -> Result<Vec<Place>, AllocError> {
+) -> Result<Vec<CandidateRow>, AllocError> {
     let mut rows = heap_rows(alloc, memory, map, extents)?;
     if let Some(addr) = mark {
         push_marked(&mut rows, memory, addr)?;
@@ -102,7 +102,7 @@ pub fn places<M: Tagged>(
 fn heap_rows<M: Tagged>(
     alloc: Global,
     memory: &mut M,
-    map: &[Pages],
+    map: &[MappedPages],
     extents: &[Extent],
 ) -> Result<Vec<u64>, AllocError> {
     let edges = edges(alloc, extents)?;
@@ -136,7 +136,7 @@ fn mark_row(rows: &mut [bool], addr: u64) {
 fn push_rows<M: Tagged>(
     rows: &mut Vec<u64>,
     memory: &mut M,
-    pages: &Pages,
+    pages: &MappedPages,
     edges: &[bool],
 ) -> Result<(), AllocError> {
     let mut plain = 0u32;
@@ -191,7 +191,7 @@ fn push_mapped<M: Tagged>(
 }
 
 /// Numbers the rows, and leaves a number out where rows between are left out.
-fn number_rows(alloc: Global, rows: &[u64]) -> Result<Vec<Place>, AllocError> {
+fn number_rows(alloc: Global, rows: &[u64]) -> Result<Vec<CandidateRow>, AllocError> {
     let mut places = Vec::with_capacity(alloc, rows.len())?;
     let mut number = 0usize;
     let mut next = rows.first().copied().unwrap_or(0);
@@ -200,7 +200,7 @@ fn number_rows(alloc: Global, rows: &[u64]) -> Result<Vec<Place>, AllocError> {
         if address != next {
             number = number.saturating_add(1);
         }
-        places.push(Place { address, number })?;
+        places.push(CandidateRow { address, number })?;
         number = number.saturating_add(1);
         next = address.saturating_add(ROW_SIZE);
     }
@@ -218,9 +218,9 @@ fn tag_of<M: Tagged>(memory: &mut M, addr: u64) -> Option<u8> {
 
 /// What the row at an address shows.
 pub fn row_at<M: Tagged>(memory: &mut M, extents: &[Extent], address: u64) -> Row {
-    let unmapped = Granule {
+    let unmapped = PictureGranule {
         tag: None,
-        owner: Owner::Nothing,
+        owner: GranuleOwner::Nothing,
     };
     let mut row = Row {
         address,

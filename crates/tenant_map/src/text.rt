@@ -1,10 +1,10 @@
 //! The heap of a tenant and its tags, as text.
 
 use crate::extent::Extent;
-use crate::pages::{Pages, page_map};
+use crate::pages::{MappedPages, page_map};
 use crate::picture::Picture;
-use crate::selection::{Place, Window, places, row_at};
-use heap_picture::{Granule, Mark, Owner, Row};
+use crate::selection::{CandidateRow, Window, places, row_at};
+use heap_picture::{GranuleOwner, Mark, PictureGranule, Row};
 use mte_flat::Flat;
 use run_book::Bytes;
 use std::alloc::Global;
@@ -34,7 +34,7 @@ impl<'a> Picture<'a> {
         alloc: Global,
         out: &mut W,
         memory: &mut Flat,
-        map: &[Pages],
+        map: &[MappedPages],
     ) -> io::Result<()> {
         let addr = self.mark.map(|mark| mark.addr);
         let places = places(alloc, memory, map, self.extents, addr)?;
@@ -49,7 +49,12 @@ impl<'a> Picture<'a> {
     }
 
     /// Writes a row, and whose its granules are.
-    fn write_row<W: Write>(&self, out: &mut W, memory: &mut Flat, place: &Place) -> io::Result<()> {
+    fn write_row<W: Write>(
+        &self,
+        out: &mut W,
+        memory: &mut Flat,
+        place: &CandidateRow,
+    ) -> io::Result<()> {
         let row = row_at(memory, self.extents, place.address);
         let tags = Tags(&row);
         writeln!(out, "{tags}")?;
@@ -152,10 +157,10 @@ impl<'a> fmt::Display for Owners<'a> {
 }
 
 /// Whose a granule is.
-fn sign_of(granule: &Granule) -> char {
+fn sign_of(granule: &PictureGranule) -> char {
     match granule.owner {
-        Owner::Nothing => ' ',
-        Owner::Live => '=',
-        Owner::Freed => 'x',
+        GranuleOwner::Nothing => ' ',
+        GranuleOwner::Live => '=',
+        GranuleOwner::Freed => 'x',
     }
 }
