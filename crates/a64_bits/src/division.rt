@@ -26,8 +26,8 @@ pub fn divide(x: u64, y: u64, size: u32, signed: bool) -> u64
     }
 }
 
-/// The quotient of the magnitudes, with its sign. That of the least number by -1 is 2^(size-1), the
-/// least number's bits.
+/// The quotient of the magnitudes, with its sign. The quotient of the least number by -1 is
+/// 2^(size-1), the least number's bits.
 #[inline(always)]
 fn divide_signed(x: u64, y: u64, size: u32) -> u64
     requires size { IsRegisterSize size }

@@ -8,7 +8,7 @@ ghost use Rattle.a64_decode.specs.Decoded.{instr_of_word};
 use crate::groups::read;
 use a64_asm::Instr;
 
-/// The instruction whose word is `word` (Arm ARM DDI 0487, C4.1), `None` exactly where the profile
+/// The instruction whose word is `word` (Arm ARM DDI 0487, C4.1), `None` if and only if the profile
 /// has none.
 #[inline]
 pub fn decode(word: u32) -> Option<Instr>

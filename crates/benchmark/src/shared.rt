@@ -9,7 +9,7 @@ use mte_frames::{FramePool, Quota};
 use mte_translate::Table;
 use std::alloc::Global;
 
-/// A pool with the frames that a tenant of so many pages may need.
+/// A pool with the frames that a tenant of `pages` pages may need.
 pub fn pool_for(alloc: Global, pages: usize) -> Result<FramePool>
     requires { pages ≤ 4096 }
 {

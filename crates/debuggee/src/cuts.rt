@@ -9,12 +9,12 @@ pub struct Cuts<'a> {
     pub listed: &'a [u32],
     /// The steps of each slice after these; 0 where there are no more.
     pub others: u32,
-    /// After so many steps in all there are no more.
+    /// The most steps in all.
     pub limit: u64,
 }
 
 impl Cuts<'_> {
-    /// The steps of the slice that comes next, after so many slices and steps; 0 where none does.
+    /// The steps of the next slice, after `slices` slices and `steps` steps; 0 if there is none.
     pub fn next(&self, slices: u64, steps: u64) -> u32
         ensures { result ≡ min (self.now.limit - steps)
             (unwrap_or (slice_get self.now.listed.now slices) self.now.others) }

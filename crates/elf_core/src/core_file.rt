@@ -186,7 +186,7 @@ impl Headers {
     }
 }
 
-/// The ELF header of a file with so many program headers, which follow it.
+/// The ELF header of a file with `count` program headers, which follow it.
 fn write_elf_header(out: &mut Vec<u8>, count: u16) -> io::Result<()> {
     out.write_all(&IDENTIFICATION)?;
     write_words(out, &[CORE_FOR_AARCH64, 1])?;

@@ -26,7 +26,7 @@ enum Request {
 }
 
 impl Request {
-    /// That of a command's words.
+    /// The request of a command's words.
     fn of(text: &[u8]) -> Request {
         match text {
             b"why" => Request::Why,
@@ -36,7 +36,7 @@ impl Request {
         }
     }
 
-    /// That of the words `chunk 0xADDRESS`.
+    /// The request of the words `chunk 0xADDRESS`.
     fn of_chunk(text: &[u8]) -> Request {
         let Some(digits) = text.strip_prefix(b"chunk 0x") else {
             return Request::Help;

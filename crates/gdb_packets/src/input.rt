@@ -12,7 +12,7 @@ use crate::framing::checksum;
 /// (4000). A longer packet is bad.
 pub const PACKET_SIZE: usize = 16_384;
 
-/// The most bytes of a packet with its frame: a buffer of so many bytes is never short of room.
+/// The most bytes of a packet with its frame: a buffer of this length holds every packet.
 pub const FRAME_LIMIT: usize = PACKET_SIZE + 4;
 
 /// What the first of the bytes that came are.

@@ -5,7 +5,7 @@ use crate::text::TextBuffer;
 /// The most bytes of a part: with all of them escaped it is shorter than a packet.
 pub const PART_LIMIT: u64 = 2048;
 
-/// The part of a whole from an offset on, of at most so many bytes.
+/// The part of a whole from an offset on, of at most `len` bytes.
 fn part_of(whole: &[u8], offset: u64, len: u64) -> &[u8] {
     let start = offset.min(whole.len() as u64) as usize;
     let rest = whole.get(start..).unwrap_or(&[]);

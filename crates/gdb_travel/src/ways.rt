@@ -6,8 +6,8 @@ use a64_bits::plain;
 use address_map::MAX_STEPS;
 use debuggee::Debuggee;
 
-/// Moves a tenant on until it has attempted so many instructions, or cannot go on. It has attempted
-/// no more than them.
+/// Moves a tenant on until it has attempted `steps` instructions, or cannot go on. It attempts no
+/// more.
 pub fn advance(tenant: &mut Debuggee<'_>, steps: u64) {
     run_slices(tenant, steps);
     for _ in tenant.steps()..steps {

@@ -21,7 +21,7 @@ pub(crate) enum Stored {
         first: u64,
         second: u64,
     },
-    /// A tag of so many granules from an address on.
+    /// A tag of `granules` granules from an address on.
     Tags {
         addr: u64,
         granules: u8,

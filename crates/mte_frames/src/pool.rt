@@ -152,8 +152,8 @@ impl FramePool {
         }
     }
 
-    /// Reserves `count` frames for a new quota. It is refused exactly where so many aren't
-    /// unreserved.
+    /// Reserves `count` frames for a new quota. It is refused if and only if fewer
+    /// are unreserved.
     pub fn reserve(&mut self, count: usize) -> Result<Quota, NoFrames>
         requires { 0 < count }
         ensures refused { IsErr result ↔ (frames_left self.old < count) }

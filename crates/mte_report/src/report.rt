@@ -312,7 +312,7 @@ fn tell_abort<W: Write>(out: &mut W, abort: HeapAbort, pointer: u64, at: At<'_>)
     writeln!(out, "SVC at {at}, is refused: {why}")
 }
 
-/// That its steps or its slices are over.
+/// Tells that its steps or its slices are over.
 fn tell_running<W: Write>(out: &mut W, report: &Report<'_>) -> io::Result<()> {
     let limit = report.limit;
     if report.parts.log.steps >= limit {

@@ -35,7 +35,7 @@ pub const ENDINGS: usize = 10;
 pub const REFUSED: u8 = 136;
 
 impl TenantEnding {
-    /// That of a tenant whose steps may be `limit`.
+    /// The ending of a tenant that may attempt `limit` steps.
     pub fn of(log: &Record, limit: u64) -> TenantEnding {
         match log.status {
             Status::Exited(_) => TenantEnding::Exit,

@@ -81,7 +81,7 @@ impl<'a, W: Write + Drop> Observer<'a, W> {
         self.turns.as_ref()
     }
 
-    /// The numbers of the run, where they are wanted, of a tenant with so many pages reserved.
+    /// The numbers of the run of a tenant with `reserved` pages, if they are wanted.
     pub fn table(&self, reserved: u64) -> Option<StatisticsTable<'_>> {
         match &self.statistics {
             Some(statistics) => Some(StatisticsTable {

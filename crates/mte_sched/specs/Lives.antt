@@ -7,7 +7,7 @@ use Rattle.mte_tenant.specs.Machines.{Start}
 use Rattle.mte_tenant.specs.Ledger.{Call, Admit, Slice, Stop, LedgerEntry, call_refusal}
 use Rattle.mte_tenant.specs.Ledger.{ledger_cases}
 
--- What may happen to a tenant: a slice of so many steps, and its stop.
+-- What may happen to a tenant: a slice, with its number of steps, and its stop.
 pub data TenantEvent : Type 0 where
   OwnSlice : ℕ → TenantEvent
   OwnStop : TenantEvent

@@ -10,7 +10,7 @@ use Rattle.mte_space.specs.Spaces.{space_memory, IsSpace}
 use Rattle.mte_sched.specs.declared.place.TenantMemory.{TenantMemory}
 use Rattle.mte_tenant.specs.Ledger.{charge_of}
 
--- The memory, of a reservation of so many pages.
+-- The memory of a tenant with a reservation of `pages` pages.
 abbrev pub memory_at : Pool → TenantMemory → ℕ → Memory
 memory_at p a pages = space_memory p a.table pages a.state
 

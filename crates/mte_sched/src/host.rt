@@ -114,8 +114,8 @@ impl Host {
     }
 
     /// Lets a live tenant attempt at most `steps` instructions; one that has ended does nothing. It
-    /// is refused exactly where no live tenant has the number, and then changes nothing. No list of
-    /// the host takes memory.
+    /// is refused if and only if no live tenant has the number, and then changes nothing. No list
+    /// of the host takes memory.
     #[tactic(auto, unfolding(crate::specs::Contents::after_slice_of))]
     pub fn slice(&mut self, id: u16, steps: u32) -> Result<(), NotLive>
         ensures live { IsOk result ↔ (list_any (has_live_id id) (ledger_in self.old) ≡ true) }
@@ -140,7 +140,7 @@ impl Host {
         Ok(())
     }
 
-    /// Stops a live tenant; its record stays. It is refused exactly where no live tenant has the
+    /// Stops a live tenant; its record stays. It is refused if and only if no live tenant has the
     /// number, and then changes nothing. No list of the host takes memory.
     #[tactic(auto, unfolding(crate::specs::Contents::after_stop_of))]
     pub fn stop(&mut self, id: u16) -> Result<(), NotLive>

@@ -38,7 +38,7 @@ unfoldable pub space_memory : Pool → Root → ℕ → TagState → Memory
 space_memory p t limit state =
     record { limit = limit; pages = with_values (page_of p) (pages_of p t.frame); state = state }
 
--- how many frames a table of at most so many pages may still take: one for each page to come, and
+-- how many frames a table of at most `limit` pages may still take: one for each page to come, and
 -- one for each leaf, of which there may be as many as pages
 abbrev pub frames_to_come : Root → ℕ → ℕ
 frames_to_come t limit = (limit - t.len) + (limit - t.leaves)

@@ -32,13 +32,13 @@ pub record ReadAll (old new : ReadLog) (bytes : List ℕ) : Type 0 where
   pub given : new.given ≡ append_known old.given bytes
   pub ended : new.ends ≡ add_known old.ends 1
 
--- The reader gave more than so many bytes.
+-- The reader gave more than `limit` bytes.
 pub record GaveMore (old new : ReadLog) (limit : ℕ) : Type 0 where
   pub bytes : List ℕ
   pub given : new.given ≡ append_known old.given bytes
   pub more : limit < length bytes
 
--- The reader gave at most so many bytes.
+-- The reader gave at most `limit` bytes.
 pub record GaveAtMost (old new : ReadLog) (limit : ℕ) : Type 0 where
   pub bytes : List ℕ
   pub given : new.given ≡ append_known old.given bytes
@@ -52,7 +52,7 @@ NoneFailed old new = new.failures ≡ old.failures
 abbrev pub FailedOnce : ReadLog → ReadLog → Type 0
 FailedOnce old new = new.failures ≡ add_known old.failures 1
 
--- At most so many reads were made.
+-- At most `limit` reads were made.
 pub record MadeAtMost (old new : ReadLog) (limit : ℕ) : Type 0 where
   pub made : ℕ
   pub most : made ≤ limit

@@ -49,8 +49,8 @@ pub enum ReadFault {
 /// Reads all bytes up to the end. It makes at most 16777217 reads, and none after one that failed.
 /// Memory for as many bytes as are expected is reserved before the first; any number may come.
 ///
-/// `TooLong` comes exactly where more than 16777216 bytes were given. What was read before an error
-/// stays read.
+/// `TooLong` comes if and only if more than 16777216 bytes were given. What was read before an
+/// error stays read.
 pub fn read_whole<R: Source>(
     alloc: Global,
     reader: &mut R,

@@ -83,7 +83,7 @@ impl Output {
     }
 }
 
-/// Appends so many zeros to a list that has memory for them.
+/// Appends `count` zeros to a list that has memory for them.
 fn append_zeros(bytes: &mut Vec<u8>, count: usize)
     requires { vec_len bytes.old + count ≤ vec_capacity bytes.old }
     ensures items { bytes.new.items ≡ bytes.old.items ++ replicate count 0 }

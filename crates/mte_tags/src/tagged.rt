@@ -151,7 +151,7 @@ pub trait Paged: Tagged {
 
     /// Maps `count` pages from `page` on, of zero bytes and tag 0, all of them or none. They lie
     /// below the address 2^30, none of them is mapped, and they have TAGGED exactly with WRITE, and
-    /// READ with WRITE. It is refused exactly where `count` exceeds the pages left.
+    /// READ with WRITE. It is refused if and only if `count` exceeds the pages left.
     fn map_pages(&mut self, page: u64, count: usize, attrs: Attrs) -> Result<(), NoPagesLeft>
         requires in_range { page + count ≤ 2 ^ 18 }
         requires free { IsFree (Self.memory self.old) page count }

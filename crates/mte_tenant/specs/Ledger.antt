@@ -18,8 +18,8 @@ use Rattle.mte_tenant.specs.declared.refusal.Refusal.TheVariants as refusal
 use Rattle.tenant_terms.specs.declared.Terms.{Terms}
 use Rattle.mte_tenant.specs.Machines.{Start}
 
--- What is requested of a host: the admission of a tenant with a number, a slice of a tenant of so
--- many steps, the stop of a tenant.
+-- What is requested of a host: the admission of a tenant with a number, a slice of a tenant with
+-- its number of steps, the stop of a tenant.
 pub data Call : Type 0 where
   Admit : ℕ → Start → Call
   Slice : ℕ → ℕ → Call
@@ -71,7 +71,7 @@ refuse_if test e = if test then Some e else None
 abbrev pub is_bad : Terms → Bool
 is_bad t = (t.pages == 0) || nat_lt MAX_PAGES t.pages || nat_lt MAX_OUTPUT t.room
 
--- What the ledger of a host of so many frames tells of an admission with a number.
+-- What the ledger of a host of `frames` frames tells of an admission with a number.
 abbrev pub facts_of : ℕ → List LedgerEntry → ℕ → LedgerFacts
 facts_of frames ledger id = record {
   known = list_any (has_id id) ledger;
@@ -90,7 +90,7 @@ admission_tests facts start =
     ∷ refuse_if (nat_le MAX_LIVE facts.live) TooManyLive
     ∷ []
 
--- Why an admission to a host of so many frames is refused, if it is.
+-- Why an admission to a host of `frames` frames is refused, if it is.
 unfoldable pub admission_refusal : ℕ → List LedgerEntry → ℕ → Start → Option AdmitError
 admission_refusal frames ledger id start =
     first_of (admission_tests (facts_of frames ledger id) start)

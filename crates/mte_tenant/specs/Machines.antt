@@ -124,7 +124,7 @@ after_outcome (outcome.Illegal word) m = continues (with_status m (Illegal word 
 after_outcome (outcome.Breakpoint number) m =
     continues (with_status m (Breakpoint number m.parts.regs.pc))
 
--- n more instructions were attempted, and so many steps of the slice are left; the count of steps
+-- n more instructions were attempted, and `left` steps of the slice are left; the count of steps
 -- stops at 2^64 - 1.
 abbrev pub with_steps : ℕ → ℕ → TenantParts → TenantParts
 with_steps n left p = record p {
@@ -136,7 +136,7 @@ with_steps n left p = record p {
 abbrev pub with_regs : TenantParts → Regs → TenantParts
 with_regs p regs = record p { regs = regs }
 
--- One attempted instruction, after which so many steps of the slice are left.
+-- One attempted instruction, after which `left` steps of the slice are left.
 unfoldable pub after_attempt : ℕ → Machine → Attempt
 after_attempt left m =
     let step = step_of m.parts.regs m.memory in

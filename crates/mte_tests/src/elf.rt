@@ -145,7 +145,7 @@ fn refusal(alloc: Global, file: [u8; 64], headers: &[Header]) -> Option<Obstacle
     }
 }
 
-/// Why a file of one program header is refused that ends after so many bytes.
+/// Why a file of one program header that ends after `length` bytes is refused.
 fn refusal_of_length(length: usize) -> Obstacle<ElfError> {
     Obstacle::Refused(match length {
         0..=63 => ElfError::Short,

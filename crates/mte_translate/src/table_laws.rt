@@ -30,7 +30,7 @@ pub fn frames_of_tables()
         → (q < TABLE_PAGES) × IsHeldBy p f k × IsApart p t.frame f }
 {}
 
-/// A leaf is there exactly where one of its 512 pages is mapped, so there are no more leaves than
+/// A leaf is there if and only if one of its 512 pages is mapped, so there are no more leaves than
 /// pages.
 pub fn leaves_are_used()
     ensures leaf { (p : Pool) (k q : ℕ) (t : Root)

@@ -20,13 +20,13 @@ const FIRST: u64 = 100;
 /// What most likely went wrong.
 #[derive(Clone, Copy)]
 pub enum Cause {
-    /// An access so many bytes into a chunk that was freed.
+    /// An access to a chunk that was freed, and how many bytes into it.
     UseAfterFree(BookChunk, u64),
     /// The same, and its block was given again, as another chunk.
     StalePointer(BookChunk, u64, BookChunk),
-    /// An access so many bytes after a chunk.
+    /// An access after a chunk, and how many bytes after it.
     Overflow(BookChunk, u64),
-    /// An access so many bytes before a chunk.
+    /// An access before a chunk, and how many bytes before it.
     Underflow(BookChunk, u64),
     /// An access to a live chunk by its pointer, but its tags were changed.
     TagsChanged(BookChunk),
@@ -34,7 +34,7 @@ pub enum Cause {
     ForeignPointer(BookChunk),
     /// An access near address 0.
     NullPointer,
-    /// An access so many bytes below the stack.
+    /// An access below the stack, and how many bytes below it.
     StackOverflow(u64),
     /// A chunk that was freed is freed again.
     DoubleFree(BookChunk),
@@ -42,7 +42,7 @@ pub enum Cause {
     FreedPointer(BookChunk),
     /// A live chunk whose header was overwritten.
     HeaderOverwritten(BookChunk),
-    /// A pointer so many bytes into a chunk is handed to the heap.
+    /// A pointer into a chunk is handed to the heap, and how many bytes into it.
     InsideChunk(BookChunk, u64),
     /// A pointer that no call returned is handed to the heap.
     NoChunk,
@@ -53,7 +53,7 @@ pub enum Cause {
     /// A read just above the stack by one of the first instructions, where a program for Linux
     /// looks for its arguments.
     AboveStack,
-    /// An access so many bytes above the stack.
+    /// An access above the stack, and how many bytes above it.
     PastStack(u64),
     /// A write to memory of the image that may only be read or run.
     ReadOnly,

@@ -39,7 +39,7 @@ impl<'a> Failure<'a> {
         }
     }
 
-    /// A script that cannot be read as one, where so many files are named.
+    /// The failure of a script that cannot be read as one, with `files` files named.
     pub fn of_script(obstacle: &Obstacle<ScriptError>, script: &[u8], files: usize) -> Failure<'a> {
         match *obstacle {
             Obstacle::OutOfMemory => Failure::Memory,

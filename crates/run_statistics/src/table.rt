@@ -3,7 +3,7 @@
 use crate::statistics::{KINDS, Statistics};
 use std::fmt;
 
-/// The numbers of a tenant that may map so many pages, a line each.
+/// The numbers of a tenant with a reservation, a line each.
 #[derive(Clone, Copy)]
 pub struct StatisticsTable<'a> {
     /// The numbers.

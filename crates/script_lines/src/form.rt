@@ -52,12 +52,12 @@ pub enum Form {
     Slice,
     /// A stop's.
     Stop,
-    /// That of no event.
+    /// The form of no event.
     Unknown,
 }
 
 impl Form {
-    /// That of the event with a name.
+    /// The form of the event with a name.
     pub fn of(name: &[u8]) -> Form {
         match name {
             b"admit" => Form::Admit,

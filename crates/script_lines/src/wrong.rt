@@ -17,7 +17,7 @@ pub struct Wrong {
 }
 
 impl Wrong {
-    /// What a fault means of the line with a number from 1, where so many files are named.
+    /// What a fault means of the line with a number from 1, with `files` files named.
     pub fn of(script: &[u8], line: u64, fault: ScriptFault, files: usize) -> Wrong {
         let line = line_of(script, line);
         let form = form_of(line);

@@ -187,8 +187,8 @@ pub fn pack(cookie: u32, pointer: u64, header: &Header) -> u64
     word + (u64::from(checksum(cookie, pointer, word)) << 48)
 }
 
-/// The header of a word, for the chunk at an address. There is none exactly where the word's
-/// checksum is not that of the rest of it.
+/// The header of a word, for the chunk at an address. There is none if and only if the
+/// word's checksum is not the checksum of the rest of it.
 #[tactic(auto, unfolding(crate::specs::Headers::unpacked_header))]
 #[inline(always)]
 pub fn unpack(cookie: u32, pointer: u64, word: u64) -> Option<Header>

@@ -51,7 +51,7 @@ abbrev pub is_empty : List ℕ → Bool
 is_empty [] = true
 is_empty (b ∷ more) = false
 
--- A class without free blocks gets pages, where so many are left.
+-- A class without free blocks gets the pages of one block, if they are left.
 unfoldable pub with_free_block : World → ℕ → World
 with_free_block w class =
     if is_empty (stack_of w.heap.stacks class) && nat_le (more_pages class) (pages_left w.memory)
@@ -78,7 +78,7 @@ abbrev pub after_map_chunk : World → Origin → ℕ → Mapping → Allocation
 after_map_chunk w origin size m =
     record { world = large_placed w origin m size; chunk = Some (Large m size) }
 
--- At the least place that fits, where one does and so many pages are left.
+-- At the least place that fits, if one does and its pages are left.
 abbrev pub map_chunk_cases : World → Origin → ℕ → ℕ → ℕ → Option ℕ → AllocationResult
 map_chunk_cases w origin align size pages None = no_chunk w
 map_chunk_cases w origin align size pages (Some start) =

@@ -11,7 +11,7 @@ use Rattle.scudo_header.specs.Headers.{packed_header}
 use Rattle.scudo_header.specs.declared.headers.Header.{Header}
 use Rattle.scudo_heap.specs.declared.chunk.Place.{Place}
 
--- The granules of 16 bytes that hold so many bytes.
+-- The granules of 16 bytes that hold `size` bytes.
 abbrev pub granules_of : ℕ → ℕ
 granules_of size = (size + 15) / 16
 

@@ -21,7 +21,7 @@ coded_heap =
     (λ c. record { cookie = c.0; stacks = c.1.0; maps = c.1.1 })
     (λ _. refl)
 
--- A heap for so many pages, without blocks and mappings.
+-- A heap for `pages` pages, without blocks and mappings.
 abbrev pub empty_heap : ℕ → ℕ → HeapState
 empty_heap cookie pages =
     heap_of cookie (empty_stacks pages) (record { limit = pages; mappings = [] })

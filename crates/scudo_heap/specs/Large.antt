@@ -12,7 +12,7 @@ use Rattle.scudo_heap.specs.Heaps.{with_more, with_less}
 use Rattle.scudo_heap.specs.Chunks.{with_header}
 use Rattle.scudo_heap.specs.Placing.{World, heap_attrs}
 
--- The mapping of a chunk at so many pages from an address on: it ends as near to their end as its
+-- The mapping of a chunk in `pages` pages from an address on: it ends as near to their end as its
 -- alignment allows.
 abbrev pub mapping_for : ℕ → ℕ → ℕ → ℕ → Mapping
 mapping_for start pages align size = record {

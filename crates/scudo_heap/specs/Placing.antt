@@ -33,7 +33,7 @@ world_of m h r = record { memory = m; heap = h; rgsr = r }
 abbrev pub heap_attrs : Attrs
 heap_attrs = record { 0 = 11 }
 
--- The pages that hold so many bytes.
+-- The pages that hold `size` bytes.
 abbrev pub pages_for : ℕ → ℕ
 pages_for size = (size + (PAGE_SIZE - 1)) / PAGE_SIZE
 

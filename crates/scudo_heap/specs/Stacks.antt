@@ -48,7 +48,7 @@ abbrev pub stacks_by : ℕ → List ℕ → (ℕ → ClassHeap) → StackState
 stacks_by left capacities f =
     record { left = left; capacities = capacities; classes = by_class f }
 
--- The memory of the lists of a heap for so many pages: it is there from the start, and stays.
+-- The memory of the lists of a heap for `pages` pages: it is there from the start, and stays.
 abbrev pub memory_for : ℕ → List ℕ
 memory_for pages = 128 * pages ∷ CLASSES * pages ∷ CLASSES ∷ []
 
@@ -77,7 +77,7 @@ after_pop s class = with_stack s class (drop 1 (stack_of s class))
 unfoldable pub after_push : StackState → ℕ → ℕ → StackState
 after_push s class block = with_stack s class (block ∷ stack_of s class)
 
--- The blocks that become whole with so many more pages, in ascending order.
+-- The blocks that become whole with `count` more pages, in ascending order.
 abbrev pub new_blocks : ℕ → ℕ → ℕ → List ℕ
 new_blocks class before more =
     blocks_from class (carved_count class before)

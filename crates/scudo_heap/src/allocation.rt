@@ -69,7 +69,7 @@ fn make_some<M: Paged>(
     }
 }
 
-/// A chunk of so many bytes, or of one where none is requested.
+/// A chunk of the requested bytes, or of one byte if none is requested.
 #[tactic(auto, unfolding(crate::specs::Allocation::after_allocate))]
 #[inline(always)]
 pub(crate) fn allocate<M: Paged>(

@@ -28,7 +28,7 @@ pub struct Place {
 pub enum Chunk {
     /// In a block, with its tag.
     Small(Place, u8),
-    /// With pages of its own, for so many bytes.
+    /// With pages of its own, and its size in bytes.
     Large(Mapping, u64),
 }
 

@@ -93,7 +93,7 @@ fn take_top<M: Paged>(
     }
 }
 
-/// Gives a class without free blocks pages, where so many are left.
+/// Gives a class without free blocks the pages of one block, if they are left.
 fn grow<M: Paged>(stacks: &mut Stacks, memory: &mut M, class: u8) -> bool
     requires class { IsClass class }
     requires empty { stack_of stacks.old class ≡ [] }

@@ -21,7 +21,7 @@ use mte_tags::{Attrs, Paged, Tagged};
 use scudo_header::{Header, Origin, State};
 use scudo_secondary::{Mapping, Secondary};
 
-/// The mapping of a chunk at so many pages from an address on: it ends as near to their end as its
+/// The mapping of a chunk in `pages` pages from an address on: it ends as near to their end as its
 /// alignment allows.
 fn mapping_at(start: u64, pages: u64, align: u64, size: u64) -> Mapping
     requires start { start < 2 ^ 32 }
@@ -76,7 +76,7 @@ fn map_chunk<M: Paged>(
     maps.add(mapping.start, mapping.pages, mapping.user);
 }
 
-/// A chunk with pages of its own, where they fit and so many are left.
+/// A chunk with pages of its own, if they fit and as many are left.
 #[inline(never)]
 pub(crate) fn take_pages<M: Paged>(
     cookie: u32,

@@ -27,7 +27,7 @@ fn exclude(place: Place, present: u8) -> u16
     1 | mask | (1 << present)
 }
 
-/// How many granules hold so many bytes.
+/// How many granules hold `size` bytes.
 #[inline(always)]
 pub(crate) fn granules(size: u64) -> u64
     requires { size < 2 ^ 32 }

@@ -20,7 +20,7 @@ block_at class n = region_of class + n * size_of class
 abbrev pub number_of : ℕ → ℕ → ℕ
 number_of class block = (block - region_of class) / size_of class
 
--- One of the blocks that are carved when the class has so many pages.
+-- One of the blocks that are carved when the class has `pages` pages.
 pub record IsBlock (class pages block : ℕ) : Type 0 where
   pub inside : region_of class ≤ block
   pub start : (block - region_of class) % size_of class ≡ 0
@@ -33,7 +33,7 @@ blocks_from class m n = map (block_at class) (range_with_len m n)
 abbrev pub is_member : List ℕ → ℕ → Bool
 is_member blocks block = list_any (λ other. block == other) blocks
 
--- Blocks that are carved when the class has so many pages, none of them twice.
+-- Blocks that are carved when the class has `pages` pages, none of them twice.
 pub record AreBlocks (class pages : ℕ) (blocks : List ℕ) : Type 0 where
   pub carved : (block : ℕ) → is_member blocks block ≡ true → IsBlock class pages block
   pub distinct : IsDistinct nat_eq blocks

@@ -60,7 +60,7 @@ abbrev pub pool_by : ℕ → List ℕ → (ℕ → ClassState) → PoolState
 pool_by left capacities f =
     record { left = left; capacities = capacities; classes = by_class f }
 
--- A pool for so many pages, none of them carved.
+-- A pool for `pages` pages, none of them carved.
 abbrev pub empty_pool : ℕ → List ℕ → PoolState
 empty_pool pages capacities = pool_by pages capacities (λ _. empty_class)
 
@@ -139,7 +139,7 @@ abbrev pub class_after_push_batch : ClassState → List ℕ → ClassState
 class_after_push_batch k blocks =
     record k { stack = reverse blocks ++ k.stack; sizes = length blocks ∷ k.sizes }
 
--- the class with so many more blocks on top, the lowest first, marked free
+-- the class with more blocks on top, the lowest first, marked free
 abbrev pub class_after_carve : ℕ → ClassState → ℕ → ℕ → ClassState
 class_after_carve class k pages n = record {
   pages = k.pages + pages;
@@ -169,7 +169,7 @@ without_batch p class = with_class p class (class_after_pop_batch (class_at p cl
 abbrev pub with_batch : PoolState → ℕ → List ℕ → PoolState
 with_batch p class blocks = with_class p class (class_after_push_batch (class_at p class) blocks)
 
--- The blocks that become whole with so many more pages are those that are carved.
+-- The blocks that become whole with more pages are those that are carved.
 abbrev pub new_count : ℕ → ℕ → ℕ → ℕ
 new_count class before more = carved_count class (before + more) - carved_count class before
 

@@ -245,7 +245,7 @@ pub(crate) fn link_batch(
     }
 }
 
-/// Makes a list at least `count` long by values at its end. It has memory for so many.
+/// Makes a list at least `count` long by values at its end. It has memory for `count`.
 pub(crate) fn fill_up<T: Copy>(list: &mut Vec<T>, count: usize, value: T)
     requires { count ≤ vec_capacity list.old }
     ensures { IsFilledUp list.old list.new count value }

@@ -40,7 +40,7 @@ pages_of ms = sum_by (λ m. m.pages) ms
 
 -- ---- places
 
--- Whether a page at least lies between a mapping and so many pages from an address on.
+-- Whether there is at least a page between a mapping and a number of pages from an address on.
 abbrev pub is_apart : ℕ → ℕ → Mapping → Bool
 is_apart pages start m =
     nat_le (end_of m + PAGE_SIZE) start || nat_le (start + PAGE_SIZE * pages + PAGE_SIZE) m.start

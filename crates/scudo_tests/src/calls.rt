@@ -11,7 +11,7 @@ pub(crate) enum Call {
     Malloc(u64),
     Calloc(u64, u64),
     Memalign(u64, u64),
-    /// Of a pointer, to so many bytes.
+    /// Of a pointer, and the new size in bytes.
     Realloc(u64, u64),
     Free(u64),
     UsableSize(u64),
@@ -25,9 +25,9 @@ pub(crate) enum Call {
     CheckedWrite(u64, u64),
     /// The tag of a granule.
     Tag(u64),
-    /// A store of a tag to so many granules.
+    /// A store of a tag from an address on, with the number of granules.
     StoreTags(u64, u64, u8),
-    /// Frees of so many chunks of class 2 from an address on. Answers how many were freed.
+    /// Frees of a number of chunks of class 2 from an address on. Answers how many were freed.
     FreeRow(u64, u64),
     PagesLeft,
     /// Whether an access has set the flag.
@@ -119,7 +119,7 @@ pub(crate) fn access<M: Paged>(heap: &Heap, memory: &mut M, call: Call) -> Resul
     }
 }
 
-/// Frees so many chunks, 64 bytes from each other.
+/// Frees `count` chunks, 64 bytes from each other.
 fn free_row<M: Paged>(
     heap: &mut Heap,
     rgsr: &mut Rgsr,
@@ -160,7 +160,7 @@ pub(crate) fn make<M: Paged>(heap: &mut Heap, rgsr: &mut Rgsr, memory: &mut M, c
     }
 }
 
-/// A call that is made so many times, and what it answers the last time.
+/// How often a call is made, the call, and what it answers the last time.
 #[derive(Clone, Copy)]
 pub(crate) struct Row(pub(crate) u64, pub(crate) Call, pub(crate) Answer);
 

@@ -5,7 +5,7 @@ use crate::calls::{Answer, Call, Row};
 use mte_tags::{FaultKind, TagMode};
 use scudo_heap::{HeapAbort, MAX_REQUEST};
 
-/// Calls with a memory of at most so many pages.
+/// Calls with a memory, and the most pages that it has.
 #[derive(Clone, Copy)]
 pub(crate) struct Table(
     pub(crate) &'static str,

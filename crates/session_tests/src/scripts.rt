@@ -92,7 +92,7 @@ fn scripts(rt: HostRuntime) -> Result<(), Fail> {
     two_events(&rt, rt.alloc(), files.as_slice())
 }
 
-/// A script of so many events.
+/// A script of `count` events.
 fn stops(alloc: Global, count: u64) -> Result<Vec<u8>, AllocError> {
     let mut script = Vec::new(alloc);
     for _ in 0..count {

@@ -30,7 +30,7 @@ fn readers(rt: HostRuntime) -> Result<(), Fail> {
     Ok(())
 }
 
-/// The status of an ending, and what it writes to a sink that takes so many bytes.
+/// The status of an ending, and what it writes to a sink that takes `limit` bytes.
 fn ended(alloc: Global, ending: &Ending<'_>, limit: usize) -> (u8, Vec<u8>) {
     let mut out = MemorySink::new(alloc);
     out.limit = limit;

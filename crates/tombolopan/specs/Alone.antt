@@ -5,7 +5,7 @@ use Rattle.mte_tenant.specs.declared.admission.AdmitError.{AdmitError}
 use Rattle.mte_tenant.specs.Ledger.{admission_refusal, charge_of}
 use Rattle.mte_tenant.specs.Machines.{Machine, Start, start_of, after_slice}
 
--- Slices in order, each of at most so many steps.
+-- Slices in order, each with the most steps that it has.
 unfoldable pub after_slices : Machine → List ℕ → Machine
 after_slices m [] = m
 after_slices m (n ∷ more) = after_slices (after_slice n m) more

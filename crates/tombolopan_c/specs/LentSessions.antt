@@ -16,7 +16,7 @@ use Rattle.tombolopan_c.specs.declared.codes.TheConstants.{TOO_MANY_EVENTS}
 use Rattle.tombolopan_c.specs.declared.lent_bytes.LentBytes.{LentBytes}
 use Rattle.tombolopan_c.specs.declared.session_end.SessionEnd.{SessionEnd}
 
--- A host may have so many frames.
+-- A host may have this number of frames.
 abbrev pub is_frames : ℕ → Bool
 is_frames frames = not (frames == 0) && nat_le frames MAX_FRAMES
 
@@ -54,7 +54,7 @@ with_report length fits =
 abbrev pub with_fault : ℕ → ScriptFault → SessionEnd
 with_fault line e = record { length = 0; line = line; code = SCRIPT; fault = script_code e }
 
--- The end of a session whose report goes to a buffer of so many bytes.
+-- The end of a session whose report goes to a buffer of the caller.
 abbrev pub end_told : Result (List ℕ) SessionError → ℕ → SessionEnd
 end_told (Ok text) room = with_report (length text) (nat_le (length text) room)
 end_told (Err (Script line e)) room = with_fault line e

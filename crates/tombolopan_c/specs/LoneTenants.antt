@@ -124,7 +124,7 @@ told_end c r = record {
   refusal = code.NO_REFUSAL;
 }
 
--- The end of a tenant whose output and heap calls go to buffers of so many bytes and places.
+-- The end of a tenant whose output and heap calls go to buffers of the caller.
 abbrev pub record_end : Record → ℕ → ℕ → AloneEnd
 record_end r room places = told_end
     (if nat_le (length r.output.bytes) room && nat_le (length r.calls.last) places

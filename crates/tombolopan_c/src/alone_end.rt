@@ -63,7 +63,7 @@ fn code_of_refusal(error: AdmitError) -> u32
 }
 
 impl AloneEnd {
-    /// That of a tenant that was not admitted.
+    /// The end of a tenant that was not admitted.
     pub(crate) fn of_obstacle(obstacle: Obstacle<AdmitError>) -> AloneEnd
         ensures { result ≡ end_without obstacle }
     {
@@ -82,7 +82,7 @@ impl AloneEnd {
         }
     }
 
-    /// That of a tenant's record.
+    /// The end of a tenant with a record.
     pub(crate) fn of_record(code: u32, log: &Record) -> AloneEnd
         ensures { result ≡ told_end code log.now }
     {

@@ -47,7 +47,7 @@ pub(crate) fn find_free(pages: &[LentPage]) -> Option<usize>
     None
 }
 
-/// Whether the pages of so many bytes from a plain address on are mapped; after the last address
+/// Whether the pages of `count` bytes from a plain address on are mapped; after the last address
 /// comes 0.
 pub(crate) fn are_mapped(pages: &[LentPage], at: u64, count: usize) -> bool
     requires { at < 2 ^ 56 }

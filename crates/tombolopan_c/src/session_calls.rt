@@ -39,7 +39,7 @@ pub extern "C" fn tb_session(
     end.code
 }
 
-/// Whether a host may have so many frames.
+/// Whether a host may have `frames` frames.
 fn is_few(frames: u32) -> bool
     ensures few { result ≡ is_frames frames }
     ensures some { result ≡ true → 1 ≤ frames }

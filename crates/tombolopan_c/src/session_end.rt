@@ -33,7 +33,7 @@ fn code_of_fault(fault: ScriptFault) -> u32
 }
 
 impl SessionEnd {
-    /// That of a session without a report.
+    /// The end of a session without a report.
     pub(crate) fn of_code(code: u32) -> SessionEnd
         ensures { result ≡ without_report code }
     {
@@ -45,7 +45,7 @@ impl SessionEnd {
         }
     }
 
-    /// That of a session with a report of so many bytes, which a buffer holds or not.
+    /// The end of a session with a report of `len` bytes, which a buffer holds or not.
     pub(crate) fn of_report(length: usize, fits: bool) -> SessionEnd
         ensures { result ≡ with_report length fits }
     {
@@ -57,7 +57,7 @@ impl SessionEnd {
         }
     }
 
-    /// That of a script with a faulty line.
+    /// The end of a script with a faulty line.
     pub(crate) fn of_fault(line: u64, fault: ScriptFault) -> SessionEnd
         ensures { result ≡ with_fault line fault }
     {

@@ -30,7 +30,7 @@ pub struct StatusReport {
 }
 
 impl StatusReport {
-    /// That of no tenant.
+    /// The report of no tenant.
     pub(crate) fn none() -> StatusReport
         ensures { result ≡ plain_status STATUS_NONE 0 0 }
     {
@@ -50,7 +50,7 @@ impl StatusReport {
         }
     }
 
-    /// That of a status.
+    /// The report of a status.
     pub(crate) fn of(status: &Status) -> StatusReport
         ensures { result ≡ status_told status.now }
     {

@@ -44,7 +44,7 @@ impl StopReport {
         }
     }
 
-    /// That of the end of a run that may have come to one of its stops.
+    /// The stop of a run that may have come to one of its addresses.
     pub(crate) fn until(stop: &Stop, reached: bool) -> StopReport
         ensures { result ≡ until_report stop.now reached }
     {
