@@ -10,22 +10,27 @@ use Rattle.mte_tenant.specs.Machines.{Start, Machine, start_of, after_slice, aft
 use Rattle.mte_tenant.specs.Ledger.{Call, Admit, Slice, Stop, LedgerEntry, call_refusal}
 use Rattle.mte_sched.specs.Lives.{TenantEvent, OwnSlice, OwnStop, Life}
 
+-- A live tenant has its machine, a stopped one its record alone.
 pub data TenantState : Type 0 where
   Live : Machine → TenantState
   Gone : Record → TenantState
 
+-- The record of a tenant.
 abbrev pub record_of : TenantState → Record
 record_of (Live m) = m.parts.log
 record_of (Gone r) = r
 
+-- Whether a tenant was not stopped yet.
 abbrev pub lives_on : TenantState → Bool
 lives_on (Live m) = true
 lives_on (Gone r) = false
 
+-- A tenant after a slice; a stopped one stays.
 abbrev pub state_after_slice : ℕ → TenantState → TenantState
 state_after_slice n (Live m) = Live (after_slice n m)
 state_after_slice n (Gone r) = Gone r
 
+-- A tenant after its stop: its record alone.
 abbrev pub state_after_stop : TenantState → TenantState
 state_after_stop (Live m) = Gone (after_stop m).parts.log
 state_after_stop (Gone r) = Gone r
@@ -38,30 +43,37 @@ after_own_events h (OwnStop ∷ more) = after_own_events (state_after_stop h) mo
 
 -- ---- the content of a host: its frames, and its tenants in the order of their admissions
 
+-- A tenant of a host: its number, its reservation, and its machine or its record.
 pub record Tenant : Type 0 where
   pub id : ℕ
   pub pages : ℕ
   pub held : TenantState
 
+-- What a host has: a number of frames, and its tenants in the order of their admissions.
 pub record Content : Type 0 where
   pub frames : ℕ
   pub tenants : List Tenant
 
+-- A host without tenants.
 abbrev pub empty : ℕ → Content
 empty frames = record { frames = frames; tenants = [] }
 
+-- The ledger entry of a tenant.
 abbrev pub entry_of : Tenant → LedgerEntry
 entry_of t = record { id = t.id; pages = t.pages; live = lives_on t.held }
 
+-- The ledger of a host.
 abbrev pub ledger_of : Content → List LedgerEntry
 ledger_of c = map entry_of c.tenants
 
 -- ---- what an accepted call makes of a content
 
+-- A tenant that is admitted.
 abbrev pub new_tenant : ℕ → Start → Tenant
 new_tenant id start =
     record { id = id; pages = start.terms.pages; held = Live (start_of id start) }
 
+-- The host after an accepted admission.
 unfoldable pub after_admit : Content → ℕ → Start → Content
 after_admit c id start = record c { tenants = c.tenants ++ new_tenant id start ∷ [] }
 
@@ -70,15 +82,19 @@ abbrev pub tenant_after_slice : ℕ → ℕ → Tenant → Tenant
 tenant_after_slice id n t =
     record t { held = if t.id == id then state_after_slice n t.held else t.held }
 
+-- A tenant after the stop of the tenant with a number.
 abbrev pub tenant_after_stop : ℕ → Tenant → Tenant
 tenant_after_stop id t = record t { held = if t.id == id then state_after_stop t.held else t.held }
 
+-- The host after an accepted slice.
 unfoldable pub after_slice_of : Content → ℕ → ℕ → Content
 after_slice_of c id n = record c { tenants = map (tenant_after_slice id n) c.tenants }
 
+-- The host after an accepted stop.
 unfoldable pub after_stop_of : Content → ℕ → Content
 after_stop_of c id = record c { tenants = map (tenant_after_stop id) c.tenants }
 
+-- The host after an accepted call.
 unfoldable pub after_call : Content → Call → Content
 after_call c (Admit id start) = after_admit c id start
 after_call c (Slice id n) = after_slice_of c id n
@@ -95,13 +111,16 @@ abbrev pub with_bytes_of : Memory → ℕ → List ℕ → Option Page → Memor
 with_bytes_of m q ws None = m
 with_bytes_of m q ws (Some p) = with_page m q (record p { bytes = refill 4096 p.bytes ws })
 
+-- A memory with the bytes of a page replaced, if it is mapped.
 unfoldable pub with_page_bytes : Memory → ℕ → List ℕ → Memory
 with_page_bytes m q ws = with_bytes_of m q ws (page_at m q)
 
+-- A tenant after a write to one of its pages.
 abbrev pub state_after_write : ℕ → List ℕ → TenantState → TenantState
 state_after_write q ws (Live m) = Live (record m { memory = with_page_bytes m.memory q ws })
 state_after_write q ws (Gone r) = Gone r
 
+-- A tenant after a write to a page of the tenant with a number.
 abbrev pub tenant_after_write : ℕ → ℕ → List ℕ → Tenant → Tenant
 tenant_after_write id q ws t =
     record t { held = if t.id == id then state_after_write q ws t.held else t.held }

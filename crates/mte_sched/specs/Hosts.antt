@@ -11,6 +11,7 @@ use Rattle.mte_sched.specs.Views.{found_among}
 abbrev pub pool_of : Host → Pool
 pool_of h = h.pool
 
+-- The content of a host.
 abbrev pub content_of : Host → Content
 content_of h =
     record { frames = length (pool_of h).frames; tenants = tenants_in (pool_of h) h.tenants.items }
@@ -19,6 +20,7 @@ content_of h =
 abbrev pub frame_in : Host → ℕ → ℕ → Option ℕ
 frame_in h id q = option_map (λ x. x.0) (found_among (pool_of h) id q h.tenants.items)
 
+-- The ledger of a host.
 abbrev pub ledger_in : Host → List LedgerEntry
 ledger_in h = ledger_of (content_of h)
 

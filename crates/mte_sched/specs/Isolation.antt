@@ -22,6 +22,7 @@ NumbersStay = (life : Life) → (record_of (tenant_of life).held).id ≡ life.id
 abbrev pub TenantsAreAlone : Type 0
 TenantsAreAlone = (s : Session) → (content_after s).tenants ≡ map tenant_of (lives s)
 
+-- The tenant with a number, if there is one.
 abbrev pub tenant_among : ℕ → List Tenant → Option Tenant
 tenant_among id [] = None
 tenant_among id (t ∷ more) = if t.id == id then Some t else tenant_among id more

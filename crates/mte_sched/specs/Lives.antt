@@ -20,6 +20,7 @@ pub record Life : Type 0 where
 
 -- ---- a tenant's own events: the accepted slices and the stop of its number
 
+-- What a call is to a tenant: its slice, its stop, or nothing.
 abbrev pub own_event_of : ℕ → Call → List TenantEvent
 own_event_of id (Admit k start) = []
 own_event_of id (Slice k n) = if id == k then OwnSlice n ∷ [] else []
@@ -29,6 +30,7 @@ abbrev pub own_event_cases : Option Refusal → ℕ → Call → List TenantEven
 own_event_cases (Some r) id e = []
 own_event_cases None id e = own_event_of id e
 
+-- The own events of a tenant.
 unfoldable pub own_events : ℕ → List LedgerEntry → List Call → ℕ → List TenantEvent
 own_events frames ledger [] id = []
 own_events frames ledger (e ∷ more) id =
@@ -47,6 +49,7 @@ abbrev pub life_cases : Option Refusal → Call → (ℕ → List TenantEvent) �
 life_cases (Some r) e own = []
 life_cases None e own = life_of_call e own
 
+-- The tenants that calls admit.
 unfoldable pub lives_from : ℕ → List LedgerEntry → List Call → List Life
 lives_from frames ledger [] = []
 lives_from frames ledger (e ∷ more) =
@@ -60,6 +63,7 @@ abbrev pub refusal_cases : Option Refusal → ℕ → List Refused
 refusal_cases (Some r) n = record { event = n; refusal = r } ∷ []
 refusal_cases None n = []
 
+-- The calls that are refused.
 unfoldable pub refusals_from : ℕ → List LedgerEntry → List Call → ℕ → List Refused
 refusals_from frames ledger [] n = []
 refusals_from frames ledger (e ∷ more) n =
@@ -73,12 +77,15 @@ pub record Session : Type 0 where
   pub frames : ℕ
   pub calls : List Call
 
+-- The tenants of a session.
 abbrev pub lives : Session → List Life
 lives s = lives_from s.frames [] s.calls
 
+-- The refused calls of a session.
 abbrev pub refusals : Session → List Refused
 refusals s = refusals_from s.frames [] s.calls 1
 
+-- The tenant with a number, if there is one.
 abbrev pub life_among : ℕ → List Life → Option Life
 life_among id [] = None
 life_among id (life ∷ more) = if life.id == id then Some life else life_among id more

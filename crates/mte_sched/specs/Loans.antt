@@ -27,6 +27,7 @@ pub record Stayed (h n : Host) : Type 0 where
   pub frames : KeepsFrames h n
   pub rooms : rooms_of n ≡ rooms_of h
 
+-- A loan of the bytes of a page of a tenant; afterwards the host has the page written.
 abbrev pub lends_page : MutBor Host → ℕ → ℕ → Option (MutBor (List ℕ)) → Fml
 lends_page s id q r = LendsSo the_row (Array u8 0) s r
     (λ n ws. OnSome r (Wrote s.now n id q ws)) (Stayed s.now)

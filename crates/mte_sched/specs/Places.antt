@@ -14,6 +14,7 @@ use Rattle.mte_tenant.specs.Ledger.{charge_of}
 abbrev pub memory_at : Pool → TenantMemory → ℕ → Memory
 memory_at p a pages = space_memory p a.table pages a.state
 
+-- The memory of a tenant over shared frames: its space, its charge, and its translations.
 pub record IsPlaced (p : Pool) (ts : List Translation) (asid pages : ℕ)
     (a : TenantMemory) : Type 0 where
   pub space : IsSpace p a.quota a.table pages

@@ -15,10 +15,12 @@ use Rattle.mte_sched.specs.Places.{memory_at, IsPlaced}
 use Rattle.mte_tenant.specs.Ready.{IsReady}
 use Rattle.mte_sched.specs.Tenants.{record_in, is_live_holding, entry_in, entries_in}
 
+-- Whether a tenant is live.
 abbrev pub is_placed : Option Tenant → Bool
 is_placed None = false
 is_placed (Some t) = is_live_holding t.holding
 
+-- Whether a tenant is live and has the number.
 abbrev pub has_live_in : ℕ → Option Tenant → Bool
 has_live_in id None = false
 has_live_in id (Some t) = has_live_id id (entry_in t)
@@ -38,6 +40,7 @@ pub record LiesAt (ts : List Tenant) (i : ℕ) (t : Tenant) (a : Live) : Type 0 
   pub tenant : slice_get ts i ≡ Some t
   pub live : t.holding ≡ kept.Live a
 
+-- The isolation invariant: no two live tenants share a quota, an ASID, or a frame.
 pub record IsSharing (p : Pool) (us : List Translation) (ts : List Tenant) : Type 0 where
   -- of each live tenant: table, frames and translations are in order, and heap and generator may be
   -- used with its memory

@@ -15,17 +15,21 @@ abbrev pub state_of_holding : Pool → ℕ → Holding → TenantState
 state_of_holding p pages (kept.Live l) = Live (machine_of l.parts.value (memory_at p l.place pages))
 state_of_holding p pages (kept.Gone r) = Gone r
 
+-- The record of a tenant in the code.
 abbrev pub record_of_holding : Holding → Record
 record_of_holding (kept.Live l) = l.parts.value.log
 record_of_holding (kept.Gone r) = r
 
+-- Whether a tenant in the code is live.
 abbrev pub is_live_holding : Holding → Bool
 is_live_holding (kept.Live l) = true
 is_live_holding (kept.Gone r) = false
 
+-- The record of a tenant in the code.
 abbrev pub record_in : code.Tenant → Record
 record_in t = record_of_holding t.holding
 
+-- The tenant that the code keeps.
 abbrev pub tenant_in : Pool → code.Tenant → Tenant
 tenant_in p t = record {
   id = (record_in t).id;
@@ -33,6 +37,7 @@ tenant_in p t = record {
   held = state_of_holding p t.pages t.holding;
 }
 
+-- The tenants that the code keeps.
 abbrev pub tenants_in : Pool → List code.Tenant → List Tenant
 tenants_in p ts = map (tenant_in p) ts
 
@@ -41,5 +46,6 @@ abbrev pub entry_in : code.Tenant → LedgerEntry
 entry_in t =
     record { id = (record_in t).id; pages = t.pages; live = is_live_holding t.holding }
 
+-- The ledger that the code keeps.
 abbrev pub entries_in : List code.Tenant → List LedgerEntry
 entries_in ts = map entry_in ts

@@ -34,6 +34,7 @@ abbrev pub find_page_cases : Pool → ℕ → Holding → Option (ℕ × Attrs)
 find_page_cases p q (kept.Live l) = get (pages_of p l.place.table.frame) q
 find_page_cases p q (kept.Gone r) = None
 
+-- A live tenant has a table.
 abbrev pub HasSomeTable : Pool → Holding → Type 0
 HasSomeTable p (kept.Live l) = IsSomeTable p l.place.table
 HasSomeTable p (kept.Gone r) = Unit {0}

@@ -31,6 +31,7 @@ pub record CacheState : Type 0 where
   pub classes : ByClass (List ℕ)
   pub capacity : ℕ
 
+-- The code of a cache, by which proofs tell two apart.
 abbrev pub coded_cache : Coded CacheState
 coded_cache =
     code_by (ByClass (List ℕ) × ℕ) (coded× (finite.code coded_ℕ (coded_list coded_ℕ)) coded_ℕ)
@@ -42,9 +43,11 @@ coded_cache =
 abbrev pub empty_cache : ℕ → CacheState
 empty_cache capacity = record { classes = by_class (λ _. []); capacity = capacity }
 
+-- The blocks of a class, the oldest first.
 abbrev pub entries_of : CacheState → ℕ → List ℕ
 entries_of c class = value_of c.classes [] class
 
+-- The cache with the blocks of a class replaced.
 abbrev pub with_entries : CacheState → ℕ → List ℕ → CacheState
 with_entries c class entries = record c { classes = with_value c.classes class entries }
 
@@ -52,9 +55,11 @@ with_entries c class entries = record c { classes = with_value c.classes class e
 abbrev pub stack_over : List ℕ → PoolState → ℕ → List ℕ
 stack_over entries p class = reverse entries ++ stack_of p class
 
+-- The free blocks of a class: those of the cache, the newest on top, above those of the pool.
 abbrev pub one_stack : CacheState → PoolState → ℕ → List ℕ
 one_stack c p class = stack_over (entries_of c class) p class
 
+-- What the cache holds is carved, marked free, and in no list of the pool.
 pub record IsAbove (c : CacheState) (p : PoolState) : Type 0 where
   pub cached :
       (class : ℕ) → 0 < class → class ≤ CLASSES → All (IsCached p class) (entries_of c class)
@@ -67,6 +72,7 @@ pub record IsStack (class pages : ℕ) (marks : List Bool) (stack : List ℕ) : 
       → slice_index_or marks (number_of class b) false ≡ is_member stack b
   pub counted : length marks ≡ carved_count class pages
 
+-- The free blocks of each class are carved, none twice.
 pub record AreStacks (c : CacheState) (p : PoolState) : Type 0 where
   pub each :
       (class : ℕ) → 0 < class → class ≤ CLASSES
@@ -90,6 +96,7 @@ pub record KeepsLists (class : ℕ) (p p' : PoolState) : Type 0 where
 
 -- ---- one class: the blocks that the cache holds of it, and the pool
 
+-- A class of the cache, with the pool below it.
 pub record Class : Type 0 where
   pub entries : List ℕ
   pub pool : PoolState
@@ -99,9 +106,11 @@ unfoldable pub after_refill : ℕ → List ℕ → PoolState → Class
 after_refill class [] p = record { entries = top_batch p class; pool = without_batch p class }
 after_refill class (block ∷ more) p = record { entries = block ∷ more; pool = p }
 
+-- The block that was put last.
 abbrev pub newest : List ℕ → Option ℕ
 newest entries = slice_get entries (length entries - 1)
 
+-- All blocks but the one that was put last.
 abbrev pub without_newest : List ℕ → List ℕ
 without_newest entries = take (length entries - 1) entries
 
@@ -110,6 +119,7 @@ abbrev pub handed_out : ℕ → PoolState → Option ℕ → PoolState
 handed_out class p None = p
 handed_out class p (Some block) = with_mark p class block false
 
+-- The newest block is taken.
 unfoldable pub after_take : ℕ → Class → Class
 after_take class k =
     record { entries = without_newest k.entries; pool = handed_out class k.pool (newest k.entries) }
@@ -123,17 +133,21 @@ with_room class entries p = if length entries == max_count_of class
     }
     else record { entries = entries; pool = p }
 
+-- A block is put, as the newest.
 unfoldable pub after_put : ℕ → ℕ → Class → Class
 after_put class block k =
     record { entries = k.entries ++ block ∷ []; pool = with_mark k.pool class block true }
 
 -- ---- what the calls give and leave
 
+-- The block that a take gives, if there is one.
 abbrev pub block_taken : CacheState → PoolState → ℕ → Option ℕ
 block_taken c p class = newest (after_refill class (entries_of c class) p).entries
 
+-- The class after a take, which refills it where it is empty.
 abbrev pub class_after_take : CacheState → PoolState → ℕ → Class
 class_after_take c p class = after_take class (after_refill class (entries_of c class) p)
 
+-- The class after a put, which makes room where it is full.
 abbrev pub class_after_put : CacheState → PoolState → ℕ → ℕ → Class
 class_after_put c p class block = after_put class block (with_room class (entries_of c class) p)

@@ -11,20 +11,24 @@ use Rattle.scudo_primary.specs.Pools.{PoolState, IsCached}
 use Rattle.scudo_cache.specs.Caches.{CacheState, Class}
 use Rattle.scudo_cache.specs.declared.cache.Cache.TheInside.{Inside}
 
+-- The blocks of a class that the code keeps.
 abbrev pub list_in : Inside → ℕ → List ℕ
 list_in f class = slice_index_or f.entries.items (class - 1) []
 
+-- The cache that the code keeps.
 abbrev pub cache_of : Inside → CacheState
 cache_of f = record {
   classes = by_class (list_in f);
   capacity = vec_capacity f.entries;
 }
 
+-- There is a list for each class, of at most its maximum, with no block twice.
 pub record IsCache (f : Inside) : Type 0 where
   pub all : length f.entries.items ≡ CLASSES
   pub most : (class : ℕ) → IsClass class → length (list_in f class) ≤ max_count_of class
   pub distinct : (class : ℕ) → IsClass class → IsDistinct nat_eq (list_in f class)
 
+-- A class of these blocks, with the pool below it.
 abbrev pub class_with : List ℕ → PoolState → Class
 class_with entries p = record { entries = entries; pool = p }
 

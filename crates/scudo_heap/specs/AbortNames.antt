@@ -5,6 +5,7 @@ use Rattle.scudo_heap.specs.declared.abort.HeapAbort.TheVariants.{Misaligned, Un
 use Rattle.scudo_heap.specs.declared.abort.HeapAbort.TheVariants.{HeaderCorrupt, InvalidState}
 use Rattle.scudo_heap.specs.declared.abort.HeapAbort.TheVariants.{NotABlock, AlreadyFree}
 
+-- The name of an abort.
 abbrev pub abort_name : HeapAbort → List ℕ
 abort_name Misaligned = codes "Misaligned"
 abort_name Unmapped = codes "Unmapped"

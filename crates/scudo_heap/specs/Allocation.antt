@@ -24,9 +24,11 @@ pub record AllocationResult : Type 0 where
   pub world : World
   pub chunk : Option Chunk
 
+-- An allocation of its parts.
 abbrev pub allocation_of : World → Option Chunk → AllocationResult
 allocation_of w chunk = record { world = w; chunk = chunk }
 
+-- An allocation that makes nothing.
 abbrev pub no_chunk : World → AllocationResult
 no_chunk w = record { world = w; chunk = None }
 
@@ -47,6 +49,7 @@ place_in class block align size = record {
   size = size;
 }
 
+-- Whether a list is empty.
 abbrev pub is_empty : List ℕ → Bool
 is_empty [] = true
 is_empty (b ∷ more) = false
@@ -67,6 +70,7 @@ after_take before w origin align size class [] = no_chunk before
 after_take before w origin align size class (b ∷ more) =
     allocation_at (place_in class b align size) (after_place w origin (place_in class b align size))
 
+-- A chunk of a size class, which gets pages where it has no free block.
 unfoldable pub after_class_allocation : World → Origin → ℕ → ℕ → ℕ → AllocationResult
 after_class_allocation w origin align size class =
     after_take w (with_free_block w class) origin align size class
@@ -86,6 +90,7 @@ map_chunk_cases w origin align size pages (Some start) =
     then after_map_chunk w origin size (mapping_for start pages align size)
     else no_chunk w
 
+-- A chunk with pages of its own, at the least place that fits.
 unfoldable pub after_large_allocation : World → Origin → ℕ → ℕ → ℕ → AllocationResult
 after_large_allocation w origin align size pages =
     map_chunk_cases w origin align size pages (place_of w.heap.maps.mappings pages)
@@ -114,9 +119,11 @@ after_allocate w origin align size =
     (class_for (need_of align (nonzero_size size)))
     else no_chunk w
 
+-- malloc
 unfoldable pub after_malloc : World → ℕ → AllocationResult
 after_malloc w size = after_allocate w Malloc 16 size
 
+-- calloc: sizes are whole numbers, so that no product wraps.
 unfoldable pub after_calloc : World → ℕ → ℕ → AllocationResult
 after_calloc w count size = after_allocate w Malloc 16 (count * size)
 
@@ -124,6 +131,7 @@ after_calloc w count size = after_allocate w Malloc 16 (count * size)
 abbrev pub is_alignment : ℕ → Bool
 is_alignment n = list_any (λ k. n == 2 ^ k) (range_with_len 0 13)
 
+-- memalign
 unfoldable pub after_memalign : World → ℕ → ℕ → AllocationResult
 after_memalign w align size =
     if is_alignment align then after_allocate w Memalign (max align 16) size else no_chunk w

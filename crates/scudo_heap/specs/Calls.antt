@@ -34,9 +34,11 @@ pub record CallResult : Type 0 where
   pub world : World
   pub answer : Result ℕ HeapAbort
 
+-- An allocation as a call.
 abbrev pub call_of_allocation : AllocationResult → CallResult
 call_of_allocation m = record { world = m.world; answer = Ok (answer_of m.chunk) }
 
+-- A reallocation as a call.
 abbrev pub call_of_reallocation : ReallocResult → CallResult
 call_of_reallocation r = record { world = r.world; answer = realloc_answer r.result }
 
@@ -45,9 +47,11 @@ abbrev pub free_answer : Result (Unit {0}) HeapAbort → Result ℕ HeapAbort
 free_answer (Err e) = Err e
 free_answer (Ok done) = Ok 0
 
+-- A free as a call.
 abbrev pub call_of_free : Freed → CallResult
 call_of_free f = record { world = f.world; answer = free_answer f.result }
 
+-- What a heap call makes of a world, and its answer.
 unfoldable pub after_call : World → HeapCall → CallResult
 after_call w (Malloc size) = call_of_allocation (after_malloc w size)
 after_call w (Free pointer) = call_of_free (free_of w pointer)

@@ -42,10 +42,12 @@ size_found (InPages m header) = secondary.end_of m - m.user - header.size_or_unu
 abbrev pub is_mapped : Memory → ℕ → Bool
 is_mapped m user = nat_le 16 user && page_has m ((user - 16) / PAGE_SIZE) 3
 
+-- The header before a user address, if its checksum is right.
 unfoldable pub header_at : Memory → ℕ → ℕ → Option Header
 header_at m cookie user =
     unpacked_header cookie user (from_le_bytes w64 (read_bytes m (user - 16) 8))
 
+-- Whether a state is that of a chunk which is handed out.
 abbrev pub is_allocated : State → Bool
 is_allocated Available = false
 is_allocated Allocated = true
@@ -54,6 +56,7 @@ is_allocated Reserved = false
 
 -- ---- 5: a carved block of the class that the header gives, or a mapping; 6: a block in no stack
 
+-- The place that a header tells.
 abbrev pub place_of_header : ℕ → Header → Place
 place_of_header user header = record {
   class = header.class_id;
@@ -74,6 +77,7 @@ is_place s p =
     nat_le p.class CLASSES && is_block s p.class p.block && nat_lt 0 p.size
     && nat_le (end_of p) (block_end p)
 
+-- A chunk of a size class is a block that is not free.
 abbrev pub check_block : StackState → Place → Header → Result Found HeapAbort
 check_block s p header = if is_place s p
     then (if is_member (stack_of s p.class) p.block
@@ -81,6 +85,7 @@ check_block s p header = if is_place s p
     else Ok (InBlock p header))
     else Err NotABlock
 
+-- A chunk with pages of its own has a mapping.
 abbrev pub check_mapping : Header → Option Mapping → Result Found HeapAbort
 check_mapping header None = Err NotABlock
 check_mapping header (Some m) =
@@ -88,6 +93,7 @@ check_mapping header (Some m) =
     then Ok (InPages m header)
     else Err NotABlock
 
+-- Which chunk a header is that of.
 unfoldable pub check_chunk : StackState → List Mapping → ℕ → Header → Result Found HeapAbort
 check_chunk s ms user header = if header.class_id == 0
     then check_mapping header (secondary.mapping_of ms user)
@@ -95,6 +101,7 @@ check_chunk s ms user header = if header.class_id == 0
     then check_block s (place_of_header user header) header
     else Err NotABlock)
 
+-- The checks of a header.
 abbrev pub check_header : HeapState → ℕ → Option Header → Result Found HeapAbort
 check_header h user None = Err HeaderCorrupt
 check_header h user (Some header) = if is_allocated header.state

@@ -19,9 +19,11 @@ granules_of size = (size + 15) / 16
 abbrev pub end_of : Place → ℕ
 end_of p = p.user + 16 * granules_of p.size
 
+-- The end of the block of a chunk.
 abbrev pub block_end : Place → ℕ
 block_end p = p.block + size_of p.class
 
+-- A place with another size.
 abbrev pub with_size : Place → ℕ → Place
 with_size p size = record p { size = size }
 

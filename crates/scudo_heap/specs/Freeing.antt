@@ -11,6 +11,7 @@ use Rattle.scudo_heap.specs.declared.chunk.Found.{Found}
 use Rattle.scudo_heap.specs.declared.chunk.Found.TheVariants.{InBlock, InPages}
 use Rattle.scudo_heap.specs.Checks.{check_pointer, usable_size_cases}
 
+-- What a free leaves: the world, and an abort if there is one.
 pub record Freed : Type 0 where
   pub world : World
   pub result : Result (Unit {0}) HeapAbort
@@ -24,6 +25,7 @@ abbrev pub free_cases : World → Result Found HeapAbort → Freed
 free_cases w (Err e) = record { world = w; result = Err e }
 free_cases w (Ok f) = record { world = without_chunk w f; result = Ok tt }
 
+-- free: the null pointer is freed without effect.
 unfoldable pub free_of : World → ℕ → Freed
 free_of w pointer = if pointer == 0
     then record { world = w; result = Ok tt }

@@ -11,9 +11,11 @@ pub record HeapState : Type 0 where
   pub stacks : StackState
   pub maps : SecondaryState
 
+-- A heap of its parts.
 abbrev pub heap_of : ℕ → StackState → SecondaryState → HeapState
 heap_of cookie s ms = record { cookie = cookie; stacks = s; maps = ms }
 
+-- The code of a heap, by which proofs tell two apart.
 abbrev pub coded_heap : Coded HeapState
 coded_heap =
     code_by (ℕ × (StackState × SecondaryState)) (coded× coded_ℕ (coded× coded_stacks coded_maps))
@@ -30,5 +32,6 @@ empty_heap cookie pages =
 unfoldable pub with_more : SecondaryState → Mapping → SecondaryState
 with_more ms m = record ms { mappings = with_mapping ms.mappings m }
 
+-- The mappings without one.
 unfoldable pub with_less : SecondaryState → Mapping → SecondaryState
 with_less ms m = record ms { mappings = filter (λ n. not (n.user == m.user)) ms.mappings }

@@ -30,16 +30,20 @@ use Rattle.scudo_heap.specs.Served.{heap_page, is_inside}
 use Rattle.scudo_heap.specs.Sound.{HasRoom, IsSound}
 use Rattle.scudo_heap.specs.declared.stacks.Stacks.TheInside.{Inside}
 
+-- The class that the code keeps.
 abbrev pub class_in : Inside → ℕ → ClassHeap
 class_in f class =
     record { pages = primary.pages_of f.pool class; stack = one_stack f.cache f.pool class }
 
+-- For how many elements the lists of the code have memory.
 abbrev pub capacities_in : Inside → List ℕ
 capacities_in f = f.pool.capacities ++ f.cache.capacity ∷ []
 
+-- The stacks that the code keeps.
 abbrev pub stacks_in : Inside → StackState
 stacks_in f = stacks_by f.pool.left (capacities_in f) (class_in f)
 
+-- Pool and cache belong together.
 pub record AreParts (f : Inside) : Type 0 where
   pub above : IsAbove f.cache f.pool
   pub stacks : AreStacks f.cache f.pool
@@ -76,6 +80,7 @@ pub record IsPlaced (s : StackState) (p : Place) : Type 0 where
   pub small : p.size < 2 ^ 20
   pub within : end_of p ≤ block_end p
 
+-- What the checks find of a chunk of a size class.
 pub record IsFoundBlock (s : StackState) (p : Place) (header : Header) : Type 0 where
   pub place : IsPlaced s p
   pub used : is_member (stack_of s p.class) p.block ≡ false

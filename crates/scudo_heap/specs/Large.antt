@@ -25,6 +25,7 @@ mapping_for start pages align size = record {
 abbrev pub unused_in : Mapping → ℕ → ℕ
 unused_in m size = secondary.end_of m - m.user - size
 
+-- The header of a chunk with pages of its own.
 abbrev pub large_header : Origin → Mapping → ℕ → Header
 large_header origin m size = record {
   class_id = 0;
@@ -34,6 +35,7 @@ large_header origin m size = record {
   offset = 0;
 }
 
+-- A chunk with pages of its own is made in a mapping.
 unfoldable pub large_placed : World → Origin → Mapping → ℕ → World
 large_placed w origin m size = record w {
   memory =
@@ -43,6 +45,7 @@ large_placed w origin m size = record w {
   heap = record w.heap { maps = with_more w.heap.maps m };
 }
 
+-- A chunk with pages of its own is freed: its pages are unmapped.
 unfoldable pub large_given_back : World → Mapping → World
 large_given_back w m = record w {
   memory = without_pages w.memory (m.start / PAGE_SIZE) m.pages;

@@ -26,6 +26,7 @@ pub record World : Type 0 where
   pub heap : HeapState
   pub rgsr : Rgsr
 
+-- A world of its parts.
 abbrev pub world_of : Memory → HeapState → Rgsr → World
 world_of m h r = record { memory = m; heap = h; rgsr = r }
 
@@ -39,6 +40,7 @@ pages_for size = (size + (PAGE_SIZE - 1)) / PAGE_SIZE
 
 -- ---- pages for a class: as many as one block needs
 
+-- The pages that a class gets at once.
 abbrev pub more_pages : ℕ → ℕ
 more_pages class = pages_for (size_of class)
 
@@ -46,6 +48,7 @@ more_pages class = pages_for (size_of class)
 abbrev pub next_page : StackState → ℕ → ℕ
 next_page s class = region_of class / PAGE_SIZE + pages_of s class
 
+-- A class gets pages, which are mapped and carved.
 unfoldable pub after_grow : World → ℕ → World
 after_grow w class = record w {
   memory = with_new_pages w.memory (next_page w.heap.stacks class) (more_pages class) heap_attrs;
@@ -54,6 +57,7 @@ after_grow w class = record w {
 
 -- ---- a new chunk
 
+-- The header of a new chunk.
 abbrev pub new_header : Origin → Place → Header
 new_header origin p = record {
   class_id = p.class;
@@ -93,6 +97,7 @@ after_give_back w p header =
 
 -- ---- a chunk that gets another size in its block
 
+-- A chunk has another size in its block.
 unfoldable pub after_resize : World → Place → Header → ℕ → World
 after_resize w p header size = record w {
   memory =

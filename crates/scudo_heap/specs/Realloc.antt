@@ -28,15 +28,18 @@ abbrev pub realloc_answer : Result (Option Chunk) HeapAbort → Result ℕ HeapA
 realloc_answer (Err e) = Err e
 realloc_answer (Ok chunk) = Ok (answer_of chunk)
 
+-- An allocation as a reallocation.
 abbrev pub reallocation_of : AllocationResult → ReallocResult
 reallocation_of m = record { world = m.world; result = Ok m.chunk }
 
 -- ---- a new chunk, to which the bytes are copied; without one, nothing changes
 
+-- The user address of a chunk that was found.
 abbrev pub user_of : Found → ℕ
 user_of (InBlock p header) = p.user
 user_of (InPages m header) = m.user
 
+-- The user address of a new chunk.
 abbrev pub user_of_chunk : Chunk → ℕ
 user_of_chunk (Small p tag) = p.user
 user_of_chunk (Large m size) = m.user
@@ -61,17 +64,20 @@ move_to_cases before f size w (Some x) =
 abbrev pub move_cases : World → Found → ℕ → AllocationResult → AllocationResult
 move_cases before f size m = move_to_cases before f size m.world m.chunk
 
+-- A chunk is moved: a new one is made, the bytes are copied, and the old one is freed.
 unfoldable pub after_move : World → Found → ℕ → AllocationResult
 after_move w f size = move_cases w f size (after_malloc w size)
 
 -- ---- in its block, where that holds the new size
 
+-- A chunk keeps its block and its tag.
 abbrev pub after_resize_in_block : World → Place → Header → ℕ → AllocationResult
 after_resize_in_block w p header size = record {
   world = after_resize w p header size;
   chunk = Some (Small (with_size p size) (tag_at w.memory p.user));
 }
 
+-- A chunk stays where its block holds the new size, else it is moved.
 unfoldable pub with_new_size : World → Found → ℕ → AllocationResult
 with_new_size w (InBlock p header) size =
     if nat_le (end_of (with_size p size)) (block_end p)

@@ -8,6 +8,7 @@ use Rattle.scudo_heap.specs.Heaps.{HeapState}
 use Rattle.scudo_heap.specs.Placing.{World}
 use Rattle.scudo_heap.specs.Served.{HeapOwnsItsPages}
 
+-- What holds of every heap.
 pub record IsSound (h : HeapState) : Type 0 where
   pub stacks : AreSound h.stacks
   pub mappings : AreMappings h.maps.mappings

@@ -25,6 +25,7 @@ pub record StackState : Type 0 where
   pub capacities : List ℕ
   pub classes : ByClass ClassHeap
 
+-- The code of a class, by which proofs tell two apart.
 abbrev pub coded_class : Coded ClassHeap
 coded_class =
     code_by (ℕ × List ℕ) (coded× coded_ℕ (coded_list coded_ℕ))
@@ -32,6 +33,7 @@ coded_class =
     (λ c. record { pages = c.0; stack = c.1 })
     (λ _. refl)
 
+-- The code of the stacks, by which proofs tell two apart.
 abbrev pub coded_stacks : Coded StackState
 coded_stacks =
     code_by (ℕ × (List ℕ × ByClass ClassHeap))
@@ -40,6 +42,7 @@ coded_stacks =
     (λ c. record { left = c.0; capacities = c.1.0; classes = c.1.1 })
     (λ _. refl)
 
+-- A class without pages.
 abbrev pub empty_class : ClassHeap
 empty_class = record { pages = 0; stack = [] }
 
@@ -56,24 +59,31 @@ memory_for pages = 128 * pages ∷ CLASSES * pages ∷ CLASSES ∷ []
 unfoldable pub empty_stacks : ℕ → StackState
 empty_stacks left = stacks_by left (memory_for left) (λ _. empty_class)
 
+-- The class with a number.
 unfoldable pub class_at : StackState → ℕ → ClassHeap
 class_at s class = value_of s.classes empty_class class
 
+-- The pages of a class.
 abbrev pub pages_of : StackState → ℕ → ℕ
 pages_of s class = (class_at s class).pages
 
+-- The free blocks of a class, the top first.
 abbrev pub stack_of : StackState → ℕ → List ℕ
 stack_of s class = (class_at s class).stack
 
+-- The stacks with a class replaced.
 unfoldable pub with_class : StackState → ℕ → ClassHeap → StackState
 with_class s class k = record s { classes = with_value s.classes class k }
 
+-- The stacks with the free blocks of a class replaced.
 abbrev pub with_stack : StackState → ℕ → List ℕ → StackState
 with_stack s class stack = with_class s class (record { pages = pages_of s class; stack = stack })
 
+-- The top block is taken.
 unfoldable pub after_pop : StackState → ℕ → StackState
 after_pop s class = with_stack s class (drop 1 (stack_of s class))
 
+-- A block is put on top.
 unfoldable pub after_push : StackState → ℕ → ℕ → StackState
 after_push s class block = with_stack s class (block ∷ stack_of s class)
 
@@ -83,12 +93,14 @@ new_blocks class before more =
     blocks_from class (carved_count class before)
     (carved_count class (before + more) - carved_count class before)
 
+-- A class after a carve: its new blocks lie on top.
 abbrev pub carved_class : ℕ → ClassHeap → ℕ → ClassHeap
 carved_class class k more = record {
   pages = k.pages + more;
   stack = new_blocks class k.pages more ++ k.stack;
 }
 
+-- The stacks after a carve.
 unfoldable pub after_carve : StackState → ℕ → ℕ → StackState
 after_carve s class more =
     record (with_class s class (carved_class class (class_at s class) more)) {

@@ -14,6 +14,7 @@ max_count_of class = if nat_le (size_of class) SMALL_SIZE then MAX_COUNT else MA
 abbrev pub cut_sizes : ℕ → ℕ → List ℕ
 cut_sizes half n = replicate (n / half) half ++ (if n % half == 0 then [] else (n % half) ∷ [])
 
+-- The sizes of the batches of a carve.
 abbrev pub batch_sizes : ℕ → ℕ → List ℕ
 batch_sizes class n = cut_sizes (max_count_of class / 2) n
 

@@ -30,6 +30,7 @@ pub record IsBlock (class pages block : ℕ) : Type 0 where
 abbrev pub blocks_from : ℕ → ℕ → ℕ → List ℕ
 blocks_from class m n = map (block_at class) (range_with_len m n)
 
+-- Whether a block is one of these.
 abbrev pub is_member : List ℕ → ℕ → Bool
 is_member blocks block = list_any (λ other. block == other) blocks
 

@@ -26,6 +26,7 @@ unfoldable pub follow : (ℕ → ℕ) → ℕ → ℕ → List ℕ
 follow next zero at = []
 follow next (suc n) at = at ∷ follow next n (next at)
 
+-- P holds of each number of a list.
 abbrev pub Each : (ℕ → Type 0) → List ℕ → Type 0
 Each P [] = Unit {0}
 Each P (x ∷ xs) = P x × Each P xs
@@ -59,6 +60,7 @@ pub record BlockTable : Type 0 where
   pub numbers : List ℕ
   pub lists : List ClassList
 
+-- A table of its parts.
 abbrev pub block_table : List BlockEntry → List ℕ → List ClassList → BlockTable
 block_table es ns ks = record { entries = es; numbers = ns; lists = ks }
 
@@ -66,6 +68,7 @@ block_table es ns ks = record { entries = es; numbers = ns; lists = ks }
 abbrev pub slot_of : ℕ → ℕ → ℕ
 slot_of class page = page * CLASSES + (class - 1)
 
+-- The number of a page of a class.
 abbrev pub page_number : List ℕ → ℕ → ℕ → ℕ
 page_number ns class page = slice_index ns (slot_of class page)
 
@@ -75,24 +78,31 @@ place_of ns class block =
     page_number ns class ((block - region_of class) / PAGE_SIZE) * 128
     + (block - region_of class) % PAGE_SIZE / 32
 
+-- What an entry is that was never written.
 abbrev pub no_entry : BlockEntry
 no_entry = record { next = 0; free = false; last = false }
 
+-- What a class has before its first carve.
 abbrev pub no_list : ClassList
 no_list = record { head = 0; count = 0; pages = 0 }
 
+-- The entry of a block.
 unfoldable pub entry_at : List BlockEntry → List ℕ → ℕ → ℕ → BlockEntry
 entry_at es ns class block = slice_index_or es (place_of ns class block) no_entry
 
+-- The list of a class.
 unfoldable pub list_at : List ClassList → ℕ → ClassList
 list_at ks class = slice_index_or ks (class - 1) no_list
 
+-- The block below a block in its stack.
 unfoldable pub next_in : List BlockEntry → List ℕ → ℕ → ℕ → ℕ
 next_in es ns class block = (entry_at es ns class block).next
 
+-- Whether a block is the last of its batch.
 unfoldable pub last_in : List BlockEntry → List ℕ → ℕ → ℕ → Bool
 last_in es ns class block = (entry_at es ns class block).last
 
+-- Whether a block is free.
 unfoldable pub free_in : List BlockEntry → List ℕ → ℕ → ℕ → Bool
 free_in es ns class block = (entry_at es ns class block).free
 
@@ -100,14 +110,17 @@ free_in es ns class block = (entry_at es ns class block).free
 unfoldable pub stack_from : List BlockEntry → List ℕ → ℕ → ℕ → ℕ → List ℕ
 stack_from es ns class n at = follow (next_in es ns class) n at
 
+-- The sizes of the batches of n blocks from a block on.
 unfoldable pub sizes_from : List BlockEntry → List ℕ → ℕ → ℕ → ℕ → List ℕ
 sizes_from es ns class n at =
     sizes_of_marks (map (last_in es ns class) (stack_from es ns class n at))
 
+-- Which blocks of a class are free.
 unfoldable pub marks_in : List BlockEntry → List ℕ → ℕ → ℕ → List Bool
 marks_in es ns class pages =
     map (λ n. free_in es ns class (block_at class n)) (range_with_len 0 (carved_count class pages))
 
+-- The class that a list means.
 abbrev pub class_in : List BlockEntry → List ℕ → ℕ → ClassList → ClassState
 class_in es ns class k = record {
   pages = k.pages;
@@ -120,15 +133,19 @@ class_in es ns class k = record {
 abbrev pub state_in : BlockTable → ℕ → ClassState
 state_in t class = class_in t.entries t.numbers class (list_at t.lists class)
 
+-- The pool that a table means.
 abbrev pub state_of : ℕ → List ℕ → BlockTable → PoolState
 state_of left capacities t = pool_by left capacities (state_in t)
 
+-- For how many elements the lists of the code have memory.
 abbrev pub capacities_in : Inside → List ℕ
 capacities_in f = vec_capacity f.entries ∷ vec_capacity f.numbers ∷ []
 
+-- The table that the code keeps.
 abbrev pub table_in : Inside → BlockTable
 table_in f = block_table f.entries.items f.numbers.items f.lists
 
+-- The pool that the code keeps.
 abbrev pub pool_in : Inside → PoolState
 pool_in f = state_of (f.limit - f.used) (capacities_in f) (table_in f)
 
@@ -152,6 +169,7 @@ class_after_link_new class k m n = record {
 
 -- ---- what holds of it
 
+-- Each carved page has a number of its own, and its 128 entries.
 pub record IsNumbered (ns : List ℕ) (ks : List ClassList) (n : ℕ) : Type 0 where
   pub slot : (c i : ℕ) → IsClass c → i < (list_at ks c).pages → slot_of c i < length ns
   pub room : (c i : ℕ) → IsClass c → i < (list_at ks c).pages → page_number ns c i * 128 + 128 ≤ n
@@ -160,16 +178,20 @@ pub record IsNumbered (ns : List ℕ) (ks : List ClassList) (n : ℕ) : Type 0 w
       → page_number ns c i ≡ page_number ns d j → (c ≡ d) × (i ≡ j)
   pub few : (c : ℕ) → IsClass c → (list_at ks c).pages ≤ MAX_PAGES
 
+-- The stack of a class is carved blocks, none twice, all of them free, in batches that a cache
+-- holds.
 pub record IsLinked (es : List BlockEntry) (ns : List ℕ) (c : ℕ) (k : ClassList) : Type 0 where
   pub blocks : AreBlocks c k.pages (stack_from es ns c k.count k.head)
   pub marked : Each (λ b. free_in es ns c b ≡ true) (stack_from es ns c k.count k.head)
   pub batches : Each (λ n. n ≤ max_count_of c) (sizes_from es ns c k.count k.head)
 
+-- A table whose pages are numbered and whose classes are linked.
 pub record IsTable (t : BlockTable) : Type 0 where
   pub numbered : IsNumbered t.numbers t.lists (length t.entries)
   pub all : length t.lists ≡ CLASSES
   pub linked : (c : ℕ) → IsClass c → IsLinked t.entries t.numbers c (list_at t.lists c)
 
+-- The table of the code is one, and has no more pages than the pool.
 pub record IsPool (f : Inside) : Type 0 where
   pub table : IsTable (table_in f)
   pub counted :

@@ -35,6 +35,7 @@ pub record PoolState : Type 0 where
   pub capacities : List ℕ
   pub classes : ByClass ClassState
 
+-- The code of a class, by which proofs tell two apart.
 abbrev pub coded_class : Coded ClassState
 coded_class =
     code_by (ℕ × (List ℕ × (List ℕ × List Bool)))
@@ -44,6 +45,7 @@ coded_class =
     (λ c. record { pages = c.0; stack = c.1.0; sizes = c.1.1.0; marks = c.1.1.1 })
     (λ _. refl)
 
+-- The code of a pool, by which proofs tell two apart.
 abbrev pub coded_pool : Coded PoolState
 coded_pool =
     code_by (ℕ × (List ℕ × ByClass ClassState))
@@ -52,6 +54,7 @@ coded_pool =
     (λ c. record { left = c.0; capacities = c.1.0; classes = c.1.1 })
     (λ _. refl)
 
+-- A class without pages.
 abbrev pub empty_class : ClassState
 empty_class = record { pages = 0; stack = []; sizes = []; marks = [] }
 
@@ -64,18 +67,23 @@ pool_by left capacities f =
 abbrev pub empty_pool : ℕ → List ℕ → PoolState
 empty_pool pages capacities = pool_by pages capacities (λ _. empty_class)
 
+-- The class with a number.
 abbrev pub class_at : PoolState → ℕ → ClassState
 class_at p class = value_of p.classes empty_class class
 
+-- The pool with a class replaced.
 abbrev pub with_class : PoolState → ℕ → ClassState → PoolState
 with_class p class k = record p { classes = with_value p.classes class k }
 
+-- The pages that a class has carved.
 abbrev pub pages_of : PoolState → ℕ → ℕ
 pages_of p class = (class_at p class).pages
 
+-- The free blocks of a class, the top first.
 abbrev pub stack_of : PoolState → ℕ → List ℕ
 stack_of p class = (class_at p class).stack
 
+-- The sizes of the batches of a class, the top first.
 abbrev pub sizes_of : PoolState → ℕ → List ℕ
 sizes_of p class = (class_at p class).sizes
 
@@ -104,6 +112,7 @@ IsCached p class block = IsLoose (class_at p class) class block
 
 -- ---- what the calls leave of a class
 
+-- A class with a block marked.
 abbrev pub class_with_mark : ℕ → ClassState → ℕ → Bool → ClassState
 class_with_mark class k block mark =
     record k { marks = slice_set k.marks (number_of class block) mark }
@@ -131,10 +140,12 @@ class_after_push class k block =
 abbrev pub batch_in : ClassState → List ℕ
 batch_in k = reverse (take (first_size k.sizes) k.stack)
 
+-- A class without its top batch.
 abbrev pub class_after_pop_batch : ClassState → ClassState
 class_after_pop_batch k =
     record k { stack = drop (first_size k.sizes) k.stack; sizes = drop 1 k.sizes }
 
+-- A class with a batch more on top, the last block first.
 abbrev pub class_after_push_batch : ClassState → List ℕ → ClassState
 class_after_push_batch k blocks =
     record k { stack = reverse blocks ++ k.stack; sizes = length blocks ∷ k.sizes }
@@ -150,22 +161,28 @@ class_after_carve class k pages n = record {
 
 -- ---- what the calls leave of a pool
 
+-- The pool after a pop of a block.
 abbrev pub after_pop : PoolState → ℕ → PoolState
 after_pop p class = with_class p class (class_after_pop class (class_at p class) (stack_of p class))
 
+-- The pool after a push of a block.
 abbrev pub after_push : PoolState → ℕ → ℕ → PoolState
 after_push p class block = with_class p class (class_after_push class (class_at p class) block)
 
+-- The pool with a block marked.
 abbrev pub with_mark : PoolState → ℕ → ℕ → Bool → PoolState
 with_mark p class block mark =
     with_class p class (class_with_mark class (class_at p class) block mark)
 
+-- The top batch of a class.
 abbrev pub top_batch : PoolState → ℕ → List ℕ
 top_batch p class = batch_in (class_at p class)
 
+-- The pool without the top batch of a class.
 abbrev pub without_batch : PoolState → ℕ → PoolState
 without_batch p class = with_class p class (class_after_pop_batch (class_at p class))
 
+-- The pool with a batch more on top of a class.
 abbrev pub with_batch : PoolState → ℕ → List ℕ → PoolState
 with_batch p class blocks = with_class p class (class_after_push_batch (class_at p class) blocks)
 
@@ -173,6 +190,7 @@ with_batch p class blocks = with_class p class (class_after_push_batch (class_at
 abbrev pub new_count : ℕ → ℕ → ℕ → ℕ
 new_count class before more = carved_count class (before + more) - carved_count class before
 
+-- The pool after a carve.
 abbrev pub with_pages : PoolState → ℕ → ℕ → PoolState
 with_pages p class pages =
     let count = new_count class (pages_of p class) pages in

@@ -38,13 +38,16 @@ use Rattle.tag_discipline.specs.LiveChunks.{without_chunk, new_chunk}
 use Rattle.tag_discipline.specs.LivePages.{PageChunk, LivePages, large_at, with_large}
 use Rattle.tag_discipline.specs.LivePages.{without_large, new_large}
 
+-- The live chunks: those in blocks, and those with pages of their own.
 pub record Live : Type 0 where
   pub blocks : LiveBlocks
   pub pages : LivePages
 
+-- No live chunks.
 abbrev pub no_chunks : Live
 no_chunks = record { blocks = finite.empty; pages = finite.empty }
 
+-- A world, and the live chunks in it.
 pub record State : Type 0 where
   pub world : World
   pub live : Live
@@ -77,6 +80,7 @@ live_move_cases l f (Some x) = without_freed_chunk (with_made_chunk origin.Mallo
 abbrev pub with_size_of : Header → ℕ → Header
 with_size_of header size = record header { size_or_unused_bytes = size }
 
+-- The chunk has another size in its block.
 abbrev pub live_after_resize_in_block : World → Live → Place → Header → ℕ → Live
 live_after_resize_in_block w l p header size = record l {
   blocks = with_chunk l.blocks (record {
@@ -86,6 +90,7 @@ live_after_resize_in_block w l p header size = record l {
   });
 }
 
+-- A chunk is resized in its block, or moved.
 abbrev pub live_after_resize : World → Live → Found → ℕ → Live
 live_after_resize w l (InBlock p header) size =
     if nat_le (end_of (with_size p size)) (block_end p)
@@ -94,6 +99,7 @@ live_after_resize w l (InBlock p header) size =
 live_after_resize w l (InPages m header) size =
     live_move_cases l (InPages m header) (after_malloc w size).chunk
 
+-- A chunk is reallocated: freed for size 0, resized, or left for a size that is refused.
 abbrev pub live_after_realloc : World → Live → Found → ℕ → Live
 live_after_realloc w l f size = if size == 0
     then without_freed_chunk l f
@@ -105,6 +111,7 @@ live_realloc_cases w l size (Ok f) = live_after_realloc w l f size
 
 -- ---- calls
 
+-- What the checks of a pointer find.
 abbrev pub found_at : World → ℕ → Result Found HeapAbort
 found_at w pointer = check_pointer w.memory w.heap (plain pointer)
 
@@ -114,10 +121,12 @@ live_realloc s pointer size = if pointer == 0
     then with_made_chunk origin.Malloc s.live (after_malloc s.world size).chunk
     else live_realloc_cases s.world s.live size (found_at s.world pointer)
 
+-- The live chunks after a free.
 abbrev pub live_free : State → ℕ → Live
 live_free s pointer =
     if pointer == 0 then s.live else live_free_cases s.live (found_at s.world pointer)
 
+-- The live chunks after a heap call.
 abbrev pub live_after_call : HeapCall → State → Live
 live_after_call (Malloc size) s =
     with_made_chunk origin.Malloc s.live (after_malloc s.world size).chunk
@@ -129,6 +138,7 @@ live_after_call (Memalign align size) s =
     with_made_chunk origin.Memalign s.live (after_memalign s.world align size).chunk
 live_after_call (UsableSize pointer) s = s.live
 
+-- The world and the live chunks after a heap call.
 unfoldable pub state_after_call : HeapCall → State → State
 state_after_call c s =
     record { world = (after_call s.world c).world; live = live_after_call c s }
@@ -140,14 +150,17 @@ abbrev pub HasHeader : World → ℕ → Header → Type 0
 HasHeader w user header =
     read_bytes w.memory (user - 16) 8 ≡ to_le_bytes w64 (packed_header w.heap.cookie user header)
 
+-- A live chunk of a size class, whose header is as the heap wrote it.
 pub record IsLiveBlock (s : State) (user : ℕ) (x : BlockChunk) : Type 0 where
   pub live : chunk_at s.live.blocks user ≡ Some x
   pub header : HasHeader s.world user x.header
 
+-- A live chunk with pages of its own, whose header is as the heap wrote it.
 pub record IsLiveLarge (s : State) (user : ℕ) (x : PageChunk) : Type 0 where
   pub live : large_at s.live.pages user ≡ Some x
   pub header : HasHeader s.world user x.header
 
+-- A live chunk at a user address.
 abbrev pub IsLive : State → ℕ → Type 0
 IsLive s user =
     ((x : BlockChunk) × IsLiveBlock s user x) ⊎ ((x : PageChunk) × IsLiveLarge s user x)
@@ -157,6 +170,7 @@ abbrev pub IsPointerTo : State → ℕ → Type 0
 IsPointerTo s pointer =
     pointer ≢ 0 → (f : Found) → found_at s.world pointer ≡ Ok f → IsLive s (plain pointer)
 
+-- A careful call: its pointer, where it passes the checks, is one to a live chunk.
 abbrev pub IsCareful : State → HeapCall → Type 0
 IsCareful s (Malloc size) = Unit {0}
 IsCareful s (Free pointer) = IsPointerTo s pointer
@@ -179,6 +193,8 @@ pub record IsQuiet (a b : State) : Type 0 where
   pub tags : (x : ℕ) → tag_at b.world.memory x ≡ tag_at a.world.memory x
   pub whole : IsWhole b.world.memory
 
+-- A step of a careful run: a careful call, or something else that leaves tags, headers and heap
+-- alone.
 pub data Step (a b : State) : Type 0 where
   quiet : IsQuiet a b → Step a b
   call : (c : HeapCall) → IsCareful a c → b ≡ state_after_call c a → Step a b

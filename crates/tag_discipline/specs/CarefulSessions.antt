@@ -36,6 +36,7 @@ named_chunk_cases (Err e) x = []
 named_chunk_cases (Ok f) None = []
 named_chunk_cases (Ok f) (Some x) = x ∷ []
 
+-- The live chunk of a size class that a pointer names, if it names one.
 abbrev pub named_at : State → ℕ → List BlockChunk
 named_at s pointer =
     named_chunk_cases (found_at s.world pointer) (chunk_at s.live.blocks (plain pointer))
@@ -50,14 +51,17 @@ named_chunks s (Some (Realloc pointer size)) = named_at s pointer
 named_chunks s (Some (Memalign align size)) = []
 named_chunks s (Some (UsableSize pointer)) = []
 
+-- Whether the block of a chunk is free.
 abbrev pub has_free_block : StackState → BlockChunk → Bool
 has_free_block s x = is_member (stack_of s x.place.class) x.place.block
 
+-- The freed chunks whose blocks are still free, after an attempt.
 unfoldable pub freed_after : ℕ → Machine → Live → List BlockChunk → List BlockChunk
 freed_after n m l xs =
     filter (has_free_block (after_attempt n m).machine.parts.heap.stacks)
     (named_chunks (state_of (before_service m) l) (next_call m) ++ xs)
 
+-- The same after a slice.
 unfoldable pub freed_through : ℕ → Machine → Live → List BlockChunk → List BlockChunk
 freed_through zero m l xs = xs
 freed_through (suc n) m l xs = if runs m
@@ -68,17 +72,20 @@ freed_through (suc n) m l xs = if runs m
 
 -- ---- a tenant's own events
 
+-- The live chunks after the own events of a tenant.
 unfoldable pub live_of : List TenantEvent → Machine → Live → Live
 live_of [] m l = l
 live_of (OwnSlice n ∷ more) m l = live_of more (after_slice n m) (live_through n m l)
 live_of (OwnStop ∷ more) m l = l
 
+-- The freed chunks whose blocks are still free, after the own events of a tenant.
 unfoldable pub freed_of : List TenantEvent → Machine → Live → List BlockChunk → List BlockChunk
 freed_of [] m l xs = xs
 freed_of (OwnSlice n ∷ more) m l xs =
     freed_of more (after_slice n m) (live_through n m l) (freed_through n m l xs)
 freed_of (OwnStop ∷ more) m l xs = xs
 
+-- All slices of a tenant are careful.
 unfoldable pub AreCareful : List TenantEvent → Machine → Live → Type 0
 AreCareful [] m l = Unit {0}
 AreCareful (OwnSlice n ∷ more) m l =
@@ -96,9 +103,11 @@ abbrev pub machine_cases : Option Tenant → Option Machine
 machine_cases None = None
 machine_cases (Some t) = machine_held t.held
 
+-- The machine of a tenant before its first instruction.
 abbrev pub first_machine : Life → Machine
 first_machine life = start_of life.id life.start
 
+-- A tenant of a session in the synchronous mode, whose slices are careful, with its machine.
 pub record IsCarefulIn (s : Session) (life : Life) (m : Machine) : Type 0 where
   pub admitted : life_among life.id (lives s) ≡ Some life
   pub sync : life.start.terms.mode ≡ Sync
@@ -109,5 +118,6 @@ pub record IsCarefulIn (s : Session) (life : Life) (m : Machine) : Type 0 where
 abbrev pub state_in : Life → Machine → State
 state_in life m = state_of m (live_of life.own (first_machine life) no_chunks)
 
+-- The chunks that a tenant freed and whose blocks are still free.
 abbrev pub freed_in : Life → List BlockChunk
 freed_in life = freed_of life.own (first_machine life) no_chunks []

@@ -17,6 +17,7 @@ use Rattle.mte_tenant.specs.Machines.{Machine, machine_of, with_regs, runs, afte
 use Rattle.tag_discipline.specs.CarefulRuns.{State, Live, state_after_call}
 use Rattle.tag_discipline.specs.CarefulRuns as heap
 
+-- The world of a machine, and the live chunks in it.
 abbrev pub state_of : Machine → Live → State
 state_of m l = record { world = world_of m.memory m.parts.heap m.parts.regs.rgsr; live = l }
 
@@ -39,15 +40,18 @@ abbrev pub live_after_cases : Option HeapCall → State → Live
 live_after_cases None s = s.live
 live_after_cases (Some c) s = (state_after_call c s).live
 
+-- The live chunks after an attempt.
 unfoldable pub live_after : Machine → Live → Live
 live_after m l = live_after_cases (next_call m) (state_of (before_service m) l)
 
+-- The next instruction stores no tags, and its heap call, if it makes one, is careful.
 pub record IsCarefulNext (m : Machine) (l : Live) : Type 0 where
   pub tags : next_stores_tags m.parts.regs m.memory ≡ false
   pub call : (c : HeapCall) → next_call m ≡ Some c → heap.IsCareful (state_of (before_service m) l) c
 
 -- ---- instructions in turn
 
+-- The live chunks after a slice.
 unfoldable pub live_through : ℕ → Machine → Live → Live
 live_through zero m l = l
 live_through (suc n) m l = if runs m
@@ -56,6 +60,7 @@ live_through (suc n) m l = if runs m
     else live_after m l)
     else l
 
+-- All instructions of a slice are careful.
 unfoldable pub IsCareful : ℕ → Machine → Live → Type 0
 IsCareful zero m l = Unit {0}
 IsCareful (suc n) m l = (runs m ≡ true → IsCarefulNext m l)
@@ -64,6 +69,7 @@ IsCareful (suc n) m l = (runs m ≡ true → IsCarefulNext m l)
 
 -- ---- instructions in turn, with P after each of them
 
+-- Careful attempts, after each of which P holds.
 pub data Steps (P : State → Type 0) : Machine → Live → Machine → Live → Type 0 where
   stop : {m : Machine} {l : Live} → Steps P m l m l
   next :

@@ -48,6 +48,7 @@ pub record IsNew (m : Memory) (pages : ℕ) : Type 0 where
   pub most : pages ≤ MAX_PAGES
   pub untouched : IsUntouched m
 
+-- A new heap with a memory for it is sound.
 abbrev pub StartsSound : Type 0
 StartsSound =
     (m : Memory) (cookie pages : ℕ) (r : Rgsr) → IsNew m pages
@@ -60,6 +61,7 @@ TenantsStartSound =
     → admission_refusal frames ledger id start ≡ None → start.terms.mode ≡ Sync
     → Sound (state_of (start_of id start) no_chunks)
 
+-- A careful run keeps what the other laws stand on.
 abbrev pub StaysSound : Type 0
 StaysSound = (a b : State) → Run (λ s. Unit {0}) a b → Sound a → Sound b
 
@@ -140,6 +142,7 @@ pub record IsFreshIn (s : State) (r : AllocationResult) : Type 0 where
   pub other :
       (p : Place) (t : ℕ) → r.chunk ≡ Some (Small p t) → t ≢ tag_at s.world.memory p.user
 
+-- So it is of every call that makes a chunk.
 pub record NewTagsDiffer : Type 0 where
   pub malloc : (s : State) (size : ℕ) → Sound s → IsFreshIn s (after_malloc s.world size)
   pub calloc :

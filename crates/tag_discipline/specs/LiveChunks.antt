@@ -25,20 +25,25 @@ use Rattle.scudo_heap.specs.Stacks.{StackState, pages_of, stack_of}
 use Rattle.scudo_heap.specs.Chunks.{end_of, block_end, parity_mask}
 use Rattle.scudo_heap.specs.Placing.{new_header}
 
+-- A chunk of a size class: its place, its tag and its header.
 pub record BlockChunk : Type 0 where
   pub place : Place
   pub tag : ℕ
   pub header : Header
 
+-- The live chunks of size classes, by their user addresses.
 abbrev pub LiveBlocks : Type 0
 LiveBlocks = FinMap nat_cmp BlockChunk
 
+-- The chunk at a user address, if one is live.
 unfoldable pub chunk_at : LiveBlocks → ℕ → Option BlockChunk
 chunk_at l user = finite.get l user
 
+-- One more live chunk.
 unfoldable pub with_chunk : LiveBlocks → BlockChunk → LiveBlocks
 with_chunk l x = finite.insert l x.place.user x
 
+-- One live chunk less.
 unfoldable pub without_chunk : LiveBlocks → ℕ → LiveBlocks
 without_chunk l user = finite.remove l user
 
@@ -53,6 +58,7 @@ pub record IsCarved (s : StackState) (c b : ℕ) : Type 0 where
   pub class : IsClass c
   pub block : IsBlock c (pages_of s c) b
 
+-- A chunk lies in a carved block, behind its header.
 pub record IsPlace (s : StackState) (p : Place) : Type 0 where
   pub carved : IsCarved s p.class p.block
   pub aligned : p.user % 16 ≡ 0
@@ -67,6 +73,7 @@ pub record IsHeaderOf (header : Header) (p : Place) : Type 0 where
   pub size : header.size_or_unused_bytes ≡ p.size
   pub offset : header.offset ≡ (p.user - p.block - 16) / 16
 
+-- The live chunks lie in carved blocks, no two in one.
 pub record ArePlaced (s : StackState) (l : LiveBlocks) : Type 0 where
   pub place : (u : ℕ) (x : BlockChunk) → chunk_at l u ≡ Some x → IsPlace s x.place
   pub user : (u : ℕ) (x : BlockChunk) → chunk_at l u ≡ Some x → x.place.user ≡ u

@@ -12,20 +12,25 @@ use Rattle.scudo_secondary.specs.Mappings.{mapping_of, end_of}
 use Rattle.scudo_secondary.specs.declared.mappings.Mapping.{Mapping}
 use Rattle.scudo_heap.specs.Large.{large_header, unused_in}
 
+-- A chunk with pages of its own: its mapping, its size and its header.
 pub record PageChunk : Type 0 where
   pub mapping : Mapping
   pub size : ℕ
   pub header : Header
 
+-- The live chunks with pages of their own, by their user addresses.
 abbrev pub LivePages : Type 0
 LivePages = FinMap nat_cmp PageChunk
 
+-- The chunk at a user address, if one is live.
 unfoldable pub large_at : LivePages → ℕ → Option PageChunk
 large_at g user = finite.get g user
 
+-- One more live chunk.
 unfoldable pub with_large : LivePages → PageChunk → LivePages
 with_large g x = finite.insert g x.mapping.user x
 
+-- One live chunk less.
 unfoldable pub without_large : LivePages → ℕ → LivePages
 without_large g user = finite.remove g user
 

@@ -9,6 +9,7 @@ use Rattle.tag_discipline.specs.LiveChunks.{ArePlaced, AreTagged}
 use Rattle.tag_discipline.specs.LivePages.{AreLarge}
 use Rattle.tag_discipline.specs.CarefulRuns.{State}
 
+-- What holds throughout a careful run in the synchronous mode.
 pub record Sound (s : State) : Type 0 where
   pub whole : IsWhole s.world.memory
   pub limit : s.world.memory.limit ≤ MAX_PAGES
