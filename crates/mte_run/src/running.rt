@@ -256,5 +256,5 @@ fn is_over(bench: &Bench, observer: &Observer<'_, Log>, options: &Options) -> bo
 /// Runs a slice, or what the limit of steps leaves of it.
 fn run_slice(bench: &mut Bench, observer: &mut Observer<'_, Log>, steps: u32, limit: u64) {
     let left = limit.saturating_sub(bench.parts.log.steps);
-    bench.slice(observer, left.min(u64::from(steps)) as u32);
+    bench.slice(observer, u32::try_from(left).unwrap_or(u32::MAX).min(steps));
 }
