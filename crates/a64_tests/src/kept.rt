@@ -1,8 +1,8 @@
 //! Runs that keep instructions, over plain memories.
 
-use a64_step::{OpCache, Outcome, Regs, known_words_stay, run_cached, steps_keep_fixed_pages};
+use a64_step::{OpCache, Regs, known_words_stay, run_cached, steps_keep_fixed_pages};
 use mte_flat::Flat;
-use mte_tags::{Attrs, Paged, TagMode, Tagged};
+use mte_tags::{Attrs, Paged, TagMode};
 use std::alloc::Global;
 use std::test::Fail;
 
@@ -32,32 +32,5 @@ fn memories_take_turns(rt: HostRuntime) -> Result<(), Fail> {
     assert_eq!(rt; (regs.x[0], regs.pc), (24, CODE));
     steps_keep_fixed_pages();
     known_words_stay();
-    Ok(())
-}
-
-// A program changes an instruction that it has executed, on a page with WRITE and EXEC.
-#[test]
-fn changed_code_is_executed(rt: HostRuntime) -> Result<(), Fail> {
-    let mut memory = Flat::new(rt.alloc(), 1, TagMode::Sync)?;
-    memory.map_pages(16, 1, Attrs::ALL)?;
-    // add x0, x0, #1; str w1, [x2]; b #-8
-    let program = [
-        0x00, 0x04, 0x00, 0x91, 0x41, 0x00, 0x00, 0xB9, 0xFE, 0xFF, 0xFF, 0x17,
-    ];
-    memory.write(CODE, &program, false)?;
-    let mut kept = OpCache::new(rt.alloc())?;
-    let mut regs = Regs::new(CODE, 0);
-    // add x0, x0, #2
-    regs.x[1] = 0x91000800;
-    regs.x[2] = CODE;
-    run_cached(&mut kept, &mut regs, &mut memory, 7);
-    assert_eq!(rt; (regs.x[0], regs.pc), (5, CODE + 4));
-    // svc #0
-    regs.x[1] = 0xD4000001;
-    let stop = run_cached(&mut kept, &mut regs, &mut memory, 9);
-    assert_eq!(rt;
-        (stop.outcome, stop.left, regs.pc),
-        (Some(Outcome::Svc), 6, CODE)
-    );
     Ok(())
 }

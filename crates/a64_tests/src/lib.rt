@@ -3,8 +3,6 @@
 #![tactic(auto)]
 
 #[cfg(test)]
-mod asm;
-#[cfg(test)]
 mod bits;
 #[cfg(test)]
 mod decode;

@@ -75,20 +75,6 @@ fn runs_over_a_plain_memory(rt: HostRuntime) -> Result<(), Fail> {
     Ok(())
 }
 
-#[test]
-fn changes_its_own_code(rt: HostRuntime) -> Result<(), Fail> {
-    // add x0, x0, #1; str w1, [x2]; b #-8
-    let mut memory = memory_of(rt.alloc(), &[0x91000400, 0xB9000041, 0x17FFFFFE])?;
-    let mut decoder = Decoder::new();
-    let mut regs = start();
-    // add x0, x0, #2
-    regs.x[1] = 0x91000800;
-    regs.x[2] = CODE;
-    run(&mut decoder, &mut regs, &mut memory, 7);
-    assert_eq!(rt; (regs.x[0], regs.pc), (5, CODE + 4));
-    Ok(())
-}
-
 // A load through the untagged pointer, one with base SP and write-back, and one that passes a
 // granule's end; a word without a meaning, and a branch to an odd address. One decoder serves all.
 #[test]
