@@ -15,11 +15,11 @@ use Rattle.a64_step.specs.declared.registers.Regs.{Regs}
 use Rattle.a64_step.specs.declared.outcome.Outcome.{Outcome}
 use Rattle.a64_step.specs.declared.outcome.Outcome.TheVariants as outcome
 use Rattle.a64_step.specs.declared.outcome.Stop.{Stop}
-use Rattle.a64_step.specs.Steps.{step_of, run_of, Ran, run_cases}
+use Rattle.a64_step.specs.Steps.{step_of, run_of, Ran, is_next}
 use Rattle.mte_tenant.specs.Machines.{Machine, machine_of, runs, Attempt, continues, after_outcome, with_steps, with_regs}
 use Rattle.mte_tenant.specs.Machines.{after_attempt, after_attempts, first_memory}
 
-pub left_goes : (o : Outcome) (n : ℕ) (more stopped : Ran) → more.stop.left ≤ n → stopped.stop.left ≡ n → (run_cases o more stopped).stop.left ≤ n
+pub left_goes : (o : Outcome) (n : ℕ) (more stopped : Ran) → more.stop.left ≤ n → stopped.stop.left ≡ n → (if is_next o then more else stopped).stop.left ≤ n
 left_goes outcome.Next n more stopped h e = h
 left_goes outcome.Svc n more stopped h e = omega arith
 left_goes (outcome.Fault f) n more stopped h e = omega arith
