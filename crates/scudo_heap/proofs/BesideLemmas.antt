@@ -29,7 +29,7 @@ use Rattle.scudo_heap.specs.Heaps.{HeapState, heap_of, with_more}
 use Rattle.scudo_heap.specs.Chunks.{block_end}
 use Rattle.scudo_heap.specs.Placing.{World, more_pages, pages_for, after_grow, after_place}
 use Rattle.scudo_heap.specs.Large.{mapping_for, large_placed}
-use Rattle.scudo_heap.specs.Allocation.{AllocationResult, allocation_of, no_chunk, place_in, is_empty, with_free_block, after_take, after_class_allocation, after_map_chunk, map_chunk_cases, after_large_allocation, nonzero_size, need_of, allocate_cases, after_allocate, after_malloc}
+use Rattle.scudo_heap.specs.Allocation.{AllocationResult, allocation_of, no_chunk, place_in, is_empty, with_free_block, after_take, after_class_allocation, map_chunk_cases, after_large_allocation, nonzero_size, need_of, allocate_cases, after_allocate, after_malloc}
 use Rattle.scudo_heap.specs.Checks.{size_found}
 use Rattle.scudo_heap.specs.Realloc.{user_of, user_of_chunk}
 use Rattle.scudo_heap.specs.Served.{HeapOwnsItsPages, heap_page, is_inside}
@@ -37,7 +37,7 @@ use Rattle.scudo_heap.specs.Inner.{AreApart, IsFound, IsAlign, IsOpen}
 use Rattle.scudo_heap.proofs.CheckLemmas.{mapping-bounds}
 use Rattle.scudo_heap.proofs.MapLemmas.{all-apart, inside-in, inside-more, is-at}
 use Rattle.scudo_heap.proofs.ClassLemmas.{fits-in}
-use Rattle.scudo_heap.proofs.LargeLemmas.{is-large}
+use Rattle.scudo_heap.proofs.LargeLemmas.{after_map_chunk, is-large}
 use Rattle.scudo_heap.proofs.ServedLemmas.{same-after-pop, block-open, mapping-open}
 use Rattle.scudo_heap.proofs.KeptLemmas.{KeepsUsed, keeps-same, keeps-then, keeps-after-pop, keeps-after-carve, after-carve-top, in-region, blocks-apart, mapping-apart, mapping-kept}
 

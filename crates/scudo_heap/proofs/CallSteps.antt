@@ -28,7 +28,7 @@ use Rattle.scudo_heap.specs.Heaps.{HeapState, with_more}
 use Rattle.scudo_heap.specs.Chunks.{end_of, block_end, with_size, excluded_tags, with_chunk_tag, after_retag_tail}
 use Rattle.scudo_heap.specs.Placing.{World, heap_attrs, more_pages, next_page, pages_for, after_grow, new_header, after_place, after_give_back, after_resize}
 use Rattle.scudo_heap.specs.Large.{mapping_for, large_header, large_placed, large_given_back}
-use Rattle.scudo_heap.specs.Allocation.{AllocationResult, no_chunk, place_in, is_empty, with_free_block, after_take, after_class_allocation, after_map_chunk, map_chunk_cases, after_large_allocation, nonzero_size, need_of, allocate_cases, after_allocate, after_malloc, after_calloc, after_memalign, is_alignment, allocation_of}
+use Rattle.scudo_heap.specs.Allocation.{AllocationResult, no_chunk, place_in, is_empty, with_free_block, after_take, after_class_allocation, map_chunk_cases, after_large_allocation, nonzero_size, need_of, allocate_cases, after_allocate, after_malloc, after_calloc, after_memalign, is_alignment, allocation_of}
 use Rattle.scudo_heap.specs.Checks.{size_found, check_pointer}
 use Rattle.scudo_heap.specs.Freeing.{without_chunk, free_cases, free_of}
 use Rattle.scudo_heap.specs.Realloc.{user_of, user_of_chunk, after_copy, with_copied_bytes, move_to_cases, after_move, after_resize_in_block, with_new_size, realloc_cases, reallocation_of, checked_realloc_cases, after_realloc}
@@ -40,7 +40,7 @@ use Rattle.scudo_heap.proofs.AllocationLemmas.{power-align}
 use Rattle.scudo_heap.proofs.BesideLemmas.{is-with-free-block, class-enough, place-fits, empty-of, malloc-beside}
 use Rattle.scudo_heap.proofs.CheckLemmas.{mapping-bounds}
 use Rattle.scudo_heap.proofs.FoundLemmas.{check-pointer-is}
-use Rattle.scudo_heap.proofs.LargeLemmas.{is-large}
+use Rattle.scudo_heap.proofs.LargeLemmas.{after_map_chunk, is-large}
 use Rattle.scudo_heap.proofs.MapLemmas.{is-at}
 use Rattle.scudo_heap.proofs.ServedLemmas.{class-after-carve, same-after-pop, same-after-push}
 use Rattle.mte_tags.proofs.StateLaws.{state-with_new_pages, state-without_pages}

@@ -10,10 +10,11 @@ use Rattle.scudo_primary.specs.Blocks.{IsClass}
 use Rattle.scudo_primary.proofs.BlockLemmas.{size-IsSize, block-IsCell}
 use Rattle.scudo_heap.specs.declared.chunk.Place.{Place}
 use Rattle.scudo_heap.specs.declared.chunk.Chunk.{Chunk}
+use Rattle.scudo_heap.specs.declared.chunk.Chunk.TheVariants.{Small}
 use Rattle.scudo_heap.specs.Stacks.{stack_of}
 use Rattle.scudo_heap.specs.Chunks.{end_of, block_end}
 use Rattle.scudo_heap.specs.Placing.{World, more_pages, after_grow, after_place}
-use Rattle.scudo_heap.specs.Allocation.{AllocationResult, allocation_of, no_chunk, place_in, is_empty, allocation_at, after_take, with_free_block, after_class_allocation, need_of}
+use Rattle.scudo_heap.specs.Allocation.{AllocationResult, allocation_of, no_chunk, place_in, is_empty, after_take, with_free_block, after_class_allocation, need_of}
 use Rattle.scudo_heap.specs.Inner.{IsAlign}
 
 -- ---- where a chunk lies in a block
@@ -50,6 +51,10 @@ fits-in c pages b align size k block al need =
 pub none-top : (s : List ℕ) → None ≡ slice_get s 0 → s ≡ []
 none-top [] e = refl
 none-top (x ∷ s) e = cc
+
+-- a chunk that was made at a place
+abbrev pub allocation_at : Place → World → AllocationResult
+allocation_at p w = allocation_of w (Some (Small p w.rgsr.tag))
 
 pub after-take-some : (before w : World) (o : Origin) (a z c b : ℕ) (s : List ℕ) → Some b ≡ slice_get s 0 → allocation_at (place_in c b a z) (after_place w o (place_in c b a z)) ≡ after_take before w o a z c s
 after-take-some before w o a z c b [] e = cc

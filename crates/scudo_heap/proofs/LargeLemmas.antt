@@ -9,8 +9,10 @@ use Rattle.mte_tags.specs.Memory.{pages_left}
 use Rattle.scudo_header.specs.declared.headers.Origin.{Origin}
 use Rattle.scudo_secondary.specs.Mappings.{place_of}
 use Rattle.scudo_heap.specs.Placing.{World}
-use Rattle.scudo_heap.specs.Large.{mapping_for}
-use Rattle.scudo_heap.specs.Allocation.{no_chunk, after_map_chunk, map_chunk_cases, after_large_allocation, need_of}
+use Rattle.scudo_heap.specs.Large.{mapping_for, large_placed}
+use Rattle.scudo_secondary.specs.declared.mappings.Mapping.{Mapping}
+use Rattle.scudo_heap.specs.declared.chunk.Chunk.TheVariants.{Large}
+use Rattle.scudo_heap.specs.Allocation.{AllocationResult, allocation_of, no_chunk, map_chunk_cases, after_large_allocation, need_of}
 use Rattle.scudo_heap.specs.Inner.{IsAlign, IsLarge}
 use Rattle.scudo_heap.proofs.ClassLemmas.{divides}
 
@@ -35,6 +37,10 @@ unfolding after_large_allocation
 after-large-allocation-refused w o a z n start e l =
     let t : nat_le n (pages_left w.memory) ≡ false = grind (arith, nat_tests) in
     sym (cond-false _ _ _ t) ∙ ap (map_chunk_cases w o a z n) e
+
+-- what a chunk with pages of its own leaves
+abbrev pub after_map_chunk : World → Origin → ℕ → Mapping → AllocationResult
+after_map_chunk w o z m = allocation_of (large_placed w o m z) (Some (Large m z))
 
 pub after-large-allocation-made : (w : World) (o : Origin) (a z n start : ℕ) → Some start ≡ place_of w.heap.maps.mappings n → n ≤ pages_left w.memory → after_map_chunk w o z (mapping_for start n a z) ≡ after_large_allocation w o a z n
 unfolding after_large_allocation

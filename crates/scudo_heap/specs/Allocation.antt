@@ -1,5 +1,11 @@
 -- malloc, calloc and memalign (Scudo, combined.h, Allocator::allocate). Each is one equation of the
--- world that it leaves and of the chunk that it makes; where it makes none, the world is as it was.
+-- world that it leaves and of the chunk that it makes. Where it makes none, the world is as it was:
+-- for that the world before goes along.
+--     after_allocate w origin align size  what the three calls do: the need, and the least class
+--                                         whose blocks hold it
+--     after_class_allocation w .. class   a class without free blocks gets pages; then the chunk is
+--                                         made in the block on top of its stack
+--     after_large_allocation w .. pages   where no class holds the need: in pages of its own
 use Rattle.std.specs.Prelude.{ℕ, ◌+◌, ◌-◌, ◌*◌, ◌/◌, ◌^◌, ◌==◌, ◌&&◌, Bool, true, false}
 use Rattle.std.specs.Prelude.{nat_le, max, List, [], ◌∷◌, Option, Some, None}
 use Rattle.std.specs.Prelude.{if◌then◌else◌}
@@ -9,7 +15,6 @@ use Rattle.scudo_header.specs.Classes.{class_for}
 use Rattle.scudo_header.specs.declared.headers.Origin.{Origin}
 use Rattle.scudo_header.specs.declared.headers.Origin.TheVariants.{Malloc, Memalign}
 use Rattle.scudo_secondary.specs.Mappings.{place_of}
-use Rattle.scudo_secondary.specs.declared.mappings.Mapping.{Mapping}
 use Rattle.scudo_heap.specs.declared.limits.TheConstants.{MAX_REQUEST}
 use Rattle.scudo_heap.specs.declared.chunk.Place.{Place}
 use Rattle.scudo_heap.specs.declared.chunk.Chunk.{Chunk}
@@ -30,7 +35,7 @@ allocation_of w chunk = record { world = w; chunk = chunk }
 
 -- An allocation that makes nothing.
 abbrev pub no_chunk : World → AllocationResult
-no_chunk w = record { world = w; chunk = None }
+no_chunk w = allocation_of w None
 
 -- What the caller is given: the user address with the tag in its bits 59:56, or 0.
 abbrev pub answer_of : Option Chunk → ℕ
@@ -61,33 +66,29 @@ with_free_block w class =
     then after_grow w class
     else w
 
-abbrev pub allocation_at : Place → World → AllocationResult
-allocation_at p w = record { world = w; chunk = Some (Small p w.rgsr.tag) }
-
--- The top of the stack is taken; where there is none, nothing is made.
+-- The chunk is made in the block on top of the stack.
 abbrev pub after_take : World → World → Origin → ℕ → ℕ → ℕ → List ℕ → AllocationResult
 after_take before w origin align size class [] = no_chunk before
-after_take before w origin align size class (b ∷ more) =
-    allocation_at (place_in class b align size) (after_place w origin (place_in class b align size))
+after_take before w origin align size class (block ∷ more) =
+    let place = place_in class block align size in
+    let made = after_place w origin place in
+    allocation_of made (Some (Small place made.rgsr.tag))
 
 -- A chunk of a size class, which gets pages where it has no free block.
 unfoldable pub after_class_allocation : World → Origin → ℕ → ℕ → ℕ → AllocationResult
 after_class_allocation w origin align size class =
-    after_take w (with_free_block w class) origin align size class
-    (stack_of (with_free_block w class).heap.stacks class)
+    let ready = with_free_block w class in
+    after_take w ready origin align size class (stack_of ready.heap.stacks class)
 
 -- ---- a chunk with pages of its own
-
-abbrev pub after_map_chunk : World → Origin → ℕ → Mapping → AllocationResult
-after_map_chunk w origin size m =
-    record { world = large_placed w origin m size; chunk = Some (Large m size) }
 
 -- At the least place that fits, if one does and its pages are left.
 abbrev pub map_chunk_cases : World → Origin → ℕ → ℕ → ℕ → Option ℕ → AllocationResult
 map_chunk_cases w origin align size pages None = no_chunk w
 map_chunk_cases w origin align size pages (Some start) =
+    let mapping = mapping_for start pages align size in
     if nat_le pages (pages_left w.memory)
-    then after_map_chunk w origin size (mapping_for start pages align size)
+    then allocation_of (large_placed w origin mapping size) (Some (Large mapping size))
     else no_chunk w
 
 -- A chunk with pages of its own, at the least place that fits.
@@ -114,9 +115,9 @@ allocate_cases w origin align size (Some class) = after_class_allocation w origi
 -- The least class whose blocks hold the need, else pages of its own. The alignment is 16 at least.
 unfoldable pub after_allocate : World → Origin → ℕ → ℕ → AllocationResult
 after_allocate w origin align size =
+    let bytes = nonzero_size size in
     if nat_le size MAX_REQUEST
-    then allocate_cases w origin align (nonzero_size size)
-    (class_for (need_of align (nonzero_size size)))
+    then allocate_cases w origin align bytes (class_for (need_of align bytes))
     else no_chunk w
 
 -- malloc

@@ -5,7 +5,7 @@
 --     after_resize w p header size  it gets another size in its block
 use Rattle.std.specs.Prelude.{ℕ, ◌+◌, ◌-◌, ◌/◌}
 use Rattle.mte_tags.specs.Memory.{Memory, with_new_pages}
-use Rattle.mte_tags.specs.RandomTags.{Drawn, after_draw}
+use Rattle.mte_tags.specs.RandomTags.{after_draw}
 use Rattle.mte_tags.specs.declared.attrs.Attrs.{Attrs}
 use Rattle.mte_tags.specs.declared.generator.Rgsr.{Rgsr}
 use Rattle.scudo_header.specs.Classes.{size_of}
@@ -67,33 +67,32 @@ new_header origin p = record {
   offset = (p.user - p.block - 16) / 16;
 }
 
-abbrev pub place_with_draw : World → Origin → Place → Drawn → World
-place_with_draw w origin p d = record {
-  memory =
-      with_header (with_end_tag_0 (with_header_tag_0
-      (with_chunk_tag w.memory p d.tag) p) p) w.heap.cookie p.user
-      (new_header origin p);
-  heap = record w.heap { stacks = after_pop w.heap.stacks p.class };
-  rgsr = d.rgsr;
-}
-
+-- A tag is drawn for the chunk's granules, which become zero; the granules beside them get tag 0,
+-- and the header is written. The block is no longer free.
 unfoldable pub after_place : World → Origin → Place → World
-after_place w origin p = place_with_draw w origin p (after_draw w.rgsr (excluded_tags w.memory p))
+after_place w origin p =
+    let drawn = after_draw w.rgsr (excluded_tags w.memory p) in
+    let tagged = with_chunk_tag w.memory p drawn.tag in
+    let closed = with_end_tag_0 (with_header_tag_0 tagged p) p in
+    record {
+      memory = with_header closed w.heap.cookie p.user (new_header origin p);
+      heap = record w.heap { stacks = after_pop w.heap.stacks p.class };
+      rgsr = drawn.rgsr;
+    }
 
 -- ---- a chunk that is freed
 
-abbrev pub give_back_with_draw : World → Place → Header → Drawn → World
-give_back_with_draw w p header d = record {
-  memory =
-      with_header (with_chunk_tag w.memory p d.tag) w.heap.cookie p.user
-      (record header { state = Available });
-  heap = record w.heap { stacks = after_push w.heap.stacks p.class p.block };
-  rgsr = d.rgsr;
-}
-
+-- Another tag is drawn for its granules, which become zero, and the header says that it is free. Its
+-- block comes on top of the stack.
 unfoldable pub after_give_back : World → Place → Header → World
 after_give_back w p header =
-    give_back_with_draw w p header (after_draw w.rgsr (excluded_tags w.memory p))
+    let drawn = after_draw w.rgsr (excluded_tags w.memory p) in
+    let tagged = with_chunk_tag w.memory p drawn.tag in
+    record {
+      memory = with_header tagged w.heap.cookie p.user (record header { state = Available });
+      heap = record w.heap { stacks = after_push w.heap.stacks p.class p.block };
+      rgsr = drawn.rgsr;
+    }
 
 -- ---- a chunk that gets another size in its block
 

@@ -14,7 +14,8 @@ use Rattle.scudo_heap.specs.declared.chunk.Chunk.TheVariants.{Small, Large}
 use Rattle.scudo_heap.specs.Stacks.{AreSound, stack_of}
 use Rattle.scudo_heap.specs.Placing.{World, pages_for, after_place}
 use Rattle.scudo_heap.specs.Large.{mapping_for}
-use Rattle.scudo_heap.specs.Allocation.{no_chunk, nonzero_size, need_of, is_alignment, place_in, with_free_block, after_take, after_class_allocation, allocate_cases, after_map_chunk, map_chunk_cases, after_large_allocation, after_allocate, after_malloc, after_calloc, after_memalign}
+use Rattle.scudo_heap.specs.Allocation.{no_chunk, nonzero_size, need_of, is_alignment, place_in, with_free_block, after_take, after_class_allocation, allocate_cases, map_chunk_cases, after_large_allocation, after_allocate, after_malloc, after_calloc, after_memalign}
+use Rattle.scudo_heap.proofs.LargeLemmas.{after_map_chunk}
 use Rattle.scudo_heap.specs.Inner.{IsAlign}
 use Rattle.scudo_heap.proofs.AllocationLemmas.{power-align}
 use Rattle.tag_discipline.specs.LivePages.{AreLarge}

@@ -12,12 +12,12 @@ use Rattle.scudo_heap.specs.Heaps.{with_more}
 use Rattle.scudo_heap.specs.Placing.{World, heap_attrs}
 use Rattle.scudo_heap.specs.Chunks.{with_header}
 use Rattle.scudo_heap.specs.Large.{mapping_for, large_header, large_placed}
-use Rattle.scudo_heap.specs.Allocation.{after_map_chunk, need_of}
+use Rattle.scudo_heap.specs.Allocation.{need_of}
 use Rattle.scudo_heap.specs.Inner.{IsAlign, IsLarge}
 use Rattle.scudo_heap.specs.Served.{is_inside}
 use Rattle.std.proofs.Math.Nat.{mul-mod_left}
 use Rattle.scudo_heap.proofs.ClassLemmas.{divides}
-use Rattle.scudo_heap.proofs.LargeLemmas.{is-large}
+use Rattle.scudo_heap.proofs.LargeLemmas.{after_map_chunk, is-large}
 use Rattle.scudo_heap.proofs.MapLemmas.{IsAt, is-at, without, inside-in}
 use Rattle.scudo_heap.proofs.ServedLemmas.{pages-free, places-of}
 use Rattle.tag_discipline.specs.LivePages.{new_large, AreLarge}

@@ -5,10 +5,10 @@ use Rattle.scudo_heap.specs.declared.chunk.Chunk.TheVariants.{Small}
 use Rattle.scudo_heap.specs.Stacks.{StackState, stack_of}
 use Rattle.scudo_heap.specs.Heaps.{heap_of}
 use Rattle.scudo_heap.specs.Placing.{world_of, after_place}
-use Rattle.scudo_heap.specs.Allocation.{allocation_of, allocation_at}
+use Rattle.scudo_heap.specs.Allocation.{allocation_of}
 use Rattle.scudo_heap.specs.Inner.{IsOpen}
 use Rattle.scudo_heap.proofs.ServedLemmas.{block-open-in}
-use Rattle.scudo_heap.proofs.ClassLemmas.{FitsIn, fits-in, none-top, after-take-some}
+use Rattle.scudo_heap.proofs.ClassLemmas.{allocation_at, FitsIn, fits-in, none-top, after-take-some}
 use Rattle.scudo_heap.proofs.classes.take_top.Goals as goal
 
 pub make_chunk-tag-requires-clause-aligned : goal.make_chunk-tag-requires-clause-aligned

@@ -5,10 +5,10 @@ use Rattle.scudo_heap.specs.declared.chunk.Chunk.TheVariants.{Large}
 use Rattle.scudo_heap.specs.Heaps.{heap_of}
 use Rattle.scudo_heap.specs.Placing.{world_of}
 use Rattle.scudo_heap.specs.Large.{large_placed}
-use Rattle.scudo_heap.specs.Allocation.{allocation_of, no_chunk, after_map_chunk}
+use Rattle.scudo_heap.specs.Allocation.{allocation_of, no_chunk}
 use Rattle.scudo_heap.specs.Inner.{IsLarge}
 use Rattle.scudo_heap.proofs.MapLemmas.{is-at}
-use Rattle.scudo_heap.proofs.LargeLemmas.{is-large, after-large-allocation-none, after-large-allocation-refused, after-large-allocation-made}
+use Rattle.scudo_heap.proofs.LargeLemmas.{after_map_chunk, is-large, after-large-allocation-none, after-large-allocation-refused, after-large-allocation-made}
 use Rattle.scudo_heap.proofs.pages.take_pages.Goals as goal
 
 pub returns-in_default-clause-made : goal.returns-in_default-clause-made
