@@ -142,7 +142,7 @@ pub record IsFreshIn (s : State) (r : AllocationResult) : Type 0 where
   pub other :
       (p : Place) (t : ℕ) → r.chunk ≡ Some (Small p t) → t ≢ tag_at s.world.memory p.user
 
--- So it is of every call that makes a chunk.
+-- Each call that makes a chunk gives it a fresh tag.
 pub record NewTagsDiffer : Type 0 where
   pub malloc : (s : State) (size : ℕ) → Sound s → IsFreshIn s (after_malloc s.world size)
   pub calloc :
@@ -239,8 +239,8 @@ pub record NextDeallocation (m : Machine) (l : Live) : Type 0 where
   pub freed : Deallocation (state_of (before_service m) l)
   pub call : next_call m ≡ Some freed.call
 
--- From that instruction on, after which so many steps of its slice are left, up to the machine k with
--- the live chunks j, no allocation has taken the chunk's block.
+-- From that instruction on, after which `left` steps of its slice are left, no allocation has taken
+-- the chunk's block, up to the machine k with the live chunks j.
 abbrev pub KeepsFreeTo : {m : Machine} {l : Live} → NextDeallocation m l → Machine → Live → Type 0
 KeepsFreeTo {m} {l} d k j =
     (left : ℕ)
