@@ -115,7 +115,7 @@ impl<'a> Debuggee<'a> {
         self.parts.is_running() && self.done < self.cut && self.slices < u64::MAX
     }
 
-    /// Attempts one instruction, and ends the slice where it is over. `false` where it cannot go on.
+    /// Attempts one instruction, and ends the slice where it is over. `false` if it cannot go on.
     pub fn attempt(&mut self) -> bool {
         if !self.parts.is_running() || self.done >= self.cut || self.slices == u64::MAX {
             return false;

@@ -1,5 +1,5 @@
-//! `embedding SCRIPT IMAGE`: what docs/EMBEDDING.md shows in Rattle, once each: a step, a heap of its
-//! own, a tenant alone, a host of two tenants, and the report of a session.
+//! `embedding SCRIPT IMAGE`: what docs/EMBEDDING.md shows in Rattle, once each: a step, a heap of
+//! its own, a tenant alone, a host of two tenants, and the report of a session.
 #![tactic(auto)]
 
 use anyhow::{Result, bail};

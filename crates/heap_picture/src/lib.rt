@@ -1,9 +1,9 @@
 //! A heap and its tags as a picture in SVG: rows of granules, each in the colour of its tag, with
 //! the blocks, the chunks that are live or freed, and the access or pointer that was refused.
 //!
-//! A picture is the text of a [`Heading`], of its [`PictureLine`]s in order, each with its [`Note`]s
-//! behind it, of an [`Arrow`] where there is one, and [`END`]. A [`Gap`] stands between rows that
-//! do not follow each other.
+//! A picture is the text of a [`Heading`], of its [`PictureLine`]s in order, each with its
+//! [`Note`]s behind it, of an [`Arrow`] where there is one, and [`END`]. A [`Gap`] stands between
+//! rows that do not follow each other.
 #![tactic(auto)]
 
 mod arrow;

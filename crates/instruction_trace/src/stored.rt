@@ -8,13 +8,13 @@ use std::fmt;
 /// What a store leaves in memory.
 #[derive(Clone, Copy)]
 pub(crate) enum Stored {
-    /// So many bytes of a register at an address.
+    /// Bytes of a register at an address.
     One {
         addr: u64,
         bytes: u64,
         value: u64,
     },
-    /// So many bytes each of two registers at an address.
+    /// Bytes of each of two registers at an address.
     Two {
         addr: u64,
         bytes: u64,

@@ -32,7 +32,8 @@ files_rule = record (new_rule (codes "files")) {
 -- The form of the command line.
 abbrev pub form : App
 form =
-    with_rule (with_rule (with_rule (new_app (codes "mte_host")) frames_rule) script_rule) files_rule
+    with_rule (with_rule (with_rule (new_app (codes "mte_host")) frames_rule) script_rule)
+    files_rule
 
 -- The values that words gave an argument.
 abbrev pub values_at : List ℕ → List Row → List (List ℕ)

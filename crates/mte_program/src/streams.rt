@@ -1,5 +1,5 @@
 //! The standard library's readers and writers. What passes them is what passes the reader or the
-//! writer inside, as far as the standard library knows it: of a file of the system it knows nothing.
+//! writer inside, as far as the standard library knows it: of a system's file it knows nothing.
 
 ghost use Rattle.std.specs.Prelude.{◌≡◌, ◌≤◌, length, IfOk};
 ghost use Rattle.std.specs.Io.KnownBytes.{ReadConsumes, WriteAppends};

@@ -1,5 +1,5 @@
 -- What calls make of one tenant, and what is known of it while calls are left.
-use Rattle.std.proofs.Common.{◌≡◌, ℕ, zero, suc, ◌<◌, ◌==◌, ◌||◌, ◌&&◌, Bool, true, false, List, [], ◌∷◌, ◌++◌, Option, Some, None}
+use Rattle.std.proofs.Common.{◌≡◌, ℕ, zero, suc, ◌<◌, ◌==◌, ◌||◌, ◌&&◌, Bool, true, false, List, [], ◌∷◌, Option, Some, None}
 use Rattle.std.proofs.Common.{if◌then◌else◌, option_map, refl, ap, sym, ◌∙◌, arith, ne_eqb, eq-eqb, eqb-true}
 use Rattle.mte_svc.specs.declared.record.Record.{Record}
 use Rattle.mte_svc.specs.declared.record.Status.TheVariants.{Stopped}
@@ -8,9 +8,10 @@ use Rattle.mte_tenant.specs.declared.refusal.Refusal.{Refusal}
 use Rattle.mte_tenant.specs.declared.refusal.Refusal.TheVariants as refusal
 use Rattle.mte_tenant.specs.declared.admission.AdmitError.{AdmitError}
 use Rattle.mte_tenant.specs.declared.admission.AdmitError.TheVariants.{Duplicate, BadReservation}
-use Rattle.mte_tenant.specs.Machines.{Start, Machine, runs, start_of, with_status, after_attempts, stop_if_pending, stop_by_tag, after_slice_end, after_slice, after_stop}
-use Rattle.mte_tenant.specs.Ledger.{Call, Admit, Slice, Stop, LedgerEntry, first_of, refuse_if, is_bad, admission_refusal, call_refusal, ledger_after, ledger_cases}
-use Rattle.mte_sched.specs.Lives.{Session, Life, lives, lives_from, life_among, own_events}
+use Rattle.mte_tenant.specs.Machines.{Start, Machine, runs, start_of, with_status, after_attempts, stop_by_tag, after_slice_end, after_slice, after_stop}
+use Rattle.mte_tenant.specs.Ledger.{Call, Admit, Slice, Stop, LedgerEntry, first_of, refuse_if, is_bad, admission_refusal, call_refusal, ledger_after}
+use Rattle.mte_sched.specs.Lives.{Session, Life, decisions, own_events, lives_of, lives, life_among}
+use Rattle.mte_sched.proofs.IsolationLemmas.{accepted_from}
 use Rattle.mte_sched.specs.Contents.{Content, TenantState, Live, Gone, state_after_slice, state_after_stop, after_own_events, tenant_of, ledger_of, after_admit, after_slice_of, after_stop_of, after_call}
 use Rattle.mte_sched.specs.Isolation.{LedgerFollows}
 use Rattle.mte_script.specs.declared.event.Event.{Event}
@@ -107,15 +108,15 @@ pub record Grows (id : ℕ) (files : List (List ℕ)) (s : Session) (ledger : Li
   pub image : file_at files t.image ≡ life.start.image
   pub held : TenantState
   pub like : IsLike held (machine_in t)
-  pub rest : after_own_events held (own_events s.frames ledger calls id) ≡ (tenant_of life).held
+  pub rest : after_own_events held (own_events id (accepted_from s.frames ledger calls)) ≡ (tenant_of life).held
 
 abbrev pub Known : ℕ → List (List ℕ) → Session → List LedgerEntry → List Call → Option Replayed → Type 0
 Known id files s ledger calls (Some t) = Grows id files s ledger calls t
-Known id files s ledger calls None = life_among id (lives_from s.frames ledger calls) ≡ life_among id (lives s)
+Known id files s ledger calls None = life_among id (lives_of (accepted_from s.frames ledger calls)) ≡ life_among id (lives s)
 
 pub known_refused : (id : ℕ) (files : List (List ℕ)) (s : Session) (ledger : List LedgerEntry) (e : Call) (more : List Call) (r : Refusal) (o : Option Replayed)
     → call_refusal s.frames ledger e ≡ Some r → Known id files s ledger (e ∷ more) o → Known id files s ledger more o
-unfolding lives_from own_events
+unfolding decisions
 known_refused id files s ledger e more r None e_some h = rw e_some at h
 known_refused id files s ledger e more r (Some t) e_some h = record {
   life = h.life;
@@ -129,7 +130,7 @@ known_refused id files s ledger e more r (Some t) e_some h = record {
 -- An accepted call that names another tenant.
 none_other : (id : ℕ) (files : List (List ℕ)) (s : Session) (ledger : List LedgerEntry) (e : Call) (more : List Call)
     → call_refusal s.frames ledger e ≡ None → (number_in e ≡ id → ⊥) → Known id files s ledger (e ∷ more) None → Known id files s (ledger_after ledger e) more None
-unfolding lives_from
+unfolding decisions
 none_other id files s ledger (Admit k start) more e_none other h =
     let k_differs : (k == id) ≡ false = ne_eqb k id other in
     let next = rw e_none at h in
@@ -138,8 +139,8 @@ none_other id files s ledger (Slice k n) more e_none other h = rw e_none at h
 none_other id files s ledger (Stop k) more e_none other h = rw e_none at h
 
 rest_other : (id f : ℕ) (ledger : List LedgerEntry) (e : Call) (more : List Call) (held all : TenantState)
-    → call_refusal f ledger e ≡ None → (number_in e ≡ id → ⊥) → after_own_events held (own_events f ledger (e ∷ more) id) ≡ all → after_own_events held (own_events f (ledger_after ledger e) more id) ≡ all
-unfolding own_events
+    → call_refusal f ledger e ≡ None → (number_in e ≡ id → ⊥) → after_own_events held (own_events id (accepted_from f ledger (e ∷ more))) ≡ all → after_own_events held (own_events id (accepted_from f (ledger_after ledger e) more)) ≡ all
+unfolding decisions
 rest_other id f ledger (Admit k start) more held all e_none other h = rw e_none at h
 rest_other id f ledger (Slice k n) more held all e_none other h =
     let differs : (id == k) ≡ false = ne_eqb id k (λ e. other (sym e)) in
@@ -166,11 +167,11 @@ known_other id files s ledger e more (Some t) e_none other h = record {
 pub record Next (id f : ℕ) (ledger : List LedgerEntry) (e : Call) (more : List Call) (all : TenantState) (m : Machine) : Type 0 where
   pub held : TenantState
   pub like : IsLike held (machine_after e m)
-  pub rest : after_own_events held (own_events f (ledger_after ledger e) more id) ≡ all
+  pub rest : after_own_events held (own_events id (accepted_from f (ledger_after ledger e) more)) ≡ all
 
 next_own : (id f : ℕ) (ledger : List LedgerEntry) (e : Call) (more : List Call) (held all : TenantState) (m : Machine)
-    → call_refusal f ledger e ≡ None → number_in e ≡ id → IsLike held m → after_own_events held (own_events f ledger (e ∷ more) id) ≡ all → Next id f ledger e more all m
-unfolding own_events after_own_events
+    → call_refusal f ledger e ≡ None → number_in e ≡ id → IsLike held m → after_own_events held (own_events id (accepted_from f ledger (e ∷ more))) ≡ all → Next id f ledger e more all m
+unfolding decisions after_own_events
 next_own id f ledger (Admit k start) more held all m e_none own like h = record { held = held; like = like; rest = rw e_none at h }
 next_own id f ledger (Slice k n) more held all m e_none own like h =
     let same : (id == k) ≡ true = eq-eqb id k (sym own) in
@@ -198,25 +199,25 @@ grows_own id files s ledger e more t u e_none own p h =
 -- The admission of the tenant.
 grows_first : (id k : ℕ) (files : List (List ℕ)) (s : Session) (ledger : List LedgerEntry) (start : Start) (more : List Call) (u : Replayed)
     → call_refusal s.frames ledger (Admit k start) ≡ None → k ≡ id → IsStarted files (Admit k start) (Some u)
-    → life_among id (lives_from s.frames ledger (Admit k start ∷ more)) ≡ life_among id (lives s) → Grows id files s (ledger_after ledger (Admit k start)) more u
-unfolding lives_from
+    → life_among id (lives_of (accepted_from s.frames ledger (Admit k start ∷ more))) ≡ life_among id (lives s) → Grows id files s (ledger_after ledger (Admit k start)) more u
+unfolding decisions
 grows_first id k files s ledger start more u e_none own p h =
     let same : (k == id) ≡ true = eq-eqb k id own in
     let next = rw e_none at h in
     let first = rw same at next in
     record {
-      life = record { id = k; start = start; own = own_events s.frames (ledger_after ledger (Admit k start)) more k };
+      life = record { id = k; start = start; own = own_events k (accepted_from s.frames (ledger_after ledger (Admit k start)) more) };
       admitted = sym first;
       image = p.1;
       held = Live (start_of k start);
       like = p.0;
-      rest = ap (λ j. after_own_events (Live (start_of k start)) (own_events s.frames (ledger_after ledger (Admit k start)) more j)) (sym own);
+      rest = ap (λ j. after_own_events (Live (start_of k start)) (own_events j (accepted_from s.frames (ledger_after ledger (Admit k start)) more))) (sym own);
     }
 
 known_first : (id : ℕ) (files : List (List ℕ)) (s : Session) (ledger : List LedgerEntry) (e : Call) (more : List Call) (o : Option Replayed)
     → call_refusal s.frames ledger e ≡ None → number_in e ≡ id → IsStarted files e o
     → Known id files s ledger (e ∷ more) None → Known id files s (ledger_after ledger e) more o
-unfolding lives_from
+unfolding decisions
 known_first id files s ledger (Admit k start) more (Some u) e_none own p h = grows_first id k files s ledger start more u e_none own p h
 known_first id files s ledger (Admit k start) more None e_none own p h = absurd p
 known_first id files s ledger (Slice k n) more o e_none own p h = rw p (rw e_none at h)
@@ -244,7 +245,7 @@ known_next id files s ledger e more o p e_none own other h = by (number_in e == 
 -- No call is left.
 pub known_end : (id : ℕ) (files : List (List ℕ)) (s : Session) (ledger : List LedgerEntry) (o : Option Replayed)
     → Known id files s ledger [] o → IsReplay id files s o
-unfolding lives_from own_events after_own_events
+unfolding decisions after_own_events
 known_end id files s ledger None h = sym h
 known_end id files s ledger (Some t) h = record {
   life = h.life;

@@ -2,8 +2,8 @@
 use Rattle.std.proofs.Common.{◌≡◌, ℕ, ◌==◌, Bool, true, false, List, [], ◌∷◌, ◌++◌, map}
 use Rattle.std.proofs.Common.{Option, Some, None, if◌then◌else◌, refl, ap, sym, ◌∙◌}
 use Rattle.mte_tenant.specs.Ledger.{Call, Admit, Slice, Stop, LedgerEntry, call_refusal, without_live, ledger_cases}
-use Rattle.mte_sched.specs.Lives.{TenantEvent, OwnSlice, OwnStop, Life, own_event_cases, own_events}
-use Rattle.mte_sched.specs.Lives.{life_cases, lives_from, lives, life_among}
+use Rattle.mte_sched.specs.Lives.{TenantEvent, OwnSlice, OwnStop, Life, decisions, accepted_calls}
+use Rattle.mte_sched.specs.Lives.{own_events, lives_of, lives, life_among}
 use Rattle.mte_sched.specs.Contents.{TenantState, Live, Gone, lives_on, state_after_slice, state_after_stop, after_own_events}
 use Rattle.mte_sched.specs.Contents.{Tenant, Content, entry_of, ledger_of, tenant_after_slice}
 use Rattle.mte_sched.specs.Contents.{tenant_after_stop, after_admit, after_slice_of, after_stop_of, after_call, after_call_cases, after_calls}
@@ -11,9 +11,18 @@ use Rattle.mte_sched.specs.Contents.{empty, tenant_of, new_tenant}
 use Rattle.mte_sched.specs.Isolation.{LedgerFollows, TenantsAreAlone, TenantsAreIsolated, tenant_among}
 use Rattle.mte_tenant.specs.declared.refusal.Refusal.{Refusal}
 
--- a tenant after its own events among more
-abbrev pub grown : ℕ → List LedgerEntry → List Call → Tenant → Tenant
-grown frames ledger events t = record t { held = after_own_events t.held (own_events frames ledger events t.id) }
+-- The calls that a host accepts.
+abbrev pub accepted_from : ℕ → List LedgerEntry → List Call → List Call
+accepted_from frames ledger calls = accepted_calls (decisions frames ledger calls)
+
+-- The same after the decision on the first call.
+abbrev pub accepted_on : Option Refusal → ℕ → List LedgerEntry → Call → List Call → List Call
+accepted_on r frames ledger e more =
+    accepted_calls (record { call = e; refusal = r } ∷ decisions frames (ledger_cases r ledger e) more)
+
+-- A tenant after its own events among calls.
+abbrev pub grown : List Call → Tenant → Tenant
+grown calls t = record t { held = after_own_events t.held (own_events t.id calls) }
 
 pub sliced_is_live : (n : ℕ) (h : TenantState) → lives_on (state_after_slice n h) ≡ lives_on h
 sliced_is_live n (Live m) = refl
@@ -77,16 +86,15 @@ stopped_own true h own = refl
 stopped_own false h own = refl
 
 abbrev pub Grown : List Call → Content → Type 0
-Grown events c = (after_calls c events).tenants ≡ map (grown c.frames (ledger_of c) events) c.tenants ++ map tenant_of (lives_from c.frames (ledger_of c) events)
+Grown calls c =
+    let accepted = accepted_from c.frames (ledger_of c) calls in
+    (after_calls c calls).tenants ≡ map (grown accepted) c.tenants ++ map tenant_of (lives_of accepted)
 
--- what an event and others make of a tenant
-abbrev pub grown_on : Option Refusal → ℕ → List LedgerEntry → Call → List Call → Tenant → Tenant
-grown_on r frames ledger e more t = record t { held = after_own_events t.held (own_event_cases r t.id e ++ own_events frames (ledger_cases r ledger e) more t.id) }
-
+-- The same after the decision on the first call.
 abbrev pub GrownOn : Option Refusal → Call → List Call → Content → Type 0
-GrownOn r e more c = (after_calls (after_call_cases r c e) more).tenants
-    ≡ map (grown_on r c.frames (ledger_of c) e more) c.tenants
-    ++ map tenant_of (life_cases r e (own_events c.frames (ledger_cases r (ledger_of c) e) more) ++ lives_from c.frames (ledger_cases r (ledger_of c) e) more)
+GrownOn r e more c =
+    let accepted = accepted_on r c.frames (ledger_of c) e more in
+    (after_calls (after_call_cases r c e) more).tenants ≡ map (grown accepted) c.tenants ++ map tenant_of (lives_of accepted)
 
 pub next_grown : (r : Option Refusal) (e : Call) (more : List Call) (c : Content) → ((d : Content) → Grown more d) → GrownOn r e more c
 unfolding after_slice_of after_stop_of after_admit after_call
@@ -94,27 +102,29 @@ next_grown (Some r) e more c rest = rest c
 next_grown None (Slice id n) more c rest =
     let ledger : ledger_of (after_slice_of c id n) ≡ ledger_of c = ledger_sliced id n c.tenants in
     let step = rw ledger at (rest (after_slice_of c id n)) in
-    let own = fused (grown c.frames (ledger_of c) more) (tenant_after_slice id n) (grown_on None c.frames (ledger_of c) (Slice id n) more)
-    (λ t. ap (λ (h : TenantState). let u : Tenant = record t { held = h } in u) (sliced_own (t.id == id) n t.held (own_events c.frames (ledger_of c) more t.id))) c.tenants in
-    step ∙ ap (λ ts. ts ++ map tenant_of (lives_from c.frames (ledger_of c) more)) own
+    let accepted = accepted_from c.frames (ledger_of c) more in
+    let own = fused (grown accepted) (tenant_after_slice id n) (grown (Slice id n ∷ accepted))
+    (λ t. ap (λ (h : TenantState). let u : Tenant = record t { held = h } in u) (sliced_own (t.id == id) n t.held (own_events t.id accepted))) c.tenants in
+    step ∙ ap (λ ts. ts ++ map tenant_of (lives_of accepted)) own
 next_grown None (Stop id) more c rest =
     let ledger : ledger_of (after_stop_of c id) ≡ map (without_live id) (ledger_of c) = ledger_stopped id c.tenants in
     let step = rw ledger at (rest (after_stop_of c id)) in
-    let own = fused (grown c.frames (map (without_live id) (ledger_of c)) more) (tenant_after_stop id) (grown_on None c.frames (ledger_of c) (Stop id) more)
-    (λ t. ap (λ (h : TenantState). let u : Tenant = record t { held = h } in u) (stopped_own (t.id == id) t.held (own_events c.frames (map (without_live id) (ledger_of c)) more t.id))) c.tenants in
-    step ∙ ap (λ ts. ts ++ map tenant_of (lives_from c.frames (map (without_live id) (ledger_of c)) more)) own
+    let accepted = accepted_from c.frames (map (without_live id) (ledger_of c)) more in
+    let own = fused (grown accepted) (tenant_after_stop id) (grown (Stop id ∷ accepted))
+    (λ t. ap (λ (h : TenantState). let u : Tenant = record t { held = h } in u) (stopped_own (t.id == id) t.held (own_events t.id accepted))) c.tenants in
+    step ∙ ap (λ ts. ts ++ map tenant_of (lives_of accepted)) own
 next_grown None (Admit id start) more c rest =
     let new : Tenant = new_tenant id start in
     let after = ledger_of c ++ (entry_of new) ∷ [] in
     let ledger : ledger_of (after_admit c id start) ≡ after = map_append entry_of c.tenants (new ∷ []) in
     let step = rw ledger at (rest (after_admit c id start)) in
-    let f = grown c.frames after more in
-    step ∙ ap (λ ts. ts ++ map tenant_of (lives_from c.frames after more)) (map_append f c.tenants (new ∷ []))
-    ∙ append_one (map f c.tenants) (f new) (map tenant_of (lives_from c.frames after more))
+    let accepted = accepted_from c.frames after more in
+    step ∙ ap (λ ts. ts ++ map tenant_of (lives_of accepted)) (map_append (grown accepted) c.tenants (new ∷ []))
+    ∙ append_one (map (grown accepted) c.tenants) (grown accepted new) (map tenant_of (lives_of accepted))
 
-pub all_grown : (events : List Call) (c : Content) → Grown events c
-unfolding after_calls own_events lives_from after_own_events
-all_grown [] c = sym (append_none (map (grown c.frames (ledger_of c) []) c.tenants) ∙ map_same (grown c.frames (ledger_of c) []) (λ t. refl) c.tenants)
+pub all_grown : (calls : List Call) (c : Content) → Grown calls c
+unfolding after_calls decisions after_own_events
+all_grown [] c = sym (append_none (map (grown []) c.tenants) ∙ map_same (grown []) (λ t. refl) c.tenants)
 all_grown (e ∷ more) c = next_grown (call_refusal c.frames (ledger_of c) e) e more c (λ d. all_grown more d)
 
 pub ledger_follows : LedgerFollows

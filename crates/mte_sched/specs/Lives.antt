@@ -1,5 +1,6 @@
 -- A tenant's life in a session: its admission and its own events.
-use Rattle.std.specs.Prelude.{◌≡◌, ℕ, ◌+◌, ◌==◌, List, [], ◌∷◌, ◌++◌, Option, Some, None}
+use Rattle.std.specs.Prelude.{◌≡◌, ℕ, ◌+◌, ◌==◌, List, [], ◌∷◌, ◌++◌, map, filter, flat_map}
+use Rattle.std.specs.Prelude.{Option, Some, None, is_none, option_map, option_to_list}
 use Rattle.std.specs.Prelude.{if◌then◌else◌}
 use Rattle.mte_tenant.specs.declared.refusal.Refusal.{Refusal}
 use Rattle.mte_tenant.specs.declared.refusal.Refused.{Refused}
@@ -18,7 +19,34 @@ pub record Life : Type 0 where
   pub start : Start
   pub own : List TenantEvent
 
--- ---- a tenant's own events: the accepted slices and the stop of its number
+-- ---- the decisions on calls
+
+-- A call, and why it is refused, if it is.
+pub record Decision : Type 0 where
+  pub call : Call
+  pub refusal : Option Refusal
+
+-- The decisions of a host of `frames` frames on calls in turn. Each is made by the ledger of the
+-- calls that were accepted before: no machine stands in it.
+unfoldable pub decisions : ℕ → List LedgerEntry → List Call → List Decision
+decisions frames ledger [] = []
+decisions frames ledger (e ∷ more) =
+    let refusal = call_refusal frames ledger e in
+    record { call = e; refusal = refusal }
+    ∷ decisions frames (ledger_cases refusal ledger e) more
+
+-- The calls that are accepted.
+abbrev pub accepted_calls : List Decision → List Call
+accepted_calls ds = map (λ d. d.call) (filter (λ d. is_none d.refusal) ds)
+
+-- The calls that are refused, the first call being the n-th.
+abbrev pub refusals_of : ℕ → List Decision → List Refused
+refusals_of n [] = []
+refusals_of n (d ∷ more) =
+    option_to_list (option_map (λ r. record { event = n; refusal = r }) d.refusal)
+    ++ refusals_of (n + 1) more
+
+-- ---- the tenants that accepted calls admit
 
 -- What a call is to a tenant: its slice, its stop, or nothing.
 abbrev pub own_event_of : ℕ → Call → List TenantEvent
@@ -26,49 +54,17 @@ own_event_of id (Admit k start) = []
 own_event_of id (Slice k n) = if id == k then OwnSlice n ∷ [] else []
 own_event_of id (Stop k) = if id == k then OwnStop ∷ [] else []
 
-abbrev pub own_event_cases : Option Refusal → ℕ → Call → List TenantEvent
-own_event_cases (Some r) id e = []
-own_event_cases None id e = own_event_of id e
+-- The own events of a tenant among calls: its slices and its stop.
+abbrev pub own_events : ℕ → List Call → List TenantEvent
+own_events id calls = flat_map (own_event_of id) calls
 
--- The own events of a tenant.
-unfoldable pub own_events : ℕ → List LedgerEntry → List Call → ℕ → List TenantEvent
-own_events frames ledger [] id = []
-own_events frames ledger (e ∷ more) id =
-    own_event_cases (call_refusal frames ledger e) id e
-    ++ own_events frames (ledger_cases (call_refusal frames ledger e) ledger e) more id
-
--- ---- the tenants that calls admit, in the order of their admissions
-
--- An accepted admission's tenant, with what comes after it.
-abbrev pub life_of_call : Call → (ℕ → List TenantEvent) → List Life
-life_of_call (Admit id start) own = record { id = id; start = start; own = own id } ∷ []
-life_of_call (Slice id steps) own = []
-life_of_call (Stop id) own = []
-
-abbrev pub life_cases : Option Refusal → Call → (ℕ → List TenantEvent) → List Life
-life_cases (Some r) e own = []
-life_cases None e own = life_of_call e own
-
--- The tenants that calls admit.
-unfoldable pub lives_from : ℕ → List LedgerEntry → List Call → List Life
-lives_from frames ledger [] = []
-lives_from frames ledger (e ∷ more) =
-    life_cases (call_refusal frames ledger e) e
-    (own_events frames (ledger_cases (call_refusal frames ledger e) ledger e) more)
-    ++ lives_from frames (ledger_cases (call_refusal frames ledger e) ledger e) more
-
--- ---- the calls that are refused, the first call being the n-th
-
-abbrev pub refusal_cases : Option Refusal → ℕ → List Refused
-refusal_cases (Some r) n = record { event = n; refusal = r } ∷ []
-refusal_cases None n = []
-
--- The calls that are refused.
-unfoldable pub refusals_from : ℕ → List LedgerEntry → List Call → ℕ → List Refused
-refusals_from frames ledger [] n = []
-refusals_from frames ledger (e ∷ more) n =
-    refusal_cases (call_refusal frames ledger e) n
-    ++ refusals_from frames (ledger_cases (call_refusal frames ledger e) ledger e) more (n + 1)
+-- The tenants that calls admit, in the order of their admissions.
+abbrev pub lives_of : List Call → List Life
+lives_of [] = []
+lives_of (Admit id start ∷ more) =
+    record { id = id; start = start; own = own_events id more } ∷ lives_of more
+lives_of (Slice id steps ∷ more) = lives_of more
+lives_of (Stop id ∷ more) = lives_of more
 
 -- ---- sessions
 
@@ -79,11 +75,11 @@ pub record Session : Type 0 where
 
 -- The tenants of a session.
 abbrev pub lives : Session → List Life
-lives s = lives_from s.frames [] s.calls
+lives s = lives_of (accepted_calls (decisions s.frames [] s.calls))
 
 -- The refused calls of a session.
 abbrev pub refusals : Session → List Refused
-refusals s = refusals_from s.frames [] s.calls 1
+refusals s = refusals_of 1 (decisions s.frames [] s.calls)
 
 -- The tenant with a number, if there is one.
 abbrev pub life_among : ℕ → List Life → Option Life

@@ -1,7 +1,8 @@
 -- What holds of every host: its live tenants share a pool of frames and a translation lookaside
 -- buffer, and have nothing in common in them. A tenant's ASID is its place in the order of the
 -- admissions.
-use Rattle.std.specs.Prelude.{◌≡◌, ℕ, Bool, true, false, List, All, length, sum, sum_by, Option, Some}
+use Rattle.std.specs.Prelude.{◌≡◌, ℕ, Bool, true, false, List, All, length, sum, sum_by, Option}
+use Rattle.std.specs.Prelude.{Some}
 use Rattle.std.specs.Prelude.{None}
 use Rattle.std.specs.List.{slice_get}
 use Rattle.mte_frames.specs.Pool.{Pool}

@@ -10,7 +10,7 @@ use Rattle.mte_sched.specs.declared.tenant.Tenant as code
 use Rattle.mte_sched.specs.declared.tenant.Holding.{Holding}
 use Rattle.mte_sched.specs.declared.tenant.Holding.TheVariants as kept
 use Rattle.mte_tenant.specs.Ledger.{Call, Admit, Slice, Stop, LedgerEntry, call_refusal, ledger_cases}
-use Rattle.mte_sched.specs.Lives.{Session, Life, lives, refusals, refusals_from, refusal_cases}
+use Rattle.mte_sched.specs.Lives.{Session, Life, decisions, refusals_of, lives, refusals}
 use Rattle.mte_sched.specs.Contents.{Content, ledger_of, after_admit, after_slice_of, after_stop_of, after_call, after_call_cases, after_calls, empty, record_of, tenant_of}
 use Rattle.mte_sched.specs.declared.host.Host.{Host}
 use Rattle.mte_sched.specs.Hosts.{pool_of}
@@ -59,7 +59,7 @@ run_end files p all events i n over h =
 
 abbrev pub Ends : LedgerFollows → Content → List Refused → List Call → ℕ → Type 0
 Ends law c done calls n =
-    run_all (at c done) calls n ≡ at (after_calls c calls) (done ++ refusals_from c.frames (ledger_of c) calls n)
+    run_all (at c done) calls n ≡ at (after_calls c calls) (done ++ refusals_of n (decisions c.frames (ledger_of c) calls))
 
 kept_frames : (c : Content) (e : Call) → (after_call c e).frames ≡ c.frames
 unfolding after_call after_admit after_slice_of after_stop_of
@@ -70,19 +70,19 @@ kept_frames c (Stop id) = refl
 ends_next : (law : LedgerFollows) (r : Option Refusal) (e : Call) (more : List Call) (c : Content) (done : List Refused) (n : ℕ)
     → ((d : Content) (l : List Refused) → Ends law d l more (n + 1))
     → run_all (play_cases r (at c done) e n) more (n + 1)
-    ≡ at (after_calls (after_call_cases r c e) more) (done ++ (refusal_cases r n ++ refusals_from c.frames (ledger_cases r (ledger_of c) e) more (n + 1)))
+    ≡ at (after_calls (after_call_cases r c e) more) (done ++ refusals_of n (record { call = e; refusal = r } ∷ decisions c.frames (ledger_cases r (ledger_of c) e) more))
 ends_next law (Some r) e more c done n rest =
     rest c (done ++ (record { event = n; refusal = r }) ∷ [])
-    ∙ ap (λ l. at (after_calls c more) l) (append_assoc done ((record { event = n; refusal = r }) ∷ []) (refusals_from c.frames (ledger_of c) more (n + 1)))
+    ∙ ap (λ l. at (after_calls c more) l) (append_assoc done ((record { event = n; refusal = r }) ∷ []) (refusals_of (n + 1) (decisions c.frames (ledger_of c) more)))
 ends_next law None e more c done n rest =
     let follows = law c e in
     let frames : (after_call c e).frames ≡ c.frames = kept_frames c e in
     rest (after_call c e) done
-    ∙ ap (λ (f : ℕ). at (after_calls (after_call c e) more) (done ++ refusals_from f (ledger_of (after_call c e)) more (n + 1))) frames
-    ∙ ap (λ (l : List LedgerEntry). at (after_calls (after_call c e) more) (done ++ refusals_from c.frames l more (n + 1))) follows
+    ∙ ap (λ (f : ℕ). at (after_calls (after_call c e) more) (done ++ refusals_of (n + 1) (decisions f (ledger_of (after_call c e)) more))) frames
+    ∙ ap (λ (l : List LedgerEntry). at (after_calls (after_call c e) more) (done ++ refusals_of (n + 1) (decisions c.frames l more))) follows
 
 pub ends : (law : LedgerFollows) (calls : List Call) (c : Content) (done : List Refused) (n : ℕ) → Ends law c done calls n
-unfolding run_all after_event after_calls refusals_from
+unfolding run_all after_event after_calls decisions
 ends law [] c done n = ap (λ l. at c l) (sym (append-nil done))
 ends law (e ∷ more) c done n =
     ends_next law (call_refusal c.frames (ledger_of c) e) e more c done n (λ d l. ends law more d l (n + 1))

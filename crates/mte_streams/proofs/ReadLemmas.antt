@@ -6,7 +6,7 @@ use Rattle.mte_streams.specs.Reading.{ReadLog, after_read, ReadAll, MadeAtMost}
 use Rattle.mte_streams.proofs.KnownLemmas.{append-known-append-known, append-known-nil, add-known-add-known}
 use Rattle.mte_streams.proofs.KnownLemmas.{add-known-zero, none_counts, some_counts}
 
--- So many reads gave these bytes; none failed, and none was the end.
+-- These reads gave these bytes; none failed, and none was the end.
 pub record Gave (old new : ReadLog) (bytes : List ℕ) (reads : ℕ) : Type 0 where
   pub given : new.given ≡ append_known old.given bytes
   pub calls : new.calls ≡ add_known old.calls reads

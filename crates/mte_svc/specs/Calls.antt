@@ -1,5 +1,5 @@
--- The heap calls of a tenant: which service makes which, the last of them, the oldest first, and how
--- many there were.
+-- The heap calls of a tenant: which service makes which, the last of them, the oldest first, and
+-- how many there were.
 use Rattle.std.specs.Prelude.{◌≡◌, ℕ, ◌+◌, ◌-◌, ◌==◌, min, List, [], ◌∷◌, ◌++◌, drop, length, refl}
 use Rattle.std.specs.Prelude.{Option, Some, None, unwrap_or, if◌then◌else◌}
 use Rattle.std.specs.Coded.{Coded, code_by, coded×, coded_ℕ, coded_list}

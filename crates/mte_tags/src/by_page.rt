@@ -183,8 +183,8 @@ fn read_out_of_line<S: PageStore>(
     read_across_pages(store, at, buffer, access)
 }
 
-/// Reads where that was not quick. Copies of the access and of a short buffer go along, and the result
-/// comes back field by field, so that quick accesses hold all of them in registers.
+/// Reads where that was not quick. Copies of the access and of a short buffer go along, and the
+/// result comes back field by field, so that quick accesses hold all of them in registers.
 #[inline(always)]
 fn read_slowly<S: PageStore>(
     store: &mut S,

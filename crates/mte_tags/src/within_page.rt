@@ -101,8 +101,8 @@ pub(crate) fn read_in_page<S: PageStore>(
     Ok(())
 }
 
-/// Copies bytes out where one granule holds them and none fails, and returns whether it did. `false`
-/// changes nothing, and does not say that an access fails.
+/// Copies bytes out where one granule holds them and none fails, and returns whether it did.
+/// `false` changes nothing, and does not say that an access fails.
 #[inline(always)]
 pub(crate) fn try_read<S: PageStore>(
     store: &mut S,

@@ -50,7 +50,7 @@ met_if (Some o) m = after_outcome o m
 abbrev pub after_run : ℕ → Ran → Machine → Attempt
 after_run n ran m = met_if ran.stop.outcome (machine_of (with_steps (n - ran.stop.left) ran.stop.left (with_regs m.parts ran.regs)) ran.memory)
 
--- So many more steps, where the slice goes on.
+-- More steps, where the slice goes on.
 abbrev pub rest_of : ℕ → Attempt → Machine
 rest_of n a = if a.goes_on then after_attempts n a.machine else a.machine
 

@@ -21,8 +21,8 @@ pub record IsHeadWithout (place end old new : ℕ) : Type 0 where
   pub here : old ≡ place + 1 → new ≡ end
   pub below : old ≤ place → new ≡ old
 
--- The same of the gap of a younger translation: so many as between stand between it and the one
--- that goes, whose own gap was older_gap.
+-- The same of the gap of a younger translation: `between` others stand between it and the one that
+-- goes, whose own gap was older_gap.
 pub record IsGapWithout (between older_gap old new : ℕ) : Type 0 where
   pub past : between < old → new ≡ old - 1
   pub here : old ≡ between → new ≡ min (old + older_gap) 255

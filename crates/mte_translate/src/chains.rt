@@ -150,7 +150,8 @@ fn head_without(place: u8, end: u8, head: u8) -> u8
 }
 
 /// What the gap of a translation is once an older one went, with `between` between the two, whose
-/// gap was `older_gap`. Where it led to that one, it leads on to the next; 255 is beyond the oldest.
+/// gap was `older_gap`. Where it led to that one, it leads on to the next; 255 is beyond the
+/// oldest.
 #[inline]
 fn gap_without(between: u8, older_gap: u8, gap: u8) -> u8
     ensures { IsGapWithout between older_gap gap result }

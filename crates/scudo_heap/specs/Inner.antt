@@ -1,7 +1,8 @@
 -- For the code's own clauses, views and invariants.
 -- What the parts of the stacks of free blocks are, what of the condition of the calls the size
 -- classes and the mappings need, and what a chunk is that the checks found.
-use Rattle.std.specs.Prelude.{◌≡◌, ℕ, ◌+◌, ◌-◌, ◌%◌, ◌^◌, ◌<◌, ◌≤◌, ◌⊎◌, Some, false, List, ◌++◌, ◌∷◌, []}
+use Rattle.std.specs.Prelude.{◌≡◌, ℕ, ◌+◌, ◌-◌, ◌%◌, ◌^◌, ◌<◌, ◌≤◌, ◌⊎◌, Some, false, List}
+use Rattle.std.specs.Prelude.{◌++◌, ◌∷◌, []}
 use Rattle.std.specs.Prelude.{◌/◌, nat_lt}
 use Rattle.std.specs.List.{list_any}
 use Rattle.mte_tags.specs.Memory.{Memory, attrs_at, pages_left}

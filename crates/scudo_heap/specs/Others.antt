@@ -1,5 +1,5 @@
--- The pages that no heap call changes: all but those of the ranges where a heap's pages lie, from the
--- first class's region to the end of the range of chunks with pages of their own.
+-- The pages that no heap call changes: all but those of the ranges where a heap's pages lie, from
+-- the first class's region to the end of the range of chunks with pages of their own.
 use Rattle.std.specs.Prelude.{◌≡◌, ℕ, ◌/◌, ◌≤◌, ◌<◌}
 use Rattle.mte_tags.specs.Memory.{Memory, page_at}
 use Rattle.address_map.specs.declared.limits.TheConstants.{PAGE_SIZE}

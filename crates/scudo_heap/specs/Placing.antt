@@ -82,8 +82,8 @@ after_place w origin p =
 
 -- ---- a chunk that is freed
 
--- Another tag is drawn for its granules, which become zero, and the header says that it is free. Its
--- block comes on top of the stack.
+-- Another tag is drawn for its granules, which become zero, and the header says that it is free.
+-- Its block comes on top of the stack.
 unfoldable pub after_give_back : World → Place → Header → World
 after_give_back w p header =
     let drawn = after_draw w.rgsr (excluded_tags w.memory p) in

@@ -116,7 +116,7 @@ fn grow<M: Paged>(stacks: &mut Stacks, memory: &mut M, class: u8) -> bool
     }
     let region = (REGIONS_START + u64::from(class) * REGION_SIZE) / PAGE_SIZE;
     let first = region + stacks.pages(class);
-    // So many pages are left.
+    // The memory has these pages left.
     let _ = memory.map_pages(first, pages as usize, Attrs::DATA);
     stacks.carve(class, pages);
     true

@@ -58,7 +58,7 @@ fn map_chunk<M: Paged>(
     ensures maps { maps.new ≡ with_more maps.old mapping }
     ensures kept { M.kept memory.old memory.new }
 {
-    // So many pages are left.
+    // The memory has these pages left.
     let _ = memory.map_pages(
         mapping.start / PAGE_SIZE,
         mapping.pages as usize,

@@ -78,7 +78,7 @@ not-old c pages b s h l = elim (is_member s b) as (λ t. is_member s b ≡ t →
   | false ↦ λ e. refl
 ] refl
 
--- the n blocks from the one with the number m on, which are carved with so many more pages
+-- the n blocks from the one with the number m on, which the next `more` pages carve
 new-blocks : (c pages more m n : ℕ) (s : List ℕ) → IsClass c → carved_count c pages ≤ m → m + n ≤ carved_count c (pages + more) → AreBlocks c pages s → AreBlocks c (pages + more) (blocks_from c m n ++ s)
 new-blocks c pages more m zero s hc a l h = blocks-wider c pages (pages + more) s hc (omega arith) h
 new-blocks c pages more m (suc n) s hc a l h =

@@ -11,7 +11,8 @@ use Rattle.std.specs.List.{range_with_len}
 use Rattle.scudo_header.specs.Regions.{region_of}
 use Rattle.scudo_header.specs.declared.classes.TheConstants.{CLASSES}
 use Rattle.address_map.specs.declared.limits.TheConstants.{PAGE_SIZE}
-use Rattle.scudo_primary.specs.Blocks.{IsClass, carved_count, block_at, number_of, AreBlocks, blocks_from}
+use Rattle.scudo_primary.specs.Blocks.{IsClass, carved_count, block_at, number_of, AreBlocks}
+use Rattle.scudo_primary.specs.Blocks.{blocks_from}
 use Rattle.scudo_primary.specs.Batches.{max_count_of, batch_sizes}
 use Rattle.scudo_primary.specs.Pools.{ClassState, PoolState, pool_by}
 use Rattle.address_map.specs.declared.limits.TheConstants.{MAX_PAGES}

@@ -478,8 +478,8 @@ const TAG_OF_A_NEIGHBOUR: [Row; 5] = [
     Row(1, Call::Checked(CHUNK + 64), Answer::Is(0)),
 ];
 
-/// Tags are stored to live chunks, one in a block and one with pages of its own, and the pointers to
-/// them have other tags.
+/// Tags are stored to live chunks, one in a block and one with pages of its own, and the pointers
+/// to them have other tags.
 const TAGS_OF_LIVE_CHUNKS: [Row; 7] = [
     Row(1, Call::Malloc(24), Answer::Is(CHUNK)),
     Row(1, Call::StoreTags(0x1200_0010, 2, 7), DONE),

@@ -35,7 +35,7 @@ use Rattle.tag_discipline.specs.Laws.{IsRefused}
 use Rattle.tag_discipline.specs.CarefulRuns.{State, Live, state_after_call, IsLiveBlock, IsCareful, HasFree}
 use Rattle.tag_discipline.specs.SoundHeaps.{Sound}
 use Rattle.tag_discipline.specs.Discipline.{StartsSound, StaysSound, MayFree, Deallocation, KeepsFree, FreedBlocksAreRefused, IsUnmapped, FreedPagesAreUnmapped, IsFreshIn, NewTagsDiffer, NeighboursDiffer, ChunksAreApart, ChunksAreGuarded, SlicesStaySound, NextDeallocation, KeepsFreeTo, FreedBlocksStayRefused, IsNewIn, malloc, calloc, memalign, realloc as realloc_call, AreOtherTags, given_tag, ReusedTagsDiffer, ReusedTagsStayDifferent, FreedPagesAreRefused, FreedBlocksAreFree, ChunksAreTagged}
-use Rattle.mte_tenant.specs.Machines.{Machine, after_attempt}
+use Rattle.mte_tenant.specs.Machines.{Machine}
 use Rattle.tag_discipline.specs.CarefulTenants.{state_of, before_service}
 use Rattle.tag_discipline.proofs.Tenants.{step-quiet, after-attempt-kept, after-attempt-done, after-slice-sound, steps-sound, steps-stale}
 use Rattle.tag_discipline.proofs.Serving.{blocks-of}

@@ -21,7 +21,7 @@ use Rattle.scudo_heap.specs.Allocation.{AllocationResult, no_chunk, after_malloc
 use Rattle.scudo_heap.specs.Checks.{check_pointer, size_found}
 use Rattle.scudo_heap.specs.Freeing.{Freed as Outcome, without_chunk as freed_world, free_cases, free_of}
 use Rattle.scudo_heap.specs.Realloc as heap
-use Rattle.scudo_heap.specs.Realloc.{ReallocResult, checked_realloc_cases, after_realloc, user_of, user_of_chunk, after_copy, with_copied_bytes, after_move, with_new_size, realloc_cases}
+use Rattle.scudo_heap.specs.Realloc.{ReallocResult, checked_realloc_cases, after_realloc, user_of_chunk, after_copy, with_copied_bytes, after_move, with_new_size, realloc_cases}
 use Rattle.scudo_heap.specs.Calls.{after_call}
 use Rattle.tag_discipline.specs.LiveChunks.{BlockChunk, chunk_at}
 use Rattle.tag_discipline.specs.CarefulRuns.{State, found_at, with_made_chunk, state_after_call, HasHeader, IsLiveBlock}

@@ -19,7 +19,7 @@ use Rattle.scudo_heap.specs.Allocation.{AllocationResult, no_chunk, after_malloc
 use Rattle.scudo_heap.specs.Checks.{size_found}
 use Rattle.scudo_heap.specs.Freeing.{without_chunk as freed_world}
 use Rattle.scudo_heap.specs.Realloc as heap
-use Rattle.scudo_heap.specs.Realloc.{user_of, user_of_chunk, after_copy, with_copied_bytes, after_move, with_new_size, realloc_cases, after_realloc}
+use Rattle.scudo_heap.specs.Realloc.{user_of_chunk, after_copy, with_copied_bytes, after_move, with_new_size, realloc_cases, after_realloc}
 use Rattle.scudo_heap.specs.Calls.{after_call}
 use Rattle.scudo_heap.specs.Served.{is_inside}
 use Rattle.scudo_heap.proofs.MapLemmas.{without, inside-in}

@@ -1,5 +1,5 @@
 -- A tenant's live chunks are Sound, and its freed ones stale, through its own events in a session.
-use Rattle.std.proofs.Common.{◌≡◌, ◌≢◌, ℕ, zero, suc, ◌<◌, ◌≤◌, ◌++◌, ◌==◌, ◌&&◌, Bool, true, false, cond, Option, Some, None, List, [], ◌∷◌, Result, Ok, Err, refl, sym, ap, subst, ◌∙◌, inl, inr, arith}
+use Rattle.std.proofs.Common.{◌≡◌, ◌≢◌, ℕ, zero, suc, ◌++◌, ◌==◌, ◌&&◌, Bool, true, false, cond, Option, Some, None, List, [], ◌∷◌, Result, Ok, Err, refl, sym, ap, subst, ◌∙◌, inl, inr, arith}
 use Rattle.std.specs.Prelude.{filter, All, option_map}
 use Rattle.std.proofs.lemmas.List.Elements.{All-nil, All-cons}
 use Rattle.a64_bits.specs.Addresses.{plain}
@@ -13,11 +13,11 @@ use Rattle.mte_tenant.specs.declared.refusal.Refusal.TheVariants as refusal
 use Rattle.mte_tenant.specs.declared.admission.AdmitError.{AdmitError}
 use Rattle.mte_tenant.specs.Machines.{Machine, runs, stop_by_tag, after_attempt, after_attempts, after_slice_end, after_slice}
 use Rattle.mte_tenant.specs.Ledger.{Call, Admit, Slice, Stop, LedgerEntry, admission_refusal, call_refusal, ledger_cases}
-use Rattle.mte_sched.specs.Lives.{TenantEvent, OwnSlice, OwnStop, Session, Life, lives, life_cases, lives_from, life_among, own_events}
+use Rattle.mte_sched.specs.Lives.{TenantEvent, OwnSlice, OwnStop, Session, Life, decisions, own_events, lives_of, lives, life_among}
 use Rattle.mte_sched.specs.Contents as contents
-use Rattle.mte_sched.specs.Contents.{TenantState, Gone, after_own_events, state_after_stop, tenant_of}
+use Rattle.mte_sched.specs.Contents.{TenantState, Gone, after_own_events}
 use Rattle.mte_sched.specs.Isolation.{tenant_among}
-use Rattle.mte_sched.proofs.IsolationLemmas.{tenants_are_alone, among_tenants}
+use Rattle.mte_sched.proofs.IsolationLemmas.{accepted_from, accepted_on, tenants_are_alone, among_tenants}
 use Rattle.tag_discipline.specs.LiveChunks.{BlockChunk, chunk_at}
 use Rattle.tag_discipline.proofs.Freed.{IsStale}
 use Rattle.tag_discipline.specs.Laws.{IsOutOfReach}
@@ -204,23 +204,25 @@ accepted-among : (b : Bool) (frames : ℕ) (ledger : List LedgerEntry) (a life :
 accepted-among true frames ledger a life o r e rest = subst (IsAccepted frames) (life-is a life e) (ledger, r)
 accepted-among false frames ledger a life o r e rest = rest e
 
-accepted-by : (r : Option Refusal) (e : Call) (frames : ℕ) (ledger : List LedgerEntry) (own : ℕ → List TenantEvent) (more : List Life) (id : ℕ) (life : Life) → call_refusal frames ledger e ≡ r
-    → life_among id (life_cases r e own ++ more) ≡ Some life → (life_among id more ≡ Some life → IsAccepted frames life) → IsAccepted frames life
+accepted-by : (r : Option Refusal) (e : Call) (frames : ℕ) (ledger : List LedgerEntry) (more : List Call) (id : ℕ) (life : Life) → call_refusal frames ledger e ≡ r
+    → life_among id (lives_of (accepted_on r frames ledger e more)) ≡ Some life
+    → (life_among id (lives_of (accepted_from frames (ledger_cases r ledger e) more)) ≡ Some life → IsAccepted frames life) → IsAccepted frames life
 unfolding call_refusal
-accepted-by (Some x) e frames ledger own more id life h f rest = rest f
-accepted-by None (Slice k n) frames ledger own more id life h f rest = rest f
-accepted-by None (Stop k) frames ledger own more id life h f rest = rest f
-accepted-by None (Admit k start) frames ledger own more id life h f rest =
-    let a : Life = record { id = k; start = start; own = own k } in
-    accepted-among (k == id) frames ledger a life (life_among id more) (refused-none _ h) f rest
+accepted-by (Some x) e frames ledger more id life h f rest = rest f
+accepted-by None (Slice k n) frames ledger more id life h f rest = rest f
+accepted-by None (Stop k) frames ledger more id life h f rest = rest f
+accepted-by None (Admit k start) frames ledger more id life h f rest =
+    let later = accepted_from frames (ledger_cases None ledger (Admit k start)) more in
+    let a : Life = record { id = k; start = start; own = own_events k later } in
+    accepted-among (k == id) frames ledger a life (life_among id (lives_of later)) (refused-none _ h) f rest
 
-accepted : (frames : ℕ) (ledger : List LedgerEntry) (calls : List Call) (id : ℕ) (life : Life) → life_among id (lives_from frames ledger calls) ≡ Some life → IsAccepted frames life
-unfolding lives_from
+accepted : (frames : ℕ) (ledger : List LedgerEntry) (calls : List Call) (id : ℕ) (life : Life)
+    → life_among id (lives_of (accepted_from frames ledger calls)) ≡ Some life → IsAccepted frames life
+unfolding decisions
 accepted frames ledger [] id life h = absurd cc
 accepted frames ledger (e ∷ more) id life h =
     let r = call_refusal frames ledger e in
-    let after = ledger_cases r ledger e in
-    accepted-by r e frames ledger (own_events frames after more) (lives_from frames after more) id life refl h (accepted frames after more id life)
+    accepted-by r e frames ledger more id life refl h (accepted frames (ledger_cases r ledger e) more id life)
 
 machine-is : (k m : Machine) → Some k ≡ Some m → k ≡ m
 machine-is k m e = cc

@@ -22,7 +22,7 @@ use Rattle.mte_svc.specs.Results.{Served, x_of, with_answer, with_logged_call}
 use Rattle.mte_svc.specs.Services.{write_count, write_cases, after_write_service, read_count, read_cases, after_read_service, after_other_service, service_cases, after_svc}
 use Rattle.mte_svc.specs.HeapServices.{heap_call_in, heap_service_cases, after_heap_service}
 use Rattle.mte_tenant.specs.Machines.{Machine, machine_of, with_regs, with_steps, runs, continues, stop_by_tag, after_service, with_service, after_outcome, after_attempt, after_attempts, after_slice_end, after_slice}
-use Rattle.tag_discipline.specs.CarefulRuns.{State, Live, live_after_call, state_after_call, IsQuiet, HasFree}
+use Rattle.tag_discipline.specs.CarefulRuns.{State, Live, live_after_call, state_after_call, HasFree}
 use Rattle.tag_discipline.specs.CarefulRuns as heap
 use Rattle.tag_discipline.specs.CarefulTenants.{state_of, before_service, call_at, next_call, live_after_cases, live_after, IsCarefulNext, live_through, IsCareful, Steps, stop, next}
 use Rattle.tag_discipline.specs.SoundHeaps.{Sound}

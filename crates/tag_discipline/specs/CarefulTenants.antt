@@ -47,7 +47,8 @@ live_after m l = live_after_cases (next_call m) (state_of (before_service m) l)
 -- The next instruction stores no tags, and its heap call, if it makes one, is careful.
 pub record IsCarefulNext (m : Machine) (l : Live) : Type 0 where
   pub tags : next_stores_tags m.parts.regs m.memory ≡ false
-  pub call : (c : HeapCall) → next_call m ≡ Some c → heap.IsCareful (state_of (before_service m) l) c
+  pub call : (c : HeapCall) → next_call m ≡ Some c
+      → heap.IsCareful (state_of (before_service m) l) c
 
 -- ---- instructions in turn
 

@@ -40,8 +40,8 @@ pub fn freed_chunks_are_refused()
     ensures pages { FreedPagesAreUnmapped }
 {}
 
-/// A new chunk of a size class, also one that a reallocation makes, has a tag other than 0 and other
-/// than the one that the granule where it begins had.
+/// A new chunk of a size class, also one that a reallocation makes, has a tag other than 0 and
+/// other than the one that the granule where it begins had.
 pub fn new_tags_differ()
     ensures { NewTagsDiffer }
 {}
@@ -78,8 +78,8 @@ pub fn reused_tags_differ()
 {}
 
 /// Each access, a fetch and a load or store of tags too, to an address of the range of chunks with
-/// pages of their own that no mapping of the heap holds faults: so from the free or the move of such
-/// a chunk until its pages are mapped again.
+/// pages of their own that no mapping of the heap holds faults: so from the free or the move of
+/// such a chunk until its pages are mapped again.
 pub fn freed_pages_are_refused()
     ensures pages { FreedPagesAreRefused }
     ensures sessions { FreedPagesOfTenantsAreRefused }

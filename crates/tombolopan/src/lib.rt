@@ -3,7 +3,8 @@
 //! - instructions: `decode`, `Decoder`, `Instr`, and their text, `Text` and `TextAt`;
 //! - a memory with tags: `Flat`, over the traits `Tagged` and `Paged`, or one of your own over
 //!   `PageStore`;
-//! - `step` and `run` over any such memory, `run_cached` with a table of kept instructions (`OpCache`);
+//! - `step` and `run` over any such memory, `run_cached` with a table of kept instructions
+//!   (`OpCache`);
 //! - a heap with tags: `Heap` in a memory, `HeapBench` with one of its own;
 //! - ELF64 images: `plan`, `load`;
 //! - a tenant alone: `Lone`, `run_alone`; with a watch: `slice_watched`;

@@ -1,5 +1,5 @@
 -- The place that was found for a page, read and written.
-use Rattle.std.proofs.Common.{◌≡◌, ℕ, zero, suc, ◌%◌, ◌<◌, ◌+◌, Bool, Option, Some, None, IfSome, IsNone, List, [], ◌∷◌, length, map, get_or, set, replicate, refl, ap, subst, ◌∙◌, arith}
+use Rattle.std.proofs.Common.{◌≡◌, ℕ, zero, suc, ◌%◌, ◌<◌, ◌+◌, Bool, Option, Some, None, IfSome, IsNone, List, [], ◌∷◌, map, get_or, set, replicate, refl, ap, subst, ◌∙◌, arith}
 use Rattle.std.specs.Prelude.{option_map}
 use Rattle.std.proofs.lemmas.List.{map-set, get_or_default}
 use Rattle.mte_tags.specs.Memory.{page_at, with_page}

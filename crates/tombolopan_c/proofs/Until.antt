@@ -20,7 +20,7 @@ stopped (Fault f) a b n = refl
 stopped (Illegal w) a b n = refl
 stopped (Breakpoint i) a b n = refl
 
--- a step after which PC is at a stop, with so many steps left
+-- a step after which PC is at a stop, with n steps left
 abbrev pub there : Stepped → ℕ → RanUntil
 there s n = record {
   regs = s.regs;
@@ -29,7 +29,7 @@ there s n = record {
   reached = true;
 }
 
--- a step that does not go on, with so many steps left
+-- a step that does not go on, with n steps left
 abbrev pub ended_by : Stepped → ℕ → RanUntil
 ended_by s n = record {
   regs = s.regs;

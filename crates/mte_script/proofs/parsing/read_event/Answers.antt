@@ -1,8 +1,7 @@
-use Rattle.std.proofs.Common.{◌≡◌, ◌∙◌, ◌<◌, ap, sym, subst, refl, length, map, arith, rules, false, Ok, Err}
+use Rattle.std.proofs.Common.{◌∙◌, ◌<◌, ap, sym, subst, refl, length, map, arith, rules, Ok, Err}
 use Rattle.std.proofs.lemmas.List.{length-map}
 use Rattle.mte_script.proofs.ScriptLemmas.{line_event}
 use Rattle.mte_script.specs.Faults.{IsLineFault}
-use Rattle.mte_script.specs.Scripts.{starts_comment}
 use Rattle.mte_script.specs.declared.error.ScriptError.{ScriptError}
 use Rattle.mte_script.proofs.parsing.read_event.Goals as goal
 

@@ -1,4 +1,4 @@
-use Rattle.std.proofs.Common.{◌≡◌, sym, ◌∙◌, map, arith}
+use Rattle.std.proofs.Common.{sym, ◌∙◌, map, arith}
 use Rattle.mte_sched.specs.Hosts.{content_of}
 use Rattle.mte_session.proofs.SessionLemmas.{run_accepted, run_refused, run_end}
 use Rattle.mte_session.proofs.session.run_events.Goals.{in-Ok, in-Err-Refused}

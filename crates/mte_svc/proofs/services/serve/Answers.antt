@@ -1,4 +1,4 @@
-use Rattle.std.proofs.Common.{◌∙◌, sym, ap}
+use Rattle.std.proofs.Common.{◌∙◌, ap}
 use Rattle.mte_svc.specs.Services.{service_cases, after_svc}
 use Rattle.mte_svc.proofs.services.serve.Goals as goal
 

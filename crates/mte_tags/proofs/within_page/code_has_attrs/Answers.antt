@@ -1,4 +1,4 @@
-use Rattle.std.proofs.Common.{◌/◌, ◌∙◌, sym, ap}
+use Rattle.std.proofs.Common.{◌∙◌, sym, ap}
 use Rattle.mte_tags.specs.Memory.{attrs_at, attrs_cases, has, has_cases, page_has}
 use Rattle.mte_tags.proofs.within_page.code_has_attrs.Goals as goal
 

@@ -1,4 +1,4 @@
-use Rattle.std.proofs.Common.{◌≡◌, ◌∙◌, ap}
+use Rattle.std.proofs.Common.{◌∙◌, ap}
 use Rattle.mte_tags.specs.Memory.{attrs_at, pages_left}
 use Rattle.mte_tenant.specs.Machines.{Attempt, machine_of}
 use Rattle.mte_tenant.proofs.AloneLemmas.{one_some, one_none}

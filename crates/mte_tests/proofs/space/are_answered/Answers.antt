@@ -1,4 +1,4 @@
-use Rattle.std.proofs.Common.{◌≡◌, ◌≢◌, ◌∙◌, ℕ, List, sym, arith}
+use Rattle.std.proofs.Common.{◌≡◌, ◌∙◌, ℕ, List, sym, arith}
 use Rattle.mte_frames.specs.Pool.{Pool}
 use Rattle.mte_translate.specs.Tables.{Root}
 use Rattle.mte_translate.specs.declared.translation.Translation.{Translation}

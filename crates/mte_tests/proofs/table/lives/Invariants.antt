@@ -1,4 +1,3 @@
-use Rattle.std.proofs.Common.{◌≡◌}
 use Rattle.mte_translate.specs.Tables.{IsTable, MapsOnce, pages_of}
 use Rattle.mte_tests.proofs.table.lives.Given as goal
 

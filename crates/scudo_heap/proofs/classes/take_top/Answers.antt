@@ -2,7 +2,7 @@ use Rattle.std.proofs.Common.{◌≡◌, ◌+◌, arith, ◌∙◌, Some, sym, a
 use Rattle.scudo_header.specs.Classes.{size_of}
 use Rattle.scudo_heap.specs.declared.chunk.Place.{Place}
 use Rattle.scudo_heap.specs.declared.chunk.Chunk.TheVariants.{Small}
-use Rattle.scudo_heap.specs.Stacks.{StackState, stack_of}
+use Rattle.scudo_heap.specs.Stacks.{stack_of}
 use Rattle.scudo_heap.specs.Heaps.{heap_of}
 use Rattle.scudo_heap.specs.Placing.{world_of, after_place}
 use Rattle.scudo_heap.specs.Allocation.{allocation_of}

@@ -6,7 +6,7 @@ use Rattle.scudo_cache.proofs.cache.Cache.new.Given as goal
 abbrev pub decreases-loop-entries : goal.decreases-loop-entries
 decreases-loop-entries l = CLASSES - vec_len l.entries
 
--- so many classes without a block
+-- the classes so far have no block
 abbrev pub invariant-loop-entries : goal.invariant-loop-entries
 invariant-loop-entries l = record {
   items : l.entries.items ≡ replicate (vec_len l.entries) [];
