@@ -1,5 +1,6 @@
-"""What the hand-written functions of a64_step take and return, as their files say, and the calls of
-them: a parameter or a field of a struct that has the name of an instruction's field gets it."""
+"""What the hand-written functions of a64_step and a64_ops take and return, as their files say, and
+the calls of them: a parameter or a field of a struct that has the name of an instruction's field
+gets it."""
 
 import re
 from dataclasses import dataclass
@@ -8,7 +9,8 @@ from a64 import table
 from a64.layout import braces
 from a64.table import TableError
 
-SOURCES = "crates/a64_step/src"
+# Where the functions are, lowest first.
+CRATES = ("a64_step", "a64_ops")
 
 # What a function takes beside fields, under the same name wherever it is called.
 STATE = {"regs", "memory", "pc", "outcome"}
@@ -17,6 +19,7 @@ STATE = {"regs", "memory", "pc", "outcome"}
 @dataclass
 class Function:
     name: str
+    crate: str
     module: str
     parameters: list  # of (name, type)
     result: str  # its type, or "" where it returns nothing
@@ -25,13 +28,14 @@ class Function:
 @dataclass
 class Struct:
     """Fields of instructions that are passed together."""
+    crate: str
     module: str
     fields: list  # their names
 
 
 @dataclass
 class Sources:
-    """The functions and the structs of the crate, by name."""
+    """The functions and the structs of the crates, by name."""
     functions: dict
     structs: dict
 
@@ -44,26 +48,33 @@ class Call:
     fields: set  # the names of those that it passes
 
 
+def folder_of(crate):
+    return f"crates/{crate}/src"
+
+
 def read_sources(written):
-    """The public functions and structs of the crate, but those of the files in `written`."""
+    """The public functions and structs of the crates, but those of the files in `written`."""
     functions, structs = {}, {}
-    for path in sorted((table.ROOT / SOURCES).glob("*.rt")):
-        if f"{SOURCES}/{path.name}" in written:
+    files = [(crate, path) for crate in CRATES
+             for path in sorted((table.ROOT / folder_of(crate)).glob("*.rt"))]
+    for crate, path in files:
+        if f"{folder_of(crate)}/{path.name}" in written:
             continue
         text = path.read_text()
         for head in re.finditer(r"^pub fn (\w+)(?:<[^>]*>)?\(([^)]*)\)(?: -> (.*\S))?", text, re.M):
             parameters = re.findall(r"(\w+): ([^,\n]+)", head[2])
-            functions[head[1]] = Function(head[1], path.stem, parameters, head[3] or "")
+            functions[head[1]] = Function(head[1], crate, path.stem, parameters,
+                                          head[3] or "")
         for head in re.finditer(r"^pub struct (\w+) {\n(.*?)^}", text, re.M | re.S):
             fields = re.findall(r"^    pub (\w+): ", head[2], re.M)
-            structs[head[1]] = Struct(path.stem, fields)
+            structs[head[1]] = Struct(crate, path.stem, fields)
     return Sources(functions, structs)
 
 
 def call_of(name, values, sources, place):
     """The call of a function, where each field has the value that `values` gives it."""
     if name not in sources.functions:
-        raise TableError(f"{place}: {SOURCES} has no function {name}")
+        raise TableError(f"{place}: no function {name} in {' or '.join(CRATES)}")
     function = sources.functions[name]
     call = Call("", function, set(), set())
 

@@ -31,19 +31,19 @@ def equation(left, right):
 
 
 def functions_used(uses):
-    """The imports of functions, by their files."""
+    """The imports of functions, by their modules: those of the crate itself come first."""
     lines = []
-    for module, names in sorted(uses.items()):
+    for module, names in uses.items():
         names = sorted(names)
-        line = f"use crate::{module}::{{{', '.join(names)}}};\n"
+        line = f"use {module}::{{{', '.join(names)}}};\n"
         if len(names) == 1:
-            line = f"use crate::{module}::{names[0]};\n"
+            line = f"use {module}::{names[0]};\n"
         if len(line) > WIDTH + 1:
             inner = textwrap.fill(", ".join(names) + ",", WIDTH - 1, initial_indent="    ",
                                   subsequent_indent="    ")
-            line = f"use crate::{module}::{{\n{inner}\n}};\n"
+            line = f"use {module}::{{\n{inner}\n}};\n"
         lines.append(line)
-    return "".join(lines)
+    return "".join(sorted(lines, key=lambda line: (not line.startswith("use crate::"), line)))
 
 
 def imported(module, names):

@@ -1,10 +1,7 @@
-pub mod Blocks
 pub mod Drawing
 pub mod Effects
 pub mod FixedPages
 pub mod FixedSteps
 mod GranuleWrites
-pub mod Knowing
 pub mod Modes
 pub mod Running
-mod Shifts

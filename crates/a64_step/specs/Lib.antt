@@ -19,6 +19,3 @@ pub mod MemoryTagging
 pub mod Parts
 pub mod Steps
 pub mod Fixed
-pub mod Ops
-pub mod OpFamilies
-pub mod OpCaches

@@ -25,6 +25,3 @@ pub struct Stop {
     /// The steps that were not attempted.
     pub left: u64,
 }
-
-/// Where no instruction is: an address that is not aligned.
-pub const NO_NEXT: u64 = 1;

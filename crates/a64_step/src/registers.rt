@@ -46,7 +46,7 @@ impl Regs {
     /// A register, or 0 for number 31.
     #[inline(always)]
     #[tactic(auto, unfolding(crate::specs::Registers::register))]
-    pub(crate) fn get(&self, n: u8) -> u64
+    pub fn get(&self, n: u8) -> u64
         requires { n < 32 }
         ensures { result ≡ register self.now n }
     {
@@ -56,7 +56,7 @@ impl Regs {
     /// A register, or the stack pointer for number 31.
     #[inline(always)]
     #[tactic(auto, unfolding(crate::specs::Registers::register_or_sp))]
-    pub(crate) fn get_or_sp(&self, n: u8) -> u64
+    pub fn get_or_sp(&self, n: u8) -> u64
         requires { n < 32 }
         ensures { result ≡ register_or_sp self.now n }
     {
@@ -66,7 +66,7 @@ impl Regs {
     /// Writes a register; number 31 ignores it.
     #[inline(always)]
     #[tactic(auto, unfolding(crate::specs::Registers::with_register))]
-    pub(crate) fn set(&mut self, n: u8, value: u64)
+    pub fn set(&mut self, n: u8, value: u64)
         requires { n < 32 }
         ensures { self.new ≡ with_register self.old n value }
     {
@@ -78,7 +78,7 @@ impl Regs {
     /// Writes a register, or the stack pointer for number 31.
     #[inline(always)]
     #[tactic(auto, unfolding(crate::specs::Registers::with_register_or_sp))]
-    pub(crate) fn set_or_sp(&mut self, n: u8, value: u64)
+    pub fn set_or_sp(&mut self, n: u8, value: u64)
         requires { n < 32 }
         ensures { self.new ≡ with_register_or_sp self.old n value }
     {
@@ -96,7 +96,7 @@ impl Regs {
         crate::specs::Registers::register,
         crate::specs::Registers::register_or_sp
     ))]
-    pub(crate) fn gpr(&self, n: u8) -> u64
+    pub fn gpr(&self, n: u8) -> u64
         requires { n < 31 }
         ensures register { result ≡ register self.now n }
         ensures or_sp { result ≡ register_or_sp self.now n }
@@ -111,7 +111,7 @@ impl Regs {
         crate::specs::Registers::with_register,
         crate::specs::Registers::with_register_or_sp
     ))]
-    pub(crate) fn set_gpr(&mut self, n: u8, value: u64)
+    pub fn set_gpr(&mut self, n: u8, value: u64)
         requires { n < 31 }
         ensures register { self.new ≡ with_register self.old n value }
         ensures or_sp { self.new ≡ with_register_or_sp self.old n value }
@@ -123,7 +123,7 @@ impl Regs {
     /// Moves the program counter, which the caller has at hand, to the next instruction.
     #[inline(always)]
     #[tactic(auto, unfolding(crate::specs::Registers::with_next_pc))]
-    pub(crate) fn advance_from(&mut self, pc: u64) -> u64
+    pub fn advance_from(&mut self, pc: u64) -> u64
         requires { pc ≡ self.old.pc }
         ensures regs { self.new ≡ with_next_pc self.old }
         ensures pc { result ≡ self.new.pc }
@@ -136,7 +136,7 @@ impl Regs {
     /// Moves the program counter to an address, and returns what it is then.
     #[inline(always)]
     #[tactic(auto, unfolding(crate::specs::Registers::with_pc))]
-    pub(crate) fn jump_to(&mut self, target: u64) -> u64
+    pub fn jump_to(&mut self, target: u64) -> u64
         ensures regs { self.new ≡ with_pc self.old target }
         ensures pc { result ≡ self.new.pc }
     {
@@ -148,7 +148,7 @@ impl Regs {
     /// Moves the program counter to the next instruction.
     #[inline(always)]
     #[tactic(auto, unfolding(crate::specs::Registers::with_next_pc))]
-    pub(crate) fn advance(&mut self)
+    pub fn advance(&mut self)
         ensures { self.new ≡ with_next_pc self.old }
     {
         self.pc = self.pc.wrapping_add(4) % (1 << 56);
@@ -157,7 +157,7 @@ impl Regs {
     /// Moves the program counter to an address.
     #[inline(always)]
     #[tactic(auto, unfolding(crate::specs::Registers::with_pc))]
-    pub(crate) fn jump(&mut self, target: u64)
+    pub fn jump(&mut self, target: u64)
         ensures { self.new ≡ with_pc self.old target }
     {
         self.pc = target % (1 << 56);

@@ -25,7 +25,8 @@ mod line;
 mod place;
 mod report;
 
-use a64_step::{OpCache, Outcome, run_cached};
+use a64_ops::{OpCache, run_cached};
+use a64_step::Outcome;
 use anyhow::{Result, bail};
 use case::{Case, Pages};
 use line::{VectorLine, parse};

@@ -3,7 +3,8 @@
 ghost use Rattle.std.specs.Prelude.{◌≡◌, IfSome};
 
 use crate::measured::Batch;
-use a64_step::{OpCache, Outcome, Regs, run_cached};
+use a64_ops::{OpCache, run_cached};
+use a64_step::{Outcome, Regs};
 use mte_tags::Tagged;
 use std::alloc::{AllocError, Global};
 

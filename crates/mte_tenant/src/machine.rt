@@ -6,7 +6,7 @@ ghost use Rattle.mte_tags.specs.Memory.{Memory, page_at, pages_left, no_pages, w
 ghost use Rattle.mte_elf.specs.Headers.{segments_of, entry_of};
 ghost use Rattle.mte_elf.specs.Images.{refusal_of, pages_of};
 ghost use Rattle.a64_step.specs.Fixed.{KeepsFixed};
-ghost use Rattle.a64_step.specs.OpCaches.{Knows};
+ghost use Rattle.a64_ops.specs.OpCaches.{Knows};
 ghost use Rattle.scudo_heap.specs.Served.{HeapOwnsItsPages, IsUntouched};
 ghost use Rattle.mte_svc.specs.Results.{is_running};
 ghost use Rattle.mte_svc.specs.Services.{after_svc};
@@ -16,7 +16,8 @@ ghost use Rattle.mte_tenant.specs.Machines.{after_slice, after_attempts, after_s
 ghost use Rattle.mte_tenant.specs.Machines.{after_outcome, after_stop, with_service};
 
 use crate::admission::Admission;
-use a64_step::{OpCache, Outcome, Regs, known_words_stay, run_on_cache, steps_keep_pages};
+use a64_ops::{OpCache, known_words_stay, run_on_cache};
+use a64_step::{Outcome, Regs, steps_keep_pages};
 use address_map::{MAX_PAGES, PAGE_SIZE, STACK_END, STACK_PAGES, STACK_START};
 use mte_elf::{Plan, load};
 use mte_svc::{HeapCalls, Input, Output, Record, Status, SvcEnd, TenantParts, svc};

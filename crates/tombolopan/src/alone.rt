@@ -6,7 +6,7 @@ ghost use Rattle.scudo_heap.specs.Served.{HeapOwnsItsPages};
 ghost use Rattle.mte_tenant.specs.Admissions.{start_in};
 ghost use Rattle.tombolopan.specs.Alone.{refusal_alone, record_after};
 
-use a64_step::OpCache;
+use a64_ops::OpCache;
 use mte_flat::Flat;
 use mte_tenant::{
     Admission, AdmitError, Record, TenantParts, admit_alone, is_bad_reservation, slice,
