@@ -18,9 +18,9 @@ import tempfile
 
 ROOT = pathlib.Path(__file__).resolve().parents[1]
 FOLDERS = ["isa", "tools", "docs",
-           *(f"crates/{name}" for name in ("a64_instr", "a64_asm", "a64_decode", "a64_step",
-                                           "a64_ops", "a64_text", "a64_tests",
-                                           "instruction_trace"))]
+           *(f"crates/{name}" for name in ("a64_instr", "a64_asm", "a64_decode", "a64_registers",
+                                           "a64_step", "a64_ops", "a64_run", "a64_text",
+                                           "a64_tests", "instruction_trace"))]
 DEFINITIONS = {"crates/a64_asm/specs/Encoding.antt": r"^(word_of|tests) |^    ",
                "crates/a64_step/specs/Steps.antt": r"^step_of_instr \(instr"}
 

@@ -1,6 +1,6 @@
-"""What the hand-written functions of a64_step and a64_ops take and return, as their files say, and
-the calls of them: a parameter or a field of a struct that has the name of an instruction's field
-gets it."""
+"""What the hand-written functions of a64_step, a64_ops and a64_run take and return, as their files
+say, and the calls of them: a parameter or a field of a struct that has the name of an instruction's
+field gets it."""
 
 import re
 from dataclasses import dataclass
@@ -10,7 +10,7 @@ from a64.layout import braces
 from a64.table import TableError
 
 # Where the functions are, lowest first.
-CRATES = ("a64_step", "a64_ops")
+CRATES = ("a64_step", "a64_ops", "a64_run")
 
 # What a function takes beside fields, under the same name wherever it is called.
 STATE = {"regs", "memory", "pc", "outcome"}

@@ -1,6 +1,5 @@
 pub mod Drawing
 pub mod Effects
-pub mod FixedPages
 pub mod FixedSteps
 mod GranuleWrites
 pub mod Modes

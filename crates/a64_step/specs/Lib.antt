@@ -1,7 +1,3 @@
-pub mod Registers
-pub mod Names
-pub mod Operands
-pub mod Conditions
 pub mod Results
 pub mod AddSubtract
 pub mod Conditional
@@ -18,4 +14,3 @@ pub mod LoadStorePair
 pub mod MemoryTagging
 pub mod Parts
 pub mod Steps
-pub mod Fixed

@@ -1,12 +1,12 @@
 //! Load/store addressing modes: the target of an access, and its write-back.
 
 ghost use Rattle.std.specs.Prelude.{◌≡◌, ◌<◌, ◌≤◌, ◌+◌, ◌*◌, ◌%◌, ◌^◌};
-ghost use Rattle.a64_step.specs.Operands.{bytes_of};
+ghost use Rattle.a64_registers.specs.Operands.{bytes_of};
 
 use crate::fields::RegisterOffset;
-use crate::operands::{byte_count, extend};
-use crate::registers::Regs;
 use a64_bits::plain;
+use a64_registers::Regs;
+use a64_registers::operands::{byte_count, extend};
 use mte_tags::{FaultKind, MemFault, tag_of};
 
 /// The target of an access.

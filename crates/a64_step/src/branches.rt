@@ -5,10 +5,10 @@ ghost use Rattle.a64_step.specs.Branches.{branch_cond_of, branch_of, branch_reg_
 ghost use Rattle.a64_step.specs.Branches.{branch_cases, with_link, test_branch_of};
 
 use crate::addressing::moved_by;
-use crate::conditions::condition_holds;
 use crate::fields::TestedBit;
-use crate::operands::truncate;
-use crate::registers::Regs;
+use a64_registers::Regs;
+use a64_registers::conditions::condition_holds;
+use a64_registers::operands::truncate;
 
 /// Writes the address of the next instruction to x30.
 #[inline(always)]

@@ -4,16 +4,16 @@ ghost use Rattle.std.specs.Prelude.{◌≡◌, ◌≢◌, ◌<◌, ◌+◌, ◌-
 ghost use Rattle.a64_step.specs.DataProcessing.{long_operand, mul_add_long_of, mul_add_of};
 ghost use Rattle.a64_step.specs.DataProcessing.{mul_high_of, multiplied_sum, one_source_of};
 ghost use Rattle.a64_step.specs.DataProcessing.{two_source_of};
-ghost use Rattle.a64_step.specs.Operands.{size_of};
-ghost use Rattle.a64_step.specs.Registers.{with_next_pc};
+ghost use Rattle.a64_registers.specs.Operands.{size_of};
+ghost use Rattle.a64_registers.specs.Registers.{with_next_pc};
 
 use crate::fields::{ProductOperands, RegisterOperands};
-use crate::operands::{shift_by, size_of_operands, truncate};
-use crate::registers::Regs;
 use a64_bits::{
     count_leading_sign, count_leading_zeros, divide, multiply_high, reverse_bits, reverse_bytes,
     sign_extend,
 };
+use a64_registers::Regs;
+use a64_registers::operands::{shift_by, size_of_operands, truncate};
 
 /// RBIT, REV16, REV32, REV, CLZ, CLS.
 #[inline(never)]

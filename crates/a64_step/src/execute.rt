@@ -25,8 +25,8 @@ use crate::memory_tagging::{add_g, gmi, irg, ldg, st_g, st_g_p, sub_p};
 use crate::move_wide::move_wide;
 use crate::outcome::Outcome;
 use crate::pc_rel::adr;
-use crate::registers::Regs;
 use a64_asm::Instr;
+use a64_registers::Regs;
 use mte_tags::Tagged;
 
 /// Executes an instruction. An arm with constants in its pattern passes them on, so that its copy

@@ -3,7 +3,7 @@
 ghost use Rattle.std.specs.Prelude.{◌≡◌, false, ◌<◌, ◌≤◌, ◌+◌, ◌*◌, ◌%◌, ◌^◌, is_ok, if◌then◌else◌};
 ghost use Rattle.mte_tags.specs.Accesses.{result_of, after_read, write_fault, after_write};
 ghost use Rattle.a64_step.specs.MemoryAccess.{number_read, stored_bytes};
-ghost use Rattle.a64_step.specs.Operands.{bytes_of};
+ghost use Rattle.a64_registers.specs.Operands.{bytes_of};
 
 use mte_tags::{MemFault, Tagged};
 
@@ -11,7 +11,7 @@ use mte_tags::{MemFault, Tagged};
 #[inline(always)]
 #[rattlefmt::skip]
 #[tactic(auto, unfolding(
-    crate::specs::Operands::bytes_of,
+    a64_registers::specs::Operands::bytes_of,
     crate::specs::MemoryAccess::stored_bytes
 ))]
 pub fn write_number<M: Tagged>(
@@ -50,7 +50,7 @@ pub fn write_number<M: Tagged>(
 #[rattlefmt::skip]
 #[tactic(auto, unfolding(
     crate::specs::MemoryAccess::number_read,
-    crate::specs::Operands::bytes_of
+    a64_registers::specs::Operands::bytes_of
 ))]
 pub fn read_number<M: Tagged>(
     memory: &mut M,

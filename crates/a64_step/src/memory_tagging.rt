@@ -11,7 +11,7 @@ ghost use Rattle.a64_step.specs.MemoryTagging.{add_g_of, gmi_of, granule_count, 
 ghost use Rattle.a64_step.specs.MemoryTagging.{ldg_of, st_g_at, st_g_of, st_g_p_at, st_g_p_of};
 ghost use Rattle.a64_step.specs.MemoryTagging.{sub_p_of, tag_target};
 ghost use Rattle.a64_step.specs.MemoryTagging.{with_address_tag};
-ghost use Rattle.a64_step.specs.Registers.{with_next_pc};
+ghost use Rattle.a64_registers.specs.Registers.{with_next_pc};
 ghost use Rattle.a64_step.specs.Results.{Leaves};
 
 use crate::add_subtract::{add_into, add_or_subtract};
@@ -19,8 +19,8 @@ use crate::addressing::{Target, fault_of_stack, moved_by, write_back};
 use crate::fields::{AddSub, TagPairTransfer, TagTransfer};
 use crate::load_store_pair::{Pair, write_pair};
 use crate::outcome::Outcome;
-use crate::registers::Regs;
 use a64_bits::sign_extend;
+use a64_registers::Regs;
 use mte_tags::{MemFault, Tagged, choose_non_excluded, tag_of, with_tag};
 
 /// GCR_EL1.Exclude: tag 0 is neither drawn nor chosen.

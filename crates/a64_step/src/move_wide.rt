@@ -3,10 +3,10 @@
 ghost use Rattle.std.specs.Prelude.{◌≡◌, ◌<◌, ◌*◌, ◌^◌};
 ghost use Rattle.a64_bits.specs.Fields.{with_field};
 ghost use Rattle.a64_step.specs.MoveWide.{move_wide_of};
-ghost use Rattle.a64_step.specs.Registers.{with_next_pc};
+ghost use Rattle.a64_registers.specs.Registers.{with_next_pc};
 
-use crate::operands::{inverted, truncate};
-use crate::registers::Regs;
+use a64_registers::Regs;
+use a64_registers::operands::{inverted, truncate};
 
 /// `imm16` shifted left by `16 * hw`.
 #[inline(always)]

@@ -2,10 +2,10 @@
 
 ghost use Rattle.std.specs.Prelude.{◌≡◌, ◌<◌};
 ghost use Rattle.a64_step.specs.PcRel.{adr_of};
-ghost use Rattle.a64_step.specs.Registers.{with_next_pc};
+ghost use Rattle.a64_registers.specs.Registers.{with_next_pc};
 
 use crate::addressing::moved_by;
-use crate::registers::Regs;
+use a64_registers::Regs;
 
 /// ADR, ADRP.
 #[inline(never)]

@@ -1,6 +1,6 @@
 //! Runs that keep instructions, over plain memories.
 
-use a64_ops::{OpCache, known_words_stay, run_cached};
+use a64_run::{OpCache, known_words_stay, run_cached};
 use a64_step::{Regs, steps_keep_fixed_pages};
 use mte_flat::Flat;
 use mte_tags::{Attrs, Paged, TagMode};

@@ -25,7 +25,7 @@ mod line;
 mod place;
 mod report;
 
-use a64_ops::{OpCache, run_cached};
+use a64_run::{OpCache, run_cached};
 use a64_step::Outcome;
 use anyhow::{Result, bail};
 use case::{Case, Pages};

@@ -3,7 +3,7 @@
 ghost use Rattle.std.specs.Prelude.{◌≡◌, IfSome};
 
 use crate::measured::Batch;
-use a64_ops::{OpCache, run_cached};
+use a64_run::{OpCache, run_cached};
 use a64_step::{Outcome, Regs};
 use mte_tags::Tagged;
 use std::alloc::{AllocError, Global};

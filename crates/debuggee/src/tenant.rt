@@ -8,7 +8,7 @@ ghost use Rattle.debuggee.specs.Courses.{IsAt};
 
 use crate::cuts::Cuts;
 use crate::watched::{Hit, Watched, Watchpoint};
-use a64_ops::OpCache;
+use a64_run::OpCache;
 use a64_step::{Decoder, Regs};
 use elf_core::Region;
 use mte_flat::Flat;

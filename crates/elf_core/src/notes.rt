@@ -1,7 +1,7 @@
 //! The notes of a core file (Linux, `elfcore.h`; ELF64, "Note Section").
 
 use crate::signal::{Signal, tag_control};
-use a64_step::Regs;
+use a64_registers::Regs;
 use mte_tags::TagMode;
 use std::alloc::Global;
 use std::io;

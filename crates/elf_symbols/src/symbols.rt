@@ -73,7 +73,7 @@ impl<'a> Symbols<'a> {
     }
 
     /// An address, to be told by the symbol of the address that lies some bytes in front of it, as
-    /// a return address by that of its call.
+    /// a return address by the symbol of its call.
     pub fn place_after(&self, addr: u64, bytes: u64) -> SymbolOffset<'a> {
         SymbolOffset {
             symbol: self.nearest(addr.wrapping_sub(bytes)),

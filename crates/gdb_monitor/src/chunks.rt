@@ -69,7 +69,7 @@ fn tell_distance<W: Write>(out: &mut W, start: u64, address: u64) -> io::Result<
     writeln!(out, "{} bytes into it", address - start)
 }
 
-/// Writes the tags of the granules around an address, that of its own in brackets.
+/// Writes the tags of the granules around an address, its own granule's in brackets.
 pub fn tell_tags<W: Write>(
     out: &mut W,
     tenant: &mut Traveller<'_>,

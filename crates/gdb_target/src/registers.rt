@@ -1,7 +1,7 @@
 //! Registers.
 
 use crate::text::TextBuffer;
-use a64_step::Regs;
+use a64_registers::Regs;
 use elf_core::tag_control;
 use mte_tags::TagMode;
 

@@ -2,7 +2,7 @@
 
 use crate::addressing::{base, register_offset, scaled_offset, signed_offset, unit};
 use a64_instr::Instr;
-use a64_step::Regs;
+use a64_registers::Regs;
 
 /// The bytes that an instruction loads or stores.
 #[derive(Clone, Copy)]

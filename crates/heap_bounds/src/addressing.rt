@@ -1,6 +1,6 @@
 //! Addresses of loads and stores (Arm ARM DDI 0487, C6.2).
 
-use a64_step::Regs;
+use a64_registers::Regs;
 
 /// A register, or SP for number 31.
 pub fn base(regs: &Regs, n: u8) -> u64 {

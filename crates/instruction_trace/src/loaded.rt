@@ -1,7 +1,7 @@
 //! What a load brings into registers.
 
 use a64_instr::Instr;
-use a64_step::Regs;
+use a64_registers::Regs;
 use heap_bounds::{access_of, zero_or};
 use std::fmt;
 

@@ -6,7 +6,7 @@ use crate::stores::stored;
 use crate::written::written_by;
 use a64_bits::Flags;
 use a64_decode::decode;
-use a64_step::Regs;
+use a64_registers::Regs;
 use std::fmt;
 use std::fmt::Display;
 
@@ -109,7 +109,7 @@ impl<'a> Changes<'a> {
         Ok(())
     }
 
-    /// Writes that of SP.
+    /// Writes the change of SP.
     fn write_sp<W: fmt::Write>(&self, f: &mut fmt::Formatter<W>) -> fmt::Result {
         let (old, new) = (self.before.sp, self.after.sp);
         if old == new {
@@ -118,7 +118,7 @@ impl<'a> Changes<'a> {
         write!(f, "; sp {old:#x} -> {new:#x}")
     }
 
-    /// Writes that of the flags.
+    /// Writes the change of the flags.
     fn write_flags<W: fmt::Write>(&self, f: &mut fmt::Formatter<W>) -> fmt::Result {
         if self.before.flags == self.after.flags {
             return Ok(());
@@ -127,7 +127,7 @@ impl<'a> Changes<'a> {
         write!(f, "; flags {old} -> {new}")
     }
 
-    /// Writes that of the generator's tag, also where its seed alone differs.
+    /// Writes the change of the generator's tag, also where its seed alone differs.
     fn write_generator<W: fmt::Write>(&self, f: &mut fmt::Formatter<W>) -> fmt::Result {
         let (old, new) = (&self.before.rgsr, &self.after.rgsr);
         if old == new {
@@ -137,7 +137,7 @@ impl<'a> Changes<'a> {
     }
 }
 
-/// Writes that of a numbered register.
+/// Writes the change of a numbered register.
 fn write_change<W: fmt::Write>(
     f: &mut fmt::Formatter<W>,
     n: usize,

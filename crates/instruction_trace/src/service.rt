@@ -1,6 +1,6 @@
 //! A service: what was requested, and its result.
 
-use a64_step::Regs;
+use a64_registers::Regs;
 use mte_svc::{
     CALLOC, EXIT, MALLOC, MEMALIGN, PAGES_LEFT, READ, REALLOC, STEPS_LEFT, WRITE, YIELD, heap_call,
 };

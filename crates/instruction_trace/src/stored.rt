@@ -1,6 +1,6 @@
 //! What a store leaves in memory.
 
-use a64_step::Regs;
+use a64_registers::Regs;
 use heap_bounds::{base, unit, zero_or};
 use mte_tags::tag_of;
 use std::fmt;

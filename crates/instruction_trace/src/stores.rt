@@ -5,7 +5,7 @@ use crate::stored::{
     Stored, granules_on, one, register_offset, scaled_offset, signed_offset, tags, two,
 };
 use a64_instr::Instr;
-use a64_step::Regs;
+use a64_registers::Regs;
 
 /// What the instruction stores, by the registers before it. `None` where it stores nothing.
 #[rattlefmt::skip]

@@ -3,7 +3,7 @@
 use crate::moment::Moment;
 use a64_decode::decode;
 use a64_instr::Instr;
-use a64_step::Regs;
+use a64_registers::Regs;
 use circular_buffer::HeapCircularBuffer;
 use mte_backtrace::Names;
 use std::io;

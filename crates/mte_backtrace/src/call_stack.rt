@@ -2,7 +2,7 @@
 
 use crate::callers::{Callers, fill, link_of};
 use crate::names::Names;
-use a64_step::Regs;
+use a64_registers::Regs;
 use elf_symbols::{SymbolOffset, Symbols};
 use mte_tags::Tagged;
 use std::alloc::{AllocError, Global};

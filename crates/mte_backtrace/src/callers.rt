@@ -3,7 +3,7 @@
 ghost use Rattle.std.specs.Prelude.{◌≡◌};
 
 use crate::walk::{Walk, is_code};
-use a64_step::Regs;
+use a64_registers::Regs;
 use mte_tags::Tagged;
 
 /// How many frame records are read of a heap call.

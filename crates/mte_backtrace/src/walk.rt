@@ -4,7 +4,7 @@
 ghost use Rattle.std.specs.Prelude.{◌≡◌};
 
 use a64_bits::plain;
-use a64_step::Regs;
+use a64_registers::Regs;
 use address_map::{STACK_END, STACK_START};
 use mte_tags::{Attrs, Tagged};
 

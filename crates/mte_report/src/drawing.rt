@@ -14,9 +14,9 @@ use tenant_map::{Extent, Picture, extents};
 
 impl<'a> Report<'a> {
     /// Writes the heap and its tags as a picture in SVG, under a title of one line: the rows of the
-    /// heap's pages, and that of the access that faulted or the pointer that was refused. Rows in
-    /// which nothing changes are left out after the first, and those farthest from the mark where
-    /// there are more than [`heap_picture::ROWS`].
+    /// heap's pages, and the row of the access that faulted or the pointer that was refused. Rows
+    /// in which nothing changes are left out after the first, and those farthest from the mark
+    /// where there are more than [`heap_picture::ROWS`].
     pub fn draw<W: Write>(
         &self,
         alloc: Global,

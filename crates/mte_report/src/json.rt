@@ -2,7 +2,7 @@
 
 use crate::report::Report;
 use crate::stacks::stack_of;
-use a64_step::Regs;
+use a64_registers::Regs;
 use instruction_trace::Nzcv;
 use mte_backtrace::{Names, Quoted};
 use mte_flat::Flat;

@@ -2,7 +2,7 @@
 
 use a64_bits::plain;
 use a64_decode::decode;
-use a64_step::Regs;
+use a64_registers::Regs;
 use circular_buffer::HeapCircularBuffer;
 use elf_symbols::SymbolOffset;
 use heap_bounds::{Range, access_of};

@@ -1,6 +1,6 @@
 //! Lines that are written while a tenant runs.
 
-use a64_step::Regs;
+use a64_registers::Regs;
 use elf_symbols::Symbols;
 use mte_report::{Moment, SVC, Service, TraceLine};
 use run_options::Traced;
@@ -38,8 +38,8 @@ impl<'a, W: Write + Drop> Tracer<'a, W> {
         }
     }
 
-    /// Writes the line of an instruction, and that of the service that it requests, where they are
-    /// wanted.
+    /// Writes the line of an instruction, and the line of the service that it requests, where they
+    /// are wanted.
     fn write_lines(&mut self, moment: &Moment, after: &Regs) -> io::Result<()> {
         let Traced { from, to, services } = self.traced;
         let is_service = moment.word == Some(SVC);

@@ -17,7 +17,7 @@ use crate::index::Index;
 use crate::place::start_place;
 use crate::tenant::{Holding, Live, Tenant};
 use crate::turns::{slice_at, stop_at};
-use a64_ops::OpCache;
+use a64_run::OpCache;
 use address_map::MAX_FRAMES;
 use mte_arena::{Arena, ArenaError, FRAME_BYTES};
 use mte_frames::FramePool;

@@ -17,7 +17,7 @@ ghost use Rattle.mte_sched.specs.Places.{memory_at, IsPlaced};
 ghost use Rattle.mte_tenant.specs.Ready.{IsReady};
 
 use crate::tenant::Live;
-use a64_ops::OpCache;
+use a64_run::OpCache;
 use address_map::{MAX_PAGES, STACK_PAGES};
 use mte_elf::Plan;
 use mte_frames::{FramePool, Quota};

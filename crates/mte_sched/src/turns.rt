@@ -8,7 +8,7 @@ ghost use Rattle.mte_sched.specs.Sharing.{IsSharing, HasLiveAt};
 
 use crate::place::{slice_live, stop_place};
 use crate::tenant::{Holding, Live, Tenant};
-use a64_ops::OpCache;
+use a64_run::OpCache;
 use mte_frames::FramePool;
 use mte_svc::TenantParts;
 use mte_tenant::halt;

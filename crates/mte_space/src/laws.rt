@@ -14,8 +14,8 @@ ghost use Rattle.mte_space.specs.Spaces.{page_of, space_memory, IsSpace, NoneEnt
 ghost use Rattle.mte_space.specs.Writes.{with_frame};
 
 /// Where a step keeps all quotas but one, the memory of each other tenant stays, whatever its limit
-/// and tag state, and so does the room that its quota has for it. Where of other ASIDs than that of
-/// the step no translation came into the lookaside buffer, what it remembers of them is still what
+/// and tag state, and so does the room that its quota has for it. Where no translation of another
+/// ASID than the step's came into the lookaside buffer, what it remembers of them is still what
 /// their tables map.
 pub fn other_tenants_stay()
     ensures memory { (p n : Pool) (j k limit : ℕ) (t : Root) (s : TagState)

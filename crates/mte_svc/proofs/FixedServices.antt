@@ -4,8 +4,8 @@ use Rattle.std.proofs.lemmas.List.{length-take-le}
 use Rattle.mte_tags.specs.Memory.{Memory, attrs_at}
 use Rattle.mte_tags.specs.Accesses.{read_fault, write_fault}
 use Rattle.mte_tags.specs.declared.fault.MemFault.{MemFault}
-use Rattle.a64_step.specs.Fixed.{lacks_write, is_fixed, KeepsFixed}
-use Rattle.a64_step.proofs.FixedPages.{fixed_same, fixed-after_read, fixed-after_write}
+use Rattle.mte_tags.specs.Fixed.{lacks_write, is_fixed, KeepsFixed}
+use Rattle.mte_tags.proofs.FixedPages.{fixed_same, fixed-after_read, fixed-after_write}
 use Rattle.scudo_heap.specs.declared.abort.HeapAbort.{HeapAbort}
 use Rattle.scudo_heap.specs.Heaps.{HeapState}
 use Rattle.scudo_heap.specs.Placing.{World}

@@ -2,7 +2,7 @@
 
 ghost use Rattle.std.specs.Prelude.{◌≡◌};
 ghost use Rattle.mte_tags.specs.Memory.{Memory};
-ghost use Rattle.a64_step.specs.Fixed.{KeepsFixed};
+ghost use Rattle.mte_tags.specs.Fixed.{KeepsFixed};
 ghost use Rattle.scudo_heap.specs.Served.{HeapOwnsItsPages};
 ghost use Rattle.scudo_heap.specs.Sound.{IsSound};
 ghost use Rattle.mte_svc.specs.Services.{after_svc};

@@ -6,7 +6,7 @@ ghost use Rattle.mte_svc.specs.Results.{with_answer, with_logged_call, is_runnin
 use crate::calls::AnsweredCall;
 use crate::input::Input;
 use crate::record::{Record, Status};
-use a64_step::Regs;
+use a64_registers::Regs;
 use scudo_heap::Heap;
 
 /// All of a tenant's machine but its memory.

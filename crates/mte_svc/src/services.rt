@@ -1,7 +1,7 @@
 //! The services, by x8.
 
 ghost use Rattle.std.specs.Prelude.{◌≡◌, ◌<◌};
-ghost use Rattle.a64_step.specs.Fixed.{KeepsFixed};
+ghost use Rattle.mte_tags.specs.Fixed.{KeepsFixed};
 ghost use Rattle.scudo_heap.specs.Served.{HeapOwnsItsPages};
 ghost use Rattle.mte_svc.specs.Services.{after_svc, after_other_service, after_write_service};
 ghost use Rattle.mte_svc.specs.Services.{after_read_service};

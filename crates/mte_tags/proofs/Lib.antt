@@ -15,3 +15,4 @@ pub mod GranuleLists
 pub mod PageRuns
 pub mod TagRuns
 pub mod FoundPages
+pub mod FixedPages

@@ -6,3 +6,4 @@ pub mod RandomTags
 pub mod Runs
 pub mod FaultNames
 pub mod Inner
+pub mod Fixed

@@ -2,7 +2,7 @@
 use Rattle.std.proofs.Common.{◌≡◌, ℕ, zero, suc, ◌+◌, min, true, false, List, [], ◌∷◌, ◌++◌, Some, None, refl, ap, ◌∙◌, append_assoc, append-nil}
 use Rattle.std.proofs.Common.{if◌then◌else◌}
 use Rattle.mte_tags.specs.Memory.{Memory}
-use Rattle.a64_step.specs.declared.registers.Regs.{Regs}
+use Rattle.a64_registers.specs.declared.registers.Regs.{Regs}
 use Rattle.a64_step.specs.declared.outcome.Outcome.{Outcome}
 use Rattle.a64_step.specs.declared.outcome.Outcome.TheVariants as outcome
 use Rattle.a64_step.specs.declared.outcome.Stop.{Stop}

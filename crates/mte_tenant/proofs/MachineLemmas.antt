@@ -11,7 +11,7 @@ use Rattle.mte_elf.specs.declared.image.Segment.{Segment}
 use Rattle.mte_tags.specs.declared.state.TagMode.{TagMode}
 use Rattle.mte_elf.specs.Headers.{segments_of}
 use Rattle.mte_elf.specs.Loading.{with_segment, with_segments}
-use Rattle.a64_step.specs.declared.registers.Regs.{Regs}
+use Rattle.a64_registers.specs.declared.registers.Regs.{Regs}
 use Rattle.a64_step.specs.declared.outcome.Outcome.{Outcome}
 use Rattle.a64_step.specs.declared.outcome.Outcome.TheVariants as outcome
 use Rattle.a64_step.specs.declared.outcome.Stop.{Stop}

@@ -4,10 +4,10 @@ use Rattle.std.specs.Prelude.{ℕ, zero, suc, ◌+◌, ◌/◌, ◌%◌, ◌^◌
 use Rattle.std.specs.Prelude.{List, [], if◌then◌else◌, ◌&&◌}
 use Rattle.address_map.specs.declared.limits.TheConstants.{PAGE_SIZE}
 use Rattle.address_map.specs.declared.ranges.TheConstants.{STACK_START, STACK_END, STACK_PAGES}
-use Rattle.a64_step.specs.declared.registers.Regs.{Regs}
+use Rattle.a64_registers.specs.declared.registers.Regs.{Regs}
 use Rattle.a64_step.specs.declared.outcome.Outcome.{Outcome}
 use Rattle.a64_step.specs.declared.outcome.Outcome.TheVariants as outcome
-use Rattle.a64_step.specs.Registers.{fresh}
+use Rattle.a64_registers.specs.Registers.{fresh}
 use Rattle.a64_step.specs.Steps.{step_of}
 use Rattle.tenant_terms.specs.declared.Terms.{Terms}
 use Rattle.mte_tags.specs.declared.state.TagMode.{TagMode}

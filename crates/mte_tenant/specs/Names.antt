@@ -8,7 +8,7 @@ use Rattle.mte_tenant.specs.declared.admission.AdmitError.TheVariants.{NoFrames,
 use Rattle.mte_tenant.specs.declared.refusal.Refusal.{Refusal}
 use Rattle.mte_tenant.specs.declared.refusal.Refusal.TheVariants as refusal
 
--- The name of an image's refusal is that of the loader.
+-- An image's refusal has the loader's name for it.
 abbrev pub admit_name : AdmitError → List ℕ
 admit_name Duplicate = codes "Duplicate"
 admit_name BadReservation = codes "BadReservation"

@@ -5,8 +5,8 @@ ghost use Rattle.std.specs.Prelude.{None, ◌/◌};
 ghost use Rattle.mte_tags.specs.Memory.{Memory, page_at, pages_left, no_pages, with_new_pages};
 ghost use Rattle.mte_elf.specs.Headers.{segments_of, entry_of};
 ghost use Rattle.mte_elf.specs.Images.{refusal_of, pages_of};
-ghost use Rattle.a64_step.specs.Fixed.{KeepsFixed};
-ghost use Rattle.a64_ops.specs.OpCaches.{Knows};
+ghost use Rattle.mte_tags.specs.Fixed.{KeepsFixed};
+ghost use Rattle.a64_run.specs.OpCaches.{Knows};
 ghost use Rattle.scudo_heap.specs.Served.{HeapOwnsItsPages, IsUntouched};
 ghost use Rattle.mte_svc.specs.Results.{is_running};
 ghost use Rattle.mte_svc.specs.Services.{after_svc};
@@ -16,7 +16,7 @@ ghost use Rattle.mte_tenant.specs.Machines.{after_slice, after_attempts, after_s
 ghost use Rattle.mte_tenant.specs.Machines.{after_outcome, after_stop, with_service};
 
 use crate::admission::Admission;
-use a64_ops::{OpCache, known_words_stay, run_on_cache};
+use a64_run::{OpCache, known_words_stay, run_on_cache};
 use a64_step::{Outcome, Regs, steps_keep_pages};
 use address_map::{MAX_PAGES, PAGE_SIZE, STACK_END, STACK_PAGES, STACK_START};
 use mte_elf::{Plan, load};

@@ -26,7 +26,7 @@ pub record KeepsRest (k root s : ℕ) (p n : Pool) : Type 0 where
 abbrev pub KeepsWalks : ℕ → Pool → Pool → Type 0
 KeepsWalks root p n = (r : ℕ) → r < TABLE_PAGES → walk_at n root r ≡ walk_at p root r
 
--- Every walk but that of page q finds what it found before.
+-- Every walk but the one for page q finds what it found before.
 abbrev pub KeepsWalksBut : ℕ → ℕ → Pool → Pool → Type 0
 KeepsWalksBut root q p n =
     (r : ℕ) → r < TABLE_PAGES → r ≢ q → walk_at n root r ≡ walk_at p root r

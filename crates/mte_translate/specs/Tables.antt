@@ -11,7 +11,7 @@
 --     IsTable p k t              what holds of every table t under the quota k
 --     KeepsData k root p n       what a call leaves of the quota's frames that aren't the table's
 --     Stays k t p n              from p to n the table t stays as it is
---     MapsOnce m                 each frame is that of one page at most
+--     MapsOnce m                 each frame has one page at most
 --     MapsNever m f              no page is mapped to the frame f
 --     IsCached m asid ts         the translations ts of the ASID are those of the pages m
 use Rattle.std.specs.Prelude.{◌≡◌, ◌≢◌, ℕ, zero, suc, ◌+◌, ◌*◌, ◌/◌, ◌%◌, ◌<◌, ◌==◌, Bool, true}
@@ -60,8 +60,7 @@ has_leaf p root q = is_valid (entry_at p root (q / 512))
 abbrev pub missing_leaf : Pool → ℕ → ℕ → ℕ
 missing_leaf p root q = if has_leaf p root q then 0 else 1
 
--- The entry that the walk for a page finds: that of the leaf which the root names; 0 without a
--- leaf.
+-- The entry that the walk for a page finds, in the leaf which the root names; 0 without a leaf.
 unfoldable pub walk_at : Pool → ℕ → ℕ → ℕ
 walk_at p root q =
     if has_leaf p root q then entry_at p (leaf_in (entry_at p root (q / 512))) (q % 512) else 0
@@ -114,7 +113,7 @@ pub record IsUsed (p : Pool) (k : ℕ) (use_of : ℕ → ℕ) (f n : ℕ) : Type
 
 -- The use of a frame is a number: 0 of the root, 1 + s of the leaf that the root's entry s names,
 -- 513 of the frames of pages. That there is such a function says that root, leaves and the frames
--- of pages are all different, except that a frame may be that of several pages.
+-- of pages are all different, except that several pages may have one frame.
 pub record IsTree (p : Pool) (k root : ℕ) (use_of : ℕ → ℕ) : Type 0 where
   pub own_root : IsUsed p k use_of root 0
   pub leaves : (s : ℕ) → s < 512 → is_valid (entry_at p root s) ≡ true
@@ -188,12 +187,12 @@ pub record Stays (k : ℕ) (t : Root) (p n : Pool) : Type 0 where
   pub pages : pages_of n t.frame ≡ pages_of p t.frame
   pub apart : (f : ℕ) → IsApart p t.frame f → IsApart n t.frame f
 
--- No frame is that of two pages.
+-- No two pages have one frame.
 abbrev pub MapsOnce : Pages → Type 0
 MapsOnce m =
     (q r f : ℕ) (a b : Attrs) → map.get m q ≡ Some (f, a) → map.get m r ≡ Some (f, b) → q ≡ r
 
--- A frame is that of no page.
+-- No page has the frame.
 abbrev pub MapsNever : Pages → ℕ → Type 0
 MapsNever m f = (q : ℕ) (a : Attrs) → map.get m q ≢ Some (f, a)
 

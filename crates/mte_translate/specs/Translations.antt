@@ -11,7 +11,7 @@ use Rattle.std.specs.Prelude.{length, drop, filter, find, Option, option_map}
 use Rattle.mte_tags.specs.declared.attrs.Attrs.{Attrs}
 use Rattle.mte_translate.specs.declared.translation.Translation.{Translation}
 
--- Whether a translation is that of an ASID and a page.
+-- Whether a translation is for a page of an ASID.
 abbrev pub is_for : ℕ → ℕ → Translation → Bool
 is_for asid page t = (t.asid == asid) && (t.page == page)
 

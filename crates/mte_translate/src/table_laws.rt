@@ -43,8 +43,8 @@ pub fn leaves_are_used()
 
 /// A table stays, and maps what it mapped: where what is done keeps all other quotas (`others`);
 /// where a frame that isn't its own is written (`written`), and that may be a page's; where a frame
-/// is taken under its quota (`taken`), which is then not its own and that of no page; where a frame
-/// is given back that isn't its own and that of no page (`given`).
+/// is taken under its quota (`taken`), which is then neither its own nor a page's; where a frame is
+/// given back that is neither (`given`).
 pub fn tables_stay()
     ensures others { (p n : Pool) (j k : ℕ) (t : Root)
         → k ≢ j → KeepsOthers j p n → IsTable p k t → Stays k t p n }

@@ -27,7 +27,7 @@ pub struct Translation {
 }
 
 impl Translation {
-    /// Whether it is that of the page in the address space.
+    /// Whether it translates the page in the address space.
     #[inline]
     pub(crate) fn is_for(&self, asid: usize, page: u64) -> bool
         ensures { result ≡ is_for asid page self.now }

@@ -8,7 +8,7 @@ abbrev pub IfRefused : {R : Type 0} → Obstacle R → (R → Type 0) → Type 0
 IfRefused OutOfMemory P = ⊤
 IfRefused (Refused r) P = P r
 
--- Its text, by that of a refusal.
+-- Its text, by a refusal's text.
 abbrev pub obstacle_text : {R : Type 0} → (R → Option (List ℕ)) → Obstacle R → Option (List ℕ)
 obstacle_text text OutOfMemory = Some (codes "out of memory")
 obstacle_text text (Refused r) = text r

@@ -3,7 +3,7 @@
 ghost use Rattle.std.specs.Prelude.{◌≡◌};
 
 use a64_decode::decode;
-use a64_step::Regs;
+use a64_registers::Regs;
 use heap_bounds::{Bounds, Trespass, access_of};
 use instruction_trace::{Moment, SVC};
 use mte_backtrace::Callers;

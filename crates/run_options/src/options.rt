@@ -26,7 +26,7 @@ pub struct RunOptions {
     pub input: Option<String>,
     /// Its terms.
     pub terms: Terms,
-    /// Under how many seeds it is run, the first of them that of its terms.
+    /// Under how many seeds it is run; the first is the one of its terms.
     pub seeds: u32,
     ghost some: { 0 < terms.pages },
     ghost most: { terms.pages ≤ 4096 },

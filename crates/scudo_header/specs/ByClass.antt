@@ -21,6 +21,6 @@ by_class f = finite.from_entries (map (λ class. (class, f class)) (range_with_l
 unfoldable pub value_of : {X : Type 0} → ByClass X → X → ℕ → X
 value_of m none class = unwrap_or (finite.get m class) none
 
--- The values with that of a class replaced.
+-- The values with a class's value replaced.
 unfoldable pub with_value : {X : Type 0} → ByClass X → ℕ → X → ByClass X
 with_value m class x = finite.insert m class x

@@ -47,7 +47,7 @@ unfoldable pub header_at : Memory → ℕ → ℕ → Option Header
 header_at m cookie user =
     unpacked_header cookie user (from_le_bytes w64 (read_bytes m (user - 16) 8))
 
--- Whether a state is that of a chunk which is handed out.
+-- Whether a chunk with this state is handed out.
 abbrev pub is_allocated : State → Bool
 is_allocated Available = false
 is_allocated Allocated = true
@@ -93,7 +93,7 @@ check_mapping header (Some m) =
     then Ok (InPages m header)
     else Err NotABlock
 
--- Which chunk a header is that of.
+-- The chunk that a header describes.
 unfoldable pub check_chunk : StackState → List Mapping → ℕ → Header → Result Found HeapAbort
 check_chunk s ms user header = if header.class_id == 0
     then check_mapping header (secondary.mapping_of ms user)

@@ -104,7 +104,7 @@ HasEnd (InPages m header) =
 abbrev pub AreApart : ℕ → ℕ → ℕ → Type 0
 AreApart a b n = (a + n ≤ b) ⊎ (b + n ≤ a)
 
--- an alignment as the calls take it: at least that of a granule, at most a page
+-- an alignment as the calls take it: at least a granule, at most a page
 pub record IsAlign (align : ℕ) : Type 0 where
   pub least : 16 ≤ align
   pub most : align ≤ 4096

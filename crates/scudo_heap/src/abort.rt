@@ -15,7 +15,7 @@ pub enum HeapAbort {
     Unmapped,
     /// The checksum of its header differs.
     HeaderCorrupt,
-    /// Its header's state is not that of a chunk that is handed out.
+    /// Its header's state says that it is not handed out.
     InvalidState,
     /// Its header names no block or mapping of the heap, or a size that this does not hold.
     NotABlock,

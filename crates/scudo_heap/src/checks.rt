@@ -82,7 +82,7 @@ fn in_pages(maps: &Secondary, user: u64, header: &Header) -> Result<Found, HeapA
     Ok(Found::InPages(mapping, *header))
 }
 
-/// The chunk that a header gives, which is that of a chunk handed out.
+/// The chunk that a header describes, which says that it is handed out.
 #[tactic(auto, unfolding(crate::specs::Checks::check_chunk))]
 #[inline(always)]
 fn by_header(

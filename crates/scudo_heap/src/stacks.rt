@@ -95,7 +95,7 @@ impl Stacks {
         self.pool.pages(class)
     }
 
-    /// Whether an address is that of a carved block of a class.
+    /// Whether a carved block of a class begins at an address.
     #[inline(always)]
     pub(crate) fn is_block(&self, class: u8, block: u64) -> bool
         requires class { IsClass class }

@@ -202,7 +202,7 @@ impl Primary {
         set_mark(&mut self.entries, &self.numbers, class, block, false);
     }
 
-    /// Whether an address is that of a carved block of a class.
+    /// Whether a carved block of a class begins at an address.
     #[inline(always)]
     pub fn is_block(&self, class: u8, block: u64) -> bool
         requires class { IsClass class }
@@ -218,7 +218,7 @@ impl Primary {
         size <= bytes.saturating_sub(offset) && is_multiple(class, offset)
     }
 
-    /// Whether an address is that of a carved block of a class that is marked free: it is in the
+    /// Whether a carved block of a class that is marked free begins at an address: it is in the
     /// pool, or in a cache above it.
     #[inline(always)]
     pub fn is_free(&self, class: u8, block: u64) -> bool

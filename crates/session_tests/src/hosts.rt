@@ -129,7 +129,7 @@ fn copy_words(page: &mut [u8; 4096], file: &[u8]) {
     }
 }
 
-/// Writes another program over that of the tenant 1.
+/// Writes another program over tenant 1's.
 fn write_page(rt: &impl Abort, alloc: Global, host: &mut Host) -> Result<(), Fail> {
     assert!(rt; host.page_mut(1, 0).is_none() && host.page_mut(2, 16).is_none());
     let code = image(alloc, &HI)?;

@@ -29,7 +29,7 @@ pub struct Picture<'a> {
 }
 
 impl<'a> Picture<'a> {
-    /// Writes it in SVG: the rows of the heap's pages, and that of the mark. Rows in which nothing
+    /// Writes it in SVG: the rows of the heap's pages, and the mark's row. Rows in which nothing
     /// changes are left out after the first, and those farthest from the mark where there are more
     /// than [`heap_picture::ROWS`].
     pub fn draw<W: Write>(&self, alloc: Global, out: &mut W, memory: &mut Flat) -> io::Result<()> {

@@ -6,7 +6,7 @@ ghost use Rattle.scudo_heap.specs.Served.{HeapOwnsItsPages};
 ghost use Rattle.mte_tenant.specs.Admissions.{start_in};
 ghost use Rattle.tombolopan.specs.Alone.{refusal_alone, record_after};
 
-use a64_ops::OpCache;
+use a64_run::OpCache;
 use mte_flat::Flat;
 use mte_tenant::{
     Admission, AdmitError, Record, TenantParts, admit_alone, is_bad_reservation, slice,
@@ -14,8 +14,8 @@ use mte_tenant::{
 use obstacle::Obstacle;
 use std::alloc::Global;
 
-/// A tenant's machine, which is that of the definition: it is made by `admit_alone` and changed by
-/// slices alone.
+/// A tenant's machine, as the definition has it: it is made by `admit_alone` and changed by slices
+/// alone.
 #[derive(Drop)]
 pub struct Lone {
     /// All but its memory: its record, registers, heap and input.

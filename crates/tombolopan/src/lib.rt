@@ -19,7 +19,7 @@ mod session_report;
 
 pub use a64_decode::{Decoder, decode};
 pub use a64_instr::Instr;
-pub use a64_ops::{OpCache, run_cached, run_on_cache};
+pub use a64_run::{OpCache, run_cached, run_on_cache};
 pub use a64_step::{Outcome, Regs, Stop, run, step};
 pub use a64_text::{Text, TextAt};
 pub use alone::{Lone, run_alone};

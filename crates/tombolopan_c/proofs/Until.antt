@@ -2,7 +2,7 @@
 use Rattle.std.proofs.Common.{◌≡◌, ℕ, zero, suc, ◌-◌, ◌<◌, ◌∙◌, List, ap, sym, arith, Some, None, refl, true, false}
 use Rattle.std.proofs.lemmas.Bool.{cond-true, cond-false}
 use Rattle.mte_tags.specs.Memory.{Memory}
-use Rattle.a64_step.specs.declared.registers.Regs.{Regs}
+use Rattle.a64_registers.specs.declared.registers.Regs.{Regs}
 use Rattle.a64_step.specs.declared.outcome.Outcome.{Outcome}
 use Rattle.a64_step.specs.declared.outcome.Outcome.TheVariants.{Next, Svc, Fault}
 use Rattle.a64_step.specs.declared.outcome.Outcome.TheVariants.{Illegal, Breakpoint}

@@ -1,7 +1,7 @@
 -- The registers that lent ones say, whatever they hold.
 use Rattle.std.specs.Prelude.{ℕ, ◌+◌, ◌/◌, ◌%◌, ◌^◌, ◌==◌, if◌then◌else◌}
 use Rattle.a64_bits.specs.declared.arithmetic.Flags.{Flags}
-use Rattle.a64_step.specs.declared.registers.Regs.{Regs}
+use Rattle.a64_registers.specs.declared.registers.Regs.{Regs}
 use Rattle.tombolopan_c.specs.declared.lent_regs.LentRegs.{LentRegs}
 
 -- the flags of the bits 31 to 28

@@ -86,7 +86,7 @@ image_code image.SegmentRange = code.SEGMENT_RANGE
 image_code image.Overlap = code.OVERLAP
 image_code image.NoEntry = code.NO_ENTRY
 
--- The number of a refusal of an admission; of an image it is that of the image.
+-- The number of a refusal of an admission: for an image it is the image's.
 abbrev pub refusal_code : AdmitError → ℕ
 refusal_code refusal.Duplicate = code.DUPLICATE
 refusal_code refusal.BadReservation = code.BAD_RESERVATION

@@ -6,7 +6,7 @@ use Rattle.mte_tags.specs.Memory.{Memory}
 use Rattle.a64_step.specs.declared.outcome.Outcome.{Outcome}
 use Rattle.a64_step.specs.declared.outcome.Outcome.TheVariants as outcome
 use Rattle.a64_step.specs.declared.outcome.Stop.{Stop}
-use Rattle.a64_step.specs.declared.registers.Regs.{Regs}
+use Rattle.a64_registers.specs.declared.registers.Regs.{Regs}
 use Rattle.a64_step.specs.Steps.{step_of}
 use Rattle.tombolopan_c.specs.Stops.{stop_code, stop_report}
 use Rattle.tombolopan_c.specs.declared.codes.TheConstants.{STOPPED}

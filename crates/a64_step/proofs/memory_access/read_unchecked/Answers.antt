@@ -3,7 +3,7 @@ use Rattle.std.specs.Prelude.{if◌then◌else◌}
 use Rattle.mte_tags.specs.Memory.{Memory}
 use Rattle.mte_tags.specs.Accesses.{after_read}
 use Rattle.mte_tags.proofs.ModeLaws.{after_read-without-check}
-use Rattle.a64_step.specs.Operands.{bytes_of}
+use Rattle.a64_registers.specs.Operands.{bytes_of}
 use Rattle.a64_step.proofs.memory_access.read_unchecked.Goals as goal
 
 either_way : (b : Bool) (m : Memory) (a n : ℕ) → (if b then after_read m a n false else m) ≡ m

@@ -1,5 +1,5 @@
 use Rattle.std.proofs.Common.{ap, sym, subst}
-use Rattle.a64_step.specs.Fixed.{KeepsFixed}
+use Rattle.mte_tags.specs.Fixed.{KeepsFixed}
 use Rattle.mte_svc.specs.Results.{Served}
 use Rattle.mte_svc.proofs.services.svc.Goals as goal
 

@@ -1,5 +1,5 @@
 use Rattle.std.proofs.Common.{◌≡◌, ◌<◌}
-use Rattle.a64_ops.specs.OpCaches.{Knows}
+use Rattle.a64_run.specs.OpCaches.{Knows}
 use Rattle.scudo_heap.specs.Served.{HeapOwnsItsPages}
 use Rattle.mte_tenant.specs.Machines.{after_attempts, machine_of}
 use Rattle.mte_tenant.proofs.machine.slice.Given as goal

@@ -1,6 +1,6 @@
 use Rattle.std.proofs.Common.{◌≡◌, ◌∙◌, ◌+◌, ◌-◌, ◌<◌, sym, ap, refl, arith, true, false}
 use Rattle.a64_step.specs.declared.outcome.Outcome.TheVariants.{Next}
-use Rattle.a64_step.specs.declared.registers.Regs.{Regs}
+use Rattle.a64_registers.specs.declared.registers.Regs.{Regs}
 use Rattle.a64_step.specs.Steps.{step_of}
 use Rattle.a64_step.proofs.Running.{equal_stops}
 use Rattle.tombolopan_c.specs.RunsUntil.{run_until_of, is_among, RanUntil}

@@ -1,0 +1,4 @@
+pub mod Names
+pub mod Registers
+pub mod Operands
+pub mod Conditions
