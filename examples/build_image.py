@@ -3,20 +3,23 @@
 
     build_image.py OUT WORD...      each WORD is 8 hexadecimal digits, as an assembler lists it
 
-The image is an ELF64 executable for AArch64 with one segment, readable and executable, at 0x10000, which
-is its entry: 120 bytes of headers, then the words, four bytes each, the lowest first.
+The image is an ELF64 executable for AArch64 with one segment, readable and executable, at 0x10000,
+which is its entry: 120 bytes of headers, then the words, four bytes each, the lowest first.
 """
 import struct
 import sys
+from collections.abc import Sequence
 
 ENTRY = 0x10000
 READ_EXECUTE, READ_WRITE = 5, 6
 
 
-def image(words, data=()):
-    """The image of these words; `data` are further segments of zeros, readable and writable, as (address, size)."""
+def image(words: Sequence[int], data: Sequence[tuple[int, int]] = ()) -> bytes:
+    """The image of these words; `data` are further segments of zeros, readable and writable, as
+    (address, size)."""
     body = b"".join(struct.pack("<I", word) for word in words)
-    segments = [(READ_EXECUTE, ENTRY, len(body), len(body))] + [(READ_WRITE, at, 0, size) for at, size in data]
+    segments = [(READ_EXECUTE, ENTRY, len(body), len(body))]
+    segments += [(READ_WRITE, at, 0, size) for at, size in data]
     offset = 64 + 56 * len(segments)
     identification = b"\x7fELF" + bytes([2, 1, 1]) + bytes(9)
     file_header = identification + struct.pack(
@@ -29,7 +32,7 @@ def image(words, data=()):
     return file_header + program_headers + body
 
 
-def main():
+def main() -> None:
     if len(sys.argv) < 3:
         sys.exit(__doc__)
     try:

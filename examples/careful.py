@@ -1,25 +1,28 @@
 #!/usr/bin/env python3
-"""Runs random programs that keep to the bytes of their chunks by `mte_run --exact`, which must say nothing of them, and
-each of them once more with one access beyond a chunk's bytes that no tag finds, which it must find.
+"""Runs random programs that keep to the bytes of their chunks by `mte_run --exact`, which must say
+nothing of them, and each of them once more with one access beyond a chunk's bytes that no tag
+finds, which it must find.
 
     careful.py PROGRAM [COUNT [SEED [JOBS]]]
 
-PROGRAM is a built mte_run. COUNT programs (1000) are drawn by SEED (1) and run JOBS (1) at a time. A program that is told
-something else than it should be is kept in the folder `careless`, and the status is 1.
+PROGRAM is a built mte_run. COUNT programs (1000) are drawn by SEED (1) and run JOBS (1) at a time.
+A program that is told something else than it should be is kept in the folder `careless`, and the
+status is 1.
 """
 import concurrent.futures
-import importlib.util
 import os
 import pathlib
 import random
 import subprocess
 import sys
 import tempfile
+from typing import Optional, Union
 
-HERE = pathlib.Path(__file__).resolve().parent
-SPEC = importlib.util.spec_from_file_location("build_image", HERE / "build_image.py")
-BUILD = importlib.util.module_from_spec(SPEC)
-SPEC.loader.exec_module(BUILD)
+sys.path.insert(0, str(pathlib.Path(__file__).resolve().parent))
+import build_image  # noqa: E402
+
+Words = list[int]
+Argument = Union[int, list[int], None]  # a number, or a register in a list
 
 SVC = 0xD4000001
 WRITE, READ, MALLOC, FREE, CALLOC, REALLOC, MEMALIGN, USABLE_SIZE, EXIT = 1, 2, 3, 4, 5, 6, 7, 8, 0
@@ -27,7 +30,7 @@ SLOTS = range(19, 28)  # the registers with the pointers of chunks
 EXACT = 137
 
 
-def number(register, value):
+def number(register: int, value: int) -> Words:
     """MOVZ and MOVKs of a number of up to 32 bits."""
     words = [0xD2800000 | (value & 0xFFFF) << 5 | register]
     if value >> 16:
@@ -35,11 +38,11 @@ def number(register, value):
     return words
 
 
-def copy(to, register):
+def copy(to: int, register: int) -> Words:
     return [0xAA0003E0 | register << 16 | to]
 
 
-def add(to, register, value):
+def add(to: int, register: int, value: int) -> Words:
     """The register and a number of up to 24 bits, which may be negative."""
     base, value = (0x91000000, value) if value >= 0 else (0xD1000000, -value)
     words = [base | (value & 0xFFF) << 10 | register << 5 | to]
@@ -48,9 +51,9 @@ def add(to, register, value):
     return words
 
 
-def service(which, first=None, second=None):
+def service(which: int, first: Argument = None, second: Argument = None) -> Words:
     """A service by its number; an argument is a number, or a register in a list."""
-    words = []
+    words: Words = []
     for register, argument in ((0, first), (1, second)):
         if isinstance(argument, list):
             words += copy(register, argument[0])
@@ -59,8 +62,9 @@ def service(which, first=None, second=None):
     return words + number(8, which) + [SVC]
 
 
-def access(draw, pointer, offset, size):
-    """Loads or stores 2 to the power of `size` bytes at an offset from a pointer, in one of the forms."""
+def access(draw: random.Random, pointer: int, offset: int, size: int) -> Words:
+    """Loads or stores 2 to the power of `size` bytes at an offset from a pointer, in one of the
+    forms; nothing where a pair would begin in front of the pointer."""
     load, value = draw.randrange(2), draw.randrange(10, 16)
     form = draw.randrange(6)
     head = size << 30 | 0x38000000 | load << 22 | 9 << 5 | value
@@ -69,9 +73,9 @@ def access(draw, pointer, offset, size):
         head ^= 3 << 22  # it extends the sign
     if form == 0 and offset % width == 0 and offset // width < 4096:
         return [head & ~(31 << 5) | 1 << 24 | offset // width << 10 | pointer << 5]
-    if form == 1 and size >= 2 and offset + 2 * width <= 1 << 16:  # a pair, of which this is the second
+    if form == 1 and size >= 2 and offset + 2 * width <= 1 << 16:  # the second of a pair
         pair = (0xA9000000 if size == 3 else 0x29000000) | load << 22 | 16 << 10 | 9 << 5 | value
-        return None if offset < width else add(9, pointer, offset - width) + [pair]
+        return [] if offset < width else add(9, pointer, offset - width) + [pair]
     if form == 2:
         back = draw.randrange(-256, 256)
         return add(9, pointer, offset - back) + [head | (back & 0x1FF) << 12]
@@ -83,7 +87,7 @@ def access(draw, pointer, offset, size):
     return copy(9, pointer) + number(16, offset) + [head | 1 << 21 | 16 << 16 | 3 << 13 | 2 << 10]
 
 
-def drawn_size(draw):
+def drawn_size(draw: random.Random) -> int:
     kind = draw.random()
     if kind < 0.05:
         return 0
@@ -95,10 +99,12 @@ def drawn_size(draw):
 class Program:
     """The words of a program, and the chunks that it has."""
 
-    def __init__(self, draw):
-        self.draw, self.words, self.chunks = draw, [], {}
+    def __init__(self, draw: random.Random) -> None:
+        self.draw = draw
+        self.words: Words = []
+        self.chunks: dict[int, int] = {}
 
-    def allocate(self, slot):
+    def allocate(self, slot: int) -> None:
         size = drawn_size(self.draw)
         kind = self.draw.randrange(4)
         if kind == 0:
@@ -112,30 +118,31 @@ class Program:
         self.words += copy(slot, 0)
         self.chunks[slot] = size
 
-    def free(self, slot):
+    def free(self, slot: int) -> None:
         self.words += service(FREE, [slot])
         del self.chunks[slot]
 
-    def resize(self, slot):
+    def resize(self, slot: int) -> None:
         size = max(1, drawn_size(self.draw))
         self.words += service(REALLOC, [slot], size) + copy(slot, 0)
         self.chunks[slot] = size
 
-    def touch(self, slot):
+    def touch(self, slot: int) -> None:
         size = self.chunks[slot]
         widths = [n for n in range(4) if 1 << n <= size]
         if not widths:
             return
         width = self.draw.choice(widths)
-        offset = self.draw.choice([0, size - (1 << width), self.draw.randrange(size - (1 << width) + 1)])
-        self.words += access(self.draw, slot, offset, width) or []
+        last = size - (1 << width)
+        offset = self.draw.choice([0, last, self.draw.randrange(last + 1)])
+        self.words += access(self.draw, slot, offset, width)
 
-    def serve(self, slot):
+    def serve(self, slot: int) -> None:
         size = min(self.chunks[slot], 100)
         start = self.draw.randrange(self.chunks[slot] - size + 1)
         self.words += add(17, slot, start) + service(self.draw.choice([WRITE, READ]), [17], size)
 
-    def act(self):
+    def act(self) -> None:
         slot = self.draw.choice(SLOTS)
         if slot not in self.chunks:
             return self.allocate(slot)
@@ -149,30 +156,32 @@ class Program:
             return None
         return self.serve(slot) if kind < 0.35 else self.touch(slot)
 
-    def err(self):
-        """One access beyond the bytes of a live chunk that no tag finds: past its size in its last granule, or to
-        its header by a pointer of tag 0."""
+    def err(self) -> None:
+        """One access beyond the bytes of a live chunk that no tag finds: past its size in its last
+        granule, or to its header by a pointer of tag 0."""
         size = self.draw.choice([n for n in range(1, 300) if n % 16])
         self.words += service(MALLOC, size) + copy(28, 0)
         kind = self.draw.randrange(4)
         if kind == 0:  # one byte
             at = self.draw.randrange(size, (size + 15) // 16 * 16)
-            self.words += access(self.draw, 28, at, 0)or []
+            self.words += access(self.draw, 28, at, 0)
         elif kind == 1:  # bytes on both sides of its end
-            width = self.draw.choice([n for n in (1, 2, 3) if size % 16 + (1 << n) - 1 <= 16 and 1 << n <= size] or [0])
+            fitting = [n for n in (1, 2, 3) if size % 16 + (1 << n) - 1 <= 16 and 1 << n <= size]
+            width = self.draw.choice(fitting or [0])
             start = size - (1 << width) + 1
             self.words += add(9, 28, start) + [width << 30 | 0x39000000 | 9 << 5 | 10]
         elif kind == 2:  # a service
             self.words += service(self.draw.choice([WRITE, READ]), [28], size + 1)
         else:  # its header
-            self.words += [0x9240DC00 | 28 << 5 | 9] + add(9, 9, -self.draw.randrange(1, 17)) + [0x39400000 | 9 << 5 | 10]
+            back = add(9, 9, -self.draw.randrange(1, 17))
+            self.words += [0x9240DC00 | 28 << 5 | 9, *back, 0x39400000 | 9 << 5 | 10]
 
-    def exit(self):
+    def exit(self) -> None:
         self.words += service(EXIT, 0)
 
 
-def program(seed, is_wrong):
-    """The image of the program with a seed, and how it should end."""
+def program(seed: int, is_wrong: bool) -> bytes:
+    """The image of the program with a seed."""
     draw = random.Random(seed)
     made = Program(draw)
     wrong_at = draw.randrange(60) if is_wrong else -1
@@ -181,39 +190,45 @@ def program(seed, is_wrong):
             made.err()
         made.act()
     made.exit()
-    return BUILD.image(made.words)
+    return build_image.image(made.words)
 
 
-def run(path, folder, seed):
+def run_one(path: str, folder: str, seed: int, wanted: int) -> Optional[str]:
+    """What is wrong with what is told of a program with a seed, which should end so."""
+    image = os.path.join(folder, f"{seed}.{wanted}")
+    with open(image, "wb") as file:
+        file.write(program(seed, wanted == EXACT))
+    ran = subprocess.run([path, "--exact", "--input", sys.executable, image], timeout=60,
+                         stdin=subprocess.DEVNULL, stdout=subprocess.DEVNULL,
+                         stderr=subprocess.PIPE, check=False)
+    if ran.returncode == wanted and (wanted != 0 or not ran.stderr):
+        os.remove(image)
+        return None
+    os.makedirs("careless", exist_ok=True)
+    os.rename(image, os.path.join("careless", f"{seed}.{wanted}"))
+    said = f"{ran.returncode} in place of {wanted}: {ran.stderr[:200]!r}"
+    return f"careless/{seed}.{wanted}: {said}"
+
+
+def run(path: str, folder: str, seed: int) -> list[str]:
     """What is wrong with what is told of both programs with a seed."""
-    bad = []
-    for wrong, wanted in ((False, 0), (True, EXACT)):
-        image = os.path.join(folder, f"{seed}.{wanted}")
-        with open(image, "wb") as file:
-            file.write(program(seed, wrong))
-        ran = subprocess.run([path, "--exact", "--input", sys.executable, image], stdin=subprocess.DEVNULL,
-                             stdout=subprocess.DEVNULL, stderr=subprocess.PIPE, timeout=60)
-        if ran.returncode != wanted or (wanted == 0 and ran.stderr):
-            os.makedirs("careless", exist_ok=True)
-            os.rename(image, os.path.join("careless", f"{seed}.{wanted}"))
-            bad.append(f"careless/{seed}.{wanted}: {ran.returncode} in place of {wanted}: {ran.stderr[:200]}")
-        else:
-            os.remove(image)
-    return bad
+    told = [run_one(path, folder, seed, wanted) for wanted in (0, EXACT)]
+    return [line for line in told if line]
 
 
-def main():
+def main() -> None:
     if len(sys.argv) < 2 or sys.argv[1].startswith("-"):
         sys.exit(__doc__)
     count, first, jobs = [int(word) for word in sys.argv[2:]] + [1000, 1, 1][len(sys.argv) - 2:]
     path = os.path.abspath(sys.argv[1])
     failed = 0
-    with tempfile.TemporaryDirectory() as folder, concurrent.futures.ThreadPoolExecutor(jobs) as pool:
+    pool = concurrent.futures.ThreadPoolExecutor(jobs)
+    with tempfile.TemporaryDirectory() as folder, pool:
         for bad in pool.map(lambda seed: run(path, folder, seed), range(first, first + count)):
             failed += bool(bad)
-            for line in bad:
-                print(line, file=sys.stderr)
-    print(f"{count} careful programs and {count} with one wrong access: {failed} not told as they should be")
+            print("".join(f"{line}\n" for line in bad), end="", file=sys.stderr)
+    print(f"{count} careful programs and {count} with one wrong access: {failed} not told as they "
+          "should be")
     sys.exit(failed != 0)
 
 

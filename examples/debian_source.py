@@ -3,10 +3,11 @@
 
     debian_source.py FOLDER PACKAGE [PART...]
 
-Makes FOLDER/PACKAGE of the package's archive, its top folder left out, or of the PARTs of it alone (files or folders),
-and does nothing where they are there. The archive comes by apt-get from where apt's own configuration says, with its
-signatures checked, and stays in FOLDER. Nothing is installed, and the system's own lists of packages stay as they are.
-Exit status 1: it was not fetched, and standard error says why. Needed (Debian): apt, tar, bzip2, xz-utils.
+Makes FOLDER/PACKAGE of the package's archive, its top folder left out, or of the PARTs of it alone
+(files or folders), and does nothing where they are there. The archive comes by apt-get from where
+apt's own configuration says, with its signatures checked, and stays in FOLDER. Nothing is
+installed, and the system's own lists of packages stay as they are. Exit status 1: it was not
+fetched, and standard error says why. Needed (Debian): apt, tar, bzip2, xz-utils.
 """
 import pathlib
 import platform
@@ -14,6 +15,8 @@ import shutil
 import subprocess
 import sys
 import tempfile
+from collections.abc import Sequence
+from typing import Union
 
 SECONDS = 900
 
@@ -22,12 +25,13 @@ class NotFetched(Exception):
     """A package's source was not fetched, with the reason."""
 
 
-def address():
+def address() -> str:
     """Address, release and component of the release's own archive, in apt's configuration."""
     release = platform.freedesktop_os_release().get("VERSION_CODENAME", "")
     form = ["--format", "$(SITE) $(RELEASE) $(COMPONENT)", "Created-By: Packages"]
     try:
-        listed = subprocess.run(["apt-get", "indextargets", *form], stdout=subprocess.PIPE, text=True, check=True)
+        listed = subprocess.run(["apt-get", "indextargets", *form], stdout=subprocess.PIPE,
+                                text=True, check=True)
     except (OSError, subprocess.CalledProcessError) as error:
         raise NotFetched(f"apt-get tells no archive: {error}") from error
     for line in listed.stdout.splitlines():
@@ -36,14 +40,15 @@ def address():
     raise NotFetched("apt's configuration has no archive of this release")
 
 
-def download(folder, package):
+def download(folder: pathlib.Path, package: str) -> pathlib.Path:
     """The archive of a package, in `folder`."""
     for name in ("lists/partial", "cache/archives/partial"):
         (folder / name).mkdir(parents=True, exist_ok=True)
     (folder / "sources.list").write_text(f"deb-src {address()}\n")
     apt = [
-        "apt-get", "-qq", "-o", f"Dir::Etc::sourcelist={folder}/sources.list", "-o", "Dir::Etc::sourceparts=-",
-        "-o", f"Dir::State::lists={folder}/lists", "-o", f"Dir::Cache={folder}/cache", "-o", "APT::Sandbox::User=",
+        "apt-get", "-qq", "-o", f"Dir::Etc::sourcelist={folder}/sources.list",
+        "-o", "Dir::Etc::sourceparts=-", "-o", f"Dir::State::lists={folder}/lists",
+        "-o", f"Dir::Cache={folder}/cache", "-o", "APT::Sandbox::User=",
         "-o", "Acquire::http::Timeout=30",
     ]
     words = ["source", "--download-only", package]
@@ -56,9 +61,10 @@ def download(folder, package):
     return archives[0]
 
 
-def fetch(folder, package, parts=()):
+def fetch(where: Union[str, pathlib.Path], package: str,
+          parts: Sequence[str] = ()) -> pathlib.Path:
     """The folder of a package's source, or of these parts of it; raises NotFetched."""
-    folder = pathlib.Path(folder).resolve()
+    folder = pathlib.Path(where).resolve()
     source = folder / package
     if source.is_dir() and all((source / part).exists() for part in parts):
         return source
@@ -66,16 +72,18 @@ def fetch(folder, package, parts=()):
         folder.mkdir(parents=True, exist_ok=True)
         archive = download(folder, package)
         with tempfile.TemporaryDirectory(dir=folder) as name:
-            unpack = ["tar", "-xf", archive, "-C", name, "--strip-components=1", "--wildcards"]
-            subprocess.run([*unpack, *(f"*/{part}" for part in parts)], check=True)
+            unpack = ["tar", "-xf", str(archive), "-C", name, "--strip-components=1",
+                      "--wildcards", *(f"*/{part}" for part in parts)]
+            subprocess.run(unpack, check=True)
             shutil.rmtree(source, ignore_errors=True)
             shutil.copytree(name, source, symlinks=True)
     except (OSError, subprocess.CalledProcessError, subprocess.TimeoutExpired) as error:
-        raise NotFetched(f"{package} was not fetched (apt-get needs the network): {error}") from error
+        why = f"{package} was not fetched (apt-get needs the network): {error}"
+        raise NotFetched(why) from error
     return source
 
 
-def main():
+def main() -> None:
     if len(sys.argv) < 3:
         sys.exit(__doc__)
     try:

@@ -3,13 +3,17 @@
 # built, else by a checked build that proves nothing, which takes two to three minutes.
 #     why.sh [OPTION..] ELF
 # The options are those of mte_run (docs/REPORT.md), but without files to write: the picture of the
-# heap goes to standard output by `--map -`.
+# heap goes to standard output by `--map -`. TOMBOLOPAN_BUILT names a folder with a program mte_run
+# that is used as it is.
 set -euo pipefail
 if [[ $# -eq 0 || $1 == --help ]]; then
     sed -n '2,/^set/s/^# \{0,1\}//p' "$0"
     exit 2
 fi
 crate=$(cd "$(dirname "$0")/../crates/mte_run" && pwd)
+if [[ -n ${TOMBOLOPAN_BUILT:-} ]]; then
+    exec "$TOMBOLOPAN_BUILT/mte_run" "$@"
+fi
 if [[ -x $crate/out/mte_run ]]; then
     exec "$crate/out/mte_run" "$@"
 fi

@@ -40,6 +40,8 @@ extern "C" {
 #define TB_ASSERT(condition) _Static_assert(condition, #condition)
 #endif
 
+// Written by tools/border.py: the numbers
+
 /* What calls answer. */
 enum tb_code {
     TB_OK = 0,             /* done; a step went on, a run did all of its steps */
@@ -133,6 +135,8 @@ enum tb_attrs {
     TB_EXEC = 4,
     TB_TAGGED = 8 /* its granules have allocation tags, which checked accesses compare */
 };
+
+// End of what tools/border.py writes.
 
 /* A place for a page. */
 typedef struct tb_page {
@@ -228,8 +232,8 @@ typedef struct tb_terms {
 /* A tenant's status, or zero in all fields where there is no tenant. */
 typedef struct tb_status {
     uint32_t status;  /* tb_tenant_status */
-    uint32_t number;  /* the code of an exit, the word that is illegal, the number of a break, why of
-                         an abort (tb_heap_abort); else 0 */
+    uint32_t number;  /* the code of an exit, the word that is illegal, the number of a break, why
+                         of an abort (tb_heap_abort); else 0 */
     uint64_t pc;      /* the address of the instruction; 0 for an exit and where it is running */
     uint64_t pointer; /* the pointer of an abort; else 0 */
     tb_fault fault;   /* of TB_STATUS_FAULT; else zero */
@@ -237,7 +241,8 @@ typedef struct tb_status {
 
 /* A heap call of a tenant. */
 typedef struct tb_kept_call {
-    uint64_t service; /* its number: 3 malloc, 4 free, 5 calloc, 6 realloc, 7 memalign, 8 usable_size */
+    uint64_t service; /* its number: 3 malloc, 4 free, 5 calloc, 6 realloc, 7 memalign,
+                         8 usable_size */
     uint64_t first;   /* x0 */
     uint64_t second;  /* x1, or 0 where the service has one argument */
     uint64_t answer;
@@ -282,7 +287,8 @@ TB_ASSERT(sizeof(tb_heap_setup) == 16 && offsetof(tb_heap_setup, rgsr_tag) == 14
 TB_ASSERT(sizeof(tb_heap_call) == 56 && offsetof(tb_heap_call, fault) == 32);
 TB_ASSERT(sizeof(tb_bytes) == 16 && offsetof(tb_bytes, length) == 8);
 TB_ASSERT(sizeof(tb_session_end) == 24 && offsetof(tb_session_end, fault) == 20);
-TB_ASSERT(sizeof(tb_terms) == 72 && offsetof(tb_terms, seed) == 48 && offsetof(tb_terms, room) == 60);
+TB_ASSERT(sizeof(tb_terms) == 72 && offsetof(tb_terms, seed) == 48 &&
+          offsetof(tb_terms, room) == 60);
 TB_ASSERT(sizeof(tb_status) == 48 && offsetof(tb_status, fault) == 24);
 TB_ASSERT(sizeof(tb_kept_call) == 32 && offsetof(tb_kept_call, answer) == 24);
 TB_ASSERT(sizeof(tb_alone_end) == 88 && offsetof(tb_alone_end, status) == 32);
@@ -291,19 +297,22 @@ TB_ASSERT(sizeof(tb_alone_end) == 88 && offsetof(tb_alone_end, status) == 32);
 uint32_t tb_version(void);
 
 /*
- * Runs a session: a script and the files that it refers to, from 1 on, on a host of `frames` frames,
- * 1 to 65536. Copies as much of its report as `report` holds, from its start. TB_OK where it holds
- * all. TB_NO_ROOM where it does not: end->length tells how long the whole report is, and the same
- * call with that room gives it, since a session is a function of its bytes. TB_SCRIPT where a line
- * of the script is faulty, TB_OUT_OF_MEMORY and TB_BAD_ARGUMENT (frames) leave the buffer as it was.
- * It takes its memory by malloc, 4224 bytes a frame and copies of the files, and frees it again.
+ * Runs a session: a script and the files that it refers to, from 1 on, on a host of `frames`
+ * frames, 1 to 65536. Copies as much of its report as `report` holds, from its start. TB_OK where
+ * it holds all. TB_NO_ROOM where it does not: end->length tells how long the whole report is, and
+ * the same call with that room gives it, since a session is a function of its bytes. TB_SCRIPT
+ * where a line of the script is faulty, TB_OUT_OF_MEMORY and TB_BAD_ARGUMENT (frames) leave the
+ * buffer as it was.
+ * It takes its memory by malloc, and frees it again: 4224 bytes a frame, some 800,000 bytes beside
+ * them, some 1,100 a page of each reservation, and copies of the files.
  */
 uint32_t tb_session(uint32_t frames, const uint8_t *script, size_t script_length,
                     const tb_bytes *files, size_t count, uint8_t *report, size_t room,
                     tb_session_end *end);
 
 /*
- * Runs a tenant alone for its slices: what it does in a session is the same, whatever the others do.
+ * Runs a tenant alone for its slices: what it does in a session is the same, whatever the others
+ * do.
  * Copies as much of its output, and as many of its last 64 heap calls, the oldest first, as
  * `output` and `calls` hold. TB_OK where they hold all; TB_NO_ROOM where they do not: `end` tells
  * how much there is. TB_REFUSED where the tenant is not admitted, which end->refusal tells, and
@@ -376,9 +385,9 @@ uint32_t tb_run(tb_page *pages, size_t count, tb_tag_state *state, tb_regs *regs
                 tb_stop *stop);
 
 /*
- * tb_run that also stops where the PC is one of `stops` after an instruction, and answers TB_STOPPED
- * then. The first instruction is attempted also where it is at one of them, so the same call goes on
- * from there.
+ * tb_run that also stops where the PC is one of `stops` after an instruction, and answers
+ * TB_STOPPED then. The first instruction is attempted also where it is at one of them, so the same
+ * call goes on from there.
  */
 uint32_t tb_run_until(tb_page *pages, size_t count, tb_tag_state *state, tb_regs *regs,
                       uint64_t steps, const uint64_t *stops, size_t stop_count, tb_stop *stop);
@@ -532,6 +541,8 @@ static inline uint32_t tb_trace(tb_page *pages, size_t count, tb_tag_state *stat
     return code;
 }
 
+// Written by tools/border.py: the texts
+
 /* What a code says that a call answered, a tb_code, in a few words. The text stays. */
 static inline const char *tb_text(uint32_t code) {
     switch (code) {
@@ -626,6 +637,8 @@ static inline const char *tb_tenant_status_name(uint32_t status) {
     default: return "unknown";
     }
 }
+
+// End of what tools/border.py writes.
 
 #ifdef __cplusplus
 }

@@ -9,7 +9,8 @@
 #     PREFIX/share/man            mte_host(1), mte_run(1), tombolopan(3)
 #     PREFIX/share/tombolopan     tombolopan.py, tombolopan.rs
 #
-# It proves and builds what is not built yet. FOLDER has mte_host, mte_run and libtombolopan_c.a that were built elsewhere.
+# It proves and builds what is not built yet. FOLDER has mte_host, mte_run and libtombolopan_c.a
+# that were built elsewhere.
 set -euo pipefail
 here=$(cd "$(dirname "$0")" && pwd)
 crates=$here/../crates
@@ -32,9 +33,10 @@ heap=$(dirname "$(rt doc | head -n 1)")/c/liblibc_c.a
 work=$(mktemp -d)
 trap 'rm -rf "$work"' EXIT
 
-# Runs a command whose lines go to a file, and writes a line every half minute: how long it runs, and the last crate.
+# Runs a command whose lines go to a file, and writes a line every half minute: how long it runs,
+# and the last crate.
 watched() {
-    local what=$1 start=$SECONDS
+    local what=$1 start=$SECONDS passed crate
     shift
     "$@" >"$work/log" 2>&1 &
     local child=$! last=$SECONDS
@@ -42,8 +44,9 @@ watched() {
         sleep 1
         if ((SECONDS - last >= 30)); then
             last=$SECONDS
-            echo "install.sh: $what: $(((last - start) / 60)) min $(((last - start) % 60)) s;" \
-                "$(grep -o 'jobs [0-9]* for [a-z0-9_]*' "$work/log" | tail -n 1 | sed 's/.* for /at /')"
+            passed=$((last - start))
+            crate=$(grep -o 'jobs [0-9]* for [a-z0-9_]*' "$work/log" | tail -n 1 || true)
+            echo "install.sh: $what: $((passed / 60)) min $((passed % 60)) s; ${crate/*for /at }"
         fi
     done
     if ! wait "$child"; then
@@ -65,8 +68,9 @@ if [[ -n $built ]]; then
         "$work/$name" --help >"$work/$name.help"
     done
 else
-    echo "install.sh: proves and builds mte_host, mte_run and the library: by estimate one to two hours of one processor" \
-        "and 5 to 10 GB in crates/*/out the first time, seconds when they are built"
+    echo "install.sh: proves and builds mte_host, mte_run and the library: by estimate one to two" \
+        "hours of one processor and 5 to 10 GB in crates/*/out the first time, seconds when they" \
+        "are built"
     program mte_host
     program mte_run
     watched libtombolopan "$here/../examples/embed/library.sh"
@@ -74,7 +78,8 @@ else
 fi
 
 # One archive of both, so that -ltombolopan is all that a program names.
-printf 'create %s\naddlib %s\naddlib %s\nsave\nend\n' "$work/libtombolopan.a" "$work/libtombolopan_c.a" "$heap" | ar -M
+printf 'create %s\naddlib %s\naddlib %s\nsave\nend\n' \
+    "$work/libtombolopan.a" "$work/libtombolopan_c.a" "$heap" | ar -M
 "$here/../examples/embed/shared.sh" "$work/libtombolopan.so.2" "$work/libtombolopan_c.a"
 for name in mte_host mte_run; do
     "$here/manual.py" program "$name" <"$work/$name.help" >"$work/$name.1"
@@ -105,5 +110,5 @@ install -D -m 644 -t "$prefix/share/tombolopan" "$here/../examples/embed/tombolo
     "$here/../examples/embed/tombolopan.rs"
 echo "install.sh: installed into $prefix"
 echo "install.sh: for Python: PYTHONPATH=$prefix/share/tombolopan"
-echo "install.sh: where it is no usual place: PKG_CONFIG_PATH=$prefix/lib/pkgconfig LD_LIBRARY_PATH=$prefix/lib" \
-    "MANPATH=$prefix/share/man: PATH=$prefix/bin:\$PATH"
+echo "install.sh: where it is no usual place: PKG_CONFIG_PATH=$prefix/lib/pkgconfig" \
+    "LD_LIBRARY_PATH=$prefix/lib MANPATH=$prefix/share/man: PATH=$prefix/bin:\$PATH"

@@ -14,17 +14,20 @@ library is needed.
 
 import argparse
 import sys
+from collections.abc import Iterator
 
 from a64 import compare, forms, groups, pages, rows, stores, table
+from a64.table import Form, Rows
 
 
-def written_files(all_rows, all_forms):
+def written_files(all_rows: Rows, all_forms: list[Form]) -> dict[str, str]:
     """What every file must be, by its path."""
-    return {**rows.written(all_rows), **groups.written(all_rows), **forms.written(all_rows, all_forms),
-            **stores.written(all_rows), **pages.written(all_rows, all_forms)}
+    return {**rows.written(all_rows), **groups.written(all_rows),
+            **forms.written(all_rows, all_forms), **stores.written(all_rows),
+            **pages.written(all_rows, all_forms)}
 
 
-def differing_files(files):
+def differing_files(files: dict[str, str]) -> Iterator[str]:
     """The files that aren't what the data give, each with the first line that differs."""
     for path, text in files.items():
         place = table.ROOT / path
@@ -39,7 +42,7 @@ def differing_files(files):
         yield f"{path}:{line + 1}: isn't what the data give (run tools/isa.py)"
 
 
-def write_files(files):
+def write_files(files: dict[str, str]) -> None:
     for path, text in files.items():
         place = table.ROOT / path
         if not place.exists() or place.read_text() != text:
@@ -48,7 +51,7 @@ def write_files(files):
             print(f"wrote {path}")
 
 
-def main():
+def main() -> int:
     parser = argparse.ArgumentParser(description=__doc__,
                                      formatter_class=argparse.RawDescriptionHelpFormatter)
     parser.add_argument("--check", action="store_true", help="compare, and write nothing")
@@ -69,7 +72,7 @@ def main():
         if options.files:
             print("\n".join(files))
             return 0
-        found = list(compare.differences(all_rows, all_forms))
+        found = list(compare.differences(all_rows))
         if options.check:
             found = [*differing_files(files), *found]
         else:

@@ -1,13 +1,15 @@
 #!/usr/bin/env python3
 """Plants one wrong change after another, and asks tools/isa.py --check of each.
 
-    isa_plants.py [SEED]
+    isa_plants.py [--count N] [--seed N]
 
 In a copy of what isa.py reads and writes it changes a fixed bit of each row, numbers and words of
 the rows and of the forms, lines of the written files, and numbers of the definitions by hand. The
-check must be red each time, and green before the first and after the last.
+check must be red each time, and green before the first and after the last. Of all changes, some
+180, --count draws as many as it says.
 """
 
+import argparse
 import pathlib
 import random
 import re
@@ -15,35 +17,46 @@ import shutil
 import subprocess
 import sys
 import tempfile
+from collections.abc import Iterator
+from dataclasses import dataclass
+from typing import Optional
 
 ROOT = pathlib.Path(__file__).resolve().parents[1]
-FOLDERS = ["isa", "tools", "docs",
-           *(f"crates/{name}" for name in ("a64_instr", "a64_asm", "a64_decode", "a64_registers",
-                                           "a64_step", "a64_ops", "a64_run", "a64_text",
-                                           "a64_tests", "instruction_trace"))]
+CRATES = ("a64_instr", "a64_asm", "a64_decode", "a64_registers", "a64_step", "a64_ops", "a64_run",
+          "a64_text", "a64_tests", "instruction_trace")
+FOLDERS = ["isa", "tools", "docs", *(f"crates/{name}" for name in CRATES)]
 DEFINITIONS = {"crates/a64_asm/specs/Encoding.antt": r"^(word_of|tests) |^    ",
                "crates/a64_step/specs/Steps.antt": r"^step_of_instr \(instr"}
 
 
-def copied():
+@dataclass(frozen=True)
+class Plant:
+    """A wrong change: the file, what it is, and the file's text with it."""
+    path: str
+    what: str
+    text: str
+
+
+def copied() -> pathlib.Path:
     top = pathlib.Path(tempfile.mkdtemp())
+    ignored = shutil.ignore_patterns("out", "__pycache__")
     for folder in FOLDERS:
-        shutil.copytree(ROOT / folder, top / folder, ignore=shutil.ignore_patterns("out"))
+        shutil.copytree(ROOT / folder, top / folder, ignore=ignored)
     return top
 
 
-def is_green(top):
+def is_green(top: pathlib.Path) -> bool:
     command = [sys.executable, str(top / "tools/isa.py"), "--check"]
     return subprocess.run(command, capture_output=True, check=False).returncode == 0
 
 
-def data_lines(text):
+def data_lines(text: str) -> list[int]:
     """The numbers of the lines that say something."""
     return [n for n, line in enumerate(text.split("\n"))
             if line.strip() and not line.startswith("#")]
 
 
-def changed_digit(source, line):
+def changed_digit(source: random.Random, line: str) -> Optional[str]:
     """The line with one digit changed, or None where it has none."""
     places = [m.start() for m in re.finditer(r"(?<![A-Za-z])\d", line)]
     if not places:
@@ -53,7 +66,8 @@ def changed_digit(source, line):
     return line[:at] + digit + line[at + 1:]
 
 
-def without_word(source, line):
+def without_word(source: random.Random, line: str) -> Optional[str]:
+    """The line without one of its words, or None where it has few."""
     words = line.split(" ")
     filled = [n for n, word in enumerate(words) if word]
     if len(filled) < 3:
@@ -62,7 +76,7 @@ def without_word(source, line):
     return " ".join(words)
 
 
-def flipped_bits(text):
+def flipped_bits(path: str, text: str) -> Iterator[Plant]:
     """For each row the text with one of its fixed bits changed."""
     lines = text.split("\n")
     for n in data_lines(text):
@@ -70,14 +84,17 @@ def flipped_bits(text):
         if found:
             at = found.start()
             bit = "1" if lines[n][at] == "0" else "0"
-            yield f"a fixed bit of {lines[n].split()[0]}", "\n".join(
-                [*lines[:n], lines[n][:at] + bit + lines[n][at + 1:], *lines[n + 1:]])
+            line = lines[n][:at] + bit + lines[n][at + 1:]
+            yield Plant(path, f"a fixed bit of {line.split()[0]}",
+                        "\n".join([*lines[:n], line, *lines[n + 1:]]))
 
 
-def changed_lines(source, text, numbers, count, head_only=False):
+def changed_lines(source: random.Random, path: str, numbers: list[int], count: int,
+                  text: str) -> Iterator[Plant]:
     """The text with a digit changed or a word taken out, so many times; in a definition whose right
     side isn't compared, in its left side alone."""
     lines = text.split("\n")
+    head_only = path.endswith("Steps.antt")
     while count > 0:
         n = source.choice(numbers)
         line = source.choice([changed_digit, without_word])(source, lines[n])
@@ -85,46 +102,67 @@ def changed_lines(source, text, numbers, count, head_only=False):
             continue
         if not head_only or line.split(" = ")[0] != lines[n].split(" = ")[0]:
             count -= 1
-            yield f"{lines[n].strip()} -> {line.strip()}", "\n".join(
-                [*lines[:n], line, *lines[n + 1:]])
+            yield Plant(path, f"{lines[n].strip()} -> {line.strip()}",
+                        "\n".join([*lines[:n], line, *lines[n + 1:]]))
 
 
-def plants(source, top):
-    """Each change: the file, what it is, and the file's text with it."""
-    for path in ("isa/a64.rows", "isa/a64.forms"):
-        text = (top / path).read_text()
-        if path.endswith("rows"):
-            yield from ((path, *plant) for plant in flipped_bits(text))
-        yield from ((path, *plant) for plant in changed_lines(source, text, data_lines(text), 40))
+def written_files(top: pathlib.Path) -> list[str]:
     command = [sys.executable, str(top / "tools/isa.py"), "--files"]
-    for path in subprocess.run(command, capture_output=True, text=True, check=True).stdout.split():
-        text = (top / path).read_text()
-        yield from ((path, *plant) for plant in changed_lines(source, text, data_lines(text), 2))
-    for path, pattern in DEFINITIONS.items():
-        text = (top / path).read_text()
-        start = re.search(r"\n(step_of_instr|word_of) \(", text).start()
-        first = text[:start].count("\n") + 1
-        numbers = [n for n in data_lines(text) if n >= first and n < first + 80
-                   and re.search(pattern, text.split("\n")[n])]
-        head_only = path.endswith("Steps.antt")
-        yield from ((path, *plant) for plant in changed_lines(source, text, numbers, 10, head_only))
+    return subprocess.run(command, capture_output=True, text=True, check=True).stdout.split()
 
 
-def main():
-    source = random.Random(int(sys.argv[1]) if len(sys.argv) > 1 else 1)
+def lines_of_definition(path: str, text: str) -> list[int]:
+    """The numbers of the lines of a definition by hand that are compared."""
+    start = re.search(r"\n(step_of_instr|word_of) \(", text)
+    if start is None:
+        sys.exit(f"isa_plants.py: {path} has no definition")
+    first = text[:start.start()].count("\n") + 1
+    lines = text.split("\n")
+    return [n for n in data_lines(text)
+            if first <= n < first + 80 and re.search(DEFINITIONS[path], lines[n])]
+
+
+def plants(source: random.Random, top: pathlib.Path) -> Iterator[Plant]:
+    """Each change."""
+    rows = (top / "isa/a64.rows").read_text()
+    yield from flipped_bits("isa/a64.rows", rows)
+    for path, count in [("isa/a64.rows", 40), ("isa/a64.forms", 40),
+                        *((path, 2) for path in written_files(top))]:
+        text = (top / path).read_text()
+        yield from changed_lines(source, path, data_lines(text), count, text)
+    for path in DEFINITIONS:
+        text = (top / path).read_text()
+        yield from changed_lines(source, path, lines_of_definition(path, text), 10, text)
+
+
+def drawn(source: random.Random, top: pathlib.Path, count: Optional[int]) -> list[Plant]:
+    """All changes, or so many of them, in their order."""
+    found = list(plants(source, top))
+    if count is None:
+        return found
+    places = sorted(source.sample(range(len(found)), min(count, len(found))))
+    return [found[place] for place in places]
+
+
+def main() -> int:
+    parser = argparse.ArgumentParser(description=__doc__,
+                                     formatter_class=argparse.RawDescriptionHelpFormatter)
+    parser.add_argument("--count", type=int, help="how many changes are tried, of all")
+    parser.add_argument("--seed", type=int, default=1, help="of what is drawn (1)")
+    options = parser.parse_args()
     top = copied()
     if not is_green(top):
         sys.exit("the check is red before anything is planted")
     noticed = missed = 0
-    for path, what, text in plants(source, top):
-        stood = (top / path).read_text()
-        (top / path).write_text(text)
+    for plant in drawn(random.Random(options.seed), top, options.count):
+        stood = (top / plant.path).read_text()
+        (top / plant.path).write_text(plant.text)
         if is_green(top):
             missed += 1
-            print(f"not noticed: {path}: {what}")
+            print(f"not noticed: {plant.path}: {plant.what}")
         else:
             noticed += 1
-        (top / path).write_text(stood)
+        (top / plant.path).write_text(stood)
     green = is_green(top)
     shutil.rmtree(top)
     print(f"{noticed} noticed, {missed} not, {'green' if green else 'RED'} after the last")

@@ -1,7 +1,7 @@
 /* Writes its input.
    input: forty bytes of input, more than one read
    expect: status exit 0
-   expect: output 40 666f727479206279746573206f6620696e7075742c206d6f7265207468616e206f6e652072656164 */
+   expect: output 40 666f727479206279746573206f6620696e7075742c206d6f7265207468616e206f */
 #include "tenant.h"
 
 int main(void)

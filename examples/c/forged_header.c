@@ -2,7 +2,8 @@
    checksum differs.
    ends: 131
    expect: status abort HeaderCorrupt ptr 0x0100000012000010
-   cause: Corrupt Header: something was written in front of a 24-byte allocation at 0x0100000012000010 */
+   cause: Corrupt Header: something was written in front of a 24-byte allocation
+   cause: 24-byte allocation at 0x0100000012000010 */
 #include "tenant.h"
 
 int main(void)

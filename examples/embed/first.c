@@ -2,7 +2,8 @@
 #include <tombolopan.h>
 
 int main(void) {
-    static const uint8_t code[] = {0x00, 0x04, 0x00, 0x91, 0x20, 0x00, 0x20, 0xd4}; /* add x0, x0, #1; brk #1 */
+    /* add x0, x0, #1; brk #1 */
+    static const uint8_t code[] = {0x00, 0x04, 0x00, 0x91, 0x20, 0x00, 0x20, 0xd4};
     static tb_page pages[2];
     static tb_tag_state state;
     static tb_regs regs;

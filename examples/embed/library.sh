@@ -3,8 +3,10 @@
 set -euo pipefail
 crate=$(cd "$(dirname "$0")/../../crates/tombolopan_c" && pwd)
 library=$crate/out/libtombolopan_c.a
-if [[ ! -e $library || -n $(find "$crate"/../*/src "$crate/../../crates.txt" -newer "$library" -print -quit) ]]; then
-    echo "library.sh: proves the library and what it stands on: by estimate an hour of one processor the first time" >&2
+list=$crate/../../crates.txt
+if [[ ! -e $library || -n $(find "$crate"/../*/src "$list" -newer "$library" -print -quit) ]]; then
+    echo "library.sh: proves the library and what it stands on: by estimate an hour of one" \
+        "processor the first time" >&2
     (cd "$crate" && rt lib --jobs 1 >&2)
 fi
 echo "$library"

@@ -53,7 +53,10 @@ int main(int argc, char **argv) {
     if (argc < 4 || strcmp(argv[1], "--frames") != 0) {
         return 2;
     }
-    const uint32_t frames = (uint32_t)strtoul(argv[2], NULL, 10);
+    const unsigned long frames = strtoul(argv[2], NULL, 10);
+    if (frames > UINT32_MAX) {
+        return 2;
+    }
     const size_t count = (size_t)argc - 4;
     tb_bytes *files = (tb_bytes *)malloc((count + 1) * sizeof(tb_bytes));
     const tb_bytes script = read_file(argv[3]);
@@ -64,11 +67,13 @@ int main(int argc, char **argv) {
     tb_session_end end;
     size_t room = 4096;
     uint8_t *report = (uint8_t *)malloc(room);
-    uint32_t code = tb_session(frames, script.bytes, script.length, files, count, report, room, &end);
+    uint32_t code = tb_session((uint32_t)frames, script.bytes, script.length, files, count, report,
+                               room, &end);
     if (code == TB_NO_ROOM) {
         room = (size_t)end.length;
         report = (uint8_t *)realloc(report, room);
-        code = tb_session(frames, script.bytes, script.length, files, count, report, room, &end);
+        code = tb_session((uint32_t)frames, script.bytes, script.length, files, count, report,
+                          room, &end);
     }
     if (code == TB_OK) {
         fwrite(report, 1, (size_t)end.length, stdout);

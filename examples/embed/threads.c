@@ -69,8 +69,8 @@ static void read_session(const char *folder, session *it) {
 /* Whether a session gives what is wanted; `report` has room for ROOM bytes. */
 static int is_as_wanted(const session *it, uint8_t *report) {
     tb_session_end end;
-    uint32_t code = tb_session(it->frames, it->script.bytes, it->script.length, it->files, it->count,
-                               report, ROOM, &end);
+    uint32_t code = tb_session(it->frames, it->script.bytes, it->script.length, it->files,
+                               it->count, report, ROOM, &end);
     if (code == TB_SCRIPT) {
         return it->wanted.length == 0;
     }

@@ -6,7 +6,8 @@ tags in which an A64 core steps. docs/EMBEDDING.md tells more.
     TOMBOLOPAN=./libtombolopan.so python3 program.py
 
 The shared object is found by the variable TOMBOLOPAN, else beside this file, where tools/install.sh
-puts it, or where the system looks. Any number of threads may call at once, and a call does not hold the interpreter's lock.
+puts it, or where the system looks. Any number of threads may call at once, and a call does not hold
+the interpreter's lock.
 
 A session is a function of its bytes: a script and the files that it refers to, from 1 on.
 
@@ -97,6 +98,16 @@ A trace tells each access to memory; where one faults, it goes on once the reaso
 0x10004 read 4 0x500000000020044 0
 >>> [access_size(it) for it in (0x39400022, 0x69401022, 0x69001022, 0x18000102, 0xD9E00821)]
 [1, 8, 16, 4, 32]
+
+A heap lives for one list of calls: a chunk is freed, and a load through the old pointer refused.
+
+>>> chunk = heap_calls([(MALLOC, 24, 0)])[0].answer
+>>> for it in heap_calls([(MALLOC, 24, 0), (FREE, chunk, 0), (LOAD, chunk, 0), (FREE, chunk, 0)]):
+...     print(it.code, hex(it.answer), it.fault)
+ok 0x100000012000010 None
+ok 0x0 None
+fault 0x0 TagCheck: a read at 0x12000010, pointer tag 1, memory tag 3
+heap abort 0x4 None
 """
 from __future__ import annotations
 
@@ -105,40 +116,127 @@ import ctypes.util
 import os
 import pathlib
 import sys
-from collections.abc import Sequence
+from collections.abc import Mapping, Sequence
 from ctypes import POINTER, byref, c_bool, c_size_t, c_uint8, c_uint16, c_uint32, c_uint64, c_void_p
 from dataclasses import dataclass
 
+# Written by tools/border.py: the numbers and texts
+
 VERSION = 2
 
-READ, WRITE, EXEC, TAGGED = 1, 2, 4, 8
+# tb_code
+OK = 0
+FAULT = 1
+SVC = 2
+BREAKPOINT = 3
+ILLEGAL = 4
+NOT_MAPPED = 5
+ALREADY_MAPPED = 6
+NO_ROOM = 7
+BAD_ARGUMENT = 8
+ABORT = 9
+OUT_OF_MEMORY = 10
+SCRIPT = 11
+REFUSED = 12
+STOPPED = 13
+CODES = {
+    OK: "ok", FAULT: "fault", SVC: "svc", BREAKPOINT: "breakpoint", ILLEGAL: "illegal instruction",
+    NOT_MAPPED: "page not mapped", ALREADY_MAPPED: "page already mapped", NO_ROOM: "no room",
+    BAD_ARGUMENT: "bad argument", ABORT: "heap abort", OUT_OF_MEMORY: "out of memory",
+    SCRIPT: "faulty script line", REFUSED: "tenant refused", STOPPED: "stopped",
+}
 
-OK, FAULT, SVC, BREAKPOINT, ILLEGAL, NOT_MAPPED, ALREADY_MAPPED, NO_ROOM = range(8)
-BAD_ARGUMENT, ABORT, OUT_OF_MEMORY, SCRIPT, REFUSED, STOPPED = range(8, 14)
+# tb_fault_kind
+TRANSLATION = 1
+PERMISSION = 2
+TAG_CHECK = 3
+ALIGNMENT = 4
+SP_ALIGNMENT = 5
+PC_ALIGNMENT = 6
+FAULT_KINDS = {
+    0: "none", TRANSLATION: "Translation", PERMISSION: "Permission", TAG_CHECK: "TagCheck",
+    ALIGNMENT: "Alignment", SP_ALIGNMENT: "SpAlignment", PC_ALIGNMENT: "PcAlignment",
+}
 
-CODES = [
-    "ok", "fault", "svc", "breakpoint", "illegal instruction", "page not mapped",
-    "page already mapped", "no room", "bad argument", "heap abort", "out of memory",
-    "faulty script line", "tenant refused", "stopped",
-]
-FAULT_KINDS = [
-    "none", "Translation", "Permission", "TagCheck", "Alignment", "SpAlignment", "PcAlignment",
-]
-HEAP_ABORTS = [
-    "none", "Misaligned", "Unmapped", "HeaderCorrupt", "InvalidState", "NotABlock", "AlreadyFree",
-]
-SCRIPT_FAULTS = ["none", "Syntax", "BadNumber", "NoSuchFile", "TooManyEvents"]
-REFUSALS = [
-    "none", "", "BadReservation", "ReservationTooSmall", "", "", "Short", "NotElf64",
-    "NotAarch64", "NotExec", "BadHeaders", "Interpreter", "SegmentRange", "Overlap", "NoEntry",
-]
-STATUSES = ["none", "running", "exit", "fault", "illegal", "break", "async", "abort"]
+# tb_heap_op
+MALLOC = 1
+FREE = 2
+CALLOC = 3
+REALLOC = 4
+MEMALIGN = 5
+USABLE_SIZE = 6
+LOAD = 7
+STORE = 8
+LOAD_TAG = 9
+
+# tb_heap_abort
+MISALIGNED = 1
+UNMAPPED = 2
+HEADER_CORRUPT = 3
+INVALID_STATE = 4
+NOT_A_BLOCK = 5
+ALREADY_FREE = 6
+HEAP_ABORTS = {
+    0: "none", MISALIGNED: "Misaligned", UNMAPPED: "Unmapped", HEADER_CORRUPT: "HeaderCorrupt",
+    INVALID_STATE: "InvalidState", NOT_A_BLOCK: "NotABlock", ALREADY_FREE: "AlreadyFree",
+}
+
+# tb_script_fault
+SYNTAX = 1
+BAD_NUMBER = 2
+NO_SUCH_FILE = 3
+TOO_MANY_EVENTS = 4
+SCRIPT_FAULTS = {
+    0: "none", SYNTAX: "Syntax", BAD_NUMBER: "BadNumber", NO_SUCH_FILE: "NoSuchFile",
+    TOO_MANY_EVENTS: "TooManyEvents",
+}
+
+# tb_refusal
+BAD_RESERVATION = 2
+RESERVATION_TOO_SMALL = 3
+SHORT = 6
+NOT_ELF64 = 7
+NOT_AARCH64 = 8
+NOT_EXEC = 9
+BAD_HEADERS = 10
+INTERPRETER = 11
+SEGMENT_RANGE = 12
+OVERLAP = 13
+NO_ENTRY = 14
+REFUSALS = {
+    0: "none", BAD_RESERVATION: "BadReservation", RESERVATION_TOO_SMALL: "ReservationTooSmall",
+    SHORT: "Short", NOT_ELF64: "NotElf64", NOT_AARCH64: "NotAarch64", NOT_EXEC: "NotExec",
+    BAD_HEADERS: "BadHeaders", INTERPRETER: "Interpreter", SEGMENT_RANGE: "SegmentRange",
+    OVERLAP: "Overlap", NO_ENTRY: "NoEntry",
+}
+
+# tb_tenant_status
+STATUS_RUNNING = 1
+STATUS_EXIT = 2
+STATUS_FAULT = 3
+STATUS_ILLEGAL = 4
+STATUS_BREAK = 5
+STATUS_ASYNC = 6
+STATUS_ABORT = 7
+STATUSES = {
+    0: "none", STATUS_RUNNING: "running", STATUS_EXIT: "exit", STATUS_FAULT: "fault",
+    STATUS_ILLEGAL: "illegal", STATUS_BREAK: "break", STATUS_ASYNC: "async", STATUS_ABORT: "abort",
+}
+
+# tb_attrs
+READ = 1
+WRITE = 2
+EXEC = 4
+TAGGED = 8
+
+# End of what tools/border.py writes.
+
 SERVICES = {3: "malloc", 4: "free", 5: "calloc", 6: "realloc", 7: "memalign", 8: "usable_size"}
 
 
-def _entry(of: Sequence[str], number: int) -> str:
+def _entry(of: Mapping[int, str], number: int) -> str:
     """The entry of a number, or "unknown" where there is none."""
-    return (of[number] if 0 <= number < len(of) else "") or "unknown"
+    return of.get(number, "unknown")
 
 
 def text(code: int) -> str:
@@ -181,8 +279,10 @@ class _SessionEnd(ctypes.Structure):
 
 class _Terms(ctypes.Structure):
     _fields_ = [
-        ("image", _Bytes), ("input", _Bytes), ("slices", _Bytes), ("seed", c_uint64),
-        ("pages", c_uint32), ("room", c_uint32), ("asynchronous", c_uint32), ("unused", c_uint32),
+        ("image", c_void_p), ("image_length", c_size_t), ("input", c_void_p),
+        ("input_length", c_size_t), ("slices", c_void_p), ("slice_count", c_size_t),
+        ("seed", c_uint64), ("pages", c_uint32), ("room", c_uint32), ("asynchronous", c_uint32),
+        ("unused", c_uint32),
     ]
 
 
@@ -228,13 +328,58 @@ class _Stop(ctypes.Structure):
     _fields_ = [("left", c_uint64), ("code", c_uint32), ("number", c_uint32), ("fault", _Fault)]
 
 
+class _HeapSetup(ctypes.Structure):
+    _fields_ = [
+        ("cookie", c_uint32), ("pages", c_uint32), ("asynchronous", c_uint32),
+        ("rgsr_seed", c_uint16), ("rgsr_tag", c_uint16),
+    ]
+
+
+class _HeapCall(ctypes.Structure):
+    _fields_ = [
+        ("op", c_uint32), ("code", c_uint32), ("first", c_uint64), ("second", c_uint64),
+        ("answer", c_uint64), ("fault", _Fault),
+    ]
+
+
 class Regs(ctypes.Structure):
-    """The registers of a core: x (31 numbers), sp, pc, nzcv (bits 31 to 28), rgsr_seed, rgsr_tag."""
+    """The registers of a core: x (31 numbers), sp, pc, nzcv (bits 31 to 28), and RGSR_EL1."""
 
     _fields_ = [
         ("x", c_uint64 * 31), ("sp", c_uint64), ("pc", c_uint64), ("nzcv", c_uint32),
         ("rgsr_seed", c_uint16), ("rgsr_tag", c_uint16),
     ]
+
+
+# The types of each call's arguments: a memory is its places, how many they are, and its tag state.
+_PLACES = [POINTER(_Page), c_size_t]
+_MEMORY = [*_PLACES, POINTER(_TagState)]
+_CALLS = {
+    "tb_version": [],
+    "tb_session": [
+        c_uint32, c_void_p, c_size_t, POINTER(_Bytes), c_size_t, c_void_p, c_size_t,
+        POINTER(_SessionEnd),
+    ],
+    "tb_alone": [
+        POINTER(_Terms), c_void_p, c_size_t, POINTER(_KeptCall), c_size_t, POINTER(_AloneEnd),
+    ],
+    "tb_memory_init": [*_MEMORY, c_bool],
+    "tb_map": [*_PLACES, c_uint64, c_uint32],
+    "tb_unmap": [*_PLACES, c_uint64],
+    "tb_read": [*_MEMORY, c_uint64, c_void_p, c_size_t, c_bool, POINTER(_Fault)],
+    "tb_write": [*_MEMORY, c_uint64, c_void_p, c_size_t, c_bool, POINTER(_Fault)],
+    "tb_load": [*_MEMORY, c_uint64, c_void_p, c_size_t],
+    "tb_load_tag": [*_MEMORY, c_uint64, POINTER(c_uint8), POINTER(_Fault)],
+    "tb_store_tags": [*_MEMORY, c_uint64, c_uint64, c_uint8, c_bool, POINTER(_Fault)],
+    "tb_step": [*_MEMORY, POINTER(Regs), POINTER(_Stop)],
+    "tb_run": [*_MEMORY, POINTER(Regs), c_uint64, POINTER(_Stop)],
+    "tb_run_until": [
+        *_MEMORY, POINTER(Regs), c_uint64, POINTER(c_uint64), c_size_t, POINTER(_Stop),
+    ],
+    "tb_heap_calls": [POINTER(_HeapSetup), POINTER(_HeapCall), c_size_t],
+}
+# What those answer that answer no number of 32 bits.
+_RESULTS = {"tb_memory_init": None}
 
 
 def _load() -> ctypes.CDLL:
@@ -245,31 +390,9 @@ def _load() -> ctypes.CDLL:
     if not name:
         raise OSError("libtombolopan.so is not found: examples/embed/shared.sh makes it")
     library = ctypes.CDLL(name)
-    memory = [c_void_p, c_size_t, POINTER(_TagState)]
-    places = [c_void_p, c_size_t]
-    fault, stop, regs = POINTER(_Fault), POINTER(_Stop), POINTER(Regs)
-    for call, types in {
-        "tb_version": [],
-        "tb_session": [
-            c_uint32, c_void_p, c_size_t, c_void_p, c_size_t, c_void_p, c_size_t,
-            POINTER(_SessionEnd),
-        ],
-        "tb_alone": [
-            POINTER(_Terms), c_void_p, c_size_t, c_void_p, c_size_t, POINTER(_AloneEnd),
-        ],
-        "tb_memory_init": [*memory, c_bool],
-        "tb_map": [*places, c_uint64, c_uint32],
-        "tb_unmap": [*places, c_uint64],
-        "tb_read": [*memory, c_uint64, c_void_p, c_size_t, c_bool, fault],
-        "tb_write": [*memory, c_uint64, c_void_p, c_size_t, c_bool, fault],
-        "tb_load": [*memory, c_uint64, c_void_p, c_size_t],
-        "tb_load_tag": [*memory, c_uint64, POINTER(c_uint8), fault],
-        "tb_store_tags": [*memory, c_uint64, c_uint64, c_uint8, c_bool, fault],
-        "tb_run": [*memory, regs, c_uint64, stop],
-        "tb_run_until": [*memory, regs, c_uint64, c_void_p, c_size_t, stop],
-    }.items():
+    for call, types in _CALLS.items():
         it = getattr(library, call)
-        it.argtypes, it.restype = types, None if call == "tb_memory_init" else c_uint32
+        it.argtypes, it.restype = types, _RESULTS.get(call, c_uint32)
     if library.tb_version() != VERSION:
         raise OSError(f"{name} has version {library.tb_version()}, not {VERSION}")
     return library
@@ -306,6 +429,13 @@ class Fault(Exception):
         )
 
 
+def _held(number: int, bits: int, why: str = "bad argument") -> int:
+    """A number that so many bits hold. Of any other ctypes would pass the low bits."""
+    if not 0 <= number < 1 << bits:
+        raise ValueError(why)
+    return number
+
+
 def _lend(data: bytes) -> _Bytes:
     """The pointer to some bytes, which the caller keeps alive. It is never null."""
     return _Bytes(ctypes.cast(ctypes.c_char_p(data), c_void_p), len(data))
@@ -316,6 +446,7 @@ def session(frames: int, script: bytes, files: Sequence[bytes]) -> bytes:
 
     ScriptError tells the script's first faulty line; MemoryError comes where an allocation failed.
     """
+    _held(frames, 32, "frames are 1 to 65536")
     held = [bytes(it) for it in files]
     lent = (_Bytes * max(len(held), 1))(*map(_lend, held))
     lines, end, room = _lend(script), _SessionEnd(), 1 << 14
@@ -366,7 +497,8 @@ class Session:
         """Requests the admission of a tenant, its image and input by the numbers of files."""
         mode = " async" if asynchronous else ""
         self._enter(
-            f"admit {id} image {image} input {input} seed {seed:016x} frames {pages} out {room}{mode}"
+            f"admit {id} image {image} input {input} seed {seed:016x} frames {pages} out {room}"
+            f"{mode}"
         )
 
     def slice(self, id: int, steps: int) -> None:
@@ -441,10 +573,11 @@ def alone(
     asynchronous: bool = False,
 ) -> Tenant:
     """Runs a tenant alone for its slices; Refused tells why it is not admitted."""
-    cuts = (c_uint32 * max(len(slices), 1))(*slices)
+    cuts = (c_uint32 * max(len(slices), 1))(*(_held(it, 32) for it in slices))
+    program, given = _lend(image), _lend(input)
     terms = _Terms(
-        _lend(image), _lend(input), _Bytes(ctypes.addressof(cuts), len(slices)), seed, pages, room,
-        asynchronous, 0,
+        program.bytes, program.length, given.bytes, given.length, ctypes.addressof(cuts),
+        len(slices), _held(seed, 64), _held(pages, 32), _held(room, 32), asynchronous, 0,
     )
     output, calls, end = ctypes.create_string_buffer(65536), (_KeptCall * 64)(), _AloneEnd()
     code = _library.tb_alone(byref(terms), output, 65536, calls, 64, byref(end))
@@ -491,19 +624,28 @@ class Memory:
     def _numbers(address: int, length: int) -> range:
         if address % 4096 or length % 4096:
             raise ValueError("an address and a length are multiples of 4096")
+        if not 0 <= address <= address + length <= 1 << 56:
+            raise ValueError(text(BAD_ARGUMENT))
         return range(address // 4096, (address + length) // 4096)
+
+    def _map_code(self, numbers: range, attrs: int) -> int:
+        """What a mapping of pages answers: OK where each of them can be mapped."""
+        mapped = [it.number for it in self._places[: self._count] if it.mapped]
+        if not 0 <= attrs <= 15:
+            return BAD_ARGUMENT
+        if any(it in numbers for it in mapped):
+            return ALREADY_MAPPED
+        return OK if len(numbers) <= self._count - len(mapped) else NO_ROOM
 
     def map(self, address: int, length: int, attrs: int) -> None:
         """Maps pages of zero bytes and tag 0, all of them or none; attrs is a sum of READ, WRITE,
         EXEC and TAGGED."""
-        done = []
-        for number in self._numbers(address, length):
-            code = _library.tb_map(self._places, self._count, number, attrs)
-            if code != OK:
-                for it in done:
-                    _library.tb_unmap(self._places, self._count, it)
-                raise ValueError(text(code))
-            done.append(number)
+        numbers = self._numbers(address, length)
+        code = self._map_code(numbers, attrs)
+        if code != OK:
+            raise ValueError(text(code))
+        for number in numbers:
+            _library.tb_map(self._places, self._count, number, attrs)
 
     def unmap(self, address: int, length: int) -> None:
         """Unmaps pages."""
@@ -568,7 +710,10 @@ class Memory:
     def store_tags(self, address: int, granules: int, tag: int, zero: bool = False) -> None:
         """Replaces the tags of granules, and makes their bytes zero where `zero` is set."""
         fault = _Fault()
-        code = _library.tb_store_tags(*self._lent(), address, granules, tag, zero, byref(fault))
+        _held(tag, 8, "a tag is below 16")
+        code = _library.tb_store_tags(
+            *self._lent(), address, _held(granules, 64), tag, zero, byref(fault)
+        )
         if code == BAD_ARGUMENT:
             raise ValueError("a tag is below 16")
         if code != OK:
@@ -591,8 +736,9 @@ def run(memory: Memory, regs: Regs, steps: int, stops: Sequence[int] = ()) -> St
     """Attempts at most `steps` instructions, up to the first that does not go on, or after which PC
     is one of `stops`."""
     stop = _Stop()
+    _held(steps, 64)
     if stops:
-        at = (c_uint64 * len(stops))(*stops)
+        at = (c_uint64 * len(stops))(*(_held(it, 64) for it in stops))
         code = _library.tb_run_until(
             *memory._lent(), byref(regs), steps, at, len(stops), byref(stop)
         )
@@ -604,7 +750,9 @@ def run(memory: Memory, regs: Regs, steps: int, stops: Sequence[int] = ()) -> St
 
 def step(memory: Memory, regs: Regs) -> Stop:
     """Attempts one instruction."""
-    return run(memory, regs, 1)
+    stop = _Stop()
+    code = _library.tb_step(*memory._lent(), byref(regs), byref(stop))
+    return Stop(text(code), stop.number, stop.left, Fault(stop.fault) if code == FAULT else None)
 
 
 @dataclass(frozen=True)
@@ -648,7 +796,7 @@ def trace_step(
         stop = step(memory, regs)
     finally:
         memory._give_back()
-    if stop.fault is None or stop.fault.kind != FAULT_KINDS[2]:
+    if stop.fault is None or stop.fault.kind != FAULT_KINDS[PERMISSION]:
         return stop
     if room is not None and len(accesses) >= room:
         return Stop(text(NO_ROOM), 0, 1, None)
@@ -675,6 +823,47 @@ def trace(
     return Stop(stop.code, stop.number, left, stop.fault)
 
 
+@dataclass(frozen=True)
+class HeapAnswer:
+    """What a call of a heap answered: ok, fault, heap abort, or bad argument where it is none; the
+    pointer, size, number or tag, or which check failed (`heap_abort_name` tells); the fault."""
+
+    code: str
+    answer: int
+    fault: Fault | None
+
+
+def heap_calls(
+    calls: Sequence[tuple[int, int, int]],
+    cookie: int = 1,
+    pages: int = 256,
+    asynchronous: bool = False,
+    rgsr_seed: int = 1,
+    rgsr_tag: int = 0,
+) -> list[HeapAnswer]:
+    """Makes calls in order on a new heap over a memory of its own: each is what it makes (MALLOC to
+    LOAD_TAG) and its two arguments."""
+    setup = _HeapSetup(
+        _held(cookie, 32), _held(pages, 32, "pages are 1 to 4096"), asynchronous,
+        _held(rgsr_seed, 16), _held(rgsr_tag, 16),
+    )
+    made = (_HeapCall * max(len(calls), 1))(
+        *(
+            _HeapCall(op=_held(op, 32), first=_held(first, 64), second=_held(second, 64))
+            for op, first, second in calls
+        )
+    )
+    code = _library.tb_heap_calls(byref(setup), made, len(calls))
+    if code == OUT_OF_MEMORY:
+        raise MemoryError
+    if code != OK:
+        raise ValueError("pages are 1 to 4096")
+    return [
+        HeapAnswer(text(it.code), it.answer, Fault(it.fault) if it.code == FAULT else None)
+        for it in made[: len(calls)]
+    ]
+
+
 def example(name: str) -> bytes:
     """A file of this repository's examples."""
     return pathlib.Path(__file__).resolve().parent.with_name(name).read_bytes()
@@ -690,6 +879,8 @@ def main(words: Sequence[str]) -> int:
     except ScriptError as error:
         print(f"mte_host: {error}", file=sys.stderr)
         return 3
+    except ValueError:
+        return 2
     except MemoryError:
         print("mte_host: out of memory", file=sys.stderr)
         return 4

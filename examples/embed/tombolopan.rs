@@ -1,6 +1,8 @@
-//! tombolopan.h for Rust: its layouts and calls, and a session, a tenant alone and a memory with tags
-//! without raw pointers. A program names it by `mod tombolopan;`.
+//! tombolopan.h for Rust: its layouts and calls, and a session, a tenant alone and a memory with
+//! tags without raw pointers. A program names it by `mod tombolopan;`.
 #![allow(dead_code)]
+
+// Written by tools/border.py: the numbers
 
 pub const TB_VERSION: u32 = 2;
 
@@ -19,112 +21,160 @@ pub const TB_SCRIPT: u32 = 11;
 pub const TB_REFUSED: u32 = 12;
 pub const TB_STOPPED: u32 = 13;
 
+pub const TB_TRANSLATION: u32 = 1;
 pub const TB_PERMISSION: u32 = 2;
+pub const TB_TAG_CHECK: u32 = 3;
+pub const TB_ALIGNMENT: u32 = 4;
+pub const TB_SP_ALIGNMENT: u32 = 5;
+pub const TB_PC_ALIGNMENT: u32 = 6;
 
 pub const TB_MALLOC: u32 = 1;
 pub const TB_FREE: u32 = 2;
+pub const TB_CALLOC: u32 = 3;
+pub const TB_REALLOC: u32 = 4;
+pub const TB_MEMALIGN: u32 = 5;
+pub const TB_USABLE_SIZE: u32 = 6;
 pub const TB_LOAD: u32 = 7;
 pub const TB_STORE: u32 = 8;
+pub const TB_LOAD_TAG: u32 = 9;
+
+pub const TB_MISALIGNED: u32 = 1;
+pub const TB_UNMAPPED: u32 = 2;
+pub const TB_HEADER_CORRUPT: u32 = 3;
+pub const TB_INVALID_STATE: u32 = 4;
+pub const TB_NOT_A_BLOCK: u32 = 5;
+pub const TB_ALREADY_FREE: u32 = 6;
+
+pub const TB_SYNTAX: u32 = 1;
+pub const TB_BAD_NUMBER: u32 = 2;
+pub const TB_NO_SUCH_FILE: u32 = 3;
+pub const TB_TOO_MANY_EVENTS: u32 = 4;
+
+pub const TB_BAD_RESERVATION: u32 = 2;
+pub const TB_RESERVATION_TOO_SMALL: u32 = 3;
+pub const TB_SHORT: u32 = 6;
+pub const TB_NOT_ELF64: u32 = 7;
+pub const TB_NOT_AARCH64: u32 = 8;
+pub const TB_NOT_EXEC: u32 = 9;
+pub const TB_BAD_HEADERS: u32 = 10;
+pub const TB_INTERPRETER: u32 = 11;
+pub const TB_SEGMENT_RANGE: u32 = 12;
+pub const TB_OVERLAP: u32 = 13;
+pub const TB_NO_ENTRY: u32 = 14;
+
+pub const TB_STATUS_RUNNING: u32 = 1;
+pub const TB_STATUS_EXIT: u32 = 2;
+pub const TB_STATUS_FAULT: u32 = 3;
+pub const TB_STATUS_ILLEGAL: u32 = 4;
+pub const TB_STATUS_BREAK: u32 = 5;
+pub const TB_STATUS_ASYNC: u32 = 6;
+pub const TB_STATUS_ABORT: u32 = 7;
 
 pub const TB_READ: u32 = 1;
 pub const TB_WRITE: u32 = 2;
 pub const TB_EXEC: u32 = 4;
 pub const TB_TAGGED: u32 = 8;
 
-const CODES: [&str; 14] = [
-    "ok",
-    "fault",
-    "svc",
-    "breakpoint",
-    "illegal instruction",
-    "page not mapped",
-    "page already mapped",
-    "no room",
-    "bad argument",
-    "heap abort",
-    "out of memory",
-    "faulty script line",
-    "tenant refused",
-    "stopped",
-];
+// End of what tools/border.py writes.
 
-const FAULT_KINDS: [&str; 7] = [
-    "none",
-    "Translation",
-    "Permission",
-    "TagCheck",
-    "Alignment",
-    "SpAlignment",
-    "PcAlignment",
-];
-
-const HEAP_ABORTS: [&str; 7] = [
-    "none",
-    "Misaligned",
-    "Unmapped",
-    "HeaderCorrupt",
-    "InvalidState",
-    "NotABlock",
-    "AlreadyFree",
-];
-
-const SCRIPT_FAULTS: [&str; 5] = ["none", "Syntax", "BadNumber", "NoSuchFile", "TooManyEvents"];
-
-const REFUSALS: [&str; 15] = [
-    "none",
-    "",
-    "BadReservation",
-    "ReservationTooSmall",
-    "",
-    "",
-    "Short",
-    "NotElf64",
-    "NotAarch64",
-    "NotExec",
-    "BadHeaders",
-    "Interpreter",
-    "SegmentRange",
-    "Overlap",
-    "NoEntry",
-];
-
-const TENANT_STATUSES: [&str; 8] =
-    ["none", "running", "exit", "fault", "illegal", "break", "async", "abort"];
-
-/// The entry of a number, or "unknown" where there is none.
-fn entry(of: &[&'static str], number: u32) -> &'static str {
-    of.get(number as usize).copied().filter(|it| !it.is_empty()).unwrap_or("unknown")
-}
+// Written by tools/border.py: the texts
 
 /// What a code says that a call answered, in a few words.
 pub fn text(code: u32) -> &'static str {
-    entry(&CODES, code)
+    match code {
+        TB_OK => "ok",
+        TB_FAULT => "fault",
+        TB_SVC => "svc",
+        TB_BREAKPOINT => "breakpoint",
+        TB_ILLEGAL => "illegal instruction",
+        TB_NOT_MAPPED => "page not mapped",
+        TB_ALREADY_MAPPED => "page already mapped",
+        TB_NO_ROOM => "no room",
+        TB_BAD_ARGUMENT => "bad argument",
+        TB_ABORT => "heap abort",
+        TB_OUT_OF_MEMORY => "out of memory",
+        TB_SCRIPT => "faulty script line",
+        TB_REFUSED => "tenant refused",
+        TB_STOPPED => "stopped",
+        _ => "unknown",
+    }
 }
 
 /// The name of `Fault::kind` as reports have it; "none" for 0.
 pub fn fault_kind_name(kind: u32) -> &'static str {
-    entry(&FAULT_KINDS, kind)
+    match kind {
+        0 => "none",
+        TB_TRANSLATION => "Translation",
+        TB_PERMISSION => "Permission",
+        TB_TAG_CHECK => "TagCheck",
+        TB_ALIGNMENT => "Alignment",
+        TB_SP_ALIGNMENT => "SpAlignment",
+        TB_PC_ALIGNMENT => "PcAlignment",
+        _ => "unknown",
+    }
 }
 
 /// The name of why the heap refused a pointer, as reports have it; "none" for 0.
 pub fn heap_abort_name(why: u32) -> &'static str {
-    entry(&HEAP_ABORTS, why)
+    match why {
+        0 => "none",
+        TB_MISALIGNED => "Misaligned",
+        TB_UNMAPPED => "Unmapped",
+        TB_HEADER_CORRUPT => "HeaderCorrupt",
+        TB_INVALID_STATE => "InvalidState",
+        TB_NOT_A_BLOCK => "NotABlock",
+        TB_ALREADY_FREE => "AlreadyFree",
+        _ => "unknown",
+    }
 }
 
 /// The name of `SessionEnd::fault` as mte_host writes it; "none" for 0.
 pub fn script_fault_name(fault: u32) -> &'static str {
-    entry(&SCRIPT_FAULTS, fault)
+    match fault {
+        0 => "none",
+        TB_SYNTAX => "Syntax",
+        TB_BAD_NUMBER => "BadNumber",
+        TB_NO_SUCH_FILE => "NoSuchFile",
+        TB_TOO_MANY_EVENTS => "TooManyEvents",
+        _ => "unknown",
+    }
 }
 
 /// The name of `AloneEnd::refusal` as reports have it; "none" for 0.
 pub fn refusal_name(refusal: u32) -> &'static str {
-    entry(&REFUSALS, refusal)
+    match refusal {
+        0 => "none",
+        TB_BAD_RESERVATION => "BadReservation",
+        TB_RESERVATION_TOO_SMALL => "ReservationTooSmall",
+        TB_SHORT => "Short",
+        TB_NOT_ELF64 => "NotElf64",
+        TB_NOT_AARCH64 => "NotAarch64",
+        TB_NOT_EXEC => "NotExec",
+        TB_BAD_HEADERS => "BadHeaders",
+        TB_INTERPRETER => "Interpreter",
+        TB_SEGMENT_RANGE => "SegmentRange",
+        TB_OVERLAP => "Overlap",
+        TB_NO_ENTRY => "NoEntry",
+        _ => "unknown",
+    }
 }
 
 /// The name of `Status::status` as reports have it; "none" for 0.
 pub fn tenant_status_name(status: u32) -> &'static str {
-    entry(&TENANT_STATUSES, status)
+    match status {
+        0 => "none",
+        TB_STATUS_RUNNING => "running",
+        TB_STATUS_EXIT => "exit",
+        TB_STATUS_FAULT => "fault",
+        TB_STATUS_ILLEGAL => "illegal",
+        TB_STATUS_BREAK => "break",
+        TB_STATUS_ASYNC => "async",
+        TB_STATUS_ABORT => "abort",
+        _ => "unknown",
+    }
 }
+
+// End of what tools/border.py writes.
 
 /// A place for a page.
 #[repr(C)]
@@ -412,8 +462,9 @@ unsafe extern "C" {
     fn tb_heap_calls(setup: *const HeapSetup, calls: *mut HeapCall, count: usize) -> u32;
 }
 
-// In each call below no pointer is null, since none of a slice, a vector or a reference is; each has
-// the length that is passed; and what is lent for writing is borrowed by `&mut`, so it overlaps nothing.
+// In each call below no pointer is null, since none of a slice, a vector or a reference is; each
+// has the length that is passed; and what is lent for writing is borrowed by `&mut`, so it overlaps
+// nothing.
 
 /// The version of the library that was linked.
 pub fn version() -> u32 {
@@ -463,8 +514,8 @@ pub struct Terms<'a> {
     pub asynchronous: bool,
 }
 
-/// Runs a tenant alone for its slices, and copies as much of its output and of its last 64 heap calls
-/// as there is room for.
+/// Runs a tenant alone for its slices, and copies as much of its output and of its last 64 heap
+/// calls as there is room for.
 pub fn alone(
     terms: &Terms<'_>,
     slices: &[u32],
@@ -629,8 +680,8 @@ impl Memory {
     }
 
     /// A run that also enters each access to memory, not the fetches of instructions. It stops
-    /// with `TB_NO_ROOM` before an instruction that may have one when `accesses` has `room` entries.
-    /// It is slower than `run`.
+    /// with `TB_NO_ROOM` before an instruction that may have one when `accesses` has `room`
+    /// entries. It is slower than `run`.
     pub fn trace(
         &mut self,
         regs: &mut Regs,

@@ -16,14 +16,14 @@ STEPS = 8
 WRITTEN = 5
 
 
-def report(tenant, attempted):
+def report(tenant: int, attempted: int) -> str:
     steps = min(attempted, STEPS)
     status = "exit 0" if steps == STEPS else "running"
     output = "2 4869" if steps >= WRITTEN else "0"
     return f"tenant {tenant}\nstatus {status}\nsteps {steps}\noutput {output}\nheap 0\nend\n"
 
 
-def session(draw):
+def session(draw: random.Random) -> tuple[int, list[str], str]:
     tenants = list(range(1, draw.randint(1, 20) + 1))
     attempted = dict.fromkeys(tenants, 0)
     lines = [
@@ -39,7 +39,13 @@ def session(draw):
     return frames, lines, "".join(report(tenant, attempted[tenant]) for tenant in tenants)
 
 
-def main():
+def write_files(folder: str, files: dict[str, str]) -> None:
+    for name, text in files.items():
+        with open(os.path.join(folder, name), "w", encoding="utf-8") as file:
+            file.write(text)
+
+
+def main() -> None:
     if len(sys.argv) != 3 or not sys.argv[2].isdigit():
         sys.exit(__doc__)
     folder, count = sys.argv[1], int(sys.argv[2])
@@ -59,9 +65,8 @@ def main():
             "want.err": "",
             "want.status": "0\n",
         }
-        for name, text in files.items():
-            with open(os.path.join(at, name), "w", encoding="utf-8") as file:
-                file.write(text)
+        write_files(at, files)
 
 
-main()
+if __name__ == "__main__":
+    main()

@@ -7,12 +7,13 @@
 # (RUSTC_BOOTSTRAP=1). `-C passes=loweratomic` makes plain accesses of atomic ones. memcpy and its
 # kin, and the arithmetic of f32 and f64, are those of the C library (../libc/build.py).
 # Needed (Debian): rustc, rust-src, lld. The variable RUSTC names another compiler than
-# /usr/bin/rustc, TENANT_LIBRARY another library than ../libc/out.
+# /usr/bin/rustc, TENANT_LIBRARY another library than ../libc/out, and TENANT_OUT another folder
+# than out for what is built.
 set -euo pipefail
 here=$(cd "$(dirname "$0")" && pwd)
 rustc=${RUSTC:-/usr/bin/rustc}
-library=${TENANT_LIBRARY:-$here/../libc/out}/lib/libc.a
-out=$here/out
+library=$(realpath -m "${TENANT_LIBRARY:-$here/../libc/out}")/lib/libc.a
+out=$(realpath -m "${TENANT_OUT:-$here/out}")
 export RUSTC_BOOTSTRAP=1
 
 if [[ ! -x $rustc ]]; then

@@ -3,6 +3,7 @@ say, and the calls of them: a parameter or a field of a struct that has the name
 field gets it."""
 
 import re
+from collections.abc import Mapping
 from dataclasses import dataclass
 
 from a64 import table
@@ -21,7 +22,7 @@ class Function:
     name: str
     crate: str
     module: str
-    parameters: list  # of (name, type)
+    parameters: list[tuple[str, str]]  # of (name, type)
     result: str  # its type, or "" where it returns nothing
 
 
@@ -30,31 +31,32 @@ class Struct:
     """Fields of instructions that are passed together."""
     crate: str
     module: str
-    fields: list  # their names
+    fields: list[str]  # their names
 
 
 @dataclass
 class Sources:
     """The functions and the structs of the crates, by name."""
-    functions: dict
-    structs: dict
+    functions: dict[str, Function]
+    structs: dict[str, Struct]
 
 
 @dataclass
 class Call:
     text: str
     function: Function
-    structs: set  # the names of those that it makes
-    fields: set  # the names of those that it passes
+    structs: set[str]  # the names of those that it makes
+    fields: set[str]  # the names of those that it passes
 
 
-def folder_of(crate):
+def folder_of(crate: str) -> str:
     return f"crates/{crate}/src"
 
 
-def read_sources(written):
+def read_sources(written: set[str]) -> Sources:
     """The public functions and structs of the crates, but those of the files in `written`."""
-    functions, structs = {}, {}
+    functions: dict[str, Function] = {}
+    structs: dict[str, Struct] = {}
     files = [(crate, path) for crate in CRATES
              for path in sorted((table.ROOT / folder_of(crate)).glob("*.rt"))]
     for crate, path in files:
@@ -71,20 +73,20 @@ def read_sources(written):
     return Sources(functions, structs)
 
 
-def call_of(name, values, sources, place):
+def call_of(name: str, values: Mapping[str, object], sources: Sources, place: str) -> Call:
     """The call of a function, where each field has the value that `values` gives it."""
     if name not in sources.functions:
         raise TableError(f"{place}: no function {name} in {' or '.join(CRATES)}")
     function = sources.functions[name]
     call = Call("", function, set(), set())
 
-    def value(field):
+    def value(field: str) -> str:
         if field not in values:
             raise TableError(f"{place}: {name} takes {field}, which has no value")
         call.fields.add(field)
         return str(values[field])
 
-    def argument(parameter, type_name):
+    def argument(parameter: str, type_name: str) -> str:
         if parameter in STATE:
             return parameter
         if type_name not in sources.structs:

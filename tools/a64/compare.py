@@ -1,20 +1,24 @@
 """Compares the data with the definitions that are written by hand.
 
-`word_of` and `tests` (Encoding.antt) and `step_of_instr` (Steps.antt) are what a reader must believe.
-They come from another hand than the data, so that a slip in a row can't prove itself.
+`word_of` and `tests` (Encoding.antt) and `step_of_instr` (Steps.antt) are what a reader must
+believe. They come from another hand than the data, so that a slip in a row can't prove itself.
 """
 
 import re
+from collections.abc import Iterator
 
 from a64 import table
+from a64.table import Row, Rows
 
 ENCODING = "crates/a64_asm/specs/Encoding.antt"
 STEPS = "crates/a64_step/specs/Steps.antt"
+Equations = dict[str, str]  # by the name of the row
 
 
-def equations(path, name):
+def equations(path: str, name: str) -> dict[str, str]:
     """The equations of a definition, each on one line, by the variant that they are of."""
-    found, lines = {}, (table.ROOT / path).read_text().splitlines()
+    found: Equations = {}
+    lines = (table.ROOT / path).read_text().splitlines()
     for number, line in enumerate(lines):
         head = re.match(rf"{name} \(?instr\.(\w+)", line)
         if not head:
@@ -28,13 +32,13 @@ def equations(path, name):
     return found
 
 
-def applied(row):
+def applied(row: Row) -> str:
     """The instruction with its fields, as the definitions write it."""
     text = " ".join([f"instr.{row.name}", *(f.name for f in row.fields)])
     return f"({text})" if row.fields else text
 
 
-def word_equation(row):
+def word_equation(row: Row) -> str:
     terms = [f"0x{row.base:08X}"]
     for f in row.fields:
         value = f"twos_complement {f.width} {f.name}" if f.signed else f.name
@@ -42,18 +46,18 @@ def word_equation(row):
     return f"word_of {applied(row)} = {' + '.join(terms)}"
 
 
-def tests_equation(row):
+def tests_equation(row: Row) -> str:
     tests = [f"signed {f.width} {f.name}" for f in row.fields if f.signed]
     tests += [f"unsigned {f.width} {f.name}" for f in row.unsigned]
     tests += [table.written_test(test) for test in row.allows]
     return f"tests {applied(row)} = {' ∷ '.join([*tests, '[]'])}"
 
 
-def executed_head(row):
+def executed_head(row: Row) -> str:
     return f"step_of_instr {applied(row)} r m"
 
 
-def compared(path, name, wanted, stands):
+def compared(path: str, name: str, wanted: Equations, stands: Equations) -> Iterator[str]:
     """Where a definition by hand isn't what the data say."""
     for row, text in wanted.items():
         if row not in stands:
@@ -65,12 +69,13 @@ def compared(path, name, wanted, stands):
             yield f"{path}: {name} has an equation for {row}, which is no row"
 
 
-def differences(rows, forms):
+def differences(rows: Rows) -> Iterator[str]:
     """Each line is a difference."""
     words = {row.name: word_equation(row) for row in rows.values()}
     yield from compared(ENCODING, "word_of", words, equations(ENCODING, "word_of"))
     tests = {row.name: tests_equation(row) for row in rows.values()}
     yield from compared(ENCODING, "tests", tests, equations(ENCODING, "tests"))
     heads = {row.name: executed_head(row) for row in rows.values()}
-    stands = {name: text.split(" = ")[0] for name, text in equations(STEPS, "step_of_instr").items()}
+    stands = {name: text.split(" = ")[0]
+              for name, text in equations(STEPS, "step_of_instr").items()}
     yield from compared(STEPS, "step_of_instr", heads, stands)

@@ -6,8 +6,10 @@ the way to each row, by which it is proved that a row's words are found.
 
 import re
 from dataclasses import dataclass
+from typing import Optional
 
 from a64 import layout, table
+from a64.table import Row, Rows
 
 CODE = "crates/a64_decode/src/groups.rt"
 DEFINITIONS = "crates/a64_decode/specs/Groups.antt"
@@ -19,23 +21,23 @@ CLASS = (24, 5)
 @dataclass
 class Test:
     """Bits of the word and the value that they must have; the whole word where `start` is None."""
-    start: int
+    start: Optional[int]
     width: int
     value: int
     text: str  # the value as it stands in the data
 
     @property
-    def mask(self):
+    def mask(self) -> int:
         return 0xFFFFFFFF if self.start is None else ((1 << self.width) - 1) << self.start
 
     @property
-    def bits(self):
+    def bits(self) -> int:
         return self.value if self.start is None else self.value << self.start
 
 
 @dataclass
 class Line:
-    tests: list
+    tests: list[Test]
     target: str  # a row, a group, or "none"
 
 
@@ -43,11 +45,17 @@ class Line:
 class Group:
     name: str
     text: str
-    lines: list
-    knows: list  # the tests that hold where the group is reached
+    lines: list[Line]
+    knows: list[Test]  # the tests that hold where the group is reached
 
 
-def parse_test(token, place):
+Groups = dict[str, Group]
+Class = tuple[int, int, str]  # the first and the last value of bits 28 to 24, and their group
+Classes = list[Class]
+Way = list[tuple[str, int]]  # groups, each with the place of a line
+
+
+def parse_test(token: str, place: str) -> Test:
     found = re.fullmatch(r"(?:(\d+):(\d+)|word)=(0x[0-9A-F]+|\d+)", token)
     if not found:
         raise table.TableError(f"{place}: no test: {token}")
@@ -55,9 +63,11 @@ def parse_test(token, place):
     return Test(start, int(found[2] or 32), int(found[3], 0), found[3])
 
 
-def read_groups(rows):
+def read_groups(rows: Rows) -> tuple[Classes, Groups]:
     """The classes (first, last, group) of bits 28 to 24, and the groups by name."""
-    classes, groups, group = [], {}, None
+    classes: Classes = []
+    groups: Groups = {}
+    group = Group("", "", [], [])
     for place, line in table.lines_of_rows_and_groups()[1]:
         if not line.startswith(" "):
             name, _, text = line.partition(" ")
@@ -76,9 +86,9 @@ def read_groups(rows):
     return classes, groups
 
 
-def check_groups(classes, groups, rows):
+def check_groups(classes: Classes, groups: Groups, rows: Rows) -> None:
     """Each group and each row is reached once; what is known in a group follows from its way."""
-    reached = []
+    reached: list[str] = []
     for first, last, name in classes:
         width = (last - first + 1).bit_length() - 1
         known = Test(CLASS[0] + width, CLASS[1] - width, first >> width, str(first >> width))
@@ -88,12 +98,12 @@ def check_groups(classes, groups, rows):
             raise table.TableError(f"{table.ROWS}: {name} is reached {reached.count(name)} times")
 
 
-def reach(name, known, groups, reached):
+def reach(name: str, known: list[Test], groups: Groups, reached: list[str]) -> None:
     reached.append(name)
     if name not in groups:
         return
     groups[name].knows = known
-    passed = []
+    passed: list[Test] = []
     for line in groups[name].lines:
         if line.target != "none":
             reach(line.target, known + passed + line.tests, groups, reached)
@@ -148,7 +158,7 @@ fn {name}(word: u32, found: &mut Option<Instr>)
 """
 
 
-def reached_code(target, rows):
+def reached_code(target: str, rows: Rows) -> str:
     """What reads a row or a group."""
     if target == "none":
         return "*found = None"
@@ -159,22 +169,22 @@ def reached_code(target, rows):
     return f"*found = {value}"
 
 
-def rust_number(text):
+def rust_number(text: str) -> str:
     return re.sub(r"0x([0-9A-F]{4})([0-9A-F]{4})$", r"0x\1_\2", text)
 
 
-def test_code(test):
+def test_code(test: Test) -> str:
     left = "word" if test.start is None else f"field(word, {test.start}, {test.width})"
     return f"{left} == {rust_number(test.text)}"
 
 
-def is_match(group):
+def is_match(group: Group) -> bool:
     """Whether the lines are told apart by one field, of more than one bit."""
     heads = {(line.tests[0].start, line.tests[0].width) for line in group.lines if line.tests}
     return len(heads) == 1 and next(iter(heads))[1] > 1 and len(group.lines) > 1
 
 
-def match_body(group, rows):
+def match_body(group: Group, rows: Rows) -> str:
     first = group.lines[0].tests[0]
     code = f"    match field(word, {first.start}, {first.width}) {{\n"
     for line in group.lines:
@@ -189,7 +199,7 @@ def match_body(group, rows):
     return code + "    }\n"
 
 
-def chain_body(group, rows):
+def chain_body(group: Group, rows: Rows) -> str:
     if not group.lines[0].tests:
         return f"    {reached_code(group.lines[0].target, rows)}\n"
     code = ""
@@ -203,13 +213,13 @@ def chain_body(group, rows):
     return code + "\n"
 
 
-def requires_of(group):
+def requires_of(group: Group) -> str:
     known = [f"    requires bits_{t.start}_{t.width} "
              f"{{ field_of {t.start} {t.width} word ≡ {t.text} }}" for t in group.knows]
     return "\n".join(known)
 
 
-def code(classes, groups, rows):
+def code(classes: Classes, groups: Groups, rows: Rows) -> str:
     arms = []
     for first, last, name in classes:
         pattern = str(first) if first == last else f"{first}..={last}"
@@ -237,7 +247,7 @@ use Rattle.a64_instr.specs.declared.instruction.Instr.TheVariants as instr
 """
 
 
-def reached_definition(target, rows):
+def reached_definition(target: str, rows: Rows) -> str:
     if target == "none":
         return "None"
     if target not in rows:
@@ -246,12 +256,12 @@ def reached_definition(target, rows):
     return f"Some (fields.{row.function}_at w)" if row.fields else f"Some instr.{row.name}"
 
 
-def test_definition(test):
+def test_definition(test: Test) -> str:
     left = "w" if test.start is None else f"field_of {test.start} {test.width} w"
     return f"({left} == {test.text})"
 
 
-def definition(group, rows):
+def definition(group: Group, rows: Rows) -> str:
     text = "\n" + layout.comment("--", group.text)
     text += f"unfoldable pub {group.name}_of : ℕ → Option Instr\n{group.name}_of w =\n"
     closing = ""
@@ -265,7 +275,7 @@ def definition(group, rows):
     return text + f"    None{closing}\n"
 
 
-def definitions(classes, groups, rows):
+def definitions(classes: Classes, groups: Groups, rows: Rows) -> str:
     text = DEFINITIONS_HEAD
     for group in reversed(groups.values()):
         text += definition(group, rows)
@@ -281,9 +291,9 @@ def definitions(classes, groups, rows):
 # ---- the way to a row
 
 
-def find_way(target, classes, groups):
+def find_way(target: str, classes: Classes, groups: Groups) -> tuple[Class, Way]:
     """The class of a row, and the groups on the way to it, each with the place of its line."""
-    def below(name):
+    def below(name: str) -> Way:
         for place, line in enumerate(groups[name].lines):
             if line.target == target:
                 return [(name, place)]
@@ -291,7 +301,7 @@ def find_way(target, classes, groups):
                 rest = below(line.target)
                 if rest:
                     return [(name, place), *rest]
-        return None
+        return []
     for first, last, name in classes:
         way = below(name)
         if way:
@@ -299,7 +309,7 @@ def find_way(target, classes, groups):
     raise table.TableError(f"{table.ROWS}: no way to {target}")
 
 
-def field_text(test, row):
+def field_text(test: Test, row: Row) -> Optional[str]:
     """The value that a row's fixed bits give the bits of a test, or None where they don't."""
     if test.start is None or test.mask & ~row.fixed_mask:
         return None
@@ -307,7 +317,7 @@ def field_text(test, row):
     return f"{test.start}:{test.width}={test.text if value == test.value else value}"
 
 
-def excludes(row, test):
+def excludes(row: Row, test: Test) -> bool:
     """Whether a row's fixed bits or its refusals exclude the value of a test."""
     if (row.base ^ test.bits) & row.fixed_mask & test.mask:
         return True
@@ -319,9 +329,9 @@ def excludes(row, test):
     return False
 
 
-def passing_steps(line, row):
+def passing_steps(line: Line, row: Row) -> list[str]:
     """Why a row's words pass a line: equations for its tests up to one that fails."""
-    steps = []
+    steps: list[str] = []
     for test in line.tests:
         value = field_text(test, row)
         if value:
@@ -334,16 +344,16 @@ def passing_steps(line, row):
     return ["no_tag"]
 
 
-def first_of_each(steps):
+def first_of_each(steps: list[str]) -> list[str]:
     """The steps without those that say a value of bits, or a difference, a second time."""
-    found = {}
+    found: dict[str, str] = {}
     for step in steps:
         place, differs, _ = step.partition("!=")
         found.setdefault(step if differs else place.partition("=")[0], step)
     return list(found.values())
 
 
-def way_of(row, classes, groups):
+def way_of(row: Row, classes: Classes, groups: Groups) -> tuple[list[str], list[str]]:
     """The groups on the way to a row, and the steps of the proof that its words take it."""
     (first, last, name), way = find_way(row.name, classes, groups)
     if not row.fields:
@@ -360,7 +370,7 @@ def way_of(row, classes, groups):
     return ["row"] * single + [group for group, _ in way], first_of_each(steps)
 
 
-def written(rows):
+def written(rows: Rows) -> dict[str, str]:
     classes, groups = read_groups(rows)
     return {CODE: code(classes, groups, rows),
             DEFINITIONS: definitions(classes, groups, rows)}

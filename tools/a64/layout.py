@@ -1,22 +1,25 @@
 """How lines of the written files are laid out: comments, arms, equations, imports, patterns."""
 
 import textwrap
+from collections.abc import Iterable, Mapping, Sequence
+
+from a64.table import Form, Row
 
 WIDTH = 100  # of a line
 
 
-def comment(mark, text, indent=""):
+def comment(mark: str, text: str, indent: str = "") -> str:
     """A comment of whole lines."""
     lead = f"{indent}{mark} "
     return textwrap.fill(text, WIDTH, initial_indent=lead, subsequent_indent=lead,
                          break_long_words=False, break_on_hyphens=False) + "\n"
 
 
-def sentence(text):
+def sentence(text: str) -> str:
     return f"{text[0].upper()}{text[1:]}."
 
 
-def alternatives(patterns, result):
+def alternatives(patterns: list[str], result: str) -> str:
     """An arm of several patterns: on one line if it fits, else a line for each."""
     line = f"        {' | '.join(patterns)} => {result},\n"
     if len(line) <= WIDTH + 1:
@@ -24,17 +27,17 @@ def alternatives(patterns, result):
     return "        " + "\n        | ".join(patterns) + f" => {result},\n"
 
 
-def equation(left, right):
+def equation(left: str, right: str) -> str:
     """An equation of a definition: on one line if it fits."""
     line = f"{left} = {right}\n"
     return line if len(line) <= WIDTH + 1 else f"{left} =\n    {right}\n"
 
 
-def functions_used(uses):
+def functions_used(uses: Mapping[str, set[str]]) -> str:
     """The imports of functions, by their modules: those of the crate itself come first."""
     lines = []
-    for module, names in uses.items():
-        names = sorted(names)
+    for module, used in uses.items():
+        names = sorted(used)
         line = f"use {module}::{{{', '.join(names)}}};\n"
         if len(names) == 1:
             line = f"use {module}::{names[0]};\n"
@@ -46,51 +49,51 @@ def functions_used(uses):
     return "".join(sorted(lines, key=lambda line: (not line.startswith("use crate::"), line)))
 
 
-def imported(module, names):
+def imported(module: str, names: Iterable[str]) -> str:
     """The ghost imports of names, in their order, as many on a line as fit."""
     room = WIDTH - len(f"ghost use Rattle.{module}.{{}};")
     return "".join(f"ghost use Rattle.{module}.{{{line.removesuffix(',')}}};\n"
                    for line in textwrap.wrap(", ".join(names), room))
 
 
-def spec_imported(module, names):
+def spec_imported(module: str, names: Iterable[str]) -> str:
     """The same in a definition's file."""
     return imported(module, names).replace("ghost use", "use").replace(";\n", "\n")
 
 
-def braces(name, inside):
+def braces(name: str, inside: Sequence[str]) -> str:
     return f"{name} {{ {', '.join(inside)} }}" if inside else name
 
 
-def row_pattern(row, given, without=()):
+def row_pattern(row: Row, given: Mapping[str, object], without: Sequence[str] = ()) -> str:
     """The pattern of a row whose constant fields are `given`."""
     shown = [f"{f.name}: {given[f.name]}" if f.name in given else f.name
              for f in row.fields if f.name not in without]
     return braces(f"Instr::{row.name}", [*shown, *[".."][:len(without)]])
 
 
-def any_row(row):
+def any_row(row: Row) -> str:
     return f"Instr::{row.name} {{ .. }}" if row.fields else f"Instr::{row.name}"
 
 
-def row_value(row):
+def row_value(row: Row) -> str:
     """The row with its fields, in a definition."""
     return applied("instr", row.name, [f.name for f in row.fields])
 
 
-def applied(type_name, variant, values):
+def applied(type_name: str, variant: str, values: Sequence[str]) -> str:
     """A variant with the values of its fields, in a definition."""
     text = " ".join([f"{type_name}.{variant}", *values])
     return f"({text})" if values else text
 
 
-def form_names(form):
+def form_names(form: Form) -> list[str]:
     return [name for name, _ in form.kept]
 
 
-def form_pattern(form):
+def form_pattern(form: Form) -> str:
     return braces(f"Op::{form.name}", form_names(form))
 
 
-def form_value(form):
+def form_value(form: Form) -> str:
     return applied("op", form.name, form_names(form))

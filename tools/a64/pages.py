@@ -1,7 +1,11 @@
 """Writes docs/INSTRUCTIONS.md, and tells what a word is."""
 
+from collections.abc import Mapping
+from typing import Optional
+
 from a64 import table
 from a64.stores import split_stores
+from a64.table import FieldTest, Form, Row, Rows
 
 PATH = "docs/INSTRUCTIONS.md"
 
@@ -15,8 +19,9 @@ does one of a row with fields that the row refuses. `tools/isa.py --why WORD` te
 hexadecimal which row has it, its fields, what refuses it, and its form.
 
 A row's bits stand from bit 31 to bit 0: `NAME:WIDTH` is a field, `NAME:sWIDTH` one in two's \
-complement, and digits are fixed. `rn`, `rm`, `rd`, `rt`, `rt2` and `ra` are registers, where 31 is \
-the zero register or SP, as the manual says for each instruction; with `sf` 0 operands have 32 bits.
+complement, and digits are fixed. `rn`, `rm`, `rd`, `rt`, `rt2` and `ra` are registers, where 31 \
+is the zero register or SP, as the manual says for each instruction; with `sf` 0 operands have 32 \
+bits.
 """
 
 TAIL = """
@@ -28,12 +33,11 @@ The fixed bits of these rows allow the same words; what a row refuses keeps them
 """
 
 
-def test_words(test):
+def test_words(test: FieldTest) -> str:
     """A test as a sentence's end: what must be."""
-    word, arguments = test
-    a = [f"`{x}`" if not x.isdigit() else x for x in arguments] if word != "implies" else []
-    if word == "implies":
-        premise, conclusion = arguments
+    a = [f"`{x}`" if not x.isdigit() else x for x in test.arguments]
+    if test.implied:
+        premise, conclusion = test.implied
         return f"{test_words(conclusion)} if {test_words(premise)}"
     return {
         "below": "{0} is below {1}",
@@ -46,12 +50,13 @@ def test_words(test):
         "write_back": "{0} and {1} differ unless {0} is 31",
         "two_source": "{0} is 2, 3 or 8 to 11",
         "offset_register": "{0} is 2, 3, 6 or 7",
-    }[word].format(*a, *[""] * 4)
+    }[test.word].format(*a, *[""] * 4)
 
 
-def bits_of(row):
+def bits_of(row: Row) -> str:
     """The row's line of bits, as the data have it."""
-    tokens, fixed, bit = [], "", 31
+    tokens: list[str] = []
+    fixed, bit = "", 31
     fields = {f.bit + f.width - 1: f for f in row.fields}
     while bit >= 0:
         f = fields.get(bit)
@@ -65,7 +70,7 @@ def bits_of(row):
     return " ".join(token for token in [*tokens, fixed] if token)
 
 
-def sentences(row, forms):
+def sentences(row: Row, forms: list[Form]) -> str:
     """What is told of a row below its bits."""
     word, _, text = row.said["example"].partition(" ")
     said = [f"Example: `{word}` is `{text}`."]
@@ -81,32 +86,36 @@ def sentences(row, forms):
     return " ".join(said)
 
 
-def row_page(row, forms):
+def row_page(row: Row, forms: list[Form]) -> str:
     """The section of a row."""
     return "\n".join([f"### {row.name}", "", row.said["names"], "", f"    {bits_of(row)}", "",
                       sentences(row, forms)])
 
 
-def written(rows, forms):
+def written(rows: Rows, forms: list[Form]) -> dict[str, str]:
     sections = [row_page(row, forms) for row in rows.values()]
     own = [f"`{form.name}` ({form.text.rstrip('.')})" for form in forms if not form.row]
     worked_out = ("## Forms with a value that is worked out\n\n"
-                  f"Made of logical immediates, of moves of constants and of UBFM, whose fields are worked out: {', '.join(own)}.")
+                  "Made of logical immediates, of moves of constants and of UBFM, whose fields are "
+                  f"worked out: {', '.join(own)}.")
     text = "\n\n".join([HEAD.format(rows=len(rows), forms=len(forms)).rstrip("\n"), "## The rows",
                         *sections, worked_out])
     return {PATH: text + "\n" + TAIL.format(overlaps=overlaps(rows))}
 
 
-def overlaps(rows):
+def overlaps(rows: Rows) -> str:
     """Each pair of rows that overlap, and what keeps them apart."""
     lines = []
-    for one, other, (row, test) in table.find_overlaps(rows):
+    for one, other, found in table.find_overlaps(rows):
+        assert found, "a row's overlaps were checked when it was read"
+        row, test = found
         lines.append(f"- {one.name} and {other.name}: {row.name} is allowed only where "
                      f"{test_words(test)}.")
     return "\n".join(lines)
 
 
-def matching_form(row, values, forms, rows):
+def matching_form(row: Row, values: Mapping[str, int], forms: list[Form],
+                  rows: Rows) -> Optional[Form]:
     """The first form that has the row with these fields."""
     for form in forms:
         if form.row != row.name or any(values[f] != v for f, v in form.given.items()):
@@ -116,7 +125,7 @@ def matching_form(row, values, forms, rows):
     return None
 
 
-def explained(word, rows, forms):
+def explained(word: int, rows: Rows, forms: list[Form]) -> str:
     """What a word is: row, fields, and what refuses it or its form."""
     if not 0 <= word < 1 << 32:
         raise ValueError(f"{word:#x} is no word of 32 bits")
@@ -135,7 +144,7 @@ def explained(word, rows, forms):
         form = matching_form(row, values, forms, rows)
         if form:
             kept = " ".join(f"{name}={values[name]}" for name, _ in form.kept)
-            lines.append(f"  form {form.name} {kept}".rstrip() + f": {form.call}")
+            lines.append(f"  form {form.name} {kept}".rstrip() + f": {form.function}")
         elif row.name in ("LogImm", "MoveWide"):
             lines.append("  a form with its mask or constant worked out, where its registers are "
                          "below 31")

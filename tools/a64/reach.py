@@ -1,19 +1,20 @@
 """Whether each form is reached: some instruction of it is taken by no earlier form of its row."""
 
 import itertools
+from collections.abc import Mapping
 
 from a64 import table
-from a64.table import TableError
+from a64.table import Field, Form, Row, Rows, TableError
 
 
-def takes(form, values):
+def takes(form: Form, values: Mapping[str, int]) -> bool:
     """Whether a form takes the row's instruction with these values."""
     return (all(values[name] == value for name, value in form.given.items())
             and all(values[name] < 31 for name in form.gprs)
             and all(values[name] < bound for name, bound in form.limits.items()))
 
 
-def telling_values(field, form, others):
+def telling_values(field: Field, form: Form, others: list[Form]) -> list[int]:
     """Values of a field of which one is in each part into which the forms cut its range."""
     if field.name in form.given:
         return [form.given[field.name]]
@@ -28,7 +29,7 @@ def telling_values(field, form, others):
     return sorted(value for value in found if value < 1 << field.width)
 
 
-def is_reached(row, form, earlier):
+def is_reached(row: Row, form: Form, earlier: list[Form]) -> bool:
     choices = [telling_values(field, form, [form, *earlier]) for field in row.fields]
     names = [field.name for field in row.fields]
     for chosen in itertools.product(*choices):
@@ -39,8 +40,8 @@ def is_reached(row, form, earlier):
     return False
 
 
-def check(rows, forms):
-    earlier = {}
+def check(rows: Rows, forms: list[Form]) -> None:
+    earlier: dict[str, list[Form]] = {}
     for form in forms:
         if not form.row:
             continue

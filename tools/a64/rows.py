@@ -1,9 +1,14 @@
 """The files that the rows of isa/a64.rows give, beside those of crate a64_step."""
 
+from collections.abc import Iterable, Sequence
+
 from a64.groups import read_groups, way_of
-from a64.table import ONE_OF, ROWS, TableError
+from a64.table import ONE_OF, ROWS, Field, FieldTest, Row, Rows, TableError
 
 COLUMNS = 100  # of a line of what is written
+
+# The groups on the way to each row, and the steps of the proof that its words take it.
+Ways = dict[str, tuple[list[str], list[str]]]
 
 WRITTEN = f"Written by tools/isa.py from {ROWS}. Do not edit."
 
@@ -18,30 +23,31 @@ REFUSED = {
 }
 
 
-def written(rows):
+def written(rows: Rows) -> dict[str, str]:
     """The path of each file, and its text."""
     classes, groups = read_groups(rows)
     ways = {name: way_of(row, classes, groups) for name, row in rows.items()}
-    rows = list(rows.values())
+    listed = list(rows.values())
     return {
-        "crates/a64_instr/src/instruction.rt": instruction_file(rows),
-        "crates/a64_asm/src/rows.rt": encoder_file(rows),
-        "crates/a64_decode/specs/Fields.antt": fields_file(rows),
-        "crates/a64_decode/src/rows.rt": decoder_file(rows),
-        "crates/a64_decode/proofs/RowLemmas.antt": lemmas_file(rows, ways),
-        "crates/a64_text/src/rows.rt": text_file(rows),
-        "crates/a64_tests/src/row_words.rt": words_file(rows),
-        "tools/disassembly/rows.py": objdump_file(rows),
+        "crates/a64_instr/src/instruction.rt": instruction_file(listed),
+        "crates/a64_asm/src/rows.rt": encoder_file(listed),
+        "crates/a64_decode/specs/Fields.antt": fields_file(listed),
+        "crates/a64_decode/src/rows.rt": decoder_file(listed),
+        "crates/a64_decode/proofs/RowLemmas.antt": lemmas_file(listed, ways),
+        "crates/a64_text/src/rows.rt": text_file(listed),
+        "crates/a64_tests/src/row_words.rt": words_file(listed),
+        "tools/disassembly/rows.py": objdump_file(listed),
     }
 
 
 # ---- lines
 
 
-def filled(parts, start, indent):
+def filled(parts: Iterable[str], start: str, indent: str) -> str:
     """The parts, with a space between two of them, in lines: the first begins with `start`, each
     other with the indent."""
-    lines, line, empty = [], start, True
+    lines: list[str] = []
+    line, empty = start, True
     for part in parts:
         longer = line + part if empty else f"{line} {part}"
         if len(longer) > COLUMNS and not empty:
@@ -51,48 +57,48 @@ def filled(parts, start, indent):
     return "\n".join([*lines, line])
 
 
-def with_commas(parts, end=""):
+def with_commas(parts: list[str], end: str = "") -> list[str]:
     """The parts, a comma behind each but the last, which has the end."""
     return [part + "," for part in parts[:-1]] + [parts[-1] + end]
 
 
-def one_line_or(line, several):
+def one_line_or(line: str, several: str) -> str:
     """The line where it is short enough, else the several."""
     return line if len(line) <= COLUMNS else several
 
 
-def names(row, without=()):
+def names(row: Row, without: Sequence[str] = ()) -> list[str]:
     return [f.name for f in row.fields if f.name not in without]
 
 
-def left_out(row, key):
+def left_out(row: Row, key: str) -> list[str]:
     """The fields that a line of the row leaves out (-NAME)."""
     return [word[1:] for word in row.split(key) if word.startswith("-")]
 
 
-def hexadecimal(word):
+def hexadecimal(word: int) -> str:
     """A word as Rust has it."""
     return f"0x{word >> 16:04X}_{word & 0xFFFF:04X}"
 
 
-def applied(row):
+def applied(row: Row) -> str:
     """The instruction of a row with its fields, in a definition."""
     text = " ".join([f"instr.{row.name}", *names(row)])
     return f"({text})" if row.fields else text
 
 
-def pattern(row, unused=()):
+def pattern(row: Row, unused: Sequence[str] = ()) -> str:
     """The pattern of a row with its fields, in the code."""
     shown = ", ".join(f"{name}: _" if name in unused else name for name in names(row))
     return f"Instr::{row.name} {{ {shown} }}" if shown else f"Instr::{row.name}"
 
 
-def arm(left, right):
+def arm(left: str, right: str) -> str:
     """An arm of a match, whose pattern and value stand in a function."""
     return one_line_or(f"        {left} => {right},", f"        {left} =>\n            {right},")
 
 
-def fields_of_macro(row, first):
+def fields_of_macro(row: Row, first: Sequence[str]) -> list[str]:
     """What comes first, and the fields of a row as the macros `row` take them: each with its lowest
     bit and its width."""
     fields = [*first, *(f"{f.name} {f.bit}:{f.width}" for f in row.unsigned)]
@@ -103,14 +109,14 @@ def fields_of_macro(row, first):
     return fields
 
 
-def refusal(test):
+def refusal(test: FieldTest) -> str:
     """What refuses what the test does not allow, as an expression of the code."""
-    word, arguments = test
+    word, arguments = test.word, test.arguments
     if word == "implies":
-        premise, allowed = arguments
-        if premise[0] != "equal":
-            raise TableError(f"{ROWS}: a premise that isn't `equal`: {premise[0]}")
-        return f"{premise[1][0]} == {premise[1][1]} && {refusal(allowed)}"
+        premise, allowed = test.implied
+        if premise.word != "equal":
+            raise TableError(f"{ROWS}: a premise that isn't `equal`: {premise.word}")
+        return f"{premise.arguments[0]} == {premise.arguments[1]} && {refusal(allowed)}"
     if word == "below":
         return f"{arguments[0]} > {int(arguments[1]) - 1}"
     if word in ONE_OF:
@@ -118,7 +124,7 @@ def refusal(test):
     return REFUSED[word].format(*arguments)
 
 
-def call_of_macro(row, start, first=()):
+def call_of_macro(row: Row, start: str, first: Sequence[str] = ()) -> str:
     """The call of a macro `row`: what comes before the fields, these and the refusals."""
     fields = fields_of_macro(row, first)
     refusals = [refusal(test) for test in row.allows]
@@ -151,14 +157,14 @@ pub enum Instr {{
 """
 
 
-def variant(row):
+def variant(row: Row) -> str:
     """The variant of a row, with its mnemonics."""
     fields = [f"{f.name}: {f.type}" for f in row.fields]
     shape = f" {{ {', '.join(fields)} }}" if fields else ""
     return f"    /// {row.said['names']}\n    {row.name}{shape},"
 
 
-def instruction_file(rows):
+def instruction_file(rows: list[Row]) -> str:
     return INSTRUCTION_FILE.format(written=WRITTEN, variants="\n".join(map(variant, rows)))
 
 
@@ -192,13 +198,13 @@ pub fn word_by_row(instr: &Instr) -> Option<u32>
 """
 
 
-def encoder_arm(row):
+def encoder_arm(row: Row) -> str:
     if not row.fields:
         return arm(pattern(row), f"Some({hexadecimal(row.base)})")
     return arm(pattern(row), f"{row.function}({', '.join(names(row))})")
 
 
-def encoder(row):
+def encoder(row: Row) -> str:
     """The function that encodes a row."""
     parameters = ", ".join(f"{f.name}: {f.type}" for f in row.fields)
     head = one_line_or(
@@ -208,7 +214,7 @@ def encoder(row):
             + call_of_macro(row, "    row!(", [hexadecimal(row.base)]) + "\n}")
 
 
-def encoder_file(rows):
+def encoder_file(rows: list[Row]) -> str:
     return ENCODER_FILE.format(
         written=WRITTEN, arms="\n".join(map(encoder_arm, rows)),
         functions="\n\n".join(encoder(row) for row in rows if row.fields))
@@ -234,7 +240,7 @@ rows w =
 """
 
 
-def reading(row):
+def reading(row: Row) -> str:
     """The definition of the instruction that has the fields of a word."""
     name = f"{row.function}_at"
     fields = []
@@ -247,13 +253,13 @@ def reading(row):
     return f"abbrev pub {name} : ℕ → Instr\n{line}"
 
 
-def list_of_rows(rows):
+def list_of_rows(rows: list[Row]) -> str:
     """All rows of a word, in their order."""
     parts = [f"{row.function}_at w" if row.fields else f"instr.{row.name}" for row in rows]
     return filled([parts[0], *(f"∷ {part}" for part in parts[1:]), "∷ []"], " " * 4, " " * 4)
 
 
-def fields_file(rows):
+def fields_file(rows: list[Row]) -> str:
     return FIELDS_FILE.format(
         written=WRITTEN, rows=list_of_rows(rows),
         readings="\n\n".join(reading(row) for row in rows if row.fields))
@@ -274,14 +280,14 @@ use a64_bits::{{field, is_mask, signed_field}};
 """
 
 
-def decoder(row):
+def decoder(row: Row) -> str:
     """The function that reads a row."""
     return (f"pub fn {row.function}(word: u32) -> Option<Instr>\n"
             f"    ensures {{ Reads result (Some (Fields.{row.function}_at word)) }}\n{{\n"
             + call_of_macro(row, f"    row!({row.name} word: ") + "\n}")
 
 
-def decoder_file(rows):
+def decoder_file(rows: list[Row]) -> str:
     return DECODER_FILE.format(
         written=WRITTEN, functions="\n\n".join(decoder(row) for row in rows if row.fields))
 
@@ -308,9 +314,10 @@ pub again : (i : Instr) (w : ℕ) → Found w i
 """
 
 
-def imports_of_groups(ways):
+def imports_of_groups(ways: Ways) -> str:
     """The lines that import the groups, each once."""
-    start, lines, line = "use Rattle.a64_decode.specs.Groups.{", [], ""
+    start, line = "use Rattle.a64_decode.specs.Groups.{", ""
+    lines: list[str] = []
     for name in dict.fromkeys(f"{name}_of" for groups, _ in ways.values() for name in groups):
         longer = f"{line}, {name}" if line else start + name
         if len(longer) >= COLUMNS:
@@ -320,7 +327,7 @@ def imports_of_groups(ways):
     return "\n".join([*lines, line + "}"])
 
 
-def step_of_path(step, row):
+def step_of_path(step: str, row: Row) -> str:
     """A test on the way to a row, as an equation."""
     if step == "no_tag":
         opc, load = row.field("opc"), row.field("l")
@@ -337,7 +344,7 @@ def step_of_path(step, row):
     return f"is w {bits} {value} (omega arith)"
 
 
-def binders(row):
+def binders(row: Row) -> str:
     """The word and the fields of a lemma, with their types."""
     groups = [["ℕ", "w"]]
     for f in row.fields:
@@ -348,14 +355,14 @@ def binders(row):
     return " ".join(f"({' '.join(group[1:])} : {group[0]})" for group in groups)
 
 
-def field_of_lemma(f):
+def field_of_lemma(f: Field) -> str:
     """A field of the word and its value, as an equation."""
     if f.signed:
         return f"is_signed w {f.bit} {f.width} {f.name} (omega arith) h.0 (omega arith)"
     return f"is w {f.bit} {f.width} {f.name} (omega arith)"
 
 
-def rewriting(margin, start, equations, end):
+def rewriting(margin: str, start: str, equations: list[str], end: str) -> str:
     """The equations as the list of a tactic: a line, or a line for each."""
     return one_line_or(
         f"{margin}{start} ({', '.join(equations)}){end}",
@@ -363,7 +370,7 @@ def rewriting(margin, start, equations, end):
         + f"{margin}){end}")
 
 
-def proof_of_lemma(row, place, path):
+def proof_of_lemma(row: Row, place: int, path: list[str]) -> str:
     """The proof of a lemma: the place, the path and the fields."""
     left = " ".join([row.function, "w", *names(row), "h e ="])
     if not path:
@@ -382,7 +389,7 @@ def proof_of_lemma(row, place, path):
     return f"{left}\n    let bits = {bits} in (\n{body}\n    )"
 
 
-def lemma(row, place, way):
+def lemma(row: Row, place: int, way: tuple[list[str], list[str]]) -> str:
     """The lemma of a row."""
     groups, path = way
     statement = f"{row.function} : {binders(row)}"
@@ -392,12 +399,12 @@ def lemma(row, place, way):
     return f"{head}\n{unfolded}\n{proof_of_lemma(row, place, path)}"
 
 
-def again(row):
+def again(row: Row) -> str:
     left, right = f"again {applied(row)} w =", " ".join([row.function, "w", *names(row)])
     return one_line_or(f"{left} {right}", f"{left}\n    {right}")
 
 
-def lemmas_file(rows, ways):
+def lemmas_file(rows: list[Row], ways: Ways) -> str:
     return LEMMAS_FILE.format(
         written=WRITTEN, groups=imports_of_groups(ways),
         lemmas="\n\n".join(lemma(row, place, ways[row.name]) for place, row in enumerate(rows)),
@@ -427,7 +434,7 @@ pub fn line_of(instr: &Instr, pc: Option<u64>) -> TextLine {{
 """
 
 
-def text_arm(row):
+def text_arm(row: Row) -> str:
     """The arm of a row: its function, or the call that the row says."""
     text, unused = row.said.get("text", ""), left_out(row, "text")
     if "(" in text:
@@ -437,7 +444,7 @@ def text_arm(row):
     return arm(pattern(row, unused), f"{row.function}({arguments})")
 
 
-def text_file(rows):
+def text_file(rows: list[Row]) -> str:
     return TEXT_FILE.format(written=WRITTEN, arms="\n".join(map(text_arm, rows)))
 
 
@@ -457,7 +464,7 @@ pub const ROWS: [(u32, Instr); {count}] = [
 """
 
 
-def word_of_example(row):
+def word_of_example(row: Row) -> str:
     """The example of a row: its word, with the fields that stand in it."""
     digits, _, text = row.said["example"].partition(" ")
     word = int(digits, 16)
@@ -468,7 +475,7 @@ def word_of_example(row):
     return f"    // {text.strip()}\n{line}"
 
 
-def words_file(rows):
+def words_file(rows: list[Row]) -> str:
     return WORDS_FILE.format(
         written=WRITTEN, count=len(rows), lines="\n".join(map(word_of_example, rows)))
 
@@ -481,31 +488,37 @@ OBJDUMP_FILE = '''\
 """The rows of the table of encodings: name, base, fields (NAME BIT:WIDTH), and which fields make
 an instruction."""
 
-from field_tests import {tests}
+from collections.abc import Callable
+from typing import Optional
 
-ROWS = [
+from .field_tests import {tests}
+
+Row = tuple[str, int, str, Optional[Callable[[dict[str, int]], bool]]]
+
+ROWS: list[Row] = [
 {lines}
 ]
 '''
 
 
-def allowed_in_python(test, loose=False):
+def allowed_in_python(test: FieldTest, loose: bool = False) -> str:
     """A test of fields `f`, as an expression of Python; in brackets where `loose` binds less."""
-    word, arguments = test
+    word = test.word
     if word == "implies":
-        premise = [value_in_python(argument) for argument in arguments[0][1]]
-        text = f"{premise[0]} != {premise[1]} or {allowed_in_python(arguments[1])}"
+        premise, allowed = test.implied
+        told = [value_in_python(argument) for argument in premise.arguments]
+        text = f"{told[0]} != {told[1]} or {allowed_in_python(allowed)}"
         return f"({text})" if loose else text
-    values = [value_in_python(argument) for argument in arguments]
+    values = [value_in_python(argument) for argument in test.arguments]
     sign = {"below": "<", "equal": "==", "differ": "!="}.get(word)
     return f"{values[0]} {sign} {values[1]}" if sign else f"{word}({', '.join(values)})"
 
 
-def value_in_python(argument):
+def value_in_python(argument: str) -> str:
     return argument if argument.isdigit() else f'f["{argument}"]'
 
 
-def row_of_objdump(row):
+def row_of_objdump(row: Row) -> str:
     """A row: its name, base, fields, and which of their values make an instruction."""
     fields = " ".join(f"{f.name} {f.bit}:{f.width}" for f in row.fields)
     first = f'    ("{row.function}", 0x{row.base:08X},'
@@ -518,13 +531,13 @@ def row_of_objdump(row):
     return f'{first}\n     "{fields}",\n' + filled(tests, "     lambda f: ", " " * 8)
 
 
-def named_tests(rows):
+def named_tests(rows: list[Row]) -> list[str]:
     """The tests that have a name and no sign in Python, each once."""
-    words = {test[0] for row in rows for test in row.allows}
+    words = {test.word for row in rows for test in row.allows}
     return sorted(words - {"implies", "below", "equal", "differ"})
 
 
-def objdump_file(rows):
+def objdump_file(rows: list[Row]) -> str:
     return OBJDUMP_FILE.format(
         written=WRITTEN, tests=", ".join(named_tests(rows)),
         lines="\n".join(map(row_of_objdump, rows)))

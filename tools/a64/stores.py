@@ -1,6 +1,7 @@
 """Writes what each row stores, and the register that it writes, which `mte_run` tells."""
 
 from a64 import layout
+from a64.table import Row, Rows
 
 PATH = "crates/instruction_trace/src/stores.rt"
 WRITTEN = "crates/instruction_trace/src/written.rt"
@@ -40,7 +41,7 @@ TAIL = """\
 """
 
 
-def store_arm(row):
+def store_arm(row: Row) -> str:
     """The arm of a row that stores something: its constants, and the call."""
     constants, call = split_stores(row)
     shown = []
@@ -54,19 +55,19 @@ def store_arm(row):
     return f"        Instr::{row.name} {{ {', '.join(shown)} }} =>\n            Some({call}),\n"
 
 
-def words_of(call):
+def words_of(call: str) -> set[str]:
     return set("".join(c if c.isalnum() or c == "_" else " " for c in call).split())
 
 
-def split_stores(row):
+def split_stores(row: Row) -> tuple[dict[str, str], str]:
     """The constant fields of `stores`, and its call; both are empty for `nothing`."""
     said = row.said.get("stores", "nothing")
     return ({}, "") if said == "nothing" else split_constants(row, said)
 
 
-def split_constants(row, said):
+def split_constants(row: Row, said: str) -> tuple[dict[str, str], str]:
     """The constant fields that a line begins with, and its rest."""
-    constants = {}
+    constants: dict[str, str] = {}
     while "=" in said.split("(")[0]:
         constant, _, said = said.partition(" ")
         name, _, value = constant.partition("=")
@@ -75,21 +76,21 @@ def split_constants(row, said):
     return constants, said
 
 
-def split_writes(row):
+def split_writes(row: Row) -> tuple[dict[str, str], str]:
     """The constant fields of `writes`, and the register; `rd` where nothing is said and there is
     one, else nothing."""
     has_rd = any(f.name == "rd" for f in row.fields)
     return split_constants(row, row.said.get("writes", "rd" if has_rd else ""))
 
 
-def written_pattern(row):
+def written_pattern(row: Row) -> str:
     """The row, with its constants and the field of the register."""
     constants, register = split_writes(row)
     field = [] if register.isdigit() else [row.field(register).name]
     return f"Instr::{row.name} {{ {', '.join([*map(': '.join, constants.items()), *field])}, .. }}"
 
 
-def registers(rows):
+def registers(rows: Rows) -> str:
     """The file that tells which register an instruction writes."""
     split = {row.name: split_writes(row) for row in rows.values()}
     text = WRITTEN_HEAD
@@ -100,7 +101,7 @@ def registers(rows):
     return text + layout.alternatives([layout.any_row(row) for row in others], "None") + TAIL
 
 
-def written(rows):
+def written(rows: Rows) -> dict[str, str]:
     split = {row.name: split_stores(row) for row in rows.values()}
     arms = [store_arm(row) for row in rows.values() if split[row.name][1]]
     # The rows that store nothing, and the loads of those that may: none is left to `_`.

@@ -3,7 +3,9 @@
 import itertools
 import pathlib
 import re
+from collections.abc import Iterator, Mapping
 from dataclasses import dataclass, field
+from typing import Optional
 
 ROOT = pathlib.Path(__file__).resolve().parents[2]
 ROWS = "isa/a64.rows"
@@ -24,7 +26,7 @@ class TableError(Exception):
     """A line of the data that means nothing, with its place."""
 
 
-def snake_case(name):
+def snake_case(name: str) -> str:
     return re.sub(r"(?<!^)(?=[A-Z])", "_", name).lower()
 
 
@@ -36,75 +38,89 @@ class Field:
     signed: bool
 
     @property
-    def type(self):
+    def type(self) -> str:
         """The type of the field in Rust."""
         if self.signed:
             return "i8" if self.width <= 8 else "i16" if self.width <= 16 else "i32"
         return "u8" if self.width <= 8 else "u16"
 
     @property
-    def mask(self):
+    def mask(self) -> int:
         return ((1 << self.width) - 1) << self.bit
 
-    def read(self, word):
+    def read(self, word: int) -> int:
         """The field's value in a word."""
         value = word >> self.bit & ((1 << self.width) - 1)
         return value - (1 << self.width) if self.signed and value >> self.width - 1 else value
 
 
+@dataclass(frozen=True)
+class FieldTest:
+    """What fields must be: a word of Encoding.antt with the fields and numbers that it takes; or
+    that one test implies another."""
+    word: str
+    arguments: tuple[str, ...] = ()
+    implied: tuple["FieldTest", ...] = ()
+
+
 @dataclass
 class Row:
     name: str
-    fields: list
-    fixed: dict  # the fixed bits, bit to value
-    said: dict  # the other lines, key to text
-    allows: list = field(default_factory=list)  # of tests: (word, arguments), or (test, test)
+    fields: list[Field]
+    fixed: dict[int, int]  # the fixed bits, bit to value
+    said: dict[str, str]  # the other lines, key to text
+    allows: list[FieldTest] = field(default_factory=list)
 
     @property
-    def function(self):
+    def function(self) -> str:
         return snake_case(self.name)
 
     @property
-    def base(self):
+    def base(self) -> int:
         return sum(value << bit for bit, value in self.fixed.items())
 
     @property
-    def fixed_mask(self):
+    def fixed_mask(self) -> int:
         return sum(1 << bit for bit in self.fixed)
 
     @property
-    def unsigned(self):
+    def unsigned(self) -> list[Field]:
         return [f for f in self.fields if not f.signed]
 
     @property
-    def signed(self):
+    def signed(self) -> Optional[Field]:
         """The signed field, of which a row has one at most."""
         return next((f for f in self.fields if f.signed), None)
 
-    def field(self, name):
+    def field(self, name: str) -> Field:
         for f in self.fields:
             if f.name == name:
                 return f
         raise TableError(f"{ROWS}: {self.name} has no field {name}")
 
-    def values(self, word):
+    def values(self, word: int) -> dict[str, int]:
         return {f.name: f.read(word) for f in self.fields}
 
-    def fits(self, word):
+    def fits(self, word: int) -> bool:
         """Whether the word has the row's fixed bits."""
         return word & self.fixed_mask == self.base
 
-    def refusals(self, word):
+    def refusals(self, word: int) -> list[FieldTest]:
         """The tests that the fields of the word don't satisfy."""
         values = self.values(word)
         return [test for test in self.allows if not holds(test, values)]
 
-    def split(self, key):
+    def split(self, key: str) -> list[str]:
         """The words of a line."""
         return self.said.get(key, "").split()
 
 
-def element_size(n, imms):
+Rows = dict[str, Row]
+Placed = tuple[str, str]  # the place of a line, and the line
+Separated = tuple[Row, FieldTest]  # a row, and its test that another row's words fail
+
+
+def element_size(n: int, imms: int) -> int:
     """The size of the element that is repeated in a mask (DecodeBitMasks)."""
     if n == 1:
         return 64
@@ -114,12 +130,13 @@ def element_size(n, imms):
     return 1
 
 
-def holds(test, values):
+def holds(test: FieldTest, values: Mapping[str, int]) -> bool:
     """Whether a test holds of the values of fields."""
-    word, arguments = test
+    word = test.word
     if word == "implies":
-        return not holds(arguments[0], values) or holds(arguments[1], values)
-    v = [values[a] if a in values else int(a) for a in arguments]
+        premise, conclusion = test.implied
+        return not holds(premise, values) or holds(conclusion, values)
+    v = [values[a] if a in values else int(a) for a in test.arguments]
     if word == "below":
         return v[0] < v[1]
     if word == "equal":
@@ -127,7 +144,8 @@ def holds(test, values):
     if word == "differ":
         return v[0] != v[1]
     if word == "mask":
-        return v[1] % element_size(*v) != element_size(*v) - 1
+        size = element_size(v[0], v[1])
+        return v[1] % size != size - 1
     if word == "load_store":
         return (v[0], v[1]) not in {(2, 3), (3, 2), (3, 3)}
     if word == "load_store_pair":
@@ -138,46 +156,43 @@ def holds(test, values):
     return v[0] in ONE_OF[word]
 
 
-def fields_of_test(test):
+def fields_of_test(test: FieldTest) -> list[str]:
     """The names and numbers that a test takes."""
-    word, arguments = test
-    if word == "implies":
-        return fields_of_test(arguments[0]) + fields_of_test(arguments[1])
-    return list(arguments)
+    inner = [name for part in test.implied for name in fields_of_test(part)]
+    return [*test.arguments, *inner]
 
 
-def written_test(test):
+def written_test(test: FieldTest) -> str:
     """A test in the words of Encoding.antt."""
-    word, arguments = test
-    if word == "implies":
-        return f"implies ({written_test(arguments[0])}) ({written_test(arguments[1])})"
-    return " ".join([word, *arguments])
+    return " ".join([test.word, *test.arguments,
+                     *(f"({written_test(part)})" for part in test.implied)])
 
 
-def short_test(test):
+def short_test(test: FieldTest) -> str:
     """A test as a64.rows has it."""
-    word, arguments = test
-    if word == "implies":
-        return f"{short_test(arguments[0])} -> {short_test(arguments[1])}"
-    return " ".join([word, *arguments])
+    if test.implied:
+        return " -> ".join(short_test(part) for part in test.implied)
+    return " ".join([test.word, *test.arguments])
 
 
-def parse_test(text, row, place):
+def parse_test(text: str, row: Row, place: str) -> FieldTest:
     if "->" in text:
         left, right = (parse_test(half, row, place) for half in text.split("->"))
-        return ("implies", (left, right))
+        return FieldTest("implies", implied=(left, right))
     word, *arguments = text.split()
     if TESTS.get(word) != len(arguments):
         raise TableError(f"{place}: no test: {text.strip()}")
     for argument in arguments:
         if not argument.isdigit():
             row.field(argument)
-    return (word, tuple(arguments))
+    return FieldTest(word, tuple(arguments))
 
 
-def parse_pattern(text, place):
+def parse_pattern(text: str, place: str) -> tuple[list[Field], dict[int, int]]:
     """The fields and the fixed bits of a line of bits."""
-    bit, fields, fixed = 32, [], {}
+    bit = 32
+    fields: list[Field] = []
+    fixed: dict[int, int] = {}
     for token in text.split():
         name, colon, width = token.partition(":")
         if colon:
@@ -203,7 +218,7 @@ def parse_pattern(text, place):
     return fields, fixed
 
 
-def numbered_lines(path):
+def numbered_lines(path: str) -> Iterator[Placed]:
     """The lines of a file that say something, each with its place."""
     text = (ROOT / path).read_text()
     for number, line in enumerate(text.splitlines(), 1):
@@ -211,9 +226,10 @@ def numbered_lines(path):
             yield f"{path}:{number}", line
 
 
-def lines_of_rows_and_groups():
+def lines_of_rows_and_groups() -> tuple[list[Placed], list[Placed]]:
     """The lines of the rows, whose names begin with a capital, and those of the encoding groups."""
-    rows, groups = [], []
+    rows: list[Placed] = []
+    groups: list[Placed] = []
     lines = rows
     for place, line in numbered_lines(ROWS):
         if not line.startswith(" "):
@@ -222,9 +238,10 @@ def lines_of_rows_and_groups():
     return rows, groups
 
 
-def read_rows():
+def read_rows() -> Rows:
     """The rows, by name, in their order."""
-    rows, row = {}, None
+    rows: Rows = {}
+    row: Optional[Row] = None
     for place, line in lines_of_rows_and_groups()[0]:
         word, _, rest = line.strip().partition(" ")
         if not line.startswith(" "):
@@ -238,13 +255,13 @@ def read_rows():
         row.said[word] = rest.strip()
         if word == "allows":
             row.allows = [parse_test(test, row, place) for test in rest.split(",")]
-    for row in rows.values():
-        check_row(row, rows)
+    for each in rows.values():
+        check_row(each, rows)
     check_overlaps(rows)
     return rows
 
 
-def check_row(row, rows):
+def check_row(row: Row, rows: Rows) -> None:
     """What each row must say."""
     for key in ("names", "step", "example"):
         if not row.said.get(key):
@@ -262,7 +279,7 @@ def check_row(row, rows):
 # ---- rows that overlap
 
 
-def separating_test(one, other):
+def separating_test(one: Row, other: Row) -> Optional[Separated]:
     """A test of one of two rows that fails for every word that has the fixed bits of both."""
     base = one.base | other.base
     mask = one.fixed_mask | other.fixed_mask
@@ -278,7 +295,7 @@ def separating_test(one, other):
     return None
 
 
-def find_overlaps(rows):
+def find_overlaps(rows: Rows) -> list[tuple[Row, Row, Optional[Separated]]]:
     """The pairs of rows whose fixed bits don't contradict, and the test that keeps them apart."""
     found = []
     for one, other in itertools.combinations(rows.values(), 2):
@@ -288,9 +305,9 @@ def find_overlaps(rows):
     return found
 
 
-def check_overlaps(rows):
-    said = {(name, row.name) for row in rows.values() for name in row.split("overlaps")}
-    said = {tuple(sorted(pair)) for pair in said}
+def check_overlaps(rows: Rows) -> None:
+    said = {tuple(sorted((name, row.name))) for row in rows.values()
+            for name in row.split("overlaps")}
     found = find_overlaps(rows)
     seen = {tuple(sorted((one.name, other.name))) for one, other, _ in found}
     for pair in sorted(seen - said):
@@ -309,29 +326,37 @@ def check_overlaps(rows):
 class Form:
     """A form: a row with constant fields, or (`effect`) fields and an effect of its own."""
     name: str
-    row: str  # the name of the row, or None
-    given: dict  # the constant fields of the row, name to value
-    kept: list  # the fields that the form keeps: (name, type)
-    effect: str  # the effect of a form that is no row's, or None
-    gprs: list  # the registers that must be below 31
-    limits: dict  # other limits that the row doesn't give, name to bound
+    row: Optional[str]  # the name of the row
+    given: dict[str, int]  # the constant fields of the row, name to value
+    kept: list[tuple[str, str]]  # the fields that the form keeps: (name, type)
+    effect: Optional[str]  # the effect of a form that is no row's
+    gprs: list[str]  # the registers that must be below 31
+    limits: dict[str, int]  # other limits that the row doesn't give, name to bound
     function: str  # what executes it
-    passed: dict  # the constants that it takes and the row does not give, name to value
+    passed: dict[str, int]  # the constants that it takes and the row does not give, name to value
     text: str
     family: str  # the match that has its arm; empty for the first
 
 
-def parse_form(line, rows, place):
+def parse_kept(text: str) -> tuple[str, str]:
+    """A field that a form keeps, and its type."""
+    name, type_name = (part.strip() for part in text.split(":"))
+    return name, type_name
+
+
+def parse_form(line: str, rows: Rows, place: str) -> Form:
     parts = [part.strip() for part in line.split("|")]
     if len(parts) != 5:
         raise TableError(f"{place}: {len(parts)} parts, not 5")
     head, limits, call, text, family = parts
     name, _, rest = head.partition(" ")
-    row, given, effect = None, {}, None
+    row: Optional[str] = None
+    given: dict[str, int] = {}
+    effect: Optional[str] = None
     if rest.startswith("{"):
-        fields, _, effect = rest[1:].partition("}")
-        kept = [tuple(part.strip() for part in f.split(":")) for f in fields.split(",") if f]
-        effect = effect.strip()
+        fields, _, own = rest[1:].partition("}")
+        kept = [parse_kept(f) for f in fields.split(",") if f]
+        effect = own.strip()
     else:
         row, *constants = rest.split()
         if row not in rows:
@@ -341,7 +366,8 @@ def parse_form(line, rows, place):
             if value >> rows[row].field(f).width:
                 raise TableError(f"{place}: {f}={value} is wider than the field")
         kept = [(f.name, f.type) for f in rows[row].fields if f.name not in given]
-    gprs, others = [], {}
+    gprs: list[str] = []
+    others: dict[str, int] = {}
     for limit in limits.split(","):
         words = limit.split()
         if words[:1] == ["gpr"]:
@@ -360,7 +386,7 @@ def parse_form(line, rows, place):
     return Form(name, row, given, kept, effect, gprs, others, function, passed, text, family)
 
 
-def read_forms(rows):
+def read_forms(rows: Rows) -> list[Form]:
     """The forms, in their order."""
     forms = [parse_form(line, rows, place) for place, line in numbered_lines(FORMS)]
     names = [form.name for form in forms]
@@ -370,7 +396,7 @@ def read_forms(rows):
     return forms
 
 
-def bounds(form, rows):
+def bounds(form: Form, rows: Rows) -> dict[str, int]:
     """The bound of each unsigned field that a form keeps: the form's own, what the row's refusals
     leave with the form's constants, or what the field's width gives."""
     found = {}
@@ -387,15 +413,15 @@ def bounds(form, rows):
     return found
 
 
-def bound_by_row(row, name, given, bound):
+def bound_by_row(row: Row, name: str, given: Mapping[str, int], bound: int) -> int:
     """What the row's refusals leave of a field, where those constants are given."""
-    for word, arguments in row.allows:
-        if word == "implies":
-            premise, (word, arguments) = arguments
-            if any(a not in given and not a.isdigit() for a in premise[1]):
+    for test in row.allows:
+        if test.implied:
+            premise, test = test.implied
+            if any(a not in given and not a.isdigit() for a in premise.arguments):
                 continue
             if not holds(premise, given):
                 continue
-        if word == "below" and arguments[0] == name:
-            bound = min(bound, int(arguments[1]))
+        if test.word == "below" and test.arguments[0] == name:
+            bound = min(bound, int(test.arguments[1]))
     return bound

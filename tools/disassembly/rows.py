@@ -2,9 +2,14 @@
 """The rows of the table of encodings: name, base, fields (NAME BIT:WIDTH), and which fields make
 an instruction."""
 
-from field_tests import load_store, load_store_pair, mask, offset_register, two_source, write_back
+from collections.abc import Callable
+from typing import Optional
 
-ROWS = [
+from .field_tests import load_store, load_store_pair, mask, offset_register, two_source, write_back
+
+Row = tuple[str, int, str, Optional[Callable[[dict[str, int]], bool]]]
+
+ROWS: list[Row] = [
     ("add_sub_imm", 0x11000000, "sf 31:1 op 30:1 s 29:1 sh 22:1 imm12 10:12 rn 5:5 rd 0:5", None),
     ("add_sub_shift", 0x0B000000,
      "sf 31:1 op 30:1 s 29:1 shift 22:2 rm 16:5 imm6 10:6 rn 5:5 rd 0:5",

@@ -3,15 +3,17 @@
 
     heap_anchors.py [--turns N] [--work FOLDER] HOST...
 
-Each HOST is a built mte_host. The same loop runs as a tenant of each, as a Linux program on LLVM's own Scudo with
-memory tagging (FEAT_MTE) under `qemu-aarch64 -cpu max`, and on this machine's C library, in turns, N times (5). A
-figure is the best user time of a long run less that of a short one, in nanoseconds a round: the calls, and the few
-instructions of the loop. Behind it, what each HOST takes as a multiple of Scudo and of the C library.
+Each HOST is a built mte_host. The same loop runs as a tenant of each, as a Linux program on LLVM's
+own Scudo with memory tagging (FEAT_MTE) under `qemu-aarch64 -cpu max`, and on this machine's C
+library, in turns, N times (5). A figure is the best user time of a long run less that of a short
+one, in nanoseconds a round: the calls, and the few instructions of the loop. Behind it, what each
+HOST takes as a multiple of Scudo and of the C library.
 
-Scudo is the one of Debian's source package llvm-toolchain-14 (130 MB), which apt-get fetches from where apt's own
-configuration says; nothing is installed, and the system's own lists of packages stay as they are. FOLDER, outside
-the repository, keeps it for the next time (a temporary one). Where it can't be fetched, the rest is measured.
-The program on Scudo is refused unless its pointers have tags and a read of a freed chunk ends it.
+Scudo is the one of Debian's source package llvm-toolchain-14 (130 MB), which apt-get fetches from
+where apt's own configuration says; nothing is installed, and the system's own lists of packages
+stay as they are. FOLDER, outside the repository, keeps it for the next time (a temporary one).
+Where it can't be fetched, the rest is measured. The program on Scudo is refused unless its pointers
+have tags and a read of a freed chunk ends it.
 
 Needed (Debian): clang, lld, gcc-aarch64-linux-gnu, qemu-user, libc6-dev, tar, xz-utils.
 """
@@ -23,21 +25,27 @@ import subprocess
 import tempfile
 
 import scudo
-from commands import SLICE, leave, need_hosts, need_outside, need_tools, run_tool, user_time, version
+from commands import (
+    SLICE, Command, leave, need_hosts, need_outside, need_tools, run_tool, user_time, version,
+)
 
 HERE = pathlib.Path(__file__).resolve().parent
 TENANTS = HERE.parents[1] / "examples" / "c"
 TOOLS = {**scudo.TOOLS, "ld.lld": "lld"}
-TENANT = [*scudo.AARCH64, "-fuse-ld=lld", "-ffreestanding", "-nostdlib", "-static", "-mgeneral-regs-only"]
-# A call of the heap is HEAP(name): an own name for each heap, so that a compiler knows none of them.
+TENANT = [*scudo.AARCH64, "-fuse-ld=lld", "-ffreestanding", "-nostdlib", "-static",
+          "-mgeneral-regs-only"]
+# A call of the heap is HEAP(name): an own name for each heap, so that a compiler knows none of
+# them.
 CALLS = {
     "malloc(24), free": "p = HEAP(malloc)(24);",
     "malloc(1024), free": "p = HEAP(malloc)(1024);",
     "calloc(3, 8), free": "p = HEAP(calloc)(3, 8);",
-    "malloc(24), realloc(200), free": "p = HEAP(malloc)(24); first = (uintptr_t)p; p = HEAP(realloc)(p, 200);",
+    "malloc(24), realloc(200), free":
+        "p = HEAP(malloc)(24); first = (uintptr_t)p; p = HEAP(realloc)(p, 200);",
 }
-# `q` lies behind the chunk that each round takes first, so that a reallocation moves in every heap; status 3 says
-# that it did not. The empty assembly keeps the calls: it may read and write p and what it points to.
+# `q` lies behind the chunk that each round takes first, so that a reallocation moves in every heap;
+# status 3 says that it did not. The empty assembly keeps the calls: it may read and write p and
+# what it points to.
 LOOP = """
 int main(void)
 {
@@ -58,11 +66,17 @@ PREAMBLES = {
     "libc": "#include <stdint.h>\n#include <stdlib.h>\n#define HEAP(name) name\n",
 }
 # Rounds of a short and of a long run.
-ROUNDS = {"tenant": (100_000, 5_000_000), "scudo": (100_000, 3_000_000), "libc": (1_000_000, 30_000_000)}
+ROUNDS = {"tenant": (100_000, 5_000_000), "scudo": (100_000, 3_000_000),
+          "libc": (1_000_000, 30_000_000)}
+
+Paths = list[pathlib.Path]
+Subject = tuple[str, str]  # a kind, and a name: of a tenant its host
+Run = tuple[Subject, int]  # with the number of rounds
 
 
-def build_program(kind, text, rounds, objects, out):
-    """A program over the heap of a kind: a tenant, a Linux program on Scudo's objects, one of this machine."""
+def build_program(kind: str, text: str, rounds: int, objects: Paths, out: pathlib.Path) -> None:
+    """A program over the heap of a kind: a tenant, a Linux program on Scudo's objects, one of this
+    machine."""
     source, flags = out.with_suffix(".c"), ["-fno-builtin", f"-DROUNDS={rounds}UL"]
     source.write_text(PREAMBLES[kind] + text)
     if kind == "tenant":
@@ -75,8 +89,10 @@ def build_program(kind, text, rounds, objects, out):
         run_tool(["clang", "-O2", *flags, "-o", out, source])
 
 
-def run_command(kind, name, program, rounds, work):
+def run_command(subject: Subject, program: pathlib.Path, rounds: int,
+                work: pathlib.Path) -> Command:
     """The command that runs a program of a kind, a tenant in the host of that name."""
+    kind, name = subject
     if kind == "libc":
         return [program]
     if kind == "scudo":
@@ -87,51 +103,56 @@ def run_command(kind, name, program, rounds, work):
     return [name, "--frames", "601", session, program]
 
 
-def check_run(kind, command):
+def check_run(kind: str, command: Command) -> None:
     """Ends unless the program comes to its end with status 0."""
     ran = subprocess.run(command, stdout=subprocess.PIPE, text=True)
     if ran.returncode or kind == "tenant" and "\nstatus exit 0\n" not in ran.stdout:
         leave(f"{' '.join(map(str, command))}: status {ran.returncode}\n{ran.stdout}")
 
 
-def prepare(text, subjects, objects, work):
-    """The command of each subject, which is a kind and a name (of a tenant its host), and number of rounds."""
-    for kind in {kind for kind, _ in subjects}:
-        for rounds in ROUNDS[kind]:
-            build_program(kind, text, rounds, objects, work / f"{kind}.{rounds}")
-    commands = {}
-    for kind, name in subjects:
-        for rounds in ROUNDS[kind]:
-            commands[kind, name, rounds] = run_command(kind, name, work / f"{kind}.{rounds}", rounds, work)
-            check_run(kind, commands[kind, name, rounds])
+def prepare(text: str, subjects: list[Subject], objects: Paths,
+            work: pathlib.Path) -> dict[Run, Command]:
+    """The command of each subject and number of rounds."""
+    for kind, rounds in {(kind, rounds) for kind, _ in subjects for rounds in ROUNDS[kind]}:
+        build_program(kind, text, rounds, objects, work / f"{kind}.{rounds}")
+    commands: dict[Run, Command] = {}
+    for subject, rounds in [(it, rounds) for it in subjects for rounds in ROUNDS[it[0]]]:
+        command = run_command(subject, work / f"{subject[0]}.{rounds}", rounds, work)
+        check_run(subject[0], command)
+        commands[subject, rounds] = command
     return commands
 
 
-def measure(commands, subjects, turns):
+def measure(commands: dict[Run, Command], subjects: list[Subject],
+            turns: int) -> dict[Subject, float]:
     """Nanoseconds a round of each subject."""
     best = dict.fromkeys(commands, float("inf"))
     for _ in range(turns):
         for run, command in commands.items():
             best[run] = min(user_time(command, 1)[0], best[run])
     figures = {}
-    for kind, name in subjects:
-        few, many = ROUNDS[kind]
-        figures[kind, name] = (best[kind, name, many] - best[kind, name, few]) / (many - few)
+    for subject in subjects:
+        few, many = ROUNDS[subject[0]]
+        figures[subject] = (best[subject, many] - best[subject, few]) / (many - few)
     return figures
 
 
-def show(call, figures):
-    """A line of a call's figures, and one for each host of what it takes as a multiple of each other heap."""
-    print(f"{call:32}" + "  ".join(f"{name}: {each:.1f} ns" for (_, name), each in figures.items()), flush=True)
+def show(call: str, figures: dict[Subject, float]) -> None:
+    """A line of a call's figures, and one for each host of what it takes as a multiple of each
+    other heap."""
+    figures_of_all = (f"{name}: {each:.1f} ns" for (_, name), each in figures.items())
+    print(f"{call:32}" + "  ".join(figures_of_all), flush=True)
     others = {name: each for (kind, name), each in figures.items() if kind != "tenant"}
     for (kind, host), each in figures.items():
         if kind == "tenant":
-            multiples = (f"{host} / {name}: {each / other:.2f}" for name, other in others.items())
+            multiples = (f"{host} / {name}: {each / other:.2f}"
+                         for name, other in others.items())
             print(" " * 32 + "  ".join(multiples), flush=True)
 
 
-def arguments():
-    parser = argparse.ArgumentParser(description=__doc__, formatter_class=argparse.RawDescriptionHelpFormatter)
+def arguments() -> argparse.Namespace:
+    parser = argparse.ArgumentParser(description=__doc__,
+                                     formatter_class=argparse.RawDescriptionHelpFormatter)
     parser.add_argument("--turns", type=int, default=5)
     parser.add_argument("--work", metavar="FOLDER", type=pathlib.Path)
     parser.add_argument("hosts", metavar="HOST", nargs="+")
@@ -143,12 +164,12 @@ def arguments():
     return options
 
 
-def main():
+def main() -> None:
     options = arguments()
     for name in ("SCUDO_OPTIONS", "GLIBC_TUNABLES", "LD_PRELOAD"):
         os.environ.pop(name, None)
     subjects = [("tenant", host) for host in options.hosts]
-    objects = []
+    objects: Paths = []
     with tempfile.TemporaryDirectory() as name:
         work = pathlib.Path(name)
         folder = (options.work or work / "source").resolve()

@@ -3,7 +3,8 @@ static u32 ror(u32 x, int n) { return x >> n | x << (32 - n); }
 void sha256(u32 h[8], const u32 k[64], const u8 block[64]) {
     u32 w[64];
     for (int i = 0; i < 16; i++)
-        w[i] = (u32)block[4 * i] << 24 | (u32)block[4 * i + 1] << 16 | (u32)block[4 * i + 2] << 8 | block[4 * i + 3];
+        w[i] = (u32)block[4 * i] << 24 | (u32)block[4 * i + 1] << 16
+             | (u32)block[4 * i + 2] << 8 | block[4 * i + 3];
     for (int i = 16; i < 64; i++)
         w[i] = w[i - 16] + (ror(w[i - 15], 7) ^ ror(w[i - 15], 18) ^ w[i - 15] >> 3) + w[i - 7]
              + (ror(w[i - 2], 17) ^ ror(w[i - 2], 19) ^ w[i - 2] >> 10);
@@ -45,7 +46,9 @@ int insert(struct node **root, struct node *new) {
         if ((*root)->key == new->key) return -1;
         root = new->key < (*root)->key ? &(*root)->left : &(*root)->right;
     }
-    new->left = new->right = 0; new->height = 1; new->color = (u32)(new->key * 0x9E3779B97F4A7C15ul >> 40);
+    new->left = new->right = 0;
+    new->height = 1;
+    new->color = (u32)(new->key * 0x9E3779B97F4A7C15ul >> 40);
     *root = new;
     return new->height + (int)new->color;
 }
@@ -83,7 +86,10 @@ int run(const u8 *code, u64 n, long *stack, long limit) {
     return 0;
 }
 void _start(void) {
-    static u8 text[4096]; static long v[64], stack[32]; static u32 h[8], k[64]; static struct node nodes[4], *root;
+    static u8 text[4096];
+    static long v[64], stack[32];
+    static u32 h[8], k[64];
+    static struct node nodes[4], *root;
     sha256(h, k, text); heap_sort(v, 64);
     for (int i = 0; i < 4; i++) { nodes[i].key = h[i]; insert(&root, nodes + i); }
     u64 n = decimal(text, crc(text, 64) + (u64)(find(root, 3) != 0));

@@ -1,30 +1,35 @@
-"""Real programs, for `--real`: zlib, lz4, Lua, expat and bzip2 of Debian's source packages (their archives as they
-are, without Debian's changes), each with a driver of some 100 million steps (real/): zlib, lz4 and bzip2 pack and
-expand words, Lua runs real/program.lua, expat parses a document.
+"""Real programs, for `--real`: zlib, lz4, Lua, expat and bzip2 of Debian's source packages (their
+archives as they are, without Debian's changes), each with a driver of some 100 million steps
+(real/): zlib, lz4 and bzip2 pack and expand words, Lua runs real/program.lua, expat parses a
+document.
 
-A program's first lines have each HOST's instructions a step under callgrind, of a short run less an admission alone.
-Then its whole runs: zlib, lz4, bzip2 and expat once over bytes in chunks of size classes, and once over larger ones,
-whose pages Scudo leaves without tags for the most part. Each runs in turns, N times (5), as a tenant of each HOST, as
-the same program of AArch64 Linux under `qemu-aarch64`, and with `--scudo` as one on LLVM's Scudo with memory tagging,
-synchronous checks (`-cpu max`). A figure is the best user time of the whole run less the best of a start, a run over
-next to nothing: a program on Scudo starts for a tenth of a second. Each run writes a sum of what it made, which has to
-be that of the same program on this machine. `--ir` has the instructions alone.
+A program's first lines have each HOST's instructions a step under callgrind, of a short run less an
+admission alone. Then its whole runs: zlib, lz4, bzip2 and expat once over bytes in chunks of size
+classes, and once over larger ones, whose pages Scudo leaves without tags for the most part. Each
+runs in turns, N times (5), as a tenant of each HOST, as the same program of AArch64 Linux under
+`qemu-aarch64`, and with `--scudo` as one on LLVM's Scudo with memory tagging, synchronous checks
+(`-cpu max`). A figure is the best user time of the whole run less the best of a start, a run over
+next to nothing: a program on Scudo starts for a tenth of a second. Each run writes a sum of what it
+made, which has to be that of the same program on this machine. `--ir` has the instructions alone.
 
-One compiler builds all, with -O2. A tenant has no registers of floating point and SIMD (-mgeneral-regs-only); its C
-library is real/strings.c and real/tenant_libc.c, and Lua's numbers with a fraction are computed by compiler-rt and
-real/tenant_math.c (gcc refuses them, so with it there is no Lua). The Linux programs have all registers and Debian's
-glibc.
+One compiler builds all, with -O2. A tenant has no registers of floating point and SIMD
+(-mgeneral-regs-only); its C library is real/strings.c and real/tenant_libc.c, and Lua's numbers
+with a fraction are computed by compiler-rt and real/tenant_math.c (gcc refuses them, so with it
+there is no Lua). The Linux programs have all registers and Debian's glibc.
 
-Sources come by apt-get from where apt's own configuration says, and stay in FOLDER, outside the repository, for the
-next time (a temporary folder): 12 MB, and for Lua and `--scudo` llvm-toolchain-14 of 130 MB. Fetched in half a minute,
-all programs with `--scudo` and one HOST take five minutes, with `--ir` two.
+Sources come by apt-get from where apt's own configuration says, and stay in FOLDER, outside the
+repository, for the next time (a temporary folder): 12 MB, and for Lua and `--scudo`
+llvm-toolchain-14 of 130 MB. Fetched in half a minute, all programs with `--scudo` and one HOST take
+five minutes, with `--ir` two.
 """
 import pathlib
-import subprocess
 import sys
+from argparse import Namespace
+from pathlib import Path
+from typing import Optional
 
 import scudo
-from commands import SLICE, instructions, leave, need_tools, run_tool, user_time, version
+from commands import SLICE, Command, instructions, leave, need_tools, run_tool, user_time, version
 
 HERE = pathlib.Path(__file__).resolve().parent
 REAL = HERE / "real"
@@ -41,76 +46,90 @@ TENANT = ["-mgeneral-regs-only", "-ffunction-sections", "-D__NO_CTYPE"]
 LIBRARY = ["-ffreestanding", "-fno-builtin"]
 HEAP = [f"-D{name}=scudo_{name}" for name in ("malloc", "calloc", "realloc", "free")]
 PAGES, SLICES = 2000, 200
+
+Run = tuple[int, int]  # rounds, and bytes
+Best = dict[tuple[str, Path], float]  # seconds, by who runs and over what
+
 # Rounds and bytes of the run that is taken off.
 START = 1, 1000
 
 
 class Program:
-    """A library's package, its folder and files in it, flags, and rounds and bytes of a short run and of whole ones."""
+    """A library's package, its folder and files in it, flags, and rounds and bytes of a short run
+    and of whole ones."""
 
-    def __init__(self, package, folder, files, flags, short, *whole):
-        self.package, self.folder, self.files, self.flags = package, folder, files.split(), flags
+    def __init__(self, package: str, folder: str, files: str, flags: list[str],
+                 short: Run, *whole: Run) -> None:
+        self.package, self.folder = package, folder
+        self.files, self.flags = files.split(), flags
         self.short, self.whole = short, whole
 
 
 LUA = (
-    "lapi lauxlib lbaselib lcode lcorolib lctype ldebug ldo ldump lfunc lgc llex lmem lobject lopcodes lparser lstate "
-    "lstring lstrlib ltable ltablib ltm lundump lvm lzio"
+    "lapi lauxlib lbaselib lcode lcorolib lctype ldebug ldo ldump lfunc lgc llex lmem lobject "
+    "lopcodes lparser lstate lstring lstrlib ltable ltablib ltm lundump lvm lzio"
 )
 # A tenant's arithmetic of numbers with a fraction, of compiler-rt.
 FRACTIONS = (
-    "adddf3 subdf3 muldf3 divdf3 comparedf2 extendsfdf2 truncdfsf2 fixdfdi fixdfsi fixunsdfdi fixunsdfsi floatdidf "
-    "floatsidf floatundidf floatunsidf fp_mode"
+    "adddf3 subdf3 muldf3 divdf3 comparedf2 extendsfdf2 truncdfsf2 fixdfdi fixdfsi fixunsdfdi "
+    "fixunsdfsi floatdidf floatsidf floatundidf floatunsidf fp_mode"
 )
 # In Lua no order of keys depends on an address or a clock.
-LUA_FLAGS = ["-Dluai_makeseed(state)=1u", "-Dl_randomizePivot()=0u", "-Dlua_getlocaledecpoint()='.'"]
-# The first of two whole runs has its bytes in chunks of size classes, the second in larger ones; lz4's hash table is
-# one too, since a tenant's stack has no room for it.
+LUA_FLAGS = ["-Dluai_makeseed(state)=1u", "-Dl_randomizePivot()=0u",
+             "-Dlua_getlocaledecpoint()='.'"]
+# The first of two whole runs has its bytes in chunks of size classes, the second in larger ones;
+# lz4's hash table is one too, since a tenant's stack has no room for it.
 PROGRAMS = {
     "zlib": Program(
         "zlib", "", "adler32 crc32 deflate inffast inflate inftrees trees zutil", ["-DZ_SOLO"],
         (1, 60_000), (7, 60_000), (1, 400_000),
     ),
-    "lz4": Program("lz4", "lib", "lz4", ["-DLZ4_HEAPMODE=1"], (15, 60_000), (146, 60_000), (8, 1_000_000)),
+    "lz4": Program(
+        "lz4", "lib", "lz4", ["-DLZ4_HEAPMODE=1"], (15, 60_000), (146, 60_000), (8, 1_000_000),
+    ),
     "lua": Program("lua5.4", "src", LUA, LUA_FLAGS, (3, 0), (17, 0)),
     "expat": Program(
-        "expat", "expat/lib", "xmlparse xmlrole xmltok", [], (6, 40_000), (45, 40_000), (2, 1_000_000)
+        "expat", "expat/lib", "xmlparse xmlrole xmltok", [], (6, 40_000), (45, 40_000),
+        (2, 1_000_000),
     ),
     "bzip2": Program(
-        "bzip2", "", "blocksort bzlib compress crctable decompress huffman randtable", ["-DBZ_NO_STDIO"],
-        (1, 30_000), (7, 30_000), (1, 230_000),
+        "bzip2", "", "blocksort bzlib compress crctable decompress huffman randtable",
+        ["-DBZ_NO_STDIO"], (1, 30_000), (7, 30_000), (1, 230_000),
     ),
 }
 
 
 class Builder:
-    """Builds a program's forms in a folder, by a compiler; `libraries` is compiler-rt's, if it is there."""
+    """Builds a program's forms in a folder, by a compiler; `libraries` is compiler-rt's, if it is
+    there."""
 
-    def __init__(self, compiler, libraries, sources, work):
+    def __init__(self, compiler: str, libraries: Optional[Path], sources: dict[str, Path],
+                 work: Path) -> None:
         self.compiler, self.libraries, self.work = COMPILERS[compiler], libraries, work
         self.folder = sources
 
-    def compile(self, command, files, kind):
+    def compile(self, command: list[str], files: list[Path], kind: str) -> list[Path]:
         """The objects of these files."""
-        objects = []
+        objects: list[Path] = []
         for file in files:
             objects.append(self.work / f"{file.stem}.{kind}.o")
             run_tool([*command, *COMMON, "-c", "-o", objects[-1], file])
         return objects
 
-    def parts(self, name):
+    def parts(self, name: str) -> tuple[list[Path], list[str]]:
         """The files of a program and the flags that they need."""
         program = PROGRAMS[name]
         folder = self.folder[name] / program.folder
         files = [folder / f"{file}.c" for file in program.files] + [REAL / f"{name}_run.c"]
         return files, [*program.flags, f"-I{folder}", f"-I{REAL}"]
 
-    def tenant(self, name):
+    def tenant(self, name: str) -> Path:
         files, flags = self.parts(name)
         objects = self.compile([*self.compiler, *TENANT, *flags], files, "tenant")
         library = [REAL / "strings.c", REAL / "tenant_libc.c"]
         if name == "lua":
             library += [REAL / "tenant_math.c"]
+            assert self.libraries, "without compiler-rt Lua is left out"
             builtins = [self.libraries / "builtins" / f"{file}.c" for file in FRACTIONS.split()]
             objects += self.compile([*self.compiler, *TENANT], builtins, "tenant")
         objects += self.compile([*self.compiler, *TENANT, *LIBRARY], library, "tenant")
@@ -118,27 +137,27 @@ class Builder:
         run_tool(["ld.lld", "-static", "--gc-sections", "-o", image, *objects])
         return image
 
-    def linux(self, name):
+    def linux(self, name: str) -> Path:
         files, flags = self.parts(name)
         program = self.work / f"{name}.linux"
         scudo.link(self.compile([*self.compiler, *flags], files, "linux"), program)
         return program
 
-    def on_scudo(self, name, heap):
+    def on_scudo(self, name: str, heap: list[Path]) -> Path:
         files, flags = self.parts(name)
         objects = self.compile([*self.compiler, *flags, *HEAP], files, "scudo")
         program = self.work / f"{name}.scudo"
         scudo.link([*objects, *heap], program)
         return program
 
-    def native(self, name):
+    def native(self, name: str) -> Path:
         files, flags = self.parts(name)
         program = self.work / f"{name}.native"
         run_tool(["clang", *COMMON, *flags, "-o", program, *files, "-lm"])
         return program
 
 
-def make_input(work, name, run):
+def make_input(work: Path, name: str, run: Run) -> Path:
     """The input of a run: how many rounds, over how many bytes, and Lua's program."""
     text = (REAL / "program.lua").read_text() if name == "lua" else ""
     path = work / "{}.{}.{}".format(name, *run)
@@ -146,38 +165,44 @@ def make_input(work, name, run):
     return path
 
 
-def session(host, work, image, data, slices=SLICES):
+def session(host: str, work: Path, image: Path, data: Path, slices: int = SLICES) -> Command:
     path = work / f"real.{slices}"
     admit = f"admit 1 image 1 input 2 seed 0000000000000001 frames {PAGES} out 64\n"
     path.write_text(admit + f"slice 1 {SLICE}\n" * slices)
     return [host, "--frames", str(2 * PAGES + 1), path, image, data]
 
 
-def read_report(text):
+def read_report(text: str) -> tuple[int, str]:
     """Steps and output of a tenant that came to its end with status 0."""
-    said = dict(line.split(" ", 1) for line in text.splitlines() if " " in line and not line.startswith("call "))
+    said = dict(line.split(" ", 1) for line in text.splitlines()
+                if " " in line and not line.startswith("call "))
     if said.get("status") != "exit 0":
         leave(f"a tenant did not come to its end:\n{text}")
     return int(said["steps"]), bytes.fromhex(said["output"].split(" ", 1)[1]).decode()
 
 
-def count(host, work, image, name):
+def count(host: str, work: Path, image: Path, name: str) -> float:
     """Instructions of the host for a step of a short run."""
     data = make_input(work, name, PROGRAMS[name].short)
     command = session(host, work, image, data)
     steps, _ = read_report(user_time(command, 1)[1])
-    return (instructions(command) - instructions(session(host, work, image, data, 0))) / steps
+    alone = session(host, work, image, data, 0)
+    return (instructions(command) - instructions(alone)) / steps
 
 
 class Runs:
-    """The ways to run one program: as a tenant of each host, and as Linux programs by other commands."""
+    """The ways to run one program: as a tenant of each host, and as Linux programs by other
+    commands."""
 
-    def __init__(self, work, image, hosts, others, native):
-        self.work, self.image, self.hosts, self.others, self.native = work, image, hosts, others, native
+    def __init__(self, work: Path, image: Path, hosts: list[str], others: dict[str, Command],
+                 native: Path) -> None:
+        self.work, self.image, self.native = work, image, native
+        self.hosts, self.others = hosts, others
 
-    def run(self, who, data, wanted):
-        """Seconds of user time, and steps where it is a tenant; ends where another sum is written than is wanted."""
-        steps = None
+    def run(self, who: str, data: Path, wanted: str) -> tuple[float, int]:
+        """Seconds of user time, and steps where it is a tenant; ends where another sum is written
+        than is wanted."""
+        steps = 0
         if who in self.hosts:
             nanoseconds, report = user_time(session(who, self.work, self.image, data), 1)
             steps, wrote = read_report(report)
@@ -187,21 +212,23 @@ class Runs:
             leave(f"{who} writes {wrote!r}, and a program of this machine {wanted!r}")
         return nanoseconds / 1e9, steps
 
-    def best(self, whole, start, turns):
-        """Seconds of the best whole run and of the best start of each, and a tenant's steps between them."""
+    def best(self, whole: Path, start: Path, turns: int) -> tuple[Best, int]:
+        """Seconds of the best whole run and of the best start of each, and a tenant's steps between
+        them."""
         wanted = {data: user_time([self.native], 1, data)[1] for data in (whole, start)}
-        best, steps = {}, {}
-        for _ in range(turns):
-            for who in [*self.hosts, *self.others]:
-                for data in (whole, start):
-                    time, steps[who, data] = self.run(who, data, wanted[data])
-                    best[who, data] = min(time, best.get((who, data), time))
+        best: Best = {}
+        steps: dict[tuple[str, Path], int] = {}
+        each = [(who, data) for who in [*self.hosts, *self.others] for data in (whole, start)]
+        for who, data in each * turns:
+            time, steps[who, data] = self.run(who, data, wanted[data])
+            best[who, data] = min(time, best.get((who, data), time))
         host = self.hosts[0]
         return best, steps[host, whole] - steps[host, start]
 
 
-def show(hosts, others, best, whole, start, steps):
+def show(runs: Runs, best: Best, whole: Path, start: Path, steps: int) -> None:
     """A line for each host and each other way of one program and input."""
+    hosts, others = runs.hosts, runs.others
     spent = {who: best[who, whole] - best[who, start] for who in [*hosts, *others]}
     for who, time in spent.items():
         line = f"  {who}: {time:.3f} s after a start of {best[who, start]:.3f} s"
@@ -212,25 +239,28 @@ def show(hosts, others, best, whole, start, steps):
         print(line, flush=True)
 
 
-def measure_program(name, builder, heap, options, work):
+def measure_program(name: str, builder: Builder, heap: list[Path], options: Namespace,
+                    work: Path) -> None:
     image = builder.tenant(name)
     for host in options.hosts:
-        print(f"{name}: {count(host, work, image, name):.2f} instructions a step, {host}", flush=True)
+        found = count(host, work, image, name)
+        print(f"{name}: {found:.2f} instructions a step, {host}", flush=True)
     if options.ir:
         return
-    others = {"QEMU": ["qemu-aarch64", builder.linux(name)]}
+    others: dict[str, Command] = {"QEMU": ["qemu-aarch64", builder.linux(name)]}
     if heap:
         others["Scudo"] = scudo.command(builder.on_scudo(name, heap))
     runs = Runs(work, image, options.hosts, others, builder.native(name))
     for run in PROGRAMS[name].whole:
-        whole, start = make_input(work, name, run), make_input(work, name, START if run[1] else (0, 0))
+        whole = make_input(work, name, run)
+        start = make_input(work, name, START if run[1] else (0, 0))
         best, steps = runs.best(whole, start, options.rounds)
         size = f" of {run[1]} bytes" if run[1] else ""
         print(f"{name}: {run[0]} rounds{size}, {steps / 1e6:.1f} million steps")
-        show(options.hosts, others, best, whole, start, steps)
+        show(runs, best, whole, start, steps)
 
 
-def fetch_sources(names, folder):
+def fetch_sources(names: list[str], folder: Path) -> dict[str, Path]:
     """The folder of each program's source that is fetched."""
     found = {}
     for name in names:
@@ -241,13 +271,14 @@ def fetch_sources(names, folder):
     return found
 
 
-def measure(options, work):
+def measure(options: Namespace, work: Path) -> None:
     """The lines of all programs, or of one."""
     need_tools(TOOLS)
     folder = (options.work or work / "source").resolve()
     names = [options.only] if options.only else list(PROGRAMS)
     if options.compiler == "gcc" and "lua" in names:
-        print("measure.py: without lua: gcc refuses numbers with a fraction with -mgeneral-regs-only", file=sys.stderr)
+        print("measure.py: without lua: gcc refuses numbers with a fraction with "
+              "-mgeneral-regs-only", file=sys.stderr)
         names.remove("lua")
     libraries = scudo.fetch(folder) if options.scudo or "lua" in names else None
     if libraries is None and "lua" in names:
@@ -256,5 +287,6 @@ def measure(options, work):
     heap = scudo.build(libraries, work) if options.scudo and libraries else []
     sources = fetch_sources(names, folder)
     print(f"{version(COMPILERS[options.compiler][0])}; {version('qemu-aarch64')}", flush=True)
+    builder = Builder(options.compiler, libraries, sources, work)
     for name in sources:
-        measure_program(name, Builder(options.compiler, libraries, sources, work), heap, options, work)
+        measure_program(name, builder, heap, options, work)

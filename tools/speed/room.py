@@ -5,123 +5,143 @@
 
 For each built mte_host, one line a figure:
 
-- peak: resident memory in MB (1000 KiB), of 400 tenants with a reservation of 4096 pages and of 3,333 with one of 5
-  pages and room for 65536 bytes that wrote two, each admitted, run to its end and stopped before the next;
-- admission: host instructions of an admission and its stop, by pages of the reservation, and of the one that comes
-  after 4,000 others;
+- peak: resident memory in MB (1000 KiB), of 400 tenants with a reservation of 4096 pages and of
+  3,333 with one of 5 pages and room for 65536 bytes that wrote two, each admitted, run to its end
+  and stopped before the next;
+- admission: host instructions of an admission and its stop, by pages of the reservation, and of the
+  one that comes after 4,000 others;
 - slice: those of a slice of one step, by the number of live, running tenants that have it in turns;
-- loads: those of a round of two loads from two pages, of different hashes in the lookaside buffer or of one, with few
-  or with 64 other translations;
+- loads: those of a round of two loads from two pages, of different hashes in the lookaside buffer
+  or of one, with few or with 64 other translations;
 - refusals: how often a session with 10 and with 10,000 refused events allocates.
 
-A figure in instructions is the difference of two sessions under callgrind, with the reading of the script's lines in
-it. Needed: valgrind, and GNU time.
+A figure in instructions is the difference of two sessions under callgrind, with the reading of the
+script's lines in it. Needed: valgrind, and GNU time.
 """
 import argparse
 import pathlib
-import re
 import subprocess
 import sys
 import tempfile
+from collections.abc import Callable, Iterator
+from typing import Union
+
+from commands import number_in
 
 HERE = pathlib.Path(__file__).resolve().parent
 sys.path.insert(0, str(HERE.parents[1] / "examples"))
 from build_image import image  # noqa: E402
+
+Word = Union[str, pathlib.Path]  # of a command
+Figures = Iterator[tuple[str, str]]  # each with its name
 
 HI = HERE.parents[1] / "examples" / "hi.elf"
 ROUNDS = 20_000
 STEPS_A_ROUND = 6
 BRANCH_TO_ITSELF = 0x14000000
 CODE, FIRST, OTHERS = 0x10000, 0x14000, 0x800000
-# Page numbers with the sums 20 and 20 + 3 + 1 of their digits to the base 256 and 1024: one hash, and two.
+# Page numbers with the sums 20 and 20 + 3 + 1 of their digits to the base 256 and 1024: one hash,
+# and two.
 SAME_HASH, OTHER_HASH = 0x413000, 0x415000
 
 
-def admit(number, pages, room=16):
-    return f"admit {number} image 1 input 0 seed 0000000000000001 frames {pages} out {room}\n"
+def admit(number: int, pages: int, room: int = 16) -> str:
+    terms = f"seed 0000000000000001 frames {pages} out {room}"
+    return f"admit {number} image 1 input 0 {terms}\n"
 
 
 class Sessions:
     """Runs sessions of a host in a folder of their own."""
 
-    def __init__(self, host, folder):
+    def __init__(self, host: str, folder: str) -> None:
         self.host, self.folder = host, pathlib.Path(folder)
 
-    def command(self, script, frames, image_file=HI):
+    def command(self, script: str, frames: int, image_file: pathlib.Path = HI) -> list[Word]:
         (self.folder / "script").write_text(script)
         return [self.host, "--frames", str(frames), self.folder / "script", image_file]
 
-    def run(self, command, may_refuse=False):
-        ran = subprocess.run(command, stdout=subprocess.PIPE, stderr=subprocess.PIPE, text=True, check=True)
+    def run(self, command: list[Word], may_refuse: bool = False,
+            ) -> subprocess.CompletedProcess[str]:
+        ran = subprocess.run(command, capture_output=True, text=True, check=True)
         if "refused" in ran.stdout and not may_refuse:
             sys.exit(f"an event was refused: {ran.stdout[:200]}")
         return ran
 
-    def instructions(self, *session):
-        tool = ["valgrind", "--tool=callgrind", "--callgrind-out-file=/dev/null"]
-        return int(re.search(r"Collected : (\d+)", self.run([*tool, *self.command(*session)]).stderr)[1])
+    def instructions(self, script: str, frames: int, image_file: pathlib.Path = HI) -> int:
+        tool: list[Word] = ["valgrind", "--tool=callgrind", "--callgrind-out-file=/dev/null"]
+        ran = self.run([*tool, *self.command(script, frames, image_file)])
+        return number_in(r"Collected : (\d+)", ran.stderr)
 
-    def allocations(self, *session):
-        said = self.run(["valgrind", *self.command(*session)], may_refuse=True).stderr
-        return int(re.search(r"total heap usage: ([\d,]+) allocs", said)[1].replace(",", ""))
+    def allocations(self, script: str, frames: int) -> int:
+        ran = self.run(["valgrind", *self.command(script, frames)], may_refuse=True)
+        return number_in(r"total heap usage: ([\d,]+) allocs", ran.stderr)
 
-    def peak(self, *session):
-        """The most resident memory, in KiB. (What wait4 tells of a child would count this program's own as well.)"""
-        ran = self.run(["/usr/bin/time", "--format=peak %M", *self.command(*session)])
-        return int(re.search(r"^peak (\d+)$", ran.stderr, re.M)[1])
+    def peak(self, script: str, frames: int) -> int:
+        """The most resident memory, in KiB. (What wait4 tells of a child would count this program's
+        own as well.)"""
+        ran = self.run(["/usr/bin/time", "--format=peak %M", *self.command(script, frames)])
+        return number_in(r"^peak (\d+)$", ran.stderr)
 
 
-
-def one_after_the_other(tenants, pages, room=16):
+def one_after_the_other(tenants: int, pages: int, room: int = 16) -> str:
     """A script in which each tenant is stopped before the next is admitted."""
-    return "".join(admit(i, pages, room) + f"slice {i} 1000\nstop {i}\n" for i in range(1, tenants + 1))
+    return "".join(admit(i, pages, room) + f"slice {i} 1000\nstop {i}\n"
+                   for i in range(1, tenants + 1))
 
 
-def admissions(first, last, pages):
+def admissions(first: int, last: int, pages: int) -> str:
     return "".join(admit(i, pages) + f"stop {i}\n" for i in range(first, last + 1))
 
 
-def peaks(sessions):
-    yield "400 of 4096 pages", f"{sessions.peak(one_after_the_other(400, 4096), 8193) / 1000:.1f} MB"
-    yield "3333 of room 65536", f"{sessions.peak(one_after_the_other(3333, 5, 65536), 11) / 1000:.1f} MB"
+def peaks(sessions: Sessions) -> Figures:
+    peak = sessions.peak(one_after_the_other(400, 4096), 8193)
+    yield "400 of 4096 pages", f"{peak / 1000:.1f} MB"
+    peak = sessions.peak(one_after_the_other(3333, 5, 65536), 11)
+    yield "3333 of room 65536", f"{peak / 1000:.1f} MB"
 
 
-def admission_costs(sessions):
+def admission_costs(sessions: Sessions) -> Figures:
     for pages in (5, 2000, 4096):
-        costs = [sessions.instructions(admissions(1, tenants, pages), 2 * pages + 1) for tenants in (20, 60)]
+        costs = [sessions.instructions(admissions(1, tenants, pages), 2 * pages + 1)
+                 for tenants in (20, 60)]
         yield f"{pages} pages", f"{(costs[1] - costs[0]) / 40:.0f} instructions"
     for before in (0, 4000):
-        costs = [sessions.instructions(admissions(1, before + more, 5), 11) for more in (10, 60)]
+        costs = [sessions.instructions(admissions(1, before + more, 5), 11)
+                 for more in (10, 60)]
         yield f"after {before} others", f"{(costs[1] - costs[0]) / 50:.0f} instructions"
 
 
-def slice_costs(sessions):
+def slice_costs(sessions: Sessions) -> Figures:
     path = sessions.folder / "loop"
     path.write_bytes(image([BRANCH_TO_ITSELF]))
     for live in (1, 64, 255):
         # Numbers of three digits, so that all lines of the script are equally long.
         start = "".join(admit(100 + i, 6) for i in range(live))
-        turns = ["".join(f"slice {100 + i % live} 1\n" for i in range(slices)) for slices in (1020, 3060)]
+        turns = ["".join(f"slice {100 + i % live} 1\n" for i in range(slices))
+                 for slices in (1020, 3060)]
         costs = [sessions.instructions(start + slices, 13 * live, path) for slices in turns]
         yield f"{live} live in turns", f"{(costs[1] - costs[0]) / 2040:.0f} instructions"
 
 
-def constant(register, value):
-    return [0xD2800000 | (value & 0xFFFF) << 5 | register, 0xF2A00000 | (value >> 16) << 5 | register]
+def constant(register: int, value: int) -> list[int]:
+    return [0xD2800000 | (value & 0xFFFF) << 5 | register,
+            0xF2A00000 | (value >> 16) << 5 | register]
 
 
-def two_loads(other, touched):
+def two_loads(other: int, touched: int) -> bytes:
     """Loads from FIRST and from `other` for ever, after one from each of `touched` other pages."""
-    words = constant(0, FIRST) + constant(1, other) + constant(7, OTHERS) + [0xD2800000 | 64 << 5 | 8]
+    words = constant(0, FIRST) + constant(1, other) + constant(7, OTHERS)
+    words += [0xD2800000 | 64 << 5 | 8]
     if touched:
         # ldr x9, [x7]; add x7, x7, #4096; sub x8, x8, #1; cbnz x8, back
         words += [0xF94000E9, 0x914004E7, 0xD1000508, 0xB5000000 | (-3 & 0x7FFFF) << 5 | 8]
     # ldr x2, [x0]; ldr x3, [x1]; add x4, x4, x2; add x5, x5, x3; sub x6, x6, #1; b back
-    words += [0xF9400002, 0xF9400023, 0x8B020084, 0x8B0300A5, 0xD10004C6, 0x14000000 | (-5 & 0x3FFFFFF)]
+    words += [0xF9400002, 0xF9400023, 0x8B020084, 0x8B0300A5, 0xD10004C6,
+              0x14000000 | (-5 & 0x3FFFFFF)]
     return image(words, [(FIRST, 4096), (other, 4096), (OTHERS, 64 * 4096)])
 
 
-def load_costs(sessions):
+def load_costs(sessions: Sessions) -> Figures:
     path = sessions.folder / "loads"
     for name, other, touched in (
         ("different hashes", OTHER_HASH, 0), ("one hash", SAME_HASH, 0),
@@ -129,33 +149,42 @@ def load_costs(sessions):
     ):
         path.write_bytes(two_loads(other, touched))
         slice_of = f"slice 1 {STEPS_A_ROUND * ROUNDS}\n"
-        costs = [sessions.instructions(admit(1, 200) + slice_of * slices, 401, path) for slices in (1, 3)]
+        costs = [sessions.instructions(admit(1, 200) + slice_of * slices, 401, path)
+                 for slices in (1, 3)]
         yield name, f"{(costs[1] - costs[0]) / (2 * ROUNDS):.0f} instructions"
 
 
-def refusal_counts(sessions):
+def refusal_counts(sessions: Sessions) -> Figures:
     kinds = {"slices": "slice 7 1\n", "stops": "stop 7\n", "admissions": admit(1, 5)}
     for kind, line in kinds.items():
-        counts = [sessions.allocations(admit(1, 5) + line * events, 11) for events in (10, 9999)]
+        counts = [sessions.allocations(admit(1, 5) + line * events, 11)
+                  for events in (10, 9999)]
         yield kind, f"{counts[0]} allocations with 10, {counts[1]} with 9999"
 
 
-FIGURES = {
-    "peak": peaks, "admission": admission_costs, "slice": slice_costs, "loads": load_costs, "refusals": refusal_counts,
+FIGURES: dict[str, Callable[[Sessions], Figures]] = {
+    "peak": peaks, "admission": admission_costs, "slice": slice_costs, "loads": load_costs,
+    "refusals": refusal_counts,
 }
 
 
-def main():
-    parser = argparse.ArgumentParser(description=__doc__, formatter_class=argparse.RawDescriptionHelpFormatter)
+def show(host: str, kind: str, folder: str) -> None:
+    """Prints the figures of a kind, one a line."""
+    for name, figure in FIGURES[kind](Sessions(host, folder)):
+        print(f"{host}: {kind}, {name}: {figure}", flush=True)
+
+
+def main() -> None:
+    parser = argparse.ArgumentParser(description=__doc__,
+                                     formatter_class=argparse.RawDescriptionHelpFormatter)
     parser.add_argument("--only", choices=FIGURES)
     parser.add_argument("hosts", metavar="HOST", nargs="+")
     options = parser.parse_args()
-    for host in options.hosts:
-        with tempfile.TemporaryDirectory() as folder:
-            for kind, figures in FIGURES.items():
-                if options.only in (None, kind):
-                    for name, figure in figures(Sessions(host, folder)):
-                        print(f"{host}: {kind}, {name}: {figure}", flush=True)
+    kinds = [options.only] if options.only else list(FIGURES)
+    with tempfile.TemporaryDirectory() as folder:
+        for host in options.hosts:
+            for kind in kinds:
+                show(host, kind, folder)
 
 
 if __name__ == "__main__":

@@ -1,6 +1,7 @@
 #!/usr/bin/env bash
-# Runs the session of hi.script with the image hi.elf many times (200, or as the first argument says), each in
-# a process of its own, and prints the mean wall time of one from start to end, in milliseconds.
+# Runs the session of hi.script with the image hi.elf many times (200, or as the first argument
+# says), each in a process of its own, and prints the mean wall time of one from start to end, in
+# milliseconds.
 set -euo pipefail
 here=$(cd "$(dirname "$0")" && pwd)
 crate="$here/../../crates/mte_host"
@@ -18,20 +19,26 @@ now() {
     echo "${EPOCHREALTIME//[!0-9]/}"
 }
 
+words=(--frames 11 "$here/../../examples/hi.script" "$here/../../examples/hi.elf")
+
 session() {
-    "$host" --frames 11 "$here/../../examples/hi.script" "$here/../../examples/hi.elf"
+    "$host" "${words[@]}"
 }
 
 # Builds the program, which `rt run` leaves in out/, where there is none or a source is newer.
 needed() {
-    [[ ! -x $host ]] || [[ -n $(find "$here"/../../crates/*/src "$here/../../crates.txt" -newer "$host" -print -quit) ]]
+    [[ -x $host ]] || return 0
+    local newer
+    newer=$(find "$crate"/../*/src "$crate/../../crates.txt" -newer "$host" -print -quit)
+    [[ -n $newer ]]
 }
 
 if needed; then
-    (cd "$crate" && rt run -- --frames 11 "$here/../../examples/hi.script" "$here/../../examples/hi.elf") >&2
+    (cd "$crate" && rt run -- "${words[@]}") >&2
 fi
 
-# Once before the clock starts, so that the files are in memory, and to see that the session is a good one.
+# Once before the clock starts, so that the files are in memory, and to see that the session is a
+# good one.
 session >/dev/null
 
 begin=$(now)

@@ -1,7 +1,8 @@
 #!/usr/bin/env bash
-# Runs two loops as a tenant of the host, a hundred slices of 1048576 steps each, and prints the mean wall time of
-# a step in nanoseconds, the start and the end of the program counted in. `alu` is a loop of instructions between
-# registers; a quarter of `memory` are loads and a quarter stores, through tagged pointers into the stack pages.
+# Runs two loops as a tenant of the host, a hundred slices of 1048576 steps each, and prints the
+# mean wall time of a step in nanoseconds, the start and the end of the program counted in. `alu` is
+# a loop of instructions between registers; a quarter of `memory` are loads and a quarter stores,
+# through tagged pointers into the stack pages.
 set -euo pipefail
 here=$(cd "$(dirname "$0")" && pwd)
 crate="$here/../../crates/mte_host"
@@ -15,7 +16,8 @@ alu=(
     EB02012A 93CA254B 8A24016C 8B25498D CA0001A1 D1000463 9342FC6E 17FFFFF1
 )
 
-# The address of the stack pages with tag 5, two pages of tags 5, and then a loop of 16 instructions.
+# The address of the stack pages with tag 5, two pages of tags 5, and then a loop of 16
+# instructions.
 memory=(
     D2980000 F2A7FFE0 91801400 AA0003E2 D2802003 D9E02442 D1000463 B5FFFFC3 91400401 D2800003
     F9400002 8B020063 F9000403 CA020064 F9400825 CB0400A6 F9000C26 D345FCC7
@@ -38,11 +40,14 @@ now() {
 
 # Builds the program, which `rt run` leaves in out/, where there is none or a source is newer.
 needed() {
-    [[ ! -x $host ]] || [[ -n $(find "$here"/../../crates/*/src "$here/../../crates.txt" -newer "$host" -print -quit) ]]
+    [[ -x $host ]] || return 0
+    local newer
+    newer=$(find "$crate"/../*/src "$crate/../../crates.txt" -newer "$host" -print -quit)
+    [[ -n $newer ]]
 }
 
 if needed; then
-    (cd "$crate" && rt run -- --frames 11 "$here/../../examples/hi.script" "$here/../../examples/hi.elf") >&2
+    (cd "$crate" && rt run -- --help) >&2
 fi
 
 # Runs a loop, sees that it ran to the end, and prints its rate.

@@ -1,8 +1,10 @@
 //! The tenant that is debugged.
 
-ghost use Rattle.std.specs.Prelude.{◌≡◌, ◌<◌};
+ghost use Rattle.std.specs.Prelude.{◌≡◌, ◌<◌, ◌⊎◌, [], Some, true, false, IfOk, IfErr, IsErrOf};
+ghost use Rattle.obstacle.specs.Obstacles.{IfRefused};
 ghost use Rattle.scudo_heap.specs.Served.{HeapOwnsItsPages};
-ghost use Rattle.mte_tenant.specs.Machines.{machine_of, start_of};
+ghost use Rattle.mte_tenant.specs.Ledger.{admission_refusal, charge_of, is_bad};
+ghost use Rattle.mte_tenant.specs.Machines.{machine_of, start_of, after_slice, after_slice_end};
 ghost use Rattle.mte_tenant.specs.Admissions.{start_in};
 ghost use Rattle.debuggee.specs.Courses.{IsAt};
 
@@ -13,7 +15,9 @@ use a64_step::{Decoder, Regs};
 use elf_core::Region;
 use mte_flat::Flat;
 use mte_tags::TagMode;
-use mte_tenant::{Admission, AdmitError, TenantParts, admit_alone, attempt, settle, slice};
+use mte_tenant::{
+    Admission, AdmitError, TenantParts, admit_alone, attempt, is_bad_reservation, settle, slice,
+};
 use obstacle::Obstacle;
 use run_book::Book;
 use std::alloc::{AllocError, Global};
@@ -43,14 +47,30 @@ pub struct Debuggee<'a> {
 }
 
 impl<'a> Debuggee<'a> {
-    /// A tenant at its first instruction, or why it is refused.
+    ghost use Rattle.debuggee.specs.Debuggees.{admission_of, cuts_of, machine_in, steps_of};
+    ghost use Rattle.debuggee.specs.Debuggees.{after_one, can_attempt, can_begin, cut_of};
+
+    /// A tenant at its first instruction, or why it is refused. Only `OutOfMemory`, where an
+    /// allocation failed, can come in place of the refusals from `Image` on.
+    #[tactic(auto, unfolding(mte_tenant::specs::Ledger::admission_refusal))]
     pub fn new(
         alloc: Global,
         admission: &Admission<'a>,
         cuts: &Cuts<'a>,
     ) -> Result<Debuggee<'a>, Obstacle<AdmitError>>
-        requires { 0 < admission.now.terms.pages }
+        ensures admission { IfOk result (λ d. admission_of d ≡ admission.now) }
+        ensures cuts { IfOk result (λ d. cuts_of d ≡ cuts.now) }
+        ensures machine { IfOk result (λ d. machine_in d
+            ≡ start_of admission.now.id (start_in admission.now)) }
+        ensures refused { IfErr result (λ o. IfRefused o (λ e.
+            admission_refusal (charge_of admission.now.terms.pages) []
+            admission.now.id (start_in admission.now) ≡ Some e)) }
+        ensures memory { IsErrOf result Obstacle.OutOfMemory
+            → is_bad admission.now.terms ≡ false }
     {
+        if is_bad_reservation(admission) {
+            return Err(Obstacle::Refused(AdmitError::BadReservation));
+        }
         let words = OpCache::new(alloc)?;
         let mut memory = Flat::new(alloc, admission.terms.pages as usize, admission.terms.mode)?;
         let parts = admit_alone(alloc, admission, &mut memory)?;
@@ -69,7 +89,12 @@ impl<'a> Debuggee<'a> {
     }
 
     /// The same tenant at its first instruction.
-    pub fn anew(&self, alloc: Global) -> Result<Debuggee<'a>, AllocError> {
+    pub fn anew(&self, alloc: Global) -> Result<Debuggee<'a>, AllocError>
+        ensures admission { IfOk result (λ d. admission_of d ≡ admission_of self.now) }
+        ensures cuts { IfOk result (λ d. cuts_of d ≡ cuts_of self.now) }
+        ensures machine { IfOk result (λ d. machine_in d
+            ≡ start_of (admission_of self.now).id (start_in (admission_of self.now))) }
+    {
         match Debuggee::new(alloc, &self.admission, &self.cuts) {
             Ok(debuggee) => Ok(debuggee),
             Err(_) => Err(AllocError),
@@ -77,7 +102,9 @@ impl<'a> Debuggee<'a> {
     }
 
     /// After how many steps in all no more come.
-    pub fn limit(&self) -> u64 {
+    pub fn limit(&self) -> u64
+        ensures { result ≡ (cuts_of self.now).limit }
+    {
         self.cuts.limit
     }
 
@@ -92,7 +119,9 @@ impl<'a> Debuggee<'a> {
     }
 
     /// How many instructions it has attempted.
-    pub fn steps(&self) -> u64 {
+    pub fn steps(&self) -> u64
+        ensures { result ≡ steps_of self.now }
+    {
         self.parts.log.steps
     }
 
@@ -107,17 +136,29 @@ impl<'a> Debuggee<'a> {
     }
 
     /// What a tag that differs does.
-    pub fn mode(&self) -> TagMode {
+    pub fn mode(&self) -> TagMode
+        ensures { result ≡ (admission_of self.now).terms.mode }
+    {
         self.admission.terms.mode
     }
 
     /// Whether it is running, and has steps left.
-    pub fn can_go_on(&self) -> bool {
+    pub fn can_go_on(&self) -> bool
+        ensures { result ≡ can_attempt self.now }
+    {
         self.parts.is_running() && self.done < self.cut && self.slices < u64::MAX
     }
 
-    /// Attempts one instruction, and ends the slice where it is over. `false` if it cannot go on.
-    pub fn attempt(&mut self) -> bool {
+    /// Attempts one instruction, and ends the slice where it is over. `false` if it cannot go on;
+    /// nothing has changed then.
+    pub fn attempt(&mut self) -> bool
+        ensures answer { result ≡ can_attempt self.old }
+        ensures stays { result ≡ false → self.new ≡ self.old }
+        ensures machine { result ≡ true → (machine_in self.new ≡ after_one self.old)
+            ⊎ (machine_in self.new ≡ after_slice_end (after_one self.old)) }
+        ensures admission { admission_of self.new ≡ admission_of self.old }
+        ensures cuts { cuts_of self.new ≡ cuts_of self.old }
+    {
         if !self.parts.is_running() || self.done >= self.cut || self.slices == u64::MAX {
             return false;
         }
@@ -139,8 +180,16 @@ impl<'a> Debuggee<'a> {
         true
     }
 
-    /// Attempts the whole slice that comes next. `false` where one goes on, or none comes.
-    pub fn attempt_slice(&mut self) -> bool {
+    /// Attempts the whole slice that comes next. `false` where one goes on, or none comes; nothing
+    /// has changed then.
+    pub fn attempt_slice(&mut self) -> bool
+        ensures answer { result ≡ can_begin self.old }
+        ensures stays { result ≡ false → self.new ≡ self.old }
+        ensures machine { result ≡ true
+            → machine_in self.new ≡ after_slice (cut_of self.old) (machine_in self.old) }
+        ensures admission { admission_of self.new ≡ admission_of self.old }
+        ensures cuts { cuts_of self.new ≡ cuts_of self.old }
+    {
         if !self.parts.is_running() || self.done > 0 || self.slices == u64::MAX {
             return false;
         }

@@ -10,4 +10,5 @@ mod signal;
 
 pub use core_file::{CoreSubject, write_core};
 pub use memory_map::{Region, regions};
+pub use notes::flags_word;
 pub use signal::{Signal, tag_control};

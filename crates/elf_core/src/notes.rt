@@ -1,5 +1,8 @@
 //! The notes of a core file (Linux, `elfcore.h`; ELF64, "Note Section").
 
+ghost use Rattle.std.specs.Prelude.{◌≡◌};
+ghost use Rattle.elf_core.specs.Flags.{word_of_flags};
+
 use crate::signal::{Signal, tag_control};
 use a64_registers::Regs;
 use mte_tags::TagMode;
@@ -129,7 +132,9 @@ fn write_registers(out: &mut Vec<u8>, regs: &Regs) -> io::Result<()> {
 }
 
 /// PSTATE.N, Z, C and V in bits 31 to 28.
-fn flags_word(regs: &Regs) -> u64 {
+pub fn flags_word(regs: &Regs) -> u64
+    ensures { result ≡ word_of_flags regs.now.flags }
+{
     let (n, z) = (u64::from(regs.flags.n), u64::from(regs.flags.z));
     let (c, v) = (u64::from(regs.flags.c), u64::from(regs.flags.v));
     n << 31 | z << 30 | c << 29 | v << 28

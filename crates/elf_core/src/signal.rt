@@ -1,5 +1,8 @@
 //! The signal that Linux would send for a tenant's end.
 
+ghost use Rattle.std.specs.Prelude.{◌≡◌};
+ghost use Rattle.elf_core.specs.Flags.{word_of_mode};
+
 use mte_tags::{FaultKind, MemFault, TagMode, with_tag};
 use mte_tenant::Status;
 
@@ -67,7 +70,9 @@ impl Signal {
 /// What `prctl(PR_GET_TAGGED_ADDR_CTRL)` would tell (Linux, "Memory Tagging Extension (MTE) in
 /// AArch64 Linux"): tagged addresses are on, tags 1 to 15 are drawn, and a tag that differs is a
 /// fault at once or later.
-pub fn tag_control(mode: TagMode) -> u64 {
+pub fn tag_control(mode: TagMode) -> u64
+    ensures { result ≡ word_of_mode mode }
+{
     match mode {
         TagMode::Sync => 0x7FFF3,
         TagMode::Async => 0x7FFF5,

@@ -1,9 +1,12 @@
 //! Registers.
 
+ghost use Rattle.std.specs.Prelude.{◌≡◌};
+ghost use Rattle.gdb_target.specs.TargetValues.{value_of, word_of_generator};
+
 use crate::text::TextBuffer;
 use a64_registers::Regs;
-use elf_core::tag_control;
-use mte_tags::TagMode;
+use elf_core::{flags_word, tag_control};
+use mte_tags::{Rgsr, TagMode};
 
 /// How many registers the description has.
 const COUNT: u64 = 37;
@@ -38,7 +41,9 @@ impl<'a> TargetRegisters<'a> {
 
     /// The value of the register with a number, if there is one: x0 to x30, SP, PC, the flags, the
     /// control of tags, the steps, RGSR_EL1.
-    pub fn value(&self, number: u64) -> Option<u64> {
+    pub fn value(&self, number: u64) -> Option<u64>
+        ensures { result ≡ value_of self.now number }
+    {
         let regs = self.regs;
         match number {
             31 => Some(regs.sp),
@@ -52,14 +57,10 @@ impl<'a> TargetRegisters<'a> {
     }
 }
 
-/// PSTATE.N, Z, C and V in bits 31 to 28.
-fn flags_word(regs: &Regs) -> u64 {
-    let (n, z) = (u64::from(regs.flags.n), u64::from(regs.flags.z));
-    let (c, v) = (u64::from(regs.flags.c), u64::from(regs.flags.v));
-    n << 31 | z << 30 | c << 29 | v << 28
-}
-
 /// RGSR_EL1: TAG in bits 3 to 0, SEED in bits 23 to 8.
-fn generator(regs: &Regs) -> u64 {
-    u64::from(regs.rgsr.seed) << 8 | u64::from(regs.rgsr.tag)
+fn generator(regs: &Regs) -> u64
+    ensures { result ≡ word_of_generator regs.now.rgsr }
+{
+    let Rgsr { tag, seed } = regs.rgsr;
+    u64::from(seed) * 256 + u64::from(tag)
 }

@@ -1,5 +1,8 @@
 //! What an address is for.
 
+ghost use Rattle.std.specs.Prelude.{◌≡◌, ℕ, ◌↔◌, ◌≤◌, ◌<◌, IfSome, None};
+ghost use Rattle.heap_bounds.specs.Blocks.{IsInRegion, IsBlockAt};
+
 use address_map::{
     IMAGE_END, IMAGE_START, REGION_SIZE, REGIONS_START, SECONDARY_END, SECONDARY_START, STACK_END,
     STACK_START,
@@ -23,8 +26,12 @@ pub enum Range {
 }
 
 impl Range {
+    ghost use Rattle.heap_bounds.specs.declared.blocks.Range.TheVariants.{Class};
+
     /// The range of a plain address.
-    pub fn of(addr: u64) -> Range {
+    pub fn of(addr: u64) -> Range
+        ensures class { (c : ℕ) → (result ≡ Class c) ↔ IsInRegion c addr }
+    {
         match addr {
             IMAGE_START..IMAGE_END => Range::Image,
             REGIONS_START..SECONDARY_START => {
@@ -65,14 +72,14 @@ pub struct Block {
 }
 
 impl Block {
-    /// The block of a plain address.
-    pub fn of(addr: u64) -> Option<Block> {
+    /// The block of a plain address; none where it is in no region of a size class.
+    pub fn of(addr: u64) -> Option<Block>
+        ensures block { IfSome result (IsBlockAt addr) }
+        ensures none { result ≡ None → (c : ℕ) → IsInRegion c addr → ⊥ }
+    {
         let Range::Class(class) = Range::of(addr) else {
             return None;
         };
-        if class == 0 || class > CLASSES {
-            return None;
-        }
         let size = size_of_class(class);
         let region = REGIONS_START + u64::from(class) * REGION_SIZE;
         let start = region + addr.saturating_sub(region) / size * size;

@@ -1,5 +1,8 @@
 //! The bytes that a tenant may access in its heap: those of its live chunks, to the byte.
 
+ghost use Rattle.std.specs.Prelude.{◌≡◌, ◌≤◌, ◌↔◌, None, true, false, IsTrue};
+ghost use Rattle.heap_bounds.specs.Extents.{IsByteOf, IsGranuleOf};
+
 use crate::blocks::{Block, Range};
 use crate::calls::{Allocation, freed_by, made_by};
 use a64_bits::plain;
@@ -28,6 +31,10 @@ struct Extent {
 }
 
 impl Extent {
+    ghost use Rattle.std.specs.Prelude.{Some};
+    ghost use Rattle.heap_bounds.specs.declared.bounds.Trespass.TheVariants.{NoChunk, Freed};
+    ghost use Rattle.heap_bounds.specs.declared.bounds.Trespass.TheVariants.{PastSize};
+
     /// The extent of a chunk that was made. A chunk of 0 bytes has one.
     fn of(made: &Allocation) -> Extent {
         let start = plain(made.pointer);
@@ -39,12 +46,21 @@ impl Extent {
     }
 
     /// Whether a byte is in one of its granules.
-    fn covers(&self, addr: u64) -> bool {
-        self.start <= addr && addr < self.end.saturating_add(15) / 16 * 16
+    fn covers(&self, addr: u64) -> bool
+        ensures { IsTrue result ↔ IsGranuleOf self.now addr }
+    {
+        self.start <= addr && addr / 16 * 16 < self.end
     }
 
     /// What an access to a byte does, where it is wrong.
-    fn trespass(&self, addr: u64) -> Option<Trespass> {
+    fn trespass(&self, addr: u64) -> Option<Trespass>
+        ensures none { (result ≡ None) ↔ ((self.now.live ≡ true) × IsByteOf self.now addr) }
+        ensures no_chunk { (result ≡ Some NoChunk) ↔ (IsGranuleOf self.now addr → ⊥) }
+        ensures freed { (result ≡ Some Freed)
+            ↔ ((self.now.live ≡ false) × IsGranuleOf self.now addr) }
+        ensures past_size { (result ≡ Some PastSize)
+            ↔ ((self.now.live ≡ true) × (IsGranuleOf self.now addr) × (self.now.end ≤ addr)) }
+    {
         if !self.covers(addr) {
             Some(Trespass::NoChunk)
         } else if !self.live {

@@ -1,5 +1,8 @@
 //! What a heap call does to chunks.
 
+ghost use Rattle.std.specs.Prelude.{◌≡◌};
+ghost use Rattle.heap_bounds.specs.Chunks.{returned_chunk, ended_chunk};
+
 use a64_bits::plain;
 use mte_svc::AnsweredCall;
 use scudo_heap::HeapCall;
@@ -14,7 +17,9 @@ pub struct Allocation {
 }
 
 /// The chunk that a call returned, if it returned one.
-pub fn made_by(call: &AnsweredCall) -> Option<Allocation> {
+pub fn made_by(call: &AnsweredCall) -> Option<Allocation>
+    ensures { result ≡ returned_chunk call.now }
+{
     let size = match call.call {
         HeapCall::Malloc { size }
         | HeapCall::Realloc { size, .. }
@@ -32,7 +37,9 @@ pub fn made_by(call: &AnsweredCall) -> Option<Allocation> {
 }
 
 /// The plain address of the chunk that a call freed, or gave another size.
-pub fn freed_by(call: &AnsweredCall) -> Option<u64> {
+pub fn freed_by(call: &AnsweredCall) -> Option<u64>
+    ensures { result ≡ ended_chunk call.now }
+{
     match call.call {
         HeapCall::Free { pointer } => Some(plain(pointer)),
         HeapCall::Realloc { pointer, size } if call.answer != 0 || size == 0 => {

@@ -1,11 +1,14 @@
 //! A tenant alone on a memory of its own.
 
-ghost use Rattle.std.specs.Prelude.{◌≡◌, ◌<◌, [], Some, IfOk, IfErr};
+ghost use Rattle.std.specs.Prelude.{◌≡◌, ◌<◌, [], Some, false, IfOk, IfErr, IsErrOf};
 ghost use Rattle.obstacle.specs.Obstacles.{IfRefused};
 ghost use Rattle.scudo_heap.specs.Served.{HeapOwnsItsPages};
 
 use mte_flat::Flat;
-use mte_tenant::{Admission, AdmitError, Status, TenantParts, Watch, admit_alone, slice_watched};
+use mte_tenant::{
+    Admission, AdmitError, Status, TenantParts, Watch, admit_alone, is_bad_reservation,
+    slice_watched,
+};
 use obstacle::Obstacle;
 use std::alloc::Global;
 
@@ -24,17 +27,23 @@ pub struct Bench {
 impl Bench {
     ghost use Rattle.mte_tenant.specs.Machines.{machine_of, start_of, after_slice, after_stop};
     ghost use Rattle.mte_tenant.specs.Admissions.{start_in};
-    ghost use Rattle.mte_tenant.specs.Ledger.{admission_refusal, charge_of};
+    ghost use Rattle.mte_tenant.specs.Ledger.{admission_refusal, charge_of, is_bad};
 
-    /// A tenant at its first instruction, or why it is refused.
+    /// A tenant at its first instruction, or why it is refused. Only `OutOfMemory`, where an
+    /// allocation failed, can come in place of the refusals from `Image` on.
+    #[tactic(auto, unfolding(mte_tenant::specs::Ledger::admission_refusal))]
     pub fn new(alloc: Global, admission: &Admission<'_>) -> Result<Bench, Obstacle<AdmitError>>
-        requires { 0 < admission.now.terms.pages }
         ensures machine { IfOk result (λ b. machine_of b.parts b.memory
             ≡ start_of admission.now.id (start_in admission.now)) }
         ensures refused { IfErr result (λ o. IfRefused o (λ e.
             admission_refusal (charge_of admission.now.terms.pages) []
             admission.now.id (start_in admission.now) ≡ Some e)) }
+        ensures memory { IsErrOf result Obstacle.OutOfMemory
+            → is_bad admission.now.terms ≡ false }
     {
+        if is_bad_reservation(admission) {
+            return Err(Obstacle::Refused(AdmitError::BadReservation));
+        }
         let mut memory = Flat::new(alloc, admission.terms.pages as usize, admission.terms.mode)?;
         let parts = admit_alone(alloc, admission, &mut memory)?;
         Ok(Bench { parts, memory })

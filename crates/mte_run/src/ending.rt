@@ -1,5 +1,8 @@
 //! How a tenant ended, and the exit status that says so.
 
+ghost use Rattle.std.specs.Prelude.{◌≡◌};
+ghost use Rattle.mte_run.specs.Endings.{exit_status};
+
 use mte_tenant::{Record, Status};
 use std::fmt;
 
@@ -50,7 +53,9 @@ impl TenantEnding {
     }
 
     /// The exit status.
-    pub fn status(self, log: &Record) -> u8 {
+    pub fn status(self, log: &Record) -> u8
+        ensures { result ≡ exit_status self log.now.status }
+    {
         match log.status {
             Status::Exited(code) if self == TenantEnding::Exit => code,
             _ => 128 + self as u8,

@@ -120,7 +120,7 @@ fn admitted<'x>(
 
 /// Tells why an image is refused, and returns the exit status.
 pub fn refuse(rt: &HostRuntime, error: AdmitError) -> u8 {
-    let remedy = remedy_of(error.name());
+    let remedy = remedy_of(error);
     let _ = eprintln!(rt; "mte_run: the tenant is refused: {error}{remedy}");
     let _ = eprintln!(rt; "mte_run: ended by refusal, status {REFUSED}");
     REFUSED

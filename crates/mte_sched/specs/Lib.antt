@@ -9,3 +9,4 @@ pub mod Hosts
 pub mod Loans
 pub mod Flags
 pub mod Bounds
+pub mod Rooms

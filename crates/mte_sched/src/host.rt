@@ -1,7 +1,8 @@
 //! The host: admission, slices, stops.
 
 ghost use Rattle.std.specs.Prelude.{◌≡◌, ℕ, ◌⊎◌, ◌<◌, ◌↔◌, IfOk, IfErr, Err, OnOk, OnErr, IsOk};
-ghost use Rattle.std.specs.Prelude.{IfSome, Some, None, true, false, length, count_by};
+ghost use Rattle.std.specs.Prelude.{IfSome, Some, None, true, false, length, count_by, is_ok};
+ghost use Rattle.std.specs.Prelude.{if◌then◌else◌, vec_len, vec_capacity};
 ghost use Rattle.std.specs.Prelude.{option_copied, option_map};
 ghost use Rattle.std.specs.Option.{option_copied_mut};
 ghost use Rattle.std.specs.Borrow.{sem};
@@ -11,6 +12,7 @@ ghost use Rattle.mte_tenant.specs.Ledger.{admission_refusal, facts_of, has_id, h
 ghost use Rattle.mte_tenant.specs.Ledger.{is_bad, is_live, numbers_of};
 ghost use Rattle.mte_sched.specs.Tenants.{entries_in, tenants_in};
 ghost use Rattle.mte_tenant.specs.Admissions.{start_in};
+ghost use Rattle.mte_sched.specs.Rooms.{room_for_one};
 ghost use Rattle.mte_sched.specs.Sharing.{IsSharing, IsIndexed, HasId, HasLiveAt};
 
 use crate::index::Index;
@@ -26,7 +28,7 @@ use mte_tenant::{Admission, AdmitError, LedgerFacts, NotLive, accept, start_part
 use mte_translate::Tlb;
 use obstacle::Obstacle;
 use scudo_heap::condition_of_calls;
-use std::alloc::Global;
+use std::alloc::{AllocError, Global};
 
 /// A host of tenants, whose memories lie in the frames of one pool.
 #[derive(Drop)]
@@ -49,6 +51,7 @@ impl Host {
     ghost use Rattle.mte_sched.specs.Contents.{after_admit, after_slice_of, after_stop_of, empty};
     ghost use Rattle.mte_sched.specs.Views.{record_among, page_among, Holds};
     ghost use Rattle.mte_sched.specs.Hosts.{pool_of, content_of, frame_in, ledger_in, rooms_of};
+    ghost use Rattle.mte_sched.specs.Rooms.{rooms_after_admission};
     ghost use Rattle.mte_sched.specs.Loans.{lends_page};
 
     /// A host of `frames` frames, without tenants. The number is tested before any memory is taken;
@@ -78,7 +81,8 @@ impl Host {
     }
 
     /// Admits a tenant, or returns the first refusal that applies. Only `OutOfMemory`, where an
-    /// allocation failed, can come in place of the refusals from `Image` on.
+    /// allocation failed, can come in place of the refusals from `Image` on. How much memory the
+    /// host's lists take depends on the number of tenants that were admitted alone.
     #[tactic(auto, unfolding(crate::specs::Contents::after_admit))]
     pub fn admit(
         &mut self,
@@ -96,12 +100,15 @@ impl Host {
             → (list_any (has_id admission.now.id) (ledger_in self.old) ≡ false)
             × (is_bad admission.now.terms ≡ false) }
         ensures err { OnErr result (content_of self.new ≡ content_of self.old) }
+        ensures rooms { rooms_of self.new ≡ (if is_ok result
+            then rooms_after_admission (length (ledger_in self.old)) (rooms_of self.old)
+            else rooms_of self.old) }
     {
         condition_of_calls();
         let plan = accept(alloc, admission, self.ledger_facts(admission.id))?;
         let first = start_parts(alloc, admission, &plan)?;
         let parts = Box::new(alloc, first)?;
-        self.tenants.reserve(1)?;
+        make_room(&mut self.tenants)?;
         let asid = self.tenants.len();
         self.index.enter(admission.id, asid);
         let place = start_place(&mut self.pool, &mut self.tlb, asid, admission, &plan);
@@ -257,4 +264,19 @@ impl Host {
         let tenant = self.find(id)?;
         tenant.find_frame(&self.pool, page)
     }
+}
+
+/// Makes room for one more tenant: where there is none, for twice as many, and for four at least.
+fn make_room(tenants: &mut Vec<Tenant>) -> Result<(), AllocError>
+    ensures items { tenants.new.items ≡ tenants.old.items }
+    ensures some { OnOk result (vec_len tenants.new < vec_capacity tenants.new) }
+    ensures ok { OnOk result (vec_capacity tenants.new
+        ≡ room_for_one (vec_capacity tenants.old) (vec_len tenants.old)) }
+    ensures err { OnErr result (vec_capacity tenants.new ≡ vec_capacity tenants.old) }
+{
+    let count = tenants.len();
+    if count < tenants.capacity() {
+        return Ok(());
+    }
+    tenants.reserve_exact(count.max(4))
 }

@@ -1,6 +1,7 @@
 //! Where a tenant stands, by its number.
 
-ghost use Rattle.std.specs.Prelude.{◌≡◌, ◌<◌, length, get_or, slice_set, IfOk};
+ghost use Rattle.std.specs.Prelude.{◌≡◌, ◌<◌, length, get_or, slice_set};
+ghost use Rattle.std.specs.Prelude.{IfOk, vec_capacity};
 
 use std::alloc::{AllocError, Global};
 
@@ -35,7 +36,9 @@ impl Index {
     pub(crate) fn enter(&mut self, id: u16, position: usize)
         requires numbers { length self.old.positions.items ≡ NUMBERS }
         requires position { position < NUMBERS }
-        ensures { self.new.positions.items ≡ slice_set self.old.positions.items id position }
+        ensures entered { self.new.positions.items
+            ≡ slice_set self.old.positions.items id position }
+        ensures room { vec_capacity self.new.positions ≡ vec_capacity self.old.positions }
     {
         self.positions[usize::from(id)] = position as u16;
     }

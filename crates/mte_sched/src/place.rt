@@ -60,6 +60,7 @@ pub(crate) fn start_place(
         ≡ sum pool.old.reserved + charge_of admission.now.terms.pages }
     ensures others { KeepsOthers result.quota pool.old pool.new }
     ensures entries { NoneEnters asid tlb.old tlb.new }
+    ensures capacities { pool.new.capacities ≡ pool.old.capacities }
 {
     pages_of_a_space();
     let mut place = reserve_place(pool, admission.terms.pages, admission.terms.mode);
@@ -83,6 +84,7 @@ fn reserve_place(pool: &mut FramePool, pages: u32, mode: TagMode) -> TenantMemor
     ensures unused { reserved_by pool.old result.quota ≡ 0 }
     ensures reserved { sum pool.new.reserved ≡ sum pool.old.reserved + charge_of pages }
     ensures others { KeepsOthers result.quota pool.old pool.new }
+    ensures capacities { pool.new.capacities ≡ pool.old.capacities }
 {
     pool.recall();
     let mut quota = match pool.reserve(charge(pages) as usize) {

@@ -1,6 +1,7 @@
 //! Scripts: one event per line.
 
-ghost use Rattle.std.specs.Prelude.{◌≡◌, length, option_map, Ok, IfOk, IfErr};
+ghost use Rattle.std.specs.Prelude.{◌≡◌, ◌≤◌, ◌+◌, length, vec_capacity, option_map};
+ghost use Rattle.std.specs.Prelude.{Ok, IfOk, IfErr};
 ghost use Rattle.obstacle.specs.Obstacles.{IfRefused};
 ghost use Rattle.mte_script.specs.Scripts.{script_events, event_of_line};
 ghost use Rattle.mte_script.specs.Faults.{IsFirstFault, IsLineFault};
@@ -16,12 +17,11 @@ use std::alloc::Global;
 /// The most events of a script.
 const EVENT_LIMIT: usize = 10_000;
 
-/// The fewest bytes of a line that is an event, with the LF that ends it: `stop 1`.
-const SHORTEST_LINE: usize = 7;
-
 /// Reads a script: lines ended by LF, which the last may lack; in a line words separated by one or
 /// more spaces. Lines without a word and lines whose first byte is `#` are skipped. `files` are
 /// those that an event may name, the first being number 1.
+///
+/// The list has memory for at most 10000 events, and for no more than the script has bytes and one.
 pub fn parse_script(
     alloc: Global,
     script: &[u8],
@@ -31,8 +31,10 @@ pub fn parse_script(
         script_events (length files.now) script.now ≡ Ok events.items) }
     ensures fault { IfErr result (λ o.
         IfRefused o (IsFirstFault (script_events (length files.now) script.now))) }
+    ensures room { IfOk result (λ events. vec_capacity events ≤ EVENT_LIMIT) }
+    ensures few { IfOk result (λ events. vec_capacity events ≤ length script.now + 1) }
 {
-    let most = (script.len() / SHORTEST_LINE + 1).min(EVENT_LIMIT);
+    let most = (script.len() + 1).min(EVENT_LIMIT);
     let mut events = Vec::with_capacity(alloc, most)?;
     let mut words = ArrayVec::new();
     let mut rest = Some(script);
@@ -50,7 +52,7 @@ pub fn parse_script(
                         fault: ScriptFault::TooManyEvents,
                     }));
                 }
-                events.push(event)?;
+                events.push_reserved(event);
             }
         }
         rest = more;

@@ -57,13 +57,14 @@ shows id input events life old new h wrote =
     record { before = part.before; after = part.after; wrote = rw (← part.whole) wrote }
 
 pub wrote_alike : (stay : NumbersStay) (id : ℕ) (one other : Input) (old1 new1 old2 new2 : WriteLog)
-    → Reported one old1 new1 → Reported other old2 new2 → AgreeFor id one other → WroteAlike id old1 new1 old2 new2
+    → Reported one old1 new1 → Reported other old2 new2 → (h : AgreeFor id one other) → WroteAlike id h.agree.life old1 new1 old2 new2
 wrote_alike stay id one other old1 new1 old2 new2 r q h =
     let first : h.events ≡ r.events = ok_same h.events r.events (sym h.read ∙ r.read) in
     let second : h.others ≡ q.events = ok_same h.others q.events (sym h.read_other ∙ q.read) in
     record {
       known = record_of (tenant_of h.agree.life).held;
       number = stay h.agree.life ∙ number_among id _ h.agree.life h.agree.one;
+      alone = refl;
       one = shows id one h.events h.agree.life old1 new1 h.agree.one (rw first r.wrote);
       other = shows id other h.others h.agree.life old2 new2 h.agree.other (rw second q.wrote);
     }

@@ -4,7 +4,8 @@ use Rattle.mte_streams.specs.Writing.{WriteLog, WroteAll}
 use Rattle.mte_script.specs.declared.event.Event.{Event}
 use Rattle.mte_script.specs.Scripts.{script_events}
 use Rattle.mte_svc.specs.declared.record.Record.{Record}
-use Rattle.mte_sched.specs.Lives.{Agree}
+use Rattle.mte_sched.specs.Lives.{Agree, Life}
+use Rattle.mte_sched.specs.Contents.{record_of, tenant_of}
 use Rattle.mte_session.specs.declared.headline.Session.{Session}
 use Rattle.mte_session.specs.Files.{contents}
 use Rattle.mte_session.specs.Outcomes.{Input}
@@ -32,9 +33,10 @@ pub record Shows (known : Record) (old new : WriteLog) : Type 0 where
   pub after : List ℕ
   pub wrote : WroteAll old new (before ++ (record_text known ++ after))
 
--- Both texts have the lines of one record, which is the tenant's.
-pub record WroteAlike (id : ℕ) (old1 new1 old2 new2 : WriteLog) : Type 0 where
+-- Both texts have the lines of one record: that of the tenant alone, whose number it has.
+pub record WroteAlike (id : ℕ) (life : Life) (old1 new1 old2 new2 : WriteLog) : Type 0 where
   pub known : Record
   pub number : known.id ≡ id
+  pub alone : known ≡ record_of (tenant_of life).held
   pub one : Shows known old1 new1
   pub other : Shows known old2 new2

@@ -40,8 +40,9 @@ pub fn run_both<W: Sink>(
     ensures one { OnOk result (Reported (input_of one.now) (W.log first.old) (W.log first.new)) }
     ensures other { OnOk result
         (Reported (input_of other.now) (W.log second.old) (W.log second.new)) }
-    ensures same { OnOk result (AgreeFor id (input_of one.now) (input_of other.now)
-        → WroteAlike id (W.log first.old) (W.log first.new) (W.log second.old) (W.log second.new)) }
+    ensures same { OnOk result ((agree : AgreeFor id (input_of one.now) (input_of other.now))
+        → WroteAlike id agree.agree.life (W.log first.old) (W.log first.new)
+        (W.log second.old) (W.log second.new)) }
     ensures failed { IfErr result (λ e.
         (Failed (input_of one.now) (W.log first.old) (W.log first.new) e
         × Unwritten (W.log second.old) (W.log second.new))

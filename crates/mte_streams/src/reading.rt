@@ -1,6 +1,7 @@
 //! Readers, and reading a whole file.
 
-ghost use Rattle.std.specs.Prelude.{◌≡◌, ◌≢◌, ◌≤◌, length, IfOk, IsErrOf, Err};
+ghost use Rattle.std.specs.Prelude.{◌≡◌, ◌≢◌, ◌+◌, ◌++◌, ◌≤◌, length, vec_len, vec_capacity};
+ghost use Rattle.std.specs.Prelude.{IfOk, OnOk, IsErrOf, Err};
 ghost use Rattle.mte_streams.specs.Reading.{ReadLog, after_read, ReadAll, GaveMore, GaveAtMost};
 ghost use Rattle.mte_streams.specs.Reading.{FailedOnce, NoneFailed, MadeAtMost};
 ghost use Rattle.mte_streams.specs.declared.reading.ReadFault.TheVariants.{OutOfMemory};
@@ -47,7 +48,8 @@ pub enum ReadFault {
 }
 
 /// Reads all bytes up to the end. It makes at most 16777217 reads, and none after one that failed.
-/// Memory for as many bytes as are expected is reserved before the first; any number may come.
+/// Memory for as many bytes as are expected is reserved before the first; any number may come. The
+/// list never has memory for more than 16777216, whatever is expected.
 ///
 /// `TooLong` comes if and only if more than 16777216 bytes were given. What was read before an
 /// error stays read.
@@ -58,6 +60,7 @@ pub fn read_whole<R: Source>(
 ) -> Result<Vec<u8>, ReadFault>
     ensures whole { IfOk result (λ whole.
         ReadAll (R.log reader.old) (R.log reader.new) whole.items) }
+    ensures room { IfOk result (λ whole. vec_capacity whole ≤ FILE_LIMIT) }
     ensures none_failed { (result ≢ Err ReadFault.Read)
         → NoneFailed (R.log reader.old) (R.log reader.new) }
     ensures failed { IsErrOf result ReadFault.Read
@@ -79,11 +82,39 @@ pub fn read_whole<R: Source>(
                 if whole.len() + count > FILE_LIMIT {
                     return Err(ReadFault::TooLong);
                 }
-                whole.extend_from_slice(&chunk[..count])?;
+                make_room(&mut whole, count)?;
+                append(&mut whole, &chunk[..count]);
             }
         }
     }
     unreachable!()
+}
+
+/// Makes room for more bytes: where it is missing, for twice as many as there was room for, but
+/// never for more than a file may have.
+fn make_room(whole: &mut Vec<u8>, count: usize) -> Result<(), AllocError>
+    requires within { vec_len whole.old + count ≤ FILE_LIMIT }
+    requires limit { vec_capacity whole.old ≤ FILE_LIMIT }
+    ensures items { whole.new.items ≡ whole.old.items }
+    ensures room { OnOk result (vec_len whole.new + count ≤ vec_capacity whole.new) }
+    ensures limit { vec_capacity whole.new ≤ FILE_LIMIT }
+{
+    if whole.capacity() - whole.len() >= count {
+        return Ok(());
+    }
+    let more = whole.capacity().max(count).min(FILE_LIMIT - whole.len());
+    whole.reserve_exact(more)
+}
+
+/// Appends bytes to a list that has memory for them.
+fn append(whole: &mut Vec<u8>, bytes: &[u8])
+    requires { vec_len whole.old + length bytes.now ≤ vec_capacity whole.old }
+    ensures items { whole.new.items ≡ whole.old.items ++ bytes.now }
+    ensures capacity { vec_capacity whole.new ≡ vec_capacity whole.old }
+{
+    for byte in bytes {
+        whole.push_reserved(*byte);
+    }
 }
 
 impl From<AllocError> for ReadFault {

@@ -1,6 +1,9 @@
 //! The book of a tenant's heap calls.
 
-ghost use Rattle.std.specs.Prelude.{◌≡◌};
+ghost use Rattle.std.specs.Prelude.{◌≡◌, drop, option_map};
+ghost use Rattle.a64_bits.specs.Addresses.{plain};
+ghost use Rattle.heap_bounds.specs.Chunks.{returned_chunk, ended_chunk};
+ghost use Rattle.run_book.specs.Ends.{new_chunk, with_ending};
 
 use a64_bits::plain;
 use circular_buffer::HeapCircularBuffer;
@@ -81,7 +84,9 @@ impl Wanted {
 
 impl BookEntry {
     /// The chunk that the call returned, as it was then.
-    pub fn made(&self) -> Option<BookChunk> {
+    pub fn made(&self) -> Option<BookChunk>
+        ensures { result ≡ option_map (new_chunk self.now) (returned_chunk self.now.call) }
+    {
         let Allocation { pointer, size } = made_by(&self.call)?;
         Some(BookChunk {
             pointer,
@@ -103,14 +108,18 @@ impl BookEntry {
     }
 
     /// The plain address of the chunk that the call freed, or gave another size.
-    pub fn ended(&self) -> Option<u64> {
+    pub fn ended(&self) -> Option<u64>
+        ensures { result ≡ ended_chunk self.now.call }
+    {
         freed_by(&self.call)
     }
 }
 
 impl BookChunk {
     /// Its first plain address.
-    pub fn start(&self) -> u64 {
+    pub fn start(&self) -> u64
+        ensures { result ≡ plain self.now.pointer }
+    {
         plain(self.pointer)
     }
 
@@ -199,7 +208,7 @@ impl Book {
             }
         }
         let (i, chunk) = found?;
-        Some(self.with_end(i, chunk))
+        Some(self.with_end(i.saturating_add(1), chunk))
     }
 
     /// The chunk, of those with a tag, that lies nearest to an address; of several the newest.
@@ -217,7 +226,7 @@ impl Book {
             }
         }
         let (i, chunk) = found?;
-        Some(self.with_end(i, chunk))
+        Some(self.with_end(i.saturating_add(1), chunk))
     }
 
     /// The newest call that asked for a chunk and returned none.
@@ -231,16 +240,27 @@ impl Book {
         found
     }
 
-    /// A chunk that the call at an index made, with the call that freed it.
-    fn with_end(&self, index: usize, chunk: BookChunk) -> BookChunk {
+    /// A chunk with the call that freed it, of those from an index on.
+    fn with_end(&self, later: usize, chunk: BookChunk) -> BookChunk
+        ensures { result ≡ with_ending (drop later self.now.entries.items) chunk }
+    {
         let start = chunk.start();
-        let freed = self
-            .entries
-            .iter()
-            .skip(index.saturating_add(1))
-            .find(|entry| entry.ended() == Some(start))
-            .copied();
-        BookChunk { freed, ..chunk }
+        // so many fit in a usize, so that the next place does
+        let _count = self.entries.len();
+        let mut next = later;
+        while let Some(entry) = self.entries.get(next) {
+            if entry.ended() == Some(start) {
+                return BookChunk {
+                    freed: Some(*entry),
+                    ..chunk
+                };
+            }
+            next += 1;
+        }
+        BookChunk {
+            freed: None,
+            ..chunk
+        }
     }
 
     /// The chunks that are live, by their addresses.

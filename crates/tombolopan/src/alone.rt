@@ -1,9 +1,10 @@
 //! A tenant alone on a memory of its own.
 
-ghost use Rattle.std.specs.Prelude.{◌≡◌, ◌<◌, Some, None, IfOk, IfErr, OnOk};
+ghost use Rattle.std.specs.Prelude.{◌≡◌, ◌<◌, Some, None, false, IfOk, IfErr, OnOk, IsErrOf};
 ghost use Rattle.obstacle.specs.Obstacles.{IfRefused};
 ghost use Rattle.scudo_heap.specs.Served.{HeapOwnsItsPages};
 ghost use Rattle.mte_tenant.specs.Admissions.{start_in};
+ghost use Rattle.mte_tenant.specs.Ledger.{is_bad};
 ghost use Rattle.tombolopan.specs.Alone.{refusal_alone, record_after};
 
 use a64_run::OpCache;
@@ -41,6 +42,8 @@ impl Lone {
             (refusal_alone admission.now.id (start_in admission.now) ≡ None) }
         ensures refused { IfErr result (λ o. IfRefused o (λ e.
             refusal_alone admission.now.id (start_in admission.now) ≡ Some e)) }
+        ensures memory { IsErrOf result Obstacle.OutOfMemory
+            → is_bad admission.now.terms ≡ false }
     {
         if is_bad_reservation(admission) {
             return Err(Obstacle::Refused(AdmitError::BadReservation));
@@ -88,6 +91,7 @@ pub fn run_alone(
         r ≡ record_after admission.now.id (start_in admission.now) slices.now) }
     ensures refused { IfErr result (λ o. IfRefused o (λ e.
         refusal_alone admission.now.id (start_in admission.now) ≡ Some e)) }
+    ensures memory { IsErrOf result Obstacle.OutOfMemory → is_bad admission.now.terms ≡ false }
 {
     let mut lone = Lone::new(alloc, admission)?;
     lone.slices(slices);

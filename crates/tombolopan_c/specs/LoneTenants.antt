@@ -1,6 +1,6 @@
 -- A tenant alone, of terms that the caller lends: its slices, and what is told of it.
 use Rattle.std.specs.Prelude.{◌≡◌, ℕ, ◌==◌, ◌&&◌, not, nat_le, List, map, length}
-use Rattle.std.specs.Prelude.{Some, None, Result, Ok, Err, if◌then◌else◌}
+use Rattle.std.specs.Prelude.{Some, None, Result, Ok, Err, false, if◌then◌else◌}
 use Rattle.obstacle.specs.Obstacles.{IfRefused}
 use Rattle.obstacle.specs.declared.Obstacle.{Obstacle}
 use Rattle.obstacle.specs.declared.Obstacle.TheVariants as obstacle
@@ -14,6 +14,7 @@ use Rattle.mte_svc.specs.declared.record.Status.{Status}
 use Rattle.mte_svc.specs.declared.record.Status.TheVariants as status
 use Rattle.mte_tenant.specs.declared.admission.AdmitError.{AdmitError}
 use Rattle.mte_tenant.specs.declared.admission.AdmitError.TheVariants as refusal
+use Rattle.mte_tenant.specs.Ledger.{is_bad}
 use Rattle.mte_tenant.specs.Machines.{Start}
 use Rattle.tombolopan.specs.Alone.{refusal_alone, record_after}
 use Rattle.tombolopan_c.specs.Faults.{no_fault, report_of}
@@ -146,11 +147,14 @@ buffers_after r old = record {
 
 -- ---- all of it
 
--- A tenant is admitted and has its record at the end of its slices, or is refused.
+-- A tenant is admitted and has its record at the end of its slices, or is refused. Want of memory
+-- never comes in place of a refusal of its reservation.
 abbrev pub IsAnswer : LentTerms → Result Record (Obstacle AdmitError) → Type 0
 IsAnswer t (Ok r) =
     (refusal_alone 0 (lent_start t) ≡ None) × (r ≡ record_after 0 (lent_start t) t.slices.now)
-IsAnswer t (Err o) = IfRefused o (λ e. refusal_alone 0 (lent_start t) ≡ Some e)
+IsAnswer t (Err o) =
+    IfRefused o (λ e. refusal_alone 0 (lent_start t) ≡ Some e)
+    × (o ≡ obstacle.OutOfMemory → is_bad (lent_start t).terms ≡ false)
 
 -- The end of a tenant, or of an admission that is refused.
 abbrev pub alone_end : Result Record (Obstacle AdmitError) → Buffers → AloneEnd

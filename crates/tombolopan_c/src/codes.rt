@@ -142,6 +142,11 @@ pub const ALREADY_FREE: u64 = 6;
 /// Page numbers below it have addresses: 2^56 / 4096.
 pub const PAGES: u64 = 1 << 44;
 
+/// How many pages have addresses, in digits.
+pub fn pages_in_digits()
+    ensures { PAGES ≡ 17592186044416 }
+{}
+
 /// The answers in digits, as `tombolopan.h` has them.
 pub fn answers_in_digits()
     ensures ok { OK ≡ 0 }
@@ -170,8 +175,12 @@ pub fn script_faults_in_digits()
 
 /// The refusals of a tenant in digits, as `tombolopan.h` has them.
 pub fn refusals_in_digits()
+    ensures none { NO_REFUSAL ≡ 0 }
+    ensures duplicate { DUPLICATE ≡ 1 }
     ensures bad_reservation { BAD_RESERVATION ≡ 2 }
     ensures reservation_too_small { RESERVATION_TOO_SMALL ≡ 3 }
+    ensures no_frames { NO_FRAMES ≡ 4 }
+    ensures too_many_live { TOO_MANY_LIVE ≡ 5 }
     ensures short { SHORT ≡ 6 }
     ensures not_elf64 { NOT_ELF64 ≡ 7 }
     ensures not_aarch64 { NOT_AARCH64 ≡ 8 }
@@ -185,6 +194,7 @@ pub fn refusals_in_digits()
 
 /// The statuses of a tenant in digits, as `tombolopan.h` has them.
 pub fn statuses_in_digits()
+    ensures none { STATUS_NONE ≡ 0 }
     ensures running { STATUS_RUNNING ≡ 1 }
     ensures exit { STATUS_EXIT ≡ 2 }
     ensures fault { STATUS_FAULT ≡ 3 }

@@ -28,7 +28,7 @@ mod stops;
 pub use alone_calls::tb_alone;
 pub use alone_end::AloneEnd;
 pub use codes::{
-    aborts_in_digits, answers_in_digits, faults_in_digits, heap_calls_in_digits,
+    aborts_in_digits, answers_in_digits, faults_in_digits, heap_calls_in_digits, pages_in_digits,
     refusals_in_digits, script_faults_in_digits, statuses_in_digits,
 };
 pub use faults::FaultReport;

@@ -22,7 +22,8 @@ int main(void)
         count = (unsigned)bytes + MORE;
         if (BZ2_bzBuffToBuffCompress(packed, &count, text, length, 1, 0, 30) != BZ_OK)
             return 2;
-        if (BZ2_bzBuffToBuffDecompress(back, &length, packed, count, 0, 0) != BZ_OK || length != bytes)
+        if (BZ2_bzBuffToBuffDecompress(back, &length, packed, count, 0, 0) != BZ_OK ||
+            length != bytes)
             return 3;
     }
     return write_sum(sum_bytes(sum_bytes(SUM_START, packed, count), back, bytes));

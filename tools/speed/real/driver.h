@@ -1,5 +1,6 @@
-/* What the programs share: how often they do their work and over how many bytes, by the two numbers in the first line
-   of standard input, a text of words, and a sum of what they made, which they write as a line. */
+/* What the programs share: how often they do their work and over how many bytes, by the two
+   numbers in the first line of standard input, a text of words, and a sum of what they made,
+   which they write as a line. */
 #ifndef DRIVER_H
 #define DRIVER_H
 
@@ -29,7 +30,8 @@ static inline unsigned next_number(void)
 static inline void make_text(char *to, size_t count)
 {
     static const char *const words[] = {
-        "the ", "tag ", "of ", "a ", "pointer ", "memory ", "granule ", "is ", "compared ", "heap ", "chunk ",
+        "the ", "tag ", "of ", "a ", "pointer ", "memory ", "granule ", "is ", "compared ", "heap ",
+        "chunk ",
         "header ", "free ", "allocate ", "tenant ", "slice ",
     };
     size_t at = 0;
@@ -56,7 +58,8 @@ static inline unsigned long sum_bytes(unsigned long sum, const void *bytes, size
 enum { SUM_DIGITS = 16 };
 static const unsigned long SUM_START = 14695981039346656037u;
 
-/* Writes the sum as 16 hexadecimal digits and a newline; returns 0, or 1 where it was not written. */
+/* Writes the sum as 16 hexadecimal digits and a newline; returns 0, or 1 where it was not
+   written. */
 static inline int write_sum(unsigned long sum)
 {
     char line[SUM_DIGITS + 1];

@@ -1,5 +1,5 @@
-/* Runs the Lua program that follows the first line of standard input, with the first number of that line as the
-   global `rounds`. The sum is that of the text which the program returns. */
+/* Runs the Lua program that follows the first line of standard input, with the first number of
+   that line as the global `rounds`. The sum is that of the text which the program returns. */
 #include <stdlib.h>
 #include "driver.h"
 #include "lauxlib.h"
@@ -36,7 +36,8 @@ int main(void)
     lua_settop(state, 0);
     lua_pushinteger(state, (lua_Integer)rounds);
     lua_setglobal(state, "rounds");
-    if (luaL_loadbufferx(state, source, count, "program", "t") != LUA_OK || lua_pcall(state, 0, 1, 0) != LUA_OK)
+    if (luaL_loadbufferx(state, source, count, "program", "t") != LUA_OK ||
+        lua_pcall(state, 0, 1, 0) != LUA_OK)
         return 3;
     const char *text = lua_tolstring(state, -1, &count);
     unsigned long sum = text ? sum_bytes(SUM_START, text, count) : 0;

@@ -1,5 +1,5 @@
-/* The C library's functions of bytes and strings, for a tenant: none reads behind the granule of 16 bytes in which what
-   it may read ends. Words of eight bytes at a time where that pays. */
+/* The C library's functions of bytes and strings, for a tenant: none reads behind the granule of
+   16 bytes in which what it may read ends. Words of eight bytes at a time where that pays. */
 #ifndef __clang__
 /* No loop of a function becomes a call of that function. */
 #pragma GCC optimize("no-tree-loop-distribute-patterns")

@@ -1,5 +1,6 @@
-/* The rest of the C library that the programs use, for a tenant: its start, the heap and files as services, jumps, and
-   text of integers. What a program links and never calls ends it with status 99. */
+/* The rest of the C library that the programs use, for a tenant: its start, the heap and files
+   as services, jumps, and text of integers. What a program links and never calls ends it with
+   status 99. */
 #include <stdarg.h>
 #include <stdint.h>
 #include <string.h>
@@ -156,7 +157,8 @@ static char *put_number(char *end, long long value)
     return end;
 }
 
-/* Of C's snprintf what Lua asks for: a format of one conversion, `%lld` or `%s` with a least width. */
+/* Of C's snprintf what Lua asks for: a format of one conversion, `%lld` or `%s` with a least
+   width. */
 int snprintf(char *to, size_t size, const char *format, ...)
 {
     char room[DIGITS];
@@ -215,7 +217,10 @@ int *__errno_location(void)
 
 void *stdin, *stdout, *stderr;
 void *fopen64(const char *name, const char *mode) { return (void)name, (void)mode, NULL; }
-void *freopen64(const char *name, const char *mode, void *file) { return (void)name, (void)mode, (void)file, NULL; }
+void *freopen64(const char *name, const char *mode, void *file)
+{
+    return (void)name, (void)mode, (void)file, NULL;
+}
 int fclose(void *file) { return (void)file, 0; }
 int ferror(void *file) { return (void)file, 1; }
 int feof(void *file) { return (void)file, 1; }

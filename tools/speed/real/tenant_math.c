@@ -1,5 +1,6 @@
-/* Numbers with a fraction, for a tenant that has no registers of floating point: what Lua links of the C library. The
-   compiler's arithmetic is that of compiler-rt. What the program never calls ends it with status 99. */
+/* Numbers with a fraction, for a tenant that has no registers of floating point: what Lua links
+   of the C library. The compiler's arithmetic is that of compiler-rt. What the program never
+   calls ends it with status 99. */
 #include <stdint.h>
 #include <stdlib.h>
 
@@ -19,8 +20,8 @@ static double value_of(uint64_t bits)
     return value;
 }
 
-/* A decimal number of at most 15 digits with at most 22 of them behind the point: mantissa and power of ten are exact,
-   so that one division rounds right. Anything else is unsupported. */
+/* A decimal number of at most 15 digits with at most 22 of them behind the point: mantissa and
+   power of ten are exact, so that one division rounds right. Anything else is unsupported. */
 double strtod(const char *text, char **end)
 {
     int64_t mantissa = 0;

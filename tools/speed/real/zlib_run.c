@@ -34,7 +34,8 @@ static unsigned long pack(char *text, unsigned char *packed, size_t bytes)
 
 static unsigned long expand(unsigned char *packed, unsigned long count, char *text, size_t bytes)
 {
-    z_stream stream = {.zalloc = take, .zfree = release, .next_in = packed, .avail_in = (uInt)count};
+    z_stream stream = {
+        .zalloc = take, .zfree = release, .next_in = packed, .avail_in = (uInt)count};
     if (inflateInit(&stream) != Z_OK)
         return 0;
     stream.next_out = (Bytef *)text;

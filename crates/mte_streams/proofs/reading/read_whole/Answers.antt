@@ -8,15 +8,16 @@ use Rattle.mte_streams.proofs.reading.read_whole.Goals as goal
 pub loop-preserved : goal.loop-preserved
 loop-preserved g c =
     let count : c.in-Ok.count ≤ length c.read.new.buffer = c.in-Ok.ensures.count in
-    let items : c.extend_from_slice.new.self.items ≡ c.loop.whole.items ++ take c.in-Ok.count (c.read.new.buffer ++ drop c.min-wanted.result c.loop.chunk) = search rules in
+    let items : c.append.new.whole.items ≡ c.loop.whole.items ++ take c.in-Ok.count (c.read.new.buffer ++ drop c.min-wanted.result c.loop.chunk) = search rules in
     let short = take-append-le c.in-Ok.count c.read.new.buffer (drop c.min-wanted.result c.loop.chunk) count in
-    let grown : c.extend_from_slice.new.self.items ≡ c.loop.whole.items ++ take c.in-Ok.count c.read.new.buffer = items ∙ ap (λ t. c.loop.whole.items ++ t) short in
-    let long : length c.extend_from_slice.new.self.items ≡ length c.loop.whole.items + c.in-Ok.count = ap length grown ∙ simp (length-append, length-take) (omega arith) in
+    let grown : c.append.new.whole.items ≡ c.loop.whole.items ++ take c.in-Ok.count c.read.new.buffer = items ∙ ap (λ t. c.loop.whole.items ++ t) short in
+    let long : length c.append.new.whole.items ≡ length c.loop.whole.items + c.in-Ok.count = ap length grown ∙ simp (length-append, length-take) (omega arith) in
     let some : c.in-Ok.count ≢ 0 = c.in-Ok.count-test.1 in
     record {
       gave = rw grown (gave_more _ _ _ c.loop.whole.items c.read.new.buffer c.loop.counter c.in-Ok.count some c.loop.invariant.gave c.in-Ok.ensures.log);
       progress = omega arith;
       within = omega arith;
+      room = search rules;
     }
 
 pub returns-in-Err-clause-calls : goal.returns-in-Err-clause-calls
@@ -31,8 +32,8 @@ pub returns-then-len-count-gt-FILE_LIMIT-clause-calls : goal.returns-then-len-co
 returns-then-len-count-gt-FILE_LIMIT-clause-calls g c =
     one_more_read _ _ _ c.loop.whole.items c.loop.counter _ (omega arith) c.loop.invariant.gave (ap (λ (l : ReadLog). l.calls) c.in-Ok.ensures.log)
 
-pub returns-in_err-extend_from_slice-in-Ok-clause-calls : goal.returns-in_err-extend_from_slice-in-Ok-clause-calls
-returns-in_err-extend_from_slice-in-Ok-clause-calls g c =
+pub returns-in_err-make_room-in-Ok-clause-calls : goal.returns-in_err-make_room-in-Ok-clause-calls
+returns-in_err-make_room-in-Ok-clause-calls g c =
     one_more_read _ _ _ c.loop.whole.items c.loop.counter _ (omega arith) c.loop.invariant.gave (ap (λ (l : ReadLog). l.calls) c.in-Ok.ensures.log)
 
 pub returns-then-len-count-gt-FILE_LIMIT-clause-too_long : goal.returns-then-len-count-gt-FILE_LIMIT-clause-too_long
@@ -41,8 +42,8 @@ returns-then-len-count-gt-FILE_LIMIT-clause-too_long g c =
     let count : c.in-Ok.count ≤ length c.read.new.buffer = c.in-Ok.ensures.count in
     λ _. record { bytes = _; given = after.given; more = simp (length-append, length-take) (omega arith) }
 
-pub returns-in_err-extend_from_slice-in-Ok-clause-within : goal.returns-in_err-extend_from_slice-in-Ok-clause-within
-returns-in_err-extend_from_slice-in-Ok-clause-within g c =
+pub returns-in_err-make_room-in-Ok-clause-within : goal.returns-in_err-make_room-in-Ok-clause-within
+returns-in_err-make_room-in-Ok-clause-within g c =
     let after = gave_more _ _ _ c.loop.whole.items c.read.new.buffer c.loop.counter c.in-Ok.count c.in-Ok.count-test.1 c.loop.invariant.gave c.in-Ok.ensures.log in
     let count : c.in-Ok.count ≤ length c.read.new.buffer = c.in-Ok.ensures.count in
     λ _. record { bytes = _; given = after.given; most = simp (length-append, length-take) (omega arith) }

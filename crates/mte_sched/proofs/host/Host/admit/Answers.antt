@@ -42,8 +42,8 @@ returns-in_err-first-clause-memory c =
     let fresh = rw c.ledger_facts.ensures at c.in_ok-plan.ensures.fresh in
     rw (ledger_is c.args.self.now.pool c.args.self.now.tenants.items) (search (rules, fresh))
 
-pub returns-in_err-reserve-clause-memory : goal.returns-in_err-reserve-clause-memory
-returns-in_err-reserve-clause-memory c =
+pub returns-in_err-make_room-clause-memory : goal.returns-in_err-make_room-clause-memory
+returns-in_err-make_room-clause-memory c =
     let fresh = rw c.ledger_facts.ensures at c.in_ok-plan.ensures.fresh in
     rw (ledger_is c.args.self.now.pool c.args.self.now.tenants.items) (search (rules, fresh))
 
@@ -84,12 +84,12 @@ invariant_of-self-2 c =
     let number = first_number c.args.admission.now.id given c.in_ok-parts.parts.value boxed in
     let all = entered_sharing h.pool n h.tlb vs ts c.args.admission.now.id b c.in_ok-parts.parts pages h.sharing placed start.unused start.others entries ready start.reserved number (rw c.ledger_facts.ensures at c.in_ok-plan.ensures.fresh) in
     let t : code.Tenant = record { pages = pages; holding = kept.Live (record { parts = c.in_ok-parts.parts; place = b }) } in
-    let pushed : c.push_reserved.new.self.items ≡ ts ++ t ∷ [] = c.push_reserved.ensures.items ∙ ap (λ l. l ++ t ∷ []) c.in_ok-reserve.ensures.items in
+    let pushed : c.push_reserved.new.self.items ≡ ts ++ t ∷ [] = c.push_reserved.ensures.items ∙ ap (λ l. l ++ t ∷ []) c.in_ok-make_room.ensures.items in
     let number_of : (record_in t).id ≡ c.args.admission.now.id = number in
     let index : IsIndexed (slice_set h.index.positions.items c.args.admission.now.id (length ts)) (numbers_of (entries_in (ts ++ t ∷ []))) =
     entered_index h.index.positions.items ts c.args.admission.now.id h.indexed (search rules) (rw c.ledger_facts.ensures at c.in_ok-plan.ensures.fresh) t number_of in
     let positions : c.enter.new.self.positions.items ≡ slice_set h.index.positions.items c.args.admission.now.id (length ts) =
-    c.enter.ensures ∙ ap (slice_set h.index.positions.items c.args.admission.now.id) asid in
+    c.enter.ensures.entered ∙ ap (slice_set h.index.positions.items c.args.admission.now.id) asid in
     let count : count_by is_live (entries_in (ts ++ t ∷ [])) ≡ count_by is_live (entries_in ts) + 1 =
     entered_count h.pool n h.tlb vs ts c.args.admission.now.id b c.in_ok-parts.parts pages h.sharing placed start.unused start.others entries in
     record {
@@ -120,7 +120,7 @@ returns-clause-ok c =
     let placed : IsPlaced n vs (length ts) pages b = subst (λ k. IsPlaced n vs k pages b) asid start.placed in
     let entries : NoneEnters (length ts) h.tlb vs = subst (λ k. NoneEnters k h.tlb vs) asid start.entries in
     let t : code.Tenant = record { pages = pages; holding = kept.Live (record { parts = c.in_ok-parts.parts; place = b }) } in
-    let pushed : c.push_reserved.new.self.items ≡ ts ++ t ∷ [] = c.push_reserved.ensures.items ∙ ap (λ l. l ++ t ∷ []) c.in_ok-reserve.ensures.items in
+    let pushed : c.push_reserved.new.self.items ≡ ts ++ t ∷ [] = c.push_reserved.ensures.items ∙ ap (λ l. l ++ t ∷ []) c.in_ok-make_room.ensures.items in
     let tenants : tenants_in n c.push_reserved.new.self.items ≡ tenants_in h.pool ts ++ new_tenant c.args.admission.now.id given ∷ [] =
     ap (tenants_in n) pushed
     ∙ entered_tenants h.pool n h.tlb vs ts c.args.admission.now.id b c.in_ok-parts.parts pages h.sharing placed start.unused start.others entries

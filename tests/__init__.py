@@ -1,0 +1,1 @@
+"""What users touch, tried over the programs that the proof has just built."""

@@ -1,0 +1,403 @@
+/*
+ * Makes the calls that lines of standard input ask for, and writes what each answered, a line each.
+ * calls.rs and calls.py answer the same lines by the bindings. Each array is as long as is said, so
+ * that a sanitizer sees an access beyond it.
+ */
+#include <inttypes.h>
+#include <stdarg.h>
+#include <stdio.h>
+#include <stdlib.h>
+#include <string.h>
+
+#include "tombolopan.h"
+
+static tb_page *pages;
+static size_t place_count;
+static tb_tag_state state;
+static tb_regs regs;
+static char *rest; /* what is not read yet of the line */
+
+/* An array of zero bytes, which is never null. */
+static void *take(size_t count, size_t each) {
+    void *it = calloc(1, count * each > 0 ? count * each : 1);
+    if (it == NULL)
+        exit(9);
+    return it;
+}
+
+static const char *word(void) {
+    char *it = rest;
+    rest += strcspn(rest, " ");
+    if (*rest != 0)
+        *rest++ = 0;
+    return it;
+}
+
+static uint64_t number(void) {
+    return strtoull(word(), NULL, 0);
+}
+
+/* The bytes of a word of hexadecimal digits; "-" is none. */
+static tb_bytes bytes(void) {
+    const char *it = word();
+    tb_bytes found;
+    const size_t count = *it == '-' ? 0 : strlen(it) / 2;
+    uint8_t *made = (uint8_t *)take(count, 1);
+    for (size_t i = 0; i < count; i++) {
+        const char digits[3] = {it[2 * i], it[2 * i + 1], 0};
+        made[i] = (uint8_t)strtoul(digits, NULL, 16);
+    }
+    found.bytes = made;
+    found.length = count;
+    return found;
+}
+
+static void drop(tb_bytes it) {
+    free((void *)it.bytes);
+}
+
+static void tell_bytes(const uint8_t *it, size_t count) {
+    printf(" ");
+    for (size_t i = 0; i < count; i++)
+        printf("%02x", it[i]);
+    if (count == 0)
+        printf("-");
+}
+
+static void tell(size_t count, ...) {
+    va_list all;
+    va_start(all, count);
+    for (size_t i = 0; i < count; i++)
+        printf(" %" PRIx64, va_arg(all, uint64_t));
+    va_end(all);
+}
+
+static void tell_fault(const tb_fault *it) {
+    tell(5, it->addr, (uint64_t)it->kind, (uint64_t)it->write, (uint64_t)it->ptr_tag,
+         (uint64_t)it->mem_tag);
+}
+
+static void tell_stop(uint32_t code, const tb_stop *it) {
+    tell(4, (uint64_t)code, it->left, (uint64_t)it->code, (uint64_t)it->number);
+    tell_fault(&it->fault);
+}
+
+/* A fault with a byte of its own everywhere, so that a field which is not written is seen. */
+static tb_fault filled_fault(void) {
+    tb_fault it;
+    memset(&it, 0xee, sizeof it);
+    return it;
+}
+
+static void make_places(void) {
+    free(pages);
+    place_count = (size_t)number();
+    pages = (tb_page *)take(place_count, sizeof(tb_page));
+    tb_memory_init(pages, place_count, &state, number() != 0);
+    tell(2, (uint64_t)state.asynchronous, (uint64_t)state.pending);
+}
+
+static void access_bytes(bool is_write) {
+    tb_fault fault = filled_fault();
+    const uint64_t addr = number();
+    const bool check = number() != 0;
+    if (is_write) {
+        const tb_bytes it = bytes();
+        tell(1, (uint64_t)tb_write(pages, place_count, &state, addr, it.bytes, it.length, check,
+                                   &fault));
+        tell_fault(&fault);
+        drop(it);
+    } else {
+        const size_t length = (size_t)number();
+        uint8_t *buffer = (uint8_t *)take(length, 1);
+        tell(1, (uint64_t)tb_read(pages, place_count, &state, addr, buffer, length, check, &fault));
+        tell_fault(&fault);
+        tell_bytes(buffer, length);
+        free(buffer);
+    }
+    tell(1, (uint64_t)state.pending);
+}
+
+static void load(void) {
+    const uint64_t addr = number();
+    const tb_bytes it = bytes();
+    tell(1, (uint64_t)tb_load(pages, place_count, &state, addr, it.bytes, it.length));
+    drop(it);
+}
+
+static void load_tag(void) {
+    tb_fault fault = filled_fault();
+    uint8_t tag = 0xee;
+    tell(1, (uint64_t)tb_load_tag(pages, place_count, &state, number(), &tag, &fault));
+    tell(1, (uint64_t)tag);
+    tell_fault(&fault);
+}
+
+static void store_tags(void) {
+    tb_fault fault = filled_fault();
+    const uint64_t addr = number(), granules = number();
+    const uint8_t tag = (uint8_t)number();
+    const bool zero = number() != 0;
+    tell(1, (uint64_t)tb_store_tags(pages, place_count, &state, addr, granules, tag, zero, &fault));
+    tell_fault(&fault);
+}
+
+/* Sets x0 to x30, sp, pc, nzcv, rgsr_seed and rgsr_tag. */
+static void set_registers(void) {
+    for (size_t i = 0; i < 31; i++)
+        regs.x[i] = number();
+    regs.sp = number();
+    regs.pc = number();
+    regs.nzcv = (uint32_t)number();
+    regs.rgsr_seed = (uint16_t)number();
+    regs.rgsr_tag = (uint16_t)number();
+}
+
+static void tell_registers(void) {
+    for (size_t i = 0; i < 31; i++)
+        tell(1, regs.x[i]);
+    tell(5, regs.sp, regs.pc, (uint64_t)regs.nzcv, (uint64_t)regs.rgsr_seed,
+         (uint64_t)regs.rgsr_tag);
+}
+
+static void step_or_run(char kind) {
+    tb_stop stop;
+    uint32_t code;
+    memset(&stop, 0xee, sizeof stop);
+    if (kind == 's') {
+        code = tb_step(pages, place_count, &state, &regs, &stop);
+    } else if (kind == 'r') {
+        code = tb_run(pages, place_count, &state, &regs, number(), &stop);
+    } else {
+        const uint64_t steps = number();
+        const size_t count = (size_t)number();
+        uint64_t *stops = (uint64_t *)take(count, sizeof(uint64_t));
+        for (size_t i = 0; i < count; i++)
+            stops[i] = number();
+        code = tb_run_until(pages, place_count, &state, &regs, steps, stops, count, &stop);
+        free(stops);
+    }
+    tell_stop(code, &stop);
+}
+
+static void trace(bool is_step) {
+    tb_stop stop;
+    tb_accesses accesses;
+    const uint64_t steps = is_step ? 1 : number();
+    uint32_t code;
+    memset(&stop, 0xee, sizeof stop);
+    accesses.room = (size_t)number();
+    accesses.count = 0;
+    accesses.entries = (tb_access *)take(accesses.room, sizeof(tb_access));
+    code = is_step ? tb_trace_step(pages, place_count, &state, &regs, &accesses, &stop)
+                   : tb_trace(pages, place_count, &state, &regs, steps, &accesses, &stop);
+    tell_stop(code, &stop);
+    for (size_t i = 0; i < accesses.count; i++) {
+        const tb_access *it = &accesses.entries[i];
+        printf(" |");
+        tell(8, it->pc, it->addr, it->value[0], it->value[1], (uint64_t)it->word,
+             (uint64_t)it->size, (uint64_t)it->write, (uint64_t)it->mem_tag);
+    }
+    free(accesses.entries);
+}
+
+static void tell_attributes(void) {
+    for (size_t i = 0; i < place_count; i++)
+        tell(1, (uint64_t)pages[i].attrs);
+}
+
+/* A place: its number, whether it is mapped, its attributes, and sums of its bytes and tags. */
+static void tell_place(void) {
+    const tb_page *it = &pages[number()];
+    uint64_t sum = 0, tags = 0;
+    for (size_t i = 0; i < sizeof it->bytes; i++)
+        sum += it->bytes[i] * (i + 1);
+    for (size_t i = 0; i < sizeof it->tags; i++)
+        tags += it->tags[i] * (i + 1);
+    tell(5, it->number, (uint64_t)it->mapped, (uint64_t)it->attrs, sum, tags);
+}
+
+static void heap_calls(void) {
+    tb_heap_setup setup;
+    setup.cookie = (uint32_t)number();
+    setup.pages = (uint32_t)number();
+    setup.asynchronous = (uint32_t)number();
+    setup.rgsr_seed = (uint16_t)number();
+    setup.rgsr_tag = (uint16_t)number();
+    const size_t count = (size_t)number();
+    tb_heap_call *calls = (tb_heap_call *)take(count, sizeof(tb_heap_call));
+    for (size_t i = 0; i < count; i++) {
+        calls[i].op = (uint32_t)number();
+        calls[i].first = number();
+        calls[i].second = number();
+    }
+    tell(1, (uint64_t)tb_heap_calls(&setup, calls, count));
+    for (size_t i = 0; i < count; i++) {
+        printf(" |");
+        tell(5, (uint64_t)calls[i].op, (uint64_t)calls[i].code, calls[i].first, calls[i].second,
+             calls[i].answer);
+        tell_fault(&calls[i].fault);
+    }
+    free(calls);
+}
+
+static void session(void) {
+    const uint32_t frames = (uint32_t)number();
+    const size_t room = (size_t)number();
+    const tb_bytes script = bytes();
+    const size_t count = (size_t)number();
+    tb_bytes *files = (tb_bytes *)take(count, sizeof(tb_bytes));
+    uint8_t *report = (uint8_t *)take(room, 1);
+    tb_session_end end;
+    memset(&end, 0xee, sizeof end);
+    memset(report, 0xee, room);
+    for (size_t i = 0; i < count; i++)
+        files[i] = bytes();
+    tell(1, (uint64_t)tb_session(frames, script.bytes, script.length, files, count, report, room,
+                                 &end));
+    tell(4, end.length, end.line, (uint64_t)end.code, (uint64_t)end.fault);
+    tell_bytes(report, room);
+    for (size_t i = 0; i < count; i++)
+        drop(files[i]);
+    free(files);
+    free(report);
+    drop(script);
+}
+
+static void tell_alone(const tb_alone_end *it) {
+    tell(6, it->steps, it->output, it->calls, it->kept, (uint64_t)it->code, (uint64_t)it->refusal);
+    tell(4, (uint64_t)it->status.status, (uint64_t)it->status.number, it->status.pc,
+         it->status.pointer);
+    tell_fault(&it->status.fault);
+}
+
+static void alone(void) {
+    tb_terms terms;
+    tb_alone_end end;
+    memset(&end, 0xee, sizeof end);
+    const tb_bytes image = bytes(), input = bytes();
+    terms.image = image.bytes;
+    terms.image_length = image.length;
+    terms.input = input.bytes;
+    terms.input_length = input.length;
+    terms.seed = number();
+    terms.pages = (uint32_t)number();
+    terms.room = (uint32_t)number();
+    terms.asynchronous = (uint32_t)number();
+    terms.unused = 0;
+    const size_t room = (size_t)number(), call_room = (size_t)number();
+    terms.slice_count = (size_t)number();
+    uint32_t *slices = (uint32_t *)take(terms.slice_count, sizeof(uint32_t));
+    for (size_t i = 0; i < terms.slice_count; i++)
+        slices[i] = (uint32_t)number();
+    terms.slices = slices;
+    uint8_t *output = (uint8_t *)take(room, 1);
+    tb_kept_call *calls = (tb_kept_call *)take(call_room, sizeof(tb_kept_call));
+    tell(1, (uint64_t)tb_alone(&terms, output, room, calls, call_room, &end));
+    tell_alone(&end);
+    tell_bytes(output, room);
+    for (size_t i = 0; i < call_room; i++) {
+        printf(" |");
+        tell(4, calls[i].service, calls[i].first, calls[i].second, calls[i].answer);
+    }
+    free(slices);
+    free(output);
+    free(calls);
+    drop(image);
+    drop(input);
+}
+
+static void tell_texts(void) {
+    const uint32_t it = (uint32_t)number();
+    printf(" %s; %s; %s; %s; %s; %s", tb_text(it), tb_fault_kind_name(it), tb_heap_abort_name(it),
+           tb_script_fault_name(it), tb_refusal_name(it), tb_tenant_status_name(it));
+}
+
+/* The calls that only this header has, and the simple ones. */
+static bool answer_number(const char *what) {
+    uint64_t one, two;
+    if (strcmp(what, "version") == 0) {
+        tell(1, (uint64_t)tb_version());
+    } else if (strcmp(what, "map") == 0) {
+        one = number();
+        tell(1, (uint64_t)tb_map(pages, place_count, one, (uint32_t)number()));
+    } else if (strcmp(what, "range") == 0) {
+        one = number();
+        two = number();
+        tell(1, (uint64_t)tb_map_range(pages, place_count, one, two, (uint32_t)number()));
+    } else if (strcmp(what, "unmap") == 0) {
+        tell(1, (uint64_t)tb_unmap(pages, place_count, number()));
+    } else if (strcmp(what, "place_of") == 0) {
+        tell(1, (uint64_t)tb_place_of(pages, place_count, number()));
+    } else if (strcmp(what, "peek") == 0) {
+        one = number();
+        tell(1, tb_peek(pages, place_count, one, (size_t)number()));
+    } else if (strcmp(what, "size") == 0) {
+        tell(1, (uint64_t)tb_access_size((uint32_t)number()));
+    } else {
+        return false;
+    }
+    return true;
+}
+
+static bool answer_memory(const char *what) {
+    if (strcmp(what, "places") == 0)
+        make_places();
+    else if (strcmp(what, "write") == 0 || strcmp(what, "read") == 0)
+        access_bytes(what[0] == 'w');
+    else if (strcmp(what, "load") == 0)
+        load();
+    else if (strcmp(what, "load_tag") == 0)
+        load_tag();
+    else if (strcmp(what, "store_tags") == 0)
+        store_tags();
+    else if (strcmp(what, "place") == 0)
+        tell_place();
+    else if (strcmp(what, "withhold") == 0)
+        tb_withhold(pages, place_count), tell_attributes();
+    else if (strcmp(what, "give_back") == 0)
+        tb_give_back(pages, place_count), tell_attributes();
+    else
+        return false;
+    return true;
+}
+
+static void answer(const char *what) {
+    if (answer_number(what) || answer_memory(what))
+        return;
+    if (strcmp(what, "set") == 0)
+        set_registers();
+    else if (strcmp(what, "registers") == 0)
+        tell_registers();
+    else if (strcmp(what, "step") == 0 || strcmp(what, "run") == 0 || strcmp(what, "until") == 0)
+        step_or_run(what[0]);
+    else if (strcmp(what, "trace") == 0 || strcmp(what, "trace_step") == 0)
+        trace(what[5] != 0);
+    else if (strcmp(what, "heap") == 0)
+        heap_calls();
+    else if (strcmp(what, "session") == 0)
+        session();
+    else if (strcmp(what, "alone") == 0)
+        alone();
+    else if (strcmp(what, "texts") == 0)
+        tell_texts();
+    else
+        exit(8);
+}
+
+int main(void) {
+    const size_t room = (size_t)1 << 24;
+    char *line = (char *)take(room, 1);
+    while (fgets(line, (int)room, stdin) != NULL) {
+        line[strcspn(line, "\n")] = 0;
+        rest = line;
+        const char *what = word();
+        printf("%s:", what);
+        answer(what);
+        printf("\n");
+        fflush(stdout);
+    }
+    free(line);
+    free(pages);
+    return 0;
+}

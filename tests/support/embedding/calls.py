@@ -1,0 +1,248 @@
+"""Answers the lines of calls.c by tombolopan.py: the library's calls with their structures, and
+what the module makes of them."""
+
+import ctypes
+import sys
+from collections.abc import Callable, Iterator
+from ctypes import byref
+from typing import Any
+
+import tombolopan as tb  # type: ignore[import]
+
+LIBRARY = tb._library
+Words = Iterator[str]
+
+
+class Calls:
+    """The memory and the registers that the lines work on."""
+
+    def __init__(self) -> None:
+        self.memory = tb.Memory(1)
+        self.regs = tb.Regs()
+
+    def lent(self) -> tuple[Any, ...]:
+        """The memory as a call takes it."""
+        return tuple(self.memory._lent())
+
+    def version(self, words: Words) -> str:
+        """The library's version."""
+        return told(LIBRARY.tb_version())
+
+    def places(self, words: Words) -> str:
+        """Makes a memory anew."""
+        count = number(words)
+        self.memory = tb.Memory(count, number(words) != 0)
+        return told(self.memory._state.asynchronous, self.memory._state.pending)
+
+    def map(self, words: Words) -> str:
+        """Maps a page."""
+        return told(LIBRARY.tb_map(*self.lent()[:2], number(words), number(words)))
+
+    def range(self, words: Words) -> str:
+        """Maps pages, by the module's own function; its exception has the text of the code."""
+        first, length, attrs = number(words), number(words), number(words)
+        try:
+            self.memory.map(first * 4096, length * 4096, attrs)
+        except ValueError as error:
+            return told(next(code for code, text in tb.CODES.items() if text == str(error)))
+        return told(tb.OK)
+
+    def unmap(self, words: Words) -> str:
+        """Unmaps a page."""
+        return told(LIBRARY.tb_unmap(*self.lent()[:2], number(words)))
+
+    def write(self, words: Words) -> str:
+        """Writes bytes."""
+        fault, addr, check = tb._Fault(), number(words), number(words) != 0
+        data = tb._lend(raw(words))
+        code = LIBRARY.tb_write(*self.lent(), addr, data.bytes, data.length, check, byref(fault))
+        return told(code) + fault_of(fault) + told(self.memory._state.pending)
+
+    def read(self, words: Words) -> str:
+        """Reads bytes."""
+        fault, addr, check, length = tb._Fault(), number(words), number(words) != 0, number(words)
+        buffer = ctypes.create_string_buffer(max(length, 1))
+        code = LIBRARY.tb_read(*self.lent(), addr, buffer, length, check, byref(fault))
+        text = told(code) + fault_of(fault) + hexed(buffer.raw[:length])
+        return text + told(self.memory._state.pending)
+
+    def load(self, words: Words) -> str:
+        """Loads bytes."""
+        addr, data = number(words), tb._lend(raw(words))
+        return told(LIBRARY.tb_load(*self.lent(), addr, data.bytes, data.length))
+
+    def load_tag(self, words: Words) -> str:
+        """A granule's tag."""
+        tag, fault = ctypes.c_uint8(0xEE), tb._Fault()
+        code = LIBRARY.tb_load_tag(*self.lent(), number(words), byref(tag), byref(fault))
+        return told(code, tag.value) + fault_of(fault)
+
+    def store_tags(self, words: Words) -> str:
+        """Replaces tags."""
+        fault, rest = tb._Fault(), [number(words) for _ in range(4)]
+        code = LIBRARY.tb_store_tags(*self.lent(), *rest[:3], rest[3] != 0, byref(fault))
+        return told(code) + fault_of(fault)
+
+    def set(self, words: Words) -> str:
+        """Sets all registers."""
+        values = [int(it, 0) for it in words]
+        self.regs = tb.Regs((ctypes.c_uint64 * 31)(*values[:31]), *values[31:])
+        return ""
+
+    def registers(self, words: Words) -> str:
+        """All registers."""
+        it = self.regs
+        return told(*it.x, it.sp, it.pc, it.nzcv, it.rgsr_seed, it.rgsr_tag)
+
+    def step(self, words: Words) -> str:
+        """Attempts an instruction."""
+        stop = tb._Stop()
+        return stop_of(LIBRARY.tb_step(*self.lent(), byref(self.regs), byref(stop)), stop)
+
+    def run(self, words: Words) -> str:
+        """Attempts instructions."""
+        stop = tb._Stop()
+        code = LIBRARY.tb_run(*self.lent(), byref(self.regs), number(words), byref(stop))
+        return stop_of(code, stop)
+
+    def until(self, words: Words) -> str:
+        """Attempts instructions, up to some addresses."""
+        stop, steps, count = tb._Stop(), number(words), number(words)
+        stops = (ctypes.c_uint64 * max(count, 1))(*(int(it, 0) for it in words))
+        code = LIBRARY.tb_run_until(
+            *self.lent(), byref(self.regs), steps, stops, count, byref(stop)
+        )
+        return stop_of(code, stop)
+
+    def peek(self, words: Words) -> str:
+        """A number of the memory."""
+        addr, length = number(words), number(words)
+        return told(int.from_bytes(self.memory.peek(addr, min(length, 8)), "little"))
+
+    def size(self, words: Words) -> str:
+        """How many bytes a word accesses."""
+        return told(tb.access_size(number(words)))
+
+    def trace(self, words: Words) -> str:
+        """A trace, by the module's own function: its stop by its text, and the accesses."""
+        steps, room = number(words), number(words)
+        accesses: list[Any] = []
+        stop = tb.trace(self.memory, self.regs, steps, accesses, room)
+        code = next(code for code, text in tb.CODES.items() if text == stop.code)
+        rows = "".join(
+            " |" + told(it.pc, it.address, it.value % (1 << 64), it.value >> 64 & (1 << 64) - 1,
+                        it.word, it.size, it.write, it.memory_tag)
+            for it in accesses
+        )
+        return told(code, stop.left, code, stop.number) + error_of(stop.fault) + rows
+
+    def place(self, words: Words) -> str:
+        """A place of the memory."""
+        it = self.memory._places[number(words)]
+        sums = (sum(byte * at for at, byte in enumerate(held, 1)) for held in (it.bytes, it.tags))
+        return told(it.number, it.mapped, it.attrs, *sums)
+
+    def heap(self, words: Words) -> str:
+        """Calls of a heap."""
+        setup = tb._HeapSetup(*(number(words) for _ in range(5)))
+        count = number(words)
+        calls = (tb._HeapCall * max(count, 1))()
+        for it in calls[:count]:
+            it.op, it.first, it.second = number(words), number(words), number(words)
+        text = told(LIBRARY.tb_heap_calls(byref(setup), calls, count))
+        for it in calls[:count]:
+            text += " |" + told(it.op, it.code, it.first, it.second, it.answer) + fault_of(it.fault)
+        return text
+
+    def session(self, words: Words) -> str:
+        """A session."""
+        frames, room, script = number(words), number(words), raw(words)
+        files = [raw(words) for _ in range(number(words))]
+        lent = (tb._Bytes * max(len(files), 1))(*map(tb._lend, files))
+        end, lines = tb._SessionEnd(), tb._lend(script)
+        report = ctypes.create_string_buffer(b"\xee" * max(room, 1), max(room, 1))
+        code = LIBRARY.tb_session(
+            frames, lines.bytes, lines.length, lent, len(files), report, room, byref(end)
+        )
+        return told(code, end.length, end.line, end.code, end.fault) + hexed(report.raw[:room])
+
+    def alone(self, words: Words) -> str:
+        """A tenant alone."""
+        image, given = raw(words), raw(words)
+        seed, pages, out, asynchronous = (number(words) for _ in range(4))
+        room, call_room, count = (number(words) for _ in range(3))
+        slices = (ctypes.c_uint32 * max(count, 1))(*(int(it, 0) for it in words))
+        program, data = tb._lend(image), tb._lend(given)
+        terms = tb._Terms(
+            program.bytes, program.length, data.bytes, data.length, ctypes.addressof(slices), count,
+            seed, pages, out, asynchronous, 0,
+        )
+        end, calls = tb._AloneEnd(), (tb._KeptCall * max(call_room, 1))()
+        output = ctypes.create_string_buffer(max(room, 1))
+        code = LIBRARY.tb_alone(byref(terms), output, room, calls, call_room, byref(end))
+        it = end.status
+        text = told(code, end.steps, end.output, end.calls, end.kept, end.code, end.refusal)
+        text += told(it.status, it.number, it.pc, it.pointer) + fault_of(it.fault)
+        text += hexed(output.raw[:room])
+        return text + "".join(
+            " |" + told(it.service, it.first, it.second, it.answer) for it in calls[:call_room]
+        )
+
+    def texts(self, words: Words) -> str:
+        """The texts of a number."""
+        it = number(words)
+        names = (tb.text, tb.fault_kind_name, tb.heap_abort_name, tb.script_fault_name,
+                 tb.refusal_name, tb.tenant_status_name)
+        return " " + "; ".join(name(it) for name in names)
+
+
+def number(words: Words) -> int:
+    """The next number of a line."""
+    return int(next(words), 0)
+
+
+def raw(words: Words) -> bytes:
+    """The next bytes of a line."""
+    it = next(words)
+    return b"" if it == "-" else bytes.fromhex(it)
+
+
+def told(*numbers: int) -> str:
+    """Numbers as calls.c writes them."""
+    return "".join(f" {it:x}" for it in numbers)
+
+
+def hexed(data: bytes) -> str:
+    """Bytes as calls.c writes them."""
+    return f" {data.hex() or '-'}"
+
+
+def fault_of(it: Any) -> str:
+    """A fault as calls.c writes it."""
+    return told(it.addr, it.kind, it.write, it.ptr_tag, it.mem_tag)
+
+
+def error_of(it: Any) -> str:
+    """The fault that an exception of the module has, or none."""
+    if it is None:
+        return told(0, 0, 0, 0, 0)
+    kind = next(kind for kind, name in tb.FAULT_KINDS.items() if name == it.kind)
+    return told(it.address, kind, it.write, it.pointer_tag, it.memory_tag)
+
+
+def stop_of(code: int, it: Any) -> str:
+    """A stop as calls.c writes it."""
+    return told(code, it.left, it.code, it.number) + fault_of(it.fault)
+
+
+def main() -> None:
+    """Answers the lines of standard input."""
+    calls = Calls()
+    for line in sys.stdin:
+        what, *words = line.split()
+        answer: Callable[[Words], str] = getattr(calls, what)
+        print(f"{what}:{answer(iter(words))}")
+
+
+if __name__ == "__main__":
+    main()

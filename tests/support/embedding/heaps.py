@@ -1,0 +1,110 @@
+"""What the calls of a heap must answer: Scudo's layout, and tags as IRG draws them."""
+
+from collections.abc import Iterator
+
+from tests.support.embedding.lines import NO_FAULT, Line, line, words
+from tests.support.embedding.memory import BAD_ARGUMENT, FAULT, OK, TAG_CHECK, TRANSLATION
+
+MALLOC, FREE, CALLOC, REALLOC, MEMALIGN, USABLE_SIZE, LOAD, STORE, LOAD_TAG = range(1, 10)
+ABORT = 9
+MISALIGNED, UNMAPPED, HEADER_CORRUPT, INVALID_STATE = 1, 2, 3, 4
+CLASS_2 = 0x12000000  # blocks of 64 bytes, each with a header of 16 in front of its chunk
+Made = tuple[tuple[int, int, int], tuple[int, ...]]  # a call, and its code, answer and fault
+
+
+class Generator:
+    """RGSR_EL1, as IRG draws from it (Arm ARM DDI 0487, RandomTag and ChooseNonExcludedTag)."""
+
+    def __init__(self, seed: int, tag: int = 0) -> None:
+        self.seed, self.tag = seed, tag
+
+    def offset(self) -> int:
+        """Four random bits."""
+        found = 0
+        for bit in range(4):
+            top = (self.seed >> 5 ^ self.seed >> 3 ^ self.seed >> 2 ^ self.seed) % 2
+            self.seed = top << 15 | self.seed >> 1
+            found |= top << bit
+        return found
+
+    def draw(self, block: int) -> int:
+        """The tag of the chunk in a block: of even blocks odd, of odd blocks even and not 0."""
+        offset = self.offset()
+        allowed = [it for it in range(1, 16) if it % 2 != block % 2]
+        behind = [it for it in [*allowed, *(it + 16 for it in allowed)]
+                  if it >= self.tag + (offset > 0)]
+        self.tag = (behind + behind)[max(offset - 1, 0) % len(allowed)] % 16
+        return self.tag
+
+
+def chunk(tag: int, block: int = 0) -> int:
+    """The pointer to the chunk of a block of class 2."""
+    return CLASS_2 + 64 * block + 16 | tag << 56
+
+
+def value(answer: int) -> tuple[int, ...]:
+    """An answer of a call that is done."""
+    return (OK, answer, *NO_FAULT)
+
+
+def aborted(why: int) -> tuple[int, ...]:
+    """The check that a pointer fails."""
+    return (ABORT, why, *NO_FAULT)
+
+
+def heap(setup: tuple[int, int, int, int, int], *made: Made) -> Line:
+    """Calls of a heap: cookie, pages, mode, and the seed and the tag of its generator."""
+    rows: list[object] = []
+    for (op, first, second), (code, answer, *fault) in made:
+        rows += ["|", op, code, first, second, answer, *fault]
+    calls = words(it for call, _ in made for it in call)
+    return line(f"heap {words(setup)} {len(made)} {calls}".rstrip(), OK, *rows)
+
+
+def calls() -> Iterator[Line]:
+    """Each operation, done and refused."""
+    tags, setup = Generator(1), (1, 64, 0, 1, 0)
+    it, other = chunk(tags.draw(0)), chunk(tags.draw(1), 1)
+    yield heap(
+        setup, ((CALLOC, 3, 8), value(it)), ((LOAD, it + 16, 0), value(0)),
+        ((STORE, it, 42), value(0)), ((LOAD, it, 0), value(42)), ((LOAD_TAG, it, 0), value(1)),
+        ((LOAD_TAG, CLASS_2, 0), value(0)), ((USABLE_SIZE, it, 0), value(24)),
+        ((MALLOC, 24, 0), value(other)), ((FREE, 0, 0), value(0)), ((USABLE_SIZE, 0, 0), value(0)),
+        # Of the same class: the chunk stays, with its bytes.
+        ((REALLOC, it, 32), value(it)), ((USABLE_SIZE, it, 0), value(32)),
+        ((LOAD, it, 0), value(42)), ((MALLOC, 0x200000, 0), value(0)),
+        ((LOAD, it + 0x1000, 0), (FAULT, 0, CLASS_2 + 0x1010, TRANSLATION, 0, 1, 0)),
+    )
+    yield heap(
+        setup, ((MALLOC, 24, 0), value(it)), ((FREE, it, 0), value(0)),
+        ((LOAD, it, 0), (FAULT, 0, CLASS_2 + 16, TAG_CHECK, 0, 1, 3)),
+        ((STORE, it, 5), (FAULT, 0, CLASS_2 + 16, TAG_CHECK, 1, 1, 3)),
+        ((FREE, it, 0), aborted(INVALID_STATE)), ((FREE, it + 8, 0), aborted(MISALIGNED)),
+        ((USABLE_SIZE, it + 8, 0), aborted(MISALIGNED)),
+        ((REALLOC, it + 8, 5), aborted(MISALIGNED)),
+        ((FREE, it + (1 << 24), 0), aborted(UNMAPPED)), ((STORE, CLASS_2, 5), value(0)),
+        ((FREE, it, 0), aborted(HEADER_CORRUPT)), ((0, 0, 0), (BAD_ARGUMENT, 0, *NO_FAULT)),
+        ((10, 1, 1), (BAD_ARGUMENT, 0, *NO_FAULT)),
+    )
+
+
+def setups() -> Iterator[Line]:
+    """Each field of a setup does what it says."""
+    for seed, tag in ((1, 0), (2, 0), (1, 5), (0xFFFF, 14), (0x1234, 7), (1, 0xFFF5)):
+        first = chunk(Generator(seed, tag % 16).draw(0))
+        yield heap((1, 64, 0, seed, tag), ((MALLOC, 24, 0), value(first)))
+    it = chunk(1)
+    yield heap((1, 64, 1, 1, 0), ((MALLOC, 24, 0), value(it)), ((FREE, it, 0), value(0)),
+               ((LOAD, it, 0), value(0)))
+    yield heap((1, 1, 0, 1, 0), ((MALLOC, 24, 0), value(it)), ((MALLOC, 60000, 0), value(0)))
+    yield line("heap 1 4096 0 1 0 0", OK)
+    for pages in (0, 4097, 0xFFFFFFFF):
+        yield line(f"heap 1 {pages} 0 1 0 1 1 24 0", BAD_ARGUMENT, "|", 1, 0, 24, 0, 0, *NO_FAULT)
+
+
+def headers() -> dict[int, Line]:
+    """By the cookie, a line that loads the header of a chunk of 24 bytes."""
+    return {
+        cookie: Line(f"heap {cookie} 64 0 1 0 2 1 24 0 7 {CLASS_2} 0", "")
+        for cookie in (1, 2, 0x10001)
+    }

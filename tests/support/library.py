@@ -1,0 +1,61 @@
+"""The library for C, as an archive and as a shared object, and what programs are linked with."""
+
+import os
+import pathlib
+import shutil
+import sys
+
+from tests.support.once import make_once
+from tests.support.places import BUILT, EXAMPLES, ROOT, program
+from tests.support.running import Word, succeed
+from tests.support.tools import give_up, need
+
+ARCHIVE = "libtombolopan_c.a"
+
+
+def static_library(shared: pathlib.Path) -> pathlib.Path:
+    """The archive: one that was built elsewhere, or one over what the gate has just proved."""
+    if BUILT is not None:
+        found = program(ARCHIVE)
+        assert found.exists(), f"{found} is not there"
+        return found
+    need("rt")
+    return make_once(shared / ARCHIVE, lambda path: build(path))
+
+
+def build(path: pathlib.Path) -> None:
+    """Proves tombolopan_c over the gate's libraries and builds its archive: about two minutes."""
+    words: list[Word] = [sys.executable, ROOT / "tools" / "static_library.py", path]
+    succeed(words, seconds=1800)
+
+
+def kit() -> pathlib.Path:
+    """The folder of the toolchain."""
+    need("rt")
+    page = succeed(["rt", "doc"]).output.splitlines()[0]
+    return pathlib.Path(page).resolve().parent
+
+
+def heap() -> pathlib.Path:
+    """The archive that calls malloc, realloc and free by the names that the library uses."""
+    return kit() / "c" / "liblibc_c.a"
+
+
+def shared_object(shared: pathlib.Path) -> pathlib.Path:
+    """The library as a shared object, linked by the script that users have for it."""
+    archive = static_library(shared)
+
+    def link(path: pathlib.Path) -> None:
+        succeed([EXAMPLES / "embed" / "shared.sh", path, archive])
+
+    need("cc")
+    return make_once(shared / "libtombolopan.so", link)
+
+
+def rustc() -> str:
+    """Rust's compiler, which is not always where commands are looked for."""
+    at_home = pathlib.Path.home() / ".cargo" / "bin" / "rustc"
+    found = shutil.which("rustc") or (str(at_home) if os.access(at_home, os.X_OK) else None)
+    if found is None:
+        give_up("missing: rustc")
+    return str(found)

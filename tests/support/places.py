@@ -1,0 +1,19 @@
+"""Where the repository's files and the built programs are."""
+
+import os
+import pathlib
+
+ROOT = pathlib.Path(__file__).resolve().parents[2]
+TESTS = ROOT / "tests"
+EXAMPLES = ROOT / "examples"
+EXPECTED = TESTS / "expected"
+IMAGES = TESTS / "images"
+# A folder with mte_host, mte_run, disassemble and libtombolopan_c.a that were built elsewhere.
+BUILT = os.environ.get("TOMBOLOPAN_BUILT")
+
+
+def program(name: str) -> pathlib.Path:
+    """The built program of a crate."""
+    if BUILT is not None:
+        return pathlib.Path(BUILT).resolve() / name
+    return ROOT / "crates" / name / "out" / name

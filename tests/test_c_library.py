@@ -1,0 +1,247 @@
+"""The C library of tenants and its compiler driver: ordinary programs write and return as tenants
+what they write and return on this machine, by clang and gcc."""
+
+import pathlib
+import shutil
+
+import pytest
+
+from tests.support import c_tenants
+from tests.support.cache import tenant_library
+from tests.support.c_tenants import Tenant
+from tests.support.places import EXAMPLES
+from tests.support.programs import (
+    LEVELS, comment_value, compiled, is_for_clang, native, run_as_tenant, tenant_cc,
+)
+from tests.support.running import run
+from tests.support.tools import need
+
+PROGRAMS = sorted((EXAMPLES / "programs").glob("*.c"))
+TESTS = sorted((EXAMPLES / "libc" / "tests").glob("*.c*"))
+# By both compilers at all levels; each other one by clang at -O2 and by gcc at -O0.
+THOROUGH = {"json_pretty", "word_count", "runtime"}
+FEW = (("clang", "-O2"), ("gcc", "-O0"))
+ALL = tuple((compiler, level) for compiler in ("clang", "gcc") for level in LEVELS)
+
+
+def cases(sources: list[pathlib.Path]) -> list[tuple[pathlib.Path, str, str]]:
+    """Each source with the compilers and levels that it is tried by."""
+    return [
+        (source, compiler, level) for source in sources
+        for compiler, level in (ALL if source.stem in THOROUGH else FEW)
+        if compiler == "clang" or not is_for_clang(source)
+    ]
+
+
+def titled(value: object) -> str:
+    """The title of a case."""
+    return value.name if isinstance(value, pathlib.Path) else str(value)
+
+
+def need_compilers(compiler: str, source: pathlib.Path) -> None:
+    """The compilers of a case: for tenants, and for this machine."""
+    cross = "aarch64-linux-gnu-g++" if source.suffix == ".cpp" else "aarch64-linux-gnu-gcc"
+    for tool in ["clang", "ld.lld"] if compiler == "clang" else [cross]:
+        need(tool)
+    need("c++" if source.suffix == ".cpp" else "cc")
+
+
+@pytest.fixture(scope="session")
+def library() -> pathlib.Path:
+    """The library, which is built once."""
+    return tenant_library()
+
+
+@pytest.mark.parametrize("source, compiler, level", cases(PROGRAMS), ids=titled)
+def test_a_program_does_what_it_does_natively(
+    alone: pathlib.Path, library: pathlib.Path, tmp_path: pathlib.Path, source: pathlib.Path,
+    compiler: str, level: str,
+) -> None:
+    """Output and exit status of the programs of examples/programs over their inputs."""
+    need_compilers(compiler, source)
+    data = source.with_suffix(".txt")
+    program = native(source, tmp_path / "native", "-O2", "-Wall", "-Wextra")
+    wanted = run([program], stdin=data.read_bytes())
+    image = compiled(library, source, compiler, level, tmp_path / "image.elf")
+    ran = run_as_tenant(alone, image, "--input", str(data))
+    assert (ran.out, ran.status) == (wanted.out, wanted.status), ran.errors
+    assert ran.err == b""
+
+
+@pytest.mark.parametrize("source, compiler, level", cases(TESTS), ids=titled)
+def test_the_library_does_what_its_tests_expect(
+    alone: pathlib.Path, library: pathlib.Path, tmp_path: pathlib.Path, source: pathlib.Path,
+    compiler: str, level: str,
+) -> None:
+    """A test of examples/libc/tests ends as its comment says, or else as it does natively."""
+    need_compilers(compiler, source)
+    image = compiled(library, source, compiler, level, tmp_path / "image.elf", ["-w"])
+    ran = run_as_tenant(alone, image)
+    ends = comment_value(source, "ends")
+    if ends is not None:
+        assert ran.status == int(ends), ran.errors
+        assert (comment_value(source, "tells") or "") in ran.errors
+        return
+    program = native(source, tmp_path / "native", "-O1", "-w", "-ffp-contract=off")
+    wanted = run([program])
+    assert (ran.out, ran.status, ran.err) == (wanted.out, wanted.status, b""), ran.errors
+
+
+SHORT = [tenant.name for tenant in c_tenants.tenants() if not tenant.is_long]
+
+
+@pytest.mark.parametrize("compiler, level", FEW)
+@pytest.mark.parametrize("name", SHORT)
+def test_tenants_in_c_are_told_the_same_over_the_library(
+    host: pathlib.Path, alone: pathlib.Path, library: pathlib.Path, tmp_path: pathlib.Path,
+    name: str, compiler: str, level: str,
+) -> None:
+    """Those of examples/c, whose comments expect the same of them when tenant-cc builds them."""
+    tenant = Tenant(c_tenants.FOLDER / f"{name}.c")
+    need_compilers(compiler, tenant.source)
+    image = compiled(library, tenant.source, compiler, level, tmp_path / "image.elf")
+    report = c_tenants.report_of(host, tenant, image)
+    ran = c_tenants.run_alone(alone, tenant, image)
+    assert all(text in report for text in tenant.values("expect")), report
+    assert all(text in ran.errors for text in tenant.values("cause")), ran.errors
+    assert ran.status == tenant.ends
+    if tenant.ends < 128:
+        # The library's strlen reads words, up to seven bytes past the end of a string.
+        assert c_tenants.run_alone(alone, tenant, image, "--exact=writes") == ran
+
+
+def linked(
+    library: pathlib.Path, folder: pathlib.Path, text: str, *words: str
+) -> tuple[pathlib.Path, str]:
+    """The image of a source by tenant-cc with its own options, and what it says."""
+    need("clang", "ld.lld")
+    source, image = folder / "source.c", folder / "image.elf"
+    source.write_text(text, encoding="utf-8")
+    ran = tenant_cc(library, "--compiler=clang", *words, "-O1", "-o", str(image), str(source))
+    assert ran.status == 0, ran.errors
+    return image, ran.errors
+
+
+ARGUMENTS = """
+#include <stdio.h>
+int main(int count, char **words)
+{
+    for (int i = 0; i < count; i++)
+        printf("[%s]", words[i]);
+    return count;
+}
+"""
+
+
+@pytest.mark.parametrize("given, wanted", [
+    ([], b"[tenant]"),
+    (["--arguments=one 'two words' \"\" \\\\"], b"[tenant][one][two words][][\\]"),
+])
+def test_arguments_are_those_of_the_driver(
+    alone: pathlib.Path, library: pathlib.Path, tmp_path: pathlib.Path, given: list[str],
+    wanted: bytes,
+) -> None:
+    """`--arguments`, split as a shell does; without it there is the first word alone."""
+    image, said = linked(library, tmp_path, ARGUMENTS, *given)
+    ran = run_as_tenant(alone, image)
+    assert (ran.out, ran.status, said) == (wanted, wanted.count(b"["), "")
+
+
+DEEP = """
+#include <string.h>
+static int depth(int left)
+{
+    char room[4000];
+    memset(room, left, sizeof room);
+    __asm__ volatile("" : : "r"(room) : "memory");
+    return left ? depth(left - 1) + room[0] - (char)left : 0;
+}
+int main(void) { return depth(20); }
+"""
+
+
+def test_a_stack_is_as_large_as_it_is_wanted(
+    alone: pathlib.Path, library: pathlib.Path, tmp_path: pathlib.Path
+) -> None:
+    """80 KB do not fit into the host's stack, and do into one of the heap; a second one overflows
+    into a page that is not mapped."""
+    image, _ = linked(library, tmp_path, DEEP)
+    ran = run_as_tenant(alone, image)
+    assert ran.status == 129 and "\nCause: Stack Overflow, " in ran.errors
+    image, _ = linked(library, tmp_path, DEEP, "--stack=100000")
+    assert run_as_tenant(alone, image).status == 0
+    image, _ = linked(library, tmp_path, DEEP.replace("20", "60"), "--stack=100000")
+    ran = run_as_tenant(alone, image)
+    assert ran.status == 129 and "\nCause: [MTE]: Buffer Underflow, " in ran.errors
+
+
+def test_objects_are_compiled_and_linked_apart(
+    alone: pathlib.Path, library: pathlib.Path, tmp_path: pathlib.Path
+) -> None:
+    """-c by each compiler, and one image of both objects."""
+    need("clang", "ld.lld", "aarch64-linux-gnu-gcc")
+    (tmp_path / "one.c").write_text("int two(int); int main(void) { return two(20); }\n")
+    (tmp_path / "two.c").write_text("int two(int number) { return 2 * number; }\n")
+    for name, compiler in (("one", "clang"), ("two", "gcc")):
+        words = ("-c", "-o", f"{tmp_path}/{name}.o", f"{tmp_path}/{name}.c")
+        assert tenant_cc(library, f"--compiler={compiler}", *words).status == 0
+    image = tmp_path / "image.elf"
+    ran = tenant_cc(library, "-o", str(image), f"{tmp_path}/one.o", f"{tmp_path}/two.o")
+    assert ran.status == 0 and run_as_tenant(alone, image).status == 40
+
+
+def test_words_that_the_host_lacks_are_named(
+    alone: pathlib.Path, library: pathlib.Path, tmp_path: pathlib.Path
+) -> None:
+    """The function that has them, behind a link; and running it ends so."""
+    text = 'int main(void) { __asm__ volatile(".inst 0x1e622820"); return 0; }\n'
+    image, said = linked(library, tmp_path, text)
+    assert said.startswith(f"tenant-cc: {image}: the host has no such instruction: ")
+    assert "main" in said and len(said.splitlines()) == 1
+    assert run_as_tenant(alone, image).status == 132
+
+
+@pytest.mark.parametrize("words, said", [
+    (["--compiler=icc", "a.c"], "--compiler is clang or gcc, not icc"),
+    (["--stack=1048577", "a.c"], "--stack is at most 1048576, not 1048577"),
+    (["--stack=big", "a.c"], "--stack is at most 1048576, not big"),
+])
+def test_options_of_the_driver_that_are_refused(
+    library: pathlib.Path, words: list[str], said: str
+) -> None:
+    """A line and status 2."""
+    need("clang")
+    ran = tenant_cc(library, *words)
+    assert (ran.status, ran.errors) == (2, f"tenant-cc: {said}\n")
+
+
+def test_a_library_that_is_not_there(tmp_path: pathlib.Path) -> None:
+    """The driver says what builds it."""
+    need("clang")
+    ran = tenant_cc(tmp_path, "a.c")
+    script = EXAMPLES / "libc" / "build.py"
+    line = f"tenant-cc: {tmp_path.resolve()}/lib/libc.a is not there: build it by {script}\n"
+    assert (ran.status, ran.errors) == (2, line)
+
+
+def test_the_driver_has_a_help(library: pathlib.Path) -> None:
+    """Where it is asked for."""
+    for word in ("--help", "-h"):
+        ran = tenant_cc(library, word)
+        assert ran.status == 1 and "    tenant-cc [OPTION...] FILE...\n" in ran.errors
+
+
+def test_a_copy_of_the_library_serves_as_well(
+    alone: pathlib.Path, library: pathlib.Path, tmp_path: pathlib.Path
+) -> None:
+    """TENANT_LIBRARY names it, as --library does."""
+    need("clang", "ld.lld")
+    folder = tmp_path / "library"
+    for part in ("include", "lib"):
+        shutil.copytree(library / part, folder / part)
+    (tmp_path / "a.c").write_text('#include <stdio.h>\nint main(void) { puts("hi"); return 3; }\n')
+    words = [str(EXAMPLES / "libc" / "tenant-cc"), "-O2", "-o", str(tmp_path / "a.elf"),
+             str(tmp_path / "a.c")]
+    assert run(words, extra={"TENANT_LIBRARY": str(folder)}).status == 0
+    ran = run_as_tenant(alone, tmp_path / "a.elf")
+    assert (ran.out, ran.status) == (b"hi\n", 3)

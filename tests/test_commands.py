@@ -1,0 +1,154 @@
+"""The two scripts that the README begins with: what they print, and by which program."""
+
+import os
+import pathlib
+import re
+import time
+
+import pytest
+
+from tests.support.checkout import copy_files, link_built, make_stub
+from tests.support.pages import Part, parts_of, sample_of
+from tests.support.places import EXAMPLES, ROOT
+from tests.support.running import Ran, run, succeed
+from tests.support.samples import assert_sample, tenant
+from tests.support.tools import need
+
+# A toolchain that says where and how it was called.
+STUB = 'echo "rt in $(basename "$PWD"): $*"\n'
+UNSET = {"TOMBOLOPAN_BUILT": ""}
+EXPLAINED = ("mte_run: fault TagCheck", "0x0000000012000010 is in the block")
+
+
+@pytest.fixture
+def clone(tmp_path: pathlib.Path) -> pathlib.Path:
+    """A checkout in which nothing was built."""
+    return copy_files(tmp_path / "clone", "examples/", "crates/mte_host/", "crates/mte_run/",
+                      "crates.txt")
+
+
+def command_of(page: str, script: str) -> str:
+    """The one command of a page that runs a script."""
+    found = [command for part in parts_of(page) if part.has_commands
+             for command in part.commands() if command.startswith(script)]
+    assert len(found) == 1, f"{page} shows {script} {len(found)} times"
+    return found[0]
+
+
+def report_sample() -> Part:
+    """The report that the README shows."""
+    return sample_of("README.md", "tenant 1\n")
+
+
+def explanation_sample() -> Part:
+    """The explanation that the README shows."""
+    return sample_of("README.md", EXPLAINED[0])
+
+
+def run_script(name: str, *words: str, folder: pathlib.Path = ROOT, built: str = "",
+               path: str = "") -> Ran:
+    """Runs a script of examples/ in a checkout, with programs that were built elsewhere."""
+    extra = {"TOMBOLOPAN_BUILT": built, "PATH": path or os.environ["PATH"]}
+    return run([folder / "examples" / name, *words], cwd=folder, extra=extra)
+
+
+def test_hi(host: pathlib.Path) -> None:
+    """The README's first command prints the report that the README shows."""
+    assert command_of("README.md", "examples/hi.sh") == "examples/hi.sh"
+    ran = run_script("hi.sh", built=str(host.parent))
+    assert (ran.status, ran.errors) == (0, "")
+    assert_sample(report_sample(), ran.output)
+
+
+def test_hi_by_the_built_program(host: pathlib.Path, clone: pathlib.Path) -> None:
+    """Where the crate's program is there and newer than all sources, nothing is compiled."""
+    stub = make_stub(clone / "stub", "rt", "exit 1")
+    link_built(clone, host)
+    ran = run_script("hi.sh", folder=clone, path=stub["PATH"])
+    assert (ran.status, ran.output, ran.errors) == (0, report_sample().text, "")
+
+
+def test_hi_compiles(host: pathlib.Path, clone: pathlib.Path) -> None:
+    """Without a program, and where a source is newer, it is compiled in its crate by rt try."""
+    stub = make_stub(clone / "stub", "rt", STUB)
+    message = "hi.sh: compiling the program without proving it; this takes one to two minutes\n"
+    here = clone / "examples"
+    wanted = (f"rt in mte_host: try -- --frames 11 {here / 'hi.script'} {here / 'hi.elf'}\n")
+    ran = run_script("hi.sh", folder=clone, path=stub["PATH"])
+    assert (ran.status, ran.output, ran.errors) == (0, wanted, message)
+    link_built(clone, host)
+    newest = time.time() + 60
+    os.utime(clone / "crates" / "mte_host" / "src" / "main.rt", (newest, newest))
+    ran = run_script("hi.sh", folder=clone, path=stub["PATH"])
+    assert (ran.status, ran.output, ran.errors) == (0, wanted, message)
+
+
+@pytest.fixture
+def image(shared: pathlib.Path) -> pathlib.Path:
+    """The tenant that the README explains."""
+    need("clang", "ld.lld")
+    return tenant(shared, EXAMPLES / "c" / "use_after_free.c")
+
+
+def test_why(alone: pathlib.Path, image: pathlib.Path) -> None:
+    """The explanation begins as the README shows it."""
+    assert re.fullmatch(r"examples/why\.sh \w+\.elf", command_of("README.md", "examples/why.sh"))
+    ran = run_script("why.sh", str(image), built=str(alone.parent))
+    assert (ran.status, ran.output) == (129, "")
+    assert ran.errors.startswith(EXPLAINED[0])
+    assert_sample(explanation_sample(), ran.errors, EXPLAINED[1])
+
+
+def test_why_draws(alone: pathlib.Path, image: pathlib.Path) -> None:
+    """The picture goes to standard output."""
+    ran = run_script("why.sh", "--map", "-", str(image), built=str(alone.parent))
+    assert ran.status == 129
+    assert ran.output.startswith("<svg") and ran.output.endswith("</svg>\n")
+
+
+def test_why_by_the_built_program(alone: pathlib.Path, image: pathlib.Path,
+                                  clone: pathlib.Path) -> None:
+    """Where the crate's program is there, it is used."""
+    stub = make_stub(clone / "stub", "rt", "exit 1")
+    link_built(clone, alone)
+    ran = run_script("why.sh", str(image), folder=clone, path=stub["PATH"])
+    assert ran.status == 129
+    assert_sample(explanation_sample(), ran.errors, EXPLAINED[1])
+
+
+def test_why_compiles(clone: pathlib.Path) -> None:
+    """Without a program mte_run is compiled by rt try, with the files that are named."""
+    stub = make_stub(clone / "stub", "rt", STUB)
+    for name in ("T.elf", "input"):
+        (clone / name).touch()
+    ran = run_script("why.sh", "--input", "input", "--last", "3", "./T.elf", folder=clone,
+                     path=stub["PATH"])
+    wanted = (f"rt in mte_run: try --data input={clone / 'input'} --data T.elf={clone / 'T.elf'}"
+              " -- --input input --last 3 T.elf\n")
+    message = "why.sh: compiling mte_run without proving it: two to three minutes\n"
+    assert (ran.status, ran.output, ran.errors) == (0, wanted, message)
+
+
+def test_why_usage(clone: pathlib.Path) -> None:
+    """Without a file it says what it wants."""
+    for words in ((), ("--help",)):
+        ran = run_script("why.sh", *words, folder=clone)
+        assert ran.status == 2
+        assert ran.output.startswith("Tells why a tenant ended")
+        assert "    why.sh [OPTION..] ELF\n" in ran.output
+    stub = make_stub(clone / "stub", "rt", STUB)
+    ran = run_script("why.sh", "absent.elf", folder=clone, path=stub["PATH"])
+    assert (ran.status, ran.output) == (2, "")
+    assert ran.errors == "why.sh: none of the words is a file: absent.elf\n"
+
+
+def test_first_image(tmp_path: pathlib.Path) -> None:
+    """The first example's image is what build_image.py makes of its words."""
+    image = (EXAMPLES / "hi.elf").read_bytes()
+    words = [image[at:at + 4][::-1].hex() for at in range(0x78, len(image), 4)]
+    made = tmp_path / "made.elf"
+    succeed([EXAMPLES / "build_image.py", made, *words])
+    assert made.read_bytes() == image
+    ran = run([EXAMPLES / "build_image.py", made, "no-word"])
+    assert (ran.status, ran.errors) == (
+        1, "build_image.py: a WORD isn't 8 hexadecimal digits\n")

@@ -1,0 +1,77 @@
+"""The instruction set as data: what is written from it, what the checks notice, and what the tool
+tells of words. Nothing that was built is needed."""
+
+import re
+import sys
+
+import pytest
+
+from tests.support.places import ROOT
+from tests.support.running import Ran, run
+
+TOOLS = ROOT / "tools"
+WRONG_CHANGES = 12
+
+
+def isa(*words: str) -> Ran:
+    """What tools/isa.py says."""
+    return run([sys.executable, TOOLS / "isa.py", *words])
+
+
+def test_files_are_what_the_data_give() -> None:
+    """Each written file follows from isa/, and the definitions by hand agree with it."""
+    assert isa("--check") == Ran(0, b"", b"")
+
+
+def test_written_files_say_so() -> None:
+    """Each written file is there, and its first line says that it is written."""
+    files = isa("--files").output.split()
+    assert len(files) >= 15
+    for name in files:
+        first = (ROOT / name).read_text(encoding="utf-8").split("\n")[0]
+        assert "Written by tools/isa.py from isa/a64." in first and "Do not edit." in first, name
+
+
+def test_words_are_explained() -> None:
+    """The example of each row on the page is a word of that row, with its fields."""
+    page = (ROOT / "docs" / "INSTRUCTIONS.md").read_text(encoding="utf-8")
+    examples = re.findall(r"^### (\w+)\n.*?^Example: `(\w+)`", page, re.M | re.S)
+    assert len(examples) >= 41
+    for row, word in examples[::4]:
+        ran = isa("--why", word)
+        _, found, told = f"\n{ran.output}".partition(f"\n{word}: {row}")
+        assert ran.status == 0 and found and "refused" not in told, ran.output + ran.errors
+
+
+@pytest.mark.parametrize(("word", "told"), [
+    ("8B07FCC5", "8B07FCC5: AddSubShift sf=1 op=0 s=0 shift=0 rm=7 imm6=63 rn=6 rd=5\n"
+     "  ADD, ADDS, SUB, SUBS (shifted register).\n"
+     "  form AddLsl rm=7 imm6=63 rn=6 rd=5: add_shifted_gpr\n"),
+    ("8BC7FCC5", "8BC7FCC5: AddSubShift sf=1 op=0 s=0 shift=3 rm=7 imm6=63 rn=6 rd=5\n"
+     "  ADD, ADDS, SUB, SUBS (shifted register).\n"
+     "  refused: allowed only where `shift` is not 3\n"),
+    ("3201F083", "3201F083: LogImm sf=0 opc=1 n=0 immr=1 imms=60 rn=4 rd=3\n"
+     "  AND, ORR, EOR, ANDS (immediate).\n"
+     "  a form with its mask or constant worked out, where its registers are below 31\n"),
+    ("D43FFFE0", "D43FFFE0: Brk imm16=65535\n  BRK.\n  no form of its own\n"),
+    ("00000000", "00000000: no row has its fixed bits\n"),
+])
+def test_a_word_is_explained(word: str, told: str) -> None:
+    """A word with a form, a refused one, one whose mask is worked out, one without a form or a
+    row."""
+    assert isa("--why", word) == Ran(0, told.encode(), b"")
+
+
+def test_rows_that_overlap() -> None:
+    """The rows that overlap are those of the page."""
+    page = (ROOT / "docs" / "INSTRUCTIONS.md").read_text(encoding="utf-8")
+    listed = isa("--overlaps").output
+    assert listed.count("\n") >= 7 and page.endswith(listed)
+
+
+def test_wrong_changes_are_noticed() -> None:
+    """Of the wrong changes to data, written files and definitions, some that are drawn: each makes
+    the check red."""
+    ran = run([sys.executable, TOOLS / "isa_plants.py", "--count", str(WRONG_CHANGES)],
+              seconds=300)
+    assert ran == Ran(0, f"{WRONG_CHANGES} noticed, 0 not, green after the last\n".encode(), b"")

@@ -1,0 +1,1 @@
+"""The instruction set as data, and what is written from it."""

@@ -1,0 +1,74 @@
+#!/usr/bin/env python3
+"""The border to C: its numbers are written once, and its structs and calls compared.
+
+    border.py --check    exit with 1 where the header, tombolopan.rs, tombolopan.py or
+                         docs/EMBEDDING.md says something else than the crate tombolopan_c, or the
+                         header does not compile as C99, C11 and C++17
+    border.py --write    write what tools/border_to_c/codes.toml has into these files
+    border.py --root DIR --check    the same in another copy of the repository
+
+Proofs name the fields of a struct and the arguments of a call; in which order they stand is in no
+contract. So what C sees is compared here: names, types, order and offsets.
+"""
+
+import argparse
+import functools
+import pathlib
+import sys
+
+from border_to_c import compare, compiled, tables, written
+
+HERE = pathlib.Path(__file__).resolve().parent.parent
+
+
+def crate_files(root: pathlib.Path) -> list[str]:
+    """The sources of the crate, as paths of the repository."""
+    return sorted(str(it.relative_to(root)) for it in (root / compare.CRATE).glob("*.rt"))
+
+
+def write(root: pathlib.Path) -> None:
+    """Writes each part that is not what the tables give."""
+    known = tables.read((root / tables.SOURCE).read_text(encoding="utf-8"))
+    for part in written.PARTS:
+        path = root / part.path
+        text = path.read_text(encoding="utf-8")
+        new = written.replaced(part, text, known)
+        if new != text:
+            path.write_text(new, encoding="utf-8")
+            print(f"wrote {part.name} of {part.path}")
+
+
+def check(root: pathlib.Path) -> list[str]:
+    """Everything that differs, and what compilers say of the header."""
+    @functools.cache
+    def read_file(path: str) -> str:
+        return (root / path).read_text(encoding="utf-8")
+
+    try:
+        found = compare.differences(read_file, crate_files(root))
+        return found or compiled.complaints(root, read_file, crate_files(root))
+    except OSError as error:
+        return [str(error)]
+
+
+def main() -> int:
+    """The command line."""
+    parser = argparse.ArgumentParser(
+        description=__doc__, formatter_class=argparse.RawDescriptionHelpFormatter
+    )
+    what = parser.add_mutually_exclusive_group(required=True)
+    what.add_argument("--check", action="store_true", help="compare, and write nothing")
+    what.add_argument("--write", action="store_true", help="write what follows from the tables")
+    parser.add_argument("--root", type=pathlib.Path, default=HERE, help="the repository")
+    options = parser.parse_args()
+    if options.write:
+        write(options.root)
+        return 0
+    found = check(options.root)
+    for line in found:
+        print(line, file=sys.stderr)
+    return 1 if found else 0
+
+
+if __name__ == "__main__":
+    sys.exit(main())

@@ -1,0 +1,161 @@
+"""What is written from the tables into the header, the bindings and the page, between marks."""
+
+import re
+import textwrap
+from collections.abc import Callable
+from dataclasses import dataclass
+
+from .shapes import BorderError
+from .tables import Enum, Tables
+
+WIDTH = 100
+BEGIN, END = "Written by tools/border.py: {}", "End of what tools/border.py writes."
+
+
+@dataclass(frozen=True)
+class Part:
+    """A part of a file: how its marks begin and end, its name, and its text."""
+
+    path: str
+    mark: tuple[str, str]
+    name: str
+    text: Callable[[Tables], str]
+
+    def marks(self) -> tuple[str, str]:
+        """The lines around the part."""
+        before, after = self.mark
+        return f"{before}{BEGIN.format(self.name)}{after}\n", f"{before}{END}{after}\n"
+
+
+def c_enum(it: Enum) -> str:
+    """An enum of C, each number with what it means beside it."""
+    rows = [f"TB_{entry.name} = {entry.number}" for entry in it.entries]
+    rows = [f"{row}," for row in rows[:-1]] + rows[-1:]
+    column = max(len(row) for row in rows)
+    about = [f" /* {entry.about} */" if entry.about else "" for entry in it.entries]
+    lines = [f"    {row:{column}}{more}".rstrip() for row, more in zip(rows, about)]
+    head = textwrap.fill(it.about, WIDTH - 6, subsequent_indent="   ", break_on_hyphens=False)
+    return f"/* {head} */\nenum {it.name} {{\n" + "\n".join(lines) + "\n};\n"
+
+
+def c_enums(tables: Tables) -> str:
+    """All enums of the header."""
+    return "\n".join(c_enum(it) for it in tables.enums)
+
+
+def c_function(it: Enum) -> str:
+    """The function of C that answers the texts of an enum."""
+    assert it.texts
+    names = [(name if name == "0" else f"TB_{name}", text) for name, text in it.texts_of()]
+    cases = "".join(f'    case {name}: return "{text}";\n' for name, text in names)
+    return (
+        f"/* {it.texts.c} */\n"
+        f"static inline const char *tb_{it.texts.name}(uint32_t {it.texts.argument}) {{\n"
+        f"    switch ({it.texts.argument}) {{\n{cases}"
+        f'    default: return "unknown";\n    }}\n}}\n'
+    )
+
+
+def c_functions(tables: Tables) -> str:
+    """All functions of texts of the header."""
+    return "\n".join(c_function(it) for it in tables.enums if it.texts)
+
+
+def rust_constants(tables: Tables) -> str:
+    """The constants in Rust."""
+    groups = [
+        "".join(f"pub const TB_{it.name}: u32 = {it.number};\n" for it in group.entries)
+        for group in tables.enums
+    ]
+    return "\n".join([f"pub const TB_VERSION: u32 = {tables.version};\n", *groups])
+
+
+def rust_function(it: Enum) -> str:
+    """The function of Rust that answers the texts of an enum."""
+    assert it.texts
+    names = [(name if name == "0" else f"TB_{name}", text) for name, text in it.texts_of()]
+    arms = "".join(f'        {name} => "{text}",\n' for name, text in names)
+    return (
+        f"/// {it.texts.rust}\n"
+        f"pub fn {it.texts.name}({it.texts.argument}: u32) -> &'static str {{\n"
+        f"    match {it.texts.argument} {{\n{arms}        _ => \"unknown\",\n    }}\n}}\n"
+    )
+
+
+def rust_functions(tables: Tables) -> str:
+    """All functions of texts in Rust."""
+    return "\n".join(rust_function(it) for it in tables.enums if it.texts)
+
+
+def python_tables(tables: Tables) -> str:
+    """The constants in Python, and the texts of each number."""
+    text = f"VERSION = {tables.version}\n"
+    for it in tables.enums:
+        text += f"\n# {it.name}\n" + "".join(f"{at.name} = {at.number}\n" for at in it.entries)
+        if it.texts:
+            pairs = ", ".join(f'{name}: "{words}"' for name, words in it.texts_of())
+            text += f"{it.texts.table} = {{\n{indented(pairs)},\n}}\n"
+    return text
+
+
+def indented(pairs: str) -> str:
+    """A list of pairs in lines; none is broken inside its text."""
+    held = pairs.replace(": ", ":\0").replace(" ", "\0").replace(",\0", ", ")
+    filled = textwrap.fill(held, WIDTH, initial_indent="    ", subsequent_indent="    ",
+                           break_long_words=False, break_on_hyphens=False)
+    return filled.replace("\0", " ")
+
+
+def in_a_table(about: str) -> str:
+    """The first sentence of what is said of an enum, as a table has it."""
+    first = about.partition(". ")[0].rstrip(".")
+    return re.sub(r"(tb_\w+)", r"`\1`", first[0].lower() + first[1:])
+
+
+def page_table(tables: Tables) -> str:
+    """The numbers as a table of the page."""
+    rows = [
+        f"| `{it.name}`: {in_a_table(it.about)} | "
+        + ", ".join(f"`TB_{entry.name}` {entry.number}" for entry in it.entries) + " |\n"
+        for it in tables.enums
+    ]
+    head = "| Numbers | Names in C and in Rust; in Python without `TB_` |\n|---|---|\n"
+    return head + "".join(rows)
+
+
+C, RUST, PYTHON, PAGE = ("// ", ""), ("// ", ""), ("# ", ""), ("<!-- ", " -->")
+HEADER = "include/tombolopan.h"
+RUST_FILE = "examples/embed/tombolopan.rs"
+PYTHON_FILE = "examples/embed/tombolopan.py"
+PAGE_FILE = "docs/EMBEDDING.md"
+PARTS = [
+    Part(HEADER, C, "the numbers", c_enums),
+    Part(HEADER, C, "the texts", c_functions),
+    Part(RUST_FILE, RUST, "the numbers", rust_constants),
+    Part(RUST_FILE, RUST, "the texts", rust_functions),
+    Part(PYTHON_FILE, PYTHON, "the numbers and texts", python_tables),
+    Part(PAGE_FILE, PAGE, "the numbers", page_table),
+]
+
+
+def halves(part: Part, text: str) -> tuple[str, str, str]:
+    """What stands in front of a part, in it and behind it, without its marks."""
+    begin, end = part.marks()
+    if text.count(begin) != 1 or end not in text.partition(begin)[2]:
+        raise BorderError(f"{part.path}: the marks of {part.name} are not there, each once")
+    before, _, rest = text.partition(begin)
+    inside, _, after = rest.partition(end)
+    return before, inside, after
+
+
+def wanted(part: Part, tables: Tables) -> str:
+    """What stands between the marks; lines of a page need an empty line around a table."""
+    text = part.text(tables)
+    return f"\n{text}\n"
+
+
+def replaced(part: Part, text: str, tables: Tables) -> str:
+    """The text of a file with the part as the tables give it."""
+    before, _, after = halves(part, text)
+    begin, end = part.marks()
+    return before + begin + wanted(part, tables) + end + after

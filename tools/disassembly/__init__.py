@@ -1,0 +1,1 @@
+"""The rows of the table of encodings, as the tests draw words of them."""

@@ -1,0 +1,176 @@
+#!/usr/bin/env python3
+"""Plants wrong bodies, one at a time, and says what of the test command notices each.
+
+    plants.py [--built FOLDER] [--jobs N] [--proofs] [--only WORD] [FILE.toml..]
+
+A file (tools/plants/*.toml) has a table for each body: the crate, the file, the text that is there
+once (`old`), the text in its place (`new`), and what a user then sees (`shows`). For each one this
+copies the checkout, changes the file and tries what the test command has:
+
+    the border to C and its laws, where the crate is the library
+    the cases of the suite, over a build of the program without proof (unproved.py)
+    with --proofs the proof of the crate, by `rt ci CRATE`, where nothing else noticed it
+
+FOLDER has the right programs (mte_host, mte_run, disassemble, libtombolopan_c.a). Exit status 1
+where one is not noticed.
+"""
+import argparse
+import concurrent.futures
+import os
+import pathlib
+import re
+import shutil
+import subprocess
+import sys
+import tempfile
+import tomllib
+from dataclasses import dataclass
+from typing import Optional
+
+ROOT = pathlib.Path(__file__).resolve().parent.parent
+PYTHON = "/usr/bin/python3"
+# The cases that look at each program, the quickest first.
+SUITES = {
+    "mte_run": ["tests/test_explanations.py", "tests/test_run_statuses.py", "tests/test_gdb.py"],
+    "mte_host": ["tests/test_host.py"],
+}
+
+
+@dataclass(frozen=True)
+class Plant:
+    """A wrong body."""
+
+    name: str
+    crate: str
+    file: str
+    shows: str
+    old: str
+    new: str
+
+    @property
+    def program(self) -> Optional[str]:
+        """The program that shows it; the library for C has none."""
+        if self.crate == "tombolopan_c":
+            return None
+        return "mte_host" if self.crate == "mte_host" else "mte_run"
+
+    def apply(self, checkout: pathlib.Path) -> None:
+        """Changes the file of a checkout."""
+        path = checkout / self.file
+        text = path.read_text(encoding="utf-8")
+        if text.count(self.old) != 1:
+            count = text.count(self.old)
+            sys.exit(f"plants.py: {self.name}: its text is {count} times in {self.file}")
+        path.write_text(text.replace(self.old, self.new), encoding="utf-8")
+
+
+def read_plants(files: list[pathlib.Path], word: str) -> list[Plant]:
+    """The plants of some files whose names have a word."""
+    tables = [(name, table) for file in files
+              for name, table in tomllib.loads(file.read_text(encoding="utf-8")).items()]
+    return [Plant(name=name, **table) for name, table in tables if word in name]
+
+
+def copy_checkout(to: pathlib.Path) -> None:
+    """Copies the files of this checkout that git knows or does not ignore."""
+    names = subprocess.run(
+        ["git", "ls-files", "-co", "--exclude-standard"], cwd=ROOT, stdout=subprocess.PIPE,
+        text=True, check=True,
+    ).stdout.splitlines()
+    for name in names:
+        source, path = ROOT / name, to / name
+        if source.is_file():
+            path.parent.mkdir(parents=True, exist_ok=True)
+            shutil.copy2(source, path)
+    subprocess.run(["git", "init", "-q"], cwd=to, check=True)
+    subprocess.run(["git", "add", "-A"], cwd=to, check=True)
+
+
+def first_line(text: str, pattern: str) -> str:
+    """The first line that has a pattern, or the last line."""
+    lines = [line for line in text.splitlines() if re.search(pattern, line)]
+    return (lines or text.strip().splitlines() or ["?"])[0][:140]
+
+
+def by_border(checkout: pathlib.Path) -> Optional[str]:
+    """What the check of the border to C says, where it is red."""
+    ran = subprocess.run(
+        [PYTHON, "tools/border.py", "--check"], cwd=checkout, stdout=subprocess.PIPE,
+        stderr=subprocess.STDOUT, text=True, check=False,
+    )
+    return None if ran.returncode == 0 else f"tools/border.py: {first_line(ran.stdout, '.')}"
+
+
+def by_suite(checkout: pathlib.Path, plant: Plant, built: pathlib.Path) -> Optional[str]:
+    """The first case of the suite that is red, over a build without proof."""
+    name = plant.program
+    assert name is not None
+    programs = checkout / "built"
+    programs.mkdir()
+    for path in built.iterdir():
+        if path.name != name:
+            (programs / path.name).symlink_to(path)
+    made = subprocess.run(
+        [sys.executable, ROOT / "tools/unproved.py", checkout, programs / name, name],
+        stdout=subprocess.PIPE, stderr=subprocess.STDOUT, text=True, check=False,
+    )
+    if made.returncode != 0:
+        return f"it does not compile: {first_line(made.stdout, 'error')}"
+    ran = subprocess.run(
+        [PYTHON, "-m", "pytest", "-x", *SUITES[name]], cwd=checkout, stdout=subprocess.PIPE,
+        stderr=subprocess.STDOUT, text=True, check=False,
+        env={**os.environ, "TOMBOLOPAN_BUILT": str(programs), "CI": "true"},
+    )
+    return None if ran.returncode == 0 else first_line(ran.stdout, "^(FAILED|ERROR)")
+
+
+def by_proof(checkout: pathlib.Path, plant: Plant) -> Optional[str]:
+    """The goal that stays open, where the proof of the crate is refused."""
+    ran = subprocess.run(
+        ["rt", "ci", plant.crate], cwd=checkout, stdout=subprocess.PIPE, stderr=subprocess.STDOUT,
+        text=True, check=False, env={key: it for key, it in os.environ.items() if key != "CI"},
+    )
+    goal = first_line(ran.stdout, "did not prove|error")
+    return None if ran.returncode == 0 else f"proof: {goal}"
+
+
+def try_plant(plant: Plant, built: pathlib.Path, proofs: bool) -> tuple[Plant, Optional[str]]:
+    """What notices a plant."""
+    with tempfile.TemporaryDirectory(prefix="plant-") as folder:
+        checkout = pathlib.Path(folder)
+        copy_checkout(checkout)
+        plant.apply(checkout)
+        if plant.program is None:
+            found = by_border(checkout)
+        else:
+            found = by_suite(checkout, plant, built)
+        if found is None and proofs:
+            found = by_proof(checkout, plant)
+        return plant, found
+
+
+def main() -> None:
+    """Tries the plants, and counts what was noticed."""
+    parser = argparse.ArgumentParser(description=__doc__.split("\n", 1)[0])
+    parser.add_argument("files", nargs="*", type=pathlib.Path)
+    parser.add_argument("--built", type=pathlib.Path, required=True)
+    parser.add_argument("--jobs", type=int, default=1)
+    parser.add_argument("--proofs", action="store_true")
+    parser.add_argument("--only", default="")
+    options = parser.parse_args()
+    files = options.files or sorted((ROOT / "tools" / "plants").glob("*.toml"))
+    plants = read_plants(files, options.only)
+    noticed = 0
+    with concurrent.futures.ThreadPoolExecutor(options.jobs) as pool:
+        built = options.built.resolve()
+        jobs = [pool.submit(try_plant, plant, built, options.proofs) for plant in plants]
+        for job in concurrent.futures.as_completed(jobs):
+            plant, found = job.result()
+            noticed += found is not None
+            print(f"{plant.name}: {found or 'NOT NOTICED: ' + plant.shows}", flush=True)
+    print(f"{noticed} of {len(plants)} noticed")
+    sys.exit(noticed < len(plants))
+
+
+if __name__ == "__main__":
+    main()

@@ -1,0 +1,111 @@
+#!/usr/bin/env python3
+"""Builds the static library of the crate tombolopan_c over the libraries that `rt ci` has proved.
+
+    tools/static_library.py OUT.a
+
+`rt ci` proves a static library and builds no archive, and `rt lib` would prove all crates below it
+once more, since it takes none of the gate's. This proves tombolopan_c itself again, in two minutes
+of one processor, over crates/*/out/rlib as the gate left them, and builds the archive. It trusts
+what rt ci itself trusts between crates, the statements of the libraries below, and takes nothing
+else from an earlier run. A library that is older than its sources is refused.
+"""
+
+import importlib.machinery
+import importlib.util
+import os
+import pathlib
+import shutil
+import subprocess
+import sys
+import tempfile
+from types import ModuleType
+from typing import Any
+
+ROOT = pathlib.Path(__file__).resolve().parent.parent
+CRATE = ROOT / "crates" / "tombolopan_c"
+
+
+def stop(why: str) -> None:
+    """Says why there is no archive."""
+    sys.exit(f"static_library.py: {why}")
+
+
+def kit() -> pathlib.Path:
+    """The folder of the toolchain: that of the page which `rt doc` names."""
+    if shutil.which("rt") is None:
+        stop("rt is not there")
+    page = subprocess.run(["rt", "doc"], capture_output=True, text=True, check=True).stdout
+    return pathlib.Path(page.splitlines()[0]).resolve().parent
+
+
+def toolchain(folder: pathlib.Path) -> ModuleType:
+    """The toolchain's own rules of how a crate is built."""
+    sys.dont_write_bytecode = True
+    loader = importlib.machinery.SourceFileLoader("rtlib", str(folder / "bin" / "rtlib.py"))
+    spec = importlib.util.spec_from_loader("rtlib", loader)
+    assert spec is not None
+    made = importlib.util.module_from_spec(spec)
+    sys.modules["rtlib"] = made
+    loader.exec_module(made)
+    return made
+
+
+def newest(folder: pathlib.Path) -> float:
+    """When a source of the crate in a folder was written last."""
+    parts = [folder / it for it in ("src", "specs", "proofs")]
+    files = [it for part in parts for it in part.rglob("*") if it.is_file()]
+    return max(it.stat().st_mtime for it in files)
+
+
+def look_at(crate: Any) -> None:
+    """Stops where the built library of a crate is missing or older than its sources.
+
+    The gate keeps a built library as links to its store, whose dates are of the first build; the
+    folder is of this checkout.
+    """
+    built, folder = pathlib.Path(crate.rlib), pathlib.Path(crate.folder)
+    if not (built / "format").is_file():
+        stop(f"{crate.name} is not built: run rt ci first")
+    stamp = built.parent / "stamp"
+    is_new = stamp.read_text() == crate.stamp() if stamp.is_file() else (
+        newest(folder) <= built.stat().st_mtime
+    )
+    if not is_new:
+        stop(f"{crate.name} is older than its sources: run rt ci first")
+
+
+def build(rtlib: ModuleType, folder: pathlib.Path, crate: Any, archive: pathlib.Path) -> int:
+    """Proves the crate over the libraries below it and builds its archive."""
+    words = [*crate.words(["--jobs", "1"], keeps=False), "--toolchain", f"{folder}/toolchain"]
+    if "--backend" in rtlib.help_of("build"):
+        words += ["--backend", "llvm"]
+    whole = [*rtlib.guarded(), rtlib.RATTLE, "build", *words, "-o", str(archive)]
+    return subprocess.run(whole, cwd=CRATE, stdin=subprocess.DEVNULL, check=False).returncode
+
+
+def main() -> int:
+    """The command line."""
+    if len(sys.argv) != 2:
+        sys.exit(__doc__)
+    out = pathlib.Path(sys.argv[1]).absolute()
+    folder = kit()
+    rtlib = toolchain(folder)
+    os.chdir(ROOT)
+    crates = rtlib.crates_below(str(CRATE))
+    held = rtlib.lock(crates)
+    crate = next(it for it in crates if it.name == CRATE.name)
+    for it in crate.below():
+        look_at(it)
+    with tempfile.TemporaryDirectory(prefix="static-library-") as room:
+        archive = pathlib.Path(room) / "archive.a"
+        status = build(rtlib, folder, crate, archive)
+        if status == 0:
+            out.parent.mkdir(parents=True, exist_ok=True)
+            shutil.copyfile(archive, out)
+    for it in held:
+        os.close(it)
+    return status
+
+
+if __name__ == "__main__":
+    sys.exit(main())
