@@ -31,7 +31,10 @@ ROOT = pathlib.Path(__file__).resolve().parent.parent
 PYTHON = "/usr/bin/python3"
 # The cases that look at each program, the quickest first.
 SUITES = {
-    "mte_run": ["tests/test_explanations.py", "tests/test_run_statuses.py", "tests/test_gdb.py"],
+    "mte_run": [
+        "tests/test_explanations.py", "tests/test_run_statuses.py", "tests/test_gdb.py",
+        "tests/test_explanations_beside_tools.py", "tests/test_explanations_in_gdb.py",
+    ],
     "mte_host": ["tests/test_host.py"],
 }
 
