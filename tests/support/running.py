@@ -59,10 +59,16 @@ def run(
     return Ran(ran.returncode, ran.stdout, ran.stderr)
 
 
-def succeed(words: Sequence[Word], *, cwd: Optional[pathlib.Path] = None,
-            seconds: float = 300, extra: Optional[Mapping[str, str]] = None) -> Ran:
+def succeed(
+    words: Sequence[Word],
+    *,
+    cwd: Optional[pathlib.Path] = None,
+    stdin: bytes = b"",
+    seconds: float = 300,
+    extra: Optional[Mapping[str, str]] = None,
+) -> Ran:
     """Runs a program that has to end with status 0."""
-    ran = run(words, cwd=cwd, seconds=seconds, extra=extra)
+    ran = run(words, cwd=cwd, stdin=stdin, seconds=seconds, extra=extra)
     said = f"{ran.output[-3000:]}{ran.errors[-3000:]}"
     assert ran.status == 0, f"{words}: status {ran.status}\n{said}"
     return ran

@@ -1,0 +1,46 @@
+"""The wrong bodies that are planted by hand, and what builds and tries them."""
+
+import pathlib
+import sys
+
+import pytest
+
+from tests.support.places import ROOT
+from tests.support.running import succeed
+from tests.support.tools import need
+from tools.plants import Plant, read_plants
+
+FILES = sorted((ROOT / "tools" / "plants").glob("*.toml"))
+PLANTS = read_plants(FILES, "")
+
+
+@pytest.mark.parametrize("plant", PLANTS, ids=lambda plant: plant.name)
+def test_its_text_is_there_once(plant: Plant) -> None:
+    """A body that has moved is planted nowhere."""
+    assert (ROOT / plant.file).read_text(encoding="utf-8").count(plant.old) == 1
+    assert plant.file.startswith(f"crates/{plant.crate}/src/")
+
+
+def test_names_are_distinct() -> None:
+    """Each wrong body has a name of its own."""
+    names = [plant.name for plant in PLANTS]
+    assert len(set(names)) == len(names) >= 80
+
+
+def test_one_is_noticed(tmp_path: pathlib.Path) -> None:
+    """Exchanged arguments of a call of the library are planted in a copy, and noticed."""
+    need("rt", "clang", "git")
+    words = [sys.executable, ROOT / "tools" / "plants.py", "--built", tmp_path,
+             "--only", "map_arguments"]
+    assert succeed(words).output.endswith("1 of 1 noticed\n")
+
+
+def test_a_build_without_proof(disassemble: pathlib.Path, tmp_path: pathlib.Path) -> None:
+    """It writes what the proved program writes."""
+    need("rt")
+    made = tmp_path / "disassemble"
+    words = [sys.executable, ROOT / "tools" / "unproved.py", ROOT, made, "disassemble"]
+    succeed(words, seconds=900)
+    text = b"9adf13e1 14000002"
+    built = [succeed([it, "400000"], stdin=text).output for it in (made, disassemble)]
+    assert built[0] == built[1] != ""
