@@ -196,6 +196,7 @@ def test_a_trace_agrees_with_a_model(acts: ImageActs) -> None:
 
 def test_calls_and_returns_are_those_of_the_trace(acts: ImageActs) -> None:
     """--calls: each BL, BLR and RET, with its step and where it went."""
+    need("llvm-nm")
     table = binutils.symbols(image(acts.source, acts.build))
     for one in acts.runs:
         going = [
@@ -453,6 +454,7 @@ def check_tags(one: Explained, tags: list[Optional[int]]) -> None:
 
 def test_leaks_are_the_chunks_that_are_live(acts: ImageActs) -> None:
     """--leaks: by the calls that the trace has for the heap calls that made them."""
+    need("llvm-nm", "llvm-symbolizer")
     found = []
     for one in acts.runs:
         live = sorted(one.model.live.values(), key=lambda chunk: chunk.start)
