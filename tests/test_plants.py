@@ -4,17 +4,17 @@ import pathlib
 import sys
 
 import pytest
+from plants import Plant, read_plants
 
 from tests.support.places import ROOT
-from tests.support.running import succeed
+from tests.support.running import Word, succeed
 from tests.support.tools import need
-from tools.plants import Plant, read_plants
 
-FILES = sorted((ROOT / "tools" / "plants").glob("*.toml"))
+FILES = sorted((ROOT / "tools" / "wrong_bodies").glob("*.toml"))
 PLANTS = read_plants(FILES, "")
 
 
-@pytest.mark.parametrize("plant", PLANTS, ids=lambda plant: plant.name)
+@pytest.mark.parametrize("plant", PLANTS, ids=[plant.name for plant in PLANTS])
 def test_its_text_is_there_once(plant: Plant) -> None:
     """A body that has moved is planted nowhere."""
     assert (ROOT / plant.file).read_text(encoding="utf-8").count(plant.old) == 1
@@ -30,7 +30,7 @@ def test_names_are_distinct() -> None:
 def test_one_is_noticed(tmp_path: pathlib.Path) -> None:
     """Exchanged arguments of a call of the library are planted in a copy, and noticed."""
     need("rt", "clang", "git")
-    words = [sys.executable, ROOT / "tools" / "plants.py", "--built", tmp_path,
+    words: list[Word] = [sys.executable, ROOT / "tools" / "plants.py", "--built", tmp_path,
              "--only", "map_arguments"]
     assert succeed(words).output.endswith("1 of 1 noticed\n")
 
@@ -39,7 +39,7 @@ def test_a_build_without_proof(disassemble: pathlib.Path, tmp_path: pathlib.Path
     """It writes what the proved program writes."""
     need("rt")
     made = tmp_path / "disassemble"
-    words = [sys.executable, ROOT / "tools" / "unproved.py", ROOT, made, "disassemble"]
+    words: list[Word] = [sys.executable, ROOT / "tools" / "unproved.py", ROOT, made, "disassemble"]
     succeed(words, seconds=900)
     text = b"9adf13e1 14000002"
     built = [succeed([it, "400000"], stdin=text).output for it in (made, disassemble)]

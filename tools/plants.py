@@ -3,9 +3,9 @@
 
     plants.py [--built FOLDER] [--jobs N] [--proofs] [--only WORD] [FILE.toml..]
 
-A file (tools/plants/*.toml) has a table for each body: the crate, the file, the text that is there
-once (`old`), the text in its place (`new`), and what a user then sees (`shows`). For each one this
-copies the checkout, changes the file and tries what the test command has:
+A file (tools/wrong_bodies/*.toml) has a table for each body: the crate, the file, the text that is
+there once (`old`), the text in its place (`new`), and what a user then sees (`shows`). For each one
+this copies the checkout, changes the file and tries what the test command has:
 
     the border to C and its laws, where the crate is the library
     the cases of the suite, over a build of the program without proof (unproved.py)
@@ -161,7 +161,7 @@ def main() -> None:
     parser.add_argument("--proofs", action="store_true")
     parser.add_argument("--only", default="")
     options = parser.parse_args()
-    files = options.files or sorted((ROOT / "tools" / "plants").glob("*.toml"))
+    files = options.files or sorted((ROOT / "tools" / "wrong_bodies").glob("*.toml"))
     plants = read_plants(files, options.only)
     noticed = 0
     with concurrent.futures.ThreadPoolExecutor(options.jobs) as pool:
