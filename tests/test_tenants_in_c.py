@@ -12,7 +12,7 @@ from tests.support.c_tenants import (
     COMPILERS, FOLDER, LEVELS, Tenant, build, report_of, run_alone, tenants,
 )
 from tests.support.pictures import read_svg
-from tests.support.running import run, succeed
+from tests.support.running import Ran, run
 from tests.support.tools import give_up, need
 
 FAULT, ABORT = 129, 131
@@ -105,10 +105,15 @@ def makefile(tmp_path: pathlib.Path) -> pathlib.Path:
     return pathlib.Path(shutil.copytree(FOLDER, tmp_path / "c", ignore=left_out))
 
 
+def make(folder: pathlib.Path, *words: str) -> Ran:
+    """Runs make there, also where another make runs the tests."""
+    return run(["make", "--no-print-directory", *words], cwd=folder, extra={"MAKEFLAGS": ""})
+
+
 def test_make_runs_a_tenant(alone: pathlib.Path, makefile: pathlib.Path) -> None:
     """`make hello.run`: its output, and its status where that is not 0."""
-    ran = succeed(["make", "hello.run", f"ALONE={alone}"], cwd=makefile)
-    assert ran.output.endswith("Hello, host\nended with 7\n")
+    ran = make(makefile, "hello.run", f"ALONE={alone}")
+    assert ran.status == 0 and ran.output.endswith("Hello, host\nended with 7\n"), ran.errors
 
 
 def test_make_draws_a_heap(alone: pathlib.Path, makefile: pathlib.Path) -> None:
@@ -116,13 +121,14 @@ def test_make_draws_a_heap(alone: pathlib.Path, makefile: pathlib.Path) -> None:
     need("aarch64-linux-gnu-gcc")
     for compiler, level in (("clang", "-O2"), ("gcc", "-Os")):
         by = [f"COMPILER={compiler}", f"LEVEL={level}", f"ALONE={alone}"]
-        ran = succeed(["make", "heap_overflow.svg", *by], cwd=makefile)
-        assert ran.output.endswith("ended with 129\ndrawn: out/heap_overflow.svg\n")
+        ran = make(makefile, "heap_overflow.svg", *by)
+        end = "ended with 129\ndrawn: out/heap_overflow.svg\n"
+        assert ran.status == 0 and ran.output.endswith(end), ran.errors
         drawn = (makefile / "out/heap_overflow.svg").read_text()
         assert "Buffer Overflow, 8 bytes right of a 24-byte" in read_svg(drawn).title
 
 
 def test_make_says_what_is_not_there(makefile: pathlib.Path) -> None:
     """Where the program has not been built."""
-    ran = run(["make", "hello.run", "ALONE=absent/mte_run"], cwd=makefile)
+    ran = make(makefile, "hello.run", "ALONE=absent/mte_run")
     assert ran.status == 2 and "absent/mte_run is not there. Prove and build it" in ran.errors

@@ -1,0 +1,31 @@
+"""Causes that depend on which of several heap calls is meant."""
+
+import pathlib
+
+import pytest
+
+from tests.support.running import run
+from tests.support.samples import COMPILERS, tenant
+from tests.support.tools import need
+
+NULL_AFTER_TWO = """#include "tenant.h"
+int main(void)
+{
+    tenant_malloc(1ull << 40);
+    char *page = tenant_calloc(1ull << 20, 1ull << 21);
+    return *(volatile char *)page;
+}
+"""
+
+
+@pytest.mark.parametrize("compiler", sorted(COMPILERS))
+def test_the_newest_call_without_a_chunk(
+    alone: pathlib.Path, tmp_path: pathlib.Path, compiler: str
+) -> None:
+    """Of two calls that returned no chunk the second led to the null pointer."""
+    need(COMPILERS[compiler][0])
+    source = tmp_path / "null_after_two.c"
+    source.write_text(NULL_AFTER_TWO, encoding="utf-8")
+    told = run([alone, tenant(tmp_path, source, compiler)]).errors
+    assert "Cause: Null Pointer\n" in told
+    assert "  the newest call without a chunk is call 2, calloc(1048576, 2097152) = 0x0" in told
