@@ -1,7 +1,7 @@
 """What mte_run tells, byte for byte: each act of the tenants of tests/images, and each option.
 
 The stored texts are what the program told; test_explanations_beside_tools.py holds the same output
-against other tools. WRITE_EXPECTED=1 stores them anew, for review.
+against other tools. WRITE_EXPECTED=1 stores them anew.
 """
 
 import hashlib
