@@ -42,8 +42,8 @@ def run(
     """Runs a program to its end. It may take so many seconds, and so many bytes of addresses."""
 
     def limit() -> None:
-        if memory is not None:
-            resource.setrlimit(resource.RLIMIT_AS, (memory, memory))
+        assert memory is not None
+        resource.setrlimit(resource.RLIMIT_AS, (memory, memory))
 
     ran = subprocess.run(
         [os.fspath(word) for word in words],
@@ -53,7 +53,7 @@ def run(
         stderr=subprocess.PIPE,
         timeout=seconds,
         env={**os.environ, **(extra or {})},
-        preexec_fn=limit,
+        preexec_fn=None if memory is None else limit,
         check=False,
     )
     return Ran(ran.returncode, ran.stdout, ran.stderr)
