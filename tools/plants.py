@@ -119,7 +119,7 @@ def by_suite(checkout: pathlib.Path, plant: Plant, built: pathlib.Path) -> Optio
         stdout=subprocess.PIPE, stderr=subprocess.STDOUT, text=True, check=False,
     )
     if made.returncode != 0:
-        return f"it does not compile: {first_line(made.stdout, 'error')}"
+        sys.exit(f"plants.py: {plant.name} does not compile: {first_line(made.stdout, 'error')}")
     ran = subprocess.run(
         [PYTHON, "-m", "pytest", "-x", *SUITES[name]], cwd=checkout, stdout=subprocess.PIPE,
         stderr=subprocess.STDOUT, text=True, check=False,
