@@ -1,2 +1,3 @@
 mod Places
 mod Found
+mod PageLists

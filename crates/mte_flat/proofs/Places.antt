@@ -13,7 +13,7 @@ use Rattle.mte_flat.specs.Inner.Slots.{page_of, entry_of, slots_memory, AreSlots
 use Rattle.mte_flat.specs.declared.slot.Slot.{Slot}
 use Rattle.mte_tags.proofs.Pages.{tied_same, tied_other, same_memory, rest_of, page_at-with_page_same, page_at-with_page_other, rest-with_page, page_at-without_page_same, page_at-without_page_other, rest-without_page}
 
-at_slots : (n : Memory) (slots : List Slot) (q : ℕ) → page_at (slots_memory n slots) q ≡ find nat_cmp q (map entry_of slots)
+pub at_slots : (n : Memory) (slots : List Slot) (q : ℕ) → page_at (slots_memory n slots) q ≡ find nat_cmp q (map entry_of slots)
 unfolding page_at slots_memory
 at_slots n slots q = get-from_entries nat_cmp_total (map entry_of slots) q
 

@@ -1,3 +1,4 @@
 pub mod Slots
 pub mod Places
 pub mod FlatMemory
+pub mod MappedSlots

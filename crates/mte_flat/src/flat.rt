@@ -1,8 +1,10 @@
 //! A plain tagged memory, which keeps its pages in one list.
 
-ghost use Rattle.std.specs.Prelude.{◌≡◌, ℕ, ◌<◌, IfOk, None};
+ghost use Rattle.std.specs.Prelude.{◌≡◌, ℕ, ◌<◌, IfOk, None, option_map};
 ghost use Rattle.mte_tags.specs.Memory.{page_at, no_pages};
+ghost use Rattle.mte_flat.specs.MappedPages.{attrs_in, AreApart};
 
+use crate::mapped::MappedPage;
 use crate::pages::Pages;
 use mte_tags::{Attrs, MemFault, NoPagesLeft, Paged, TagMode, Tagged};
 use std::alloc::{AllocError, Global};
@@ -35,6 +37,15 @@ impl Flat {
     {
         let pages = Pages::new(alloc, pages, mode)?;
         Ok(Flat { pages })
+    }
+
+    /// The pages that are mapped, each once, in no order. It takes time for these and no others.
+    pub fn mapped_pages(&self, alloc: Global) -> Result<Vec<MappedPage>, AllocError>
+        ensures each { IfOk result (λ pages. (q : ℕ) → attrs_in pages.items q
+            ≡ option_map (λ p. p.attrs) (page_at self.now q)) }
+        ensures once { IfOk result (λ pages. AreApart pages.items) }
+    {
+        self.pages.mapped_pages(alloc)
     }
 }
 

@@ -3,7 +3,9 @@
 
 mod finder;
 mod flat;
+mod mapped;
 mod pages;
 mod slot;
 
 pub use flat::Flat;
+pub use mapped::MappedPage;

@@ -1,12 +1,15 @@
 //! The pages of the plain memory, in one list.
 
-ghost use Rattle.std.specs.Prelude.{◌≡◌, ◌<◌, ◌≤◌, ◌+◌, ◌^◌, None, IfOk, IfSome, IsNone};
+ghost use Rattle.std.specs.Prelude.{◌≡◌, ℕ, ◌<◌, ◌≤◌, ◌+◌, ◌^◌, None, IfOk, IfSome, IsNone};
+ghost use Rattle.std.specs.Prelude.{option_map};
 ghost use Rattle.std.specs.Prelude.{length, slice_index_or, vec_len, vec_capacity};
 ghost use Rattle.mte_tags.specs.Memory.{Memory, page_at, no_pages};
 ghost use Rattle.mte_tags.specs.Memory.{with_new_pages, without_pages, IsFree, ArePages};
 ghost use Rattle.mte_flat.specs.Inner.Slots.{slots_memory, AreSlots};
+ghost use Rattle.mte_flat.specs.MappedPages.{attrs_in, AreApart};
 
 use crate::finder::Finder;
+use crate::mapped::{MappedPage, mapped_slots};
 use crate::slot::{Slot, find, holds, new_slot};
 use a64_bits::plain;
 use mte_tags::{Attrs, NoPagesLeft, PageStore, Paged, TagMode, TagState, replace_bytes};
@@ -43,6 +46,16 @@ impl Pages {
                 pending: false,
             },
         })
+    }
+
+    /// The pages that are mapped, in the order of their slots.
+    pub(crate) fn mapped_pages(&self, alloc: Global) -> Result<Vec<MappedPage>, AllocError>
+        ensures each { IfOk result (λ pages. (q : ℕ) → attrs_in pages.items q
+            ≡ option_map (λ p. p.attrs) (page_at (memory_of self.now) q)) }
+        ensures once { IfOk result (λ pages. AreApart pages.items) }
+    {
+        let pages = mapped_slots(alloc, self.slots.as_slice())?;
+        Ok(pages)
     }
 }
 
