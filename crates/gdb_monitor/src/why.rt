@@ -59,6 +59,7 @@ fn report_of<'x>(
         parts,
         book,
         last: None,
+        last_count: 0,
         turns: None,
         limit,
         names: Names::of(image),
@@ -66,6 +67,7 @@ fn report_of<'x>(
         seed,
         finding: None,
         statistics: None,
+        is_cut: false,
     }
 }
 

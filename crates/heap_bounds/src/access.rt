@@ -123,6 +123,13 @@ fn pair_of(instr: &Instr, regs: &Regs) -> Option<MemoryAccess> {
             rt,
         } => Some(pair(regs, rn, i64::from(imm7), PairForm { opc, l, rt, rt2 })),
         Instr::LdLit { opc, imm19, rt } => Some(literal(regs, opc, imm19, rt)),
+        Instr::StGP {
+            mode,
+            imm7,
+            rt2,
+            rn,
+            rt,
+        } => Some(tagged_pair(regs, rn, tag_offset(mode, imm7), rt, rt2)),
         _ => None,
     }
 }
@@ -177,6 +184,28 @@ fn pair(regs: &Regs, rn: u8, imm7: i64, fields: PairForm) -> MemoryAccess {
         second: Some(rt2),
         is_write: l == 0,
         is_checked: true,
+    }
+}
+
+/// Where STGP stores, from its base on: behind the base's old value where that is written after
+/// the access (mode 1, post-index), in granules otherwise.
+fn tag_offset(mode: u8, imm7: i8) -> u64 {
+    if mode == 1 {
+        0
+    } else {
+        signed_offset(i64::from(imm7)).wrapping_mul(16)
+    }
+}
+
+/// A store of two registers and the tag of their granule, which compares no tag.
+fn tagged_pair(regs: &Regs, rn: u8, offset: u64, rt: u8, rt2: u8) -> MemoryAccess {
+    MemoryAccess {
+        addr: base(regs, rn).wrapping_add(offset),
+        bytes: 8,
+        first: rt,
+        second: Some(rt2),
+        is_write: true,
+        is_checked: false,
     }
 }
 

@@ -43,6 +43,8 @@ impl<'a> Report<'a> {
             writeln!(out, "\"seed\":\"{seed:016x}\",")?;
         }
         writeln!(out, "\"exit_status\":{exit_status},\n\"steps\":{steps},")?;
+        let is_cut = self.is_cut;
+        writeln!(out, "\"output_cut\":{is_cut},")?;
         if let Some(table) = self.statistics {
             let object = Object(table);
             writeln!(out, "\"statistics\":{object},")?;

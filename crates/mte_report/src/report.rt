@@ -13,7 +13,7 @@ use mte_tags::{FaultKind, MemFault, Tagged};
 use mte_tenant::{Status, TenantParts};
 use run_book::{Book, Bytes, ChunkOwner, Wanted};
 use run_cause::{
-    Cause, Finding, Wrong, abort_words, breakpoint_words, family_of, fault_words, is_undefined,
+    Cause, Evidence, Finding, Wrong, abort_words, breakpoint_words, family_of, fault_words, is_undefined,
     trespass_words,
 };
 use run_statistics::StatisticsTable;
@@ -30,8 +30,10 @@ pub struct Report<'a> {
     pub parts: &'a TenantParts,
     /// Its heap calls.
     pub book: &'a Book,
-    /// Its last instructions, the oldest first, where they are wanted.
+    /// Its last instructions, the oldest first, where they were remembered.
     pub last: Option<&'a HeapCircularBuffer<Moment>>,
+    /// How many of them are told.
+    pub last_count: usize,
     /// Its last calls and returns, the oldest first, where they are wanted.
     pub turns: Option<&'a HeapCircularBuffer<Turn>>,
     /// The steps that it could have.
@@ -46,6 +48,8 @@ pub struct Report<'a> {
     pub finding: Option<&'a Finding>,
     /// The numbers of the run, where they are wanted.
     pub statistics: Option<StatisticsTable<'a>>,
+    /// Whether it wrote more than there was room for.
+    pub is_cut: bool,
 }
 
 impl<'a> Report<'a> {
@@ -76,9 +80,18 @@ impl<'a> Report<'a> {
         }
         match self.parts.log.status {
             Status::Faulted(_, _) | Status::Aborted(_, _, _) => {
-                Some(Cause::of(self.book, &self.parts.log, self.parts.regs.x[8]))
+                Some(Cause::of(&self.evidence(), &self.parts.log))
             }
             _ => None,
+        }
+    }
+
+    /// What its cause is found by.
+    fn evidence(&self) -> Evidence<'a> {
+        Evidence {
+            book: self.book,
+            regs: &self.parts.regs,
+            last: self.last,
         }
     }
 
@@ -130,7 +143,7 @@ impl<'a> Report<'a> {
             tell_turns(out, turns, &self.names)?;
         }
         if let Some(last) = self.last {
-            tell_last(out, last, self.after())?;
+            tell_last(out, last, self.last_count, self.after())?;
         }
         tell_registers(out, self.regs())?;
         tell_pages(alloc, out, memory)
@@ -391,18 +404,19 @@ fn tell_map<W: Write>(out: &mut W, map: &[MappedPages]) -> io::Result<()> {
     Ok(())
 }
 
-/// The last instructions.
+/// The last instructions, `count` of them.
 fn tell_last<W: Write>(
     out: &mut W,
     last: &HeapCircularBuffer<Moment>,
+    count: usize,
     after: &Regs,
 ) -> io::Result<()> {
-    if last.is_empty() {
+    if last.is_empty() || count == 0 {
         return Ok(());
     }
     writeln!(out, "the last instructions:")?;
     let mut before = None;
-    for moment in last.iter() {
+    for moment in last.iter().skip(last.len().saturating_sub(count)) {
         tell_moment(out, before, &moment.regs)?;
         before = Some(moment);
     }

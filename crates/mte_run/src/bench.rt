@@ -4,13 +4,21 @@ ghost use Rattle.std.specs.Prelude.{◌≡◌, ◌<◌, [], Some, false, IfOk, I
 ghost use Rattle.obstacle.specs.Obstacles.{IfRefused};
 ghost use Rattle.scudo_heap.specs.Served.{HeapOwnsItsPages};
 
+use a64_run::OpCache;
 use mte_flat::Flat;
 use mte_tenant::{
-    Admission, AdmitError, Status, TenantParts, Watch, admit_alone, is_bad_reservation,
+    Admission, AdmitError, Status, TenantParts, Watch, admit_alone, is_bad_reservation, slice,
     slice_watched,
 };
 use obstacle::Obstacle;
 use std::alloc::Global;
+
+/// What may watch a tenant.
+pub trait Watcher: Watch {
+    /// Whether it watches. A tenant that nothing watches runs by a table of instructions, as a host
+    /// runs it.
+    fn is_watching(&self) -> bool;
+}
 
 /// A tenant's machine, which is the machine of the definition: it is made by `admit_alone` and
 /// changed by slices alone.
@@ -20,6 +28,7 @@ pub struct Bench {
     pub parts: TenantParts,
     /// Its memory.
     pub memory: Flat,
+    words: OpCache,
     ghost served: { HeapOwnsItsPages memory parts.heap },
     ghost tag: { parts.regs.rgsr.tag < 16 },
 }
@@ -44,17 +53,26 @@ impl Bench {
         if is_bad_reservation(admission) {
             return Err(Obstacle::Refused(AdmitError::BadReservation));
         }
+        let words = OpCache::new(alloc)?;
         let mut memory = Flat::new(alloc, admission.terms.pages as usize, admission.terms.mode)?;
         let parts = admit_alone(alloc, admission, &mut memory)?;
-        Ok(Bench { parts, memory })
+        Ok(Bench {
+            parts,
+            memory,
+            words,
+        })
     }
 
-    /// A slice.
-    pub fn slice<W: Watch>(&mut self, watch: &mut W, steps: u32)
+    /// A slice, which is the same whether it is watched or not.
+    pub fn slice<W: Watcher>(&mut self, watch: &mut W, steps: u32)
         ensures { machine_of self.new.parts self.new.memory
             ≡ after_slice steps (machine_of self.old.parts self.old.memory) }
     {
-        slice_watched(watch, &mut self.parts, &mut self.memory, steps);
+        if watch.is_watching() {
+            slice_watched(watch, &mut self.parts, &mut self.memory, steps);
+        } else {
+            slice(&mut self.words, &mut self.parts, &mut self.memory, steps);
+        }
     }
 
     /// A stop.

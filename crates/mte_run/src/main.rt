@@ -8,6 +8,7 @@ mod ending;
 mod files;
 mod map;
 mod observer;
+mod output_stream;
 mod replay;
 mod running;
 mod seeds;

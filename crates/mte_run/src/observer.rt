@@ -2,6 +2,7 @@
 
 ghost use Rattle.std.specs.Prelude.{None};
 
+use crate::bench::Watcher;
 use crate::tracer::Tracer;
 use circular_buffer::HeapCircularBuffer;
 use mte_report::{Book, Exact, Finding, Moment, SVC, Statistics, StatisticsTable, Turn};
@@ -12,10 +13,15 @@ use run_options::Exactness;
 use std::alloc::{AllocError, Global};
 use std::io::Write;
 
+/// How many of the last instructions are remembered at least.
+const LEAST: usize = 16;
+
 /// Remembers the heap calls and the last instructions, and writes lines, up to the first access
 /// that goes beyond its chunk where accesses are to keep to them.
 #[derive(Drop)]
 pub struct Observer<'a, W: Write + Drop> {
+    /// Whether it is shown what the tenant does.
+    pub is_watching: bool,
     /// The heap calls.
     pub book: Book,
     /// The last instructions, the oldest first.
@@ -33,7 +39,7 @@ pub struct Observer<'a, W: Write + Drop> {
 }
 
 impl<'a, W: Write + Drop> Observer<'a, W> {
-    /// One that remembers the last `count` instructions, at least one.
+    /// One that remembers the last `count` instructions, and as many as a cause is found by.
     pub fn new(
         alloc: Global,
         count: usize,
@@ -41,8 +47,9 @@ impl<'a, W: Write + Drop> Observer<'a, W> {
         tracer: Option<Tracer<'a, W>>,
     ) -> Result<Observer<'a, W>, AllocError> {
         Ok(Observer {
+            is_watching: true,
             book: Book::new(alloc)?,
-            last: HeapCircularBuffer::with_capacity(alloc, count.max(1))?,
+            last: HeapCircularBuffer::with_capacity(alloc, count.max(LEAST))?,
             turns: None,
             tracer,
             exact,
@@ -71,9 +78,14 @@ impl<'a, W: Write + Drop> Observer<'a, W> {
         self
     }
 
-    /// The last instructions, unless their number is 0.
-    pub fn last(&self, count: usize) -> Option<&HeapCircularBuffer<Moment>> {
-        if count > 0 { Some(&self.last) } else { None }
+    /// Whether it must watch from the first step on, since it writes or counts or ends what it sees.
+    pub fn needs_each_step(&self) -> bool {
+        self.tracer.is_some() || self.exact.is_some() || self.statistics.is_some()
+    }
+
+    /// The last instructions.
+    pub fn last(&self) -> &HeapCircularBuffer<Moment> {
+        &self.last
     }
 
     /// The last calls and returns, where they are wanted.
@@ -111,6 +123,12 @@ impl<'a, W: Write + Drop> Observer<'a, W> {
             Some(tracer) => tracer.finish(),
             None => true,
         }
+    }
+}
+
+impl<'a, W: Write + Drop> Watcher for Observer<'a, W> {
+    fn is_watching(&self) -> bool {
+        self.is_watching
     }
 }
 

@@ -12,10 +12,10 @@ ghost use Rattle.mte_session.specs.Sessions.{call_of, session_of};
 ghost use Rattle.mte_run.specs.Replays.{IsReplay, number_in, with_no_steps, machine_after, HasPages};
 ghost use Rattle.mte_run.specs.Replays.{IsStarted, IsPlayed};
 
-use crate::bench::Bench;
+use crate::bench::{Bench, Watcher};
 use mte_sched::{Host, ledger_follows};
 use mte_session::{Event, Sink, admission_of, write_refusal};
-use mte_tenant::{Refusal, Refused, Watch};
+use mte_tenant::{Refusal, Refused};
 use obstacle::Obstacle;
 use run_options::Failure;
 use std::alloc::Global;
@@ -32,7 +32,7 @@ pub struct Replayed {
 /// Runs what a session does to the tenant with the number, and writes the lines of its refused
 /// events. A host that is new decides which events are refused, and runs no instruction: what a
 /// tenant does cannot change what is refused. `None` where the session never admits the tenant.
-pub fn replay_tenant<'a, W: Sink, O: Watch>(
+pub fn replay_tenant<'a, W: Sink, O: Watcher>(
     alloc: Global,
     host: &mut Host,
     id: u16,
@@ -122,7 +122,7 @@ pub fn decide(
 }
 
 /// What an accepted event makes of the tenant with the number, whichever tenant it names.
-fn followed<'a, O: Watch>(
+fn followed<'a, O: Watcher>(
     alloc: Global,
     id: u16,
     replayed: Option<Replayed>,
@@ -144,7 +144,7 @@ fn followed<'a, O: Watch>(
 }
 
 /// What an accepted event makes of the tenant that it names.
-fn played<'a, O: Watch>(
+fn played<'a, O: Watcher>(
     alloc: Global,
     replayed: Option<Replayed>,
     event: &Event,
@@ -165,7 +165,7 @@ fn played<'a, O: Watch>(
 }
 
 /// Runs what an accepted event does to the tenant that it names.
-fn turn<O: Watch>(bench: &mut Bench, event: &Event, observer: &mut O)
+fn turn<O: Watcher>(bench: &mut Bench, event: &Event, observer: &mut O)
     ensures { (files : List (List ℕ)) → machine_of bench.new.parts bench.new.memory
         ≡ machine_after (call_of files event.now) (machine_of bench.old.parts bench.old.memory) }
 {

@@ -5,9 +5,10 @@ ghost use Rattle.std.specs.Prelude.{◌<◌};
 use crate::bench::Bench;
 use crate::core_dump::mode_in;
 use crate::debugging::{debug_alone, debug_replay};
-use crate::ending::REFUSED;
+use crate::ending::{REFUSED, TenantEnding};
 use crate::files::{Image, image_of, read_file, read_files, read_input};
 use crate::observer::{Observer, exact_of};
+use crate::output_stream::OutputStream;
 use crate::replay::{Replayed, replay_tenant};
 use crate::survey::Survey;
 use crate::telling::{Run, tell_end};
@@ -17,14 +18,14 @@ use either::Either;
 use elf_symbols::Symbols;
 use mte_program::StreamSink;
 use mte_sched::Host;
-use mte_session::{Event, parse_script, write_all, write_report};
+use mte_session::{Event, Sink, parse_script, write_report};
 use mte_tenant::{Admission, AdmitError, Terms};
 use obstacle::Obstacle;
 use run_options::{Failure, Options, OutputOptions, Replay, remedy_of};
 use std::alloc::Global;
 use std::fs::File;
 use std::io;
-use std::io::{BufWriter, Stderr};
+use std::io::{BufWriter, Stderr, sink};
 
 /// The number of a tenant that is alone.
 const ID: u16 = 1;
@@ -92,6 +93,22 @@ pub fn admission_of<'a>(
     }
 }
 
+/// A tenant alone: its image, what it may read, and its seed.
+#[derive(Clone, Copy)]
+struct LoneTenant<'x> {
+    image: Image<'x>,
+    input: &'x [u8],
+    seed: u64,
+}
+
+impl<'x> LoneTenant<'x> {
+    /// The tenant at its first instruction.
+    fn bench(&self, alloc: Global, options: &Options) -> Result<Bench, Obstacle<AdmitError>> {
+        let admission = admission_of(options, self.image.bytes, self.input, self.seed);
+        Bench::new(alloc, &admission)
+    }
+}
+
 /// Runs an image alone.
 fn run_alone<'a>(
     rt: &HostRuntime,
@@ -99,23 +116,27 @@ fn run_alone<'a>(
     image: &Image<'_>,
 ) -> Result<u8, Failure<'a>> {
     let input = read_input(rt, options)?;
-    match admitted(rt, options, image.bytes, input.as_slice()) {
-        Ok((bench, seed)) => run_bench(rt, options, bench, image, seed),
+    match admitted(rt, options, image, input.as_slice()) {
+        Ok((tenant, bench)) => run_bench(rt, options, &tenant, bench),
         Err(Obstacle::OutOfMemory) => Err(Failure::Memory),
         Err(Obstacle::Refused(error)) => Ok(refuse(rt, error)),
     }
 }
 
-/// An image at its first instruction, and the seed of the run that is told.
+/// A tenant of an image, under the seed of the run that is told, and at its first instruction.
 fn admitted<'x>(
     rt: &HostRuntime,
     options: &Options,
-    image: &'x [u8],
+    image: &Image<'x>,
     input: &'x [u8],
-) -> Result<(Bench, u64), Obstacle<AdmitError>> {
-    let seed = seed_of(rt, options, image, input)?;
-    let bench = Bench::new(rt.alloc(), &admission_of(options, image, input, seed))?;
-    Ok((bench, seed))
+) -> Result<(LoneTenant<'x>, Bench), Obstacle<AdmitError>> {
+    let tenant = LoneTenant {
+        image: *image,
+        input,
+        seed: seed_of(rt, options, image.bytes, input)?,
+    };
+    let bench = tenant.bench(rt.alloc(), options)?;
+    Ok((tenant, bench))
 }
 
 /// Tells why an image is refused, and returns the exit status.
@@ -150,29 +171,49 @@ fn seed_of<'x>(
     Ok(survey.seed(given))
 }
 
-/// Runs a tenant of an image, and writes its output.
+/// Runs a tenant, and tells why it ended. Where nothing has to watch each step, it runs unwatched
+/// first; only an end that is told by what was watched takes a second run, which is the same.
 fn run_bench<'a>(
     rt: &HostRuntime,
     options: &'a Options,
+    tenant: &LoneTenant<'_>,
     bench: Bench,
-    image: &Image<'_>,
-    seed: u64,
 ) -> Result<u8, Failure<'a>> {
+    let mut observer = observer_of(rt, options, tenant.image.bytes)?;
+    let mut out = OutputStream::new(rt);
     let mut bench = bench;
-    let mut observer = observer_of(rt, options, image.bytes)?;
-    run_slices(&mut bench, &mut observer, options);
-    write_all(
-        &mut StreamSink(rt.stdout()),
-        bench.parts.log.output.as_slice(),
-    )?;
+    observer.is_watching = observer.needs_each_step();
+    run_slices(&mut bench, &mut observer, &mut out, options);
+    if !observer.is_watching && wants_watch(&bench, options) {
+        observer.is_watching = true;
+        bench = match tenant.bench(rt.alloc(), options) {
+            Ok(bench) => bench,
+            Err(_) => return Err(Failure::Memory),
+        };
+        run_slices(&mut bench, &mut observer, &mut out, options);
+    }
+    if out.has_failed {
+        return Err(Failure::Write);
+    }
     let run = Run {
-        seed: Some(seed),
+        seed: Some(tenant.seed),
         mode: options.run.terms.mode,
     };
-    tell_end(rt, bench, &mut observer, options, image, run)
+    tell_end(rt, bench, &mut observer, options, &tenant.image, run)
 }
 
-/// Runs what a session does to one tenant, and writes its lines of the report.
+/// Whether the end that a tenant came to unwatched is told by what a run that is watched remembers.
+/// Output that fills its room may have been cut.
+fn wants_watch(bench: &Bench, options: &Options) -> bool {
+    let log = &bench.parts.log;
+    TenantEnding::of(log, options.limit()) != TenantEnding::Exit
+        || options.output.leaks
+        || options.output.map.is_some()
+        || log.output.left() == 0
+}
+
+/// Runs what a session does to one tenant, and writes its lines of the report. Where nothing has to
+/// watch each step, it runs unwatched first, as a tenant alone does.
 fn run_replay<'a>(
     rt: &HostRuntime,
     options: &'a Options,
@@ -180,15 +221,84 @@ fn run_replay<'a>(
     files: &[Vec<u8>],
 ) -> Result<u8, Failure<'a>> {
     let mut observer = observer_of(rt, options, &[])?;
-    match replayed(rt, replay, files, &mut observer)? {
-        Some(Replayed { bench, image }) => {
-            write_report(&bench.parts.log, &mut StreamSink(rt.stdout()))?;
-            let image = image_of(options, files, image);
-            let mode = mode_in(rt, options, replay, files)?;
-            let run = Run { seed: None, mode };
-            tell_end(rt, bench, &mut observer, options, &image, run)
-        }
-        None => Ok(refuse_unadmitted(rt)),
+    let script = read_file(rt, replay.script.as_str())?;
+    let events = events_of(rt.alloc(), script.as_slice(), files)?;
+    let session = Session {
+        replay,
+        events: events.as_slice(),
+        files,
+    };
+    observer.is_watching = observer.needs_each_step();
+    let found = session.replayed(rt, &mut observer, &mut StreamSink(rt.stdout()))?;
+    let Some(found) = found else {
+        return Ok(refuse_unadmitted(rt));
+    };
+    let found = watched(rt, options, &session, found, &mut observer)?;
+    tell_replay(rt, options, &session, found, &mut observer)
+}
+
+/// The same tenant, which a second run watched if its end is told by what that remembers.
+fn watched<'a>(
+    rt: &HostRuntime,
+    options: &Options,
+    session: &Session<'a, '_>,
+    found: Replayed,
+    observer: &mut Observer<'_, Log>,
+) -> Result<Replayed, Failure<'a>> {
+    if observer.is_watching || !wants_watch(&found.bench, options) {
+        return Ok(found);
+    }
+    observer.is_watching = true;
+    match session.replayed(rt, observer, &mut StreamSink(sink()))? {
+        Some(again) => Ok(again),
+        None => Ok(found),
+    }
+}
+
+/// Writes a tenant's lines of the report, and tells why it ended.
+fn tell_replay<'a>(
+    rt: &HostRuntime,
+    options: &'a Options,
+    session: &Session<'a, '_>,
+    found: Replayed,
+    observer: &mut Observer<'_, Log>,
+) -> Result<u8, Failure<'a>> {
+    let Replayed { bench, image } = found;
+    write_report(&bench.parts.log, &mut StreamSink(rt.stdout()))?;
+    let image = image_of(options, session.files, image);
+    let mode = mode_in(rt, options, session.replay, session.files)?;
+    let run = Run { seed: None, mode };
+    tell_end(rt, bench, observer, options, &image, run)
+}
+
+/// A session of which one tenant is replayed.
+#[derive(Clone, Copy)]
+struct Session<'a, 'x> {
+    replay: &'a Replay,
+    events: &'x [Event],
+    files: &'x [Vec<u8>],
+}
+
+impl<'a, 'x> Session<'a, 'x> {
+    /// The tenant after all that the session does to it; `None` where it never admits it.
+    fn replayed<W: Sink>(
+        &self,
+        rt: &HostRuntime,
+        observer: &mut Observer<'_, Log>,
+        out: &mut W,
+    ) -> Result<Option<Replayed>, Failure<'a>> {
+        let Ok(mut host) = Host::new(rt.alloc(), self.replay.frames) else {
+            return Err(Failure::Memory);
+        };
+        replay_tenant(
+            rt.alloc(),
+            &mut host,
+            self.replay.id,
+            self.events,
+            self.files,
+            observer,
+            out,
+        )
     }
 }
 
@@ -204,57 +314,52 @@ pub fn events_of<'a>(
     }
 }
 
-/// Runs what a session does to one tenant; `None` where it never admits it.
-fn replayed<'a>(
-    rt: &HostRuntime,
-    replay: &'a Replay,
-    files: &[Vec<u8>],
-    observer: &mut Observer<'_, Log>,
-) -> Result<Option<Replayed>, Failure<'a>> {
-    let script = read_file(rt, replay.script.as_str())?;
-    let events = events_of(rt.alloc(), script.as_slice(), files)?;
-    let Ok(mut host) = Host::new(rt.alloc(), replay.frames) else {
-        return Err(Failure::Memory);
-    };
-    replay_tenant(
-        rt.alloc(),
-        &mut host,
-        replay.id,
-        events.as_slice(),
-        files,
-        observer,
-        &mut StreamSink(rt.stdout()),
-    )
-}
-
 /// Runs the slices that are named, or as many as the limit of steps holds.
-pub fn run_slices(bench: &mut Bench, observer: &mut Observer<'_, Log>, options: &Options) {
+pub fn run_slices(
+    bench: &mut Bench,
+    observer: &mut Observer<'_, Log>,
+    out: &mut OutputStream<'_>,
+    options: &Options,
+) {
     match &options.length.slices {
         Some(slices) => {
             for steps in slices {
-                run_slice(bench, observer, *steps, options.length.steps);
+                run_slice(bench, observer, out, *steps, options.length.steps);
             }
         }
         None => {
             for _ in 0..options.length.steps {
-                if is_over(bench, observer, options) {
+                if is_over(bench, observer, out, options) {
                     return;
                 }
-                run_slice(bench, observer, MAX_STEPS as u32, options.length.steps);
+                run_slice(bench, observer, out, MAX_STEPS as u32, options.length.steps);
             }
         }
     }
 }
 
 /// Whether no slice follows.
-fn is_over(bench: &Bench, observer: &Observer<'_, Log>, options: &Options) -> bool {
+fn is_over(
+    bench: &Bench,
+    observer: &Observer<'_, Log>,
+    out: &OutputStream<'_>,
+    options: &Options,
+) -> bool {
     observer.finding().is_some()
+        || out.has_failed
         || !bench.parts.is_running()
         || bench.parts.log.steps >= options.length.steps
 }
 
-/// Runs a slice, or what the limit of steps leaves of it.
-fn run_slice(bench: &mut Bench, observer: &mut Observer<'_, Log>, steps: u32, limit: u64) {
+/// Runs a slice, or what the limit of steps leaves of it, and writes what it wrote.
+fn run_slice(
+    bench: &mut Bench,
+    observer: &mut Observer<'_, Log>,
+    out: &mut OutputStream<'_>,
+    steps: u32,
+    limit: u64,
+) {
     let left = limit.saturating_sub(bench.parts.log.steps);
     bench.slice(observer, u32::try_from(left).unwrap_or(u32::MAX).min(steps));
+    out.update(&bench.parts.log.output);
 }

@@ -3,6 +3,7 @@
 use crate::bench::Bench;
 use crate::ending::{ENDINGS, TenantEnding, ending_at};
 use crate::observer::{Observer, exact_of};
+use crate::output_stream::OutputStream;
 use crate::running::{Log, admission_of, run_slices};
 use crate::seeds::seed_of_run;
 use mte_tenant::AdmitError;
@@ -71,7 +72,8 @@ fn ending_under<'x>(
     let exact = exact_of(alloc, options.output.exact);
     let mut observer: Observer<'_, Log> = Observer::new(alloc, 1, exact, None)?;
     let mut bench = Bench::new(alloc, &admission_of(options, image, input, seed))?;
-    run_slices(&mut bench, &mut observer, options);
+    observer.is_watching = observer.needs_each_step();
+    run_slices(&mut bench, &mut observer, &mut OutputStream::silent(), options);
     if observer.finding().is_some() {
         return Ok(TenantEnding::Exact);
     }

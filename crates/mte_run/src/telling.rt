@@ -7,7 +7,6 @@ use crate::files::Image;
 use crate::map::draw_map;
 use crate::observer::Observer;
 use crate::running::Log;
-use address_map::PAGE_SIZE;
 use elf_core::CoreSubject;
 use mte_backtrace::Names;
 use mte_flat::Flat;
@@ -19,7 +18,6 @@ use std::alloc::{AllocError, Global};
 use std::fs::File;
 use std::io;
 use std::io::BufWriter;
-use tenant_map::page_map;
 
 /// What is told of a run beside its tenant.
 #[derive(Clone, Copy)]
@@ -48,7 +46,11 @@ pub fn tell_end<'a>(
     if observer.is_cut {
         let _ = eprintln!(rt; "mte_run: output was cut: there was no more room (--out)");
     }
-    let Bench { parts, mut memory } = bench;
+    let Bench {
+        parts,
+        mut memory,
+        ..
+    } = bench;
     tell_parts(rt, &parts, &mut memory, observer, options, image, run)
 }
 
@@ -69,11 +71,16 @@ fn tell_parts<'a>(
         name: image.name,
     };
     dump_core(rt, options, &subject, memory)?;
-    let reserved = reserved_pages(rt.alloc(), memory)?;
+    let reserved = if options.output.statistics {
+        reserved_pages(rt.alloc(), memory)?
+    } else {
+        0
+    };
     let report = Report {
         parts,
         book: &observer.book,
-        last: observer.last(options.output.last),
+        last: Some(observer.last()),
+        last_count: options.output.last,
         turns: observer.turns(),
         limit: options.limit(),
         names: Names::of(image.bytes),
@@ -81,6 +88,7 @@ fn tell_parts<'a>(
         seed: run.seed,
         finding: observer.finding(),
         statistics: observer.table(reserved),
+        is_cut: observer.is_cut,
     };
     tell_all(rt, &report, options, memory)?;
     write_files(rt, &report, options, memory)?;
@@ -144,11 +152,8 @@ fn tell_statistics(rt: &HostRuntime, report: &Report<'_>) -> io::Result<()> {
 
 /// The reservation in pages: those that are mapped and those that are left.
 fn reserved_pages(alloc: Global, memory: &mut Flat) -> Result<u64, AllocError> {
-    let mut count = memory.pages_left() as u64;
-    for pages in page_map(alloc, memory)?.iter() {
-        count = count.saturating_add(pages.end.saturating_sub(pages.start) / PAGE_SIZE);
-    }
-    Ok(count)
+    let mapped = memory.mapped_pages(alloc)?.len();
+    Ok(memory.pages_left().saturating_add(mapped) as u64)
 }
 
 /// Writes what happened into the file that is named, if one is, for a program to read.

@@ -1,18 +1,16 @@
 //! What most likely went wrong, in the manner of the reports of Android's memory tagging.
 
+use crate::evidence::{Evidence, NEAR};
 use crate::exact::Wrong;
 use a64_bits::plain;
 use address_map::{IMAGE_START, PAGE_SIZE, STACK_END, STACK_START};
 use heap_bounds::{Block, Trespass};
 use mte_svc::FREE;
-use mte_tags::{FaultKind, MemFault};
+use mte_tags::{FaultKind, MemFault, tag_of};
 use mte_tenant::{Record, Status};
 use run_book::{Book, BookChunk, BookEntry, Bytes, Wanted};
+use scudo_heap::HeapCall;
 use std::fmt;
-
-/// How far from a chunk an access is still taken for one past its end or in front of it, and from
-/// the stack for one below it.
-const NEAR: u64 = 65_536;
 
 /// Up to which step a program for Linux has looked for its arguments.
 const FIRST: u64 = 100;
@@ -24,6 +22,9 @@ pub enum Cause {
     UseAfterFree(BookChunk, u64),
     /// The same, and its block was given again, as another chunk.
     StalePointer(BookChunk, u64, BookChunk),
+    /// An access to a chunk that was freed by a pointer to an older chunk of its block: how many
+    /// bytes into it, and that pointer.
+    StaleFree(BookChunk, u64, u64),
     /// An access after a chunk, and how many bytes after it.
     Overflow(BookChunk, u64),
     /// An access before a chunk, and how many bytes before it.
@@ -64,40 +65,43 @@ pub enum Cause {
 }
 
 impl Cause {
-    /// The cause of how a record says that its tenant ended, where `service` is what x8 was.
-    pub fn of(book: &Book, log: &Record, service: u64) -> Cause {
+    /// The cause of how a record says that its tenant ended.
+    pub fn of(evidence: &Evidence<'_>, log: &Record) -> Cause {
         match &log.status {
             Status::Faulted(fault, pc) if fault.addr == plain(*pc) => Cause::WildJump,
             Status::Faulted(fault, _) => match fault.kind {
                 FaultKind::Translation | FaultKind::TagCheck => {
-                    Cause::of_access(book, fault, log.steps)
+                    Cause::of_access(evidence, fault, log.steps)
                 }
                 FaultKind::Permission if fault.write => Cause::ReadOnly,
                 _ => Cause::Unknown,
             },
-            Status::Aborted(_, pointer, _) => Cause::of_pointer(book, *pointer, service),
+            Status::Aborted(_, pointer, _) => {
+                Cause::of_pointer(evidence.book, *pointer, evidence.regs.x[8])
+            }
             _ => Cause::Unknown,
         }
     }
 
     /// The cause of an access that failed at a step.
-    fn of_access(book: &Book, fault: &MemFault, step: u64) -> Cause {
+    fn of_access(evidence: &Evidence<'_>, fault: &MemFault, step: u64) -> Cause {
         let (addr, tag) = (fault.addr, fault.ptr_tag);
         if addr < IMAGE_START {
             return Cause::NullPointer;
         }
-        if let Some(chunk) = book.newest(&Wanted::Tagged(addr, tag)) {
-            return Cause::of_own(book, addr, chunk);
+        if let Some(chunk) = evidence.book.newest(&Wanted::Tagged(addr, tag)) {
+            return Cause::of_own(evidence.book, addr, chunk);
         }
-        if let Some(chunk) = book.nearest(addr, tag) {
-            if chunk.distance(addr) <= NEAR {
-                return Cause::of_neighbour(addr, chunk);
-            }
+        if let Some(distance) = evidence.below_stack(addr) {
+            return Cause::StackOverflow(distance);
+        }
+        if let Some(chunk) = evidence.meant(addr, tag) {
+            return Cause::of_neighbour(addr, chunk);
         }
         if let Some(cause) = Cause::of_stack(fault, step) {
             return cause;
         }
-        match book.newest(&Wanted::Holding(addr)) {
+        match evidence.book.newest(&Wanted::Holding(addr)) {
             Some(chunk) => Cause::ForeignPointer(chunk),
             None => Cause::Unknown,
         }
@@ -147,6 +151,9 @@ impl Cause {
             return Cause::TagsChanged(chunk);
         }
         let offset = addr.saturating_sub(chunk.start());
+        if let Some(pointer) = stale_pointer(&chunk) {
+            return Cause::StaleFree(chunk, offset, pointer);
+        }
         match book.newest(&Wanted::Holding(addr)) {
             Some(young) if young.freed.is_none() => Cause::StalePointer(chunk, offset, young),
             _ => Cause::UseAfterFree(chunk, offset),
@@ -184,6 +191,7 @@ impl Cause {
         match self {
             Cause::UseAfterFree(chunk, _)
             | Cause::StalePointer(chunk, _, _)
+            | Cause::StaleFree(chunk, _, _)
             | Cause::Overflow(chunk, _)
             | Cause::Underflow(chunk, _)
             | Cause::TagsChanged(chunk)
@@ -220,6 +228,7 @@ impl Cause {
         match self {
             Cause::UseAfterFree(_, _) => "Use After Free",
             Cause::StalePointer(_, _, _) => "Use After Free by a stale pointer",
+            Cause::StaleFree(_, _, _) => "Double Free by a stale pointer, met by an access",
             Cause::Overflow(_, _) => "Buffer Overflow",
             Cause::Underflow(_, _) => "Buffer Underflow",
             Cause::TagsChanged(_) => "the tags were changed",
@@ -249,6 +258,7 @@ impl Cause {
         match self {
             Cause::UseAfterFree(_, _)
             | Cause::StalePointer(_, _, _)
+            | Cause::StaleFree(_, _, _)
             | Cause::Overflow(_, _)
             | Cause::Underflow(_, _)
             | Cause::ForeignPointer(_)
@@ -262,6 +272,7 @@ impl Cause {
         match self {
             Cause::UseAfterFree(_, distance)
             | Cause::StalePointer(_, distance, _)
+            | Cause::StaleFree(_, distance, _)
             | Cause::Overflow(_, distance)
             | Cause::Underflow(_, distance)
             | Cause::StackOverflow(distance)
@@ -276,6 +287,7 @@ impl Cause {
         match self {
             Cause::UseAfterFree(_, _)
             | Cause::StalePointer(_, _, _)
+            | Cause::StaleFree(_, _, _)
             | Cause::ForeignPointer(_)
             | Cause::InsideChunk(_, _) => " into a ",
             Cause::Overflow(_, _) => " right of a ",
@@ -288,6 +300,20 @@ impl Cause {
             | Cause::HeaderOverwritten(_) => " of a ",
             _ => "",
         }
+    }
+}
+
+/// The pointer that a chunk was freed by, where it has another tag than the chunk's own: it is one
+/// to an older chunk of the block.
+fn stale_pointer(chunk: &BookChunk) -> Option<u64> {
+    let pointer = match freed_of(Some(chunk))?.call.call {
+        HeapCall::Free { pointer } | HeapCall::Realloc { pointer, .. } => pointer,
+        _ => return None,
+    };
+    if tag_of(pointer) == chunk.tag() {
+        None
+    } else {
+        Some(pointer)
     }
 }
 
@@ -309,9 +335,12 @@ impl fmt::Display for Cause {
             write!(f, ", {}", Bytes(distance))?;
         }
         f.write_str(self.joint())?;
-        match self.chunk() {
-            Some(chunk) => chunk.fmt(f),
-            None => Ok(()),
+        if let Some(chunk) = self.chunk() {
+            chunk.fmt(f)?;
+        }
+        match self {
+            Cause::StaleFree(_, _, pointer) => write!(f, ", freed by {pointer:#018x}"),
+            _ => Ok(()),
         }
     }
 }

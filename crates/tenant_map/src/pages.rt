@@ -1,8 +1,9 @@
 //! The page map.
 
 use crate::attributes::Letters;
-use address_map::{ADDRESS_END, PAGE_SIZE};
+use address_map::PAGE_SIZE;
 use heap_bounds::Range;
+use mte_flat::Flat;
 use mte_tags::{Attrs, Tagged};
 use std::alloc::{AllocError, Global};
 use std::fmt;
@@ -28,16 +29,15 @@ impl fmt::Display for MappedPages {
     }
 }
 
-/// All pages of a memory, the lowest first.
-pub fn page_map<M: Tagged>(alloc: Global, memory: &mut M) -> Result<Vec<MappedPages>, AllocError> {
+/// All pages of a memory, the lowest first. It takes time for the pages that are mapped.
+pub fn page_map(alloc: Global, memory: &Flat) -> Result<Vec<MappedPages>, AllocError> {
+    let mut pages = memory.mapped_pages(alloc)?;
+    pages.sort_unstable_by_key(|page| page.number);
     let mut map: Vec<MappedPages> = Vec::new(alloc);
-    for number in 0..ADDRESS_END / PAGE_SIZE {
-        let start = number * PAGE_SIZE;
-        if let Some(attrs) = attrs_at(memory, start) {
-            let page = page_of(start, attrs);
-            if !extend(map.as_mut_slice(), &page) {
-                map.push(page)?;
-            }
+    for page in &pages {
+        let page = page_of(page.number.saturating_mul(PAGE_SIZE), page.attrs);
+        if !extend(map.as_mut_slice(), &page) {
+            map.push(page)?;
         }
     }
     Ok(map)

@@ -1,0 +1,95 @@
+//! What was remembered of a tenant, by which the cause of its end is found.
+
+use a64_bits::plain;
+use a64_registers::Regs;
+use address_map::{SECONDARY_END, STACK_START};
+use circular_buffer::HeapCircularBuffer;
+use instruction_trace::Moment;
+use mte_tags::tag_of;
+use run_book::{Book, BookChunk, Wanted};
+
+/// How far from a chunk an access is still taken for one past its end or in front of it, and from
+/// the stack or from SP for one of the stack.
+pub(crate) const NEAR: u64 = 65_536;
+
+/// How far from a chunk an access is that goes on from its end or its start.
+const ADJACENT: u64 = 32;
+
+/// How many instructions before an access computed its address, as a rule.
+const WINDOW: usize = 4;
+
+/// What was remembered of a tenant.
+#[derive(Clone, Copy)]
+pub struct Evidence<'a> {
+    /// Its heap calls.
+    pub book: &'a Book,
+    /// The registers before the instruction that ended it.
+    pub regs: &'a Regs,
+    /// Its last instructions, the oldest first, where they were remembered.
+    pub last: Option<&'a HeapCircularBuffer<Moment>>,
+}
+
+impl<'a> Evidence<'a> {
+    /// The chunk that an access by a pointer with a tag was meant for, where the address is in no
+    /// chunk with the tag: the nearest chunk with it where the access adjoins it; otherwise the one
+    /// that a register pointed into just before; otherwise the nearest, if it is near.
+    pub(crate) fn meant(&self, addr: u64, tag: u8) -> Option<BookChunk> {
+        let nearest = self.book.nearest(addr, tag);
+        if let Some(chunk) = nearest {
+            if chunk.distance(addr) <= ADJACENT {
+                return nearest;
+            }
+        }
+        if let Some(chunk) = self.pointed(tag) {
+            return Some(chunk);
+        }
+        nearest.filter(|chunk| chunk.distance(addr) <= NEAR)
+    }
+
+    /// The chunk with a tag that a register pointed into before the newest of the last instructions
+    /// of which this holds.
+    fn pointed(&self, tag: u8) -> Option<BookChunk> {
+        let last = self.last?;
+        for back in 1..=last.len().min(WINDOW) {
+            let moment = last.get(last.len() - back)?;
+            let found = self.pointed_by(&moment.regs, tag);
+            if found.is_some() {
+                return found;
+            }
+        }
+        None
+    }
+
+    /// The chunk with a tag that one of the registers points into.
+    fn pointed_by(&self, regs: &Regs, tag: u8) -> Option<BookChunk> {
+        if tag == 0 {
+            return None;
+        }
+        for value in regs.x.iter() {
+            if tag_of(*value) == tag {
+                let found = self.book.newest(&Wanted::Tagged(plain(*value), tag));
+                if found.is_some() {
+                    return found;
+                }
+            }
+        }
+        None
+    }
+
+    /// How far below the stack an access lies that is near SP, where SP is below the stack: the one
+    /// that the tenant starts with, or one in a live chunk whose tag SP has.
+    pub(crate) fn below_stack(&self, addr: u64) -> Option<u64> {
+        let sp = plain(self.regs.sp);
+        if sp.abs_diff(addr) > NEAR {
+            return None;
+        }
+        if sp >= SECONDARY_END && sp < STACK_START {
+            return STACK_START.checked_sub(addr);
+        }
+        let stack = self.book.nearest(sp, tag_of(self.regs.sp))?;
+        if stack.freed.is_some() || stack.size < NEAR || sp >= stack.start() {
+            return None;
+        }
+        stack.start().checked_sub(addr)
+    }
+}
