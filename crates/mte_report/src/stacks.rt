@@ -8,6 +8,7 @@ use run_cause::{Cause, Finding, FoundCause};
 use std::alloc::{AllocError, Global};
 use std::io;
 use std::io::Write;
+use terminal_text::ShellWord;
 
 impl<'a> Report<'a> {
     /// Writes the calls that led to the end, then the cause, and the calls of the chunks that it
@@ -67,7 +68,8 @@ impl<'a> Report<'a> {
         cause: Option<&Cause>,
         memory: &mut Flat,
     ) -> io::Result<()> {
-        write!(out, "llvm-symbolizer -i --obj={}", self.image)?;
+        let image = ShellWord(self.image);
+        write!(out, "llvm-symbolizer -i --obj={image}")?;
         let stack = self.end_stack(alloc, memory)?;
         stack.write_addresses(out)?;
         if let Some(cause) = cause {

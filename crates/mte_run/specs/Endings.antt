@@ -5,7 +5,7 @@ use Rattle.mte_svc.specs.declared.record.Status.TheVariants as status
 use Rattle.mte_run.specs.declared.ending.TenantEnding.{TenantEnding}
 use Rattle.mte_run.specs.declared.ending.TenantEnding.TheVariants.{Exit, Fault, AsyncTag, Abort}
 use Rattle.mte_run.specs.declared.ending.TenantEnding.TheVariants.{Illegal, Breakpoint, StepLimit}
-use Rattle.mte_run.specs.declared.ending.TenantEnding.TheVariants.{NotEnded, Refused, Exact}
+use Rattle.mte_run.specs.declared.ending.TenantEnding.TheVariants.{NotEnded, Refused, Exact, Cut}
 
 -- A tenant's own, where it exited.
 abbrev pub own_status : Status → ℕ
@@ -30,3 +30,4 @@ exit_status StepLimit s = 134
 exit_status NotEnded s = 135
 exit_status Refused s = 136
 exit_status Exact s = 137
+exit_status Cut s = 138

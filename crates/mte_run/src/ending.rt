@@ -29,10 +29,12 @@ pub enum TenantEnding {
     Refused = 8,
     /// An access went beyond its chunk, where accesses are to keep to them.
     Exact = 9,
+    /// It exited, but wrote more than there was room for, where its output is to be whole.
+    Cut = 10,
 }
 
 /// How many ways there are.
-pub const ENDINGS: usize = 10;
+pub const ENDINGS: usize = 11;
 
 /// The exit status of a tenant that is refused.
 pub const REFUSED: u8 = 136;
@@ -76,6 +78,7 @@ impl fmt::Display for TenantEnding {
             TenantEnding::NotEnded => "end of its slices",
             TenantEnding::Refused => "refusal",
             TenantEnding::Exact => "exact",
+            TenantEnding::Cut => "output that was cut",
         })
     }
 }
@@ -92,7 +95,8 @@ pub fn ending_at(index: usize) -> TenantEnding {
         6 => TenantEnding::StepLimit,
         7 => TenantEnding::NotEnded,
         8 => TenantEnding::Refused,
-        _ => TenantEnding::Exact,
+        9 => TenantEnding::Exact,
+        _ => TenantEnding::Cut,
     }
 }
 
@@ -110,7 +114,7 @@ impl<'a> LastLine<'a> {
     /// Whether it is written: not for an exit status that only a tenant has.
     pub fn is_told(&self) -> bool {
         let status = self.ending.status(self.log);
-        self.ending != TenantEnding::Exit || matches!(status, 2..=6 | 129..=137)
+        self.ending != TenantEnding::Exit || matches!(status, 2..=6 | 129..=138)
     }
 }
 
@@ -118,7 +122,9 @@ impl<'a> fmt::Display for LastLine<'a> {
     fn fmt<W: fmt::Write>(&self, f: &mut fmt::Formatter<W>) -> fmt::Result {
         let (ending, status) = (self.ending, self.ending.status(self.log));
         match &self.log.status {
-            _ if ending == TenantEnding::Exact => write!(f, "ended by {ending}, status {status}"),
+            _ if matches!(ending, TenantEnding::Exact | TenantEnding::Cut) => {
+                write!(f, "ended by {ending}, status {status}")
+            }
             Status::Exited(_) => write!(f, "exited with {status}"),
             Status::Faulted(fault, _) => {
                 let kind = fault.kind;

@@ -1,7 +1,7 @@
 //! The files that are read.
 
 use mte_program::StreamSource;
-use mte_session::{ReadFault, file_of, read_whole};
+use mte_session::{file_of, read_whole};
 use run_options::{Failure, Options};
 use std::fs::File;
 
@@ -41,8 +41,9 @@ pub fn read_input<'a>(rt: &HostRuntime, options: &'a Options) -> Result<Vec<u8>,
 
 /// All bytes of the file with a name.
 pub fn read_file<'a>(rt: &HostRuntime, name: &'a str) -> Result<Vec<u8>, Failure<'a>> {
-    let Ok(file) = File::open(rt, name) else {
-        return Err(Failure::of_read(ReadFault::Read, name));
+    let file = match File::open(rt, name) {
+        Ok(file) => file,
+        Err(error) => return Err(Failure::of_open(&error, name)),
     };
     match read_whole(rt.alloc(), &mut StreamSource(file), 0) {
         Ok(bytes) => Ok(bytes),

@@ -24,7 +24,6 @@ use obstacle::Obstacle;
 use run_options::{Failure, Options, OutputOptions, Replay, remedy_of};
 use std::alloc::Global;
 use std::fs::File;
-use std::io;
 use std::io::{BufWriter, Stderr, sink};
 
 /// The number of a tenant that is alone.
@@ -48,11 +47,11 @@ pub fn run_program<'a>(rt: &HostRuntime, options: &'a Options) -> Result<u8, Fai
 
 /// What is remembered and written of a tenant, as the options request it: with the names of an
 /// image's functions, where it is known before the run.
-fn observer_of<'i>(
+fn observer_of<'a, 'i>(
     rt: &HostRuntime,
-    options: &Options,
+    options: &'a Options,
     image: &'i [u8],
-) -> io::Result<Observer<'i, Log>> {
+) -> Result<Observer<'i, Log>, Failure<'a>> {
     let output = &options.output;
     let tracer = match output.traced {
         Some(traced) => Some(Tracer::new(traced, Symbols::of(image), open_log(rt, output)?)),
@@ -65,12 +64,20 @@ fn observer_of<'i>(
 }
 
 /// Where the lines go that are written while a tenant runs.
-fn open_log(rt: &HostRuntime, output: &OutputOptions) -> io::Result<Log> {
+fn open_log<'a>(rt: &HostRuntime, output: &'a OutputOptions) -> Result<Log, Failure<'a>> {
     let out = match &output.trace_file {
-        Some(name) => Either::Right(File::create(rt, name.as_str())?),
+        Some(name) => Either::Right(create(rt, name.as_str())?),
         None => Either::Left(rt.stderr()),
     };
-    BufWriter::new(rt.alloc(), out)
+    Ok(BufWriter::new(rt.alloc(), out)?)
+}
+
+/// An empty file with a name.
+fn create<'a>(rt: &HostRuntime, name: &'a str) -> Result<File, Failure<'a>> {
+    match File::create(rt, name) {
+        Ok(file) => Ok(file),
+        Err(error) => Err(Failure::of_write(&error, name)),
+    }
 }
 
 /// What an image is admitted with under a seed.

@@ -7,13 +7,16 @@ use crate::files::Image;
 use crate::map::draw_map;
 use crate::observer::Observer;
 use crate::running::Log;
+use address_map::GRANULE_SIZE;
 use elf_core::CoreSubject;
+use heap_bounds::{Allocation, made_by};
 use mte_backtrace::Names;
 use mte_flat::Flat;
 use mte_report::Report;
-use mte_svc::TenantParts;
+use mte_svc::{AnsweredCall, HeapCalls, TenantParts};
 use mte_tags::{Paged, TagMode};
-use run_options::{Failure, Options};
+use mte_tenant::Status;
+use run_options::{Exactness, Failure, FileFault, Options};
 use std::alloc::{AllocError, Global};
 use std::fs::File;
 use std::io;
@@ -38,7 +41,7 @@ pub fn tell_end<'a>(
     run: Run,
 ) -> Result<u8, Failure<'a>> {
     if !observer.finish() {
-        return Err(Failure::Write);
+        return Err(unwritten_lines(options));
     }
     if !observer.is_complete() {
         return Err(Failure::Memory);
@@ -52,6 +55,14 @@ pub fn tell_end<'a>(
         ..
     } = bench;
     tell_parts(rt, &parts, &mut memory, observer, options, image, run)
+}
+
+/// The failure to write the lines of a trace.
+fn unwritten_lines(options: &Options) -> Failure<'_> {
+    match &options.output.trace_file {
+        Some(name) => Failure::WriteFile(name.as_str(), FileFault::Other),
+        None => Failure::Write,
+    }
 }
 
 /// Tells what happened of a tenant's parts and its memory, and returns the exit status. It borrows
@@ -90,9 +101,11 @@ fn tell_parts<'a>(
         statistics: observer.table(reserved),
         is_cut: observer.is_cut,
     };
+    let ending = ending_of(&report, options);
     tell_all(rt, &report, options, memory)?;
-    write_files(rt, &report, options, memory)?;
-    Ok(tell_last_line(rt, &report))
+    write_files(rt, &report, options, ending, memory)?;
+    tell_unseen(rt, &report, options);
+    Ok(tell_last_line(rt, &report, ending))
 }
 
 /// Tells what the options request, on standard error.
@@ -112,23 +125,42 @@ fn write_files<'a>(
     rt: &HostRuntime,
     report: &Report<'_>,
     options: &'a Options,
+    ending: TenantEnding,
     memory: &mut Flat,
 ) -> Result<(), Failure<'a>> {
-    write_json(rt, report, options, memory)?;
+    write_json(rt, report, options, ending, memory)?;
     draw_map(rt, report, options, memory)
 }
 
 /// How the tenant ended.
-fn ending_of(report: &Report<'_>) -> TenantEnding {
-    match report.finding {
-        Some(_) => TenantEnding::Exact,
-        None => TenantEnding::of(&report.parts.log, report.limit),
+fn ending_of(report: &Report<'_>, options: &Options) -> TenantEnding {
+    if report.finding.is_some() {
+        return TenantEnding::Exact;
+    }
+    match TenantEnding::of(&report.parts.log, report.limit) {
+        TenantEnding::Exit if report.is_cut && options.output.is_whole => TenantEnding::Cut,
+        ending => ending,
+    }
+}
+
+/// Tells what no tag finds, on standard error, of a tenant that exited and had chunks whose last
+/// granule has bytes past their size.
+fn tell_unseen(rt: &HostRuntime, report: &Report<'_>, options: &Options) {
+    let log = &report.parts.log;
+    let is_exit = matches!(log.status, Status::Exited(_));
+    if is_exit && options.output.exact == Exactness::Tags && may_have_spare_bytes(&log.calls) {
+        let _ = eprintln!(
+            rt;
+            "mte_run: no tag differed; a tag is that of 16 bytes, so up to 15 bytes past a chunk's \
+             size are compared by --exact alone"
+        );
     }
 }
 
 /// Tells what happened, on standard error, unless the tenant exited.
 fn tell_report(rt: &HostRuntime, report: &Report<'_>, memory: &mut Flat) -> io::Result<()> {
-    if ending_of(report) == TenantEnding::Exit {
+    let log = &report.parts.log;
+    if report.finding.is_none() && matches!(log.status, Status::Exited(_)) {
         return Ok(());
     }
     let mut out = BufWriter::new(rt.alloc(), rt.stderr())?;
@@ -161,12 +193,13 @@ fn write_json<'a>(
     rt: &HostRuntime,
     report: &Report<'_>,
     options: &'a Options,
+    ending: TenantEnding,
     memory: &mut Flat,
 ) -> Result<(), Failure<'a>> {
     match &options.output.json {
         Some(name) => {
-            let name = name.as_str();
-            write_json_file(rt, report, name, memory).map_err(|error| Failure::of_write(
+            let (name, status) = (name.as_str(), ending.status(&report.parts.log));
+            write_json_file(rt, report, name, status, memory).map_err(|error| Failure::of_write(
                 &error, name,
             ))
         }
@@ -179,20 +212,41 @@ fn write_json_file(
     rt: &HostRuntime,
     report: &Report<'_>,
     name: &str,
+    status: u8,
     memory: &mut Flat,
 ) -> io::Result<()> {
     let mut out = BufWriter::new(rt.alloc(), File::create(rt, name)?)?;
-    let status = ending_of(report).status(&report.parts.log);
     report.write_json(rt.alloc(), &mut out, status, memory)
 }
 
 /// Writes the last line, and returns the exit status.
-fn tell_last_line(rt: &HostRuntime, report: &Report<'_>) -> u8 {
+fn tell_last_line(rt: &HostRuntime, report: &Report<'_>, ending: TenantEnding) -> u8 {
     let log = &report.parts.log;
-    let ending = ending_of(report);
     let line = LastLine { ending, log };
     if line.is_told() {
         let _ = eprintln!(rt; "mte_run: {line}");
     }
     ending.status(log)
+}
+
+/// Whether a chunk may have had bytes of its last granule past its size: one of the calls that are
+/// kept asked for such a size, or there were more calls.
+fn may_have_spare_bytes(calls: &HeapCalls) -> bool {
+    if calls.count() > calls.kept() as u64 {
+        return true;
+    }
+    for index in 0..calls.kept() {
+        if calls.get(index).is_some_and(|call| has_spare_bytes(&call)) {
+            return true;
+        }
+    }
+    false
+}
+
+/// Whether a call made a chunk whose size is no multiple of a granule's.
+fn has_spare_bytes(call: &AnsweredCall) -> bool {
+    match made_by(call) {
+        Some(Allocation { size, .. }) => size % GRANULE_SIZE != 0,
+        None => false,
+    }
 }

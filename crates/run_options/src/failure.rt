@@ -5,6 +5,51 @@ use obstacle::Obstacle;
 use script_lines::Wrong;
 use std::alloc::{AllocError, AllocFailed};
 use std::{fmt, io};
+use terminal_text::Printable;
+
+/// Why a file cannot be read or written.
+#[derive(Clone, Copy)]
+pub enum FileFault {
+    /// There is no such file, or no such folder.
+    Missing,
+    /// Its permissions do not allow it.
+    Forbidden,
+    /// It is a folder.
+    Folder,
+    /// It has more bytes than are read.
+    TooLong,
+    /// Its disk has no room.
+    Full,
+    /// Anything else.
+    Other,
+}
+
+impl FileFault {
+    /// What an error of the system means.
+    fn of(error: &io::Error) -> FileFault {
+        match error.kind() {
+            io::ErrorKind::NotFound | io::ErrorKind::NotADirectory => FileFault::Missing,
+            io::ErrorKind::PermissionDenied | io::ErrorKind::ReadOnlyFilesystem => {
+                FileFault::Forbidden
+            }
+            io::ErrorKind::IsADirectory => FileFault::Folder,
+            io::ErrorKind::StorageFull | io::ErrorKind::QuotaExceeded => FileFault::Full,
+            _ => FileFault::Other,
+        }
+    }
+
+    /// What follows the name of the file.
+    fn reason(self) -> &'static str {
+        match self {
+            FileFault::Missing => ": no such file or folder",
+            FileFault::Forbidden => ": permission denied",
+            FileFault::Folder => ": it is a folder",
+            FileFault::TooLong => ": it has more than 16 MiB",
+            FileFault::Full => ": no space is left",
+            FileFault::Other => "",
+        }
+    }
+}
 
 /// Why the program ends without a tenant's status.
 #[derive(Clone, Copy)]
@@ -12,11 +57,11 @@ pub enum Failure<'a> {
     /// An allocation failed.
     Memory,
     /// A file could not be read; its name as it was given.
-    Read(&'a str),
+    Read(&'a str, FileFault),
     /// A stream could not be written.
     Write,
     /// A file could not be written; its name as it was given.
-    WriteFile(&'a str),
+    WriteFile(&'a str, FileFault),
     /// A script's first faulty line, counted from 1, what is wrong with it, and which word.
     Script(u64, ScriptFault, Wrong),
 }
@@ -26,7 +71,17 @@ impl<'a> Failure<'a> {
     pub fn of_read(fault: ReadFault, name: &'a str) -> Failure<'a> {
         match fault {
             ReadFault::OutOfMemory => Failure::Memory,
-            ReadFault::Read | ReadFault::TooLong => Failure::Read(name),
+            ReadFault::Read => Failure::Read(name, FileFault::Other),
+            ReadFault::TooLong => Failure::Read(name, FileFault::TooLong),
+        }
+    }
+
+    /// A file that cannot be opened to be read.
+    pub fn of_open(error: &io::Error, name: &'a str) -> Failure<'a> {
+        if error.kind() == io::ErrorKind::OutOfMemory {
+            Failure::Memory
+        } else {
+            Failure::Read(name, FileFault::of(error))
         }
     }
 
@@ -35,7 +90,7 @@ impl<'a> Failure<'a> {
         if error.kind() == io::ErrorKind::OutOfMemory {
             Failure::Memory
         } else {
-            Failure::WriteFile(name)
+            Failure::WriteFile(name, FileFault::of(error))
         }
     }
 
@@ -54,8 +109,8 @@ impl<'a> Failure<'a> {
     fn status(&self) -> u8 {
         match self {
             Failure::Memory => 4,
-            Failure::Read(_) => 5,
-            Failure::Write | Failure::WriteFile(_) => 6,
+            Failure::Read(_, _) => 5,
+            Failure::Write | Failure::WriteFile(_, _) => 6,
             Failure::Script(_, _, _) => 3,
         }
     }
@@ -65,14 +120,25 @@ impl<'a> fmt::Display for Failure<'a> {
     fn fmt<W: fmt::Write>(&self, f: &mut fmt::Formatter<W>) -> fmt::Result {
         match self {
             Failure::Memory => f.write_str("out of memory"),
-            Failure::Read(name) => write!(f, "cannot read {name}"),
+            Failure::Read(name, fault) => write_fault(f, "read", name, *fault),
             Failure::Write => f.write_str("cannot write"),
-            Failure::WriteFile(name) => write!(f, "cannot write {name}"),
+            Failure::WriteFile(name, fault) => write_fault(f, "write", name, *fault),
             Failure::Script(line, fault, wrong) => {
                 write!(f, "script line {line}: {fault}: {wrong}")
             }
         }
     }
+}
+
+/// Writes what cannot be done with a file, and why.
+fn write_fault<W: fmt::Write>(
+    f: &mut fmt::Formatter<W>,
+    verb: &str,
+    name: &str,
+    fault: FileFault,
+) -> fmt::Result {
+    let (name, reason) = (Printable(name), fault.reason());
+    write!(f, "cannot {verb} {name}{reason}")
 }
 
 impl<'a> From<AllocError> for Failure<'a> {

@@ -3,11 +3,12 @@
 
 mod command_line;
 mod failure;
+mod file_names;
 mod options;
 mod refusal;
 
 pub use command_line::{Invocation, read_command_line};
-pub use failure::{Failure, report};
+pub use failure::{Failure, FileFault, report};
 pub use options::{
     Exactness, Fault, Options, OutputOptions, Replay, RunLength, RunOptions, Traced,
 };

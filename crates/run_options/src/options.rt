@@ -2,6 +2,7 @@
 
 ghost use Rattle.std.specs.Prelude.{◌<◌, ◌≤◌};
 
+use crate::file_names::has_shared_name;
 use clap::ArgMatches;
 use mte_tags::TagMode;
 use obstacle::Obstacle;
@@ -75,6 +76,8 @@ pub struct OutputOptions {
     pub exact: Exactness,
     /// The name of the file that the tenant's core is written into.
     pub core: Option<String>,
+    /// Whether output for which there is no room is a failure.
+    pub is_whole: bool,
 }
 
 /// Which accesses are to keep to the bytes of chunks.
@@ -112,6 +115,10 @@ pub enum Fault {
     Seed,
     /// The trace is not from one step to another.
     Trace,
+    /// There are frames without a script.
+    Frames,
+    /// A file that is written is also read, or written twice.
+    Names,
     /// What `--script` needs is not there.
     Script,
     /// There is no image, or more than one.
@@ -123,7 +130,11 @@ impl Fault {
     pub fn text(self) -> &'static str {
         match self {
             Fault::Seed => "the seed is not a number of 1 to 16 hexadecimal digits",
-            Fault::Trace => "the trace is not FROM-TO, two step numbers",
+            Fault::Trace => "the trace is not FROM-TO, two step numbers, the lower one first",
+            Fault::Frames => "--frames is for a session: it wants --script",
+            Fault::Names => {
+                "--json, --map, --core and --trace-file want different files, and none that is read"
+            }
             Fault::Script => {
                 "--script has two values, a file and a tenant's number, and wants --frames"
             }
@@ -142,14 +153,18 @@ impl Options {
         if replay.is_none() && files.len() != 1 {
             return Err(Obstacle::Refused(Fault::Files));
         }
-        Ok(Options {
+        let options = Options {
             files,
             replay,
             run,
             length: RunLength::of(alloc, matches)?,
             output,
             is_debugged: matches.get_flag("gdb"),
-        })
+        };
+        if has_shared_name(&options) {
+            return Err(Obstacle::Refused(Fault::Names));
+        }
+        Ok(options)
     }
 
     /// The name of the file with a number from 1.
@@ -194,7 +209,10 @@ impl Replay {
     /// The tenant of a session that is to be replayed, if one is.
     fn of(alloc: Global, matches: &ArgMatches<'_>) -> Result<Option<Replay>, Obstacle<Fault>> {
         let Some(words) = matches.get_strs("script") else {
-            return Ok(None);
+            return match matches.get_one::<u32>("frames") {
+                Some(_) => Err(Obstacle::Refused(Fault::Frames)),
+                None => Ok(None),
+            };
         };
         let (Some(script), Some(id)) = (words.first(), words.get(1)) else {
             return Err(Obstacle::Refused(Fault::Script));
@@ -273,6 +291,7 @@ impl OutputOptions {
             map: name_of(alloc, matches, "map")?,
             json: name_of(alloc, matches, "json")?,
             core: name_of(alloc, matches, "core")?,
+            is_whole: matches.get_flag("whole-output"),
             exact: match matches.get_str("exact") {
                 None => Exactness::Tags,
                 Some("writes") => Exactness::Writes,
@@ -286,7 +305,9 @@ impl OutputOptions {
 fn traced_by(steps: Option<&str>, services: bool) -> Result<Option<Traced>, Obstacle<Fault>> {
     match steps {
         Some(text) => {
-            let (from, to) = steps_of(text).ok_or(Obstacle::Refused(Fault::Trace))?;
+            let (from, to) = steps_of(text)
+                .filter(|(from, to)| from <= to)
+                .ok_or(Obstacle::Refused(Fault::Trace))?;
             Ok(Some(Traced { from, to, services }))
         }
         None if services => Ok(Some(Traced {
