@@ -109,6 +109,11 @@ impl<'a, W: Write + Drop> Observer<'a, W> {
         self.exact.as_ref()?.finding()
     }
 
+    /// Whether it has met such an access in what it watches.
+    pub fn has_ended(&self) -> bool {
+        self.is_watching && self.finding().is_some()
+    }
+
     /// Whether no chunk was missed for want of memory.
     pub fn is_complete(&self) -> bool {
         match &self.exact {

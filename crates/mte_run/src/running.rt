@@ -114,6 +114,14 @@ impl<'x> LoneTenant<'x> {
         let admission = admission_of(options, self.image.bytes, self.input, self.seed);
         Bench::new(alloc, &admission)
     }
+
+    /// The same once more: as it was admitted before, only memory can be wanting.
+    fn bench_again<'a>(&self, alloc: Global, options: &Options) -> Result<Bench, Failure<'a>> {
+        match self.bench(alloc, options) {
+            Ok(bench) => Ok(bench),
+            Err(_) => Err(Failure::Memory),
+        }
+    }
 }
 
 /// Runs an image alone.
@@ -178,8 +186,7 @@ fn seed_of<'x>(
     Ok(survey.seed(given))
 }
 
-/// Runs a tenant, and tells why it ended. Where nothing has to watch each step, it runs unwatched
-/// first; only an end that is told by what was watched takes a second run, which is the same.
+/// Runs a tenant, and tells why it ended.
 fn run_bench<'a>(
     rt: &HostRuntime,
     options: &'a Options,
@@ -188,17 +195,8 @@ fn run_bench<'a>(
 ) -> Result<u8, Failure<'a>> {
     let mut observer = observer_of(rt, options, tenant.image.bytes)?;
     let mut out = OutputStream::new(rt);
-    let mut bench = bench;
-    observer.is_watching = observer.needs_each_step();
-    run_slices(&mut bench, &mut observer, &mut out, options);
-    if !observer.is_watching && wants_watch(&bench, options) {
-        observer.is_watching = true;
-        bench = match tenant.bench(rt.alloc(), options) {
-            Ok(bench) => bench,
-            Err(_) => return Err(Failure::Memory),
-        };
-        run_slices(&mut bench, &mut observer, &mut out, options);
-    }
+    let bench = run_watched(rt, options, tenant, bench, &mut observer, &mut out)?;
+    let bench = run_to_finding(rt, options, tenant, bench, &mut observer, &mut out)?;
     if out.has_failed {
         return Err(Failure::Write);
     }
@@ -207,6 +205,49 @@ fn run_bench<'a>(
         mode: options.run.terms.mode,
     };
     tell_end(rt, bench, &mut observer, options, &tenant.image, run)
+}
+
+/// Runs a tenant to its end. Where nothing has to watch each step, it runs unwatched first; only an
+/// end that is told by what was watched takes a second run, which is the same.
+fn run_watched<'a>(
+    rt: &HostRuntime,
+    options: &Options,
+    tenant: &LoneTenant<'_>,
+    bench: Bench,
+    observer: &mut Observer<'_, Log>,
+    out: &mut OutputStream<'_>,
+) -> Result<Bench, Failure<'a>> {
+    let mut bench = bench;
+    let limit = options.length.steps;
+    observer.is_watching = observer.needs_each_step();
+    run_slices(&mut bench, observer, out, options, limit);
+    if observer.is_watching || !wants_watch(&bench, options) {
+        return Ok(bench);
+    }
+    observer.is_watching = true;
+    bench = tenant.bench_again(rt.alloc(), options)?;
+    run_slices(&mut bench, observer, out, options, limit);
+    Ok(bench)
+}
+
+/// The tenant after the access that ends it beyond what its tags forbid, if one does: its slice went
+/// on behind that.
+fn run_to_finding<'a>(
+    rt: &HostRuntime,
+    options: &Options,
+    tenant: &LoneTenant<'_>,
+    bench: Bench,
+    observer: &mut Observer<'_, Log>,
+    out: &mut OutputStream<'_>,
+) -> Result<Bench, Failure<'a>> {
+    let step = match observer.finding() {
+        Some(finding) => finding.step,
+        None => return Ok(bench),
+    };
+    observer.is_watching = false;
+    let mut bench = tenant.bench_again(rt.alloc(), options)?;
+    run_slices(&mut bench, observer, out, options, step);
+    Ok(bench)
 }
 
 /// Whether the end that a tenant came to unwatched is told by what a run that is watched remembers.
@@ -327,19 +368,20 @@ pub fn run_slices(
     observer: &mut Observer<'_, Log>,
     out: &mut OutputStream<'_>,
     options: &Options,
+    limit: u64,
 ) {
     match &options.length.slices {
         Some(slices) => {
             for steps in slices {
-                run_slice(bench, observer, out, *steps, options.length.steps);
+                run_slice(bench, observer, out, *steps, limit);
             }
         }
         None => {
-            for _ in 0..options.length.steps {
-                if is_over(bench, observer, out, options) {
+            for _ in 0..limit {
+                if is_over(bench, observer, out, limit) {
                     return;
                 }
-                run_slice(bench, observer, out, MAX_STEPS as u32, options.length.steps);
+                run_slice(bench, observer, out, MAX_STEPS as u32, limit);
             }
         }
     }
@@ -350,15 +392,14 @@ fn is_over(
     bench: &Bench,
     observer: &Observer<'_, Log>,
     out: &OutputStream<'_>,
-    options: &Options,
+    limit: u64,
 ) -> bool {
-    observer.finding().is_some()
-        || out.has_failed
-        || !bench.parts.is_running()
-        || bench.parts.log.steps >= options.length.steps
+    observer.has_ended() || out.has_failed || !bench.parts.is_running()
+        || bench.parts.log.steps >= limit
 }
 
-/// Runs a slice, or what the limit of steps leaves of it, and writes what it wrote.
+/// Runs a slice, or what the limit of steps leaves of it, and writes what it wrote, unless an access
+/// ended the tenant within it.
 fn run_slice(
     bench: &mut Bench,
     observer: &mut Observer<'_, Log>,
@@ -368,5 +409,7 @@ fn run_slice(
 ) {
     let left = limit.saturating_sub(bench.parts.log.steps);
     bench.slice(observer, u32::try_from(left).unwrap_or(u32::MAX).min(steps));
-    out.update(&bench.parts.log.output);
+    if !observer.has_ended() {
+        out.update(&bench.parts.log.output);
+    }
 }

@@ -73,7 +73,8 @@ fn ending_under<'x>(
     let mut observer: Observer<'_, Log> = Observer::new(alloc, 1, exact, None)?;
     let mut bench = Bench::new(alloc, &admission_of(options, image, input, seed))?;
     observer.is_watching = observer.needs_each_step();
-    run_slices(&mut bench, &mut observer, &mut OutputStream::silent(), options);
+    let mut out = OutputStream::silent();
+    run_slices(&mut bench, &mut observer, &mut out, options, options.length.steps);
     if observer.finding().is_some() {
         return Ok(TenantEnding::Exact);
     }
