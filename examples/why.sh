@@ -3,7 +3,8 @@
 # built, else by a checked build that proves nothing, which takes two to three minutes.
 #     why.sh [OPTION..] ELF
 # The options are those of mte_run (docs/REPORT.md), but without files to write: the picture of the
-# heap goes to standard output by `--map -`. TOMBOLOPAN_BUILT names a folder with a program mte_run
+# heap goes to standard output by `--map -`. Unless an option says otherwise, accesses are compared
+# with the sizes of chunks to the byte (--exact), which tags alone do not find. TOMBOLOPAN_BUILT names a folder with a program mte_run
 # that is used as it is.
 set -euo pipefail
 if [[ $# -eq 0 || $1 == --help ]]; then
@@ -11,6 +12,7 @@ if [[ $# -eq 0 || $1 == --help ]]; then
     exit 2
 fi
 crate=$(cd "$(dirname "$0")/../crates/mte_run" && pwd)
+case " $* " in *" --exact"* | *" --gdb "* | *" --help "* | *" --version "*) ;; *) set -- --exact "$@" ;; esac
 if [[ -n ${TOMBOLOPAN_BUILT:-} ]]; then
     exec "$TOMBOLOPAN_BUILT/mte_run" "$@"
 fi

@@ -106,8 +106,8 @@ def test_tenants_in_c_are_told_the_same_over_the_library(
     assert all(text in ran.errors for text in tenant.values("cause")), ran.errors
     assert ran.status == tenant.ends
     if tenant.ends < 128:
-        # The library's strlen reads words, up to seven bytes past the end of a string.
-        assert c_tenants.run_alone(alone, tenant, image, "--exact=writes") == ran
+        exact = c_tenants.run_alone(alone, tenant, image, "--exact")
+        assert (exact.status, exact.out, exact.err) == (ran.status, ran.out, b"")
 
 
 def linked(

@@ -39,6 +39,12 @@ LEFT_OUT = {
     "thread/pthread_create.c", "thread/syscall_cp.c",
 }
 FOLDERS_LEFT_OUT = {"malloc", "ldso"}
+# Where musl sees a GNU compiler these read a word at once, up to seven bytes past the end of a
+# string. Byte by byte they keep to the bytes of their chunk, which `mte_run --exact` compares.
+BYTE_BY_BYTE = {
+    f"string/{name}.c"
+    for name in ("memccpy", "memchr", "stpcpy", "stpncpy", "strchrnul", "strlcpy", "strlen")
+}
 # compiler-rt's helpers in C that are about a system or another machine, or have no use here.
 BUILTINS_LEFT_OUT = {
     "apple_versioning", "atomic", "atomic_flag_clear", "atomic_flag_clear_explicit",
@@ -99,7 +105,8 @@ def musl_units(musl, include, work):
     for file in sorted((musl / "src").glob("*/*.c")):
         name = file.relative_to(musl / "src")
         if str(name) not in LEFT_OUT and name.parts[0] not in FOLDERS_LEFT_OUT:
-            yield file, work / f"musl.{'.'.join(name.parts)}.o", words
+            own = ["-U__GNUC__"] if str(name) in BYTE_BY_BYTE else []
+            yield file, work / f"musl.{'.'.join(name.parts)}.o", words + own
     for file in sorted((HERE / "src").iterdir()):
         yield file, work / f"tenant.{file.name}.o", words
 

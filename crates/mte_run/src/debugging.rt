@@ -3,8 +3,9 @@
 ghost use Rattle.std.specs.Prelude.{◌<◌};
 
 use crate::files::{Image, read_input};
-use crate::running::{admission_of, refuse, refuse_unadmitted};
+use crate::running::{admission_of, refuse};
 use crate::session_course::{Admitted, course_in};
+use crate::unadmitted::end_unadmitted;
 use address_map::MAX_STEPS;
 use debuggee::{Cuts, Debuggee};
 use gdb_front::{Front, serve};
@@ -76,7 +77,7 @@ pub fn debug_replay<'a>(
                 course.slices.as_slice(),
             )
         }
-        None => Ok(refuse_unadmitted(rt)),
+        None => Ok(end_unadmitted(rt)),
     }
 }
 
@@ -91,7 +92,7 @@ fn debug_course<'a, 'x>(
 ) -> Result<u8, Failure<'a>> {
     let admission = admitted.admission(id, files);
     if admission.terms.pages == 0 {
-        return Ok(refuse_unadmitted(rt));
+        return Ok(end_unadmitted(rt));
     }
     let cuts = Cuts {
         listed,

@@ -16,6 +16,7 @@ mod session_course;
 mod survey;
 mod telling;
 mod tracer;
+mod unadmitted;
 
 use run_options::{Failure, Invocation, read_command_line, report};
 use running::run_program;

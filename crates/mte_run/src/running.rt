@@ -13,6 +13,7 @@ use crate::replay::{Replayed, replay_tenant};
 use crate::survey::Survey;
 use crate::telling::{Run, tell_end};
 use crate::tracer::Tracer;
+use crate::unadmitted::refuse_unadmitted;
 use address_map::MAX_STEPS;
 use either::Either;
 use elf_symbols::Symbols;
@@ -162,13 +163,6 @@ pub fn refuse(rt: &HostRuntime, error: AdmitError) -> u8 {
     REFUSED
 }
 
-/// Tells that a session never admits the tenant, and returns the exit status.
-pub fn refuse_unadmitted(rt: &HostRuntime) -> u8 {
-    let _ = eprintln!(rt; "mte_run: the session never admits the tenant");
-    let _ = eprintln!(rt; "mte_run: ended by refusal, status {REFUSED}");
-    REFUSED
-}
-
 /// The seed of the run that is told: of several the first under which the tenant does not exit. A
 /// line says how they ended.
 fn seed_of<'x>(
@@ -279,7 +273,7 @@ fn run_replay<'a>(
     observer.is_watching = observer.needs_each_step();
     let found = session.replayed(rt, &mut observer, &mut StreamSink(rt.stdout()))?;
     let Some(found) = found else {
-        return Ok(refuse_unadmitted(rt));
+        return refuse_unadmitted(rt, replay, session.events, files);
     };
     let found = watched(rt, options, &session, found, &mut observer)?;
     tell_replay(rt, options, &session, found, &mut observer)

@@ -7,6 +7,7 @@ use mte_program::collect_words;
 use obstacle::Obstacle;
 use std::alloc::Global;
 use std::{env, io};
+use terminal_text::PrintableLines;
 
 /// The steps after which a tenant is given up, where none are named.
 const STEPS: &str = "10000000";
@@ -47,13 +48,23 @@ fn report_unreadable(rt: &HostRuntime, error: &io::Error) -> Invocation {
     Invocation::Exit(2)
 }
 
-/// Prints the text of `clap`.
+/// Prints the text of `clap`, which has words of the command line in it.
 fn print_text(rt: &HostRuntime, error: &Error) -> Invocation {
     if error.kind() == ErrorKind::OutOfMemory {
         return Invocation::OutOfMemory;
     }
-    let _ = error.print(rt);
-    Invocation::Exit(if error.use_stderr() { 2 } else { 0 })
+    let Ok(text) = format!(in rt.alloc(); "{error}") else {
+        return Invocation::OutOfMemory;
+    };
+    let lines = PrintableLines(text.as_str());
+    if error.use_stderr() {
+        let _ = eprint!(rt; "{lines}");
+        return Invocation::Exit(2);
+    }
+    match print!(rt; "{lines}") {
+        Ok(()) => Invocation::Exit(0),
+        Err(_) => Invocation::Exit(6),
+    }
 }
 
 /// Reads the words of a command line; `None` where an allocation failed.

@@ -4,5 +4,5 @@
 mod printable;
 mod shell_word;
 
-pub use printable::Printable;
+pub use printable::{Printable, PrintableLines};
 pub use shell_word::ShellWord;

@@ -16,6 +16,22 @@ impl<'a> fmt::Display for Printable<'a> {
     }
 }
 
+/// Lines of which each character but those of printable ASCII is written in this way.
+#[derive(Clone, Copy)]
+pub struct PrintableLines<'a>(pub &'a str);
+
+impl<'a> fmt::Display for PrintableLines<'a> {
+    fn fmt<W: fmt::Write>(&self, f: &mut fmt::Formatter<W>) -> fmt::Result {
+        for character in self.0.chars() {
+            match character {
+                '\n' => f.write_str("\n")?,
+                _ => write_printable(f, character)?,
+            }
+        }
+        Ok(())
+    }
+}
+
 /// Writes a character, or its code.
 fn write_printable<W: fmt::Write>(f: &mut fmt::Formatter<W>, character: char) -> fmt::Result {
     if is_printable(character) {
