@@ -42,3 +42,145 @@ def test_the_arrow_of_an_overflow(alone: pathlib.Path, tmp_path: pathlib.Path) -
     middles = [16 * column + 8 for column in (2, 3)]
     arrows = re.findall(r'class="arrow"[^>]* d="M(\d+),\d+Q\d+,\d+ (\d+),', picture)
     assert arrows == [(str(middles[0]), str(middles[1]))]
+
+
+def compiled(folder: pathlib.Path, name: str, text: str) -> pathlib.Path:
+    """The image of a tenant in C, by clang."""
+    need("clang", "ld.lld")
+    source = folder / f"{name}.c"
+    source.write_text(text, encoding="utf-8")
+    return tenant(folder, source)
+
+
+AMONG_OTHERS = """#include "tenant.h"
+int main(void)
+{
+    char *chunks[32];
+    for (int i = 0; i < 32; i++)
+        chunks[i] = tenant_malloc(24);
+    volatile char *p = chunks[16];
+    p[DISTANCE] = 1;
+    return 0;
+}
+"""
+
+
+@pytest.mark.parametrize("distance, cause", [
+    (400, "Buffer Overflow, 376 bytes right of a 24-byte allocation"),
+    (-400, "Buffer Underflow, 400 bytes left of a 24-byte allocation"),
+    (24 + 24, "Buffer Overflow, 24 bytes right of a 24-byte allocation"),
+])
+def test_a_far_overflow_is_one_of_the_chunk_that_was_meant(
+    alone: pathlib.Path, tmp_path: pathlib.Path, distance: int, cause: str
+) -> None:
+    """Whatever chunks with the same tag lie nearer: the pointer was in a register just before."""
+    text = AMONG_OTHERS.replace("DISTANCE", str(distance))
+    image, faults = compiled(tmp_path, "among_others", text), 0
+    for seed in range(1, 17):
+        told = run([alone, "--seed", f"{seed * 0x9E3779B97F4A7C15 % 2**64:x}", image]).errors
+        if told.startswith("mte_run: fault TagCheck"):
+            faults += 1
+            assert f"Cause: [MTE]: {cause} at " in told, told
+            assert "  allocated by call 17, malloc(24)" in told, told
+    assert faults > 8
+
+
+STALE_FREE = """#include "tenant.h"
+int main(void)
+{
+    char *first = tenant_malloc(24);
+    tenant_free(first);
+    char *second = tenant_malloc(24);
+    tenant_free(first);
+    return *(volatile char *)second;
+}
+"""
+
+
+def test_a_free_by_a_stale_pointer(alone: pathlib.Path, tmp_path: pathlib.Path) -> None:
+    """The access by the second pointer is right; the free by the first was not."""
+    told = run([alone, compiled(tmp_path, "stale_free", STALE_FREE)]).errors
+    calls = re.findall(r"by call (\d+), (\w+)\((0x\w+|\d+)\) = (0x\w+)", told)
+    cause = "Cause: [MTE]: Double Free by a stale pointer, met by an access, 0 bytes into a 24-byte"
+    assert cause in told, told
+    made, freed = calls
+    assert made[:2] == ("3", "malloc") and freed[:2] == ("4", "free")
+    assert int(made[3], 16) % 2**56 == int(freed[2], 16) % 2**56 and made[3] != freed[2]
+    pointer = re.search(r"Cause: .*, freed by (0x\w{16})\n", told)
+    assert pointer and int(pointer[1], 16) == int(freed[2], 16)
+
+
+LARGE_ARRAY = """#include "tenant.h"
+__attribute__((noinline)) static int sum(int bytes)
+{
+    volatile char held[BYTES];
+    held[0] = 1;
+    held[BYTES - 1] = 2;
+    return held[0] + bytes;
+}
+int main(void)
+{
+    return sum(1);
+}
+"""
+
+
+@pytest.mark.parametrize("size", [20_000, 100_000, 400_000, 6_000_000])
+def test_a_large_array_on_the_stack(
+    alone: pathlib.Path, tmp_path: pathlib.Path, size: int
+) -> None:
+    """A frame that is larger than the stack is a stack overflow, at any distance."""
+    image = compiled(tmp_path, "large_array", LARGE_ARRAY.replace("BYTES", str(size)))
+    assert "Cause: Stack Overflow, " in run([alone, image]).errors
+
+
+OFF_BY_ONE = """#include "tenant.h"
+int main(void)
+{
+    int *a = tenant_malloc(COUNT * sizeof *a);
+    for (int i = 0; i <= COUNT; i++)
+        a[i] = i;
+    return 0;
+}
+"""
+
+
+@pytest.mark.parametrize("count", range(1, 9))
+def test_each_off_by_one_is_found_by_why(
+    alone: pathlib.Path, tmp_path: pathlib.Path, count: int
+) -> None:
+    """Also where the element beyond the end is in the chunk's last granule; the clean end of a
+    run without --exact says that it was not looked at."""
+    image = compiled(tmp_path, "off_by_one", OFF_BY_ONE.replace("COUNT", str(count)))
+    why = run([EXAMPLES / "why.sh", image], extra={"TOMBOLOPAN_BUILT": str(alone.parent)})
+    assert why.status in (129, 137) and "off_by_one.c:6" in why.errors
+    assert f"Buffer Overflow, 0 bytes right of a {4 * count}-byte allocation" in why.errors
+    plain = run([alone, image])
+    is_seen = count % 4 == 0
+    assert plain.status == (129 if is_seen else 0)
+    assert ("--exact alone" in plain.errors) == (not is_seen)
+
+
+TWICE = """#include "tenant.h"
+int main(void)
+{
+    char *text = tenant_malloc(5);
+    text[5] = 'x';
+    for (int i = 0; i < 100; i++)
+        tenant_free(tenant_malloc(64));
+    tenant_write("later", 5);
+    tenant_free(text);
+    return 0;
+}
+"""
+
+
+def test_exact_shows_the_moment_of_the_access(alone: pathlib.Path, tmp_path: pathlib.Path) -> None:
+    """What came later in the slice is neither in the output nor among the tags and the pages."""
+    image = compiled(tmp_path, "twice", TWICE)
+    ran = run([alone, "--exact", "--map", "text", image])
+    assert (ran.status, ran.out) == (137, b"")
+    assert "Cause: [exact]: Buffer Overflow, 0 bytes right of a 5-byte allocation" in ran.errors
+    tag = re.search(r"allocated by call 1, malloc\(5\) = 0x(\w+)", ran.errors)
+    tags = re.search(r"tags from 0x\w+:.*\[(\d+)\]", ran.errors)
+    assert tag and tags and int(tag[1], 16) >> 56 == int(tags[1])

@@ -1,0 +1,187 @@
+"""Files that mte_run reads and writes: their names, what is said of them, and when."""
+
+import json
+import os
+import pathlib
+import subprocess
+import time
+
+import pytest
+
+from tests.support.places import EXAMPLES
+from tests.support.running import Ran, Word, run
+from tests.support.samples import tenant
+from tests.support.tools import need
+
+HELLO = EXAMPLES / "hi.elf"
+USAGE, MEMORY, READ, WRITE = 2, 4, 5, 6
+CUT = 138
+SHARED = "--json, --map, --core and --trace-file want different files, and none that is read"
+
+
+def failing(alone: pathlib.Path, *words: Word) -> Ran:
+    """A run that says one line and runs nothing."""
+    ran = run([alone, *words])
+    assert ran.out == b"" and ran.errors.count("\n") == 1, ran.errors
+    return ran
+
+
+def test_why_a_file_cannot_be_read(alone: pathlib.Path, tmp_path: pathlib.Path) -> None:
+    """The reason follows its name."""
+    long = tmp_path / "long.elf"
+    long.write_bytes(bytes(16 * 1024 * 1024 + 1))
+    for name, reason in ((tmp_path / "absent.elf", ": no such file or folder"),
+                         (HELLO / "below.elf", ": no such file or folder"),
+                         (long, ": it has more than 16 MiB"), (tmp_path, "")):
+        for words in ([name], ["--input", name, HELLO],
+                      ["--script", name, "1", "--frames", "9", HELLO]):
+            ran = failing(alone, *words)
+            assert (ran.status, ran.errors) == (READ, f"mte_run: cannot read {name}{reason}\n")
+
+
+@pytest.mark.parametrize("option", ["--json", "--map", "--core", "--trace-file"])
+def test_why_a_file_cannot_be_written(
+    alone: pathlib.Path, tmp_path: pathlib.Path, option: str
+) -> None:
+    """The reason follows its name."""
+    for name, reason in ((tmp_path / "absent" / "file", ": no such file or folder"),
+                         (tmp_path, ": it is a folder")):
+        ran = run([alone, "--trace", "--steps", "1", option, name, HELLO])
+        assert ran.status == WRITE
+        assert ran.errors.splitlines()[-1] == f"mte_run: cannot write {name}{reason}"
+
+
+def test_a_trace_that_finds_no_room(alone: pathlib.Path) -> None:
+    """The file's name is told where its lines cannot be written."""
+    ran = run([alone, "--trace", "--trace-file", "/dev/full", HELLO])
+    assert (ran.status, ran.errors) == (WRITE, "mte_run: cannot write /dev/full\n")
+
+
+def test_names_never_reach_a_terminal_raw(alone: pathlib.Path, tmp_path: pathlib.Path) -> None:
+    """In a name each character but those of printable ASCII is told by its number."""
+    for raw, told in (("\x1b[31mred.elf", "\\u{1b}[31mred.elf"), ("a\nb", "a\\u{a}b"),
+                      ("größe", "gr\\u{f6}\\u{df}e"), ("\x7f\x80", "\\u{7f}\\u{80}")):
+        ran = failing(alone, tmp_path / raw)
+        assert ran.errors == f"mte_run: cannot read {tmp_path}/{told}: no such file or folder\n"
+        for words in (["--json", f"absent/{raw}", HELLO], [f"--{raw}", HELLO],
+                      ["--exact=" + raw, HELLO], [HELLO, raw], ["--seed", raw, HELLO]):
+            ran = run([alone, *words])
+            held = set(ran.err.replace(b"\n", b""))
+            assert ran.status in (USAGE, WRITE) and held <= set(range(32, 127)), words
+
+
+def test_the_command_for_names_of_inlined_functions_can_be_pasted(
+    alone: pathlib.Path, tmp_path: pathlib.Path
+) -> None:
+    """A shell takes each name of an image for one word."""
+    need("clang", "ld.lld", "llvm-symbolizer")
+    image = tenant(tmp_path, EXAMPLES / "c" / "use_after_free.c")
+    for name in ("plain.elf", "a b.elf", "a;exit 7;.elf", "$(exit 7).elf", "it's.elf", "-x.elf",
+                 "*.elf", "\x1b[31m.elf", "größe.elf", "new\nline.elf", "back\\slash\t.elf"):
+        copy = tmp_path / name
+        copy.write_bytes(image.read_bytes())
+        ran = run([alone, copy])
+        command = ran.errors.splitlines()[-2]
+        assert command.startswith("llvm-symbolizer -i --obj=")
+        assert set(command) <= {chr(byte) for byte in range(32, 127)}
+        lines = run(["bash", "-c", command], cwd=tmp_path)
+        assert lines.status == 0 and "use_after_free.c:13" in lines.output, name
+
+
+def test_a_file_is_not_both_read_and_written(alone: pathlib.Path, tmp_path: pathlib.Path) -> None:
+    """Such a command line is refused, and nothing was written."""
+    image, script = tmp_path / "image.elf", tmp_path / "script"
+    image.write_bytes(HELLO.read_bytes())
+    script.write_text("stop 1\n")
+    session: list[Word] = ["--script", script, "1", "--frames", "9"]
+    for option in ("--json", "--map", "--core", "--trace-file"):
+        other = "--core" if option != "--core" else "--json"
+        for words in ([option, image, image], [option, script, "--input", script, image],
+                      [option, script, *session, image], [option, "new", other, "new", image],
+                      [option, "./new", other, "new", image], [option, "./image.elf", "image.elf"]):
+            ran = run([alone, *words], cwd=tmp_path)
+            assert ran.status == USAGE and SHARED in ran.errors, words
+            assert image.read_bytes() == HELLO.read_bytes()
+            assert sorted(os.listdir(tmp_path)) == ["image.elf", "script"]
+    ran = run([alone, "--map", "-", "--json", tmp_path / "-", image])
+    assert ran.status == 0 and ran.output.endswith("</svg>\n")
+
+
+WRITE_MUCH = """#include "tenant.h"
+int main(void)
+{
+    static char text[70000];
+    for (unsigned i = 0; i < sizeof text; i++)
+        text[i] = 'a' + i % 26;
+    return tenant_write(text, sizeof text) == sizeof text ? 0 : 3;
+}
+"""
+
+
+def test_output_that_is_cut_has_a_key_and_a_status(
+    alone: pathlib.Path, tmp_path: pathlib.Path
+) -> None:
+    """The key says it always; the status only where it is asked for, and of an exit."""
+    need("clang", "ld.lld")
+    source, told = tmp_path / "much.c", tmp_path / "told.json"
+    source.write_text(WRITE_MUCH, encoding="utf-8")
+    image = tenant(tmp_path, source)
+    for words, status in (((), 3), (("--whole-output",), CUT), (("--whole-output", "--exact"), CUT)):
+        ran = run([alone, "--json", told, *words, image])
+        held = json.loads(told.read_text())
+        assert (ran.status, held["exit_status"], held["output_cut"]) == (status, status, True)
+        assert len(ran.out) == 65536
+        last = "exited with 3" if status == 3 else "ended by output that was cut, status 138"
+        assert ran.errors.splitlines()[-1] == f"mte_run: {last}"
+    ran = run([alone, "--json", told, "--whole-output", HELLO])
+    assert ran.status == 0 and json.loads(told.read_text())["output_cut"] is False
+
+
+SPIN = """#include "tenant.h"
+int main(void)
+{
+    tenant_write("shown", 5);
+    for (volatile unsigned long i = 0;; i++)
+        ;
+}
+"""
+
+
+def test_output_is_shown_before_a_run_ends(alone: pathlib.Path, tmp_path: pathlib.Path) -> None:
+    """A run that is broken off has shown what was written."""
+    need("clang", "ld.lld")
+    source = tmp_path / "spin.c"
+    source.write_text(SPIN, encoding="utf-8")
+    words = [alone, "--steps", str(10**15), tenant(tmp_path, source)]
+    with subprocess.Popen(words, stdout=subprocess.PIPE) as process:
+        assert process.stdout is not None
+        started = time.monotonic()
+        assert process.stdout.read(5) == b"shown"
+        assert time.monotonic() - started < 20
+        process.kill()
+
+
+def test_why_an_admission_is_refused(alone: pathlib.Path, tmp_path: pathlib.Path) -> None:
+    """The numbers that are at odds are told."""
+    script = tmp_path / "script"
+
+    def told(text: str, frames: int) -> list[str]:
+        script.write_text(text)
+        ran = run([alone, "--script", script, "7", "--frames", str(frames), HELLO])
+        assert ran.status == 136
+        return ran.errors.splitlines()
+
+    form = "admit {} image 1 input 0 seed 0000000000000001 frames {} out {}\n"
+    end = ["mte_run: the session never admits the tenant",
+           "mte_run: ended by refusal, status 136"]
+    first = form.format(3, 5, 16)
+    for pages, room, frames, why in (
+        (32, 16, 64, "NoFrames: it takes 65 frames, and 53 are left"),
+        (4, 16, 99, "ReservationTooSmall: `frames 4` is less than the image's pages and 4 of stack"),
+        (0, 16, 99, "BadReservation: `frames 0` is not 1 to 4096, or `out 16` is over 65536"),
+        (9, 65537, 99, "BadReservation: `frames 9` is not 1 to 4096, or `out 65537` is over 65536"),
+    ):
+        lines = told(first + form.format(7, pages, room), frames)
+        assert lines == [f"mte_run: event 2 is refused: {why}", *end]
+    lines = told(first + "slice 3 9\n", 99)
+    assert lines == ["mte_run: no event of the script admits a tenant 7", *end]
