@@ -3,6 +3,7 @@
 ghost use Rattle.std.specs.Prelude.{◌≡◌, ◌+◌, ◌<◌, length, IfSome};
 
 use crate::reader::Reader;
+use crate::source_line::LONGEST;
 
 /// The sections with the texts that a table may refer to.
 #[derive(Clone, Copy)]
@@ -84,7 +85,7 @@ fn skip<'a>(table: &mut Reader<'a>, count: u64) -> Option<Value<'a>>
     Some(Value::Other)
 }
 
-/// The text at a place of a section.
+/// The text at a place of a section, if it is no longer than a path may be.
 fn text_at(section: &[u8], at: u32) -> Value<'_> {
     match text_in(section, at) {
         Some(text) => Value::Text(text),
@@ -93,8 +94,9 @@ fn text_at(section: &[u8], at: u32) -> Value<'_> {
 }
 
 fn text_in(section: &[u8], at: u32) -> Option<&[u8]> {
+    let rest = section.get(at as usize..)?;
     let mut reader = Reader {
-        rest: section.get(at as usize..)?,
+        rest: rest.get(..LONGEST + 1).unwrap_or(rest),
     };
     reader.text()
 }

@@ -59,6 +59,12 @@ impl<'a> Entries<'a> {
         Entries::read(self.table, self.strings)
     }
 
+    /// The same entries, with their texts in some sections.
+    pub fn with_strings(mut self, strings: Strings<'a>) -> Entries<'a> {
+        self.strings = strings;
+        self
+    }
+
     /// Reads the values of an entry, of which each takes some bytes.
     fn entry(&mut self) -> Option<NameEntry<'a>>
         requires { 0 < self.old.values }

@@ -2,6 +2,7 @@
 #![tactic(auto)]
 
 mod encoding;
+mod files;
 mod fixed_tables;
 mod form;
 mod formatted_tables;
@@ -15,5 +16,7 @@ mod source_line;
 mod tables;
 mod unit;
 
+pub use files::{SourceFile, UnitFiles};
 pub use lines::{DebugLines, SourceOrigin};
+pub use reader::Reader;
 pub use source_line::SourceLine;

@@ -14,8 +14,8 @@ use std::fmt;
 /// The line tables of an image. They are read anew for each address that is asked for.
 #[derive(Clone, Copy)]
 pub struct DebugLines<'a> {
-    tables: &'a [u8],
-    strings: Strings<'a>,
+    pub(crate) tables: &'a [u8],
+    pub(crate) strings: Strings<'a>,
 }
 
 impl<'a> DebugLines<'a> {
