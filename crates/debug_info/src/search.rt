@@ -56,15 +56,27 @@ impl<'a> Search<'a> {
             let code = number(&mut entries)?;
             if code == 0 {
                 depth = depth.checked_sub(1)?;
+                self.close(depth);
                 continue;
             }
             let abbreviation = view.table.of(code)?;
             self.read(view, &abbreviation, &mut entries, depth)?;
             if abbreviation.has_children {
                 depth = depth.saturating_add(1);
+            } else {
+                self.close(depth);
             }
         }
         None
+    }
+
+    /// Closes the entry at a depth, if it is open: all of its children were read.
+    fn close(&mut self, depth: u64) {
+        if let Some(last) = self.open.last() {
+            if last.depth >= depth {
+                self.open.pop();
+            }
+        }
     }
 
     /// Whether one of a unit's ranges has an address that is asked for, or it has no ranges.
@@ -98,7 +110,6 @@ impl<'a> Search<'a> {
         }
         self.budget.spend(ENTRY)?;
         let entry = Entry::read(abbreviation, entries, &mut self.budget)?;
-        self.open.retain(|open| open.depth < depth);
         if self.open.len() >= DEEPEST as usize {
             return Some(());
         }
