@@ -9,6 +9,9 @@ use debug_lines::Reader;
 /// The most attributes of an entry.
 const MOST: u32 = 1024;
 
+/// How many bytes of a value cost as much as an attribute.
+const BYTES: u64 = 32;
+
 /// DW_FORM_implicit_const.
 const IMPLICIT: u64 = 0x21;
 
@@ -35,11 +38,7 @@ impl Attribute {
         if name == 0 && form == 0 {
             return None;
         }
-        let constant = if form == IMPLICIT {
-            table.signed()?
-        } else {
-            0
-        };
+        let constant = if form == IMPLICIT { table.signed()? } else { 0 };
         Some(Attribute {
             name,
             form,
@@ -59,7 +58,7 @@ impl Attribute {
             Some(_) => values.rest.len(),
             None => 0,
         };
-        budget.spend(before.saturating_sub(after) as u64 / 64)?;
+        budget.spend(before.saturating_sub(after) as u64 / BYTES)?;
         value
     }
 }
