@@ -3,6 +3,7 @@
 use crate::report::Report;
 use a64_registers::Regs;
 use instruction_trace::Nzcv;
+use heap_bounds::CallText;
 use mte_backtrace::{FrameNames, Quoted};
 use mte_flat::Flat;
 use mte_tags::MemFault;
@@ -173,7 +174,7 @@ impl<'a> Report<'a> {
         names: &FrameNames<'_>,
     ) -> io::Result<()> {
         let (number, step) = (entry.number, entry.step);
-        let (call, answer) = (entry.call.call, entry.call.answer);
+        let (call, answer) = (CallText(entry.call.call), entry.call.answer);
         write!(
             out,
             "{{\"number\":{number},\"call\":\"{call}\",\"result\":\"{answer:#x}\","
