@@ -4,7 +4,7 @@ ghost use Rattle.std.specs.Prelude.{◌≡◌, ◌<◌, false, IfSome};
 ghost use Rattle.std.specs.Iterator.{at_most};
 ghost use Rattle.debug_lines.specs.Texts.{has_control};
 
-use debug_lines::{SourceFile, SourceLine};
+use debug_lines::{FileLine, SourceLine};
 use std::alloc::{AllocError, Global};
 use std::str;
 
@@ -18,8 +18,7 @@ const LONGEST: usize = 79;
 #[derive(Clone, Copy)]
 pub struct InlinedCall<'a> {
     pub(crate) name: Option<&'a [u8]>,
-    pub(crate) file: Option<SourceFile<'a>>,
-    pub(crate) line: u32,
+    pub(crate) line: Option<FileLine<'a>>,
 }
 
 impl<'a> InlinedCall<'a> {
@@ -46,8 +45,8 @@ impl<'a> InlinedCall<'a> {
         ensures directory { IfSome result
             (λ line. IfSome line.directory (λ text. has_control text.now ≡ false)) }
     {
-        match &self.file {
-            Some(file) => file.line(self.line),
+        match &self.line {
+            Some(line) => line.source_line(),
             None => None,
         }
     }

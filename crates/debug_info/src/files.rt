@@ -1,17 +1,24 @@
 //! The files of a unit, of which some are kept.
 
 use crate::budget::Budget;
-use debug_lines::{SourceFile, UnitFiles};
+use debug_lines::{FileLine, UnitFiles};
 
 /// How many files are kept.
 const KEPT: usize = 32;
+
+/// A file that was looked for, and its number.
+#[derive(Clone, Copy)]
+struct KnownFile<'a> {
+    number: u64,
+    line: Option<FileLine<'a>>,
+}
 
 /// The files of a unit.
 #[derive(Clone, Copy)]
 pub struct KnownFiles<'a> {
     files: Option<UnitFiles<'a>>,
-    /// The number of a file and the file, at the number modulo `KEPT`.
-    kept: [Option<(u64, Option<SourceFile<'a>>)>; KEPT],
+    /// Each at its number modulo `KEPT`.
+    kept: [Option<KnownFile<'a>>; KEPT],
 }
 
 impl<'a> KnownFiles<'a> {
@@ -23,18 +30,34 @@ impl<'a> KnownFiles<'a> {
         }
     }
 
-    /// The file of a number. To look for it costs as much as the unit's tables have bytes.
-    pub fn file(&mut self, number: u64, budget: &mut Budget) -> Option<SourceFile<'a>> {
+    /// A line in the file of a number.
+    pub fn line_in(
+        &mut self,
+        number: u64,
+        line: u32,
+        budget: &mut Budget,
+    ) -> Option<FileLine<'a>> {
+        let known = self.file(number, budget)?;
+        Some(FileLine {
+            path: known.path,
+            directory: known.directory,
+            line,
+        })
+    }
+
+    /// A line in the file of a number, whichever. To look for the file costs as much as the unit's
+    /// tables have bytes.
+    fn file(&mut self, number: u64, budget: &mut Budget) -> Option<FileLine<'a>> {
         let place = (number % KEPT as u64) as usize;
-        if let Some((kept, file)) = self.kept[place] {
-            if kept == number {
-                return file;
+        if let Some(known) = self.kept[place] {
+            if known.number == number {
+                return known.line;
             }
         }
         let files = self.files?;
         budget.spend(files.size())?;
-        let file = files.file(number);
-        self.kept[place] = Some((number, file));
-        file
+        let line = files.line_in(number, 0);
+        self.kept[place] = Some(KnownFile { number, line });
+        line
     }
 }

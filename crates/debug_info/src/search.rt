@@ -7,8 +7,8 @@ use crate::entry::Entry;
 use crate::files::KnownFiles;
 use crate::origin::UnitView;
 use crate::ranges::{Range, Ranges};
-use crate::value::{Value, number};
-use debug_lines::Reader;
+use crate::value::number;
+use debug_lines::{FileLine, Reader};
 
 /// What a function or an inlined call costs besides its attributes, and a range besides the
 /// addresses in it.
@@ -206,17 +206,18 @@ impl<'a> Search<'a> {
         if place >= self.most {
             return None;
         }
-        let file = match entry.call_file {
-            Value::Number(file) => self.files.file(file, &mut self.budget),
-            _ => None,
-        };
-        let line = entry.call_line.number().unwrap_or(0);
         let call = InlinedCall {
             name: view.name(entry, &mut self.budget),
-            file,
-            line: u32::try_from(line).unwrap_or(0),
+            line: self.line(entry),
         };
         self.found.links.push(Link { call, outer }).ok()?;
         Some(place)
+    }
+
+    /// The line of the call that an entry tells of.
+    fn line(&mut self, entry: &Entry<'a>) -> Option<FileLine<'a>> {
+        let file = entry.call_file.number()?;
+        let line = u32::try_from(entry.call_line.number()?).ok()?;
+        self.files.line_in(file, line, &mut self.budget)
     }
 }

@@ -1,7 +1,7 @@
 //! Calls as JSON (RFC 8259).
 
 use crate::call_stack::CallStack;
-use crate::names::Names;
+use crate::names::FrameNames;
 use debug_lines::SourceLine;
 use elf_symbols::SymbolOffset;
 use std::io::Write;
@@ -74,7 +74,7 @@ fn write_line<W: fmt::Write>(f: &mut fmt::Formatter<W>, line: &SourceLine<'_>) -
 
 impl CallStack {
     /// Writes an array of the instruction and its calls, the innermost first.
-    pub fn write_json<W: Write>(&self, out: &mut W, names: &Names<'_>) -> io::Result<()> {
+    pub fn write_json<W: Write>(&self, out: &mut W, names: &FrameNames<'_>) -> io::Result<()> {
         let frame = names.instruction_object(self.pc);
         write!(out, "[{frame}")?;
         for caller in &self.callers {

@@ -10,4 +10,4 @@ mod walk;
 pub use call_stack::CallStack;
 pub use callers::Callers;
 pub use json::Quoted;
-pub use names::{Frame, Names};
+pub use names::{Frame, FrameAddresses, FrameNames, Names};

@@ -70,13 +70,14 @@ fn tell_parts<'a>(
     };
     dump_core(rt, options, &subject, memory)?;
     let reserved = reserved_pages(rt.alloc(), memory)?;
+    let names = Names::of(rt.alloc(), image.bytes)?;
     let report = Report {
         parts,
         book: &observer.book,
         last: observer.last(options.output.last),
         turns: observer.turns(),
         limit: options.limit(),
-        names: Names::of(image.bytes),
+        names: &names,
         image: image.name,
         seed: run.seed,
         finding: observer.finding(),
