@@ -2,7 +2,7 @@
 
 /// How much may be spent on all addresses of an image: one for each abbreviation, entry, attribute
 /// and range that is read, and as much for what takes as long.
-const WHOLE: u64 = 32_000_000;
+const WHOLE: u64 = 16_000_000;
 
 /// What is left to be spent.
 #[derive(Clone, Copy)]

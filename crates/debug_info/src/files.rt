@@ -31,12 +31,7 @@ impl<'a> KnownFiles<'a> {
     }
 
     /// A line in the file of a number.
-    pub fn line_in(
-        &mut self,
-        number: u64,
-        line: u32,
-        budget: &mut Budget,
-    ) -> Option<FileLine<'a>> {
+    pub fn line_in(&mut self, number: u64, line: u32, budget: &mut Budget) -> Option<FileLine<'a>> {
         let known = self.file(number, budget)?;
         Some(FileLine {
             path: known.path,
