@@ -17,5 +17,5 @@ mod sections;
 mod unit;
 mod value;
 
-pub use calls::{CallsAt, InlinedCall, InlinedCalls};
+pub use calls::{CallsAt, DEEPEST, InlinedCall, InlinedCalls};
 pub use info::DebugInfo;

@@ -1,6 +1,7 @@
 //! The calls that led to an instruction.
 
 use crate::callers::{Callers, fill, link_of};
+use crate::frames::FramesAt;
 use crate::names::{FrameAddresses, FrameNames};
 use a64_registers::Regs;
 use elf_symbols::{SymbolOffset, Symbols};
@@ -83,22 +84,21 @@ impl CallStack {
         Ok(())
     }
 
-    /// Writes a line a call, the innermost first, without the source lines that were not looked
-    /// for.
+    /// Writes a line a call, inlined or not, the innermost first, without the source lines and the
+    /// inlined calls that were not looked for.
     pub fn write<W: Write>(
         &self,
         out: &mut W,
         names: &FrameNames<'_>,
         indent: &str,
     ) -> io::Result<()> {
-        let frame = names.instruction(self.pc);
-        writeln!(out, "{indent}#0 {frame}")?;
-        let mut number = 0u32;
+        let frames = names.instruction_frames(self.pc);
+        let mut number = write_frames(out, frames, indent, 0, "")?;
+        let mut mark = if self.may_be_old { OLD } else { "" };
         for caller in &self.callers {
-            let is_old = self.may_be_old && number == 0;
-            number = number.saturating_add(1);
-            let (frame, mark) = (names.call(*caller), if is_old { OLD } else { "" });
-            writeln!(out, "{indent}#{number} {frame}{mark}")?;
+            let frames = names.call_frames(*caller);
+            number = write_frames(out, frames, indent, number, mark)?;
+            mark = "";
         }
         Ok(())
     }
@@ -112,6 +112,22 @@ impl CallStack {
         }
         Ok(())
     }
+}
+
+/// Writes a line a frame, and gives the number of the next one.
+fn write_frames<W: Write>(
+    out: &mut W,
+    frames: FramesAt<'_, '_>,
+    indent: &str,
+    first: u32,
+    mark: &str,
+) -> io::Result<u32> {
+    let mut number = first;
+    for frame in frames {
+        writeln!(out, "{indent}#{number} {frame}{mark}")?;
+        number = number.saturating_add(1);
+    }
+    Ok(number)
 }
 
 /// What is told of a caller that may be none.

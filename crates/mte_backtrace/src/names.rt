@@ -1,6 +1,7 @@
 //! What the addresses of an image are called.
 
-use crate::json::FrameObject;
+use crate::frames::FramesAt;
+use debug_info::{DebugInfo, InlinedCalls};
 use debug_lines::{DebugLines, SourceLines, SourceOrigin};
 use elf_symbols::{Label, Symbols};
 use std::alloc::{AllocError, Global};
@@ -16,6 +17,8 @@ pub struct Names<'a> {
     pub symbols: Symbols<'a>,
     /// The source lines.
     pub lines: DebugLines<'a>,
+    /// The inlined calls.
+    pub info: DebugInfo<'a>,
 }
 
 impl<'a> Names<'a> {
@@ -24,11 +27,12 @@ impl<'a> Names<'a> {
         Ok(Names {
             symbols: Symbols::of(alloc, file)?,
             lines: DebugLines::of(file),
+            info: DebugInfo::of(file),
         })
     }
 
-    /// What some addresses are called, by one pass over the line tables. `Err` where there is no
-    /// memory for their lines.
+    /// What some addresses are called, by one pass over the line tables and one over the entries of
+    /// functions. `Err` where there is no memory for their lines and inlined calls.
     pub fn of_frames(
         &self,
         alloc: Global,
@@ -37,6 +41,7 @@ impl<'a> Names<'a> {
         Ok(FrameNames {
             symbols: &self.symbols,
             lines: self.lines.lines_of(alloc, frames.addresses.as_slice())?,
+            inlined: self.info.inlined_calls(alloc, frames.addresses.as_slice())?,
         })
     }
 }
@@ -67,11 +72,12 @@ impl FrameAddresses {
     }
 }
 
-/// The names of an image's addresses, and the source lines of some of them.
+/// The names of an image's addresses, and the source lines and inlined calls of some of them.
 #[derive(Drop)]
 pub struct FrameNames<'a> {
     symbols: &'a Symbols<'a>,
     lines: SourceLines<'a>,
+    inlined: InlinedCalls<'a>,
 }
 
 impl<'a> FrameNames<'a> {
@@ -93,22 +99,19 @@ impl<'a> FrameNames<'a> {
         }
     }
 
-    /// An instruction, for JSON.
-    pub(crate) fn instruction_object(&self, address: u64) -> FrameObject<'a> {
-        FrameObject {
-            address,
-            place: self.symbols.place(address),
-            line: self.lines.line_of(address),
-        }
+    /// The frames of an instruction, the innermost first.
+    pub fn instruction_frames(&self, address: u64) -> FramesAt<'_, 'a> {
+        let place = self.symbols.place(address);
+        let calls = self.inlined.at(address);
+        FramesAt::new(calls, place, self.lines.line_of(address))
     }
 
-    /// A call by its return address, for JSON.
-    pub(crate) fn call_object(&self, return_address: u64) -> FrameObject<'a> {
-        FrameObject {
-            address: return_address,
-            place: self.symbols.place_after(return_address, CALL),
-            line: self.lines.line_of(return_address.wrapping_sub(CALL)),
-        }
+    /// The frames of a call by its return address, the innermost first.
+    pub fn call_frames(&self, return_address: u64) -> FramesAt<'_, 'a> {
+        let call = return_address.wrapping_sub(CALL);
+        let place = self.symbols.place_after(return_address, CALL);
+        let calls = self.inlined.at(call);
+        FramesAt::new(calls, place, self.lines.line_of(call))
     }
 }
 
