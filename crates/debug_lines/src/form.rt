@@ -3,6 +3,7 @@
 ghost use Rattle.std.specs.Prelude.{◌≡◌, ◌+◌, ◌<◌, length, IfSome};
 
 use crate::reader::Reader;
+use crate::source_line::LONGEST;
 
 /// The sections with the texts that a table may refer to.
 #[derive(Clone, Copy)]
@@ -13,10 +14,35 @@ pub struct Strings<'a> {
     pub info: &'a [u8],
 }
 
+/// A text of a table. One in another section is read once it is wanted, as many entries may refer
+/// to a long one.
+#[derive(Clone, Copy)]
+pub enum Text<'a> {
+    /// The text itself.
+    Here(&'a [u8]),
+    /// What another section has from the text's first byte on.
+    Elsewhere(&'a [u8]),
+}
+
+impl<'a> Text<'a> {
+    /// Its bytes. There are none where another section has no 0 in its first 4097 bytes.
+    pub fn bytes(&self) -> Option<&'a [u8]> {
+        match *self {
+            Text::Here(bytes) => Some(bytes),
+            Text::Elsewhere(rest) => {
+                let mut reader = Reader {
+                    rest: rest.get(..LONGEST + 1).unwrap_or(rest),
+                };
+                reader.text()
+            }
+        }
+    }
+}
+
 /// A value of a table.
 #[derive(Clone, Copy)]
 pub enum Value<'a> {
-    Text(&'a [u8]),
+    Text(Text<'a>),
     Number(u64),
     /// A value that no path and no number of a directory has.
     Other,
@@ -30,7 +56,7 @@ impl<'a> Strings<'a> {
     {
         match form {
             // DW_FORM_string
-            0x08 => Some(Value::Text(table.text()?)),
+            0x08 => Some(Value::Text(Text::Here(table.text()?))),
             // DW_FORM_line_strp
             0x1F => Some(text_at(self.lines, table.word()?)),
             // DW_FORM_strp
@@ -86,15 +112,8 @@ fn skip<'a>(table: &mut Reader<'a>, count: u64) -> Option<Value<'a>>
 
 /// The text at a place of a section.
 fn text_at(section: &[u8], at: u32) -> Value<'_> {
-    match text_in(section, at) {
-        Some(text) => Value::Text(text),
+    match section.get(at as usize..) {
+        Some(rest) => Value::Text(Text::Elsewhere(rest)),
         None => Value::Other,
     }
-}
-
-fn text_in(section: &[u8], at: u32) -> Option<&[u8]> {
-    let mut reader = Reader {
-        rest: section.get(at as usize..)?,
-    };
-    reader.text()
 }

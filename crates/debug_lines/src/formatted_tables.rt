@@ -5,13 +5,16 @@ ghost use Rattle.std.specs.Iterator.{at_most};
 
 use crate::form::{Strings, Value};
 use crate::reader::Reader;
-use crate::tables::NameEntry;
+use crate::tables::FormattedEntry;
 
 /// DW_LNCT_path.
 const PATH: u64 = 1;
 
 /// DW_LNCT_directory_index.
 const DIRECTORY: u64 = 2;
+
+/// The most bytes of the type and the form of a value.
+const FORMAT: usize = 8;
 
 /// Directories or files, from number 0 on.
 #[derive(Clone, Copy)]
@@ -29,13 +32,18 @@ pub struct Entries<'a> {
 }
 
 impl<'a> Entries<'a> {
-    /// The entries that a table begins with. Entries without values are refused.
+    /// The entries that a table begins with. Entries without values are refused, and those whose
+    /// formats have more than eight bytes a value: each entry reads them anew.
     pub fn read(mut table: Reader<'a>, strings: Strings<'a>) -> Option<Entries<'a>> {
         let values = table.byte()?;
         let formats = table;
         for _ in 0..values {
             table.unsigned()?;
             table.unsigned()?;
+        }
+        let most = usize::from(values) * FORMAT;
+        if formats.rest.len().saturating_sub(table.rest.len()) > most {
+            return None;
         }
         let count = table.unsigned()?;
         if values == 0 && count > 0 {
@@ -60,14 +68,14 @@ impl<'a> Entries<'a> {
     }
 
     /// Reads the values of an entry, of which each takes some bytes.
-    fn entry(&mut self) -> Option<NameEntry<'a>>
+    fn entry(&mut self) -> Option<FormattedEntry<'a>>
         requires { 0 < self.old.values }
         ensures shorter { IfSome result
             (λ _. length self.new.table.rest.now < length self.old.table.rest.now) }
         ensures values { self.new.values ≡ self.old.values }
     {
         let mut formats = self.formats;
-        let mut entry = NameEntry::NOTHING;
+        let mut entry = FormattedEntry::NOTHING;
         for _ in 0..self.values {
             let kind = formats.unsigned()?;
             let form = formats.unsigned()?;
@@ -82,11 +90,11 @@ impl<'a> Entries<'a> {
 }
 
 impl<'a> Iterator for Entries<'a> {
-    type Item = NameEntry<'a>;
+    type Item = FormattedEntry<'a>;
 
     ghost remaining = { λ s. at_most (length s.table.rest.now) };
 
-    fn next(&mut self) -> Option<NameEntry<'a>> {
+    fn next(&mut self) -> Option<FormattedEntry<'a>> {
         let count = self.count.checked_sub(1)?;
         let entry = self.entry()?;
         self.count = count;

@@ -3,19 +3,24 @@
 ghost use Rattle.std.specs.Prelude.{◌≡◌, ◌<◌, false, IfSome};
 ghost use Rattle.debug_lines.specs.Texts.{has_control};
 
+use crate::chosen_entries::ChosenFiles;
 use crate::form::Strings;
+use crate::open_addresses::OpenAddresses;
 use crate::reader::Reader;
 use crate::row::Row;
-use crate::source_line::{SourceLine, last_part, text_of};
+use crate::source_line::SourceLine;
+use crate::source_lines::{FileLine, SourceLines};
 use crate::unit::{Unit, Units};
 use elf_symbols::Sections;
+use std::alloc::{AllocError, Global};
 use std::fmt;
 
-/// The line tables of an image. They are read anew for each address that is asked for.
+/// The line tables of an image. They are read anew for each address, or for each set of addresses,
+/// that is asked for.
 #[derive(Clone, Copy)]
 pub struct DebugLines<'a> {
-    tables: &'a [u8],
-    strings: Strings<'a>,
+    pub(crate) tables: &'a [u8],
+    pub(crate) strings: Strings<'a>,
 }
 
 impl<'a> DebugLines<'a> {
@@ -51,6 +56,27 @@ impl<'a> DebugLines<'a> {
         None
     }
 
+    /// The source lines of addresses, by one pass over the tables for all of them: as `line_of`
+    /// has them. Each row costs a binary search in the addresses that no row in front of it covers.
+    /// `Err` where there is no memory: some 100 bytes an address.
+    pub fn lines_of(
+        &self,
+        alloc: Global,
+        addresses: &[u64],
+    ) -> Result<SourceLines<'a>, AllocError> {
+        let mut lines = SourceLines::new(alloc);
+        let mut open = OpenAddresses::of(alloc, addresses)?;
+        let section = Reader { rest: self.tables };
+        for bytes in (Units { section }) {
+            if open.is_empty() {
+                break;
+            }
+            self.add_unit(alloc, bytes, &mut open, &mut lines)?;
+        }
+        lines.complete();
+        Ok(lines)
+    }
+
     /// An address, to be told by its source line.
     pub fn origin(&self, address: u64) -> SourceOrigin<'a> {
         SourceOrigin(self.line_of(address))
@@ -68,24 +94,34 @@ impl<'a> DebugLines<'a> {
             return None;
         }
         let file = unit.file(row.file, self.strings)?;
-        let path = file.path?;
-        let text = text_of(path)?;
-        Some(SourceLine {
-            file: text_of(last_part(path))?,
-            path: text,
-            directory: self.directory(unit, text, file.directory),
+        let line = FileLine {
+            path: file.path,
+            directory: unit.directory(file.directory, self.strings),
             line: row.line,
-        })
+        };
+        line.source_line()
     }
 
-    /// The directory that a path goes out from.
-    fn directory(&self, unit: &Unit<'a>, path: &str, number: u64) -> Option<&'a str>
-        ensures { IfSome result (λ text. has_control text.now ≡ false) }
-    {
-        if path.starts_with('/') {
-            return None;
+    /// Adds the lines of the addresses that a unit's rows cover.
+    fn add_unit(
+        &self,
+        alloc: Global,
+        bytes: Reader<'a>,
+        open: &mut OpenAddresses,
+        lines: &mut SourceLines<'a>,
+    ) -> Result<(), AllocError> {
+        let Some(unit) = Unit::of(bytes) else {
+            return Ok(());
+        };
+        let covered = open.take_covered(alloc, &unit)?;
+        if covered.is_empty() {
+            return Ok(());
         }
-        text_of(unit.directory(number, self.strings)?)
+        let files = ChosenFiles::read(alloc, &unit, self.strings, covered.as_slice())?;
+        for row in &covered {
+            lines.push(row.address, files.line_of(row))?;
+        }
+        Ok(())
     }
 }
 
@@ -106,7 +142,7 @@ fn contents<'a>(sections: &Sections<'a>, name: &[u8]) -> &'a [u8] {
 
 /// Where the code of an address comes from: ` at FILE:LINE`, or nothing where no line tells it.
 #[derive(Clone, Copy)]
-pub struct SourceOrigin<'a>(Option<SourceLine<'a>>);
+pub struct SourceOrigin<'a>(pub(crate) Option<SourceLine<'a>>);
 
 impl<'a> fmt::Display for SourceOrigin<'a> {
     fn fmt<W: fmt::Write>(&self, f: &mut fmt::Formatter<W>) -> fmt::Result {

@@ -10,7 +10,7 @@ use std::{fmt, str};
 const SLASH: u8 = b'/';
 
 /// The most bytes of a path.
-const LONGEST: usize = 4096;
+pub const LONGEST: usize = 4096;
 
 /// A line of a source file.
 #[derive(Clone, Copy)]

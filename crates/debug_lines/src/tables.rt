@@ -1,7 +1,7 @@
 //! The directories and files of a unit.
 
 use crate::fixed_tables::{Directories, Files};
-use crate::form::Strings;
+use crate::form::{Strings, Text};
 use crate::formatted_tables::Entries;
 use crate::unit::Unit;
 
@@ -22,12 +22,38 @@ impl<'a> NameEntry<'a> {
     };
 }
 
+/// A directory or a file of version 5, whose path is not yet read.
+#[derive(Clone, Copy)]
+pub struct FormattedEntry<'a> {
+    /// Its path, where the table has one.
+    pub path: Option<Text<'a>>,
+    /// The number of the directory that a file's path begins in.
+    pub directory: u64,
+}
+
+impl<'a> FormattedEntry<'a> {
+    /// An entry without a path.
+    pub const NOTHING: FormattedEntry<'static> = FormattedEntry {
+        path: None,
+        directory: 0,
+    };
+
+    /// The entry with its path.
+    pub fn named(&self) -> NameEntry<'a> {
+        NameEntry {
+            path: self.path.and_then(|text| text.bytes()),
+            directory: self.directory,
+        }
+    }
+}
+
 impl<'a> Unit<'a> {
     /// The file of a number.
     pub fn file(&self, number: u64, strings: Strings<'a>) -> Option<NameEntry<'a>> {
         if self.version == 5 {
             let directories = Entries::read(self.tables, strings)?;
-            return directories.next_list()?.nth(number as usize);
+            let entry = directories.next_list()?.nth(number as usize)?;
+            return Some(entry.named());
         }
         let directories = Directories { table: self.tables };
         Files::behind(directories).nth(number.checked_sub(1)? as usize)
@@ -39,6 +65,7 @@ impl<'a> Unit<'a> {
         if self.version == 5 {
             return Entries::read(self.tables, strings)?
                 .nth(number as usize)?
+                .named()
                 .path;
         }
         let mut directories = Directories { table: self.tables };

@@ -87,7 +87,8 @@ impl<'a> Unit<'a> {
         None
     }
 
-    fn operations(&self) -> Operations<'a> {
+    /// The operations of its program.
+    pub fn operations(&self) -> Operations<'a> {
         Operations {
             encoding: self.encoding,
             program: self.program,

@@ -2,6 +2,7 @@
 #![tactic(auto)]
 
 mod fields;
+mod pieces;
 mod sections;
 mod symbols;
 

@@ -3,7 +3,9 @@
 //! names.
 
 use crate::fields::{double_word, half, word};
+use crate::pieces::{Piece, Rank, Standing, Sweep};
 use crate::sections::Sections;
+use std::alloc::{AllocError, Global};
 use std::{fmt, str};
 
 /// SHT_SYMTAB.
@@ -18,50 +20,112 @@ const REACH: u64 = 65_536;
 /// The most bytes of a name.
 const LONGEST: usize = 80;
 
-/// The symbols of an image.
+/// STT_OBJECT and STT_FUNC, the lower half of `st_info`.
+const OBJECT: u8 = 1;
+const FUNCTION: u8 = 2;
+
+/// STB_LOCAL, the upper half of `st_info`.
+const LOCAL: u8 = 0;
+
+/// A symbol table, and the names that it refers to.
 #[derive(Clone, Copy)]
-pub struct Symbols<'a> {
-    table: &'a [u8],
+struct SymbolTable<'a> {
+    entries: &'a [[u8; SYMBOL]],
     names: &'a [u8],
 }
 
-impl<'a> Symbols<'a> {
-    /// The symbols of a file.
-    pub fn of(file: &'a [u8]) -> Symbols<'a> {
-        Symbols::in_sections(file).unwrap_or(Symbols {
-            table: &[],
-            names: &[],
-        })
-    }
+impl<'a> SymbolTable<'a> {
+    /// One without entries.
+    const NOTHING: SymbolTable<'static> = SymbolTable {
+        entries: &[],
+        names: &[],
+    };
 
     /// The first symbol table that the section headers name, and its names.
-    fn in_sections(file: &'a [u8]) -> Option<Symbols<'a>> {
+    fn of(file: &'a [u8]) -> Option<SymbolTable<'a>> {
         let sections = Sections::of(file);
         let table = sections.of_type(SYMBOL_TABLE)?;
         let names = sections.at(table.link()?)?;
-        Some(Symbols {
-            table: table.contents()?,
+        let (entries, _) = table.contents()?.as_chunks::<SYMBOL>();
+        Some(SymbolTable {
+            entries,
             names: names.contents()?,
         })
     }
 
-    /// The symbol that an address is told by: of those whose bytes it is among, or that have no
-    /// size and lie up to 65,536 bytes in front of it, the one with the highest address.
-    fn nearest(&self, addr: u64) -> Option<Symbol<'a>> {
-        let (entries, _) = self.table.as_chunks::<SYMBOL>();
-        let mut best: Option<Symbol<'a>> = None;
-        for entry in entries {
-            if let Some(symbol) = Symbol::of(entry.as_slice(), self.names) {
-                let higher = match &best {
-                    Some(best) => best.value < symbol.value,
-                    None => true,
-                };
-                if higher && symbol.reaches(addr) {
-                    best = Some(symbol);
-                }
+    /// The symbol of a number.
+    fn symbol(&self, number: u32) -> Option<Symbol<'a>> {
+        let entry = self.entries.get(number as usize)?;
+        Symbol::of(entry.as_slice(), self.names)
+    }
+
+    /// The ranks of its symbols, the lowest first.
+    fn ranks(&self, alloc: Global) -> Result<Vec<Rank>, AllocError> {
+        let mut ranks = Vec::with_capacity(alloc, self.entries.len())?;
+        for (entry, number) in self.entries.iter().zip(0..u32::MAX) {
+            if let Some(standing) = standing_of(entry.as_slice(), self.names) {
+                ranks.push(Rank::of(standing, number))?;
             }
         }
-        best
+        ranks.as_mut_slice().sort_unstable();
+        Ok(ranks)
+    }
+
+    /// Which of its symbols tells which addresses.
+    fn pieces(&self, alloc: Global) -> Result<Vec<Piece>, AllocError> {
+        let ranks = self.ranks(alloc)?;
+        let mut sweep = Sweep::new(alloc, ranks.len())?;
+        for rank in &ranks {
+            let number = rank.number();
+            if let Some(symbol) = self.symbol(number) {
+                sweep.enter(number, symbol.value, symbol.last())?;
+            }
+        }
+        sweep.finish()
+    }
+}
+
+/// What decides the place of an entry's symbol, where the entry has one.
+fn standing_of(entry: &[u8], names: &[u8]) -> Option<Standing> {
+    let symbol = Symbol::of(entry, names)?;
+    let info = *entry.get(4)?;
+    Some(Standing {
+        value: symbol.value,
+        has_size: symbol.size != 0,
+        is_typed: matches!(info % 16, OBJECT | FUNCTION),
+        is_global: info / 16 != LOCAL,
+    })
+}
+
+/// The symbols of an image, sorted once: an address is found in the time of a binary search.
+#[derive(Drop)]
+pub struct Symbols<'a> {
+    table: SymbolTable<'a>,
+    pieces: Vec<Piece>,
+}
+
+impl<'a> Symbols<'a> {
+    /// The symbols of a file: at most 56 bytes of memory for each while they are sorted, and 32
+    /// from then on. `Err` where there is no memory for them.
+    pub fn of(alloc: Global, file: &'a [u8]) -> Result<Symbols<'a>, AllocError> {
+        let table = SymbolTable::of(file).unwrap_or(SymbolTable::NOTHING);
+        Ok(Symbols {
+            table,
+            pieces: table.pieces(alloc)?,
+        })
+    }
+
+    /// The symbol that an address is told by: of those whose bytes it is among, or that have no
+    /// size and lie up to 65,536 bytes in front of it, the one with the highest address. Of one
+    /// address those with a size come first, then functions and objects, then those that are not
+    /// local, then the first of the table.
+    fn nearest(&self, addr: u64) -> Option<Symbol<'a>> {
+        let behind = self
+            .pieces
+            .as_slice()
+            .partition_point(|piece| piece.start <= addr);
+        let piece = self.pieces.get(behind.checked_sub(1)?)?;
+        self.table.symbol(piece.number?)
     }
 
     /// An address, to be told by a symbol.
@@ -110,10 +174,10 @@ impl<'a> Symbol<'a> {
         self.value == other.value || is_part
     }
 
-    /// Whether an address is told by it.
-    fn reaches(&self, addr: u64) -> bool {
+    /// The last address that it may tell.
+    fn last(&self) -> u64 {
         let bytes = if self.size == 0 { REACH } else { self.size };
-        self.value <= addr && addr - self.value < bytes
+        self.value.saturating_add(bytes.saturating_sub(1))
     }
 }
 
@@ -161,6 +225,18 @@ impl<'a> SymbolOffset<'a> {
         match &self.symbol {
             Some(symbol) => self.addr.saturating_sub(symbol.value),
             None => 0,
+        }
+    }
+
+    /// Whether it lies in the first instructions of a symbol whose size is known, and another
+    /// address of the same symbol lies behind it.
+    pub fn begins_function_of(&self, other: &SymbolOffset<'_>, instructions: u64) -> bool {
+        match (&self.symbol, &other.symbol) {
+            (Some(symbol), Some(same)) if symbol.value == same.value => {
+                let is_first = self.offset() < instructions.saturating_mul(4);
+                symbol.size != 0 && is_first && self.addr < other.addr
+            }
+            _ => false,
         }
     }
 

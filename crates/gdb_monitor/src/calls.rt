@@ -1,6 +1,7 @@
 //! The heap calls of a tenant.
 
 use gdb_travel::Traveller;
+use heap_bounds::CallText;
 use mte_svc::AnsweredCall;
 use std::alloc::{AllocError, Global};
 use std::io::Write;
@@ -30,10 +31,10 @@ impl fmt::Display for Made {
             pc,
             call,
         } = self;
-        let AnsweredCall { call, answer } = call;
+        let (call, answer) = (CallText(call.call), call.answer);
         write!(
             f,
-            "call {number}, {call} = {answer:#x} by the SVC at {pc:#x}, step {step}"
+            "call {number}, {call} = {answer:#018x} by the SVC at {pc:#018x}, step {step}"
         )
     }
 }

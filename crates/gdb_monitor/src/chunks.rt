@@ -52,7 +52,7 @@ fn tell_chunk<W: Write>(
 ) -> io::Result<()> {
     let state = if freed.is_some() { "freed" } else { "live" };
     let Allocation { pointer, size } = chunk;
-    write!(out, "{state} {size}-byte chunk at {pointer:#x}, ")?;
+    write!(out, "{state} {size}-byte chunk at {pointer:#018x}, ")?;
     tell_distance(out, plain(*pointer), address)?;
     writeln!(out, "  allocated by {made}")?;
     match freed {
@@ -77,7 +77,7 @@ pub fn tell_tags<W: Write>(
 ) -> io::Result<()> {
     let own = plain(address) / 16;
     let first = own.saturating_sub(AROUND);
-    write!(out, "tags from {:#x}:", first.saturating_mul(16))?;
+    write!(out, "tags from {:#018x}:", first.saturating_mul(16))?;
     for granule in first..own.saturating_add(AROUND) {
         let tag = tenant.tag_at(granule.saturating_mul(16));
         if granule == own {

@@ -35,14 +35,8 @@ pub fn tell_why<W: Write>(
     let (past, book) = retold(alloc, tenant)?;
     let limit = past.limit();
     let (parts, mut memory) = past.into_machine();
-    let report = report_of(
-        &parts,
-        &book,
-        limit,
-        subject.image,
-        subject.name,
-        subject.seed,
-    );
+    let names = Names::of(alloc, subject.image)?;
+    let report = report_of(&parts, &book, limit, &names, subject);
     report.write(alloc, out, &mut memory)
 }
 
@@ -51,9 +45,8 @@ fn report_of<'x>(
     parts: &'x TenantParts,
     book: &'x Book,
     limit: u64,
-    image: &'x [u8],
-    name: &'x str,
-    seed: Option<u64>,
+    names: &'x Names<'x>,
+    subject: &DebugSubject<'x>,
 ) -> Report<'x> {
     Report {
         parts,
@@ -62,9 +55,9 @@ fn report_of<'x>(
         last_count: 0,
         turns: None,
         limit,
-        names: Names::of(image),
-        image: name,
-        seed,
+        names,
+        image: subject.name,
+        seed: subject.seed,
         finding: None,
         statistics: None,
         is_cut: false,

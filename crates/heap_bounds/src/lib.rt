@@ -5,10 +5,12 @@ mod access;
 mod addressing;
 mod blocks;
 mod bounds;
+mod call_text;
 mod calls;
 
 pub use access::{MemoryAccess, access_of};
 pub use addressing::{base, register_offset, scaled_offset, signed_offset, unit, zero_or};
 pub use blocks::{Block, Range};
 pub use bounds::{Bounds, Trespass};
+pub use call_text::CallText;
 pub use calls::{Allocation, freed_by, made_by};

@@ -14,4 +14,4 @@ mod written;
 pub use instruction::{Instruction, SVC};
 pub use moment::{Moment, Nzcv, TraceLine};
 pub use service::Service;
-pub use turns::{Turn, tell_turns};
+pub use turns::{Turn, push_turns, tell_turns};

@@ -5,7 +5,8 @@ use a64_decode::decode;
 use a64_instr::Instr;
 use a64_registers::Regs;
 use circular_buffer::HeapCircularBuffer;
-use mte_backtrace::Names;
+use mte_backtrace::{FrameAddresses, FrameNames};
+use std::alloc::AllocError;
 use std::io;
 use std::io::Write;
 
@@ -38,11 +39,23 @@ impl Turn {
     }
 }
 
+/// Adds the addresses whose names and lines are written of calls and returns.
+pub fn push_turns(
+    frames: &mut FrameAddresses,
+    turns: &HeapCircularBuffer<Turn>,
+) -> Result<(), AllocError> {
+    for turn in turns.iter() {
+        frames.push_instruction(turn.pc)?;
+        frames.push_instruction(turn.to)?;
+    }
+    Ok(())
+}
+
 /// Writes the last calls and returns, the oldest first, each in a line.
 pub fn tell_turns<W: Write>(
     out: &mut W,
     turns: &HeapCircularBuffer<Turn>,
-    names: &Names<'_>,
+    names: &FrameNames<'_>,
 ) -> io::Result<()> {
     writeln!(out, "the last calls and returns:")?;
     for turn in turns.iter() {

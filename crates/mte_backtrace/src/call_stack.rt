@@ -1,7 +1,8 @@
 //! The calls that led to an instruction.
 
 use crate::callers::{Callers, fill, link_of};
-use crate::names::Names;
+use crate::frames::FramesAt;
+use crate::names::{FrameAddresses, FrameNames};
 use a64_registers::Regs;
 use elf_symbols::{SymbolOffset, Symbols};
 use mte_tags::Tagged;
@@ -34,7 +35,11 @@ impl CallStack {
     ) -> Result<CallStack, AllocError> {
         let mut records = [0; DEPTH];
         fill(memory, regs, &mut records);
-        let link = link_of(memory, regs, records[0]);
+        // Where a function has just been called by itself, the record is that of its caller, which
+        // may have the same return address.
+        let is_called = has_begun(symbols, regs.pc, regs.x[30], 1);
+        let own = if is_called { 0 } else { records[0] };
+        let link = link_of(memory, regs, own);
         CallStack::new(alloc, regs.pc, link, &records, symbols)
     }
 
@@ -70,16 +75,30 @@ impl CallStack {
         })
     }
 
-    /// Writes a line a call, the innermost first.
-    pub fn write<W: Write>(&self, out: &mut W, names: &Names<'_>, indent: &str) -> io::Result<()> {
-        let frame = names.instruction(self.pc);
-        writeln!(out, "{indent}#0 {frame}")?;
-        let mut number = 0u32;
+    /// Adds the addresses whose names and lines are written.
+    pub fn push_frames(&self, frames: &mut FrameAddresses) -> Result<(), AllocError> {
+        frames.push_instruction(self.pc)?;
         for caller in &self.callers {
-            let is_old = self.may_be_old && number == 0;
-            number = number.saturating_add(1);
-            let (frame, mark) = (names.call(*caller), if is_old { OLD } else { "" });
-            writeln!(out, "{indent}#{number} {frame}{mark}")?;
+            frames.push_call(*caller)?;
+        }
+        Ok(())
+    }
+
+    /// Writes a line a call, inlined or not, the innermost first, without the source lines and the
+    /// inlined calls that were not looked for.
+    pub fn write<W: Write>(
+        &self,
+        out: &mut W,
+        names: &FrameNames<'_>,
+        indent: &str,
+    ) -> io::Result<()> {
+        let frames = names.instruction_frames(self.pc);
+        let mut number = write_frames(out, frames, indent, 0, "")?;
+        let mut mark = if self.may_be_old { OLD } else { "" };
+        for caller in &self.callers {
+            let frames = names.call_frames(*caller);
+            number = write_frames(out, frames, indent, number, mark)?;
+            mark = "";
         }
         Ok(())
     }
@@ -95,13 +114,43 @@ impl CallStack {
     }
 }
 
+/// Writes a line a frame, and gives the number of the next one.
+fn write_frames<W: Write>(
+    out: &mut W,
+    frames: FramesAt<'_, '_>,
+    indent: &str,
+    first: u32,
+    mark: &str,
+) -> io::Result<u32> {
+    let mut number = first;
+    for frame in frames {
+        writeln!(out, "{indent}#{number} {frame}{mark}")?;
+        number = number.saturating_add(1);
+    }
+    Ok(number)
+}
+
 /// What is told of a caller that may be none.
 const OLD: &str = " (x30, may be old)";
 
+/// In how many instructions at its start a function writes its frame record.
+const PROLOGUE: u64 = 4;
+
 /// Whether x30 points into the function that an instruction is in, as it does where a call has
-/// returned; `None` where the function's bounds are not known.
+/// returned; `None` where the function's bounds are not known. In a function that has just been
+/// called by itself x30 is the caller's, as in one that another has called.
 fn is_in_function(symbols: &Symbols<'_>, pc: u64, link: u64) -> Option<bool> {
+    if has_begun(symbols, pc, link, PROLOGUE) {
+        return Some(false);
+    }
     symbols.place(pc).shares_function(&symbols.place(link))
+}
+
+/// Whether an instruction is among the first of a function, of which x30 has a later address.
+fn has_begun(symbols: &Symbols<'_>, pc: u64, link: u64, instructions: u64) -> bool {
+    symbols
+        .place(pc)
+        .begins_function_of(&symbols.place(link), instructions)
 }
 
 /// Adds the return addresses in front of the first 0.

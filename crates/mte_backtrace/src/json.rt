@@ -1,7 +1,8 @@
 //! Calls as JSON (RFC 8259).
 
 use crate::call_stack::CallStack;
-use crate::names::Names;
+use crate::frames::{FrameName, FramesAt, StackFrame};
+use crate::names::FrameNames;
 use debug_lines::SourceLine;
 use elf_symbols::SymbolOffset;
 use std::io::Write;
@@ -31,27 +32,36 @@ fn write_character<W: fmt::Write>(f: &mut fmt::Formatter<W>, character: char) ->
     }
 }
 
-/// An instruction or a call: its address, and its function and source line where they are known.
+/// A frame of an instruction or a call: the address, and the function and the source line where
+/// they are known.
 #[derive(Clone, Copy)]
-pub struct FrameObject<'a> {
-    /// The address.
-    pub address: u64,
-    /// Its function.
-    pub place: SymbolOffset<'a>,
-    /// Its source line.
-    pub line: Option<SourceLine<'a>>,
+struct FrameObject<'a> {
+    address: u64,
+    frame: StackFrame<'a>,
 }
 
 impl<'a> fmt::Display for FrameObject<'a> {
     fn fmt<W: fmt::Write>(&self, f: &mut fmt::Formatter<W>) -> fmt::Result {
         let address = self.address;
         write!(f, "{{\"address\":\"{address:#x}\"")?;
-        write_function(f, &self.place)?;
-        if let Some(line) = &self.line {
+        match &self.frame.name {
+            FrameName::Inlined(name) => write_inlined(f, name)?,
+            FrameName::Own(place) => write_function(f, place)?,
+        }
+        if let Some(line) = &self.frame.line {
             write_line(f, line)?;
         }
         f.write_str("}")
     }
+}
+
+/// Writes the name of a function whose code was inlined.
+fn write_inlined<W: fmt::Write>(f: &mut fmt::Formatter<W>, name: &Option<&str>) -> fmt::Result {
+    if let Some(name) = name {
+        let name = Quoted(*name);
+        write!(f, ",\"function\":{name}")?;
+    }
+    f.write_str(",\"inlined\":true")
 }
 
 /// Writes the name of a function, and an address's offset in it.
@@ -73,14 +83,30 @@ fn write_line<W: fmt::Write>(f: &mut fmt::Formatter<W>, line: &SourceLine<'_>) -
 }
 
 impl CallStack {
-    /// Writes an array of the instruction and its calls, the innermost first.
-    pub fn write_json<W: Write>(&self, out: &mut W, names: &Names<'_>) -> io::Result<()> {
-        let frame = names.instruction_object(self.pc);
-        write!(out, "[{frame}")?;
+    /// Writes an array of the instruction and its calls, inlined or not, the innermost first.
+    pub fn write_json<W: Write>(&self, out: &mut W, names: &FrameNames<'_>) -> io::Result<()> {
+        let frames = names.instruction_frames(self.pc);
+        write_frames(out, self.pc, frames, "[")?;
         for caller in &self.callers {
-            let frame = names.call_object(*caller);
-            write!(out, ",{frame}")?;
+            let frames = names.call_frames(*caller);
+            write_frames(out, *caller, frames, ",")?;
         }
         write!(out, "]")
     }
+}
+
+/// Writes an object for each frame of an address, with what stands in front of the first.
+fn write_frames<W: Write>(
+    out: &mut W,
+    address: u64,
+    frames: FramesAt<'_, '_>,
+    front: &str,
+) -> io::Result<()> {
+    let mut front = front;
+    for frame in frames {
+        let object = FrameObject { address, frame };
+        write!(out, "{front}{object}")?;
+        front = ",";
+    }
+    Ok(())
 }

@@ -3,11 +3,13 @@
 
 mod call_stack;
 mod callers;
+mod frames;
 mod json;
 mod names;
 mod walk;
 
 pub use call_stack::CallStack;
 pub use callers::Callers;
+pub use frames::{FrameName, FramesAt, StackFrame};
 pub use json::Quoted;
-pub use names::{Frame, Names};
+pub use names::{Frame, FrameAddresses, FrameNames, Names};

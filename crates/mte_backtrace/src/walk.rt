@@ -5,7 +5,7 @@ ghost use Rattle.std.specs.Prelude.{◌≡◌};
 
 use a64_bits::plain;
 use a64_registers::Regs;
-use address_map::{STACK_END, STACK_START};
+use address_map::{SECONDARY_START, STACK_END};
 use mte_tags::{Attrs, Tagged};
 
 /// The bytes of a frame record.
@@ -32,7 +32,7 @@ impl Walk {
     }
 
     /// The next return address. There is none from the first record on that is not a multiple of 8,
-    /// does not lie on the stack or has no address of code.
+    /// does not lie on the stack or from the large chunks on, or has no address of code.
     pub fn step<M: Tagged>(&mut self, memory: &mut M) -> Option<u64>
         ensures memory { M.memory memory.new ≡ M.memory memory.old }
         ensures kept { M.kept memory.old memory.new }
@@ -50,13 +50,14 @@ impl Walk {
     }
 }
 
-/// The frame record at an address of the stack.
+/// The frame record at an address of the stack, or from the large chunks on, as a program may have
+/// its stack in one of them.
 fn record_at<M: Tagged>(memory: &mut M, frame: u64) -> Option<Record>
     ensures memory { M.memory memory.new ≡ M.memory memory.old }
     ensures kept { M.kept memory.old memory.new }
 {
     let at = plain(frame);
-    if at % 8 != 0 || at < STACK_START || at > STACK_END - RECORD {
+    if at % 8 != 0 || at < SECONDARY_START || at > STACK_END - RECORD {
         return None;
     }
     let outer = word_at(memory, at)?;

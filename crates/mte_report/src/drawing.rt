@@ -3,10 +3,11 @@
 use crate::report::Report;
 use a64_bits::plain;
 use heap_picture::{Mark, Marked};
+use mte_backtrace::{FrameAddresses, FrameNames};
 use mte_flat::Flat;
 use mte_tags::tag_of;
 use mte_tenant::Status;
-use std::alloc::Global;
+use std::alloc::{AllocError, Global};
 use std::fmt::Display;
 use std::io::Write;
 use std::{fmt, io};
@@ -27,7 +28,8 @@ impl<'a> Report<'a> {
         let title = self.title_of(title);
         let title = format!(in alloc; "{title}")?;
         let extents = extents(alloc, self.book)?;
-        let picture = self.picture(title.as_str(), extents.as_slice());
+        let names = self.extent_names(alloc, extents.as_slice())?;
+        let picture = self.picture(title.as_str(), extents.as_slice(), &names);
         picture.draw(alloc, out, memory)
     }
 
@@ -42,7 +44,8 @@ impl<'a> Report<'a> {
         let title = self.title_of(title);
         let title = format!(in alloc; "{title}")?;
         let extents = extents(alloc, self.book)?;
-        let picture = self.picture(title.as_str(), extents.as_slice());
+        let names = self.extent_names(alloc, extents.as_slice())?;
+        let picture = self.picture(title.as_str(), extents.as_slice(), &names);
         picture.write_text(alloc, out, memory)
     }
 
@@ -58,12 +61,30 @@ impl<'a> Report<'a> {
         }
     }
 
+    /// What the instructions are called that made chunks.
+    fn extent_names(
+        &self,
+        alloc: Global,
+        extents: &[Extent],
+    ) -> Result<FrameNames<'a>, AllocError> {
+        let mut frames = FrameAddresses::new(alloc);
+        for extent in extents {
+            frames.push_instruction(extent.chunk.made.pc)?;
+        }
+        self.names.of_frames(alloc, &frames)
+    }
+
     /// A picture of chunks, under a title.
-    fn picture<'p>(&'p self, title: &'p str, extents: &'p [Extent]) -> Picture<'p> {
+    fn picture<'p>(
+        &self,
+        title: &'p str,
+        extents: &'p [Extent],
+        names: &'p FrameNames<'p>,
+    ) -> Picture<'p> {
         Picture {
             title,
             extents,
-            names: &self.names,
+            names,
             cause: self.cause_number(),
             mark: self.mark(),
         }

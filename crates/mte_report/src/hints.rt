@@ -6,6 +6,7 @@ use a64_instr::Instr;
 use circular_buffer::HeapCircularBuffer;
 use heap_bounds::access_of;
 use instruction_trace::{Instruction, Moment};
+use mte_backtrace::FrameNames;
 use run_book::{BookEntry, Call};
 use run_cause::Cause;
 use std::io;
@@ -16,18 +17,29 @@ const MOST: u64 = 1_048_576;
 
 impl<'a> Report<'a> {
     /// Writes what led to a null pointer or to a jump to no code, as far as it is known.
-    pub(crate) fn tell_hint<W: Write>(&self, out: &mut W, cause: &Cause) -> io::Result<()> {
+    pub(crate) fn tell_hint<W: Write>(
+        &self,
+        out: &mut W,
+        cause: &Cause,
+        names: &FrameNames<'_>,
+    ) -> io::Result<()> {
         match cause {
             Cause::NullPointer => match self.book.newest_refused() {
                 Some(entry) => tell_refused(out, &entry),
                 None => Ok(()),
             },
             Cause::WildJump => match self.last {
-                Some(last) => self.tell_jump(out, last),
+                Some(last) => self.tell_jump(out, last, names),
                 None => Ok(()),
             },
             _ => Ok(()),
         }
+    }
+
+    /// The instruction in front of the last one.
+    pub(crate) fn jump(&self) -> Option<&'a Moment> {
+        let last = self.last?;
+        last.get(last.len().saturating_sub(2))
     }
 
     /// Writes the branch that jumped, and the load that brought its target.
@@ -35,13 +47,14 @@ impl<'a> Report<'a> {
         &self,
         out: &mut W,
         last: &HeapCircularBuffer<Moment>,
+        names: &FrameNames<'_>,
     ) -> io::Result<()> {
-        let Some(moment) = last.get(last.len().saturating_sub(2)) else {
+        let Some(moment) = self.jump() else {
             return Ok(());
         };
         let (pc, step) = (moment.regs.pc, moment.step);
         let word = moment.word.unwrap_or(0);
-        let (frame, instruction) = (self.names.instruction(pc), Instruction { word, pc });
+        let (frame, instruction) = (names.instruction(pc), Instruction { word, pc });
         writeln!(out, "  jumped by {instruction} in {frame}, step {step}")?;
         match register_of(word) {
             Some(register) => tell_load(out, last, register),
@@ -74,7 +87,7 @@ fn tell_load<W: Write>(
         Some((addr, step)) => {
             writeln!(
                 out,
-                "  x{register} was loaded from [{addr:#x}], step {step}"
+                "  x{register} was loaded from [{addr:#018x}], step {step}"
             )
         }
         None => Ok(()),

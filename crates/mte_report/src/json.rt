@@ -1,10 +1,10 @@
 //! What happened to a tenant, as JSON (RFC 8259). Numbers of 64 bits are texts in hexadecimal.
 
 use crate::report::Report;
-use crate::stacks::stack_of;
 use a64_registers::Regs;
 use instruction_trace::Nzcv;
-use mte_backtrace::{Names, Quoted};
+use heap_bounds::CallText;
+use mte_backtrace::{FrameNames, Quoted};
 use mte_flat::Flat;
 use mte_tags::MemFault;
 use mte_tenant::Status;
@@ -25,9 +25,11 @@ impl<'a> Report<'a> {
         exit_status: u8,
         memory: &mut Flat,
     ) -> io::Result<()> {
+        let cause = self.cause();
+        let names = self.frame_names(alloc, cause.as_ref(), memory)?;
         self.write_run(out, exit_status)?;
-        self.write_end(alloc, out, memory)?;
-        self.write_cause(alloc, out)?;
+        self.write_end(alloc, out, memory, &names)?;
+        self.write_cause(alloc, out, cause.as_ref(), &names)?;
         write_registers(out, self.regs())?;
         self.write_tags(out, memory)?;
         write_pages(alloc, out, memory)?;
@@ -53,11 +55,17 @@ impl<'a> Report<'a> {
     }
 
     /// Writes how it ended, and the calls that led there.
-    fn write_end<W: Write>(&self, alloc: Global, out: &mut W, memory: &mut Flat) -> io::Result<()> {
+    fn write_end<W: Write>(
+        &self,
+        alloc: Global,
+        out: &mut W,
+        memory: &mut Flat,
+        names: &FrameNames<'_>,
+    ) -> io::Result<()> {
         self.write_status(out)?;
         write!(out, "\"stack\":")?;
         let stack = self.end_stack(alloc, memory)?;
-        stack.write_json(out, &self.names)?;
+        stack.write_json(out, names)?;
         writeln!(out, ",")
     }
 
@@ -76,15 +84,21 @@ impl<'a> Report<'a> {
     }
 
     /// Writes the cause, and the chunks that it names.
-    fn write_cause<W: Write>(&self, alloc: Global, out: &mut W) -> io::Result<()> {
-        let Some(cause) = self.cause() else {
+    fn write_cause<W: Write>(
+        &self,
+        alloc: Global,
+        out: &mut W,
+        cause: Option<&Cause>,
+        names: &FrameNames<'_>,
+    ) -> io::Result<()> {
+        let Some(cause) = cause else {
             return writeln!(out, "\"cause\":null,\n\"chunks\":[],");
         };
-        let found = self.found(&cause);
+        let found = self.found(cause);
         let text = format!(in alloc; "{found}")?;
         let text = Quoted(text.as_str());
         write!(out, "\"cause\":{text},\n\"chunks\":[")?;
-        write_chunks(alloc, out, &cause, &self.names)?;
+        self.write_chunks(alloc, out, cause, names)?;
         writeln!(out, "],")
     }
 
@@ -112,61 +126,66 @@ fn write_tag<W: Write>(out: &mut W, tag: Option<u8>) -> io::Result<()> {
     }
 }
 
-/// Writes the chunks that a cause names.
-fn write_chunks<W: Write>(
-    alloc: Global,
-    out: &mut W,
-    cause: &Cause,
-    names: &Names<'_>,
-) -> io::Result<()> {
-    if let Some(chunk) = cause.chunk() {
-        write_chunk(alloc, out, chunk, names)?;
+impl<'a> Report<'a> {
+    /// Writes the chunks that a cause names.
+    fn write_chunks<W: Write>(
+        &self,
+        alloc: Global,
+        out: &mut W,
+        cause: &Cause,
+        names: &FrameNames<'_>,
+    ) -> io::Result<()> {
+        if let Some(chunk) = cause.chunk() {
+            self.write_chunk(alloc, out, chunk, names)?;
+        }
+        if let Some(young) = cause.young() {
+            write!(out, ",")?;
+            self.write_chunk(alloc, out, young, names)?;
+        }
+        Ok(())
     }
-    if let Some(young) = cause.young() {
-        write!(out, ",")?;
-        write_chunk(alloc, out, young, names)?;
-    }
-    Ok(())
-}
 
-/// Writes a chunk, and the calls that made and freed it.
-fn write_chunk<W: Write>(
-    alloc: Global,
-    out: &mut W,
-    chunk: &BookChunk,
-    names: &Names<'_>,
-) -> io::Result<()> {
-    let (pointer, size) = (chunk.pointer, chunk.size);
-    write!(
-        out,
-        "{{\"pointer\":\"{pointer:#x}\",\"size\":{size},\"allocated\":"
-    )?;
-    write_call(alloc, out, &chunk.made, names)?;
-    write!(out, ",\"freed\":")?;
-    match &chunk.freed {
-        Some(entry) => write_call(alloc, out, entry, names)?,
-        None => write!(out, "null")?,
+    /// Writes a chunk, and the calls that made and freed it.
+    fn write_chunk<W: Write>(
+        &self,
+        alloc: Global,
+        out: &mut W,
+        chunk: &BookChunk,
+        names: &FrameNames<'_>,
+    ) -> io::Result<()> {
+        let (pointer, size) = (chunk.pointer, chunk.size);
+        write!(
+            out,
+            "{{\"pointer\":\"{pointer:#x}\",\"size\":{size},\"allocated\":"
+        )?;
+        self.write_call(alloc, out, &chunk.made, names)?;
+        write!(out, ",\"freed\":")?;
+        match &chunk.freed {
+            Some(entry) => self.write_call(alloc, out, entry, names)?,
+            None => write!(out, "null")?,
+        }
+        write!(out, "}}")
     }
-    write!(out, "}}")
-}
 
-/// Writes a heap call, and the calls that led to it.
-fn write_call<W: Write>(
-    alloc: Global,
-    out: &mut W,
-    entry: &BookEntry,
-    names: &Names<'_>,
-) -> io::Result<()> {
-    let (number, step) = (entry.number, entry.step);
-    let (call, answer) = (entry.call.call, entry.call.answer);
-    write!(
-        out,
-        "{{\"number\":{number},\"call\":\"{call}\",\"result\":\"{answer:#x}\","
-    )?;
-    write!(out, "\"step\":{step},\"stack\":")?;
-    let stack = stack_of(alloc, entry, names)?;
-    stack.write_json(out, names)?;
-    write!(out, "}}")
+    /// Writes a heap call, and the calls that led to it.
+    fn write_call<W: Write>(
+        &self,
+        alloc: Global,
+        out: &mut W,
+        entry: &BookEntry,
+        names: &FrameNames<'_>,
+    ) -> io::Result<()> {
+        let (number, step) = (entry.number, entry.step);
+        let (call, answer) = (CallText(entry.call.call), entry.call.answer);
+        write!(
+            out,
+            "{{\"number\":{number},\"call\":\"{call}\",\"result\":\"{answer:#x}\","
+        )?;
+        write!(out, "\"step\":{step},\"stack\":")?;
+        let stack = self.stack_of(alloc, entry)?;
+        stack.write_json(out, names)?;
+        write!(out, "}}")
+    }
 }
 
 /// Writes the registers.

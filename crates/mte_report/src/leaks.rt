@@ -1,7 +1,7 @@
 //! The chunks that are live at the end, by the calls that made them.
 
 use crate::report::Report;
-use crate::stacks::stack_of;
+use mte_backtrace::{FrameAddresses, FrameNames};
 use run_book::{BookEntry, Bytes};
 use std::alloc::{AllocError, Global};
 use std::io::Write;
@@ -78,10 +78,25 @@ impl<'a> Report<'a> {
         let (chunks, bytes) = (places.chunks, places.bytes);
         let (chunks, bytes) = (Chunks(chunks), Bytes(bytes));
         writeln!(out, "live at the end: {chunks}, {bytes}")?;
+        let names = self.place_names(alloc, places.places.as_slice())?;
         for place in &places.places {
-            self.write_place(alloc, out, place)?;
+            self.write_place(alloc, out, place, &names)?;
         }
         out.flush()
+    }
+
+    /// What the addresses of places are called.
+    fn place_names(
+        &self,
+        alloc: Global,
+        places: &[LeakPlace],
+    ) -> Result<FrameNames<'a>, AllocError> {
+        let mut frames = FrameAddresses::new(alloc);
+        for place in places {
+            let stack = self.stack_of(alloc, &place.entry)?;
+            stack.push_frames(&mut frames)?;
+        }
+        self.names.of_frames(alloc, &frames)
     }
 
     /// The places of the chunks that are live.
@@ -104,13 +119,12 @@ impl<'a> Report<'a> {
         alloc: Global,
         out: &mut W,
         place: &LeakPlace,
+        names: &FrameNames<'_>,
     ) -> io::Result<()> {
-        let (chunks, bytes, number) = (place.chunks, place.bytes, place.entry.number);
-        writeln!(
-            out,
-            "  {chunks} chunks, {bytes} bytes, the first by call {number}"
-        )?;
-        let stack = stack_of(alloc, &place.entry, &self.names)?;
-        stack.write(out, &self.names, "    ")
+        let (chunks, bytes) = (Chunks(place.chunks), Bytes(place.bytes));
+        let number = place.entry.number;
+        writeln!(out, "  {chunks}, {bytes}, the first by call {number}")?;
+        let stack = self.stack_of(alloc, &place.entry)?;
+        stack.write(out, names, "    ")
     }
 }

@@ -7,7 +7,7 @@ use circular_buffer::HeapCircularBuffer;
 use elf_symbols::SymbolOffset;
 use heap_bounds::{Range, access_of};
 use instruction_trace::{Instruction, Moment, Nzcv, TraceLine, Turn, tell_turns};
-use mte_backtrace::Names;
+use mte_backtrace::{FrameNames, Names};
 use mte_flat::Flat;
 use mte_tags::{FaultKind, MemFault, Tagged};
 use mte_tenant::{Status, TenantParts};
@@ -39,7 +39,7 @@ pub struct Report<'a> {
     /// The steps that it could have.
     pub limit: u64,
     /// What the addresses of its image are called.
-    pub names: Names<'a>,
+    pub names: &'a Names<'a>,
     /// The name of its image's file.
     pub image: &'a str,
     /// Its seed, where it ran alone.
@@ -66,9 +66,10 @@ impl<'a> Report<'a> {
         write!(out, "mte_run: ")?;
         tell_status(out, self, memory)?;
         let cause = self.cause();
-        self.tell_calls(alloc, out, cause.as_ref(), memory)?;
+        let names = self.frame_names(alloc, cause.as_ref(), memory)?;
+        self.tell_calls(alloc, out, cause.as_ref(), memory, &names)?;
         tell_place(out, self, memory)?;
-        self.write_machine(alloc, out, memory)?;
+        self.write_machine(alloc, out, memory, &names)?;
         self.tell_symbolizer(alloc, out, cause.as_ref(), memory)?;
         out.flush()
     }
@@ -137,10 +138,11 @@ impl<'a> Report<'a> {
         alloc: Global,
         out: &mut W,
         memory: &mut Flat,
+        names: &FrameNames<'_>,
     ) -> io::Result<()> {
         tell_instruction(out, self.here(), memory)?;
         if let Some(turns) = self.turns {
-            tell_turns(out, turns, &self.names)?;
+            tell_turns(out, turns, names)?;
         }
         if let Some(last) = self.last {
             tell_last(out, last, self.last_count, self.after())?;

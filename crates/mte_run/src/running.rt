@@ -55,7 +55,10 @@ fn observer_of<'a, 'i>(
 ) -> Result<Observer<'i, Log>, Failure<'a>> {
     let output = &options.output;
     let tracer = match output.traced {
-        Some(traced) => Some(Tracer::new(traced, Symbols::of(image), open_log(rt, output)?)),
+        Some(traced) => {
+            let symbols = Symbols::of(rt.alloc(), image)?;
+            Some(Tracer::new(traced, symbols, open_log(rt, output)?))
+        }
         None => None,
     };
     let exact = exact_of(rt.alloc(), output.exact);

@@ -87,6 +87,12 @@ fn tell_parts<'a>(
     } else {
         0
     };
+    let named = if is_told(parts, observer, options) {
+        image.bytes
+    } else {
+        &[]
+    };
+    let names = Names::of(rt.alloc(), named)?;
     let report = Report {
         parts,
         book: &observer.book,
@@ -94,7 +100,7 @@ fn tell_parts<'a>(
         last_count: options.output.last,
         turns: observer.turns(),
         limit: options.limit(),
-        names: Names::of(image.bytes),
+        names: &names,
         image: image.name,
         seed: run.seed,
         finding: observer.finding(),
@@ -106,6 +112,16 @@ fn tell_parts<'a>(
     write_files(rt, &report, options, ending, memory)?;
     tell_unseen(rt, &report, options);
     Ok(tell_last_line(rt, &report, ending))
+}
+
+/// Whether anything is told in which names are: of a tenant that exited only what is requested.
+fn is_told(parts: &TenantParts, observer: &Observer<'_, Log>, options: &Options) -> bool {
+    let output = &options.output;
+    !matches!(parts.log.status, Status::Exited(_))
+        || observer.finding().is_some()
+        || output.leaks
+        || output.map.is_some()
+        || output.json.is_some()
 }
 
 /// Tells what the options request, on standard error.

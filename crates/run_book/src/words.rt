@@ -1,7 +1,7 @@
 //! Texts of heap calls, chunks and numbers of bytes.
 
 use crate::book::{BookChunk, BookEntry};
-use mte_svc::AnsweredCall;
+use heap_bounds::CallText;
 use std::fmt;
 
 /// A heap call: its number, its arguments and result, and when it was made.
@@ -16,8 +16,8 @@ impl<'a> fmt::Display for Call<'a> {
             call,
             ..
         } = self.0;
-        let AnsweredCall { call, answer } = call;
-        write!(f, "call {number}, {call} = {answer:#x}, step {step}")
+        let (call, answer) = (CallText(call.call), call.answer);
+        write!(f, "call {number}, {call} = {answer:#018x}, step {step}")
     }
 }
 

@@ -2,7 +2,7 @@
 
 use crate::extent::Extent;
 use heap_picture::Note;
-use mte_backtrace::Names;
+use mte_backtrace::FrameNames;
 use run_book::{BookChunk, Bytes, Call};
 use std::alloc::Global;
 use std::io::Write;
@@ -14,7 +14,7 @@ pub struct Notes<'e, 'n> {
     /// The granules of the chunks.
     pub extents: &'e [Extent],
     /// What the addresses of the image are called.
-    pub names: &'n Names<'n>,
+    pub names: &'n FrameNames<'n>,
     /// The number of the call that made the chunk that the cause names.
     pub cause: Option<u64>,
 }
@@ -86,7 +86,7 @@ impl fmt::Display for Size {
 #[derive(Clone, Copy)]
 struct Title<'a> {
     extent: &'a Extent,
-    names: &'a Names<'a>,
+    names: &'a FrameNames<'a>,
 }
 
 impl<'a> fmt::Display for Title<'a> {

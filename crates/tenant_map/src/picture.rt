@@ -7,7 +7,7 @@ use crate::selection::{CandidateRow, Window, place_of, places, row_at};
 use address_map::{GRANULE_SIZE, PAGE_SIZE};
 use heap_bounds::Range;
 use heap_picture::{Arrow, END, Gap, Heading, Kind, Mark, PictureLine, Spot};
-use mte_backtrace::Names;
+use mte_backtrace::FrameNames;
 use mte_flat::Flat;
 use std::alloc::{AllocError, Global};
 use std::io::Write;
@@ -21,7 +21,7 @@ pub struct Picture<'a> {
     /// The granules of the chunks.
     pub extents: &'a [Extent],
     /// What the addresses of the image are called.
-    pub names: &'a Names<'a>,
+    pub names: &'a FrameNames<'a>,
     /// The number of the call that made the chunk that the cause names.
     pub cause: Option<u64>,
     /// What is framed.

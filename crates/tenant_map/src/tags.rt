@@ -27,7 +27,7 @@ pub fn tag_at<M: Tagged>(memory: &mut M, first: u64, number: u64) -> Option<u8> 
 /// Writes the tags of the granules around an address, its own in brackets.
 pub fn tell_tags<W: Write, M: Tagged>(out: &mut W, memory: &mut M, addr: u64) -> io::Result<()> {
     let (own, first) = (granule_of(addr), first_granule(addr));
-    write!(out, "tags from {first:#x}, of 16 bytes each:")?;
+    write!(out, "tags from {first:#018x}, of 16 bytes each:")?;
     for number in 0..2 * GRANULES {
         let is_own = first.wrapping_add(number * GRANULE_SIZE) == own;
         tell_tag(out, Tag(tag_at(memory, first, number)), is_own)?;

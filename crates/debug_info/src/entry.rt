@@ -1,0 +1,87 @@
+//! What an entry says, as far as inlined calls need it (DWARF 5, 7.5.4).
+
+use crate::abbreviation::Abbreviation;
+use crate::budget::Budget;
+use crate::value::Value;
+use debug_lines::Reader;
+
+/// The attributes of an entry: one that it doesn't have is `Value::Other`.
+#[derive(Clone, Copy)]
+pub struct Entry<'a> {
+    /// DW_AT_name.
+    pub name: Value<'a>,
+    /// DW_AT_linkage_name.
+    pub linkage_name: Value<'a>,
+    /// DW_AT_abstract_origin or DW_AT_specification: the entry that says more of the function.
+    pub origin: Value<'a>,
+    /// DW_AT_low_pc.
+    pub low: Value<'a>,
+    /// DW_AT_high_pc: an address, or how far it is from the low one.
+    pub high: Value<'a>,
+    /// DW_AT_ranges.
+    pub ranges: Value<'a>,
+    /// DW_AT_call_file.
+    pub call_file: Value<'a>,
+    /// DW_AT_call_line.
+    pub call_line: Value<'a>,
+    /// DW_AT_stmt_list, of a unit.
+    pub lines: Value<'a>,
+    /// DW_AT_str_offsets_base, of a unit.
+    pub text_offsets: Value<'a>,
+    /// DW_AT_addr_base, of a unit.
+    pub addresses: Value<'a>,
+    /// DW_AT_rnglists_base, of a unit.
+    pub range_lists: Value<'a>,
+}
+
+impl<'a> Entry<'a> {
+    /// An entry without attributes.
+    const NOTHING: Entry<'static> = Entry {
+        name: Value::Other,
+        linkage_name: Value::Other,
+        origin: Value::Other,
+        low: Value::Other,
+        high: Value::Other,
+        ranges: Value::Other,
+        call_file: Value::Other,
+        call_line: Value::Other,
+        lines: Value::Other,
+        text_offsets: Value::Other,
+        addresses: Value::Other,
+        range_lists: Value::Other,
+    };
+
+    /// Reads the values of an entry.
+    pub fn read(
+        abbreviation: &Abbreviation<'a>,
+        entries: &mut Reader<'a>,
+        budget: &mut Budget,
+    ) -> Option<Entry<'a>> {
+        let mut entry: Entry<'a> = Entry::NOTHING;
+        for attribute in abbreviation.attributes {
+            let value = attribute.value(entries, budget)?;
+            entry.put(attribute.name, value);
+        }
+        Some(entry)
+    }
+
+    /// Gives an attribute its value.
+    fn put(&mut self, name: u64, value: Value<'a>) {
+        match name {
+            0x03 => self.name = value,
+            // DW_AT_linkage_name, and DW_AT_MIPS_linkage_name in its place
+            0x6E | 0x2007 => self.linkage_name = value,
+            0x31 | 0x47 => self.origin = value,
+            0x11 => self.low = value,
+            0x12 => self.high = value,
+            0x55 => self.ranges = value,
+            0x58 => self.call_file = value,
+            0x59 => self.call_line = value,
+            0x10 => self.lines = value,
+            0x72 => self.text_offsets = value,
+            0x73 => self.addresses = value,
+            0x74 => self.range_lists = value,
+            _ => {}
+        }
+    }
+}

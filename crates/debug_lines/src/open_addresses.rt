@@ -1,0 +1,98 @@
+//! Addresses whose rows are looked for in one pass over the line tables.
+
+use crate::registers::LineRegisters;
+use crate::row::Row;
+use crate::unit::Unit;
+use std::alloc::{AllocError, Global};
+
+/// An address, and what the row that covers it says.
+#[derive(Clone, Copy)]
+pub struct CoveredAddress {
+    pub address: u64,
+    /// The number of its source file in the unit's table of files.
+    pub file: u64,
+    /// Its source line, or 0.
+    pub line: u32,
+}
+
+/// The addresses that no row covers so far.
+#[derive(Drop)]
+pub struct OpenAddresses {
+    /// The lowest first, each once.
+    addresses: Vec<u64>,
+}
+
+impl OpenAddresses {
+    /// Addresses in any order.
+    pub fn of(alloc: Global, addresses: &[u64]) -> Result<OpenAddresses, AllocError> {
+        let mut addresses = Vec::from_slice(alloc, addresses)?;
+        addresses.as_mut_slice().sort_unstable();
+        addresses.dedup();
+        Ok(OpenAddresses { addresses })
+    }
+
+    /// Whether each address is covered.
+    pub fn is_empty(&self) -> bool {
+        self.addresses.is_empty()
+    }
+
+    /// Takes those away that the rows of a unit cover: the first row that covers an address counts.
+    pub fn take_covered(
+        &mut self,
+        alloc: Global,
+        unit: &Unit<'_>,
+    ) -> Result<Vec<CoveredAddress>, AllocError> {
+        let mut covered = Vec::new(alloc);
+        let mut registers = LineRegisters::START;
+        let mut last: Option<Row> = None;
+        for operation in unit.operations() {
+            if let Some(row) = registers.run(operation) {
+                if let Some(last) = &last {
+                    self.take_between(last, &row, &mut covered)?;
+                }
+                last = if row.ends_sequence { None } else { Some(row) };
+            }
+        }
+        Ok(covered)
+    }
+
+    /// Takes those away that a row covers. Most rows cover none: they cost one binary search.
+    fn take_between(
+        &mut self,
+        row: &Row,
+        next: &Row,
+        covered: &mut Vec<CoveredAddress>,
+    ) -> Result<(), AllocError> {
+        if !self.has_between(row, next) {
+            return Ok(());
+        }
+        for address in &self.addresses {
+            if row.covers(next, *address) {
+                covered.push(CoveredAddress {
+                    address: *address,
+                    file: row.file,
+                    line: row.line,
+                })?;
+            }
+        }
+        self.addresses
+            .retain(|address| !row.covers(next, *address));
+        Ok(())
+    }
+
+    /// Whether a row covers one of them.
+    fn has_between(&self, row: &Row, next: &Row) -> bool {
+        if !row.is_placed || next.address <= row.address {
+            return false;
+        }
+        let start = row.address;
+        let first = self
+            .addresses
+            .as_slice()
+            .partition_point(|address| *address < start);
+        match self.addresses.get(first) {
+            Some(address) => row.covers(next, *address),
+            None => false,
+        }
+    }
+}
