@@ -6,6 +6,7 @@ mod callers;
 mod frames;
 mod json;
 mod names;
+mod sarif;
 mod walk;
 
 pub use call_stack::CallStack;

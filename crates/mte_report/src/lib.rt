@@ -7,6 +7,7 @@ mod hints;
 mod json;
 mod leaks;
 mod report;
+mod sarif;
 mod stacks;
 
 pub use instruction_trace::{Moment, SVC, Service, TraceLine, Turn};

@@ -122,6 +122,7 @@ fn is_told(parts: &TenantParts, observer: &Observer<'_, Log>, options: &Options)
         || output.leaks
         || output.map.is_some()
         || output.json.is_some()
+        || output.sarif.is_some()
 }
 
 /// Tells what the options request, on standard error.
@@ -145,6 +146,7 @@ fn write_files<'a>(
     memory: &mut Flat,
 ) -> Result<(), Failure<'a>> {
     write_json(rt, report, options, ending, memory)?;
+    write_sarif(rt, report, options, ending, memory)?;
     draw_map(rt, report, options, memory)
 }
 
@@ -233,6 +235,37 @@ fn write_json_file(
 ) -> io::Result<()> {
     let mut out = BufWriter::new(rt.alloc(), File::create(rt, name)?)?;
     report.write_json(rt.alloc(), &mut out, status, memory)
+}
+
+/// Writes what happened into the file that is named, if one is, for editors and forges.
+fn write_sarif<'a>(
+    rt: &HostRuntime,
+    report: &Report<'_>,
+    options: &'a Options,
+    ending: TenantEnding,
+    memory: &mut Flat,
+) -> Result<(), Failure<'a>> {
+    match &options.output.sarif {
+        Some(name) => {
+            let (name, status) = (name.as_str(), ending.status(&report.parts.log));
+            write_sarif_file(rt, report, name, status, memory).map_err(|error| Failure::of_write(
+                &error, name,
+            ))
+        }
+        None => Ok(()),
+    }
+}
+
+/// Writes what happened into the file with a name, for editors and forges.
+fn write_sarif_file(
+    rt: &HostRuntime,
+    report: &Report<'_>,
+    name: &str,
+    status: u8,
+    memory: &mut Flat,
+) -> io::Result<()> {
+    let mut out = BufWriter::new(rt.alloc(), File::create(rt, name)?)?;
+    report.write_sarif(rt.alloc(), &mut out, status, memory)
 }
 
 /// Writes the last line, and returns the exit status.

@@ -223,6 +223,29 @@ impl Cause {
         ]
     }
 
+    /// The name of its kind, for other programs.
+    pub fn rule(&self) -> &'static str {
+        match self {
+            Cause::UseAfterFree(_, _) | Cause::StalePointer(_, _, _) | Cause::FreedPointer(_) => {
+                "use-after-free"
+            }
+            Cause::DoubleFree(_) | Cause::StaleFree(_, _, _) => "double-free",
+            Cause::Overflow(_, _) => "heap-buffer-overflow",
+            Cause::Underflow(_, _) => "heap-buffer-underflow",
+            Cause::TagsChanged(_) | Cause::ForeignPointer(_) => "tag-mismatch",
+            Cause::NullPointer => "null-pointer",
+            Cause::StackOverflow(_) => "stack-overflow",
+            Cause::HeaderOverwritten(_) => "corrupt-header",
+            Cause::InsideChunk(_, _) | Cause::NoChunk => "invalid-pointer",
+            Cause::NoChunkThere => "invalid-access",
+            Cause::StackObject | Cause::PastStack(_) => "stack-buffer-overflow",
+            Cause::AboveStack => "arguments-of-linux",
+            Cause::ReadOnly => "read-only-memory",
+            Cause::WildJump => "wild-jump",
+            Cause::Unknown => "fault",
+        }
+    }
+
     /// What it is called.
     fn name(&self) -> &'static str {
         match self {

@@ -13,10 +13,11 @@ pub(crate) fn has_shared_name(options: &Options) -> bool {
 }
 
 /// The names of the files that are written.
-fn written_names(options: &Options) -> [Option<&str>; 4] {
+fn written_names(options: &Options) -> [Option<&str>; 5] {
     let output = &options.output;
     [
         name_of(&output.json),
+        name_of(&output.sarif),
         name_of(&output.map).filter(|name| *name != "-" && *name != "text"),
         name_of(&output.core),
         name_of(&output.trace_file),

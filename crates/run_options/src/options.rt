@@ -72,6 +72,8 @@ pub struct OutputOptions {
     pub map: Option<String>,
     /// The name of the file that what happened is written into, for a program to read.
     pub json: Option<String>,
+    /// The name of the file that what happened is written into as a log in SARIF.
+    pub sarif: Option<String>,
     /// Whether accesses are to keep to the bytes of chunks.
     pub exact: Exactness,
     /// The name of the file that the tenant's core is written into.
@@ -133,7 +135,8 @@ impl Fault {
             Fault::Trace => "the trace is not FROM-TO, two step numbers, the lower one first",
             Fault::Frames => "--frames is for a session: it wants --script",
             Fault::Names => {
-                "--json, --map, --core and --trace-file want different files, and none that is read"
+                "--json, --sarif, --map, --core and --trace-file want different files, and none that is \
+                 read"
             }
             Fault::Script => {
                 "--script has two values, a file and a tenant's number, and wants --frames"
@@ -290,6 +293,7 @@ impl OutputOptions {
             statistics: matches.get_flag("statistics"),
             map: name_of(alloc, matches, "map")?,
             json: name_of(alloc, matches, "json")?,
+            sarif: name_of(alloc, matches, "sarif")?,
             core: name_of(alloc, matches, "core")?,
             is_whole: matches.get_flag("whole-output"),
             exact: match matches.get_str("exact") {
