@@ -31,9 +31,14 @@ pub struct Evidence<'a> {
 
 impl<'a> Evidence<'a> {
     /// The chunk that an access by a pointer with a tag was meant for, where the address is in no
-    /// chunk with the tag: the nearest chunk with it where the access adjoins it; otherwise the one
-    /// that a register pointed into just before; otherwise the nearest, if it is near.
+    /// chunk with the tag: the one from which the pointer was computed; otherwise the nearest with
+    /// the tag where the access adjoins it; otherwise one that a register pointed into just before;
+    /// otherwise the nearest, if it is near.
     pub(crate) fn meant(&self, addr: u64, tag: u8) -> Option<BookChunk> {
+        let origin = self.origin(addr, tag);
+        if origin.is_some() {
+            return origin;
+        }
         let nearest = self.book.nearest(addr, tag);
         if let Some(chunk) = nearest {
             if chunk.distance(addr) <= ADJACENT {
@@ -44,6 +49,39 @@ impl<'a> Evidence<'a> {
             return Some(chunk);
         }
         nearest.filter(|chunk| chunk.distance(addr) <= NEAR)
+    }
+
+    /// The chunk with a tag from which the pointer of an access was computed: the register with the
+    /// tag that is nearest to the address points into it, or did so before it was written last, or
+    /// another register did then.
+    fn origin(&self, addr: u64, tag: u8) -> Option<BookChunk> {
+        let last = self.last?;
+        let (register, value) = nearest_register(&last.back()?.regs, addr, tag)?;
+        let held = self.chunk_at(value, tag);
+        if held.is_some() {
+            return held;
+        }
+        for back in 1..=last.len() {
+            let regs = &last.get(last.len() - back)?.regs;
+            let before = *regs.x.get(register)?;
+            if before != value {
+                let held = self.chunk_at(before, tag);
+                return if held.is_some() {
+                    held
+                } else {
+                    self.pointed_by(regs, tag)
+                };
+            }
+        }
+        None
+    }
+
+    /// The chunk with a tag that a pointer with the tag points into.
+    fn chunk_at(&self, pointer: u64, tag: u8) -> Option<BookChunk> {
+        if tag == 0 || tag_of(pointer) != tag {
+            return None;
+        }
+        self.book.newest(&Wanted::Tagged(plain(pointer), tag))
     }
 
     /// The chunk with a tag that a register pointed into before the newest of the last instructions
@@ -62,15 +100,10 @@ impl<'a> Evidence<'a> {
 
     /// The chunk with a tag that one of the registers points into.
     fn pointed_by(&self, regs: &Regs, tag: u8) -> Option<BookChunk> {
-        if tag == 0 {
-            return None;
-        }
         for value in regs.x.iter() {
-            if tag_of(*value) == tag {
-                let found = self.book.newest(&Wanted::Tagged(plain(*value), tag));
-                if found.is_some() {
-                    return found;
-                }
+            let found = self.chunk_at(*value, tag);
+            if found.is_some() {
+                return found;
             }
         }
         None
@@ -92,4 +125,19 @@ impl<'a> Evidence<'a> {
         }
         stack.start().checked_sub(addr)
     }
+}
+
+/// Of the registers whose value has a tag the one that is nearest to an address, and its value.
+fn nearest_register(regs: &Regs, addr: u64, tag: u8) -> Option<(usize, u64)> {
+    let mut found: Option<(usize, u64)> = None;
+    for (register, value) in regs.x.iter().enumerate() {
+        let is_nearer = match &found {
+            Some((_, best)) => plain(*value).abs_diff(addr) < plain(*best).abs_diff(addr),
+            None => true,
+        };
+        if tag_of(*value) == tag && is_nearer {
+            found = Some((register, *value));
+        }
+    }
+    found
 }
