@@ -25,6 +25,9 @@ impl Front<'_> {
             Command::SelectThread { .. }
             | Command::IsThreadAlive { .. }
             | Command::StartNoAckMode => reply.put_ok(),
+            Command::Detach { .. } | Command::KillProcess { .. } if self.is_extended => {
+                reply.put_ok();
+            }
             Command::Detach { .. } | Command::Kill | Command::KillProcess { .. } => reply.end(),
             Command::ResumeActions => reply.answer.put(b"vCont;c;C;s;S;r"),
             Command::IsAttached { .. } => reply.answer.put(b"0"),
