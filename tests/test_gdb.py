@@ -12,7 +12,7 @@ import pytest
 
 from tests.support import gdb_images
 from tests.support import tenants_for_gdb as tenants
-from tests.support.debugger import asked, debugged, gdb, numbers_in, target, value_in
+from tests.support.debugger import Dialog, asked, debugged, gdb, numbers_in, target, value_in
 from tests.support.embedding.heaps import Generator, chunk
 from tests.support.expected import compare
 from tests.support.instructions import CODE, SP, add, breakpoint_instruction, call, copy, move
@@ -30,6 +30,7 @@ MEGABYTE = 1 << 20
 # What a front and a tenant of 256 pages take, twice over; a front that is flooded gets no more.
 MEMORY = 64 * MEGABYTE
 PACKET = 0x4000
+HEADER_SIZE = 64  # of ELF64: the first program header is behind it
 
 
 def stored_dialog(alone: pathlib.Path, folder: pathlib.Path, name: str) -> str:
@@ -203,6 +204,110 @@ def test_ends(alone: pathlib.Path, tmp_path: pathlib.Path, name: str) -> None:
     assert value_in(dialog[1]) == end.code
     assert value_in(dialog[2]) == end.address
     assert [value_in(dialog[it]) for it in (3, 5)] == [end.steps, end.steps - 1]
+
+
+@pytest.mark.parametrize("name", ENDS)
+def test_an_end_stays(alone: pathlib.Path, tmp_path: pathlib.Path, name: str) -> None:
+    """However often one goes on: the same signal at the same step, and one can go back from it."""
+    end = ENDS[name]
+    moves = ["continue", "continue", "stepi", "nexti", "until", "continue"]
+    dialog = debugged(alone, end.image, [
+        *moves, "print $step", "print $_siginfo.si_code", "reverse-stepi", "print $step", "continue",
+        "print $step",
+    ], tmp_path, end.options)
+    told = f"Program received signal {end.signal}, {end.text}"
+    assert all(told in dialog[it] for it in (*range(len(moves)), 10)), dialog.answers
+    if end.signal != "SIGXCPU":
+        assert all("the tenant has ended here, after" in dialog[it] for it in range(1, len(moves)))
+    assert [value_in(dialog[it]) for it in (6, 7, 9, 11)] == [
+        end.steps, end.code, end.steps - 1, end.steps
+    ]
+
+
+def extended(alone: pathlib.Path, image: bytes, commands: Sequence[str],
+             folder: pathlib.Path) -> Dialog:
+    """A dialog over a tenant that GDB may run anew, with the settings of examples/gdb."""
+    (folder / "tenant.elf").write_bytes(image)
+    words = ["-x", str(GDB_EXAMPLES / "tenant.gdb"),
+             "-ex", target(alone, ["tenant.elf"], "extended-remote")]
+    return asked(words, commands, folder)
+
+
+def test_running_again(alone: pathlib.Path, tmp_path: pathlib.Path) -> None:
+    """`run` and `starti` begin anew, in the middle, behind an exit, behind a kill; points stay."""
+    dialog = extended(alone, tenants.LOOP, [
+        f"break *{CODE + 4:#x}", "continue", "continue", "print $x0", "run", "print $x0",
+        "print $step", "starti", "print $step", "delete", "continue", "continue", "starti",
+        "print $step", "stepi", "kill", "run", "continue", "detach", "starti", "print $pc",
+    ], tmp_path)
+    assert [value_in(dialog[it]) for it in (3, 5, 6, 8, 13, 20)] == [2, 3, 1, 0, 0, CODE]
+    assert "Breakpoint 1, " in dialog[4]
+    assert all("exited with code 011]" in dialog[it] for it in (11, 17)), dialog.answers
+
+
+def test_running_again_from_a_fault(alone: pathlib.Path, tmp_path: pathlib.Path) -> None:
+    """The same fault comes again, and a watchpoint stops on the way as the first time."""
+    dialog = extended(alone, ENDS["tag check"].image, ["continue", "run", "print $step"], tmp_path)
+    assert all("Program received signal SIGSEGV" in dialog[it] for it in (0, 1))
+    assert value_in(dialog[2]) == ENDS["tag check"].steps
+    dialog = extended(alone, tenants.ACCESSES, [
+        f"watch -l *(unsigned long *){WATCHED:#x}", "continue", "print $pc", "continue", "run",
+        "print $pc",
+    ], tmp_path)
+    assert value_in(dialog[2]) == value_in(dialog[5]) == CODE + 4 * (tenants.WRITES[0] + 1)
+
+
+def test_going_to_a_step(alone: pathlib.Path, tmp_path: pathlib.Path) -> None:
+    """`goto` moves forwards, backwards, to the end; `checkpoint` tells how to come back."""
+    dialog = extended(alone, tenants.LOOP, [
+        "goto 4", "print $x0", "print $step", "goto 0x1", "print $x0", "print $pc", "checkpoint",
+        "goto 1000", "print $step", "goto 0", "print $step", "stepi", "print $step", "monitor goto",
+        "goto 1000", "continue",
+    ], tmp_path)
+    assert [value_in(dialog[it]) for it in (1, 2, 4, 5)] == [2, 4, 3, CODE + 4]
+    assert "at step 4\n" in dialog[0]
+    assert "goto 1 comes back here" in dialog[6]
+    assert "the tenant exits with 9 after 13 steps" in dialog[7]
+    assert [value_in(dialog[it]) for it in (8, 10, 12)] == [12, 0, 1]
+    assert dialog[13].startswith("why | calls | ")
+    assert "exited with code 011]" in dialog[15]
+    end = ENDS["tag check"]
+    dialog = extended(alone, end.image, ["goto 99", "print $step", "continue", "goto 3",
+                                         "print $step", "continue"], tmp_path)
+    assert "Cause: [MTE]: Use After Free" in dialog[0]
+    assert [value_in(dialog[it]) for it in (1, 4)] == [end.steps, 3]
+    assert all("Program received signal SIGSEGV" in dialog[it] for it in (2, 5))
+
+
+def test_what_cannot_be_says_so(alone: pathlib.Path, tmp_path: pathlib.Path) -> None:
+    """What a tenant has not is answered by a sentence, and the dialog goes on."""
+    dialog = extended(alone, tenants.CHUNKS, [
+        "stepi", "record", "record full", "stepi", "generate-core-file", "set var $x0 = 7",
+        f"set var *(char *){STACK_END - 8:#x} = 1", f"jump *{CODE:#x}", "goto 14", "chunk $x20",
+        "calls", "why", "print $x0",
+    ], tmp_path)
+    assert all("Nothing needs to be recorded" in dialog[it] for it in (1, 2))
+    assert "mte_run --core" in dialog[4]
+    assert all("is not allowed" in dialog[it] for it in (5, 6, 7))
+    assert dialog[9].startswith("live 40-byte chunk at 0x")
+    assert dialog[10].startswith("call 1, malloc(24) = 0x")
+    assert dialog[11].startswith("it is running, after 14 steps")
+
+
+def test_code_that_cannot_be_read(alone: pathlib.Path, tmp_path: pathlib.Path) -> None:
+    """GDB shows the words of a page with EXEC alone, and so does a core."""
+    words = [*move(0, 7), breakpoint_instruction(1)]
+    image = bytearray(program(words))
+    assert image[HEADER_SIZE + 4] == 5
+    image[HEADER_SIZE + 4] = 1  # p_flags: PF_X without PF_R
+    queries = [f"x/{len(words)}wx {CODE:#x}", f"x/bx {CODE + 1:#x}", "x/i $pc"]
+    live = debugged(alone, bytes(image), ["continue", *queries], tmp_path)
+    run([alone, "--core", "tenant.core", "tenant.elf"], cwd=tmp_path)
+    core = asked(["tenant.elf", "tenant.core"], queries, tmp_path)
+    assert all(f"{word:#010x}" in live[1] for word in words)
+    assert f"{words[0] >> 8 & 255:#04x}" in live[2]
+    assert "brk" in live[3]
+    assert core.answers == live.answers[1:]
 
 
 def test_tags_of_a_fault(alone: pathlib.Path, tmp_path: pathlib.Path) -> None:
