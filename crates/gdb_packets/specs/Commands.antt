@@ -282,7 +282,7 @@ pub record AsksNamed (name rest : List ℕ) (c : Command) : Type 0 where
       → c ≡ command_or_malformed (option_map command.KillProcess
       (option_and_then number_of (after 59 rest)))
   pub run : name ≡ codes "Run"
-      → c ≡ command_or_malformed (option_map (λ words. command.Run) (after 59 rest))
+      → c ≡ command_or_malformed (option_map (λ _. command.Run) (after 59 rest))
 
 -- A name, and what stands behind it.
 abbrev pub name_in : List ℕ → List ℕ

@@ -179,7 +179,7 @@ fn parse_kill(rest: &[u8]) -> Option<Command<'_>>
 
 /// `;FILE[;ARGUMENT]..`
 fn parse_run(rest: &[u8]) -> Option<Command<'_>>
-    ensures { result ≡ option_map (λ words. Command.Run) (after 59 rest.now) }
+    ensures { result ≡ option_map (λ _. Command.Run) (after 59 rest.now) }
 {
     let _words = strip(rest, b';')?;
     Some(Command::Run)
