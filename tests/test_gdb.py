@@ -297,6 +297,43 @@ def test_what_cannot_be_says_so(alone: pathlib.Path, tmp_path: pathlib.Path) -> 
     assert dialog[11].startswith("it is running, after 14 steps")
 
 
+# What people type over examples/gdb/lru.c, and what GDB prints of each: one session.
+WALK = (
+    ("break put", r"Breakpoint 1 at 0x\w+: file \./lru\.c"), ("continue", "Breakpoint 1, put"),
+    ("finish", "main \\(\\)"), ("delete", ""), ("tbreak evict", "Temporary breakpoint 2"),
+    ("continue", "Temporary breakpoint 2, evict"), ("up", "#1 .* put"), ("down", "#0 .*evict"),
+    ("frame 2", "#2 .* main"), ("frame 0", "#0 .*evict"), ("backtrace full", r"i = 4"),
+    ("info locals", "n = 0x"), ("info args", "c = 0x"), ("info frame", "saved pc"),
+    ("info line", r"\./lru\.c"), ("info source", "lru.c"), ("info threads", r"Thread 1\.1"),
+    ("info breakpoints", "No breakpoints"), ("info proc mappings", r"\[heap\]"),
+    ("advance 58", "58\t"), ("until", "59\t"), ("ptype struct cache", "buckets\\[8\\]"),
+    ("print *c", "first = 0x"), ("print c->first->value", '"four"'), ("x/4gx c", "0x05"),
+    ("x/s c->first->value", "four"), ("x/2i $pc", "=> "), ("display c->count", ""),
+    ("next", "= 4"), ("undisplay 1", ""), ("watch c->count", "watchpoint 3"),
+    ("continue", "left the block"), ("watch -l c->count", "watchpoint 4"),
+    ("continue", "New value = 5"), ("delete", ""), ("break get if key == 9", "Breakpoint 5"),
+    ("continue", "Breakpoint 5, get.*key=9"), ("delete", ""), ("continue", "SIGSEGV"),
+    ("next", "SIGSEGV"), ("step", "SIGSEGV"), ("continue", "SIGSEGV"), ("finish", "SIGSEGV"),
+    ("print *n", "key = 18"), ("memory-tag check n", "does not match"), ("chunk n", "freed 40-byte"),
+    ("print $_siginfo.si_signo", "= 11"), ("reverse-step", r"65\t"),
+    ("reverse-next", r"\d+\t"), ("reverse-stepi", r"\d+\t"), ("reverse-continue", "No more reverse"),
+    ("print $step", "= 0"), ("print main()", "not allowed"), ("set var $pc = 0", "not allowed"),
+    ("return", "not allowed|frame"), ("print \"text\"", '= "text"'), ("checkpoint", "goto 0"),
+    ("goto 2748", "tenant_call"), ("record", "Nothing needs"), ("start", "main \\(\\)"),
+    ("starti", "_start"), ("run", "SIGSEGV"), ("kill", "killed"), ("starti", "_start"),
+)
+
+
+def test_what_people_type(alone: pathlib.Path, tmp_path: pathlib.Path) -> None:
+    """Each command of a whole session works, or says in a sentence why it cannot."""
+    folder = gdb_images.with_images(tmp_path)
+    words = ["-iex", f"directory {folder}", "lru.elf", "-x", str(GDB_EXAMPLES / "tenant.gdb"),
+             "-ex", target(alone, ["lru.elf"], "extended-remote")]
+    dialog = asked(words, [command for command, _ in WALK], folder)
+    for (command, wanted), answer in zip(WALK, dialog.answers):
+        assert re.search(wanted, answer, re.S), f"{command}: {answer}"
+
+
 def test_code_that_cannot_be_read(alone: pathlib.Path, tmp_path: pathlib.Path) -> None:
     """GDB shows the words of a page with EXEC alone, and so does a core."""
     words = [*move(0, 7), breakpoint_instruction(1)]
