@@ -222,11 +222,6 @@ impl<'a> Debuggee<'a> {
         self.memory.hit()
     }
 
-    /// Reads bytes of pages with READ, whatever their tags; whether it could.
-    pub fn read(&mut self, addr: u64, buffer: &mut [u8]) -> bool {
-        self.memory.peek(addr, buffer)
-    }
-
     /// The byte at an address of a page with READ or EXEC, whatever its tag.
     pub fn byte_at(&mut self, addr: u64) -> Option<u8> {
         self.memory.byte_at(addr)

@@ -65,11 +65,6 @@ impl<'a> Traveller<'a> {
         }
     }
 
-    /// Reads bytes of pages with READ, whatever their tags; whether it could.
-    pub fn read(&mut self, addr: u64, buffer: &mut [u8]) -> bool {
-        self.now.read(addr, buffer)
-    }
-
     /// The byte at an address of a page with READ or EXEC, whatever its tag.
     pub fn byte_at(&mut self, addr: u64) -> Option<u8> {
         self.now.byte_at(addr)
