@@ -12,7 +12,7 @@ import pytest
 
 from tests.support import gdb_images
 from tests.support import tenants_for_gdb as tenants
-from tests.support.debugger import asked, debugged, gdb, numbers_in, target, value_in
+from tests.support.debugger import Dialog, asked, debugged, gdb, numbers_in, target, value_in
 from tests.support.embedding.heaps import Generator, chunk
 from tests.support.expected import compare
 from tests.support.instructions import CODE, SP, add, breakpoint_instruction, call, copy, move
@@ -30,6 +30,7 @@ MEGABYTE = 1 << 20
 # What a front and a tenant of 256 pages take, twice over; a front that is flooded gets no more.
 MEMORY = 64 * MEGABYTE
 PACKET = 0x4000
+HEADER_SIZE = 64  # of ELF64: the first program header is behind it
 
 
 def stored_dialog(alone: pathlib.Path, folder: pathlib.Path, name: str) -> str:
@@ -203,6 +204,151 @@ def test_ends(alone: pathlib.Path, tmp_path: pathlib.Path, name: str) -> None:
     assert value_in(dialog[1]) == end.code
     assert value_in(dialog[2]) == end.address
     assert [value_in(dialog[it]) for it in (3, 5)] == [end.steps, end.steps - 1]
+
+
+@pytest.mark.parametrize("name", ENDS)
+def test_an_end_stays(alone: pathlib.Path, tmp_path: pathlib.Path, name: str) -> None:
+    """However often one goes on: the same signal at the same step; one can go back from there."""
+    end = ENDS[name]
+    # By SIGTRAP a step ends too, so GDB names no signal.
+    steps = ["continue"] if end.signal == "SIGTRAP" else ["stepi", "nexti"]
+    moves = ["continue", "continue", *steps, "continue"]
+    dialog = debugged(alone, end.image, [
+        *moves, "print $step", "print $_siginfo.si_code", "reverse-stepi", "print $step",
+        "continue", "print $step",
+    ], tmp_path, end.options)
+    *again, step, code, _, before, last, step_again = dialog.answers
+    told = f"Program received signal {end.signal}, {end.text}"
+    assert all(told in it for it in (*again, last)), dialog.answers
+    stays = "the tenant has ended here, after" if end.signal != "SIGXCPU" else "the limit of"
+    assert all(stays in it for it in again[1:]), dialog.answers
+    assert [value_in(it) for it in (step, code, before, step_again)] == [
+        end.steps, end.code, end.steps - 1, end.steps
+    ]
+
+
+def extended(alone: pathlib.Path, image: bytes, commands: Sequence[str],
+             folder: pathlib.Path) -> Dialog:
+    """A dialog over a tenant that GDB may run anew, with the settings of examples/gdb."""
+    (folder / "tenant.elf").write_bytes(image)
+    words = ["-x", str(GDB_EXAMPLES / "tenant.gdb"),
+             "-ex", target(alone, ["tenant.elf"], "extended-remote")]
+    return asked(words, commands, folder)
+
+
+def test_running_again(alone: pathlib.Path, tmp_path: pathlib.Path) -> None:
+    """`run` and `starti` begin anew, in the middle, behind an exit, behind a kill; points stay."""
+    dialog = extended(alone, tenants.LOOP, [
+        f"break *{CODE + 4:#x}", "continue", "continue", "print $x0", "run", "print $x0",
+        "print $step", "starti", "print $step", "delete", "continue", "continue", "starti",
+        "print $step", "stepi", "kill", "run", "continue", "detach", "starti", "print $pc",
+    ], tmp_path)
+    assert [value_in(dialog[it]) for it in (3, 5, 6, 8, 13, 20)] == [2, 3, 1, 0, 0, CODE]
+    assert "Breakpoint 1, " in dialog[4]
+    assert all("exited with code 011]" in dialog[it] for it in (11, 17)), dialog.answers
+
+
+def test_running_again_from_a_fault(alone: pathlib.Path, tmp_path: pathlib.Path) -> None:
+    """The same fault comes again, and a watchpoint stops on the way as the first time."""
+    dialog = extended(alone, ENDS["tag check"].image, ["continue", "run", "print $step"], tmp_path)
+    assert all("Program received signal SIGSEGV" in dialog[it] for it in (0, 1))
+    assert value_in(dialog[2]) == ENDS["tag check"].steps
+    dialog = extended(alone, tenants.ACCESSES, [
+        f"watch -l *(unsigned long *){WATCHED:#x}", "continue", "print $pc", "continue", "run",
+        "print $pc",
+    ], tmp_path)
+    assert value_in(dialog[2]) == value_in(dialog[5]) == CODE + 4 * (tenants.WRITES[0] + 1)
+
+
+def test_going_to_a_step(alone: pathlib.Path, tmp_path: pathlib.Path) -> None:
+    """`goto` moves forwards, backwards, to the end; `checkpoint` tells how to come back."""
+    dialog = extended(alone, tenants.LOOP, [
+        "goto 4", "print $x0", "print $step", "goto 0x1", "print $x0", "print $pc", "checkpoint",
+        "goto 1000", "print $step", "goto 0", "print $step", "stepi", "print $step", "monitor goto",
+        "goto 1000", "continue",
+    ], tmp_path)
+    assert [value_in(dialog[it]) for it in (1, 2, 4, 5)] == [2, 4, 3, CODE + 4]
+    assert "at step 4\n" in dialog[0]
+    assert "goto 1 comes back here" in dialog[6]
+    assert "the tenant exits with 9 after 13 steps" in dialog[7]
+    assert [value_in(dialog[it]) for it in (8, 10, 12)] == [12, 0, 1]
+    assert dialog[13].startswith("why | calls | ")
+    assert "exited with code 011]" in dialog[15]
+    end = ENDS["tag check"]
+    dialog = extended(alone, end.image, ["goto 99", "print $step", "continue", "goto 3",
+                                         "print $step", "continue"], tmp_path)
+    assert "Cause: [MTE]: Use After Free" in dialog[0]
+    assert [value_in(dialog[it]) for it in (1, 4)] == [end.steps, 3]
+    assert all("Program received signal SIGSEGV" in dialog[it] for it in (2, 5))
+
+
+def test_what_cannot_be_says_so(alone: pathlib.Path, tmp_path: pathlib.Path) -> None:
+    """What a tenant has not is answered by a sentence, and the dialog goes on."""
+    dialog = extended(alone, tenants.CHUNKS, [
+        "stepi", "record", "record full", "stepi", "generate-core-file", "set var $x0 = 7",
+        f"set var *(char *){STACK_END - 8:#x} = 1", f"jump *{CODE:#x}", "goto 14", "chunk $x20",
+        "calls", "why", "print $x0",
+    ], tmp_path)
+    assert all("Nothing needs to be recorded" in dialog[it] for it in (1, 2))
+    assert "mte_run --core" in dialog[4]
+    assert all("is not allowed" in dialog[it] for it in (5, 6, 7))
+    assert dialog[9].startswith("live 40-byte chunk at 0x")
+    assert dialog[10].startswith("call 1, malloc(24) = 0x")
+    assert dialog[11].startswith("it is running, after 14 steps")
+
+
+# What people type over examples/gdb/lru.c, and what GDB prints of each: one session.
+WALK = (
+    ("break put", r"Breakpoint 1 at 0x\w+: file \./lru\.c"), ("continue", "Breakpoint 1, put"),
+    ("finish", "main \\(\\)"), ("delete", ""), ("tbreak evict", "Temporary breakpoint 2"),
+    ("continue", "Temporary breakpoint 2, evict"), ("up", "#1 .* put"), ("down", "#0 .*evict"),
+    ("frame 2", "#2 .* main"), ("frame 0", "#0 .*evict"), ("backtrace full", r"i = 4"),
+    ("info locals", "n = 0x"), ("info args", "c = 0x"), ("info frame", "saved pc"),
+    ("info line", r"\./lru\.c"), ("info source", "lru.c"), ("info threads", r"Thread 1\.1"),
+    ("info breakpoints", "No breakpoints"), ("info proc mappings", r"\[heap\]"),
+    ("advance 58", "58\t"), ("until", "59\t"), ("ptype struct cache", "buckets\\[8\\]"),
+    ("print *c", "first = 0x"), ("print c->first->value", '"four"'), ("x/4gx c", "0x05"),
+    ("x/s c->first->value", "four"), ("x/2i $pc", "=> "), ("display c->count", ""),
+    ("next", "= 4"), ("undisplay 1", ""), ("watch c->count", "watchpoint 3"),
+    ("continue", "left the block"), ("watch -l c->count", "watchpoint 4"),
+    ("continue", "New value = 5"), ("delete", ""), ("break get if key == 9", "Breakpoint 5"),
+    ("continue", "Breakpoint 5, get.*key=9"), ("delete", ""), ("continue", "SIGSEGV"),
+    ("next", "SIGSEGV"), ("step", "SIGSEGV"), ("continue", "SIGSEGV"), ("finish", "SIGSEGV"),
+    ("print *n", "key = 18"), ("memory-tag check n", "does not match"),
+    ("chunk n", "freed 40-byte"), ("print $_siginfo.si_signo", "= 11"), ("reverse-step", r"65\t"),
+    ("reverse-next", r"\d+\t"), ("reverse-stepi", r"\d+\t"),
+    ("reverse-continue", "No more reverse"), ("print $step", "= 0"),
+    ("print main()", "not allowed"), ("set var $pc = 0", "not allowed"),
+    ("return", "not allowed|frame"), ("print \"text\"", '= "text"'), ("checkpoint", "goto 0"),
+    ("goto 2748", "tenant_call"), ("record", "Nothing needs"), ("start", "main \\(\\)"),
+    ("starti", "_start"), ("run", "SIGSEGV"), ("kill", "killed"), ("starti", "_start"),
+)
+
+
+def test_what_people_type(alone: pathlib.Path, tmp_path: pathlib.Path) -> None:
+    """Each command of a whole session works, or says in a sentence why it cannot."""
+    folder = gdb_images.with_images(tmp_path)
+    words = ["-iex", f"directory {folder}", "lru.elf", "-x", str(GDB_EXAMPLES / "tenant.gdb"),
+             "-ex", target(alone, ["lru.elf"], "extended-remote")]
+    dialog = asked(words, [command for command, _ in WALK], folder)
+    for (command, wanted), answer in zip(WALK, dialog.answers):
+        assert re.search(wanted, answer, re.S), f"{command}: {answer}"
+
+
+def test_code_that_cannot_be_read(alone: pathlib.Path, tmp_path: pathlib.Path) -> None:
+    """GDB shows the words of a page with EXEC alone, and so does a core."""
+    words = [*move(0, 7), breakpoint_instruction(1)]
+    image = bytearray(program(words))
+    assert image[HEADER_SIZE + 4] == 5
+    image[HEADER_SIZE + 4] = 1  # p_flags: PF_X without PF_R
+    queries = [f"x/{len(words)}wx {CODE:#x}", f"x/bx {CODE + 1:#x}", "x/i $pc"]
+    live = debugged(alone, bytes(image), ["continue", *queries], tmp_path)
+    run([alone, "--core", "tenant.core", "tenant.elf"], cwd=tmp_path)
+    core = asked(["tenant.elf", "tenant.core"], queries, tmp_path)
+    assert all(f"{word:#010x}" in live[1] for word in words)
+    assert f"{words[0] >> 8 & 255:#04x}" in live[2]
+    assert "brk" in live[3]
+    assert core.answers == live.answers[1:]
 
 
 def test_tags_of_a_fault(alone: pathlib.Path, tmp_path: pathlib.Path) -> None:
@@ -426,6 +572,21 @@ def test_one_packet_that_never_ends(alone: pathlib.Path) -> None:
     ran = flooded(alone, b"$" + b"m" * (16 * MEGABYTE) + b"$" + frame(b"qC"))
     assert (ran.status, ran.errors) == (0, "")
     assert ran.out.endswith(frame(b"QCp1.1"))
+
+
+def test_no_answer_is_sent_again(alone: pathlib.Path) -> None:
+    """GDB sends `-` while it waits. It is an order only where packets are acknowledged."""
+    words = [str(alone), "--gdb", str(EXAMPLES / "hi.elf")]
+    front = Front(words)
+    for _ in range(3):
+        front.send(b"-")
+        assert (front.ask(b"qC"), front.ask(b"qfThreadInfo")) == (b"QCp1.1", b"mp1.1")
+    assert front.end() == (0, b"")
+    front = Front(words, acknowledges=True)
+    assert front.ask(b"qC") == b"QCp1.1"
+    front.send(b"-")
+    assert front.packet() == b"QCp1.1"
+    assert front.end() == (0, b"")
 
 
 def images_of(folder: pathlib.Path, names: Sequence[str]) -> list[str]:

@@ -29,6 +29,9 @@ SIGNALS = {129: (b"T0b", b"T0a"), 130: (b"T0b",), 131: (b"T06",), 132: (b"T04",)
            134: (b"T18",), 135: (b"T18",)}
 STOPS = (b"T05replaylog:end", b"T05swbreak", b"T05watch", b"T05rwatch", b"T05awatch")
 SVC, BREAK, NOTHING = 0xD4000001, 0xD4200000, 0xD503201F
+# What the front itself says of an end, how it begins and ends.
+SENTENCES = ((b"the tenant exits with ", b"let it)\n"),
+             (b"the tenant has ended here, ", b"(monitor why)\n"))
 CUT = b"mte_run: output was cut: there was no more room (--out)\n"
 
 
@@ -125,8 +128,8 @@ def move_once(front: Front, draw: random.Random) -> None:
     """A step, a run or a return; behind an exit it goes back."""
     stop = front.ask(draw.choice([b"vCont;s:p1.1", b"vCont;c:p1.-1", b"bs", b"bc", b"bs",
                                   b"vCont;r10000,10040:p1.1"]))
-    if stop[:1] not in b"T":
-        assert stop[:1] in b"WX", stop
+    if stop[:1] != b"T":
+        assert stop[:1] == b"W", stop
         front.ask(b"bs")
 
 
@@ -151,9 +154,6 @@ def ends(front: Front) -> tuple[bytes, bytes]:
     stop = front.ask(b"vCont;c:p1.-1")
     while stop.startswith(STOPS):
         stop = front.ask(b"vCont;c:p1.-1")
-    if stop[:1] == b"X":
-        front.ask(b"bc")
-        return ends(front)
     return stop, front.ask(b"p23")
 
 
@@ -162,11 +162,10 @@ def without_story(console: bytes, why: bytes) -> bytes:
     mark = b"\ninstruction at "
     told = why[: why.index(mark) + 1] if mark in why else why
     console = console.replace(told, b"") if told else console
-    out = b""
-    while b"the tenant exits with " in console:
-        before, _, rest = console.partition(b"the tenant exits with ")
-        out, console = out + before, rest.partition(b"let it)\n")[2]
-    return out + console
+    for first, last in SENTENCES:
+        parts = console.split(first)
+        console = parts[0] + b"".join(it.partition(last)[2] for it in parts[1:])
+    return console
 
 
 def difference(stop: bytes, plain: "subprocess.CompletedProcess[bytes]", why: bytes) -> str:

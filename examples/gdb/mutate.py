@@ -32,7 +32,8 @@ SENT = [
     b"vFile:readlink:" + SMAPS, b"qC", b"qfThreadInfo", b"qsThreadInfo", b"qAttached:1",
     b"qOffsets", b"qSymbol::", b"qTStatus", b"QStartNoAckMode", b"qRcmd,776879",
     b"qRcmd,63616c6c73", b"qRcmd,73746570", b"qRcmd," + b"chunk 0x12000010".hex().encode(),
-    b"qRcmd,68656c70", b"!", b"",
+    b"qRcmd,68656c70", b"qRcmd," + b"goto 5".hex().encode(), b"!", b"vRun;", b"vRun;612e656c66;31",
+    b"",
 ]
 # Those that a front must refuse or leave unanswered, in whatever state it is.
 MALFORMED = [

@@ -37,10 +37,10 @@ def gdb(words: Sequence[str], cwd: pathlib.Path, seconds: float = 120) -> str:
     return ran.output
 
 
-def target(program: pathlib.Path, options: Sequence[str]) -> str:
-    """The command that connects GDB to a front."""
+def target(program: pathlib.Path, options: Sequence[str], kind: str = "remote") -> str:
+    """The command that connects GDB to a front; of the kind `extended-remote` it runs it too."""
     words = " ".join(shlex.quote(it) for it in (str(program), "--gdb", *options))
-    return f"target remote | {words}"
+    return f"target {kind} | {words}"
 
 
 def asked(words: Sequence[str], commands: Sequence[str], cwd: pathlib.Path) -> Dialog:

@@ -82,6 +82,11 @@ ENDS = {
     "tag check": End(program(freed(), load(2, 9)), "SIGSEGV", SEGMENT, 9, CHUNK, 6),
     "asynchronous": End(program(freed(), load(2, 9), call(9)), "SIGSEGV", SEGMENT, 8, 0, 8,
                         ("--async",)),
+    # The load is the last step of its slice, in front of a service or of a jump to itself.
+    "asynchronous, before a service": End(program(freed(), load(2, 9), 0xD4000001), "SIGSEGV",
+                                          SEGMENT, 8, 0, 7, ("--async", "--steps", "7")),
+    "asynchronous, in a loop": End(program(freed(), load(2, 9), 0x14000000), "SIGSEGV", SEGMENT, 8,
+                                   0, 20, ("--async", "--steps", "20")),
     "stack pointer": End(program(add(SP, SP, -8), load(0, SP)), "SIGBUS", BUS, 1, STACK_END - 8, 1),
     "granule": End(program(add(1, SP, -24), store_tag(1)), "SIGBUS", BUS, 1, STACK_END - 24, 1),
     "program counter": End(program(move(1, CODE + 2), 0xD61F0020), "SIGBUS", BUS, 1, CODE + 2, 3),

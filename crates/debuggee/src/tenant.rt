@@ -222,9 +222,14 @@ impl<'a> Debuggee<'a> {
         self.memory.hit()
     }
 
-    /// Reads bytes of pages with READ, whatever their tags; whether it could.
-    pub fn read(&mut self, addr: u64, buffer: &mut [u8]) -> bool {
-        self.memory.peek(addr, buffer)
+    /// The byte at an address of a page with READ or EXEC, whatever its tag.
+    pub fn byte_at(&mut self, addr: u64) -> Option<u8> {
+        self.memory.byte_at(addr)
+    }
+
+    /// The instruction word at a multiple of 4, of a page with EXEC.
+    pub fn word_at(&mut self, addr: u64) -> Option<u32> {
+        self.memory.word_at(addr)
     }
 
     /// The tag of the granule of an address, if it can be read.

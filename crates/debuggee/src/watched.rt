@@ -141,6 +141,25 @@ impl Watched {
         self.flat.read(addr, buffer, false).is_ok()
     }
 
+    /// The byte at an address of a page with READ or EXEC, whatever its tag. Nothing is noted.
+    pub fn byte_at(&mut self, addr: u64) -> Option<u8>
+        ensures { self.new.flat ≡ self.old.flat }
+    {
+        let mut byte = [0];
+        if self.peek(addr, &mut byte) {
+            return Some(byte[0]);
+        }
+        let word = self.word_at((addr / 4).saturating_mul(4))?;
+        word.to_le_bytes().get((addr % 4) as usize).copied()
+    }
+
+    /// The instruction word at a multiple of 4, of a page with EXEC. Nothing is noted.
+    pub fn word_at(&mut self, addr: u64) -> Option<u32>
+        ensures { self.new.flat ≡ self.old.flat }
+    {
+        self.flat.fetch(addr).ok()
+    }
+
     /// The tag of the granule of an address, if it can be read.
     pub fn tag_at(&mut self, addr: u64) -> Option<u8>
         ensures { self.new.flat ≡ self.old.flat }

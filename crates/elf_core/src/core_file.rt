@@ -219,18 +219,37 @@ fn write_region<M: Tagged, W: Write>(
     Ok(())
 }
 
-/// The bytes of a region's pages; zeros for one that cannot be read.
+/// The bytes of a region's pages.
 fn write_pages<M: Tagged, W: Write>(
     out: &mut W,
     memory: &mut M,
     region: &Region,
 ) -> io::Result<()> {
     for number in region.start / PAGE_SIZE..region.end / PAGE_SIZE {
-        let mut page = [0; PAGE_SIZE as usize];
-        let _ = memory.read(number.saturating_mul(PAGE_SIZE), &mut page, false);
-        out.write_all(&page)?;
+        write_page(out, memory, number.saturating_mul(PAGE_SIZE))?;
     }
     Ok(())
+}
+
+/// The bytes of a page with READ or EXEC; zeros for another one.
+fn write_page<M: Tagged, W: Write>(out: &mut W, memory: &mut M, start: u64) -> io::Result<()> {
+    let mut page = [0; PAGE_SIZE as usize];
+    if memory.read(start, &mut page, false).is_ok() {
+        return out.write_all(&page);
+    }
+    for index in 0..PAGE_SIZE / 4 {
+        let word = word_at(memory, start.saturating_add(index.saturating_mul(4)));
+        out.write_all(&word.to_le_bytes())?;
+    }
+    Ok(())
+}
+
+/// The word at an address of a page with EXEC; 0 where it has none.
+fn word_at<M: Tagged>(memory: &mut M, addr: u64) -> u32 {
+    match memory.fetch(addr) {
+        Ok(word) => word,
+        Err(_) => 0,
+    }
 }
 
 /// The tags of a region's granules, two in a byte, the lower one first.

@@ -16,10 +16,12 @@ const IMAGE: u64 = 4;
 /// The most bytes of a path.
 const PATH_LIMIT: usize = 4096;
 
-/// The map that is open, if one is.
+/// The map that GDB has open, or had.
 #[derive(Drop)]
 pub struct File {
     text: TextBuffer,
+    /// Which map the text is, as long as the tenant is where it was.
+    kept: Option<Map>,
     is_open: bool,
 }
 
@@ -28,25 +30,31 @@ impl File {
     pub fn new(alloc: Global) -> File {
         File {
             text: TextBuffer::new(alloc),
+            kept: None,
             is_open: false,
         }
+    }
+
+    /// Forgets what the text is: the tenant was moved.
+    pub fn forget(&mut self) {
+        self.kept = None;
     }
 }
 
 impl File {
-    /// Opens the map of a memory's regions.
-    fn open_map(&mut self, map: Map, all: &[Region], image: &[u8]) {
+    /// Makes the map of a memory's regions.
+    fn make_map(&mut self, map: Map, all: &[Region], image: &[u8]) {
         self.text.clear();
         match map {
             Map::Maps => put_maps(&mut self.text, all, image),
             Map::Smaps => put_smaps(&mut self.text, all, image),
         }
-        self.is_open = true;
+        self.kept = Some(map);
     }
 }
 
 /// Which map a path names.
-#[derive(Clone, Copy)]
+#[derive(Clone, Copy, PartialEq, Eq)]
 enum Map {
     /// `/proc/1/maps`, or that of a task.
     Maps,
@@ -89,18 +97,26 @@ impl Front<'_> {
         }
     }
 
-    /// Opens a map of the memory.
+    /// Opens a map of the memory. It is made once where the tenant is: GDB opens it several times.
     fn open_map(&mut self, alloc: Global, map: Map, reply: &mut Reply) {
+        if self.file.kept != Some(map) {
+            self.make_map(alloc, map, reply);
+        }
+        self.file.is_open = true;
+        reply.answer.put(b"F3");
+    }
+
+    /// Makes a map of the memory.
+    fn make_map(&mut self, alloc: Global, map: Map, reply: &mut Reply) {
         let Ok(all) = self.tenant.regions(alloc) else {
             reply.answer.fail();
             return;
         };
         let image = self.subject.name.as_bytes();
-        self.file.open_map(map, all.as_slice(), image);
+        self.file.make_map(map, all.as_slice(), image);
         if self.file.text.is_short() {
             reply.answer.fail();
         }
-        reply.answer.put(b"F3");
     }
 
     /// The bytes of the file with a descriptor, where it is open.

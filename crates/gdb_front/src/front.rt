@@ -22,6 +22,8 @@ pub struct Front<'a> {
     pub(crate) shown: usize,
     /// Whether GDB wants to be told that a breakpoint was reached.
     pub(crate) tells_breakpoints: bool,
+    /// Whether GDB may begin the tenant anew, also after it was killed.
+    pub(crate) is_extended: bool,
     /// The file that GDB has open.
     pub(crate) file: File,
     /// The image, its name and the seed.
@@ -37,6 +39,7 @@ impl<'a> Front<'a> {
             stop: StopReason::Step,
             shown: 0,
             tells_breakpoints: false,
+            is_extended: false,
             file: File::new(alloc),
             subject,
         }
@@ -75,6 +78,11 @@ impl<'a> Front<'a> {
             Command::ReadRegister { number } => self.put_register(number, reply),
             Command::WriteRegister { number, digits } => {
                 self.compare_register(number, digits, reply);
+            }
+            Command::Run => self.run_anew(alloc, reply),
+            Command::StartExtendedMode => {
+                self.is_extended = true;
+                reply.put_ok();
             }
             Command::Supported { features } => self.put_features(features, reply),
             Command::ReadObject {

@@ -87,7 +87,9 @@ impl Link {
         match *input {
             Input::Packet { bytes, .. } => self.take_packet(alloc, front, bytes, out),
             Input::Bad { .. } => out.write_all(b"-"),
-            Input::Nack => out.write_all(self.sent.as_slice()),
+            // GDB sends it while it waits for an answer too: where packets are not acknowledged, a
+            // second copy would be taken for the next answer.
+            Input::Nack if self.acknowledges => out.write_all(self.sent.as_slice()),
             _ => return Ok(()),
         }?;
         out.flush()

@@ -15,11 +15,10 @@ impl Front<'_> {
     pub(crate) fn put_memory(&mut self, address: u64, len: u64, reply: &mut Reply) {
         let start = plain(address);
         for addr in start..start.saturating_add(len.min(LIMIT)) {
-            let mut byte = [0];
-            if !self.tenant.read(addr, &mut byte) {
+            let Some(byte) = self.tenant.byte_at(addr) else {
                 break;
-            }
-            reply.answer.put_hex(&byte);
+            };
+            reply.answer.put_hex(&[byte]);
         }
         if reply.answer.is_empty() && len > 0 {
             reply.put_fault();

@@ -3,7 +3,7 @@
 use crate::front::Front;
 use crate::reply::Reply;
 use gdb_packets::Action;
-use gdb_travel::{StopReason, Until};
+use gdb_travel::{Points, StopReason, Until};
 use std::alloc::{AllocError, Global};
 
 impl Front<'_> {
@@ -35,6 +35,39 @@ impl Front<'_> {
         self.tell_stop(alloc, stop, reply);
     }
 
+    /// Begins the tenant anew, with no points, as GDB expects it of one that it starts.
+    pub(crate) fn run_anew(&mut self, alloc: Global, reply: &mut Reply) {
+        if self.tenant.go_to(alloc, 0).is_err() {
+            reply.answer.fail();
+            return;
+        }
+        self.points = Points::new(alloc);
+        self.shown = 0;
+        self.stand_still(StopReason::Step);
+        self.put_stop(reply);
+    }
+
+    /// Moves the tenant to a number of steps, and tells the user where it is.
+    pub(crate) fn go_to(&mut self, alloc: Global, steps: u64, reply: &mut Reply) {
+        let Ok(stop) = self.tenant.go_to(alloc, steps) else {
+            reply.answer.fail();
+            return;
+        };
+        self.stand_still(stop);
+        self.tell_output(&mut reply.console);
+        self.tell_end(alloc, reply);
+        reply.console.put(b"at step ");
+        reply.console.put_decimal(self.tenant.position());
+        reply.console.put(b"\n");
+        reply.put_ok();
+    }
+
+    /// Notes why it stands still, at another place than before.
+    fn stand_still(&mut self, stop: StopReason) {
+        self.stop = stop;
+        self.file.forget();
+    }
+
     /// Tells why it stands still.
     fn tell_stop(
         &mut self,
@@ -46,7 +79,7 @@ impl Front<'_> {
             reply.answer.fail();
             return;
         };
-        self.stop = stop;
+        self.stand_still(stop);
         self.tell_end(alloc, reply);
         self.put_stop(reply);
     }

@@ -25,6 +25,9 @@ impl Front<'_> {
             Command::SelectThread { .. }
             | Command::IsThreadAlive { .. }
             | Command::StartNoAckMode => reply.put_ok(),
+            Command::Detach { .. } | Command::KillProcess { .. } if self.is_extended => {
+                reply.put_ok();
+            }
             Command::Detach { .. } | Command::Kill | Command::KillProcess { .. } => reply.end(),
             Command::ResumeActions => reply.answer.put(b"vCont;c;C;s;S;r"),
             Command::IsAttached { .. } => reply.answer.put(b"0"),
@@ -47,7 +50,11 @@ impl Front<'_> {
     /// Answers that a register is written where it has the value already; else it is refused.
     pub(crate) fn compare_register(&self, number: u64, digits: &[u8], reply: &mut Reply) {
         let value = read_register(digits);
-        reply.put_outcome(value.is_some() && value == self.registers().value(number));
+        if value.is_some() && value == self.registers().value(number) {
+            reply.put_ok();
+        } else {
+            reply.put_read_only();
+        }
     }
 
     /// Answers what the front can do.

@@ -39,6 +39,11 @@ impl Reply {
         self.answer.put(b"E01");
     }
 
+    /// Answers that a register cannot be written. GDB shows the text.
+    pub fn put_read_only(&mut self) {
+        self.answer.put(b"E.the tenant is only read");
+    }
+
     /// Answers that there is no such memory.
     pub fn put_fault(&mut self) {
         self.answer.put(b"E0e");

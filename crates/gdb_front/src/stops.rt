@@ -17,9 +17,8 @@ impl Front<'_> {
     pub(crate) fn put_stop(&self, reply: &mut Reply) {
         let signal = self.signal();
         match self.stop {
-            StopReason::Exit(code) => put_end(&mut reply.answer, b"W", code),
-            StopReason::Ended => put_end(&mut reply.answer, b"X", signal),
-            StopReason::End => self.put_halt(signal, reply),
+            StopReason::Exit(code) => put_exit(&mut reply.answer, code),
+            StopReason::End | StopReason::Ended => self.put_halt(signal, reply),
             StopReason::Limit => self.put_halt(LIMIT, reply),
             _ => self.put_halt(TRAP, reply),
         }
@@ -59,10 +58,10 @@ fn gdb_number(signal: &Signal) -> u8 {
     }
 }
 
-/// An end: `W` and a code, or `X` and a signal.
-fn put_end(text: &mut TextBuffer, letter: &[u8], number: u8) {
-    text.put(letter);
-    text.put_hex(&[number]);
+/// An exit with a code.
+fn put_exit(text: &mut TextBuffer, code: u8) {
+    text.put(b"W");
+    text.put_hex(&[code]);
     text.put(b";process:1");
 }
 

@@ -22,6 +22,7 @@ enum Request {
     Calls,
     Chunk(u64),
     Step,
+    GoTo(u64),
     Help,
 }
 
@@ -32,7 +33,18 @@ impl Request {
             b"why" => Request::Why,
             b"calls" => Request::Calls,
             b"step" => Request::Step,
-            _ => Request::of_chunk(text),
+            _ => Request::of_number(text),
+        }
+    }
+
+    /// The request of the words `goto STEP`, or of others.
+    fn of_number(text: &[u8]) -> Request {
+        let Some(digits) = text.strip_prefix(b"goto ") else {
+            return Request::of_chunk(text);
+        };
+        match read_count(digits) {
+            Some(steps) => Request::GoTo(steps),
+            None => Request::Help,
         }
     }
 
@@ -52,6 +64,10 @@ impl Front<'_> {
     /// Answers a user's command, which is in digits.
     pub(crate) fn tell_user(&mut self, alloc: Global, digits: &[u8], reply: &mut Reply) {
         let request = request_of(digits);
+        if let Request::GoTo(steps) = request {
+            self.go_to(alloc, steps, reply);
+            return;
+        }
         let mut out = Vec::new(alloc);
         match self.tell_request(alloc, request, &mut out) {
             Ok(()) => {
@@ -81,8 +97,8 @@ impl Front<'_> {
                 tell_tags(out, &mut self.tenant, address)
             }
             Request::Step => writeln!(out, "{}", self.tenant.position()),
-            Request::Help => {
-                writeln!(out, "why | calls | chunk 0xADDRESS | step")?;
+            Request::GoTo(_) | Request::Help => {
+                writeln!(out, "why | calls | chunk 0xADDRESS | step | goto STEP")?;
                 writeln!(out, "(of a pointer P: eval \"monitor chunk %p\", P)")
             }
         }
@@ -99,6 +115,7 @@ impl Front<'_> {
                 &self.subject,
             ),
             StopReason::BeforeExit(code) => self.tell_exit(code, &mut out),
+            StopReason::Ended => self.tell_stay(&mut out),
             _ => return,
         };
         if told.is_err() {
@@ -114,6 +131,23 @@ impl Front<'_> {
             out,
             "the tenant exits with {code} after {steps} steps (continue again to let it)"
         )
+    }
+
+    /// Writes that it had ended here, and stays.
+    fn tell_stay(&self, out: &mut Vec<u8>) -> io::Result<()> {
+        let steps = self.tenant.position();
+        writeln!(
+            out,
+            "the tenant has ended here, after {steps} steps: it can only go back (monitor why)"
+        )
+    }
+}
+
+/// A decimal number, or a hexadecimal one behind `0x`.
+fn read_count(text: &[u8]) -> Option<u64> {
+    match text.strip_prefix(b"0x") {
+        Some(digits) => read_number(digits),
+        None => str::from_utf8(text).ok()?.parse::<u64>().ok(),
     }
 }
 

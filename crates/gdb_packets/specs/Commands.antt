@@ -169,12 +169,13 @@ IsNoneOf known x = AllByRecursion (λ k. x ≢ k) known
 
 -- The letters that begin a packet which is known.
 abbrev pub letters : List ℕ
-letters = codes "?bcCDgGHkmMpPqQsSTvxXzZ"
+letters = codes "!?bcCDgGHkmMpPqQsSTvxXzZ"
 
 -- What these letters ask, with what stands behind them.
 pub record Asks (letter : ℕ) (rest : List ℕ) (c : Command) : Type 0 where
   pub other : IsNoneOf letters letter → c ≡ command.Unknown
   pub back : letter ≡ 98 → c ≡ back_of rest
+  pub extension : letter ≡ 33 → c ≡ command_or_malformed (alone rest command.StartExtendedMode)
   pub reason : letter ≡ 63 → c ≡ command_or_malformed (alone rest command.StopReason)
   pub registers : letter ≡ 103 → c ≡ command_or_malformed (alone rest command.ReadRegisters)
   pub kill : letter ≡ 107 → c ≡ command_or_malformed (alone rest command.Kill)
@@ -263,7 +264,7 @@ pub record AsksFile (operation rest : List ℕ) (c : Command) : Type 0 where
 -- The names behind a `v` that are known.
 abbrev pub names : List (List ℕ)
 names = codes "Cont" ∷ codes "Cont?" ∷ codes "File" ∷ codes "Kill" ∷ codes "MustReplyEmpty"
-    ∷ []
+    ∷ codes "Run" ∷ []
 
 -- What these names behind a `v` ask.
 pub record AsksNamed (name rest : List ℕ) (c : Command) : Type 0 where
@@ -280,6 +281,8 @@ pub record AsksNamed (name rest : List ℕ) (c : Command) : Type 0 where
   pub kill : name ≡ codes "Kill"
       → c ≡ command_or_malformed (option_map command.KillProcess
       (option_and_then number_of (after 59 rest)))
+  pub run : name ≡ codes "Run"
+      → c ≡ command_or_malformed (option_map (λ _. command.Run) (after 59 rest))
 
 -- A name, and what stands behind it.
 abbrev pub name_in : List ℕ → List ℕ

@@ -6,6 +6,8 @@
 /// of either case, and `read_hex` or `read_register` reads it; other texts are as they came.
 #[derive(Clone, Copy)]
 pub enum Command<'a> {
+    /// `!`: the program can be run again, also after its end.
+    StartExtendedMode,
     /// `?`: why the program stands still.
     StopReason,
     /// `g`: all registers.
@@ -93,6 +95,8 @@ pub enum Command<'a> {
     KillProcess {
         process: u64,
     },
+    /// `vRun;FILE[;ARGUMENT]..`: run the program from its start. The words are left out.
+    Run,
     /// `vMustReplyEmpty`: answered as an unknown packet is.
     MustReplyEmpty,
     /// `qSupported[:FEATURE;FEATURE..]`.

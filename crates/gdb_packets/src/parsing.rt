@@ -48,6 +48,7 @@ fn parse_letter(letter: u8, rest: &[u8]) -> Option<Command<'_>>
     ensures { Asks letter rest.now (command_or_malformed result) }
 {
     match letter {
+        b'!' => bare(rest, Command::StartExtendedMode),
         b'?' => bare(rest, Command::StopReason),
         b'g' => bare(rest, Command::ReadRegisters),
         b'k' => bare(rest, Command::Kill),

@@ -85,6 +85,8 @@ pub fn parse_named(text: &[u8]) -> Option<Command<'_>>
         parse_file(strip(rest, b':')?)
     } else if is(name, b"Kill") {
         parse_kill(rest)
+    } else if is(name, b"Run") {
+        parse_run(rest)
     } else if is(name, b"MustReplyEmpty") {
         bare(rest, Command::MustReplyEmpty)
     } else {
@@ -173,6 +175,14 @@ fn parse_kill(rest: &[u8]) -> Option<Command<'_>>
 {
     let process = read_number(strip(rest, b';')?)?;
     Some(Command::KillProcess { process })
+}
+
+/// `;FILE[;ARGUMENT]..`
+fn parse_run(rest: &[u8]) -> Option<Command<'_>>
+    ensures { result ≡ option_map (λ _. Command.Run) (after 59 rest.now) }
+{
+    let _words = strip(rest, b';')?;
+    Some(Command::Run)
 }
 
 /// `OPERATION:..`

@@ -21,7 +21,7 @@ pub enum StopReason {
     Exit(u8),
     /// It ended otherwise.
     End,
-    /// It had ended before it was to move.
+    /// It had ended before it was to move forwards, otherwise than by an exit, and stayed.
     Ended,
     /// Its slices or its steps are over.
     Limit,

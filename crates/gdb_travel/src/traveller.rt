@@ -2,7 +2,7 @@
 
 use crate::points::Points;
 use crate::stop::{StopReason, Until};
-use crate::ways::{advance, last_point, look_ahead};
+use crate::ways::{advance, is_at_svc, last_point, look_ahead};
 use debuggee::Debuggee;
 use elf_core::Region;
 use mte_tags::TagMode;
@@ -19,6 +19,8 @@ pub struct Traveller<'a> {
     ahead: Option<Debuggee<'a>>,
     /// Whether it was told that the next instruction exits.
     is_exit_told: bool,
+    /// Whether the last instruction before its end was done. It is known once it has ended.
+    is_last_done: bool,
 }
 
 impl<'a> Traveller<'a> {
@@ -28,6 +30,7 @@ impl<'a> Traveller<'a> {
             now: tenant,
             ahead: None,
             is_exit_told: false,
+            is_last_done: false,
         }
     }
 
@@ -51,19 +54,20 @@ impl<'a> Traveller<'a> {
         self.now.can_go_on()
     }
 
-    /// How many instructions were done: all that were attempted, but for the one that ended it.
+    /// How many instructions were done: all that were attempted, but for one that ended it and did
+    /// nothing.
     pub fn position(&self) -> u64 {
         let steps = self.now.steps();
-        if self.now.parts().is_running() {
+        if self.now.parts().is_running() || self.is_last_done {
             steps
         } else {
             steps.saturating_sub(1)
         }
     }
 
-    /// Reads bytes of pages with READ, whatever their tags; whether it could.
-    pub fn read(&mut self, addr: u64, buffer: &mut [u8]) -> bool {
-        self.now.read(addr, buffer)
+    /// The byte at an address of a page with READ or EXEC, whatever its tag.
+    pub fn byte_at(&mut self, addr: u64) -> Option<u8> {
+        self.now.byte_at(addr)
     }
 
     /// The tag of the granule of an address, if it can be read.
@@ -82,7 +86,7 @@ impl<'a> Traveller<'a> {
         Ok((self.now.anew(alloc)?, self.now.steps()))
     }
 
-    /// Moves it forwards.
+    /// Moves it forwards. One that has ended stays where it is.
     pub fn run(
         &mut self,
         alloc: Global,
@@ -90,12 +94,20 @@ impl<'a> Traveller<'a> {
         until: Until,
     ) -> Result<StopReason, AllocError> {
         if !self.now.parts().is_running() {
-            return Ok(StopReason::Ended);
+            return Ok(self.stop_again());
         }
         if points.watchpoints().is_empty() {
             self.run_to_breakpoint(alloc, points, until)
         } else {
             self.run_to_access(alloc, points, until)
+        }
+    }
+
+    /// Why it stands still where it had ended before.
+    fn stop_again(&self) -> StopReason {
+        match self.now.parts().log.status {
+            Status::Exited(code) => StopReason::Exit(code),
+            _ => StopReason::Ended,
         }
     }
 
@@ -167,8 +179,20 @@ impl<'a> Traveller<'a> {
                 self.go_back(alloc, steps)?;
                 Ok(StopReason::BeforeExit(code))
             }
+            Status::AsyncTag(pc) => {
+                self.is_last_done = self.was_last_done(alloc, pc)?;
+                Ok(StopReason::End)
+            }
             _ => Ok(StopReason::End),
         }
+    }
+
+    /// Whether the last instruction was done where a tag that differed ended it at an address: an
+    /// SVC does nothing then, and at a slice's end all others were done.
+    fn was_last_done(&self, alloc: Global, pc: u64) -> Result<bool, AllocError> {
+        let mut past = self.now.anew(alloc)?;
+        advance(&mut past, self.now.steps().saturating_sub(1));
+        Ok(past.regs().pc != pc || !is_at_svc(&mut past))
     }
 
     /// Moves it to a number of steps that it has passed.
@@ -177,6 +201,22 @@ impl<'a> Traveller<'a> {
         advance(&mut past, steps);
         self.now = past;
         Ok(())
+    }
+
+    /// Moves it to a number of steps from its start on, forwards or backwards, or to its end where
+    /// that comes before.
+    pub fn go_to(&mut self, alloc: Global, steps: u64) -> Result<StopReason, AllocError> {
+        self.is_exit_told = false;
+        if steps < self.now.steps() {
+            self.go_back(alloc, steps)?;
+        } else {
+            advance(&mut self.now, steps);
+        }
+        if self.now.can_go_on() {
+            Ok(StopReason::Step)
+        } else {
+            self.stop_at_end(alloc)
+        }
     }
 
     /// Moves it back by one step.

@@ -32,11 +32,14 @@ fn run_slices(tenant: &mut Debuggee<'_>, steps: u64) {
 pub fn look_ahead(tenant: &mut Debuggee<'_>, points: &Points, until: Until) -> Option<StopReason> {
     tenant.forget_hit();
     for _ in 0..u64::MAX {
-        if !tenant.attempt() || !tenant.parts().is_running() {
+        if !tenant.attempt() {
             return None;
         }
         if let Some(hit) = tenant.hit() {
             return Some(StopReason::Watch(hit));
+        }
+        if !tenant.parts().is_running() {
+            return None;
         }
         let stop = until.stop_at(points, plain(tenant.regs().pc));
         if stop.is_some() {
@@ -44,6 +47,15 @@ pub fn look_ahead(tenant: &mut Debuggee<'_>, points: &Points, until: Until) -> O
         }
     }
     None
+}
+
+/// Whether a tenant is about to do an SVC (Arm ARM DDI 0487, "SVC").
+pub fn is_at_svc(tenant: &mut Debuggee<'_>) -> bool {
+    let pc = plain(tenant.regs().pc);
+    match tenant.word_at(pc) {
+        Some(word) => word & 0xFFE0_001F == 0xD400_0001,
+        None => false,
+    }
 }
 
 /// Moves a tenant from its first instruction to a number of steps, and returns the last point on
