@@ -171,7 +171,7 @@ impl Watched {
     pub fn regions(&mut self, alloc: Global) -> Result<Vec<Region>, AllocError>
         ensures { self.new.flat ≡ self.old.flat }
     {
-        regions(alloc, &mut self.flat)
+        regions(alloc, &self.flat)
     }
 
     /// The memory alone.

@@ -5,6 +5,7 @@ use crate::memory_map::{Region, regions};
 use crate::notes::{Noted, write_double_words, write_words};
 use crate::signal::Signal;
 use address_map::{GRANULE_SIZE, PAGE_SIZE};
+use mte_flat::Flat;
 use mte_tags::{Attrs, TagMode, Tagged};
 use mte_tenant::TenantParts;
 use std::alloc::Global;
@@ -41,11 +42,11 @@ pub struct CoreSubject<'a> {
 }
 
 /// Writes a core file of a tenant: notes, a segment for each region of its memory, and its tags.
-pub fn write_core<M: Tagged, W: Write>(
+pub fn write_core<W: Write>(
     alloc: Global,
     out: &mut W,
     subject: &CoreSubject<'_>,
-    memory: &mut M,
+    memory: &mut Flat,
 ) -> io::Result<()> {
     let noted = Noted {
         regs: &subject.parts.regs,

@@ -1,9 +1,8 @@
 //! The regions of a memory.
 
-ghost use Rattle.std.specs.Prelude.{◌≡◌};
-
-use address_map::{ADDRESS_END, PAGE_SIZE};
-use mte_tags::{Attrs, Tagged};
+use address_map::PAGE_SIZE;
+use mte_flat::Flat;
+use mte_tags::Attrs;
 use std::alloc::{AllocError, Global};
 
 /// Pages one after another with the same attributes.
@@ -29,17 +28,13 @@ impl Region {
     }
 }
 
-/// The regions of a memory, the lowest first.
-pub fn regions<M: Tagged>(alloc: Global, memory: &mut M) -> Result<Vec<Region>, AllocError>
-    ensures memory { M.memory memory.new ≡ M.memory memory.old }
-    ensures kept { M.kept memory.old memory.new }
-{
+/// The regions of a memory, the lowest first. It takes time for the pages that are mapped.
+pub fn regions(alloc: Global, memory: &Flat) -> Result<Vec<Region>, AllocError> {
+    let mut pages = memory.mapped_pages(alloc)?;
+    pages.sort_unstable_by_key(|page| page.number);
     let mut all: Vec<Region> = Vec::new(alloc);
-    for number in 0..ADDRESS_END / PAGE_SIZE {
-        let start = number * PAGE_SIZE;
-        if let Some(attrs) = attrs_at(memory, start) {
-            append(&mut all, start, attrs)?;
-        }
+    for page in &pages {
+        append(&mut all, page.number.saturating_mul(PAGE_SIZE), page.attrs)?;
     }
     Ok(all)
 }
@@ -55,31 +50,4 @@ fn append(all: &mut Vec<Region>, start: u64, attrs: Attrs) -> Result<(), AllocEr
     }
     all.push(Region { start, end, attrs })?;
     Ok(())
-}
-
-/// The attributes of the page of an address, if it is mapped.
-pub(crate) fn attrs_at<M: Tagged>(memory: &mut M, addr: u64) -> Option<Attrs>
-    ensures memory { M.memory memory.new ≡ M.memory memory.old }
-    ensures kept { M.kept memory.old memory.new }
-{
-    if !memory.has_attrs(addr, Attrs::NONE) {
-        return None;
-    }
-    let read = attr_at(memory, addr, Attrs::READ);
-    let write = attr_at(memory, addr, Attrs::WRITE);
-    let exec = attr_at(memory, addr, Attrs::EXEC);
-    let tagged = attr_at(memory, addr, Attrs::TAGGED);
-    Some(read | write | exec | tagged)
-}
-
-/// An attribute, if the page of an address has it.
-fn attr_at<M: Tagged>(memory: &mut M, addr: u64, attr: Attrs) -> Attrs
-    ensures memory { M.memory memory.new ≡ M.memory memory.old }
-    ensures kept { M.kept memory.old memory.new }
-{
-    if memory.has_attrs(addr, attr) {
-        attr
-    } else {
-        Attrs::NONE
-    }
 }
