@@ -75,8 +75,7 @@ impl OpenAddresses {
                 })?;
             }
         }
-        self.addresses
-            .retain(|address| !row.covers(next, *address));
+        self.addresses.retain(|address| !row.covers(next, *address));
         Ok(())
     }
 

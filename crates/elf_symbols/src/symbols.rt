@@ -22,6 +22,7 @@ const LONGEST: usize = 80;
 
 /// STT_OBJECT and STT_FUNC, the lower half of `st_info`.
 const OBJECT: u8 = 1;
+
 const FUNCTION: u8 = 2;
 
 /// STB_LOCAL, the upper half of `st_info`.

@@ -2,8 +2,8 @@
 
 use crate::report::Report;
 use a64_registers::Regs;
-use instruction_trace::Nzcv;
 use heap_bounds::CallText;
+use instruction_trace::Nzcv;
 use mte_backtrace::{FrameNames, Quoted};
 use mte_flat::Flat;
 use mte_tags::MemFault;

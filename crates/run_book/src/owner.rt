@@ -32,7 +32,10 @@ impl fmt::Display for Spot {
     fn fmt<W: fmt::Write>(&self, f: &mut fmt::Formatter<W>) -> fmt::Result {
         match Block::of(self.0) {
             Some(Block { class, start, size }) => {
-                write!(f, "the block of {size} bytes at {start:#018x} (class {class})")
+                write!(
+                    f,
+                    "the block of {size} bytes at {start:#018x} (class {class})"
+                )
             }
             None => write!(f, "the range of: {}", Range::of(self.0)),
         }
