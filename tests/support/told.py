@@ -12,7 +12,8 @@ from tests.support.places import IMAGES
 from tests.support.running import Ran, run
 
 FRAME = re.compile(
-    r" +#(\d+) (\S+?)(?: at (\S+):(\d+))?( \(inlined\))?( \(x30, may be old\))?$"
+    r" +#(\d+) (\S+?|.+?(?= at \S+ \(inlined\)))(?: at (\S+):(\d+))?( \(inlined\))?"
+    r"( \(x30, may be old\))?$"
 )
 CALL = re.compile(r"  (allocated|freed) by call (\d+), (.*) = (0x[0-9a-f]+), step (\d+)$")
 YOUNG = re.compile(r"  its block was given again, as the (\d+)-byte allocation at (0x[0-9a-f]+):$")
