@@ -48,7 +48,8 @@ def acts(
 
 
 def test_calls_have_the_names_and_lines_of_other_tools(acts: ImageActs) -> None:
-    """NAME+OFFSET by the symbols that llvm-nm lists, FILE:LINE by llvm-symbolizer."""
+    """NAME+OFFSET by the symbols that llvm-nm lists, FILE:LINE and what was inlined by
+    llvm-symbolizer."""
     need("llvm-nm", "llvm-symbolizer")
     path = image(acts.source, acts.build)
     table = binutils.symbols(path)
@@ -60,7 +61,7 @@ def test_calls_have_the_names_and_lines_of_other_tools(acts: ImageActs) -> None:
     origins = binutils.sources(path, (address for _, _, address in found))
     for number, frame, address in found:
         check_label(frame, address, number > 0, table)
-        assert place_of(frame) == binutils.line_of(origins.get(address)), frame
+        check_chain(frame, origins.get(address))
 
 
 def check_label(
@@ -73,6 +74,13 @@ def check_label(
         return
     assert frame.function in [symbol.name for symbol in near], f"{frame} is in {near}"
     assert frame.offset == address + 4 * is_call - near[0].value, f"{frame} at {address:#x}"
+
+
+def check_chain(frame: Frame, origin: Optional[binutils.Source]) -> None:
+    """The functions that were inlined, and the lines of all."""
+    chain = origin.chain if origin else (("", None),)
+    assert [it.label for it in frame.inlined] == [name for name, _ in chain[:-1]], frame
+    assert [place_of(it) for it in (*frame.inlined, frame)] == [line for _, line in chain], frame
 
 
 def place_of(frame: Frame) -> Optional[tuple[str, int]]:
@@ -131,11 +139,21 @@ def check_objects(
     origins: dict[int, binutils.Source],
 ) -> None:
     """The objects of a list of calls are its lines."""
-    for number, (frame, call, entry) in enumerate(zip(frames, calls, listed, strict=True)):
-        assert int(entry["address"], 16) == call + 4 * (number > 0)
-        assert (entry.get("function"), entry.get("offset", 0)) == named(frame)
-        assert (entry.get("file"), entry.get("line")) == (frame.file, frame.line)
-        path = entry.get("path", "")
+    inner: list[dict[str, Any]] = []
+    groups = []
+    for entry in listed:
+        inner.append(entry)
+        if "inlined" not in entry:
+            groups.append(inner)
+            inner = []
+    for number, (frame, call, group) in enumerate(zip(frames, calls, groups, strict=True)):
+        assert {int(entry["address"], 16) for entry in group} == {call + 4 * (number > 0)}
+        for told, entry in zip((*frame.inlined, frame), group, strict=True):
+            assert (entry.get("file"), entry.get("line")) == (told.file, told.line)
+        assert [entry.get("function") for entry in group[:-1]] == [
+            told.label for told in frame.inlined]
+        assert (group[-1].get("function"), group[-1].get("offset", 0)) == named(frame)
+        path = group[0].get("path", "")
         known = origins[call].file
         assert path == known or not path.startswith("/") and known.endswith(path.lstrip("./"))
 
@@ -486,7 +504,7 @@ def check_leaks(found: list[tuple[list[Frame], tuple[int, ...]]], path: pathlib.
              for number, pair in enumerate(zip(frames, calls))]
     for number, frame, address in pairs:
         check_label(frame, address, number > 0, table)
-        assert place_of(frame) == binutils.line_of(origins.get(address)), frame
+        check_chain(frame, origins.get(address))
 
 
 def test_pictures_show_the_chunks(

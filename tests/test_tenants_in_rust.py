@@ -39,5 +39,6 @@ def test_a_stale_pointer_is_told_with_its_calls(
     assert [call.did for call in told.calls] == ["allocated", "freed"]
     assert told.calls[0].text == "malloc(32)" and "realloc(" in told.calls[1].text
     for call in told.calls:
-        assert call.frames[0].file == "tenant.rs"
+        frame = call.frames[0]
+        assert (frame.inlined or (frame,))[0].file == "tenant.rs"
         assert "tenant_main" in [frame.function for frame in call.frames]

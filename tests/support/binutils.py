@@ -32,12 +32,14 @@ class Symbol:
 @dataclass(frozen=True)
 class Source:
     """Where an address comes from: the function and the line, of those that were inlined the
-    innermost, and the function that was not inlined."""
+    innermost, the function that was not inlined, and the names and lines of all, the innermost
+    first."""
 
     function: str
     file: str
     line: int
     outermost: str
+    chain: tuple[tuple[str, Optional[tuple[str, int]]], ...]
 
 
 @lru_cache(maxsize=4)
@@ -69,7 +71,8 @@ def sources(image: pathlib.Path, addresses: Iterable[int]) -> dict[int, Source]:
         frames = said["Symbol"]
         inner, outer = frames[0], frames[-1]
         found[int(said["Address"], 16)] = Source(
-            inner["FunctionName"], inner["FileName"], inner["Line"], outer["FunctionName"]
+            inner["FunctionName"], inner["FileName"], inner["Line"], outer["FunctionName"],
+            tuple((it["FunctionName"], place(it["FileName"], it["Line"])) for it in frames),
         )
     return found
 
@@ -116,8 +119,6 @@ def calls(image: pathlib.Path) -> set[int]:
     }
 
 
-def line_of(source: Optional[Source]) -> Optional[tuple[str, int]]:
+def place(file: str, line: int) -> Optional[tuple[str, int]]:
     """The file's own name and the line; none where the line is not known."""
-    if source is None or not source.line:
-        return None
-    return pathlib.PurePosixPath(source.file).name, source.line
+    return (pathlib.PurePosixPath(file).name, line) if line else None

@@ -11,24 +11,29 @@ from tests.support.acts import Act
 from tests.support.places import IMAGES
 from tests.support.running import Ran, run
 
-FRAME = re.compile(r" +#(\d+) (\S+?)(?: at (\S+):(\d+))?( \(x30, may be old\))?$")
+FRAME = re.compile(
+    r" +#(\d+) (\S+?|.+?(?= at \S+ \(inlined\)))(?: at (\S+):(\d+))?( \(inlined\))?"
+    r"( \(x30, may be old\))?$"
+)
 CALL = re.compile(r"  (allocated|freed) by call (\d+), (.*) = (0x[0-9a-f]+), step (\d+)$")
 YOUNG = re.compile(r"  its block was given again, as the (\d+)-byte allocation at (0x[0-9a-f]+):$")
 PLACE = re.compile(r"(0x[0-9a-f]{16}) is in (.*)$")
 TAGS = re.compile(r"tags from (0x[0-9a-f]+), of 16 bytes each: (.*)$")
 REGISTER = re.compile(r"  (x\d{1,2}|sp|pc) +([0-9a-f]{16})(?!\w)")
 PAGES = re.compile(r"  (0x[0-9a-f]{8}) to (0x[0-9a-f]{8})  ([rwxt-]{4})  (.*)$")
-LEAK = re.compile(r"  (\d+) chunks, (\d+) bytes, the first by call (\d+)$")
+LEAK = re.compile(r"  (\d+) chunks?, (\d+) bytes, the first by call (\d+)$")
 
 
 @dataclass(frozen=True)
 class Frame:
-    """A line of a list of calls."""
+    """A line of a list of calls, and those above it of functions that were inlined there, the
+    innermost first."""
 
     label: str
     file: Optional[str]
     line: Optional[int]
     may_be_old: bool
+    inlined: tuple["Frame", ...] = ()
 
     @property
     def function(self) -> Optional[str]:
@@ -119,14 +124,19 @@ def explain(
 
 def read_told(text: str) -> Told:
     """The values of what was written to standard error."""
-    told, frames = Told(), []  # type: tuple[Told, list[Frame]]
+    told, frames, inlined = Told(), [], []  # type: tuple[Told, list[Frame], list[Frame]]
     section = ""
     for line in text.splitlines():
         section = section_of(line, section)
         found = FRAME.match(line)
         if found:
-            _, label, file, number, old = found.groups()
-            frames.append(Frame(label, file, int(number) if number else None, bool(old)))
+            _, label, file, number, is_inlined, old = found.groups()
+            line_number = int(number) if number else None
+            if is_inlined:
+                inlined.append(Frame(label, file, line_number, bool(old)))
+            else:
+                frames.append(Frame(label, file, line_number, bool(old), tuple(inlined)))
+                inlined = []
             continue
         frames = read_line(told, line, section, frames)
     return told
