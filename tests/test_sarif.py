@@ -27,6 +27,7 @@ def place_of(location: Any) -> str:
     """The source line of a location."""
     physical = location["physicalLocation"]
     uri = urllib.parse.unquote(physical["artifactLocation"]["uri"])
+    assert not uri.startswith("file://") or pathlib.Path(uri[len("file://"):]).exists(), uri
     return f"{pathlib.PurePath(uri).name}:{physical['region']['startLine']}"
 
 
