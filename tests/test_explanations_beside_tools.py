@@ -29,13 +29,8 @@ EVERY_IMAGE = [
 ]
 # How many frame records are read at most: at the end, and of a heap call.
 RECORDS, RECORDS_OF_CALL = 16, 7
-# Where the stack was written over, the records beyond are gone. Where a function that calls itself
-# faults before its record is written, the call in between is not told (docs/REPORT.md: x30 has to
-# lie outside of the function).
+# Where the stack was written over, the records beyond are gone.
 SMASHED = {("stack", "f")}
-IN_PROLOGUE = {("stack", "d", "gcc-O0"), ("stack", "d", "gcc-O2")}
-# A store of a pair and a tag stores bytes, and is not counted.
-PAIR_AND_TAG = ("objects", "clang-O2")
 
 
 @pytest.fixture(scope="module", params=EVERY_IMAGE, ids="-".join)
@@ -108,8 +103,6 @@ def calls_at(step: Step) -> list[int]:
 def check_end(one: Explained, acts: ImageActs) -> None:
     """The same of the instruction that ended the tenant."""
     made = calls_at(one.steps[-1])
-    if (acts.source, one.act.input, acts.build) in IN_PROLOGUE:
-        made.pop(1)
     is_smashed = (acts.source, one.act.input) in SMASHED
     check_calls(one.addresses[0], made, 1 if is_smashed else RECORDS)
 
@@ -302,11 +295,8 @@ def reported(status: dict[str, Any]) -> str:
     return f"async {pc}" if kind == "async" else str(kind)
 
 
-def test_statistics_count_the_trace(request: pytest.FixtureRequest, acts: ImageActs) -> None:
+def test_statistics_count_the_trace(acts: ImageActs) -> None:
     """Steps, loads, stores, compared tags, services, heap calls, tags drawn and pages."""
-    if (acts.source, acts.build) == PAIR_AND_TAG:
-        reason = "STGP stores bytes and is not among the stores of --statistics"
-        request.applymarker(pytest.mark.xfail(reason=reason, strict=True))
     for one in acts.runs:
         tagged = [range(first, last + 1) for first, last, attributes in pages_of(one)
                   if "t" in attributes]

@@ -60,15 +60,11 @@ def session(host: pathlib.Path, image: pathlib.Path, slices: int) -> list[Word]:
 def test_a_report_costs_what_is_told(
     alone: pathlib.Path, host: pathlib.Path, tmp_path: pathlib.Path
 ) -> None:
-    """The report of 3,000 mapped pages takes little more than that of ten, beside what the tenant
-    itself takes of the host."""
-    costs = []
-    for count, size in ((1, 20_000), (24, 500_000)):
-        image = many_pages(tmp_path, count, size)
-        run_alone = instructions([alone, image], tmp_path)
-        # The run, watched and not, is twice that of a host's session.
-        costs.append(run_alone - 2 * instructions(session(host, image, 1), tmp_path))
-    assert costs[1] < 1.2 * costs[0] + 3_000_000, costs
+    """With 3,000 pages mapped, a run that is told takes at most 1.2 times two sessions of the
+    tenant: it runs unwatched and watched, and what is told takes little beside that."""
+    image = many_pages(tmp_path, 24, 500_000)
+    ours = instructions([alone, image], tmp_path)
+    assert ours <= 1.2 * 2 * instructions(session(host, image, 1), tmp_path)
 
 
 def test_a_clean_run_costs_what_a_session_costs(

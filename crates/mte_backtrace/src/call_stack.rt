@@ -3,6 +3,7 @@
 use crate::callers::{Callers, fill, link_of};
 use crate::frames::FramesAt;
 use crate::names::{FrameAddresses, FrameNames};
+use crate::prologue::has_own_link;
 use a64_registers::Regs;
 use elf_symbols::{SymbolOffset, Symbols};
 use mte_tags::Tagged;
@@ -35,12 +36,16 @@ impl CallStack {
     ) -> Result<CallStack, AllocError> {
         let mut records = [0; DEPTH];
         fill(memory, regs, &mut records);
-        // Where a function has just been called by itself, the record is that of its caller, which
-        // may have the same return address.
-        let is_called = has_begun(symbols, regs.pc, regs.x[30], 1);
-        let own = if is_called { 0 } else { records[0] };
+        let has_link = has_own_link(memory, symbols, regs.pc) == Some(true);
+        // Then the first record is that of its caller, which may have the same return address.
+        let own = if has_link { 0 } else { records[0] };
         let link = link_of(memory, regs, own);
-        CallStack::new(alloc, regs.pc, link, &records, symbols)
+        let is_old = if has_link {
+            Some(false)
+        } else {
+            is_in_function(symbols, regs.pc, link)
+        };
+        CallStack::new(alloc, regs.pc, link, is_old, &records)
     }
 
     /// The calls that led to a heap call, whose SVC is at an address.
@@ -50,23 +55,24 @@ impl CallStack {
         callers: &Callers,
         symbols: &Symbols<'_>,
     ) -> Result<CallStack, AllocError> {
-        CallStack::new(alloc, pc, callers.link, &callers.records, symbols)
+        let is_old = is_in_function(symbols, pc, callers.link);
+        CallStack::new(alloc, pc, callers.link, is_old, &callers.records)
     }
 
-    /// The calls by x30, or 0, and the return addresses of records, and 0 behind the last.
+    /// The calls by x30, or 0, which may be that of a call that has returned, and the return
+    /// addresses of records, and 0 behind the last.
     fn new(
         alloc: Global,
         pc: u64,
         link: u64,
+        is_old: Option<bool>,
         records: &[u64],
-        symbols: &Symbols<'_>,
     ) -> Result<CallStack, AllocError> {
         let mut callers = Vec::new(alloc);
-        let is_in_function = is_in_function(symbols, pc, link);
-        if link != 0 && is_in_function != Some(true) {
+        if link != 0 && is_old != Some(true) {
             callers.push(link)?;
         }
-        let may_be_old = !callers.is_empty() && is_in_function.is_none();
+        let may_be_old = !callers.is_empty() && is_old.is_none();
         push_records(&mut callers, records)?;
         Ok(CallStack {
             pc,

@@ -6,6 +6,7 @@ mod callers;
 mod frames;
 mod json;
 mod names;
+mod prologue;
 mod sarif;
 mod walk;
 

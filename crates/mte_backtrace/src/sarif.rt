@@ -16,7 +16,11 @@ struct PathUri<'a>(SourceLine<'a>);
 
 impl<'a> fmt::Display for PathUri<'a> {
     fn fmt<W: fmt::Write>(&self, f: &mut fmt::Formatter<W>) -> fmt::Result {
-        let SourceLine { path, directory, .. } = self.0;
+        let SourceLine {
+            path,
+            directory,
+            ..
+        } = self.0;
         match directory {
             Some(directory) if directory.starts_with('/') => {
                 write_absolute(f, directory)?;
@@ -56,7 +60,10 @@ impl<'a> fmt::Display for FrameParts<'a> {
     fn fmt<W: fmt::Write>(&self, f: &mut fmt::Formatter<W>) -> fmt::Result {
         if let Some(line) = &self.0.line {
             let (uri, number) = (PathUri(*line), line.line);
-            write!(f, ",\"physicalLocation\":{{\"artifactLocation\":{{\"uri\":\"{uri}\"}}")?;
+            write!(
+                f,
+                ",\"physicalLocation\":{{\"artifactLocation\":{{\"uri\":\"{uri}\"}}"
+            )?;
             write!(f, ",\"region\":{{\"startLine\":{number}}}}}")?;
         }
         let name = match &self.0.name {
@@ -66,7 +73,10 @@ impl<'a> fmt::Display for FrameParts<'a> {
         match name {
             Some(name) => {
                 let name = Quoted(name);
-                write!(f, ",\"logicalLocations\":[{{\"name\":{name},\"kind\":\"function\"}}]")
+                write!(
+                    f,
+                    ",\"logicalLocations\":[{{\"name\":{name},\"kind\":\"function\"}}]"
+                )
             }
             None => Ok(()),
         }
@@ -141,11 +151,7 @@ fn frame_with_line<'a>(frames: FramesAt<'_, 'a>) -> Option<StackFrame<'a>> {
 }
 
 /// Writes an object for each frame of an address, with what stands in front of the first.
-fn write_frames<W: Write>(
-    out: &mut W,
-    frames: FramesAt<'_, '_>,
-    front: &str,
-) -> io::Result<()> {
+fn write_frames<W: Write>(out: &mut W, frames: FramesAt<'_, '_>, front: &str) -> io::Result<()> {
     let mut front = front;
     for frame in frames {
         let object = FrameObject(frame);

@@ -13,8 +13,8 @@ use mte_tags::{FaultKind, MemFault, Tagged};
 use mte_tenant::{Status, TenantParts};
 use run_book::{Book, Bytes, ChunkOwner, Wanted};
 use run_cause::{
-    Cause, Evidence, Finding, Wrong, abort_words, breakpoint_words, family_of, fault_words, is_undefined,
-    trespass_words,
+    Cause, Evidence, Finding, Wrong, abort_words, breakpoint_words, family_of, fault_words,
+    is_undefined, trespass_words,
 };
 use run_statistics::StatisticsTable;
 use scudo_heap::HeapAbort;

@@ -28,14 +28,16 @@ impl<'a> Report<'a> {
         memory: &mut Flat,
     ) -> io::Result<()> {
         write!(out, "{HEAD}")?;
-        let is_clean = self.finding.is_none()
-            && matches!(self.parts.log.status, Status::Exited(_));
+        let is_clean = self.finding.is_none() && matches!(self.parts.log.status, Status::Exited(_));
         if is_clean {
             write!(out, "}}}},\n\"results\":[]")?;
         } else {
             self.write_result(alloc, out, memory)?;
         }
-        write!(out, ",\n\"invocations\":[{{\"executionSuccessful\":{is_clean},")?;
+        write!(
+            out,
+            ",\n\"invocations\":[{{\"executionSuccessful\":{is_clean},"
+        )?;
         writeln!(out, "\"exitCode\":{exit_status}}}]}}]}}")?;
         out.flush()
     }
@@ -51,7 +53,10 @@ impl<'a> Report<'a> {
         let names = self.frame_names(alloc, cause.as_ref(), memory)?;
         let rule = self.rule(cause.as_ref());
         writeln!(out, ",\"rules\":[{{\"id\":\"{rule}\"}}]}}}},")?;
-        write!(out, "\"results\":[{{\"ruleId\":\"{rule}\",\"ruleIndex\":0,\"level\":\"error\"")?;
+        write!(
+            out,
+            "\"results\":[{{\"ruleId\":\"{rule}\",\"ruleIndex\":0,\"level\":\"error\""
+        )?;
         match &cause {
             Some(cause) => {
                 let found = self.found(cause);
@@ -78,11 +83,17 @@ impl<'a> Report<'a> {
         let stack = self.end_stack(alloc, memory)?;
         write!(out, "\"locations\":[")?;
         stack.write_sarif_location(out, names, message)?;
-        write!(out, "],\n\"stacks\":[{{\"message\":{{\"text\":\"the end\"}},\"frames\":")?;
+        write!(
+            out,
+            "],\n\"stacks\":[{{\"message\":{{\"text\":\"the end\"}},\"frames\":"
+        )?;
         stack.write_sarif_frames(out, names)?;
         write!(out, "}}")?;
         self.write_stacks(alloc, out, cause, names)?;
-        write!(out, "],\n\"codeFlows\":[{{\"threadFlows\":[{{\"locations\":[")?;
+        write!(
+            out,
+            "],\n\"codeFlows\":[{{\"threadFlows\":[{{\"locations\":["
+        )?;
         self.write_flow(alloc, out, cause, names)?;
         write!(out, "{{\"location\":")?;
         stack.write_sarif_location(out, names, message)?;

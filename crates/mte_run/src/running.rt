@@ -391,7 +391,9 @@ fn is_over(
     out: &OutputStream<'_>,
     limit: u64,
 ) -> bool {
-    observer.has_ended() || out.has_failed || !bench.parts.is_running()
+    observer.has_ended()
+        || out.has_failed
+        || !bench.parts.is_running()
         || bench.parts.log.steps >= limit
 }
 

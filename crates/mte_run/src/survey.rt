@@ -74,7 +74,13 @@ fn ending_under<'x>(
     let mut bench = Bench::new(alloc, &admission_of(options, image, input, seed))?;
     observer.is_watching = observer.needs_each_step();
     let mut out = OutputStream::silent();
-    run_slices(&mut bench, &mut observer, &mut out, options, options.length.steps);
+    run_slices(
+        &mut bench,
+        &mut observer,
+        &mut out,
+        options,
+        options.length.steps,
+    );
     if observer.finding().is_some() {
         return Ok(TenantEnding::Exact);
     }

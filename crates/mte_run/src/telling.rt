@@ -167,8 +167,7 @@ fn tell_unseen(rt: &HostRuntime, report: &Report<'_>, options: &Options) {
     let log = &report.parts.log;
     let is_exit = matches!(log.status, Status::Exited(_));
     if is_exit && options.output.exact == Exactness::Tags && may_have_spare_bytes(&log.calls) {
-        let _ = eprintln!(
-            rt;
+        let _ = eprintln!(rt;
             "mte_run: no tag differed; a tag is that of 16 bytes, so up to 15 bytes past a chunk's \
              size are compared by --exact alone"
         );

@@ -37,10 +37,16 @@ impl fmt::Display for RefusedAdmission {
                 write!(f, ": it takes {wanted} frames, and {left} are left")
             }
             AdmitError::ReservationTooSmall => {
-                write!(f, ": `frames {pages}` is less than the image's pages and 4 of stack")
+                write!(
+                    f,
+                    ": `frames {pages}` is less than the image's pages and 4 of stack"
+                )
             }
             AdmitError::BadReservation => {
-                write!(f, ": `frames {pages}` is not 1 to 4096, or `out {room}` is over 65536")
+                write!(
+                    f,
+                    ": `frames {pages}` is not 1 to 4096, or `out {room}` is over 65536"
+                )
             }
             _ => f.write_str(remedy_of(*error)),
         }
@@ -85,7 +91,10 @@ fn first_refusal<'a>(
     };
     for (before, event) in events.iter().enumerate() {
         let left = host.pool().unreserved();
-        match (decide(alloc, &mut host, event, files), terms_of(replay.id, event)) {
+        match (
+            decide(alloc, &mut host, event, files),
+            terms_of(replay.id, event),
+        ) {
             (Err(Obstacle::OutOfMemory), _) => return Err(Failure::Memory),
             (Err(Obstacle::Refused(Refusal::Admit(error))), Some(terms)) => {
                 return Ok(Some(RefusedAdmission {

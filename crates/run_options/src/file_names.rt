@@ -45,7 +45,10 @@ fn is_read(options: &Options, name: &str) -> bool {
     };
     script == Some(name)
         || name_of(&options.run.input) == Some(name)
-        || options.files.iter().any(|file| plain_name(file.as_str()) == name)
+        || options
+            .files
+            .iter()
+            .any(|file| plain_name(file.as_str()) == name)
 }
 
 /// Whether one of the names in front of an index is this one.
