@@ -124,7 +124,7 @@ def test_why_compiles(clone: pathlib.Path) -> None:
     ran = run_script("why.sh", "--input", "input", "--last", "3", "./T.elf", folder=clone,
                      path=stub["PATH"])
     wanted = (f"rt in mte_run: try --data input={clone / 'input'} --data T.elf={clone / 'T.elf'}"
-              " -- --input input --last 3 T.elf\n")
+              " -- --exact --input input --last 3 T.elf\n")
     message = "why.sh: compiling mte_run without proving it: two to three minutes\n"
     assert (ran.status, ran.output, ran.errors) == (0, wanted, message)
 

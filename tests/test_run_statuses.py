@@ -17,6 +17,7 @@ from tests.support.told import explain, input_file
 
 USAGE, SCRIPT, MEMORY, READ, WRITE = range(2, 7)
 HELLO = "services.gcc-O0.elf"
+CUT = 138
 MOST_FILE = 16_777_216
 
 
@@ -46,6 +47,7 @@ ENDS = (
     ("services", "w", "--slices 9,9", NOT_ENDED, "end of its slices"),
     ("services", "o", "--pages 5", REFUSED, "refusal"),
     ("chunks", "p", "--exact", EXACT, "exact"),
+    ("services", "o", "--out 29 --whole-output", CUT, "output that was cut"),
 )
 FIRST = {
     FAULT: "mte_run: fault ", ASYNC: "mte_run: an access before 0x", ABORT: "mte_run: abort ",
@@ -54,10 +56,11 @@ FIRST = {
     NOT_ENDED: "mte_run: still running after its slices",
     REFUSED: "mte_run: the tenant is refused: ReservationTooSmall: --pages gives it more",
     EXACT: "mte_run: exact: a ",
+    CUT: "mte_run: output was cut: there was no more room (--out)",
 }
 NUMBERS = {
     "fault": 129, "async": 130, "abort": 131, "illegal": 132, "breakpoint": 133, "limit": 134,
-    "end": 135, "refusal": 136, "exact": 137,
+    "end": 135, "refusal": 136, "exact": 137, "output": 138,
 }
 
 
@@ -78,7 +81,7 @@ def test_each_end_has_its_status_and_lines(
 
 def test_an_exit_has_its_own_status(alone: pathlib.Path, tmp_path: pathlib.Path) -> None:
     """Each of 256; a line says that it is the tenant's where it could be another end's."""
-    taken = {*range(2, 7), *range(129, 138)}
+    taken = {*range(2, 7), *range(129, 139)}
     for status in range(256):
         ran = explain(alone, Act("services", f"e{status}", 0), "clang-O2", tmp_path)
         line = f"mte_run: exited with {status}\n" if status in taken else ""
@@ -121,6 +124,8 @@ USAGES: tuple[list[str], ...] = (
     ["--calls", "65537", HELLO], ["--calls", "x", HELLO], ["--trace=5", HELLO],
     ["--trace=a-b", HELLO], ["--trace=1-2-3", HELLO], ["--map", "a", "--map", "b", HELLO],
     ["--leaks", "--leaks", HELLO], ["--json", HELLO],
+    ["--trace=9-3", HELLO], ["--frames", "9", HELLO], ["--json", HELLO, HELLO],
+    ["--sarif", "a", "--core", "./a", HELLO], ["--\x1b[31m", HELLO],
 )
 
 
@@ -335,7 +340,8 @@ def test_a_file_that_cannot_be_read_is_named(
     """As it was named."""
     ran = run_words(alone, *words)
     assert (ran.status, ran.out) == (READ, b"")
-    assert ran.errors == f"mte_run: cannot read {named}\n"
+    reason = "" if named in (".", HELLO) else ": no such file or folder"
+    assert ran.errors == f"mte_run: cannot read {named}{reason}\n"
 
 
 def test_a_file_has_at_most_16_mebibytes(alone: pathlib.Path, tmp_path: pathlib.Path) -> None:
@@ -346,19 +352,24 @@ def test_a_file_has_at_most_16_mebibytes(alone: pathlib.Path, tmp_path: pathlib.
             file.truncate(size)
         ran = run_words(alone, "--input", str(path), HELLO)
         assert ran.status == status
-        assert ran.errors == (f"mte_run: cannot read {path}\n" if status else "")
+        line = f"mte_run: cannot read {path}: it has more than 16 MiB\n"
+        assert ran.errors == (line if status else "")
 
 
-@pytest.mark.parametrize("place", ["absent/file", ".", "/dev/full"])
-@pytest.mark.parametrize("option", ["--map", "--json", "--core", "--trace-file"])
+@pytest.mark.parametrize("place, reason", [
+    ("absent/file", ": no such file or folder"), (".", ": it is a folder"),
+    ("/dev/full", ": no space is left"),
+])
+@pytest.mark.parametrize("option", ["--map", "--json", "--sarif", "--core", "--trace-file"])
 def test_a_file_that_cannot_be_written(
-    alone: pathlib.Path, tmp_path: pathlib.Path, option: str, place: str
+    alone: pathlib.Path, tmp_path: pathlib.Path, option: str, place: str, reason: str
 ) -> None:
-    """Also where the tenant exits by itself; the file is named, but that of the lines."""
+    """Also where the tenant exits by itself; the file is named, and why."""
     for text in ("f", "m"):
         act = Act("chunks", text, 0)
         ran = explain(alone, act, "gcc-O0", tmp_path, "--services", option, place)
-        line = "mte_run: cannot write" + ("" if option == "--trace-file" else f" {place}")
+        known = "" if (option, place) == ("--trace-file", "/dev/full") else reason
+        line = f"mte_run: cannot write {place}{known}"
         assert ran.status == WRITE and ran.errors.splitlines()[-1] == line
 
 

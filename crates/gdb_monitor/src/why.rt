@@ -1,9 +1,10 @@
 //! Why a tenant ended.
 
+use circular_buffer::HeapCircularBuffer;
 use debuggee::Debuggee;
 use gdb_travel::Traveller;
 use mte_backtrace::Names;
-use mte_report::{Book, Report};
+use mte_report::{Book, Moment, Report};
 use mte_tenant::TenantParts;
 use std::alloc::{AllocError, Global};
 use std::io;
@@ -32,26 +33,38 @@ pub fn tell_why<W: Write>(
         let steps = tenant.position();
         return writeln!(out, "it is running, after {steps} steps");
     }
-    let (past, book) = retold(alloc, tenant)?;
+    let (past, remembered) = retold(alloc, tenant)?;
     let limit = past.limit();
     let (parts, mut memory) = past.into_machine();
     let names = Names::of(alloc, subject.image)?;
-    let report = report_of(&parts, &book, limit, &names, subject);
+    let report = report_of(&parts, &remembered, limit, &names, subject);
     report.write(alloc, out, &mut memory)
+}
+
+/// How many of the last instructions are remembered, by which a cause is found.
+const LAST: usize = 16;
+
+/// What is remembered of a tenant that runs anew.
+#[derive(Drop)]
+struct Remembered {
+    /// Its heap calls.
+    book: Book,
+    /// Its last instructions, the oldest first.
+    last: HeapCircularBuffer<Moment>,
 }
 
 /// The report of a machine, with its heap calls.
 fn report_of<'x>(
     parts: &'x TenantParts,
-    book: &'x Book,
+    remembered: &'x Remembered,
     limit: u64,
     names: &'x Names<'x>,
     subject: &DebugSubject<'x>,
 ) -> Report<'x> {
     Report {
         parts,
-        book,
-        last: None,
+        book: &remembered.book,
+        last: Some(&remembered.last),
         last_count: 0,
         turns: None,
         limit,
@@ -64,14 +77,32 @@ fn report_of<'x>(
     }
 }
 
-/// The same tenant where it is, and the book of the heap calls that it has made: it runs anew for
-/// them.
-fn retold<'a>(alloc: Global, tenant: &Traveller<'a>) -> Result<(Debuggee<'a>, Book), AllocError> {
+/// The same tenant where it is, and what is remembered of its way: it runs anew for that.
+fn retold<'a>(
+    alloc: Global,
+    tenant: &Traveller<'a>,
+) -> Result<(Debuggee<'a>, Remembered), AllocError> {
     let (mut past, steps) = tenant.past(alloc)?;
-    let mut book = Book::new(alloc)?;
-    for _ in 0..steps {
+    let mut remembered = Remembered {
+        book: Book::new(alloc)?,
+        last: HeapCircularBuffer::with_capacity(alloc, LAST)?,
+    };
+    for done in 0..steps {
+        if steps - done <= LAST as u64 {
+            remembered.last.push_back(moment_of(&mut past));
+        }
         past.attempt();
-        past.note_in(&mut book);
+        past.note_in(&mut remembered.book);
     }
-    Ok((past, book))
+    Ok((past, remembered))
+}
+
+/// The instruction that is attempted next.
+fn moment_of(past: &mut Debuggee<'_>) -> Moment {
+    let regs = *past.regs();
+    Moment {
+        step: past.steps().saturating_add(1),
+        word: past.word_at(regs.pc),
+        regs,
+    }
 }
