@@ -385,7 +385,7 @@ def check_hints(one: Explained, cause: Optional[str], model: ChunkModel) -> None
     """What led to a null pointer or to a jump, where it is known."""
     hints, refused = one.told.hints, model.refused()
     if cause == "Null Pointer" and refused:
-        call = f"call {refused.number}, {refused.text} = 0x0, step {refused.step}"
+        call = f"call {refused.number}, {refused.text} = {0:#018x}, step {refused.step}"
         why = "a chunk has at most 1,048,576 bytes"
         assert hints == [f"the newest call without a chunk is {call}: {why}"]
     elif (cause or "").startswith("Wild Jump"):

@@ -411,17 +411,17 @@ def test_chunks(alone: pathlib.Path, tmp_path: pathlib.Path) -> None:
     assert dialog[0].strip() == "no heap calls yet"
     calls = dialog[2].splitlines()
     assert len(calls) == 4
-    assert calls[0] == f"call 1, malloc(24) = {one:#x} by the SVC at {CODE + 8:#x}, step 3"
-    assert calls[1] == f"call 2, malloc(40) = {two:#x} by the SVC at {CODE + 24:#x}, step 7"
+    assert calls[0] == f"call 1, malloc(24) = {one:#018x} by the SVC at {CODE + 8:#018x}, step 3"
+    assert calls[1] == f"call 2, malloc(40) = {two:#018x} by the SVC at {CODE + 24:#018x}, step 7"
     assert calls[2].startswith("call 3, calloc(2, 8) = 0x")
-    assert calls[3] == f"call 4, free({two:#x}) = 0x0 by the SVC at {CODE + 60:#x}, step 16"
+    assert calls[3] == f"call 4, free({two:#018x}) = {0:#018x} by the SVC at {CODE + 60:#018x}, step 16"
     for at, where in ((3, "16 bytes in front of"), (4, "1 bytes in front of"), (5, "0 bytes into"),
                       (6, "39 bytes into"), (10, "0 bytes into")):
         lines = dialog[at].splitlines()
-        assert lines[0] == f"freed 40-byte chunk at {two:#x}, {where} it"
+        assert lines[0] == f"freed 40-byte chunk at {two:#018x}, {where} it"
         assert lines[1:3] == [f"  allocated by {calls[1]}", f"  freed by {calls[3]}"]
     assert dialog[7].splitlines()[0] == "no chunk there"
-    assert dialog[8].splitlines()[:2] == [f"live 24-byte chunk at {one:#x}, 0 bytes into it",
+    assert dialog[8].splitlines()[:2] == [f"live 24-byte chunk at {one:#018x}, 0 bytes into it",
                                           f"  allocated by {calls[0]}"]
     assert dialog[9].startswith("why | calls | chunk 0xADDRESS | step")
 

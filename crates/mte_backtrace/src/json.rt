@@ -102,11 +102,12 @@ fn write_frames<W: Write>(
     frames: FramesAt<'_, '_>,
     front: &str,
 ) -> io::Result<()> {
-    let mut front = front;
+    let mut is_first = true;
     for frame in frames {
+        let front = if is_first { front } else { "," };
         let object = FrameObject { address, frame };
         write!(out, "{front}{object}")?;
-        front = ",";
+        is_first = false;
     }
     Ok(())
 }

@@ -19,8 +19,7 @@ pub fn has_own_link<M: Tagged>(memory: &mut M, symbols: &Symbols<'_>, pc: u64) -
     let length = length_before(symbols, pc)?;
     let start = pc.wrapping_sub(length);
     for index in 0..length / 4 {
-        let word = word_at(memory, start.wrapping_add(index.wrapping_mul(4)))?;
-        if is_call(word) || makes_record(word) {
+        if ends_prologue(memory, start.wrapping_add(index.wrapping_mul(4))) {
             return Some(false);
         }
     }
@@ -36,12 +35,15 @@ fn length_before(symbols: &Symbols<'_>, pc: u64) -> Option<u64> {
     if length > REACH { None } else { Some(length) }
 }
 
-/// The instruction word at an address.
-fn word_at<M: Tagged>(memory: &mut M, addr: u64) -> Option<u32>
+/// Whether the instruction at an address is a call or makes a frame record, or cannot be fetched.
+fn ends_prologue<M: Tagged>(memory: &mut M, addr: u64) -> bool
     ensures memory { M.memory memory.new ≡ M.memory memory.old }
     ensures kept { M.kept memory.old memory.new }
 {
-    memory.fetch(addr).ok()
+    match memory.fetch(addr) {
+        Ok(word) => is_call(word) || makes_record(word),
+        Err(_) => true,
+    }
 }
 
 /// Whether a word is BL or BLR (Arm ARM DDI 0487, C6.2).

@@ -152,11 +152,12 @@ fn frame_with_line<'a>(frames: FramesAt<'_, 'a>) -> Option<StackFrame<'a>> {
 
 /// Writes an object for each frame of an address, with what stands in front of the first.
 fn write_frames<W: Write>(out: &mut W, frames: FramesAt<'_, '_>, front: &str) -> io::Result<()> {
-    let mut front = front;
+    let mut is_first = true;
     for frame in frames {
+        let front = if is_first { front } else { "," };
         let object = FrameObject(frame);
         write!(out, "{front}{object}")?;
-        front = ",";
+        is_first = false;
     }
     Ok(())
 }
