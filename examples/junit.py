@@ -19,7 +19,8 @@ import xml.etree.ElementTree as xml
 
 def plain(text: bytes) -> str:
     """What a document may have: printable characters of ASCII and newlines, others as \\xHH."""
-    return "".join(chr(byte) if 32 <= byte < 127 or byte == 10 else f"\\x{byte:02x}" for byte in text)
+    kept = {10, *range(32, 127)}
+    return "".join(chr(byte) if byte in kept else f"\\x{byte:02x}" for byte in text)
 
 
 def add_case(suite: xml.Element, program: str, options: list[str], image: str) -> bool:

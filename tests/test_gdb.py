@@ -414,7 +414,8 @@ def test_chunks(alone: pathlib.Path, tmp_path: pathlib.Path) -> None:
     assert calls[0] == f"call 1, malloc(24) = {one:#018x} by the SVC at {CODE + 8:#018x}, step 3"
     assert calls[1] == f"call 2, malloc(40) = {two:#018x} by the SVC at {CODE + 24:#018x}, step 7"
     assert calls[2].startswith("call 3, calloc(2, 8) = 0x")
-    assert calls[3] == f"call 4, free({two:#018x}) = {0:#018x} by the SVC at {CODE + 60:#018x}, step 16"
+    svc = f"by the SVC at {CODE + 60:#018x}, step 16"
+    assert calls[3] == f"call 4, free({two:#018x}) = {0:#018x} {svc}"
     for at, where in ((3, "16 bytes in front of"), (4, "1 bytes in front of"), (5, "0 bytes into"),
                       (6, "39 bytes into"), (10, "0 bytes into")):
         lines = dialog[at].splitlines()

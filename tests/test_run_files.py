@@ -127,7 +127,8 @@ def test_output_that_is_cut_has_a_key_and_a_status(
     source, told = tmp_path / "much.c", tmp_path / "told.json"
     source.write_text(WRITE_MUCH, encoding="utf-8")
     image = tenant(tmp_path, source)
-    for words, status in (((), 3), (("--whole-output",), CUT), (("--whole-output", "--exact"), CUT)):
+    whole = "--whole-output"
+    for words, status in (((), 3), ((whole,), CUT), ((whole, "--exact"), CUT)):
         ran = run([alone, "--json", told, *words, image])
         held = json.loads(told.read_text())
         assert (ran.status, held["exit_status"], held["output_cut"]) == (status, status, True)
@@ -178,7 +179,8 @@ def test_why_an_admission_is_refused(alone: pathlib.Path, tmp_path: pathlib.Path
     first = form.format(3, 5, 16)
     for pages, room, frames, why in (
         (32, 16, 64, "NoFrames: it takes 65 frames, and 53 are left"),
-        (4, 16, 99, "ReservationTooSmall: `frames 4` is less than the image's pages and 4 of stack"),
+        (4, 16, 99,
+         "ReservationTooSmall: `frames 4` is less than the image's pages and 4 of stack"),
         (0, 16, 99, "BadReservation: `frames 0` is not 1 to 4096, or `out 16` is over 65536"),
         (9, 65537, 99, "BadReservation: `frames 9` is not 1 to 4096, or `out 65537` is over 65536"),
     ):

@@ -73,7 +73,8 @@ def test_a_log_says_what_the_report_says(
     assert steps[-1] == result["message"]["text"] and len(steps) == len(calls) + 1
     for step, call in zip(steps, calls):
         assert step.startswith(f"call {call['number']}, "), step
-    assert [place_of(one) for one in result["locations"]] == [place_of(flow["locations"][-1]["location"])]
+    last = place_of(flow["locations"][-1]["location"])
+    assert [place_of(one) for one in result["locations"]] == [last]
     first = re.search(r"#0 .* at (\S+)", errors)
     assert first and place_of(result["locations"][0]) == first[1]
 
