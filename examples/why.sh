@@ -12,7 +12,11 @@ if [[ $# -eq 0 || $1 == --help ]]; then
     exit 2
 fi
 crate=$(cd "$(dirname "$0")/../crates/mte_run" && pwd)
-case " $* " in *" --exact"* | *" --gdb "* | *" --help "* | *" --version "*) ;; *) set -- --exact "$@" ;; esac
+given=$*
+case " $given " in
+    *" --exact"* | *" --gdb "* | *" --version "*) ;;
+    *) set -- --exact "$@" ;;
+esac
 if [[ -n ${TOMBOLOPAN_BUILT:-} ]]; then
     exec "$TOMBOLOPAN_BUILT/mte_run" "$@"
 fi
@@ -30,7 +34,7 @@ for word in "$@"; do
     words+=("$word")
 done
 if [[ ${#files[@]} -eq 0 ]]; then
-    echo "why.sh: none of the words is a file: $*" >&2
+    echo "why.sh: none of the words is a file: $given" >&2
     exit 2
 fi
 echo "why.sh: compiling mte_run without proving it: two to three minutes" >&2

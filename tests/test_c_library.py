@@ -2,6 +2,7 @@
 what they write and return on this machine, by clang and gcc."""
 
 import pathlib
+import re
 import shutil
 
 import pytest
@@ -14,6 +15,7 @@ from tests.support.programs import (
     LEVELS, comment_value, compiled, is_for_clang, native, run_as_tenant, tenant_cc,
 )
 from tests.support.running import run
+from tests.support.told import UNSEEN
 from tests.support.tools import need
 
 PROGRAMS = sorted((EXAMPLES / "programs").glob("*.c"))
@@ -63,9 +65,10 @@ def test_a_program_does_what_it_does_natively(
     program = native(source, tmp_path / "native", "-O2", "-Wall", "-Wextra")
     wanted = run([program], stdin=data.read_bytes())
     image = compiled(library, source, compiler, level, tmp_path / "image.elf")
-    ran = run_as_tenant(alone, image, "--input", str(data))
-    assert (ran.out, ran.status) == (wanted.out, wanted.status), ran.errors
-    assert ran.err == b""
+    for words in ((), ("--exact",)):
+        ran = run_as_tenant(alone, image, "--input", str(data), *words)
+        assert (ran.out, ran.status) == (wanted.out, wanted.status), ran.errors
+        assert ran.errors in (("", UNSEEN + "\n") if not words else ("",))
 
 
 @pytest.mark.parametrize("source, compiler, level", cases(TESTS), ids=titled)
@@ -84,7 +87,10 @@ def test_the_library_does_what_its_tests_expect(
         return
     program = native(source, tmp_path / "native", "-O1", "-w", "-ffp-contract=off")
     wanted = run([program])
-    assert (ran.out, ran.status, ran.err) == (wanted.out, wanted.status, b""), ran.errors
+    assert (ran.out, ran.status) == (wanted.out, wanted.status), ran.errors
+    assert ran.errors in ("", UNSEEN + "\n")
+    exact = run_as_tenant(alone, image, "--exact")
+    assert (exact.out, exact.status, exact.errors) == (wanted.out, wanted.status, "")
 
 
 SHORT = [tenant.name for tenant in c_tenants.tenants() if not tenant.is_long]
@@ -107,7 +113,8 @@ def test_tenants_in_c_are_told_the_same_over_the_library(
     assert ran.status == tenant.ends
     if tenant.ends < 128:
         exact = c_tenants.run_alone(alone, tenant, image, "--exact")
-        assert (exact.status, exact.out, exact.err) == (ran.status, ran.out, b"")
+        assert (exact.status, exact.out) == (ran.status, ran.out)
+        assert exact.errors == ran.errors.replace(UNSEEN + "\n", "")
 
 
 def linked(
@@ -172,7 +179,8 @@ def test_a_stack_is_as_large_as_it_is_wanted(
     assert run_as_tenant(alone, image).status == 0
     image, _ = linked(library, tmp_path, DEEP.replace("20", "60"), "--stack=100000")
     ran = run_as_tenant(alone, image)
-    assert ran.status == 129 and "\nCause: [MTE]: Buffer Underflow, " in ran.errors
+    assert ran.status == 129 and "\nCause: Stack Overflow, " in ran.errors
+    assert len(re.findall(r"^  #\d+ depth", ran.errors, re.MULTILINE)) > 2, ran.errors
 
 
 def test_objects_are_compiled_and_linked_apart(

@@ -396,7 +396,7 @@ def check_hints(one: Explained, cause: Optional[str], model: ChunkModel) -> None
         register = jump.text.split()[1]
         if load and load.loaded:
             place = load.loaded.address
-            assert hints[1:] == [f"{register} was loaded from [{place:#x}], step {load.number}"]
+            assert hints[1:] == [f"{register} was loaded from [{place:#018x}], step {load.number}"]
     else:
         assert hints == [] or model.is_short
 

@@ -185,10 +185,10 @@ def test_gdb_is_told_of_chunks_around_an_address(
     ahead = front.ask_user("chunk 0x12000085").decode()
     inside = front.ask_user("chunk 0x1200009b").decode()
     front.end()
-    chunk = "freed 48-byte chunk at 0x100000012000090"
+    chunk = "freed 48-byte chunk at 0x0100000012000090"
     assert ahead.splitlines()[0] == f"{chunk}, 11 bytes in front of it"
     assert inside.splitlines()[0] == f"{chunk}, 11 bytes into it"
     for told in (ahead, inside):
-        assert "  allocated by call 3, calloc(3, 16) = 0x100000012000090 by the SVC at " in told
+        assert "  allocated by call 3, calloc(3, 16) = 0x0100000012000090 by the SVC at " in told
         freed = "  freed by call 16, free(0x0100000012000090) = 0x0000000000000000 by the SVC at "
         assert freed in told

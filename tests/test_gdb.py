@@ -436,7 +436,7 @@ def test_tags_around_a_chunk(alone: pathlib.Path, tmp_path: pathlib.Path) -> Non
     row = dialog[3].splitlines()[-1]
     # Blocks of 64 bytes: a granule of header, of the first chunk two granules, of the second three.
     blocks = f"0 {first} {first} 0 0 [{second}] {second} {second} 0"
-    assert row.startswith("tags from 0x11ffffd0: - - - ") and f"- {blocks}" in row
+    assert row.startswith("tags from 0x0000000011ffffd0: - - - ") and f"- {blocks}" in row
 
 
 def test_why_is_the_report(alone: pathlib.Path, tmp_path: pathlib.Path) -> None:

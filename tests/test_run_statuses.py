@@ -137,7 +137,8 @@ def test_usage_is_as_stored(alone: pathlib.Path) -> None:
         is_help = words in (["--help"], ["-h"], ["--version"], ["-V"])
         assert ran.status == (0 if is_help else USAGE), words
         assert bool(ran.out) == is_help and bool(ran.err) == (not is_help), words
-        told += f"$ mte_run {' '.join(words)}\nstatus {ran.status}\n{ran.output}{ran.errors}\n"
+        shown = " ".join(words).replace("\x1b", "\\x1b")
+        told += f"$ mte_run {shown}\nstatus {ran.status}\n{ran.output}{ran.errors}\n"
     compare("run/usage.txt", told)
 
 
@@ -250,7 +251,7 @@ def test_a_script_may_name_its_last_file(alone: pathlib.Path, tmp_path: pathlib.
     assert ran.status == 0 and b"words of the last file".hex() in ran.output and not ran.err
     script.write_text(GOOD.replace("image 1 input 2", "image 2 input 1"))
     ran = replay(alone, script, str(words), HELLO)
-    assert ran.status == REFUSED and ran.errors.startswith("mte_run: the session never admits")
+    assert ran.status == REFUSED and "\nmte_run: the session never admits the tenant\n" in ran.errors
 
 
 def test_a_script_has_at_most_10000_events(alone: pathlib.Path, tmp_path: pathlib.Path) -> None:
@@ -277,7 +278,8 @@ def test_a_tenant_that_is_stopped_or_never_admitted(
     script.write_text("slice 1 9\n")
     ran = replay(alone, script, HELLO)
     assert (ran.status, ran.output) == (REFUSED, "refused 1 NotLive\n")
-    assert ran.errors == ("mte_run: the session never admits the tenant\n"
+    assert ran.errors == ("mte_run: no event of the script admits a tenant 1\n"
+                          "mte_run: the session never admits the tenant\n"
                           "mte_run: ended by refusal, status 136\n")
 
 
@@ -390,4 +392,4 @@ def test_a_picture_into_a_full_output(alone: pathlib.Path, tmp_path: pathlib.Pat
     words = [str(alone), "--map", "-", "--input", str(input_file(tmp_path, "m")),
              str(image("chunks", "gcc-O0"))]
     ran = run(["bash", "-c", 'exec "$@" > /dev/full', "-", *words])
-    assert (ran.status, ran.errors) == (WRITE, "mte_run: cannot write -\n")
+    assert (ran.status, ran.errors) == (WRITE, "mte_run: cannot write -: no space is left\n")

@@ -13,6 +13,7 @@ from tests.support.c_tenants import (
 )
 from tests.support.pictures import read_svg
 from tests.support.running import Ran, run
+from tests.support.told import UNSEEN
 from tests.support.tools import give_up, need
 
 FAULT, ABORT = 129, 131
@@ -69,7 +70,8 @@ def test_exact_says_nothing_of_a_tenant_that_exits(
     if tenant.ends in (FAULT, ABORT) or not is_tried:
         return
     plain, exact = (run_alone(alone, tenant, image, *words) for words in ((), ("--exact",)))
-    assert (exact.status, exact.out, exact.err) == (plain.status, plain.out, plain.err)
+    assert (exact.status, exact.out) == (plain.status, plain.out)
+    assert exact.errors == plain.errors.replace(UNSEEN + "\n", "")
 
 
 @pytest.fixture(scope="module")

@@ -15,6 +15,11 @@ FRAME = re.compile(
     r" +#(\d+) (\S+?|.+?(?= at \S+ \(inlined\)))(?: at (\S+):(\d+))?( \(inlined\))?"
     r"( \(x30, may be old\))?$"
 )
+# What is said of a clean exit where chunks had bytes past their size.
+UNSEEN = (
+    "mte_run: no tag differed; a tag is that of 16 bytes, so up to 15 bytes past a chunk's size are "
+    "compared by --exact alone"
+)
 CALL = re.compile(r"  (allocated|freed) by call (\d+), (.*) = (0x[0-9a-f]+), step (\d+)$")
 YOUNG = re.compile(r"  its block was given again, as the (\d+)-byte allocation at (0x[0-9a-f]+):$")
 PLACE = re.compile(r"(0x[0-9a-f]{16}) is in (.*)$")
@@ -155,6 +160,8 @@ def read_line(told: Told, line: str, section: str, frames: list[Frame]) -> list[
     """Reads a line that is no frame; returns the list that the frames below it go to."""
     if section and line.startswith("   "):
         (told.last if section == "last" else told.turns).append(line)
+        return frames
+    if line == UNSEEN:
         return frames
     if line.startswith("mte_run: ended by") or line.startswith("mte_run: exited with"):
         told.final = line

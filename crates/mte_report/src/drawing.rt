@@ -18,11 +18,11 @@ impl<'a> Report<'a> {
     /// heap's pages, and the row of the access that faulted or the pointer that was refused. Rows
     /// in which nothing changes are left out after the first, and those farthest from the mark
     /// where there are more than [`heap_picture::ROWS`].
-    pub fn draw<W: Write>(
-        &self,
+    pub fn draw<'t, W: Write>(
+        &'t self,
         alloc: Global,
         out: &mut W,
-        title: &str,
+        title: &'t str,
         memory: &mut Flat,
     ) -> io::Result<()> {
         let title = self.title_of(title);
@@ -34,11 +34,11 @@ impl<'a> Report<'a> {
     }
 
     /// Writes the same rows as text, under the same title.
-    pub fn write_map<W: Write>(
-        &self,
+    pub fn write_map<'t, W: Write>(
+        &'t self,
         alloc: Global,
         out: &mut W,
-        title: &str,
+        title: &'t str,
         memory: &mut Flat,
     ) -> io::Result<()> {
         let title = self.title_of(title);
