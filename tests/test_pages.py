@@ -2,6 +2,7 @@
 somewhere."""
 
 import json
+import os
 import pathlib
 import re
 import shutil
@@ -163,6 +164,8 @@ def test_pictures(built: Built, source: str) -> None:
     picture = ROOT / "docs" / "pictures" / f"{pathlib.Path(source).stem}.svg"
     image = built.tenant(source)
     ran = run([built.alone, "--map", "-", image.name], cwd=image.parent)
+    if os.environ.get("WRITE_EXPECTED") == "1":
+        picture.write_text(ran.output, encoding="utf-8")
     assert ran.output == picture.read_text(encoding="utf-8")
 
 

@@ -1,13 +1,14 @@
 """Tenants of examples/c as the pages have them, and what programs say of them."""
 
 import difflib
+import os
 import pathlib
 import shutil
 from collections.abc import Sequence
 
 from tests.support.once import make_once
 from tests.support.pages import Part
-from tests.support.places import EXAMPLES
+from tests.support.places import EXAMPLES, ROOT
 from tests.support.running import succeed
 
 FLAGS = ("-g", "-ffreestanding", "-nostdlib", "-static", "-mgeneral-regs-only")
@@ -39,8 +40,20 @@ def assert_sample(part: Part, output: str, until: str = "") -> None:
         ends = [number for number, line in enumerate(printed) if line.startswith(until)]
         assert ends, f"nobody prints {until!r}\n{output}"
         printed = printed[:ends[0]]
+    if os.environ.get("WRITE_EXPECTED") == "1":
+        store(part, printed)
     compared = difflib.unified_diff(part.lines, printed, part.place, "printed", lineterm="", n=1)
     assert list(part.lines) == printed, "\n".join(compared)
+
+
+def store(part: Part, printed: Sequence[str]) -> None:
+    """Puts what is printed into the page, for review. A sample is four blanks in from the text."""
+    page = ROOT / part.page
+    text = page.read_text(encoding="utf-8")
+    held = "".join(f"    {line}\n" for line in part.lines)
+    if text.count(held) == 1:
+        new = "".join(f"    {line}\n" for line in printed)
+        page.write_text(text.replace(held, new), encoding="utf-8")
 
 
 def assert_in_order(place: str, wanted: Sequence[str], output: str) -> None:
