@@ -4,8 +4,8 @@
 #     why.sh [OPTION..] ELF
 # The options are those of mte_run (docs/REPORT.md), but without files to write: the picture of the
 # heap goes to standard output by `--map -`. Unless an option says otherwise, accesses are compared
-# with the sizes of chunks to the byte (--exact), which tags alone do not find. TOMBOLOPAN_BUILT names a folder with a program mte_run
-# that is used as it is.
+# with the sizes of chunks to the byte (--exact), which tags alone do not find. TOMBOLOPAN_BUILT
+# names a folder with a program mte_run that is used as it is.
 set -euo pipefail
 if [[ $# -eq 0 || $1 == --help ]]; then
     sed -n '2,/^set/s/^# \{0,1\}//p' "$0"

@@ -34,8 +34,9 @@ def test_why_a_file_cannot_be_read(alone: pathlib.Path, tmp_path: pathlib.Path) 
     for name, reason in ((tmp_path / "absent.elf", ": no such file or folder"),
                          (HELLO / "below.elf", ": no such file or folder"),
                          (long, ": it has more than 16 MiB"), (tmp_path, "")):
-        for words in ([name], ["--input", name, HELLO],
-                      ["--script", name, "1", "--frames", "9", HELLO]):
+        lines: list[list[Word]] = [[name], ["--input", name, HELLO],
+                                   ["--script", name, "1", "--frames", "9", HELLO]]
+        for words in lines:
             ran = failing(alone, *words)
             assert (ran.status, ran.errors) == (READ, f"mte_run: cannot read {name}{reason}\n")
 
@@ -64,8 +65,10 @@ def test_names_never_reach_a_terminal_raw(alone: pathlib.Path, tmp_path: pathlib
                       ("größe", "gr\\u{f6}\\u{df}e"), ("\x7f\x80", "\\u{7f}\\u{80}")):
         ran = failing(alone, tmp_path / raw)
         assert ran.errors == f"mte_run: cannot read {tmp_path}/{told}: no such file or folder\n"
-        for words in (["--json", f"absent/{raw}", HELLO], [f"--{raw}", HELLO],
-                      ["--exact=" + raw, HELLO], [HELLO, raw], ["--seed", raw, HELLO]):
+        lines: list[list[Word]] = [
+            ["--json", f"absent/{raw}", HELLO], [f"--{raw}", HELLO], ["--exact=" + raw, HELLO],
+            [HELLO, raw], ["--seed", raw, HELLO]]
+        for words in lines:
             ran = run([alone, *words])
             held = set(ran.err.replace(b"\n", b""))
             assert ran.status in (USAGE, WRITE) and held <= set(range(32, 127)), words
@@ -97,9 +100,11 @@ def test_a_file_is_not_both_read_and_written(alone: pathlib.Path, tmp_path: path
     session: list[Word] = ["--script", script, "1", "--frames", "9"]
     for option in ("--json", "--sarif", "--map", "--core", "--trace-file"):
         other = "--core" if option != "--core" else "--json"
-        for words in ([option, image, image], [option, script, "--input", script, image],
-                      [option, script, *session, image], [option, "new", other, "new", image],
-                      [option, "./new", other, "new", image], [option, "./image.elf", "image.elf"]):
+        lines: list[list[Word]] = [
+            [option, image, image], [option, script, "--input", script, image],
+            [option, script, *session, image], [option, "new", other, "new", image],
+            [option, "./new", other, "new", image], [option, "./image.elf", "image.elf"]]
+        for words in lines:
             ran = run([alone, *words], cwd=tmp_path)
             assert ran.status == USAGE and SHARED in ran.errors, words
             assert image.read_bytes() == HELLO.read_bytes()
@@ -154,7 +159,7 @@ def test_output_is_shown_before_a_run_ends(alone: pathlib.Path, tmp_path: pathli
     need("clang", "ld.lld")
     source = tmp_path / "spin.c"
     source.write_text(SPIN, encoding="utf-8")
-    words = [alone, "--steps", str(10**15), tenant(tmp_path, source)]
+    words = [str(alone), "--steps", str(10**15), str(tenant(tmp_path, source))]
     with subprocess.Popen(words, stdout=subprocess.PIPE) as process:
         assert process.stdout is not None
         started = time.monotonic()

@@ -251,7 +251,8 @@ def test_a_script_may_name_its_last_file(alone: pathlib.Path, tmp_path: pathlib.
     assert ran.status == 0 and b"words of the last file".hex() in ran.output and not ran.err
     script.write_text(GOOD.replace("image 1 input 2", "image 2 input 1"))
     ran = replay(alone, script, str(words), HELLO)
-    assert ran.status == REFUSED and "\nmte_run: the session never admits the tenant\n" in ran.errors
+    assert ran.status == REFUSED
+    assert "\nmte_run: the session never admits the tenant\n" in ran.errors
 
 
 def test_a_script_has_at_most_10000_events(alone: pathlib.Path, tmp_path: pathlib.Path) -> None:

@@ -11,7 +11,7 @@ import pytest
 
 from tests.support import c_tenants, sarif
 from tests.support.places import EXAMPLES, IMAGES, ROOT
-from tests.support.running import run
+from tests.support.running import Word, run
 from tests.support.samples import tenant
 from tests.support.tools import need
 
@@ -20,7 +20,8 @@ RULES = {
     "Buffer Underflow": "heap-buffer-underflow", "Double Free": "double-free",
     "Stack Overflow": "stack-overflow", "Null Pointer": "null-pointer",
 }
-SOURCES = sorted(one.source for one in c_tenants.tenants() if one.ends >= 128)
+SOURCES: list[pathlib.Path] = sorted(
+    one.source for one in c_tenants.tenants() if one.ends >= 128)
 
 
 def place_of(location: Any) -> str:
@@ -105,8 +106,8 @@ def test_junit_of_a_folder(alone: pathlib.Path, tmp_path: pathlib.Path) -> None:
     need("clang", "ld.lld")
     bad = tenant(tmp_path, EXAMPLES / "c" / "use_after_free.c")
     (tmp_path / "good.elf").write_bytes((EXAMPLES / "hi.elf").read_bytes())
-    words = [ROOT / "examples" / "junit.py", "--run", alone, "--option=--exact",
-             tmp_path / "good.elf", bad]
+    words: list[Word] = [ROOT / "examples" / "junit.py", "--run", alone, "--option=--exact",
+                         tmp_path / "good.elf", bad]
     ran = run(words)
     assert ran.status == 1, ran.errors
     suite = ran.output

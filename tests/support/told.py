@@ -17,8 +17,8 @@ FRAME = re.compile(
 )
 # What is said of a clean exit where chunks had bytes past their size.
 UNSEEN = (
-    "mte_run: no tag differed; a tag is that of 16 bytes, so up to 15 bytes past a chunk's size are "
-    "compared by --exact alone"
+    "mte_run: no tag differed; a tag is that of 16 bytes, so up to 15 bytes past a chunk's size "
+    "are compared by --exact alone"
 )
 CALL = re.compile(r"  (allocated|freed) by call (\d+), (.*) = (0x[0-9a-f]+), step (\d+)$")
 YOUNG = re.compile(r"  its block was given again, as the (\d+)-byte allocation at (0x[0-9a-f]+):$")

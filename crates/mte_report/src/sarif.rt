@@ -2,7 +2,7 @@
 //! 2.1.0), which editors and forges show beside the source.
 
 use crate::report::Report;
-use mte_backtrace::{FrameNames, Quoted};
+use mte_backtrace::{CallStack, FrameNames, Quoted};
 use mte_flat::Flat;
 use mte_tenant::Status;
 use run_book::{BookEntry, Call};
@@ -11,15 +11,13 @@ use std::alloc::Global;
 use std::io;
 use std::io::Write;
 
-/// What stands in front of a run's invocation.
-const HEAD: &str = "{\"$schema\":\"https://json.schemastore.org/sarif-2.1.0.json\",\n\
-    \"version\":\"2.1.0\",\n\"runs\":[{\"tool\":{\"driver\":{\"name\":\"mte_run\",\
-    \"version\":\"1.0\"";
+/// Where the schema of the format is.
+const SCHEMA: &str = "https://json.schemastore.org/sarif-2.1.0.json";
 
 impl<'a> Report<'a> {
-    /// Writes what happened as a log with one run, under the program's exit status. It has no result
-    /// for a tenant that exited; else one, with the calls that led to its end and to the heap calls
-    /// of its cause, and a flow through these.
+    /// Writes what happened as a log with one run, under the program's exit status. It has no
+    /// result for a tenant that exited; else one, with the calls that led to its end and to the
+    /// heap calls of its cause, and a flow through these.
     pub fn write_sarif<W: Write>(
         &self,
         alloc: Global,
@@ -27,7 +25,7 @@ impl<'a> Report<'a> {
         exit_status: u8,
         memory: &mut Flat,
     ) -> io::Result<()> {
-        write!(out, "{HEAD}")?;
+        write_head(out)?;
         let is_clean = self.finding.is_none() && matches!(self.parts.log.status, Status::Exited(_));
         if is_clean {
             write!(out, "}}}},\n\"results\":[]")?;
@@ -51,76 +49,56 @@ impl<'a> Report<'a> {
     ) -> io::Result<()> {
         let cause = self.cause();
         let names = self.frame_names(alloc, cause.as_ref(), memory)?;
-        let rule = self.rule(cause.as_ref());
-        writeln!(out, ",\"rules\":[{{\"id\":\"{rule}\"}}]}}}},")?;
-        write!(
-            out,
-            "\"results\":[{{\"ruleId\":\"{rule}\",\"ruleIndex\":0,\"level\":\"error\""
-        )?;
-        match &cause {
+        let stack = self.end_stack(alloc, memory)?;
+        self.write_told(alloc, out, cause.as_ref(), &names, &stack)
+    }
+
+    /// Writes the rule and the result of an end, by its calls. It borrows them, so that none of its
+    /// ends has to drop them.
+    fn write_told<W: Write>(
+        &self,
+        alloc: Global,
+        out: &mut W,
+        cause: Option<&Cause>,
+        names: &FrameNames<'_>,
+        stack: &CallStack,
+    ) -> io::Result<()> {
+        write_rule(out, self.rule(cause))?;
+        match cause {
             Some(cause) => {
                 let found = self.found(cause);
                 let text = format!(in alloc; "{found}")?;
-                self.write_places(alloc, out, text.as_str(), Some(cause), memory, &names)?;
+                write_end(out, text.as_str(), names, stack)?;
+                self.write_calls(alloc, out, cause, names)?;
+                self.write_flow(alloc, out, cause, names)?;
+                write_last(out, text.as_str(), names, stack)
             }
-            None => self.write_places(alloc, out, self.end_text(), None, memory, &names)?,
+            None => {
+                write_end(out, self.end_text(), names, stack)?;
+                begin_flow(out)?;
+                write_last(out, self.end_text(), names, stack)
+            }
         }
-        write!(out, "}}]")
-    }
-
-    /// Writes the message, the location, the stacks and the flow.
-    fn write_places<W: Write>(
-        &self,
-        alloc: Global,
-        out: &mut W,
-        message: &str,
-        cause: Option<&Cause>,
-        memory: &mut Flat,
-        names: &FrameNames<'_>,
-    ) -> io::Result<()> {
-        let text = Quoted(message);
-        writeln!(out, ",\n\"message\":{{\"text\":{text}}},")?;
-        let stack = self.end_stack(alloc, memory)?;
-        write!(out, "\"locations\":[")?;
-        stack.write_sarif_location(out, names, message)?;
-        write!(
-            out,
-            "],\n\"stacks\":[{{\"message\":{{\"text\":\"the end\"}},\"frames\":"
-        )?;
-        stack.write_sarif_frames(out, names)?;
-        write!(out, "}}")?;
-        self.write_stacks(alloc, out, cause, names)?;
-        write!(
-            out,
-            "],\n\"codeFlows\":[{{\"threadFlows\":[{{\"locations\":["
-        )?;
-        self.write_flow(alloc, out, cause, names)?;
-        write!(out, "{{\"location\":")?;
-        stack.write_sarif_location(out, names, message)?;
-        write!(out, "}}]}}]}}]")
     }
 
     /// Writes the calls that led to each heap call of a cause, each stack behind a comma.
-    fn write_stacks<W: Write>(
+    fn write_calls<W: Write>(
         &self,
         alloc: Global,
         out: &mut W,
-        cause: Option<&Cause>,
+        cause: &Cause,
         names: &FrameNames<'_>,
     ) -> io::Result<()> {
-        let Some(cause) = cause else {
-            return Ok(());
-        };
         for entry in cause.calls().iter() {
             if let Some(entry) = entry {
-                self.write_stack(alloc, out, entry, names)?;
+                self.write_call_stack(alloc, out, entry, names)?;
             }
         }
         Ok(())
     }
 
     /// Writes the calls that led to a heap call, behind a comma.
-    fn write_stack<W: Write>(
+    fn write_call_stack<W: Write>(
         &self,
         alloc: Global,
         out: &mut W,
@@ -129,11 +107,8 @@ impl<'a> Report<'a> {
     ) -> io::Result<()> {
         let call = Call(entry);
         let text = format!(in alloc; "{call}")?;
-        let text = Quoted(text.as_str());
-        write!(out, ",{{\"message\":{{\"text\":{text}}},\"frames\":")?;
         let stack = self.stack_of(alloc, entry)?;
-        stack.write_sarif_frames(out, names)?;
-        write!(out, "}}")
+        write_stack(out, ",", text.as_str(), names, &stack)
     }
 
     /// Writes the locations of the heap calls of a cause, a comma behind each.
@@ -141,12 +116,10 @@ impl<'a> Report<'a> {
         &self,
         alloc: Global,
         out: &mut W,
-        cause: Option<&Cause>,
+        cause: &Cause,
         names: &FrameNames<'_>,
     ) -> io::Result<()> {
-        let Some(cause) = cause else {
-            return Ok(());
-        };
+        begin_flow(out)?;
         for entry in cause.calls().iter() {
             if let Some(entry) = entry {
                 self.write_flow_step(alloc, out, entry, names)?;
@@ -166,9 +139,7 @@ impl<'a> Report<'a> {
         let call = Call(entry);
         let text = format!(in alloc; "{call}")?;
         let stack = self.stack_of(alloc, entry)?;
-        write!(out, "{{\"location\":")?;
-        stack.write_sarif_location(out, names, text.as_str())?;
-        write!(out, "}},")
+        write_step(out, text.as_str(), names, &stack, ",")
     }
 
     /// The name of the kind of its end.
@@ -191,4 +162,82 @@ impl<'a> Report<'a> {
             _ => "the tenant did not end within its steps",
         }
     }
+}
+
+/// Writes what stands in front of the rules.
+fn write_head<W: Write>(out: &mut W) -> io::Result<()> {
+    writeln!(out, "{{\"$schema\":\"{SCHEMA}\",")?;
+    writeln!(out, "\"version\":\"2.1.0\",")?;
+    write!(
+        out,
+        "\"runs\":[{{\"tool\":{{\"driver\":{{\"name\":\"mte_run\","
+    )?;
+    write!(out, "\"version\":\"1.0\"")
+}
+
+/// Writes the rule of a result, and what a result begins with.
+fn write_rule<W: Write>(out: &mut W, rule: &str) -> io::Result<()> {
+    writeln!(out, ",\"rules\":[{{\"id\":\"{rule}\"}}]}}}},")?;
+    write!(out, "\"results\":[{{\"ruleId\":\"{rule}\",")?;
+    writeln!(out, "\"ruleIndex\":0,\"level\":\"error\",")
+}
+
+/// Writes the message, the location and the stack of an end, and leaves the list of stacks open.
+fn write_end<W: Write>(
+    out: &mut W,
+    message: &str,
+    names: &FrameNames<'_>,
+    stack: &CallStack,
+) -> io::Result<()> {
+    let text = Quoted(message);
+    writeln!(out, "\"message\":{{\"text\":{text}}},")?;
+    write!(out, "\"locations\":[")?;
+    stack.write_sarif_location(out, names, message)?;
+    write!(out, "],\n\"stacks\":")?;
+    write_stack(out, "[", "the end", names, stack)
+}
+
+/// Writes a stack behind what stands in front of it.
+fn write_stack<W: Write>(
+    out: &mut W,
+    front: &str,
+    message: &str,
+    names: &FrameNames<'_>,
+    stack: &CallStack,
+) -> io::Result<()> {
+    let text = Quoted(message);
+    write!(out, "{front}{{\"message\":{{\"text\":{text}}},\"frames\":")?;
+    stack.write_sarif_frames(out, names)?;
+    write!(out, "}}")
+}
+
+/// Ends the list of stacks and begins the flow.
+fn begin_flow<W: Write>(out: &mut W) -> io::Result<()> {
+    write!(
+        out,
+        "],\n\"codeFlows\":[{{\"threadFlows\":[{{\"locations\":["
+    )
+}
+
+/// Writes a location of the flow, and what stands behind it.
+fn write_step<W: Write>(
+    out: &mut W,
+    message: &str,
+    names: &FrameNames<'_>,
+    stack: &CallStack,
+    behind: &str,
+) -> io::Result<()> {
+    write!(out, "{{\"location\":")?;
+    stack.write_sarif_location(out, names, message)?;
+    write!(out, "}}{behind}")
+}
+
+/// Writes the last location of the flow, and ends the result.
+fn write_last<W: Write>(
+    out: &mut W,
+    message: &str,
+    names: &FrameNames<'_>,
+    stack: &CallStack,
+) -> io::Result<()> {
+    write_step(out, message, names, stack, "]}]}]}]")
 }

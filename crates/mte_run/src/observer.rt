@@ -78,7 +78,7 @@ impl<'a, W: Write + Drop> Observer<'a, W> {
         self
     }
 
-    /// Whether it must watch from the first step on, since it writes or counts or ends what it sees.
+    /// Whether it must watch from the first step on: it writes or counts or ends what it sees.
     pub fn needs_each_step(&self) -> bool {
         self.tracer.is_some() || self.exact.is_some() || self.statistics.is_some()
     }

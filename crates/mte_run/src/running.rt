@@ -204,8 +204,8 @@ fn run_bench<'a>(
     tell_end(rt, bench, &mut observer, options, &tenant.image, run)
 }
 
-/// Runs a tenant to its end. Where nothing has to watch each step, it runs unwatched first; only an
-/// end that is told by what was watched takes a second run, which is the same.
+/// Runs a tenant to its end. Where nothing has to watch each step, it runs unwatched first; only
+/// an end that is told by what was watched takes a second run, which is the same.
 fn run_watched<'a>(
     rt: &HostRuntime,
     options: &Options,
@@ -227,8 +227,8 @@ fn run_watched<'a>(
     Ok(bench)
 }
 
-/// The tenant after the access that ends it beyond what its tags forbid, if one does: its slice went
-/// on behind that.
+/// The tenant after the access that ends it beyond what its tags forbid, if one does: its slice
+/// went on behind that.
 fn run_to_finding<'a>(
     rt: &HostRuntime,
     options: &Options,
@@ -397,8 +397,8 @@ fn is_over(
         || bench.parts.log.steps >= limit
 }
 
-/// Runs a slice, or what the limit of steps leaves of it, and writes what it wrote, unless an access
-/// ended the tenant within it.
+/// Runs a slice, or what the limit of steps leaves of it, and writes what it wrote, unless an
+/// access ended the tenant within it.
 fn run_slice(
     bench: &mut Bench,
     observer: &mut Observer<'_, Log>,

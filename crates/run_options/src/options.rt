@@ -135,8 +135,8 @@ impl Fault {
             Fault::Trace => "the trace is not FROM-TO, two step numbers, the lower one first",
             Fault::Frames => "--frames is for a session: it wants --script",
             Fault::Names => {
-                "--json, --sarif, --map, --core and --trace-file want different files, and none that is \
-                 read"
+                "--json, --sarif, --map, --core and --trace-file want different files, and none \
+                 that is read"
             }
             Fault::Script => {
                 "--script has two values, a file and a tenant's number, and wants --frames"
