@@ -44,7 +44,7 @@ def log_of(alone: pathlib.Path, image: pathlib.Path, *words: str) -> tuple[Any, 
     return log, object_, ran.errors
 
 
-@pytest.mark.parametrize("source", SOURCES, ids=lambda path: path.stem)
+@pytest.mark.parametrize("source", SOURCES, ids=[source.stem for source in SOURCES])
 def test_a_log_says_what_the_report_says(
     alone: pathlib.Path, tmp_path: pathlib.Path, source: pathlib.Path
 ) -> None:

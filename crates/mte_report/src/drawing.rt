@@ -18,11 +18,11 @@ impl<'a> Report<'a> {
     /// heap's pages, and the row of the access that faulted or the pointer that was refused. Rows
     /// in which nothing changes are left out after the first, and those farthest from the mark
     /// where there are more than [`heap_picture::ROWS`].
-    pub fn draw<'t, W: Write>(
-        &'t self,
+    pub fn draw<W: Write>(
+        &self,
         alloc: Global,
         out: &mut W,
-        title: &'t str,
+        title: &str,
         memory: &mut Flat,
     ) -> io::Result<()> {
         let title = self.title_of(title);
@@ -34,11 +34,11 @@ impl<'a> Report<'a> {
     }
 
     /// Writes the same rows as text, under the same title.
-    pub fn write_map<'t, W: Write>(
-        &'t self,
+    pub fn write_map<W: Write>(
+        &self,
         alloc: Global,
         out: &mut W,
-        title: &'t str,
+        title: &str,
         memory: &mut Flat,
     ) -> io::Result<()> {
         let title = self.title_of(title);
@@ -50,7 +50,7 @@ impl<'a> Report<'a> {
     }
 
     /// The title of a picture of what was run.
-    fn title_of<'t>(&'t self, name: &'t str) -> Title<'t> {
+    fn title_of<'r, 'n>(&'r self, name: &'n str) -> Title<'n, 'r> {
         Title {
             name,
             ending: EndingNote(self),
@@ -75,11 +75,11 @@ impl<'a> Report<'a> {
     }
 
     /// A picture of chunks, under a title.
-    fn picture<'p>(
+    fn picture<'p, 'n>(
         &self,
         title: &'p str,
         extents: &'p [Extent],
-        names: &'p FrameNames<'p>,
+        names: &'p FrameNames<'n>,
     ) -> Picture<'p> {
         Picture {
             title,
@@ -131,11 +131,11 @@ fn mark_of(status: &Status) -> Option<Mark> {
 
 /// The title of a picture.
 #[derive(Clone, Copy)]
-struct Title<'a> {
+struct Title<'n, 'r> {
     /// What was run.
-    name: &'a str,
+    name: &'n str,
     /// What ended it.
-    ending: EndingNote<'a>,
+    ending: EndingNote<'r>,
     /// How it can be run again.
     run: Run,
 }
@@ -158,7 +158,7 @@ impl fmt::Display for Run {
     }
 }
 
-impl<'a> fmt::Display for Title<'a> {
+impl<'n, 'r> fmt::Display for Title<'n, 'r> {
     fn fmt<W: fmt::Write>(&self, f: &mut fmt::Formatter<W>) -> fmt::Result {
         let Title { name, ending, run } = self;
         write!(f, "{name}: {ending}{run}")
