@@ -1,21 +1,27 @@
 #!/usr/bin/env python3
 """Runs a program on many mutated images, inputs and options, and counts how each run ended. A run
-that a signal ended, or that took longer than a minute, is kept in the folder `mutated` and told.
+that a signal ended, that took longer than a minute, that wrote a byte to standard error which is
+neither printable ASCII nor a newline, or a file that is no JSON or SVG, is kept in the folder
+`mutated` and told.
 
     mutate.py [WHAT] PROGRAM COUNT SEED IMAGE...
 
 WHAT is mutated: the whole `image` (default), its `debug` sections (line tables and their texts),
-its `symbols` (the table and its names), each with the headers of those sections; or `frames`, for
+its `calls` (the entries of functions and what they stand on), its `symbols` (the table and its
+names), each with the headers of those sections; or `frames`, for
 which no IMAGE is named: a tenant that forges frame records on its stack, makes a heap call and ends
 by a fault.
 """
 import collections
+import json
 import os
 import pathlib
 import random
 import struct
 import subprocess
 import sys
+import xml.etree.ElementTree as xml
+from collections.abc import Callable
 from typing import Union
 
 sys.path.insert(0, str(pathlib.Path(__file__).resolve().parents[1] / "examples"))
@@ -25,11 +31,13 @@ OPTIONS = [
     "--pages", "--out", "--seed", "--async", "--steps", "--slices", "--last", "--trace",
     "--trace=2-9", "--trace-file", "--input", "--script", "--frames", "--map", "--map=text",
     "--json", "--seeds=3", "--core", "--exact", "--exact=writes", "--leaks", "--statistics",
-    "--services", "--calls", "--help", "--version",
+    "--services", "--calls", "--help", "--version", "--sarif", "--whole-output",
 ]
 VALUES = ["0", "1", "5", "64", "4096", "4097", "65536", "-1", "18446744073709551615",
           "18446744073709551616", "00000000000000ff", "zz", "", "1,2,3", "7-", "/dev/null", "é"]
-KINDS = ("image", "debug", "symbols", "frames")
+KINDS = ("image", "debug", "calls", "symbols", "frames")
+# What may stand on standard error.
+PLAIN = {10, *range(32, 127)}
 SECONDS = 60  # of a run
 
 Part = tuple[int, int]  # where it begins, and how many bytes it has
@@ -60,6 +68,8 @@ def mutated(image: bytes, draw: random.Random) -> bytes:
 
 
 SECTIONS = {"debug": (".debug_line", ".debug_line_str", ".debug_str"),
+            "calls": (".debug_info", ".debug_abbrev", ".debug_str_offsets", ".debug_addr",
+                      ".debug_rnglists", ".debug_ranges"),
             "symbols": (".symtab", ".strtab")}
 
 
@@ -188,10 +198,27 @@ def run(words: list[str]) -> Union[int, str]:
     """How a program ended: its status, below 0 where a signal ended it, or `timeout`."""
     try:
         ran = subprocess.run(words, stdin=subprocess.DEVNULL, stdout=subprocess.DEVNULL,
-                             stderr=subprocess.DEVNULL, timeout=SECONDS, check=False)
+                             stderr=subprocess.PIPE, timeout=SECONDS, check=False)
     except subprocess.TimeoutExpired:
         return "timeout"
-    return ran.returncode
+    return ran.returncode if set(ran.stderr) <= PLAIN else "raw bytes"
+
+
+def read_files(path: pathlib.Path) -> Union[None, str]:
+    """Reads what a run wrote, and says what is no document."""
+    told = None
+    readers: list[tuple[str, Callable[[str], object]]] = [
+        ("json", json.loads), ("sarif", json.loads), ("svg", xml.fromstring)]
+    for suffix, read in readers:
+        file = path.with_name(f"{path.name}.{suffix}")
+        if file.exists():
+            text = file.read_text(encoding="utf-8")
+            file.unlink()
+            try:
+                read(text)
+            except (ValueError, xml.ParseError):
+                told = f"no {suffix}"
+    return told
 
 
 def is_bad(ended: Union[int, str]) -> bool:
@@ -221,9 +248,13 @@ def main() -> None:
         image, data = drawn(what, images, draw)
         path.write_bytes(image)
         path.with_name(f"{path.name}.input").write_bytes(data)
+        files = [word for suffix, option in (("json", "--json"), ("sarif", "--sarif"),
+                                             ("svg", "--map")) if draw.random() < 0.4
+                 for word in (option, f"{path}.{suffix}")]
         options = ["--input", f"{path}.input", "--leaks", str(path)]
         words = arguments(str(path), draw) if what == "image" else options
-        ended = run([program, *words])
+        ended = run([program, *files, *words])
+        ended = read_files(path) or ended
         ends[ended] += 1
         if is_bad(ended):
             keep(path, number)
