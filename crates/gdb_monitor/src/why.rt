@@ -37,7 +37,14 @@ pub fn tell_why<W: Write>(
     let limit = past.limit();
     let (parts, mut memory) = past.into_machine();
     let names = Names::of(alloc, subject.image)?;
-    let report = report_of(&parts, &remembered, limit, &names, subject);
+    let report = report_of(
+        &parts,
+        &remembered,
+        limit,
+        &names,
+        subject.name,
+        subject.seed,
+    );
     report.write(alloc, out, &mut memory)
 }
 
@@ -53,13 +60,14 @@ struct Remembered {
     last: HeapCircularBuffer<Moment>,
 }
 
-/// The report of a machine, with its heap calls.
-fn report_of<'x>(
+/// The report of a machine, by what is remembered of it, under the name of its image's file.
+fn report_of<'x, 'n>(
     parts: &'x TenantParts,
     remembered: &'x Remembered,
     limit: u64,
-    names: &'x Names<'x>,
-    subject: &DebugSubject<'x>,
+    names: &'x Names<'n>,
+    name: &'x str,
+    seed: Option<u64>,
 ) -> Report<'x> {
     Report {
         parts,
@@ -69,8 +77,8 @@ fn report_of<'x>(
         turns: None,
         limit,
         names,
-        image: subject.name,
-        seed: subject.seed,
+        image: name,
+        seed,
         finding: None,
         statistics: None,
         is_cut: false,
