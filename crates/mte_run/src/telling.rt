@@ -87,31 +87,73 @@ fn tell_parts<'a>(
     } else {
         0
     };
-    let named = if is_told(parts, observer, options) {
-        image.bytes
-    } else {
-        &[]
-    };
+    let named = named_bytes(image, is_told(parts, observer, options));
     let names = Names::of(rt.alloc(), named)?;
-    let report = Report {
+    let report = report_of(
+        parts,
+        observer,
+        options,
+        &names,
+        image.name,
+        Numbers {
+            reserved,
+            seed: run.seed,
+        },
+    );
+    tell_run(rt, &report, options, memory)
+}
+
+/// The bytes of an image that has names, or none where none is told.
+fn named_bytes<'x>(image: &Image<'x>, is_told: bool) -> &'x [u8] {
+    if is_told { image.bytes } else { &[] }
+}
+
+/// Numbers of a run.
+#[derive(Clone, Copy)]
+struct Numbers {
+    /// The reservation in pages, where it is told.
+    reserved: u64,
+    /// The seed, where it ran alone.
+    seed: Option<u64>,
+}
+
+/// The report of a tenant's parts, by what is remembered of it, under the name of its image's file.
+fn report_of<'x, 'n, 'o>(
+    parts: &'x TenantParts,
+    observer: &'x Observer<'o, Log>,
+    options: &Options,
+    names: &'x Names<'n>,
+    image: &'x str,
+    numbers: Numbers,
+) -> Report<'x> {
+    Report {
         parts,
         book: &observer.book,
         last: Some(observer.last()),
         last_count: options.output.last,
         turns: observer.turns(),
         limit: options.limit(),
-        names: &names,
-        image: image.name,
-        seed: run.seed,
+        names,
+        image,
+        seed: numbers.seed,
         finding: observer.finding(),
-        statistics: observer.table(reserved),
+        statistics: observer.table(numbers.reserved),
         is_cut: observer.is_cut,
-    };
-    let ending = ending_of(&report, options);
-    tell_all(rt, &report, options, memory)?;
-    write_files(rt, &report, options, ending, memory)?;
-    tell_unseen(rt, &report, options);
-    Ok(tell_last_line(rt, &report, ending))
+    }
+}
+
+/// Tells what the options request of a run, and returns the exit status.
+fn tell_run<'a>(
+    rt: &HostRuntime,
+    report: &Report<'_>,
+    options: &'a Options,
+    memory: &mut Flat,
+) -> Result<u8, Failure<'a>> {
+    let ending = ending_of(report, options);
+    tell_all(rt, report, options, memory)?;
+    write_files(rt, report, options, ending, memory)?;
+    tell_unseen(rt, report, options);
+    Ok(tell_last_line(rt, report, ending))
 }
 
 /// Whether anything is told in which names are: of a tenant that exited only what is requested.
