@@ -107,7 +107,7 @@ pub fn admission_of<'a>(
 /// A tenant alone: its image, what it may read, and its seed.
 #[derive(Clone, Copy)]
 struct LoneTenant<'x> {
-    image: Image<'x>,
+    image: &'x [u8],
     input: &'x [u8],
     seed: u64,
 }
@@ -115,7 +115,7 @@ struct LoneTenant<'x> {
 impl<'x> LoneTenant<'x> {
     /// The tenant at its first instruction.
     fn bench(&self, alloc: Global, options: &Options) -> Result<Bench, Obstacle<AdmitError>> {
-        let admission = admission_of(options, self.image.bytes, self.input, self.seed);
+        let admission = admission_of(options, self.image, self.input, self.seed);
         Bench::new(alloc, &admission)
     }
 
@@ -135,8 +135,8 @@ fn run_alone<'a>(
     image: &Image<'_>,
 ) -> Result<u8, Failure<'a>> {
     let input = read_input(rt, options)?;
-    match admitted(rt, options, image, input.as_slice()) {
-        Ok((tenant, bench)) => run_bench(rt, options, &tenant, bench),
+    match admitted(rt, options, image.bytes, input.as_slice()) {
+        Ok((tenant, bench)) => run_bench(rt, options, image, &tenant, bench),
         Err(Obstacle::OutOfMemory) => Err(Failure::Memory),
         Err(Obstacle::Refused(error)) => Ok(refuse(rt, error)),
     }
@@ -146,13 +146,13 @@ fn run_alone<'a>(
 fn admitted<'x>(
     rt: &HostRuntime,
     options: &Options,
-    image: &Image<'x>,
+    image: &'x [u8],
     input: &'x [u8],
 ) -> Result<(LoneTenant<'x>, Bench), Obstacle<AdmitError>> {
     let tenant = LoneTenant {
-        image: *image,
+        image,
         input,
-        seed: seed_of(rt, options, image.bytes, input)?,
+        seed: seed_of(rt, options, image, input)?,
     };
     let bench = tenant.bench(rt.alloc(), options)?;
     Ok((tenant, bench))
@@ -187,10 +187,11 @@ fn seed_of<'x>(
 fn run_bench<'a>(
     rt: &HostRuntime,
     options: &'a Options,
+    image: &Image<'_>,
     tenant: &LoneTenant<'_>,
     bench: Bench,
 ) -> Result<u8, Failure<'a>> {
-    let mut observer = observer_of(rt, options, tenant.image.bytes)?;
+    let mut observer = observer_of(rt, options, image.bytes)?;
     let mut out = OutputStream::new(rt);
     let bench = run_watched(rt, options, tenant, bench, &mut observer, &mut out)?;
     let bench = run_to_finding(rt, options, tenant, bench, &mut observer, &mut out)?;
@@ -201,7 +202,7 @@ fn run_bench<'a>(
         seed: Some(tenant.seed),
         mode: options.run.terms.mode,
     };
-    tell_end(rt, bench, &mut observer, options, &tenant.image, run)
+    tell_end(rt, bench, &mut observer, options, image, run)
 }
 
 /// Runs a tenant to its end. Where nothing has to watch each step, it runs unwatched first; only
