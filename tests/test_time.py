@@ -70,7 +70,7 @@ def test_a_report_costs_what_is_told(
 def test_a_clean_run_costs_what_a_session_costs(
     alone: pathlib.Path, host: pathlib.Path, tmp_path: pathlib.Path
 ) -> None:
-    """A tenant that exits takes about the instructions of its session: at most half as many more."""
+    """A tenant that exits takes about the instructions of its session, at most half more."""
     need("clang", "ld.lld")
     image = tenant(tmp_path, EXAMPLES / "c" / "hash.c")
     words: list[Word] = [alone, "--steps", "100000000", image]
