@@ -101,6 +101,28 @@ impl<'a> Debuggee<'a> {
         }
     }
 
+    /// The same tenant where it is, with nothing watched.
+    pub fn copy(&self, alloc: Global) -> Result<Debuggee<'a>, AllocError>
+        ensures admission { IfOk result (λ d. admission_of d ≡ admission_of self.now) }
+        ensures cuts { IfOk result (λ d. cuts_of d ≡ cuts_of self.now) }
+        ensures machine { IfOk result (λ d. machine_in d ≡ machine_in self.now) }
+    {
+        let words = OpCache::new(alloc)?;
+        let memory = self.memory.flat.copy(alloc)?;
+        let parts = self.parts.copy(alloc)?;
+        Ok(Debuggee {
+            admission: self.admission,
+            cuts: self.cuts,
+            parts,
+            memory: Watched::new(alloc, memory),
+            decoder: Decoder::new(),
+            words,
+            slices: self.slices,
+            cut: self.cut,
+            done: self.done,
+        })
+    }
+
     /// After how many steps in all no more come.
     pub fn limit(&self) -> u64
         ensures { result ≡ (cuts_of self.now).limit }

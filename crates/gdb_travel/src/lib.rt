@@ -2,6 +2,7 @@
 //! that are watched, to its end and its start.
 #![tactic(auto)]
 
+mod checkpoints;
 mod points;
 mod stop;
 mod traveller;

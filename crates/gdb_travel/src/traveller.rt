@@ -1,5 +1,6 @@
 //! The tenant that is moved.
 
+use crate::checkpoints::{Checkpoints, INTERVAL};
 use crate::points::Points;
 use crate::stop::{StopReason, Until};
 use crate::ways::{advance, is_at_svc, last_point, look_ahead};
@@ -9,14 +10,16 @@ use mte_tags::TagMode;
 use mte_tenant::{Status, TenantParts};
 use std::alloc::{AllocError, Global};
 
-/// A tenant that is moved forwards and backwards. To go back it begins anew: it holds two memories
-/// at most, and a third while it goes back.
+/// A tenant that is moved forwards and backwards. To go back it begins at a checkpoint, or anew. It
+/// holds four memories at most: its own, those of two checkpoints, and that of one that looks ahead
+/// or goes back.
 #[derive(Drop)]
 pub struct Traveller<'a> {
     /// The tenant where it is.
     now: Debuggee<'a>,
     /// Another one that looks ahead for accesses that are watched.
     ahead: Option<Debuggee<'a>>,
+    checkpoints: Checkpoints<'a>,
     /// Whether it was told that the next instruction exits.
     is_exit_told: bool,
     /// Whether the last instruction before its end was done. It is known once it has ended.
@@ -29,6 +32,7 @@ impl<'a> Traveller<'a> {
         Traveller {
             now: tenant,
             ahead: None,
+            checkpoints: Checkpoints::new(),
             is_exit_told: false,
             is_last_done: false,
         }
@@ -119,10 +123,17 @@ impl<'a> Traveller<'a> {
         until: Until,
     ) -> Result<StopReason, AllocError> {
         self.now.forget_hit();
-        match look_ahead(&mut self.now, points, until) {
-            Some(stop) => Ok(stop),
-            None => self.stop_at_end(alloc),
+        for _ in 0..u64::MAX {
+            if !self.now.can_go_on() {
+                return self.stop_at_end(alloc);
+            }
+            let steps = self.now.steps().saturating_add(INTERVAL);
+            if let Some(stop) = look_ahead(&mut self.now, points, until, steps) {
+                return Ok(stop);
+            }
+            self.checkpoints.note(alloc, &self.now);
         }
+        self.stop_at_end(alloc)
     }
 
     /// Moves it forwards where accesses are watched: up to the instruction that makes one.
@@ -134,23 +145,31 @@ impl<'a> Traveller<'a> {
     ) -> Result<StopReason, AllocError> {
         let mut ahead = self.take_ahead(alloc)?;
         ahead.watch(points.watchpoints())?;
-        let stop = look_ahead(&mut ahead, points, until);
+        let stop = look_ahead(&mut ahead, points, until, u64::MAX);
         let steps = ahead.steps();
         self.ahead = Some(ahead);
         match stop {
             Some(StopReason::Watch(hit)) => {
-                advance(&mut self.now, steps.saturating_sub(1));
+                self.move_to(alloc, steps.saturating_sub(1));
                 Ok(StopReason::Watch(hit))
             }
             Some(stop) => {
-                advance(&mut self.now, steps);
+                self.move_to(alloc, steps);
                 Ok(stop)
             }
             None => {
-                advance(&mut self.now, steps);
+                self.move_to(alloc, steps);
                 self.stop_at_end(alloc)
             }
         }
+    }
+
+    /// Moves it forwards to a number of steps, or its end. After many it leaves a checkpoint an
+    /// interval before.
+    fn move_to(&mut self, alloc: Global, steps: u64) {
+        advance(&mut self.now, steps.saturating_sub(INTERVAL));
+        self.checkpoints.note(alloc, &self.now);
+        advance(&mut self.now, steps);
     }
 
     /// One that is where it is, to look ahead.
@@ -161,9 +180,7 @@ impl<'a> Traveller<'a> {
                 return Ok(ahead);
             }
         }
-        let mut ahead = self.now.anew(alloc)?;
-        advance(&mut ahead, steps);
-        Ok(ahead)
+        self.now.copy(alloc)
     }
 
     /// Why it stands still where it can go on no more. An exit is told in front of its instruction
@@ -189,18 +206,24 @@ impl<'a> Traveller<'a> {
 
     /// Whether the last instruction was done where a tag that differed ended it at an address: an
     /// SVC does nothing then, and at a slice's end all others were done.
-    fn was_last_done(&self, alloc: Global, pc: u64) -> Result<bool, AllocError> {
-        let mut past = self.now.anew(alloc)?;
-        advance(&mut past, self.now.steps().saturating_sub(1));
+    fn was_last_done(&mut self, alloc: Global, pc: u64) -> Result<bool, AllocError> {
+        let steps = self.now.steps().saturating_sub(1);
+        let mut past = self.past_at(alloc, steps)?;
         Ok(past.regs().pc != pc || !is_at_svc(&mut past))
     }
 
     /// Moves it to a number of steps that it has passed.
     fn go_back(&mut self, alloc: Global, steps: u64) -> Result<(), AllocError> {
-        let mut past = self.now.anew(alloc)?;
-        advance(&mut past, steps);
+        let past = self.past_at(alloc, steps)?;
         self.now = past;
         Ok(())
+    }
+
+    /// The same tenant where it has attempted some steps that it has passed. The one that looks
+    /// ahead gives its memory up.
+    fn past_at(&mut self, alloc: Global, steps: u64) -> Result<Debuggee<'a>, AllocError> {
+        self.ahead = None;
+        self.checkpoints.past(alloc, &self.now, steps)
     }
 
     /// Moves it to a number of steps from its start on, forwards or backwards, or to its end where
@@ -210,7 +233,7 @@ impl<'a> Traveller<'a> {
         if steps < self.now.steps() {
             self.go_back(alloc, steps)?;
         } else {
-            advance(&mut self.now, steps);
+            self.move_to(alloc, steps);
         }
         if self.now.can_go_on() {
             Ok(StopReason::Step)
@@ -235,11 +258,34 @@ impl<'a> Traveller<'a> {
     /// its start.
     pub fn run_back(&mut self, alloc: Global, points: &Points) -> Result<StopReason, AllocError> {
         self.is_exit_told = false;
-        let steps = self.position();
-        let mut past = self.now.anew(alloc)?;
-        past.watch(points.watchpoints())?;
-        let (found, stop) = last_point(&mut past, points, steps).unwrap_or((0, StopReason::Start));
+        let (found, stop) = self.last_point(alloc, points)?;
         self.go_back(alloc, found)?;
         Ok(stop)
+    }
+
+    /// The last point on its way that stops it when it moves back: after how many steps, and why.
+    /// It is sought in the last interval first, then in longer ones.
+    fn last_point(
+        &mut self,
+        alloc: Global,
+        points: &Points,
+    ) -> Result<(u64, StopReason), AllocError> {
+        let mut end = self.position();
+        let mut length = INTERVAL;
+        self.ahead = None;
+        for _ in 0..u64::BITS {
+            if end == 0 || points.is_empty() {
+                return Ok((0, StopReason::Start));
+            }
+            let start = end.saturating_sub(length);
+            let mut past = self.checkpoints.past_of_search(alloc, &self.now, start)?;
+            past.watch(points.watchpoints())?;
+            if let Some(found) = last_point(&mut past, points, end) {
+                return Ok(found);
+            }
+            end = start;
+            length = length.saturating_mul(2);
+        }
+        Ok((0, StopReason::Start))
     }
 }

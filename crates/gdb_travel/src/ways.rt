@@ -28,10 +28,15 @@ fn run_slices(tenant: &mut Debuggee<'_>, steps: u64) {
 }
 
 /// Moves a tenant on up to the first access that is watched or point that stops it; `None` where it
-/// ends before that. The access has been made.
-pub fn look_ahead(tenant: &mut Debuggee<'_>, points: &Points, until: Until) -> Option<StopReason> {
+/// ends or has attempted `steps` instructions before that. The access has been made.
+pub fn look_ahead(
+    tenant: &mut Debuggee<'_>,
+    points: &Points,
+    until: Until,
+    steps: u64,
+) -> Option<StopReason> {
     tenant.forget_hit();
-    for _ in 0..u64::MAX {
+    for _ in tenant.steps()..steps {
         if !tenant.attempt() {
             return None;
         }
@@ -58,18 +63,15 @@ pub fn is_at_svc(tenant: &mut Debuggee<'_>) -> bool {
     }
 }
 
-/// Moves a tenant from its first instruction to a number of steps, and returns the last point on
-/// the way that stops it when it moves back from there: after how many steps, and why.
+/// Moves a tenant on to a number of steps, and returns the last point on the way that stops it when
+/// it moves back from there: after how many steps, and why.
 pub fn last_point(
     tenant: &mut Debuggee<'_>,
     points: &Points,
     steps: u64,
 ) -> Option<(u64, StopReason)> {
     let mut last = None;
-    if points.is_empty() {
-        return last;
-    }
-    for step in 0..steps {
+    for step in tenant.steps()..steps {
         if points.is_breakpoint(plain(tenant.regs().pc)) {
             last = Some((step, StopReason::Breakpoint));
         }

@@ -3,6 +3,7 @@
 
 ghost use Rattle.std.specs.Prelude.{◌≡◌, ◌<◌};
 
+use list_copy::copy_list;
 use std::alloc::{AllocError, Global};
 
 /// A page and the slot that it was put into.
@@ -36,6 +37,15 @@ impl Finder {
             code: 0,
             last: [0; 64],
             places: Vec::with_capacity(alloc, pages)?,
+        })
+    }
+
+    /// A copy of it.
+    pub(crate) fn copy(&self, alloc: Global) -> Result<Finder, AllocError> {
+        Ok(Finder {
+            code: self.code,
+            last: self.last,
+            places: copy_list(alloc, &self.places)?,
         })
     }
 

@@ -39,6 +39,14 @@ impl Flat {
         Ok(Flat { pages })
     }
 
+    /// A copy of the memory. It is refused only where its memory is.
+    pub fn copy(&self, alloc: Global) -> Result<Flat, AllocError>
+        ensures { IfOk result (λ memory. memory ≡ self.now) }
+    {
+        let pages = self.pages.copy(alloc)?;
+        Ok(Flat { pages })
+    }
+
     /// The pages that are mapped, each once, in no order. It takes time for these and no others.
     pub fn mapped_pages(&self, alloc: Global) -> Result<Vec<MappedPage>, AllocError>
         ensures each { IfOk result (λ pages. (q : ℕ) → attrs_in pages.items q

@@ -12,6 +12,7 @@ use crate::finder::Finder;
 use crate::mapped::{MappedPage, mapped_slots};
 use crate::slot::{Slot, find, holds, new_slot};
 use a64_bits::plain;
+use list_copy::copy_list;
 use mte_tags::{Attrs, NoPagesLeft, PageStore, Paged, TagMode, TagState, replace_bytes};
 use std::alloc::{AllocError, Global};
 
@@ -45,6 +46,20 @@ impl Pages {
                 mode,
                 pending: false,
             },
+        })
+    }
+
+    /// A copy of the pages, with memory for as many.
+    pub(crate) fn copy(&self, alloc: Global) -> Result<Pages, AllocError>
+        ensures { IfOk result (λ pages. memory_of pages ≡ memory_of self.now) }
+    {
+        let slots = copy_list(alloc, &self.slots)?;
+        let finder = self.finder.copy(alloc)?;
+        Ok(Pages {
+            limit: self.limit,
+            slots,
+            finder,
+            state: self.state,
         })
     }
 

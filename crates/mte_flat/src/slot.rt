@@ -13,7 +13,7 @@ use mte_tags::{Attrs, copy_in};
 
 /// A mapped page: its number, its bytes, a tag for each granule, and its attributes. The bytes
 /// stand where an aligned access stays aligned.
-#[derive(Drop)]
+#[derive(Clone, Copy)]
 pub struct Slot {
     pub(crate) page: u64,
     pub(crate) bytes: [u8; 4096],

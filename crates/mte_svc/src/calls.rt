@@ -98,6 +98,22 @@ impl HeapCalls {
         Ok(HeapCalls { last, count: 0 })
     }
 
+    /// A copy of the calls.
+    pub fn copy(&self, alloc: Global) -> Result<HeapCalls, AllocError>
+        ensures { IfOk result (λ calls. calls ≡ self.now) }
+    {
+        let mut last = HeapCircularBuffer::with_capacity(alloc, KEPT_CALLS)?;
+        for index in 0..self.last.len() {
+            if let Some(call) = self.last.get(index) {
+                last.push_back(*call);
+            }
+        }
+        Ok(HeapCalls {
+            last,
+            count: self.count,
+        })
+    }
+
     /// How many calls there were.
     pub fn count(&self) -> u64
         ensures { result ≡ self.now.count }

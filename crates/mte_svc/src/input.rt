@@ -39,6 +39,13 @@ impl Input {
         })
     }
 
+    /// A copy of the bytes that are left.
+    pub fn copy(&self, alloc: Global) -> Result<Input, AllocError>
+        ensures { IfOk result (λ input. input ≡ self.now) }
+    {
+        Input::new(alloc, &self.bytes[self.read..])
+    }
+
     /// How many bytes are left.
     pub fn left(&self) -> u64
         ensures { result ≡ length self.now }

@@ -4,6 +4,7 @@ ghost use Rattle.std.specs.Prelude.{◌≡◌, ◌≤◌, ◌+◌, ◌-◌, ◌+
 ghost use Rattle.std.specs.Prelude.{is_ok, if◌then◌else◌, vec_len, vec_capacity, replicate};
 ghost use Rattle.mte_tags.specs.Accesses.{read_fault, read_bytes, after_read, result_of};
 
+use list_copy::copy_list;
 use mte_tags::{MemFault, Tagged};
 use std::alloc::{AllocError, Global};
 use std::marker::Model;
@@ -37,6 +38,16 @@ impl Output {
         let room = room as usize;
         let bytes = Vec::with_capacity(alloc, room)?;
         Ok(Output { bytes, room })
+    }
+
+    /// A copy of the output, with as much room.
+    pub fn copy(&self, alloc: Global) -> Result<Output, AllocError>
+        ensures { IfOk result (λ output. output ≡ self.now) }
+    {
+        Ok(Output {
+            bytes: copy_list(alloc, &self.bytes)?,
+            room: self.room,
+        })
     }
 
     /// How many more bytes may be written.

@@ -1,6 +1,6 @@
 //! The parts of a tenant's machine beside its memory.
 
-ghost use Rattle.std.specs.Prelude.{◌≡◌};
+ghost use Rattle.std.specs.Prelude.{◌≡◌, IfOk};
 ghost use Rattle.mte_svc.specs.Results.{with_answer, with_logged_call, is_running};
 
 use crate::calls::AnsweredCall;
@@ -8,6 +8,7 @@ use crate::input::Input;
 use crate::record::{Record, Status};
 use a64_registers::Regs;
 use scudo_heap::Heap;
+use std::alloc::{AllocError, Global};
 
 /// All of a tenant's machine but its memory.
 #[derive(Drop)]
@@ -33,6 +34,22 @@ impl TenantParts {
             Status::Running => true,
             _ => false,
         }
+    }
+
+    /// A copy of them. It is refused only where its memory is.
+    pub fn copy(&self, alloc: Global) -> Result<TenantParts, AllocError>
+        ensures { IfOk result (λ parts. parts ≡ self.now) }
+    {
+        let log = self.log.copy(alloc)?;
+        let heap = self.heap.copy(alloc)?;
+        let input = self.input.copy(alloc)?;
+        Ok(TenantParts {
+            log,
+            regs: self.regs,
+            heap,
+            input,
+            left: self.left,
+        })
     }
 
     /// Enters a heap call that was answered, and returns its result.

@@ -1,9 +1,12 @@
 //! A tenant's record, from its admission on.
 
+ghost use Rattle.std.specs.Prelude.{◌≡◌, IfOk};
+
 use crate::calls::HeapCalls;
 use crate::output::Output;
 use mte_tags::MemFault;
 use scudo_heap::HeapAbort;
+use std::alloc::{AllocError, Global};
 
 /// A tenant's status. Addresses are those of instructions.
 #[derive(Clone, Copy, Debug, PartialEq, Eq)]
@@ -40,4 +43,21 @@ pub struct Record {
     pub output: Output,
     /// The heap calls that it has made.
     pub calls: HeapCalls,
+}
+
+impl Record {
+    /// A copy of the record.
+    pub fn copy(&self, alloc: Global) -> Result<Record, AllocError>
+        ensures { IfOk result (λ log. log ≡ self.now) }
+    {
+        let output = self.output.copy(alloc)?;
+        let calls = self.calls.copy(alloc)?;
+        Ok(Record {
+            id: self.id,
+            status: self.status,
+            steps: self.steps,
+            output,
+            calls,
+        })
+    }
 }

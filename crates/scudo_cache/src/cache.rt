@@ -11,6 +11,7 @@ ghost use Rattle.scudo_cache.specs.Caches.{after_refill, newest, after_take, wit
 ghost use Rattle.scudo_cache.specs.Inner.{IsHeld, class_with};
 
 use crate::per_class::PerClass;
+use list_copy::copy_list;
 use scudo_header::CLASSES;
 use scudo_primary::{Primary, max_count};
 use std::alloc::{AllocError, Global};
@@ -47,6 +48,15 @@ impl Cache {
             entries.push_reserved(PerClass::new());
         }
         Ok(Cache { entries })
+    }
+
+    /// A copy of the cache. It is refused only where its memory is.
+    pub fn copy(&self, alloc: Global) -> Result<Cache, AllocError>
+        ensures { IfOk result (λ cache. cache ≡ self.now) }
+    {
+        Ok(Cache {
+            entries: copy_list(alloc, &self.entries)?,
+        })
     }
 
     /// Takes the newest block of a class and marks it used. A cache that holds none of the class

@@ -11,7 +11,7 @@ use scudo_primary::{MAX_COUNT, Primary};
 use std::marker::Model;
 
 /// The blocks of one class that are at hand, the oldest first (Scudo, `local_cache.h`, `PerClass`).
-#[derive(Drop)]
+#[derive(Clone, Copy)]
 pub(crate) struct PerClass {
     count: usize,
     blocks: [u64; MAX_COUNT],

@@ -70,6 +70,20 @@ impl Heap {
         })
     }
 
+    /// A copy of the heap, with memory of its own. It is refused only where its memory is; no later
+    /// call of it takes any.
+    pub fn copy(&self, alloc: Global) -> Result<Heap, AllocError>
+        ensures { IfOk result (λ heap. heap ≡ self.now) }
+    {
+        let stacks = self.stacks.copy(alloc)?;
+        let maps = self.maps.copy(alloc)?;
+        Ok(Heap {
+            cookie: self.cookie,
+            stacks,
+            maps,
+        })
+    }
+
     /// The address of a new chunk of `size` bytes, one where that is 0, with its tag in bits 59:56.
     /// The bytes of a chunk of a size class are zero, up to the end of its last granule, and so are
     /// those of its pages where it has its own. It is 0, with nothing changed, where `size` is over

@@ -46,6 +46,15 @@ impl Stacks {
         Ok(Stacks { pool, cache })
     }
 
+    /// A copy of the stacks, with memory for as many pages.
+    pub(crate) fn copy(&self, alloc: Global) -> Result<Stacks, AllocError>
+        ensures { IfOk result (λ stacks. stacks ≡ self.now) }
+    {
+        let pool = self.pool.copy(alloc)?;
+        let cache = self.cache.copy(alloc)?;
+        Ok(Stacks { pool, cache })
+    }
+
     /// Takes the top of a class's stack.
     #[inline]
     pub(crate) fn take(&mut self, class: u8) -> Option<u64>

@@ -17,6 +17,7 @@ use crate::lists::{
     region_start, set_mark, unlink, unlink_batch,
 };
 use address_map::{MAX_PAGES, PAGE_SIZE};
+use list_copy::copy_list;
 use scudo_header::{CLASSES, is_multiple, size_of_class};
 use std::alloc::{AllocError, Global};
 use std::marker::Model;
@@ -72,6 +73,20 @@ impl Primary {
             lists: [no_list; LISTS],
             used: 0,
             limit: pages,
+        })
+    }
+
+    /// A copy of the pool, with memory of its own for as many elements. It is refused only where its
+    /// memory is.
+    pub fn copy(&self, alloc: Global) -> Result<Primary, AllocError>
+        ensures { IfOk result (λ pool. pool ≡ self.now) }
+    {
+        Ok(Primary {
+            entries: copy_list(alloc, &self.entries)?,
+            numbers: copy_list(alloc, &self.numbers)?,
+            lists: self.lists,
+            used: self.used,
+            limit: self.limit,
         })
     }
 

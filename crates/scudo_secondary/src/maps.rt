@@ -8,6 +8,7 @@ ghost use Rattle.scudo_secondary.specs.Mappings.{with_mapping, pages_of};
 use crate::gaps::first_gap;
 use crate::mappings::{Mapping, index_of, insert_in_order, remove_user};
 use address_map::{MAX_PAGES, PAGE_SIZE};
+use list_copy::copy_list;
 use std::alloc::{AllocError, Global};
 use std::marker::Model;
 
@@ -41,6 +42,15 @@ impl Secondary {
     {
         let mappings = Vec::with_capacity(alloc, pages as usize)?;
         Ok(Secondary { mappings })
+    }
+
+    /// A copy of the mappings, with as much room. It is refused only where its memory is.
+    pub fn copy(&self, alloc: Global) -> Result<Secondary, AllocError>
+        ensures { IfOk result (λ maps. maps ≡ self.now) }
+    {
+        Ok(Secondary {
+            mappings: copy_list(alloc, &self.mappings)?,
+        })
     }
 
     /// The least address at which `pages` pages, at least one, may be mapped. There is none where
