@@ -103,11 +103,9 @@ impl HeapCalls {
         ensures { IfOk result (λ calls. calls ≡ self.now) }
     {
         let mut last = HeapCircularBuffer::with_capacity(alloc, KEPT_CALLS)?;
-        for index in 0..self.last.len() {
-            if let Some(call) = self.last.get(index) {
-                last.push_back(*call);
-            }
-        }
+        let (older, newer) = self.last.as_slices();
+        last.extend_from_slice(older);
+        last.extend_from_slice(newer);
         Ok(HeapCalls {
             last,
             count: self.count,

@@ -1,6 +1,7 @@
 //! The blocks of each class that are at hand.
 
 ghost use Rattle.std.specs.Prelude.{◌≡◌, ◌<◌, [], length, slice_get, false, IfSome, IfOk};
+ghost use Rattle.std.specs.Prelude.{vec_capacity};
 ghost use Rattle.scudo_primary.specs.Batches.{max_count_of};
 ghost use Rattle.scudo_primary.specs.Blocks.{IsClass, IsBlock, is_member};
 ghost use Rattle.scudo_primary.specs.Pools.{pages_of, stack_of, is_marked};
@@ -11,7 +12,6 @@ ghost use Rattle.scudo_cache.specs.Caches.{after_refill, newest, after_take, wit
 ghost use Rattle.scudo_cache.specs.Inner.{IsHeld, class_with};
 
 use crate::per_class::PerClass;
-use list_copy::copy_list;
 use scudo_header::CLASSES;
 use scudo_primary::{Primary, max_count};
 use std::alloc::{AllocError, Global};
@@ -54,9 +54,8 @@ impl Cache {
     pub fn copy(&self, alloc: Global) -> Result<Cache, AllocError>
         ensures { IfOk result (λ cache. cache ≡ self.now) }
     {
-        Ok(Cache {
-            entries: copy_list(alloc, &self.entries)?,
-        })
+        let entries = copy_classes(alloc, &self.entries)?;
+        Ok(Cache { entries })
     }
 
     /// Takes the newest block of a class and marks it used. A cache that holds none of the class
@@ -218,4 +217,16 @@ fn make_room(entries: &mut PerClass, class: u8, pool: &mut Primary)
     let half = max_count(class) / 2;
     pool.push_batch(class, entries.oldest(half));
     entries.drop_oldest(half);
+}
+
+/// A copy of the blocks of each class, with memory for as many classes.
+fn copy_classes(alloc: Global, classes: &Vec<PerClass>) -> Result<Vec<PerClass>, AllocError>
+    ensures items { IfOk result (λ copy. copy.items ≡ classes.now.items) }
+    ensures capacity { IfOk result (λ copy. vec_capacity copy ≡ vec_capacity classes.now) }
+{
+    let mut copy = Vec::with_capacity(alloc, classes.capacity())?;
+    for class in classes.as_slice() {
+        copy.push_reserved(class.copy());
+    }
+    Ok(copy)
 }

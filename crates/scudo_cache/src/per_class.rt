@@ -11,7 +11,7 @@ use scudo_primary::{MAX_COUNT, Primary};
 use std::marker::Model;
 
 /// The blocks of one class that are at hand, the oldest first (Scudo, `local_cache.h`, `PerClass`).
-#[derive(Clone, Copy)]
+#[derive(Drop)]
 pub(crate) struct PerClass {
     count: usize,
     blocks: [u64; MAX_COUNT],
@@ -36,6 +36,16 @@ impl PerClass {
         PerClass {
             count: 0,
             blocks: [0; MAX_COUNT],
+        }
+    }
+
+    /// The same blocks.
+    pub(crate) fn copy(&self) -> PerClass
+        ensures { result ≡ self.now }
+    {
+        PerClass {
+            count: self.count,
+            blocks: self.blocks,
         }
     }
 
