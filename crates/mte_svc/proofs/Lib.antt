@@ -1,3 +1,4 @@
 mod CallLemmas
 mod PageLemmas
 mod FixedServices
+mod KeptLemmas

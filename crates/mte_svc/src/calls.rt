@@ -99,10 +99,11 @@ impl HeapCalls {
     }
 
     /// A copy of the calls.
+    #[tactic(auto, using(crate::proofs::KeptLemmas::both_kept))]
     pub fn copy(&self, alloc: Global) -> Result<HeapCalls, AllocError>
         ensures { IfOk result (λ calls. calls ≡ self.now) }
     {
-        let mut last = HeapCircularBuffer::with_capacity(alloc, KEPT_CALLS)?;
+        let mut last = HeapCircularBuffer::with_capacity(alloc, self.last.capacity())?;
         let (older, newer) = self.last.as_slices();
         last.extend_from_slice(older);
         last.extend_from_slice(newer);
