@@ -12,7 +12,8 @@ import pytest
 
 from tests.support import gdb_images
 from tests.support import tenants_for_gdb as tenants
-from tests.support.debugger import Dialog, asked, debugged, gdb, numbers_in, target, value_in
+from tests.support.debugger import Dialog, asked, debugged, extended, gdb, numbers_in, target
+from tests.support.debugger import value_in
 from tests.support.embedding.heaps import Generator, chunk
 from tests.support.expected import compare
 from tests.support.instructions import CODE, SP, add, breakpoint_instruction, call, copy, move
@@ -225,15 +226,6 @@ def test_an_end_stays(alone: pathlib.Path, tmp_path: pathlib.Path, name: str) ->
     assert [value_in(it) for it in (step, code, before, step_again)] == [
         end.steps, end.code, end.steps - 1, end.steps
     ]
-
-
-def extended(alone: pathlib.Path, image: bytes, commands: Sequence[str],
-             folder: pathlib.Path) -> Dialog:
-    """A dialog over a tenant that GDB may run anew, with the settings of examples/gdb."""
-    (folder / "tenant.elf").write_bytes(image)
-    words = ["-x", str(GDB_EXAMPLES / "tenant.gdb"),
-             "-ex", target(alone, ["tenant.elf"], "extended-remote")]
-    return asked(words, commands, folder)
 
 
 def test_running_again(alone: pathlib.Path, tmp_path: pathlib.Path) -> None:

@@ -6,6 +6,7 @@ import shlex
 from collections.abc import Sequence
 from dataclasses import dataclass
 
+from tests.support.places import EXAMPLES
 from tests.support.running import run
 from tests.support.tools import need
 
@@ -59,6 +60,15 @@ def debugged(program: pathlib.Path, image: bytes, commands: Sequence[str], cwd: 
     (cwd / "tenant.elf").write_bytes(image)
     words = ["-ex", target(program, [*options, "tenant.elf"])]
     return asked(words, commands, cwd)
+
+
+def extended(alone: pathlib.Path, image: bytes, commands: Sequence[str],
+             folder: pathlib.Path) -> Dialog:
+    """A dialog over a tenant that GDB may run anew, with the settings of examples/gdb."""
+    (folder / "tenant.elf").write_bytes(image)
+    words = ["-x", str(EXAMPLES / "gdb" / "tenant.gdb"),
+             "-ex", target(alone, ["tenant.elf"], "extended-remote")]
+    return asked(words, commands, folder)
 
 
 def numbers_in(text: str) -> dict[str, int]:
