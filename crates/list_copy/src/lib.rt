@@ -17,21 +17,3 @@ pub fn copy_list<T: Copy>(alloc: Global, list: &Vec<T>) -> Result<Vec<T>, AllocE
     }
     Ok(copy)
 }
-
-#[cfg(test)]
-mod tests {
-    use super::copy_list;
-    use std::alloc::{AllocError, Global};
-
-    #[test]
-    fn a_copy_has_the_items_and_the_room(rt: &HostRuntime) -> Result<(), AllocError> {
-        let alloc = rt.alloc();
-        let mut list = Vec::with_capacity(alloc, 5)?;
-        list.push_reserved(7u16);
-        list.push_reserved(9);
-        let copy = copy_list(alloc, &list)?;
-        assert_eq!(copy.as_slice(), [7, 9].as_slice());
-        assert_eq!(copy.capacity(), 5);
-        Ok(())
-    }
-}

@@ -152,6 +152,9 @@ fn nine_takes_give_the_last_first(rt: HostRuntime) -> Result<(), Fail> {
     let mut pool = pool_without(rt.alloc(), 13, 640, 12)?;
     let mut cache = Cache::new(rt.alloc())?;
     let put = put_first(&mut cache, &mut pool, 13, 640, 9);
+    let mut other_pool = pool.copy(rt.alloc())?;
+    let mut other_cache = cache.copy(rt.alloc())?;
     assert!(rt; put && gives_nine(&mut cache, &mut pool));
+    assert!(rt; gives_nine(&mut other_cache, &mut other_pool));
     Ok(())
 }

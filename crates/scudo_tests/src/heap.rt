@@ -88,3 +88,24 @@ fn laws_of_a_new_heap(rt: HostRuntime) -> Result<(), Fail> {
     heap.is_sound();
     Ok(())
 }
+
+/// Whether a heap whose first chunk was taken, and a copy of it over a copy of its memory, give the
+/// second chunk alike.
+fn copies_go_on_alike(alloc: Global, mode: TagMode) -> Result<bool, AllocError> {
+    let mut memory = Flat::new(alloc, 512, mode)?;
+    let mut heap = Heap::new(alloc, 0, HEAP_PAGES)?;
+    let mut rgsr = Rgsr { tag: 0, seed: 1 };
+    let first = heap.malloc(&mut rgsr, &mut memory, 24);
+    let mut other_heap = heap.copy(alloc)?;
+    let mut other_memory = memory.copy(alloc)?;
+    let mut other_rgsr = rgsr;
+    let second = heap.malloc(&mut rgsr, &mut memory, 24);
+    let other = other_heap.malloc(&mut other_rgsr, &mut other_memory, 24);
+    Ok(first == 0x0100_0000_1200_0010 && second == 0x0200_0000_1200_0050 && other == second)
+}
+
+#[test]
+fn a_copy_of_a_heap(rt: HostRuntime) -> Result<(), Fail> {
+    assert!(rt; copies_go_on_alike(rt.alloc(), TagMode::Sync)?);
+    Ok(())
+}

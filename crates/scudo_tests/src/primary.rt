@@ -41,7 +41,9 @@ fn thirteen_blocks_of_class_9(rt: HostRuntime) -> Result<(), Fail> {
     let mut pool = Primary::new(rt.alloc(), 2)?;
     let none = has_none(&pool);
     pool.carve(9, 1);
+    let mut copy = pool.copy(rt.alloc())?;
     assert!(rt; none && has_twelve(&pool) && pops_twelve(&mut pool));
+    assert!(rt; has_twelve(&copy) && pops_twelve(&mut copy));
     Ok(())
 }
 

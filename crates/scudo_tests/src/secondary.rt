@@ -70,7 +70,8 @@ fn places_rest(maps: &Secondary) -> bool {
 fn mappings_share_the_page_between_them(rt: HostRuntime) -> Result<(), Fail> {
     let mut maps = Secondary::new(rt.alloc(), 8)?;
     let put = puts_three(&mut maps);
-    assert!(rt; put && places_rest(&maps));
+    let copy = maps.copy(rt.alloc())?;
+    assert!(rt; put && places_rest(&maps) && places_rest(&copy));
     maps.recall();
     Ok(())
 }
