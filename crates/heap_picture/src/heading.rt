@@ -12,6 +12,8 @@ use std::fmt;
 pub struct Heading<'a> {
     /// The title, any text of one line.
     pub title: &'a str,
+    /// What happened where, any text of one line.
+    pub story: &'a str,
     /// The pages that are mapped; the first 60 ranges are listed.
     pub pages: &'a [PageRange],
     /// The rows that follow; what is beyond the first [`ROWS`] is below the picture.
@@ -36,7 +38,17 @@ impl<'a> fmt::Display for Heading<'a> {
             f,
             "<text class=\"title\" x=\"20\" y=\"32\"{fit}>{title}</text>\n"
         )?;
-        write!(f, "<g transform=\"translate(170 54)\">{legend}</g>\n")?;
+        let fit = if self.story.len() > LONGEST_STORY {
+            FIT
+        } else {
+            ""
+        };
+        let story = Escaped(self.story);
+        write!(
+            f,
+            "<text class=\"story\" x=\"20\" y=\"56\"{fit}>{story}</text>\n"
+        )?;
+        write!(f, "<g transform=\"translate(170 74)\">{legend}</g>\n")?;
         write!(
             f,
             "<g transform=\"translate(170 {ABOVE_PAGES})\">{PAGES}{list}</g>\n"
@@ -58,6 +70,9 @@ const FONT: &str = "\" font-family=\"monospace\" font-size=\"12\">\n";
 /// The most letters of a title that has its usual width.
 const LONGEST: usize = 130;
 
+/// The most letters of a story that has its usual width.
+const LONGEST_STORY: usize = 180;
+
 /// What makes a longer title as wide as the picture.
 const FIT: &str = " textLength=\"1560\" lengthAdjust=\"spacingAndGlyphs\"";
 
@@ -65,7 +80,7 @@ const FIT: &str = " textLength=\"1560\" lengthAdjust=\"spacingAndGlyphs\"";
 const PAGES: &str = "<text class=\"at\" x=\"-10\">pages</text>\n";
 
 /// From the top of a picture to the bottom of the first line of pages.
-const ABOVE_PAGES: u64 = 128;
+const ABOVE_PAGES: u64 = 178;
 
 /// From the bottom of the last line of pages to the first row.
 const ABOVE_ROWS: u64 = 34;

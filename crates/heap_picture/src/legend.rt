@@ -1,7 +1,7 @@
 //! What the colours and lines of a picture mean.
 
 use crate::cell::{CELL_WIDTH, Cell};
-use crate::part::Part::{Number, Text};
+use crate::part::Part::{Number, Tag, Text};
 use crate::part::write_parts;
 use std::fmt;
 
@@ -22,10 +22,9 @@ impl fmt::Display for Definitions {
         f.write_str(STYLE)?;
         f.write_str("<defs>\n")?;
         for (tag, colour) in COLOURS.iter().enumerate() {
-            let tag = Number(tag as u64);
             let (start, end) = (Text("<g id=\"t"), Text("</text></g>\n"));
-            write_parts(f, &[start, tag, Text(CELL), Text(colour)])?;
-            write_parts(f, &[Text(CELL_TEXT), tag, end])?;
+            write_parts(f, &[start, Number(tag as u64), Text(CELL), Text(colour)])?;
+            write_parts(f, &[Text(CELL_TEXT), Tag(tag as u8), end])?;
         }
         f.write_str(PATTERNS)?;
         f.write_str("</defs>\n")
@@ -55,7 +54,9 @@ const STYLE: &str = "<style>\n\
     .note{fill:none;pointer-events:all}\n\
     .cause{fill:none;stroke:#e00000;stroke-width:1.5;pointer-events:all}\n\
     .arrow{fill:none;stroke:#e00000;stroke-width:2;marker-end:url(#head)}\n\
-    .label{font-size:8px;fill:#555}\n\
+    .label{font-size:10px;fill:#333}\n\
+    .size{font-size:9px;fill:#777;text-anchor:end}\n\
+    .story{font-size:14px}\n\
     </style>\n";
 
 /// The cell of memory that is not mapped, the hatches of freed chunks, and where a row ends.
@@ -68,13 +69,13 @@ const PATTERNS: &str = "<g id=\"u\"><rect width=\"16\" height=\"18\" fill=\"#bbb
     <path d=\"M0,0L8,4L0,8z\" fill=\"#e00000\"/></marker>\n\
     <clipPath id=\"row\"><rect x=\"7\" y=\"-4\" width=\"1026\" height=\"26\"/></clipPath>\n";
 
-/// What the colours and lines mean, on two lines of 18 pixels, 8 apart.
+/// What the colours and lines mean, on three lines of 18 pixels, 10 apart.
 #[derive(Clone, Copy)]
 pub struct Legend;
 
 impl fmt::Display for Legend {
     fn fmt<W: fmt::Write>(&self, f: &mut fmt::Formatter<W>) -> fmt::Result {
-        f.write_str("<text class=\"at\" x=\"-10\" y=\"13\">tag</text>")?;
+        f.write_str("<text class=\"at\" x=\"-10\" y=\"13\">tag (hexadecimal)</text>")?;
         for tag in 0..16u8 {
             let cell = Cell {
                 x: (CELL_WIDTH + 8) * u64::from(tag),
@@ -88,18 +89,21 @@ impl fmt::Display for Legend {
 
 /// A sample of each line, and of what has no tag.
 const SAMPLES: &str = "\n<g transform=\"translate(0 28)\">\
-    <rect class=\"live\" y=\"1\" width=\"40\" height=\"16\"/><text x=\"50\" y=\"13\">live</text>\
-    <g transform=\"translate(110)\"><rect class=\"freed\" y=\"1\" width=\"40\" height=\"16\"/>\
-    <text x=\"50\" y=\"13\">freed</text></g>\
-    <g transform=\"translate(228)\"><use href=\"#t0\"/><use href=\"#t0\" x=\"16\"/>\
-    <text x=\"42\" y=\"13\">no chunk</text></g>\
-    <g transform=\"translate(356)\"><use href=\"#u\"/><use href=\"#u\" x=\"16\"/>\
-    <text x=\"42\" y=\"13\">not mapped</text></g>\
-    <g transform=\"translate(500)\"><path class=\"block\" d=\"M0,-4v26\"/>\
-    <text x=\"10\" y=\"13\">a block begins</text></g>\
-    <g transform=\"translate(644)\">\
+    <rect class=\"live\" y=\"1\" width=\"32\" height=\"16\"/>\
+    <text x=\"40\" y=\"13\">live</text>\
+    <g transform=\"translate(92)\"><rect class=\"freed\" y=\"1\" width=\"32\" height=\"16\"/>\
+    <text x=\"40\" y=\"13\">freed</text></g>\
+    <g transform=\"translate(192)\"><use href=\"#t0\"/><use href=\"#t0\" x=\"16\"/>\
+    <text x=\"40\" y=\"13\">no chunk</text></g>\
+    <g transform=\"translate(310)\"><use href=\"#u\"/><use href=\"#u\" x=\"16\"/>\
+    <text x=\"40\" y=\"13\">not mapped</text></g>\
+    <g transform=\"translate(440)\"><path class=\"block\" d=\"M0,-2v22\"/>\
+    <text x=\"8\" y=\"13\">a block begins</text></g>\
+    <text x=\"570\" y=\"13\">#3 40 B: the chunk of heap call 3, of 40 bytes</text></g>\
+    \n<g transform=\"translate(0 56)\">\
     <rect class=\"mark\" y=\"-1\" width=\"16\" height=\"20\"/>\
-    <text x=\"28\" y=\"13\">the access or pointer that was refused</text></g>\
-    <g transform=\"translate(980)\">\
-    <rect class=\"cause\" width=\"40\" height=\"18\"/>\
-    <text x=\"50\" y=\"13\">the chunk that the cause names</text></g></g>\n";
+    <text x=\"28\" y=\"13\">what was refused; above it the tag of its pointer</text>\
+    <g transform=\"translate(400)\"><rect class=\"cause\" width=\"32\" height=\"18\"/>\
+    <text x=\"40\" y=\"13\">the chunk that the cause names</text></g>\
+    <g transform=\"translate(660)\"><path class=\"arrow\" d=\"M0,14Q16,0 30,12\"/>\
+    <text x=\"40\" y=\"13\">from that chunk to the access</text></g></g>\n";

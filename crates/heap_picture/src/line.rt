@@ -1,8 +1,8 @@
-//! A line of a picture: a row, its address, and what was refused where it is in the row.
+//! A line of a picture: a row, its address, and above it what was refused where that is in the row.
 
 use crate::cell::{CELL_WIDTH, Cell};
-use crate::layout::PITCH;
-use crate::part::Part::{Hexadecimal, Number, Text};
+use crate::layout::{GRANULES, PITCH};
+use crate::part::Part::{Hexadecimal, Number, Tag, Text};
 use crate::part::write_parts;
 use crate::row::{Boundaries, Cells, Row};
 use crate::run::Chunks;
@@ -37,7 +37,8 @@ pub struct Mark {
     pub tag: u8,
 }
 
-/// A line of a picture, as `{}` writes it.
+/// A line of a picture, as `{}` writes it. Where the mark is in its row, what is said of that is in
+/// the line above, which is to be left free.
 #[derive(Clone, Copy)]
 pub struct PictureLine {
     /// The row that it shows.
@@ -76,10 +77,12 @@ impl fmt::Display for PictureLine {
         if let Some(class) = row.class {
             let start = Text("<text class=\"of\" x=\"-110\" y=\"13\">class ");
             write_parts(f, &[start, Number(u64::from(class)), Text("</text>")])?;
-            let start = Text("<text class=\"label at\" x=\"-110\" y=\"23\">");
+            let start = Text("<text class=\"size\" x=\"-110\" y=\"24\">");
             write_parts(f, &[start, Number(row.size), Text(" B</text>")])?;
         }
-        let (cells, boundaries, chunks) = (Cells(row), Boundaries(row), Chunks(row));
+        let shown = row.shown(frame.map(|frame| frame.index));
+        let (cells, boundaries) = (Cells { row, shown }, Boundaries { row, shown });
+        let chunks = Chunks(row);
         write!(f, "{cells}{boundaries}{chunks}")?;
         if let Some(frame) = frame {
             write!(f, "{frame}")?;
@@ -88,10 +91,13 @@ impl fmt::Display for PictureLine {
     }
 }
 
-/// What stands behind the row with the mark.
-const BAND: &str = "<rect class=\"band\" x=\"-166\" y=\"-4\" width=\"1586\" height=\"26\"/>";
+/// What is behind the row with the mark, and behind what is said above it.
+const BAND: &str = "<rect class=\"band\" x=\"-166\" y=\"-34\" width=\"1220\" height=\"64\"/>";
 
-/// A frame round a granule, and beside the row what it says.
+/// How far above its row what is said of a mark begins.
+const ABOVE: &str = "-32";
+
+/// A frame round a granule, and above it the tag of the pointer and what it says.
 #[derive(Clone, Copy)]
 struct Frame {
     mark: Mark,
@@ -101,28 +107,47 @@ struct Frame {
     memory: Option<u8>,
 }
 
+impl Frame {
+    /// Writes the granule's frame, and a line to the cell of the pointer's tag above it.
+    fn write_frame<W: fmt::Write>(&self, f: &mut fmt::Formatter<W>, left: u64) -> fmt::Result {
+        let start = Text("<rect class=\"mark\" x=\"");
+        let end = Text("\" y=\"-1\" width=\"16\" height=\"20\"/>");
+        write_parts(f, &[start, Number(left), end])?;
+        let middle = Number(left.saturating_add(CELL_WIDTH / 2));
+        let start = Text("<path class=\"mark\" d=\"M");
+        write_parts(f, &[start, middle, Text(",-2v-12\"/>")])?;
+        let cell = Cell {
+            x: left,
+            tag: Some(self.mark.tag),
+        };
+        write!(f, "<g transform=\"translate(0 {ABOVE})\">{cell}</g>")
+    }
+
+    /// Writes where what is said begins: behind the cell above the granule, or before it where the
+    /// row has more room there.
+    fn write_start<W: fmt::Write>(&self, f: &mut fmt::Formatter<W>, left: u64) -> fmt::Result {
+        let (end, y) = (Text("\" y=\"-19\">"), Text("\" x=\""));
+        if self.index < GRANULES / 2 {
+            let x = Number(left.saturating_add(CELL_WIDTH + 6));
+            write_parts(f, &[Text("<text class=\"says"), y, x, end])
+        } else {
+            let x = Number(left.saturating_sub(6));
+            write_parts(f, &[Text("<text class=\"says at"), y, x, end])
+        }
+    }
+}
+
 impl fmt::Display for Frame {
     fn fmt<W: fmt::Write>(&self, f: &mut fmt::Formatter<W>) -> fmt::Result {
         let left = CELL_WIDTH.saturating_mul(self.index as u64);
-        let middle = Number(left.saturating_add(CELL_WIDTH / 2));
-        let start = Text("<path class=\"mark\" d=\"M");
-        write_parts(f, &[start, middle, Text(",19v2H1032V9h6\"/>")])?;
-        let (start, left) = (Text("<rect class=\"mark\" x=\""), Number(left));
-        let end = Text("\" y=\"-1\" width=\"16\" height=\"20\"/>");
-        write_parts(f, &[start, left, end])?;
+        self.write_frame(f, left)?;
+        self.write_start(f, left)?;
         let Mark { marked, addr, tag } = self.mark;
-        let cell = Cell {
-            x: 1040,
-            tag: Some(tag),
-        };
-        write!(f, "{cell}<text class=\"says\" x=\"1062\" y=\"13\">{marked}")?;
-        let (addr, tag) = (Hexadecimal(addr), Number(u64::from(tag % 16)));
-        write_parts(f, &[addr, Text(" with tag "), tag])?;
+        write!(f, "{marked}")?;
+        let middle = Text(" with tag ");
+        write_parts(f, &[Hexadecimal(addr), middle, Tag(tag)])?;
         match self.memory {
-            Some(tag) => {
-                let tag = Number(u64::from(tag % 16));
-                write_parts(f, &[Text(", memory has "), tag, Text("</text>")])
-            }
+            Some(tag) => write_parts(f, &[Text(", memory has "), Tag(tag), Text("</text>")]),
             None => f.write_str(", not mapped</text>"),
         }
     }

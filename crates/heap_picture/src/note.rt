@@ -7,10 +7,11 @@ use crate::part::{Escaped, write_parts};
 use std::fmt;
 
 /// The width of a letter of a label.
-const LETTER: u64 = 5;
+const LETTER: u64 = 6;
 
-/// What is said of granules that follow each other in a row: a label below them where there is
-/// room, and a title that viewers show where one points at them. It is written behind the row.
+/// What is said of granules that follow each other in a row: a label below them and the granule
+/// behind them, which is a header, and a title that viewers show where one points at them. Where
+/// there is no room for the label, only its first word is written. It is written behind the row.
 #[derive(Clone, Copy)]
 pub struct Note<'a> {
     /// The number of the row in the picture, from 0.
@@ -32,6 +33,18 @@ impl<'a> Note<'a> {
     fn width(&self) -> u64 {
         CELL_WIDTH.saturating_mul(self.end.saturating_sub(self.start) as u64)
     }
+
+    /// The label, or its first word where there is no room for more.
+    fn fitting_label(&self) -> &'a str {
+        let room = self.width().saturating_add(CELL_WIDTH);
+        if LETTER.saturating_mul(self.label.len() as u64) <= room {
+            return self.label;
+        }
+        match self.label.split_once(' ') {
+            Some((word, _)) => word,
+            None => self.label,
+        }
+    }
 }
 
 impl<'a> fmt::Display for Note<'a> {
@@ -48,10 +61,7 @@ impl<'a> fmt::Display for Note<'a> {
             "<rect class=\"{class}\" width=\"{width}\" height=\"18\">"
         )?;
         write!(f, "<title>{title}</title></rect>")?;
-        if LETTER.saturating_mul(self.label.len() as u64) <= width {
-            let label = Escaped(self.label);
-            write!(f, "<text class=\"label\" y=\"25\">{label}</text>")?;
-        }
-        f.write_str("</g>\n")
+        let label = Escaped(self.fitting_label());
+        write!(f, "<text class=\"label\" y=\"28\">{label}</text></g>\n")
     }
 }

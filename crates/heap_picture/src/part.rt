@@ -11,6 +11,8 @@ pub enum Part<'a> {
     Number(u64),
     /// A hexadecimal number with `0x` before it.
     Hexadecimal(u64),
+    /// A tag: a hexadecimal digit.
+    Tag(u8),
 }
 
 impl<'a> fmt::Display for Part<'a> {
@@ -19,6 +21,7 @@ impl<'a> fmt::Display for Part<'a> {
             Part::Text(text) => f.write_str(text),
             Part::Number(number) => write!(f, "{number}"),
             Part::Hexadecimal(number) => write!(f, "{number:#x}"),
+            Part::Tag(tag) => write!(f, "{:x}", tag % 16),
         }
     }
 }

@@ -31,6 +31,14 @@ pub struct PictureGranule {
     pub owner: GranuleOwner,
 }
 
+impl PictureGranule {
+    /// Whether it has no tag and is no chunk's.
+    fn is_blank(&self) -> bool {
+        let is_nothing = matches!(self.owner, GranuleOwner::Nothing);
+        is_nothing && self.tag == Some(0)
+    }
+}
+
 /// [`GRANULES`] granules that follow each other.
 #[derive(Clone, Copy)]
 pub struct Row {
@@ -55,6 +63,22 @@ impl Row {
         behind.and_then(|bytes| bytes.checked_rem(self.size)) == Some(0)
     }
 
+    /// How many granules are shown: in a row of blocks those up to two blocks behind the last that
+    /// has a tag, a chunk or the mark.
+    pub(crate) fn shown(&self, marked: Option<usize>) -> usize {
+        if self.size == 0 {
+            return GRANULES;
+        }
+        let mut last = marked.unwrap_or(0);
+        for (index, granule) in self.granules.iter().enumerate() {
+            if !granule.is_blank() {
+                last = last.max(index);
+            }
+        }
+        let blocks = (2 * (self.size / GRANULE_SIZE)).saturating_add(last as u64);
+        blocks.saturating_add(1).min(GRANULES as u64) as usize
+    }
+
     /// The number of the granule that an address is in, where it is one of the row.
     pub fn index_of(&self, address: u64) -> Option<usize>
         ensures inside { IfSome result (λ i. (i < GRANULES)
@@ -72,34 +96,46 @@ impl Row {
     }
 }
 
-/// The granules of a row, each in the colour of its tag.
+/// The first granules of a row, each in the colour of its tag.
 #[derive(Clone, Copy)]
-pub struct Cells<'a>(pub &'a Row);
+pub struct Cells<'a> {
+    /// The row.
+    pub row: &'a Row,
+    /// How many granules.
+    pub shown: usize,
+}
 
 impl<'a> fmt::Display for Cells<'a> {
     fn fmt<W: fmt::Write>(&self, f: &mut fmt::Formatter<W>) -> fmt::Result {
-        for (index, granule) in self.0.granules.iter().enumerate() {
-            let cell = Cell {
-                x: CELL_WIDTH * index as u64,
-                tag: granule.tag,
-            };
-            write!(f, "{cell}")?;
+        for (index, granule) in self.row.granules.iter().enumerate() {
+            if index < self.shown {
+                let cell = Cell {
+                    x: CELL_WIDTH * index as u64,
+                    tag: granule.tag,
+                };
+                write!(f, "{cell}")?;
+            }
         }
         Ok(())
     }
 }
 
-/// A line before each block of a row.
+/// A line before each block that begins in the first granules of a row.
 #[derive(Clone, Copy)]
-pub struct Boundaries<'a>(pub &'a Row);
+pub struct Boundaries<'a> {
+    /// The row.
+    pub row: &'a Row,
+    /// How many granules.
+    pub shown: usize,
+}
 
 impl<'a> fmt::Display for Boundaries<'a> {
     fn fmt<W: fmt::Write>(&self, f: &mut fmt::Formatter<W>) -> fmt::Result {
         f.write_str("<path class=\"block\" d=\"")?;
         for index in 0..GRANULES {
-            if self.0.begins_block(index) {
+            if index < self.shown && self.row.begins_block(index) {
                 let x = Number(CELL_WIDTH * index as u64);
-                write_parts(f, &[Text("M"), x, Text(",-4v26")])?;
+                write_parts(f, &[Text("M"), x, Text(",-2v22")])?;
             }
         }
         f.write_str("\"/>")

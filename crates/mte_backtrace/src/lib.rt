@@ -8,6 +8,7 @@ mod json;
 mod names;
 mod prologue;
 mod sarif;
+mod told_frame;
 mod walk;
 
 pub use call_stack::CallStack;

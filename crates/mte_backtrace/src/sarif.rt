@@ -123,31 +123,6 @@ impl CallStack {
         }
         write!(out, "}}")
     }
-
-    /// The innermost frame whose source line is known; the innermost one where none is.
-    fn told_frame<'n>(&self, names: &FrameNames<'n>) -> Option<StackFrame<'n>> {
-        let own = frame_with_line(names.instruction_frames(self.pc));
-        if own.is_some() {
-            return own;
-        }
-        for caller in &self.callers {
-            let found = frame_with_line(names.call_frames(*caller));
-            if found.is_some() {
-                return found;
-            }
-        }
-        names.instruction_frames(self.pc).next()
-    }
-}
-
-/// The first frame whose source line is known.
-fn frame_with_line<'a>(frames: FramesAt<'_, 'a>) -> Option<StackFrame<'a>> {
-    for frame in frames {
-        if frame.line.is_some() {
-            return Some(frame);
-        }
-    }
-    None
 }
 
 /// Writes an object for each frame of an address, with what stands in front of the first.

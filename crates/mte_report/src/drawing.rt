@@ -29,7 +29,8 @@ impl<'a> Report<'a> {
         let title = format!(in alloc; "{title}")?;
         let extents = extents(alloc, self.book)?;
         let names = self.extent_names(alloc, extents.as_slice())?;
-        let picture = self.picture(title.as_str(), extents.as_slice(), &names);
+        let story = self.story(alloc, memory)?;
+        let picture = self.picture([title.as_str(), story.as_str()], extents.as_slice(), &names);
         picture.draw(alloc, out, memory)
     }
 
@@ -45,7 +46,8 @@ impl<'a> Report<'a> {
         let title = format!(in alloc; "{title}")?;
         let extents = extents(alloc, self.book)?;
         let names = self.extent_names(alloc, extents.as_slice())?;
-        let picture = self.picture(title.as_str(), extents.as_slice(), &names);
+        let story = self.story(alloc, memory)?;
+        let picture = self.picture([title.as_str(), story.as_str()], extents.as_slice(), &names);
         picture.write_text(alloc, out, memory)
     }
 
@@ -74,15 +76,16 @@ impl<'a> Report<'a> {
         self.names.of_frames(alloc, &frames)
     }
 
-    /// A picture of chunks, under a title.
+    /// A picture of chunks, under a title and a story.
     fn picture<'p, 'n>(
         &self,
-        title: &'p str,
+        [title, story]: [&'p str; 2],
         extents: &'p [Extent],
         names: &'p FrameNames<'n>,
     ) -> Picture<'p> {
         Picture {
             title,
+            story,
             extents,
             names,
             cause: self.cause_number(),

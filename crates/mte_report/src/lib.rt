@@ -9,6 +9,7 @@ mod leaks;
 mod report;
 mod sarif;
 mod stacks;
+mod story;
 
 pub use instruction_trace::{Moment, SVC, Service, TraceLine, Turn};
 pub use report::Report;

@@ -1,8 +1,8 @@
 //! What a picture says of a row, its pages and its title.
 
 use heap_picture::{
-    Arrow, GRANULES, Gap, GranuleOwner, Heading, Kind, Mark, Marked, PageRange, PictureGranule,
-    PictureLine, Row, Spot,
+    Arrow, GRANULES, Gap, GranuleOwner, Heading, Kind, Mark, Marked, Note, PageRange,
+    PictureGranule, PictureLine, Row, Spot,
 };
 use std::alloc::Global;
 
@@ -42,16 +42,18 @@ fn line(marked: Marked, addr: u64) -> PictureLine {
 }
 
 /// What the line of an access behind the chunk contains.
-const BEHIND: [&str; 8] = [
-    "<g transform=\"translate(0 52)\">",
+const BEHIND: [&str; 9] = [
+    "<g transform=\"translate(0 68)\">",
     ">0x12000000</text>",
     ">class 2</text>",
     "<use href=\"#t0\" x=\"0\"/><use href=\"#t14\" x=\"16\"/>\
      <use href=\"#t14\" x=\"32\"/><use href=\"#t0\" x=\"48\"/>",
-    "M0,-4v26M64,-4v26M128,-4v26",
+    "M0,-2v22M64,-2v22M128,-2v22\"/>",
     "<rect class=\"live\" y=\"1\" height=\"16\" x=\"24\" width=\"32\"/>",
     "<rect class=\"mark\" x=\"48\" y=\"-1\" width=\"16\" height=\"20\"/>",
-    ">access at 0x12000038 with tag 14, memory has 0</text>",
+    "<path class=\"mark\" d=\"M56,-2v-12\"/><g transform=\"translate(0 -32)\">\
+     <use href=\"#t14\" x=\"48\"/></g>",
+    "<text class=\"says\" x=\"70\" y=\"-19\">access at 0x12000038 with tag e, memory has 0</text>",
 ];
 
 fn contains_all(text: &str, parts: &[&str]) -> bool {
@@ -75,7 +77,7 @@ fn shows(alloc: Global, marked: Marked, addr: u64, parts: &[&str]) -> bool {
 #[test]
 fn a_mark_in_its_row(rt: HostRuntime) {
     assert!(rt; shows(rt.alloc(), Marked::Access, 0x1200_0038, &BEHIND));
-    let pointer = ">pointer 0x12000010 with tag 14, memory has 14</text>";
+    let pointer = ">pointer 0x12000010 with tag e, memory has e</text>";
     assert!(rt; shows(rt.alloc(), Marked::Pointer, 0x1200_0010, &[pointer]));
 }
 
@@ -124,13 +126,15 @@ fn has_title(alloc: Global, heading: &Heading, title: &str) -> bool {
 }
 
 #[test]
-fn a_title_is_escaped(rt: HostRuntime) {
+fn a_title_and_a_story_are_escaped(rt: HostRuntime) {
     let heading = Heading {
         title: "a<b> & \u{1}c",
+        story: "in f<int> at x.c:3",
         pages: &[],
         rows: 1,
     };
     assert!(rt; has_title(rt.alloc(), &heading, ">a&lt;b&gt; &amp; ?c</text>"));
+    assert!(rt; has_title(rt.alloc(), &heading, ">in f&lt;int&gt; at x.c:3</text>"));
 }
 
 fn arrow_has(alloc: Global, arrow: &Arrow, path: &str) -> bool {
@@ -148,7 +152,7 @@ fn an_arrow_from_row_to_row(rt: HostRuntime) {
         arrow_has(
             rt.alloc(),
             &Arrow { from, to },
-            " d=\"M40,11Q64,0 88,37\"/>"
+            " d=\"M40,11Q64,0 88,45\"/>"
         )
     );
 }
@@ -167,5 +171,32 @@ fn what_is_left_out(rt: HostRuntime) {
         start: 0x1200_0800,
         end: 0x1300_0000,
     };
-    assert!(rt; gap_has(rt.alloc(), &gap, " y=\"65\">0x12000800 to 0x12ffffff: "));
+    assert!(rt; gap_has(rt.alloc(), &gap, " y=\"81\">0x12000800 to 0x12ffffff: "));
+}
+
+fn note_has(alloc: Global, end: usize, label: &str) -> bool {
+    let note = Note {
+        row: 1,
+        start: 2,
+        end,
+        label: "#3 40 B",
+        title: "40 bytes",
+        is_cause: false,
+    };
+    match format!(in alloc; "{note}") {
+        Ok(text) => text.contains(label),
+        Err(_) => false,
+    }
+}
+
+#[test]
+fn a_label_and_its_first_word(rt: HostRuntime) {
+    assert!(rt;
+        note_has(
+            rt.alloc(),
+            4,
+            "<text class=\"label\" y=\"28\">#3 40 B</text>"
+        )
+    );
+    assert!(rt; note_has(rt.alloc(), 3, "<text class=\"label\" y=\"28\">#3</text>"));
 }

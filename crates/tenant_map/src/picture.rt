@@ -16,8 +16,10 @@ use std::{fmt, io};
 /// A picture of a tenant's heap and its tags.
 #[derive(Clone, Copy)]
 pub struct Picture<'a> {
-    /// What stands above it, a line.
+    /// What is above it, a line.
     pub title: &'a str,
+    /// What happened where, a line that may be empty.
+    pub story: &'a str,
     /// The granules of the chunks.
     pub extents: &'a [Extent],
     /// What the addresses of the image are called.
@@ -106,7 +108,8 @@ impl<'a> Rows<'a> {
             left_out: self.left_out(),
         };
         let title = format!(in alloc; "{title}")?;
-        write_titled(alloc, out, title.as_str(), map, self.window.count)
+        let titles = [title.as_str(), self.picture.story];
+        write_titled(alloc, out, titles, map, self.window.count)
     }
 
     /// Writes those that are shown, and the end of the picture.
@@ -115,7 +118,7 @@ impl<'a> Rows<'a> {
         let mut before = None;
         for place in self.places {
             if let Some(number) = self.window.number(place) {
-                self.write_gap(out, before, place, number)?;
+                self.write_gap(out, before, place)?;
                 before = Some(place);
                 self.write_row(out, memory, place.address, number)?;
                 notes.write(alloc, out, place.address, number)?;
@@ -134,7 +137,6 @@ impl<'a> Rows<'a> {
         out: &mut W,
         before: Option<&CandidateRow>,
         place: &CandidateRow,
-        number: usize,
     ) -> io::Result<()> {
         let Some(before) = before else {
             return Ok(());
@@ -143,8 +145,9 @@ impl<'a> Rows<'a> {
         if start == place.address {
             return Ok(());
         }
+        let number = self.window.number(before).unwrap_or(0);
         let gap = Gap {
-            number: number.saturating_sub(1),
+            number: number.saturating_add(1),
             start,
             end: place.address,
         };
@@ -193,17 +196,18 @@ impl<'a> Rows<'a> {
     }
 }
 
-/// Writes what stands above a number of rows, under a title.
+/// Writes what is above a number of rows, under a title and a story.
 fn write_titled<W: Write>(
     alloc: Global,
     out: &mut W,
-    title: &str,
+    [title, story]: [&str; 2],
     map: &[MappedPages],
     rows: usize,
 ) -> io::Result<()> {
     let pages = listed(alloc, map)?;
     let heading = Heading {
         title,
+        story,
         pages: pages.as_slice(),
         rows,
     };

@@ -16,7 +16,8 @@ const PLAIN: u32 = 1;
 pub struct CandidateRow {
     /// The address of its first granule.
     pub address: u64,
-    /// Its number from the first row, where a gap in the addresses counts as a row.
+    /// Its number from the first row, where a gap in the addresses counts as a row, and the line
+    /// above the mark's row.
     pub number: usize,
 }
 
@@ -81,7 +82,8 @@ fn row_of(addr: u64) -> u64 {
     addr - addr % ROW_SIZE
 }
 
-/// The rows of the heap's pages, and of a marked address with its neighbours.
+/// The rows of the heap's pages, and of a marked address with its neighbours, but for those that
+/// have nothing to show.
 pub fn places<M: Tagged>(
     alloc: Global,
     memory: &mut M,
@@ -95,7 +97,7 @@ pub fn places<M: Tagged>(
     }
     rows.sort()?;
     rows.dedup();
-    number_rows(alloc, rows.as_slice())
+    number_rows(alloc, rows.as_slice(), mark.map(row_of))
 }
 
 /// The rows of the heap's pages.
@@ -132,7 +134,8 @@ fn mark_row(rows: &mut [bool], addr: u64) {
     }
 }
 
-/// Adds the rows of pages, without those that go on as the rows in front of them.
+/// Adds the rows of pages, without those that go on as the rows in front of them and those that have
+/// nothing but tag 0.
 fn push_rows<M: Tagged>(
     rows: &mut Vec<u64>,
     memory: &mut M,
@@ -148,7 +151,7 @@ fn push_rows<M: Tagged>(
         } else {
             plain.saturating_add(1)
         };
-        if plain <= PLAIN {
+        if edge || plain <= PLAIN && !is_blank(memory, address) {
             rows.push(address)?;
         }
     }
@@ -166,7 +169,17 @@ fn is_plain<M: Tagged>(memory: &mut M, address: u64) -> bool {
     true
 }
 
-/// Adds the row of an address, and the rows beside it where their page is mapped.
+/// Whether all granules of a row have tag 0.
+fn is_blank<M: Tagged>(memory: &mut M, address: u64) -> bool {
+    for index in 0..GRANULES as u64 {
+        if tag_of(memory, address.saturating_add(index * GRANULE_SIZE)) != Some(0) {
+            return false;
+        }
+    }
+    true
+}
+
+/// Adds the row of an address, and the rows beside it that have tags.
 fn push_marked<M: Tagged>(
     rows: &mut Vec<u64>,
     memory: &mut M,
@@ -174,30 +187,38 @@ fn push_marked<M: Tagged>(
 ) -> Result<(), AllocError> {
     let own = row_of(addr);
     rows.push(own)?;
-    push_mapped(rows, memory, own.saturating_sub(ROW_SIZE))?;
-    push_mapped(rows, memory, own.saturating_add(ROW_SIZE))
+    push_tagged(rows, memory, own.saturating_sub(ROW_SIZE))?;
+    push_tagged(rows, memory, own.saturating_add(ROW_SIZE))
 }
 
-/// Adds the row at an address, if its page is mapped.
-fn push_mapped<M: Tagged>(
+/// Adds the row at an address, if its page is mapped and a granule has a tag.
+fn push_tagged<M: Tagged>(
     rows: &mut Vec<u64>,
     memory: &mut M,
     address: u64,
 ) -> Result<(), AllocError> {
-    if tag_of(memory, address).is_some() {
+    if tag_of(memory, address).is_some() && !is_blank(memory, address) {
         rows.push(address)?;
     }
     Ok(())
 }
 
-/// Numbers the rows, and leaves a number out where rows between are left out.
-fn number_rows(alloc: Global, rows: &[u64]) -> Result<Vec<CandidateRow>, AllocError> {
+/// Numbers the rows, and leaves a number out where rows between are left out, and one before the row
+/// with the mark, for what is said of that.
+fn number_rows(
+    alloc: Global,
+    rows: &[u64],
+    marked: Option<u64>,
+) -> Result<Vec<CandidateRow>, AllocError> {
     let mut places = Vec::with_capacity(alloc, rows.len())?;
     let mut number = 0usize;
     let mut next = rows.first().copied().unwrap_or(0);
     for row in rows {
         let address = *row;
         if address != next {
+            number = number.saturating_add(1);
+        }
+        if Some(address) == marked {
             number = number.saturating_add(1);
         }
         places.push(CandidateRow { address, number })?;

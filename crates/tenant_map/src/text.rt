@@ -12,7 +12,8 @@ use std::io::Write;
 use std::{fmt, io};
 
 /// What stands above the rows.
-const HEAD: &str = "each sign is a granule of 16 bytes: its tag, or . where no page is mapped; \
+const HEAD: &str =
+    "each sign is a granule of 16 bytes: its tag in hexadecimal, or . where no page is mapped; \
     below it = in a live chunk, x in a freed one, ^ what was refused";
 
 impl<'a> Picture<'a> {
@@ -39,7 +40,11 @@ impl<'a> Picture<'a> {
         let addr = self.mark.map(|mark| mark.addr);
         let places = places(alloc, memory, map, self.extents, addr)?;
         let window = Window::around(places.as_slice(), addr);
-        writeln!(out, "{}\n{HEAD}", self.title)?;
+        writeln!(out, "{}", self.title)?;
+        if !self.story.is_empty() {
+            writeln!(out, "{}", self.story)?;
+        }
+        writeln!(out, "{HEAD}")?;
         for place in &places {
             if window.number(place).is_some() {
                 self.write_row(out, memory, place)?;
