@@ -28,8 +28,20 @@ impl<'a> Report<'a> {
         let title = self.title_of(title);
         let title = format!(in alloc; "{title}")?;
         let extents = extents(alloc, self.book)?;
-        let names = self.extent_names(alloc, extents.as_slice())?;
-        let picture = self.picture(title.as_str(), extents.as_slice(), &names);
+        self.draw_extents(alloc, out, title.as_str(), extents.as_slice(), memory)
+    }
+
+    /// Draws chunks under a title.
+    fn draw_extents<W: Write>(
+        &self,
+        alloc: Global,
+        out: &mut W,
+        title: &str,
+        extents: &[Extent],
+        memory: &mut Flat,
+    ) -> io::Result<()> {
+        let names = self.extent_names(alloc, extents)?;
+        let picture = self.picture(title, extents, &names);
         picture.draw(alloc, out, memory)
     }
 
@@ -44,8 +56,20 @@ impl<'a> Report<'a> {
         let title = self.title_of(title);
         let title = format!(in alloc; "{title}")?;
         let extents = extents(alloc, self.book)?;
-        let names = self.extent_names(alloc, extents.as_slice())?;
-        let picture = self.picture(title.as_str(), extents.as_slice(), &names);
+        self.write_extents(alloc, out, title.as_str(), extents.as_slice(), memory)
+    }
+
+    /// Writes chunks as text, under a title.
+    fn write_extents<W: Write>(
+        &self,
+        alloc: Global,
+        out: &mut W,
+        title: &str,
+        extents: &[Extent],
+        memory: &mut Flat,
+    ) -> io::Result<()> {
+        let names = self.extent_names(alloc, extents)?;
+        let picture = self.picture(title, extents, &names);
         picture.write_text(alloc, out, memory)
     }
 
@@ -68,9 +92,7 @@ impl<'a> Report<'a> {
         extents: &[Extent],
     ) -> Result<FrameNames<'a>, AllocError> {
         let mut frames = FrameAddresses::new(alloc);
-        for extent in extents {
-            frames.push_instruction(extent.chunk.made.pc)?;
-        }
+        push_makers(&mut frames, extents)?;
         self.names.of_frames(alloc, &frames)
     }
 
@@ -110,6 +132,14 @@ impl<'a> Report<'a> {
             None => mark_of(&self.parts.log.status),
         }
     }
+}
+
+/// Adds the instructions that made chunks.
+fn push_makers(frames: &mut FrameAddresses, extents: &[Extent]) -> Result<(), AllocError> {
+    for extent in extents {
+        frames.push_instruction(extent.chunk.made.pc)?;
+    }
+    Ok(())
 }
 
 /// The access or pointer that a status names.

@@ -1,5 +1,6 @@
 //! What happened to a tenant that did not exit, in words.
 
+use crate::explanation::Explanation;
 use a64_bits::plain;
 use a64_decode::decode;
 use a64_registers::Regs;
@@ -65,12 +66,22 @@ impl<'a> Report<'a> {
     pub fn write<W: Write>(&self, alloc: Global, out: &mut W, memory: &mut Flat) -> io::Result<()> {
         write!(out, "mte_run: ")?;
         tell_status(out, self, memory)?;
-        let cause = self.cause();
-        let names = self.frame_names(alloc, cause.as_ref(), memory)?;
-        self.tell_calls(alloc, out, cause.as_ref(), memory, &names)?;
+        let explanation = self.explain(alloc, memory)?;
+        self.write_explained(alloc, out, &explanation, memory)
+    }
+
+    /// Writes what happened behind the line of the status, by what is known of the end.
+    fn write_explained<W: Write>(
+        &self,
+        alloc: Global,
+        out: &mut W,
+        explanation: &Explanation<'_>,
+        memory: &mut Flat,
+    ) -> io::Result<()> {
+        self.tell_calls(alloc, out, explanation)?;
         tell_place(out, self, memory)?;
-        self.write_machine(alloc, out, memory, &names)?;
-        self.tell_symbolizer(alloc, out, cause.as_ref(), memory)?;
+        self.write_machine(alloc, out, memory, &explanation.names)?;
+        self.tell_symbolizer(alloc, out, explanation)?;
         out.flush()
     }
 
@@ -97,7 +108,7 @@ impl<'a> Report<'a> {
     }
 
     /// The registers before the instruction that ended it.
-    pub(crate) fn regs(&self) -> &'a Regs {
+    pub fn regs(&self) -> &'a Regs {
         match self.finding {
             Some(finding) => &finding.before,
             None => &self.parts.regs,
@@ -113,7 +124,7 @@ impl<'a> Report<'a> {
     }
 
     /// The number of the instruction that ended it.
-    pub(crate) fn step(&self) -> u64 {
+    pub fn step(&self) -> u64 {
         match self.finding {
             Some(finding) => finding.step,
             None => self.parts.log.steps,
@@ -121,7 +132,7 @@ impl<'a> Report<'a> {
     }
 
     /// The plain address that the status names, if it names one.
-    pub(crate) fn address(&self) -> Option<u64> {
+    pub fn address(&self) -> Option<u64> {
         if let Some(finding) = self.finding {
             return Some(finding.wrong.addr);
         }

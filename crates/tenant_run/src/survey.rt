@@ -2,10 +2,12 @@
 
 use crate::bench::Bench;
 use crate::ending::{ENDINGS, TenantEnding, ending_at};
+use crate::line_log::Log;
+use crate::lone::admission_of;
 use crate::observer::{Observer, exact_of};
 use crate::output_stream::OutputStream;
-use crate::running::{Log, admission_of, run_slices};
 use crate::seeds::seed_of_run;
+use crate::slices::run_slices;
 use mte_tenant::AdmitError;
 use obstacle::Obstacle;
 use run_options::Options;

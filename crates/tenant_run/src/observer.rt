@@ -5,11 +5,14 @@ ghost use Rattle.std.specs.Prelude.{None};
 use crate::bench::Watcher;
 use crate::tracer::Tracer;
 use circular_buffer::HeapCircularBuffer;
-use mte_report::{Book, Exact, Finding, Moment, SVC, Statistics, StatisticsTable, Turn};
+use instruction_trace::{Moment, SVC, Turn};
 use mte_svc::WRITE;
 use mte_tags::Paged;
 use mte_tenant::{TenantParts, Watch};
+use run_book::Book;
+use run_cause::{Exact, Finding};
 use run_options::Exactness;
+use run_statistics::{Statistics, StatisticsTable};
 use std::alloc::{AllocError, Global};
 use std::io::Write;
 
@@ -109,11 +112,6 @@ impl<'a, W: Write + Drop> Observer<'a, W> {
         self.exact.as_ref()?.finding()
     }
 
-    /// Whether it has met such an access in what it watches.
-    pub fn has_ended(&self) -> bool {
-        self.is_watching && self.finding().is_some()
-    }
-
     /// Whether no chunk was missed for want of memory.
     pub fn is_complete(&self) -> bool {
         match &self.exact {
@@ -134,6 +132,10 @@ impl<'a, W: Write + Drop> Observer<'a, W> {
 impl<'a, W: Write + Drop> Watcher for Observer<'a, W> {
     fn is_watching(&self) -> bool {
         self.is_watching
+    }
+
+    fn has_ended(&self) -> bool {
+        self.is_watching && self.finding().is_some()
     }
 }
 

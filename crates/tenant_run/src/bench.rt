@@ -18,6 +18,9 @@ pub trait Watcher: Watch {
     /// Whether it watches. A tenant that nothing watches runs by a table of instructions, as a host
     /// runs it.
     fn is_watching(&self) -> bool;
+
+    /// Whether what it has met ends the tenant, so that no slice follows.
+    fn has_ended(&self) -> bool;
 }
 
 /// A tenant's machine, which is the machine of the definition: it is made by `admit_alone` and

@@ -1,0 +1,90 @@
+//! A session of which one tenant is replayed.
+
+use crate::bench::Watcher;
+use crate::line_log::Log;
+use crate::lone::wants_watch;
+use crate::observer::Observer;
+use crate::replay::{Replayed, replay_tenant};
+use mte_program::StreamSink;
+use mte_sched::Host;
+use mte_session::{Event, Sink, parse_script};
+use run_options::{Failure, Options, Replay};
+use std::alloc::Global;
+use std::io::sink;
+
+/// A session of which one tenant is replayed.
+#[derive(Clone, Copy)]
+pub struct Session<'a, 'x> {
+    /// Which tenant, and the frames of the host.
+    pub replay: &'a Replay,
+    /// The events of the script.
+    pub events: &'x [Event],
+    /// The files that they name by numbers.
+    pub files: &'x [Vec<u8>],
+}
+
+impl<'a, 'x> Session<'a, 'x> {
+    /// Runs what the session does to the tenant, and writes the lines of its refused events; `None`
+    /// where the session never admits it. Where nothing has to watch each step, it runs unwatched
+    /// first, as a tenant alone does.
+    pub fn run(
+        &self,
+        rt: &HostRuntime,
+        options: &Options,
+        observer: &mut Observer<'_, Log>,
+    ) -> Result<Option<Replayed>, Failure<'a>> {
+        observer.is_watching = observer.needs_each_step();
+        match self.replayed(rt.alloc(), observer, &mut StreamSink(rt.stdout()))? {
+            Some(found) => self.watched(rt.alloc(), options, found, observer),
+            None => Ok(None),
+        }
+    }
+
+    /// The same tenant, which a second run watched if its end is told by what that remembers.
+    fn watched(
+        &self,
+        alloc: Global,
+        options: &Options,
+        found: Replayed,
+        observer: &mut Observer<'_, Log>,
+    ) -> Result<Option<Replayed>, Failure<'a>> {
+        if observer.is_watching || !wants_watch(&found.bench, options) {
+            return Ok(Some(found));
+        }
+        observer.is_watching = true;
+        self.replayed(alloc, observer, &mut StreamSink(sink()))
+    }
+
+    /// The tenant after all that the session does to it; `None` where it never admits it.
+    fn replayed<O: Watcher, W: Sink>(
+        &self,
+        alloc: Global,
+        watcher: &mut O,
+        out: &mut W,
+    ) -> Result<Option<Replayed>, Failure<'a>> {
+        let Ok(mut host) = Host::new(alloc, self.replay.frames) else {
+            return Err(Failure::Memory);
+        };
+        replay_tenant(
+            alloc,
+            &mut host,
+            self.replay.id,
+            self.events,
+            self.files,
+            watcher,
+            out,
+        )
+    }
+}
+
+/// The events of a script, or its first faulty line.
+pub fn events_of<'a>(
+    alloc: Global,
+    script: &[u8],
+    files: &[Vec<u8>],
+) -> Result<Vec<Event>, Failure<'a>> {
+    match parse_script(alloc, script, files) {
+        Ok(events) => Ok(events),
+        Err(obstacle) => Err(Failure::of_script(&obstacle, script, files.len())),
+    }
+}
