@@ -3,8 +3,10 @@
 import json
 import os
 import pathlib
+import re
 import subprocess
 import time
+from typing import Optional
 
 import pytest
 
@@ -15,7 +17,7 @@ from tests.support.tools import need
 
 HELLO = EXAMPLES / "hi.elf"
 USAGE, MEMORY, READ, WRITE = 2, 4, 5, 6
-CUT = 138
+FAULT, CUT = 129, 138
 SHARED = (
     "--json, --sarif, --map, --core and --trace-file want different files, and none that is read")
 
@@ -72,6 +74,40 @@ def test_names_never_reach_a_terminal_raw(alone: pathlib.Path, tmp_path: pathlib
             ran = run([alone, *words])
             held = set(ran.err.replace(b"\n", b""))
             assert ran.status in (USAGE, WRITE) and held <= set(range(32, 127)), words
+
+
+FREED = """#include "tenant.h"
+int main(void)
+{
+    char *p = tenant_malloc(24);
+    tenant_free(p);
+    return *(volatile char *)p;
+}
+"""
+
+
+@pytest.mark.parametrize("name, shown", [
+    ("größe", "gr\\u{f6}\\u{df}e.c"), ("日\u202e本", "\\u{65e5}\\u{202e}\\u{672c}.c"),
+    ("\x1b[31m", None), ("\x7f", None), ("\x80", None), ("a b", "a b.c"),
+])
+def test_names_of_source_files_never_reach_a_terminal_raw(
+    alone: pathlib.Path, tmp_path: pathlib.Path, name: str, shown: Optional[str]
+) -> None:
+    """A character beyond ASCII is told by its number, in the name of the image too. A source file
+    whose name has control characters is not told."""
+    need("clang", "ld.lld")
+    source = tmp_path / f"{name}.c"
+    source.write_text(FREED, encoding="utf-8")
+    image = tmp_path / f"{name}.elf"
+    image.write_bytes(tenant(tmp_path, source).read_bytes())
+    for words in ((), ("--leaks", "--calls", "9"), ("--map", "text"), ("--trace", "--services"),
+                  ("--exact",), ("--statistics", "--last", "99")):
+        ran = run([alone, *words, image])
+        assert ran.status == FAULT
+        assert set(ran.err) <= {10, *range(32, 127)}, ran.err
+    frame = run([alone, image]).errors.splitlines()[1]
+    assert re.fullmatch(r"  #0 main\+0x[0-9a-f]+(?: at (.*):6)?", frame), frame
+    assert frame.endswith(f" at {shown}:6") if shown else " at " not in frame
 
 
 def test_the_command_for_names_of_inlined_functions_can_be_pasted(
