@@ -35,7 +35,7 @@ def test_why_a_file_cannot_be_read(alone: pathlib.Path, tmp_path: pathlib.Path) 
     long.write_bytes(bytes(16 * 1024 * 1024 + 1))
     for name, reason in ((tmp_path / "absent.elf", ": no such file or folder"),
                          (HELLO / "below.elf", ": no such file or folder"),
-                         (long, ": it has more than 16 MiB"), (tmp_path, "")):
+                         (long, ": it has more than 16 MiB"), (tmp_path, ": it is a folder")):
         lines: list[list[Word]] = [[name], ["--input", name, HELLO],
                                    ["--script", name, "1", "--frames", "9", HELLO]]
         for words in lines:

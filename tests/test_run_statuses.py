@@ -343,7 +343,7 @@ def test_a_file_that_cannot_be_read_is_named(
     """As it was named."""
     ran = run_words(alone, *words)
     assert (ran.status, ran.out) == (READ, b"")
-    reason = "" if named in (".", HELLO) else ": no such file or folder"
+    reason = ": it is a folder" if named == "." else ": no such file or folder"
     assert ran.errors == f"mte_run: cannot read {named}{reason}\n"
 
 

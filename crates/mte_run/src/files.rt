@@ -2,7 +2,7 @@
 
 use mte_program::StreamSource;
 use mte_session::{file_of, read_whole};
-use run_options::{Failure, Options, Replay};
+use run_options::{Failure, FileFault, Options, Replay};
 use std::fs::File;
 use tenant_run::{SessionCourse, events_of};
 
@@ -46,9 +46,20 @@ pub fn read_file<'a>(rt: &HostRuntime, name: &'a str) -> Result<Vec<u8>, Failure
         Ok(file) => file,
         Err(error) => return Err(Failure::of_open(&error, name)),
     };
+    if is_folder(&file) {
+        return Err(Failure::Read(name, FileFault::Folder));
+    }
     match read_whole(rt.alloc(), &mut StreamSource(file), 0) {
         Ok(bytes) => Ok(bytes),
         Err(fault) => Err(Failure::of_read(fault, name)),
+    }
+}
+
+/// Whether a file is a folder, which can be opened but not read.
+fn is_folder(file: &File) -> bool {
+    match file.metadata() {
+        Ok(metadata) => metadata.is_dir(),
+        Err(_) => false,
     }
 }
 
