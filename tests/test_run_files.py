@@ -180,6 +180,26 @@ def test_output_that_is_cut_has_a_key_and_a_status(
     assert ran.status == 0 and json.loads(told.read_text())["output_cut"] is False
 
 
+def test_the_output_of_a_tenant_of_a_session(alone: pathlib.Path, tmp_path: pathlib.Path) -> None:
+    """It is what a run alone writes, in place of the lines of the report; nothing else differs."""
+    need("clang", "ld.lld")
+    source, script, told = tmp_path / "much.c", tmp_path / "script", tmp_path / "told.json"
+    source.write_text(WRITE_MUCH, encoding="utf-8")
+    image = tenant(tmp_path, source)
+    admit = "admit 1 image {} input 0 seed 0000000000000001 frames 99 out 65536\n"
+    script.write_text(f"slice 1 9\n{admit.format(2)}slice 1 1000000\n{admit.format(1)}")
+    words: list[Word] = ["--script", script, "1", "--frames", "999", "--json", told, HELLO, image]
+    report, lines = run([alone, *words]), json.loads(told.read_text())
+    raw = run([alone, "--raw-output", *words])
+    written = run([alone, image])
+    assert len(raw.out) == 65536 and raw.out == written.out
+    refused = "refused 1 NotLive\nrefused 4 Duplicate\n"
+    assert report.output.startswith(f"{refused}tenant 1\nstatus exit 3\n")
+    assert f"\noutput 65536 {raw.out.hex()}\n" in report.output
+    assert (raw.status, raw.errors) == (report.status, report.errors)
+    assert json.loads(told.read_text()) == lines
+
+
 SPIN = """#include "tenant.h"
 int main(void)
 {

@@ -126,6 +126,7 @@ USAGES: tuple[list[str], ...] = (
     ["--leaks", "--leaks", HELLO], ["--json", HELLO],
     ["--trace=9-3", HELLO], ["--frames", "9", HELLO], ["--json", HELLO, HELLO],
     ["--sarif", "a", "--core", "./a", HELLO], ["--\x1b[31m", HELLO],
+    ["--raw-output", HELLO],
 )
 
 

@@ -6,7 +6,7 @@ use crate::files::{Image, image_of, read_file, read_files, read_input};
 use crate::telling::{Run, tell_end};
 use crate::unadmitted::{refuse, refuse_unadmitted};
 use mte_program::StreamSink;
-use mte_session::write_report;
+use mte_session::{write_all, write_report};
 use mte_tags::TagMode;
 use mte_tenant::AdmitError;
 use obstacle::Obstacle;
@@ -134,13 +134,19 @@ fn tell_replay<'a>(
     tell_end(rt, found.bench, observer, options, &run)
 }
 
-/// Writes a tenant's lines of the report, and gives its tag mode.
+/// Writes a tenant's lines of the report, or its output as it is, and gives its tag mode.
 fn write_lines<'a>(
     rt: &HostRuntime,
     options: &'a Options,
     session: &Session<'a, '_>,
     found: &Replayed,
 ) -> Result<TagMode, Failure<'a>> {
-    write_report(&found.bench.parts.log, &mut StreamSink(rt.stdout()))?;
+    let log = &found.bench.parts.log;
+    let mut out = StreamSink(rt.stdout());
+    if options.output.is_raw {
+        write_all(&mut out, log.output.as_slice())?;
+    } else {
+        write_report(log, &mut out)?;
+    }
     mode_in(rt, options, session.replay, session.files)
 }

@@ -24,9 +24,9 @@ pub struct Session<'a, 'x> {
 }
 
 impl<'a, 'x> Session<'a, 'x> {
-    /// Runs what the session does to the tenant, and writes the lines of its refused events; `None`
-    /// where the session never admits it. Where nothing has to watch each step, it runs unwatched
-    /// first, as a tenant alone does.
+    /// Runs what the session does to the tenant, and writes the lines of its refused events, unless
+    /// its output is to be raw; `None` where the session never admits it. Where nothing has to watch
+    /// each step, it runs unwatched first, as a tenant alone does.
     pub fn run(
         &self,
         rt: &HostRuntime,
@@ -34,7 +34,12 @@ impl<'a, 'x> Session<'a, 'x> {
         observer: &mut Observer<'_, Log>,
     ) -> Result<Option<Replayed>, Failure<'a>> {
         observer.is_watching = observer.needs_each_step();
-        match self.replayed(rt.alloc(), observer, &mut StreamSink(rt.stdout()))? {
+        let found = if options.output.is_raw {
+            self.replayed(rt.alloc(), observer, &mut StreamSink(sink()))?
+        } else {
+            self.replayed(rt.alloc(), observer, &mut StreamSink(rt.stdout()))?
+        };
+        match found {
             Some(found) => self.watched(rt.alloc(), options, found, observer),
             None => Ok(None),
         }
