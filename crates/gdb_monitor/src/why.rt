@@ -80,6 +80,7 @@ fn report_of<'x, 'n>(
         image: name,
         seed,
         finding: None,
+        store: None,
         statistics: None,
         is_cut: false,
     }

@@ -1,11 +1,11 @@
 //! What is known of a tenant's end, and found out once for all that is told of it.
 
 use crate::report::Report;
-use instruction_trace::push_turns;
+use instruction_trace::{Moment, push_turns};
 use mte_backtrace::{CallStack, FrameAddresses, FrameNames};
 use mte_flat::Flat;
 use run_book::BookEntry;
-use run_cause::{Cause, Finding};
+use run_cause::{Cause, Finding, LastStore, branch_in};
 use std::alloc::{AllocError, Global};
 
 /// What is known of a tenant's end.
@@ -75,10 +75,34 @@ impl<'a> Report<'a> {
         if let Some(turns) = self.turns {
             push_turns(frames, turns)?;
         }
-        match self.jump() {
-            Some(moment) => frames.push_instruction(moment.regs.pc),
+        self.push_jump(alloc, frames)
+    }
+
+    /// Adds the addresses of the jump that is hinted, and of the store behind it.
+    fn push_jump(&self, alloc: Global, frames: &mut FrameAddresses) -> Result<(), AllocError> {
+        if let Some(moment) = self.branch() {
+            frames.push_instruction(moment.regs.pc)?;
+        }
+        match self.store {
+            Some(store) => self.push_store(alloc, frames, store),
             None => Ok(()),
         }
+    }
+
+    /// The instruction in front of the last one, if it is known.
+    fn branch(&self) -> Option<&'a Moment> {
+        branch_in(self.last?)
+    }
+
+    /// Adds the addresses of the calls that led to a store.
+    fn push_store(
+        &self,
+        alloc: Global,
+        frames: &mut FrameAddresses,
+        store: &LastStore,
+    ) -> Result<(), AllocError> {
+        let stack = self.stack_of_store(alloc, store)?;
+        stack.push_frames(frames)
     }
 
     /// Adds the addresses of the calls that led to the heap calls of a cause.
@@ -110,5 +134,14 @@ impl<'a> Report<'a> {
     /// The calls that led to a heap call.
     pub fn stack_of(&self, alloc: Global, entry: &BookEntry) -> Result<CallStack, AllocError> {
         CallStack::of_heap_call(alloc, entry.pc, &entry.callers, &self.names.symbols)
+    }
+
+    /// The calls that led to a store.
+    pub fn stack_of_store(
+        &self,
+        alloc: Global,
+        store: &LastStore,
+    ) -> Result<CallStack, AllocError> {
+        CallStack::of_heap_call(alloc, store.pc, &store.callers, &self.names.symbols)
     }
 }

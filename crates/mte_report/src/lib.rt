@@ -13,5 +13,5 @@ pub use explanation::Explanation;
 pub use instruction_trace::{Moment, SVC, Service, TraceLine, Turn};
 pub use report::Report;
 pub use run_book::Book;
-pub use run_cause::{Exact, Finding};
+pub use run_cause::{Exact, Finding, LastStore};
 pub use run_statistics::{Statistics, StatisticsTable};

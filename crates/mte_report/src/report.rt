@@ -14,8 +14,8 @@ use mte_tags::{FaultKind, MemFault, Tagged};
 use mte_tenant::{Status, TenantParts};
 use run_book::{Book, Bytes, ChunkOwner, Wanted};
 use run_cause::{
-    Cause, Evidence, Finding, Wrong, abort_words, breakpoint_words, family_of, fault_words,
-    is_undefined, trespass_words,
+    Cause, Evidence, Finding, LastStore, Wrong, abort_words, breakpoint_words, family_of,
+    fault_words, is_undefined, trespass_words,
 };
 use run_statistics::StatisticsTable;
 use scudo_heap::HeapAbort;
@@ -47,6 +47,8 @@ pub struct Report<'a> {
     pub seed: Option<u64>,
     /// The access that ended it beyond what its tags forbid, if one did.
     pub finding: Option<&'a Finding>,
+    /// What wrote the target last of the jump to no code that ended it, if it is known.
+    pub store: Option<&'a LastStore>,
     /// The numbers of the run, where they are wanted.
     pub statistics: Option<StatisticsTable<'a>>,
     /// Whether it wrote more than there was room for.

@@ -4,7 +4,7 @@ use crate::explanation::Explanation;
 use crate::report::Report;
 use mte_backtrace::FrameNames;
 use run_book::{Book, BookChunk, BookEntry, Call};
-use run_cause::{Cause, FoundCause};
+use run_cause::{Cause, FoundCause, LastStore};
 use std::alloc::Global;
 use std::io;
 use std::io::Write;
@@ -38,7 +38,7 @@ impl<'a> Report<'a> {
         let found = self.found(cause);
         writeln!(out, "Cause: {found}")?;
         self.tell_chunks(alloc, out, cause, names)?;
-        self.tell_hint(out, cause, names)?;
+        self.tell_hint(alloc, out, cause, names)?;
         tell_short(out, self.book)
     }
 
@@ -64,7 +64,21 @@ impl<'a> Report<'a> {
         if let Some(cause) = &explanation.cause {
             self.write_cause_addresses(alloc, out, cause)?;
         }
+        if let Some(store) = self.store {
+            self.write_store_addresses(alloc, out, store)?;
+        }
         writeln!(out)
+    }
+
+    /// Writes the addresses of the calls that led to a store.
+    fn write_store_addresses<W: Write>(
+        &self,
+        alloc: Global,
+        out: &mut W,
+        store: &LastStore,
+    ) -> io::Result<()> {
+        let stack = self.stack_of_store(alloc, store)?;
+        stack.write_addresses(out)
     }
 
     /// Writes the addresses of the calls that led to the heap calls of a cause.

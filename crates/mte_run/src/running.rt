@@ -11,7 +11,9 @@ use mte_tags::TagMode;
 use mte_tenant::AdmitError;
 use obstacle::Obstacle;
 use run_options::{Failure, Options, Replay};
-use tenant_run::{Bench, Log, LoneTenant, Observer, Replayed, Session, events_of, observer_of};
+use tenant_run::{
+    Log, LoneTenant, Observer, Replayed, SessionReplay, TenantBench, events_of, observer_of,
+};
 
 /// Runs the tenant, writes its output and tells why it ended; returns the exit status.
 pub fn run_program<'a>(rt: &HostRuntime, options: &'a Options) -> Result<u8, Failure<'a>> {
@@ -63,7 +65,7 @@ fn admitted<'x>(
     options: &Options,
     image: &'x [u8],
     input: &'x [u8],
-) -> Result<(LoneTenant<'x>, Bench), Obstacle<AdmitError>> {
+) -> Result<(LoneTenant<'x>, TenantBench), Obstacle<AdmitError>> {
     let tenant = LoneTenant::of(rt, options, image, input)?;
     let bench = tenant.bench(rt.alloc(), options)?;
     Ok((tenant, bench))
@@ -75,7 +77,7 @@ fn run_bench<'a>(
     options: &'a Options,
     image: &Image<'_>,
     tenant: &LoneTenant<'_>,
-    bench: Bench,
+    bench: TenantBench,
 ) -> Result<u8, Failure<'a>> {
     let mut observer = observer_of(rt, options, image.bytes)?;
     let mut bench = bench;
@@ -97,7 +99,7 @@ fn run_replay<'a>(
 ) -> Result<u8, Failure<'a>> {
     let script = read_file(rt, replay.script.as_str())?;
     let events = events_of(rt.alloc(), script.as_slice(), files)?;
-    let session = Session {
+    let session = SessionReplay {
         replay,
         events: events.as_slice(),
         files,
@@ -109,7 +111,7 @@ fn run_replay<'a>(
 fn run_session<'a>(
     rt: &HostRuntime,
     options: &'a Options,
-    session: &Session<'a, '_>,
+    session: &SessionReplay<'a, '_>,
 ) -> Result<u8, Failure<'a>> {
     let mut observer = observer_of(rt, options, &[])?;
     match session.run(rt, options, &mut observer)? {
@@ -122,7 +124,7 @@ fn run_session<'a>(
 fn tell_replay<'a>(
     rt: &HostRuntime,
     options: &'a Options,
-    session: &Session<'a, '_>,
+    session: &SessionReplay<'a, '_>,
     found: Replayed,
     observer: &mut Observer<'_, Log>,
 ) -> Result<u8, Failure<'a>> {
@@ -138,7 +140,7 @@ fn tell_replay<'a>(
 fn write_lines<'a>(
     rt: &HostRuntime,
     options: &'a Options,
-    session: &Session<'a, '_>,
+    session: &SessionReplay<'a, '_>,
     found: &Replayed,
 ) -> Result<TagMode, Failure<'a>> {
     let log = &found.bench.parts.log;

@@ -18,7 +18,7 @@ use std::alloc::{AllocError, Global};
 use std::fs::File;
 use std::io;
 use std::io::BufWriter;
-use tenant_run::{Bench, LastLine, Log, Observer, TenantEnding};
+use tenant_run::{LastLine, Log, Observer, TenantBench, TenantEnding};
 
 /// What is told of a run beside its tenant.
 #[derive(Clone, Copy)]
@@ -34,13 +34,13 @@ pub struct Run<'x> {
 /// Tells what happened, as the options request it, and returns the exit status.
 pub fn tell_end<'a>(
     rt: &HostRuntime,
-    bench: Bench,
+    bench: TenantBench,
     observer: &mut Observer<'_, Log>,
     options: &'a Options,
     run: &Run<'_>,
 ) -> Result<u8, Failure<'a>> {
     end_watch(rt, observer, options)?;
-    let Bench {
+    let TenantBench {
         parts,
         mut memory,
         ..
@@ -135,6 +135,7 @@ fn report_of<'x, 'n, 'o>(
         image,
         seed: numbers.seed,
         finding: observer.finding(),
+        store: observer.store.as_ref(),
         statistics: observer.table(numbers.reserved),
         is_cut: observer.is_cut,
     }

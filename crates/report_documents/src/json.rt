@@ -9,7 +9,7 @@ use mte_report::{Explanation, Report};
 use mte_tags::MemFault;
 use mte_tenant::Status;
 use run_book::{BookChunk, BookEntry};
-use run_cause::{Cause, Finding, Wrong};
+use run_cause::{Cause, Finding, LastStore, Wrong};
 use run_statistics::Object;
 use std::alloc::Global;
 use std::io::Write;
@@ -56,6 +56,7 @@ fn write_explained<W: Write>(
 ) -> io::Result<()> {
     write_end(out, report, explanation)?;
     write_cause(alloc, out, report, explanation)?;
+    write_store(alloc, out, report, &explanation.names)?;
     write_registers(out, report.regs())?;
     write_tags(out, report.address(), memory)?;
     write_pages(alloc, out, memory)?;
@@ -127,6 +128,48 @@ fn write_cause_text<W: Write>(
     let text = format!(in alloc; "{found}")?;
     let text = Quoted(text.as_str());
     writeln!(out, "\"cause\":{text},")
+}
+
+/// Writes what wrote the target last of a jump to no code, where it is known.
+fn write_store<W: Write>(
+    alloc: Global,
+    out: &mut W,
+    report: &Report<'_>,
+    names: &FrameNames<'_>,
+) -> io::Result<()> {
+    match report.store {
+        Some(store) => write_store_object(alloc, out, report, store, names),
+        None => Ok(()),
+    }
+}
+
+/// Writes a store, and the calls that led to it.
+fn write_store_object<W: Write>(
+    alloc: Global,
+    out: &mut W,
+    report: &Report<'_>,
+    store: &LastStore,
+    names: &FrameNames<'_>,
+) -> io::Result<()> {
+    let (addr, step) = (store.addr, store.step);
+    write!(
+        out,
+        "\"last_store\":{{\"address\":\"{addr:#x}\",\"step\":{step},\"stack\":"
+    )?;
+    write_store_stack(alloc, out, report, store, names)?;
+    writeln!(out, "}},")
+}
+
+/// Writes the calls that led to a store.
+fn write_store_stack<W: Write>(
+    alloc: Global,
+    out: &mut W,
+    report: &Report<'_>,
+    store: &LastStore,
+    names: &FrameNames<'_>,
+) -> io::Result<()> {
+    let stack = report.stack_of_store(alloc, store)?;
+    stack.write_json(out, names)
 }
 
 /// Writes the tags around an address, if there is one.

@@ -2,12 +2,13 @@
 
 ghost use Rattle.std.specs.Prelude.{◌<◌};
 
-use crate::bench::Bench;
+use crate::bench::TenantBench;
 use crate::ending::TenantEnding;
 use crate::line_log::Log;
 use crate::observer::Observer;
 use crate::output_stream::OutputStream;
 use crate::slices::run_slices;
+use crate::store_watcher::StoreWatcher;
 use crate::survey::Survey;
 use mte_tenant::{Admission, AdmitError, Terms};
 use obstacle::Obstacle;
@@ -67,13 +68,21 @@ impl<'x> LoneTenant<'x> {
     }
 
     /// The tenant at its first instruction.
-    pub fn bench(&self, alloc: Global, options: &Options) -> Result<Bench, Obstacle<AdmitError>> {
+    pub fn bench(
+        &self,
+        alloc: Global,
+        options: &Options,
+    ) -> Result<TenantBench, Obstacle<AdmitError>> {
         let admission = admission_of(options, self.image, self.input, self.seed);
-        Bench::new(alloc, &admission)
+        TenantBench::new(alloc, &admission)
     }
 
     /// The same once more: as it was admitted before, only memory can be wanting.
-    fn bench_again<'a>(&self, alloc: Global, options: &Options) -> Result<Bench, Failure<'a>> {
+    fn bench_again<'a>(
+        &self,
+        alloc: Global,
+        options: &Options,
+    ) -> Result<TenantBench, Failure<'a>> {
         match self.bench(alloc, options) {
             Ok(bench) => Ok(bench),
             Err(_) => Err(Failure::Memory),
@@ -85,12 +94,13 @@ impl<'x> LoneTenant<'x> {
         &self,
         rt: &HostRuntime,
         options: &Options,
-        bench: &mut Bench,
+        bench: &mut TenantBench,
         observer: &mut Observer<'_, Log>,
     ) -> Result<(), Failure<'a>> {
         let mut out = OutputStream::new(rt);
         self.run_watched(rt.alloc(), options, bench, observer, &mut out)?;
         self.run_to_finding(rt.alloc(), options, bench, observer, &mut out)?;
+        self.find_store(rt.alloc(), options, bench, observer)?;
         if out.has_failed {
             return Err(Failure::Write);
         }
@@ -103,7 +113,7 @@ impl<'x> LoneTenant<'x> {
         &self,
         alloc: Global,
         options: &Options,
-        bench: &mut Bench,
+        bench: &mut TenantBench,
         observer: &mut Observer<'_, Log>,
         out: &mut OutputStream<'_>,
     ) -> Result<(), Failure<'a>> {
@@ -125,7 +135,7 @@ impl<'x> LoneTenant<'x> {
         &self,
         alloc: Global,
         options: &Options,
-        bench: &mut Bench,
+        bench: &mut TenantBench,
         observer: &mut Observer<'_, Log>,
         out: &mut OutputStream<'_>,
     ) -> Result<(), Failure<'a>> {
@@ -138,11 +148,31 @@ impl<'x> LoneTenant<'x> {
         run_slices(bench, observer, out, options, step);
         Ok(())
     }
+
+    /// Finds what wrote the target last of the jump to no code that ended the tenant, if one did, by
+    /// one more run up to the load of that target.
+    fn find_store<'a>(
+        &self,
+        alloc: Global,
+        options: &Options,
+        bench: &TenantBench,
+        observer: &mut Observer<'_, Log>,
+    ) -> Result<(), Failure<'a>> {
+        let Some(load) = observer.target_load(&bench.parts.log.status) else {
+            return Ok(());
+        };
+        let mut again = self.bench_again(alloc, options)?;
+        let mut watcher = StoreWatcher::new(load);
+        let mut out = OutputStream::silent();
+        run_slices(&mut again, &mut watcher, &mut out, options, load.step);
+        observer.store = watcher.found();
+        Ok(())
+    }
 }
 
 /// Whether the end that a tenant came to unwatched is told by what a run that is watched remembers.
 /// Output that fills its room may have been cut.
-pub fn wants_watch(bench: &Bench, options: &Options) -> bool {
+pub fn wants_watch(bench: &TenantBench, options: &Options) -> bool {
     let log = &bench.parts.log;
     TenantEnding::of(log, options.limit()) != TenantEnding::Exit
         || options.output.leaks

@@ -8,9 +8,9 @@ use circular_buffer::HeapCircularBuffer;
 use instruction_trace::{Moment, SVC, Turn};
 use mte_svc::WRITE;
 use mte_tags::Paged;
-use mte_tenant::{TenantParts, Watch};
+use mte_tenant::{Status, TenantParts, Watch};
 use run_book::Book;
-use run_cause::{Exact, Finding};
+use run_cause::{Exact, Finding, LastStore, TargetLoad};
 use run_options::Exactness;
 use run_statistics::{Statistics, StatisticsTable};
 use std::alloc::{AllocError, Global};
@@ -39,6 +39,8 @@ pub struct Observer<'a, W: Write + Drop> {
     statistics: Option<Statistics>,
     /// Whether a service wrote fewer bytes than it was handed.
     pub is_cut: bool,
+    /// What wrote the target last of the jump to no code that ended the tenant, once it is found.
+    pub store: Option<LastStore>,
 }
 
 impl<'a, W: Write + Drop> Observer<'a, W> {
@@ -58,6 +60,7 @@ impl<'a, W: Write + Drop> Observer<'a, W> {
             exact,
             statistics: None,
             is_cut: false,
+            store: None,
         })
     }
 
@@ -110,6 +113,14 @@ impl<'a, W: Write + Drop> Observer<'a, W> {
     /// The access that ended the tenant beyond what its tags forbid, if one did.
     pub fn finding(&self) -> Option<&Finding> {
         self.exact.as_ref()?.finding()
+    }
+
+    /// The load that brought the target of the jump to no code that ended the tenant, if one did.
+    pub fn target_load(&self, status: &Status) -> Option<TargetLoad> {
+        if self.finding().is_some() {
+            return None;
+        }
+        TargetLoad::of_end(status, Some(&self.last))
     }
 
     /// Whether no chunk was missed for want of memory.

@@ -1,13 +1,13 @@
 //! The slices of a tenant that is alone.
 
-use crate::bench::{Bench, Watcher};
+use crate::bench::{TenantBench, Watcher};
 use crate::output_stream::OutputStream;
 use address_map::MAX_STEPS;
 use run_options::Options;
 
 /// Runs the slices that are named, or as many as the limit of steps holds.
 pub fn run_slices<O: Watcher>(
-    bench: &mut Bench,
+    bench: &mut TenantBench,
     watcher: &mut O,
     out: &mut OutputStream<'_>,
     options: &Options,
@@ -31,7 +31,12 @@ pub fn run_slices<O: Watcher>(
 }
 
 /// Whether no slice follows.
-fn is_over<O: Watcher>(bench: &Bench, watcher: &O, out: &OutputStream<'_>, limit: u64) -> bool {
+fn is_over<O: Watcher>(
+    bench: &TenantBench,
+    watcher: &O,
+    out: &OutputStream<'_>,
+    limit: u64,
+) -> bool {
     watcher.has_ended()
         || out.has_failed
         || !bench.parts.is_running()
@@ -41,7 +46,7 @@ fn is_over<O: Watcher>(bench: &Bench, watcher: &O, out: &OutputStream<'_>, limit
 /// Runs a slice, or what the limit of steps leaves of it, and writes what it wrote, unless an
 /// access ended the tenant within it.
 fn run_slice<O: Watcher>(
-    bench: &mut Bench,
+    bench: &mut TenantBench,
     watcher: &mut O,
     out: &mut OutputStream<'_>,
     steps: u32,

@@ -5,6 +5,7 @@ use crate::line_log::Log;
 use crate::lone::wants_watch;
 use crate::observer::Observer;
 use crate::replay::{Replayed, replay_tenant};
+use crate::store_watcher::StoreWatcher;
 use mte_program::StreamSink;
 use mte_sched::Host;
 use mte_session::{Event, Sink, parse_script};
@@ -14,7 +15,7 @@ use std::io::sink;
 
 /// A session of which one tenant is replayed.
 #[derive(Clone, Copy)]
-pub struct Session<'a, 'x> {
+pub struct SessionReplay<'a, 'x> {
     /// Which tenant, and the frames of the host.
     pub replay: &'a Replay,
     /// The events of the script.
@@ -23,10 +24,9 @@ pub struct Session<'a, 'x> {
     pub files: &'x [Vec<u8>],
 }
 
-impl<'a, 'x> Session<'a, 'x> {
-    /// Runs what the session does to the tenant, and writes the lines of its refused events, unless
-    /// its output is to be raw; `None` where the session never admits it. Where nothing has to watch
-    /// each step, it runs unwatched first, as a tenant alone does.
+impl<'a, 'x> SessionReplay<'a, 'x> {
+    /// Runs what the session does to the tenant, as a tenant alone is run; `None` where the session
+    /// never admits it.
     pub fn run(
         &self,
         rt: &HostRuntime,
@@ -34,14 +34,26 @@ impl<'a, 'x> Session<'a, 'x> {
         observer: &mut Observer<'_, Log>,
     ) -> Result<Option<Replayed>, Failure<'a>> {
         observer.is_watching = observer.needs_each_step();
-        let found = if options.output.is_raw {
-            self.replayed(rt.alloc(), observer, &mut StreamSink(sink()))?
+        let found = self.first_run(rt, options, observer)?;
+        let found = self.watched(rt.alloc(), options, found, observer)?;
+        if let Some(found) = &found {
+            self.find_store(rt.alloc(), found, observer)?;
+        }
+        Ok(found)
+    }
+
+    /// The tenant after a run that writes the lines of its refused events, unless its output is to
+    /// be raw.
+    fn first_run(
+        &self,
+        rt: &HostRuntime,
+        options: &Options,
+        observer: &mut Observer<'_, Log>,
+    ) -> Result<Option<Replayed>, Failure<'a>> {
+        if options.output.is_raw {
+            self.replayed(rt.alloc(), observer, &mut StreamSink(sink()))
         } else {
-            self.replayed(rt.alloc(), observer, &mut StreamSink(rt.stdout()))?
-        };
-        match found {
-            Some(found) => self.watched(rt.alloc(), options, found, observer),
-            None => Ok(None),
+            self.replayed(rt.alloc(), observer, &mut StreamSink(rt.stdout()))
         }
     }
 
@@ -50,14 +62,35 @@ impl<'a, 'x> Session<'a, 'x> {
         &self,
         alloc: Global,
         options: &Options,
-        found: Replayed,
+        found: Option<Replayed>,
         observer: &mut Observer<'_, Log>,
     ) -> Result<Option<Replayed>, Failure<'a>> {
-        if observer.is_watching || !wants_watch(&found.bench, options) {
-            return Ok(Some(found));
+        let is_wanted = match &found {
+            Some(found) => !observer.is_watching && wants_watch(&found.bench, options),
+            None => false,
+        };
+        if !is_wanted {
+            return Ok(found);
         }
         observer.is_watching = true;
         self.replayed(alloc, observer, &mut StreamSink(sink()))
+    }
+
+    /// Finds what wrote the target last of the jump to no code that ended the tenant, if one did, by
+    /// one more run.
+    fn find_store(
+        &self,
+        alloc: Global,
+        found: &Replayed,
+        observer: &mut Observer<'_, Log>,
+    ) -> Result<(), Failure<'a>> {
+        let Some(load) = observer.target_load(&found.bench.parts.log.status) else {
+            return Ok(());
+        };
+        let mut watcher = StoreWatcher::new(load);
+        let _again = self.replayed(alloc, &mut watcher, &mut StreamSink(sink()))?;
+        observer.store = watcher.found();
+        Ok(())
     }
 
     /// The tenant after all that the session does to it; `None` where it never admits it.
