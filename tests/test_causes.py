@@ -205,8 +205,9 @@ int main(void)
 }
 """
 WRITTEN = re.compile(
-    r"  the return address at (0x[0-9a-f]{16}) was last written by (fill\+0x[0-9a-f]+) at smashed.c:5, "
-    r"step (\d+)\n    #0 \2 at smashed.c:5\n    #1 work\+0x[0-9a-f]+ at smashed.c:10\n")
+    r"  the return address at (0x[0-9a-f]{16}) was last written by (fill\+0x[0-9a-f]+) at "
+    r"smashed.c:5, step (\d+)\n    #0 \2 at smashed.c:5\n    #1 work\+0x[0-9a-f]+ at "
+    r"smashed.c:10\n")
 
 
 @pytest.mark.parametrize("level", ["-O0", "-O2"])
@@ -224,7 +225,8 @@ def test_a_smashed_return_address_is_told_with_its_last_write(
     load = re.search(r"  x30 was loaded from \[(0x[0-9a-f]{16})\], step (\d+)\n", ran.errors)
     assert load and int(load[1], 16) == place
     stored = stores(run([alone, "--trace", image]).errors)
-    assert max(number for number, start in stored if place <= start < place + 8) == step < int(load[2])
+    newest = max(number for number, start in stored if place <= start < place + 8)
+    assert newest == step < int(load[2])
     held = json.loads(told.read_text())["last_store"]
     assert (int(held["address"], 16), held["step"]) == (place, step)
     assert [frame["function"] for frame in held["stack"]][:2] == ["fill", "work"]

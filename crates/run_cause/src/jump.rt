@@ -40,8 +40,8 @@ impl TargetLoad {
         }
     }
 
-    /// The newest load among the last instructions that brought the target of the branch in front of
-    /// the last one.
+    /// The newest load among the last instructions that brought the target of the branch in front
+    /// of the last one.
     pub fn of(last: &HeapCircularBuffer<Moment>) -> Option<TargetLoad> {
         let register = target_register(branch_in(last)?)?;
         let mut found = None;

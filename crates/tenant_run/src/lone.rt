@@ -149,8 +149,8 @@ impl<'x> LoneTenant<'x> {
         Ok(())
     }
 
-    /// Finds what wrote the target last of the jump to no code that ended the tenant, if one did, by
-    /// one more run up to the load of that target.
+    /// Finds what wrote the target last of the jump to no code that ended the tenant, if one did,
+    /// by one more run up to the load of that target.
     fn find_store<'a>(
         &self,
         alloc: Global,

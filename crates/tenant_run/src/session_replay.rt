@@ -76,8 +76,8 @@ impl<'a, 'x> SessionReplay<'a, 'x> {
         self.replayed(alloc, observer, &mut StreamSink(sink()))
     }
 
-    /// Finds what wrote the target last of the jump to no code that ended the tenant, if one did, by
-    /// one more run.
+    /// Finds what wrote the target last of the jump to no code that ended the tenant, if one did,
+    /// by one more run.
     fn find_store(
         &self,
         alloc: Global,
