@@ -1,13 +1,15 @@
 """Causes that depend on which of several heap calls is meant."""
 
+import json
 import pathlib
 import re
+import shutil
 
 import pytest
 
 from tests.support.places import EXAMPLES
-from tests.support.running import run
-from tests.support.samples import COMPILERS, tenant
+from tests.support.running import run, succeed
+from tests.support.samples import COMPILERS, FLAGS, tenant
 from tests.support.tools import need
 
 NULL_AFTER_TWO = """#include "tenant.h"
@@ -183,3 +185,69 @@ def test_exact_shows_the_moment_of_the_access(alone: pathlib.Path, tmp_path: pat
     tag = re.search(r"allocated by call 1, malloc\(5\) = 0x(\w+)", ran.errors)
     tags = re.search(r"tags from 0x\w+, .*\[(\w)\]", ran.errors)
     assert tag and tags and int(tag[1], 16) >> 56 == int(tags[1], 16)
+
+
+SMASHED = """#include "tenant.h"
+__attribute__((noinline)) static void fill(volatile char *to, unsigned long count)
+{
+    for (unsigned long i = 0; i < count; i++)
+        to[i] = 'A';
+}
+__attribute__((noinline)) static void work(unsigned long count)
+{
+    volatile char held[16];
+    fill(held, count);
+}
+int main(void)
+{
+    work(48);
+    return 0;
+}
+"""
+WRITTEN = re.compile(
+    r"  the return address at (0x[0-9a-f]{16}) was last written by (fill\+0x[0-9a-f]+) at "
+    r"smashed.c:5, step (\d+)\n    #0 \2 at smashed.c:5\n    #1 work\+0x[0-9a-f]+ at "
+    r"smashed.c:10\n")
+
+
+@pytest.mark.parametrize("level", ["-O0", "-O2"])
+def test_a_smashed_return_address_is_told_with_its_last_write(
+    alone: pathlib.Path, tmp_path: pathlib.Path, level: str
+) -> None:
+    """Alone and in a session: the store, by its step in the trace, and who called its function."""
+    need("clang", "ld.lld")
+    image, told = smashed(tmp_path, level), tmp_path / "told.json"
+    ran = run([alone, "--json", told, image])
+    assert "\nCause: Wild Jump: the address is no code\n" in ran.errors
+    written = WRITTEN.search(ran.errors)
+    assert written, ran.errors
+    place, step = int(written[1], 16), int(written[3])
+    load = re.search(r"  x30 was loaded from \[(0x[0-9a-f]{16})\], step (\d+)\n", ran.errors)
+    assert load and int(load[1], 16) == place
+    stored = stores(run([alone, "--trace", image]).errors)
+    newest = max(number for number, start in stored if place <= start < place + 8)
+    assert newest == step < int(load[2])
+    held = json.loads(told.read_text())["last_store"]
+    assert (int(held["address"], 16), held["step"]) == (place, step)
+    assert [frame["function"] for frame in held["stack"]][:2] == ["fill", "work"]
+    script = tmp_path / "script"
+    script.write_text("admit 7 image 1 input 0 seed 0000000000000001 frames 99 out 9\n"
+                      "slice 7 9\nslice 7 999999\n")
+    session = run([alone, "--script", script, "7", "--frames", "300", image]).errors
+    assert written[0] in session
+
+
+def smashed(folder: pathlib.Path, level: str) -> pathlib.Path:
+    """The image of a tenant that writes over a return address, by clang at a level."""
+    (folder / "smashed.c").write_text(SMASHED, encoding="utf-8")
+    for name in ("start.c", "tenant.h"):
+        shutil.copy(EXAMPLES / "c" / name, folder)
+    words = [*COMPILERS["clang"], *FLAGS, level, "-fno-stack-protector", "-o", "smashed.elf"]
+    succeed([*words, "./start.c", "./smashed.c"], cwd=folder)
+    return folder / "smashed.elf"
+
+
+def stores(trace: str) -> list[tuple[int, int]]:
+    """The steps of a trace that stored a byte, and where."""
+    found = re.findall(r"^ *(\d+)  0x.*; \[(0x[0-9a-f]+)\] = 0x[0-9a-f]+ of 1$", trace, re.M)
+    return [(int(step), int(place, 16)) for step, place in found]

@@ -89,6 +89,8 @@ def test_calls_are_those_of_the_trace(acts: ImageActs) -> None:
         if not one.told.end:
             continue
         steps = [one.steps[call.step - 1] for call in one.told.calls]
+        if one.told.store_step:
+            steps.append(one.steps[one.told.store_step - 1])
         for step, addresses in zip(steps, one.addresses[1:], strict=True):
             check_calls(addresses, calls_at(step), RECORDS_OF_CALL)
         if one.has_failed_last:
@@ -122,6 +124,9 @@ def test_json_has_the_calls_of_the_text(acts: ImageActs) -> None:
         stacks = [one.json["stack"]]
         for chunk in one.json["chunks"]:
             stacks += [chunk[did]["stack"] for did in ("allocated", "freed") if chunk[did]]
+        if "last_store" in one.json:
+            stacks.append(one.json["last_store"]["stack"])
+            assert one.json["last_store"]["step"] == one.told.store_step
         if one.told.end:
             for frames, calls, listed in zip(one.lists, one.addresses, stacks, strict=True):
                 check_objects(frames, calls, listed, origins)
@@ -396,9 +401,20 @@ def check_hints(one: Explained, cause: Optional[str], model: ChunkModel) -> None
         register = jump.text.split()[1]
         if load and load.loaded:
             place = load.loaded.address
-            assert hints[1:] == [f"{register} was loaded from [{place:#018x}], step {load.number}"]
+            assert hints[1] == f"{register} was loaded from [{place:#018x}], step {load.number}"
+            check_store(hints[2:], one.steps[:load.number - 1], place & (1 << 56) - 1)
     else:
         assert hints == [] or model.is_short
+
+
+def check_store(hints: Sequence[str], steps: Sequence[Step], place: int) -> None:
+    """The newest store to the place of a jump's target, before it was loaded."""
+    stores = [step for step in steps if step.stored
+              and place - step.stored.length < step.stored.address & (1 << 56) - 1 < place + 8]
+    if stores:
+        assert hints[0].startswith(f"the target at {place:#018x} was last written by ")
+        assert hints[0].endswith(f", step {stores[-1].number}")
+    assert len(hints) == (1 if stores else 0)
 
 
 def load_of(steps: Sequence[Step], register: str) -> Optional[Step]:

@@ -440,6 +440,15 @@ def test_why_is_the_report(alone: pathlib.Path, tmp_path: pathlib.Path) -> None:
     assert dialog[3].strip() == "it is running, after 15 steps"
 
 
+def test_why_has_the_store_behind_a_jump(alone: pathlib.Path, tmp_path: pathlib.Path) -> None:
+    """Also after a jump to no code, where mte_run tells what wrote its target last."""
+    image = program([*move(1, 0x123), 0xF81F0FE1, 0xF84107FE, 0xD65F03C0])
+    dialog = debugged(alone, image, ["continue", "monitor why"], tmp_path)
+    plain = run([alone, "--last", "0", "tenant.elf"], cwd=tmp_path)
+    assert plain.errors == f"{dialog[1]}mte_run: ended by fault PcAlignment, status 129\n"
+    assert "  the return address at 0x000000003ffffff0 was last written by " in dialog[1]
+
+
 def test_options(alone: pathlib.Path, tmp_path: pathlib.Path) -> None:
     """The tenant has the seed, the mode, the input and the room that the options say."""
     words = [*call(3, 24), copy(19, 0), add(0, SP, -16), *move(1, 9), *move(8, 2), 0xD4000001,

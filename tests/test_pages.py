@@ -173,7 +173,7 @@ def test_seeds_of_the_page() -> None:
     """The seeds that docs/REPORT.md lists are those of the program, in their order."""
     shown = [word for part in parts_of("docs/REPORT.md") for word in part.text.split()
              if part.section == "Seeds"]
-    source = (ROOT / "crates" / "mte_run" / "src" / "seeds.rt").read_text(encoding="utf-8")
+    source = (ROOT / "crates" / "tenant_run" / "src" / "seeds.rt").read_text(encoding="utf-8")
     found = re.findall(r"0x([0-9a-f_]{19})", source)
     assert len(shown) == 16 and shown == [word.replace("_", "") for word in found][:16]
 

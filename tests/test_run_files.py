@@ -3,8 +3,10 @@
 import json
 import os
 import pathlib
+import re
 import subprocess
 import time
+from typing import Optional
 
 import pytest
 
@@ -15,7 +17,7 @@ from tests.support.tools import need
 
 HELLO = EXAMPLES / "hi.elf"
 USAGE, MEMORY, READ, WRITE = 2, 4, 5, 6
-CUT = 138
+FAULT, CUT = 129, 138
 SHARED = (
     "--json, --sarif, --map, --core and --trace-file want different files, and none that is read")
 
@@ -33,7 +35,7 @@ def test_why_a_file_cannot_be_read(alone: pathlib.Path, tmp_path: pathlib.Path) 
     long.write_bytes(bytes(16 * 1024 * 1024 + 1))
     for name, reason in ((tmp_path / "absent.elf", ": no such file or folder"),
                          (HELLO / "below.elf", ": no such file or folder"),
-                         (long, ": it has more than 16 MiB"), (tmp_path, "")):
+                         (long, ": it has more than 16 MiB"), (tmp_path, ": it is a folder")):
         lines: list[list[Word]] = [[name], ["--input", name, HELLO],
                                    ["--script", name, "1", "--frames", "9", HELLO]]
         for words in lines:
@@ -72,6 +74,40 @@ def test_names_never_reach_a_terminal_raw(alone: pathlib.Path, tmp_path: pathlib
             ran = run([alone, *words])
             held = set(ran.err.replace(b"\n", b""))
             assert ran.status in (USAGE, WRITE) and held <= set(range(32, 127)), words
+
+
+FREED = """#include "tenant.h"
+int main(void)
+{
+    char *p = tenant_malloc(24);
+    tenant_free(p);
+    return *(volatile char *)p;
+}
+"""
+
+
+@pytest.mark.parametrize("name, shown", [
+    ("größe", "gr\\u{f6}\\u{df}e.c"), ("日\u202e本", "\\u{65e5}\\u{202e}\\u{672c}.c"),
+    ("\x1b[31m", None), ("\x7f", None), ("\x80", None), ("a b", "a b.c"),
+])
+def test_names_of_source_files_never_reach_a_terminal_raw(
+    alone: pathlib.Path, tmp_path: pathlib.Path, name: str, shown: Optional[str]
+) -> None:
+    """A character beyond ASCII is told by its number, in the name of the image too. A source file
+    whose name has control characters is not told."""
+    need("clang", "ld.lld")
+    source = tmp_path / f"{name}.c"
+    source.write_text(FREED, encoding="utf-8")
+    image = tmp_path / f"{name}.elf"
+    image.write_bytes(tenant(tmp_path, source).read_bytes())
+    for words in ((), ("--leaks", "--calls", "9"), ("--map", "text"), ("--trace", "--services"),
+                  ("--exact",), ("--statistics", "--last", "99")):
+        ran = run([alone, *words, image])
+        assert ran.status == FAULT
+        assert set(ran.err) <= {10, *range(32, 127)}, ran.err
+    frame = run([alone, image]).errors.splitlines()[1]
+    assert re.fullmatch(r"  #0 main\+0x[0-9a-f]+(?: at (.*):6)?", frame), frame
+    assert frame.endswith(f" at {shown}:6") if shown else " at " not in frame
 
 
 def test_the_command_for_names_of_inlined_functions_can_be_pasted(
@@ -142,6 +178,26 @@ def test_output_that_is_cut_has_a_key_and_a_status(
         assert ran.errors.splitlines()[-1] == f"mte_run: {last}"
     ran = run([alone, "--json", told, "--whole-output", HELLO])
     assert ran.status == 0 and json.loads(told.read_text())["output_cut"] is False
+
+
+def test_the_output_of_a_tenant_of_a_session(alone: pathlib.Path, tmp_path: pathlib.Path) -> None:
+    """It is what a run alone writes, in place of the lines of the report; nothing else differs."""
+    need("clang", "ld.lld")
+    source, script, told = tmp_path / "much.c", tmp_path / "script", tmp_path / "told.json"
+    source.write_text(WRITE_MUCH, encoding="utf-8")
+    image = tenant(tmp_path, source)
+    admit = "admit 1 image {} input 0 seed 0000000000000001 frames 99 out 65536\n"
+    script.write_text(f"slice 1 9\n{admit.format(2)}slice 1 1000000\n{admit.format(1)}")
+    words: list[Word] = ["--script", script, "1", "--frames", "999", "--json", told, HELLO, image]
+    report, lines = run([alone, *words]), json.loads(told.read_text())
+    raw = run([alone, "--raw-output", *words])
+    written = run([alone, image])
+    assert len(raw.out) == 65536 and raw.out == written.out
+    refused = "refused 1 NotLive\nrefused 4 Duplicate\n"
+    assert report.output.startswith(f"{refused}tenant 1\nstatus exit 3\n")
+    assert f"\noutput 65536 {raw.out.hex()}\n" in report.output
+    assert (raw.status, raw.errors) == (report.status, report.errors)
+    assert json.loads(told.read_text()) == lines
 
 
 SPIN = """#include "tenant.h"

@@ -126,6 +126,7 @@ USAGES: tuple[list[str], ...] = (
     ["--leaks", "--leaks", HELLO], ["--json", HELLO],
     ["--trace=9-3", HELLO], ["--frames", "9", HELLO], ["--json", HELLO, HELLO],
     ["--sarif", "a", "--core", "./a", HELLO], ["--\x1b[31m", HELLO],
+    ["--raw-output", HELLO],
 )
 
 
@@ -343,7 +344,7 @@ def test_a_file_that_cannot_be_read_is_named(
     """As it was named."""
     ran = run_words(alone, *words)
     assert (ran.status, ran.out) == (READ, b"")
-    reason = "" if named in (".", HELLO) else ": no such file or folder"
+    reason = ": it is a folder" if named == "." else ": no such file or folder"
     assert ran.errors == f"mte_run: cannot read {named}{reason}\n"
 
 

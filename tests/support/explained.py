@@ -58,8 +58,10 @@ class Explained:
 
     @property
     def lists(self) -> list[list[Frame]]:
-        """The lists of calls that led to the end and to the heap calls, in their order."""
-        return [self.told.end, *(call.frames for call in self.told.calls)]
+        """The lists of calls that led to the end, to the heap calls and to the store behind a jump,
+        in their order."""
+        stores = [self.told.store] if self.told.store_step else []
+        return [self.told.end, *(call.frames for call in self.told.calls), *stores]
 
     @cached_property
     def addresses(self) -> list[list[int]]:

@@ -21,6 +21,8 @@ UNSEEN = (
     "are compared by --exact alone"
 )
 CALL = re.compile(r"  (allocated|freed) by call (\d+), (.*) = (0x[0-9a-f]+), step (\d+)$")
+STORE = re.compile(
+    r"  the (?:return address|target) at 0x[0-9a-f]{16} was last written by .*, step (\d+)$")
 YOUNG = re.compile(r"  its block was given again, as the (\d+)-byte allocation at (0x[0-9a-f]+):$")
 PLACE = re.compile(r"(0x[0-9a-f]{16}) is in (.*)$")
 TAGS = re.compile(r"tags from (0x[0-9a-f]+), of 16 bytes each: (.*)$")
@@ -83,6 +85,8 @@ class Told:
     hints: list[str] = field(default_factory=list)
     calls: list[TellingOfCall] = field(default_factory=list)
     young: Optional[str] = None
+    store_step: Optional[int] = None
+    store: list[Frame] = field(default_factory=list)
     place: str = ""
     tags_from: int = 0
     tags: list[str] = field(default_factory=list)
@@ -186,6 +190,10 @@ def read_rest(told: Told, line: str, frames: list[Frame]) -> list[Frame]:
         leak = Leak(int(found[1]), int(found[2]), int(found[3]))
         told.leaks.append(leak)
         return leak.frames
+    if found := STORE.match(line):
+        told.hints.append(line[2:])
+        told.store_step = int(found[1])
+        return told.store
     if YOUNG.match(line):
         told.young = line
     elif line.startswith("live at the end: "):

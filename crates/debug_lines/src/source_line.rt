@@ -5,6 +5,7 @@ ghost use Rattle.std.specs.List.{after_last, suffix_len};
 ghost use Rattle.debug_lines.specs.Texts.{has_control};
 
 use std::{fmt, str};
+use terminal_text::Printable;
 
 /// What stands between the parts of a path.
 const SLASH: u8 = b'/';
@@ -26,10 +27,10 @@ pub struct SourceLine<'a> {
     pub line: u32,
 }
 
-/// `FILE:LINE`.
+/// `FILE:LINE`, in characters that a terminal shows.
 impl<'a> fmt::Display for SourceLine<'a> {
     fn fmt<W: fmt::Write>(&self, f: &mut fmt::Formatter<W>) -> fmt::Result {
-        let (file, line) = (self.file, self.line);
+        let (file, line) = (Printable(self.file), self.line);
         write!(f, "{file}:{line}")
     }
 }

@@ -13,6 +13,7 @@ use crate::watched::{Hit, Watched, Watchpoint};
 use a64_run::OpCache;
 use a64_step::{Decoder, Regs};
 use elf_core::Region;
+use instruction_trace::Moment;
 use mte_flat::Flat;
 use mte_tags::TagMode;
 use mte_tenant::{
@@ -20,6 +21,7 @@ use mte_tenant::{
 };
 use obstacle::Obstacle;
 use run_book::Book;
+use run_cause::StoreWatch;
 use std::alloc::{AllocError, Global};
 
 /// A tenant alone, which attempts its instructions one at a time, or a slice at a time, and can
@@ -262,6 +264,11 @@ impl<'a> Debuggee<'a> {
     /// Enters the heap call that the last step made into a book, if it made one.
     pub fn note_in(&mut self, book: &mut Book) {
         let _ = book.note(&self.parts, &mut self.memory.flat);
+    }
+
+    /// Shows the last step to a watch for a store, with what stood before it.
+    pub fn show_to(&mut self, watch: &mut StoreWatch, moment: &Moment) {
+        watch.note(moment, &self.parts, &mut self.memory.flat);
     }
 
     /// The regions of its memory, the lowest first.

@@ -5,7 +5,8 @@ use debuggee::Debuggee;
 use gdb_travel::Traveller;
 use mte_backtrace::Names;
 use mte_report::{Book, Moment, Report};
-use mte_tenant::TenantParts;
+use mte_tenant::{Status, TenantParts};
+use run_cause::{LastStore, StoreWatch, TargetLoad};
 use std::alloc::{AllocError, Global};
 use std::io;
 use std::io::Write;
@@ -33,7 +34,8 @@ pub fn tell_why<W: Write>(
         let steps = tenant.position();
         return writeln!(out, "it is running, after {steps} steps");
     }
-    let (past, remembered) = retold(alloc, tenant)?;
+    let (past, mut remembered) = retold(alloc, tenant)?;
+    remembered.store = store_of(alloc, tenant, &past.parts().log.status, &remembered.last)?;
     let limit = past.limit();
     let (parts, mut memory) = past.into_machine();
     let names = Names::of(alloc, subject.image)?;
@@ -58,6 +60,8 @@ struct Remembered {
     book: Book,
     /// Its last instructions, the oldest first.
     last: HeapCircularBuffer<Moment>,
+    /// What wrote the target last of the jump to no code that ended it, if it is known.
+    store: Option<LastStore>,
 }
 
 /// The report of a machine, by what is remembered of it, under the name of its image's file.
@@ -80,6 +84,7 @@ fn report_of<'x, 'n>(
         image: name,
         seed,
         finding: None,
+        store: remembered.store.as_ref(),
         statistics: None,
         is_cut: false,
     }
@@ -94,6 +99,7 @@ fn retold<'a>(
     let mut remembered = Remembered {
         book: Book::new(alloc)?,
         last: HeapCircularBuffer::with_capacity(alloc, LAST)?,
+        store: None,
     };
     for done in 0..steps {
         if steps - done <= LAST as u64 {
@@ -103,6 +109,27 @@ fn retold<'a>(
         past.note_in(&mut remembered.book);
     }
     Ok((past, remembered))
+}
+
+/// What wrote the target last of the jump to no code that ended a tenant, if one did: it runs anew
+/// for that, up to the load of the target.
+fn store_of(
+    alloc: Global,
+    tenant: &Traveller<'_>,
+    status: &Status,
+    last: &HeapCircularBuffer<Moment>,
+) -> Result<Option<LastStore>, AllocError> {
+    let Some(load) = TargetLoad::of_end(status, Some(last)) else {
+        return Ok(None);
+    };
+    let mut watch = StoreWatch::new(load);
+    let (mut past, _) = tenant.past(alloc)?;
+    for _ in 0..load.step {
+        let moment = moment_of(&mut past);
+        past.attempt();
+        past.show_to(&mut watch, &moment);
+    }
+    Ok(watch.found())
 }
 
 /// The instruction that is attempted next.

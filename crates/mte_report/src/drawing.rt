@@ -28,9 +28,22 @@ impl<'a> Report<'a> {
         let title = self.title_of(title);
         let title = format!(in alloc; "{title}")?;
         let extents = extents(alloc, self.book)?;
-        let names = self.extent_names(alloc, extents.as_slice())?;
         let story = self.story(alloc, memory)?;
-        let picture = self.picture([title.as_str(), story.as_str()], extents.as_slice(), &names);
+        let titles = [title.as_str(), story.as_str()];
+        self.draw_extents(alloc, out, titles, extents.as_slice(), memory)
+    }
+
+    /// Draws chunks under a title and a story.
+    fn draw_extents<W: Write>(
+        &self,
+        alloc: Global,
+        out: &mut W,
+        titles: [&str; 2],
+        extents: &[Extent],
+        memory: &mut Flat,
+    ) -> io::Result<()> {
+        let names = self.extent_names(alloc, extents)?;
+        let picture = self.picture(titles, extents, &names);
         picture.draw(alloc, out, memory)
     }
 
@@ -45,9 +58,22 @@ impl<'a> Report<'a> {
         let title = self.title_of(title);
         let title = format!(in alloc; "{title}")?;
         let extents = extents(alloc, self.book)?;
-        let names = self.extent_names(alloc, extents.as_slice())?;
         let story = self.story(alloc, memory)?;
-        let picture = self.picture([title.as_str(), story.as_str()], extents.as_slice(), &names);
+        let titles = [title.as_str(), story.as_str()];
+        self.write_extents(alloc, out, titles, extents.as_slice(), memory)
+    }
+
+    /// Writes chunks as text, under a title and a story.
+    fn write_extents<W: Write>(
+        &self,
+        alloc: Global,
+        out: &mut W,
+        titles: [&str; 2],
+        extents: &[Extent],
+        memory: &mut Flat,
+    ) -> io::Result<()> {
+        let names = self.extent_names(alloc, extents)?;
+        let picture = self.picture(titles, extents, &names);
         picture.write_text(alloc, out, memory)
     }
 
@@ -70,9 +96,7 @@ impl<'a> Report<'a> {
         extents: &[Extent],
     ) -> Result<FrameNames<'a>, AllocError> {
         let mut frames = FrameAddresses::new(alloc);
-        for extent in extents {
-            frames.push_instruction(extent.chunk.made.pc)?;
-        }
+        push_makers(&mut frames, extents)?;
         self.names.of_frames(alloc, &frames)
     }
 
@@ -113,6 +137,14 @@ impl<'a> Report<'a> {
             None => mark_of(&self.parts.log.status),
         }
     }
+}
+
+/// Adds the instructions that made chunks.
+fn push_makers(frames: &mut FrameAddresses, extents: &[Extent]) -> Result<(), AllocError> {
+    for extent in extents {
+        frames.push_instruction(extent.chunk.made.pc)?;
+    }
+    Ok(())
 }
 
 /// The access or pointer that a status names.

@@ -2,7 +2,7 @@
 
 use crate::report::Report;
 use mte_backtrace::{FrameAddresses, FrameNames};
-use run_book::{BookEntry, Bytes};
+use run_book::{BookChunk, BookEntry, Bytes};
 use std::alloc::{AllocError, Global};
 use std::io::Write;
 use std::{fmt, io};
@@ -28,6 +28,23 @@ struct Places {
 }
 
 impl Places {
+    /// No places.
+    fn new(alloc: Global) -> Places {
+        Places {
+            places: Vec::new(alloc),
+            chunks: 0,
+            bytes: 0,
+        }
+    }
+
+    /// Enters chunks.
+    fn enter_all(&mut self, chunks: &[BookChunk]) -> Result<(), AllocError> {
+        for chunk in chunks {
+            self.enter(&chunk.made, chunk.size)?;
+        }
+        Ok(())
+    }
+
     /// Enters a chunk of some bytes that a call made.
     fn enter(&mut self, entry: &BookEntry, bytes: u64) -> Result<(), AllocError> {
         self.chunks = self.chunks.saturating_add(1);
@@ -75,14 +92,28 @@ impl<'a> Report<'a> {
     /// places.
     pub fn write_leaks<W: Write>(&self, alloc: Global, out: &mut W) -> io::Result<()> {
         let places = self.live_places(alloc)?;
-        let (chunks, bytes) = (places.chunks, places.bytes);
-        let (chunks, bytes) = (Chunks(chunks), Bytes(bytes));
+        let (chunks, bytes) = (Chunks(places.chunks), Bytes(places.bytes));
         writeln!(out, "live at the end: {chunks}, {bytes}")?;
-        let names = self.place_names(alloc, places.places.as_slice())?;
-        for place in &places.places {
-            self.write_place(alloc, out, place, &names)?;
-        }
-        out.flush()
+        self.write_places(alloc, out, places.places.as_slice())
+    }
+
+    /// The places of the chunks that are live.
+    fn live_places(&self, alloc: Global) -> Result<Places, AllocError> {
+        let live = self.book.live(alloc)?;
+        let mut places = Places::new(alloc);
+        places.enter_all(live.as_slice())?;
+        Ok(places)
+    }
+
+    /// Writes places, each with the calls that led there.
+    fn write_places<W: Write>(
+        &self,
+        alloc: Global,
+        out: &mut W,
+        places: &[LeakPlace],
+    ) -> io::Result<()> {
+        let names = self.place_names(alloc, places)?;
+        self.write_named(alloc, out, places, &names)
     }
 
     /// What the addresses of places are called.
@@ -92,25 +123,35 @@ impl<'a> Report<'a> {
         places: &[LeakPlace],
     ) -> Result<FrameNames<'a>, AllocError> {
         let mut frames = FrameAddresses::new(alloc);
-        for place in places {
-            let stack = self.stack_of(alloc, &place.entry)?;
-            stack.push_frames(&mut frames)?;
-        }
+        self.push_places(alloc, &mut frames, places)?;
         self.names.of_frames(alloc, &frames)
     }
 
-    /// The places of the chunks that are live.
-    fn live_places(&self, alloc: Global) -> Result<Places, AllocError> {
-        let live = self.book.live(alloc)?;
-        let mut places = Places {
-            places: Vec::new(alloc),
-            chunks: 0,
-            bytes: 0,
-        };
-        for chunk in &live {
-            places.enter(&chunk.made, chunk.size)?;
+    /// Adds the addresses of the calls that led to places.
+    fn push_places(
+        &self,
+        alloc: Global,
+        frames: &mut FrameAddresses,
+        places: &[LeakPlace],
+    ) -> Result<(), AllocError> {
+        for place in places {
+            self.push_entry(alloc, frames, &place.entry)?;
         }
-        Ok(places)
+        Ok(())
+    }
+
+    /// Writes places, by what their addresses are called.
+    fn write_named<W: Write>(
+        &self,
+        alloc: Global,
+        out: &mut W,
+        places: &[LeakPlace],
+        names: &FrameNames<'_>,
+    ) -> io::Result<()> {
+        for place in places {
+            self.write_place(alloc, out, place, names)?;
+        }
+        out.flush()
     }
 
     /// Writes a place.
@@ -124,7 +165,6 @@ impl<'a> Report<'a> {
         let (chunks, bytes) = (Chunks(place.chunks), Bytes(place.bytes));
         let number = place.entry.number;
         writeln!(out, "  {chunks}, {bytes}, the first by call {number}")?;
-        let stack = self.stack_of(alloc, &place.entry)?;
-        stack.write(out, names, "    ")
+        self.tell_stack(alloc, out, &place.entry, names)
     }
 }

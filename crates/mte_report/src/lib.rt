@@ -1,18 +1,18 @@
-//! Why a tenant ended, in words and as JSON: the cause, whose granule an address is in, the calls
-//! that led to it, the registers, the pages and the last instructions. And its heap as a picture.
+//! Why a tenant ended, in words: the cause, whose granule an address is in, the calls that led to
+//! it, the registers, the pages and the last instructions. And its heap as a picture.
 #![tactic(auto)]
 
 mod drawing;
+mod explanation;
 mod hints;
-mod json;
 mod leaks;
 mod report;
-mod sarif;
 mod stacks;
 mod story;
 
+pub use explanation::Explanation;
 pub use instruction_trace::{Moment, SVC, Service, TraceLine, Turn};
 pub use report::Report;
 pub use run_book::Book;
-pub use run_cause::{Exact, Finding};
+pub use run_cause::{Exact, Finding, LastStore};
 pub use run_statistics::{Statistics, StatisticsTable};

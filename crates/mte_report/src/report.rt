@@ -1,5 +1,6 @@
 //! What happened to a tenant that did not exit, in words.
 
+use crate::explanation::Explanation;
 use a64_bits::plain;
 use a64_decode::decode;
 use a64_registers::Regs;
@@ -13,8 +14,8 @@ use mte_tags::{FaultKind, MemFault, Tagged};
 use mte_tenant::{Status, TenantParts};
 use run_book::{Book, Bytes, ChunkOwner, Wanted};
 use run_cause::{
-    Cause, Evidence, Finding, Wrong, abort_words, breakpoint_words, family_of, fault_words,
-    is_undefined, trespass_words,
+    Cause, Evidence, Finding, LastStore, Wrong, abort_words, breakpoint_words, family_of,
+    fault_words, is_undefined, trespass_words,
 };
 use run_statistics::StatisticsTable;
 use scudo_heap::HeapAbort;
@@ -46,6 +47,8 @@ pub struct Report<'a> {
     pub seed: Option<u64>,
     /// The access that ended it beyond what its tags forbid, if one did.
     pub finding: Option<&'a Finding>,
+    /// What wrote the target last of the jump to no code that ended it, if it is known.
+    pub store: Option<&'a LastStore>,
     /// The numbers of the run, where they are wanted.
     pub statistics: Option<StatisticsTable<'a>>,
     /// Whether it wrote more than there was room for.
@@ -65,12 +68,22 @@ impl<'a> Report<'a> {
     pub fn write<W: Write>(&self, alloc: Global, out: &mut W, memory: &mut Flat) -> io::Result<()> {
         write!(out, "mte_run: ")?;
         tell_status(out, self, memory)?;
-        let cause = self.cause();
-        let names = self.frame_names(alloc, cause.as_ref(), memory)?;
-        self.tell_calls(alloc, out, cause.as_ref(), memory, &names)?;
+        let explanation = self.explain(alloc, memory)?;
+        self.write_explained(alloc, out, &explanation, memory)
+    }
+
+    /// Writes what happened behind the line of the status, by what is known of the end.
+    fn write_explained<W: Write>(
+        &self,
+        alloc: Global,
+        out: &mut W,
+        explanation: &Explanation<'_>,
+        memory: &mut Flat,
+    ) -> io::Result<()> {
+        self.tell_calls(alloc, out, explanation)?;
         tell_place(out, self, memory)?;
-        self.write_machine(alloc, out, memory, &names)?;
-        self.tell_symbolizer(alloc, out, cause.as_ref(), memory)?;
+        self.write_machine(alloc, out, memory, &explanation.names)?;
+        self.tell_symbolizer(alloc, out, explanation)?;
         out.flush()
     }
 
@@ -97,7 +110,7 @@ impl<'a> Report<'a> {
     }
 
     /// The registers before the instruction that ended it.
-    pub(crate) fn regs(&self) -> &'a Regs {
+    pub fn regs(&self) -> &'a Regs {
         match self.finding {
             Some(finding) => &finding.before,
             None => &self.parts.regs,
@@ -113,7 +126,7 @@ impl<'a> Report<'a> {
     }
 
     /// The number of the instruction that ended it.
-    pub(crate) fn step(&self) -> u64 {
+    pub fn step(&self) -> u64 {
         match self.finding {
             Some(finding) => finding.step,
             None => self.parts.log.steps,
@@ -121,7 +134,7 @@ impl<'a> Report<'a> {
     }
 
     /// The plain address that the status names, if it names one.
-    pub(crate) fn address(&self) -> Option<u64> {
+    pub fn address(&self) -> Option<u64> {
         if let Some(finding) = self.finding {
             return Some(finding.wrong.addr);
         }

@@ -1,99 +1,49 @@
 //! The calls that led to the end of a tenant, and to the heap calls that its cause names.
 
+use crate::explanation::Explanation;
 use crate::report::Report;
-use instruction_trace::push_turns;
-use mte_backtrace::{CallStack, FrameAddresses, FrameNames};
-use mte_flat::Flat;
+use mte_backtrace::FrameNames;
 use run_book::{Book, BookChunk, BookEntry, Call};
-use run_cause::{Cause, Finding, FoundCause};
-use std::alloc::{AllocError, Global};
+use run_cause::{Cause, FoundCause, LastStore};
+use std::alloc::Global;
 use std::io;
 use std::io::Write;
 use terminal_text::ShellWord;
 
 impl<'a> Report<'a> {
-    /// What the addresses are called that are told: those of the calls that led to the end and to
-    /// the heap calls of the cause, of the last calls and returns, and of the jump that is hinted.
-    pub(crate) fn frame_names(
-        &self,
-        alloc: Global,
-        cause: Option<&Cause>,
-        memory: &mut Flat,
-    ) -> Result<FrameNames<'a>, AllocError> {
-        let mut frames = FrameAddresses::new(alloc);
-        let stack = self.end_stack(alloc, memory)?;
-        stack.push_frames(&mut frames)?;
-        if let Some(cause) = cause {
-            self.push_cause(alloc, &mut frames, cause)?;
-        }
-        if let Some(turns) = self.turns {
-            push_turns(&mut frames, turns)?;
-        }
-        if let Some(moment) = self.jump() {
-            frames.push_instruction(moment.regs.pc)?;
-        }
-        self.names.of_frames(alloc, &frames)
-    }
-
-    /// Adds the addresses of the calls that led to the heap calls of a cause.
-    fn push_cause(
-        &self,
-        alloc: Global,
-        frames: &mut FrameAddresses,
-        cause: &Cause,
-    ) -> Result<(), AllocError> {
-        for entry in cause.calls().iter() {
-            if let Some(entry) = entry {
-                let stack = self.stack_of(alloc, entry)?;
-                stack.push_frames(frames)?;
-            }
-        }
-        Ok(())
-    }
-
     /// Writes the calls that led to the end, then the cause, and the calls of the chunks that it
     /// names.
     pub(crate) fn tell_calls<W: Write>(
         &self,
         alloc: Global,
         out: &mut W,
-        cause: Option<&Cause>,
-        memory: &mut Flat,
-        names: &FrameNames<'_>,
+        explanation: &Explanation<'_>,
     ) -> io::Result<()> {
-        let stack = self.end_stack(alloc, memory)?;
-        stack.write(out, names, "  ")?;
-        let Some(cause) = cause else {
-            return Ok(());
-        };
-        let found = self.found(cause);
-        writeln!(out, "Cause: {found}")?;
-        self.tell_chunks(alloc, out, cause, names)?;
-        self.tell_hint(out, cause, names)?;
-        tell_short(out, self.book)
-    }
-
-    /// The calls that led to the end.
-    pub(crate) fn end_stack(
-        &self,
-        alloc: Global,
-        memory: &mut Flat,
-    ) -> Result<CallStack, AllocError> {
-        let symbols = &self.names.symbols;
-        match self.finding {
-            Some(
-                Finding {
-                    before,
-                    callers,
-                    ..
-                },
-            ) => CallStack::of_heap_call(alloc, before.pc, callers, symbols),
-            None => CallStack::of_next(alloc, memory, &self.parts.regs, symbols),
+        let names = &explanation.names;
+        explanation.stack.write(out, names, "  ")?;
+        match &explanation.cause {
+            Some(cause) => self.tell_cause(alloc, out, cause, names),
+            None => Ok(()),
         }
     }
 
+    /// Writes a cause, and the calls of the chunks that it names.
+    fn tell_cause<W: Write>(
+        &self,
+        alloc: Global,
+        out: &mut W,
+        cause: &Cause,
+        names: &FrameNames<'_>,
+    ) -> io::Result<()> {
+        let found = self.found(cause);
+        writeln!(out, "Cause: {found}")?;
+        self.tell_chunks(alloc, out, cause, names)?;
+        self.tell_hint(alloc, out, cause, names)?;
+        tell_short(out, self.book)
+    }
+
     /// A cause, behind what found it.
-    pub(crate) fn found<'b>(&self, cause: &'b Cause) -> FoundCause<'b> {
+    pub fn found<'b>(&self, cause: &'b Cause) -> FoundCause<'b> {
         FoundCause {
             cause,
             is_exact: self.finding.is_some(),
@@ -106,17 +56,29 @@ impl<'a> Report<'a> {
         &self,
         alloc: Global,
         out: &mut W,
-        cause: Option<&Cause>,
-        memory: &mut Flat,
+        explanation: &Explanation<'_>,
     ) -> io::Result<()> {
         let image = ShellWord(self.image);
         write!(out, "llvm-symbolizer -i --obj={image}")?;
-        let stack = self.end_stack(alloc, memory)?;
-        stack.write_addresses(out)?;
-        if let Some(cause) = cause {
+        explanation.stack.write_addresses(out)?;
+        if let Some(cause) = &explanation.cause {
             self.write_cause_addresses(alloc, out, cause)?;
         }
+        if let Some(store) = self.store {
+            self.write_store_addresses(alloc, out, store)?;
+        }
         writeln!(out)
+    }
+
+    /// Writes the addresses of the calls that led to a store.
+    fn write_store_addresses<W: Write>(
+        &self,
+        alloc: Global,
+        out: &mut W,
+        store: &LastStore,
+    ) -> io::Result<()> {
+        let stack = self.stack_of_store(alloc, store)?;
+        stack.write_addresses(out)
     }
 
     /// Writes the addresses of the calls that led to the heap calls of a cause.
@@ -128,20 +90,21 @@ impl<'a> Report<'a> {
     ) -> io::Result<()> {
         for entry in cause.calls().iter() {
             if let Some(entry) = entry {
-                let stack = self.stack_of(alloc, entry)?;
-                stack.write_addresses(out)?;
+                self.write_entry_addresses(alloc, out, entry)?;
             }
         }
         Ok(())
     }
 
-    /// The calls that led to a heap call.
-    pub(crate) fn stack_of(
+    /// Writes the addresses of the calls that led to a heap call.
+    fn write_entry_addresses<W: Write>(
         &self,
         alloc: Global,
+        out: &mut W,
         entry: &BookEntry,
-    ) -> Result<CallStack, AllocError> {
-        CallStack::of_heap_call(alloc, entry.pc, &entry.callers, &self.names.symbols)
+    ) -> io::Result<()> {
+        let stack = self.stack_of(alloc, entry)?;
+        stack.write_addresses(out)
     }
 }
 
@@ -196,7 +159,7 @@ impl<'a> Report<'a> {
     }
 
     /// Tells the calls that led to a heap call.
-    fn tell_stack<W: Write>(
+    pub(crate) fn tell_stack<W: Write>(
         &self,
         alloc: Global,
         out: &mut W,

@@ -1,11 +1,11 @@
 //! What happened where, in a line.
 
+use crate::explanation::Explanation;
 use crate::report::Report;
 use mte_backtrace::{FrameNames, StackFrame};
 use mte_flat::Flat;
 use mte_tenant::Status;
 use run_book::BookEntry;
-use run_cause::Cause;
 use std::alloc::{AllocError, Global};
 use std::fmt;
 
@@ -17,29 +17,20 @@ impl<'a> Report<'a> {
         if is_clean {
             return Ok(String::new(alloc));
         }
-        let cause = self.cause();
-        let names = self.frame_names(alloc, cause.as_ref(), memory)?;
-        let stack = self.end_stack(alloc, memory)?;
-        let end = stack.told_frame(&names);
-        self.story_of(alloc, end, cause.as_ref(), &names)
+        let explanation = self.explain(alloc, memory)?;
+        self.story_of(alloc, &explanation)
     }
 
-    /// What happened where, by the frame of the end. It borrows the names, so that none of its ends
-    /// has to drop them.
-    fn story_of<'n>(
-        &self,
-        alloc: Global,
-        end: Option<StackFrame<'n>>,
-        cause: Option<&Cause>,
-        names: &FrameNames<'n>,
-    ) -> Result<String, AllocError> {
-        let chunk = cause.and_then(|cause| cause.chunk());
+    /// What happened where, as an explanation has it. It borrows that, so that none of its ends has
+    /// to drop it.
+    fn story_of(&self, alloc: Global, told: &Explanation<'_>) -> Result<String, AllocError> {
+        let chunk = told.cause.as_ref().and_then(|cause| cause.chunk());
         let made = chunk.map(|chunk| &chunk.made);
         let freed = chunk.and_then(|chunk| chunk.freed.as_ref());
         let story = Story {
-            end,
-            made: self.scene(alloc, made, names)?,
-            freed: self.scene(alloc, freed, names)?,
+            end: told.stack.told_frame(&told.names),
+            made: self.scene(alloc, made, &told.names)?,
+            freed: self.scene(alloc, freed, &told.names)?,
         };
         format!(in alloc; "{story}")
     }

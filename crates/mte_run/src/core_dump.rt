@@ -1,6 +1,6 @@
 //! The core file of a tenant's end.
 
-use crate::session_course::course_in;
+use crate::files::read_course;
 use elf_core::{CoreSubject, write_core};
 use mte_flat::Flat;
 use mte_tags::TagMode;
@@ -32,7 +32,7 @@ pub fn mode_in<'a>(
     if options.output.core.is_none() {
         return Ok(TagMode::Sync);
     }
-    let course = course_in(rt, replay, files)?;
+    let course = read_course(rt, replay, files)?;
     Ok(
         course
             .admitted

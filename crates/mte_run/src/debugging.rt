@@ -2,10 +2,8 @@
 
 ghost use Rattle.std.specs.Prelude.{◌<◌};
 
-use crate::files::{Image, read_input};
-use crate::running::{admission_of, refuse};
-use crate::session_course::{Admitted, course_in};
-use crate::unadmitted::end_unadmitted;
+use crate::files::{Image, read_course, read_input};
+use crate::unadmitted::{end_unadmitted, refuse};
 use address_map::MAX_STEPS;
 use debuggee::{Cuts, Debuggee};
 use gdb_front::{Front, serve};
@@ -14,6 +12,7 @@ use mte_tenant::Admission;
 use obstacle::Obstacle;
 use run_options::{Failure, Options, Replay};
 use std::alloc::{AllocError, Global};
+use tenant_run::{Admitted, admission_of};
 
 /// Answers GDB of an image alone, and returns the exit status.
 pub fn debug_alone<'a>(
@@ -64,7 +63,7 @@ pub fn debug_replay<'a>(
     replay: &'a Replay,
     files: &[Vec<u8>],
 ) -> Result<u8, Failure<'a>> {
-    let course = course_in(rt, replay, files)?;
+    let course = read_course(rt, replay, files)?;
     match course.admitted {
         Some(admitted) => {
             let name = options.file_name(admitted.image);

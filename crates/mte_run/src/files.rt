@@ -2,8 +2,9 @@
 
 use mte_program::StreamSource;
 use mte_session::{file_of, read_whole};
-use run_options::{Failure, Options};
+use run_options::{Failure, FileFault, Options, Replay};
 use std::fs::File;
+use tenant_run::{SessionCourse, events_of};
 
 /// An image.
 #[derive(Clone, Copy)]
@@ -45,8 +46,30 @@ pub fn read_file<'a>(rt: &HostRuntime, name: &'a str) -> Result<Vec<u8>, Failure
         Ok(file) => file,
         Err(error) => return Err(Failure::of_open(&error, name)),
     };
+    if is_folder(&file) {
+        return Err(Failure::Read(name, FileFault::Folder));
+    }
     match read_whole(rt.alloc(), &mut StreamSource(file), 0) {
         Ok(bytes) => Ok(bytes),
         Err(fault) => Err(Failure::of_read(fault, name)),
     }
+}
+
+/// Whether a file is a folder, which can be opened but not read.
+fn is_folder(file: &File) -> bool {
+    match file.metadata() {
+        Ok(metadata) => metadata.is_dir(),
+        Err(_) => false,
+    }
+}
+
+/// What the session of a script does to its tenant.
+pub fn read_course<'a>(
+    rt: &HostRuntime,
+    replay: &'a Replay,
+    files: &[Vec<u8>],
+) -> Result<SessionCourse, Failure<'a>> {
+    let script = read_file(rt, replay.script.as_str())?;
+    let events = events_of(rt.alloc(), script.as_slice(), files)?;
+    Ok(SessionCourse::of(rt.alloc(), replay, events.as_slice(), files)?)
 }

@@ -1,21 +1,12 @@
 //! `mte_run [OPTIONS] ELF`: runs one tenant alone, and tells why it ended.
 #![tactic(auto)]
 
-mod bench;
 mod core_dump;
 mod debugging;
-mod ending;
 mod files;
 mod map;
-mod observer;
-mod output_stream;
-mod replay;
 mod running;
-mod seeds;
-mod session_course;
-mod survey;
 mod telling;
-mod tracer;
 mod unadmitted;
 
 use run_options::{Failure, Invocation, read_command_line, report};

@@ -7,6 +7,7 @@ use run_options::{Failure, Options};
 use std::fs::File;
 use std::io::BufWriter;
 use std::{fmt, io};
+use terminal_text::Printable;
 
 /// The name for which the heap is written as text, on standard error.
 const TEXT: &str = "text";
@@ -41,8 +42,7 @@ fn draw_file(
     let subject = MapTitle(options);
     let title = format!(in rt.alloc(); "{subject}")?;
     if name == TEXT {
-        let mut out = BufWriter::new(rt.alloc(), rt.stderr())?;
-        return report.write_map(rt.alloc(), &mut out, title.as_str(), memory);
+        return write_text(rt, report, title.as_str(), memory);
     }
     let file = if name == "-" {
         Either::Left(rt.stdout())
@@ -51,6 +51,20 @@ fn draw_file(
     };
     let mut out = BufWriter::new(rt.alloc(), file)?;
     report.draw(rt.alloc(), &mut out, title.as_str(), memory)
+}
+
+/// Writes the heap and its tags as text, on standard error, under a title of characters that a
+/// terminal shows.
+fn write_text(
+    rt: &HostRuntime,
+    report: &Report<'_>,
+    title: &str,
+    memory: &mut Flat,
+) -> io::Result<()> {
+    let shown = Printable(title);
+    let title = format!(in rt.alloc(); "{shown}")?;
+    let mut out = BufWriter::new(rt.alloc(), rt.stderr())?;
+    report.write_map(rt.alloc(), &mut out, title.as_str(), memory)
 }
 
 /// What was run: the image's name without its folder, or a tenant of a script.

@@ -1,12 +1,8 @@
 //! What is told of a tenant at its end.
 
-use crate::bench::Bench;
 use crate::core_dump::dump_core;
-use crate::ending::{LastLine, TenantEnding};
 use crate::files::Image;
 use crate::map::draw_map;
-use crate::observer::Observer;
-use crate::running::Log;
 use address_map::GRANULE_SIZE;
 use elf_core::CoreSubject;
 use heap_bounds::{Allocation, made_by};
@@ -16,15 +12,19 @@ use mte_report::Report;
 use mte_svc::{AnsweredCall, HeapCalls, TenantParts};
 use mte_tags::{Paged, TagMode};
 use mte_tenant::Status;
+use report_documents::{write_json, write_sarif};
 use run_options::{Exactness, Failure, FileFault, Options};
 use std::alloc::{AllocError, Global};
 use std::fs::File;
 use std::io;
 use std::io::BufWriter;
+use tenant_run::{LastLine, Log, Observer, TenantBench, TenantEnding};
 
 /// What is told of a run beside its tenant.
 #[derive(Clone, Copy)]
-pub struct Run {
+pub struct Run<'x> {
+    /// Its image.
+    pub image: Image<'x>,
     /// Its seed, where it ran alone.
     pub seed: Option<u64>,
     /// What a tag that differed did.
@@ -34,12 +34,27 @@ pub struct Run {
 /// Tells what happened, as the options request it, and returns the exit status.
 pub fn tell_end<'a>(
     rt: &HostRuntime,
-    bench: Bench,
+    bench: TenantBench,
     observer: &mut Observer<'_, Log>,
     options: &'a Options,
-    image: &Image<'_>,
-    run: Run,
+    run: &Run<'_>,
 ) -> Result<u8, Failure<'a>> {
+    end_watch(rt, observer, options)?;
+    let TenantBench {
+        parts,
+        mut memory,
+        ..
+    } = bench;
+    tell_parts(rt, &parts, &mut memory, observer, options, run)
+}
+
+/// Ends the lines of a trace, and tells whether output was cut. A line or a chunk that is missing
+/// is a failure.
+fn end_watch<'a>(
+    rt: &HostRuntime,
+    observer: &mut Observer<'_, Log>,
+    options: &'a Options,
+) -> Result<(), Failure<'a>> {
     if !observer.finish() {
         return Err(unwritten_lines(options));
     }
@@ -49,12 +64,7 @@ pub fn tell_end<'a>(
     if observer.is_cut {
         let _ = eprintln!(rt; "mte_run: output was cut: there was no more room (--out)");
     }
-    let Bench {
-        parts,
-        mut memory,
-        ..
-    } = bench;
-    tell_parts(rt, &parts, &mut memory, observer, options, image, run)
+    Ok(())
 }
 
 /// The failure to write the lines of a trace.
@@ -66,40 +76,28 @@ fn unwritten_lines(options: &Options) -> Failure<'_> {
 }
 
 /// Tells what happened of a tenant's parts and its memory, and returns the exit status. It borrows
-/// them, so that none of its many ends has to drop them.
+/// them, so that none of its ends has to drop them.
 fn tell_parts<'a>(
     rt: &HostRuntime,
     parts: &TenantParts,
     memory: &mut Flat,
     observer: &Observer<'_, Log>,
     options: &'a Options,
-    image: &Image<'_>,
-    run: Run,
+    run: &Run<'_>,
 ) -> Result<u8, Failure<'a>> {
     let subject = CoreSubject {
         parts,
         mode: run.mode,
-        name: image.name,
+        name: run.image.name,
     };
     dump_core(rt, options, &subject, memory)?;
-    let reserved = if options.output.statistics {
-        reserved_pages(rt.alloc(), memory)?
-    } else {
-        0
+    let numbers = Numbers {
+        reserved: reserved_pages(rt.alloc(), options, memory)?,
+        seed: run.seed,
     };
-    let named = named_bytes(image, is_told(parts, observer, options));
+    let named = named_bytes(&run.image, is_told(parts, observer, options));
     let names = Names::of(rt.alloc(), named)?;
-    let report = report_of(
-        parts,
-        observer,
-        options,
-        &names,
-        image.name,
-        Numbers {
-            reserved,
-            seed: run.seed,
-        },
-    );
+    let report = report_of(parts, observer, options, &names, run.image.name, numbers);
     tell_run(rt, &report, options, memory)
 }
 
@@ -137,6 +135,7 @@ fn report_of<'x, 'n, 'o>(
         image,
         seed: numbers.seed,
         finding: observer.finding(),
+        store: observer.store.as_ref(),
         statistics: observer.table(numbers.reserved),
         is_cut: observer.is_cut,
     }
@@ -187,8 +186,8 @@ fn write_files<'a>(
     ending: TenantEnding,
     memory: &mut Flat,
 ) -> Result<(), Failure<'a>> {
-    write_json(rt, report, options, ending, memory)?;
-    write_sarif(rt, report, options, ending, memory)?;
+    write_json_named(rt, report, options, ending, memory)?;
+    write_sarif_named(rt, report, options, ending, memory)?;
     draw_map(rt, report, options, memory)
 }
 
@@ -241,14 +240,17 @@ fn tell_statistics(rt: &HostRuntime, report: &Report<'_>) -> io::Result<()> {
     report.write_statistics(&mut out)
 }
 
-/// The reservation in pages: those that are mapped and those that are left.
-fn reserved_pages(alloc: Global, memory: &mut Flat) -> Result<u64, AllocError> {
+/// The reservation in pages, those that are mapped and those that are left, where it is told.
+fn reserved_pages(alloc: Global, options: &Options, memory: &mut Flat) -> Result<u64, AllocError> {
+    if !options.output.statistics {
+        return Ok(0);
+    }
     let mapped = memory.mapped_pages(alloc)?.len();
     Ok(memory.pages_left().saturating_add(mapped) as u64)
 }
 
 /// Writes what happened into the file that is named, if one is, for a program to read.
-fn write_json<'a>(
+fn write_json_named<'a>(
     rt: &HostRuntime,
     report: &Report<'_>,
     options: &'a Options,
@@ -275,11 +277,11 @@ fn write_json_file(
     memory: &mut Flat,
 ) -> io::Result<()> {
     let mut out = BufWriter::new(rt.alloc(), File::create(rt, name)?)?;
-    report.write_json(rt.alloc(), &mut out, status, memory)
+    write_json(rt.alloc(), &mut out, report, status, memory)
 }
 
 /// Writes what happened into the file that is named, if one is, for editors and forges.
-fn write_sarif<'a>(
+fn write_sarif_named<'a>(
     rt: &HostRuntime,
     report: &Report<'_>,
     options: &'a Options,
@@ -306,7 +308,7 @@ fn write_sarif_file(
     memory: &mut Flat,
 ) -> io::Result<()> {
     let mut out = BufWriter::new(rt.alloc(), File::create(rt, name)?)?;
-    report.write_sarif(rt.alloc(), &mut out, status, memory)
+    write_sarif(rt.alloc(), &mut out, report, status, memory)
 }
 
 /// Writes the last line, and returns the exit status.

@@ -1,7 +1,5 @@
-//! Why a session never admits a tenant.
+//! Why an image is refused, and why a session never admits a tenant.
 
-use crate::ending::REFUSED;
-use crate::replay::decide;
 use mte_sched::Host;
 use mte_session::Event;
 use mte_tenant::{AdmitError, Refusal, Terms, charge};
@@ -9,6 +7,7 @@ use obstacle::Obstacle;
 use run_options::{Failure, Replay, remedy_of};
 use std::alloc::Global;
 use std::fmt;
+use tenant_run::{REFUSED, decide};
 
 /// An admission that is refused.
 #[derive(Clone, Copy)]
@@ -51,6 +50,14 @@ impl fmt::Display for RefusedAdmission {
             _ => f.write_str(remedy_of(*error)),
         }
     }
+}
+
+/// Tells why an image is refused, and returns the exit status.
+pub fn refuse(rt: &HostRuntime, error: AdmitError) -> u8 {
+    let remedy = remedy_of(error);
+    let _ = eprintln!(rt; "mte_run: the tenant is refused: {error}{remedy}");
+    let _ = eprintln!(rt; "mte_run: ended by refusal, status {REFUSED}");
+    REFUSED
 }
 
 /// Tells why a session never admits a tenant, and returns the exit status.

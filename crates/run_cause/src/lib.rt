@@ -1,14 +1,17 @@
-//! The likeliest cause of a tenant's end, and the accesses that go beyond the bytes of its chunks.
+//! The likeliest cause of a tenant's end, the accesses that go beyond the bytes of its chunks, and
+//! the store behind a jump to no code.
 #![tactic(auto)]
 
 mod cause;
 mod evidence;
 mod exact;
 mod families;
+mod jump;
 mod words;
 
 pub use cause::{Cause, FoundCause};
 pub use evidence::Evidence;
 pub use exact::{Exact, Finding, Span, Wrong, span_of};
 pub use families::{breakpoint_words, family_of, is_undefined};
+pub use jump::{LastStore, StoreWatch, TargetLoad, branch_in};
 pub use words::{abort_words, fault_words, trespass_words};

@@ -117,6 +117,8 @@ fn tenant_options<'a>(alloc: Global, command: Command<'a>) -> Result<Command<'a>
     let command = command.arg(files(alloc))?;
     let command = command.arg(script(alloc))?;
     let command = command.arg(frames(alloc))?;
+    let help = "Writes what that tenant wrote as it is, in place of its lines of the report";
+    let command = command.arg(flag(alloc, "raw-output", help))?;
     Ok(command.arg(named(alloc, "input", "FILE", "What it may read"))?)
 }
 

@@ -80,6 +80,9 @@ pub struct OutputOptions {
     pub core: Option<String>,
     /// Whether output for which there is no room is a failure.
     pub is_whole: bool,
+    /// Whether the output of a session's tenant is written as it is, in place of its lines of the
+    /// report.
+    pub is_raw: bool,
 }
 
 /// Which accesses are to keep to the bytes of chunks.
@@ -119,6 +122,8 @@ pub enum Fault {
     Trace,
     /// There are frames without a script.
     Frames,
+    /// Output is to be raw without a script.
+    RawOutput,
     /// A file that is written is also read, or written twice.
     Names,
     /// What `--script` needs is not there.
@@ -134,6 +139,7 @@ impl Fault {
             Fault::Seed => "the seed is not a number of 1 to 16 hexadecimal digits",
             Fault::Trace => "the trace is not FROM-TO, two step numbers, the lower one first",
             Fault::Frames => "--frames is for a session: it wants --script",
+            Fault::RawOutput => "--raw-output is for a session: it wants --script",
             Fault::Names => {
                 "--json, --sarif, --map, --core and --trace-file want different files, and none \
                  that is read"
@@ -164,10 +170,21 @@ impl Options {
             output,
             is_debugged: matches.get_flag("gdb"),
         };
-        if has_shared_name(&options) {
-            return Err(Obstacle::Refused(Fault::Names));
+        match options.fault() {
+            Some(fault) => Err(Obstacle::Refused(fault)),
+            None => Ok(options),
         }
-        Ok(options)
+    }
+
+    /// What is wrong with values that do not go together.
+    fn fault(&self) -> Option<Fault> {
+        if self.output.is_raw && self.replay.is_none() {
+            Some(Fault::RawOutput)
+        } else if has_shared_name(self) {
+            Some(Fault::Names)
+        } else {
+            None
+        }
     }
 
     /// The name of the file with a number from 1.
@@ -296,6 +313,7 @@ impl OutputOptions {
             sarif: name_of(alloc, matches, "sarif")?,
             core: name_of(alloc, matches, "core")?,
             is_whole: matches.get_flag("whole-output"),
+            is_raw: matches.get_flag("raw-output"),
             exact: match matches.get_str("exact") {
                 None => Exactness::Tags,
                 Some("writes") => Exactness::Writes,

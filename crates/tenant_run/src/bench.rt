@@ -18,12 +18,15 @@ pub trait Watcher: Watch {
     /// Whether it watches. A tenant that nothing watches runs by a table of instructions, as a host
     /// runs it.
     fn is_watching(&self) -> bool;
+
+    /// Whether what it has met ends the tenant, so that no slice follows.
+    fn has_ended(&self) -> bool;
 }
 
 /// A tenant's machine, which is the machine of the definition: it is made by `admit_alone` and
 /// changed by slices alone.
 #[derive(Drop)]
-pub struct Bench {
+pub struct TenantBench {
     /// All but its memory.
     pub parts: TenantParts,
     /// Its memory.
@@ -33,7 +36,7 @@ pub struct Bench {
     ghost tag: { parts.regs.rgsr.tag < 16 },
 }
 
-impl Bench {
+impl TenantBench {
     ghost use Rattle.mte_tenant.specs.Machines.{machine_of, start_of, after_slice, after_stop};
     ghost use Rattle.mte_tenant.specs.Admissions.{start_in};
     ghost use Rattle.mte_tenant.specs.Ledger.{admission_refusal, charge_of, is_bad};
@@ -41,7 +44,10 @@ impl Bench {
     /// A tenant at its first instruction, or why it is refused. Only `OutOfMemory`, where an
     /// allocation failed, can come in place of the refusals from `Image` on.
     #[tactic(auto, unfolding(mte_tenant::specs::Ledger::admission_refusal))]
-    pub fn new(alloc: Global, admission: &Admission<'_>) -> Result<Bench, Obstacle<AdmitError>>
+    pub fn new(
+        alloc: Global,
+        admission: &Admission<'_>,
+    ) -> Result<TenantBench, Obstacle<AdmitError>>
         ensures machine { IfOk result (λ b. machine_of b.parts b.memory
             ≡ start_of admission.now.id (start_in admission.now)) }
         ensures refused { IfErr result (λ o. IfRefused o (λ e.
@@ -56,7 +62,7 @@ impl Bench {
         let words = OpCache::new(alloc)?;
         let mut memory = Flat::new(alloc, admission.terms.pages as usize, admission.terms.mode)?;
         let parts = admit_alone(alloc, admission, &mut memory)?;
-        Ok(Bench {
+        Ok(TenantBench {
             parts,
             memory,
             words,

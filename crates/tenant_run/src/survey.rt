@@ -1,11 +1,13 @@
 //! How a tenant ends under several seeds.
 
-use crate::bench::Bench;
+use crate::bench::TenantBench;
 use crate::ending::{ENDINGS, TenantEnding, ending_at};
+use crate::line_log::Log;
+use crate::lone::admission_of;
 use crate::observer::{Observer, exact_of};
 use crate::output_stream::OutputStream;
-use crate::running::{Log, admission_of, run_slices};
 use crate::seeds::seed_of_run;
+use crate::slices::run_slices;
 use mte_tenant::AdmitError;
 use obstacle::Obstacle;
 use run_options::Options;
@@ -71,7 +73,7 @@ fn ending_under<'x>(
 ) -> Result<TenantEnding, Obstacle<AdmitError>> {
     let exact = exact_of(alloc, options.output.exact);
     let mut observer: Observer<'_, Log> = Observer::new(alloc, 1, exact, None)?;
-    let mut bench = Bench::new(alloc, &admission_of(options, image, input, seed))?;
+    let mut bench = TenantBench::new(alloc, &admission_of(options, image, input, seed))?;
     observer.is_watching = observer.needs_each_step();
     let mut out = OutputStream::silent();
     run_slices(

@@ -9,10 +9,10 @@ ghost use Rattle.mte_sched.specs.Contents.{after_call};
 ghost use Rattle.mte_sched.specs.Hosts.{content_of, ledger_in};
 ghost use Rattle.mte_session.specs.Files.{contents};
 ghost use Rattle.mte_session.specs.Sessions.{call_of, session_of};
-ghost use Rattle.mte_run.specs.Replays.{IsReplay, number_in, with_no_steps, machine_after, HasPages};
-ghost use Rattle.mte_run.specs.Replays.{IsStarted, IsPlayed};
+ghost use Rattle.tenant_run.specs.Replays.{IsReplay, number_in, with_no_steps, machine_after, HasPages};
+ghost use Rattle.tenant_run.specs.Replays.{IsStarted, IsPlayed};
 
-use crate::bench::{Bench, Watcher};
+use crate::bench::{TenantBench, Watcher};
 use mte_sched::{Host, ledger_follows};
 use mte_session::{Event, Sink, admission_of, write_refusal};
 use mte_tenant::{Refusal, Refused};
@@ -24,7 +24,7 @@ use std::alloc::Global;
 #[derive(Drop)]
 pub struct Replayed {
     /// The tenant.
-    pub bench: Bench,
+    pub bench: TenantBench,
     /// The number of the file with its image.
     pub image: u32,
 }
@@ -165,7 +165,7 @@ fn played<'a, O: Watcher>(
 }
 
 /// Runs what an accepted event does to the tenant that it names.
-fn turn<O: Watcher>(bench: &mut Bench, event: &Event, observer: &mut O)
+fn turn<O: Watcher>(bench: &mut TenantBench, event: &Event, observer: &mut O)
     ensures { (files : List (List ℕ)) → machine_of bench.new.parts bench.new.memory
         ≡ machine_after (call_of files event.now) (machine_of bench.old.parts bench.old.memory) }
 {
@@ -194,7 +194,7 @@ fn started<'a>(
             terms,
         } => {
             let admission = admission_of(files, id, image, input, terms);
-            match Bench::new(alloc, &admission) {
+            match TenantBench::new(alloc, &admission) {
                 Ok(bench) => Ok(Some(Replayed { bench, image })),
                 Err(_) => Err(Failure::Memory),
             }

@@ -5,11 +5,14 @@ ghost use Rattle.std.specs.Prelude.{None};
 use crate::bench::Watcher;
 use crate::tracer::Tracer;
 use circular_buffer::HeapCircularBuffer;
-use mte_report::{Book, Exact, Finding, Moment, SVC, Statistics, StatisticsTable, Turn};
+use instruction_trace::{Moment, SVC, Turn};
 use mte_svc::WRITE;
 use mte_tags::Paged;
-use mte_tenant::{TenantParts, Watch};
+use mte_tenant::{Status, TenantParts, Watch};
+use run_book::Book;
+use run_cause::{Exact, Finding, LastStore, TargetLoad};
 use run_options::Exactness;
+use run_statistics::{Statistics, StatisticsTable};
 use std::alloc::{AllocError, Global};
 use std::io::Write;
 
@@ -36,6 +39,8 @@ pub struct Observer<'a, W: Write + Drop> {
     statistics: Option<Statistics>,
     /// Whether a service wrote fewer bytes than it was handed.
     pub is_cut: bool,
+    /// What wrote the target last of the jump to no code that ended the tenant, once it is found.
+    pub store: Option<LastStore>,
 }
 
 impl<'a, W: Write + Drop> Observer<'a, W> {
@@ -55,6 +60,7 @@ impl<'a, W: Write + Drop> Observer<'a, W> {
             exact,
             statistics: None,
             is_cut: false,
+            store: None,
         })
     }
 
@@ -109,9 +115,12 @@ impl<'a, W: Write + Drop> Observer<'a, W> {
         self.exact.as_ref()?.finding()
     }
 
-    /// Whether it has met such an access in what it watches.
-    pub fn has_ended(&self) -> bool {
-        self.is_watching && self.finding().is_some()
+    /// The load that brought the target of the jump to no code that ended the tenant, if one did.
+    pub fn target_load(&self, status: &Status) -> Option<TargetLoad> {
+        if self.finding().is_some() {
+            return None;
+        }
+        TargetLoad::of_end(status, Some(&self.last))
     }
 
     /// Whether no chunk was missed for want of memory.
@@ -134,6 +143,10 @@ impl<'a, W: Write + Drop> Observer<'a, W> {
 impl<'a, W: Write + Drop> Watcher for Observer<'a, W> {
     fn is_watching(&self) -> bool {
         self.is_watching
+    }
+
+    fn has_ended(&self) -> bool {
+        self.is_watching && self.finding().is_some()
     }
 }
 

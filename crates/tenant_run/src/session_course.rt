@@ -1,13 +1,11 @@
 //! What a session does to one of its tenants.
 
-use crate::files::read_file;
 use crate::replay::decide;
-use crate::running::events_of;
 use mte_sched::Host;
 use mte_session::{Event, admission_of};
 use mte_tenant::{Admission, Terms};
 use obstacle::Obstacle;
-use run_options::{Failure, Replay};
+use run_options::Replay;
 use std::alloc::{AllocError, Global};
 
 /// What a tenant of a session was admitted with: its files by their numbers.
@@ -38,6 +36,44 @@ pub struct SessionCourse {
 }
 
 impl SessionCourse {
+    /// What events do to the tenant that is replayed. A host that is new decides which of them are
+    /// refused.
+    pub fn of(
+        alloc: Global,
+        replay: &Replay,
+        events: &[Event],
+        files: &[Vec<u8>],
+    ) -> Result<SessionCourse, AllocError> {
+        let Ok(mut host) = Host::new(alloc, replay.frames) else {
+            return Err(AllocError);
+        };
+        let mut course = SessionCourse {
+            admitted: None,
+            slices: Vec::new(alloc),
+        };
+        course.note_all(alloc, &mut host, replay.id, events, files)?;
+        Ok(course)
+    }
+
+    /// Notes the events that a host accepts.
+    fn note_all(
+        &mut self,
+        alloc: Global,
+        host: &mut Host,
+        id: u16,
+        events: &[Event],
+        files: &[Vec<u8>],
+    ) -> Result<(), AllocError> {
+        for event in events {
+            match decide(alloc, host, event, files) {
+                Ok(()) => self.note(id, event)?,
+                Err(Obstacle::OutOfMemory) => return Err(AllocError),
+                Err(Obstacle::Refused(_)) => {}
+            }
+        }
+        Ok(())
+    }
+
     /// Notes an event that was accepted.
     fn note(&mut self, own: u16, event: &Event) -> Result<(), AllocError> {
         match *event {
@@ -58,40 +94,4 @@ impl SessionCourse {
         }
         Ok(())
     }
-}
-
-/// What the session of a script does to its tenant.
-pub fn course_in<'a>(
-    rt: &HostRuntime,
-    replay: &'a Replay,
-    files: &[Vec<u8>],
-) -> Result<SessionCourse, Failure<'a>> {
-    let script = read_file(rt, replay.script.as_str())?;
-    let events = events_of(rt.alloc(), script.as_slice(), files)?;
-    let Ok(mut host) = Host::new(rt.alloc(), replay.frames) else {
-        return Err(Failure::Memory);
-    };
-    course_of(rt.alloc(), &mut host, replay.id, events.as_slice(), files)
-}
-
-/// What events do to the tenant with a number. The host decides which of them are refused.
-fn course_of<'a>(
-    alloc: Global,
-    host: &mut Host,
-    id: u16,
-    events: &[Event],
-    files: &[Vec<u8>],
-) -> Result<SessionCourse, Failure<'a>> {
-    let mut course = SessionCourse {
-        admitted: None,
-        slices: Vec::new(alloc),
-    };
-    for event in events {
-        match decide(alloc, host, event, files) {
-            Ok(()) => course.note(id, event)?,
-            Err(Obstacle::OutOfMemory) => return Err(Failure::Memory),
-            Err(Obstacle::Refused(_)) => {}
-        }
-    }
-    Ok(course)
 }

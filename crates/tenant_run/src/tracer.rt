@@ -2,7 +2,7 @@
 
 use a64_registers::Regs;
 use elf_symbols::Symbols;
-use mte_report::{Moment, SVC, Service, TraceLine};
+use instruction_trace::{Moment, SVC, Service, TraceLine};
 use run_options::Traced;
 use std::io;
 use std::io::Write;

@@ -2,10 +2,10 @@
 use Rattle.std.specs.Prelude.{ℕ}
 use Rattle.mte_svc.specs.declared.record.Status.{Status}
 use Rattle.mte_svc.specs.declared.record.Status.TheVariants as status
-use Rattle.mte_run.specs.declared.ending.TenantEnding.{TenantEnding}
-use Rattle.mte_run.specs.declared.ending.TenantEnding.TheVariants.{Exit, Fault, AsyncTag, Abort}
-use Rattle.mte_run.specs.declared.ending.TenantEnding.TheVariants.{Illegal, Breakpoint, StepLimit}
-use Rattle.mte_run.specs.declared.ending.TenantEnding.TheVariants.{NotEnded, Refused, Exact, Cut}
+use Rattle.tenant_run.specs.declared.ending.TenantEnding.{TenantEnding}
+use Rattle.tenant_run.specs.declared.ending.TenantEnding.TheVariants.{Exit, Fault, AsyncTag, Abort}
+use Rattle.tenant_run.specs.declared.ending.TenantEnding.TheVariants.{Illegal, Breakpoint, StepLimit}
+use Rattle.tenant_run.specs.declared.ending.TenantEnding.TheVariants.{NotEnded, Refused, Exact, Cut}
 
 -- A tenant's own, where it exited.
 abbrev pub own_status : Status → ℕ

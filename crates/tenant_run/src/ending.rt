@@ -1,7 +1,7 @@
 //! How a tenant ended, and the exit status that says so.
 
 ghost use Rattle.std.specs.Prelude.{◌≡◌};
-ghost use Rattle.mte_run.specs.Endings.{exit_status};
+ghost use Rattle.tenant_run.specs.Endings.{exit_status};
 
 use mte_tenant::{Record, Status};
 use std::fmt;

@@ -1,0 +1,260 @@
+//! What happened to a tenant, as a log in the Static Analysis Results Interchange Format (SARIF
+//! 2.1.0), which editors and forges show beside the source.
+
+use mte_backtrace::{CallStack, FrameNames, Quoted};
+use mte_flat::Flat;
+use mte_report::{Explanation, Report};
+use mte_tenant::Status;
+use run_book::{BookEntry, Call};
+use run_cause::Cause;
+use std::alloc::Global;
+use std::io;
+use std::io::Write;
+
+/// Where the schema of the format is.
+const SCHEMA: &str = "https://json.schemastore.org/sarif-2.1.0.json";
+
+/// Writes what happened as a log with one run, under the program's exit status. It has no result
+/// for a tenant that exited; else one, with the calls that led to its end and to the heap calls of
+/// its cause, and a flow through these.
+pub fn write_sarif<W: Write>(
+    alloc: Global,
+    out: &mut W,
+    report: &Report<'_>,
+    exit_status: u8,
+    memory: &mut Flat,
+) -> io::Result<()> {
+    write_head(out)?;
+    let is_clean = report.finding.is_none() && matches!(report.parts.log.status, Status::Exited(_));
+    if is_clean {
+        write!(out, "}}}},\n\"results\":[]")?;
+    } else {
+        write_result(alloc, out, report, memory)?;
+    }
+    write!(
+        out,
+        ",\n\"invocations\":[{{\"executionSuccessful\":{is_clean},"
+    )?;
+    writeln!(out, "\"exitCode\":{exit_status}}}]}}]}}")?;
+    out.flush()
+}
+
+/// Writes the rule and the result.
+fn write_result<W: Write>(
+    alloc: Global,
+    out: &mut W,
+    report: &Report<'_>,
+    memory: &mut Flat,
+) -> io::Result<()> {
+    let explanation = report.explain(alloc, memory)?;
+    write_explained(alloc, out, report, &explanation)
+}
+
+/// Writes the rule and the result, by what is known of the end.
+fn write_explained<W: Write>(
+    alloc: Global,
+    out: &mut W,
+    report: &Report<'_>,
+    explanation: &Explanation<'_>,
+) -> io::Result<()> {
+    let cause = explanation.cause.as_ref();
+    write_rule(out, rule_of(report, cause))?;
+    match cause {
+        Some(cause) => write_judged(alloc, out, report, explanation, cause),
+        None => {
+            let text = end_text(report);
+            write_end(out, text, &explanation.names, &explanation.stack)?;
+            begin_flow(out)?;
+            write_last(out, text, &explanation.names, &explanation.stack)
+        }
+    }
+}
+
+/// Writes the result of an end whose cause is judged.
+fn write_judged<W: Write>(
+    alloc: Global,
+    out: &mut W,
+    report: &Report<'_>,
+    explanation: &Explanation<'_>,
+    cause: &Cause,
+) -> io::Result<()> {
+    let found = report.found(cause);
+    let text = format!(in alloc; "{found}")?;
+    write_caused(alloc, out, report, explanation, cause, text.as_str())
+}
+
+/// Writes the result of an end by a cause and its text.
+fn write_caused<W: Write>(
+    alloc: Global,
+    out: &mut W,
+    report: &Report<'_>,
+    explanation: &Explanation<'_>,
+    cause: &Cause,
+    text: &str,
+) -> io::Result<()> {
+    let (names, stack) = (&explanation.names, &explanation.stack);
+    write_end(out, text, names, stack)?;
+    write_calls(alloc, out, report, cause, names)?;
+    write_flow(alloc, out, report, cause, names)?;
+    write_last(out, text, names, stack)
+}
+
+/// Writes the calls that led to each heap call of a cause, each stack behind a comma.
+fn write_calls<W: Write>(
+    alloc: Global,
+    out: &mut W,
+    report: &Report<'_>,
+    cause: &Cause,
+    names: &FrameNames<'_>,
+) -> io::Result<()> {
+    for entry in cause.calls().iter() {
+        if let Some(entry) = entry {
+            write_call_stack(alloc, out, report, entry, names)?;
+        }
+    }
+    Ok(())
+}
+
+/// Writes the calls that led to a heap call, behind a comma.
+fn write_call_stack<W: Write>(
+    alloc: Global,
+    out: &mut W,
+    report: &Report<'_>,
+    entry: &BookEntry,
+    names: &FrameNames<'_>,
+) -> io::Result<()> {
+    let call = Call(entry);
+    let text = format!(in alloc; "{call}")?;
+    let stack = report.stack_of(alloc, entry)?;
+    write_stack(out, ",", text.as_str(), names, &stack)
+}
+
+/// Writes the locations of the heap calls of a cause, a comma behind each.
+fn write_flow<W: Write>(
+    alloc: Global,
+    out: &mut W,
+    report: &Report<'_>,
+    cause: &Cause,
+    names: &FrameNames<'_>,
+) -> io::Result<()> {
+    begin_flow(out)?;
+    for entry in cause.calls().iter() {
+        if let Some(entry) = entry {
+            write_flow_step(alloc, out, report, entry, names)?;
+        }
+    }
+    Ok(())
+}
+
+/// Writes the location of a heap call, and a comma.
+fn write_flow_step<W: Write>(
+    alloc: Global,
+    out: &mut W,
+    report: &Report<'_>,
+    entry: &BookEntry,
+    names: &FrameNames<'_>,
+) -> io::Result<()> {
+    let call = Call(entry);
+    let text = format!(in alloc; "{call}")?;
+    let stack = report.stack_of(alloc, entry)?;
+    write_step(out, text.as_str(), names, &stack, ",")
+}
+
+/// The name of the kind of an end.
+fn rule_of(report: &Report<'_>, cause: Option<&Cause>) -> &'static str {
+    match (cause, &report.parts.log.status) {
+        (Some(cause), _) => cause.rule(),
+        (None, Status::AsyncTag(_)) => "tag-mismatch",
+        (None, Status::Illegal(_, _)) => "illegal-word",
+        (None, Status::Breakpoint(_, _)) => "breakpoint",
+        (None, _) => "not-ended",
+    }
+}
+
+/// What happened, where nothing is judged.
+fn end_text(report: &Report<'_>) -> &'static str {
+    match &report.parts.log.status {
+        Status::AsyncTag(_) => "an access had another tag than its memory",
+        Status::Illegal(_, _) => "a word that is no instruction of the table",
+        Status::Breakpoint(_, _) => "a breakpoint",
+        _ => "the tenant did not end within its steps",
+    }
+}
+
+/// Writes what stands in front of the rules.
+fn write_head<W: Write>(out: &mut W) -> io::Result<()> {
+    writeln!(out, "{{\"$schema\":\"{SCHEMA}\",")?;
+    writeln!(out, "\"version\":\"2.1.0\",")?;
+    write!(
+        out,
+        "\"runs\":[{{\"tool\":{{\"driver\":{{\"name\":\"mte_run\","
+    )?;
+    write!(out, "\"version\":\"1.0\"")
+}
+
+/// Writes the rule of a result, and what a result begins with.
+fn write_rule<W: Write>(out: &mut W, rule: &str) -> io::Result<()> {
+    writeln!(out, ",\"rules\":[{{\"id\":\"{rule}\"}}]}}}},")?;
+    write!(out, "\"results\":[{{\"ruleId\":\"{rule}\",")?;
+    writeln!(out, "\"ruleIndex\":0,\"level\":\"error\",")
+}
+
+/// Writes the message, the location and the stack of an end, and leaves the list of stacks open.
+fn write_end<W: Write>(
+    out: &mut W,
+    message: &str,
+    names: &FrameNames<'_>,
+    stack: &CallStack,
+) -> io::Result<()> {
+    let text = Quoted(message);
+    writeln!(out, "\"message\":{{\"text\":{text}}},")?;
+    write!(out, "\"locations\":[")?;
+    stack.write_sarif_location(out, names, message)?;
+    write!(out, "],\n\"stacks\":")?;
+    write_stack(out, "[", "the end", names, stack)
+}
+
+/// Writes a stack behind what stands in front of it.
+fn write_stack<W: Write>(
+    out: &mut W,
+    front: &str,
+    message: &str,
+    names: &FrameNames<'_>,
+    stack: &CallStack,
+) -> io::Result<()> {
+    let text = Quoted(message);
+    write!(out, "{front}{{\"message\":{{\"text\":{text}}},\"frames\":")?;
+    stack.write_sarif_frames(out, names)?;
+    write!(out, "}}")
+}
+
+/// Ends the list of stacks and begins the flow.
+fn begin_flow<W: Write>(out: &mut W) -> io::Result<()> {
+    write!(
+        out,
+        "],\n\"codeFlows\":[{{\"threadFlows\":[{{\"locations\":["
+    )
+}
+
+/// Writes a location of the flow, and what stands behind it.
+fn write_step<W: Write>(
+    out: &mut W,
+    message: &str,
+    names: &FrameNames<'_>,
+    stack: &CallStack,
+    behind: &str,
+) -> io::Result<()> {
+    write!(out, "{{\"location\":")?;
+    stack.write_sarif_location(out, names, message)?;
+    write!(out, "}}{behind}")
+}
+
+/// Writes the last location of the flow, and ends the result.
+fn write_last<W: Write>(
+    out: &mut W,
+    message: &str,
+    names: &FrameNames<'_>,
+    stack: &CallStack,
+) -> io::Result<()> {
+    write_step(out, message, names, stack, "]}]}]}]")
+}

@@ -1,0 +1,59 @@
+//! Where the lines go that are written while a tenant runs.
+
+use crate::observer::{Observer, exact_of};
+use crate::tracer::Tracer;
+use either::Either;
+use elf_symbols::Symbols;
+use run_options::{Failure, Options, OutputOptions, Traced};
+use std::fs::File;
+use std::io::{BufWriter, Stderr};
+
+/// Where the lines go that are written while a tenant runs.
+pub type Log = BufWriter<Either<Stderr, File>>;
+
+/// What is remembered and written of a tenant, as the options request it: with the names of an
+/// image's functions, where it is known before the run.
+pub fn observer_of<'a, 'i>(
+    rt: &HostRuntime,
+    options: &'a Options,
+    image: &'i [u8],
+) -> Result<Observer<'i, Log>, Failure<'a>> {
+    let output = &options.output;
+    let tracer = match output.traced {
+        Some(traced) => Some(tracer_of(rt, output, traced, image)?),
+        None => None,
+    };
+    let exact = exact_of(rt.alloc(), output.exact);
+    let observer = Observer::new(rt.alloc(), output.last, exact, tracer)?;
+    let observer = observer.with_turns(rt.alloc(), output.turns)?;
+    Ok(observer.with_statistics(output.statistics))
+}
+
+/// What writes some lines, with the names of an image's functions.
+fn tracer_of<'a, 'i>(
+    rt: &HostRuntime,
+    output: &'a OutputOptions,
+    traced: Traced,
+    image: &'i [u8],
+) -> Result<Tracer<'i, Log>, Failure<'a>> {
+    let symbols = Symbols::of(rt.alloc(), image)?;
+    let log = open_log(rt, output)?;
+    Ok(Tracer::new(traced, symbols, log))
+}
+
+/// Where the lines go that are written while a tenant runs.
+fn open_log<'a>(rt: &HostRuntime, output: &'a OutputOptions) -> Result<Log, Failure<'a>> {
+    let out = match &output.trace_file {
+        Some(name) => Either::Right(create(rt, name.as_str())?),
+        None => Either::Left(rt.stderr()),
+    };
+    Ok(BufWriter::new(rt.alloc(), out)?)
+}
+
+/// An empty file with a name.
+fn create<'a>(rt: &HostRuntime, name: &'a str) -> Result<File, Failure<'a>> {
+    match File::create(rt, name) {
+        Ok(file) => Ok(file),
+        Err(error) => Err(Failure::of_write(&error, name)),
+    }
+}

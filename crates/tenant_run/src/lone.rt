@@ -1,0 +1,181 @@
+//! A tenant alone, from its admission to its end.
+
+ghost use Rattle.std.specs.Prelude.{◌<◌};
+
+use crate::bench::TenantBench;
+use crate::ending::TenantEnding;
+use crate::line_log::Log;
+use crate::observer::Observer;
+use crate::output_stream::OutputStream;
+use crate::slices::run_slices;
+use crate::store_watcher::StoreWatcher;
+use crate::survey::Survey;
+use mte_tenant::{Admission, AdmitError, Terms};
+use obstacle::Obstacle;
+use run_options::{Failure, Options};
+use std::alloc::Global;
+
+/// The number of a tenant that is alone.
+const ID: u16 = 1;
+
+/// What an image is admitted with under a seed.
+pub fn admission_of<'a>(
+    options: &Options,
+    image: &'a [u8],
+    input: &'a [u8],
+    seed: u64,
+) -> Admission<'a>
+    ensures { 0 < result.terms.pages }
+{
+    Admission {
+        id: ID,
+        image,
+        input,
+        terms: Terms {
+            seed,
+            ..options.run.terms
+        },
+    }
+}
+
+/// A tenant alone: its image, what it may read, and its seed.
+#[derive(Clone, Copy)]
+pub struct LoneTenant<'x> {
+    image: &'x [u8],
+    input: &'x [u8],
+    /// Its seed.
+    pub seed: u64,
+}
+
+impl<'x> LoneTenant<'x> {
+    /// A tenant of an image, under the seed of the run that is told: of several the first under
+    /// which it does not exit. A line says how the runs under several seeds ended.
+    pub fn of(
+        rt: &HostRuntime,
+        options: &Options,
+        image: &'x [u8],
+        input: &'x [u8],
+    ) -> Result<LoneTenant<'x>, Obstacle<AdmitError>> {
+        let given = options.run.terms.seed;
+        let seed = if options.run.seeds < 2 {
+            given
+        } else {
+            let survey = Survey::of(rt.alloc(), options, image, input)?;
+            let _ = eprintln!(rt; "mte_run: {survey}");
+            survey.seed(given)
+        };
+        Ok(LoneTenant { image, input, seed })
+    }
+
+    /// The tenant at its first instruction.
+    pub fn bench(
+        &self,
+        alloc: Global,
+        options: &Options,
+    ) -> Result<TenantBench, Obstacle<AdmitError>> {
+        let admission = admission_of(options, self.image, self.input, self.seed);
+        TenantBench::new(alloc, &admission)
+    }
+
+    /// The same once more: as it was admitted before, only memory can be wanting.
+    fn bench_again<'a>(
+        &self,
+        alloc: Global,
+        options: &Options,
+    ) -> Result<TenantBench, Failure<'a>> {
+        match self.bench(alloc, options) {
+            Ok(bench) => Ok(bench),
+            Err(_) => Err(Failure::Memory),
+        }
+    }
+
+    /// Runs the tenant to its end, from its first instruction, and writes its output.
+    pub fn run<'a>(
+        &self,
+        rt: &HostRuntime,
+        options: &Options,
+        bench: &mut TenantBench,
+        observer: &mut Observer<'_, Log>,
+    ) -> Result<(), Failure<'a>> {
+        let mut out = OutputStream::new(rt);
+        self.run_watched(rt.alloc(), options, bench, observer, &mut out)?;
+        self.run_to_finding(rt.alloc(), options, bench, observer, &mut out)?;
+        self.find_store(rt.alloc(), options, bench, observer)?;
+        if out.has_failed {
+            return Err(Failure::Write);
+        }
+        Ok(())
+    }
+
+    /// Runs the tenant to its end. Where nothing has to watch each step, it runs unwatched first;
+    /// only an end that is told by what was watched takes a second run, which is the same.
+    fn run_watched<'a>(
+        &self,
+        alloc: Global,
+        options: &Options,
+        bench: &mut TenantBench,
+        observer: &mut Observer<'_, Log>,
+        out: &mut OutputStream<'_>,
+    ) -> Result<(), Failure<'a>> {
+        let limit = options.length.steps;
+        observer.is_watching = observer.needs_each_step();
+        run_slices(bench, observer, out, options, limit);
+        if observer.is_watching || !wants_watch(bench, options) {
+            return Ok(());
+        }
+        observer.is_watching = true;
+        *bench = self.bench_again(alloc, options)?;
+        run_slices(bench, observer, out, options, limit);
+        Ok(())
+    }
+
+    /// Puts the tenant behind the access that ends it beyond what its tags forbid, if one does: its
+    /// slice went on behind that.
+    fn run_to_finding<'a>(
+        &self,
+        alloc: Global,
+        options: &Options,
+        bench: &mut TenantBench,
+        observer: &mut Observer<'_, Log>,
+        out: &mut OutputStream<'_>,
+    ) -> Result<(), Failure<'a>> {
+        let step = match observer.finding() {
+            Some(finding) => finding.step,
+            None => return Ok(()),
+        };
+        observer.is_watching = false;
+        *bench = self.bench_again(alloc, options)?;
+        run_slices(bench, observer, out, options, step);
+        Ok(())
+    }
+
+    /// Finds what wrote the target last of the jump to no code that ended the tenant, if one did,
+    /// by one more run up to the load of that target.
+    fn find_store<'a>(
+        &self,
+        alloc: Global,
+        options: &Options,
+        bench: &TenantBench,
+        observer: &mut Observer<'_, Log>,
+    ) -> Result<(), Failure<'a>> {
+        let Some(load) = observer.target_load(&bench.parts.log.status) else {
+            return Ok(());
+        };
+        let mut again = self.bench_again(alloc, options)?;
+        let mut watcher = StoreWatcher::new(load);
+        let mut out = OutputStream::silent();
+        run_slices(&mut again, &mut watcher, &mut out, options, load.step);
+        observer.store = watcher.found();
+        Ok(())
+    }
+}
+
+/// Whether the end that a tenant came to unwatched is told by what a run that is watched remembers.
+/// Output that fills its room may have been cut.
+pub fn wants_watch(bench: &TenantBench, options: &Options) -> bool {
+    let log = &bench.parts.log;
+    TenantEnding::of(log, options.limit()) != TenantEnding::Exit
+        || options.output.leaks
+        || options.output.map.is_some()
+        || log.output.left() == 0
+}

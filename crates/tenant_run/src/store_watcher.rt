@@ -1,0 +1,60 @@
+//! Which store wrote the target last of a jump to no code.
+
+ghost use Rattle.std.specs.Prelude.{None};
+
+use crate::bench::Watcher;
+use instruction_trace::Moment;
+use mte_tags::Paged;
+use mte_tenant::{TenantParts, Watch};
+use run_cause::{LastStore, StoreWatch, TargetLoad};
+
+/// Shows a tenant that runs once more to the watch for such a store.
+#[derive(Clone, Copy)]
+pub struct StoreWatcher {
+    watch: StoreWatch,
+    /// What stood before the instruction that is attempted.
+    moment: Option<Moment>,
+}
+
+impl StoreWatcher {
+    /// Watches for the store behind a load.
+    pub fn new(load: TargetLoad) -> StoreWatcher {
+        StoreWatcher {
+            watch: StoreWatch::new(load),
+            moment: None,
+        }
+    }
+
+    /// The store, if there was one.
+    pub fn found(&self) -> Option<LastStore> {
+        self.watch.found()
+    }
+}
+
+impl Watcher for StoreWatcher {
+    fn is_watching(&self) -> bool {
+        true
+    }
+
+    fn has_ended(&self) -> bool {
+        false
+    }
+}
+
+impl Watch for StoreWatcher {
+    ghost log = { λ _. None };
+
+    fn before<M: Paged>(&mut self, parts: &TenantParts, memory: &mut M) {
+        self.moment = Some(Moment {
+            step: parts.log.steps.saturating_add(1),
+            word: memory.fetch(parts.regs.pc).ok(),
+            regs: parts.regs,
+        });
+    }
+
+    fn after<M: Paged>(&mut self, parts: &TenantParts, memory: &mut M) {
+        if let Some(moment) = &self.moment {
+            self.watch.note(moment, parts, memory);
+        }
+    }
+}
