@@ -9,6 +9,7 @@ import pytest
 from closures.closures import Repository, closure_of, start_of
 from closures.names import ReadError
 from closures.order import reading_of
+from closures.signs import explained_in, signs_of
 from closures.theorems import function_named
 
 from tests.support.places import ROOT
@@ -196,6 +197,26 @@ def test_no_theorem_reads_what_only_code_names(checkout: Repository) -> None:
     for law in laws:
         names = closure_of(checkout, start_of(checkout, law))
         assert not [it for it in names if it.module.startswith("Inner")], law.called
+
+
+def test_signs_are_explained(checkout: Repository) -> None:
+    """docs/READING_CONTRACTS.md has each sign that a public contract uses."""
+    page = (ROOT / "docs" / "READING_CONTRACTS.md").read_text(encoding="utf-8")
+    signs = signs_of(checkout)
+    known = explained_in(page)
+    assert len(signs) > 80
+    assert not {sign: where for sign, where in signs.items() if sign not in known}
+    assert {"IfOk", "ensures*", ".entry", "→"} <= signs.keys() and "no_sign" not in known
+
+
+def test_declared_modules_are_explained(checkout: Repository) -> None:
+    """So are the modules that have what the code declares."""
+    page = (ROOT / "docs" / "READING_CONTRACTS.md").read_text(encoding="utf-8")
+    paths = [it.path for module in checkout.modules.values()
+             for it in module.imports.names.values() if ".specs.declared." in it.path]
+    parts = {it for path in paths for it in path.split(".") if it.startswith("The")}
+    assert {"TheVariants", "TheConstants"} <= parts
+    assert not {it for it in parts if f"`{it}`" not in page and f".{it}" not in page}
 
 
 def believe(*words: str) -> Ran:
