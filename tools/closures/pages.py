@@ -194,7 +194,8 @@ def trusted_part(page: Page) -> Iterator[str]:
         for name, it in data["crate"].items()])
     yield from ("", "The functions in C whose contracts a verdict rests on, as the prover's report "
                 "counts them, with the first three of each library; `rt check --list-axioms` in "
-                "the crate's folder prints them all. A law over definitions rests on none.", "", "```")
+                "the crate's folder prints them all. A law over definitions rests on none.",
+                "", "```")
     yield from (f"{name}: {line}" for name, it in data["crate"].items() for line in it["axioms"])
     yield "```"
 
