@@ -41,9 +41,8 @@ PAGE = "docs/BELIEVE.md"
 def written(root: pathlib.Path, repository: Repository) -> tuple[str, list[str]]:
     """What the page must be, and what is not as it must be."""
     page = theorems.read_page()
-    readme = (root / "README.md").read_text(encoding="utf-8")
     return (pages.written_page(root, repository, page),
-            theorems.complaints(repository, page, readme))
+            theorems.complaints(root, repository, page))
 
 
 def check(root: pathlib.Path, repository: Repository) -> list[str]:

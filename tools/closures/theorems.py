@@ -112,11 +112,26 @@ def readme_theorems(repository: Repository, readme: str) -> set[str]:
     return called & set(re.findall(r"`([\w:]+)`", part[1]))
 
 
-def complaints(repository: Repository, page: Page, readme: str) -> list[str]:
+def written_files(root: pathlib.Path, repository: Repository, page: Page) -> set[str]:
+    """The files that a tool writes and a closure or what is given has."""
+    names: set[Name] = set()
+    for given in page.given.values():
+        names |= closure_of(repository, names_at(repository, given.names))
+    for theorem in page.theorems:
+        names |= closure_of_theorem(repository, page, theorem, "", "")
+    paths = {repository.definition(it).path for it in names if it.kind == "definition"}
+    return {it for it in paths
+            if "Do not edit" in (root / it).read_text(encoding="utf-8").split("\n", 1)[0]}
+
+
+def complaints(root: pathlib.Path, repository: Repository, page: Page) -> list[str]:
     """What is not as it must be: a theorem that is missing, and closures that have grown."""
     listed = {theorem.name for theorem in page.theorems}
+    readme = (root / "README.md").read_text(encoding="utf-8")
     found = [f"README.md names {name}, and theorems.toml does not"
              for name in sorted(readme_theorems(repository, readme) - listed)]
+    found += [f"a tool writes {path}, and closures have it: theorems.toml must say why it does no "
+              "harm" for path in sorted(written_files(root, repository, page) - set(page.written))]
     for theorem in page.theorems:
         for bound in theorem.bounds:
             names = closure_of_theorem(repository, page, theorem, bound.clause, bound.given)
