@@ -60,7 +60,8 @@ def summary(repository: Repository, page: Page) -> Iterator[str]:
     """The numbers of all closures."""
     rows = []
     for theorem in page.theorems:
-        for bound in (None, *theorem.bounds):
+        parts = [bound for bound in theorem.bounds if bound.clause or bound.given]
+        for bound in (None, *parts):
             names = closure_of_theorem(repository, page, theorem, bound.clause if bound else "",
                                        bound.given if bound else "")
             head = label(page, bound) if bound else f"`{theorem.name}`"
@@ -133,21 +134,27 @@ def given_names(names: Iterable[Name]) -> str:
     return ", ".join(f"`{it.name}`" for it in sorted(names, key=lambda it: it.name))
 
 
+def left_of(repository: Repository, page: Page, theorem: Theorem, names: set[Name]) -> str:
+    """What a theorem's part of the page takes as given, as the begin of a sentence."""
+    if not theorem.given:
+        return ""
+    given = page.given[theorem.given]
+    known = given_names(names_at(repository, given.names) & names)
+    return f"With {known} as given, whose own closure is under *{given.title}*, it reaches "
+
+
 def section(root: pathlib.Path, repository: Repository, page: Page,
             theorem: Theorem) -> Iterator[str]:
     """A theorem's part of the page."""
     function = function_named(repository, theorem.name)
     names = closure_of_theorem(repository, page, theorem, "", theorem.given)
-    reading, given = reading_of(repository, names), page.given[theorem.given]
-    known = given_names(names_at(repository, given.names) & names)
+    reading = reading_of(repository, names)
     ported = ", ".join(f"`{it}`" for it in kit_crates(read_crates(root), function.crate))
     yield from (f"## `{theorem.name}`", "",
                 f"{theorem.says} Its contract is in `{function.path}`:", "")
     yield from clauses_of(function)
-    yield ""
-    yield (f"With {known} as given, whose own closure is under *{given.title}*, "
-           f"{reading.definitions} definitions of {reading.lines} lines are left:")
-    yield ""
+    yield from ("", f"{left_of(repository, page, theorem, names)}{reading.definitions} definitions "
+                f"of {reading.lines} lines:", "")
     yield from file_rows(repository, reading, True)
     yield from items_of(reading)
     yield ""
@@ -185,19 +192,18 @@ def trusted_part(page: Page) -> Iterator[str]:
     data = verdicts.read()
     yield from ("## What all rest on", "", page.trusted, "")
     yield "The last line of `rt verdict` for the theorems' crates and for the program:"
-    yield from ("", "```")
-    yield from (f"{name}: {it['line']}" for name, it in data["crate"].items())
-    yield from ("```", "", "How many modules of the kit's statements each loaded:", "")
+    yield ""
+    yield from (f"- `{name}`: `{it['line']}`" for name, it in data["crate"].items())
+    yield from ("", "How many modules of the kit's statements each loaded:", "")
     libraries = sorted({library for it in data["crate"].values() for library in it["statements"]})
     yield from table(["Crate", "Printed on", *libraries], [
         [f"`{name}`", it["date"], *(str(it["statements"].get(library, 0)) for library in libraries)]
         for name, it in data["crate"].items()])
     yield from ("", "The functions in C whose contracts a verdict rests on, as the prover's report "
                 "counts them, with the first three of each library; `rt check --list-axioms` in "
-                "the crate's folder prints them all. A law over definitions rests on none.",
-                "", "```")
-    yield from (f"{name}: {line}" for name, it in data["crate"].items() for line in it["axioms"])
-    yield "```"
+                "the crate's folder prints them all. A law over definitions rests on none.", "")
+    yield from (f"- `{name}`: `{line}`" for name, it in data["crate"].items()
+                for line in it["axioms"])
 
 
 def written_page(root: pathlib.Path, repository: Repository, page: Page) -> str:
