@@ -26,8 +26,10 @@ if [[ ${1:-} == --suite ]]; then
     run_cases suite tests "${@:2}"
     exit
 fi
-# What needs no program takes seconds, and comes first: written files, the border to C, style.
-first=(tests/test_style.py tests/test_border.py tests/test_isa.py)
+# What needs no program takes seconds, and comes first: written files, the border to C, what
+# theorems reach, the list of crates, style.
+first=(tests/test_style.py tests/test_border.py tests/test_isa.py tests/test_believe.py
+    tests/test_crates.py)
 run_cases first "${first[@]}"
 rt ci | tee "$logs/proofs"
 run_cases suite tests "${first[@]/#/--ignore=}"

@@ -1,0 +1,217 @@
+"""docs/BELIEVE.md, as the closures and theorems.toml have it."""
+
+import pathlib
+from collections.abc import Iterable, Iterator
+
+from closures import verdicts
+from closures.closures import Repository, closure_of
+from closures.names import Name
+from closures.order import Reading, reading_of
+from closures.sources import Function
+from closures.theorems import (
+    Bound, Given, Page, Theorem, closure_of_theorem, function_named, names_at,
+)
+
+HEAD = """\
+<!-- Written by tools/believe.py from the definitions and tools/closures/. Do not edit. -->
+# What to believe
+
+For an auditor: for each theorem of the README what must be read to know what it says, what it \
+rests on beside its proof, and what it does not say. `tools/believe.py THEOREM` prints the same \
+with line numbers and with what each file has that may be skipped; `tools/believe.py CALL` does it \
+for any other call with a contract. Nothing that is not listed has to be read: no body, nothing in \
+`proofs/`, `must-fail/` and `specs/Inner`.
+
+A definition is **reached** by a theorem if a clause names it, or a definition, a type or a \
+constant that is reached does. Files are in the order in which they are read, each before those \
+that it builds on. Lines are those of the definitions, without comments and blank lines. Of a type \
+with a model the model's value is followed, and not its fields.
+"""
+COLUMNS = ["Definitions", "Lines", "Files", "Crates", "Types (lines)", "Constants",
+           "Words of the kit"]
+
+
+def table(head: list[str], rows: list[list[str]]) -> Iterator[str]:
+    """A table of Markdown."""
+    yield f"| {' | '.join(head)} |"
+    yield f"|{'---|' * len(head)}"
+    yield from (f"| {' | '.join(row)} |" for row in rows)
+
+
+def numbers(reading: Reading) -> list[str]:
+    """The numbers of a closure, as cells."""
+    types = reading.types()
+    return [str(it) for it in (
+        reading.definitions, reading.lines, len(reading.files), reading.crates,
+        f"{len(types)} ({sum(it.lines for it in types)})", len(reading.constants()),
+        sum(len(it) for it in reading.words.values()))]
+
+
+def label(page: Page, bound: Bound) -> str:
+    """What the closure of a bound is of."""
+    clause = f".. clause `{bound.clause}`" if bound.clause else ".. all clauses"
+    if not bound.given:
+        return clause
+    title = page.given[bound.given].title
+    return f"{clause}, {title[:1].lower()}{title[1:]} as given"
+
+
+def summary(repository: Repository, page: Page) -> Iterator[str]:
+    """The numbers of all closures."""
+    rows = []
+    for theorem in page.theorems:
+        parts = [bound for bound in theorem.bounds if bound.clause or bound.given]
+        for bound in (None, *parts):
+            names = closure_of_theorem(repository, page, theorem, bound.clause if bound else "",
+                                       bound.given if bound else "")
+            head = label(page, bound) if bound else f"`{theorem.name}`"
+            rows.append([head, *numbers(reading_of(repository, names))])
+    yield from table(["Theorem", *COLUMNS], rows)
+
+
+def file_rows(repository: Repository, reading: Reading, has_names: bool) -> Iterator[str]:
+    """The files of a closure, with the names of its definitions if they are wanted."""
+    lengths = {it.path: it.length for it in repository.modules.values()}
+    rows = []
+    for path, found in reading.files.items():
+        names = " ".join(f"`{it.name.name}`" for it in found)
+        row = [f"`{path.removeprefix('crates/')}`", str(len(found)),
+               f"{sum(it.lines for it in found)} of {lengths[path]}"]
+        rows.append([*row, names] if has_names else row)
+    head = ["File", "Definitions", "Lines", *(["Which"] if has_names else [])]
+    yield from table(head, rows)
+
+
+def items_of(reading: Reading) -> Iterator[str]:
+    """The types and constants of a closure, by crate, and the words of the kit."""
+    for what, items in (("Types", reading.types()), ("Constants", reading.constants())):
+        by_crate: dict[str, list[str]] = {}
+        for it in items:
+            model = " (its model's value)" if it.has_model else ""
+            by_crate.setdefault(it.name.crate, []).append(f"`{it.name.name}`{model}")
+        if by_crate:
+            yield ""
+            yield f"{what} of the code: " + "; ".join(
+                f"{crate} {', '.join(names)}" for crate, names in by_crate.items()) + "."
+    yield ""
+    yield "Words of the kit: " + "; ".join(
+        f"`{module}`: " + " ".join(f"`{it}`" for it in names)
+        for module, names in reading.words.items()) + "."
+
+
+def kit_crates(crates: dict[str, list[str]], crate: str) -> list[str]:
+    """The ported crates that a crate stands on, itself or by those below it."""
+    seen: set[str] = set()
+    left = [crate]
+    while left:
+        name = left.pop()
+        if name not in seen:
+            seen.add(name)
+            left += crates.get(name, [])
+    return sorted(seen - set(crates))
+
+
+def read_crates(root: pathlib.Path) -> dict[str, list[str]]:
+    """The crates of crates.txt, each with what it stands on."""
+    found = {}
+    for line in (root / "crates.txt").read_text(encoding="utf-8").splitlines():
+        head, _, rest = line.partition("#")[0].partition(":")
+        if head.strip():
+            found[head.split()[0]] = rest.split()
+    return found
+
+
+def clauses_of(function: Function) -> Iterator[str]:
+    """The clauses of a contract."""
+    yield "```"
+    for it in function.clauses:
+        yield f"{it.word} {it.name}".rstrip() + f" {{ {' '.join(it.term.split())} }}"
+    yield "```"
+
+
+def given_names(names: Iterable[Name]) -> str:
+    """The names of definitions, as a list in a sentence."""
+    return ", ".join(f"`{it.name}`" for it in sorted(names, key=lambda it: it.name))
+
+
+def left_of(repository: Repository, page: Page, theorem: Theorem, names: set[Name]) -> str:
+    """What a theorem's part of the page takes as given, as the begin of a sentence."""
+    if not theorem.given:
+        return ""
+    given = page.given[theorem.given]
+    known = given_names(names_at(repository, given.names) & names)
+    return f"With {known} as given, whose own closure is under *{given.title}*, it reaches "
+
+
+def section(root: pathlib.Path, repository: Repository, page: Page,
+            theorem: Theorem) -> Iterator[str]:
+    """A theorem's part of the page."""
+    function = function_named(repository, theorem.name)
+    names = closure_of_theorem(repository, page, theorem, "", theorem.given)
+    reading = reading_of(repository, names)
+    ported = ", ".join(f"`{it}`" for it in kit_crates(read_crates(root), function.crate))
+    yield from (f"## `{theorem.name}`", "",
+                f"{theorem.says} Its contract is in `{function.path}`:", "")
+    yield from clauses_of(function)
+    yield from ("", f"{left_of(repository, page, theorem, names)}{reading.definitions} definitions "
+                f"of {reading.lines} lines:", "")
+    yield from file_rows(repository, reading, True)
+    yield from items_of(reading)
+    yield ""
+    yield (f"**It rests on** the proof of `{function.crate}` and of the crates below it, on the "
+           f"statements of the kit's {ported}, and on what is under *What all rest on*.")
+    yield from ("", f"**What it does not say.** {theorem.limits}", "")
+
+
+def given_part(repository: Repository, given: Given) -> Iterator[str]:
+    """The part on what is given."""
+    start = names_at(repository, given.names)
+    reading = reading_of(repository, closure_of(repository, start))
+    yield from (f"## {given.title}", "")
+    yield (f"{given.says}: {given_names(start)}, with all that they reach. {reading.definitions} "
+           f"definitions of {reading.lines} lines:")
+    yield ""
+    yield from file_rows(repository, reading, False)
+    yield ""
+
+
+def written_part(repository: Repository, page: Page) -> Iterator[str]:
+    """The part on files of definitions that a tool writes."""
+    yield from ("## Definitions that a tool writes", "")
+    for path, why in page.written.items():
+        found = [f"`{it.name}`" for it in page.theorems
+                 if path in reading_of(repository, closure_of_theorem(
+                     repository, page, it, "", it.given)).files]
+        where = f"is reached by {', '.join(found)}" if found else "is reached by the machine alone"
+        yield f"- `{path}` {where}. {why}"
+    yield ""
+
+
+def trusted_part(page: Page) -> Iterator[str]:
+    """The part on what all theorems rest on."""
+    data = verdicts.read()
+    yield from ("## What all rest on", "", page.trusted, "")
+    yield "The last line of `rt verdict` for the theorems' crates and for the program:"
+    yield ""
+    yield from (f"- `{name}`: `{it['line']}`" for name, it in data["crate"].items())
+    yield from ("", "How many modules of the kit's statements each loaded:", "")
+    libraries = sorted({library for it in data["crate"].values() for library in it["statements"]})
+    yield from table(["Crate", "Printed on", *libraries], [
+        [f"`{name}`", it["date"], *(str(it["statements"].get(library, 0)) for library in libraries)]
+        for name, it in data["crate"].items()])
+    yield from ("", "The functions in C whose contracts a verdict rests on, as the prover's report "
+                "counts them, with the first three of each library; `rt check --list-axioms` in "
+                "the crate's folder prints them all. A law over definitions rests on none.", "")
+    yield from (f"- `{name}`: `{line}`" for name, it in data["crate"].items()
+                for line in it["axioms"])
+
+
+def written_page(root: pathlib.Path, repository: Repository, page: Page) -> str:
+    """The whole page."""
+    lines = [HEAD, *summary(repository, page), ""]
+    for theorem in page.theorems:
+        lines += section(root, repository, page, theorem)
+    for given in page.given.values():
+        lines += given_part(repository, given)
+    lines += [*written_part(repository, page), *trusted_part(page)]
+    return "\n".join(lines) + "\n"
