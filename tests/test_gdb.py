@@ -12,7 +12,7 @@ import pytest
 
 from tests.support import gdb_images
 from tests.support import tenants_for_gdb as tenants
-from tests.support.debugger import Dialog, asked, debugged, extended, gdb, numbers_in, target
+from tests.support.debugger import asked, debugged, extended, gdb, numbers_in, target
 from tests.support.debugger import value_in
 from tests.support.embedding.heaps import Generator, chunk
 from tests.support.expected import compare

@@ -76,8 +76,8 @@ impl Primary {
         })
     }
 
-    /// A copy of the pool, with memory of its own for as many elements. It is refused only where its
-    /// memory is.
+    /// A copy of the pool, with memory of its own for as many elements. It is refused only where
+    /// its memory is.
     pub fn copy(&self, alloc: Global) -> Result<Primary, AllocError>
         ensures { IfOk result (λ pool. pool ≡ self.now) }
     {

@@ -134,8 +134,8 @@ fn mark_row(rows: &mut [bool], addr: u64) {
     }
 }
 
-/// Adds the rows of pages, without those that go on as the rows in front of them and those that have
-/// nothing but tag 0.
+/// Adds the rows of pages, without those that go on as the rows in front of them and those that
+/// have nothing but tag 0.
 fn push_rows<M: Tagged>(
     rows: &mut Vec<u64>,
     memory: &mut M,
@@ -203,8 +203,8 @@ fn push_tagged<M: Tagged>(
     Ok(())
 }
 
-/// Numbers the rows, and leaves a number out where rows between are left out, and one before the row
-/// with the mark, for what is said of that.
+/// Numbers the rows, and leaves a number out where rows between are left out, and one before the
+/// row with the mark, for what is said of that.
 fn number_rows(
     alloc: Global,
     rows: &[u64],
