@@ -105,5 +105,5 @@ const SAMPLES: &str = "\n<g transform=\"translate(0 28)\">\
     <text x=\"28\" y=\"13\">what was refused; above it the tag of its pointer</text>\
     <g transform=\"translate(400)\"><rect class=\"cause\" width=\"32\" height=\"18\"/>\
     <text x=\"40\" y=\"13\">the chunk that the cause names</text></g>\
-    <g transform=\"translate(660)\"><path class=\"arrow\" d=\"M0,14Q16,0 30,12\"/>\
+    <g transform=\"translate(690)\"><path class=\"arrow\" d=\"M0,14Q16,0 30,12\"/>\
     <text x=\"40\" y=\"13\">from that chunk to the access</text></g></g>\n";

@@ -2,7 +2,7 @@
 
 use crate::cell::{CELL_WIDTH, Cell};
 use crate::layout::{GRANULES, PITCH};
-use crate::part::Part::{Hexadecimal, Number, Tag, Text};
+use crate::part::Part::{Hexadecimal, Number, Text};
 use crate::part::write_parts;
 use crate::row::{Boundaries, Cells, Row};
 use crate::run::Chunks;
@@ -144,10 +144,13 @@ impl fmt::Display for Frame {
         self.write_start(f, left)?;
         let Mark { marked, addr, tag } = self.mark;
         write!(f, "{marked}")?;
-        let middle = Text(" with tag ");
-        write_parts(f, &[Hexadecimal(addr), middle, Tag(tag)])?;
+        let (addr, tag) = (Hexadecimal(addr), Hexadecimal(u64::from(tag % 16)));
+        write_parts(f, &[addr, Text(" with tag "), tag])?;
         match self.memory {
-            Some(tag) => write_parts(f, &[Text(", memory has "), Tag(tag), Text("</text>")]),
+            Some(tag) => {
+                let tag = Hexadecimal(u64::from(tag % 16));
+                write_parts(f, &[Text(", memory has "), tag, Text("</text>")])
+            }
             None => f.write_str(", not mapped</text>"),
         }
     }

@@ -95,7 +95,7 @@ impl fmt::Display for Stored {
                 addr,
                 granules,
                 tag,
-            } => { write!(f, "tag of {granules} granules from {addr:#x} = {tag}") }
+            } => { write!(f, "tag of {granules} granules from {addr:#x} = {tag:#x}") }
         }
     }
 }

@@ -284,7 +284,7 @@ impl<'a> fmt::Display for Tags<'a> {
             ..
         } = self.0;
         match kind {
-            FaultKind::TagCheck => write!(f, " (pointer {ptr_tag}, memory {mem_tag})"),
+            FaultKind::TagCheck => write!(f, " (pointer {ptr_tag:#x}, memory {mem_tag:#x})"),
             _ => Ok(()),
         }
     }
@@ -401,7 +401,7 @@ fn tell_registers<W: Write>(out: &mut W, regs: &Regs) -> io::Result<()> {
 /// The generator.
 fn tell_generator<W: Write>(out: &mut W, regs: &Regs) -> io::Result<()> {
     let (tag, seed) = (regs.rgsr.tag, regs.rgsr.seed);
-    writeln!(out, "  generator: tag {tag}, seed {seed:#06x}")
+    writeln!(out, "  generator: tag {tag:#x}, seed {seed:#06x}")
 }
 
 /// The page map.

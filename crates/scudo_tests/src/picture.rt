@@ -53,7 +53,7 @@ const BEHIND: [&str; 9] = [
     "<rect class=\"mark\" x=\"48\" y=\"-1\" width=\"16\" height=\"20\"/>",
     "<path class=\"mark\" d=\"M56,-2v-12\"/><g transform=\"translate(0 -32)\">\
      <use href=\"#t14\" x=\"48\"/></g>",
-    "<text class=\"says\" x=\"70\" y=\"-19\">access at 0x12000038 with tag e, memory has 0</text>",
+    "<text class=\"says\" x=\"70\" y=\"-19\">access at 0x12000038 with tag 0xe, memory has 0x0</text>",
 ];
 
 fn contains_all(text: &str, parts: &[&str]) -> bool {
@@ -77,7 +77,7 @@ fn shows(alloc: Global, marked: Marked, addr: u64, parts: &[&str]) -> bool {
 #[test]
 fn a_mark_in_its_row(rt: HostRuntime) {
     assert!(rt; shows(rt.alloc(), Marked::Access, 0x1200_0038, &BEHIND));
-    let pointer = ">pointer 0x12000010 with tag e, memory has e</text>";
+    let pointer = ">pointer 0x12000010 with tag 0xe, memory has 0xe</text>";
     assert!(rt; shows(rt.alloc(), Marked::Pointer, 0x1200_0010, &[pointer]));
 }
 
