@@ -189,14 +189,14 @@ def test_no_import_leads_nowhere(checkout: Repository) -> None:
     assert len(names) > 5000
 
 
-def test_no_theorem_reads_what_only_code_names(checkout: Repository) -> None:
-    """What public laws reach has nothing of specs/Inner: a reader need not open it."""
-    laws = [it for it in checkout.functions() if it.is_public and it.crate in (
-        "mte_sched", "mte_session", "tag_discipline") and not it.owner and it.clauses]
-    assert len(laws) > 20
-    for law in laws:
-        names = closure_of(checkout, start_of(checkout, law))
-        assert not [it for it in names if it.module.startswith("Inner")], law.called
+def test_no_public_contract_reads_what_only_code_names(checkout: Repository) -> None:
+    """What public contracts reach has nothing of specs/Inner: a reader need not open it."""
+    calls = [it for it in checkout.functions() if it.is_public and it.clauses]
+    assert len(calls) > 500
+    for call in calls:
+        names = closure_of(checkout, start_of(checkout, call))
+        inner = [it for it in names if it.kind == "definition" and it.module.startswith("Inner")]
+        assert not inner, call.called
 
 
 def test_signs_are_explained(checkout: Repository) -> None:

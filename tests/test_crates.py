@@ -52,6 +52,16 @@ def test_each_crate_has_a_status() -> None:
     assert sorted(named) == sorted(name for names in sections().values() for name in names)
 
 
+def test_ported_crates() -> None:
+    """docs/PROVED.md has each library of the kit that a crate stands on, but those of std."""
+    listed = {name for names in sections().values() for name in names}
+    below = {it for line in LIST.splitlines() if not line.startswith("#")
+             for it in line.partition(":")[2].split()}
+    page = (ROOT / "docs" / "PROVED.md").read_text(encoding="utf-8")
+    found = re.search(r"ported crates' statements \(([^)]*)\)", page)
+    assert found and set(re.findall(r"`(\w+)`", found[1])) == below - listed - {"core", "std_alloc"}
+
+
 def test_edges() -> None:
     """An edge that no file of its crate names is known, and why it is there."""
     assert run([sys.executable, ROOT / "tools" / "edges.py", "--check"]) == Ran(0, b"", b"")

@@ -22,11 +22,6 @@ class Name(NamedTuple):
     module: str
     name: str
 
-    @property
-    def place(self) -> str:
-        """The name with its crate, for messages."""
-        return f"{self.crate}: {self.module}.{self.name}"
-
 
 class Imported(NamedTuple):
     """A name of a module, by the module's whole path."""

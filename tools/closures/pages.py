@@ -27,6 +27,8 @@ constant that is reached does. Files are in the order in which they are read, ea
 that it builds on. Lines are those of the definitions, without comments and blank lines. Of a type \
 with a model the model's value is followed, and not its fields.
 """
+# Libraries of the kit that are parts of the standard library.
+OF_STD = {"core", "std_alloc"}
 COLUMNS = ["Definitions", "Lines", "Files", "Crates", "Types (lines)", "Constants",
            "Words of the kit"]
 
@@ -187,10 +189,13 @@ def written_part(repository: Repository, page: Page) -> Iterator[str]:
     yield ""
 
 
-def trusted_part(page: Page) -> Iterator[str]:
+def trusted_part(root: pathlib.Path, page: Page) -> Iterator[str]:
     """The part on what all theorems rest on."""
-    data = verdicts.read()
+    data, crates = verdicts.read(), read_crates(root)
+    ported = sorted({it for below in crates.values() for it in below} - set(crates) - OF_STD)
     yield from ("## What all rest on", "", page.trusted, "")
+    names = ", ".join(f"`{it}`" for it in ported)
+    yield from (f"Ported crates of the kit that any crate stands on: {names}.", "")
     yield "The last line of `rt verdict` for the theorems' crates and for the program:"
     yield ""
     yield from (f"- `{name}`: `{it['line']}`" for name, it in data["crate"].items())
@@ -213,5 +218,5 @@ def written_page(root: pathlib.Path, repository: Repository, page: Page) -> str:
         lines += section(root, repository, page, theorem)
     for given in page.given.values():
         lines += given_part(repository, given)
-    lines += [*written_part(repository, page), *trusted_part(page)]
+    lines += [*written_part(repository, page), *trusted_part(root, page)]
     return "\n".join(lines) + "\n"
