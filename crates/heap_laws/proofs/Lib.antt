@@ -1,0 +1,3 @@
+pub mod Allocations
+pub mod NewChunks
+pub mod Uses

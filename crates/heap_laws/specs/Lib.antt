@@ -1,0 +1,2 @@
+pub mod NewChunks
+pub mod Uses

@@ -1,0 +1,30 @@
+//! The laws of a heap through careful runs, as `tag_discipline` has them: of a tenant in the
+//! synchronous mode that stores no tags itself, and whose frees and reallocations name live chunks
+//! with the headers that the heap wrote, or nothing that passes the heap's checks. Each law of a
+//! state that `Sound` holds of holds of each tenant of a session whose slices were careful
+//! (`careful_runs_are_sound`), and of each machine that its turns come to (`tenants_take_turns`).
+
+ghost use Rattle.heap_laws.specs.NewChunks.{NewChunksAreLive, NewChunksAreZero};
+ghost use Rattle.heap_laws.specs.NewChunks.{SizesAndAlignments};
+ghost use Rattle.heap_laws.specs.Uses.{ChunksMayBeUsed, ChunksOfTenantsMayBeUsed};
+
+/// The chunk that malloc, calloc or memalign makes is live, with the header that the heap wrote.
+/// The address of a live chunk is a multiple of 16, that of a new one of memalign's alignment;
+/// usable_size answers a live chunk's size.
+pub fn new_chunks_are_live()
+    ensures chunks { NewChunksAreLive }
+    ensures sizes { SizesAndAlignments }
+{}
+
+/// The bytes of the chunk that malloc, calloc or memalign makes are zero to the end of its last
+/// granule, or of its last page, whatever was there before.
+pub fn new_chunks_are_zero()
+    ensures { NewChunksAreZero }
+{}
+
+/// No read and no write through the pointer to a live chunk faults, checked or not, whose bytes lie
+/// in the chunk's granules or, where it has pages of its own, in these.
+pub fn chunks_may_be_used()
+    ensures chunks { ChunksMayBeUsed }
+    ensures sessions { ChunksOfTenantsMayBeUsed }
+{}

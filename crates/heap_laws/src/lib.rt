@@ -1,0 +1,7 @@
+//! What a heap does for a tenant of careful runs, beside its tags: a chunk is live, zero and usable
+//! when it is made, keeps its bytes, and is freed once.
+#![tactic(auto)]
+
+mod laws;
+
+pub use laws::{chunks_may_be_used, new_chunks_are_live, new_chunks_are_zero};
