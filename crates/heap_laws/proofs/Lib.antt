@@ -1,3 +1,6 @@
 pub mod Allocations
 pub mod NewChunks
 pub mod Uses
+pub mod Chunks
+pub mod OtherBytes
+pub mod Headers

@@ -1,2 +1,3 @@
 pub mod NewChunks
 pub mod Uses
+pub mod OtherChunks

@@ -7,6 +7,7 @@
 ghost use Rattle.heap_laws.specs.NewChunks.{NewChunksAreLive, NewChunksAreZero};
 ghost use Rattle.heap_laws.specs.NewChunks.{SizesAndAlignments};
 ghost use Rattle.heap_laws.specs.Uses.{ChunksMayBeUsed, ChunksOfTenantsMayBeUsed};
+ghost use Rattle.heap_laws.specs.OtherChunks.{OtherChunksStay, OtherHeadersStay};
 
 /// The chunk that malloc, calloc or memalign makes is live, with the header that the heap wrote.
 /// The address of a live chunk is a multiple of 16, that of a new one of memalign's alignment;
@@ -27,4 +28,11 @@ pub fn new_chunks_are_zero()
 pub fn chunks_may_be_used()
     ensures chunks { ChunksMayBeUsed }
     ensures sessions { ChunksOfTenantsMayBeUsed }
+{}
+
+/// A careful call leaves each live chunk that it neither frees nor reallocates live, with its bytes
+/// and its header.
+pub fn other_chunks_stay()
+    ensures bytes { OtherChunksStay }
+    ensures headers { OtherHeadersStay }
 {}
