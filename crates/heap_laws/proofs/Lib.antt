@@ -4,3 +4,4 @@ pub mod Uses
 pub mod Chunks
 pub mod OtherBytes
 pub mod Headers
+pub mod Frees

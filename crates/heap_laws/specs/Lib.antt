@@ -1,3 +1,4 @@
 pub mod NewChunks
 pub mod Uses
 pub mod OtherChunks
+pub mod Frees

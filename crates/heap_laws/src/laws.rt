@@ -8,6 +8,7 @@ ghost use Rattle.heap_laws.specs.NewChunks.{NewChunksAreLive, NewChunksAreZero};
 ghost use Rattle.heap_laws.specs.NewChunks.{SizesAndAlignments};
 ghost use Rattle.heap_laws.specs.Uses.{ChunksMayBeUsed, ChunksOfTenantsMayBeUsed};
 ghost use Rattle.heap_laws.specs.OtherChunks.{OtherChunksStay, OtherHeadersStay};
+ghost use Rattle.heap_laws.specs.Frees.{DoubleFreesAbort};
 
 /// The chunk that malloc, calloc or memalign makes is live, with the header that the heap wrote.
 /// The address of a live chunk is a multiple of 16, that of a new one of memalign's alignment;
@@ -35,4 +36,11 @@ pub fn chunks_may_be_used()
 pub fn other_chunks_stay()
     ensures bytes { OtherChunksStay }
     ensures headers { OtherHeadersStay }
+{}
+
+/// After the free of a chunk of a size class, by `free` or `realloc`, each call that names it
+/// aborts and changes nothing: directly after the free, and later in a careful run until an
+/// allocation takes its block, while its header is the one that the free wrote.
+pub fn double_frees_abort()
+    ensures { DoubleFreesAbort }
 {}

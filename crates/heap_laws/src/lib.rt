@@ -4,4 +4,7 @@
 
 mod laws;
 
-pub use laws::{chunks_may_be_used, new_chunks_are_live, new_chunks_are_zero, other_chunks_stay};
+pub use laws::{
+    chunks_may_be_used, double_frees_abort, new_chunks_are_live, new_chunks_are_zero,
+    other_chunks_stay,
+};
