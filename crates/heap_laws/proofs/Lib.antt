@@ -5,3 +5,4 @@ pub mod Chunks
 pub mod OtherBytes
 pub mod Headers
 pub mod Frees
+pub mod Reallocs

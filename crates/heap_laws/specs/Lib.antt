@@ -2,3 +2,4 @@ pub mod NewChunks
 pub mod Uses
 pub mod OtherChunks
 pub mod Frees
+pub mod Reallocs

@@ -9,6 +9,8 @@ ghost use Rattle.heap_laws.specs.NewChunks.{SizesAndAlignments};
 ghost use Rattle.heap_laws.specs.Uses.{ChunksMayBeUsed, ChunksOfTenantsMayBeUsed};
 ghost use Rattle.heap_laws.specs.OtherChunks.{OtherChunksStay, OtherHeadersStay};
 ghost use Rattle.heap_laws.specs.Frees.{DoubleFreesAbort};
+ghost use Rattle.heap_laws.specs.Reallocs.{ReallocKeepsBytes, ReallocFreesBlocks};
+ghost use Rattle.heap_laws.specs.Reallocs.{ReallocUnmapsPages};
 
 /// The chunk that malloc, calloc or memalign makes is live, with the header that the heap wrote.
 /// The address of a live chunk is a multiple of 16, that of a new one of memalign's alignment;
@@ -43,4 +45,17 @@ pub fn other_chunks_stay()
 /// allocation takes its block, while its header is the one that the free wrote.
 pub fn double_frees_abort()
     ensures { DoubleFreesAbort }
+{}
+
+/// A reallocation of a live chunk keeps the bytes that both sizes have, in place or moved, from
+/// blocks and from pages of its own, into either.
+pub fn reallocations_keep_bytes()
+    ensures { ReallocKeepsBytes }
+{}
+
+/// A reallocation to size 0, and one that moves the chunk, frees the old one: its block is free or,
+/// where it had pages of its own, no mapping of the heap holds them.
+pub fn reallocations_free()
+    ensures blocks { ReallocFreesBlocks }
+    ensures pages { ReallocUnmapsPages }
 {}

@@ -6,5 +6,5 @@ mod laws;
 
 pub use laws::{
     chunks_may_be_used, double_frees_abort, new_chunks_are_live, new_chunks_are_zero,
-    other_chunks_stay,
+    other_chunks_stay, reallocations_free, reallocations_keep_bytes,
 };
