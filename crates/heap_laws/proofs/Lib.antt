@@ -6,3 +6,4 @@ pub mod OtherBytes
 pub mod Headers
 pub mod Frees
 pub mod Reallocs
+pub mod Turns

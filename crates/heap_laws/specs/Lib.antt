@@ -3,3 +3,4 @@ pub mod Uses
 pub mod OtherChunks
 pub mod Frees
 pub mod Reallocs
+pub mod Turns

@@ -11,6 +11,7 @@ ghost use Rattle.heap_laws.specs.OtherChunks.{OtherChunksStay, OtherHeadersStay}
 ghost use Rattle.heap_laws.specs.Frees.{DoubleFreesAbort};
 ghost use Rattle.heap_laws.specs.Reallocs.{ReallocKeepsBytes, ReallocFreesBlocks};
 ghost use Rattle.heap_laws.specs.Reallocs.{ReallocUnmapsPages};
+ghost use Rattle.heap_laws.specs.Turns.{TenantsTakeTurns, TurnsStaySound, FreedChunksInTurns};
 
 /// The chunk that malloc, calloc or memalign makes is live, with the header that the heap wrote.
 /// The address of a live chunk is a multiple of 16, that of a new one of memalign's alignment;
@@ -58,4 +59,19 @@ pub fn reallocations_keep_bytes()
 pub fn reallocations_free()
     ensures blocks { ReallocFreesBlocks }
     ensures pages { ReallocUnmapsPages }
+{}
+
+/// The machine of a tenant of a session whose slices were careful comes from its first one by
+/// careful instructions and the ends of slices, which keep what the laws stand on.
+pub fn tenants_take_turns()
+    ensures turns { TenantsTakeTurns }
+    ensures sound { TurnsStaySound }
+{}
+
+/// From the instruction that frees a chunk of a size class until an allocation takes its block,
+/// over the ends of slices: each checked access through its pointer that touches its granules
+/// faults, and each call that names it aborts while its header stays. The allocation that takes its
+/// block and gives out its address has another tag than the free gave.
+pub fn freed_chunks_stay_freed()
+    ensures { FreedChunksInTurns }
 {}
