@@ -7,3 +7,4 @@ pub mod Headers
 pub mod Frees
 pub mod Reallocs
 pub mod Turns
+pub mod Distances

@@ -4,3 +4,4 @@ pub mod OtherChunks
 pub mod Frees
 pub mod Reallocs
 pub mod Turns
+pub mod Distances

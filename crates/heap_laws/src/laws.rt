@@ -11,6 +11,7 @@ ghost use Rattle.heap_laws.specs.OtherChunks.{OtherChunksStay, OtherHeadersStay}
 ghost use Rattle.heap_laws.specs.Frees.{DoubleFreesAbort};
 ghost use Rattle.heap_laws.specs.Reallocs.{ReallocKeepsBytes, ReallocFreesBlocks};
 ghost use Rattle.heap_laws.specs.Reallocs.{ReallocUnmapsPages};
+ghost use Rattle.heap_laws.specs.Distances.{OddDistancesDiffer, NeighboursAreOddBlocksApart};
 ghost use Rattle.heap_laws.specs.Turns.{TenantsTakeTurns, TurnsStaySound, FreedChunksInTurns};
 
 /// The chunk that malloc, calloc or memalign makes is live, with the header that the heap wrote.
@@ -59,6 +60,14 @@ pub fn reallocations_keep_bytes()
 pub fn reallocations_free()
     ensures blocks { ReallocFreesBlocks }
     ensures pages { ReallocUnmapsPages }
+{}
+
+/// Two live chunks of a size class that lie an odd number of blocks apart have different tags, so
+/// that each checked access through the pointer to one of them that touches the other faults.
+/// Neighbours are one block apart.
+pub fn odd_distances_differ()
+    ensures tags { OddDistancesDiffer }
+    ensures neighbours { NeighboursAreOddBlocksApart }
 {}
 
 /// The machine of a tenant of a session whose slices were careful comes from its first one by

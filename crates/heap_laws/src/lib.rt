@@ -6,6 +6,6 @@ mod laws;
 
 pub use laws::{
     chunks_may_be_used, double_frees_abort, freed_chunks_stay_freed, new_chunks_are_live,
-    new_chunks_are_zero, other_chunks_stay, reallocations_free, reallocations_keep_bytes,
-    tenants_take_turns,
+    new_chunks_are_zero, odd_distances_differ, other_chunks_stay, reallocations_free,
+    reallocations_keep_bytes, tenants_take_turns,
 };
