@@ -8,3 +8,4 @@ pub mod Frees
 pub mod Reallocs
 pub mod Turns
 pub mod Distances
+pub mod Lifetimes

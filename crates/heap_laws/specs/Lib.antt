@@ -5,3 +5,4 @@ pub mod Frees
 pub mod Reallocs
 pub mod Turns
 pub mod Distances
+pub mod Lifetimes

@@ -13,6 +13,7 @@ ghost use Rattle.heap_laws.specs.Reallocs.{ReallocKeepsBytes, ReallocFreesBlocks
 ghost use Rattle.heap_laws.specs.Reallocs.{ReallocUnmapsPages};
 ghost use Rattle.heap_laws.specs.Distances.{OddDistancesDiffer, NeighboursAreOddBlocksApart};
 ghost use Rattle.heap_laws.specs.Turns.{TenantsTakeTurns, TurnsStaySound, FreedChunksInTurns};
+ghost use Rattle.heap_laws.specs.Lifetimes.{LifetimesAreGuarded};
 
 /// The chunk that malloc, calloc or memalign makes is live, with the header that the heap wrote.
 /// The address of a live chunk is a multiple of 16, that of a new one of memalign's alignment;
@@ -83,4 +84,11 @@ pub fn tenants_take_turns()
 /// block and gives out its address has another tag than the free gave.
 pub fn freed_chunks_stay_freed()
     ensures { FreedChunksInTurns }
+{}
+
+/// The life of a chunk in a tenant of a session, beside any other tenants: malloc makes it, live and
+/// zero; it may be used, and not its surroundings; once it is freed it is out of reach and is not
+/// freed again; its address is given out with another tag.
+pub fn lifetimes_are_guarded()
+    ensures { LifetimesAreGuarded }
 {}
