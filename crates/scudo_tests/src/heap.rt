@@ -1,9 +1,10 @@
-//! The tables over a plain memory, and runs that are not careful.
+//! The tables over a plain memory, and runs that are careful or not.
 
 ghost use Rattle.std.specs.Prelude.{◌≡◌, ◌<◌, ◌≤◌};
 ghost use Rattle.mte_tags.specs.Memory.{no_pages};
 
 use crate::calls::{Row, answers};
+use crate::careful::{CAREFUL, LAWS_BROKEN};
 use crate::tables::{NOT_CAREFUL, TABLES, Table};
 use mte_flat::Flat;
 use mte_tags::{Attrs, Paged, Rgsr, TagMode, Tagged};
@@ -59,10 +60,17 @@ fn tables_over_a_plain_memory(rt: HostRuntime) -> Result<(), Fail> {
     all_pass(rt.alloc(), &TABLES)
 }
 
+/// What the laws of careful runs say, each by a run that is.
+#[test]
+fn careful_runs(rt: HostRuntime) -> Result<(), Fail> {
+    all_pass(rt.alloc(), &CAREFUL)
+}
+
 /// What the laws of careful runs deny, each by a run that is not careful.
 #[test]
 fn runs_that_are_not_careful(rt: HostRuntime) -> Result<(), Fail> {
-    all_pass(rt.alloc(), &NOT_CAREFUL)
+    all_pass(rt.alloc(), &NOT_CAREFUL)?;
+    all_pass(rt.alloc(), &LAWS_BROKEN)
 }
 
 /// A page in the range of chunks with pages of their own that no heap mapped may be read, though no

@@ -7,6 +7,8 @@ mod cache;
 #[cfg(test)]
 mod calls;
 #[cfg(test)]
+mod careful;
+#[cfg(test)]
 mod copies;
 #[cfg(test)]
 mod frames;

@@ -14,20 +14,20 @@ pub(crate) struct Table(
     pub(crate) &'static [Row],
 );
 
-const DONE: Answer = Answer::Is(0);
+pub(crate) const DONE: Answer = Answer::Is(0);
 
 const NULL: Answer = Answer::Is(0);
 
-const REFUSED: Answer = Answer::Faults(FaultKind::TagCheck);
+pub(crate) const REFUSED: Answer = Answer::Faults(FaultKind::TagCheck);
 
 /// The address of the first chunk of class 2, whose blocks have 64 bytes.
-const CHUNK: u64 = 0x0100_0000_1200_0010;
+pub(crate) const CHUNK: u64 = 0x0100_0000_1200_0010;
 
 /// The address of the second one.
-const NEXT: u64 = 0x0200_0000_1200_0050;
+pub(crate) const NEXT: u64 = 0x0200_0000_1200_0050;
 
 /// The header of a chunk of 24 bytes at 0x12002010.
-const HEADER: u64 = 0x11C2_0000_0001_8102;
+pub(crate) const HEADER: u64 = 0x11C2_0000_0001_8102;
 
 /// A freed chunk's granules get another tag, and so does the chunk that takes its block.
 /// Neighbours' tags are odd and even in turn.

@@ -55,7 +55,7 @@ pub record IsReady (w v : World) (l : LiveBlocks) : Type 0 where
   pub stale : (f : Freed) → IsStale w.memory w.heap.stacks f → IsStale v.memory v.heap.stacks f
   pub tags : (a : ℕ) → tag_at v.memory a ≡ tag_at w.memory a
 
-ready_sound : (w : World) (l : LiveBlocks) (c : ℕ) → IsClass c → IsSoundWorld w → IsSoundIn w l → IsReady w (with_free_block w c) l
+pub ready_sound : (w : World) (l : LiveBlocks) (c : ℕ) → IsClass c → IsSoundWorld w → IsSoundIn w l → IsReady w (with_free_block w c) l
 unfolding with_free_block after_grow
 ready_sound w l c hc v s =
     branch (λ r. IsReady w r l) (is_empty (stack_of w.heap.stacks c) && nat_le (more_pages c) (pages_left w.memory)) _ w
@@ -85,7 +85,7 @@ rounded x a p e f =
     let u : y % a < a = omega arith in
     (m, omega arith, omega arith)
 
-place-in : (h : StackState) (l : LiveBlocks) (m : Memory) (c b a size : ℕ) → SoundBlocks m h l → IsCarved h c b → IsAlign a → 0 < size → need_of a size ≤ size_of c → IsPlace h (place_in c b a size)
+pub place-in : (h : StackState) (l : LiveBlocks) (m : Memory) (c b a size : ℕ) → SoundBlocks m h l → IsCarved h c b → IsAlign a → 0 < size → need_of a size ≤ size_of c → IsPlace h (place_in c b a size)
 place-in h l m c b a size s k al p fits =
     let i = block-in h c b s.stacked k in
     let e = i.aligned in
@@ -100,7 +100,7 @@ same_tag : (w : World) (origin : Origin) (p : Place) → (after_place w origin p
 unfolding after_place after_draw
 same_tag w origin p = refl
 
-fresh_in : (w : World) (l : LiveBlocks) (p : Place) → IsSoundIn w l → IsPlace w.heap.stacks p → IsFresh w.memory p (after_draw w.rgsr (excluded_tags w.memory p)).tag
+pub fresh_in : (w : World) (l : LiveBlocks) (p : Place) → IsSoundIn w l → IsPlace w.heap.stacks p → IsFresh w.memory p (after_draw w.rgsr (excluded_tags w.memory p)).tag
 fresh_in w l p s i = after-draw-fresh w.memory p w.rgsr (present w.memory w.heap.stacks l s p i)
 
 after-place-sound : (w : World) (l : LiveBlocks) (origin : Origin) (p : Place) (more : List ℕ) → IsSoundIn w l → stack_of w.heap.stacks p.class ≡ p.block ∷ more → IsPlace w.heap.stacks p

@@ -113,12 +113,12 @@ fresh = record {
 -- ---- freed chunks
 
 -- a call that names a live chunk of a size class is careful
-block-careful : (s : State) (pointer : ℕ) (c : HeapCall) (x : BlockChunk) → IsLiveBlock s (plain pointer) x → MayFree pointer c → IsCareful s c
+pub block-careful : (s : State) (pointer : ℕ) (c : HeapCall) (x : BlockChunk) → IsLiveBlock s (plain pointer) x → MayFree pointer c → IsCareful s c
 block-careful s pointer c x l (inl e) = subst (IsCareful s) (sym e) (λ n f g. inl (x, l))
 block-careful s pointer c x l (inr e) = subst (IsCareful s) (sym e.1) (λ n f g. inl (x, l))
 
 -- a pointer to a live chunk is not null
-not-zero : (s : State) (pointer : ℕ) (x : BlockChunk) → Sound s → IsLiveBlock s (plain pointer) x → pointer ≢ 0
+pub not-zero : (s : State) (pointer : ℕ) (x : BlockChunk) → Sound s → IsLiveBlock s (plain pointer) x → pointer ≢ 0
 not-zero s pointer x k l = λ e.
     let here : x.place.user ≡ plain pointer = k.placed.user (plain pointer) x l.live in
     let above = (k.placed.place (plain pointer) x l.live).above in
@@ -136,9 +136,9 @@ abbrev freed-of : (a : State) → Deallocation a → Freed
 freed-of a d = record { place = d.chunk.place; tag = d.chunk.tag; given = (state_after_call d.call a).world.rgsr.tag }
 
 -- the chunk that it freed is stale as long as its block is free
-record IsStaleIn (s : State) (f : Freed) : Type 0 where
-  sound : Sound s
-  stale : IsStale s.world.memory s.world.heap.stacks f
+pub record IsStaleIn (s : State) (f : Freed) : Type 0 where
+  pub sound : Sound s
+  pub stale : IsStale s.world.memory s.world.heap.stacks f
 
 deallocated : (a : State) (d : Deallocation a) → Sound a → IsStaleIn (state_after_call d.call a) (freed-of a d)
 deallocated a d k = record {
@@ -158,7 +158,7 @@ pub freed-blocks : FreedBlocksAreRefused
 freed-blocks = λ a b d k run. out-of-reach b (freed-of a d) (stays-stale a b d k run)
 
 -- an access to a page that is not mapped faults
-no_page : (m : Memory) (x : Access) (a : ℕ) → attrs_at m (a / 4096) ≡ None → IsSome (byte_fault m x a)
+pub no_page : (m : Memory) (x : Access) (a : ℕ) → attrs_at m (a / 4096) ≡ None → IsSome (byte_fault m x a)
 unfolding byte_fault
 no_page m x a e = subst (λ o. IsSome (fault_cases x o a)) (sym (page_at-no_attrs m (a / 4096) e)) refl
 
@@ -171,6 +171,9 @@ unmapped-refused m a sync e = λ pointer n i check l at. (
 
 pub freed-pages : FreedPagesAreUnmapped
 freed-pages = record {
+  freed = λ s pointer a x k l low high.
+      let start = k.large.above (plain pointer) x l.live in
+      free-gone s pointer x a k (λ z. omega arith) l low high;
   gone = λ s pointer a c x k l may none low high.
       let start = k.large.above (plain pointer) x l.live in
       let n : pointer ≢ 0 = λ z. omega arith in
@@ -273,12 +276,12 @@ fresh-new s r k (memalign align size e) = subst (IsFreshIn s) (sym e) (fresh.mem
 fresh-new s r k (realloc_call f size e) = subst (IsFreshIn s) (sym e) (fresh.realloc s f size k)
 
 -- the tag of the granules of a stale chunk
-stale-tag : (s : State) (f : Freed) → IsStale s.world.memory s.world.heap.stacks f → tag_at s.world.memory f.place.user ≡ f.given
+pub stale-tag : (s : State) (f : Freed) → IsStale s.world.memory s.world.heap.stacks f → tag_at s.world.memory f.place.user ≡ f.given
 stale-tag s f st =
     let some = st.place.some in
     st.inside f.place.user (omega arith) (omega arith)
 
-others-in : (s : State) (f : Freed) (tag : ℕ) → IsStaleIn s f → tag ≡ f.given → AreOtherTags s f.place.user tag
+pub others-in : (s : State) (f : Freed) (tag : ℕ) → IsStaleIn s f → tag ≡ f.given → AreOtherTags s f.place.user tag
 others-in s f tag k is = λ r p t new e at.
     let there : tag_at s.world.memory p.user ≡ f.given = ap (tag_at s.world.memory) at ∙ stale-tag s f k.stale in
     λ q. (fresh-new s r k.sound new).other p t e (q ∙ is ∙ sym there)

@@ -132,7 +132,7 @@ odd half t h l a =
     grind (arith, nat_tests)
 
 -- the half's parity says the tag's
-half-odd : (c b t : ℕ) → IsHalfTag c b t → (t + tag_parity c b) % 2 ≡ 1
+pub half-odd : (c b t : ℕ) → IsHalfTag c b t → (t + tag_parity c b) % 2 ≡ 1
 half-odd c b t h = odd (tag_parity c b) t (omega arith) h.below h.allowed
 
 next_half : (b s n : ℕ) → 0 < n → s % n ≡ 0 → s / n % 2 ≡ 1 → ((b + s) / n % 2 + b / n % 2) % 2 ≡ 1
@@ -141,7 +141,7 @@ next_half b s n p e o =
     let f : (b + s) / n ≡ b / n + s / n = ap (λ k. (b + k) / n) d ∙ add-mul-div_left b (s / n) p in
     omega arith
 
-half-next : (c b : ℕ) → IsClass c → (tag_parity c (b + size_of c) + tag_parity c b) % 2 ≡ 1
+pub half-next : (c b : ℕ) → IsClass c → (tag_parity c (b + size_of c) + tag_parity c b) % 2 ≡ 1
 unfolding is_odd_size
 half-next c b h =
     let low = h.low in

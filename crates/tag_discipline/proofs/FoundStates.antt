@@ -29,7 +29,7 @@ pub data IsListed (s : State) : Found → Type 0 where
   block : (x : BlockChunk) → chunk_at s.live.blocks x.place.user ≡ Some x → IsListed s (InBlock x.place x.header)
   pages : (x : PageChunk) → large_at s.live.pages x.mapping.user ≡ Some x → IsListed s (InPages x.mapping x.header)
 
-same_found : (r : Result Found HeapAbort) (f g : Found) → r ≡ Ok f → r ≡ Ok g → f ≡ g
+pub same_found : (r : Result Found HeapAbort) (f g : Found) → r ≡ Ok f → r ≡ Ok g → f ≡ g
 same_found r f g a b = cc
 
 -- where the checks pass, what the header says decides

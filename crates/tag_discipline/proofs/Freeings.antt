@@ -58,10 +58,10 @@ given-stale s x k e =
     (λ q. f.other (q ∙ sym (present-tag w.memory w.heap.stacks s.live.blocks b x.place.user x e)))
 
 -- a live chunk's block is not free
-not-free : (s : State) (x : BlockChunk) → Sound s → chunk_at s.live.blocks x.place.user ≡ Some x → IsFreeIn s.world x → ⊥
+pub not-free : (s : State) (x : BlockChunk) → Sound s → chunk_at s.live.blocks x.place.user ≡ Some x → IsFreeIn s.world x → ⊥
 not-free s x k e on = let off = k.placed.unstacked x.place.user x e in let z : true ≡ false = sym on ∙ off in cc
 
-freed-stale : (s : State) (x : BlockChunk) → Sound s → chunk_at s.live.blocks x.place.user ≡ Some x → IsStaleAfter (freed_world s.world (InBlock x.place x.header)) x
+pub freed-stale : (s : State) (x : BlockChunk) → Sound s → chunk_at s.live.blocks x.place.user ≡ Some x → IsStaleAfter (freed_world s.world (InBlock x.place x.header)) x
 unfolding freed_world
 freed-stale s x k e = given-stale s x k e
 
@@ -112,7 +112,7 @@ realloc-cases-stale s x size k e =
 -- ---- the calls
 
 -- what the checks find
-named : (s : State) (pointer : ℕ) (x : BlockChunk) → Sound s → IsLiveBlock s (plain pointer) x → (chunk_at s.live.blocks x.place.user ≡ Some x) × (found_at s.world pointer ≡ Ok (InBlock x.place x.header))
+pub named : (s : State) (pointer : ℕ) (x : BlockChunk) → Sound s → IsLiveBlock s (plain pointer) x → (chunk_at s.live.blocks x.place.user ≡ Some x) × (found_at s.world pointer ≡ Ok (InBlock x.place x.header))
 named s pointer x k l =
     let here : x.place.user ≡ plain pointer = k.placed.user (plain pointer) x l.live in
     let live : chunk_at s.live.blocks x.place.user ≡ Some x = ap (chunk_at s.live.blocks) here ∙ l.live in

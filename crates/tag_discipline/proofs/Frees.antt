@@ -28,7 +28,7 @@ use Rattle.mte_tags.specs.Memory.{page_has, has_cases}
 use Rattle.tag_discipline.proofs.BlockCalls.{IsRoom, room, block-open}
 use Rattle.tag_discipline.proofs.Allocations.{IsSoundIn}
 
-origin_small : (o : Origin) → origin_number o < 4
+pub origin_small : (o : Origin) → origin_number o < 4
 origin_small Malloc = omega arith
 origin_small New = omega arith
 origin_small NewArray = omega arith
@@ -41,7 +41,7 @@ pub record AreSmall (header : Header) : Type 0 where
   pub size : header.size_or_unused_bytes < 2 ^ 20
   pub offset : header.offset < 2 ^ 16
 
-small : (h : StackState) (p : Place) (header : Header) → IsRoom h p → IsHeaderOf header p → size_of p.class ≤ 131072 → AreSmall header
+pub small : (h : StackState) (p : Place) (header : Header) → IsRoom h p → IsHeaderOf header p → size_of p.class ≤ 131072 → AreSmall header
 small h p header r e most =
     let b = r.block in
     let high = b.high in

@@ -57,10 +57,10 @@ module _ (o : Origin) (s : State) (align size n start : ℕ) (k : Sound s) (al :
   abbrev pub m : Mapping
   m = mapping_for start n align size
 
-  at : IsAt w.heap.maps.mappings n start
+  pub at : IsAt w.heap.maps.mappings n start
   at = is-at w.heap.maps.mappings n start (place-fits w.heap.maps.mappings n start place)
 
-  large : IsLarge m size
+  pub large : IsLarge m size
   large = let a = at in is-large start n align size a.aligned a.above a.below few al some small need
 
   abbrev pub first : Memory
@@ -80,7 +80,7 @@ module _ (o : Origin) (s : State) (align size n start : ℕ) (k : Sound s) (al :
   step : IsLeft w after.world
   step = large_left w o m size (place-fits w.heap.maps.mappings n start place) large left
 
-  new : IsNewMapping w.heap.maps.mappings m
+  pub new : IsNewMapping w.heap.maps.mappings m
   new =
       let l = large in
       let above = l.above in

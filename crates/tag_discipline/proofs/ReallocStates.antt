@@ -59,7 +59,7 @@ pub large-with : (g : LivePages) (x : PageChunk) (u : ℕ) → x.mapping.user �
 unfolding large_at with_large
 large-with g x u n = get-insert nat_cmp_total g x.mapping.user x u ∙ cond-false _ _ _ (tied_other u x.mapping.user (λ q. n (sym q)))
 
-chunk-with : (l : LiveBlocks) (x : BlockChunk) (u : ℕ) → x.place.user ≢ u → chunk_at (with_chunk l x) u ≡ chunk_at l u
+pub chunk-with : (l : LiveBlocks) (x : BlockChunk) (u : ℕ) → x.place.user ≢ u → chunk_at (with_chunk l x) u ≡ chunk_at l u
 chunk-with l x u n = at-with l x u ∙ cond-false _ _ _ (tied_other u x.place.user (λ q. n (sym q)))
 
 -- a chunk is there after another one was made
@@ -68,7 +68,7 @@ still-block s r (Small p t) x m e g = chunk-with s.live.blocks (new_chunk Malloc
 still-block s r (Large n z) x m e g = g
 
 -- the chunk that the checks found is there too
-still-with-made-chunk : (s : State) (r : AllocationResult) (c : Chunk) (w : World) {f : Found} → IsMade Malloc s r → r.chunk ≡ Some c → IsListed s f → IsListed (record { world = w; live = with_made_chunk Malloc s.live (Some c) }) f
+pub still-with-made-chunk : (s : State) (r : AllocationResult) (c : Chunk) (w : World) {f : Found} → IsMade Malloc s r → r.chunk ≡ Some c → IsListed s f → IsListed (record { world = w; live = with_made_chunk Malloc s.live (Some c) }) f
 still-with-made-chunk s r c w m e (block x g) = block x (still-block s r c x m e g)
 still-with-made-chunk s r (Small p t) w m e (pages x g) = pages x g
 still-with-made-chunk s r (Large n z) w m e (pages x g) = pages x (large-with s.live.pages (new_large Malloc n z) x.mapping.user (m.apart_large n z e x.mapping.user x g) ∙ g)

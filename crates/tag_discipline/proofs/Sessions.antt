@@ -167,10 +167,10 @@ after-slice-stale n m l xs k c a =
 
 -- ---- a tenant's own events
 
-live-is : (m k : Machine) → contents.Live m ≡ contents.Live k → m ≡ k
+pub live-is : (m k : Machine) → contents.Live m ≡ contents.Live k → m ≡ k
 live-is m k e = cc
 
-gone-stays : (own : List TenantEvent) (r : Record) (k : Machine) → after_own_events (Gone r) own ≡ contents.Live k → ⊥
+pub gone-stays : (own : List TenantEvent) (r : Record) (k : Machine) → after_own_events (Gone r) own ≡ contents.Live k → ⊥
 unfolding after_own_events
 gone-stays [] r k e = cc
 gone-stays (OwnSlice n ∷ more) r k e = gone-stays more r k e
@@ -190,7 +190,7 @@ own-kept (OwnStop ∷ more) m k l xs s a c e = absurd (gone-stays more _ k e)
 
 -- ---- admitted tenants
 
-abbrev IsAccepted : ℕ → Life → Type 0
+abbrev pub IsAccepted : ℕ → Life → Type 0
 IsAccepted frames life = (ledger : List LedgerEntry) × (admission_refusal frames ledger life.id life.start ≡ None)
 
 refused-none : (o : Option AdmitError) → option_map refusal.Admit o ≡ None → o ≡ None
@@ -216,7 +216,7 @@ accepted-by None (Admit k start) frames ledger more id life h f rest =
     let a : Life = record { id = k; start = start; own = own_events k later } in
     accepted-among (k == id) frames ledger a life (life_among id (lives_of later)) (refused-none _ h) f rest
 
-accepted : (frames : ℕ) (ledger : List LedgerEntry) (calls : List Call) (id : ℕ) (life : Life)
+pub accepted : (frames : ℕ) (ledger : List LedgerEntry) (calls : List Call) (id : ℕ) (life : Life)
     → life_among id (lives_of (accepted_from frames ledger calls)) ≡ Some life → IsAccepted frames life
 unfolding decisions
 accepted frames ledger [] id life h = absurd cc
@@ -231,7 +231,7 @@ held-is : (h : TenantState) (m : Machine) → machine_held h ≡ Some m → h �
 held-is (contents.Live k) m e = ap contents.Live (machine-is k m e)
 held-is (Gone r) m e = absurd cc
 
-machine-of : (s : Session) (life : Life) (m : Machine) → IsCarefulIn s life m → after_own_events (contents.Live (first_machine life)) life.own ≡ contents.Live m
+pub machine-of : (s : Session) (life : Life) (m : Machine) → IsCarefulIn s life m → after_own_events (contents.Live (first_machine life)) life.own ≡ contents.Live m
 machine-of s life m h =
     let there = ap (tenant_among life.id) (tenants_are_alone s) ∙ among_tenants life.id (lives s) life h.admitted in
     held-is _ m (sym (ap machine_cases there) ∙ h.machine)
@@ -259,4 +259,4 @@ guarded-in-session = record {
 }
 
 pub pages-in-session : FreedPagesOfTenantsAreRefused
-pages-in-session = λ s life m addr h lo hi e. (freed-pages-refused (state_in life m) addr (tenants-stay s life m h) lo hi e).0
+pages-in-session = λ s life m addr h lo hi e. freed-pages-refused (state_in life m) addr (tenants-stay s life m h) lo hi e

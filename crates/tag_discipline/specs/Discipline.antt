@@ -103,9 +103,14 @@ IsUnmapped m a =
     (pointer n i : ℕ) (check : Bool) → i < n → (plain pointer + i) % 2 ^ 56 ≡ a
     → IsSome (read_fault m pointer n check) × IsSome (write_fault m pointer n check)
 
--- A call that frees or moves a chunk with pages of its own leaves no mapping there; as long as a
--- page is not mapped, each access to it faults.
+-- A free of a chunk with pages of its own leaves no mapping there, nor does a reallocation after
+-- which it is live no more; as long as a page is not mapped, each access to it faults.
 pub record FreedPagesAreUnmapped : Type 0 where
+  pub freed :
+      (a : State) (pointer addr : ℕ) (x : PageChunk) → Sound a → IsLiveLarge a (plain pointer) x
+      → x.mapping.start ≤ addr → addr < secondary.end_of x.mapping
+      → list_any (is_inside addr) (state_after_call (Free pointer) a).world.heap.maps.mappings
+      ≡ false
   pub gone :
       (a : State) (pointer addr : ℕ) (c : HeapCall) (x : PageChunk)
       → Sound a → IsLiveLarge a (plain pointer) x → MayFree pointer c
@@ -126,13 +131,14 @@ FreedPagesAreRefused =
     → IsUnmapped s.world.memory addr
     × ((x : Access) → IsSome (byte_fault s.world.memory x addr))
 
--- In a session: pages that a tenant freed are refused.
+-- In a session: each access, whatever its kind, to pages that a tenant freed faults.
 abbrev pub FreedPagesOfTenantsAreRefused : Type 0
 FreedPagesOfTenantsAreRefused =
     (s : Session) (life : Life) (m : Machine) (addr : ℕ) → IsCarefulIn s life m
     → SECONDARY_START ≤ addr → addr < SECONDARY_END
     → list_any (is_inside addr) m.parts.heap.maps.mappings ≡ false
     → IsUnmapped m.memory addr
+    × ((x : Access) → IsSome (byte_fault m.memory x addr))
 
 -- ---- a new chunk
 

@@ -1,0 +1,88 @@
+-- The life of a chunk in a tenant of a session.
+use Rattle.std.proofs.Common.{◌≡◌, ◌≢◌, ℕ, ◌<◌, ◌≤◌, Some, refl, sym, ap, subst, ◌∙◌, inr, arith}
+use Rattle.scudo_heap.specs.declared.call.HeapCall.TheVariants.{Malloc}
+use Rattle.scudo_heap.specs.declared.chunk.Chunk.TheVariants.{Small}
+use Rattle.scudo_heap.specs.Chunks.{end_of}
+use Rattle.scudo_heap.specs.Allocation.{after_malloc}
+use Rattle.mte_tenant.specs.Machines.{Machine, after_attempt}
+use Rattle.tag_discipline.specs.LiveChunks.{BlockChunk, chunk_at}
+use Rattle.tag_discipline.specs.Laws.{IsRefused, IsOutOfReach}
+use Rattle.tag_discipline.specs.CarefulRuns.{State, Live, IsLiveBlock}
+use Rattle.tag_discipline.specs.CarefulTenants.{state_of, before_service, live_after}
+use Rattle.tag_discipline.specs.SoundHeaps.{Sound}
+use Rattle.tag_discipline.specs.Discipline.{malloc}
+use Rattle.tag_discipline.proofs.BlockCalls.{block-open}
+use Rattle.tag_discipline.proofs.Faults.{refused}
+use Rattle.tag_discipline.proofs.Serving.{blocks-of}
+use Rattle.tag_discipline.proofs.Tenants.{step-quiet, after-attempt-kept, after-attempt-done}
+use Rattle.tag_discipline.proofs.Disciplines.{chunks-tagged, guarded}
+use Rattle.heap_laws.specs.Frees.{HasFreedHeader, IsAborted}
+use Rattle.heap_laws.specs.NewChunks.{IsZero}
+use Rattle.heap_laws.specs.Lifetimes.{NextMalloc, chunk_made, LifetimesAreGuarded}
+use Rattle.heap_laws.proofs.NewChunks.{new-live, new-zero}
+use Rattle.heap_laws.proofs.Uses.{chunks-usable}
+use Rattle.heap_laws.proofs.Distances.{odd-distances}
+use Rattle.heap_laws.proofs.Turns.{turns-sound, turns-hold, turns-stay, freed-in-turns}
+
+-- ---- a malloc
+
+-- what it leaves of its chunk
+record IsMadeAt (s : State) (x : BlockChunk) : Type 0 where
+  sound : Sound s
+  live : IsLiveBlock s x.place.user x
+  zero : IsZero s.world.memory (Small x.place x.tag)
+
+made-at : (n : ℕ) (m : Machine) (l : Live) (c : NextMalloc m l) → Sound (state_of m l) → IsMadeAt (state_of (after_attempt n m).machine (live_after m l)) (chunk_made c)
+made-at n m l c k =
+    let s = state_of (before_service m) l in
+    let first = step-quiet m l c.careful.tags k in
+    let done = after-attempt-done n m l (Malloc c.size) c.call in
+    let x = chunk_made c in
+    record {
+      sound = (after-attempt-kept n m l k c.careful).sound;
+      live = subst (λ (t : State). IsLiveBlock t x.place.user x) (sym done) (new-live.malloc s c.size (Small c.place c.tag) first.sound c.made);
+      zero = subst (λ (t : State). IsZero t.world.memory (Small c.place c.tag)) (sym done) (new-zero.malloc s c.size (Small c.place c.tag) first.sound c.made);
+    }
+
+-- an access through a pointer with another tag faults in a live chunk
+other-refused : (s : State) (u tag addr : ℕ) (x : BlockChunk) → Sound s → chunk_at s.live.blocks u ≡ Some x → x.tag ≢ tag → x.place.user ≤ addr → addr < end_of x.place → IsRefused s.world.memory tag addr
+other-refused s u tag addr x k e n from to =
+    let b = blocks-of s k in
+    let i = k.placed.place u x e in
+    let above = i.above in
+    let within = i.within in
+    let around = block-open s.world.memory s.world.heap.stacks x.place b.stacked b.served i in
+    refused s.world.memory tag addr k.sync (inr (around.at addr (omega arith) (omega arith))) (λ q. n (sym (chunks-tagged.blocks s u addr x k e from to) ∙ q))
+
+-- ---- the whole life
+
+pub lifetimes : LifetimesAreGuarded
+lifetimes = λ s life admitted sync h.
+    let p = h.made.place in
+    let x = chunk_made h.made in
+    let sound0 = turns-stay s life h.maker h.live_then admitted sync h.before in
+    let new = made-at h.left h.maker h.live_then h.made sound0 in
+    let sound1 = turns-sound h.usage new.sound in
+    let now = state_of h.user h.live_now in
+    let live = turns-hold {P = λ s. IsLiveBlock s p.user x} h.usage new.live in
+    let free = h.free in
+    let d = h.freed in
+    let first = step-quiet h.user h.live_now d.careful.tags sound1 in
+    let after = (after-attempt-kept free.0 h.user h.live_now sound1 d.careful).sound in
+    let sound2 = turns-sound free.1 after in
+    let here : p.user ≡ d.freed.chunk.place.user = ap (λ (y : BlockChunk). y.place.user) (sym h.same) in
+    record {
+      live = new.live;
+      zero = new.zero;
+      used = chunks-usable.blocks now p.user x sound1 live.live;
+      before = λ addr from to. guarded.before now p.user addr x sound1 live.live from to;
+      after = λ addr from to. guarded.after now p.user addr x sound1 live.live from to;
+      apart = λ u addr y e far from to. (odd-distances now p.user u x y sound1 live.live e far).1 addr from to;
+      refused = subst (IsOutOfReach h.taker.memory) h.same (freed-in-turns.refused h.user h.taker h.live_now h.live_later d sound1 free);
+      aborted = subst (λ y. HasFreedHeader (state_of h.taker h.live_later).world y → IsAborted (state_of h.taker h.live_later).world d.freed.pointer) h.same (freed-in-turns.aborted h.user h.taker h.live_now h.live_later d sound1 free);
+      reused = freed-in-turns.reused h.user h.taker h.live_now h.live_later d sound1 free h.taken.careful
+          (after_malloc (state_of (before_service h.taker) h.live_later).world h.taken.size) h.taken.place h.taken.tag (malloc h.taken.size refl) h.taken.made (h.again ∙ here);
+      old = λ left addr n from to.
+          let again = made-at left h.taker h.live_later h.taken sound2 in
+          other-refused (state_of (after_attempt left h.taker).machine (live_after h.taker h.live_later)) h.taken.place.user h.made.tag addr (chunk_made h.taken) again.sound again.live.live n from to;
+    }

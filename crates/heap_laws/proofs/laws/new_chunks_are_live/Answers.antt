@@ -1,0 +1,8 @@
+use Rattle.heap_laws.proofs.NewChunks.{new-live, sizes-and-alignments}
+use Rattle.heap_laws.proofs.laws.new_chunks_are_live.Goals as goal
+
+pub returns-clause-chunks : goal.returns-clause-chunks
+returns-clause-chunks c = new-live
+
+pub returns-clause-sizes : goal.returns-clause-sizes
+returns-clause-sizes c = sizes-and-alignments
