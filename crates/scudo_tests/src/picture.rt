@@ -53,7 +53,8 @@ const BEHIND: [&str; 9] = [
     "<rect class=\"mark\" x=\"48\" y=\"-1\" width=\"16\" height=\"20\"/>",
     "<path class=\"mark\" d=\"M56,-2v-12\"/><g transform=\"translate(0 -32)\">\
      <use href=\"#t14\" x=\"48\"/></g>",
-    "<text class=\"says\" x=\"70\" y=\"-19\">access at 0x12000038 with tag 0xe, memory has 0x0</text>",
+    "<text class=\"says\" x=\"70\" y=\"-19\">access at 0x12000038 with tag 0xe, \
+     memory has 0x0</text>",
 ];
 
 fn contains_all(text: &str, parts: &[&str]) -> bool {

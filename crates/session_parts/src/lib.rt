@@ -16,17 +16,17 @@ pub fn decisions_need_no_steps()
     ensures { DecisionsNeedNoSteps }
 {}
 
-/// What a session accepts of a tenant, a session of the tenant's own accepts: a host with frames for
-/// its reservation and no more, its admission, its own slices and its own stop. Those are no more
-/// frames than the session had.
+/// What a session accepts of a tenant, a session of the tenant's own accepts: a host with frames
+/// for its reservation and no more, its admission, its own slices and its own stop. Those are no
+/// more frames than the session had.
 pub fn accepted_alone()
     ensures { AcceptedAlone }
 {}
 
-/// A session's report is the lines of what it refused, and the reports of its tenants' own sessions,
-/// in the order of their admissions. So these may be run anywhere, and put together: a session of
-/// each accepted admission, on frames for its reservation, over the same files and its own events.
-/// The lines of these, taken from the script, are a script of them.
+/// A session's report is the lines of what it refused, and the reports of its tenants' own
+/// sessions, in the order of their admissions. So these may be run anywhere, and put together: a
+/// session of each accepted admission, on frames for its reservation, over the same files and its
+/// own events. The lines of these, taken from the script, are a script of them.
 pub fn report_in_parts()
     ensures sessions { ReportInParts }
     ensures scripts { ScriptInParts }
