@@ -11,6 +11,9 @@ use mte_sched::{
 use mte_session::{ScriptFault, write_report};
 use mte_tags::TagMode;
 use obstacle::Obstacle;
+use session_parts::{
+    accepted_alone, decisions_need_no_steps, lines_may_be_left_out, report_in_parts,
+};
 use std::alloc::Global;
 use std::process::Abort;
 use std::test::Fail;
@@ -92,6 +95,10 @@ fn one_host(rt: HostRuntime) -> Result<(), Fail> {
     flag_is_clear();
     slices_are_bounded();
     live_limit_in_digits();
+    decisions_need_no_steps();
+    accepted_alone();
+    report_in_parts();
+    lines_may_be_left_out();
     Ok(())
 }
 
