@@ -42,7 +42,7 @@ def test_the_arrow_of_an_overflow(alone: pathlib.Path, tmp_path: pathlib.Path) -
     image = tenant(tmp_path, EXAMPLES / "c" / "heap_overflow.c")
     picture = run([alone, "--map", "-", image]).output
     middles = [16 * column + 8 for column in (2, 3)]
-    arrows = re.findall(r'class="arrow"[^>]* d="M(\d+),\d+Q\d+,\d+ (\d+),', picture)
+    arrows = re.findall(r'class="arrow" transform[^>]* d="M(\d+),\d+Q\d+,\d+ (\d+),', picture)
     assert arrows == [(str(middles[0]), str(middles[1]))]
 
 

@@ -427,7 +427,7 @@ def test_tags_around_a_chunk(alone: pathlib.Path, tmp_path: pathlib.Path) -> Non
     first, second = two.draw(0), two.draw(1)
     row = dialog[3].splitlines()[-1]
     # Blocks of 64 bytes: a granule of header, of the first chunk two granules, of the second three.
-    blocks = f"0 {first} {first} 0 0 [{second}] {second} {second} 0"
+    blocks = f"0 {first:x} {first:x} 0 0 [{second:x}] {second:x} {second:x} 0"
     assert row.startswith("tags from 0x0000000011ffffd0: - - - ") and f"- {blocks}" in row
 
 

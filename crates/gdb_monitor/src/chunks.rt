@@ -95,7 +95,7 @@ pub fn tell_tags<W: Write>(
 /// Writes a tag, or `-` where there is none.
 fn tell_tag<W: Write>(out: &mut W, tag: Option<u8>) -> io::Result<()> {
     match tag {
-        Some(tag) => write!(out, "{tag:#x}"),
+        Some(tag) => write!(out, "{tag:x}"),
         None => write!(out, "-"),
     }
 }
