@@ -12,7 +12,7 @@ use Rattle.scudo_heap.specs.Realloc.{after_realloc, user_of_chunk}
 use Rattle.tag_discipline.specs.LiveChunks.{BlockChunk}
 use Rattle.tag_discipline.specs.LivePages.{PageChunk}
 use Rattle.tag_discipline.specs.CarefulRuns.{State, state_after_call, IsLiveBlock, IsLiveLarge}
-use Rattle.tag_discipline.specs.CarefulRuns.{HasFreeBlock}
+use Rattle.tag_discipline.specs.CarefulRuns.{HasFreeBlock, IsLive, IsCareful}
 use Rattle.tag_discipline.specs.SoundHeaps.{Sound}
 
 -- A reallocation of a live chunk keeps the bytes that both sizes have.
@@ -61,3 +61,10 @@ pub record ReallocUnmapsPages : Type 0 where
       → x.mapping.start ≤ addr → addr < secondary.end_of x.mapping
       → list_any (is_inside addr)
       (state_after_call (Realloc pointer size) s).world.heap.maps.mappings ≡ false
+
+-- The chunk that a careful reallocation answers is live, with the header that the heap wrote.
+abbrev pub ReallocatedChunksAreLive : Type 0
+ReallocatedChunksAreLive =
+    (s : State) (pointer size : ℕ) (c : Chunk) → Sound s → IsCareful s (Realloc pointer size)
+    → (after_realloc s.world pointer size).result ≡ Ok (Some c)
+    → IsLive (state_after_call (Realloc pointer size) s) (user_of_chunk c)
