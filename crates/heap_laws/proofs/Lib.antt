@@ -6,6 +6,7 @@ pub mod OtherBytes
 pub mod Headers
 pub mod Frees
 pub mod Reallocs
+pub mod Moves
 pub mod Turns
 pub mod Distances
 pub mod Lifetimes

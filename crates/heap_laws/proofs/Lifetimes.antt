@@ -1,27 +1,30 @@
 -- The life of a chunk in a tenant of a session.
-use Rattle.std.proofs.Common.{◌≡◌, ◌≢◌, ℕ, ◌<◌, ◌≤◌, Some, refl, sym, ap, subst, ◌∙◌, inr, arith}
-use Rattle.scudo_heap.specs.declared.call.HeapCall.TheVariants.{Malloc}
+use Rattle.std.proofs.Common.{◌≡◌, ◌≢◌, ℕ, ◌<◌, ◌≤◌, Some, refl, sym, ap, subst, ◌∙◌, inl, inr, arith}
+use Rattle.a64_bits.specs.Addresses.{plain}
+use Rattle.scudo_header.specs.declared.headers.Origin.TheVariants as origin
+use Rattle.scudo_heap.specs.declared.call.HeapCall.TheVariants.{Malloc, Free}
 use Rattle.scudo_heap.specs.declared.chunk.Chunk.TheVariants.{Small}
 use Rattle.scudo_heap.specs.Chunks.{end_of}
 use Rattle.scudo_heap.specs.Allocation.{after_malloc}
 use Rattle.mte_tenant.specs.Machines.{Machine, after_attempt}
-use Rattle.tag_discipline.specs.LiveChunks.{BlockChunk, chunk_at}
+use Rattle.tag_discipline.specs.LiveChunks.{BlockChunk, chunk_at, new_chunk}
 use Rattle.tag_discipline.specs.Laws.{IsRefused, IsOutOfReach}
-use Rattle.tag_discipline.specs.CarefulRuns.{State, Live, IsLiveBlock}
+use Rattle.tag_discipline.specs.CarefulRuns.{State, Live, state_after_call, IsLiveBlock, call as call_step, next, stop}
 use Rattle.tag_discipline.specs.CarefulTenants.{state_of, before_service, live_after}
 use Rattle.tag_discipline.specs.SoundHeaps.{Sound}
-use Rattle.tag_discipline.specs.Discipline.{malloc}
+use Rattle.tag_discipline.specs.Discipline.{Deallocation, malloc}
 use Rattle.tag_discipline.proofs.BlockCalls.{block-open}
 use Rattle.tag_discipline.proofs.Faults.{refused}
 use Rattle.tag_discipline.proofs.Serving.{blocks-of}
 use Rattle.tag_discipline.proofs.Tenants.{step-quiet, after-attempt-kept, after-attempt-done}
-use Rattle.tag_discipline.proofs.Disciplines.{chunks-tagged, guarded}
+use Rattle.tag_discipline.proofs.Disciplines.{stays, chunks-tagged, guarded, freed-free, freed-blocks}
 use Rattle.heap_laws.specs.Frees.{HasFreedHeader, IsAborted}
 use Rattle.heap_laws.specs.NewChunks.{IsZero}
-use Rattle.heap_laws.specs.Lifetimes.{NextMalloc, chunk_made, LifetimesAreGuarded}
+use Rattle.heap_laws.specs.Lifetimes.{NextMalloc, chunk_made, LifetimesAreGuarded, ChunksFreedAtOnce}
 use Rattle.heap_laws.proofs.NewChunks.{new-live, new-zero}
 use Rattle.heap_laws.proofs.Uses.{chunks-usable}
 use Rattle.heap_laws.proofs.Distances.{odd-distances}
+use Rattle.heap_laws.proofs.Frees.{double-frees}
 use Rattle.heap_laws.proofs.Turns.{turns-sound, turns-hold, turns-stay, freed-in-turns}
 
 -- ---- a malloc
@@ -86,3 +89,21 @@ lifetimes = λ s life admitted sync h.
           let again = made-at left h.taker h.live_later h.taken sound2 in
           other-refused (state_of (after_attempt left h.taker).machine (live_after h.taker h.live_later)) h.taken.place.user h.made.tag addr (chunk_made h.taken) again.sound again.live.live n from to;
     }
+
+-- ---- a chunk that is freed at once
+
+pub freed-at-once : ChunksFreedAtOnce
+freed-at-once = λ s size p t k e.
+    let s1 = state_after_call (Malloc size) s in
+    let k1 : Sound s1 = stays s s1 (next (call_step (Malloc size) tt refl) tt stop) k in
+    let x = new_chunk origin.Malloc p t in
+    let l = new-live.malloc s size (Small p t) k e in
+    let b = blocks-of s1 k1 in
+    let i = k1.placed.place p.user x l.live in
+    let around = block-open s1.world.memory s1.world.heap.stacks p b.stacked b.served i in
+    let below = around.below in
+    let within = i.within in
+    let same : p.user ≡ plain p.user = omega arith in
+    let live = subst (λ u. IsLiveBlock s1 u x) same l in
+    let d : Deallocation s1 = record { pointer = p.user; call = Free p.user; chunk = x; live = live; may = inl refl; free = freed-free s1 p.user x k1 live } in
+    (freed-blocks s1 (state_after_call (Free p.user) s1) d k1 stop, double-frees.direct s1 d k1)

@@ -3,7 +3,7 @@
 use Rattle.std.specs.Prelude.{◌≡◌, ◌≢◌, ℕ, ◌+◌, ◌<◌, ◌≤◌, Some}
 use Rattle.mte_tags.specs.declared.state.TagMode.TheVariants.{Sync}
 use Rattle.scudo_header.specs.declared.headers.Origin.TheVariants as origin
-use Rattle.scudo_heap.specs.declared.call.HeapCall.TheVariants.{Malloc}
+use Rattle.scudo_heap.specs.declared.call.HeapCall.TheVariants.{Malloc, Free}
 use Rattle.scudo_heap.specs.declared.chunk.Place.{Place}
 use Rattle.scudo_heap.specs.declared.chunk.Chunk.TheVariants.{Small}
 use Rattle.scudo_heap.specs.Chunks.{end_of}
@@ -12,10 +12,12 @@ use Rattle.mte_tenant.specs.Machines.{Machine, after_attempt}
 use Rattle.mte_sched.specs.Lives.{Session, Life, lives, life_among}
 use Rattle.tag_discipline.specs.LiveChunks.{BlockChunk, chunk_at, new_chunk}
 use Rattle.tag_discipline.specs.Laws.{IsRefused, IsOutOfReach}
-use Rattle.tag_discipline.specs.CarefulRuns.{State, Live, no_chunks, IsLiveBlock}
+use Rattle.tag_discipline.specs.CarefulRuns.{State, Live, no_chunks, state_after_call}
+use Rattle.tag_discipline.specs.CarefulRuns.{IsLiveBlock}
 use Rattle.tag_discipline.specs.CarefulTenants.{state_of, before_service, next_call, live_after}
 use Rattle.tag_discipline.specs.CarefulTenants.{IsCarefulNext}
 use Rattle.tag_discipline.specs.CarefulSessions.{first_machine}
+use Rattle.tag_discipline.specs.SoundHeaps.{Sound}
 use Rattle.tag_discipline.specs.Discipline.{NextDeallocation, given_tag}
 use Rattle.heap_laws.specs.NewChunks.{IsZero}
 use Rattle.heap_laws.specs.Uses.{IsUsable}
@@ -102,3 +104,13 @@ abbrev pub LifetimesAreGuarded : Type 0
 LifetimesAreGuarded =
     (s : Session) (life : Life) → life_among life.id (lives s) ≡ Some life
     → life.start.terms.mode ≡ Sync → (h : Lifetime (first_machine life)) → IsGuarded h
+
+-- Wherever malloc makes a chunk in a block, the chunk is out of reach once it is freed, and each
+-- call that names it then aborts: the premises of the laws of freed chunks are met.
+abbrev pub ChunksFreedAtOnce : Type 0
+ChunksFreedAtOnce =
+    (s : State) (size : ℕ) (p : Place) (tag : ℕ) → Sound s
+    → (after_malloc s.world size).chunk ≡ Some (Small p tag)
+    → IsOutOfReach (state_after_call (Free p.user) (state_after_call (Malloc size) s)).world.memory
+    (new_chunk origin.Malloc p tag)
+    × IsAborted (state_after_call (Free p.user) (state_after_call (Malloc size) s)).world p.user

@@ -25,7 +25,8 @@ HasNewChunk s o (Large m size) = IsLiveLarge s m.user (new_large o m size)
 -- The chunk that a call makes is live, with the header that the heap wrote.
 pub record NewChunksAreLive : Type 0 where
   pub malloc :
-      (s : State) (size : ℕ) (x : Chunk) → Sound s → (after_malloc s.world size).chunk ≡ Some x
+      (s : State) (size : ℕ) (x : Chunk) → Sound s
+      → (after_malloc s.world size).chunk ≡ Some x
       → HasNewChunk (state_after_call (Malloc size) s) origin.Malloc x
   pub calloc :
       (s : State) (count size : ℕ) (x : Chunk) → Sound s
@@ -38,14 +39,16 @@ pub record NewChunksAreLive : Type 0 where
 
 -- The bytes of a chunk are zero to the end of its last granule, or of its last page.
 abbrev pub IsZero : Memory → Chunk → Type 0
-IsZero m (Small p tag) = (addr : ℕ) → p.user ≤ addr → addr < end_of p → byte_at m addr ≡ 0
+IsZero m (Small p tag) =
+    (addr : ℕ) → p.user ≤ addr → addr < end_of p → byte_at m addr ≡ 0
 IsZero m (Large n size) =
     (addr : ℕ) → n.user ≤ addr → addr < secondary.end_of n → byte_at m addr ≡ 0
 
 -- The bytes of the chunk that a call makes are zero, whatever its block held.
 pub record NewChunksAreZero : Type 0 where
   pub malloc :
-      (s : State) (size : ℕ) (x : Chunk) → Sound s → (after_malloc s.world size).chunk ≡ Some x
+      (s : State) (size : ℕ) (x : Chunk) → Sound s
+      → (after_malloc s.world size).chunk ≡ Some x
       → IsZero (state_after_call (Malloc size) s).world.memory x
   pub calloc :
       (s : State) (count size : ℕ) (x : Chunk) → Sound s

@@ -18,7 +18,8 @@ IsOfOthers c user = (pointer : ℕ) → MayFree pointer c → plain pointer ≢ 
 
 -- The bytes from an address up to another are the same in two memories.
 abbrev pub AreSame : Memory → Memory → ℕ → ℕ → Type 0
-AreSame m n from to = (addr : ℕ) → from ≤ addr → addr < to → byte_at n addr ≡ byte_at m addr
+AreSame m n from to =
+    (addr : ℕ) → from ≤ addr → addr < to → byte_at n addr ≡ byte_at m addr
 
 -- A careful call leaves every other live chunk live, with its bytes and its header: to the end of
 -- its last granule, or on all its pages.

@@ -10,16 +10,17 @@ ghost use Rattle.heap_laws.specs.Uses.{ChunksMayBeUsed, ChunksOfTenantsMayBeUsed
 ghost use Rattle.heap_laws.specs.OtherChunks.{OtherChunksStay, OtherHeadersStay};
 ghost use Rattle.heap_laws.specs.Frees.{DoubleFreesAbort};
 ghost use Rattle.heap_laws.specs.Reallocs.{ReallocKeepsBytes, ReallocFreesBlocks};
-ghost use Rattle.heap_laws.specs.Reallocs.{ReallocUnmapsPages};
+ghost use Rattle.heap_laws.specs.Reallocs.{ReallocUnmapsPages, ReallocatedChunksAreLive};
 ghost use Rattle.heap_laws.specs.Distances.{OddDistancesDiffer, NeighboursAreOddBlocksApart};
 ghost use Rattle.heap_laws.specs.Turns.{TenantsTakeTurns, TurnsStaySound, FreedChunksInTurns};
-ghost use Rattle.heap_laws.specs.Lifetimes.{LifetimesAreGuarded};
+ghost use Rattle.heap_laws.specs.Lifetimes.{LifetimesAreGuarded, ChunksFreedAtOnce};
 
-/// The chunk that malloc, calloc or memalign makes is live, with the header that the heap wrote.
-/// The address of a live chunk is a multiple of 16, that of a new one of memalign's alignment;
-/// usable_size answers a live chunk's size.
+/// The chunk that malloc, calloc or memalign makes is live, with the header that the heap wrote, as
+/// is the one that a careful reallocation answers. The address of a live chunk is a multiple of 16,
+/// that of a new one of memalign's alignment; usable_size answers a live chunk's size.
 pub fn new_chunks_are_live()
     ensures chunks { NewChunksAreLive }
+    ensures reallocated { ReallocatedChunksAreLive }
     ensures sizes { SizesAndAlignments }
 {}
 
@@ -88,7 +89,9 @@ pub fn freed_chunks_stay_freed()
 
 /// The life of a chunk in a tenant of a session, beside any other tenants: malloc makes it, live
 /// and zero; it may be used, and not its surroundings; once it is freed it is out of reach and is
-/// not freed again; its address is given out with another tag.
+/// not freed again; its address is given out with another tag. Wherever malloc makes a chunk in a
+/// block, the premises of the laws of freed chunks are met.
 pub fn lifetimes_are_guarded()
-    ensures { LifetimesAreGuarded }
+    ensures lives { LifetimesAreGuarded }
+    ensures freed { ChunksFreedAtOnce }
 {}
