@@ -79,6 +79,7 @@ call-clear c (Slice id n) h = all-after-slice-of id n c.tenants h
 call-clear c (Stop id) h = all-after-stop-of id c.tenants h
 
 by-clear : (r : Option Refusal) (c : Content) (e : Call) → AreClear c.tenants → AreClear (after_call_cases r c e).tenants
+unfolding after_call
 by-clear (Some r) c e h = h
 by-clear None c e h = call-clear c e h
 

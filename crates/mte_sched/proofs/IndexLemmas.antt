@@ -12,12 +12,12 @@ use Rattle.mte_frames.specs.Pool.{Pool}
 use Rattle.mte_sched.specs.declared.index.TheConstants.{NUMBERS}
 use Rattle.mte_sched.specs.declared.tenant.Tenant as code
 use Rattle.mte_tenant.specs.Ledger.{LedgerEntry, has_id, without_live, numbers_of}
-use Rattle.mte_sched.specs.Contents.{entry_of, tenant_after_slice, tenant_after_stop}
+use Rattle.mte_sched.specs.Contents.{machine, entry_of, tenant_after_slice, tenant_after_stop}
 use Rattle.mte_sched.specs.Tenants.{record_in, tenants_in, entry_in, entries_in}
 use Rattle.mte_sched.specs.Sharing.{HasId, IsIndexed}
 use Rattle.mte_sched.proofs.PlaceLists.{some_same, get-set-same, get-set-other, get-last, get-before}
 use Rattle.mte_sched.proofs.EachLemmas.{or_left, or_right, id_there, ledger_is}
-use Rattle.mte_sched.proofs.IsolationLemmas.{ledger_sliced, ledger_stopped}
+use Rattle.mte_sched.proofs.BehaviourLemmas.{ledger_sliced, ledger_stopped}
 
 -- ---- a tenant that passes a test
 
@@ -152,7 +152,7 @@ module _ (positions : List ℕ) (ts : List code.Tenant) (id : ℕ) (indexed : Is
 -- ---- a slice and a stop
 
 pub sliced_entries : (p n : Pool) (ts us : List code.Tenant) (id steps : ℕ) → tenants_in n us ≡ map (tenant_after_slice id steps) (tenants_in p ts) → entries_in us ≡ entries_in ts
-sliced_entries p n ts us id steps e = sym (ledger_is n us) ∙ ap (map entry_of) e ∙ ledger_sliced id steps (tenants_in p ts) ∙ ledger_is p ts
+sliced_entries p n ts us id steps e = sym (ledger_is n us) ∙ ap (map entry_of) e ∙ ledger_sliced machine id steps (tenants_in p ts) ∙ ledger_is p ts
 
 ended_number : (b : Bool) (e : LedgerEntry) → (if b then (let u : LedgerEntry = record e { live = false } in u) else e).id ≡ e.id
 ended_number true e = refl
@@ -164,4 +164,4 @@ ended_numbers id (e ∷ es) = ap (λ k. k ∷ numbers_of (map (without_live id) 
 
 pub stopped_numbers : (p n : Pool) (ts us : List code.Tenant) (id : ℕ) → tenants_in n us ≡ map (tenant_after_stop id) (tenants_in p ts) → numbers_of (entries_in us) ≡ numbers_of (entries_in ts)
 stopped_numbers p n ts us id e =
-    ap numbers_of (sym (ledger_is n us) ∙ ap (map entry_of) e ∙ ledger_stopped id (tenants_in p ts) ∙ ap (map (without_live id)) (ledger_is p ts)) ∙ ended_numbers id (entries_in ts)
+    ap numbers_of (sym (ledger_is n us) ∙ ap (map entry_of) e ∙ ledger_stopped machine id (tenants_in p ts) ∙ ap (map (without_live id)) (ledger_is p ts)) ∙ ended_numbers id (entries_in ts)

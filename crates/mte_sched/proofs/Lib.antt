@@ -1,3 +1,4 @@
+pub mod BehaviourLemmas
 pub mod IsolationLemmas
 pub mod TenantLemmas
 mod PlaceLists

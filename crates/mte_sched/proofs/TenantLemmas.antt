@@ -230,6 +230,7 @@ sliced_tenant id steps pages p p' m m' same step =
 pub stopped_tenant : (id pages : ℕ) (p p' : TenantParts) (m : Memory) → (p.log.id == id) ≡ true
     → ((m : Memory) → machine_of p' m ≡ after_stop (machine_of p m))
     → tenant_gone p'.log pages ≡ tenant_after_stop id (tenant_by p m pages)
+unfolding after_stop
 stopped_tenant id pages p p' m live step =
     let number : p'.log.id ≡ p.log.id = ap number_in (step m) ∙ after-stop-id (machine_of p m) in
     rw (live, ← step m, number) refl

@@ -1,10 +1,11 @@
--- Isolation: no tenant can observe another.
-use Rattle.std.specs.Prelude.{◌≡◌, ℕ, ◌==◌, List, [], ◌∷◌, map, Option, Some, None}
-use Rattle.std.specs.Prelude.{if◌then◌else◌}
-use Rattle.mte_sched.specs.Lives.{Session, Life, Agree, lives}
+-- Isolation of machines: what Behaviours says of every behaviour, of the machine's.
+use Rattle.std.specs.Prelude.{◌≡◌, ℕ, List, map}
 use Rattle.mte_tenant.specs.Ledger.{Call, ledger_after}
-use Rattle.mte_sched.specs.Contents.{Tenant, Content, ledger_of, after_call, after_calls, empty}
-use Rattle.mte_sched.specs.Contents.{tenant_of, record_of}
+use Rattle.mte_sched.specs.Lives.{Session, Life, Agree, lives}
+use Rattle.mte_sched.specs.Behaviours.{HaveTheSame}
+use Rattle.mte_sched.specs.Contents.{Content, empty, ledger_of, after_call, after_calls}
+use Rattle.mte_sched.specs.Contents.{tenant_of, record_of, machine}
+pub use Rattle.mte_sched.specs.Behaviours.{tenant_among}
 
 -- What a session's host has after all its calls.
 abbrev pub content_after : Session → Content
@@ -22,17 +23,6 @@ NumbersStay = (life : Life) → (record_of (tenant_of life).held).id ≡ life.id
 abbrev pub TenantsAreAlone : Type 0
 TenantsAreAlone = (s : Session) → (content_after s).tenants ≡ map tenant_of (lives s)
 
--- The tenant with a number, if there is one.
-abbrev pub tenant_among : ℕ → List Tenant → Option Tenant
-tenant_among id [] = None
-tenant_among id (t ∷ more) = if t.id == id then Some t else tenant_among id more
-
--- Two sessions have the same tenant: its machine, or its record once it was stopped.
-pub record HaveTheSame (id : ℕ) (s t : Session) : Type 0 where
-  pub tenant : Tenant
-  pub one : tenant_among id (content_after s).tenants ≡ Some tenant
-  pub other : tenant_among id (content_after t).tenants ≡ Some tenant
-
 -- Whatever other tenants there are, and whatever they do.
 abbrev pub TenantsAreIsolated : Type 0
-TenantsAreIsolated = (id : ℕ) (s t : Session) → Agree id s t → HaveTheSame id s t
+TenantsAreIsolated = (id : ℕ) (s t : Session) → Agree id s t → HaveTheSame machine id s t

@@ -1,4 +1,5 @@
 pub mod Lives
+pub mod Behaviours
 pub mod Contents
 pub mod Places
 pub mod Tenants

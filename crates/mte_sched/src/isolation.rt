@@ -2,6 +2,7 @@
 
 ghost use Rattle.mte_sched.specs.Isolation.{LedgerFollows, NumbersStay, TenantsAreAlone};
 ghost use Rattle.mte_sched.specs.Isolation.{TenantsAreIsolated};
+ghost use Rattle.mte_sched.specs.Behaviours.{BehavioursAreAlone, BehavioursAreIsolated};
 ghost use Rattle.mte_sched.specs.Flags.{FlagIsClear};
 ghost use Rattle.mte_sched.specs.Bounds.{SlicesAreBounded, TurnsAreBounded};
 
@@ -14,6 +15,19 @@ pub fn ledger_follows()
 /// Nothing changes the number in a tenant's record.
 pub fn numbers_stay()
     ensures { NumbersStay }
+{}
+
+/// After every list of calls a host's tenants are the accepted admissions, each of them alone after
+/// its own slices and its own stop, whatever these make of it: M is what a live tenant is, and R
+/// what its stop leaves.
+pub fn behaviours_are_alone<M, R>()
+    ensures { BehavioursAreAlone M R }
+{}
+
+/// Two sessions that agree for a tenant have the same of it, whatever other tenants there are and
+/// whatever they do, and whatever a tenant is. `tenants_are_isolated` is this law of machines.
+pub fn behaviours_are_isolated<M, R>()
+    ensures { BehavioursAreIsolated M R }
 {}
 
 /// After every list of calls a host's tenants are the accepted admissions, each of them its machine

@@ -11,8 +11,8 @@ mod turns;
 
 pub use host::Host;
 pub use isolation::{
-    flag_is_clear, ledger_follows, numbers_stay, slices_are_bounded, tenants_are_alone,
-    tenants_are_isolated,
+    behaviours_are_alone, behaviours_are_isolated, flag_is_clear, ledger_follows, numbers_stay,
+    slices_are_bounded, tenants_are_alone, tenants_are_isolated,
 };
 pub use mte_arena::ArenaError;
 pub use mte_svc::{Output, Record, Status, TenantParts};

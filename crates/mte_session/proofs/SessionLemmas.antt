@@ -71,6 +71,7 @@ ends_next : (law : LedgerFollows) (r : Option Refusal) (e : Call) (more : List C
     → ((d : Content) (l : List Refused) → Ends law d l more (n + 1))
     → run_all (play_cases r (at c done) e n) more (n + 1)
     ≡ at (after_calls (after_call_cases r c e) more) (done ++ refusals_of n (record { call = e; refusal = r } ∷ decisions c.frames (ledger_cases r (ledger_of c) e) more))
+unfolding after_call
 ends_next law (Some r) e more c done n rest =
     rest c (done ++ (record { event = n; refusal = r }) ∷ [])
     ∙ ap (λ l. at (after_calls c more) l) (append_assoc done ((record { event = n; refusal = r }) ∷ []) (refusals_of (n + 1) (decisions c.frames (ledger_of c) more)))

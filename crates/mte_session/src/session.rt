@@ -135,7 +135,13 @@ fn run_events(
 #[rattlefmt::skip]
 #[tactic(
     auto,
-    unfolding(mte_tenant::specs::Ledger::call_refusal, mte_sched::specs::Contents::after_call)
+    unfolding(
+        mte_tenant::specs::Ledger::call_refusal,
+        mte_sched::specs::Contents::after_call,
+        mte_sched::specs::Contents::after_admit,
+        mte_sched::specs::Contents::after_slice_of,
+        mte_sched::specs::Contents::after_stop_of
+    )
 )]
 fn play(
     alloc: Global,

@@ -167,7 +167,8 @@ after-slice-stale n m l xs k c a =
 
 -- ---- a tenant's own events
 
-pub live-is : (m k : Machine) → contents.Live m ≡ contents.Live k → m ≡ k
+pub live-is :
+    (m k : Machine) → (let live : TenantState = contents.Live m in live) ≡ contents.Live k → m ≡ k
 live-is m k e = cc
 
 pub gone-stays : (own : List TenantEvent) (r : Record) (k : Machine) → after_own_events (Gone r) own ≡ contents.Live k → ⊥
