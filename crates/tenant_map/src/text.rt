@@ -16,6 +16,15 @@ const HEAD: &str =
     "each sign is a granule of 16 bytes: its tag in hexadecimal, or . where no page is mapped; \
     below it = in a live chunk, x in a freed one, ^ what was refused";
 
+/// Writes what is above the rows: a title, a story where there is one, and what the signs mean.
+fn write_head<W: Write>(out: &mut W, title: &str, story: &str) -> io::Result<()> {
+    writeln!(out, "{title}")?;
+    if !story.is_empty() {
+        writeln!(out, "{story}")?;
+    }
+    writeln!(out, "{HEAD}")
+}
+
 impl<'a> Picture<'a> {
     /// Writes the rows of the picture as text: a line of tags, and a line of whose they are where a
     /// chunk or the mark is there.
@@ -40,11 +49,7 @@ impl<'a> Picture<'a> {
         let addr = self.mark.map(|mark| mark.addr);
         let places = places(alloc, memory, map, self.extents, addr)?;
         let window = Window::around(places.as_slice(), addr);
-        writeln!(out, "{}", self.title)?;
-        if !self.story.is_empty() {
-            writeln!(out, "{}", self.story)?;
-        }
-        writeln!(out, "{HEAD}")?;
+        write_head(out, self.title, self.story)?;
         for place in &places {
             if window.number(place).is_some() {
                 self.write_row(out, memory, place)?;
