@@ -34,12 +34,12 @@ impl<'a> Report<'a> {
     }
 
     /// Draws chunks under a title and a story.
-    fn draw_extents<W: Write>(
+    fn draw_extents<'x, W: Write>(
         &self,
         alloc: Global,
         out: &mut W,
-        titles: [&str; 2],
-        extents: &[Extent],
+        titles: [&'x str; 2],
+        extents: &'x [Extent],
         memory: &mut Flat,
     ) -> io::Result<()> {
         let names = self.extent_names(alloc, extents)?;
@@ -64,12 +64,12 @@ impl<'a> Report<'a> {
     }
 
     /// Writes chunks as text, under a title and a story.
-    fn write_extents<W: Write>(
+    fn write_extents<'x, W: Write>(
         &self,
         alloc: Global,
         out: &mut W,
-        titles: [&str; 2],
-        extents: &[Extent],
+        titles: [&'x str; 2],
+        extents: &'x [Extent],
         memory: &mut Flat,
     ) -> io::Result<()> {
         let names = self.extent_names(alloc, extents)?;
