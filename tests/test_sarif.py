@@ -3,6 +3,7 @@
 import json
 import pathlib
 import re
+import shutil
 import subprocess
 import urllib.parse
 from typing import Any
@@ -11,8 +12,8 @@ import pytest
 
 from tests.support import c_tenants, sarif
 from tests.support.places import EXAMPLES, IMAGES, ROOT
-from tests.support.running import Word, run
-from tests.support.samples import tenant
+from tests.support.running import Word, run, succeed
+from tests.support.samples import COMPILERS, FLAGS, tenant
 from tests.support.tools import need
 
 RULES = {
@@ -113,3 +114,21 @@ def test_junit_of_a_folder(alone: pathlib.Path, tmp_path: pathlib.Path) -> None:
     suite = ran.output
     assert 'tests="2"' in suite and 'failures="1"' in suite and "Use After Free" in suite
     assert subprocess.run(["xmllint", "--noout", "-"], input=ran.out, check=False).returncode == 0
+
+
+def test_a_path_that_is_absolute_has_no_directory(
+    alone: pathlib.Path, tmp_path: pathlib.Path
+) -> None:
+    """The directory of a line table's file is that of a path that is not absolute."""
+    need("clang", "ld.lld")
+    for name in ("start.c", "tenant.h"):
+        shutil.copy(EXAMPLES / "c" / name, tmp_path)
+    shutil.copy(EXAMPLES / "c" / "use_after_free.c", tmp_path / "xabsolute.c")
+    words = [*COMPILERS["clang"], *FLAGS, "-o", "tenant.elf", "start.c", "xabsolute.c"]
+    succeed(words, cwd=tmp_path)
+    image = (tmp_path / "tenant.elf").read_bytes()
+    (tmp_path / "tenant.elf").write_bytes(image.replace(b"xabsolute.c\0", b"/absolute.c\0"))
+    run([alone, "--sarif", "told.sarif", "tenant.elf"], cwd=tmp_path)
+    text = (tmp_path / "told.sarif").read_text(encoding="ascii")
+    paths = set(re.findall(r'"uri":"([^"]*absolute\.c)"', text))
+    assert paths == {"file:///absolute.c"}

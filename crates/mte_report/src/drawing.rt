@@ -27,23 +27,10 @@ impl<'a> Report<'a> {
     ) -> io::Result<()> {
         let title = self.title_of(title);
         let title = format!(in alloc; "{title}")?;
-        let extents = extents(alloc, self.book)?;
         let story = self.story(alloc, memory)?;
-        let titles = [title.as_str(), story.as_str()];
-        self.draw_extents(alloc, out, titles, extents.as_slice(), memory)
-    }
-
-    /// Draws chunks under a title and a story.
-    fn draw_extents<W: Write>(
-        &self,
-        alloc: Global,
-        out: &mut W,
-        titles: [&str; 2],
-        extents: &[Extent],
-        memory: &mut Flat,
-    ) -> io::Result<()> {
-        let names = self.extent_names(alloc, extents)?;
-        let picture = self.picture(titles, extents, &names);
+        let extents = extents(alloc, self.book)?;
+        let names = self.extent_names(alloc, extents.as_slice())?;
+        let picture = self.picture(title.as_str(), story.as_str(), extents.as_slice(), &names);
         picture.draw(alloc, out, memory)
     }
 
@@ -57,23 +44,10 @@ impl<'a> Report<'a> {
     ) -> io::Result<()> {
         let title = self.title_of(title);
         let title = format!(in alloc; "{title}")?;
-        let extents = extents(alloc, self.book)?;
         let story = self.story(alloc, memory)?;
-        let titles = [title.as_str(), story.as_str()];
-        self.write_extents(alloc, out, titles, extents.as_slice(), memory)
-    }
-
-    /// Writes chunks as text, under a title and a story.
-    fn write_extents<W: Write>(
-        &self,
-        alloc: Global,
-        out: &mut W,
-        titles: [&str; 2],
-        extents: &[Extent],
-        memory: &mut Flat,
-    ) -> io::Result<()> {
-        let names = self.extent_names(alloc, extents)?;
-        let picture = self.picture(titles, extents, &names);
+        let extents = extents(alloc, self.book)?;
+        let names = self.extent_names(alloc, extents.as_slice())?;
+        let picture = self.picture(title.as_str(), story.as_str(), extents.as_slice(), &names);
         picture.write_text(alloc, out, memory)
     }
 
@@ -103,7 +77,8 @@ impl<'a> Report<'a> {
     /// A picture of chunks, under a title and a story.
     fn picture<'p, 'n>(
         &self,
-        [title, story]: [&'p str; 2],
+        title: &'p str,
+        story: &'p str,
         extents: &'p [Extent],
         names: &'p FrameNames<'n>,
     ) -> Picture<'p> {
