@@ -13,10 +13,11 @@ library is needed.
 """
 
 import argparse
+import re
 import sys
 from collections.abc import Iterator
 
-from a64 import compare, forms, groups, pages, rows, stores, table
+from a64 import compare, forms, groups, meaning, pages, rows, stores, table
 from a64.table import Form, Rows
 
 
@@ -63,6 +64,8 @@ def main() -> int:
         all_rows = table.read_rows()
         all_forms = table.read_forms(all_rows)
         if options.why:
+            if not re.fullmatch(r"(0x)?[0-9A-Fa-f]{1,8}", options.why):
+                raise table.TableError(f"{options.why} is no word of 32 bits in hexadecimal")
             print(pages.explained(int(options.why, 16), all_rows, all_forms))
             return 0
         if options.overlaps:
@@ -72,12 +75,12 @@ def main() -> int:
         if options.files:
             print("\n".join(files))
             return 0
-        found = list(compare.differences(all_rows))
+        found = [*compare.differences(all_rows), *meaning.differences(all_rows)]
         if options.check:
             found = [*differing_files(files), *found]
         else:
             write_files(files)
-    except (table.TableError, ValueError) as error:
+    except (table.TableError, OSError) as error:
         found = [str(error)]
     for line in found:
         print(line, file=sys.stderr)
