@@ -8,17 +8,15 @@ import os
 import pathlib
 import random
 import re
-import struct
 from collections.abc import Sequence
 
 import pytest
 
 from tests.support.drawn_words import Drawn, draw_all
-from tests.support.running import Ran, run, succeed
+from tests.support.objdump import OBJDUMP, START, lines_of_objdump
+from tests.support.running import Ran, run
 from tests.support.tools import need
 
-OBJDUMP = "aarch64-linux-gnu-objdump"
-START = 0x400000
 COUNT = int(os.environ.get("DISASSEMBLY_WORDS", "6000"))
 SEED = int(os.environ.get("DISASSEMBLY_SEED", "2036"))
 
@@ -33,17 +31,6 @@ ALIASES = set("""
     asr bfc bfi bfxil cinc cinv cmn cmp cmpp cneg cset csetm lsl lsr mneg mov mul mvn neg negs ngc
     ngcs ret ror sbfiz sbfx smnegl smull sxtb sxth sxtw tst ubfiz ubfx umnegl umull uxtb uxth
 """.split())
-
-
-def lines_of_objdump(words: Sequence[int], folder: pathlib.Path) -> list[str]:
-    """What objdump prints of words. White space is normalised, and what it adds is dropped: its
-    comments (from `//` on) and the names of symbols (`<..>`)."""
-    binary = folder / "words"
-    binary.write_bytes(struct.pack(f"<{len(words)}I", *words))
-    ran = succeed([OBJDUMP, "-D", "-z", "-b", "binary", "-m", "aarch64",
-                   f"--adjust-vma={START:#x}", binary])
-    lines = re.findall(r"^ *[0-9a-f]+:\t[0-9a-f]{8} \t(.*)$", ran.output, re.M)
-    return [" ".join(re.sub(r"//.*|<[^>]*>", "", line).split()) for line in lines]
 
 
 def disassembled(program: pathlib.Path, words: Sequence[int]) -> Ran:

@@ -52,6 +52,13 @@ def write_files(files: dict[str, str]) -> None:
             print(f"wrote {path}")
 
 
+def explained(digits: str, all_rows: Rows, all_forms: list[Form]) -> str:
+    """What a word in hexadecimal is."""
+    if not re.fullmatch(r"(0x)?[0-9A-Fa-f]{1,8}", digits):
+        raise table.TableError(f"{digits} is no word of 32 bits in hexadecimal")
+    return pages.explained(int(digits, 16), all_rows, all_forms)
+
+
 def main() -> int:
     parser = argparse.ArgumentParser(description=__doc__,
                                      formatter_class=argparse.RawDescriptionHelpFormatter)
@@ -64,9 +71,7 @@ def main() -> int:
         all_rows = table.read_rows()
         all_forms = table.read_forms(all_rows)
         if options.why:
-            if not re.fullmatch(r"(0x)?[0-9A-Fa-f]{1,8}", options.why):
-                raise table.TableError(f"{options.why} is no word of 32 bits in hexadecimal")
-            print(pages.explained(int(options.why, 16), all_rows, all_forms))
+            print(explained(options.why, all_rows, all_forms))
             return 0
         if options.overlaps:
             print(pages.overlaps(all_rows))

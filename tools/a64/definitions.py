@@ -62,6 +62,10 @@ class Registers(list[Value]):
 # ---- expressions
 
 
+def composite(kind: str, *parts: Any) -> Node:
+    return (kind, *parts)
+
+
 class Reader:
     """Reads an expression."""
 
@@ -114,7 +118,7 @@ class Reader:
         while self.next in LEVELS[level]:
             sign = self.take()
             right = self.binary(level if sign in RIGHT else level + 1)
-            left = ("binary", sign, left, right)
+            left = composite("binary", sign, left, right)
         return left
 
     def application(self) -> Node:
@@ -138,14 +142,14 @@ class Reader:
             self.take(")")
             while self.next == ".":
                 self.take()
-                node = ("project", node, self.take())
+                node = composite("project", node, self.take())
             return node
         name, *members = token.split(".")
         if members and members[-1][0].isupper():
             return ("name", members[-1])
-        node = ("name", name)
+        node = composite("name", name)
         for member in members:
-            node = ("project", node, member)
+            node = composite("project", node, member)
         return node
 
     def record(self) -> Node:

@@ -185,12 +185,11 @@ def writes_differ(row: Row, fields: Fields, written: dict[int, Any]) -> Optional
     number = int(register) if register.isdigit() else fields.get(register, 31)
     said = {number} - {31} if is_said(constants, fields) else set()
     loaded = {n for n, value in written.items() if isinstance(value, Unknown) and value.loaded}
-    base = {fields["rn"]} if "memory" in row.split("step") and "rn" in fields else set()
-    found = set(written) - loaded
-    if said - found or found - said - base:
-        return f"it says {numbers(said)}, and step_of_instr writes {numbers(found - base | said)}" \
-            if found - said - base else f"it says {numbers(said)}, which step_of_instr doesn't write"
-    return None
+    has_base = "memory" in row.split("step") and "rn" in fields
+    found = set(written) - loaded - ({fields["rn"]} - said if has_base else set())
+    if said == found:
+        return None
+    return f"it says {numbers(said)}, and step_of_instr writes {numbers(found)}"
 
 
 def numbers(registers: set[int]) -> str:
@@ -210,16 +209,17 @@ def differences_of_row(row: Row, step: Function) -> Iterator[TableError]:
         values = " ".join(f"{name}={value}" for name, value in fields.items())
         for key, text in said.items():
             if text and key not in found:
-                found[key] = row.error(f"{text} (for {values})".replace(" (for )", ""), key)
+                found[key] = row.error(f"{text}, where {values or 'it is'}", key)
     yield from found.values()
 
 
 # ---- names
 
 # The addressing modes that names end with, by the definition of the target.
-MODES = {"scaled_target": ("unsigned offset",), "offset_target": ("unscaled offset", "signed offset"),
-         "post_target": ("post-indexed",), "pre_target": ("pre-indexed",),
-         "register_target": ("register offset",)}
+MODES = {"scaled_target": (", unsigned offset",),
+         "offset_target": (", unscaled offset", ", signed offset"),
+         "post_target": (", post-indexed",), "pre_target": (", pre-indexed",),
+         "register_target": (", register offset",)}
 
 MNEMONIC = re.compile(r"(?<![\w.])(?:B\.cond|[A-Z][A-Z0-9]*)(?![\w.]*_)\b")
 NO_MNEMONICS = {"SP", "PC", "A", "N", "Z", "C", "V"}
@@ -245,16 +245,18 @@ def names_differ(row: Row, equation: str, read: dict[str, Definition]) -> Option
     names = row.said["names"]
     said = equation.partition(" = ")[2]
     named = re.search(r"\b(\w+_of)\b", said)
-    words = words_of_definition(named[1], read) if named and named[1] in read else ""
+    definition = named[1] if named and named[1] in read else ""
+    words = words_of_definition(definition, read) if definition else ""
     if words and mnemonics(names) != mnemonics(words):
-        return (f"they are {', '.join(sorted(mnemonics(names)))}, and the comment of {named[1]} "
-                f"has {', '.join(sorted(mnemonics(words)))}" if named else None)
+        return (f"they are {', '.join(sorted(mnemonics(names)))}, and the comment of {definition} "
+                f"has {', '.join(sorted(mnemonics(words)))}")
     kinds = set(re.findall(r"\(.*?\)", words))
     if kinds and kinds != set(re.findall(r"\(.*?\)", names)):
-        return f"the comment of {named[1] if named else ''} has {', '.join(sorted(kinds))}"
+        return f"the comment of {definition} has {', '.join(sorted(kinds))}"
     mode = re.search(r"\b(\w+_target)\b", said)
     if mode and not names.rstrip(".").endswith(MODES.get(mode[1], ())):
-        return f"{mode[1]} is for {' or '.join(MODES.get(mode[1], ('another mode',)))}"
+        wanted = [text.lstrip(", ") for text in MODES.get(mode[1], ())]
+        return f"{mode[1]} is for {' or '.join(wanted) or 'another mode'}"
     return None
 
 
