@@ -11,6 +11,7 @@ import re
 from collections.abc import Sequence
 
 import pytest
+from disassembly.absent import ABSENT
 
 from tests.support.drawn_words import Drawn, draw_all
 from tests.support.objdump import OBJDUMP, START, lines_of_objdump
@@ -19,12 +20,6 @@ from tests.support.tools import need
 
 COUNT = int(os.environ.get("DISASSEMBLY_WORDS", "6000"))
 SEED = int(os.environ.get("DISASSEMBLY_SEED", "2036"))
-
-# Prefetches, the tag instructions of privileged code, FEAT_CRC32, FEAT_PAuth and FEAT_CSSC.
-OTHERS = set("""
-    prfm prfum ldgm stgm stzgm crc32b crc32h crc32w crc32x crc32cb crc32ch crc32cw crc32cx pacga
-    abs cnt ctz smax smin umax umin
-""".split())
 
 # Each of the aliases that must occur.
 ALIASES = set("""
@@ -49,8 +44,8 @@ def is_unpredictable(theirs: str) -> bool:
 
 def may_refuse(theirs: str) -> bool:
     """Whether a word that objdump reads so may be no instruction of the profile: objdump refuses it
-    too, it is of another feature, or it is unpredictable."""
-    return "undefined" in theirs or theirs.split()[0] in OTHERS or is_unpredictable(theirs)
+    too, it is of an absent family, or it is unpredictable."""
+    return "undefined" in theirs or theirs.split()[0] in ABSENT or is_unpredictable(theirs)
 
 
 def is_right(drawn: Drawn, ours: str, theirs: str) -> bool:

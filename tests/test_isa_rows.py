@@ -12,6 +12,7 @@ from a64 import groups, pages, table
 
 from tests.support.altered_isa import AlteredIsa
 from tests.support.objdump import OBJDUMP, lines_of_objdump
+from tests.support.places import ROOT
 from tests.support.running import Ran, run
 from tests.support.tools import need
 
@@ -84,6 +85,8 @@ def add_crc32(isa: AlteredIsa) -> None:
     isa.change(ROWS, "\nOneSource ", f"\n{CRC32}OneSource ")
     isa.change(ROWS, "    else            TwoSource",
                "    13:3=2          Crc32\n    else            TwoSource")
+    names = "    mnemonics crc32b crc32h crc32w crc32x crc32cb crc32ch crc32cw crc32cx\n"
+    isa.change("isa/a64.absent", names, "")
     for path, name, text in ((ENCODING, "word_of", CRC32_WORD), (ENCODING, "tests", CRC32_TESTS),
                              (STEPS, "step_of_instr", CRC32_STEP)):
         isa.change(path, f"\n{name} (instr.OneSource ", f"\n{text}{name} (instr.OneSource ")
@@ -108,6 +111,15 @@ def test_crc32_is_a_row(isa: AlteredIsa) -> None:
     assert "ne_eqb (field_of 13 3 w) 2 (omega arith)" in two_source
     crc32 = lemmas.partition("\ncrc32 w ")[2].partition("\n)\n")[0]
     assert "is w 13 3 2 (omega arith)" in crc32 and "no_tag" not in crc32 + two_source
+
+
+def test_a_row_is_not_absent(isa: AlteredIsa) -> None:
+    """As long as the table of absent families has the mnemonics of a row, the row is refused."""
+    add_crc32(isa)
+    isa.write("isa/a64.absent", (ROOT / "isa" / "a64.absent").read_text(encoding="utf-8"))
+    line, other = isa.line_of(ROWS, "CRC32B"), isa.line_of("isa/a64.absent", "a checksum (CRC32)")
+    assert isa.told() == [f"{ROWS}:{line}: Crc32: names: CRC32B is absent by isa/a64.absent:{other} "
+                          "(a checksum (CRC32))"]
 
 
 def test_crc32_is_encoded_and_decoded(isa: AlteredIsa, tmp_path: pathlib.Path) -> None:
@@ -341,8 +353,8 @@ def altered_line(source: random.Random, line: str, others: Sequence[str]) -> str
     start = line[:len(line) - len(line.lstrip())]
     words = line.split()
     at = source.randrange(len(words))
-    kind = source.randrange(3)
-    changed = {0: [], 1: [words[at]] * 2, 2: [source.choice(source.choice(others).split())]}[kind]
+    other = source.choice(source.choice(others).split())
+    changed: list[str] = source.choice([[], [words[at]] * 2, [other]])
     return start + " ".join([*words[:at], *changed, *words[at + 1:]])
 
 
@@ -451,3 +463,59 @@ def test_changed_definitions_are_told(isa: AlteredIsa, path: str, old: str, new:
     isa.change(path, old, new)
     found = isa.told()
     assert len(found) == 1 and f": {row}: " in found[0], found
+
+
+# ---- the absent families
+
+ABSENT = "isa/a64.absent"
+
+
+@pytest.mark.parametrize(("path", "old", "new", "told"), [
+    (ABSENT, "FFFFF000=D5033000", "FFFFF000=D5034000",
+     ["isa/a64.absent:{a barrier}: a barrier: crates/run_cause/src/families.rt has no "
+      "FFFFF000=D5034000",
+      "crates/run_cause/src/families.rt: FFFFF000=D5033000 of a barrier is not in isa/a64.absent"]),
+    ("crates/run_cause/src/families.rt", "word >> 24 == 0xD8", "word >> 24 == 0xD9",
+     ["isa/a64.absent:{a prefetch}: a prefetch: crates/run_cause/src/families.rt has no "
+      "FF000000=D8000000",
+      "crates/run_cause/src/families.rt: FF000000=D9000000 of a prefetch is not in isa/a64.absent"]),
+    ("crates/run_cause/src/families.rt", 'Some("a barrier")', 'Some("barriers")',
+     ["isa/a64.absent:{a barrier}: a barrier: crates/run_cause/src/families.rt has no "
+      "FFFFF000=D5033000",
+      "crates/run_cause/src/families.rt: FFFFF000=D5033000 of barriers is not in isa/a64.absent"]),
+    (ABSENT, "page      PRFM", "page      PRFM and PRFUM",
+     ["docs/TENANTS.md:{| PRFM |}: isn't what the data give (run tools/isa.py)"]),
+    (ABSENT, "mnemonics prfm prfum", "mnemonics prfm",
+     ["tools/disassembly/absent.py:5: isn't what the data give (run tools/isa.py)"]),
+    (ABSENT, "7FE0E000=1AC04000", "7FE0E000=1AC0400",
+     ["isa/a64.absent:{1AC0400}: a checksum (CRC32): `7FE0E000=1AC0400` is not MASK=VALUE of eight "
+      "hexadecimal digits each"]),
+    (ABSENT, "7FE0E000=1AC04000", "7FE0E000=9AC04000",
+     ["isa/a64.absent:{9AC04000}: a checksum (CRC32): `7FE0E000=9AC04000`: the value has bits that "
+      "the mask hasn't"]),
+    (ABSENT, "    page      SVE\n", "",
+     ["isa/a64.absent:{SVE or SME}: SVE or SME: `page` and `avoid` go together"]),
+    (ABSENT, "    page      SVE\n", "    pages     SVE\n",
+     ["isa/a64.absent:{pages}: a line of no family, of no key, or a second one: pages"]),
+    ("docs/TENANTS.md", "<!-- to here. -->\n", "",
+     ["docs/TENANTS.md: the lines around its table of instructions are missing"]),
+])
+def test_absent_families_are_compared(isa: AlteredIsa, path: str, old: str, new: str,
+                                      told: list[str]) -> None:
+    """The page, the mnemonics and the families that a report tells are those of the table."""
+    isa.change(path, old, new)
+    wanted = [re.sub(r"([\w./]+):\{(.*?)\}",
+                     lambda found: f"{found[1]}:{isa.line_of(found[1], found[2])}", text)
+              for text in told]
+    assert isa.told(with_files=True) == wanted
+
+
+def test_order_of_absent_families(isa: AlteredIsa) -> None:
+    """Where words are of two families, the one that the code asks for first is the first."""
+    text = isa.text(ABSENT)
+    svc, hypervisor = re.findall(r"(?:^an SVC|^a call)[^\n]*\n[^\n]*\n\n", text, re.M)
+    isa.write(ABSENT, text.replace(svc + hypervisor, hypervisor + svc))
+    line = isa.line_of(ABSENT, "an SVC")
+    assert isa.told() == [
+        f"{ABSENT}:{line}: an SVC of another number than 0: crates/run_cause/src/families.rt asks "
+        "for FFE0001F=D4000001 before a call of a hypervisor, a monitor or a debugger"]

@@ -17,7 +17,7 @@ import re
 import sys
 from collections.abc import Iterator
 
-from a64 import compare, forms, groups, meaning, pages, rows, stores, table
+from a64 import absent, compare, forms, groups, meaning, pages, rows, stores, table
 from a64.table import Form, Rows
 
 
@@ -25,7 +25,20 @@ def written_files(all_rows: Rows, all_forms: list[Form]) -> dict[str, str]:
     """What every file must be, by its path."""
     return {**rows.written(all_rows), **groups.written(all_rows),
             **forms.written(all_rows, all_forms), **stores.written(all_rows),
-            **pages.written(all_rows, all_forms)}
+            **pages.written(all_rows, all_forms), **absent.written(absent.read_families())}
+
+
+def checked_files(all_rows: Rows, all_forms: list[Form]) -> dict[str, str]:
+    """The same, and the page of which a part is written."""
+    families = absent.read_families()
+    absent.check_rows(all_rows, families)
+    return {**written_files(all_rows, all_forms), absent.PAGE: absent.page(families)}
+
+
+def differences(all_rows: Rows) -> list[str]:
+    """Where what is written by hand says something else than the data."""
+    return [*compare.differences(all_rows), *meaning.differences(all_rows),
+            *absent.differences(absent.read_families())]
 
 
 def differing_files(files: dict[str, str]) -> Iterator[str]:
@@ -76,11 +89,11 @@ def main() -> int:
         if options.overlaps:
             print(pages.overlaps(all_rows))
             return 0
-        files = written_files(all_rows, all_forms)
         if options.files:
-            print("\n".join(files))
+            print("\n".join(written_files(all_rows, all_forms)))
             return 0
-        found = [*compare.differences(all_rows), *meaning.differences(all_rows)]
+        files = checked_files(all_rows, all_forms)
+        found = differences(all_rows)
         if options.check:
             found = [*differing_files(files), *found]
         else:

@@ -2,8 +2,8 @@
 
 import pathlib
 
-from a64 import compare, meaning, table
-from isa import differing_files, write_files, written_files
+from a64 import table
+from isa import checked_files, differences, differing_files, write_files
 
 from tests.support.checkout import copy_files
 from tests.support.places import ROOT
@@ -46,7 +46,7 @@ class AlteredIsa:
     def save(self) -> None:
         """Writes the files that follow from the data."""
         rows = table.read_rows()
-        files = written_files(rows, table.read_forms(rows))
+        files = checked_files(rows, table.read_forms(rows))
         self.changed |= set(files)
         write_files(files)
 
@@ -54,8 +54,8 @@ class AlteredIsa:
         """What the tool says of the data and the definitions by hand, and of the written files."""
         try:
             rows = table.read_rows()
-            files = written_files(rows, table.read_forms(rows))
+            files = checked_files(rows, table.read_forms(rows))
             files_told = list(differing_files(files)) if with_files else []
-            return [*files_told, *compare.differences(rows), *meaning.differences(rows)]
+            return [*files_told, *differences(rows)]
         except table.TableError as error:
             return [str(error)]
