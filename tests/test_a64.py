@@ -5,7 +5,9 @@ import pathlib
 import random
 
 import pytest
-from a64 import absent, calls, definitions, forms, groups, layout, meaning, pages, reach, stores, table
+from a64 import (
+    absent, calls, definitions, forms, groups, layout, meaning, pages, reach, stores, table,
+)
 from a64.definitions import Definitions, Unknown, applied
 from a64.table import Field, FieldTest, Row
 

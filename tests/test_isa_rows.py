@@ -118,8 +118,8 @@ def test_a_row_is_not_absent(isa: AlteredIsa) -> None:
     add_crc32(isa)
     isa.write("isa/a64.absent", (ROOT / "isa" / "a64.absent").read_text(encoding="utf-8"))
     line, other = isa.line_of(ROWS, "CRC32B"), isa.line_of("isa/a64.absent", "a checksum (CRC32)")
-    assert isa.told() == [f"{ROWS}:{line}: Crc32: names: CRC32B is absent by isa/a64.absent:{other} "
-                          "(a checksum (CRC32))"]
+    assert isa.told() == [f"{ROWS}:{line}: Crc32: names: CRC32B is absent by "
+                          f"isa/a64.absent:{other} (a checksum (CRC32))"]
 
 
 def test_crc32_is_encoded_and_decoded(isa: AlteredIsa, tmp_path: pathlib.Path) -> None:
@@ -212,7 +212,8 @@ REFUSED_ROWS = [
      "load_store_pair, write_back, two_source, offset_register, or one -> another)"),
     ("allows   two_source opcode", "allows   two_source opcode rm", "opcode rm",
      "TwoSource: allows: `two_source opcode rm`: two_source takes 1"),
-    ("allows   two_source opcode", "allows   below opcode 6 -> two_source opcode", "below opcode 6 ->",
+    ("allows   two_source opcode", "allows   below opcode 6 -> two_source opcode",
+     "below opcode 6 ->",
      "TwoSource: allows: `below opcode 6 -> two_source opcode`: only `equal` implies a test"),
     ("allows   two_source opcode", "allows   equal 3 opcode", "equal 3 opcode",
      "TwoSource: allows: `equal 3 opcode` has a number where a field is tested"),
@@ -250,8 +251,8 @@ REFUSED_ROWS = [
     ("overlaps TwoSource\n    example  9ADF", "example  9ADF", "SubP ",
      "SubP: it overlaps TwoSource (isa/a64.rows:{TwoSource }), and neither says so"),
     ("    allows   two_source opcode\n", "", "SubP +4",
-     "SubP: overlaps: nothing keeps it apart from TwoSource (isa/a64.rows:{TwoSource }), whose fixed bits "
-     "allow words of it"),
+     "SubP: overlaps: nothing keeps it apart from TwoSource (isa/a64.rows:{TwoSource }), whose "
+     "fixed bits allow words of it"),
     ("overlaps PairPost PairOff PairPre", "overlaps PairPost PairOff PairPre Svc", "PairPre Svc",
      "StGP: overlaps: it doesn't overlap Svc (isa/a64.rows:{Svc })"),
     ("overlaps PairPost PairOff PairPre", "overlaps PairPost PairOf PairPre", "PairOf ",
@@ -264,7 +265,8 @@ REFUSED_GROUPS = [
      "TwoSource: isa/a64.rows:{13:3=1} leads to it by 13:3=1, which are bits of its fields: words "
      "of it with other values would not be found"),
     ("    else            TwoSource", "    21:1=1          TwoSource", "TwoSource ",
-     "TwoSource: isa/a64.rows:{21:1=1          Two} leads to it by 21:1=1, and its fixed bits differ"),
+     "TwoSource: isa/a64.rows:{21:1=1          Two} leads to it by 21:1=1, and its fixed bits "
+     "differ"),
     ("    else            TwoSource", "    else            TwoSources", " TwoSources",
      "TwoSources is neither a row nor a group"),
     ("    else            TwoSource", "    else            Irg", "else            Irg",
@@ -275,8 +277,8 @@ REFUSED_GROUPS = [
      "TwoSource: the line before its own at isa/a64.rows:{13:3=1} takes words of it: neither its "
      "fixed bits nor what it refuses exclude 13:3=1 31:1=1"),
     ("    30:2=1 22:1=0   StGP", "    22:1=0 30:2=1   StGP", "PairPost ",
-     "PairPost: it refuses the tests 22:1=0 30:2=1 of isa/a64.rows:{22:1=0 30:2=1   StGP} together, "
-     "of which crates/a64_decode/proofs/RowPaths.antt has no lemma: test one field"),
+     "PairPost: it refuses the tests 22:1=0 30:2=1 of isa/a64.rows:{22:1=0 30:2=1   StGP} "
+     "together, of which crates/a64_decode/proofs/RowPaths.antt has no lemma: test one field"),
     ("    10:6=4 31:1=1   Irg", "    10:6=64 31:1=1  Irg", "10:6=64",
      "`10:6=64`: the value has more bits"),
     ("    10:6=4 31:1=1   Irg", "    30:6=4 31:1=1   Irg", "30:6=4",
@@ -323,7 +325,9 @@ def ids(cases: Sequence[tuple[str, ...]]) -> list[str]:
 
 def with_lines(isa: AlteredIsa, told: str) -> str:
     """What is told, with the number of the line that has the text in braces."""
-    return re.sub(r"\{(.*?)\}", lambda found: str(isa.line_of(ROWS, found[1])), told)
+    def numbered(found: re.Match[str]) -> str:
+        return str(isa.line_of(ROWS, found[1]))
+    return re.sub(r"\{(.*?)\}", numbered, told)
 
 
 @pytest.mark.parametrize(("old", "new", "where", "told"), [*REFUSED_ROWS, *REFUSED_GROUPS],
@@ -370,8 +374,8 @@ def test_whatever_is_written_is_taken_or_refused(isa: AlteredIsa, path: str) -> 
         line = altered_line(source, lines[number], [lines[each] for each in full])
         isa.write(path, "\n".join([*lines[:number], line, *lines[number + 1:]]))
         for told in isa.told():
-            assert re.match(r"(isa/a64\.(rows|forms)|crates/\w+/specs/\w+\.antt)(:\d+)?: \S", told), (
-                line, told)
+            assert re.match(r"(isa/a64\.(rows|forms):\d+|crates/\w+/specs/\w+\.antt): \S", told
+                            ), (line, told)
 
 
 def test_errors_go_to_standard_error(isa: AlteredIsa) -> None:
@@ -407,8 +411,8 @@ WRONG_MEANINGS = [
      "tags(regs, opc, rn, granules_on(mode, i64::from(imm9)), rn)", "StG", "stores"),
     ("stores   tags(regs, opc, rn, granules_on(mode, i64::from(imm9)), rt)", "stores   nothing",
      "StG", "stores"),
-    ("text     pc\n    stores   nothing", "text     pc\n    stores   one(regs, rt, 0, 3, rt)", "LdLit",
-     "stores"),
+    ("text     pc\n    stores   nothing", "text     pc\n    stores   one(regs, rt, 0, 3, rt)",
+     "LdLit", "stores"),
     ("scaled_offset(imm12, size), size, rt)", "scaled_offset(imm12, size), rt)", "LdStImm",
      "stores"),
     ("one(regs, rn, 0, size, rt)", "once(regs, rn, 0, size, rt)", "LdStPost", "stores"),
@@ -455,7 +459,8 @@ def test_wrong_meanings_are_told(isa: AlteredIsa, old: str, new: str, row: str, 
     ("crates/a64_step/specs/MemoryTagging.antt", "with_register r rt (with_address_tag",
      "with_register r rn (with_address_tag", "Ldg"),
     ("crates/a64_step/specs/Branches.antt", "if opc == BLR then", "if opc == BR then", "BranchReg"),
-    ("crates/a64_step/specs/LoadStore.antt", "-- LDR, LDRSW (literal)", "-- LDR (literal)", "LdLit"),
+    ("crates/a64_step/specs/LoadStore.antt", "-- LDR, LDRSW (literal)", "-- LDR (literal)",
+     "LdLit"),
 ])
 def test_changed_definitions_are_told(isa: AlteredIsa, path: str, old: str, new: str,
                                       row: str) -> None:
@@ -478,7 +483,8 @@ ABSENT = "isa/a64.absent"
     ("crates/run_cause/src/families.rt", "word >> 24 == 0xD8", "word >> 24 == 0xD9",
      ["isa/a64.absent:{a prefetch}: a prefetch: crates/run_cause/src/families.rt has no "
       "FF000000=D8000000",
-      "crates/run_cause/src/families.rt: FF000000=D9000000 of a prefetch is not in isa/a64.absent"]),
+      "crates/run_cause/src/families.rt: FF000000=D9000000 of a prefetch is not in "
+      "isa/a64.absent"]),
     ("crates/run_cause/src/families.rt", 'Some("a barrier")', 'Some("barriers")',
      ["isa/a64.absent:{a barrier}: a barrier: crates/run_cause/src/families.rt has no "
       "FFFFF000=D5033000",
@@ -504,9 +510,9 @@ def test_absent_families_are_compared(isa: AlteredIsa, path: str, old: str, new:
                                       told: list[str]) -> None:
     """The page, the mnemonics and the families that a report tells are those of the table."""
     isa.change(path, old, new)
-    wanted = [re.sub(r"([\w./]+):\{(.*?)\}",
-                     lambda found: f"{found[1]}:{isa.line_of(found[1], found[2])}", text)
-              for text in told]
+    def numbered(found: re.Match[str]) -> str:
+        return f"{found[1]}:{isa.line_of(found[1], found[2])}"
+    wanted = [re.sub(r"([\w./]+):\{(.*?)\}", numbered, text) for text in told]
     assert isa.told(with_files=True) == wanted
 
 

@@ -126,7 +126,7 @@ def plants(source: random.Random, top: pathlib.Path) -> Iterator[Plant]:
     """Each change."""
     rows = (top / "isa/a64.rows").read_text()
     yield from flipped_bits("isa/a64.rows", rows)
-    for path, count in [("isa/a64.rows", 40), ("isa/a64.forms", 40),
+    for path, count in [("isa/a64.rows", 40), ("isa/a64.forms", 40), ("isa/a64.absent", 20),
                         *((path, 2) for path in written_files(top))]:
         text = (top / path).read_text()
         yield from changed_lines(source, path, data_lines(text), count, text)

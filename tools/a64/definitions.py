@@ -242,6 +242,11 @@ def known(arity: int, call: Callable[..., Value]) -> Function:
 
 NOTHING = ("None",)
 
+
+def no_fault(*_: Value) -> Value:
+    return NOTHING
+
+
 GIVEN: Environment = {
     "true": True, "false": False, "w8": 1, "w16": 2, "w32": 4, "w64": 8,
     "not": known(1, lambda v: not v),
@@ -259,12 +264,11 @@ GIVEN: Environment = {
     "to_le_bytes": known(2, lambda width, n: [n >> 8 * k & 255 for k in range(width)]),
     "from_le_bytes": Function(2, lambda width, values: values if isinstance(values, Unknown)
                               else number_of(values)),
-    "sum_through": Function(2, lambda call, last: number_of([Unknown()]) if isinstance(last, Unknown)
-                            else combined(lambda *each: sum(each),
-                                          *(applied(call, [k]) for k in range(last + 1)))),
+    "sum_through": Function(2, lambda call, last: combined(
+        lambda *each: sum(each), *(applied(call, [k]) for k in range(last + 1)))),
     # Memory: no access faults, what is read is unknown, and what is written is named.
-    "read_fault": Function(4, lambda *_: NOTHING), "write_fault": Function(4, lambda *_: NOTHING),
-    "tags_fault": Function(3, lambda *_: NOTHING), "tag_load_fault": Function(2, lambda *_: NOTHING),
+    "read_fault": Function(4, no_fault), "write_fault": Function(4, no_fault),
+    "tags_fault": Function(3, no_fault), "tag_load_fault": Function(2, no_fault),
     "or_else": Function(2, lambda one, other: other if one == NOTHING else one),
     "read_bytes": Function(3, lambda *_: Unknown(loaded=True)),
     "tag_at": Function(2, lambda *_: 5), "tag_result": Function(2, lambda fault, tag: ("Ok", tag)),

@@ -25,6 +25,9 @@ SAMPLES = 16  # of each row
 PLAIN = (1 << 56) - 1  # the bits of a plain address
 WORD64 = (1 << 64) - 1
 
+# What the evaluation of a definition raises that takes values of other types than it is given.
+MISTYPED = (TypeError, KeyError, IndexError, ValueError, OverflowError, RecursionError)
+
 Fields = dict[str, int]
 Regs = dict[str, Any]  # the record Regs of the definitions
 Stored = Optional[tuple[Any, ...]]  # what is stored: bytes or tags, the address, and them
@@ -164,7 +167,7 @@ def stores_differ(row: Row, fields: Fields, regs: Regs, memory: Any) -> Optional
     constants, call = split_stores(row)
     try:
         said = called(call, fields, regs) if call and is_said(constants, fields) else None
-    except (DefinitionError, SyntaxError) as error:
+    except (DefinitionError, SyntaxError, *MISTYPED) as error:
         return f"`{call}`: {error}"
     found = stored_by_definition(memory)
     return None if said == found else f"it says {shown(said)}, and step_of_instr {shown(found)}"
@@ -265,7 +268,7 @@ def differences(rows: Rows) -> Iterator[str]:
     try:
         read = read_definitions()
         step = Definitions(read).named("step_of_instr")
-    except DefinitionError as error:
+    except (DefinitionError, *MISTYPED) as error:
         yield f"{STEPS}: {error}"
         return
     said = equations(STEPS, "step_of_instr")
@@ -277,5 +280,5 @@ def differences(rows: Rows) -> Iterator[str]:
             yield str(row.error(text, "names"))
         try:
             yield from map(str, differences_of_row(row, step))
-        except DefinitionError as error:
+        except (DefinitionError, *MISTYPED) as error:
             yield str(row.error(f"step_of_instr: {error}"))
