@@ -1,17 +1,20 @@
 """The package a64 of tools/: its words, tests, groups, calls, layout and definitions, each function
 on cases that are worked out by hand or by GNU objdump."""
 
+import inspect
 import pathlib
 import random
+import re
 
 import pytest
 from a64 import (
     absent, calls, definitions, forms, groups, layout, meaning, pages, reach, stores, table,
 )
-from a64.definitions import Definitions, Unknown, applied
+from a64.definitions import Definitions, Unknown, apply
 from a64.table import Field, FieldTest, Row
 
 from tests.support.objdump import OBJDUMP, lines_of_objdump
+from tests.support.places import ROOT
 from tests.support.tools import need
 
 ALL = table.read_rows()
@@ -22,7 +25,7 @@ CLASSES, GROUPS = groups.read_groups(ALL)
 def drawn_words(row: Row, count: int) -> list[int]:
     """Words of a row."""
     source = random.Random(row.name)
-    return [row.word(meaning.drawn_fields(source, row, {})) for _ in range(count)]
+    return [row.word(meaning.draw_fields(source, row, {})) for _ in range(count)]
 
 
 # ---- words
@@ -43,8 +46,8 @@ def test_words_are_encoded_and_decoded() -> None:
     for row in ALL.values():
         for word in drawn_words(row, 40):
             assert row.word(row.values(word)) == word
-            assert table.decoded(word, ALL) is row
-            assert groups.row_of(word, CLASSES, GROUPS) == row.name
+            assert table.decode(word, ALL) is row
+            assert groups.find_row(word, CLASSES, GROUPS) == row.name
 
 
 def test_other_words_have_no_row() -> None:
@@ -53,7 +56,7 @@ def test_other_words_have_no_row() -> None:
     source = random.Random(7)
     words = [source.getrandbits(32) for _ in range(20000)]
     for word in [0, 0xFFFFFFFF, 0xD4000002, 0x1AC24020, *words]:
-        row, by_groups = table.decoded(word, ALL), groups.row_of(word, CLASSES, GROUPS)
+        row, by_groups = table.decode(word, ALL), groups.find_row(word, CLASSES, GROUPS)
         if row is not None:
             assert by_groups == row.name
         elif by_groups is not None and ALL[by_groups].fits(word):
@@ -224,7 +227,7 @@ def test_what_rows_say() -> None:
 def test_definitions_are_evaluated(text: str, value: object) -> None:
     """An expression has the value that the definitions give."""
     read = Definitions(definitions.read_definitions())
-    assert read.evaluated(definitions.read_expression(text), {}) == value
+    assert read.evaluate(definitions.read_expression(text), {}) == value
 
 
 def test_a_definition_that_cannot_be_read() -> None:
@@ -237,10 +240,10 @@ def test_a_definition_that_cannot_be_read() -> None:
 def test_a_step_is_evaluated() -> None:
     """STP x5, x3, [x4, #-16]! stores both at the moved base; LDP loads."""
     read = Definitions(definitions.read_definitions())
-    regs = meaning.drawn_registers(random.Random(1))
+    regs = meaning.draw_registers(random.Random(1))
     x = regs["x"]
     for load in (0, 1):
-        left = applied(read.named("step_of_instr"),
+        left = apply(read.find_value("step_of_instr"),
                        [("PairPre", 2, load, -2, 3, 4, 5), regs, ("memory",)])
         written = left["regs"]["x"].written
         assert written[4] == (x[4] - 16) % 2**64
@@ -255,13 +258,27 @@ def test_a_step_is_evaluated() -> None:
 
 def test_calls_of_stores() -> None:
     """The value of a call of `stores`."""
-    regs = meaning.drawn_registers(random.Random(2))
+    regs = meaning.draw_registers(random.Random(2))
     regs["x"][4] = 0x0300_0000_0000_1000
     regs["x"][5] = 0x1122_3344_5566_7788
     fields = {"rn": 4, "rt": 5, "size": 1, "imm9": -2}
-    assert meaning.called("one(regs, rn, signed_offset(i64::from(imm9)), size, rt)", fields,
+    assert meaning.evaluate_call("one(regs, rn, signed_offset(i64::from(imm9)), size, rt)", fields,
                           regs) == ("bytes", 0x0300_0000_0000_0FFE, [0x88, 0x77])
-    assert meaning.called("tags(regs, 2, rn, 1, rn)", fields, regs) == ("tags", 0x1010, 2, 3)
+    assert meaning.evaluate_call("tags(regs, 2, rn, 1, rn)", fields, regs) == ("tags", 0x1010, 2, 3)
+
+
+def test_calls_of_stores_are_those_of_the_code() -> None:
+    """Each function that `stores` may call is one of the code, with the same parameters."""
+    code = "".join((ROOT / "crates" / path).read_text(encoding="utf-8") for path in (
+        "instruction_trace/src/stored.rt", "heap_bounds/src/addressing.rt"))
+    found = {name: re.findall(r"(\w+):", parameters)
+             for name, parameters in re.findall(r"fn (\w+)\(([^)]*)\) -> ", code)}
+    ours = [name for name in vars(meaning.Calls) if not name.startswith("_")]
+    assert len(ours) == 9
+    for name in ours:
+        taken = list(inspect.signature(getattr(meaning.Calls, name)).parameters)[1:]
+        has_regs = "regs" in found[name] and "_" not in taken
+        assert [{"_": "regs"}.get(each, each) for each in taken] == found[name][has_regs:], name
 
 
 # ---- absent families
@@ -282,7 +299,7 @@ def test_families_are_those_of_the_code() -> None:
             "const TWO: &str = \"two\";\n"
             "fn is_one(word: u32) -> bool {\n    let form = word >> 25 & 15;\n"
             "    form == 7 || word >> 28 == 1\n}\n")
-    assert list(absent.told(code)) == [
+    assert list(absent.find_families(code)) == [
         ("one", (0x1E000000, 0x0E000000)), ("one", (0xF0000000, 0x10000000)),
         ("two", (0x3F000000, 0x08000000)), ("two", (0xFF000000, 0x12000000)),
         ("three (3)", (0xFF9F0000, 0xD69F0000))]

@@ -39,7 +39,7 @@ def altered_isa(copied: AlteredIsa, monkeypatch: pytest.MonkeyPatch) -> Iterator
 
 def test_the_copy_is_right(isa: AlteredIsa) -> None:
     """Nothing is said of an unaltered copy."""
-    assert isa.told(with_files=True) == []
+    assert isa.findings(with_files=True) == []
 
 
 # ---- CRC32 and CRC32C, of a byte to a doubleword, as one row (Arm ARM DDI 0487, C6.2)
@@ -99,9 +99,9 @@ def test_crc32_is_a_row(isa: AlteredIsa) -> None:
     """All eight mnemonics are one block: it is read, what follows from it is written, and the check
     is satisfied, in a process of its own too."""
     add_crc32(isa)
-    assert isa.told() == []
+    assert isa.findings() == []
     isa.save()
-    assert isa.told(with_files=True) == []
+    assert isa.findings(with_files=True) == []
     ran = run([sys.executable, isa.root / "tools" / "isa.py", "--check"], seconds=120)
     assert ran == Ran(0, b"", b"")
     assert "Crc32 { sf: u8, rm: u8, c: u8, sz: u8, rn: u8, rd: u8 }" in isa.text(
@@ -118,7 +118,7 @@ def test_a_row_is_not_absent(isa: AlteredIsa) -> None:
     add_crc32(isa)
     isa.write("isa/a64.absent", (ROOT / "isa" / "a64.absent").read_text(encoding="utf-8"))
     line, other = isa.line_of(ROWS, "CRC32B"), isa.line_of("isa/a64.absent", "a checksum (CRC32)")
-    assert isa.told() == [f"{ROWS}:{line}: Crc32: names: CRC32B is absent by "
+    assert isa.findings() == [f"{ROWS}:{line}: Crc32: names: CRC32B is absent by "
                           f"isa/a64.absent:{other} (a checksum (CRC32))"]
 
 
@@ -138,8 +138,8 @@ def test_crc32_is_encoded_and_decoded(isa: AlteredIsa, tmp_path: pathlib.Path) -
     words = [rows["Crc32"].word(fields) for fields in drawn]
     for fields, word, text in zip(drawn, words, lines_of_objdump(words, tmp_path)):
         mnemonic = MNEMONICS.get((fields["sf"], fields["c"], fields["sz"]))
-        row = table.decoded(word, rows)
-        assert groups.row_of(word, *found) == "Crc32"
+        row = table.decode(word, rows)
+        assert groups.find_row(word, *found) == "Crc32"
         assert (row.name if row else None) == ("Crc32" if mnemonic else None), text
         if row is not None:
             assert row.values(word) == fields and text.split()[0] == mnemonic
@@ -151,10 +151,10 @@ def test_words_beside_crc32_keep_their_rows(isa: AlteredIsa) -> None:
     source = random.Random(5)
     words = [source.getrandbits(32) for _ in range(2000)]
     words += [0x1AC0_0000 | word & ~0x7FE0_0000 for word in words]
-    had = [table.decoded(word, before) for word in words]
+    had = [table.decode(word, before) for word in words]
     add_crc32(isa)
     after = table.read_rows()
-    have = [table.decoded(word, after) for word in words]
+    have = [table.decode(word, after) for word in words]
     assert any(row is not None and row.name == "Crc32" for row in have)
     assert all(now is not None and now.name == old.name for old, now in zip(had, have)
                if old is not None)
@@ -337,14 +337,14 @@ def test_rows_are_refused(isa: AlteredIsa, old: str, new: str, where: str, told:
     isa.change(ROWS, old, new)
     text, _, lines_below = where.partition("+")
     line = isa.line_of(ROWS, text.rstrip("\n")) + int(lines_below or 0)
-    assert isa.told() == [f"{ROWS}:{line}: {with_lines(isa, told)}"]
+    assert isa.findings() == [f"{ROWS}:{line}: {with_lines(isa, told)}"]
 
 
 @pytest.mark.parametrize(("old", "new", "told"), REFUSED_FORMS, ids=ids(REFUSED_FORMS))
 def test_forms_are_refused(isa: AlteredIsa, old: str, new: str, told: str) -> None:
     """One error names the line, the form and the reason."""
     isa.change(FORMS, old, new)
-    found = isa.told()
+    found = isa.findings()
     assert len(found) == 1 and re.match(rf"{FORMS}:\d+: ", found[0]), found
     assert found[0].partition(": ")[2] == told, found
 
@@ -373,7 +373,7 @@ def test_whatever_is_written_is_taken_or_refused(isa: AlteredIsa, path: str) -> 
         number = source.choice(full)
         line = altered_line(source, lines[number], [lines[each] for each in full])
         isa.write(path, "\n".join([*lines[:number], line, *lines[number + 1:]]))
-        for told in isa.told():
+        for told in isa.findings():
             assert re.match(r"(isa/a64\.(rows|forms):\d+|crates/\w+/specs/\w+\.antt): \S", told
                             ), (line, told)
 
@@ -446,7 +446,7 @@ def test_wrong_meanings_are_told(isa: AlteredIsa, old: str, new: str, row: str, 
     """A row that stores, writes or is called something else than the definition is told, with its
     line, and no other is."""
     isa.change(ROWS, old, new)
-    found = isa.told()
+    found = isa.findings()
     assert len(found) == 1, found
     place, name, rest = found[0].split(": ", 2)
     line = int(place.removeprefix(f"{ROWS}:"))
@@ -466,7 +466,7 @@ def test_changed_definitions_are_told(isa: AlteredIsa, path: str, old: str, new:
                                       row: str) -> None:
     """A definition that no longer does what the row says is told with the row."""
     isa.change(path, old, new)
-    found = isa.told()
+    found = isa.findings()
     assert len(found) == 1 and f": {row}: " in found[0], found
 
 
@@ -492,7 +492,7 @@ ABSENT = "isa/a64.absent"
     (ABSENT, "page      PRFM", "page      PRFM and PRFUM",
      ["docs/TENANTS.md:{| PRFM |}: isn't what the data give (run tools/isa.py)"]),
     (ABSENT, "mnemonics prfm prfum", "mnemonics prfm",
-     ["tools/disassembly/absent.py:5: isn't what the data give (run tools/isa.py)"]),
+     ["tools/disassembly/absent.py:{prfm}: isn't what the data give (run tools/isa.py)"]),
     (ABSENT, "7FE0E000=1AC04000", "7FE0E000=1AC0400",
      ["isa/a64.absent:{1AC0400}: a checksum (CRC32): `7FE0E000=1AC0400` is not MASK=VALUE of eight "
       "hexadecimal digits each"]),
@@ -513,7 +513,7 @@ def test_absent_families_are_compared(isa: AlteredIsa, path: str, old: str, new:
     def numbered(found: re.Match[str]) -> str:
         return f"{found[1]}:{isa.line_of(found[1], found[2])}"
     wanted = [re.sub(r"([\w./]+):\{(.*?)\}", numbered, text) for text in told]
-    assert isa.told(with_files=True) == wanted
+    assert isa.findings(with_files=True) == wanted
 
 
 def test_order_of_absent_families(isa: AlteredIsa) -> None:
@@ -522,6 +522,6 @@ def test_order_of_absent_families(isa: AlteredIsa) -> None:
     svc, hypervisor = re.findall(r"(?:^an SVC|^a call)[^\n]*\n[^\n]*\n\n", text, re.M)
     isa.write(ABSENT, text.replace(svc + hypervisor, hypervisor + svc))
     line = isa.line_of(ABSENT, "an SVC")
-    assert isa.told() == [
+    assert isa.findings() == [
         f"{ABSENT}:{line}: an SVC of another number than 0: crates/run_cause/src/families.rt asks "
         "for FFE0001F=D4000001 before a call of a hypervisor, a monitor or a debugger"]

@@ -65,7 +65,7 @@ def write_files(files: dict[str, str]) -> None:
             print(f"wrote {path}")
 
 
-def explained(digits: str, all_rows: Rows, all_forms: list[Form]) -> str:
+def explain(digits: str, all_rows: Rows, all_forms: list[Form]) -> str:
     """What a word in hexadecimal is."""
     if not re.fullmatch(r"(0x)?[0-9A-Fa-f]{1,8}", digits):
         raise table.TableError(f"{digits} is no word of 32 bits in hexadecimal")
@@ -84,7 +84,7 @@ def main() -> int:
         all_rows = table.read_rows()
         all_forms = table.read_forms(all_rows)
         if options.why:
-            print(explained(options.why, all_rows, all_forms))
+            print(explain(options.why, all_rows, all_forms))
             return 0
         if options.overlaps:
             print(pages.overlaps(all_rows))

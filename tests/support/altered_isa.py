@@ -50,7 +50,7 @@ class AlteredIsa:
         self.changed |= set(files)
         write_files(files)
 
-    def told(self, with_files: bool = False) -> list[str]:
+    def findings(self, with_files: bool = False) -> list[str]:
         """What the tool says of the data and the definitions by hand, and of the written files."""
         try:
             rows = table.read_rows()

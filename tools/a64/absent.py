@@ -4,7 +4,7 @@ import re
 from collections.abc import Iterator
 from dataclasses import dataclass, field
 
-from a64 import layout, table
+from a64 import table
 from a64.table import Row, Rows, TableError
 
 ABSENT = "isa/a64.absent"
@@ -87,9 +87,11 @@ NAMES_FILE = '''\
 # Written by tools/isa.py from {path}. Do not edit.
 """The mnemonics that a disassembler has for words that are no instruction of the profile."""
 
-ABSENT = set("""
+FAMILIES = {{
 {names}
-""".split())
+}}
+
+ABSENT = {{name for names in FAMILIES.values() for name in names.split()}}
 '''
 
 BEGIN = f"<!-- Written by tools/isa.py from {ABSENT}: -->\n"
@@ -97,8 +99,9 @@ END = "<!-- to here. -->\n"
 
 
 def names_file(families: Families) -> str:
-    words = " ".join(name for family in families for name in family.mnemonics)
-    return NAMES_FILE.format(path=ABSENT, names=layout.filled_lines(words, "    "))
+    lines = [f'    "{family.name}": "{" ".join(family.mnemonics)}",' for family in families
+             if family.mnemonics]
+    return NAMES_FILE.format(path=ABSENT, names="\n".join(lines))
 
 
 def page_table(families: Families) -> str:
@@ -160,7 +163,7 @@ def bits_of_test(text: str, shifted: int = 0) -> list[Bits]:
     return found
 
 
-def body_of(code: str, name: str) -> str:
+def function_body(code: str, name: str) -> str:
     found = re.search(rf"^(?:pub )?fn {name}\(word: u32\) -> .*?{{\n(.*?)^}}", code, re.M | re.S)
     if not found:
         raise TableError(f"{CODE}: there is no function {name}")
@@ -172,7 +175,7 @@ def bits_of_condition(code: str, text: str) -> list[Bits]:
     call = re.fullmatch(r"(\w+)\(word\)", text.strip())
     if not call:
         return bits_of_test(text)
-    body = body_of(code, call[1])
+    body = function_body(code, call[1])
     named = re.match(r"\s*let (\w+) = word >> (\d+)(?: & (\d+))?;\n", body)
     if not named:
         return bits_of_test(body)
@@ -184,11 +187,11 @@ def bits_of_condition(code: str, text: str) -> list[Bits]:
     return bits_of_test(test)
 
 
-def told(code: str, name: str = "family_of") -> Iterator[tuple[str, Bits]]:
+def find_families(code: str, name: str = "family_of") -> Iterator[tuple[str, Bits]]:
     """The families and bits of a function of the code, in their order."""
-    for inner, condition, family, last in ARM.findall(body_of(code, name)):
+    for inner, condition, family, last in ARM.findall(function_body(code, name)):
         if inner or last:
-            yield from told(code, inner or last)
+            yield from find_families(code, inner or last)
             continue
         constant = re.search(rf'const {re.escape(family)}: &str = "(.*?)";', code)
         words = constant[1] if constant else family.strip('"')
@@ -198,7 +201,7 @@ def told(code: str, name: str = "family_of") -> Iterator[tuple[str, Bits]]:
 def differences(families: Families) -> Iterator[str]:
     """Where the code tells another family than the data have."""
     code = (table.ROOT / CODE).read_text()
-    found = list(told(code))
+    found = list(find_families(code))
     wanted = [(family, bits) for family in families for bits in family.words]
     for family, bits in wanted:
         if (family.name, bits) not in found:

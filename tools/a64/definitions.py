@@ -209,12 +209,12 @@ def read_file(text: str, found: dict[str, Definition]) -> None:
 # ---- what isn't read from files
 
 
-def number_of(values: Sequence[Value]) -> Value:
+def little_endian_number(values: Sequence[Value]) -> Value:
     """The number of bytes, the lowest first."""
-    return combined(lambda *each: sum(byte << 8 * k for k, byte in enumerate(each)), *values)
+    return combine(lambda *each: sum(byte << 8 * k for k, byte in enumerate(each)), *values)
 
 
-def combined(call: Callable[..., Value], *values: Value) -> Value:
+def combine(call: Callable[..., Value], *values: Value) -> Value:
     """The value of a function of known values, else an unknown one."""
     unknown = [value for value in values if isinstance(value, Unknown)]
     if unknown:
@@ -222,7 +222,7 @@ def combined(call: Callable[..., Value], *values: Value) -> Value:
     return call(*values)
 
 
-def with_item(values: Value, place: int, value: Value) -> Value:
+def replace_item(values: Value, place: int, value: Value) -> Value:
     """A list with another item; of the registers, with a record of it."""
     changed = [*values[:place], value, *values[place + 1:]]
     if not isinstance(values, Registers):
@@ -235,9 +235,9 @@ def term(name: str, arity: int) -> Function:
     return Function(arity, lambda *values: (name, *values))
 
 
-def known(arity: int, call: Callable[..., Value]) -> Function:
+def lift(arity: int, call: Callable[..., Value]) -> Function:
     """A function of known values."""
-    return Function(arity, functools.partial(combined, call))
+    return Function(arity, functools.partial(combine, call))
 
 
 NOTHING = ("None",)
@@ -249,23 +249,23 @@ def no_fault(*_: Value) -> Value:
 
 GIVEN: Environment = {
     "true": True, "false": False, "w8": 1, "w16": 2, "w32": 4, "w64": 8,
-    "not": known(1, lambda v: not v),
-    "nat_lt": known(2, lambda a, b: a < b), "nat_le": known(2, lambda a, b: a <= b),
-    "pos": known(1, lambda n: n), "int_eq": known(2, lambda a, b: a == b),
-    "bit_and": known(2, lambda a, b: a & b), "bit_or": known(2, lambda a, b: a | b),
-    "bit_xor": known(2, lambda a, b: a ^ b),
-    "twos_complement": known(2, lambda width, n: n % (1 << width)),
-    "signed_of": known(2, lambda width, n: n if n < 1 << width - 1 else n - (1 << width)),
-    "slice_index": Function(2, lambda items, at: combined(lambda k: items[k], at)
+    "not": lift(1, lambda v: not v),
+    "nat_lt": lift(2, lambda a, b: a < b), "nat_le": lift(2, lambda a, b: a <= b),
+    "pos": lift(1, lambda n: n), "int_eq": lift(2, lambda a, b: a == b),
+    "bit_and": lift(2, lambda a, b: a & b), "bit_or": lift(2, lambda a, b: a | b),
+    "bit_xor": lift(2, lambda a, b: a ^ b),
+    "twos_complement": lift(2, lambda width, n: n % (1 << width)),
+    "signed_of": lift(2, lambda width, n: n if n < 1 << width - 1 else n - (1 << width)),
+    "slice_index": Function(2, lambda items, at: combine(lambda k: items[k], at)
                             if not isinstance(items, Unknown) else items),
-    "slice_set": Function(3, with_item),
-    "byte_len": known(1, lambda width: width),
-    "byte_worth": known(2, lambda k, byte: byte << 8 * k),
-    "to_le_bytes": known(2, lambda width, n: [n >> 8 * k & 255 for k in range(width)]),
+    "slice_set": Function(3, replace_item),
+    "byte_len": lift(1, lambda width: width),
+    "byte_worth": lift(2, lambda k, byte: byte << 8 * k),
+    "to_le_bytes": lift(2, lambda width, n: [n >> 8 * k & 255 for k in range(width)]),
     "from_le_bytes": Function(2, lambda width, values: values if isinstance(values, Unknown)
-                              else number_of(values)),
-    "sum_through": Function(2, lambda call, last: combined(
-        lambda *each: sum(each), *(applied(call, [k]) for k in range(last + 1)))),
+                              else little_endian_number(values)),
+    "sum_through": Function(2, lambda call, last: combine(
+        lambda *each: sum(each), *(apply(call, [k]) for k in range(last + 1)))),
     # Memory: no access faults, what is read is unknown, and what is written is named.
     "read_fault": Function(4, no_fault), "write_fault": Function(4, no_fault),
     "tags_fault": Function(3, no_fault), "tag_load_fault": Function(2, no_fault),
@@ -285,19 +285,19 @@ OPERATIONS: dict[str, Callable[[Value, Value], Value]] = {
 }
 
 
-def applied(function: Value, values: Sequence[Value]) -> Value:
+def apply(function: Value, values: Sequence[Value]) -> Value:
     """A function of some values."""
     if isinstance(function, Unknown):
-        return combined(lambda *_: function, *values)
+        return combine(lambda *_: function, *values)
     if isinstance(function, tuple):
         return (*function, *values)
     if not isinstance(function, Function):
-        raise DefinitionError(f"{function} is applied, and is no function")
+        raise DefinitionError(f"{function} is apply, and is no function")
     given = [*function.given, *values]
     if len(given) < function.arity:
         return Function(function.arity, function.call, tuple(given))
     result = function.call(*given[:function.arity])
-    return applied(result, given[function.arity:]) if len(given) > function.arity else result
+    return apply(result, given[function.arity:]) if len(given) > function.arity else result
 
 
 class Definitions:
@@ -307,72 +307,72 @@ class Definitions:
         self.read = read
         self.values: Environment = dict(GIVEN)
 
-    def named(self, name: str) -> Value:
+    def find_value(self, name: str) -> Value:
         """The value of a name that is no variable."""
         if name not in self.values:
-            self.values[name] = self.defined(name)
+            self.values[name] = self.make_value(name)
         return self.values[name]
 
-    def defined(self, name: str) -> Value:
+    def make_value(self, name: str) -> Value:
         definition = self.read.get(name)
         if definition is None or not definition.equations:
             return (name,) if name[0].isupper() else Unknown()
         patterns = [read_patterns(left) for left, _ in definition.equations]
         bodies = [right for _, right in definition.equations]
         if not patterns[0]:
-            return self.evaluated(read_expression(bodies[0]), {})
+            return self.evaluate(read_expression(bodies[0]), {})
 
         def call(*values: Value) -> Value:
             for pattern, body in zip(patterns, bodies):
-                bound = matched(pattern, values)
+                bound = match_patterns(pattern, values)
                 if isinstance(bound, Unknown):
                     return bound
                 if bound is not None:
-                    return self.evaluated(read_expression(body), bound)
+                    return self.evaluate(read_expression(body), bound)
             raise DefinitionError(f"no equation of {name} has {values}")
 
         return Function(len(patterns[0]), call)
 
-    def evaluated(self, node: Node, bound: Environment) -> Value:
+    def evaluate(self, node: Node, bound: Environment) -> Value:
         """The value of an expression, where its variables have these."""
         kind, *parts = node
         if kind == "number":
             return parts[0]
         if kind == "name":
-            return bound[parts[0]] if parts[0] in bound else self.named(parts[0])
+            return bound[parts[0]] if parts[0] in bound else self.find_value(parts[0])
         if kind == "list":
             return []
         if kind == "if":
-            test = self.evaluated(parts[0], bound)
+            test = self.evaluate(parts[0], bound)
             if isinstance(test, Unknown):
                 return test
-            return self.evaluated(parts[1 if test else 2], bound)
+            return self.evaluate(parts[1 if test else 2], bound)
         if kind == "let":
-            value = self.evaluated(parts[1], bound)
-            return self.evaluated(parts[2], {**bound, parts[0]: value})
+            value = self.evaluate(parts[1], bound)
+            return self.evaluate(parts[2], {**bound, parts[0]: value})
         if kind == "lambda":
-            return Function(1, lambda value: self.evaluated(parts[1], {**bound, parts[0]: value}))
+            return Function(1, lambda value: self.evaluate(parts[1], {**bound, parts[0]: value}))
         if kind == "apply":
-            function, *values = (self.evaluated(part, bound) for part in parts)
-            return applied(function, values)
-        return self.composed(kind, parts, bound)
+            function, *values = (self.evaluate(part, bound) for part in parts)
+            return apply(function, values)
+        return self.evaluate_composite(kind, parts, bound)
 
-    def composed(self, kind: str, parts: Sequence[Any], bound: Environment) -> Value:
+    def evaluate_composite(self, kind: str, parts: Sequence[Any], bound: Environment) -> Value:
         """The value of an operation, a member of a record, or a record."""
         if kind == "binary":
-            left = self.evaluated(parts[1], bound)
+            left = self.evaluate(parts[1], bound)
             if parts[0] in ("&&", "||"):
-                short = combined(lambda it: it == (parts[0] == "||"), left)
+                short = combine(lambda it: it == (parts[0] == "||"), left)
                 if short is True or isinstance(short, Unknown):
                     return left
-                return self.evaluated(parts[2], bound)
-            return combined(OPERATIONS[parts[0]], left, self.evaluated(parts[2], bound))
+                return self.evaluate(parts[2], bound)
+            return combine(OPERATIONS[parts[0]], left, self.evaluate(parts[2], bound))
         if kind == "project":
-            record = self.evaluated(parts[0], bound)
+            record = self.evaluate(parts[0], bound)
             return record if isinstance(record, Unknown) else record[parts[1]]
         base, members = parts
-        values = {name: self.evaluated(part, bound) for name, part in members}
-        old = {} if base is None else self.evaluated(base, bound)
+        values = {name: self.evaluate(part, bound) for name, part in members}
+        old = {} if base is None else self.evaluate(base, bound)
         return old if isinstance(old, Unknown) else {**old, **values}
 
 
@@ -385,7 +385,7 @@ def read_patterns(text: str) -> list[Node]:
     return list(node[2:])
 
 
-def matched(patterns: Sequence[Node], values: Sequence[Value]) -> Value:
+def match_patterns(patterns: Sequence[Node], values: Sequence[Value]) -> Value:
     """What the variables of patterns are, None where a value has another form, or an unknown."""
     bound: Environment = {}
     for pattern, value in zip(patterns, values):

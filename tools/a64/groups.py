@@ -173,7 +173,7 @@ def reach(name: str, known: list[Test], groups: Groups) -> None:
             passed = passed + [Test(test.start, 1, 1 - test.value, str(1 - test.value))]
 
 
-def row_of(word: int, classes: Classes, groups: Groups) -> Optional[str]:
+def find_row(word: int, classes: Classes, groups: Groups) -> Optional[str]:
     """The row that a word has by the encoding groups, whether its fields are allowed or not."""
     bits = word >> CLASS[0] & (1 << CLASS[1]) - 1
     name = next((each.group for each in classes if each.first <= bits <= each.last), "none")

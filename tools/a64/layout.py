@@ -15,11 +15,6 @@ def comment(mark: str, text: str, indent: str = "") -> str:
                          break_long_words=False, break_on_hyphens=False) + "\n"
 
 
-def filled_lines(text: str, indent: str) -> str:
-    """Words in lines of that indent."""
-    return textwrap.fill(text, WIDTH, initial_indent=indent, subsequent_indent=indent)
-
-
 def sentence(text: str) -> str:
     return f"{text[0].upper()}{text[1:]}."
 

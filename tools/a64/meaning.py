@@ -15,7 +15,7 @@ from typing import Any, Optional
 
 from a64.compare import STEPS, equations
 from a64.definitions import (
-    Definition, DefinitionError, Definitions, Function, Registers, Unknown, applied,
+    Definition, DefinitionError, Definitions, Function, Registers, Unknown, apply,
     read_definitions,
 )
 from a64.stores import split_stores, split_writes
@@ -49,12 +49,12 @@ class Calls:
         return 0 if n == 31 else int(self.regs["x"][n])
 
     def one(self, _: Regs, rn: int, offset: int, size: int, rt: int) -> Stored:
-        return "bytes", (self.base(rn) + offset) & WORD64, bytes_of(self.zero_or(rt), 1 << size)
+        return "bytes", (self.base(rn) + offset) & WORD64, to_bytes(self.zero_or(rt), 1 << size)
 
-    def two(self, _: Regs, opc: int, rn: int, offset: int, rt: int, rt2: int) -> Stored:
+    def two(self, _: Regs, opc: int, rn: int, imm7: int, rt: int, rt2: int) -> Stored:
         size = 8 if opc >= 2 else 4
-        both = [byte for n in (rt, rt2) for byte in bytes_of(self.zero_or(n), size)]
-        return "bytes", (self.base(rn) + offset * size) & WORD64, both
+        both = [byte for n in (rt, rt2) for byte in to_bytes(self.zero_or(n), size)]
+        return "bytes", (self.base(rn) + imm7 * size) & WORD64, both
 
     def tags(self, _: Regs, opc: int, rn: int, granules: int, rt: int) -> Stored:
         address = (self.base(rn) + 16 * granules) & PLAIN
@@ -75,17 +75,17 @@ class Calls:
         return {2: low, 6: signed}.get(option, self.zero_or(rm)) << (size if s else 0)
 
 
-def bytes_of(value: int, count: int) -> list[int]:
+def to_bytes(value: int, count: int) -> list[int]:
     return [value >> 8 * k & 255 for k in range(count)]
 
 
-def called(text: str, fields: Fields, regs: Regs) -> Any:
+def evaluate_call(text: str, fields: Fields, regs: Regs) -> Any:
     """The value of a call, written in Rust, for those fields and registers."""
     tree = ast.parse(re.sub(r"\bi64::from\(", "(", text), mode="eval").body
-    return value_of(tree, {**fields, "regs": regs}, Calls(regs))
+    return evaluate_tree(tree, {**fields, "regs": regs}, Calls(regs))
 
 
-def value_of(tree: ast.expr, names: dict[str, Any], calls: Calls) -> Any:
+def evaluate_tree(tree: ast.expr, names: dict[str, Any], calls: Calls) -> Any:
     if isinstance(tree, ast.Constant):
         return tree.value
     if isinstance(tree, ast.Name):
@@ -94,9 +94,9 @@ def value_of(tree: ast.expr, names: dict[str, Any], calls: Calls) -> Any:
         return names[tree.id]
     if not isinstance(tree, ast.Call):
         raise DefinitionError(f"`{ast.unparse(tree)}` is neither a field, a number nor a call")
-    values = [value_of(each, names, calls) for each in tree.args]
+    values = [evaluate_tree(each, names, calls) for each in tree.args]
     if isinstance(tree.func, ast.Attribute) and tree.func.attr == "wrapping_mul":
-        return value_of(tree.func.value, names, calls) * values[0]
+        return evaluate_tree(tree.func.value, names, calls) * values[0]
     name = tree.func.id if isinstance(tree.func, ast.Name) else ""
     function: Optional[Callable[..., Any]] = getattr(calls, name, None)
     if function is None or name.startswith("_"):
@@ -110,7 +110,7 @@ def value_of(tree: ast.expr, names: dict[str, Any], calls: Calls) -> Any:
 # ---- what is drawn
 
 
-def drawn_registers(source: random.Random) -> Regs:
+def draw_registers(source: random.Random) -> Regs:
     """Registers with values that differ."""
     return {"x": Registers([source.getrandbits(64) for _ in range(31)], {}),
             "sp": source.getrandbits(60) & ~15, "pc": source.getrandbits(50) & ~3,
@@ -118,7 +118,7 @@ def drawn_registers(source: random.Random) -> Regs:
             "rgsr": {"tag": source.randrange(16), "seed": source.getrandbits(16)}}
 
 
-def drawn_field(source: random.Random, f: Field) -> int:
+def draw_field(source: random.Random, f: Field) -> int:
     """A value of a field; register 31 is drawn often."""
     if f.width == 5 and source.random() < 0.1:
         return 31
@@ -126,10 +126,10 @@ def drawn_field(source: random.Random, f: Field) -> int:
     return value - (1 << f.width) if f.signed and value >> f.width - 1 else value
 
 
-def drawn_fields(source: random.Random, row: Row, given: Fields) -> Fields:
+def draw_fields(source: random.Random, row: Row, given: Fields) -> Fields:
     """Fields that the row allows; those that are given where that is allowed."""
     for number in range(1000):
-        fields = {f.name: drawn_field(source, f) for f in row.fields}
+        fields = {f.name: draw_field(source, f) for f in row.fields}
         fields |= given if number < 500 else {}
         if not row.refusals(row.word(fields)):
             return fields
@@ -142,13 +142,13 @@ def samples(row: Row) -> Iterator[tuple[Fields, Regs]]:
     given = {name: int(value) for constants, _ in (split_stores(row), split_writes(row))
              for name, value in constants.items()}
     for number in range(SAMPLES):
-        yield drawn_fields(source, row, given if number % 2 else {}), drawn_registers(source)
+        yield draw_fields(source, row, given if number % 2 else {}), draw_registers(source)
 
 
 # ---- what the definitions leave
 
 
-def stored_by_definition(memory: Any) -> Stored:
+def find_stored(memory: Any) -> Stored:
     """What a memory has that the first one had not."""
     kind, *parts = memory
     if kind == "memory":
@@ -158,22 +158,22 @@ def stored_by_definition(memory: Any) -> Stored:
     return "bytes", parts[1], parts[2]
 
 
-def is_said(constants: dict[str, str], fields: Fields) -> bool:
+def are_given(constants: dict[str, str], fields: Fields) -> bool:
     return all(fields[name] == int(value) for name, value in constants.items())
 
 
-def stores_differ(row: Row, fields: Fields, regs: Regs, memory: Any) -> Optional[str]:
+def compare_stores(row: Row, fields: Fields, regs: Regs, memory: Any) -> Optional[str]:
     """How what the row says that it stores isn't what the definition leaves."""
     constants, call = split_stores(row)
     try:
-        said = called(call, fields, regs) if call and is_said(constants, fields) else None
+        said = evaluate_call(call, fields, regs) if call and are_given(constants, fields) else None
     except (DefinitionError, SyntaxError, *MISTYPED) as error:
         return f"`{call}`: {error}"
-    found = stored_by_definition(memory)
-    return None if said == found else f"it says {shown(said)}, and step_of_instr {shown(found)}"
+    found = find_stored(memory)
+    return None if said == found else f"it says {describe_stored(said)}, and step_of_instr {describe_stored(found)}"
 
 
-def shown(stored: Stored) -> str:
+def describe_stored(stored: Stored) -> str:
     """What is stored, in a few words."""
     if stored is None:
         return "that nothing is stored"
@@ -182,33 +182,33 @@ def shown(stored: Stored) -> str:
     return f"{what} at {stored[1]:#x}"
 
 
-def writes_differ(row: Row, fields: Fields, written: dict[int, Any]) -> Optional[str]:
+def compare_writes(row: Row, fields: Fields, written: dict[int, Any]) -> Optional[str]:
     """How the registers that the row says that it writes aren't those that the definition does."""
     constants, register = split_writes(row)
     number = int(register) if register.isdigit() else fields.get(register, 31)
-    said = {number} - {31} if is_said(constants, fields) else set()
+    said = {number} - {31} if are_given(constants, fields) else set()
     loaded = {n for n, value in written.items() if isinstance(value, Unknown) and value.loaded}
     has_base = "memory" in row.split("step") and "rn" in fields
     found = set(written) - loaded - ({fields["rn"]} - said if has_base else set())
     if said == found:
         return None
-    return f"it says {numbers(said)}, and step_of_instr writes {numbers(found)}"
+    return f"it says {register_names(said)}, and step_of_instr writes {register_names(found)}"
 
 
-def numbers(registers: set[int]) -> str:
+def register_names(registers: set[int]) -> str:
     return ", ".join(f"x{n}" for n in sorted(registers)) or "none"
 
 
-def differences_of_row(row: Row, step: Function) -> Iterator[TableError]:
+def row_differences(row: Row, step: Function) -> Iterator[TableError]:
     """The first difference of each kind."""
     found: dict[str, TableError] = {}
     for fields, regs in samples(row):
         instr = (row.name, *(fields[f.name] for f in row.fields))
-        left = applied(step, [instr, regs, ("memory",)])
+        left = apply(step, [instr, regs, ("memory",)])
         if isinstance(left, Unknown) or isinstance(left["regs"], Unknown):
             raise DefinitionError("what it leaves depends on what isn't read")
-        said = {"stores": stores_differ(row, fields, regs, left["memory"]),
-                "writes": writes_differ(row, fields, left["regs"]["x"].written)}
+        said = {"stores": compare_stores(row, fields, regs, left["memory"]),
+                "writes": compare_writes(row, fields, left["regs"]["x"].written)}
         values = " ".join(f"{name}={value}" for name, value in fields.items())
         for key, text in said.items():
             if text and key not in found:
@@ -243,7 +243,7 @@ def words_of_definition(name: str, read: dict[str, Definition]) -> str:
                     if each in read)
 
 
-def names_differ(row: Row, equation: str, read: dict[str, Definition]) -> Optional[str]:
+def compare_names(row: Row, equation: str, read: dict[str, Definition]) -> Optional[str]:
     """How the row's names aren't those of the definition."""
     names = row.said["names"]
     said = equation.partition(" = ")[2]
@@ -267,7 +267,7 @@ def differences(rows: Rows) -> Iterator[str]:
     """Each line is a difference."""
     try:
         read = read_definitions()
-        step = Definitions(read).named("step_of_instr")
+        step = Definitions(read).find_value("step_of_instr")
     except (DefinitionError, *MISTYPED) as error:
         yield f"{STEPS}: {error}"
         return
@@ -275,10 +275,10 @@ def differences(rows: Rows) -> Iterator[str]:
     for row in rows.values():
         if row.name not in said:
             continue
-        text = names_differ(row, said[row.name], read)
+        text = compare_names(row, said[row.name], read)
         if text:
             yield str(row.error(text, "names"))
         try:
-            yield from map(str, differences_of_row(row, step))
+            yield from map(str, row_differences(row, step))
         except (DefinitionError, *MISTYPED) as error:
             yield str(row.error(f"step_of_instr: {error}"))

@@ -427,7 +427,7 @@ def check_overlaps(rows: Rows) -> None:
                 raise row.error(f"it doesn't overlap {name} ({rows[name].place})", "overlaps")
 
 
-def decoded(word: int, rows: Rows) -> Optional[Row]:
+def decode(word: int, rows: Rows) -> Optional[Row]:
     """The row that has a word and allows it, if there is one."""
     return next((row for row in rows.values() if row.fits(word) and not row.refusals(word)), None)
 
