@@ -145,7 +145,7 @@ def test_lines_that_are_passed() -> None:
     assert groups.passing_steps(line("21:3=6", "13:3=2"), two_source) == ["21:3=6", "13:3!=2"]
     assert groups.passing_steps(line("30:2=1", "22:1=0"), ALL["PairOff"]) == ["no_tag 30:2 22:1"]
     for tokens in (["13:3=1"], ["31:1=1"], ["30:1=0"]):
-        with pytest.raises(table.TableError, match="takes words of it"):
+        with pytest.raises(table.TableError, match="takes words of TwoSource"):
             groups.passing_steps(line(*tokens), two_source)
 
 

@@ -261,24 +261,23 @@ REFUSED_ROWS = [
 
 # The same of lines of encoding groups, and of rows that these don't lead to.
 REFUSED_GROUPS = [
-    ("    else            TwoSource", "    13:3=1          TwoSource", "TwoSource ",
-     "TwoSource: isa/a64.rows:{13:3=1} leads to it by 13:3=1, which are bits of its fields: words "
-     "of it with other values would not be found"),
-    ("    else            TwoSource", "    21:1=1          TwoSource", "TwoSource ",
-     "TwoSource: isa/a64.rows:{21:1=1          Two} leads to it by 21:1=1, and its fixed bits "
-     "differ"),
+    ("    else            TwoSource", "    13:3=1          TwoSource", "13:3=1",
+     "TwoSource: 13:3=1 leads to it, which are bits of its fields (isa/a64.rows:{TwoSource }): "
+     "words of it with other values would not be found"),
+    ("    else            TwoSource", "    21:1=1          TwoSource", "21:1=1          Two",
+     "TwoSource: 21:1=1 leads to it, and its fixed bits differ (isa/a64.rows:{TwoSource })"),
     ("    else            TwoSource", "    else            TwoSources", " TwoSources",
      "TwoSources is neither a row nor a group"),
     ("    else            TwoSource", "    else            Irg", "else            Irg",
      "Irg is reached by another line too (isa/a64.rows:{31:1=1   Irg})"),
     ("    else            TwoSource\n", "", "TwoSource ",
      "TwoSource: no line of an encoding group leads to it"),
-    ("    10:6=4 31:1=1   Irg", "    13:3=1 31:1=1   Irg", "TwoSource ",
-     "TwoSource: the line before its own at isa/a64.rows:{13:3=1} takes words of it: neither its "
-     "fixed bits nor what it refuses exclude 13:3=1 31:1=1"),
-    ("    30:2=1 22:1=0   StGP", "    22:1=0 30:2=1   StGP", "PairPost ",
-     "PairPost: it refuses the tests 22:1=0 30:2=1 of isa/a64.rows:{22:1=0 30:2=1   StGP} "
-     "together, of which crates/a64_decode/proofs/RowPaths.antt has no lemma: test one field"),
+    ("    10:6=4 31:1=1   Irg", "    13:3=1 31:1=1   Irg", "13:3=1",
+     "Irg: 13:3=1 31:1=1 takes words of TwoSource (isa/a64.rows:{TwoSource }), whose line is "
+     "below: neither its fixed bits nor what it refuses exclude them"),
+    ("    30:2=1 22:1=0   StGP", "    22:1=0 30:2=1   StGP", "22:1=0 30:2=1",
+     "StGP: PairPost (isa/a64.rows:{PairPost }) refuses 22:1=0 30:2=1 together, and "
+     "crates/a64_decode/proofs/RowPaths.antt has no lemma of it: test one field"),
     ("    10:6=4 31:1=1   Irg", "    10:6=64 31:1=1  Irg", "10:6=64",
      "`10:6=64`: the value has more bits"),
     ("    10:6=4 31:1=1   Irg", "    30:6=4 31:1=1   Irg", "30:6=4",

@@ -433,12 +433,14 @@ def passing_steps(line: Line, row: Row) -> list[str]:
             return [*steps, f"{place}!={test.text}"]
     said = " ".join(test.token for test in line.tests)
     if not excludes(row, line.tests):
-        raise row.error(f"the line before its own at {line.place} takes words of it: neither its "
-                        f"fixed bits nor what it refuses exclude {said or 'else'}")
+        raise table.TableError(f"{line.place}: {line.target}: {said or 'else'} takes words of "
+                               f"{row.name} ({row.place}), whose line is below: neither its fixed "
+                               "bits nor what it refuses exclude them")
     lemma = PAIRS.get(tuple(test.text for test in line.tests))
     if steps or lemma is None:
-        raise row.error(f"it refuses the tests {said} of {line.place} together, of which "
-                        "crates/a64_decode/proofs/RowPaths.antt has no lemma: test one field")
+        raise table.TableError(f"{line.place}: {line.target}: {row.name} ({row.place}) refuses "
+                               f"{said} together, and crates/a64_decode/proofs/RowPaths.antt has "
+                               "no lemma of it: test one field")
     bits = [f"{test.start}:{test.width}" for test in line.tests]
     return [f"{lemma} {' '.join(bits)}"]
 
@@ -449,10 +451,12 @@ def own_steps(line: Line, row: Row) -> list[str]:
     for test in line.tests:
         value = field_text(test, row)
         if (row.base ^ test.bits) & row.fixed_mask & test.mask:
-            raise row.error(f"{line.place} leads to it by {test.token}, and its fixed bits differ")
+            raise table.TableError(f"{line.place}: {row.name}: {test.token} leads to it, and its "
+                                   f"fixed bits differ ({row.place})")
         if value is None and test.start is not None:
-            raise row.error(f"{line.place} leads to it by {test.token}, which are bits of its "
-                            "fields: words of it with other values would not be found")
+            raise table.TableError(f"{line.place}: {row.name}: {test.token} leads to it, which are "
+                                   f"bits of its fields ({row.place}): words of it with other "
+                                   "values would not be found")
         steps += [value] if value else []
     return steps
 

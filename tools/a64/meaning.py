@@ -170,7 +170,9 @@ def compare_stores(row: Row, fields: Fields, regs: Regs, memory: Any) -> Optiona
     except (DefinitionError, SyntaxError, *MISTYPED) as error:
         return f"`{call}`: {error}"
     found = find_stored(memory)
-    return None if said == found else f"it says {describe_stored(said)}, and step_of_instr {describe_stored(found)}"
+    if said == found:
+        return None
+    return f"it says {describe_stored(said)}, and step_of_instr {describe_stored(found)}"
 
 
 def describe_stored(stored: Stored) -> str:
