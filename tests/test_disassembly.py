@@ -8,42 +8,24 @@ import os
 import pathlib
 import random
 import re
-import struct
 from collections.abc import Sequence
 
 import pytest
+from disassembly.absent import ABSENT
 
 from tests.support.drawn_words import Drawn, draw_all
-from tests.support.running import Ran, run, succeed
+from tests.support.objdump import OBJDUMP, START, lines_of_objdump
+from tests.support.running import Ran, run
 from tests.support.tools import need
 
-OBJDUMP = "aarch64-linux-gnu-objdump"
-START = 0x400000
 COUNT = int(os.environ.get("DISASSEMBLY_WORDS", "6000"))
 SEED = int(os.environ.get("DISASSEMBLY_SEED", "2036"))
-
-# Prefetches, the tag instructions of privileged code, FEAT_CRC32, FEAT_PAuth and FEAT_CSSC.
-OTHERS = set("""
-    prfm prfum ldgm stgm stzgm crc32b crc32h crc32w crc32x crc32cb crc32ch crc32cw crc32cx pacga
-    abs cnt ctz smax smin umax umin
-""".split())
 
 # Each of the aliases that must occur.
 ALIASES = set("""
     asr bfc bfi bfxil cinc cinv cmn cmp cmpp cneg cset csetm lsl lsr mneg mov mul mvn neg negs ngc
     ngcs ret ror sbfiz sbfx smnegl smull sxtb sxth sxtw tst ubfiz ubfx umnegl umull uxtb uxth
 """.split())
-
-
-def lines_of_objdump(words: Sequence[int], folder: pathlib.Path) -> list[str]:
-    """What objdump prints of words. White space is normalised, and what it adds is dropped: its
-    comments (from `//` on) and the names of symbols (`<..>`)."""
-    binary = folder / "words"
-    binary.write_bytes(struct.pack(f"<{len(words)}I", *words))
-    ran = succeed([OBJDUMP, "-D", "-z", "-b", "binary", "-m", "aarch64",
-                   f"--adjust-vma={START:#x}", binary])
-    lines = re.findall(r"^ *[0-9a-f]+:\t[0-9a-f]{8} \t(.*)$", ran.output, re.M)
-    return [" ".join(re.sub(r"//.*|<[^>]*>", "", line).split()) for line in lines]
 
 
 def disassembled(program: pathlib.Path, words: Sequence[int]) -> Ran:
@@ -62,8 +44,8 @@ def is_unpredictable(theirs: str) -> bool:
 
 def may_refuse(theirs: str) -> bool:
     """Whether a word that objdump reads so may be no instruction of the profile: objdump refuses it
-    too, it is of another feature, or it is unpredictable."""
-    return "undefined" in theirs or theirs.split()[0] in OTHERS or is_unpredictable(theirs)
+    too, it is of an absent family, or it is unpredictable."""
+    return "undefined" in theirs or theirs.split()[0] in ABSENT or is_unpredictable(theirs)
 
 
 def is_right(drawn: Drawn, ours: str, theirs: str) -> bool:

@@ -5,6 +5,7 @@ import re
 import sys
 
 import pytest
+from a64 import calls, forms, table
 
 from tests.support.places import ROOT
 from tests.support.running import Ran, run
@@ -60,6 +61,21 @@ def test_a_word_is_explained(word: str, told: str) -> None:
     """A word with a form, a refused one, one whose mask is worked out, one without a form or a
     row."""
     assert isa("--why", word) == Ran(0, told.encode(), b"")
+
+
+def test_the_page_counts_the_forms() -> None:
+    """docs/ADDING_AN_INSTRUCTION.md has how many forms there are and may be, and the arms of their
+    first match."""
+    page = (ROOT / "docs" / "ADDING_AN_INSTRUCTION.md").read_text(encoding="utf-8")
+    found = table.read_forms(table.read_rows())
+    variants = (ROOT / "crates" / "a64_ops" / "src" / "op.rt").read_text(encoding="utf-8")
+    assert len(re.findall(r"^    [A-Z]\w*(?:,| \{|\()", variants, re.M)) == len(found) + 1
+    assert f"**The table of forms is full: {len(found)} of {forms.MOST_FORMS}**" in page
+    arms = forms.first_arms(found, calls.read_sources(set(forms.WRITTEN)))
+    alone = sum(not form.family for form in found)
+    assert (f"has {len(arms)} arms, `Other` among them: one for each of the {alone} forms without "
+            f"a family, and one for every two of a family, where {forms.ARMS_EXCEEDED + 1} are the "
+            "fewest") in page
 
 
 def test_rows_that_overlap() -> None:

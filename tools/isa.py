@@ -13,10 +13,11 @@ library is needed.
 """
 
 import argparse
+import re
 import sys
 from collections.abc import Iterator
 
-from a64 import compare, forms, groups, pages, rows, stores, table
+from a64 import absent, compare, forms, groups, meaning, pages, rows, stores, table
 from a64.table import Form, Rows
 
 
@@ -24,7 +25,20 @@ def written_files(all_rows: Rows, all_forms: list[Form]) -> dict[str, str]:
     """What every file must be, by its path."""
     return {**rows.written(all_rows), **groups.written(all_rows),
             **forms.written(all_rows, all_forms), **stores.written(all_rows),
-            **pages.written(all_rows, all_forms)}
+            **pages.written(all_rows, all_forms), **absent.written(absent.read_families())}
+
+
+def checked_files(all_rows: Rows, all_forms: list[Form]) -> dict[str, str]:
+    """The same, and the page of which a part is written."""
+    families = absent.read_families()
+    absent.check_rows(all_rows, families)
+    return {**written_files(all_rows, all_forms), absent.PAGE: absent.page(families)}
+
+
+def differences(all_rows: Rows) -> list[str]:
+    """Where what is written by hand says something else than the data."""
+    return [*compare.differences(all_rows), *meaning.differences(all_rows),
+            *absent.differences(absent.read_families())]
 
 
 def differing_files(files: dict[str, str]) -> Iterator[str]:
@@ -51,6 +65,13 @@ def write_files(files: dict[str, str]) -> None:
             print(f"wrote {path}")
 
 
+def explain(digits: str, all_rows: Rows, all_forms: list[Form]) -> str:
+    """What a word in hexadecimal is."""
+    if not re.fullmatch(r"(0x)?[0-9A-Fa-f]{1,8}", digits):
+        raise table.TableError(f"{digits} is no word of 32 bits in hexadecimal")
+    return pages.explained(int(digits, 16), all_rows, all_forms)
+
+
 def main() -> int:
     parser = argparse.ArgumentParser(description=__doc__,
                                      formatter_class=argparse.RawDescriptionHelpFormatter)
@@ -63,21 +84,21 @@ def main() -> int:
         all_rows = table.read_rows()
         all_forms = table.read_forms(all_rows)
         if options.why:
-            print(pages.explained(int(options.why, 16), all_rows, all_forms))
+            print(explain(options.why, all_rows, all_forms))
             return 0
         if options.overlaps:
             print(pages.overlaps(all_rows))
             return 0
-        files = written_files(all_rows, all_forms)
         if options.files:
-            print("\n".join(files))
+            print("\n".join(written_files(all_rows, all_forms)))
             return 0
-        found = list(compare.differences(all_rows))
+        files = checked_files(all_rows, all_forms)
+        found = differences(all_rows)
         if options.check:
             found = [*differing_files(files), *found]
         else:
             write_files(files)
-    except (table.TableError, ValueError) as error:
+    except (table.TableError, OSError) as error:
         found = [str(error)]
     for line in found:
         print(line, file=sys.stderr)

@@ -22,8 +22,8 @@ from dataclasses import dataclass
 from typing import Optional
 
 ROOT = pathlib.Path(__file__).resolve().parents[1]
-CRATES = ("a64_instr", "a64_asm", "a64_decode", "a64_registers", "a64_step", "a64_ops", "a64_run",
-          "a64_text", "a64_tests", "instruction_trace")
+CRATES = ("a64_bits", "a64_instr", "a64_asm", "a64_decode", "a64_registers", "a64_step", "a64_ops",
+          "a64_run", "a64_text", "a64_tests", "instruction_trace", "run_cause")
 FOLDERS = ["isa", "tools", "docs", *(f"crates/{name}" for name in CRATES)]
 DEFINITIONS = {"crates/a64_asm/specs/Encoding.antt": r"^(word_of|tests) |^    ",
                "crates/a64_step/specs/Steps.antt": r"^step_of_instr \(instr"}
@@ -126,7 +126,7 @@ def plants(source: random.Random, top: pathlib.Path) -> Iterator[Plant]:
     """Each change."""
     rows = (top / "isa/a64.rows").read_text()
     yield from flipped_bits("isa/a64.rows", rows)
-    for path, count in [("isa/a64.rows", 40), ("isa/a64.forms", 40),
+    for path, count in [("isa/a64.rows", 40), ("isa/a64.forms", 40), ("isa/a64.absent", 20),
                         *((path, 2) for path in written_files(top))]:
         text = (top / path).read_text()
         yield from changed_lines(source, path, data_lines(text), count, text)

@@ -57,13 +57,15 @@ def executed_head(row: Row) -> str:
     return f"step_of_instr {applied(row)} r m"
 
 
-def compared(path: str, name: str, wanted: Equations, stands: Equations) -> Iterator[str]:
+def compared(path: str, name: str, wanted: Equations, stands: Equations,
+             rows: Rows) -> Iterator[str]:
     """Where a definition by hand isn't what the data say."""
     for row, text in wanted.items():
         if row not in stands:
-            yield f"{path}: {name} has no equation for {row}"
+            yield f"{rows[row].place}: {row}: {path} has no equation of {name} for it"
         elif stands[row] != text:
-            yield f"{path}: {name} of {row} is `{stands[row]}`, and the data say `{text}`"
+            yield (f"{rows[row].place}: {row}: {name} is `{stands[row]}` in {path}, and the data "
+                   f"say `{text}`")
     for row in stands:
         if row not in wanted:
             yield f"{path}: {name} has an equation for {row}, which is no row"
@@ -72,10 +74,11 @@ def compared(path: str, name: str, wanted: Equations, stands: Equations) -> Iter
 def differences(rows: Rows) -> Iterator[str]:
     """Each line is a difference."""
     words = {row.name: word_equation(row) for row in rows.values()}
-    yield from compared(ENCODING, "word_of", words, equations(ENCODING, "word_of"))
+    yield from compared(ENCODING, "word_of", words, equations(ENCODING, "word_of"),
+                        rows)
     tests = {row.name: tests_equation(row) for row in rows.values()}
-    yield from compared(ENCODING, "tests", tests, equations(ENCODING, "tests"))
+    yield from compared(ENCODING, "tests", tests, equations(ENCODING, "tests"), rows)
     heads = {row.name: executed_head(row) for row in rows.values()}
     stands = {name: text.split(" = ")[0]
               for name, text in equations(STEPS, "step_of_instr").items()}
-    yield from compared(STEPS, "step_of_instr", heads, stands)
+    yield from compared(STEPS, "step_of_instr", heads, stands, rows)

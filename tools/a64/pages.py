@@ -127,8 +127,6 @@ def matching_form(row: Row, values: Mapping[str, int], forms: list[Form],
 
 def explained(word: int, rows: Rows, forms: list[Form]) -> str:
     """What a word is: row, fields, and what refuses it or its form."""
-    if not 0 <= word < 1 << 32:
-        raise ValueError(f"{word:#x} is no word of 32 bits")
     lines = []
     for row in rows.values():
         if not row.fits(word):

@@ -4,7 +4,7 @@ import itertools
 from collections.abc import Mapping
 
 from a64 import table
-from a64.table import Field, Form, Row, Rows, TableError
+from a64.table import Field, Form, Row, Rows
 
 
 def takes(form: Form, values: Mapping[str, int]) -> bool:
@@ -47,6 +47,6 @@ def check(rows: Rows, forms: list[Form]) -> None:
             continue
         before = earlier.setdefault(form.row, [])
         if not is_reached(rows[form.row], form, before):
-            raise TableError(f"{table.FORMS}: {form.name} is never reached: earlier forms of "
-                             f"{form.row} take its instructions")
+            raise form.error(f"it is never reached: earlier forms of {form.row} take its "
+                             "instructions")
         before.append(form)

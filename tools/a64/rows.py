@@ -327,12 +327,12 @@ def imports_of_groups(ways: Ways) -> str:
     return "\n".join([*lines, line + "}"])
 
 
-def step_of_path(step: str, row: Row) -> str:
+def step_of_path(step: str) -> str:
     """A test on the way to a row, as an equation."""
-    if step == "no_tag":
-        opc, load = row.field("opc"), row.field("l")
-        return (f"no_tag (field_of {opc.bit} {opc.width} w) (field_of {load.bit} {load.width} w)"
-                " (λ p. omega arith)")
+    if " " in step:
+        lemma, *places = step.split()
+        fields = " ".join(f"(field_of {place.replace(':', ' ')} w)" for place in places)
+        return f"{lemma} {fields} (λ p. omega arith)"
     if "=" not in step:
         return f"to_{step} w (omega arith)"
     place, differs, value = step.partition("!=")
@@ -376,7 +376,7 @@ def proof_of_lemma(row: Row, place: int, path: list[str]) -> str:
     if not path:
         return f"{left} ({place}, subst (λ v. IsAt v {applied(row)} {place}) e (refl, refl))"
     margin = "      " if row.signed else "  "
-    steps = [step_of_path(step, row) for step in path]
+    steps = [step_of_path(step) for step in path]
     fields = [field_of_lemma(f) for f in row.fields]
     body = "\n".join([
         f"{margin}{place},",

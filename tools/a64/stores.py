@@ -1,5 +1,7 @@
 """Writes what each row stores, and the register that it writes, which `mte_run` tells."""
 
+import re
+
 from a64 import layout
 from a64.table import Row, Rows
 
@@ -62,25 +64,35 @@ def words_of(call: str) -> set[str]:
 def split_stores(row: Row) -> tuple[dict[str, str], str]:
     """The constant fields of `stores`, and its call; both are empty for `nothing`."""
     said = row.said.get("stores", "nothing")
-    return ({}, "") if said == "nothing" else split_constants(row, said)
+    if said == "nothing":
+        return {}, ""
+    constants, call = split_constants(row, "stores", said)
+    if not re.fullmatch(r"\w+\(.*\)", call):
+        raise row.error(f"`{call}` is neither `nothing` nor a call", "stores")
+    return constants, call
 
 
-def split_constants(row: Row, said: str) -> tuple[dict[str, str], str]:
+def split_constants(row: Row, key: str, said: str) -> tuple[dict[str, str], str]:
     """The constant fields that a line begins with, and its rest."""
     constants: dict[str, str] = {}
-    while "=" in said.split("(")[0]:
+    while "=" in said.partition(" ")[0]:
         constant, _, said = said.partition(" ")
-        name, _, value = constant.partition("=")
-        row.field(name)
-        constants[name] = value
+        name, value = row.constant(constant, key)
+        constants[name] = str(value)
     return constants, said
 
 
 def split_writes(row: Row) -> tuple[dict[str, str], str]:
     """The constant fields of `writes`, and the register; `rd` where nothing is said and there is
     one, else nothing."""
-    has_rd = any(f.name == "rd" for f in row.fields)
-    return split_constants(row, row.said.get("writes", "rd" if has_rd else ""))
+    if "writes" not in row.said:
+        return {}, "rd" if any(f.name == "rd" for f in row.fields) else ""
+    constants, register = split_constants(row, "writes", row.said["writes"])
+    if not register.isdigit():
+        row.field(register, "writes")
+    elif int(register) > 30:
+        raise row.error(f"there is no register {register}", "writes")
+    return constants, register
 
 
 def written_pattern(row: Row) -> str:
