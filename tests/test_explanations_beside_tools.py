@@ -563,7 +563,7 @@ def check_mark(one: Explained, picture: Picture) -> None:
     assert [place for place, _ in marked] == [address // 16 * 16]
     assert f" at {address:#010x}" in marked[0][1] or f" {address:#x}" in marked[0][1]
     if status.get("name") == "TagCheck":
-        tags = f" with tag {status['pointer_tag']}, memory has {status['memory_tag']}"
+        tags = f" with tag {status['pointer_tag']:#x}, memory has {status['memory_tag']:#x}"
         assert marked[0][1].endswith(tags)
     chunks = one.json["chunks"]
     if chunks and len(chunks) == 1:

@@ -6,7 +6,7 @@ from dataclasses import dataclass, field
 from typing import Optional
 
 SVG = "{http://www.w3.org/2000/svg}"
-CELL, PITCH, ROW, GRANULE = 16, 26, 1024, 16
+CELL, ROW, GRANULE = 16, 1024, 16
 TEXT_ROW = re.compile(r"(0x[0-9a-f]{8})(?:  class +\d+ +\d+ B  | {20})([0-9a-f.]{64})$")
 OWNERS = re.compile(r" {30}([ =x^]{64})(?:  (.*))?$")
 Element = xml.etree.ElementTree.Element
@@ -76,10 +76,10 @@ def place_of(group: Element) -> tuple[int, int]:
 
 
 def read_row(group: Element, address: int) -> Row:
-    """A row of a picture."""
-    cells = [it for it in group.findall(f"{SVG}use") if int(it.get("x", "0")) < 64 * CELL]
-    assert [int(it.get("x", "0")) for it in cells] == [CELL * at for at in range(64)]
-    names = [it.get("href", "") for it in cells]
+    """A row of a picture. The granules that it leaves out at its end have tag 0."""
+    cells = group.findall(f"{SVG}use")
+    assert [int(it.get("x", "0")) for it in cells] == [CELL * at for at in range(len(cells))]
+    names = [it.get("href", "") for it in cells] + ["#t0"] * (64 - len(cells))
     row = Row(address, [None if name == "#u" else int(name[2:]) for name in names])
     owners = group.find(f"{SVG}g[@clip-path]")
     shift = number("" if owners is None else owners.get("transform", ""), "translate")
@@ -89,7 +89,8 @@ def read_row(group: Element, address: int) -> Row:
         # Of a frame that is open at an end of the row, half a cell is beyond it.
         granules = {at for at in range(64) if left <= CELL * at + CELL // 2 < right}
         (row.live if rect.get("class") == "live" else row.freed).update(granules)
-    mark, says = group.find(f"{SVG}rect[@class='mark']"), group.find(f"{SVG}text[@class='says']")
+    mark = group.find(f"{SVG}rect[@class='mark']")
+    says = next((it for it in group.findall(f"{SVG}text") if "says" in it.get("class", "")), None)
     if mark is not None and says is not None:
         row.marked, row.says = int(mark.get("x", "0")) // CELL, str(says.text)
         assert group.find(f"{SVG}rect[@class='band']") is not None

@@ -215,8 +215,8 @@ def read_machine(told: Told, line: str) -> None:
         told.pages.append((int(found[1], 16), int(found[2], 16), found[3], found[4]))
     elif line.startswith("llvm-symbolizer "):
         told.symbolizer = line.split()
-    elif found := re.match(r"  generator: tag (\d+), seed (0x[0-9a-f]+)$", line):
-        told.generator = (int(found[1]), int(found[2], 16))
+    elif found := re.match(r"  generator: tag (0x[0-9a-f]), seed (0x[0-9a-f]+)$", line):
+        told.generator = (int(found[1], 16), int(found[2], 16))
     elif found := re.match(r"  (\S[a-z_ ]*?) {2,}(\d+)(?: of (\d+))?$", line):
         told.statistics[found[1]] = int(found[2])
         if found[3]:

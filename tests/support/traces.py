@@ -14,7 +14,7 @@ ONE = re.compile(r"\[(0x[0-9a-f]+)\] = (0x[0-9a-f]+) of (\d)$")
 TWO = re.compile(r"\[(0x[0-9a-f]+)\] = (0x[0-9a-f]+), (0x[0-9a-f]+) of (\d) each$")
 FROM_ONE = re.compile(r"from \[(0x[0-9a-f]+)\] (0x[0-9a-f]+) of (\d)$")
 FROM_TWO = re.compile(r"from \[(0x[0-9a-f]+)\] (0x[0-9a-f]+), (0x[0-9a-f]+) of (\d) each$")
-TAGGED = re.compile(r"tag of (\d) granules from (0x[0-9a-f]+) = (\d+)$")
+TAGGED = re.compile(r"tag of (\d) granules from (0x[0-9a-f]+) = (0x[0-9a-f])$")
 SERVICE = re.compile(r"(?: {11}| *(\d+)  )(\w+.*)$")
 SVC = 0xD4000001
 
@@ -77,7 +77,7 @@ def read_part(step: Step, part: str) -> None:
     elif found := KEPT.match(part):
         step.changes[found[1]] = (found[2], found[2])
     elif found := TAGGED.match(part):
-        step.tags = (int(found[2], 16), int(found[1]), int(found[3]))
+        step.tags = (int(found[2], 16), int(found[1]), int(found[3], 16))
     elif stored := read_access(part, ONE, TWO):
         step.stored = stored
     elif loaded := read_access(part, FROM_ONE, FROM_TWO):
