@@ -251,3 +251,29 @@ def stores(trace: str) -> list[tuple[int, int]]:
     """The steps of a trace that stored a byte, and where."""
     found = re.findall(r"^ *(\d+)  0x.*; \[(0x[0-9a-f]+)\] = 0x[0-9a-f]+ of 1$", trace, re.M)
     return [(int(step), int(place, 16)) for step, place in found]
+
+
+MANGLED = """namespace q {
+__attribute__((noinline)) int push(int *p) { return p[8]; }
+}
+extern "C" int main() { return q::push((int *)16); }
+"""
+
+
+def test_names_of_another_language(alone: pathlib.Path, tmp_path: pathlib.Path) -> None:
+    """They are as the linker has them, and c++filt writes them as the source has them."""
+    need("clang++", "ld.lld", "c++filt")
+    (tmp_path / "push.cpp").write_text(MANGLED, encoding="utf-8")
+    for name in ("start.c", "tenant.h"):
+        shutil.copy(EXAMPLES / "c" / name, tmp_path)
+    target = ["--target=aarch64-linux-gnu", "-nostdlib"]
+    words = [*target, "-O2", "-g", "-ffreestanding", "-mgeneral-regs-only", "-c"]
+    for compiler, source in (("clang", "start.c"), ("clang++", "push.cpp")):
+        succeed([compiler, *words, source], cwd=tmp_path)
+    link = ["clang", *target, "-fuse-ld=lld", "-static", "-o", "push.elf", "start.o", "push.o"]
+    succeed(link, cwd=tmp_path)
+    told = run([alone, "push.elf"], cwd=tmp_path).errors
+    assert "#0 _ZN1q4pushEPi+0x0 at push.cpp:2\n" in told
+    (tmp_path / "told").write_text(told, encoding="ascii")
+    shell = ["bash", "-c", "c++filt < told"]
+    assert "#0 q::push(int*)+0x0 at push.cpp:2\n" in succeed(shell, cwd=tmp_path).output
