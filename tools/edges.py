@@ -46,8 +46,8 @@ def read_crates(text: str) -> dict[str, list[str]]:
 
 def text_of(crate: pathlib.Path) -> str:
     """All that the files of a crate say, but in comments."""
-    files = [*crate.rglob("src/**/*.rt"), *crate.rglob("specs/**/*.antt"),
-             *crate.rglob("proofs/**/*.antt")]
+    files = [*crate.glob("src/**/*.rt"), *crate.glob("specs/**/*.antt"),
+             *crate.glob("proofs/**/*.antt")]
     texts = (it.read_text(encoding="utf-8") for it in files)
     return "\n".join(re.sub(r"(?://|--\s).*", "", text) for text in texts)
 

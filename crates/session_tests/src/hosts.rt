@@ -4,9 +4,9 @@ use crate::doubles::MemorySink;
 use crate::images::{HEADERS, HI, ILLEGAL, image};
 use address_map::{PAGE_SIZE, STACK_START};
 use mte_sched::{
-    Admission, AdmitError, Host, NotLive, Record, Refusal, Status, Terms, flag_is_clear,
-    ledger_follows, live_limit_in_digits, slices_are_bounded, tenants_are_alone,
-    tenants_are_isolated,
+    Admission, AdmitError, Host, NotLive, Record, Refusal, Status, Terms, behaviours_are_alone,
+    behaviours_are_isolated, flag_is_clear, ledger_follows, live_limit_in_digits,
+    slices_are_bounded, tenants_are_alone, tenants_are_isolated,
 };
 use mte_session::{ScriptFault, write_report};
 use mte_tags::TagMode;
@@ -92,6 +92,8 @@ fn one_host(rt: HostRuntime) -> Result<(), Fail> {
     ledger_follows();
     tenants_are_alone();
     tenants_are_isolated();
+    behaviours_are_alone::<u64, bool>();
+    behaviours_are_isolated::<u64, bool>();
     flag_is_clear();
     slices_are_bounded();
     live_limit_in_digits();
