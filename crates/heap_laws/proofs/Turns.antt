@@ -8,7 +8,8 @@ use Rattle.tag_discipline.specs.CarefulRuns.{State, Live, no_chunks, HasFree, st
 use Rattle.tag_discipline.specs.CarefulTenants.{state_of, before_service, live_after, live_through, IsCareful}
 use Rattle.tag_discipline.specs.CarefulSessions.{live_of, AreCareful, first_machine}
 use Rattle.tag_discipline.specs.SoundHeaps.{Sound}
-use Rattle.tag_discipline.specs.Discipline.{NextDeallocation, Deallocation}
+use Rattle.tag_discipline.specs.Discipline.{Deallocation}
+use Rattle.tag_discipline.specs.TenantLaws.{NextDeallocation}
 use Rattle.tag_discipline.proofs.Freed.{Freed, IsStale}
 use Rattle.tag_discipline.proofs.Tenants.{step-quiet, after-attempt-kept, after-attempt-done}
 use Rattle.tag_discipline.proofs.Starts.{tenants-start}

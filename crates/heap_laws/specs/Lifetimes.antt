@@ -18,7 +18,8 @@ use Rattle.tag_discipline.specs.CarefulTenants.{state_of, before_service, next_c
 use Rattle.tag_discipline.specs.CarefulTenants.{IsCarefulNext}
 use Rattle.tag_discipline.specs.CarefulSessions.{first_machine}
 use Rattle.tag_discipline.specs.SoundHeaps.{Sound}
-use Rattle.tag_discipline.specs.Discipline.{NextDeallocation, given_tag}
+use Rattle.tag_discipline.specs.Discipline.{given_tag}
+use Rattle.tag_discipline.specs.TenantLaws.{NextDeallocation}
 use Rattle.heap_laws.specs.NewChunks.{IsZero}
 use Rattle.heap_laws.specs.Uses.{IsUsable}
 use Rattle.heap_laws.specs.Distances.{AreOddBlocksApart}

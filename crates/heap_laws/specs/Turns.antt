@@ -11,7 +11,8 @@ use Rattle.tag_discipline.specs.CarefulTenants.{IsCarefulNext}
 use Rattle.tag_discipline.specs.CarefulSessions.{first_machine, live_of, IsCarefulIn}
 use Rattle.tag_discipline.specs.Laws.{IsOutOfReach}
 use Rattle.tag_discipline.specs.SoundHeaps.{Sound}
-use Rattle.tag_discipline.specs.Discipline.{NextDeallocation, AreOtherTags, given_tag}
+use Rattle.tag_discipline.specs.Discipline.{AreOtherTags, given_tag}
+use Rattle.tag_discipline.specs.TenantLaws.{NextDeallocation}
 use Rattle.heap_laws.specs.Frees.{HasFreedHeader, IsAborted}
 
 -- next: a careful attempt, with `left` steps of its slice left, after which P holds

@@ -2,7 +2,7 @@
 //! synchronous mode that stores no tags itself, and whose frees and reallocations name live chunks
 //! with the headers that the heap wrote, or nothing that passes the heap's checks. Each law of a
 //! state that `Sound` holds of holds of each tenant of a session whose slices were careful
-//! (`careful_runs_are_sound`), and of each machine that its turns come to (`tenants_take_turns`).
+//! (`careful_tenants_are_sound`), and of each machine that its turns come to (`tenants_take_turns`).
 
 ghost use Rattle.heap_laws.specs.NewChunks.{NewChunksAreLive, NewChunksAreZero};
 ghost use Rattle.heap_laws.specs.NewChunks.{SizesAndAlignments};
@@ -33,8 +33,12 @@ pub fn new_chunks_are_zero()
 /// No read and no write through the pointer to a live chunk faults, checked or not, whose bytes lie
 /// in the chunk's granules or, where it has pages of its own, in these.
 pub fn chunks_may_be_used()
-    ensures chunks { ChunksMayBeUsed }
-    ensures sessions { ChunksOfTenantsMayBeUsed }
+    ensures { ChunksMayBeUsed }
+{}
+
+/// The same of a tenant of a session whose slices were careful, beside any other tenants.
+pub fn chunks_of_tenants_may_be_used()
+    ensures { ChunksOfTenantsMayBeUsed }
 {}
 
 /// A careful call leaves each live chunk that it neither frees nor reallocates live, with its bytes

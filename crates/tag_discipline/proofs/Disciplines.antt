@@ -32,12 +32,9 @@ use Rattle.tag_discipline.specs.LiveChunks.{BlockChunk, chunk_at, IsCarved}
 use Rattle.tag_discipline.specs.LivePages.{PageChunk, large_at}
 use Rattle.tag_discipline.proofs.Freed.{Freed, IsStale}
 use Rattle.tag_discipline.specs.Laws.{IsRefused}
-use Rattle.tag_discipline.specs.CarefulRuns.{State, Live, state_after_call, IsLiveBlock, IsCareful, HasFree}
+use Rattle.tag_discipline.specs.CarefulRuns.{State, state_after_call, IsLiveBlock, IsCareful, HasFree}
 use Rattle.tag_discipline.specs.SoundHeaps.{Sound}
-use Rattle.tag_discipline.specs.Discipline.{StartsSound, StaysSound, MayFree, Deallocation, KeepsFree, FreedBlocksAreRefused, IsUnmapped, FreedPagesAreUnmapped, IsFreshIn, NewTagsDiffer, NeighboursDiffer, ChunksAreApart, ChunksAreGuarded, SlicesStaySound, NextDeallocation, KeepsFreeTo, FreedBlocksStayRefused, IsNewIn, malloc, calloc, memalign, realloc as realloc_call, AreOtherTags, given_tag, ReusedTagsDiffer, ReusedTagsStayDifferent, FreedPagesAreRefused, FreedBlocksAreFree, ChunksAreTagged}
-use Rattle.mte_tenant.specs.Machines.{Machine}
-use Rattle.tag_discipline.specs.CarefulTenants.{state_of, before_service}
-use Rattle.tag_discipline.proofs.Tenants.{step-quiet, after-attempt-kept, after-attempt-done, after-slice-sound, steps-sound, steps-stale}
+use Rattle.tag_discipline.specs.Discipline.{StartsSound, StaysSound, MayFree, Deallocation, KeepsFree, FreedBlocksAreRefused, IsUnmapped, FreedPagesAreUnmapped, IsFreshIn, NewTagsDiffer, NeighboursDiffer, ChunksAreApart, ChunksAreGuarded, IsNewIn, malloc, calloc, memalign, realloc as realloc_call, AreOtherTags, given_tag, ReusedTagsDiffer, FreedPagesAreRefused, FreedBlocksAreFree, ChunksAreTagged}
 use Rattle.tag_discipline.proofs.Serving.{blocks-of}
 use Rattle.tag_discipline.proofs.BlockCalls.{room}
 use Rattle.tag_discipline.proofs.Faults.{AreKept, are-kept, in-sync, touching}
@@ -132,7 +129,7 @@ stale-by s pointer c x k n l (inr e) on =
 
 -- ---- a deallocation
 
-abbrev freed-of : (a : State) → Deallocation a → Freed
+abbrev pub freed-of : (a : State) → Deallocation a → Freed
 freed-of a d = record { place = d.chunk.place; tag = d.chunk.tag; given = (state_after_call d.call a).world.rgsr.tag }
 
 -- the chunk that it freed is stale as long as its block is free
@@ -140,7 +137,7 @@ pub record IsStaleIn (s : State) (f : Freed) : Type 0 where
   pub sound : Sound s
   pub stale : IsStale s.world.memory s.world.heap.stacks f
 
-deallocated : (a : State) (d : Deallocation a) → Sound a → IsStaleIn (state_after_call d.call a) (freed-of a d)
+pub deallocated : (a : State) (d : Deallocation a) → Sound a → IsStaleIn (state_after_call d.call a) (freed-of a d)
 deallocated a d k = record {
   sound = (call-kept a d.call k (block-careful a d.pointer d.call d.chunk d.live d.may)).sound;
   stale = stale-by a d.pointer d.call d.chunk k (not-zero a d.pointer d.chunk k d.live) d.live d.may d.free;
@@ -151,7 +148,7 @@ stays-stale a b d k run =
     let first = deallocated a d k in
     record { sound = run-sound run first.sound; stale = run-stale (freed-of a d) run first.sound first.stale }
 
-out-of-reach : (s : State) (f : Freed) → IsStaleIn s f → (addr : ℕ) → f.place.user ≤ addr → addr < end_of f.place → IsRefused s.world.memory f.tag addr
+pub out-of-reach : (s : State) (f : Freed) → IsStaleIn s f → (addr : ℕ) → f.place.user ≤ addr → addr < end_of f.place → IsRefused s.world.memory f.tag addr
 out-of-reach s f st addr low high = stale-refused s st.sound f st.stale addr low high
 
 pub freed-blocks : FreedBlocksAreRefused
@@ -248,25 +245,6 @@ starts = λ m cookie pages r n.
 pub stays : StaysSound
 stays = λ a b r k. run-sound r k
 
--- ---- runs of a machine
-
-pub slices : SlicesStaySound
-slices = λ n m l k c. after-slice-sound n m l k c
-
-next-stale : (m k : Machine) (l j : Live) (d : NextDeallocation m l) → Sound (state_of m l) → KeepsFreeTo d k j → IsStaleIn (state_of k j) (freed-of (state_of (before_service m) l) d.freed)
-next-stale m k l j d sound run =
-    let s = state_of (before_service m) l in
-    let n = run.0 in
-    let first = step-quiet m l d.careful.tags sound in
-    let is = after-attempt-done n m l d.freed.call d.call in
-    let f = freed-of s d.freed in
-    let st = subst (λ (s : State). IsStale s.world.memory s.world.heap.stacks f) (sym is) (deallocated s d.freed first.sound).stale in
-    let after = (after-attempt-kept n m l sound d.careful).sound in
-    record { sound = steps-sound run.1 after; stale = steps-stale f run.1 after st }
-
-pub freed-stay : FreedBlocksStayRefused
-freed-stay = λ m k l j d sound run. out-of-reach (state_of k j) (freed-of (state_of (before_service m) l) d.freed) (next-stale m k l j d sound run)
-
 -- ---- reuse
 
 fresh-new : (s : State) (r : AllocationResult) → Sound s → IsNewIn s r → IsFreshIn s r
@@ -289,15 +267,6 @@ others-in s f tag k is = λ r p t new e at.
 pub reused-differ : ReusedTagsDiffer
 reused-differ = λ a b d k run.
     others-in b (freed-of a d) (given_tag d) (stays-stale a b d k run) (stale-tag (state_after_call d.call a) (freed-of a d) (deallocated a d k).stale)
-
-pub reused-stay : ReusedTagsStayDifferent
-reused-stay = λ m k l j d sound run then.
-    let s = state_of (before_service m) l in
-    let f = freed-of s d.freed in
-    let last = next-stale m k l j d sound run in
-    let quiet = step-quiet k j then.tags last.sound in
-    let first = step-quiet m l d.careful.tags sound in
-    others-in (state_of (before_service k) j) f (given_tag d.freed) (record { sound = quiet.sound; stale = quiet.stale f last.stale last.stale.stacked }) (stale-tag (state_after_call d.freed.call s) f (deallocated s d.freed first.sound).stale)
 
 -- ---- more of live and freed chunks
 

@@ -27,5 +27,6 @@ pub mod Freeings
 pub mod PagesGone
 pub mod Tenants
 pub mod Disciplines
+pub mod TenantDisciplines
 pub mod Starts
 pub mod Sessions

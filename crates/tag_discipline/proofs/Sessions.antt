@@ -26,7 +26,8 @@ use Rattle.tag_discipline.specs.CarefulRuns as heap
 use Rattle.tag_discipline.specs.CarefulTenants.{state_of, before_service, next_call, live_after, IsCarefulNext, live_through, IsCareful}
 use Rattle.tag_discipline.specs.CarefulSessions.{named_chunk_cases, named_at, named_chunks, has_free_block, freed_after, freed_through, live_of, freed_of, AreCareful, machine_held, machine_cases, first_machine, IsCarefulIn, state_in, freed_in}
 use Rattle.tag_discipline.specs.SoundHeaps.{Sound}
-use Rattle.tag_discipline.specs.Discipline.{MayFree, TenantsStaySound, FreedBlocksOfTenantsAreRefused, ChunksOfTenantsAreGuarded, FreedPagesOfTenantsAreRefused}
+use Rattle.tag_discipline.specs.Discipline.{MayFree}
+use Rattle.tag_discipline.specs.TenantLaws.{TenantsStaySound, FreedBlocksOfTenantsAreRefused, ChunksOfTenantsAreGuarded, FreedPagesOfTenantsAreRefused}
 use Rattle.tag_discipline.proofs.Freeings.{IsStaleAfter}
 use Rattle.tag_discipline.proofs.Disciplines.{apart, guarded, stale-by, stale-refused, freed-pages-refused}
 use Rattle.tag_discipline.proofs.Starts.{tenants-start}

@@ -18,7 +18,8 @@ use Rattle.scudo_heap.specs.Served.{IsUntouched}
 use Rattle.mte_tenant.specs.Machines.{Start, start_of, first_memory, first_parts, first_registers}
 use Rattle.mte_tenant.proofs.MachineLemmas.{none-no_pages, left-no_pages, limit-no_pages, attrs-none}
 use Rattle.mte_tenant.proofs.Refusals.{Passed, passed}
-use Rattle.tag_discipline.specs.Discipline.{IsNew, TenantsStartSound}
+use Rattle.tag_discipline.specs.Discipline.{IsNew}
+use Rattle.tag_discipline.specs.TenantLaws.{TenantsStartSound}
 use Rattle.tag_discipline.proofs.Disciplines.{starts}
 
 -- ---- the first memory

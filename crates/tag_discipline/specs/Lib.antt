@@ -6,3 +6,4 @@ pub mod CarefulTenants
 pub mod CarefulSessions
 pub mod SoundHeaps
 pub mod Discipline
+pub mod TenantLaws

@@ -1,42 +1,30 @@
-//! The laws of careful runs: of a tenant in the synchronous mode that stores no tags itself, and
+//! The laws of careful runs: of a heap in the synchronous mode whose user stores no tags itself, and
 //! whose frees and reallocations name live chunks with the headers that the heap wrote, or nothing
 //! that passes the heap's checks, as the null pointer. They say nothing of accesses that are not
 //! checked, of a pointer older than one reuse of its block, or of the bytes of a chunk's last
-//! granule past its size. Each law of a state that `Sound` holds of holds of each tenant of a
-//! session whose slices were careful, by the clause `sessions` of `careful_runs_are_sound`.
+//! granule past its size. No tenant is in them: that each state of one is such a state, and what
+//! these laws say of it, is in `tenants`.
 
 ghost use Rattle.tag_discipline.specs.Discipline.{StartsSound, StaysSound};
 ghost use Rattle.tag_discipline.specs.Discipline.{FreedBlocksAreRefused, FreedPagesAreUnmapped};
 ghost use Rattle.tag_discipline.specs.Discipline.{NewTagsDiffer, NeighboursDiffer, ChunksAreTagged};
-ghost use Rattle.tag_discipline.specs.Discipline.{FreedBlocksAreFree};
+ghost use Rattle.tag_discipline.specs.Discipline.{FreedBlocksAreFree, FreedPagesAreRefused};
 ghost use Rattle.tag_discipline.specs.Discipline.{ChunksAreApart, ChunksAreGuarded};
-ghost use Rattle.tag_discipline.specs.Discipline.{SlicesStaySound, FreedBlocksStayRefused};
-ghost use Rattle.tag_discipline.specs.Discipline.{TenantsStartSound, TenantsStaySound};
-ghost use Rattle.tag_discipline.specs.Discipline.{FreedBlocksOfTenantsAreRefused};
-ghost use Rattle.tag_discipline.specs.Discipline.{ChunksOfTenantsAreGuarded, ReusedTagsDiffer};
-ghost use Rattle.tag_discipline.specs.Discipline.{ReusedTagsStayDifferent, FreedPagesAreRefused};
-ghost use Rattle.tag_discipline.specs.Discipline.{FreedPagesOfTenantsAreRefused};
+ghost use Rattle.tag_discipline.specs.Discipline.{ReusedTagsDiffer};
 
-/// What the other laws stand on holds of a new heap, of a tenant that is admitted, and after each
-/// step of a careful run and each slice of careful instructions: of each tenant of a host whose
-/// slices were careful, whatever the other tenants did.
+/// What the other laws stand on holds of a new heap, and after each step of a careful run.
 pub fn careful_runs_are_sound()
     ensures start { StartsSound }
-    ensures tenants { TenantsStartSound }
     ensures run { StaysSound }
-    ensures slices { SlicesStaySound }
-    ensures sessions { TenantsStaySound }
 {}
 
 /// From the free of a chunk of a size class, by `free` or `realloc`, until an allocation takes its
 /// block, each checked access through the pointer to it that touches one of its granules faults,
-/// whatever careful instructions and slices come between. A `free` leaves its block free. Where a
-/// chunk had pages of its own, no mapping of the heap holds them after its free or its move.
+/// whatever careful steps come between. A `free` leaves its block free. Where a chunk had pages of
+/// its own, no mapping of the heap holds them after its free or its move.
 pub fn freed_chunks_are_refused()
     ensures blocks { FreedBlocksAreRefused }
     ensures free { FreedBlocksAreFree }
-    ensures instructions { FreedBlocksStayRefused }
-    ensures sessions { FreedBlocksOfTenantsAreRefused }
     ensures pages { FreedPagesAreUnmapped }
 {}
 
@@ -65,22 +53,18 @@ pub fn chunks_are_apart()
 /// Each checked access through the pointer to a live chunk of a size class that touches the granule
 /// just before or just after it faults.
 pub fn chunks_are_guarded()
-    ensures chunks { ChunksAreGuarded }
-    ensures sessions { ChunksOfTenantsAreGuarded }
+    ensures { ChunksAreGuarded }
 {}
 
 /// The first allocation that takes the block of a freed chunk, where it gives out the same address,
-/// has another tag than the one that the free gave, whatever careful calls and instructions come
-/// between.
+/// has another tag than the one that the free gave, whatever careful steps come between.
 pub fn reused_tags_differ()
-    ensures runs { ReusedTagsDiffer }
-    ensures instructions { ReusedTagsStayDifferent }
+    ensures { ReusedTagsDiffer }
 {}
 
 /// Each access, a fetch and a load or store of tags too, to an address of the range of chunks with
 /// pages of their own that no mapping of the heap holds faults: so from the free or the move of
 /// such a chunk until its pages are mapped again.
 pub fn freed_pages_are_refused()
-    ensures pages { FreedPagesAreRefused }
-    ensures sessions { FreedPagesOfTenantsAreRefused }
+    ensures { FreedPagesAreRefused }
 {}
