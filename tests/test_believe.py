@@ -232,8 +232,8 @@ def test_the_page() -> None:
 
 def test_a_printed_closure() -> None:
     """A closure is printed with lines of files, what to skip, types and words."""
-    told = believe("chunks_are_guarded", "chunks").output
-    for text in ("ensures chunks { ChunksAreGuarded }", "crates/mte_tags/specs/Memory.antt: ",
+    told = believe("freed_chunks_are_refused", "free").output
+    for text in ("ensures free { FreedBlocksAreFree }", "crates/mte_tags/specs/Memory.antt: ",
                  "  skip ", "types and constants of the code:", "words of the kit:"):
         assert text in told
     assert believe("chunks_are_guarded", "pages").status == 1

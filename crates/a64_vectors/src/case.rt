@@ -8,7 +8,7 @@ use std::alloc::{AllocError, Global};
 
 /// Some pages of the map, the same for all cases.
 #[derive(Clone, Copy)]
-pub struct Pages {
+pub struct CasePages {
     pub first: u64,
     pub count: u64,
     pub attrs: Attrs,

@@ -28,7 +28,7 @@ mod report;
 use a64_run::{OpCache, run_cached};
 use a64_step::Outcome;
 use anyhow::{Result, bail};
-use case::{Case, Pages};
+use case::{Case, CasePages};
 use line::{VectorLine, parse};
 use mte_flat::Flat;
 use mte_tags::TagMode;
@@ -38,9 +38,9 @@ use std::io::{BufRead, BufReader};
 /// The map, the case that is being read, the counts so far, and one table of instructions for all
 /// cases.
 #[derive(Drop)]
-struct Session {
+struct VectorRun {
     kept: OpCache,
-    map: Vec<Pages>,
+    map: Vec<CasePages>,
     case: Option<Case>,
     same: u64,
     different: u64,
@@ -50,7 +50,7 @@ struct Session {
 fn differences(
     alloc: Global,
     kept: &mut OpCache,
-    map: &[Pages],
+    map: &[CasePages],
     case: &Case,
 ) -> Result<Option<String>, AllocError> {
     let mut ours = Flat::new(alloc, 512, TagMode::Sync)?;
@@ -69,7 +69,7 @@ fn differences(
     Ok(Some(report::differences(alloc, case, outcome, &regs, map, &mut ours, &mut theirs)?))
 }
 
-impl Session {
+impl VectorRun {
     /// Runs the case that was read, prints where it differs, and counts it.
     fn finish(&mut self, rt: &(impl Print + AllocGlobal)) -> Result<bool> {
         let Some(case) = self.case.take() else {
@@ -102,7 +102,7 @@ impl Session {
                 Ok(true)
             }
             VectorLine::Page { page, count, attrs } => {
-                self.map.push(Pages {
+                self.map.push(CasePages {
                     first: page,
                     count,
                     attrs,
@@ -118,7 +118,7 @@ impl Session {
 }
 
 /// Runs the cases of all lines.
-fn take_all(rt: &HostRuntime, session: &mut Session) -> Result<()> {
+fn take_all(rt: &HostRuntime, session: &mut VectorRun) -> Result<()> {
     let mut number = 0u64;
     for text in BufReader::new(rt.alloc(), rt.reader())?.lines(rt.alloc()) {
         number = number.saturating_add(1);
@@ -133,7 +133,7 @@ fn take_all(rt: &HostRuntime, session: &mut Session) -> Result<()> {
 }
 
 fn main(rt: HostRuntime) -> Result<()> {
-    let mut session = Session {
+    let mut session = VectorRun {
         kept: OpCache::new(rt.alloc())?,
         map: Vec::new(rt.alloc()),
         case: None,

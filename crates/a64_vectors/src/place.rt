@@ -5,7 +5,7 @@ ghost use Rattle.mte_tags.specs.Memory.{page_at};
 ghost use Rattle.mte_tags.specs.Accesses.{IsPageAttrs};
 ghost use Rattle.a64_bits.specs.Addresses.{plain};
 
-use crate::case::{Case, Pages};
+use crate::case::{Case, CasePages};
 use crate::line::Granule;
 use mte_tags::{Attrs, FaultKind, Paged, Tagged};
 
@@ -68,7 +68,7 @@ pub fn put_granules<M: Paged>(memory: &mut M, granules: &[Granule]) -> bool {
 }
 
 /// Maps pages of the map; `false` where one of them is mapped or there is no room for it.
-pub fn map<M: Paged>(memory: &mut M, pages: &Pages) -> bool {
+pub fn map<M: Paged>(memory: &mut M, pages: &CasePages) -> bool {
     for page in pages.first..pages.first.saturating_add(pages.count) {
         if page >= 1 << 18 || !attrs_are_allowed(pages.attrs) || is_mapped(memory, page * 4096) {
             return false;
@@ -92,7 +92,7 @@ fn attrs_are_allowed(attrs: Attrs) -> bool
 
 /// Maps the whole map and puts what a case has before its step; `false` where that doesn't fit
 /// together.
-pub fn prepare<M: Paged>(memory: &mut M, map_of_all: &[Pages], case: &Case) -> bool {
+pub fn prepare<M: Paged>(memory: &mut M, map_of_all: &[CasePages], case: &Case) -> bool {
     for pages in map_of_all {
         if !map(memory, pages) {
             return false;

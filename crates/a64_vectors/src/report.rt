@@ -1,6 +1,6 @@
 //! What a step left against what was recorded.
 
-use crate::case::{Case, Pages};
+use crate::case::{Case, CasePages};
 use crate::place::granule_at;
 use a64_step::{Outcome, Regs};
 use mte_tags::Tagged;
@@ -44,7 +44,7 @@ fn compare_pages<M: Tagged>(
     text: &mut String,
     ours: &mut M,
     theirs: &mut M,
-    pages: &Pages,
+    pages: &CasePages,
 ) -> Result<(), AllocError> {
     for number in 0..pages.count.saturating_mul(256) {
         let address = pages
@@ -63,7 +63,7 @@ pub fn differences<M: Tagged>(
     case: &Case,
     outcome: Outcome,
     regs: &Regs,
-    map: &[Pages],
+    map: &[CasePages],
     ours: &mut M,
     theirs: &mut M,
 ) -> Result<String, AllocError> {

@@ -3,7 +3,7 @@
 ghost use Rattle.std.specs.Iterator.{at_most};
 
 use crate::budget::Budget;
-use crate::value::{Value, fixed_size, number};
+use crate::value::{AttributeValue, fixed_size, number};
 use debug_lines::Reader;
 
 /// The most attributes of an entry.
@@ -47,13 +47,17 @@ impl Attribute {
     }
 
     /// Reads its value of an entry.
-    pub fn value<'a>(&self, values: &mut Reader<'a>, budget: &mut Budget) -> Option<Value<'a>> {
+    pub fn value<'a>(
+        &self,
+        values: &mut Reader<'a>,
+        budget: &mut Budget,
+    ) -> Option<AttributeValue<'a>> {
         budget.spend(1)?;
         if self.form == IMPLICIT {
-            return Some(Value::Number(self.constant));
+            return Some(AttributeValue::Number(self.constant));
         }
         let before = values.rest.len();
-        let value = Value::read(values, self.form);
+        let value = AttributeValue::read(values, self.form);
         let after = match value {
             Some(_) => values.rest.len(),
             None => 0,

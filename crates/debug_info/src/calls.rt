@@ -61,7 +61,7 @@ fn has_control(text: &str) -> bool
 
 /// A call, and the place of the call that it was inlined into, which is lower.
 #[derive(Clone, Copy)]
-pub(crate) struct Link<'a> {
+pub(crate) struct NestedCall<'a> {
     pub(crate) call: InlinedCall<'a>,
     pub(crate) outer: Option<usize>,
 }
@@ -73,7 +73,7 @@ pub struct InlinedCalls<'a> {
     pub(crate) addresses: Vec<u64>,
     /// The place of the innermost call of each.
     pub(crate) innermost: Vec<Option<usize>>,
-    pub(crate) links: Vec<Link<'a>>,
+    pub(crate) links: Vec<NestedCall<'a>>,
 }
 
 impl<'a> InlinedCalls<'a> {
@@ -113,7 +113,7 @@ impl<'a> InlinedCalls<'a> {
 /// The inlined calls at an address, the innermost first.
 #[derive(Clone, Copy)]
 pub struct CallsAt<'c, 'a> {
-    links: &'c [Link<'a>],
+    links: &'c [NestedCall<'a>],
     next: Option<usize>,
     /// How many more there may be.
     left: u32,

@@ -2,53 +2,53 @@
 
 use crate::abbreviation::Abbreviation;
 use crate::budget::Budget;
-use crate::value::Value;
+use crate::value::AttributeValue;
 use debug_lines::Reader;
 
-/// The attributes of an entry: one that it doesn't have is `Value::Other`.
+/// The attributes of an entry: one that it doesn't have is `AttributeValue::Other`.
 #[derive(Clone, Copy)]
 pub struct Entry<'a> {
     /// DW_AT_name.
-    pub name: Value<'a>,
+    pub name: AttributeValue<'a>,
     /// DW_AT_linkage_name.
-    pub linkage_name: Value<'a>,
+    pub linkage_name: AttributeValue<'a>,
     /// DW_AT_abstract_origin or DW_AT_specification: the entry that says more of the function.
-    pub origin: Value<'a>,
+    pub origin: AttributeValue<'a>,
     /// DW_AT_low_pc.
-    pub low: Value<'a>,
+    pub low: AttributeValue<'a>,
     /// DW_AT_high_pc: an address, or how far it is from the low one.
-    pub high: Value<'a>,
+    pub high: AttributeValue<'a>,
     /// DW_AT_ranges.
-    pub ranges: Value<'a>,
+    pub ranges: AttributeValue<'a>,
     /// DW_AT_call_file.
-    pub call_file: Value<'a>,
+    pub call_file: AttributeValue<'a>,
     /// DW_AT_call_line.
-    pub call_line: Value<'a>,
+    pub call_line: AttributeValue<'a>,
     /// DW_AT_stmt_list, of a unit.
-    pub lines: Value<'a>,
+    pub lines: AttributeValue<'a>,
     /// DW_AT_str_offsets_base, of a unit.
-    pub text_offsets: Value<'a>,
+    pub text_offsets: AttributeValue<'a>,
     /// DW_AT_addr_base, of a unit.
-    pub addresses: Value<'a>,
+    pub addresses: AttributeValue<'a>,
     /// DW_AT_rnglists_base, of a unit.
-    pub range_lists: Value<'a>,
+    pub range_lists: AttributeValue<'a>,
 }
 
 impl<'a> Entry<'a> {
     /// An entry without attributes.
     const NOTHING: Entry<'static> = Entry {
-        name: Value::Other,
-        linkage_name: Value::Other,
-        origin: Value::Other,
-        low: Value::Other,
-        high: Value::Other,
-        ranges: Value::Other,
-        call_file: Value::Other,
-        call_line: Value::Other,
-        lines: Value::Other,
-        text_offsets: Value::Other,
-        addresses: Value::Other,
-        range_lists: Value::Other,
+        name: AttributeValue::Other,
+        linkage_name: AttributeValue::Other,
+        origin: AttributeValue::Other,
+        low: AttributeValue::Other,
+        high: AttributeValue::Other,
+        ranges: AttributeValue::Other,
+        call_file: AttributeValue::Other,
+        call_line: AttributeValue::Other,
+        lines: AttributeValue::Other,
+        text_offsets: AttributeValue::Other,
+        addresses: AttributeValue::Other,
+        range_lists: AttributeValue::Other,
     };
 
     /// Reads the values of an entry.
@@ -66,7 +66,7 @@ impl<'a> Entry<'a> {
     }
 
     /// Gives an attribute its value.
-    fn put(&mut self, name: u64, value: Value<'a>) {
+    fn put(&mut self, name: u64, value: AttributeValue<'a>) {
         match name {
             0x03 => self.name = value,
             // DW_AT_linkage_name, and DW_AT_MIPS_linkage_name in its place

@@ -9,7 +9,7 @@ use crate::origin::UnitView;
 use crate::scope::Scope;
 use crate::search::Search;
 use crate::sections::DebugSections;
-use crate::unit::{Unit, UnitBytes};
+use crate::unit::{CompilationUnit, UnitBytes};
 use crate::value::number;
 use debug_lines::{DebugLines, UnitFiles};
 use std::alloc::{AllocError, Global};
@@ -81,7 +81,7 @@ impl<'a> DebugInfo<'a> {
     fn load(
         &self,
         table: &mut Abbreviations<'a>,
-        unit: &Unit<'a>,
+        unit: &CompilationUnit<'a>,
         search: &mut Search<'a>,
     ) -> Result<(), AllocError> {
         let section = self.sections.abbreviations;
@@ -92,7 +92,7 @@ impl<'a> DebugInfo<'a> {
     fn search(
         &self,
         search: &mut Search<'a>,
-        unit: &Unit<'a>,
+        unit: &CompilationUnit<'a>,
         table: &Abbreviations<'a>,
     ) -> Option<()> {
         let mut entries = unit.entries;

@@ -5,8 +5,8 @@ use crate::budget::Budget;
 use crate::entry::Entry;
 use crate::scope::Scope;
 use crate::sections::DebugSections;
-use crate::unit::{Unit, UnitBytes};
-use crate::value::{Value, number};
+use crate::unit::{CompilationUnit, UnitBytes};
+use crate::value::{AttributeValue, number};
 use debug_lines::Reader;
 
 /// How many entries are looked at behind the first.
@@ -15,7 +15,7 @@ const FOLLOWED: u32 = 4;
 /// A unit, its abbreviations and what its values mean.
 #[derive(Clone, Copy)]
 pub struct UnitView<'t, 'a> {
-    pub unit: Unit<'a>,
+    pub unit: CompilationUnit<'a>,
     pub scope: Scope<'a>,
     pub table: &'t Abbreviations<'a>,
 }
@@ -23,7 +23,7 @@ pub struct UnitView<'t, 'a> {
 /// An entry, and the unit that it stands in.
 #[derive(Clone, Copy)]
 struct PlacedEntry<'a> {
-    unit: Unit<'a>,
+    unit: CompilationUnit<'a>,
     scope: Scope<'a>,
     entry: Entry<'a>,
 }
@@ -54,7 +54,7 @@ impl<'t, 'a> UnitView<'t, 'a> {
     /// The entry that says more of the function.
     fn origin(&self, place: &PlacedEntry<'a>, budget: &mut Budget) -> Option<PlacedEntry<'a>> {
         match place.entry.origin {
-            Value::EntryInUnit(offset) => {
+            AttributeValue::EntryInUnit(offset) => {
                 let entry = self.entry_at(&place.unit, offset, budget)?;
                 Some(PlacedEntry {
                     unit: place.unit,
@@ -62,7 +62,7 @@ impl<'t, 'a> UnitView<'t, 'a> {
                     entry,
                 })
             }
-            Value::EntryInSection(offset) => self.entry_in_section(offset, budget),
+            AttributeValue::EntryInSection(offset) => self.entry_in_section(offset, budget),
             _ => None,
         }
     }
@@ -80,14 +80,19 @@ impl<'t, 'a> UnitView<'t, 'a> {
         })
     }
     /// The entry at an offset of a unit.
-    fn entry_at(&self, unit: &Unit<'a>, offset: u64, budget: &mut Budget) -> Option<Entry<'a>> {
+    fn entry_at(
+        &self,
+        unit: &CompilationUnit<'a>,
+        offset: u64,
+        budget: &mut Budget,
+    ) -> Option<Entry<'a>> {
         self.entry(unit, unit.entries_at(offset)?, budget)
     }
 
     /// The first entry of some bytes of a unit.
     fn entry(
         &self,
-        unit: &Unit<'a>,
+        unit: &CompilationUnit<'a>,
         mut entries: Reader<'a>,
         budget: &mut Budget,
     ) -> Option<Entry<'a>> {
@@ -107,7 +112,7 @@ fn unit_around<'a>(
     sections: &DebugSections<'a>,
     offset: u64,
     budget: &mut Budget,
-) -> Option<Unit<'a>> {
+) -> Option<CompilationUnit<'a>> {
     let mut at = 0;
     for _ in 0..budget.left() {
         budget.spend(1)?;

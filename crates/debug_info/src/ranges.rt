@@ -3,7 +3,7 @@
 use crate::entry::Entry;
 use crate::scope::{Scope, place};
 use crate::sections::reader_at;
-use crate::value::{Value, number};
+use crate::value::{AttributeValue, number};
 use debug_lines::Reader;
 
 /// What says in `.debug_ranges` that an address follows, from which the next ranges go out.
@@ -11,14 +11,14 @@ const BASE: u64 = u64::MAX;
 
 /// The addresses from `start` up to those below `end`.
 #[derive(Clone, Copy)]
-pub struct Range {
+pub struct AddressRange {
     pub start: u64,
     pub end: u64,
 }
 
-impl Range {
+impl AddressRange {
     /// No address.
-    const EMPTY: Range = Range { start: 0, end: 0 };
+    const EMPTY: AddressRange = AddressRange { start: 0, end: 0 };
 }
 
 /// The ranges of an entry that are not yet read.
@@ -29,7 +29,7 @@ pub struct Ranges<'a> {
     /// What an offset goes out from.
     base: u64,
     /// The range from the low address to the high one.
-    whole: Option<Range>,
+    whole: Option<AddressRange>,
     list: Reader<'a>,
 }
 
@@ -57,7 +57,7 @@ impl<'a> Ranges<'a> {
     }
 
     /// The next range, if there is one. It is empty where the list only tells a base.
-    pub fn step(&mut self) -> Option<Range> {
+    pub fn step(&mut self) -> Option<AddressRange> {
         if let Some(range) = self.whole {
             self.whole = None;
             return Some(range);
@@ -70,12 +70,12 @@ impl<'a> Ranges<'a> {
     }
 
     /// The next range of `.debug_ranges`.
-    fn pair(&mut self) -> Option<Range> {
+    fn pair(&mut self) -> Option<AddressRange> {
         let start = self.list.double_word()?;
         let end = self.list.double_word()?;
         if start == BASE {
             self.base = end;
-            return Some(Range::EMPTY);
+            return Some(AddressRange::EMPTY);
         }
         if start == 0 && end == 0 {
             return None;
@@ -84,17 +84,17 @@ impl<'a> Ranges<'a> {
     }
 
     /// The next range of `.debug_rnglists`.
-    fn listed(&mut self) -> Option<Range> {
+    fn listed(&mut self) -> Option<AddressRange> {
         match self.list.byte()? {
             // DW_RLE_base_addressx
             1 => {
                 self.base = self.numbered()?;
-                Some(Range::EMPTY)
+                Some(AddressRange::EMPTY)
             }
             // DW_RLE_base_address
             5 => {
                 self.base = self.list.double_word()?;
-                Some(Range::EMPTY)
+                Some(AddressRange::EMPTY)
             }
             // DW_RLE_offset_pair
             4 => {
@@ -107,7 +107,7 @@ impl<'a> Ranges<'a> {
     }
 
     /// A range that goes out from no base.
-    fn bounds(&mut self, kind: u8) -> Option<Range> {
+    fn bounds(&mut self, kind: u8) -> Option<AddressRange> {
         let (start, end) = match kind {
             // DW_RLE_startx_endx
             2 => (self.numbered()?, self.numbered()?),
@@ -126,7 +126,7 @@ impl<'a> Ranges<'a> {
             // DW_RLE_end_of_list, or none that is known
             _ => return None,
         };
-        Some(Range { start, end })
+        Some(AddressRange { start, end })
     }
 
     /// Reads the number of an address.
@@ -135,8 +135,8 @@ impl<'a> Ranges<'a> {
         self.scope.numbered_address(at)
     }
 
-    fn from_base(&self, start: u64, end: u64) -> Range {
-        Range {
+    fn from_base(&self, start: u64, end: u64) -> AddressRange {
+        AddressRange {
             start: self.base.wrapping_add(start),
             end: self.base.wrapping_add(end),
         }
@@ -144,22 +144,22 @@ impl<'a> Ranges<'a> {
 }
 
 /// The range from an entry's low address to its high one.
-fn whole<'a>(scope: &Scope<'a>, entry: &Entry<'a>) -> Option<Range> {
+fn whole<'a>(scope: &Scope<'a>, entry: &Entry<'a>) -> Option<AddressRange> {
     let start = scope.address(&entry.low)?;
     let end = match entry.high {
-        Value::Number(size) => start.wrapping_add(size),
+        AttributeValue::Number(size) => start.wrapping_add(size),
         _ => scope.address(&entry.high)?,
     };
-    Some(Range { start, end })
+    Some(AddressRange { start, end })
 }
 
 /// The list of ranges that a value tells of.
-fn list<'a>(scope: &Scope<'a>, version: u16, value: &Value<'a>) -> Option<Reader<'a>> {
+fn list<'a>(scope: &Scope<'a>, version: u16, value: &AttributeValue<'a>) -> Option<Reader<'a>> {
     let sections = &scope.sections;
     match value {
-        Value::Number(at) if version < 5 => reader_at(sections.ranges, *at),
-        Value::Number(at) => reader_at(sections.range_lists, *at),
-        Value::ListAt(number) => {
+        AttributeValue::Number(at) if version < 5 => reader_at(sections.ranges, *at),
+        AttributeValue::Number(at) => reader_at(sections.range_lists, *at),
+        AttributeValue::ListAt(number) => {
             let base = scope.range_lists?;
             let mut offsets = reader_at(sections.range_lists, place(base, *number, 4)?)?;
             let offset = u64::from(offsets.word()?);

@@ -2,7 +2,7 @@
 
 use crate::entry::Entry;
 use crate::sections::{DebugSections, reader_at};
-use crate::value::Value;
+use crate::value::AttributeValue;
 
 /// The most bytes of a name, with the 0 behind it.
 const LONGEST: usize = 80;
@@ -34,10 +34,10 @@ impl<'a> Scope<'a> {
     }
 
     /// The address that a value is.
-    pub fn address(&self, value: &Value<'a>) -> Option<u64> {
+    pub fn address(&self, value: &AttributeValue<'a>) -> Option<u64> {
         match value {
-            Value::Address(address) => Some(*address),
-            Value::AddressAt(number) => self.numbered_address(*number),
+            AttributeValue::Address(address) => Some(*address),
+            AttributeValue::AddressAt(number) => self.numbered_address(*number),
             _ => None,
         }
     }
@@ -49,12 +49,12 @@ impl<'a> Scope<'a> {
     }
 
     /// The name that a value is: fewer than 80 bytes in front of a 0.
-    pub fn name(&self, value: &Value<'a>) -> Option<&'a [u8]> {
+    pub fn name(&self, value: &AttributeValue<'a>) -> Option<&'a [u8]> {
         match value {
-            Value::Text(text) => Some(*text),
-            Value::InfoText(at) => name_in(self.sections.texts, *at),
-            Value::LineText(at) => name_in(self.sections.line_texts, *at),
-            Value::TextAt(number) => {
+            AttributeValue::Text(text) => Some(*text),
+            AttributeValue::InfoText(at) => name_in(self.sections.texts, *at),
+            AttributeValue::LineText(at) => name_in(self.sections.line_texts, *at),
+            AttributeValue::TextAt(number) => {
                 let at = place(self.text_offsets?, *number, 4)?;
                 let offset = reader_at(self.sections.text_offsets, at)?.word()?;
                 name_in(self.sections.texts, u64::from(offset))

@@ -2,11 +2,11 @@
 
 use crate::abbreviation::Abbreviation;
 use crate::budget::Budget;
-use crate::calls::{DEEPEST, InlinedCall, InlinedCalls, Link};
+use crate::calls::{DEEPEST, InlinedCall, InlinedCalls, NestedCall};
 use crate::entry::Entry;
 use crate::files::KnownFiles;
 use crate::origin::UnitView;
-use crate::ranges::{Range, Ranges};
+use crate::ranges::{AddressRange, Ranges};
 use crate::value::number;
 use debug_lines::{FileLine, Reader};
 
@@ -137,7 +137,7 @@ impl<'a> Search<'a> {
     }
 
     /// Gives the addresses in a range the innermost call of the open entries.
-    fn cover(&mut self, view: &UnitView<'_, 'a>, range: &Range) -> Option<()> {
+    fn cover(&mut self, view: &UnitView<'_, 'a>, range: &AddressRange) -> Option<()> {
         let (start, end) = self.places_of(range)?;
         if start >= end {
             return Some(());
@@ -153,7 +153,7 @@ impl<'a> Search<'a> {
     }
 
     /// The places of the first address in a range, and of the first behind it.
-    fn places_of(&mut self, range: &Range) -> Option<(usize, usize)> {
+    fn places_of(&mut self, range: &AddressRange) -> Option<(usize, usize)> {
         let addresses = self.found.addresses.as_slice();
         self.budget.spend(1)?;
         if range.start >= range.end || addresses.last()? < &range.start {
@@ -210,7 +210,7 @@ impl<'a> Search<'a> {
             name: view.name(entry, &mut self.budget),
             line: self.line(entry),
         };
-        self.found.links.push(Link { call, outer }).ok()?;
+        self.found.links.push(NestedCall { call, outer }).ok()?;
         Some(place)
     }
 

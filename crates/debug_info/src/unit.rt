@@ -41,7 +41,7 @@ impl<'a> UnitBytes<'a> {
     }
 
     /// The unit, where it is one of a compilation, of version 4 or 5 and for addresses of 8 bytes.
-    pub fn unit(&self) -> Option<Unit<'a>> {
+    pub fn unit(&self) -> Option<CompilationUnit<'a>> {
         let mut header = self.bytes;
         let version = header.half()?;
         let (abbreviations, address) = match version {
@@ -59,7 +59,7 @@ impl<'a> UnitBytes<'a> {
         if address != ADDRESS {
             return None;
         }
-        Some(Unit {
+        Some(CompilationUnit {
             offset: self.offset,
             version,
             abbreviations: u64::from(abbreviations),
@@ -71,7 +71,7 @@ impl<'a> UnitBytes<'a> {
 
 /// A unit of a compilation.
 #[derive(Clone, Copy)]
-pub struct Unit<'a> {
+pub struct CompilationUnit<'a> {
     /// Where its length stands in `.debug_info`.
     pub offset: u64,
     /// 4 or 5.
@@ -84,7 +84,7 @@ pub struct Unit<'a> {
     bytes: Reader<'a>,
 }
 
-impl<'a> Unit<'a> {
+impl<'a> CompilationUnit<'a> {
     /// The bytes from an entry on, which is told by its offset from where the unit's length stands.
     pub fn entries_at(&self, offset: u64) -> Option<Reader<'a>> {
         reader_at(self.bytes.rest, offset.checked_sub(LENGTH)?)

@@ -7,7 +7,7 @@ const INDIRECT: u64 = 0x16;
 
 /// A value of an attribute.
 #[derive(Clone, Copy)]
-pub enum Value<'a> {
+pub enum AttributeValue<'a> {
     /// A constant, a flag or an offset of another section.
     Number(u64),
     Address(u64),
@@ -30,10 +30,10 @@ pub enum Value<'a> {
     Other,
 }
 
-impl<'a> Value<'a> {
+impl<'a> AttributeValue<'a> {
     /// Reads a value of a form. There is none where it does not end in the unit, or where the form
     /// isn't known, as those that refer to other files than these.
-    pub fn read(values: &mut Reader<'a>, form: u64) -> Option<Value<'a>> {
+    pub fn read(values: &mut Reader<'a>, form: u64) -> Option<AttributeValue<'a>> {
         if form == INDIRECT {
             let form = number(values)?;
             return direct(values, form);
@@ -44,33 +44,33 @@ impl<'a> Value<'a> {
     /// The number that it is.
     pub fn number(&self) -> Option<u64> {
         match self {
-            Value::Number(number) => Some(*number),
+            AttributeValue::Number(number) => Some(*number),
             _ => None,
         }
     }
 }
 
 /// Reads a value of a form that is told where the value isn't.
-fn direct<'a>(values: &mut Reader<'a>, form: u64) -> Option<Value<'a>> {
+fn direct<'a>(values: &mut Reader<'a>, form: u64) -> Option<AttributeValue<'a>> {
     match form {
         // DW_FORM_addr
-        0x01 => Some(Value::Address(values.double_word()?)),
+        0x01 => Some(AttributeValue::Address(values.double_word()?)),
         // DW_FORM_data1, data2, data4, data8, sdata and udata
-        0x0B => Some(Value::Number(u64::from(values.byte()?))),
-        0x05 => Some(Value::Number(u64::from(values.half()?))),
-        0x06 => Some(Value::Number(u64::from(values.word()?))),
-        0x07 => Some(Value::Number(values.double_word()?)),
-        0x0D => Some(Value::Number(values.signed()?)),
-        0x0F => Some(Value::Number(number(values)?)),
+        0x0B => Some(AttributeValue::Number(u64::from(values.byte()?))),
+        0x05 => Some(AttributeValue::Number(u64::from(values.half()?))),
+        0x06 => Some(AttributeValue::Number(u64::from(values.word()?))),
+        0x07 => Some(AttributeValue::Number(values.double_word()?)),
+        0x0D => Some(AttributeValue::Number(values.signed()?)),
+        0x0F => Some(AttributeValue::Number(number(values)?)),
         // DW_FORM_flag, flag_present and sec_offset
-        0x0C => Some(Value::Number(u64::from(values.byte()?))),
-        0x19 => Some(Value::Number(1)),
-        0x17 => Some(Value::Number(u64::from(values.word()?))),
+        0x0C => Some(AttributeValue::Number(u64::from(values.byte()?))),
+        0x19 => Some(AttributeValue::Number(1)),
+        0x17 => Some(AttributeValue::Number(u64::from(values.word()?))),
         // DW_FORM_addrx, and addrx1 to addrx4
-        0x1B => Some(Value::AddressAt(number(values)?)),
-        0x29..=0x2C => Some(Value::AddressAt(short(values, form - 0x28)?)),
+        0x1B => Some(AttributeValue::AddressAt(number(values)?)),
+        0x29..=0x2C => Some(AttributeValue::AddressAt(short(values, form - 0x28)?)),
         // DW_FORM_rnglistx
-        0x23 => Some(Value::ListAt(number(values)?)),
+        0x23 => Some(AttributeValue::ListAt(number(values)?)),
         0x10..=0x15 => reference(values, form),
         0x08 | 0x0E | 0x1A | 0x1F | 0x25..=0x28 => text(values, form),
         _ => other(values, form),
@@ -78,37 +78,37 @@ fn direct<'a>(values: &mut Reader<'a>, form: u64) -> Option<Value<'a>> {
 }
 
 /// Reads a reference to an entry.
-fn reference<'a>(values: &mut Reader<'a>, form: u64) -> Option<Value<'a>> {
+fn reference<'a>(values: &mut Reader<'a>, form: u64) -> Option<AttributeValue<'a>> {
     match form {
         // DW_FORM_ref_addr
-        0x10 => Some(Value::EntryInSection(u64::from(values.word()?))),
+        0x10 => Some(AttributeValue::EntryInSection(u64::from(values.word()?))),
         // DW_FORM_ref1, ref2, ref4, ref8 and ref_udata
-        0x11 => Some(Value::EntryInUnit(u64::from(values.byte()?))),
-        0x12 => Some(Value::EntryInUnit(u64::from(values.half()?))),
-        0x13 => Some(Value::EntryInUnit(u64::from(values.word()?))),
-        0x14 => Some(Value::EntryInUnit(values.double_word()?)),
-        0x15 => Some(Value::EntryInUnit(number(values)?)),
+        0x11 => Some(AttributeValue::EntryInUnit(u64::from(values.byte()?))),
+        0x12 => Some(AttributeValue::EntryInUnit(u64::from(values.half()?))),
+        0x13 => Some(AttributeValue::EntryInUnit(u64::from(values.word()?))),
+        0x14 => Some(AttributeValue::EntryInUnit(values.double_word()?)),
+        0x15 => Some(AttributeValue::EntryInUnit(number(values)?)),
         _ => None,
     }
 }
 
 /// Reads a text, or where it stands.
-fn text<'a>(values: &mut Reader<'a>, form: u64) -> Option<Value<'a>> {
+fn text<'a>(values: &mut Reader<'a>, form: u64) -> Option<AttributeValue<'a>> {
     match form {
         // DW_FORM_string
-        0x08 => Some(Value::Text(values.text()?)),
+        0x08 => Some(AttributeValue::Text(values.text()?)),
         // DW_FORM_strp and line_strp
-        0x0E => Some(Value::InfoText(u64::from(values.word()?))),
-        0x1F => Some(Value::LineText(u64::from(values.word()?))),
+        0x0E => Some(AttributeValue::InfoText(u64::from(values.word()?))),
+        0x1F => Some(AttributeValue::LineText(u64::from(values.word()?))),
         // DW_FORM_strx, and strx1 to strx4
-        0x1A => Some(Value::TextAt(number(values)?)),
-        0x25..=0x28 => Some(Value::TextAt(short(values, form - 0x24)?)),
+        0x1A => Some(AttributeValue::TextAt(number(values)?)),
+        0x25..=0x28 => Some(AttributeValue::TextAt(short(values, form - 0x24)?)),
         _ => None,
     }
 }
 
 /// Passes over a value of another form.
-fn other<'a>(values: &mut Reader<'a>, form: u64) -> Option<Value<'a>> {
+fn other<'a>(values: &mut Reader<'a>, form: u64) -> Option<AttributeValue<'a>> {
     let size = match form {
         // DW_FORM_exprloc and block, block1, block2 and block4
         0x18 | 0x09 => number(values)?,
@@ -124,7 +124,7 @@ fn other<'a>(values: &mut Reader<'a>, form: u64) -> Option<Value<'a>> {
         _ => fixed_size(form)?,
     };
     values.bytes(size)?;
-    Some(Value::Other)
+    Some(AttributeValue::Other)
 }
 
 /// The bytes of each value of a form, where all have as many.

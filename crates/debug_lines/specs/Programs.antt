@@ -5,7 +5,7 @@ use Rattle.debug_lines.specs.declared.operation.Advance.{Advance}
 use Rattle.debug_lines.specs.declared.operation.Operation.{Operation}
 use Rattle.debug_lines.specs.declared.operation.Operation.TheVariants as op
 use Rattle.debug_lines.specs.declared.registers.LineRegisters.{LineRegisters}
-use Rattle.debug_lines.specs.declared.row.Row.{Row}
+use Rattle.debug_lines.specs.declared.row.LineRow.{LineRow}
 
 -- Registers after an advance of address and line.
 abbrev pub after_advance : LineRegisters → Advance → LineRegisters
@@ -15,7 +15,7 @@ after_advance r by = record r {
 }
 
 -- the row of the registers' values
-abbrev pub row_of : LineRegisters → Bool → Row
+abbrev pub row_of : LineRegisters → Bool → LineRow
 row_of r ends = record {
   address = r.address;
   file = r.file;
@@ -42,7 +42,7 @@ registers_after op.Copy r = r
 registers_after op.EndSequence r = start
 
 -- special opcodes, copies and ends of sequences make rows
-abbrev pub row_after : Operation → LineRegisters → Option Row
+abbrev pub row_after : Operation → LineRegisters → Option LineRow
 row_after (op.Special by) r = Some (row_of (after_advance r by) false)
 row_after (op.Advance by) r = None
 row_after (op.SetAddress address) r = None

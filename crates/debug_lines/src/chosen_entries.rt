@@ -6,7 +6,7 @@ use crate::formatted_tables::Entries;
 use crate::open_addresses::CoveredAddress;
 use crate::source_lines::FileLine;
 use crate::tables::NameEntry;
-use crate::unit::Unit;
+use crate::unit::LineProgram;
 use std::alloc::{AllocError, Global};
 
 /// An entry, and its number in its table.
@@ -117,7 +117,7 @@ impl<'a> ChosenFiles<'a> {
     /// Reads the files of rows, and their directories.
     pub fn read(
         alloc: Global,
-        unit: &Unit<'a>,
+        unit: &LineProgram<'a>,
         strings: Strings<'a>,
         rows: &[CoveredAddress],
     ) -> Result<ChosenFiles<'a>, AllocError> {
@@ -164,7 +164,7 @@ fn directory_numbers(alloc: Global, files: &ChosenEntries<'_>) -> Result<Vec<u64
 /// Reads the files of a unit that are wanted.
 fn read_files<'a>(
     chosen: &mut ChosenEntries<'a>,
-    unit: &Unit<'a>,
+    unit: &LineProgram<'a>,
     strings: Strings<'a>,
 ) -> Result<(), AllocError> {
     if unit.version != 5 {
@@ -180,7 +180,7 @@ fn read_files<'a>(
 /// Reads the directories of a unit that are wanted.
 fn read_directories<'a>(
     chosen: &mut ChosenEntries<'a>,
-    unit: &Unit<'a>,
+    unit: &LineProgram<'a>,
     strings: Strings<'a>,
 ) -> Result<(), AllocError> {
     if unit.version != 5 {

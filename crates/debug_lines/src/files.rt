@@ -4,7 +4,7 @@ use crate::form::Strings;
 use crate::lines::DebugLines;
 use crate::reader::Reader;
 use crate::source_lines::FileLine;
-use crate::unit::Unit;
+use crate::unit::LineProgram;
 
 impl<'a> DebugLines<'a> {
     /// The files of the unit at an offset of `.debug_line`, as `DW_AT_stmt_list` gives it.
@@ -15,7 +15,7 @@ impl<'a> DebugLines<'a> {
         let length = section.word()?;
         let bytes = section.part(u64::from(length))?;
         Some(UnitFiles {
-            unit: Unit::of(bytes)?,
+            unit: LineProgram::of(bytes)?,
             strings: self.strings,
         })
     }
@@ -24,7 +24,7 @@ impl<'a> DebugLines<'a> {
 /// The files of a unit.
 #[derive(Clone, Copy)]
 pub struct UnitFiles<'a> {
-    unit: Unit<'a>,
+    unit: LineProgram<'a>,
     strings: Strings<'a>,
 }
 

@@ -17,19 +17,19 @@ pub struct Strings<'a> {
 /// A text of a table. One in another section is read once it is wanted, as many entries may refer
 /// to a long one.
 #[derive(Clone, Copy)]
-pub enum Text<'a> {
+pub enum LineText<'a> {
     /// The text itself.
     Here(&'a [u8]),
     /// What another section has from the text's first byte on.
     Elsewhere(&'a [u8]),
 }
 
-impl<'a> Text<'a> {
+impl<'a> LineText<'a> {
     /// Its bytes. There are none where another section has no 0 in its first 4097 bytes.
     pub fn bytes(&self) -> Option<&'a [u8]> {
         match *self {
-            Text::Here(bytes) => Some(bytes),
-            Text::Elsewhere(rest) => {
+            LineText::Here(bytes) => Some(bytes),
+            LineText::Elsewhere(rest) => {
                 let mut reader = Reader {
                     rest: rest.get(..LONGEST + 1).unwrap_or(rest),
                 };
@@ -41,8 +41,8 @@ impl<'a> Text<'a> {
 
 /// A value of a table.
 #[derive(Clone, Copy)]
-pub enum Value<'a> {
-    Text(Text<'a>),
+pub enum LineValue<'a> {
+    Text(LineText<'a>),
     Number(u64),
     /// A value that no path and no number of a directory has.
     Other,
@@ -51,30 +51,30 @@ pub enum Value<'a> {
 impl<'a> Strings<'a> {
     /// Reads a value of a form. There is none where it does not end in the table, or the form is
     /// none that a table has.
-    pub fn value(&self, table: &mut Reader<'a>, form: u64) -> Option<Value<'a>>
+    pub fn value(&self, table: &mut Reader<'a>, form: u64) -> Option<LineValue<'a>>
         ensures { IfSome result (λ _. length table.new.rest.now < length table.old.rest.now) }
     {
         match form {
             // DW_FORM_string
-            0x08 => Some(Value::Text(Text::Here(table.text()?))),
+            0x08 => Some(LineValue::Text(LineText::Here(table.text()?))),
             // DW_FORM_line_strp
             0x1F => Some(text_at(self.lines, table.word()?)),
             // DW_FORM_strp
             0x0E => Some(text_at(self.info, table.word()?)),
             // DW_FORM_udata
-            0x0F => Some(Value::Number(table.unsigned()?)),
+            0x0F => Some(LineValue::Number(table.unsigned()?)),
             // DW_FORM_data1, data2, data4 and data8
-            0x0B => Some(Value::Number(u64::from(table.byte()?))),
-            0x05 => Some(Value::Number(u64::from(table.half()?))),
-            0x06 => Some(Value::Number(u64::from(table.word()?))),
-            0x07 => Some(Value::Number(table.double_word()?)),
+            0x0B => Some(LineValue::Number(u64::from(table.byte()?))),
+            0x05 => Some(LineValue::Number(u64::from(table.half()?))),
+            0x06 => Some(LineValue::Number(u64::from(table.word()?))),
+            0x07 => Some(LineValue::Number(table.double_word()?)),
             _ => other(table, form),
         }
     }
 }
 
 /// Passes over a value of another form.
-fn other<'a>(table: &mut Reader<'a>, form: u64) -> Option<Value<'a>>
+fn other<'a>(table: &mut Reader<'a>, form: u64) -> Option<LineValue<'a>>
     ensures { IfSome result (λ _. length table.new.rest.now < length table.old.rest.now) }
 {
     match form {
@@ -102,18 +102,18 @@ fn other<'a>(table: &mut Reader<'a>, form: u64) -> Option<Value<'a>>
 }
 
 /// Passes over the bytes of a value.
-fn skip<'a>(table: &mut Reader<'a>, count: u64) -> Option<Value<'a>>
+fn skip<'a>(table: &mut Reader<'a>, count: u64) -> Option<LineValue<'a>>
     ensures { IfSome result
         (λ _. length table.new.rest.now + count ≡ length table.old.rest.now) }
 {
     table.bytes(count)?;
-    Some(Value::Other)
+    Some(LineValue::Other)
 }
 
 /// The text at a place of a section.
-fn text_at(section: &[u8], at: u32) -> Value<'_> {
+fn text_at(section: &[u8], at: u32) -> LineValue<'_> {
     match section.get(at as usize..) {
-        Some(rest) => Value::Text(Text::Elsewhere(rest)),
-        None => Value::Other,
+        Some(rest) => LineValue::Text(LineText::Elsewhere(rest)),
+        None => LineValue::Other,
     }
 }

@@ -3,7 +3,7 @@
 ghost use Rattle.std.specs.Prelude.{◌≡◌, ◌<◌, length, IfSome};
 ghost use Rattle.std.specs.Iterator.{at_most};
 
-use crate::form::{Strings, Value};
+use crate::form::{LineValue, Strings};
 use crate::reader::Reader;
 use crate::tables::FormattedEntry;
 
@@ -80,8 +80,8 @@ impl<'a> Entries<'a> {
             let kind = formats.unsigned()?;
             let form = formats.unsigned()?;
             match (kind, self.strings.value(&mut self.table, form)?) {
-                (PATH, Value::Text(path)) => entry.path = Some(path),
-                (DIRECTORY, Value::Number(number)) => entry.directory = number,
+                (PATH, LineValue::Text(path)) => entry.path = Some(path),
+                (DIRECTORY, LineValue::Number(number)) => entry.directory = number,
                 _ => {}
             }
         }

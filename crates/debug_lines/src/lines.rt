@@ -7,10 +7,10 @@ use crate::chosen_entries::ChosenFiles;
 use crate::form::Strings;
 use crate::open_addresses::OpenAddresses;
 use crate::reader::Reader;
-use crate::row::Row;
+use crate::row::LineRow;
 use crate::source_line::SourceLine;
 use crate::source_lines::{FileLine, SourceLines};
-use crate::unit::{Unit, Units};
+use crate::unit::{LineProgram, Units};
 use elf_symbols::Sections;
 use std::alloc::{AllocError, Global};
 use std::fmt;
@@ -83,7 +83,7 @@ impl<'a> DebugLines<'a> {
     }
 
     /// The source line that a row tells of.
-    fn source_line(&self, unit: &Unit<'a>, row: &Row) -> Option<SourceLine<'a>>
+    fn source_line(&self, unit: &LineProgram<'a>, row: &LineRow) -> Option<SourceLine<'a>>
         ensures line { IfSome result (λ line. (line.line ≡ row.now.line) × (0 < line.line)) }
         ensures file { IfSome result (λ line. has_control line.file.now ≡ false) }
         ensures path { IfSome result (λ line. has_control line.path.now ≡ false) }
@@ -110,7 +110,7 @@ impl<'a> DebugLines<'a> {
         open: &mut OpenAddresses,
         lines: &mut SourceLines<'a>,
     ) -> Result<(), AllocError> {
-        let Some(unit) = Unit::of(bytes) else {
+        let Some(unit) = LineProgram::of(bytes) else {
             return Ok(());
         };
         let covered = open.take_covered(alloc, &unit)?;
@@ -126,8 +126,8 @@ impl<'a> DebugLines<'a> {
 }
 
 /// The unit of some bytes, and its row that covers an address.
-fn covering<'a>(bytes: Reader<'a>, address: u64) -> Option<(Unit<'a>, Row)> {
-    let unit = Unit::of(bytes)?;
+fn covering<'a>(bytes: Reader<'a>, address: u64) -> Option<(LineProgram<'a>, LineRow)> {
+    let unit = LineProgram::of(bytes)?;
     let row = unit.row_at(address)?;
     Some((unit, row))
 }

@@ -1,8 +1,8 @@
 //! Addresses whose rows are looked for in one pass over the line tables.
 
 use crate::registers::LineRegisters;
-use crate::row::Row;
-use crate::unit::Unit;
+use crate::row::LineRow;
+use crate::unit::LineProgram;
 use std::alloc::{AllocError, Global};
 
 /// An address, and what the row that covers it says.
@@ -40,11 +40,11 @@ impl OpenAddresses {
     pub fn take_covered(
         &mut self,
         alloc: Global,
-        unit: &Unit<'_>,
+        unit: &LineProgram<'_>,
     ) -> Result<Vec<CoveredAddress>, AllocError> {
         let mut covered = Vec::new(alloc);
         let mut registers = LineRegisters::START;
-        let mut last: Option<Row> = None;
+        let mut last: Option<LineRow> = None;
         for operation in unit.operations() {
             if let Some(row) = registers.run(operation) {
                 if let Some(last) = &last {
@@ -59,8 +59,8 @@ impl OpenAddresses {
     /// Takes those away that a row covers. Most rows cover none: they cost one binary search.
     fn take_between(
         &mut self,
-        row: &Row,
-        next: &Row,
+        row: &LineRow,
+        next: &LineRow,
         covered: &mut Vec<CoveredAddress>,
     ) -> Result<(), AllocError> {
         if !self.has_between(row, next) {
@@ -80,7 +80,7 @@ impl OpenAddresses {
     }
 
     /// Whether a row covers one of them.
-    fn has_between(&self, row: &Row, next: &Row) -> bool {
+    fn has_between(&self, row: &LineRow, next: &LineRow) -> bool {
         if !row.is_placed || next.address <= row.address {
             return false;
         }

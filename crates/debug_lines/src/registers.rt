@@ -4,7 +4,7 @@ ghost use Rattle.std.specs.Prelude.{◌≡◌};
 ghost use Rattle.debug_lines.specs.Programs.{after_advance, row_of, row_after, registers_after};
 
 use crate::operation::{Advance, Operation};
-use crate::row::Row;
+use crate::row::LineRow;
 
 /// Its registers, as far as an address's line needs them.
 #[derive(Clone, Copy)]
@@ -25,7 +25,7 @@ impl LineRegisters {
     };
 
     /// Does an operation, and gives the row that it makes, if any.
-    pub fn run(&mut self, operation: Operation) -> Option<Row>
+    pub fn run(&mut self, operation: Operation) -> Option<LineRow>
         ensures row { result ≡ row_after operation self.old }
         ensures registers { self.new ≡ registers_after operation self.old }
     {
@@ -65,10 +65,10 @@ impl LineRegisters {
     }
 
     /// The row of the registers' values.
-    fn row(&self, ends_sequence: bool) -> Row
+    fn row(&self, ends_sequence: bool) -> LineRow
         ensures { result ≡ row_of self.now ends_sequence }
     {
-        Row {
+        LineRow {
             address: self.address,
             file: self.file,
             line: self.line,

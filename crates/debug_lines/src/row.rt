@@ -4,7 +4,7 @@ ghost use Rattle.std.specs.Prelude.{◌<◌, ◌≤◌, ◌↔◌, IsTrue};
 
 /// A row of a line table.
 #[derive(Clone, Copy)]
-pub struct Row {
+pub struct LineRow {
     /// The address of an instruction.
     pub address: u64,
     /// The number of its source file in the unit's table of files.
@@ -18,9 +18,9 @@ pub struct Row {
     pub is_placed: bool,
 }
 
-impl Row {
+impl LineRow {
     /// Whether an address is among those from this row's up to the next row's.
-    pub fn covers(&self, next: &Row, address: u64) -> bool
+    pub fn covers(&self, next: &LineRow, address: u64) -> bool
         ensures { IsTrue result ↔ (IsTrue self.now.is_placed
             × (self.now.address ≤ address) × (address < next.now.address)) }
     {

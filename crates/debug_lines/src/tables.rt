@@ -1,9 +1,9 @@
 //! The directories and files of a unit.
 
 use crate::fixed_tables::{Directories, Files};
-use crate::form::{Strings, Text};
+use crate::form::{LineText, Strings};
 use crate::formatted_tables::Entries;
-use crate::unit::Unit;
+use crate::unit::LineProgram;
 
 /// A directory or a file.
 #[derive(Clone, Copy)]
@@ -26,7 +26,7 @@ impl<'a> NameEntry<'a> {
 #[derive(Clone, Copy)]
 pub struct FormattedEntry<'a> {
     /// Its path, where the table has one.
-    pub path: Option<Text<'a>>,
+    pub path: Option<LineText<'a>>,
     /// The number of the directory that a file's path begins in.
     pub directory: u64,
 }
@@ -47,7 +47,7 @@ impl<'a> FormattedEntry<'a> {
     }
 }
 
-impl<'a> Unit<'a> {
+impl<'a> LineProgram<'a> {
     /// The file of a number.
     pub fn file(&self, number: u64, strings: Strings<'a>) -> Option<NameEntry<'a>> {
         if self.version == 5 {

@@ -8,7 +8,7 @@ use crate::encoding::Encoding;
 use crate::operation::Operations;
 use crate::reader::Reader;
 use crate::registers::LineRegisters;
-use crate::row::Row;
+use crate::row::LineRow;
 
 /// The length that says that a unit is of the 64-bit format (7.4).
 const WIDE: u32 = 0xFFFF_FFFF;
@@ -38,7 +38,7 @@ impl<'a> Iterator for Units<'a> {
 
 /// A unit's line number program, and its tables of directories and files.
 #[derive(Clone, Copy)]
-pub struct Unit<'a> {
+pub struct LineProgram<'a> {
     /// 2 to 5.
     pub version: u16,
     /// The tables, from their first byte on.
@@ -47,9 +47,9 @@ pub struct Unit<'a> {
     program: Reader<'a>,
 }
 
-impl<'a> Unit<'a> {
+impl<'a> LineProgram<'a> {
     /// The unit of some bytes, where it is of version 2 to 5 and its header lies in them.
-    pub fn of(mut bytes: Reader<'a>) -> Option<Unit<'a>> {
+    pub fn of(mut bytes: Reader<'a>) -> Option<LineProgram<'a>> {
         let version = bytes.half()?;
         if version < 2 || version > 5 {
             return None;
@@ -61,7 +61,7 @@ impl<'a> Unit<'a> {
         let length = bytes.word()?;
         let mut header = bytes.part(u64::from(length))?;
         let encoding = Encoding::read(&mut header, version)?;
-        Some(Unit {
+        Some(LineProgram {
             version,
             tables: header,
             encoding,
@@ -70,12 +70,12 @@ impl<'a> Unit<'a> {
     }
 
     /// The first row that covers an address: the next row of its sequence lies behind the address.
-    pub fn row_at(&self, address: u64) -> Option<Row>
+    pub fn row_at(&self, address: u64) -> Option<LineRow>
         ensures placed { IfSome result (λ row. IsTrue row.is_placed) }
         ensures below { IfSome result (λ row. row.address ≤ address) }
     {
         let mut registers = LineRegisters::START;
-        let mut last: Option<Row> = None;
+        let mut last: Option<LineRow> = None;
         for operation in self.operations() {
             if let Some(row) = registers.run(operation) {
                 if is_between(&last, &row, address) {
@@ -97,7 +97,7 @@ impl<'a> Unit<'a> {
 }
 
 /// Whether a row, if there is one, covers an address.
-fn is_between(row: &Option<Row>, next: &Row, address: u64) -> bool
+fn is_between(row: &Option<LineRow>, next: &LineRow, address: u64) -> bool
     ensures row { OnTrue result
         (IfSome row.now (λ row. IsTrue row.is_placed × (row.address ≤ address))) }
 {

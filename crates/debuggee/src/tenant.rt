@@ -12,7 +12,7 @@ use crate::cuts::Cuts;
 use crate::watched::{Hit, Watched, Watchpoint};
 use a64_run::OpCache;
 use a64_step::{Decoder, Regs};
-use elf_core::Region;
+use elf_core::MappedRegion;
 use instruction_trace::Moment;
 use mte_flat::Flat;
 use mte_tags::TagMode;
@@ -272,7 +272,7 @@ impl<'a> Debuggee<'a> {
     }
 
     /// The regions of its memory, the lowest first.
-    pub fn regions(&mut self, alloc: Global) -> Result<Vec<Region>, AllocError> {
+    pub fn regions(&mut self, alloc: Global) -> Result<Vec<MappedRegion>, AllocError> {
         self.memory.regions(alloc)
     }
 

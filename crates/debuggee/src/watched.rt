@@ -4,7 +4,7 @@ ghost use Rattle.std.specs.Prelude.{◌≡◌};
 
 use a64_bits::plain;
 use address_map::{GRANULE_SIZE, PAGE_SIZE};
-use elf_core::{Region, regions};
+use elf_core::{MappedRegion, regions};
 use mte_flat::Flat;
 use mte_tags::{Attrs, MemFault, NoPagesLeft, Paged, Tagged};
 use std::alloc::{AllocError, Global};
@@ -168,7 +168,7 @@ impl Watched {
     }
 
     /// The regions of the memory, the lowest first.
-    pub fn regions(&mut self, alloc: Global) -> Result<Vec<Region>, AllocError>
+    pub fn regions(&mut self, alloc: Global) -> Result<Vec<MappedRegion>, AllocError>
         ensures { self.new.flat ≡ self.old.flat }
     {
         regions(alloc, &self.flat)

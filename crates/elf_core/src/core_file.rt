@@ -1,7 +1,7 @@
 //! The file (ELF64, "ELF Header", "Program Header"; the ABI for memory tags in core files: Linux,
 //! "Memory Tagging Extension (MTE) in AArch64 Linux", "Core dump support").
 
-use crate::memory_map::{Region, regions};
+use crate::memory_map::{MappedRegion, regions};
 use crate::notes::{Noted, write_double_words, write_words};
 use crate::signal::Signal;
 use address_map::{GRANULE_SIZE, PAGE_SIZE};
@@ -66,7 +66,7 @@ pub fn write_core<W: Write>(
 
 /// A part of the file and of the memory.
 #[derive(Clone, Copy)]
-struct Segment {
+struct CoreSegment {
     kind: u32,
     flags: u32,
     address: u64,
@@ -75,10 +75,10 @@ struct Segment {
     alignment: u64,
 }
 
-impl Segment {
+impl CoreSegment {
     /// The notes.
-    fn of_notes(size: u64) -> Segment {
-        Segment {
+    fn of_notes(size: u64) -> CoreSegment {
+        CoreSegment {
             kind: NOTE,
             flags: 0,
             address: 0,
@@ -89,8 +89,8 @@ impl Segment {
     }
 
     /// The bytes of a region.
-    fn of_bytes(region: &Region) -> Segment {
-        Segment {
+    fn of_bytes(region: &MappedRegion) -> CoreSegment {
+        CoreSegment {
             kind: LOAD,
             flags: flags_of(region.attrs),
             address: region.start,
@@ -101,8 +101,8 @@ impl Segment {
     }
 
     /// The tags of a region.
-    fn of_tags(region: &Region) -> Segment {
-        Segment {
+    fn of_tags(region: &MappedRegion) -> CoreSegment {
+        CoreSegment {
             kind: TAGS,
             flags: 0,
             address: region.start,
@@ -131,18 +131,18 @@ fn write_headers<W: Write>(
     alloc: Global,
     out: &mut W,
     notes_size: u64,
-    all: &[Region],
+    all: &[MappedRegion],
 ) -> io::Result<()> {
     let mut headers = Headers {
         text: Vec::new(alloc),
         count: 0,
         offset: padded(first_offset(all)),
     };
-    headers.append(&Segment::of_notes(notes_size))?;
+    headers.append(&CoreSegment::of_notes(notes_size))?;
     for region in all {
-        headers.append(&Segment::of_bytes(region))?;
+        headers.append(&CoreSegment::of_bytes(region))?;
         if region.is_tagged() {
-            headers.append(&Segment::of_tags(region))?;
+            headers.append(&CoreSegment::of_tags(region))?;
         }
     }
     let mut text = Vec::new(alloc);
@@ -152,7 +152,7 @@ fn write_headers<W: Write>(
 }
 
 /// How many bytes the headers have: of the notes, and of each region one or two.
-fn first_offset(all: &[Region]) -> u64 {
+fn first_offset(all: &[MappedRegion]) -> u64 {
     let tagged = all.iter().filter(|region| region.is_tagged()).count() as u64;
     let count = (all.len() as u64).saturating_add(tagged).saturating_add(1);
     PROGRAM_HEADER_SIZE
@@ -170,7 +170,7 @@ struct Headers {
 
 impl Headers {
     /// Appends the header of a segment.
-    fn append(&mut self, segment: &Segment) -> io::Result<()> {
+    fn append(&mut self, segment: &CoreSegment) -> io::Result<()> {
         write_words(&mut self.text, &[segment.kind, segment.flags])?;
         let values = [
             self.offset,
@@ -211,7 +211,7 @@ fn write_padded<W: Write>(out: &mut W, bytes: &[u8]) -> io::Result<()> {
 fn write_region<M: Tagged, W: Write>(
     out: &mut W,
     memory: &mut M,
-    region: &Region,
+    region: &MappedRegion,
 ) -> io::Result<()> {
     write_pages(out, memory, region)?;
     if region.is_tagged() {
@@ -224,7 +224,7 @@ fn write_region<M: Tagged, W: Write>(
 fn write_pages<M: Tagged, W: Write>(
     out: &mut W,
     memory: &mut M,
-    region: &Region,
+    region: &MappedRegion,
 ) -> io::Result<()> {
     for number in region.start / PAGE_SIZE..region.end / PAGE_SIZE {
         write_page(out, memory, number.saturating_mul(PAGE_SIZE))?;
@@ -254,7 +254,11 @@ fn word_at<M: Tagged>(memory: &mut M, addr: u64) -> u32 {
 }
 
 /// The tags of a region's granules, two in a byte, the lower one first.
-fn write_tags<M: Tagged, W: Write>(out: &mut W, memory: &mut M, region: &Region) -> io::Result<()> {
+fn write_tags<M: Tagged, W: Write>(
+    out: &mut W,
+    memory: &mut M,
+    region: &MappedRegion,
+) -> io::Result<()> {
     let pair = 2 * GRANULE_SIZE;
     for number in region.start / pair..region.end / pair {
         let low = tag_at(memory, number.saturating_mul(pair));

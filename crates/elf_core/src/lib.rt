@@ -9,6 +9,6 @@ mod notes;
 mod signal;
 
 pub use core_file::{CoreSubject, write_core};
-pub use memory_map::{Region, regions};
+pub use memory_map::{MappedRegion, regions};
 pub use notes::flags_word;
 pub use signal::{Signal, tag_control};

@@ -7,7 +7,7 @@ use std::alloc::{AllocError, Global};
 
 /// Pages one after another with the same attributes.
 #[derive(Clone, Copy)]
-pub struct Region {
+pub struct MappedRegion {
     /// The first address.
     pub start: u64,
     /// The address after the last.
@@ -16,7 +16,7 @@ pub struct Region {
     pub attrs: Attrs,
 }
 
-impl Region {
+impl MappedRegion {
     /// How many bytes it has.
     pub fn len(&self) -> u64 {
         self.end.saturating_sub(self.start)
@@ -29,10 +29,10 @@ impl Region {
 }
 
 /// The regions of a memory, the lowest first. It takes time for the pages that are mapped.
-pub fn regions(alloc: Global, memory: &Flat) -> Result<Vec<Region>, AllocError> {
+pub fn regions(alloc: Global, memory: &Flat) -> Result<Vec<MappedRegion>, AllocError> {
     let mut pages = memory.mapped_pages(alloc)?;
     pages.sort_unstable_by_key(|page| page.number);
-    let mut all: Vec<Region> = Vec::new(alloc);
+    let mut all: Vec<MappedRegion> = Vec::new(alloc);
     for page in &pages {
         append(&mut all, page.number.saturating_mul(PAGE_SIZE), page.attrs)?;
     }
@@ -40,7 +40,7 @@ pub fn regions(alloc: Global, memory: &Flat) -> Result<Vec<Region>, AllocError> 
 }
 
 /// Lengthens the last region by a page, or begins one with it.
-fn append(all: &mut Vec<Region>, start: u64, attrs: Attrs) -> Result<(), AllocError> {
+fn append(all: &mut Vec<MappedRegion>, start: u64, attrs: Attrs) -> Result<(), AllocError> {
     let end = start.saturating_add(PAGE_SIZE);
     if let Some(last) = all.last_mut() {
         if last.end == start && last.attrs == attrs {
@@ -48,6 +48,6 @@ fn append(all: &mut Vec<Region>, start: u64, attrs: Attrs) -> Result<(), AllocEr
             return Ok(());
         }
     }
-    all.push(Region { start, end, attrs })?;
+    all.push(MappedRegion { start, end, attrs })?;
     Ok(())
 }

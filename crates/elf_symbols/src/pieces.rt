@@ -17,7 +17,7 @@ pub struct Rank {
 
 /// What of a symbol decides its place.
 #[derive(Clone, Copy)]
-pub struct Standing {
+pub struct SymbolRank {
     /// Its address.
     pub value: u64,
     /// Whether it has a size.
@@ -30,8 +30,8 @@ pub struct Standing {
 
 impl Rank {
     /// The place of the symbol with a number.
-    pub fn of(standing: Standing, number: u32) -> Rank {
-        let Standing {
+    pub fn of(standing: SymbolRank, number: u32) -> Rank {
+        let SymbolRank {
             value,
             has_size,
             is_typed,

@@ -3,7 +3,7 @@
 //! names.
 
 use crate::fields::{double_word, half, word};
-use crate::pieces::{Piece, Rank, Standing, Sweep};
+use crate::pieces::{Piece, Rank, Sweep, SymbolRank};
 use crate::sections::Sections;
 use std::alloc::{AllocError, Global};
 use std::{fmt, str};
@@ -87,10 +87,10 @@ impl<'a> SymbolTable<'a> {
 }
 
 /// What decides the place of an entry's symbol, where the entry has one.
-fn standing_of(entry: &[u8], names: &[u8]) -> Option<Standing> {
+fn standing_of(entry: &[u8], names: &[u8]) -> Option<SymbolRank> {
     let symbol = Symbol::of(entry, names)?;
     let info = *entry.get(4)?;
-    Some(Standing {
+    Some(SymbolRank {
         value: symbol.value,
         has_size: symbol.size != 0,
         is_typed: matches!(info % 16, OBJECT | FUNCTION),

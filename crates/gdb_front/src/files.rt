@@ -2,7 +2,7 @@
 
 use crate::front::Front;
 use crate::reply::Reply;
-use elf_core::Region;
+use elf_core::MappedRegion;
 use gdb_packets::{FileCall, read_hex};
 use gdb_target::{TextBuffer, put_file_part, put_file_status, put_maps, put_smaps};
 use std::alloc::Global;
@@ -43,7 +43,7 @@ impl File {
 
 impl File {
     /// Makes the map of a memory's regions.
-    fn make_map(&mut self, map: Map, all: &[Region], image: &[u8]) {
+    fn make_map(&mut self, map: Map, all: &[MappedRegion], image: &[u8]) {
         self.text.clear();
         match map {
             Map::Maps => put_maps(&mut self.text, all, image),

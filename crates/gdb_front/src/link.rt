@@ -2,7 +2,9 @@
 
 use crate::front::Front;
 use crate::reply::Reply;
-use gdb_packets::{Command, FRAME_LIMIT, Input, parse_command, read_input, unescape, write_packet};
+use gdb_packets::{
+    Command, FRAME_LIMIT, PacketInput, parse_command, read_input, unescape, write_packet,
+};
 use gdb_target::TextBuffer;
 use std::alloc::Global;
 use std::io;
@@ -16,7 +18,7 @@ const CONSOLE_PART: usize = 2048;
 
 /// The link's state.
 #[derive(Drop)]
-struct Link {
+struct Connection {
     /// The last packet that was sent, with its frame.
     sent: Vec<u8>,
     /// Whether packets are acknowledged.
@@ -32,7 +34,7 @@ pub fn serve<R: Read, W: Write>(
     input: &mut R,
     out: &mut W,
 ) -> io::Result<()> {
-    let mut link = Link {
+    let mut link = Connection {
         sent: Vec::new(alloc),
         acknowledges: true,
         is_over: false,
@@ -54,7 +56,7 @@ pub fn serve<R: Read, W: Write>(
     Ok(())
 }
 
-impl Link {
+impl Connection {
     /// Answers all that has come as a whole, and returns how many bytes that was.
     fn take_all<W: Write>(
         &mut self,
@@ -81,15 +83,15 @@ impl Link {
         &mut self,
         alloc: Global,
         front: &mut Front<'_>,
-        input: &Input<'_>,
+        input: &PacketInput<'_>,
         out: &mut W,
     ) -> io::Result<()> {
         match *input {
-            Input::Packet { bytes, .. } => self.take_packet(alloc, front, bytes, out),
-            Input::Bad { .. } => out.write_all(b"-"),
+            PacketInput::Packet { bytes, .. } => self.take_packet(alloc, front, bytes, out),
+            PacketInput::Bad { .. } => out.write_all(b"-"),
             // GDB sends it while it waits for an answer too: where packets are not acknowledged, a
             // second copy would be taken for the next answer.
-            Input::Nack if self.acknowledges => out.write_all(self.sent.as_slice()),
+            PacketInput::Nack if self.acknowledges => out.write_all(self.sent.as_slice()),
             _ => return Ok(()),
         }?;
         out.flush()

@@ -17,7 +17,7 @@ const MACHINE: &[u8] = b"\ninstruction at ";
 
 /// What a user may ask.
 #[derive(Clone, Copy)]
-enum Request {
+enum UserRequest {
     Why,
     Calls,
     Chunk(u64),
@@ -26,36 +26,36 @@ enum Request {
     Help,
 }
 
-impl Request {
+impl UserRequest {
     /// The request of a command's words.
-    fn of(text: &[u8]) -> Request {
+    fn of(text: &[u8]) -> UserRequest {
         match text {
-            b"why" => Request::Why,
-            b"calls" => Request::Calls,
-            b"step" => Request::Step,
-            _ => Request::of_number(text),
+            b"why" => UserRequest::Why,
+            b"calls" => UserRequest::Calls,
+            b"step" => UserRequest::Step,
+            _ => UserRequest::of_number(text),
         }
     }
 
     /// The request of the words `goto STEP`, or of others.
-    fn of_number(text: &[u8]) -> Request {
+    fn of_number(text: &[u8]) -> UserRequest {
         let Some(digits) = text.strip_prefix(b"goto ") else {
-            return Request::of_chunk(text);
+            return UserRequest::of_chunk(text);
         };
         match read_count(digits) {
-            Some(steps) => Request::GoTo(steps),
-            None => Request::Help,
+            Some(steps) => UserRequest::GoTo(steps),
+            None => UserRequest::Help,
         }
     }
 
     /// The request of the words `chunk 0xADDRESS`.
-    fn of_chunk(text: &[u8]) -> Request {
+    fn of_chunk(text: &[u8]) -> UserRequest {
         let Some(digits) = text.strip_prefix(b"chunk 0x") else {
-            return Request::Help;
+            return UserRequest::Help;
         };
         match read_number(digits) {
-            Some(address) => Request::Chunk(address),
-            None => Request::Help,
+            Some(address) => UserRequest::Chunk(address),
+            None => UserRequest::Help,
         }
     }
 }
@@ -64,7 +64,7 @@ impl Front<'_> {
     /// Answers a user's command, which is in digits.
     pub(crate) fn tell_user(&mut self, alloc: Global, digits: &[u8], reply: &mut Reply) {
         let request = request_of(digits);
-        if let Request::GoTo(steps) = request {
+        if let UserRequest::GoTo(steps) = request {
             self.go_to(alloc, steps, reply);
             return;
         }
@@ -82,22 +82,22 @@ impl Front<'_> {
     fn tell_request(
         &mut self,
         alloc: Global,
-        request: Request,
+        request: UserRequest,
         out: &mut Vec<u8>,
     ) -> io::Result<()> {
         match request {
-            Request::Why => tell_why(alloc, out, &self.tenant, &self.subject),
-            Request::Calls => {
+            UserRequest::Why => tell_why(alloc, out, &self.tenant, &self.subject),
+            UserRequest::Calls => {
                 let calls = made_calls(alloc, &self.tenant)?;
                 tell_calls(out, calls.as_slice())
             }
-            Request::Chunk(address) => {
+            UserRequest::Chunk(address) => {
                 let calls = made_calls(alloc, &self.tenant)?;
                 tell_chunks(out, calls.as_slice(), address)?;
                 tell_tags(out, &mut self.tenant, address)
             }
-            Request::Step => writeln!(out, "{}", self.tenant.position()),
-            Request::GoTo(_) | Request::Help => {
+            UserRequest::Step => writeln!(out, "{}", self.tenant.position()),
+            UserRequest::GoTo(_) | UserRequest::Help => {
                 writeln!(out, "why | calls | chunk 0xADDRESS | step | goto STEP")?;
                 writeln!(out, "(of a pointer P: eval \"monitor chunk %p\", P)")
             }
@@ -152,13 +152,13 @@ fn read_count(text: &[u8]) -> Option<u64> {
 }
 
 /// The request of a command in digits.
-fn request_of(digits: &[u8]) -> Request {
+fn request_of(digits: &[u8]) -> UserRequest {
     if digits.len() > 2 * COMMAND_LIMIT {
-        return Request::Help;
+        return UserRequest::Help;
     }
     let mut room = [0; COMMAND_LIMIT];
     let len = read_hex(digits, &mut room).unwrap_or(0);
-    Request::of(room.get(..len).unwrap_or(&[]))
+    UserRequest::of(room.get(..len).unwrap_or(&[]))
 }
 
 /// A report's lines up to those of the machine.

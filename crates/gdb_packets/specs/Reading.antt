@@ -5,8 +5,8 @@ use Rattle.std.specs.Prelude.{List, [], ◌∷◌, take, drop, length, Option, S
 use Rattle.std.specs.List.{prefix_len}
 use Rattle.std.specs.Result.{result_ok}
 use Rattle.hex.specs.Hex.{pair_value}
-use Rattle.gdb_packets.specs.declared.input.Input.{Input}
-use Rattle.gdb_packets.specs.declared.input.Input.TheVariants as input
+use Rattle.gdb_packets.specs.declared.input.PacketInput.{PacketInput}
+use Rattle.gdb_packets.specs.declared.input.PacketInput.TheVariants as input
 use Rattle.gdb_packets.specs.declared.input.TheConstants.{PACKET_SIZE, FRAME_LIMIT}
 use Rattle.gdb_packets.specs.Framing.{checksum_of}
 
@@ -21,7 +21,7 @@ pub data Reading : Type 0 where
   more : Reading
 
 -- An input without where it lies in memory.
-abbrev pub seen : Input → Reading
+abbrev pub seen : PacketInput → Reading
 seen (input.Packet bytes len) = packet bytes.now len
 seen (input.Bad len) = bad len
 seen input.Interrupt = interrupt

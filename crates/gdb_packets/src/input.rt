@@ -17,7 +17,7 @@ pub const FRAME_LIMIT: usize = PACKET_SIZE + 4;
 
 /// What the first of the bytes that came are.
 #[derive(Clone, Copy)]
-pub enum Input<'a> {
+pub enum PacketInput<'a> {
     /// `$data#cc`: the data as they came, with their escapes, and the length of the whole.
     Packet { bytes: &'a [u8], len: usize },
     /// A packet with a wrong checksum, one that is too long or that the `$` of another one cuts
@@ -35,21 +35,21 @@ pub enum Input<'a> {
     More,
 }
 
-impl Input<'_> {
+impl PacketInput<'_> {
     /// How many bytes it takes: 0 where more are needed.
     pub fn byte_count(&self) -> usize
         ensures { result ≡ packet_length (seen self.now) }
     {
         match *self {
-            Input::Packet { len, .. } | Input::Bad { len } => len,
-            Input::More => 0,
+            PacketInput::Packet { len, .. } | PacketInput::Bad { len } => len,
+            PacketInput::More => 0,
             _ => 1,
         }
     }
 }
 
 /// The first input among the bytes that came so far.
-pub fn read_input(bytes: &[u8]) -> Input<'_>
+pub fn read_input(bytes: &[u8]) -> PacketInput<'_>
     ensures exact { seen result ≡ reading_of bytes.now }
 
     // It takes some of the bytes, or a bounded number of bytes is waited for.
@@ -65,33 +65,33 @@ pub fn read_input(bytes: &[u8]) -> Input<'_>
     first_input(bytes)
 }
 
-fn first_input(bytes: &[u8]) -> Input<'_>
+fn first_input(bytes: &[u8]) -> PacketInput<'_>
     ensures { seen result ≡ reading_of bytes.now }
 {
     let Some((first, rest)) = bytes.split_first() else {
-        return Input::More;
+        return PacketInput::More;
     };
     match *first {
         b'$' => read_packet(rest),
-        b'+' => Input::Ack,
-        b'-' => Input::Nack,
-        0x03 => Input::Interrupt,
-        _ => Input::Noise,
+        b'+' => PacketInput::Ack,
+        b'-' => PacketInput::Nack,
+        0x03 => PacketInput::Interrupt,
+        _ => PacketInput::Noise,
     }
 }
 
 /// What follows a `$`.
-fn read_packet(rest: &[u8]) -> Input<'_>
+fn read_packet(rest: &[u8]) -> PacketInput<'_>
     ensures { seen result ≡ after_dollar rest.now }
 {
     let (bytes, rest) = rest.split_at(data_len(rest));
     if bytes.len() > PACKET_SIZE {
         let len = PACKET_SIZE + 2;
-        return Input::Bad { len };
+        return PacketInput::Bad { len };
     }
     match rest.split_first() {
-        None => Input::More,
-        Some((b'$', _)) => Input::Bad {
+        None => PacketInput::More,
+        Some((b'$', _)) => PacketInput::Bad {
             len: bytes.len() + 1,
         },
         Some((_, rest)) => read_checksum(bytes, rest),
@@ -108,16 +108,16 @@ fn data_len(bytes: &[u8]) -> usize
 }
 
 /// Data, and what follows their `#`.
-fn read_checksum<'a>(bytes: &'a [u8], rest: &[u8]) -> Input<'a>
+fn read_checksum<'a>(bytes: &'a [u8], rest: &[u8]) -> PacketInput<'a>
     ensures { seen result ≡ check_packet bytes.now rest.now }
 {
     let [high, low, ..] = rest else {
-        return Input::More;
+        return PacketInput::More;
     };
     let len = bytes.len() + 4;
     match byte_of(*high, *low) {
-        Some(sum) if sum == checksum(bytes) => Input::Packet { bytes, len },
-        _ => Input::Bad { len },
+        Some(sum) if sum == checksum(bytes) => PacketInput::Packet { bytes, len },
+        _ => PacketInput::Bad { len },
     }
 }
 

@@ -16,5 +16,5 @@ pub use digits::{
     is_hex, read_hex, read_number, read_register, write_hex, write_number, write_register,
 };
 pub use framing::{checksum, unescape, write_packet};
-pub use input::{FRAME_LIMIT, Input, PACKET_SIZE, read_input};
+pub use input::{FRAME_LIMIT, PACKET_SIZE, PacketInput, read_input};
 pub use parsing::parse_command;

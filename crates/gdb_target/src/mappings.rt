@@ -1,7 +1,7 @@
 //! The regions of a memory as Linux tells them (proc(5)).
 
 use crate::text::TextBuffer;
-use elf_core::Region;
+use elf_core::MappedRegion;
 use mte_tags::Attrs;
 
 /// Where chunks of size classes begin, and where those with pages of their own end.
@@ -13,14 +13,14 @@ const HEAP_END: u64 = 0x3F00_0000;
 const STACK: u64 = 0x3FFF_C000;
 
 /// Appends the text of `/proc/PID/maps`.
-pub fn put_maps(text: &mut TextBuffer, all: &[Region], image: &[u8]) {
+pub fn put_maps(text: &mut TextBuffer, all: &[MappedRegion], image: &[u8]) {
     for region in all {
         put_line(text, region, image);
     }
 }
 
 /// Appends the text of `/proc/PID/smaps`: of its lines those that GDB reads.
-pub fn put_smaps(text: &mut TextBuffer, all: &[Region], image: &[u8]) {
+pub fn put_smaps(text: &mut TextBuffer, all: &[MappedRegion], image: &[u8]) {
     for region in all {
         put_line(text, region, image);
         text.put(b"Size: ");
@@ -32,7 +32,7 @@ pub fn put_smaps(text: &mut TextBuffer, all: &[Region], image: &[u8]) {
 }
 
 /// `12000000-12001000 rw-p 00000000 00:00 0 [heap]`
-fn put_line(text: &mut TextBuffer, region: &Region, image: &[u8]) {
+fn put_line(text: &mut TextBuffer, region: &MappedRegion, image: &[u8]) {
     text.put_number(region.start);
     text.put(b"-");
     text.put_number(region.end);
@@ -66,7 +66,7 @@ fn put_flag(text: &mut TextBuffer, attrs: Attrs, attr: Attrs, word: &[u8]) {
 }
 
 /// What a region is of.
-fn name_of<'a>(region: &Region, image: &'a [u8]) -> &'a [u8] {
+fn name_of<'a>(region: &MappedRegion, image: &'a [u8]) -> &'a [u8] {
     if region.start >= STACK {
         b"[stack]"
     } else if region.start >= HEAP && region.start < HEAP_END {

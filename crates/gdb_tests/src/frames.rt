@@ -1,6 +1,6 @@
 //! Frames, each function once.
 
-use gdb_packets::{Input, checksum, read_input, unescape, write_packet};
+use gdb_packets::{PacketInput, checksum, read_input, unescape, write_packet};
 
 /// What GDB 13.1 sent, with what came behind it.
 const SENT: &[u8] = b"$X400200,4:}\x04}]}\n}\x03#7a$g";
@@ -12,7 +12,7 @@ fn reads_a_frame(rt: HostRuntime) {
     assert!(rt;
         matches!(
             read_input(SENT),
-            Input::Packet {
+            PacketInput::Packet {
                 bytes: b"X400200,4:}\x04}]}\n}\x03",
                 len: 22
             }

@@ -5,7 +5,7 @@ use crate::points::Points;
 use crate::stop::{StopReason, Until};
 use crate::ways::{advance, is_at_svc, last_point, look_ahead};
 use debuggee::Debuggee;
-use elf_core::Region;
+use elf_core::MappedRegion;
 use mte_tags::TagMode;
 use mte_tenant::{Status, TenantParts};
 use std::alloc::{AllocError, Global};
@@ -80,7 +80,7 @@ impl<'a> Traveller<'a> {
     }
 
     /// The regions of its memory, the lowest first.
-    pub fn regions(&mut self, alloc: Global) -> Result<Vec<Region>, AllocError> {
+    pub fn regions(&mut self, alloc: Global) -> Result<Vec<MappedRegion>, AllocError> {
         self.now.regions(alloc)
     }
 

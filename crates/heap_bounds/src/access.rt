@@ -45,7 +45,10 @@ pub fn access_of(instr: &Instr, regs: &Regs) -> Option<MemoryAccess> {
             rt,
         } => {
             let offset = scaled_offset(imm12, size);
-            Some(at_constant(rn, single(regs, rn, offset, Form { size, opc, rt })))
+            Some(at_constant(
+                rn,
+                single(regs, rn, offset, TransferFields { size, opc, rt }),
+            ))
         }
         Instr::LdStUnscaled {
             size,
@@ -55,7 +58,10 @@ pub fn access_of(instr: &Instr, regs: &Regs) -> Option<MemoryAccess> {
             rt,
         } => {
             let offset = signed_offset(i64::from(imm9));
-            Some(at_constant(rn, single(regs, rn, offset, Form { size, opc, rt })))
+            Some(at_constant(
+                rn,
+                single(regs, rn, offset, TransferFields { size, opc, rt }),
+            ))
         }
         Instr::LdStPre {
             size,
@@ -67,7 +73,7 @@ pub fn access_of(instr: &Instr, regs: &Regs) -> Option<MemoryAccess> {
             regs,
             rn,
             signed_offset(i64::from(imm9)),
-            Form { size, opc, rt },
+            TransferFields { size, opc, rt },
         )),
         Instr::LdStPost {
             size,
@@ -75,7 +81,7 @@ pub fn access_of(instr: &Instr, regs: &Regs) -> Option<MemoryAccess> {
             rn,
             rt,
             ..
-        } => Some(single(regs, rn, 0, Form { size, opc, rt })),
+        } => Some(single(regs, rn, 0, TransferFields { size, opc, rt })),
         Instr::LdStReg {
             size,
             opc,
@@ -86,7 +92,7 @@ pub fn access_of(instr: &Instr, regs: &Regs) -> Option<MemoryAccess> {
             rt,
         } => {
             let offset = register_offset(regs, rm, option, s, size);
-            Some(single(regs, rn, offset, Form { size, opc, rt }))
+            Some(single(regs, rn, offset, TransferFields { size, opc, rt }))
         }
         _ => pair_of(instr, regs),
     }
@@ -144,15 +150,15 @@ fn at_constant(rn: u8, access: MemoryAccess) -> MemoryAccess {
 
 /// The fields of a load or store of one register.
 #[derive(Clone, Copy)]
-struct Form {
+struct TransferFields {
     size: u8,
     opc: u8,
     rt: u8,
 }
 
 /// A load or store of one register, of 2 to the power of `size` bytes.
-fn single(regs: &Regs, rn: u8, offset: u64, form: Form) -> MemoryAccess {
-    let Form { size, opc, rt } = form;
+fn single(regs: &Regs, rn: u8, offset: u64, form: TransferFields) -> MemoryAccess {
+    let TransferFields { size, opc, rt } = form;
     MemoryAccess {
         addr: base(regs, rn).wrapping_add(offset),
         bytes: unit(size),

@@ -12,7 +12,7 @@ use std::fmt;
 
 /// What a range of addresses is for.
 #[derive(Clone, Copy, PartialEq, Eq)]
-pub enum Range {
+pub enum RangeUse {
     /// An image's segments.
     Image,
     /// The blocks of a size class.
@@ -25,37 +25,37 @@ pub enum Range {
     Nothing,
 }
 
-impl Range {
-    ghost use Rattle.heap_bounds.specs.declared.blocks.Range.TheVariants.{Class};
+impl RangeUse {
+    ghost use Rattle.heap_bounds.specs.declared.blocks.RangeUse.TheVariants.{Class};
 
     /// The range of a plain address.
-    pub fn of(addr: u64) -> Range
+    pub fn of(addr: u64) -> RangeUse
         ensures class { (c : ℕ) → (result ≡ Class c) ↔ IsInRegion c addr }
     {
         match addr {
-            IMAGE_START..IMAGE_END => Range::Image,
+            IMAGE_START..IMAGE_END => RangeUse::Image,
             REGIONS_START..SECONDARY_START => {
                 let class = (addr - REGIONS_START) / REGION_SIZE;
                 if class == 0 || class > u64::from(CLASSES) {
-                    return Range::Nothing;
+                    return RangeUse::Nothing;
                 }
-                Range::Class(class as u8)
+                RangeUse::Class(class as u8)
             }
-            SECONDARY_START..SECONDARY_END => Range::Large,
-            STACK_START..STACK_END => Range::Stack,
-            _ => Range::Nothing,
+            SECONDARY_START..SECONDARY_END => RangeUse::Large,
+            STACK_START..STACK_END => RangeUse::Stack,
+            _ => RangeUse::Nothing,
         }
     }
 }
 
-impl fmt::Display for Range {
+impl fmt::Display for RangeUse {
     fn fmt<W: fmt::Write>(&self, f: &mut fmt::Formatter<W>) -> fmt::Result {
         match self {
-            Range::Image => f.write_str("image"),
-            Range::Class(class) => write!(f, "heap, class {class}"),
-            Range::Large => f.write_str("heap, a large chunk"),
-            Range::Stack => f.write_str("stack"),
-            Range::Nothing => f.write_str("nothing"),
+            RangeUse::Image => f.write_str("image"),
+            RangeUse::Class(class) => write!(f, "heap, class {class}"),
+            RangeUse::Large => f.write_str("heap, a large chunk"),
+            RangeUse::Stack => f.write_str("stack"),
+            RangeUse::Nothing => f.write_str("nothing"),
         }
     }
 }
@@ -77,7 +77,7 @@ impl Block {
         ensures block { IfSome result (IsBlockAt addr) }
         ensures none { result ≡ None → (c : ℕ) → IsInRegion c addr → ⊥ }
     {
-        let Range::Class(class) = Range::of(addr) else {
+        let RangeUse::Class(class) = RangeUse::of(addr) else {
             return None;
         };
         let size = size_of_class(class);

@@ -3,7 +3,7 @@
 ghost use Rattle.std.specs.Prelude.{◌≡◌, ◌≤◌, ◌↔◌, None, true, false, IsTrue};
 ghost use Rattle.heap_bounds.specs.Extents.{IsByteOf, IsGranuleOf};
 
-use crate::blocks::{Block, Range};
+use crate::blocks::{Block, RangeUse};
 use crate::calls::{Allocation, freed_by, made_by};
 use a64_bits::plain;
 use mte_svc::AnsweredCall;
@@ -23,22 +23,22 @@ pub enum Trespass {
 
 /// A chunk by its plain addresses.
 #[derive(Clone, Copy)]
-struct Extent {
+struct ChunkBytes {
     start: u64,
     /// The address after its last byte.
     end: u64,
     live: bool,
 }
 
-impl Extent {
+impl ChunkBytes {
     ghost use Rattle.std.specs.Prelude.{Some};
     ghost use Rattle.heap_bounds.specs.declared.bounds.Trespass.TheVariants.{NoChunk, Freed};
     ghost use Rattle.heap_bounds.specs.declared.bounds.Trespass.TheVariants.{PastSize};
 
     /// The extent of a chunk that was made. A chunk of 0 bytes has one.
-    fn of(made: &Allocation) -> Extent {
+    fn of(made: &Allocation) -> ChunkBytes {
         let start = plain(made.pointer);
-        Extent {
+        ChunkBytes {
             start,
             end: start.saturating_add(made.size.max(1)),
             live: true,
@@ -77,8 +77,8 @@ impl Extent {
 /// have pages of their own.
 #[derive(Drop)]
 pub struct Bounds {
-    blocks: BTreeMap<u64, Extent>,
-    large: Vec<Extent>,
+    blocks: BTreeMap<u64, ChunkBytes>,
+    large: Vec<ChunkBytes>,
 }
 
 impl Bounds {
@@ -96,7 +96,7 @@ impl Bounds {
             self.free(start);
         }
         match made_by(call) {
-            Some(made) => self.make(&Extent::of(&made)),
+            Some(made) => self.make(&ChunkBytes::of(&made)),
             None => Ok(()),
         }
     }
@@ -117,7 +117,7 @@ impl Bounds {
     }
 
     /// Enters that a chunk was made.
-    fn make(&mut self, extent: &Extent) -> Result<(), AllocError> {
+    fn make(&mut self, extent: &ChunkBytes) -> Result<(), AllocError> {
         match Block::of(extent.start) {
             Some(block) => {
                 self.blocks.insert(block.start, *extent)?;
@@ -146,8 +146,8 @@ impl Bounds {
 
     /// What an access to the byte at a plain address does, where it is wrong.
     fn check_byte(&self, addr: u64) -> Option<Trespass> {
-        match Range::of(addr) {
-            Range::Class(_) | Range::Large => match self.extent_at(addr) {
+        match RangeUse::of(addr) {
+            RangeUse::Class(_) | RangeUse::Large => match self.extent_at(addr) {
                 Some(extent) => extent.trespass(addr),
                 None => Some(Trespass::NoChunk),
             },
@@ -162,7 +162,7 @@ impl Bounds {
     }
 
     /// The chunk whose block or pages an address is in.
-    fn extent_at(&self, addr: u64) -> Option<Extent> {
+    fn extent_at(&self, addr: u64) -> Option<ChunkBytes> {
         match Block::of(addr) {
             Some(block) => self.blocks.get(&block.start).copied(),
             None => self

@@ -10,7 +10,7 @@ mod calls;
 
 pub use access::{MemoryAccess, access_of};
 pub use addressing::{base, register_offset, scaled_offset, signed_offset, unit, zero_or};
-pub use blocks::{Block, Range};
+pub use blocks::{Block, RangeUse};
 pub use bounds::{Bounds, Trespass};
 pub use call_text::CallText;
 pub use calls::{Allocation, freed_by, made_by};

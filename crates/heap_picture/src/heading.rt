@@ -2,7 +2,7 @@
 
 use crate::layout::{PITCH, ROWS};
 use crate::legend::{Definitions, Legend};
-use crate::pages::{List, PageRange};
+use crate::pages::{List, MappedRange};
 use crate::part::Part::{Number, Text};
 use crate::part::{Escaped, write_parts};
 use std::fmt;
@@ -15,7 +15,7 @@ pub struct Heading<'a> {
     /// What happened where, any text of one line.
     pub story: &'a str,
     /// The pages that are mapped; the first 60 ranges are listed.
-    pub pages: &'a [PageRange],
+    pub pages: &'a [MappedRange],
     /// The rows that follow; what is beyond the first [`ROWS`] is below the picture.
     pub rows: usize,
 }

@@ -25,5 +25,5 @@ pub use heading::{END, Heading};
 pub use layout::{GRANULES, ROWS};
 pub use line::{Mark, Marked, PictureLine};
 pub use note::Note;
-pub use pages::{Kind, PageRange};
-pub use row::{GranuleOwner, PictureGranule, Row};
+pub use pages::{Kind, MappedRange};
+pub use row::{GranuleOwner, PictureGranule, PictureRow};

@@ -4,8 +4,8 @@ use crate::cell::{CELL_WIDTH, Cell};
 use crate::layout::{GRANULES, PITCH};
 use crate::part::Part::{Hexadecimal, Number, Text};
 use crate::part::write_parts;
-use crate::row::{Boundaries, Cells, Row};
-use crate::run::Chunks;
+use crate::row::{Boundaries, Cells, PictureRow};
+use crate::run::RowChunks;
 use std::fmt;
 
 /// What is marked.
@@ -42,7 +42,7 @@ pub struct Mark {
 #[derive(Clone, Copy)]
 pub struct PictureLine {
     /// The row that it shows.
-    pub row: Row,
+    pub row: PictureRow,
     /// Its number in the picture, from 0.
     pub number: usize,
     /// What was refused, which is drawn where its address is in the row.
@@ -51,11 +51,11 @@ pub struct PictureLine {
 
 impl PictureLine {
     /// The mark of the row, if its address is there.
-    fn frame(&self) -> Option<Frame> {
+    fn frame(&self) -> Option<ChunkFrame> {
         let mark = self.mark?;
         let index = self.row.index_of(mark.addr)?;
         let memory = self.row.granules.get(index)?.tag;
-        Some(Frame {
+        Some(ChunkFrame {
             mark,
             index,
             memory,
@@ -82,7 +82,7 @@ impl fmt::Display for PictureLine {
         }
         let shown = row.shown(frame.map(|frame| frame.index));
         let (cells, boundaries) = (Cells { row, shown }, Boundaries { row, shown });
-        let chunks = Chunks(row);
+        let chunks = RowChunks(row);
         write!(f, "{cells}{boundaries}{chunks}")?;
         if let Some(frame) = frame {
             write!(f, "{frame}")?;
@@ -99,7 +99,7 @@ const ABOVE: &str = "-32";
 
 /// A frame round a granule, and above it the tag of the pointer and what it says.
 #[derive(Clone, Copy)]
-struct Frame {
+struct ChunkFrame {
     mark: Mark,
     /// The number of the granule.
     index: usize,
@@ -107,7 +107,7 @@ struct Frame {
     memory: Option<u8>,
 }
 
-impl Frame {
+impl ChunkFrame {
     /// Writes the granule's frame, and a line to the cell of the pointer's tag above it.
     fn write_frame<W: fmt::Write>(&self, f: &mut fmt::Formatter<W>, left: u64) -> fmt::Result {
         let start = Text("<rect class=\"mark\" x=\"");
@@ -137,7 +137,7 @@ impl Frame {
     }
 }
 
-impl fmt::Display for Frame {
+impl fmt::Display for ChunkFrame {
     fn fmt<W: fmt::Write>(&self, f: &mut fmt::Formatter<W>) -> fmt::Result {
         let left = CELL_WIDTH.saturating_mul(self.index as u64);
         self.write_frame(f, left)?;

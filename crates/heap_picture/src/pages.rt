@@ -31,7 +31,7 @@ impl fmt::Display for Kind {
 
 /// Mapped pages that follow each other.
 #[derive(Clone, Copy)]
-pub struct PageRange {
+pub struct MappedRange {
     /// The address of the first.
     pub start: u64,
     /// Their number.
@@ -40,7 +40,7 @@ pub struct PageRange {
     pub kind: Kind,
 }
 
-impl fmt::Display for PageRange {
+impl fmt::Display for MappedRange {
     fn fmt<W: fmt::Write>(&self, f: &mut fmt::Formatter<W>) -> fmt::Result {
         let size = self.count.saturating_mul(PAGE_SIZE);
         let end = Hexadecimal(self.start.saturating_add(size));
@@ -70,7 +70,7 @@ const COLUMN: u64 = 440;
 
 /// The list of pages.
 #[derive(Clone, Copy)]
-pub struct List<'a>(pub &'a [PageRange]);
+pub struct List<'a>(pub &'a [MappedRange]);
 
 impl<'a> List<'a> {
     /// The height in pixels.

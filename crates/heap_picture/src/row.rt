@@ -41,7 +41,7 @@ impl PictureGranule {
 
 /// [`GRANULES`] granules that follow each other.
 #[derive(Clone, Copy)]
-pub struct Row {
+pub struct PictureRow {
     /// The address of the first.
     pub address: u64,
     /// The size class of its blocks, if it has blocks.
@@ -54,7 +54,7 @@ pub struct Row {
     pub granules: [PictureGranule; GRANULES],
 }
 
-impl Row {
+impl PictureRow {
     /// Whether a block begins at the granule with the number `index`.
     fn begins_block(&self, index: usize) -> bool {
         let distance = GRANULE_SIZE.saturating_mul(index as u64);
@@ -100,7 +100,7 @@ impl Row {
 #[derive(Clone, Copy)]
 pub struct Cells<'a> {
     /// The row.
-    pub row: &'a Row,
+    pub row: &'a PictureRow,
     /// How many granules.
     pub shown: usize,
 }
@@ -124,7 +124,7 @@ impl<'a> fmt::Display for Cells<'a> {
 #[derive(Clone, Copy)]
 pub struct Boundaries<'a> {
     /// The row.
-    pub row: &'a Row,
+    pub row: &'a PictureRow,
     /// How many granules.
     pub shown: usize,
 }

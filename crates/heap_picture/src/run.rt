@@ -4,7 +4,7 @@ use crate::cell::CELL_WIDTH;
 use crate::layout::GRANULES;
 use crate::part::Part::{Number, Text};
 use crate::part::write_parts;
-use crate::row::{GranuleOwner, Row};
+use crate::row::{GranuleOwner, PictureRow};
 use std::fmt;
 
 /// How far a frame at a row's end is drawn beyond the row. It is clipped there, and so open: the
@@ -13,7 +13,7 @@ const BEYOND: u64 = 8;
 
 /// Granules of one owner that follow each other.
 #[derive(Clone, Copy)]
-struct Run {
+struct GranuleRun {
     owner: GranuleOwner,
     /// The number of the first.
     start: usize,
@@ -21,7 +21,7 @@ struct Run {
     end: usize,
 }
 
-impl Run {
+impl GranuleRun {
     /// The left and right side, in a row that begins at [`BEYOND`].
     fn sides(&self) -> (u64, u64) {
         let left = match self.start {
@@ -38,7 +38,7 @@ impl Run {
     }
 }
 
-impl fmt::Display for Run {
+impl fmt::Display for GranuleRun {
     fn fmt<W: fmt::Write>(&self, f: &mut fmt::Formatter<W>) -> fmt::Result {
         let start = match self.owner {
             GranuleOwner::Nothing => return Ok(()),
@@ -53,11 +53,11 @@ impl fmt::Display for Run {
 
 /// The chunks of a row, each in a frame.
 #[derive(Clone, Copy)]
-pub struct Chunks<'a>(pub &'a Row);
+pub struct RowChunks<'a>(pub &'a PictureRow);
 
-impl<'a> fmt::Display for Chunks<'a> {
+impl<'a> fmt::Display for RowChunks<'a> {
     fn fmt<W: fmt::Write>(&self, f: &mut fmt::Formatter<W>) -> fmt::Result {
-        let mut run = Run {
+        let mut run = GranuleRun {
             owner: GranuleOwner::Nothing,
             start: 0,
             end: 0,
@@ -66,7 +66,7 @@ impl<'a> fmt::Display for Chunks<'a> {
         for (index, granule) in self.0.granules.iter().enumerate() {
             if granule.owner != run.owner {
                 write!(f, "{run}")?;
-                run = Run {
+                run = GranuleRun {
                     owner: granule.owner,
                     start: index,
                     end: index,

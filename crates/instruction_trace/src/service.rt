@@ -19,7 +19,7 @@ pub struct Service<'a> {
 impl<'a> fmt::Display for Service<'a> {
     fn fmt<W: fmt::Write>(&self, f: &mut fmt::Formatter<W>) -> fmt::Result {
         let (number, first, second) = (self.before.x[8], self.before.x[0], self.before.x[1]);
-        let answer = Answer(*self);
+        let answer = ServiceAnswer(*self);
         if let Some(call) = heap_call(number, first, second) {
             let call = CallText(call);
             return write!(f, "{call}{answer}");
@@ -38,9 +38,9 @@ impl<'a> fmt::Display for Service<'a> {
 
 /// The result of a service.
 #[derive(Clone, Copy)]
-struct Answer<'a>(Service<'a>);
+struct ServiceAnswer<'a>(Service<'a>);
 
-impl<'a> fmt::Display for Answer<'a> {
+impl<'a> fmt::Display for ServiceAnswer<'a> {
     fn fmt<W: fmt::Write>(&self, f: &mut fmt::Formatter<W>) -> fmt::Result {
         let Service { before, after } = self.0;
         if before.pc == after.pc {

@@ -13,7 +13,7 @@ const RECORD: u64 = 16;
 
 /// A frame record: the address of the caller's, and the return address.
 #[derive(Clone, Copy)]
-struct Record {
+struct FrameRecord {
     outer: u64,
     return_address: u64,
 }
@@ -52,7 +52,7 @@ impl Walk {
 
 /// The frame record at an address of the stack, or from the large chunks on, as a program may have
 /// its stack in one of them.
-fn record_at<M: Tagged>(memory: &mut M, frame: u64) -> Option<Record>
+fn record_at<M: Tagged>(memory: &mut M, frame: u64) -> Option<FrameRecord>
     ensures memory { M.memory memory.new ≡ M.memory memory.old }
     ensures kept { M.kept memory.old memory.new }
 {
@@ -62,7 +62,7 @@ fn record_at<M: Tagged>(memory: &mut M, frame: u64) -> Option<Record>
     }
     let outer = word_at(memory, at)?;
     let return_address = word_at(memory, at + 8)?;
-    Some(Record {
+    Some(FrameRecord {
         outer,
         return_address,
     })

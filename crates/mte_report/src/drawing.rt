@@ -52,11 +52,11 @@ impl<'a> Report<'a> {
     }
 
     /// The title of a picture of what was run.
-    fn title_of<'r, 'n>(&'r self, name: &'n str) -> Title<'n, 'r> {
-        Title {
+    fn title_of<'r, 'n>(&'r self, name: &'n str) -> PictureTitle<'n, 'r> {
+        PictureTitle {
             name,
             ending: EndingNote(self),
-            run: Run {
+            run: PictureRun {
                 step: self.step(),
                 seed: self.seed,
             },
@@ -141,23 +141,23 @@ fn mark_of(status: &Status) -> Option<Mark> {
 
 /// The title of a picture.
 #[derive(Clone, Copy)]
-struct Title<'n, 'r> {
+struct PictureTitle<'n, 'r> {
     /// What was run.
     name: &'n str,
     /// What ended it.
     ending: EndingNote<'r>,
     /// How it can be run again.
-    run: Run,
+    run: PictureRun,
 }
 
 /// The last step of a run, and its seed.
 #[derive(Clone, Copy)]
-struct Run {
+struct PictureRun {
     step: u64,
     seed: Option<u64>,
 }
 
-impl fmt::Display for Run {
+impl fmt::Display for PictureRun {
     fn fmt<W: fmt::Write>(&self, f: &mut fmt::Formatter<W>) -> fmt::Result {
         let step = self.step;
         write!(f, ", step {step}")?;
@@ -168,9 +168,9 @@ impl fmt::Display for Run {
     }
 }
 
-impl<'n, 'r> fmt::Display for Title<'n, 'r> {
+impl<'n, 'r> fmt::Display for PictureTitle<'n, 'r> {
     fn fmt<W: fmt::Write>(&self, f: &mut fmt::Formatter<W>) -> fmt::Result {
-        let Title { name, ending, run } = self;
+        let PictureTitle { name, ending, run } = self;
         write!(f, "{name}: {ending}{run}")
     }
 }

@@ -4,7 +4,7 @@ use crate::report::Report;
 use circular_buffer::HeapCircularBuffer;
 use instruction_trace::{Instruction, Moment};
 use mte_backtrace::FrameNames;
-use run_book::{BookEntry, Call};
+use run_book::{BookEntry, EntryText};
 use run_cause::{Cause, LastStore, TargetLoad, branch_in};
 use std::alloc::Global;
 use std::io;
@@ -98,7 +98,7 @@ fn tell_load<W: Write>(out: &mut W, load: TargetLoad) -> io::Result<()> {
 
 /// Writes a call that returned no chunk, and why.
 fn tell_refused<W: Write>(out: &mut W, entry: &BookEntry) -> io::Result<()> {
-    let call = Call(entry);
+    let call = EntryText(entry);
     let (first, second) = entry.call.call.arguments();
     let why = if first.max(second) > MOST {
         "a chunk has at most 1,048,576 bytes"

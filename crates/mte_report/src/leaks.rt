@@ -68,11 +68,11 @@ impl Places {
 
 /// A number of chunks.
 #[derive(Clone, Copy)]
-struct Chunks(u64);
+struct ChunkCount(u64);
 
-impl fmt::Display for Chunks {
+impl fmt::Display for ChunkCount {
     fn fmt<W: fmt::Write>(&self, f: &mut fmt::Formatter<W>) -> fmt::Result {
-        let Chunks(count) = self;
+        let ChunkCount(count) = self;
         if *count == 1 {
             f.write_str("1 chunk")
         } else {
@@ -92,7 +92,7 @@ impl<'a> Report<'a> {
     /// places.
     pub fn write_leaks<W: Write>(&self, alloc: Global, out: &mut W) -> io::Result<()> {
         let places = self.live_places(alloc)?;
-        let (chunks, bytes) = (Chunks(places.chunks), Bytes(places.bytes));
+        let (chunks, bytes) = (ChunkCount(places.chunks), Bytes(places.bytes));
         writeln!(out, "live at the end: {chunks}, {bytes}")?;
         self.write_places(alloc, out, places.places.as_slice())
     }
@@ -162,7 +162,7 @@ impl<'a> Report<'a> {
         place: &LeakPlace,
         names: &FrameNames<'_>,
     ) -> io::Result<()> {
-        let (chunks, bytes) = (Chunks(place.chunks), Bytes(place.bytes));
+        let (chunks, bytes) = (ChunkCount(place.chunks), Bytes(place.bytes));
         let number = place.entry.number;
         writeln!(out, "  {chunks}, {bytes}, the first by call {number}")?;
         self.tell_stack(alloc, out, &place.entry, names)

@@ -6,15 +6,15 @@ use a64_decode::decode;
 use a64_registers::Regs;
 use circular_buffer::HeapCircularBuffer;
 use elf_symbols::SymbolOffset;
-use heap_bounds::{Range, access_of};
+use heap_bounds::{RangeUse, access_of};
 use instruction_trace::{Instruction, Moment, Nzcv, TraceLine, Turn, tell_turns};
 use mte_backtrace::{FrameNames, Names};
 use mte_flat::Flat;
 use mte_tags::{FaultKind, MemFault, Tagged};
 use mte_tenant::{Status, TenantParts};
-use run_book::{Book, Bytes, ChunkOwner, Wanted};
+use run_book::{Book, Bytes, ChunkOwner, ChunkQuery};
 use run_cause::{
-    Cause, Evidence, Finding, LastStore, Wrong, abort_words, breakpoint_words, family_of,
+    Cause, Evidence, Finding, ForbiddenAccess, LastStore, abort_words, breakpoint_words, family_of,
     fault_words, is_undefined, trespass_words,
 };
 use run_statistics::StatisticsTable;
@@ -211,8 +211,8 @@ fn tell_status<W: Write>(out: &mut W, report: &Report<'_>, memory: &mut Flat) ->
 }
 
 /// An access that a chunk's bounds forbid, of the instruction at an address.
-fn tell_wrong<W: Write>(out: &mut W, wrong: &Wrong, at: At<'_>) -> io::Result<()> {
-    let access = Accessing(wrong.span.is_write, Size(Some(wrong.span.bytes)));
+fn tell_wrong<W: Write>(out: &mut W, wrong: &ForbiddenAccess, at: At<'_>) -> io::Result<()> {
+    let access = Accessing(wrong.span.is_write, AccessSize(Some(wrong.span.bytes)));
     let (addr, first) = (wrong.addr, plain(wrong.span.addr));
     let why = trespass_words(wrong.trespass);
     write!(
@@ -223,11 +223,11 @@ fn tell_wrong<W: Write>(out: &mut W, wrong: &Wrong, at: At<'_>) -> io::Result<()
 }
 
 /// How many bytes the instruction at PC accesses, where the first is the one at a plain address.
-fn size_of_access(memory: &mut Flat, regs: &Regs, addr: u64) -> Size {
+fn size_of_access(memory: &mut Flat, regs: &Regs, addr: u64) -> AccessSize {
     let Ok(word) = memory.fetch(regs.pc) else {
-        return Size(None);
+        return AccessSize(None);
     };
-    Size(
+    AccessSize(
         decode(word)
             .and_then(|instr| access_of(&instr, regs))
             .filter(|access| plain(access.addr) == addr)
@@ -237,7 +237,7 @@ fn size_of_access(memory: &mut Flat, regs: &Regs, addr: u64) -> Size {
 
 /// What an access is called, and its size.
 #[derive(Clone, Copy)]
-struct Accessing(bool, Size);
+struct Accessing(bool, AccessSize);
 
 impl fmt::Display for Accessing {
     fn fmt<W: fmt::Write>(&self, f: &mut fmt::Formatter<W>) -> fmt::Result {
@@ -248,9 +248,9 @@ impl fmt::Display for Accessing {
 
 /// How many bytes an access has: ` of 4 bytes`, or nothing where it isn't known.
 #[derive(Clone, Copy)]
-struct Size(Option<u64>);
+struct AccessSize(Option<u64>);
 
-impl fmt::Display for Size {
+impl fmt::Display for AccessSize {
     fn fmt<W: fmt::Write>(&self, f: &mut fmt::Formatter<W>) -> fmt::Result {
         match self.0 {
             Some(bytes) => write!(f, " of {}", Bytes(bytes)),
@@ -260,22 +260,27 @@ impl fmt::Display for Size {
 }
 
 /// An access that failed, of the instruction at an address.
-fn tell_fault<W: Write>(out: &mut W, fault: &MemFault, size: Size, at: At<'_>) -> io::Result<()> {
+fn tell_fault<W: Write>(
+    out: &mut W,
+    fault: &MemFault,
+    size: AccessSize,
+    at: At<'_>,
+) -> io::Result<()> {
     let MemFault { addr, kind, .. } = fault;
     let access = Accessing(fault.write, size);
     write!(
         out,
         "fault {kind:?}: a {access} at {addr:#018x} by the instruction at "
     )?;
-    let (why, tags) = (fault_words(*kind), Tags(fault));
+    let (why, tags) = (fault_words(*kind), FaultTags(fault));
     writeln!(out, "{at}: {why}{tags}")
 }
 
 /// The tags that differ, where they are the fault.
 #[derive(Clone, Copy)]
-struct Tags<'a>(&'a MemFault);
+struct FaultTags<'a>(&'a MemFault);
 
-impl<'a> fmt::Display for Tags<'a> {
+impl<'a> fmt::Display for FaultTags<'a> {
     fn fmt<W: fmt::Write>(&self, f: &mut fmt::Formatter<W>) -> fmt::Result {
         let MemFault {
             kind,
@@ -361,10 +366,10 @@ fn tell_place<W: Write>(out: &mut W, report: &Report<'_>, memory: &mut Flat) -> 
     let owner = ChunkOwner {
         addr,
         mapped: attrs_at(memory, addr).is_some(),
-        chunk: report.book.newest(&Wanted::InGranules(addr)),
+        chunk: report.book.newest(&ChunkQuery::InGranules(addr)),
     };
-    let place = match Range::of(addr) {
-        Range::Image => report.names.symbols.place(addr),
+    let place = match RangeUse::of(addr) {
+        RangeUse::Image => report.names.symbols.place(addr),
         _ => SymbolOffset::unnamed(addr),
     };
     writeln!(out, "{owner}{place}")?;

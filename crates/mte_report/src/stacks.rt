@@ -3,7 +3,7 @@
 use crate::explanation::Explanation;
 use crate::report::Report;
 use mte_backtrace::FrameNames;
-use run_book::{Book, BookChunk, BookEntry, Call};
+use run_book::{Book, BookChunk, BookEntry, EntryText};
 use run_cause::{Cause, FoundCause, LastStore};
 use std::alloc::Global;
 use std::io;
@@ -145,12 +145,12 @@ impl<'a> Report<'a> {
         chunk: &BookChunk,
         names: &FrameNames<'_>,
     ) -> io::Result<()> {
-        let made = Call(&chunk.made);
+        let made = EntryText(&chunk.made);
         writeln!(out, "  allocated by {made}")?;
         self.tell_stack(alloc, out, &chunk.made, names)?;
         match &chunk.freed {
             Some(entry) => {
-                let freed = Call(entry);
+                let freed = EntryText(entry);
                 writeln!(out, "  freed by {freed}")?;
                 self.tell_stack(alloc, out, entry, names)
             }

@@ -9,7 +9,7 @@ use std::alloc::Global;
 
 /// A call at an address, or a few.
 #[derive(Clone, Copy)]
-pub enum Call {
+pub enum MapCall {
     /// Unmaps a page that is mapped, or maps one that isn't.
     Turn(u64),
     /// Fills a page with a byte and a tag.
@@ -30,7 +30,7 @@ pub enum Call {
 }
 
 #[derive(Clone, Copy, PartialEq, Eq)]
-pub enum Answer {
+pub enum Value {
     Number(u64),
     /// The word before a chunk, and the chunk's tag.
     Chunk(u64, u8),
@@ -65,10 +65,10 @@ fn turn<M: Paged>(memory: &mut M, page: u64) -> u64
     }
 }
 
-fn of_number(answer: Result<u64, MemFault>) -> Answer {
+fn of_number(answer: Result<u64, MemFault>) -> Value {
     match answer {
-        Ok(number) => Answer::Number(number),
-        Err(fault) => Answer::Refused(fault),
+        Ok(number) => Value::Number(number),
+        Err(fault) => Value::Refused(fault),
     }
 }
 
@@ -107,60 +107,60 @@ fn write<M: Tagged>(memory: &mut M, at: u64, value: u64, check: bool) -> Result<
 }
 
 /// A call with one look-up of a page.
-fn chunk<M: Tagged>(memory: &mut M, call: Call) -> Answer
+fn chunk<M: Tagged>(memory: &mut M, call: MapCall) -> Value
     ensures { M.kept memory.old memory.new }
 {
     match call {
-        Call::WriteChunk(at, tag, word) => {
+        MapCall::WriteChunk(at, tag, word) => {
             let user = 16 + at % 0x4000_0000 / 16 * 16;
             let made = memory.write_chunk(user, 3, 2, tag % 16, &word.to_le_bytes());
-            Answer::Number(u64::from(made))
+            Value::Number(u64::from(made))
         }
-        Call::ReadChunk(at) => match memory.read_chunk(16 + at % 0x4000_0000 / 16 * 16) {
-            Some((word, tag)) => Answer::Chunk(word, tag),
-            None => Answer::NoRoom,
+        MapCall::ReadChunk(at) => match memory.read_chunk(16 + at % 0x4000_0000 / 16 * 16) {
+            Some((word, tag)) => Value::Chunk(word, tag),
+            None => Value::NoRoom,
         },
-        _ => Answer::NoRoom,
+        _ => Value::NoRoom,
     }
 }
 
 /// A call that maps no page.
-fn access<M: Tagged>(memory: &mut M, call: Call) -> Result<u64, MemFault>
+fn access<M: Tagged>(memory: &mut M, call: MapCall) -> Result<u64, MemFault>
     ensures { M.kept memory.old memory.new }
 {
     match call {
-        Call::Read(at, check) => read(memory, at, check),
-        Call::Write(at, value, check) => write(memory, at, value, check),
-        Call::LoadTag(at) => Ok(u64::from(memory.load_tag(at)?)),
-        Call::StoreTags(at, count, tag) => {
+        MapCall::Read(at, check) => read(memory, at, check),
+        MapCall::Write(at, value, check) => write(memory, at, value, check),
+        MapCall::LoadTag(at) => Ok(u64::from(memory.load_tag(at)?)),
+        MapCall::StoreTags(at, count, tag) => {
             memory.store_tags(at, count, tag % 16, true)?;
             Ok(0)
         }
-        Call::Fetch(at) => Ok(u64::from(memory.fetch(at)?)),
+        MapCall::Fetch(at) => Ok(u64::from(memory.fetch(at)?)),
         _ => Ok(u64::from(memory.pending())),
     }
 }
 
 /// The answer to a call.
-pub fn reply<M: Paged>(memory: &mut M, call: Call) -> Answer
+pub fn reply<M: Paged>(memory: &mut M, call: MapCall) -> Value
     ensures { M.kept memory.old memory.new }
 {
     match call {
-        Call::Turn(page) => Answer::Number(turn(memory, page % 0x4_0000)),
-        Call::Fill(page, value, tag) => {
-            Answer::Number(u64::from(fill(memory, page % 0x4_0000 * 4096, value, tag)))
+        MapCall::Turn(page) => Value::Number(turn(memory, page % 0x4_0000)),
+        MapCall::Fill(page, value, tag) => {
+            Value::Number(u64::from(fill(memory, page % 0x4_0000 * 4096, value, tag)))
         }
-        Call::Holds(page, value, tag) => {
-            Answer::Number(u64::from(holds(memory, page % 0x4_0000 * 4096, value, tag)))
+        MapCall::Holds(page, value, tag) => {
+            Value::Number(u64::from(holds(memory, page % 0x4_0000 * 4096, value, tag)))
         }
-        Call::PagesLeft => Answer::Number(memory.pages_left() as u64),
-        Call::ReadChunk(_) | Call::WriteChunk(..) => chunk(memory, call),
+        MapCall::PagesLeft => Value::Number(memory.pages_left() as u64),
+        MapCall::ReadChunk(_) | MapCall::WriteChunk(..) => chunk(memory, call),
         _ => of_number(access(memory, call)),
     }
 }
 
 /// Whether a plain memory answers calls one after another as it must.
-pub fn answers(memory: &mut Flat, rows: &[(Call, Answer)]) -> bool {
+pub fn answers(memory: &mut Flat, rows: &[(MapCall, Value)]) -> bool {
     for (call, answer) in rows {
         if reply(memory, *call) != *answer {
             return false;
@@ -170,7 +170,7 @@ pub fn answers(memory: &mut Flat, rows: &[(Call, Answer)]) -> bool {
 }
 
 /// Whether a new plain memory answers calls one after another as it must.
-pub fn flat_answers(alloc: Global, pages: usize, rows: &[(Call, Answer)]) -> bool
+pub fn flat_answers(alloc: Global, pages: usize, rows: &[(MapCall, Value)]) -> bool
     requires { 0 < pages }
 {
     match Flat::new(alloc, pages, TagMode::Sync) {

@@ -1,6 +1,6 @@
 //! Images of worked values, their refusals, and what they make of a memory.
 
-use crate::calls::{Answer, Call, answers};
+use crate::calls::{MapCall, Value, answers};
 use mte_elf::{ElfError, load, loading_keeps_memories_whole, plan};
 use mte_flat::Flat;
 use mte_tags::{Paged, TagMode, Tagged};
@@ -36,7 +36,7 @@ const EXECUTABLE: [u8; 64] = [
 
 /// A program header.
 #[derive(Clone, Copy)]
-struct Header {
+struct ImageHeader {
     kind: u32,
     flags: u32,
     offset: u64,
@@ -46,8 +46,8 @@ struct Header {
 }
 
 /// The first segment, of `HI` after `headers` program headers.
-fn text(headers: u8) -> Header {
-    Header {
+fn text(headers: u8) -> ImageHeader {
+    ImageHeader {
         kind: 1,
         flags: 5,
         offset: 64 + 56 * u64::from(headers),
@@ -58,8 +58,8 @@ fn text(headers: u8) -> Header {
 }
 
 /// A segment without bytes in the file.
-fn zeros(vaddr: u64, memsz: u64) -> Header {
-    Header {
+fn zeros(vaddr: u64, memsz: u64) -> ImageHeader {
+    ImageHeader {
         kind: 1,
         flags: 6,
         offset: 0,
@@ -70,7 +70,7 @@ fn zeros(vaddr: u64, memsz: u64) -> Header {
 }
 
 /// A file of a file header, program headers and the words of `HI`.
-fn image(alloc: Global, file: [u8; 64], headers: &[Header]) -> Result<Vec<u8>, AllocError> {
+fn image(alloc: Global, file: [u8; 64], headers: &[ImageHeader]) -> Result<Vec<u8>, AllocError> {
     let mut bytes = Vec::new(alloc);
     push_image(&mut bytes, file, headers)?;
     Ok(bytes)
@@ -79,7 +79,7 @@ fn image(alloc: Global, file: [u8; 64], headers: &[Header]) -> Result<Vec<u8>, A
 fn push_image(
     bytes: &mut Vec<u8>,
     mut file: [u8; 64],
-    headers: &[Header],
+    headers: &[ImageHeader],
 ) -> Result<(), AllocError> {
     file[56] = (headers.len() % 256) as u8;
     bytes.extend_from_slice(&file)?;
@@ -89,7 +89,7 @@ fn push_image(
     push_words(bytes)
 }
 
-fn push_header(bytes: &mut Vec<u8>, header: &Header) -> Result<(), AllocError> {
+fn push_header(bytes: &mut Vec<u8>, header: &ImageHeader) -> Result<(), AllocError> {
     let kind = u64::from(header.kind) | u64::from(header.flags) << 32;
     for word in [
         kind,
@@ -124,7 +124,7 @@ fn loaded(alloc: Global, file: &[u8]) -> Result<Flat, Obstacle<ElfError>> {
 }
 
 /// Whether a memory that an image was loaded into answers calls as it must.
-fn answers_loaded(alloc: Global, file: &[u8], rows: &[(Call, Answer)]) -> bool {
+fn answers_loaded(alloc: Global, file: &[u8], rows: &[(MapCall, Value)]) -> bool {
     match loaded(alloc, file) {
         Ok(mut memory) => answers(&mut memory, rows),
         Err(_) => false,
@@ -138,7 +138,7 @@ fn planned(alloc: Global, file: &[u8]) -> Result<(u64, u64, usize), Obstacle<Elf
 }
 
 /// Why an image is refused.
-fn refusal(alloc: Global, file: [u8; 64], headers: &[Header]) -> Option<Obstacle<ElfError>> {
+fn refusal(alloc: Global, file: [u8; 64], headers: &[ImageHeader]) -> Option<Obstacle<ElfError>> {
     match image(alloc, file, headers) {
         Ok(bytes) => planned(alloc, &bytes).err(),
         Err(_) => Some(Obstacle::OutOfMemory),
@@ -186,18 +186,18 @@ fn file_headers(rt: HostRuntime) {
 }
 
 /// Why an image is refused whose second segment is this one.
-fn refusal_of_second(alloc: Global, second: Header) -> Option<Obstacle<ElfError>> {
+fn refusal_of_second(alloc: Global, second: ImageHeader) -> Option<Obstacle<ElfError>> {
     refusal(alloc, EXECUTABLE, &[text(2), second])
 }
 
 #[test]
 fn second_headers(rt: HostRuntime) {
-    let outside = Header {
+    let outside = ImageHeader {
         filesz: 1,
         offset: u64::MAX,
         ..zeros(0x20000, 1)
     };
-    let without_bytes = Header {
+    let without_bytes = ImageHeader {
         filesz: 0,
         ..outside
     };
@@ -218,22 +218,22 @@ fn second_headers(rt: HostRuntime) {
 }
 
 /// What its memory of 8 pages answers.
-const TWO_SEGMENTS: [(Call, Answer); 9] = [
-    (Call::PagesLeft, Answer::Number(5)),
-    (Call::Fetch(0x10000), Answer::Number(0xD2A0_0020)),
-    (Call::Fetch(0x1001C), Answer::Number(0xD400_0001)),
-    (Call::Fetch(0x10024), Answer::Number(0)),
-    (Call::Read(0x10020, true), Answer::Number(0x6948)),
-    (Call::Read(0x10028, true), Answer::Number(0)),
-    (Call::Read(0x11000, true), Answer::Number(0x5_0000_0001)),
-    (Call::Read(0x11008, true), Answer::Number(0)),
-    (Call::Read(0x12FF8, true), Answer::Number(0)),
+const TWO_SEGMENTS: [(MapCall, Value); 9] = [
+    (MapCall::PagesLeft, Value::Number(5)),
+    (MapCall::Fetch(0x10000), Value::Number(0xD2A0_0020)),
+    (MapCall::Fetch(0x1001C), Value::Number(0xD400_0001)),
+    (MapCall::Fetch(0x10024), Value::Number(0)),
+    (MapCall::Read(0x10020, true), Value::Number(0x6948)),
+    (MapCall::Read(0x10028, true), Value::Number(0)),
+    (MapCall::Read(0x11000, true), Value::Number(0x5_0000_0001)),
+    (MapCall::Read(0x11008, true), Value::Number(0)),
+    (MapCall::Read(0x12FF8, true), Value::Number(0)),
 ];
 
 #[test]
 fn pages_of_two_segments(rt: HostRuntime) -> Result<(), Fail> {
     // its 8 bytes are the type and the flags of the first program header
-    let data = Header {
+    let data = ImageHeader {
         offset: 64,
         filesz: 8,
         ..zeros(0x11000, 0x2000)

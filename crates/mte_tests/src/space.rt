@@ -6,7 +6,7 @@ ghost use Rattle.mte_translate.specs.Tables.{IsTable, MapsOnce, Root, pages_of};
 ghost use Rattle.mte_space.specs.Spaces.{HasFrames, NoneEnters};
 ghost use Rattle.mte_tests.specs.Tenants.{IsReady};
 
-use crate::calls::{Answer, Call, reply};
+use crate::calls::{MapCall, Value, reply};
 use mte_arena::Arena;
 use mte_frames::{FramePool, Quota};
 use mte_space::{Space, other_tenants_stay, pages_of_a_space, written_frames_are_pages};
@@ -81,8 +81,8 @@ fn ask(
     quota: &mut Quota,
     tlb: &mut Tlb,
     asid: usize,
-    call: Call,
-) -> Answer
+    call: MapCall,
+) -> Value
     requires { IsReady pool.old quota.old table.old asid tlb.old }
     ensures ready { IsReady pool.new quota.new table.new asid tlb.new }
     ensures same { quota.new ≡ quota.old }
@@ -90,7 +90,7 @@ fn ask(
     ensures entries { NoneEnters asid tlb.old tlb.new }
 {
     if !has_room(pool, table, quota) {
-        return Answer::NoRoom;
+        return Value::NoRoom;
     }
     let mut state = SYNC;
     let mut memory = Space::new(pool, table, quota, tlb, &mut state, asid, PAGES);
@@ -104,8 +104,8 @@ fn ask_beside(
     quota: &mut Quota,
     tlb: &mut Tlb,
     asid: usize,
-    call: Call,
-) -> Answer
+    call: MapCall,
+) -> Value
     requires { IsReady pool.old quota.old table.old asid tlb.old }
     ensures ready { IsReady pool.new quota.new table.new asid tlb.new }
     ensures same { quota.new ≡ quota.old }
@@ -124,60 +124,60 @@ fn ask_beside(
 #[derive(Clone, Copy)]
 struct Row {
     second: bool,
-    call: Call,
-    answer: Answer,
+    call: MapCall,
+    answer: Value,
 }
 
 /// Bytes that are read put the page into the lookaside buffer.
 #[rattlefmt::skip]
 const TOUCHED: [Row; 2] = [
-    Row { second: false, call: Call::Turn(PAGE), answer: Answer::Number(1) },
-    Row { second: false, call: Call::Read(PAGE * 4096 + 4088, true), answer: Answer::Number(0) },
+    Row { second: false, call: MapCall::Turn(PAGE), answer: Value::Number(1) },
+    Row { second: false, call: MapCall::Read(PAGE * 4096 + 4088, true), answer: Value::Number(0) },
 ];
 
 /// An access that faults changes nothing. The frame of a page that the first fills and unmaps comes
 /// to the second, all zero.
 #[rattlefmt::skip]
 const TAKEN_OVER: [Row; 12] = [
-    Row { second: false, call: Call::StoreTags(PAGE * 4096, 1, 1), answer: Answer::Number(0) },
+    Row { second: false, call: MapCall::StoreTags(PAGE * 4096, 1, 1), answer: Value::Number(0) },
     Row {
         second: false,
-        call: Call::Read(TAGGED + 12, true),
-        answer: Answer::Refused(MemFault {
+        call: MapCall::Read(TAGGED + 12, true),
+        answer: Value::Refused(MemFault {
             kind: FaultKind::TagCheck, addr: PAGE * 4096 + 16, write: false, ptr_tag: 1, mem_tag: 0,
         }),
     },
     Row {
         second: false,
-        call: Call::Write(TAGGED + 12, 9, true),
-        answer: Answer::Refused(MemFault {
+        call: MapCall::Write(TAGGED + 12, 9, true),
+        answer: Value::Refused(MemFault {
             kind: FaultKind::TagCheck, addr: PAGE * 4096 + 16, write: true, ptr_tag: 1, mem_tag: 0,
         }),
     },
-    Row { second: false, call: Call::Read(TAGGED + 8, true), answer: Answer::Number(0) },
-    Row { second: false, call: Call::Read(PAGE * 4096 + 16, true), answer: Answer::Number(0) },
-    Row { second: false, call: Call::Pending, answer: Answer::Number(0) },
-    Row { second: false, call: Call::PagesLeft, answer: Answer::Number(4) },
+    Row { second: false, call: MapCall::Read(TAGGED + 8, true), answer: Value::Number(0) },
+    Row { second: false, call: MapCall::Read(PAGE * 4096 + 16, true), answer: Value::Number(0) },
+    Row { second: false, call: MapCall::Pending, answer: Value::Number(0) },
+    Row { second: false, call: MapCall::PagesLeft, answer: Value::Number(4) },
     Row {
         second: false,
-        call: Call::Fetch(PAGE * 4096),
-        answer: Answer::Refused(MemFault {
+        call: MapCall::Fetch(PAGE * 4096),
+        answer: Value::Refused(MemFault {
             kind: FaultKind::Permission, addr: PAGE * 4096, write: false, ptr_tag: 0, mem_tag: 0,
         }),
     },
-    Row { second: false, call: Call::Fill(PAGE, 0xFF, 15), answer: Answer::Number(1) },
-    Row { second: false, call: Call::Turn(PAGE), answer: Answer::Number(0) },
-    Row { second: true, call: Call::Turn(PAGE), answer: Answer::Number(1) },
-    Row { second: true, call: Call::Holds(PAGE, 0, 0), answer: Answer::Number(1) },
+    Row { second: false, call: MapCall::Fill(PAGE, 0xFF, 15), answer: Value::Number(1) },
+    Row { second: false, call: MapCall::Turn(PAGE), answer: Value::Number(0) },
+    Row { second: true, call: MapCall::Turn(PAGE), answer: Value::Number(1) },
+    Row { second: true, call: MapCall::Holds(PAGE, 0, 0), answer: Value::Number(1) },
 ];
 
 /// The first has another frame now.
 #[rattlefmt::skip]
 const APART: [Row; 4] = [
-    Row { second: false, call: Call::Turn(PAGE), answer: Answer::Number(1) },
-    Row { second: false, call: Call::Fill(PAGE, 0xFF, 15), answer: Answer::Number(1) },
-    Row { second: true, call: Call::Holds(PAGE, 0, 0), answer: Answer::Number(1) },
-    Row { second: false, call: Call::Holds(PAGE, 0xFF, 15), answer: Answer::Number(1) },
+    Row { second: false, call: MapCall::Turn(PAGE), answer: Value::Number(1) },
+    Row { second: false, call: MapCall::Fill(PAGE, 0xFF, 15), answer: Value::Number(1) },
+    Row { second: true, call: MapCall::Holds(PAGE, 0, 0), answer: Value::Number(1) },
+    Row { second: false, call: MapCall::Holds(PAGE, 0xFF, 15), answer: Value::Number(1) },
 ];
 
 /// Whether two tenants' memories answer calls in turn as they should.
@@ -289,7 +289,7 @@ fn place_is_written(pool: &mut FramePool) -> bool {
     }
     let (mut tlb, mut state) = (Tlb::new(), SYNC);
     let mut memory = Space::new(pool, &mut table, &mut quota, &mut tlb, &mut state, 1, PAGES);
-    reply(&mut memory, Call::Turn(PAGE)) == Answer::Number(1) && works_in_place(&mut memory)
+    reply(&mut memory, MapCall::Turn(PAGE)) == Value::Number(1) && works_in_place(&mut memory)
 }
 
 #[test]

@@ -2,7 +2,7 @@
 
 ghost use Rattle.std.specs.Prelude.{◌≡◌, ◌+◌, ◌<◌, None};
 
-use crate::calls::{Answer, Call, answers, flat_answers};
+use crate::calls::{MapCall, Value, answers, flat_answers};
 use mte_flat::Flat;
 use mte_tags::{
     Attrs, FaultKind, MemFault, Paged, Rgsr, TagMode, Tagged, choose_non_excluded,
@@ -45,14 +45,14 @@ fn draws(rt: HostRuntime) {
 }
 
 /// What a memory that has the page 0x3FFFC alone answers.
-const OVER_TWO_GRANULES: [(Call, Answer); 10] = [
-    (Call::Turn(0x3FFFC), Answer::Number(1)),
-    (Call::StoreTags(0x3FFF_C000, 1, 1), Answer::Number(0)),
-    (Call::LoadTag(0x3FFF_C00F), Answer::Number(1)),
-    (Call::LoadTag(0x3FFF_C010), Answer::Number(0)),
+const OVER_TWO_GRANULES: [(MapCall, Value); 10] = [
+    (MapCall::Turn(0x3FFFC), Value::Number(1)),
+    (MapCall::StoreTags(0x3FFF_C000, 1, 1), Value::Number(0)),
+    (MapCall::LoadTag(0x3FFF_C00F), Value::Number(1)),
+    (MapCall::LoadTag(0x3FFF_C010), Value::Number(0)),
     (
-        Call::Read(0x0100_0000_3FFF_C00C, true),
-        Answer::Refused(MemFault {
+        MapCall::Read(0x0100_0000_3FFF_C00C, true),
+        Value::Refused(MemFault {
             kind: FaultKind::TagCheck,
             addr: 0x3FFF_C010,
             write: false,
@@ -61,8 +61,8 @@ const OVER_TWO_GRANULES: [(Call, Answer); 10] = [
         }),
     ),
     (
-        Call::Write(0x0100_0000_3FFF_C00C, 9, true),
-        Answer::Refused(MemFault {
+        MapCall::Write(0x0100_0000_3FFF_C00C, 9, true),
+        Value::Refused(MemFault {
             kind: FaultKind::TagCheck,
             addr: 0x3FFF_C010,
             write: true,
@@ -70,58 +70,61 @@ const OVER_TWO_GRANULES: [(Call, Answer); 10] = [
             mem_tag: 0,
         }),
     ),
-    (Call::Pending, Answer::Number(0)),
-    (Call::Read(0x0100_0000_3FFF_C00C, false), Answer::Number(0)),
+    (MapCall::Pending, Value::Number(0)),
     (
-        Call::Write(0x0100_0000_3FFF_C008, 0x0807_0605_0403_0201, true),
-        Answer::Number(0),
+        MapCall::Read(0x0100_0000_3FFF_C00C, false),
+        Value::Number(0),
     ),
     (
-        Call::Read(0x0100_0000_3FFF_C008, true),
-        Answer::Number(0x0807_0605_0403_0201),
+        MapCall::Write(0x0100_0000_3FFF_C008, 0x0807_0605_0403_0201, true),
+        Value::Number(0),
+    ),
+    (
+        MapCall::Read(0x0100_0000_3FFF_C008, true),
+        Value::Number(0x0807_0605_0403_0201),
     ),
 ];
 
 /// Pages that come again are zero, and so are their tags.
-const MAPPED_AGAIN: [(Call, Answer); 13] = [
-    (Call::Turn(16), Answer::Number(1)),
-    (Call::Turn(17), Answer::Number(1)),
+const MAPPED_AGAIN: [(MapCall, Value); 13] = [
+    (MapCall::Turn(16), Value::Number(1)),
+    (MapCall::Turn(17), Value::Number(1)),
     (
-        Call::Write(0x10FFC, 0x0807_0605_0403_0201, false),
-        Answer::Number(0),
+        MapCall::Write(0x10FFC, 0x0807_0605_0403_0201, false),
+        Value::Number(0),
     ),
-    (Call::StoreTags(0x10FF0, 2, 4), Answer::Number(0)),
-    (Call::Read(0x0400_0000_0001_1004, true), Answer::Number(0)),
-    (Call::Turn(16), Answer::Number(0)),
-    (Call::Turn(17), Answer::Number(0)),
-    (Call::PagesLeft, Answer::Number(2)),
-    (Call::Turn(16), Answer::Number(1)),
-    (Call::Turn(17), Answer::Number(1)),
-    (Call::LoadTag(0x10FF0), Answer::Number(0)),
-    (Call::LoadTag(0x11000), Answer::Number(0)),
-    (Call::Read(0x10FFC, true), Answer::Number(0)),
+    (MapCall::StoreTags(0x10FF0, 2, 4), Value::Number(0)),
+    (MapCall::Read(0x0400_0000_0001_1004, true), Value::Number(0)),
+    (MapCall::Turn(16), Value::Number(0)),
+    (MapCall::Turn(17), Value::Number(0)),
+    (MapCall::PagesLeft, Value::Number(2)),
+    (MapCall::Turn(16), Value::Number(1)),
+    (MapCall::Turn(17), Value::Number(1)),
+    (MapCall::LoadTag(0x10FF0), Value::Number(0)),
+    (MapCall::LoadTag(0x11000), Value::Number(0)),
+    (MapCall::Read(0x10FFC, true), Value::Number(0)),
 ];
 
 /// A chunk of two granules at 0x10020, and one that would begin the next page.
-const OF_A_CHUNK: [(Call, Answer); 12] = [
-    (Call::Turn(16), Answer::Number(1)),
-    (Call::Turn(17), Answer::Number(1)),
-    (Call::Fill(16, 0xFF, 7), Answer::Number(1)),
+const OF_A_CHUNK: [(MapCall, Value); 12] = [
+    (MapCall::Turn(16), Value::Number(1)),
+    (MapCall::Turn(17), Value::Number(1)),
+    (MapCall::Fill(16, 0xFF, 7), Value::Number(1)),
     (
-        Call::WriteChunk(0x10010, 5, 0x0807_0605_0403_0201),
-        Answer::Number(1),
+        MapCall::WriteChunk(0x10010, 5, 0x0807_0605_0403_0201),
+        Value::Number(1),
     ),
-    (Call::LoadTag(0x10000), Answer::Number(7)),
-    (Call::LoadTag(0x10010), Answer::Number(0)),
-    (Call::LoadTag(0x10030), Answer::Number(5)),
-    (Call::LoadTag(0x10040), Answer::Number(7)),
-    (Call::Read(0x0500_0000_0001_0038, true), Answer::Number(0)),
+    (MapCall::LoadTag(0x10000), Value::Number(7)),
+    (MapCall::LoadTag(0x10010), Value::Number(0)),
+    (MapCall::LoadTag(0x10030), Value::Number(5)),
+    (MapCall::LoadTag(0x10040), Value::Number(7)),
+    (MapCall::Read(0x0500_0000_0001_0038, true), Value::Number(0)),
     (
-        Call::ReadChunk(0x10010),
-        Answer::Chunk(0x0807_0605_0403_0201, 5),
+        MapCall::ReadChunk(0x10010),
+        Value::Chunk(0x0807_0605_0403_0201, 5),
     ),
-    (Call::WriteChunk(0x10FF0, 5, 1), Answer::Number(0)),
-    (Call::ReadChunk(0x10FF0), Answer::NoRoom),
+    (MapCall::WriteChunk(0x10FF0, 5, 1), Value::Number(0)),
+    (MapCall::ReadChunk(0x10FF0), Value::NoRoom),
 ];
 
 #[test]
@@ -133,11 +136,11 @@ fn calls_of_a_plain_memory(rt: HostRuntime) {
 
 /// The last page can be read and not written. An access whose tag differs in a granule: one that
 /// is permitted completes and sets the flag, one that is not, at its last byte, faults and doesn't.
-const ASYNCHRONOUS: [(Call, Answer); 6] = [
-    (Call::StoreTags(0x3FFF_E000, 1, 1), Answer::Number(0)),
+const ASYNCHRONOUS: [(MapCall, Value); 6] = [
+    (MapCall::StoreTags(0x3FFF_E000, 1, 1), Value::Number(0)),
     (
-        Call::Write(0x0200_0000_3FFF_EFF9, 9, true),
-        Answer::Refused(MemFault {
+        MapCall::Write(0x0200_0000_3FFF_EFF9, 9, true),
+        Value::Refused(MemFault {
             kind: FaultKind::Permission,
             addr: 0x3FFF_F000,
             write: true,
@@ -145,13 +148,13 @@ const ASYNCHRONOUS: [(Call, Answer); 6] = [
             mem_tag: 0,
         }),
     ),
-    (Call::Pending, Answer::Number(0)),
+    (MapCall::Pending, Value::Number(0)),
     (
-        Call::Write(0x0100_0000_3FFF_E00C, 5, true),
-        Answer::Number(0),
+        MapCall::Write(0x0100_0000_3FFF_E00C, 5, true),
+        Value::Number(0),
     ),
-    (Call::Pending, Answer::Number(1)),
-    (Call::Read(0x3FFF_E00C, true), Answer::Number(5)),
+    (MapCall::Pending, Value::Number(1)),
+    (MapCall::Read(0x3FFF_E00C, true), Value::Number(5)),
 ];
 
 #[test]
@@ -173,10 +176,10 @@ fn laws() {
 }
 
 /// What a memory whose only page holds instructions answers.
-const OF_TEXT: [(Call, Answer); 4] = [
+const OF_TEXT: [(MapCall, Value); 4] = [
     (
-        Call::Fetch(0x10001),
-        Answer::Refused(MemFault {
+        MapCall::Fetch(0x10001),
+        Value::Refused(MemFault {
             kind: FaultKind::PcAlignment,
             addr: 0x10001,
             write: false,
@@ -185,8 +188,8 @@ const OF_TEXT: [(Call, Answer); 4] = [
         }),
     ),
     (
-        Call::Fetch(0x11000),
-        Answer::Refused(MemFault {
+        MapCall::Fetch(0x11000),
+        Value::Refused(MemFault {
             kind: FaultKind::Translation,
             addr: 0x11000,
             write: false,
@@ -194,10 +197,10 @@ const OF_TEXT: [(Call, Answer); 4] = [
             mem_tag: 0,
         }),
     ),
-    (Call::Fetch(0x10000), Answer::Number(0)),
+    (MapCall::Fetch(0x10000), Value::Number(0)),
     (
-        Call::Write(0x0300_0000_0001_0FF8, 1, true),
-        Answer::Refused(MemFault {
+        MapCall::Write(0x0300_0000_0001_0FF8, 1, true),
+        Value::Refused(MemFault {
             kind: FaultKind::Permission,
             addr: 0x10FF8,
             write: true,
@@ -231,17 +234,17 @@ fn loading(rt: HostRuntime) -> Result<(), Fail> {
     Ok(())
 }
 
-const LOADED: [(Call, Answer); 1] = [(
-    Call::Read(0x0400_0000_0001_0FFC, true),
-    Answer::Number(0x0807_0605_0403_0201),
+const LOADED: [(MapCall, Value); 1] = [(
+    MapCall::Read(0x0400_0000_0001_0FFC, true),
+    Value::Number(0x0807_0605_0403_0201),
 )];
 
 /// What a memory of two pages answers after three are refused.
-const REFUSED: [(Call, Answer); 2] = [
-    (Call::PagesLeft, Answer::Number(2)),
+const REFUSED: [(MapCall, Value); 2] = [
+    (MapCall::PagesLeft, Value::Number(2)),
     (
-        Call::LoadTag(0x10008),
-        Answer::Refused(MemFault {
+        MapCall::LoadTag(0x10008),
+        Value::Refused(MemFault {
             kind: FaultKind::Translation,
             addr: 0x10000,
             write: false,

@@ -9,7 +9,7 @@ use mte_report::{Explanation, Report};
 use mte_tags::MemFault;
 use mte_tenant::Status;
 use run_book::{BookChunk, BookEntry};
-use run_cause::{Cause, Finding, LastStore, Wrong};
+use run_cause::{Cause, Finding, ForbiddenAccess, LastStore};
 use run_statistics::Object;
 use std::alloc::Global;
 use std::io::Write;
@@ -319,7 +319,7 @@ struct FindingObject<'a>(&'a Finding);
 
 impl<'a> fmt::Display for FindingObject<'a> {
     fn fmt<W: fmt::Write>(&self, f: &mut fmt::Formatter<W>) -> fmt::Result {
-        let Wrong {
+        let ForbiddenAccess {
             trespass,
             addr,
             span,

@@ -5,7 +5,7 @@ use mte_backtrace::{CallStack, FrameNames, Quoted};
 use mte_flat::Flat;
 use mte_report::{Explanation, Report};
 use mte_tenant::Status;
-use run_book::{BookEntry, Call};
+use run_book::{BookEntry, EntryText};
 use run_cause::Cause;
 use std::alloc::Global;
 use std::io;
@@ -123,7 +123,7 @@ fn write_call_stack<W: Write>(
     entry: &BookEntry,
     names: &FrameNames<'_>,
 ) -> io::Result<()> {
-    let call = Call(entry);
+    let call = EntryText(entry);
     let text = format!(in alloc; "{call}")?;
     let stack = report.stack_of(alloc, entry)?;
     write_stack(out, ",", text.as_str(), names, &stack)
@@ -154,7 +154,7 @@ fn write_flow_step<W: Write>(
     entry: &BookEntry,
     names: &FrameNames<'_>,
 ) -> io::Result<()> {
-    let call = Call(entry);
+    let call = EntryText(entry);
     let text = format!(in alloc; "{call}")?;
     let stack = report.stack_of(alloc, entry)?;
     write_step(out, text.as_str(), names, &stack, ",")

@@ -56,7 +56,7 @@ pub struct Book {
 
 /// Which chunk is looked for, by plain addresses.
 #[derive(Clone, Copy)]
-pub enum Wanted {
+pub enum ChunkQuery {
     /// One whose bytes an address is among.
     Holding(u64),
     /// The same, and its pointer has a tag.
@@ -69,15 +69,15 @@ pub enum Wanted {
     InBlock(u64),
 }
 
-impl Wanted {
+impl ChunkQuery {
     /// Whether a chunk is one of these.
     fn is(&self, chunk: &BookChunk) -> bool {
         match self {
-            Wanted::Holding(addr) => chunk.distance(*addr) == 0,
-            Wanted::Tagged(addr, tag) => chunk.distance(*addr) == 0 && chunk.tag() == *tag,
-            Wanted::InGranules(addr) => chunk.start() <= *addr && *addr < chunk.granules_end(),
-            Wanted::At(start) => chunk.start() == *start,
-            Wanted::InBlock(start) => chunk.is_in_block(*start),
+            ChunkQuery::Holding(addr) => chunk.distance(*addr) == 0,
+            ChunkQuery::Tagged(addr, tag) => chunk.distance(*addr) == 0 && chunk.tag() == *tag,
+            ChunkQuery::InGranules(addr) => chunk.start() <= *addr && *addr < chunk.granules_end(),
+            ChunkQuery::At(start) => chunk.start() == *start,
+            ChunkQuery::InBlock(start) => chunk.is_in_block(*start),
         }
     }
 }
@@ -198,7 +198,7 @@ impl Book {
     }
 
     /// The newest chunk that is the wanted one, with the call that freed it.
-    pub fn newest(&self, wanted: &Wanted) -> Option<BookChunk> {
+    pub fn newest(&self, wanted: &ChunkQuery) -> Option<BookChunk> {
         let mut found = None;
         for (i, entry) in self.entries.iter().enumerate() {
             if let Some(chunk) = entry.made() {

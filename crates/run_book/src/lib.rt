@@ -6,6 +6,6 @@ mod book;
 mod owner;
 mod words;
 
-pub use book::{Book, BookChunk, BookEntry, Wanted};
+pub use book::{Book, BookChunk, BookEntry, ChunkQuery};
 pub use owner::ChunkOwner;
-pub use words::{Bytes, Call};
+pub use words::{Bytes, EntryText};

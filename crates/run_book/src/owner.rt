@@ -1,7 +1,7 @@
 //! Whose granule an address is in.
 
 use crate::book::BookChunk;
-use heap_bounds::{Block, Range};
+use heap_bounds::{Block, RangeUse};
 use std::fmt;
 
 /// Whose granule an address is in.
@@ -18,7 +18,7 @@ pub struct ChunkOwner {
 impl fmt::Display for ChunkOwner {
     fn fmt<W: fmt::Write>(&self, f: &mut fmt::Formatter<W>) -> fmt::Result {
         let ChunkOwner { addr, mapped, .. } = *self;
-        let (spot, inside) = (Spot(addr), Inside(self));
+        let (spot, inside) = (AddressUse(addr), Inside(self));
         let page = if mapped { "" } else { ", in no mapped page" };
         write!(f, "{addr:#018x} is in {spot}{page}, {inside}")
     }
@@ -26,9 +26,9 @@ impl fmt::Display for ChunkOwner {
 
 /// The block that an address is in, or what its range is for.
 #[derive(Clone, Copy)]
-struct Spot(u64);
+struct AddressUse(u64);
 
-impl fmt::Display for Spot {
+impl fmt::Display for AddressUse {
     fn fmt<W: fmt::Write>(&self, f: &mut fmt::Formatter<W>) -> fmt::Result {
         match Block::of(self.0) {
             Some(Block { class, start, size }) => {
@@ -37,7 +37,7 @@ impl fmt::Display for Spot {
                     "the block of {size} bytes at {start:#018x} (class {class})"
                 )
             }
-            None => write!(f, "the range of: {}", Range::of(self.0)),
+            None => write!(f, "the range of: {}", RangeUse::of(self.0)),
         }
     }
 }

@@ -6,9 +6,9 @@ use std::fmt;
 
 /// A heap call: its number, its arguments and result, and when it was made.
 #[derive(Clone, Copy)]
-pub struct Call<'a>(pub &'a BookEntry);
+pub struct EntryText<'a>(pub &'a BookEntry);
 
-impl<'a> fmt::Display for Call<'a> {
+impl<'a> fmt::Display for EntryText<'a> {
     fn fmt<W: fmt::Write>(&self, f: &mut fmt::Formatter<W>) -> fmt::Result {
         let BookEntry {
             number,

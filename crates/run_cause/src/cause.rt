@@ -1,14 +1,14 @@
 //! What most likely went wrong, in the manner of the reports of Android's memory tagging.
 
 use crate::evidence::{Evidence, NEAR};
-use crate::exact::Wrong;
+use crate::exact::ForbiddenAccess;
 use a64_bits::plain;
 use address_map::{IMAGE_START, PAGE_SIZE, STACK_END, STACK_START};
 use heap_bounds::{Block, Trespass};
 use mte_svc::FREE;
 use mte_tags::{FaultKind, MemFault, tag_of};
 use mte_tenant::{Record, Status};
-use run_book::{Book, BookChunk, BookEntry, Bytes, Wanted};
+use run_book::{Book, BookChunk, BookEntry, Bytes, ChunkQuery};
 use scudo_heap::HeapCall;
 use std::fmt;
 
@@ -89,7 +89,7 @@ impl Cause {
         if addr < IMAGE_START {
             return Cause::NullPointer;
         }
-        if let Some(chunk) = evidence.book.newest(&Wanted::Tagged(addr, tag)) {
+        if let Some(chunk) = evidence.book.newest(&ChunkQuery::Tagged(addr, tag)) {
             return Cause::of_own(evidence.book, addr, chunk);
         }
         if let Some(distance) = evidence.below_stack(addr) {
@@ -101,19 +101,19 @@ impl Cause {
         if let Some(cause) = Cause::of_stack(fault, step) {
             return cause;
         }
-        match evidence.book.newest(&Wanted::Holding(addr)) {
+        match evidence.book.newest(&ChunkQuery::Holding(addr)) {
             Some(chunk) => Cause::ForeignPointer(chunk),
             None => Cause::Unknown,
         }
     }
 
     /// The cause of an access that a chunk's bounds forbid.
-    pub fn of_wrong(book: &Book, wrong: &Wrong) -> Cause {
+    pub fn of_wrong(book: &Book, wrong: &ForbiddenAccess) -> Cause {
         let addr = wrong.addr;
         let wanted = match wrong.trespass {
-            Trespass::PastSize | Trespass::Freed => Wanted::InGranules(addr),
+            Trespass::PastSize | Trespass::Freed => ChunkQuery::InGranules(addr),
             Trespass::NoChunk => match Block::of(addr) {
-                Some(block) => Wanted::InBlock(block.start),
+                Some(block) => ChunkQuery::InBlock(block.start),
                 None => return Cause::NoChunkThere,
             },
         };
@@ -154,7 +154,7 @@ impl Cause {
         if let Some(pointer) = stale_pointer(&chunk) {
             return Cause::StaleFree(chunk, offset, pointer);
         }
-        match book.newest(&Wanted::Holding(addr)) {
+        match book.newest(&ChunkQuery::Holding(addr)) {
             Some(young) if young.freed.is_none() => Cause::StalePointer(chunk, offset, young),
             _ => Cause::UseAfterFree(chunk, offset),
         }
@@ -173,14 +173,14 @@ impl Cause {
     /// The cause of a check of a pointer that failed.
     fn of_pointer(book: &Book, pointer: u64, service: u64) -> Cause {
         let start = plain(pointer);
-        if let Some(chunk) = book.newest(&Wanted::At(start)) {
+        if let Some(chunk) = book.newest(&ChunkQuery::At(start)) {
             return match chunk.freed {
                 None => Cause::HeaderOverwritten(chunk),
                 Some(_) if service == FREE => Cause::DoubleFree(chunk),
                 Some(_) => Cause::FreedPointer(chunk),
             };
         }
-        match book.newest(&Wanted::InGranules(start)) {
+        match book.newest(&ChunkQuery::InGranules(start)) {
             Some(chunk) => Cause::InsideChunk(chunk, start.saturating_sub(chunk.start())),
             None => Cause::NoChunk,
         }

@@ -6,7 +6,7 @@ use address_map::{SECONDARY_END, STACK_START};
 use circular_buffer::HeapCircularBuffer;
 use instruction_trace::Moment;
 use mte_tags::tag_of;
-use run_book::{Book, BookChunk, Wanted};
+use run_book::{Book, BookChunk, ChunkQuery};
 
 /// How far from a chunk an access is still taken for one past its end or in front of it, and from
 /// the stack or from SP for one of the stack.
@@ -81,7 +81,7 @@ impl<'a> Evidence<'a> {
         if tag == 0 || tag_of(pointer) != tag {
             return None;
         }
-        self.book.newest(&Wanted::Tagged(plain(pointer), tag))
+        self.book.newest(&ChunkQuery::Tagged(plain(pointer), tag))
     }
 
     /// The chunk with a tag that a register pointed into before the newest of the last instructions

@@ -25,7 +25,7 @@ pub struct Span {
 
 /// An access to bytes of the heap that no live chunk has.
 #[derive(Clone, Copy)]
-pub struct Wrong {
+pub struct ForbiddenAccess {
     /// What it does there.
     pub trespass: Trespass,
     /// The plain address of the first such byte.
@@ -38,7 +38,7 @@ pub struct Wrong {
 #[derive(Clone, Copy)]
 pub struct Finding {
     /// The access.
-    pub wrong: Wrong,
+    pub wrong: ForbiddenAccess,
     /// The number of the instruction, from 1.
     pub step: u64,
     /// The registers before it.
@@ -108,7 +108,7 @@ impl Exact {
     }
 
     /// What an instruction that completed accessed and may not.
-    fn check(&self, moment: &Moment, parts: &TenantParts) -> Option<Wrong> {
+    fn check(&self, moment: &Moment, parts: &TenantParts) -> Option<ForbiddenAccess> {
         if self.finding.is_some() || !parts.is_running() {
             return None;
         }
@@ -117,7 +117,7 @@ impl Exact {
             return None;
         }
         let (addr, trespass) = self.bounds.check(span.addr, span.bytes)?;
-        Some(Wrong {
+        Some(ForbiddenAccess {
             trespass,
             addr,
             span,

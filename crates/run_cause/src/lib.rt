@@ -11,7 +11,7 @@ mod words;
 
 pub use cause::{Cause, FoundCause};
 pub use evidence::Evidence;
-pub use exact::{Exact, Finding, Span, Wrong, span_of};
+pub use exact::{Exact, Finding, ForbiddenAccess, Span, span_of};
 pub use families::{breakpoint_words, family_of, is_undefined};
 pub use jump::{LastStore, StoreWatch, TargetLoad, branch_in};
 pub use words::{abort_words, fault_words, trespass_words};

@@ -14,7 +14,7 @@ const STEPS: &str = "10000000";
 
 /// What a command line requests.
 #[derive(Drop)]
-pub enum Invocation {
+pub enum RunInvocation {
     /// A run.
     Run(Options),
     /// Nothing more: help or a usage fault was printed. The exit status.
@@ -24,46 +24,46 @@ pub enum Invocation {
 }
 
 /// Reads the process's arguments; prints the help, or what is wrong with them.
-pub fn read_command_line(rt: &HostRuntime) -> Invocation {
+pub fn read_command_line(rt: &HostRuntime) -> RunInvocation {
     let args = match env::args(rt) {
         Ok(args) => args,
         Err(error) => return report_unreadable(rt, &error),
     };
     let Ok(words) = collect_words(rt.alloc(), args) else {
-        return Invocation::OutOfMemory;
+        return RunInvocation::OutOfMemory;
     };
     match parse(rt.alloc(), words.as_slice()) {
-        Ok(Some(options)) => Invocation::Run(options),
-        Ok(None) => Invocation::OutOfMemory,
+        Ok(Some(options)) => RunInvocation::Run(options),
+        Ok(None) => RunInvocation::OutOfMemory,
         Err(error) => print_text(rt, &error),
     }
 }
 
 /// How to exit if the arguments cannot be read: out of memory, or not UTF-8.
-fn report_unreadable(rt: &HostRuntime, error: &io::Error) -> Invocation {
+fn report_unreadable(rt: &HostRuntime, error: &io::Error) -> RunInvocation {
     if error.kind() == io::ErrorKind::OutOfMemory {
-        return Invocation::OutOfMemory;
+        return RunInvocation::OutOfMemory;
     }
     let _ = eprintln!(rt; "mte_run: an argument is not text");
-    Invocation::Exit(2)
+    RunInvocation::Exit(2)
 }
 
 /// Prints the text of `clap`, which has words of the command line in it.
-fn print_text(rt: &HostRuntime, error: &Error) -> Invocation {
+fn print_text(rt: &HostRuntime, error: &Error) -> RunInvocation {
     if error.kind() == ErrorKind::OutOfMemory {
-        return Invocation::OutOfMemory;
+        return RunInvocation::OutOfMemory;
     }
     let Ok(text) = format!(in rt.alloc(); "{error}") else {
-        return Invocation::OutOfMemory;
+        return RunInvocation::OutOfMemory;
     };
     let lines = PrintableLines(text.as_str());
     if error.use_stderr() {
         let _ = eprint!(rt; "{lines}");
-        return Invocation::Exit(2);
+        return RunInvocation::Exit(2);
     }
     match print!(rt; "{lines}") {
-        Ok(()) => Invocation::Exit(0),
-        Err(_) => Invocation::Exit(6),
+        Ok(()) => RunInvocation::Exit(0),
+        Err(_) => RunInvocation::Exit(6),
     }
 }
 

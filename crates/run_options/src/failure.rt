@@ -2,7 +2,7 @@
 
 use mte_session::{ReadFault, ScriptError, ScriptFault, WriteFault};
 use obstacle::Obstacle;
-use script_lines::Wrong;
+use script_lines::WrongWord;
 use std::alloc::{AllocError, AllocFailed};
 use std::{fmt, io};
 use terminal_text::Printable;
@@ -63,7 +63,7 @@ pub enum Failure<'a> {
     /// A file could not be written; its name as it was given.
     WriteFile(&'a str, FileFault),
     /// A script's first faulty line, counted from 1, what is wrong with it, and which word.
-    Script(u64, ScriptFault, Wrong),
+    Script(u64, ScriptFault, WrongWord),
 }
 
 impl<'a> Failure<'a> {
@@ -99,7 +99,7 @@ impl<'a> Failure<'a> {
         match *obstacle {
             Obstacle::OutOfMemory => Failure::Memory,
             Obstacle::Refused(ScriptError { line, fault }) => {
-                let wrong = Wrong::of(script, line, fault, files);
+                let wrong = WrongWord::of(script, line, fault, files);
                 Failure::Script(line, fault, wrong)
             }
         }

@@ -6,7 +6,7 @@ use std::fmt;
 
 /// What a word of a line should be.
 #[derive(Clone, Copy)]
-pub enum Wanted {
+pub enum ExpectedWord {
     /// The name of an event.
     Event,
     /// This word.
@@ -28,24 +28,24 @@ pub enum Wanted {
 }
 
 /// The words of an admission; `async` may follow.
-const ADMIT: [Wanted; 12] = [
-    Wanted::Word("admit"),
-    Wanted::Tenant,
-    Wanted::Word("image"),
-    Wanted::File,
-    Wanted::Word("input"),
-    Wanted::FileOrNone,
-    Wanted::Word("seed"),
-    Wanted::Seed,
-    Wanted::Word("frames"),
-    Wanted::Number,
-    Wanted::Word("out"),
-    Wanted::Number,
+const ADMIT: [ExpectedWord; 12] = [
+    ExpectedWord::Word("admit"),
+    ExpectedWord::Tenant,
+    ExpectedWord::Word("image"),
+    ExpectedWord::File,
+    ExpectedWord::Word("input"),
+    ExpectedWord::FileOrNone,
+    ExpectedWord::Word("seed"),
+    ExpectedWord::Seed,
+    ExpectedWord::Word("frames"),
+    ExpectedWord::Number,
+    ExpectedWord::Word("out"),
+    ExpectedWord::Number,
 ];
 
 /// The form of an event's line.
 #[derive(Clone, Copy)]
-pub enum Form {
+pub enum LineForm {
     /// An admission's.
     Admit,
     /// A slice's.
@@ -56,37 +56,37 @@ pub enum Form {
     Unknown,
 }
 
-impl Form {
+impl LineForm {
     /// The form of the event with a name.
-    pub fn of(name: &[u8]) -> Form {
+    pub fn of(name: &[u8]) -> LineForm {
         match name {
-            b"admit" => Form::Admit,
-            b"slice" => Form::Slice,
-            b"stop" => Form::Stop,
-            _ => Form::Unknown,
+            b"admit" => LineForm::Admit,
+            b"slice" => LineForm::Slice,
+            b"stop" => LineForm::Stop,
+            _ => LineForm::Unknown,
         }
     }
 
     /// What the word with a number from 0 should be; `None` where the line should have ended.
-    pub fn wanted(self, number: usize) -> Option<Wanted> {
+    pub fn wanted(self, number: usize) -> Option<ExpectedWord> {
         match (self, number) {
-            (Form::Admit, 12) => Some(Wanted::Mode),
-            (Form::Admit, _) => ADMIT.get(number).copied(),
-            (Form::Slice, 2) => Some(Wanted::Steps),
-            (Form::Slice | Form::Stop, 1) => Some(Wanted::Tenant),
-            (Form::Slice | Form::Stop, 0) => Some(Wanted::Event),
-            (Form::Slice | Form::Stop, _) => None,
-            (Form::Unknown, _) => Some(Wanted::Event),
+            (LineForm::Admit, 12) => Some(ExpectedWord::Mode),
+            (LineForm::Admit, _) => ADMIT.get(number).copied(),
+            (LineForm::Slice, 2) => Some(ExpectedWord::Steps),
+            (LineForm::Slice | LineForm::Stop, 1) => Some(ExpectedWord::Tenant),
+            (LineForm::Slice | LineForm::Stop, 0) => Some(ExpectedWord::Event),
+            (LineForm::Slice | LineForm::Stop, _) => None,
+            (LineForm::Unknown, _) => Some(ExpectedWord::Event),
         }
     }
 
     /// The form as a text.
     pub fn text(self) -> &'static str {
         match self {
-            Form::Admit => "admit ID image I input J seed HEX16 frames R out O [async]",
-            Form::Slice => "slice ID STEPS",
-            Form::Stop => "stop ID",
-            Form::Unknown => {
+            LineForm::Admit => "admit ID image I input J seed HEX16 frames R out O [async]",
+            LineForm::Slice => "slice ID STEPS",
+            LineForm::Stop => "stop ID",
+            LineForm::Unknown => {
                 "admit ID image I input J seed HEX16 frames R out O [async], slice ID STEPS or \
                  stop ID"
             }
@@ -94,7 +94,7 @@ impl Form {
     }
 }
 
-impl Wanted {
+impl ExpectedWord {
     /// Whether a word is what a fault names.
     pub fn is_wrong(self, word: &[u8], fault: ScriptFault, files: u64) -> bool {
         match fault {
@@ -108,10 +108,10 @@ impl Wanted {
     /// Whether a word has the form of what is wanted.
     fn has_form(self, word: &[u8]) -> bool {
         match self {
-            Wanted::Event => matches!(word, b"admit" | b"slice" | b"stop"),
-            Wanted::Word(text) => word == text.as_bytes(),
-            Wanted::Mode => matches!(word, b"async"),
-            Wanted::Seed => is_seed(word),
+            ExpectedWord::Event => matches!(word, b"admit" | b"slice" | b"stop"),
+            ExpectedWord::Word(text) => word == text.as_bytes(),
+            ExpectedWord::Mode => matches!(word, b"async"),
+            ExpectedWord::Seed => is_seed(word),
             _ => decimal(word).is_some(),
         }
     }
@@ -119,10 +119,11 @@ impl Wanted {
     /// The largest number that is allowed there.
     fn most(self) -> u64 {
         match self {
-            Wanted::Tenant => 65_535,
-            Wanted::Steps => 1_048_576,
-            Wanted::Number | Wanted::File | Wanted::FileOrNone => 4_294_967_295,
-            Wanted::Event | Wanted::Word(_) | Wanted::Mode | Wanted::Seed => u64::MAX,
+            ExpectedWord::Tenant => 65_535,
+            ExpectedWord::Steps => 1_048_576,
+            ExpectedWord::Number | ExpectedWord::File | ExpectedWord::FileOrNone => 4_294_967_295,
+            ExpectedWord::Event | ExpectedWord::Word(_) | ExpectedWord::Mode | ExpectedWord::Seed =>
+                u64::MAX,
         }
     }
 
@@ -130,25 +131,25 @@ impl Wanted {
     fn names_file(self, word: &[u8], files: u64) -> bool {
         let number = decimal(word).unwrap_or(0);
         match self {
-            Wanted::File => 0 < number && number <= files,
-            Wanted::FileOrNone => number <= files,
+            ExpectedWord::File => 0 < number && number <= files,
+            ExpectedWord::FileOrNone => number <= files,
             _ => true,
         }
     }
 }
 
-impl fmt::Display for Wanted {
+impl fmt::Display for ExpectedWord {
     fn fmt<W: fmt::Write>(&self, f: &mut fmt::Formatter<W>) -> fmt::Result {
         match self {
-            Wanted::Event => f.write_str("admit, slice or stop"),
-            Wanted::Word(text) => write!(f, "the word {text}"),
-            Wanted::Mode => f.write_str("the word async, or the end of the line"),
-            Wanted::Tenant => f.write_str("a tenant's number, 0 to 65535"),
-            Wanted::Steps => f.write_str("a number of steps, 0 to 1048576"),
-            Wanted::Number => f.write_str("a number, 0 to 4294967295"),
-            Wanted::Seed => f.write_str("16 hexadecimal digits"),
-            Wanted::File => f.write_str("a file's number, from 1 as they follow the options"),
-            Wanted::FileOrNone => {
+            ExpectedWord::Event => f.write_str("admit, slice or stop"),
+            ExpectedWord::Word(text) => write!(f, "the word {text}"),
+            ExpectedWord::Mode => f.write_str("the word async, or the end of the line"),
+            ExpectedWord::Tenant => f.write_str("a tenant's number, 0 to 65535"),
+            ExpectedWord::Steps => f.write_str("a number of steps, 0 to 1048576"),
+            ExpectedWord::Number => f.write_str("a number, 0 to 4294967295"),
+            ExpectedWord::Seed => f.write_str("16 hexadecimal digits"),
+            ExpectedWord::File => f.write_str("a file's number, from 1 as they follow the options"),
+            ExpectedWord::FileOrNone => {
                 f.write_str("a file's number, from 1 as they follow the options, or 0 for none")
             }
         }

@@ -5,4 +5,4 @@ mod form;
 mod word;
 mod wrong;
 
-pub use wrong::Wrong;
+pub use wrong::WrongWord;

@@ -1,24 +1,24 @@
 //! The first wrong word of a line.
 
-use crate::form::{Form, Wanted};
+use crate::form::{ExpectedWord, LineForm};
 use crate::word::Shown;
 use mte_script::ScriptFault;
 use std::fmt;
 
 /// What is wrong with a line of a script.
 #[derive(Clone, Copy)]
-pub struct Wrong {
+pub struct WrongWord {
     fault: ScriptFault,
-    form: Form,
+    form: LineForm,
     /// The number of the first wrong word from 0, or how many there are where one is missing.
     number: usize,
     /// That word.
     word: Option<Shown>,
 }
 
-impl Wrong {
+impl WrongWord {
     /// What a fault means of the line with a number from 1, with `files` files named.
-    pub fn of(script: &[u8], line: u64, fault: ScriptFault, files: usize) -> Wrong {
+    pub fn of(script: &[u8], line: u64, fault: ScriptFault, files: usize) -> WrongWord {
         let line = line_of(script, line);
         let form = form_of(line);
         let mut count = 0usize;
@@ -28,7 +28,7 @@ impl Wrong {
             .enumerate()
         {
             if is_wrong(form.wanted(number), word, fault, files as u64) {
-                return Wrong {
+                return WrongWord {
                     fault,
                     form,
                     number,
@@ -37,7 +37,7 @@ impl Wrong {
             }
             count = number.saturating_add(1);
         }
-        Wrong {
+        WrongWord {
             fault,
             form,
             number: count,
@@ -56,22 +56,22 @@ fn line_of(script: &[u8], number: u64) -> &[u8] {
 }
 
 /// The form of a line, by its first word.
-fn form_of(line: &[u8]) -> Form {
+fn form_of(line: &[u8]) -> LineForm {
     match line.split(|byte| *byte == b' ').find(|it| !it.is_empty()) {
-        Some(name) => Form::of(name),
-        None => Form::Unknown,
+        Some(name) => LineForm::of(name),
+        None => LineForm::Unknown,
     }
 }
 
 /// Whether a word is the wrong one.
-fn is_wrong(wanted: Option<Wanted>, word: &[u8], fault: ScriptFault, files: u64) -> bool {
+fn is_wrong(wanted: Option<ExpectedWord>, word: &[u8], fault: ScriptFault, files: u64) -> bool {
     match wanted {
         Some(wanted) => wanted.is_wrong(word, fault, files),
         None => true,
     }
 }
 
-impl fmt::Display for Wrong {
+impl fmt::Display for WrongWord {
     fn fmt<W: fmt::Write>(&self, f: &mut fmt::Formatter<W>) -> fmt::Result {
         if let ScriptFault::TooManyEvents = self.fault {
             return f.write_str("a script has at most 10,000 events");
@@ -83,7 +83,7 @@ impl fmt::Display for Wrong {
     }
 }
 
-impl Wrong {
+impl WrongWord {
     /// Writes the word, and what should stand there.
     fn write_word<W: fmt::Write>(&self, f: &mut fmt::Formatter<W>) -> fmt::Result {
         let number = self.number.saturating_add(1);

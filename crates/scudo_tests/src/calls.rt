@@ -7,7 +7,7 @@ use mte_tags::{FaultKind, MemFault, Paged, Rgsr, Tagged};
 use scudo_heap::{Heap, HeapAbort};
 
 #[derive(Clone, Copy)]
-pub(crate) enum Call {
+pub(crate) enum TestCall {
     Malloc(u64),
     Calloc(u64, u64),
     Memalign(u64, u64),
@@ -36,23 +36,23 @@ pub(crate) enum Call {
 
 /// What a call answers: a number, 0 where it has none.
 #[derive(Clone, Copy, PartialEq, Eq)]
-pub(crate) enum Answer {
+pub(crate) enum CallAnswer {
     Is(u64),
     Aborts(HeapAbort),
     Faults(FaultKind),
 }
 
-fn of_heap(answer: Result<u64, HeapAbort>) -> Answer {
+fn of_heap(answer: Result<u64, HeapAbort>) -> CallAnswer {
     match answer {
-        Ok(number) => Answer::Is(number),
-        Err(abort) => Answer::Aborts(abort),
+        Ok(number) => CallAnswer::Is(number),
+        Err(abort) => CallAnswer::Aborts(abort),
     }
 }
 
-fn of_memory(answer: Result<u64, MemFault>) -> Answer {
+fn of_memory(answer: Result<u64, MemFault>) -> CallAnswer {
     match answer {
-        Ok(number) => Answer::Is(number),
-        Err(fault) => Answer::Faults(fault.kind),
+        Ok(number) => CallAnswer::Is(number),
+        Err(fault) => CallAnswer::Faults(fault.kind),
     }
 }
 
@@ -103,18 +103,18 @@ fn store_tags<M: Tagged>(
 }
 
 /// A call that does not change the heap.
-pub(crate) fn access<M: Paged>(heap: &Heap, memory: &mut M, call: Call) -> Result<u64, MemFault>
+pub(crate) fn access<M: Paged>(heap: &Heap, memory: &mut M, call: TestCall) -> Result<u64, MemFault>
     requires { HeapOwnsItsPages (M.memory memory.old) heap.now }
     ensures served { HeapOwnsItsPages (M.memory memory.new) heap.now }
 {
     match call {
-        Call::Checked(at) => read(heap, memory, at, true),
-        Call::Word(at) => read(heap, memory, at, false),
-        Call::Write(at, value) => write(heap, memory, at, value, false),
-        Call::CheckedWrite(at, value) => write(heap, memory, at, value, true),
-        Call::Tag(at) => load_tag(heap, memory, at),
-        Call::StoreTags(at, count, tag) => store_tags(heap, memory, at, count, tag),
-        Call::Flag => Ok(memory.pending() as u64),
+        TestCall::Checked(at) => read(heap, memory, at, true),
+        TestCall::Word(at) => read(heap, memory, at, false),
+        TestCall::Write(at, value) => write(heap, memory, at, value, false),
+        TestCall::CheckedWrite(at, value) => write(heap, memory, at, value, true),
+        TestCall::Tag(at) => load_tag(heap, memory, at),
+        TestCall::StoreTags(at, count, tag) => store_tags(heap, memory, at, count, tag),
+        TestCall::Flag => Ok(memory.pending() as u64),
         _ => Ok(memory.pages_left() as u64),
     }
 }
@@ -142,41 +142,48 @@ fn free_row<M: Paged>(
 }
 
 /// Makes a call.
-pub(crate) fn make<M: Paged>(heap: &mut Heap, rgsr: &mut Rgsr, memory: &mut M, call: Call) -> Answer
+pub(crate) fn make<M: Paged>(
+    heap: &mut Heap,
+    rgsr: &mut Rgsr,
+    memory: &mut M,
+    call: TestCall,
+) -> CallAnswer
     requires served { HeapOwnsItsPages (M.memory memory.old) heap.old }
     requires tag { rgsr.old.tag < 16 }
     ensures served { HeapOwnsItsPages (M.memory memory.new) heap.new }
     ensures tag { rgsr.new.tag < 16 }
 {
     match call {
-        Call::Malloc(size) => Answer::Is(heap.malloc(rgsr, memory, size)),
-        Call::Calloc(count, size) => Answer::Is(heap.calloc(rgsr, memory, count, size)),
-        Call::Memalign(align, size) => Answer::Is(heap.memalign(rgsr, memory, align, size)),
-        Call::Realloc(pointer, size) => of_heap(heap.realloc(rgsr, memory, pointer, size)),
-        Call::Free(pointer) => of_heap(heap.free(rgsr, memory, pointer).map(|_| 0)),
-        Call::UsableSize(pointer) => of_heap(heap.usable_size(memory, pointer)),
-        Call::FreeRow(first, count) => Answer::Is(free_row(heap, rgsr, memory, first, count)),
+        TestCall::Malloc(size) => CallAnswer::Is(heap.malloc(rgsr, memory, size)),
+        TestCall::Calloc(count, size) => CallAnswer::Is(heap.calloc(rgsr, memory, count, size)),
+        TestCall::Memalign(align, size) => CallAnswer::Is(heap.memalign(rgsr, memory, align, size)),
+        TestCall::Realloc(pointer, size) => of_heap(heap.realloc(rgsr, memory, pointer, size)),
+        TestCall::Free(pointer) => of_heap(heap.free(rgsr, memory, pointer).map(|_| 0)),
+        TestCall::UsableSize(pointer) => of_heap(heap.usable_size(memory, pointer)),
+        TestCall::FreeRow(first, count) => CallAnswer::Is(free_row(
+            heap, rgsr, memory, first, count,
+        )),
         _ => of_memory(access(heap, memory, call)),
     }
 }
 
 /// How often a call is made, the call, and what it answers the last time.
 #[derive(Clone, Copy)]
-pub(crate) struct Row(pub(crate) u64, pub(crate) Call, pub(crate) Answer);
+pub(crate) struct CallRow(pub(crate) u64, pub(crate) TestCall, pub(crate) CallAnswer);
 
 fn last_answer<M: Paged>(
     heap: &mut Heap,
     rgsr: &mut Rgsr,
     memory: &mut M,
     times: u64,
-    call: Call,
-) -> Answer
+    call: TestCall,
+) -> CallAnswer
     requires served { HeapOwnsItsPages (M.memory memory.old) heap.old }
     requires tag { rgsr.old.tag < 16 }
     ensures served { HeapOwnsItsPages (M.memory memory.new) heap.new }
     ensures tag { rgsr.new.tag < 16 }
 {
-    let mut last = Answer::Is(0);
+    let mut last = CallAnswer::Is(0);
     for _ in 0..times {
         last = make(heap, rgsr, memory, call);
     }
@@ -188,7 +195,7 @@ pub(crate) fn answers<M: Paged>(
     heap: &mut Heap,
     rgsr: &mut Rgsr,
     memory: &mut M,
-    rows: &[Row],
+    rows: &[CallRow],
 ) -> bool
     requires served { HeapOwnsItsPages (M.memory memory.old) heap.old }
     requires tag { rgsr.old.tag < 16 }

@@ -2,9 +2,9 @@
 
 ghost use Rattle.std.specs.Prelude.{◌<◌, ◌≤◌};
 
-use crate::calls::Row;
+use crate::calls::CallRow;
 use crate::heap::answers_anew;
-use crate::tables::{TABLES, Table};
+use crate::tables::{CallTable, TABLES};
 use mte_arena::Arena;
 use mte_frames::FramePool;
 use mte_space::{Space, pages_of_a_space};
@@ -19,7 +19,7 @@ fn answers_over_pool(
     pool: &mut FramePool,
     pages: usize,
     mode: TagMode,
-    rows: &[Row],
+    rows: &[CallRow],
 ) -> Result<bool, AllocError>
     requires some { 0 < pages }
     requires most { pages ≤ 4096 }
@@ -49,7 +49,7 @@ fn answers_over_frames(
     alloc: Global,
     pages: usize,
     mode: TagMode,
-    rows: &[Row],
+    rows: &[CallRow],
 ) -> Result<bool, AllocError> {
     if pages == 0 || pages > 4096 {
         return Ok(false);
@@ -66,7 +66,7 @@ fn answers_over_frames(
 #[test]
 fn tables_over_shared_frames(rt: HostRuntime) -> Result<(), Fail> {
     for table in &TABLES {
-        let Table(name, pages, mode, rows) = *table;
+        let CallTable(name, pages, mode, rows) = *table;
         if answers_over_frames(rt.alloc(), pages, mode, rows) != Ok(true) {
             return Err(Fail::new(name));
         }

@@ -3,9 +3,9 @@
 ghost use Rattle.std.specs.Prelude.{◌≡◌, ◌<◌, ◌≤◌};
 ghost use Rattle.mte_tags.specs.Memory.{no_pages};
 
-use crate::calls::{Row, answers};
+use crate::calls::{CallRow, answers};
 use crate::careful::{CAREFUL, LAWS_BROKEN};
-use crate::tables::{NOT_CAREFUL, TABLES, Table};
+use crate::tables::{CallTable, NOT_CAREFUL, TABLES};
 use mte_flat::Flat;
 use mte_tags::{Attrs, Paged, Rgsr, TagMode, Tagged};
 use scudo_heap::{
@@ -24,7 +24,7 @@ pub(crate) fn answers_anew<M: Paged>(
     memory: &mut M,
     pages: usize,
     mode: TagMode,
-    rows: &[Row],
+    rows: &[CallRow],
 ) -> Result<bool, AllocError>
     requires most { pages ≤ 4096 }
     requires empty { M.memory memory.old ≡ no_pages pages mode }
@@ -36,8 +36,8 @@ pub(crate) fn answers_anew<M: Paged>(
     Ok(answers(&mut heap, &mut rgsr, memory, rows))
 }
 
-fn passes(alloc: Global, table: &Table) -> Result<bool, AllocError> {
-    let Table(_, pages, mode, rows) = *table;
+fn passes(alloc: Global, table: &CallTable) -> Result<bool, AllocError> {
+    let CallTable(_, pages, mode, rows) = *table;
     if pages == 0 || pages > 4096 {
         return Ok(false);
     }
@@ -46,7 +46,7 @@ fn passes(alloc: Global, table: &Table) -> Result<bool, AllocError> {
 }
 
 /// Fails with the name of the first table that a heap over a plain memory answers otherwise.
-fn all_pass(alloc: Global, tables: &[Table]) -> Result<(), Fail> {
+fn all_pass(alloc: Global, tables: &[CallTable]) -> Result<(), Fail> {
     for table in tables {
         if passes(alloc, table) != Ok(true) {
             return Err(Fail::new(table.0));

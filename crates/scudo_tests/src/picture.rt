@@ -1,13 +1,13 @@
 //! What a picture says of a row, its pages and its title.
 
 use heap_picture::{
-    Arrow, GRANULES, Gap, GranuleOwner, Heading, Kind, Mark, Marked, Note, PageRange,
-    PictureGranule, PictureLine, Row, Spot,
+    Arrow, GRANULES, Gap, GranuleOwner, Heading, Kind, MappedRange, Mark, Marked, Note,
+    PictureGranule, PictureLine, PictureRow, Spot,
 };
 use std::alloc::Global;
 
 /// The first granules of class 2: a header, a live chunk of two granules with tag 14, and a header.
-fn row() -> Row {
+fn row() -> PictureRow {
     let unused = PictureGranule {
         tag: Some(0),
         owner: GranuleOwner::Nothing,
@@ -19,7 +19,7 @@ fn row() -> Row {
             owner: GranuleOwner::Live,
         };
     }
-    Row {
+    PictureRow {
         address: 0x1200_0000,
         class: Some(2),
         first: 0x1200_0000,
@@ -96,7 +96,7 @@ fn an_access_in_another_row(rt: HostRuntime) {
 }
 
 /// Whether a range of pages is shown by this text.
-fn is_shown_as(alloc: Global, pages: &PageRange, expected: &str) -> bool {
+fn is_shown_as(alloc: Global, pages: &MappedRange, expected: &str) -> bool {
     match format!(in alloc; "{pages}") {
         Ok(text) => text.as_str() == expected,
         Err(_) => false,
@@ -105,7 +105,7 @@ fn is_shown_as(alloc: Global, pages: &PageRange, expected: &str) -> bool {
 
 #[test]
 fn ranges_of_pages(rt: HostRuntime) {
-    let pages = PageRange {
+    let pages = MappedRange {
         start: 0x1200_0000,
         count: 2,
         kind: Kind::Class(2),

@@ -1,7 +1,7 @@
 //! What is told of a script's faulty line.
 
 use mte_session::ScriptFault;
-use script_lines::Wrong;
+use script_lines::WrongWord;
 use std::alloc::Global;
 use std::process::Abort;
 
@@ -39,7 +39,7 @@ const LINES: [(&[u8], ScriptFault, &str); 5] = [
 ];
 
 /// Whether a text is what is told of a faulty line.
-fn is_told(alloc: Global, wrong: &Wrong, expected: &str) -> bool {
+fn is_told(alloc: Global, wrong: &WrongWord, expected: &str) -> bool {
     match format!(in alloc; "{wrong}") {
         Ok(text) => text.as_str() == expected,
         Err(_) => false,
@@ -49,7 +49,7 @@ fn is_told(alloc: Global, wrong: &Wrong, expected: &str) -> bool {
 #[test]
 fn tells_the_wrong_word(rt: HostRuntime) {
     for (line, fault, expected) in LINES {
-        let wrong = Wrong::of(line, 1, fault, 1);
+        let wrong = WrongWord::of(line, 1, fault, 1);
         assert!(rt; is_told(rt.alloc(), &wrong, expected));
     }
 }

@@ -1,7 +1,7 @@
 //! The granules of a chunk, as a picture shows them.
 
 use address_map::GRANULE_SIZE;
-use heap_picture::{GRANULES, GranuleOwner, Row};
+use heap_picture::{GRANULES, GranuleOwner, PictureRow};
 use run_book::BookChunk;
 
 /// The bytes of a row.
@@ -55,12 +55,12 @@ impl Extent {
     }
 
     /// Whether some of its granules are in a row.
-    fn meets(&self, row: &Row) -> bool {
+    fn meets(&self, row: &PictureRow) -> bool {
         self.start < row.address.saturating_add(ROW_SIZE) && row.address < self.end
     }
 
     /// Gives it the granules of a row that it holds.
-    fn paint(&self, row: &mut Row) {
+    fn paint(&self, row: &mut PictureRow) {
         let first = row.address;
         for (index, granule) in row.granules.iter_mut().enumerate() {
             let distance = GRANULE_SIZE.saturating_mul(index as u64);
@@ -72,7 +72,7 @@ impl Extent {
 }
 
 /// Gives each granule of a row to the last extent that holds it.
-pub fn paint_all(row: &mut Row, extents: &[Extent]) {
+pub fn paint_all(row: &mut PictureRow, extents: &[Extent]) {
     for extent in extents {
         if extent.meets(row) {
             extent.paint(row);

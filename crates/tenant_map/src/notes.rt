@@ -3,7 +3,7 @@
 use crate::extent::Extent;
 use heap_picture::Note;
 use mte_backtrace::FrameNames;
-use run_book::{BookChunk, Bytes, Call};
+use run_book::{BookChunk, Bytes, EntryText};
 use std::alloc::Global;
 use std::io::Write;
 use std::{fmt, io};
@@ -48,7 +48,7 @@ impl<'e, 'n> Notes<'e, 'n> {
         row: usize,
     ) -> io::Result<()> {
         let number = extent.chunk.made.number;
-        let label = format!(in alloc; "#{number} {}", Size(extent.chunk.size))?;
+        let label = format!(in alloc; "#{number} {}", ChunkSize(extent.chunk.size))?;
         let title = Title {
             extent,
             names: self.names,
@@ -68,9 +68,9 @@ impl<'e, 'n> Notes<'e, 'n> {
 
 /// A number of bytes: `57 B`, and from 10 KB on `196 KB`.
 #[derive(Clone, Copy)]
-struct Size(u64);
+struct ChunkSize(u64);
 
-impl fmt::Display for Size {
+impl fmt::Display for ChunkSize {
     fn fmt<W: fmt::Write>(&self, f: &mut fmt::Formatter<W>) -> fmt::Result {
         let bytes = self.0;
         if bytes < 10_240 {
@@ -97,7 +97,11 @@ impl<'a> fmt::Display for Title<'a> {
             freed,
             ..
         } = &self.extent.chunk;
-        let (size, call, place) = (Bytes(*size), Call(made), self.names.instruction(made.pc));
+        let (size, call, place) = (
+            Bytes(*size),
+            EntryText(made),
+            self.names.instruction(made.pc),
+        );
         write!(f, "{size}, {call}, {place}")?;
         if let Some(entry) = freed {
             let number = entry.number;

@@ -2,7 +2,7 @@
 
 use crate::attributes::Letters;
 use address_map::PAGE_SIZE;
-use heap_bounds::Range;
+use heap_bounds::RangeUse;
 use mte_flat::Flat;
 use mte_tags::{Attrs, Tagged};
 use std::alloc::{AllocError, Global};
@@ -18,7 +18,7 @@ pub struct MappedPages {
     /// What may be done with them.
     pub attrs: Attrs,
     /// What they are for.
-    pub range: Range,
+    pub range: RangeUse,
 }
 
 impl fmt::Display for MappedPages {
@@ -49,7 +49,7 @@ fn page_of(start: u64, attrs: Attrs) -> MappedPages {
         start,
         end: start.saturating_add(PAGE_SIZE),
         attrs,
-        range: Range::of(start),
+        range: RangeUse::of(start),
     }
 }
 

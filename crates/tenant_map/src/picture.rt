@@ -5,7 +5,7 @@ use crate::notes::Notes;
 use crate::pages::{MappedPages, page_map};
 use crate::selection::{CandidateRow, Window, place_of, places, row_at};
 use address_map::{GRANULE_SIZE, PAGE_SIZE};
-use heap_bounds::Range;
+use heap_bounds::RangeUse;
 use heap_picture::{Arrow, END, Gap, Heading, Kind, Mark, PictureLine, Spot};
 use mte_backtrace::FrameNames;
 use mte_flat::Flat;
@@ -215,11 +215,14 @@ fn write_titled<W: Write>(
 }
 
 /// The pages as a picture lists them.
-fn listed(alloc: Global, map: &[MappedPages]) -> Result<Vec<heap_picture::PageRange>, AllocError> {
+fn listed(
+    alloc: Global,
+    map: &[MappedPages],
+) -> Result<Vec<heap_picture::MappedRange>, AllocError> {
     let mut list = Vec::new(alloc);
     for pages in map {
         if let Some(kind) = kind_of(pages.range) {
-            list.push(heap_picture::PageRange {
+            list.push(heap_picture::MappedRange {
                 start: pages.start,
                 count: pages.end.saturating_sub(pages.start) / PAGE_SIZE,
                 kind,
@@ -230,13 +233,13 @@ fn listed(alloc: Global, map: &[MappedPages]) -> Result<Vec<heap_picture::PageRa
 }
 
 /// What the pages of a range are for.
-fn kind_of(range: Range) -> Option<Kind> {
+fn kind_of(range: RangeUse) -> Option<Kind> {
     match range {
-        Range::Image => Some(Kind::Image),
-        Range::Class(class) => Some(Kind::Class(class)),
-        Range::Large => Some(Kind::Large),
-        Range::Stack => Some(Kind::Stack),
-        Range::Nothing => None,
+        RangeUse::Image => Some(Kind::Image),
+        RangeUse::Class(class) => Some(Kind::Class(class)),
+        RangeUse::Large => Some(Kind::Large),
+        RangeUse::Stack => Some(Kind::Stack),
+        RangeUse::Nothing => None,
     }
 }
 

@@ -3,8 +3,8 @@
 use crate::extent::{Extent, ROW_SIZE, paint_all};
 use crate::pages::MappedPages;
 use address_map::{ADDRESS_END, GRANULE_SIZE, REGION_SIZE, REGIONS_START};
-use heap_bounds::{Block, Range};
-use heap_picture::{GRANULES, GranuleOwner, PictureGranule, ROWS, Row};
+use heap_bounds::{Block, RangeUse};
+use heap_picture::{GRANULES, GranuleOwner, PictureGranule, PictureRow, ROWS};
 use mte_tags::{FaultKind, Tagged};
 use std::alloc::{AllocError, Global};
 
@@ -110,7 +110,7 @@ fn heap_rows<M: Tagged>(
     let edges = edges(alloc, extents)?;
     let mut rows = Vec::new(alloc);
     for pages in map {
-        if let Range::Class(_) | Range::Large = pages.range {
+        if let RangeUse::Class(_) | RangeUse::Large = pages.range {
             push_rows(&mut rows, memory, pages, edges.as_slice())?;
         }
     }
@@ -238,12 +238,12 @@ fn tag_of<M: Tagged>(memory: &mut M, addr: u64) -> Option<u8> {
 }
 
 /// What the row at an address shows.
-pub fn row_at<M: Tagged>(memory: &mut M, extents: &[Extent], address: u64) -> Row {
+pub fn row_at<M: Tagged>(memory: &mut M, extents: &[Extent], address: u64) -> PictureRow {
     let unmapped = PictureGranule {
         tag: None,
         owner: GranuleOwner::Nothing,
     };
-    let mut row = Row {
+    let mut row = PictureRow {
         address,
         class: None,
         first: 0,
@@ -261,7 +261,7 @@ pub fn row_at<M: Tagged>(memory: &mut M, extents: &[Extent], address: u64) -> Ro
 }
 
 /// Gives each granule of a row its tag.
-fn load_tags<M: Tagged>(row: &mut Row, memory: &mut M) {
+fn load_tags<M: Tagged>(row: &mut PictureRow, memory: &mut M) {
     let first = row.address;
     for (index, granule) in row.granules.iter_mut().enumerate() {
         let distance = GRANULE_SIZE.saturating_mul(index as u64);

@@ -4,7 +4,7 @@ use crate::extent::Extent;
 use crate::pages::{MappedPages, page_map};
 use crate::picture::Picture;
 use crate::selection::{CandidateRow, Window, places, row_at};
-use heap_picture::{GranuleOwner, Mark, PictureGranule, Row};
+use heap_picture::{GranuleOwner, Mark, PictureGranule, PictureRow};
 use mte_flat::Flat;
 use run_book::Bytes;
 use std::alloc::Global;
@@ -66,7 +66,7 @@ impl<'a> Picture<'a> {
         place: &CandidateRow,
     ) -> io::Result<()> {
         let row = row_at(memory, self.extents, place.address);
-        let tags = Tags(&row);
+        let tags = RowTags(&row);
         writeln!(out, "{tags}")?;
         let owners = Owners {
             row: &row,
@@ -84,7 +84,7 @@ impl<'a> Picture<'a> {
     fn write_chunks<W: Write>(&self, out: &mut W, address: u64) -> io::Result<()> {
         for extent in self.extents {
             if extent.begins_in_row(address) && extent.is_newest {
-                let label = Label(extent);
+                let label = ExtentLabel(extent);
                 write!(out, "  {label}")?;
             }
         }
@@ -94,9 +94,9 @@ impl<'a> Picture<'a> {
 
 /// The call that made a chunk, and its size.
 #[derive(Clone, Copy)]
-struct Label<'a>(&'a Extent);
+struct ExtentLabel<'a>(&'a Extent);
 
-impl<'a> fmt::Display for Label<'a> {
+impl<'a> fmt::Display for ExtentLabel<'a> {
     fn fmt<W: fmt::Write>(&self, f: &mut fmt::Formatter<W>) -> fmt::Result {
         let chunk = &self.0.chunk;
         let (number, size) = (chunk.made.number, Bytes(chunk.size));
@@ -107,11 +107,11 @@ impl<'a> fmt::Display for Label<'a> {
 
 /// The tags of a row, behind its address and its class.
 #[derive(Clone, Copy)]
-struct Tags<'a>(&'a Row);
+struct RowTags<'a>(&'a PictureRow);
 
-impl<'a> fmt::Display for Tags<'a> {
+impl<'a> fmt::Display for RowTags<'a> {
     fn fmt<W: fmt::Write>(&self, f: &mut fmt::Formatter<W>) -> fmt::Result {
-        let Row { address, size, .. } = self.0;
+        let PictureRow { address, size, .. } = self.0;
         match self.0.class {
             Some(class) => write!(f, "{address:#010x}  class {class:>2} {size:>5} B  ")?,
             None => write!(f, "{address:#010x}{:20}", "")?,
@@ -129,7 +129,7 @@ impl<'a> fmt::Display for Tags<'a> {
 /// Whose the granules of a row are, and what was refused there.
 #[derive(Clone, Copy)]
 struct Owners<'a> {
-    row: &'a Row,
+    row: &'a PictureRow,
     mark: Option<Mark>,
 }
 

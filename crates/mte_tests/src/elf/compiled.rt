@@ -30,7 +30,7 @@
 //     GNU_STACK      0x000000 0x0000000000000000 0x0000000000000000 0x000000 0x000000 RW  0x10
 
 use super::{answers_loaded, planned};
-use crate::calls::{Answer, Call};
+use crate::calls::{MapCall, Value};
 
 const SMALL: [u8; 680] = [
     0x7F, 0x45, 0x4C, 0x46, 0x02, 0x01, 0x01, 0x00, 0x00, 0x00, 0x00, 0x00, 0x00, 0x00, 0x00, 0x00,
@@ -79,23 +79,23 @@ const SMALL: [u8; 680] = [
 ];
 
 /// Text and data as objdump -s shows them, and zeros after the data.
-const CONTENT: [(Call, Answer); 13] = [
-    (Call::PagesLeft, Answer::Number(5)),
-    (Call::Fetch(0x10000), Answer::Number(0xD000_0001)),
-    (Call::Fetch(0x10018), Answer::Number(0x8B03_0000)),
-    (Call::Fetch(0x1002C), Answer::Number(0xF909_5C20)),
-    (Call::Fetch(0x10038), Answer::Number(0xD400_0001)),
-    (Call::Fetch(0x1003C), Answer::Number(0)),
+const CONTENT: [(MapCall, Value); 13] = [
+    (MapCall::PagesLeft, Value::Number(5)),
+    (MapCall::Fetch(0x10000), Value::Number(0xD000_0001)),
+    (MapCall::Fetch(0x10018), Value::Number(0x8B03_0000)),
+    (MapCall::Fetch(0x1002C), Value::Number(0xF909_5C20)),
+    (MapCall::Fetch(0x10038), Value::Number(0xD400_0001)),
+    (MapCall::Fetch(0x1003C), Value::Number(0)),
     (
-        Call::Read(0x12000, true),
-        Answer::Number(0x0123_4567_89AB_CDEF),
+        MapCall::Read(0x12000, true),
+        Value::Number(0x0123_4567_89AB_CDEF),
     ),
-    (Call::Read(0x12008, true), Answer::Number(2)),
-    (Call::Read(0x12010, true), Answer::Number(3)),
-    (Call::Read(0x12018, true), Answer::Number(4)),
-    (Call::Read(0x12020, true), Answer::Number(0)),
-    (Call::Read(0x132D8, true), Answer::Number(0)),
-    (Call::Read(0x13FF8, true), Answer::Number(0)),
+    (MapCall::Read(0x12008, true), Value::Number(2)),
+    (MapCall::Read(0x12010, true), Value::Number(3)),
+    (MapCall::Read(0x12018, true), Value::Number(4)),
+    (MapCall::Read(0x12020, true), Value::Number(0)),
+    (MapCall::Read(0x132D8, true), Value::Number(0)),
+    (MapCall::Read(0x13FF8, true), Value::Number(0)),
 ];
 
 #[test]
