@@ -1,6 +1,6 @@
 use Rattle.tag_discipline.proofs.TenantDisciplines.{freed-stay}
 use Rattle.tag_discipline.proofs.Sessions.{freed-of-tenants}
-use Rattle.tag_discipline.proofs.tenants.freed_chunks_of_tenants_are_refused.Goals as goal
+use Rattle.tag_discipline.proofs.tenant_laws.freed_chunks_of_tenants_are_refused.Goals as goal
 
 pub returns-clause-instructions : goal.returns-clause-instructions
 returns-clause-instructions c = freed-stay

@@ -1,7 +1,7 @@
 use Rattle.tag_discipline.proofs.Starts.{tenants-start}
 use Rattle.tag_discipline.proofs.TenantDisciplines.{slices}
 use Rattle.tag_discipline.proofs.Sessions.{tenants-stay}
-use Rattle.tag_discipline.proofs.tenants.careful_tenants_are_sound.Goals as goal
+use Rattle.tag_discipline.proofs.tenant_laws.careful_tenants_are_sound.Goals as goal
 
 pub returns-clause-start : goal.returns-clause-start
 returns-clause-start c = tenants-start
