@@ -2,6 +2,8 @@
 #![tactic(auto)]
 
 #[cfg(test)]
+mod careful;
+#[cfg(test)]
 mod discipline;
 #[cfg(test)]
 mod doubles;
