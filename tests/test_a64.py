@@ -8,7 +8,8 @@ import re
 
 import pytest
 from a64 import (
-    absent, calls, definitions, forms, groups, layout, meaning, pages, reach, stores, table,
+    absent, calls, definitions, dispatch, forms, groups, layout, meaning, pages, reach, stores,
+    table,
 )
 from a64.definitions import Definitions, Unknown, apply
 from a64.table import Field, FieldTest, Row
@@ -194,7 +195,23 @@ def test_forms_have_bounds() -> None:
     assert table.bounds(by_name["AddLsl32"], ALL) == {"rm": 31, "imm6": 32, "rn": 31, "rd": 31}
     assert table.bounds(by_name["LogShifted"], ALL)["opc"] == 3
     assert forms.power(1 << 12) == "2 ^ 12" and forms.power(31) == "31"
-    assert len(FORMS) == forms.MOST_FORMS
+    assert len(forms.of_table(FORMS, table.FIRST_TABLE)) <= dispatch.MOST_FORMS
+
+
+def test_rare_forms_have_tables() -> None:
+    """A form's family tells its table: an `Op` has it, and a match and a definition name it there.
+    Every ten have a function."""
+    by_name = {form.name: form for form in FORMS}
+    clz, load = by_name["Clz32"], by_name["AnyLiteral"]
+    assert layout.form_made(clz) == "Op::Rare(RareOp::Clz32 { rn, rd })"
+    assert layout.form_made(by_name["Svc"]) == layout.form_pattern(by_name["Svc"]) == "Op::Svc"
+    assert layout.form_pattern(load) == "RareAccess::AnyLiteral { opc, imm19, rt }"
+    assert layout.form_value(clz) == "(rare.Clz32 rn rd)"
+    assert layout.any_form(load) == "RareAccess::AnyLiteral { .. }"
+    many = [clz] * 21
+    assert [(name, len(part)) for name, part in dispatch.tens("is_rare", many)] == [
+        ("is_rare_1", 10), ("is_rare_2", 10), ("is_rare_3", 1)]
+    assert forms.effects_of([load]) == ["Ops::effect", "RareOps::rare_access_effect"]
 
 
 def test_forms_that_are_hidden() -> None:

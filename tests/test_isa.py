@@ -5,7 +5,7 @@ import re
 import sys
 
 import pytest
-from a64 import calls, forms, table
+from a64 import calls, dispatch, forms, table
 
 from tests.support.places import ROOT
 from tests.support.running import Ran, run
@@ -54,28 +54,39 @@ def test_words_are_explained() -> None:
     ("3201F083", "3201F083: LogImm sf=0 opc=1 n=0 immr=1 imms=60 rn=4 rd=3\n"
      "  AND, ORR, EOR, ANDS (immediate).\n"
      "  a form with its mask or constant worked out, where its registers are below 31\n"),
+    ("9AC30841", "9AC30841: TwoSource sf=1 rm=3 opcode=2 rn=2 rd=1\n"
+     "  UDIV, SDIV, LSLV, LSRV, ASRV, RORV.\n"
+     "  rare form Udiv sf=1 rm=3 rn=2 rd=1: two_source\n"),
     ("D43FFFE0", "D43FFFE0: Brk imm16=65535\n  BRK.\n  no form of its own\n"),
     ("00000000", "00000000: no row has its fixed bits\n"),
 ])
 def test_a_word_is_explained(word: str, told: str) -> None:
-    """A word with a form, a refused one, one whose mask is worked out, one without a form or a
-    row."""
+    """A word with a form, a refused one, one whose mask is worked out, one with a rare form, one
+    without a form or a row."""
     assert isa("--why", word) == Ran(0, told.encode(), b"")
 
 
 def test_the_page_counts_the_forms() -> None:
-    """docs/ADDING_AN_INSTRUCTION.md has how many forms there are and may be, and the arms of their
-    first match."""
+    """docs/ADDING_AN_INSTRUCTION.md has how many forms each table has and may have, and the arms of
+    the first match."""
     page = (ROOT / "docs" / "ADDING_AN_INSTRUCTION.md").read_text(encoding="utf-8")
     found = table.read_forms(table.read_rows())
-    variants = (ROOT / "crates" / "a64_ops" / "src" / "op.rt").read_text(encoding="utf-8")
-    assert len(re.findall(r"^    [A-Z]\w*(?:,| \{|\()", variants, re.M)) == len(found) + 1
-    assert f"**The table of forms is full: {len(found)} of {forms.MOST_FORMS}**" in page
-    arms = forms.first_arms(found, calls.read_sources(set(forms.WRITTEN)))
+    rooms = {of.enum: dispatch.MOST_RARE for of in table.RARE_TABLES.values()}
+    rooms[table.FIRST_TABLE.enum] = dispatch.MOST_FORMS
+    for of in (table.FIRST_TABLE, *table.RARE_TABLES.values()):
+        name = "op" if of == table.FIRST_TABLE else "rare_op"
+        text = (ROOT / "crates" / "a64_ops" / "src" / f"{name}.rt").read_text(encoding="utf-8")
+        inside = text.partition(f"pub enum {of.enum} {{\n")[2].partition("\n}")[0]
+        count = len(forms.of_table(found, of))
+        others = len(table.RARE_TABLES) + 1 if of == table.FIRST_TABLE else 0
+        assert len(re.findall(r"^    [A-Z]\w*(?:,| \{|\()", inside, re.M)) == count + others
+        assert f"| `{of.enum}` | {count} | {rooms[of.enum]} |" in page
+    assert f"**There are {len(found)} forms, and there is room for {sum(rooms.values())}**" in page
+    arms = dispatch.first_arms(found, calls.read_sources(set(dispatch.WRITTEN)))
     alone = sum(not form.family for form in found)
-    assert (f"has {len(arms)} arms, `Other` among them: one for each of the {alone} forms without "
-            f"a family, and one for every two of a family, where {forms.ARMS_EXCEEDED + 1} are the "
-            "fewest") in page
+    assert (f"has {len(arms)} arms: one for each of the {alone} forms without a family, one for "
+            "every two of a family, one for each table of rare forms and one for `Other`; "
+            f"{dispatch.ARMS_EXCEEDED + 1} are the fewest") in page
 
 
 def test_rows_that_overlap() -> None:

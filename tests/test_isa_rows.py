@@ -310,10 +310,20 @@ REFUSED_FORMS = [
     ("{rn: u8, rd: u8, shift: u8} step_of_instr (instr.Bitfield 1",
      "{rn: u8, rd: u8, shift: u7} step_of_instr (instr.Bitfield 1",
      "Lsl: the type `u7` of the field shift is unknown"),
-    ("of any registers. | is_any_source\nSdiv", "of any registers. | is_division\nSdiv",
+    ("of any registers. | is_rare\nSdiv", "of any registers. | is_division\nSdiv",
      "Udiv: there is no family is_division"),
-    ("Svc Svc |  |", "Svc1 Svc |  | call_supervisor | SVC. |\nSvc Svc |  |",
-     "Svc: there are 127 forms, and there may be 126"),
+    ("of any registers. | is_rare\nSdiv", "of any registers. | is_rare_access\nSdiv",
+     "Udiv: its function has the family is_rare"),
+    ("LDR, LDRSW (literal). | is_rare_access", "LDR, LDRSW (literal). | is_rare",
+     "AnyLiteral: its function has the family is_rare_access"),
+    ("SVC. | \n", "SVC. | is_rare\n",
+     "Svc: a rare form is executed by the function of its row, and call_supervisor is none"),
+    ("Hint {} done r m |  | no_operation | Hints: NOP, BTI and their kind. | \n",
+     "Hint {} done r m |  | no_operation | Hints: NOP, BTI and their kind. | is_rare\n",
+     "Hint: a rare form is a row with constants"),
+    *(("Svc Svc |  |", "".join(f"Svc{n} Svc |  | call_supervisor | SVC. |\n" for n in range(4))
+       + "Svc Svc |  |", "Svc: Op has 125 forms, and may have 124: a rare form has the family "
+       "is_rare or is_rare_access"),),
 ]
 
 

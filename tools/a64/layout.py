@@ -92,8 +92,20 @@ def form_names(form: Form) -> list[str]:
 
 
 def form_pattern(form: Form) -> str:
-    return braces(f"Op::{form.name}", form_names(form))
+    """A form in a match over its table."""
+    return braces(f"{form.table.enum}::{form.name}", form_names(form))
+
+
+def any_form(form: Form) -> str:
+    return f"{form.table.enum}::{form.name}" + (" { .. }" if form.kept else "")
+
+
+def form_made(form: Form) -> str:
+    """A form as an `Op`."""
+    held = form.table.held
+    return f"Op::{held}({form_pattern(form)})" if held else form_pattern(form)
 
 
 def form_value(form: Form) -> str:
-    return applied("op", form.name, form_names(form))
+    """A form of its table, in a definition."""
+    return applied(form.table.value, form.name, form_names(form))

@@ -142,7 +142,8 @@ def explained(word: int, rows: Rows, forms: list[Form]) -> str:
         form = matching_form(row, values, forms, rows)
         if form:
             kept = " ".join(f"{name}={values[name]}" for name, _ in form.kept)
-            lines.append(f"  form {form.name} {kept}".rstrip() + f": {form.function}")
+            kind = "rare form" if form.table.held else "form"
+            lines.append(f"  {kind} {form.name} {kept}".rstrip() + f": {form.function}")
         elif row.name in ("LogImm", "MoveWide"):
             lines.append("  a form with its mask or constant worked out, where its registers are "
                          "below 31")

@@ -435,6 +435,26 @@ def decode(word: int, rows: Rows) -> Optional[Row]:
 # ---- the forms
 
 
+@dataclass(frozen=True)
+class FormTable:
+    """An enum of forms, and the names of what is said of it."""
+    enum: str
+    held: str  # the variant of `Op` that has it; empty for `Op`
+    value: str  # before a variant, in a definition
+    effect: str  # the definition of what its forms do
+    bounds: str  # the definition of the values that their fields may have
+
+
+FIRST_TABLE = FormTable("Op", "", "op", "effect", "IsOp")
+
+# The tables of the rare forms, by the family that stands in their lines.
+RARE_TABLES = {
+    "is_rare": FormTable("RareOp", "Rare", "rare", "rare_effect", "IsRareOp"),
+    "is_rare_access": FormTable("RareAccess", "RareAccess", "access", "rare_access_effect",
+                                "IsRareAccess"),
+}
+
+
 @dataclass
 class Form:
     """A form: a row with constant fields, or (`effect`) fields and an effect of its own."""
@@ -448,8 +468,12 @@ class Form:
     function: str  # what executes it
     passed: dict[str, int]  # the constants that it takes and the row does not give, name to value
     text: str
-    family: str  # the match that has its arm; empty for the first
+    family: str  # the match that has its arm, or its table; empty for the first match
     place: str = FORMS  # of its line
+
+    @property
+    def table(self) -> FormTable:
+        return RARE_TABLES.get(self.family, FIRST_TABLE)
 
     def error(self, reason: str) -> TableError:
         return TableError(f"{self.place}: {self.name}: {reason}")
