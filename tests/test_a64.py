@@ -162,7 +162,8 @@ def test_ways_to_rows() -> None:
 
 def test_calls_follow_from_names() -> None:
     """A parameter or a struct's field has the row's field of its name."""
-    sources = calls.Sources({}, {"Pair": calls.Struct("a64_step", "fields", ["rt", "rt2"])})
+    sources = calls.Sources(
+        {}, {"Pair": calls.Struct("a64_instr", "fields", ["rt", "rt2"])}, ("a64_step",))
     sources.functions["store"] = calls.Function(
         "store", "a64_step", "store", [("regs", "&mut Regs"), ("rn", "u8"), ("it", "Pair")], "")
     call = calls.call_of("store", {"rn": "rn", "rt": 3, "rt2": "rt2"}, sources, "place")
