@@ -10,11 +10,14 @@ from a64 import table
 from a64.layout import braces
 from a64.table import TableError
 
-# Where the structs are and the functions that execute, lowest first; those of them that execute
-# rows; and the structs and the functions that write an instruction's text.
-CRATES = ("a64_instr", "a64_step", "a64_ops", "a64_run")
-ROW_CRATES = ("a64_instr", "a64_step")
-TEXT_CRATES = ("a64_instr", "a64_text")
+# Where the structs are that all of them take.
+STRUCTS = "a64_instr"
+
+# Where the functions are that execute, lowest first; those of them that execute rows; and those
+# that write an instruction's text.
+CRATES = ("a64_step", "a64_ops", "a64_run")
+ROW_CRATES = ("a64_step",)
+TEXT_CRATES = ("a64_text",)
 
 # What a function takes beside fields, under the same name wherever it is called.
 STATE = {"regs", "memory", "pc", "outcome"}
@@ -42,7 +45,7 @@ class Sources:
     """The functions and the structs of the crates, by name."""
     functions: dict[str, Function]
     structs: dict[str, Struct]
-    crates: tuple[str, ...]
+    crates: tuple[str, ...]  # those of the functions
 
 
 @dataclass
@@ -61,7 +64,7 @@ def read_sources(written: set[str], crates: tuple[str, ...] = CRATES) -> Sources
     """The public functions and structs of the crates, but those of the files in `written`."""
     functions: dict[str, Function] = {}
     structs: dict[str, Struct] = {}
-    files = [(crate, path) for crate in crates
+    files = [(crate, path) for crate in (STRUCTS, *crates)
              for path in sorted((table.ROOT / folder_of(crate)).glob("*.rt"))]
     for crate, path in files:
         if f"{folder_of(crate)}/{path.name}" in written:
