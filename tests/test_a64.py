@@ -8,8 +8,8 @@ import re
 
 import pytest
 from a64 import (
-    absent, calls, definitions, dispatch, forms, groups, layout, meaning, pages, reach, stores,
-    table,
+    absent, calls, definitions, dispatch, forms, groups, layout, meaning, pages, reach, rows,
+    stores, table,
 )
 from a64.definitions import Definitions, Unknown, apply
 from a64.table import Field, FieldTest, Row
@@ -163,7 +163,8 @@ def test_ways_to_rows() -> None:
 
 def test_calls_follow_from_names() -> None:
     """A parameter or a struct's field has the row's field of its name."""
-    sources = calls.Sources({}, {"Pair": calls.Struct("a64_step", "fields", ["rt", "rt2"])})
+    sources = calls.Sources(
+        {}, {"Pair": calls.Struct("a64_instr", "fields", ["rt", "rt2"])}, ("a64_step",))
     sources.functions["store"] = calls.Function(
         "store", "a64_step", "store", [("regs", "&mut Regs"), ("rn", "u8"), ("it", "Pair")], "")
     call = calls.call_of("store", {"rn": "rn", "rt": 3, "rt2": "rt2"}, sources, "place")
@@ -172,6 +173,31 @@ def test_calls_follow_from_names() -> None:
     for name, told in (("load", "no function load"), ("store", "store takes rt2, which has no")):
         with pytest.raises(table.TableError, match=told):
             calls.call_of(name, {"rn": 1, "rt": 3}, sources, "place")
+
+
+def test_rows_of_many_fields_take_structs() -> None:
+    """The encoder's function takes at most six parameters: structs, and what these leave out."""
+    sources = calls.read_sources(set(), calls.ROW_CRATES)
+    assert rows.parameters_of(ALL["AddSubShift"], sources) == [
+        ("addition", "AddSub"), ("second", "ShiftedRegister")]
+    assert rows.parameters_of(ALL["Bitfield"], sources) == [
+        ("field", "FieldMove"), ("rn", "u8"), ("rd", "u8"), ("n", "u8")]
+    assert rows.parameters_of(ALL["Svc"], sources) == []
+    assert all(len(rows.parameters_of(row, sources)) <= rows.MOST_PARAMETERS
+               for row in ALL.values())
+    assert rows.taken_apart("it", "Pair", ["rt", "rt2"]) == "    let Pair { rt, rt2 } = it;\n"
+    assert rows.taken_apart("it", "Moved", ["sf", "opc", "immr", "imms"]) == (
+        "    let Moved {\n        sf,\n        opc,\n        immr,\n        imms,\n    } = it;\n")
+
+
+def test_lines_of_text_follow_from_names() -> None:
+    """The function of a row's text takes its fields, and pc where the row says so."""
+    sources = calls.read_sources(set(), calls.TEXT_CRATES)
+    call = rows.text_call(ALL["PairPre"], sources)
+    assert call.text == "pair_pre(l, PairTransfer { opc, rt2, rn, rt }, imm7)"
+    sources.functions["adr"].parameters.remove(("pc", "Option<u64>"))
+    with pytest.raises(table.TableError, match="the line and adr differ in pc"):
+        rows.text_call(ALL["Adr"], sources)
 
 
 def test_lines_are_laid_out() -> None:

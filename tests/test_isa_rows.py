@@ -76,12 +76,16 @@ CRC32_FUNCTION = """
 pub fn crc32(regs: &mut Regs, sf: u8, rm: u8, c: u8, sz: u8, rn: u8, rd: u8) {
 }
 """
+CRC32_TEXT = """
+pub fn crc32(sf: u8, rm: u8, c: u8, sz: u8, rn: u8, rd: u8) -> TextLine {
+}
+"""
 MNEMONICS = {(0, 0, 0): "crc32b", (0, 0, 1): "crc32h", (0, 0, 2): "crc32w", (1, 0, 3): "crc32x",
              (0, 1, 0): "crc32cb", (0, 1, 1): "crc32ch", (0, 1, 2): "crc32cw", (1, 1, 3): "crc32cx"}
 
 
 def add_crc32(isa: AlteredIsa) -> None:
-    """Adds the row, its line in its encoding group, its definitions and its function."""
+    """Adds the row, its line in its encoding group, its definitions and its functions."""
     isa.change(ROWS, "\nOneSource ", f"\n{CRC32}OneSource ")
     isa.change(ROWS, "    else            TwoSource",
                "    13:3=2          Crc32\n    else            TwoSource")
@@ -91,8 +95,9 @@ def add_crc32(isa: AlteredIsa) -> None:
                              (STEPS, "step_of_instr", CRC32_STEP)):
         isa.change(path, f"\n{name} (instr.OneSource ", f"\n{text}{name} (instr.OneSource ")
     isa.write(DATA_PROCESSING, isa.text(DATA_PROCESSING) + CRC32_DEFINITION)
-    code = "crates/a64_step/src/data_processing.rt"
-    isa.write(code, isa.text(code) + CRC32_FUNCTION)
+    for crate, function in (("a64_step", CRC32_FUNCTION), ("a64_text", CRC32_TEXT)):
+        code = f"crates/{crate}/src/data_processing.rt"
+        isa.write(code, isa.text(code) + function)
 
 
 def test_crc32_is_a_row(isa: AlteredIsa) -> None:
@@ -245,6 +250,8 @@ REFUSED_ROWS = [
      "LdLit: it takes memory and doesn't say what it stores"),
     ("step     regs memory\n    text     pc", "step     regs\n    text     pc", "LdLit +4",
      "LdLit: step: ld_lit takes memory, outcome, regs, and the line says regs"),
+    ("text     pc\n    stores   nothing", "stores   nothing", "LdLit ",
+     "LdLit: text: the line and ld_lit differ in pc"),
     ("text     pc\n    stores   nothing", "text     here\n    stores   nothing", "text     here",
      "LdLit: text: `here` is neither pc nor -FIELD"),
     # Rows beside one another.

@@ -15,7 +15,6 @@ import sys
 ROOT = pathlib.Path(__file__).resolve().parent.parent
 # Edges that no file names, by why they are there.
 KNOWN: dict[tuple[str, str], str] = {
-    ("a64_run", "a64_instr"): "no proof without it was tried",
     ("mte_svc", "a64_bits"): "no proof without it was tried",
     ("mte_sched", "tenant_terms"): "no proof without it was tried",
     ("tag_discipline", "tenant_terms"): "no proof without it was tried",

@@ -1,6 +1,6 @@
-"""What the hand-written functions of a64_step, a64_ops and a64_run take and return, as their files
-say, and the calls of them: a parameter or a field of a struct that has the name of an instruction's
-field gets it."""
+"""What the hand-written functions of a64_step, a64_ops, a64_run and a64_text take and return, as
+their files say, and the calls of them: a parameter or a field of a struct that has the name of an
+instruction's field gets it."""
 
 import re
 from collections.abc import Mapping
@@ -10,8 +10,14 @@ from a64 import table
 from a64.layout import braces
 from a64.table import TableError
 
-# Where the functions are, lowest first.
+# Where the structs are that all of them take.
+STRUCTS = "a64_instr"
+
+# Where the functions are that execute, lowest first; those of them that execute rows; and those
+# that write an instruction's text.
 CRATES = ("a64_step", "a64_ops", "a64_run")
+ROW_CRATES = ("a64_step",)
+TEXT_CRATES = ("a64_text",)
 
 # What a function takes beside fields, under the same name wherever it is called.
 STATE = {"regs", "memory", "pc", "outcome"}
@@ -39,6 +45,7 @@ class Sources:
     """The functions and the structs of the crates, by name."""
     functions: dict[str, Function]
     structs: dict[str, Struct]
+    crates: tuple[str, ...]  # those of the functions
 
 
 @dataclass
@@ -53,11 +60,11 @@ def folder_of(crate: str) -> str:
     return f"crates/{crate}/src"
 
 
-def read_sources(written: set[str]) -> Sources:
+def read_sources(written: set[str], crates: tuple[str, ...] = CRATES) -> Sources:
     """The public functions and structs of the crates, but those of the files in `written`."""
     functions: dict[str, Function] = {}
     structs: dict[str, Struct] = {}
-    files = [(crate, path) for crate in CRATES
+    files = [(crate, path) for crate in (STRUCTS, *crates)
              for path in sorted((table.ROOT / folder_of(crate)).glob("*.rt"))]
     for crate, path in files:
         if f"{folder_of(crate)}/{path.name}" in written:
@@ -70,13 +77,19 @@ def read_sources(written: set[str]) -> Sources:
         for head in re.finditer(r"^pub struct (\w+) {\n(.*?)^}", text, re.M | re.S):
             fields = re.findall(r"^    pub (\w+): ", head[2], re.M)
             structs[head[1]] = Struct(crate, path.stem, fields)
-    return Sources(functions, structs)
+    return Sources(functions, structs, crates)
+
+
+def made(type_name: str, fields: Mapping[str, str]) -> str:
+    """A struct with the values of its fields, or a pattern of it."""
+    return braces(type_name, [field if field == value else f"{field}: {value}"
+                              for field, value in fields.items()])
 
 
 def call_of(name: str, values: Mapping[str, object], sources: Sources, place: str) -> Call:
     """The call of a function, where each field has the value that `values` gives it."""
     if name not in sources.functions:
-        raise TableError(f"{place}: no function {name} in {' or '.join(CRATES)}")
+        raise TableError(f"{place}: no function {name} in {' or '.join(sources.crates)}")
     function = sources.functions[name]
     call = Call("", function, set(), set())
 
@@ -92,9 +105,8 @@ def call_of(name: str, values: Mapping[str, object], sources: Sources, place: st
         if type_name not in sources.structs:
             return value(parameter)
         call.structs.add(type_name)
-        given = {field: value(field) for field in sources.structs[type_name].fields}
-        return braces(type_name, [field if field == what else f"{field}: {what}"
-                                  for field, what in given.items()])
+        return made(type_name, {field: value(field)
+                                for field in sources.structs[type_name].fields})
 
     arguments = ", ".join(argument(*parameter) for parameter in function.parameters)
     call.text = f"{name}({arguments})"

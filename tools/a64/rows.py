@@ -2,10 +2,22 @@
 
 from collections.abc import Iterable, Sequence
 
+from a64 import calls
+from a64.calls import Call, Sources
+from a64.forms import check_passed
 from a64.groups import read_groups, way_of
+from a64.layout import functions_used
 from a64.table import ONE_OF, ROWS, Field, FieldTest, Row, Rows, TableError
 
 COLUMNS = 100  # of a line of what is written
+FIELDS_ON_A_LINE = 18  # columns of a struct's fields, beyond which each has a line
+
+# The most parameters of a function of the encoder. Of a row with more fields it takes them as the
+# function of a64_step does, by structs.
+MOST_PARAMETERS = 6
+
+# What a function takes: names and types.
+Parameters = list[tuple[str, str]]
 
 # The groups on the way to each row, and the steps of the proof that its words take it.
 Ways = dict[str, tuple[list[str], list[str]]]
@@ -30,11 +42,13 @@ def written(rows: Rows) -> dict[str, str]:
     listed = list(rows.values())
     return {
         "crates/a64_instr/src/instruction.rt": instruction_file(listed),
-        "crates/a64_asm/src/rows.rt": encoder_file(listed),
+        "crates/a64_asm/src/rows.rt": encoder_file(
+            listed, calls.read_sources(set(), calls.ROW_CRATES)),
         "crates/a64_decode/specs/Fields.antt": fields_file(listed),
         "crates/a64_decode/src/rows.rt": decoder_file(listed),
         "crates/a64_decode/proofs/RowLemmas.antt": lemmas_file(listed, ways),
-        "crates/a64_text/src/rows.rt": text_file(listed),
+        "crates/a64_text/src/rows.rt": text_file(
+            listed, calls.read_sources(set(), calls.TEXT_CRATES)),
         "crates/a64_tests/src/row_words.rt": words_file(listed),
         "tools/disassembly/rows.py": objdump_file(listed),
     }
@@ -183,7 +197,7 @@ use crate::refusals::{{is_load_store, is_load_store_pair, may_write_back}};
 use crate::row::row;
 use a64_bits::{{fits_signed, is_mask, signed_bits}};
 use a64_instr::Instr;
-
+{structs}
 /// The word of `instr`, by the function of its row.
 #[rattlefmt::skip]
 pub fn word_by_row(instr: &Instr) -> Option<u32>
@@ -198,26 +212,62 @@ pub fn word_by_row(instr: &Instr) -> Option<u32>
 """
 
 
-def encoder_arm(row: Row) -> str:
+def parameters_of(row: Row, sources: Sources) -> Parameters:
+    """What the encoder's function of a row takes, by names and types: its fields or, where these
+    are too many, what the function of a64_step takes, and the fields that it leaves out."""
+    fields = [(f.name, f.type) for f in row.fields]
+    if len(fields) <= MOST_PARAMETERS:
+        return fields
+    function = sources.functions[row.function]
+    without = left_out(row, "step")
+    return [*(taken for taken in function.parameters if taken[0] not in calls.STATE),
+            *(each for each in fields if each[0] in without)]
+
+
+def structs_of(row: Row, sources: Sources) -> list[tuple[str, str, list[str]]]:
+    """The parameters that are structs: their names, types and fields."""
+    return [(name, kind, sources.structs[kind].fields)
+            for name, kind in parameters_of(row, sources) if kind in sources.structs]
+
+
+def encoder_arm(row: Row, sources: Sources) -> str:
     if not row.fields:
         return arm(pattern(row), f"Some({hexadecimal(row.base)})")
-    return arm(pattern(row), f"{row.function}({', '.join(names(row))})")
+    given = {name: calls.made(kind, {field: field for field in fields})
+             for name, kind, fields in structs_of(row, sources)}
+    arguments = ", ".join(given.get(name, name) for name, _ in parameters_of(row, sources))
+    return arm(pattern(row), f"{row.function}({arguments})")
 
 
-def encoder(row: Row) -> str:
+def taken_apart(name: str, kind: str, fields: list[str]) -> str:
+    """The statement that gives the fields of a struct their names, as `rt fmt` lays it out."""
+    listed = ", ".join(fields)
+    if len(listed) <= FIELDS_ON_A_LINE:
+        return f"    let {kind} {{ {listed} }} = {name};\n"
+    lines = "".join(f"        {field},\n" for field in fields)
+    return f"    let {kind} {{\n{lines}    }} = {name};\n"
+
+
+def encoder(row: Row, sources: Sources) -> str:
     """The function that encodes a row."""
-    parameters = ", ".join(f"{f.name}: {f.type}" for f in row.fields)
-    head = one_line_or(
-        f"fn {row.function}({parameters}) -> Option<u32>",
-        f"#[rattlefmt::skip]\nfn {row.function}(\n    {parameters},\n) -> Option<u32>")
-    return (f"{head}\n    ensures {{ Encodes result {applied(row)} }}\n{{\n"
+    structs = structs_of(row, sources)
+    values = {field: f"{name}.{field}" for name, _, fields in structs for field in fields}
+    parameters = ", ".join(f"{name}: {kind}" for name, kind in parameters_of(row, sources))
+    said = [f"(instr.{row.name}", *(values.get(name, name) for name in names(row))]
+    said[-1] += ") }"
+    ensures = one_line_or(f"    ensures {{ Encodes result {' '.join(said)}",
+                          "    ensures { Encodes result\n" + filled(said, " " * 8, " " * 8))
+    taken = "".join(taken_apart(*each) for each in structs)
+    return (f"fn {row.function}({parameters}) -> Option<u32>\n{ensures}\n{{\n{taken}"
             + call_of_macro(row, "    row!(", [hexadecimal(row.base)]) + "\n}")
 
 
-def encoder_file(rows: list[Row]) -> str:
+def encoder_file(rows: list[Row], sources: Sources) -> str:
+    used = {kind for row in rows for _, kind, _ in structs_of(row, sources)}
     return ENCODER_FILE.format(
-        written=WRITTEN, arms="\n".join(map(encoder_arm, rows)),
-        functions="\n\n".join(encoder(row) for row in rows if row.fields))
+        written=WRITTEN, structs=functions_used({"a64_instr::fields": used}),
+        arms="\n".join(encoder_arm(row, sources) for row in rows),
+        functions="\n\n".join(encoder(row, sources) for row in rows if row.fields))
 
 
 # ---- a64_decode
@@ -423,7 +473,7 @@ use crate::data_processing::*;
 use crate::memory::*;
 use crate::operand::TextLine;
 use a64_instr::Instr;
-
+{structs}
 /// The line of `instr`, at `pc` where that is known.
 #[rattlefmt::skip]
 pub fn line_of(instr: &Instr, pc: Option<u64>) -> TextLine {{
@@ -434,18 +484,25 @@ pub fn line_of(instr: &Instr, pc: Option<u64>) -> TextLine {{
 """
 
 
-def text_arm(row: Row) -> str:
-    """The arm of a row: its function, or the call that the row says."""
-    text, unused = row.said.get("text", ""), left_out(row, "text")
-    if "(" in text:
-        return arm(pattern(row), text)
-    first = ["pc"] if "pc" in row.split("text") else []
-    arguments = ", ".join([*first, *names(row, unused)])
-    return arm(pattern(row, unused), f"{row.function}({arguments})")
+def text_call(row: Row, sources: Sources) -> Call:
+    """The call of the function that writes a row."""
+    place = f"{row.places.get('text', row.place)}: {row.name}"
+    taken = names(row, left_out(row, "text"))
+    call = calls.call_of(row.function, {name: name for name in taken}, sources, place)
+    check_passed(call, taken, place)
+    said = {"pc"} & set(row.split("text"))
+    if {name for name, _ in call.function.parameters} & calls.STATE != said:
+        raise TableError(f"{place}: text: the line and {row.function} differ in pc")
+    return call
 
 
-def text_file(rows: list[Row]) -> str:
-    return TEXT_FILE.format(written=WRITTEN, arms="\n".join(map(text_arm, rows)))
+def text_file(rows: list[Row], sources: Sources) -> str:
+    called = [(row, text_call(row, sources)) for row in rows]
+    used = {name for _, call in called for name in call.structs}
+    return TEXT_FILE.format(
+        written=WRITTEN, structs=functions_used({"a64_instr::fields": used}),
+        arms="\n".join(arm(pattern(row, left_out(row, "text")), call.text)
+                       for row, call in called))
 
 
 # ---- a64_tests

@@ -363,9 +363,9 @@ def check_row(row: Row, rows: Rows) -> None:
 
 def check_taken(row: Row, key: str) -> None:
     """Whether the words of `step` or `text` are known: what is taken, fields that are left out, or
-    a whole arm or call."""
+    a whole arm of `execute`."""
     text = row.said.get(key, "")
-    if ("=>" if key == "step" else "(") in text:
+    if key == "step" and "=>" in text:
         return
     known = ("regs", "memory") if key == "step" else ("pc",)
     for word in text.split():

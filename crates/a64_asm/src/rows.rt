@@ -9,6 +9,10 @@ use crate::refusals::{is_load_store, is_load_store_pair, may_write_back};
 use crate::row::row;
 use a64_bits::{fits_signed, is_mask, signed_bits};
 use a64_instr::Instr;
+use a64_instr::fields::{
+    AddSub, ComparedOperands, ExtendedRegister, FieldMove, Logical, LogicalImmediate,
+    RegisterOffset, RegisterOperands, ShiftedRegister, Transfer,
+};
 
 /// The word of `instr`, by the function of its row.
 #[rattlefmt::skip]
@@ -17,17 +21,18 @@ pub fn word_by_row(instr: &Instr) -> Option<u32>
 {
     match *instr {
         Instr::AddSubImm { sf, op, s, sh, imm12, rn, rd } =>
-            add_sub_imm(sf, op, s, sh, imm12, rn, rd),
+            add_sub_imm(sf, AddSub { op, s, rn, rd }, sh, imm12),
         Instr::AddSubShift { sf, op, s, shift, rm, imm6, rn, rd } =>
-            add_sub_shift(sf, op, s, shift, rm, imm6, rn, rd),
+            add_sub_shift(AddSub { op, s, rn, rd }, ShiftedRegister { sf, shift, rm, imm6 }),
         Instr::AddSubExt { sf, op, s, rm, option, imm3, rn, rd } =>
-            add_sub_ext(sf, op, s, rm, option, imm3, rn, rd),
-        Instr::LogImm { sf, opc, n, immr, imms, rn, rd } => log_imm(sf, opc, n, immr, imms, rn, rd),
+            add_sub_ext(AddSub { op, s, rn, rd }, ExtendedRegister { sf, rm, option, imm3 }),
+        Instr::LogImm { sf, opc, n, immr, imms, rn, rd } =>
+            log_imm(LogicalImmediate { sf, opc, rn, rd }, n, immr, imms),
         Instr::LogShift { sf, opc, shift, n, rm, imm6, rn, rd } =>
-            log_shift(sf, opc, shift, n, rm, imm6, rn, rd),
+            log_shift(Logical { opc, n, rn, rd }, ShiftedRegister { sf, shift, rm, imm6 }),
         Instr::MoveWide { sf, opc, hw, imm16, rd } => move_wide(sf, opc, hw, imm16, rd),
         Instr::Bitfield { sf, opc, n, immr, imms, rn, rd } =>
-            bitfield(sf, opc, n, immr, imms, rn, rd),
+            bitfield(FieldMove { sf, opc, immr, imms }, rn, rd, n),
         Instr::Extr { sf, n, rm, imms, rn, rd } => extr(sf, n, rm, imms, rn, rd),
         Instr::Adr { op, immlo, immhi, rd } => adr(op, immlo, immhi, rd),
         Instr::Branch { op, imm26 } => branch(op, imm26),
@@ -36,8 +41,10 @@ pub fn word_by_row(instr: &Instr) -> Option<u32>
         Instr::TestBranch { b5, op, b40, imm14, rt } => test_branch(b5, op, b40, imm14, rt),
         Instr::BranchReg { opc, rn } => branch_reg(opc, rn),
         Instr::AdcSbc { sf, op, s, rm, rn, rd } => adc_sbc(sf, op, s, rm, rn, rd),
-        Instr::CondCmp { sf, op, rm, cond, i, rn, nzcv } => cond_cmp(sf, op, rm, cond, i, rn, nzcv),
-        Instr::CondSel { sf, op, rm, cond, o2, rn, rd } => cond_sel(sf, op, rm, cond, o2, rn, rd),
+        Instr::CondCmp { sf, op, rm, cond, i, rn, nzcv } =>
+            cond_cmp(ComparedOperands { sf, rm, i, rn }, op, cond, nzcv),
+        Instr::CondSel { sf, op, rm, cond, o2, rn, rd } =>
+            cond_sel(RegisterOperands { sf, rm, rn, rd }, op, cond, o2),
         Instr::TwoSource { sf, rm, opcode, rn, rd } => two_source(sf, rm, opcode, rn, rd),
         Instr::OneSource { sf, opcode, rn, rd } => one_source(sf, opcode, rn, rd),
         Instr::MulAdd { sf, rm, o0, ra, rn, rd } => mul_add(sf, rm, o0, ra, rn, rd),
@@ -48,7 +55,7 @@ pub fn word_by_row(instr: &Instr) -> Option<u32>
         Instr::LdStPost { size, opc, imm9, rn, rt } => ld_st_post(size, opc, imm9, rn, rt),
         Instr::LdStPre { size, opc, imm9, rn, rt } => ld_st_pre(size, opc, imm9, rn, rt),
         Instr::LdStReg { size, opc, rm, option, s, rn, rt } =>
-            ld_st_reg(size, opc, rm, option, s, rn, rt),
+            ld_st_reg(Transfer { size, opc, rn, rt }, RegisterOffset { rm, option, s }),
         Instr::LdLit { opc, imm19, rt } => ld_lit(opc, imm19, rt),
         Instr::PairPost { opc, l, imm7, rt2, rn, rt } => pair_post(opc, l, imm7, rt2, rn, rt),
         Instr::PairOff { opc, l, imm7, rt2, rn, rt } => pair_off(opc, l, imm7, rt2, rn, rt),
@@ -66,36 +73,66 @@ pub fn word_by_row(instr: &Instr) -> Option<u32>
     }
 }
 
-fn add_sub_imm(sf: u8, op: u8, s: u8, sh: u8, imm12: u16, rn: u8, rd: u8) -> Option<u32>
-    ensures { Encodes result (instr.AddSubImm sf op s sh imm12 rn rd) }
+fn add_sub_imm(sf: u8, addition: AddSub, sh: u8, imm12: u16) -> Option<u32>
+    ensures { Encodes result
+        (instr.AddSubImm sf addition.op addition.s sh imm12 addition.rn addition.rd) }
 {
+    let AddSub { op, s, rn, rd } = addition;
     row!(0x1100_0000, sf 31:1, op 30:1, s 29:1, sh 22:1, imm12 10:12, rn 5:5, rd 0:5)
 }
 
-fn add_sub_shift(sf: u8, op: u8, s: u8, shift: u8, rm: u8, imm6: u8, rn: u8, rd: u8) -> Option<u32>
-    ensures { Encodes result (instr.AddSubShift sf op s shift rm imm6 rn rd) }
+fn add_sub_shift(addition: AddSub, second: ShiftedRegister) -> Option<u32>
+    ensures { Encodes result
+        (instr.AddSubShift second.sf addition.op addition.s second.shift second.rm second.imm6
+        addition.rn addition.rd) }
 {
+    let AddSub { op, s, rn, rd } = addition;
+    let ShiftedRegister {
+        sf,
+        shift,
+        rm,
+        imm6,
+    } = second;
     row!(0x0B00_0000, sf 31:1, op 30:1, s 29:1, shift 22:2, rm 16:5, imm6 10:6, rn 5:5, rd 0:5;
         refused shift == 3, sf == 0 && imm6 > 31)
 }
 
-fn add_sub_ext(sf: u8, op: u8, s: u8, rm: u8, option: u8, imm3: u8, rn: u8, rd: u8) -> Option<u32>
-    ensures { Encodes result (instr.AddSubExt sf op s rm option imm3 rn rd) }
+fn add_sub_ext(addition: AddSub, second: ExtendedRegister) -> Option<u32>
+    ensures { Encodes result
+        (instr.AddSubExt second.sf addition.op addition.s second.rm second.option second.imm3
+        addition.rn addition.rd) }
 {
+    let AddSub { op, s, rn, rd } = addition;
+    let ExtendedRegister {
+        sf,
+        rm,
+        option,
+        imm3,
+    } = second;
     row!(0x0B20_0000, sf 31:1, op 30:1, s 29:1, rm 16:5, option 13:3, imm3 10:3, rn 5:5, rd 0:5;
         refused imm3 > 4)
 }
 
-fn log_imm(sf: u8, opc: u8, n: u8, immr: u8, imms: u8, rn: u8, rd: u8) -> Option<u32>
-    ensures { Encodes result (instr.LogImm sf opc n immr imms rn rd) }
+fn log_imm(logic: LogicalImmediate, n: u8, immr: u8, imms: u8) -> Option<u32>
+    ensures { Encodes result (instr.LogImm logic.sf logic.opc n immr imms logic.rn logic.rd) }
 {
+    let LogicalImmediate { sf, opc, rn, rd } = logic;
     row!(0x1200_0000, sf 31:1, opc 29:2, n 22:1, immr 16:6, imms 10:6, rn 5:5, rd 0:5;
         refused sf == 0 && n != 0, !is_mask(n, imms))
 }
 
-fn log_shift(sf: u8, opc: u8, shift: u8, n: u8, rm: u8, imm6: u8, rn: u8, rd: u8) -> Option<u32>
-    ensures { Encodes result (instr.LogShift sf opc shift n rm imm6 rn rd) }
+fn log_shift(logic: Logical, second: ShiftedRegister) -> Option<u32>
+    ensures { Encodes result
+        (instr.LogShift second.sf logic.opc second.shift logic.n second.rm second.imm6 logic.rn
+        logic.rd) }
 {
+    let Logical { opc, n, rn, rd } = logic;
+    let ShiftedRegister {
+        sf,
+        shift,
+        rm,
+        imm6,
+    } = second;
     row!(0x0A00_0000, sf 31:1, opc 29:2, shift 22:2, n 21:1, rm 16:5, imm6 10:6, rn 5:5, rd 0:5;
         refused sf == 0 && imm6 > 31)
 }
@@ -107,9 +144,15 @@ fn move_wide(sf: u8, opc: u8, hw: u8, imm16: u16, rd: u8) -> Option<u32>
         refused opc == 1, sf == 0 && hw > 1)
 }
 
-fn bitfield(sf: u8, opc: u8, n: u8, immr: u8, imms: u8, rn: u8, rd: u8) -> Option<u32>
-    ensures { Encodes result (instr.Bitfield sf opc n immr imms rn rd) }
+fn bitfield(field: FieldMove, rn: u8, rd: u8, n: u8) -> Option<u32>
+    ensures { Encodes result (instr.Bitfield field.sf field.opc n field.immr field.imms rn rd) }
 {
+    let FieldMove {
+        sf,
+        opc,
+        immr,
+        imms,
+    } = field;
     row!(0x1300_0000, sf 31:1, opc 29:2, n 22:1, immr 16:6, imms 10:6, rn 5:5, rd 0:5;
         refused opc == 3, n != sf, sf == 0 && immr > 31, sf == 0 && imms > 31)
 }
@@ -163,15 +206,19 @@ fn adc_sbc(sf: u8, op: u8, s: u8, rm: u8, rn: u8, rd: u8) -> Option<u32>
     row!(0x1A00_0000, sf 31:1, op 30:1, s 29:1, rm 16:5, rn 5:5, rd 0:5)
 }
 
-fn cond_cmp(sf: u8, op: u8, rm: u8, cond: u8, i: u8, rn: u8, nzcv: u8) -> Option<u32>
-    ensures { Encodes result (instr.CondCmp sf op rm cond i rn nzcv) }
+fn cond_cmp(operands: ComparedOperands, op: u8, cond: u8, nzcv: u8) -> Option<u32>
+    ensures { Encodes result
+        (instr.CondCmp operands.sf op operands.rm cond operands.i operands.rn nzcv) }
 {
+    let ComparedOperands { sf, rm, i, rn } = operands;
     row!(0x3A40_0000, sf 31:1, op 30:1, rm 16:5, cond 12:4, i 11:1, rn 5:5, nzcv 0:4)
 }
 
-fn cond_sel(sf: u8, op: u8, rm: u8, cond: u8, o2: u8, rn: u8, rd: u8) -> Option<u32>
-    ensures { Encodes result (instr.CondSel sf op rm cond o2 rn rd) }
+fn cond_sel(operands: RegisterOperands, op: u8, cond: u8, o2: u8) -> Option<u32>
+    ensures { Encodes result
+        (instr.CondSel operands.sf op operands.rm cond o2 operands.rn operands.rd) }
 {
+    let RegisterOperands { sf, rm, rn, rd } = operands;
     row!(0x1A80_0000, sf 31:1, op 30:1, rm 16:5, cond 12:4, o2 10:1, rn 5:5, rd 0:5)
 }
 
@@ -235,9 +282,13 @@ fn ld_st_pre(size: u8, opc: u8, imm9: i16, rn: u8, rt: u8) -> Option<u32>
         refused !is_load_store(size, opc), !may_write_back(rn, rt))
 }
 
-fn ld_st_reg(size: u8, opc: u8, rm: u8, option: u8, s: u8, rn: u8, rt: u8) -> Option<u32>
-    ensures { Encodes result (instr.LdStReg size opc rm option s rn rt) }
+fn ld_st_reg(transfer: Transfer, offset: RegisterOffset) -> Option<u32>
+    ensures { Encodes result
+        (instr.LdStReg transfer.size transfer.opc offset.rm offset.option offset.s transfer.rn
+        transfer.rt) }
 {
+    let Transfer { size, opc, rn, rt } = transfer;
+    let RegisterOffset { rm, option, s } = offset;
     row!(0x3820_0800, size 30:2, opc 22:2, rm 16:5, option 13:3, s 12:1, rn 5:5, rt 0:5;
         refused !is_load_store(size, opc), !matches!(option, 2 | 3 | 6 | 7))
 }

@@ -3,8 +3,8 @@
 ghost use Rattle.std.specs.Prelude.{◌≡◌, ◌<◌, ◌≤◌, ◌+◌, ◌*◌, ◌%◌, ◌^◌};
 ghost use Rattle.a64_registers.specs.Operands.{bytes_of};
 
-use crate::fields::RegisterOffset;
 use a64_bits::plain;
+use a64_instr::fields::RegisterOffset;
 use a64_registers::Regs;
 use a64_registers::operands::{byte_count, extend};
 use mte_tags::{FaultKind, MemFault, tag_of};

@@ -5,7 +5,7 @@ ghost use Rattle.a64_step.specs.Branches.{branch_cond_of, branch_of, branch_reg_
 ghost use Rattle.a64_step.specs.Branches.{branch_cases, with_link, test_branch_of};
 
 use crate::addressing::moved_by;
-use crate::fields::TestedBit;
+use a64_instr::fields::TestedBit;
 use a64_registers::Regs;
 use a64_registers::conditions::condition_holds;
 use a64_registers::operands::truncate;

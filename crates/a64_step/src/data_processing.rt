@@ -7,11 +7,11 @@ ghost use Rattle.a64_step.specs.DataProcessing.{two_source_of};
 ghost use Rattle.a64_registers.specs.Operands.{size_of};
 ghost use Rattle.a64_registers.specs.Registers.{with_next_pc};
 
-use crate::fields::{ProductOperands, RegisterOperands};
 use a64_bits::{
     count_leading_sign, count_leading_zeros, divide, multiply_high, reverse_bits, reverse_bytes,
     sign_extend,
 };
+use a64_instr::fields::{ProductOperands, RegisterOperands};
 use a64_registers::Regs;
 use a64_registers::operands::{shift_by, size_of_operands, truncate};
 

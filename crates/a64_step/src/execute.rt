@@ -13,11 +13,6 @@ use crate::bitfield::{bitfield, extr};
 use crate::branches::{branch, branch_cond, branch_reg, cmp_branch, test_branch};
 use crate::conditional::{cond_cmp, cond_sel};
 use crate::data_processing::{mul_add, mul_add_long, mul_high, one_source, two_source};
-use crate::fields::{
-    AddSub, ComparedOperands, ExtendedRegister, FieldMove, Logical, LogicalImmediate, PairTransfer,
-    ProductOperands, RegisterOffset, RegisterOperands, ShiftedRegister, TagPairTransfer,
-    TagTransfer, TestedBit, Transfer,
-};
 use crate::load_store::{ld_lit, ld_st_imm, ld_st_post, ld_st_pre, ld_st_reg, ld_st_unscaled};
 use crate::load_store_pair::{pair_off, pair_post, pair_pre};
 use crate::logical::{log_imm, log_shift};
@@ -26,6 +21,11 @@ use crate::move_wide::move_wide;
 use crate::outcome::Outcome;
 use crate::pc_rel::adr;
 use a64_asm::Instr;
+use a64_instr::fields::{
+    AddSub, ComparedOperands, ExtendedRegister, FieldMove, Logical, LogicalImmediate, PairTransfer,
+    ProductOperands, RegisterOffset, RegisterOperands, ShiftedRegister, TagPairTransfer,
+    TagTransfer, TestedBit, Transfer,
+};
 use a64_registers::Regs;
 use mte_tags::Tagged;
 

@@ -11,7 +11,6 @@ mod branches;
 pub mod conditional;
 pub mod data_processing;
 pub mod execute;
-pub mod fields;
 mod laws;
 pub mod load_store;
 pub mod load_store_pair;

@@ -16,10 +16,10 @@ ghost use Rattle.a64_step.specs.Results.{Leaves};
 
 use crate::add_subtract::{add_into, add_or_subtract};
 use crate::addressing::{Target, fault_of_stack, moved_by, write_back};
-use crate::fields::{AddSub, TagPairTransfer, TagTransfer};
 use crate::load_store_pair::{Pair, write_pair};
 use crate::outcome::Outcome;
 use a64_bits::sign_extend;
+use a64_instr::fields::{AddSub, TagPairTransfer, TagTransfer};
 use a64_registers::Regs;
 use mte_tags::{MemFault, Tagged, choose_non_excluded, tag_of, with_tag};
 

@@ -5,12 +5,16 @@ use crate::operand::{
     Modifier, Operand, TextLine, four, general, general_or_sp, shifted, three, two,
 };
 use a64_bits::bit_masks;
+use a64_instr::fields::{
+    AddSub, ComparedOperands, ExtendedRegister, Logical, LogicalImmediate, RegisterOperands,
+    ShiftedRegister,
+};
 
 /// The zero register, or the stack pointer.
 const LAST: u8 = 31;
 
-fn add_sub_name(op: u8, s: u8) -> &'static str {
-    match (op, s) {
+fn add_sub_name(addition: AddSub) -> &'static str {
+    match (addition.op, addition.s) {
         (0, 0) => "add",
         (0, _) => "adds",
         (_, 0) => "sub",
@@ -18,7 +22,8 @@ fn add_sub_name(op: u8, s: u8) -> &'static str {
     }
 }
 
-pub fn add_sub_imm(sf: u8, op: u8, s: u8, sh: u8, imm12: u16, rn: u8, rd: u8) -> TextLine {
+pub fn add_sub_imm(sf: u8, addition: AddSub, sh: u8, imm12: u16) -> TextLine {
+    let AddSub { op, s, rn, rd } = addition;
     let (destination, source) = (general_or_sp(sf, rd), general_or_sp(sf, rn));
     let immediate = Operand::Hexadecimal(u64::from(imm12));
     let shift = shifted(0, if sh == 1 { 12 } else { 0 });
@@ -28,14 +33,24 @@ pub fn add_sub_imm(sf: u8, op: u8, s: u8, sh: u8, imm12: u16, rn: u8, rd: u8) ->
         (0, 0) if (rd == LAST || rn == LAST) && sh == 0 && imm12 == 0 => {
             two("mov", destination, source)
         }
-        _ => four(add_sub_name(op, s), destination, source, immediate, shift),
+        _ => four(
+            add_sub_name(addition),
+            destination,
+            source,
+            immediate,
+            shift,
+        ),
     }
 }
 
-#[rattlefmt::skip]
-pub fn add_sub_shift(
-    sf: u8, op: u8, s: u8, shift: u8, rm: u8, imm6: u8, rn: u8, rd: u8,
-) -> TextLine {
+pub fn add_sub_shift(addition: AddSub, second: ShiftedRegister) -> TextLine {
+    let AddSub { op, s, rn, rd } = addition;
+    let ShiftedRegister {
+        sf,
+        shift,
+        rm,
+        imm6,
+    } = second;
     let destination = general(sf, rd);
     let (first, second) = (general(sf, rn), general(sf, rm));
     let shift = shifted(shift, imm6);
@@ -44,7 +59,7 @@ pub fn add_sub_shift(
         (1, 1) if rd == LAST => three("cmp", first, second, shift),
         (1, 0) if rn == LAST => three("neg", destination, second, shift),
         (1, 1) if rn == LAST => three("negs", destination, second, shift),
-        _ => four(add_sub_name(op, s), destination, first, second, shift),
+        _ => four(add_sub_name(addition), destination, first, second, shift),
     }
 }
 
@@ -68,17 +83,27 @@ fn extension(sf: u8, option: u8, amount: u8, with_sp: bool) -> Operand {
     Operand::Modified(Modifier { name, amount })
 }
 
-#[rattlefmt::skip]
-pub fn add_sub_ext(
-    sf: u8, op: u8, s: u8, rm: u8, option: u8, imm3: u8, rn: u8, rd: u8,
-) -> TextLine {
+pub fn add_sub_ext(addition: AddSub, second: ExtendedRegister) -> TextLine {
+    let AddSub { op, s, rn, rd } = addition;
+    let ExtendedRegister {
+        sf,
+        rm,
+        option,
+        imm3,
+    } = second;
     let (destination, first) = (general_or_sp(sf, rd), general_or_sp(sf, rn));
     let second = general(if option % 4 == 3 { sf } else { 0 }, rm);
     let extension = extension(sf, option, imm3, rn == LAST || rd == LAST && s == 0);
     match (op, s) {
         (0, 1) if rd == LAST => three("cmn", first, second, extension),
         (1, 1) if rd == LAST => three("cmp", first, second, extension),
-        _ => four(add_sub_name(op, s), destination, first, second, extension),
+        _ => four(
+            add_sub_name(addition),
+            destination,
+            first,
+            second,
+            extension,
+        ),
     }
 }
 
@@ -95,7 +120,8 @@ fn ones(sf: u8) -> u64 {
     if sf == 1 { u64::MAX } else { 0xFFFF_FFFF }
 }
 
-pub fn log_imm(sf: u8, opc: u8, n: u8, immr: u8, imms: u8, rn: u8, rd: u8) -> TextLine {
+pub fn log_imm(logic: LogicalImmediate, n: u8, immr: u8, imms: u8) -> TextLine {
+    let LogicalImmediate { sf, opc, rn, rd } = logic;
     let size = if sf == 1 { 64 } else { 32 };
     let mask = bit_masks(n % 2, imms % 64, immr % 64, size).unwrap_or(0);
     let by_move = is_one_halfword(mask) || is_one_halfword(mask ^ ones(sf));
@@ -111,7 +137,14 @@ pub fn log_imm(sf: u8, opc: u8, n: u8, immr: u8, imms: u8, rn: u8, rd: u8) -> Te
     }
 }
 
-pub fn log_shift(sf: u8, opc: u8, shift: u8, n: u8, rm: u8, imm6: u8, rn: u8, rd: u8) -> TextLine {
+pub fn log_shift(logic: Logical, second: ShiftedRegister) -> TextLine {
+    let Logical { opc, n, rn, rd } = logic;
+    let ShiftedRegister {
+        sf,
+        shift,
+        rm,
+        imm6,
+    } = second;
     let destination = general(sf, rd);
     let (first, second) = (general(sf, rn), general(sf, rm));
     let plain = shift == 0 && imm6 == 0;
@@ -257,7 +290,8 @@ pub fn condition(code: u8) -> &'static str {
     }
 }
 
-pub fn cond_cmp(sf: u8, op: u8, rm: u8, cond: u8, i: u8, rn: u8, nzcv: u8) -> TextLine {
+pub fn cond_cmp(operands: ComparedOperands, op: u8, cond: u8, nzcv: u8) -> TextLine {
+    let ComparedOperands { sf, rm, i, rn } = operands;
     let second = match i {
         0 => general(sf, rm),
         _ => Operand::Hexadecimal(u64::from(rm)),
@@ -273,7 +307,8 @@ pub fn cond_cmp(sf: u8, op: u8, rm: u8, cond: u8, i: u8, rn: u8, nzcv: u8) -> Te
     )
 }
 
-pub fn cond_sel(sf: u8, op: u8, rm: u8, cond: u8, o2: u8, rn: u8, rd: u8) -> TextLine {
+pub fn cond_sel(operands: RegisterOperands, op: u8, cond: u8, o2: u8) -> TextLine {
+    let RegisterOperands { sf, rm, rn, rd } = operands;
     let (destination, first, second) = (general(sf, rd), general(sf, rn), general(sf, rm));
     // The aliases write the other condition. AL and NV, which always hold, have none.
     let inverted = Operand::Word(condition(cond ^ 1));

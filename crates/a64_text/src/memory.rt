@@ -4,6 +4,7 @@ use crate::control::target;
 use crate::operand::{
     Modifier, Operand, Register, TextLine, four, general, general_or_sp, three, two,
 };
+use a64_instr::fields::{PairTransfer, RegisterOffset, Transfer};
 
 /// Bytes of a granule.
 const GRANULE: u8 = 16;
@@ -64,7 +65,9 @@ pub fn ld_st_pre(size: u8, opc: u8, imm9: i16, rn: u8, rt: u8) -> TextLine {
     load_store(size, opc, rt, address, Operand::Absent)
 }
 
-pub fn ld_st_reg(size: u8, opc: u8, rm: u8, option: u8, s: u8, rn: u8, rt: u8) -> TextLine {
+pub fn ld_st_reg(transfer: Transfer, offset: RegisterOffset) -> TextLine {
+    let Transfer { size, opc, rn, rt } = transfer;
+    let RegisterOffset { rm, option, s } = offset;
     let index = if option % 2 == 1 {
         Register::X(rm)
     } else {
@@ -97,7 +100,7 @@ pub fn ld_lit(pc: Option<u64>, opc: u8, imm19: i32, rt: u8) -> TextLine {
 /// How an address is written: its base and its offset, which is added before the access, after it,
 /// or without writing the base back.
 #[derive(Clone, Copy)]
-pub enum Indexing {
+enum Indexing {
     Offset,
     Before,
     After,
@@ -105,7 +108,7 @@ pub enum Indexing {
 
 impl Indexing {
     /// The indexing by the codes of tag stores: 1 after, 2 without writing back, 3 before.
-    pub fn of_mode(mode: u8) -> Indexing {
+    fn of_mode(mode: u8) -> Indexing {
         match mode {
             1 => Indexing::After,
             2 => Indexing::Offset,
@@ -123,7 +126,21 @@ impl Indexing {
     }
 }
 
-pub fn pair(indexing: Indexing, opc: u8, l: u8, imm7: i8, rt2: u8, rn: u8, rt: u8) -> TextLine {
+pub fn pair_post(l: u8, pair: PairTransfer, imm7: i8) -> TextLine {
+    both(Indexing::After, l, pair, imm7)
+}
+
+pub fn pair_off(l: u8, pair: PairTransfer, imm7: i8) -> TextLine {
+    both(Indexing::Offset, l, pair, imm7)
+}
+
+pub fn pair_pre(l: u8, pair: PairTransfer, imm7: i8) -> TextLine {
+    both(Indexing::Before, l, pair, imm7)
+}
+
+/// A load or a store of two registers.
+fn both(indexing: Indexing, l: u8, pair: PairTransfer, imm7: i8) -> TextLine {
+    let PairTransfer { opc, rt2, rn, rt } = pair;
     let (sf, bytes) = match opc {
         0 => (0, 4),
         1 => (1, 4),
