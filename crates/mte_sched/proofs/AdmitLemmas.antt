@@ -22,7 +22,7 @@ use Rattle.mte_tenant.specs.Machines.{Start, first_parts, first_memory, start_of
 use Rattle.mte_tenant.specs.Ledger.{charge_of_entry, charge_of, has_id, is_live}
 use Rattle.mte_sched.specs.Contents.{new_tenant}
 use Rattle.mte_sched.specs.Places.{memory_at, IsPlaced}
-use Rattle.mte_tenant.specs.Ready.{IsReady}
+use Rattle.mte_svc.specs.Ready.{IsReady}
 use Rattle.mte_sched.specs.Tenants.{record_in, tenant_in, tenants_in, entry_in, entries_in}
 use Rattle.mte_sched.specs.Sharing.{is_placed, LiesAt, IsSharing}
 use Rattle.mte_sched.proofs.PlaceLists.{has_more, some_same, map_same}

@@ -28,7 +28,7 @@ use Rattle.mte_sched.specs.declared.tenant.Holding.{Holding}
 use Rattle.mte_sched.specs.declared.tenant.Holding.TheVariants as kept
 use Rattle.mte_sched.specs.Contents.{Content, Tenant, with_bytes_of, with_page_bytes, state_after_write, tenant_after_write, after_write_of}
 use Rattle.mte_sched.specs.Places.{memory_at, IsPlaced}
-use Rattle.mte_tenant.specs.Ready.{IsReady}
+use Rattle.mte_svc.specs.Ready.{IsReady}
 use Rattle.mte_sched.specs.Tenants.{record_in, tenant_in, tenants_in}
 use Rattle.mte_sched.specs.Sharing.{LiesAt, IsSharing}
 use Rattle.mte_sched.specs.Views.{page_among, find_page_cases, found_among}

@@ -19,7 +19,7 @@ use Rattle.mte_sched.specs.Contents.{Tenant}
 use Rattle.mte_sched.specs.Contents as held
 use Rattle.mte_tenant.specs.Ledger.{charge_of_entry}
 use Rattle.mte_sched.specs.Places.{memory_at, IsPlaced}
-use Rattle.mte_tenant.specs.Ready.{IsReady}
+use Rattle.mte_svc.specs.Ready.{IsReady}
 use Rattle.mte_sched.specs.Tenants.{record_in, is_live_holding, tenant_in, entries_in, state_of_holding}
 use Rattle.mte_sched.specs.Sharing.{is_placed, LiesAt, IsSharing}
 use Rattle.mte_sched.proofs.PlaceLists.{HasAt, some_same}

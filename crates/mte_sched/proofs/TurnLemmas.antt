@@ -24,7 +24,7 @@ use Rattle.mte_tenant.specs.Machines.{machine_of, after_slice, after_stop}
 use Rattle.mte_tenant.specs.Ledger.{LedgerEntry, charge_of_entry, charge_of, is_live, has_live_id}
 use Rattle.mte_sched.specs.Contents.{TenantState, state_after_slice, state_after_stop, Tenant, tenant_after_slice, tenant_after_stop}
 use Rattle.mte_sched.specs.Places.{memory_at, IsPlaced}
-use Rattle.mte_tenant.specs.Ready.{IsReady}
+use Rattle.mte_svc.specs.Ready.{IsReady}
 use Rattle.mte_sched.specs.Tenants.{state_of_holding, record_of_holding, is_live_holding, record_in, tenant_in, tenants_in, entry_in, entries_in}
 use Rattle.mte_sched.specs.Sharing.{HasLiveAt, LiesAt, IsSharing}
 use Rattle.mte_sched.proofs.TenantLemmas.{number_in, tenant_by, sliced_tenant, stopped_tenant, after-slice-id, after-stop-id}

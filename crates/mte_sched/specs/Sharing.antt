@@ -13,7 +13,7 @@ use Rattle.mte_sched.specs.declared.tenant.Holding.TheVariants as kept
 use Rattle.mte_sched.specs.declared.tenant.Tenant.{Tenant}
 use Rattle.mte_tenant.specs.Ledger.{charge_of_entry, has_live_id}
 use Rattle.mte_sched.specs.Places.{memory_at, IsPlaced}
-use Rattle.mte_tenant.specs.Ready.{IsReady}
+use Rattle.mte_svc.specs.Ready.{IsReady}
 use Rattle.mte_sched.specs.Tenants.{record_in, is_live_holding, entry_in, entries_in}
 
 -- Whether a tenant is live.

@@ -14,7 +14,7 @@ ghost use Rattle.scudo_heap.specs.Served.{IsUntouched};
 ghost use Rattle.mte_tenant.specs.Ledger.{charge_of};
 ghost use Rattle.mte_tenant.specs.Machines.{machine_of, first_memory, after_slice};
 ghost use Rattle.mte_sched.specs.Places.{memory_at, IsPlaced};
-ghost use Rattle.mte_tenant.specs.Ready.{IsReady};
+ghost use Rattle.mte_svc.specs.Ready.{IsReady};
 
 use crate::tenant::Live;
 use a64_run::OpCache;

@@ -7,7 +7,8 @@ ghost use Rattle.mte_elf.specs.Headers.{segments_of, entry_of};
 ghost use Rattle.mte_elf.specs.Images.{refusal_of, pages_of};
 ghost use Rattle.mte_tags.specs.Fixed.{KeepsFixed};
 ghost use Rattle.a64_run.specs.OpCaches.{Knows};
-ghost use Rattle.scudo_heap.specs.Served.{HeapOwnsItsPages, IsUntouched};
+ghost use Rattle.scudo_heap.specs.Served.{IsUntouched};
+ghost use Rattle.mte_svc.specs.Ready.{IsReady};
 ghost use Rattle.mte_svc.specs.Results.{is_running};
 ghost use Rattle.mte_svc.specs.Services.{after_svc};
 ghost use Rattle.mte_tenant.specs.Machines.{machine_of, first_parts, first_memory, first_registers};
@@ -82,12 +83,10 @@ pub fn fill<M: Paged>(plan: &Plan, image: &[u8], pages: u32, mode: TagMode, memo
 /// ends where its flag is set then. A table may serve any number of slices, of any tenants. A slice
 /// is one run of kept instructions, since no service changes a page without WRITE.
 pub fn slice<M: Paged>(kept: &mut OpCache, parts: &mut TenantParts, memory: &mut M, steps: u32)
-    requires heap { HeapOwnsItsPages (M.Tagged.memory memory.old) parts.old.heap }
-    requires tag { parts.old.regs.rgsr.tag < 16 }
+    requires ready { IsReady parts.old (M.Tagged.memory memory.old) }
     ensures machine { machine_of parts.new (M.Tagged.memory memory.new)
         ≡ after_slice steps (machine_of parts.old (M.Tagged.memory memory.old)) }
-    ensures heap { HeapOwnsItsPages (M.Tagged.memory memory.new) parts.new.heap }
-    ensures tag { parts.new.regs.rgsr.tag < 16 }
+    ensures ready { IsReady parts.new (M.Tagged.memory memory.new) }
     ensures kept { M.Tagged.kept memory.old memory.new }
 {
     kept.begin_run();
@@ -104,14 +103,12 @@ fn run_on<M: Paged>(kept: &mut OpCache, parts: &mut TenantParts, memory: &mut M,
     requires some { 0 < left }
     requires known { Knows (M.Tagged.memory memory.old) kept.old }
     requires running { is_running parts.old.log.status ≡ true }
-    requires heap { HeapOwnsItsPages (M.Tagged.memory memory.old) parts.old.heap }
-    requires tag { parts.old.regs.rgsr.tag < 16 }
+    requires ready { IsReady parts.old (M.Tagged.memory memory.old) }
     ensures rest { after_attempts result (machine_of parts.new (M.Tagged.memory memory.new))
         ≡ after_attempts left (machine_of parts.old (M.Tagged.memory memory.old)) }
     ensures known { Knows (M.Tagged.memory memory.new) kept.new }
     ensures fewer { result < left }
-    ensures heap { HeapOwnsItsPages (M.Tagged.memory memory.new) parts.new.heap }
-    ensures tag { parts.new.regs.rgsr.tag < 16 }
+    ensures ready { IsReady parts.new (M.Tagged.memory memory.new) }
     ensures kept { M.Tagged.kept memory.old memory.new }
 {
     steps_keep_pages();
@@ -152,16 +149,14 @@ pub fn settle<M: Tagged>(parts: &mut TenantParts, memory: &mut M)
 /// Returns whether the slice goes on.
 #[tactic(auto, unfolding(crate::specs::Machines::after_outcome))]
 pub(crate) fn handle<M: Paged>(outcome: Outcome, parts: &mut TenantParts, memory: &mut M) -> bool
-    requires heap { HeapOwnsItsPages (M.Tagged.memory memory.old) parts.old.heap }
-    requires tag { parts.old.regs.rgsr.tag < 16 }
+    requires ready { IsReady parts.old (M.Tagged.memory memory.old) }
     ensures machine { record {
       machine = machine_of parts.new (M.Tagged.memory memory.new);
       goes_on = result;
     }
         ≡ after_outcome outcome (machine_of parts.old (M.Tagged.memory memory.old)) }
     ensures fixed { KeepsFixed (M.Tagged.memory memory.old) (M.Tagged.memory memory.new) }
-    ensures heap { HeapOwnsItsPages (M.Tagged.memory memory.new) parts.new.heap }
-    ensures tag { parts.new.regs.rgsr.tag < 16 }
+    ensures ready { IsReady parts.new (M.Tagged.memory memory.new) }
     ensures kept { M.Tagged.kept memory.old memory.new }
 {
     let pc = parts.regs.pc;
@@ -183,16 +178,14 @@ pub(crate) fn handle<M: Paged>(outcome: Outcome, parts: &mut TenantParts, memory
 
 /// Serves an SVC; returns whether the slice goes on.
 fn serve<M: Paged>(parts: &mut TenantParts, memory: &mut M) -> bool
-    requires heap { HeapOwnsItsPages (M.Tagged.memory memory.old) parts.old.heap }
-    requires tag { parts.old.regs.rgsr.tag < 16 }
+    requires ready { IsReady parts.old (M.Tagged.memory memory.old) }
     ensures machine { record {
       machine = machine_of parts.new (M.Tagged.memory memory.new);
       goes_on = result;
     }
         ≡ with_service (after_svc parts.old (M.Tagged.memory memory.old)) }
     ensures fixed { KeepsFixed (M.Tagged.memory memory.old) (M.Tagged.memory memory.new) }
-    ensures heap { HeapOwnsItsPages (M.Tagged.memory memory.new) parts.new.heap }
-    ensures tag { parts.new.regs.rgsr.tag < 16 }
+    ensures ready { IsReady parts.new (M.Tagged.memory memory.new) }
     ensures kept { M.Tagged.kept memory.old memory.new }
 {
     match svc(parts, memory) {
