@@ -11,7 +11,7 @@ ghost use Rattle.mte_tenant.specs.Machines.{machine_of, start_of, after_attempt,
 ghost use Rattle.mte_tenant.specs.Watched.{WatchLog, with_shown, shown_of, Before, After};
 ghost use Rattle.mte_tenant.specs.Admissions.{start_in};
 
-use crate::admission::{Admission, AdmitError, LedgerFacts, accept, charge};
+use crate::admission::{Admission, AdmitError, LedgerFacts, accept, accepted_means, charge};
 use crate::machine::{fill, handle, settle, start_parts};
 use a64_step::{Decoder, run, steps_keep_pages};
 use mte_svc::TenantParts;
@@ -67,7 +67,9 @@ pub fn admit_alone<M: Paged>(
     ensures kept { M.Tagged.kept memory.old memory.new }
 {
     condition_of_calls();
-    let plan = accept(alloc, admission, facts_alone(admission))?;
+    let facts = facts_alone(admission);
+    let plan = accept(alloc, admission, facts)?;
+    accepted_means(facts, admission);
     let parts = start_parts(alloc, admission, &plan)?;
     fill(
         &plan,
