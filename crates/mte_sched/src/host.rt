@@ -24,7 +24,9 @@ use address_map::MAX_FRAMES;
 use mte_arena::{Arena, ArenaError, FRAME_BYTES};
 use mte_frames::FramePool;
 use mte_svc::Record;
-use mte_tenant::{Admission, AdmitError, LedgerFacts, NotLive, accept, start_parts};
+use mte_tenant::{
+    Admission, AdmitError, LedgerFacts, NotLive, accept, accepted_means, start_parts,
+};
 use mte_translate::Tlb;
 use obstacle::Obstacle;
 use scudo_heap::condition_of_calls;
@@ -105,7 +107,9 @@ impl Host {
             else rooms_of self.old) }
     {
         condition_of_calls();
-        let plan = accept(alloc, admission, self.ledger_facts(admission.id))?;
+        let facts = self.ledger_facts(admission.id);
+        let plan = accept(alloc, admission, facts)?;
+        accepted_means(facts, admission);
         let first = start_parts(alloc, admission, &plan)?;
         let parts = Box::new(alloc, first)?;
         make_room(&mut self.tenants)?;

@@ -24,32 +24,32 @@ use Rattle.mte_sched.proofs.host.Host.admit.Goals as goal
 pub returns-in_err-plan-clause-refused : goal.returns-in_err-plan-clause-refused
 unfolding admission_refusal
 returns-in_err-plan-clause-refused c =
-    let told = rw c.ledger_facts.ensures at c.in_err-plan.ensures.refused in
+    let told = rw c.ledger_facts-facts.ensures at c.in_err-plan.ensures.refused in
     rw (ledger_is c.args.self.now.pool c.args.self.now.tenants.items) (search (rules, told))
 
 pub returns-in_err-plan-clause-memory : goal.returns-in_err-plan-clause-memory
 returns-in_err-plan-clause-memory c =
-    let told = rw c.ledger_facts.ensures at c.in_err-plan.ensures.memory in
+    let told = rw c.ledger_facts-facts.ensures at c.in_err-plan.ensures.memory in
     rw (ledger_is c.args.self.now.pool c.args.self.now.tenants.items) (search (rules, told))
 
 pub returns-in_err-parts-clause-memory : goal.returns-in_err-parts-clause-memory
 returns-in_err-parts-clause-memory c =
-    let fresh = rw c.ledger_facts.ensures at c.in_ok-plan.ensures.fresh in
+    let fresh = rw c.ledger_facts-facts.ensures at c.accepted_means.ensures.fresh in
     rw (ledger_is c.args.self.now.pool c.args.self.now.tenants.items) (search (rules, fresh))
 
 pub returns-in_err-first-clause-memory : goal.returns-in_err-first-clause-memory
 returns-in_err-first-clause-memory c =
-    let fresh = rw c.ledger_facts.ensures at c.in_ok-plan.ensures.fresh in
+    let fresh = rw c.ledger_facts-facts.ensures at c.accepted_means.ensures.fresh in
     rw (ledger_is c.args.self.now.pool c.args.self.now.tenants.items) (search (rules, fresh))
 
 pub returns-in_err-make_room-clause-memory : goal.returns-in_err-make_room-clause-memory
 returns-in_err-make_room-clause-memory c =
-    let fresh = rw c.ledger_facts.ensures at c.in_ok-plan.ensures.fresh in
+    let fresh = rw c.ledger_facts-facts.ensures at c.accepted_means.ensures.fresh in
     rw (ledger_is c.args.self.now.pool c.args.self.now.tenants.items) (search (rules, fresh))
 
 pub start_place-place-requires-clause-frames : goal.start_place-place-requires-clause-frames
 start_place-place-requires-clause-frames c =
-    let told = rw c.ledger_facts.ensures at c.in_ok-plan.ensures.frames in
+    let told = rw c.ledger_facts-facts.ensures at c.accepted_means.ensures.frames in
     omega (arith, told, c.args.self.now.sharing.reserved)
 
 pub start_place-place-requires-clause-fresh : goal.start_place-place-requires-clause-fresh
@@ -61,7 +61,7 @@ pub enter-requires-clause-position : goal.enter-requires-clause-position
 enter-requires-clause-position c =
     let h = c.args.self.now in
     let asid : c.len-asid.result ≡ length h.tenants.items = search rules in
-    rw asid (entered_position h.index.positions.items h.tenants.items c.args.admission.now.id h.indexed (search rules) (rw c.ledger_facts.ensures at c.in_ok-plan.ensures.fresh))
+    rw asid (entered_position h.index.positions.items h.tenants.items c.args.admission.now.id h.indexed (search rules) (rw c.ledger_facts-facts.ensures at c.accepted_means.ensures.fresh))
 
 pub invariant_of-self-2 : goal.invariant_of-self-2
 invariant_of-self-2 c =
@@ -82,12 +82,12 @@ invariant_of-self-2 c =
     c.condition_of_calls.ensures.first (memory_at n b pages) (c.args.admission.now.terms.seed / 2 ^ 32) pages (omega (arith, limit)) start.untouched in
     let ready = first_ready c.args.admission.now.id given c.in_ok-parts.parts.value (memory_at n b pages) boxed served in
     let number = first_number c.args.admission.now.id given c.in_ok-parts.parts.value boxed in
-    let all = entered_sharing h.pool n h.tlb vs ts c.args.admission.now.id b c.in_ok-parts.parts pages h.sharing placed start.unused start.others entries ready start.reserved number (rw c.ledger_facts.ensures at c.in_ok-plan.ensures.fresh) in
+    let all = entered_sharing h.pool n h.tlb vs ts c.args.admission.now.id b c.in_ok-parts.parts pages h.sharing placed start.unused start.others entries ready start.reserved number (rw c.ledger_facts-facts.ensures at c.accepted_means.ensures.fresh) in
     let t : code.Tenant = record { pages = pages; holding = kept.Live (record { parts = c.in_ok-parts.parts; place = b }) } in
     let pushed : c.push_reserved.new.self.items ≡ ts ++ t ∷ [] = c.push_reserved.ensures.items ∙ ap (λ l. l ++ t ∷ []) c.in_ok-make_room.ensures.items in
     let number_of : (record_in t).id ≡ c.args.admission.now.id = number in
     let index : IsIndexed (slice_set h.index.positions.items c.args.admission.now.id (length ts)) (numbers_of (entries_in (ts ++ t ∷ []))) =
-    entered_index h.index.positions.items ts c.args.admission.now.id h.indexed (search rules) (rw c.ledger_facts.ensures at c.in_ok-plan.ensures.fresh) t number_of in
+    entered_index h.index.positions.items ts c.args.admission.now.id h.indexed (search rules) (rw c.ledger_facts-facts.ensures at c.accepted_means.ensures.fresh) t number_of in
     let positions : c.enter.new.self.positions.items ≡ slice_set h.index.positions.items c.args.admission.now.id (length ts) =
     c.enter.ensures.entered ∙ ap (slice_set h.index.positions.items c.args.admission.now.id) asid in
     let count : count_by is_live (entries_in (ts ++ t ∷ [])) ≡ count_by is_live (entries_in ts) + 1 =
@@ -101,7 +101,7 @@ invariant_of-self-2 c =
 pub returns-clause-accepted : goal.returns-clause-accepted
 unfolding admission_refusal
 returns-clause-accepted c =
-    let told = rw c.ledger_facts.ensures at c.in_ok-plan.ensures.accepted in
+    let told = rw c.ledger_facts-facts.ensures at c.in_ok-plan.ensures.accepted in
     rw (ledger_is c.args.self.now.pool c.args.self.now.tenants.items) (search (rules, told))
 
 pub returns-clause-ok : goal.returns-clause-ok
