@@ -42,7 +42,7 @@ pub struct Host {
     /// How many tenants are live.
     live: usize,
     /// What the instructions of tenants mean; it holds for all of them.
-    kept: OpCache,
+    ops: OpCache,
     ghost sharing: { IsSharing pool tlb tenants.items },
     ghost indexed: { IsIndexed index.positions.items (numbers_of (entries_in tenants.items)) },
     ghost counted: { live ≡ count_by is_live (entries_in tenants.items) },
@@ -69,7 +69,7 @@ impl Host {
         let Ok(index) = Index::new(alloc) else {
             return Err(ArenaError::OutOfMemory);
         };
-        let Ok(kept) = OpCache::new(alloc) else {
+        let Ok(ops) = OpCache::new(alloc) else {
             return Err(ArenaError::OutOfMemory);
         };
         Ok(Host {
@@ -78,7 +78,7 @@ impl Host {
             tenants: Vec::new(alloc),
             index,
             live: 0,
-            kept,
+            ops,
         })
     }
 
@@ -140,7 +140,7 @@ impl Host {
         };
         let tenants = self.tenants.as_mut_slice();
         slice_at(
-            &mut self.kept,
+            &mut self.ops,
             &mut self.pool,
             &mut self.tlb,
             tenants,

@@ -154,7 +154,7 @@ fn fill_place(
 
 /// Lets a live tenant attempt at most `steps` instructions.
 pub(crate) fn slice_live(
-    kept: &mut OpCache,
+    ops: &mut OpCache,
     pool: &mut FramePool,
     tlb: &mut Tlb,
     asid: usize,
@@ -184,7 +184,7 @@ pub(crate) fn slice_live(
         asid,
         pages as usize,
     );
-    slice(kept, &mut *live.parts, &mut memory, steps);
+    slice(ops, &mut *live.parts, &mut memory, steps);
 }
 
 /// Gives all frames of a place back, ends its quota, and forgets its translations.

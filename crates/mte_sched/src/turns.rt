@@ -16,7 +16,7 @@ use mte_translate::Tlb;
 
 /// A slice of the tenant that has the number, and of no other.
 pub(crate) fn slice_at(
-    kept: &mut OpCache,
+    ops: &mut OpCache,
     pool: &mut FramePool,
     tlb: &mut Tlb,
     tenants: &mut [Tenant],
@@ -35,7 +35,7 @@ pub(crate) fn slice_at(
     let tenant = &mut tenants[asid];
     if let Holding::Live(live) = &mut tenant.holding {
         pool.recall();
-        slice_live(kept, pool, tlb, asid, tenant.pages, live, steps);
+        slice_live(ops, pool, tlb, asid, tenant.pages, live, steps);
         pool.recall();
     }
 }
