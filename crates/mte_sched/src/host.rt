@@ -16,7 +16,7 @@ ghost use Rattle.mte_sched.specs.Rooms.{room_for_one};
 ghost use Rattle.mte_sched.specs.Sharing.{IsSharing, IsIndexed, HasId, HasLiveAt};
 
 use crate::index::Index;
-use crate::place::start_place;
+use crate::memory::start_memory;
 use crate::tenant::{Holding, Live, Tenant};
 use crate::turns::{slice_at, stop_at};
 use a64_run::OpCache;
@@ -115,10 +115,10 @@ impl Host {
         make_room(&mut self.tenants)?;
         let asid = self.tenants.len();
         self.index.enter(admission.id, asid);
-        let place = start_place(&mut self.pool, &mut self.tlb, asid, admission, &plan);
+        let memory = start_memory(&mut self.pool, &mut self.tlb, asid, admission, &plan);
         self.tenants.push_reserved(Tenant {
             pages: admission.terms.pages,
-            holding: Holding::Live(Live { parts, place }),
+            holding: Holding::Live(Live { parts, memory }),
         });
         self.live += 1;
         Ok(())

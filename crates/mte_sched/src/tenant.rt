@@ -1,6 +1,6 @@
 //! An admitted tenant.
 
-use crate::place::TenantMemory;
+use crate::memory::TenantMemory;
 use mte_svc::{Record, TenantParts};
 
 /// An admitted tenant.
@@ -25,5 +25,5 @@ pub(crate) struct Live {
     /// All of it but its memory. It stands apart, so that a stopped tenant needs no room for it.
     pub(crate) parts: Box<TenantParts>,
     /// Where its memory lies.
-    pub(crate) place: TenantMemory,
+    pub(crate) memory: TenantMemory,
 }

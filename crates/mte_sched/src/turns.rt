@@ -6,7 +6,7 @@ ghost use Rattle.mte_tenant.specs.Ledger.{is_live};
 ghost use Rattle.mte_sched.specs.Tenants.{tenants_in, entries_in};
 ghost use Rattle.mte_sched.specs.Sharing.{IsSharing, HasLiveAt};
 
-use crate::place::{slice_live, stop_place};
+use crate::memory::{slice_live, stop_memory};
 use crate::tenant::{Holding, Live, Tenant};
 use a64_run::OpCache;
 use mte_frames::FramePool;
@@ -65,10 +65,10 @@ pub(crate) fn stop_at(
     let Holding::Live(live) = holding else {
         unreachable!();
     };
-    let Live { parts, place } = live;
+    let Live { parts, memory } = live;
     let mut parts = Box::into_inner(parts);
     halt(&mut parts);
-    stop_place(pool, tlb, asid, pages, place);
+    stop_memory(pool, tlb, asid, pages, memory);
     let TenantParts { log, .. } = parts;
     let last = tenants.len();
     tenants.push_reserved(Tenant {

@@ -31,11 +31,11 @@ returns-in-Live c =
     let parts : Box TenantParts Global = c.slice_live.new.live.parts in
     record {
       sharing = sliced_sharing c.args.pool.now c.slice_live.new.pool c.args.tlb.now c.slice_live.new.tlb ts c.args.asid c.args.id t c.in-Live.live c.requires.sharing lies same within turn.rest.others turn.entries
-          c.args.steps c.slice_live.new.live.place parts turn.rest turn.same turn.space turn.cached turn.ready turn.machine c.recall.ensures.sound c.recall-in-Live.ensures.sound;
+          c.args.steps c.slice_live.new.live.memory parts turn.rest turn.same turn.space turn.cached turn.ready turn.machine c.recall.ensures.sound c.recall-in-Live.ensures.sound;
       frames = turn.rest.others.count;
       capacities = turn.rest.capacities;
       tenants = sliced_tenants c.args.pool.now c.slice_live.new.pool c.args.tlb.now c.slice_live.new.tlb ts c.args.asid c.args.id t c.in-Live.live c.requires.sharing lies same within turn.rest.others turn.entries
-          c.args.steps c.slice_live.new.live.place parts turn.rest turn.same turn.space turn.cached turn.ready turn.machine c.recall.ensures.sound c.recall-in-Live.ensures.sound;
+          c.args.steps c.slice_live.new.live.memory parts turn.rest turn.same turn.space turn.cached turn.ready turn.machine c.recall.ensures.sound c.recall-in-Live.ensures.sound;
     }
 
 pub returns-in_default-clause-tenants : goal.returns-in_default-clause-tenants

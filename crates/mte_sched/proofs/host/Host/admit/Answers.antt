@@ -5,12 +5,12 @@ use Rattle.mte_translate.specs.declared.translation.Translation.{Translation}
 use Rattle.mte_space.specs.Spaces.{NoneEnters}
 use Rattle.scudo_heap.specs.Heaps.{empty_heap}
 use Rattle.scudo_heap.specs.Served.{HeapOwnsItsPages}
-use Rattle.mte_sched.specs.declared.place.TenantMemory.{TenantMemory}
+use Rattle.mte_sched.specs.declared.memory.TenantMemory.{TenantMemory}
 use Rattle.mte_sched.specs.declared.tenant.Tenant as code
 use Rattle.mte_sched.specs.declared.tenant.Holding.TheVariants as kept
 use Rattle.mte_tenant.specs.Machines.{first_parts}
 use Rattle.mte_sched.specs.Contents.{Tenant, Content, after_admit, new_tenant}
-use Rattle.mte_sched.specs.Places.{memory_at, IsPlaced}
+use Rattle.mte_sched.specs.Memories.{memory_at, IsTenantMemory}
 use Rattle.mte_sched.specs.Tenants.{record_in, tenants_in, entries_in}
 use Rattle.mte_tenant.specs.Admissions.{start_in}
 use Rattle.mte_tenant.specs.Ledger.{admission_refusal, is_live, numbers_of}
@@ -47,13 +47,13 @@ returns-in_err-make_room-clause-memory c =
     let fresh = rw c.ledger_facts-facts.ensures at c.accepted_means.ensures.fresh in
     rw (ledger_is c.args.self.now.pool c.args.self.now.tenants.items) (search (rules, fresh))
 
-pub start_place-place-requires-clause-frames : goal.start_place-place-requires-clause-frames
-start_place-place-requires-clause-frames c =
+pub start_memory-memory-requires-clause-frames : goal.start_memory-memory-requires-clause-frames
+start_memory-memory-requires-clause-frames c =
     let told = rw c.ledger_facts-facts.ensures at c.accepted_means.ensures.frames in
     omega (arith, told, c.args.self.now.sharing.reserved)
 
-pub start_place-place-requires-clause-fresh : goal.start_place-place-requires-clause-fresh
-start_place-place-requires-clause-fresh c =
+pub start_memory-memory-requires-clause-fresh : goal.start_memory-memory-requires-clause-fresh
+start_memory-memory-requires-clause-fresh c =
     let asid : c.len-asid.result ≡ length c.args.self.now.tenants.items = search rules in
     subst (λ k. All (λ u. u.asid ≢ k) c.args.self.now.tlb) (sym asid) (fresh_asid c.args.self.now.pool c.args.self.now.tlb c.args.self.now.tenants.items c.args.self.now.sharing)
 
@@ -69,13 +69,13 @@ invariant_of-self-2 c =
     let ts : List code.Tenant = c.args.self.now.tenants.items in
     let given = start_in c.args.admission.now in
     let pages : ℕ = c.args.admission.now.terms.pages in
-    let n : Pool = c.start_place-place.new.pool in
-    let vs : List Translation = c.start_place-place.new.tlb in
-    let b : TenantMemory = c.start_place-place.result in
-    let start = c.start_place-place.ensures in
+    let n : Pool = c.start_memory-memory.new.pool in
+    let vs : List Translation = c.start_memory-memory.new.tlb in
+    let b : TenantMemory = c.start_memory-memory.result in
+    let start = c.start_memory-memory.ensures in
     let boxed : c.in_ok-parts.parts.value ≡ first_parts c.args.admission.now.id given = c.in_ok-parts.ensures.ok ∙ c.in_ok-first.ensures in
     let asid : c.len-asid.result ≡ length ts = search rules in
-    let placed : IsPlaced n vs (length ts) pages b = subst (λ k. IsPlaced n vs k pages b) asid start.placed in
+    let placed : IsTenantMemory n vs (length ts) pages b = subst (λ k. IsTenantMemory n vs k pages b) asid start.placed in
     let entries : NoneEnters (length ts) h.tlb vs = subst (λ k. NoneEnters k h.tlb vs) asid start.entries in
     let limit : (memory_at n b pages).limit ≡ pages = start.limit in
     let served : HeapOwnsItsPages (memory_at n b pages) (empty_heap (c.args.admission.now.terms.seed / 2 ^ 32) pages) =
@@ -83,7 +83,7 @@ invariant_of-self-2 c =
     let ready = first_ready c.args.admission.now.id given c.in_ok-parts.parts.value (memory_at n b pages) boxed served in
     let number = first_number c.args.admission.now.id given c.in_ok-parts.parts.value boxed in
     let all = entered_sharing h.pool n h.tlb vs ts c.args.admission.now.id b c.in_ok-parts.parts pages h.sharing placed start.unused start.others entries ready start.reserved number (rw c.ledger_facts-facts.ensures at c.accepted_means.ensures.fresh) in
-    let t : code.Tenant = record { pages = pages; holding = kept.Live (record { parts = c.in_ok-parts.parts; place = b }) } in
+    let t : code.Tenant = record { pages = pages; holding = kept.Live (record { parts = c.in_ok-parts.parts; memory = b }) } in
     let pushed : c.push_reserved.new.self.items ≡ ts ++ t ∷ [] = c.push_reserved.ensures.items ∙ ap (λ l. l ++ t ∷ []) c.in_ok-make_room.ensures.items in
     let number_of : (record_in t).id ≡ c.args.admission.now.id = number in
     let index : IsIndexed (slice_set h.index.positions.items c.args.admission.now.id (length ts)) (numbers_of (entries_in (ts ++ t ∷ []))) =
@@ -111,15 +111,15 @@ returns-clause-ok c =
     let ts : List code.Tenant = c.args.self.now.tenants.items in
     let given = start_in c.args.admission.now in
     let pages : ℕ = c.args.admission.now.terms.pages in
-    let n : Pool = c.start_place-place.new.pool in
-    let vs : List Translation = c.start_place-place.new.tlb in
-    let b : TenantMemory = c.start_place-place.result in
-    let start = c.start_place-place.ensures in
+    let n : Pool = c.start_memory-memory.new.pool in
+    let vs : List Translation = c.start_memory-memory.new.tlb in
+    let b : TenantMemory = c.start_memory-memory.result in
+    let start = c.start_memory-memory.ensures in
     let boxed : c.in_ok-parts.parts.value ≡ first_parts c.args.admission.now.id given = c.in_ok-parts.ensures.ok ∙ c.in_ok-first.ensures in
     let asid : c.len-asid.result ≡ length ts = search rules in
-    let placed : IsPlaced n vs (length ts) pages b = subst (λ k. IsPlaced n vs k pages b) asid start.placed in
+    let placed : IsTenantMemory n vs (length ts) pages b = subst (λ k. IsTenantMemory n vs k pages b) asid start.placed in
     let entries : NoneEnters (length ts) h.tlb vs = subst (λ k. NoneEnters k h.tlb vs) asid start.entries in
-    let t : code.Tenant = record { pages = pages; holding = kept.Live (record { parts = c.in_ok-parts.parts; place = b }) } in
+    let t : code.Tenant = record { pages = pages; holding = kept.Live (record { parts = c.in_ok-parts.parts; memory = b }) } in
     let pushed : c.push_reserved.new.self.items ≡ ts ++ t ∷ [] = c.push_reserved.ensures.items ∙ ap (λ l. l ++ t ∷ []) c.in_ok-make_room.ensures.items in
     let tenants : tenants_in n c.push_reserved.new.self.items ≡ tenants_in h.pool ts ++ new_tenant c.args.admission.now.id given ∷ [] =
     ap (tenants_in n) pushed
