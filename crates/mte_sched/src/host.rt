@@ -17,7 +17,7 @@ ghost use Rattle.mte_sched.specs.Sharing.{IsSharing, IsIndexed, HasId, HasLiveAt
 
 use crate::index::Index;
 use crate::memory::start_memory;
-use crate::tenant::{Holding, Live, Tenant};
+use crate::tenant::{Caches, Holding, Live, Tenant};
 use crate::turns::{slice_at, stop_at};
 use a64_run::OpCache;
 use address_map::MAX_FRAMES;
@@ -36,14 +36,12 @@ use std::alloc::{AllocError, Global};
 #[derive(Drop)]
 pub struct Host {
     pool: FramePool,
-    tlb: Tlb,
+    caches: Caches,
     tenants: Vec<Tenant>,
     index: Index,
     /// How many tenants are live.
     live: usize,
-    /// What the instructions of tenants mean; it holds for all of them.
-    ops: OpCache,
-    ghost sharing: { IsSharing pool tlb tenants.items },
+    ghost sharing: { IsSharing pool caches.tlb tenants.items },
     ghost indexed: { IsIndexed index.positions.items (numbers_of (entries_in tenants.items)) },
     ghost counted: { live ≡ count_by is_live (entries_in tenants.items) },
 }
@@ -74,11 +72,13 @@ impl Host {
         };
         Ok(Host {
             pool,
-            tlb: Tlb::new(),
+            caches: Caches {
+                tlb: Tlb::new(),
+                ops,
+            },
             tenants: Vec::new(alloc),
             index,
             live: 0,
-            ops,
         })
     }
 
@@ -115,7 +115,7 @@ impl Host {
         make_room(&mut self.tenants)?;
         let asid = self.tenants.len();
         self.index.enter(admission.id, asid);
-        let memory = start_memory(&mut self.pool, &mut self.tlb, asid, admission, &plan);
+        let memory = start_memory(&mut self.pool, &mut self.caches.tlb, asid, admission, &plan);
         self.tenants.push_reserved(Tenant {
             pages: admission.terms.pages,
             holding: Holding::Live(Live { parts, memory }),
@@ -139,15 +139,7 @@ impl Host {
             return Err(NotLive);
         };
         let tenants = self.tenants.as_mut_slice();
-        slice_at(
-            &mut self.ops,
-            &mut self.pool,
-            &mut self.tlb,
-            tenants,
-            asid,
-            id,
-            steps,
-        );
+        slice_at(&mut self.pool, &mut self.caches, tenants, asid, id, steps);
         Ok(())
     }
 
@@ -163,7 +155,13 @@ impl Host {
         let Some(asid) = self.find_live(id) else {
             return Err(NotLive);
         };
-        stop_at(&mut self.pool, &mut self.tlb, &mut self.tenants, asid, id);
+        stop_at(
+            &mut self.pool,
+            &mut self.caches.tlb,
+            &mut self.tenants,
+            asid,
+            id,
+        );
         self.live -= 1;
         Ok(())
     }

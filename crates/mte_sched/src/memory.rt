@@ -16,8 +16,7 @@ ghost use Rattle.mte_tenant.specs.Machines.{machine_of, first_memory, after_slic
 ghost use Rattle.mte_sched.specs.Memories.{memory_at, IsTenantMemory};
 ghost use Rattle.mte_svc.specs.Ready.{IsReady};
 
-use crate::tenant::Live;
-use a64_run::OpCache;
+use crate::tenant::{Caches, Live};
 use address_map::{MAX_PAGES, STACK_PAGES};
 use mte_elf::Plan;
 use mte_frames::{FramePool, Quota};
@@ -152,39 +151,45 @@ fn fill_memory(
     );
 }
 
-/// Lets a live tenant attempt at most `steps` instructions.
-pub(crate) fn slice_live(
-    ops: &mut OpCache,
-    pool: &mut FramePool,
-    tlb: &mut Tlb,
-    asid: usize,
-    pages: u32,
-    live: &mut Live,
-    steps: u32,
-)
-    requires placed { IsTenantMemory pool.old tlb.old asid pages live.old.memory }
-    requires ready { IsReady live.old.parts.value (memory_at pool.old live.old.memory pages) }
-    ensures ready { IsReady live.new.parts.value (memory_at pool.new live.new.memory pages) }
-    ensures machine { machine_of live.new.parts.value (memory_at pool.new live.new.memory pages)
-        ≡ after_slice steps
-        (machine_of live.old.parts.value (memory_at pool.old live.old.memory pages)) }
-    ensures space { IsSpace pool.new live.new.memory.quota live.new.memory.table pages }
-    ensures cached { IsCached (pages_of pool.new live.new.memory.table.frame) asid tlb.new }
-    ensures rest { KeepsRest live.old.memory.quota pool.old pool.new live.old.memory.table
-        live.new.memory.table }
-    ensures same { live.new.memory.quota ≡ live.old.memory.quota }
-    ensures entries { NoneEnters asid tlb.old tlb.new }
-{
-    let mut space = Space::new(
-        pool,
-        &mut live.memory.table,
-        &mut live.memory.quota,
-        tlb,
-        &mut live.memory.state,
-        asid,
-        pages as usize,
-    );
-    slice(ops, &mut *live.parts, &mut space, steps);
+impl Live {
+    /// Lets it attempt at most `steps` instructions.
+    pub(crate) fn slice(
+        &mut self,
+        pool: &mut FramePool,
+        caches: &mut Caches,
+        asid: usize,
+        pages: u32,
+        steps: u32,
+    )
+        requires placed { IsTenantMemory pool.old caches.old.tlb asid pages
+            self.old.memory }
+        requires ready { IsReady self.old.parts.value
+            (memory_at pool.old self.old.memory pages) }
+        ensures ready { IsReady self.new.parts.value
+            (memory_at pool.new self.new.memory pages) }
+        ensures machine { machine_of self.new.parts.value
+            (memory_at pool.new self.new.memory pages)
+            ≡ after_slice steps (machine_of self.old.parts.value
+            (memory_at pool.old self.old.memory pages)) }
+        ensures space { IsSpace pool.new self.new.memory.quota self.new.memory.table pages }
+        ensures cached { IsCached (pages_of pool.new self.new.memory.table.frame) asid
+            caches.new.tlb }
+        ensures rest { KeepsRest self.old.memory.quota pool.old pool.new
+            self.old.memory.table self.new.memory.table }
+        ensures same { self.new.memory.quota ≡ self.old.memory.quota }
+        ensures entries { NoneEnters asid caches.old.tlb caches.new.tlb }
+    {
+        let mut space = Space::new(
+            pool,
+            &mut self.memory.table,
+            &mut self.memory.quota,
+            &mut caches.tlb,
+            &mut self.memory.state,
+            asid,
+            pages as usize,
+        );
+        slice(&mut caches.ops, &mut *self.parts, &mut space, steps);
+    }
 }
 
 /// Gives all frames of a memory back, ends its quota, and forgets its translations.

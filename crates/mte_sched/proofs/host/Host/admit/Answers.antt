@@ -55,7 +55,7 @@ start_memory-memory-requires-clause-frames c =
 pub start_memory-memory-requires-clause-fresh : goal.start_memory-memory-requires-clause-fresh
 start_memory-memory-requires-clause-fresh c =
     let asid : c.len-asid.result ≡ length c.args.self.now.tenants.items = search rules in
-    subst (λ k. All (λ u. u.asid ≢ k) c.args.self.now.tlb) (sym asid) (fresh_asid c.args.self.now.pool c.args.self.now.tlb c.args.self.now.tenants.items c.args.self.now.sharing)
+    subst (λ k. All (λ u. u.asid ≢ k) c.args.self.now.caches.tlb) (sym asid) (fresh_asid c.args.self.now.pool c.args.self.now.caches.tlb c.args.self.now.tenants.items c.args.self.now.sharing)
 
 pub enter-requires-clause-position : goal.enter-requires-clause-position
 enter-requires-clause-position c =
@@ -76,13 +76,13 @@ invariant_of-self-2 c =
     let boxed : c.in_ok-parts.parts.value ≡ first_parts c.args.admission.now.id given = c.in_ok-parts.ensures.ok ∙ c.in_ok-first.ensures in
     let asid : c.len-asid.result ≡ length ts = search rules in
     let placed : IsTenantMemory n vs (length ts) pages b = subst (λ k. IsTenantMemory n vs k pages b) asid start.placed in
-    let entries : NoneEnters (length ts) h.tlb vs = subst (λ k. NoneEnters k h.tlb vs) asid start.entries in
+    let entries : NoneEnters (length ts) h.caches.tlb vs = subst (λ k. NoneEnters k h.caches.tlb vs) asid start.entries in
     let limit : (memory_at n b pages).limit ≡ pages = start.limit in
     let served : HeapOwnsItsPages (memory_at n b pages) (empty_heap (c.args.admission.now.terms.seed / 2 ^ 32) pages) =
     c.condition_of_calls.ensures.first (memory_at n b pages) (c.args.admission.now.terms.seed / 2 ^ 32) pages (omega (arith, limit)) start.untouched in
     let ready = first_ready c.args.admission.now.id given c.in_ok-parts.parts.value (memory_at n b pages) boxed served in
     let number = first_number c.args.admission.now.id given c.in_ok-parts.parts.value boxed in
-    let all = entered_sharing h.pool n h.tlb vs ts c.args.admission.now.id b c.in_ok-parts.parts pages h.sharing placed start.unused start.others entries ready start.reserved number (rw c.ledger_facts-facts.ensures at c.accepted_means.ensures.fresh) in
+    let all = entered_sharing h.pool n h.caches.tlb vs ts c.args.admission.now.id b c.in_ok-parts.parts pages h.sharing placed start.unused start.others entries ready start.reserved number (rw c.ledger_facts-facts.ensures at c.accepted_means.ensures.fresh) in
     let t : code.Tenant = record { pages = pages; holding = kept.Live (record { parts = c.in_ok-parts.parts; memory = b }) } in
     let pushed : c.push_reserved.new.self.items ≡ ts ++ t ∷ [] = c.push_reserved.ensures.items ∙ ap (λ l. l ++ t ∷ []) c.in_ok-make_room.ensures.items in
     let number_of : (record_in t).id ≡ c.args.admission.now.id = number in
@@ -91,7 +91,7 @@ invariant_of-self-2 c =
     let positions : c.enter.new.self.positions.items ≡ slice_set h.index.positions.items c.args.admission.now.id (length ts) =
     c.enter.ensures.entered ∙ ap (slice_set h.index.positions.items c.args.admission.now.id) asid in
     let count : count_by is_live (entries_in (ts ++ t ∷ [])) ≡ count_by is_live (entries_in ts) + 1 =
-    entered_count h.pool n h.tlb vs ts c.args.admission.now.id b c.in_ok-parts.parts pages h.sharing placed start.unused start.others entries in
+    entered_count h.pool n h.caches.tlb vs ts c.args.admission.now.id b c.in_ok-parts.parts pages h.sharing placed start.unused start.others entries in
     record {
       sharing = subst (IsSharing n vs) (sym pushed) all;
       indexed = subst (λ l. IsIndexed c.enter.new.self.positions.items (numbers_of (entries_in l))) (sym pushed) (subst (λ l. IsIndexed l (numbers_of (entries_in (ts ++ t ∷ [])))) (sym positions) index);
@@ -118,12 +118,12 @@ returns-clause-ok c =
     let boxed : c.in_ok-parts.parts.value ≡ first_parts c.args.admission.now.id given = c.in_ok-parts.ensures.ok ∙ c.in_ok-first.ensures in
     let asid : c.len-asid.result ≡ length ts = search rules in
     let placed : IsTenantMemory n vs (length ts) pages b = subst (λ k. IsTenantMemory n vs k pages b) asid start.placed in
-    let entries : NoneEnters (length ts) h.tlb vs = subst (λ k. NoneEnters k h.tlb vs) asid start.entries in
+    let entries : NoneEnters (length ts) h.caches.tlb vs = subst (λ k. NoneEnters k h.caches.tlb vs) asid start.entries in
     let t : code.Tenant = record { pages = pages; holding = kept.Live (record { parts = c.in_ok-parts.parts; memory = b }) } in
     let pushed : c.push_reserved.new.self.items ≡ ts ++ t ∷ [] = c.push_reserved.ensures.items ∙ ap (λ l. l ++ t ∷ []) c.in_ok-make_room.ensures.items in
     let tenants : tenants_in n c.push_reserved.new.self.items ≡ tenants_in h.pool ts ++ new_tenant c.args.admission.now.id given ∷ [] =
     ap (tenants_in n) pushed
-    ∙ entered_tenants h.pool n h.tlb vs ts c.args.admission.now.id b c.in_ok-parts.parts pages h.sharing placed start.unused start.others entries
+    ∙ entered_tenants h.pool n h.caches.tlb vs ts c.args.admission.now.id b c.in_ok-parts.parts pages h.sharing placed start.unused start.others entries
     ∙ ap (λ u. tenants_in h.pool ts ++ u ∷ []) (first_tenant n c.args.admission.now.id given c.in_ok-parts.parts b boxed start.memory) in
     ap (λ (k : ℕ). let z : Content = record { frames = k; tenants = tenants_in n c.push_reserved.new.self.items } in z) start.others.count
     ∙ ap (λ (l : List Tenant). let z : Content = record { frames = length h.pool.frames; tenants = l } in z) tenants
