@@ -2,7 +2,7 @@
 
 ghost use Rattle.std.specs.Prelude.{◌≡◌, ◌<◌, ◌⊎◌, [], Some, true, false, IfOk, IfErr, IsErrOf};
 ghost use Rattle.obstacle.specs.Obstacles.{IfRefused};
-ghost use Rattle.scudo_heap.specs.Served.{HeapOwnsItsPages};
+ghost use Rattle.mte_svc.specs.Ready.{IsReady};
 ghost use Rattle.mte_tenant.specs.Ledger.{admission_refusal, charge_of, is_bad};
 ghost use Rattle.mte_tenant.specs.Machines.{machine_of, start_of, after_slice, after_slice_end};
 ghost use Rattle.mte_tenant.specs.Admissions.{start_in};
@@ -40,8 +40,7 @@ pub struct Debuggee<'a> {
     cut: u32,
     /// How many of them were attempted.
     done: u32,
-    ghost served: { HeapOwnsItsPages memory.flat parts.heap },
-    ghost tag: { parts.regs.rgsr.tag < 16 },
+    ghost ready: { IsReady parts memory.flat },
     ghost some: { 0 < admission.terms.pages },
     // It is where the definition has it after these slices and attempts, whatever was done before.
     ghost law: { ∥ IsAt cuts (start_of admission.id (start_in admission)) slices cut done

@@ -13,7 +13,7 @@ use Rattle.mte_frames.specs.Pool.{Pool, KeepsOthers, reserved_by}
 use Rattle.mte_translate.specs.declared.translation.Translation.{Translation}
 use Rattle.mte_space.specs.Spaces.{NoneEnters}
 use Rattle.mte_svc.specs.declared.parts.TenantParts.{TenantParts}
-use Rattle.mte_sched.specs.declared.place.TenantMemory.{TenantMemory}
+use Rattle.mte_sched.specs.declared.memory.TenantMemory.{TenantMemory}
 use Rattle.mte_sched.specs.declared.tenant.Tenant as code
 use Rattle.mte_sched.specs.declared.tenant.Live.{Live}
 use Rattle.mte_sched.specs.declared.tenant.Holding.TheVariants as kept
@@ -21,8 +21,8 @@ use Rattle.mte_tenant.specs.declared.admission.LedgerFacts.{LedgerFacts}
 use Rattle.mte_tenant.specs.Machines.{Start, first_parts, first_memory, start_of}
 use Rattle.mte_tenant.specs.Ledger.{charge_of_entry, charge_of, has_id, is_live}
 use Rattle.mte_sched.specs.Contents.{new_tenant}
-use Rattle.mte_sched.specs.Places.{memory_at, IsPlaced}
-use Rattle.mte_tenant.specs.Ready.{IsReady}
+use Rattle.mte_sched.specs.Memories.{memory_at, IsTenantMemory}
+use Rattle.mte_svc.specs.Ready.{IsReady}
 use Rattle.mte_sched.specs.Tenants.{record_in, tenant_in, tenants_in, entry_in, entries_in}
 use Rattle.mte_sched.specs.Sharing.{is_placed, LiesAt, IsSharing}
 use Rattle.mte_sched.proofs.PlaceLists.{has_more, some_same, map_same}
@@ -52,18 +52,18 @@ fresh_number id (t ∷ ts) zero u none at = λ e.
 fresh_number id (t ∷ ts) (suc j) u none at = fresh_number id ts j u (or_right ((record_in t).id == id) _ none) at
 
 module _ (p n : Pool) (us vs : List Translation) (ts : List code.Tenant) (id : ℕ) (b : TenantMemory) (parts : Box TenantParts Global) (pages : ℕ)
-    (sharing : IsSharing p us ts) (placed : IsPlaced n vs (length ts) pages b) (unused : reserved_by p b.quota ≡ 0)
+    (sharing : IsSharing p us ts) (placed : IsTenantMemory n vs (length ts) pages b) (unused : reserved_by p b.quota ≡ 0)
     (others : KeepsOthers b.quota p n) (entries : NoneEnters (length ts) us vs) where
   abbrev pub entered : code.Tenant
-  entered = record { pages = pages; holding = kept.Live (record { parts = parts; place = b }) }
+  entered = record { pages = pages; holding = kept.Live (record { parts = parts; memory = b }) }
 
   turn : Turn p n us vs b.quota (length ts)
   turn = record { others = others; entries = entries }
 
-  differs : (j : ℕ) (u : code.Tenant) (a : Live) → LiesAt ts j u a → a.place.quota ≢ b.quota
+  differs : (j : ℕ) (u : code.Tenant) (a : Live) → LiesAt ts j u a → a.memory.quota ≢ b.quota
   differs j u a h = λ e.
-      let charged : reserved_by p a.place.quota ≡ charge_of u.pages = (sharing.placed j u a h).charged in
-      let same : reserved_by p a.place.quota ≡ reserved_by p b.quota = ap (reserved_by p) e in
+      let charged : reserved_by p a.memory.quota ≡ charge_of u.pages = (sharing.placed j u a h).charged in
+      let same : reserved_by p a.memory.quota ≡ reserved_by p b.quota = ap (reserved_by p) e in
       absurd (omega (arith, charged, same, unused))
 
   pub entered_tenants : tenants_in n (ts ++ entered ∷ []) ≡ tenants_in p ts ++ tenant_in n entered ∷ []
@@ -76,9 +76,9 @@ module _ (p n : Pool) (us vs : List Translation) (ts : List code.Tenant) (id : �
 
   module _ (ready : IsReady parts.value (memory_at n b pages)) (reserved : sum n.reserved ≡ sum p.reserved + charge_of pages) (number : parts.value.log.id ≡ id)
       (fresh : list_any (has_id id) (entries_in ts) ≡ false) where
-    own : (c : Live) → entered.holding ≡ kept.Live c → (c.place.quota ≡ b.quota) × IsPlaced n vs (length ts) entered.pages c.place × IsReady c.parts.value (memory_at n c.place entered.pages)
+    own : (c : Live) → entered.holding ≡ kept.Live c → (c.memory.quota ≡ b.quota) × IsTenantMemory n vs (length ts) entered.pages c.memory × IsReady c.parts.value (memory_at n c.memory entered.pages)
     own c e =
-        subst (λ (z : Live). (z.place.quota ≡ b.quota) × IsPlaced n vs (length ts) pages z.place × IsReady z.parts.value (memory_at n z.place pages)) (live_same (record { parts = parts; place = b }) c e) (refl, placed, ready)
+        subst (λ (z : Live). (z.memory.quota ≡ b.quota) × IsTenantMemory n vs (length ts) pages z.memory × IsReady z.parts.value (memory_at n z.memory pages)) (live_same (record { parts = parts; memory = b }) c e) (refl, placed, ready)
 
     sums : sum_by charge_of_entry (entries_in (ts ++ entered ∷ [])) ≡ sum_by charge_of_entry (entries_in ts) + charge_of pages
     sums =
@@ -103,6 +103,6 @@ unfolding first_parts
 first_number id start parts e = ap (λ (q : TenantParts). q.log.id) e
 
 pub first_tenant : (n : Pool) (id : ℕ) (start : Start) (parts : Box TenantParts Global) (b : TenantMemory) → parts.value ≡ first_parts id start → memory_at n b start.terms.pages ≡ first_memory start.image start.terms.pages start.terms.mode
-    → tenant_in n (record { pages = start.terms.pages; holding = kept.Live (record { parts = parts; place = b }) }) ≡ new_tenant id start
+    → tenant_in n (record { pages = start.terms.pages; holding = kept.Live (record { parts = parts; memory = b }) }) ≡ new_tenant id start
 unfolding start_of first_parts
 first_tenant n id start parts b e memory = rw (e, memory) refl

@@ -27,7 +27,7 @@ use Rattle.mte_sched.proofs.TurnLemmas.{live_same}
 
 page_by : (p : Pool) (q pages : ℕ) (o : Holding) → page_held q (state_of_holding p pages o) ≡ option_map (page_of p) (find_page_cases p q o)
 page_by p q pages (kept.Gone r) = refl
-page_by p q pages (kept.Live a) = page_at-space p a.place.table pages a.place.state q
+page_by p q pages (kept.Live a) = page_at-space p a.memory.table pages a.memory.state q
 
 page_if : (b : Bool) (p : Pool) (own others : Option Page) (x rest : Option (ℕ × Attrs)) → own ≡ option_map (page_of p) x → others ≡ option_map (page_of p) rest
     → (if b then own else others) ≡ option_map (page_of p) (if b then x else rest)
@@ -48,7 +48,7 @@ pub record Found (p : Pool) (id q : ℕ) (ts : List code.Tenant) (x : ℕ × Att
   pub live : Live
   pub lies : LiesAt ts at tenant live
   pub number : (record_in tenant).id ≡ id
-  pub mapped : get (pages_of p live.place.table.frame) q ≡ Some x
+  pub mapped : get (pages_of p live.memory.table.frame) q ≡ Some x
 
 found_here : (p : Pool) (id q : ℕ) (ts : List code.Tenant) (t : code.Tenant) (x : ℕ × Attrs) (o : Holding) → t.holding ≡ o → (record_in t).id ≡ id → find_page_cases p q o ≡ Some x → Found p id q (t ∷ ts) x
 found_here p id q ts t x (kept.Gone r) is same e = absurd cc
@@ -69,17 +69,17 @@ found_where p id q (t ∷ ts) x e = found_in ((record_in t).id == id) p id q ts 
 module _ (p : Pool) (us : List Translation) (ts : List code.Tenant) (sharing : IsSharing p us ts) where
   pub some_table : (i : ℕ) (t : code.Tenant) (o : Holding) → slice_get ts i ≡ Some t → t.holding ≡ o → HasSomeTable p o
   some_table i t (kept.Gone r) at e = tt
-  some_table i t (kept.Live a) at e = (a.place.quota, (sharing.placed i t a (record { tenant = at; live = e })).space.table)
+  some_table i t (kept.Live a) at e = (a.memory.quota, (sharing.placed i t a (record { tenant = at; live = e })).space.table)
 
-  out_of : (id q f : ℕ) (a : Attrs) (x : Found p id q ts (f, a)) → IsHeldBy p f x.live.place.quota
-  out_of id q f a x = (page-frame p x.live.place.quota q f a x.live.place.table (sharing.placed x.at x.tenant x.live x.lies).space.table x.mapped).1
+  out_of : (id q f : ℕ) (a : Attrs) (x : Found p id q ts (f, a)) → IsHeldBy p f x.live.memory.quota
+  out_of id q f a x = (page-frame p x.live.memory.quota q f a x.live.memory.table (sharing.placed x.at x.tenant x.live x.lies).space.table x.mapped).1
 
   -- The tables of live tenants are whole.
   holds_by : (id q : ℕ) (x : Option (ℕ × Attrs)) → found_among p id q ts ≡ x → IfSome (option_map (λ y. y.0) x) (λ f. Holds p f (page_among id q (tenants_in p ts)))
   holds_by id q None e = tt
   holds_by id q (Some (f, a)) e =
       let found = found_where p id q ts (f, a) e in
-      record { out = (found.live.place.quota, out_of id q f a found); attrs = a; page_is = pages_found p id q ts ∙ ap (option_map (page_of p)) e }
+      record { out = (found.live.memory.quota, out_of id q f a found); attrs = a; page_is = pages_found p id q ts ∙ ap (option_map (page_of p)) e }
 
   pub holds : (id q : ℕ) → IfSome (option_map (λ y. y.0) (found_among p id q ts)) (λ f. Holds p f (page_among id q (tenants_in p ts)))
   holds id q = holds_by id q (found_among p id q ts) refl
@@ -93,11 +93,11 @@ module _ (p : Pool) (us : List Translation) (ts : List code.Tenant) (sharing : I
 
   same_page : (id q j r f : ℕ) (a b : Attrs) → Found p id q ts (f, a) → Found p j r ts (f, b) → (j ≡ id) × (r ≡ q)
   same_page id q j r f a b x y =
-      let quotas : y.live.place.quota ≡ x.live.place.quota = some_same y.live.place.quota x.live.place.quota (sym (out_of j r f b y) ∙ out_of id q f a x) in
+      let quotas : y.live.memory.quota ≡ x.live.memory.quota = some_same y.live.memory.quota x.live.memory.quota (sym (out_of j r f b y) ∙ out_of id q f a x) in
       let at : y.at ≡ x.at = sharing.quotas y.at x.at y.tenant x.tenant y.live x.live y.lies x.lies quotas in
       let tenants : y.tenant ≡ x.tenant = some_same y.tenant x.tenant (sym y.lies.tenant ∙ ap (slice_get ts) at ∙ x.lies.tenant) in
       let lives : y.live ≡ x.live = live_same y.live x.live (sym y.lies.live ∙ ap (λ (t : code.Tenant). t.holding) tenants ∙ x.lies.live) in
-      let mapped : get (pages_of p x.live.place.table.frame) r ≡ Some (f, b) = ap (λ (o : Live). get (pages_of p o.place.table.frame) r) (sym lives) ∙ y.mapped in
+      let mapped : get (pages_of p x.live.memory.table.frame) r ≡ Some (f, b) = ap (λ (o : Live). get (pages_of p o.memory.table.frame) r) (sym lives) ∙ y.mapped in
       (sym y.number ∙ ap (λ (t : code.Tenant). (record_in t).id) tenants ∙ x.number, (sharing.placed x.at x.tenant x.live x.lies).space.once r q f b a mapped x.mapped)
 
   apart_to : (id q j r f : ℕ) (a : Attrs) (y : Option (ℕ × Attrs)) → found_among p id q ts ≡ Some (f, a) → found_among p j r ts ≡ y → option_map (λ z. z.0) y ≡ Some f → (j ≡ id) × (r ≡ q)

@@ -2,7 +2,7 @@ pub mod BehaviourLemmas
 pub mod IsolationLemmas
 pub mod TenantLemmas
 mod PlaceLists
-mod PlaceLemmas
+mod MemoryLemmas
 mod SharingLemmas
 mod TurnLemmas
 mod AdmitLemmas

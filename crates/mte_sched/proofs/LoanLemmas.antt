@@ -27,8 +27,8 @@ use Rattle.mte_sched.specs.declared.tenant.Live.{Live}
 use Rattle.mte_sched.specs.declared.tenant.Holding.{Holding}
 use Rattle.mte_sched.specs.declared.tenant.Holding.TheVariants as kept
 use Rattle.mte_sched.specs.Contents.{Content, Tenant, with_bytes_of, with_page_bytes, state_after_write, tenant_after_write, after_write_of}
-use Rattle.mte_sched.specs.Places.{memory_at, IsPlaced}
-use Rattle.mte_tenant.specs.Ready.{IsReady}
+use Rattle.mte_sched.specs.Memories.{memory_at, IsTenantMemory}
+use Rattle.mte_svc.specs.Ready.{IsReady}
 use Rattle.mte_sched.specs.Tenants.{record_in, tenant_in, tenants_in}
 use Rattle.mte_sched.specs.Sharing.{LiesAt, IsSharing}
 use Rattle.mte_sched.specs.Views.{page_among, find_page_cases, found_among}
@@ -52,11 +52,11 @@ found_if : (b : Bool) (x y z w : Option (ℕ × Attrs)) → x ≡ y → z ≡ w 
 found_if true x y z w e f = e
 found_if false x y z w e f = f
 
-found_same_by : (p n : Pool) (r : ℕ) (o : Holding) → ((b : Live) → o ≡ kept.Live b → pages_of n b.place.table.frame ≡ pages_of p b.place.table.frame) → find_page_cases n r o ≡ find_page_cases p r o
+found_same_by : (p n : Pool) (r : ℕ) (o : Holding) → ((b : Live) → o ≡ kept.Live b → pages_of n b.memory.table.frame ≡ pages_of p b.memory.table.frame) → find_page_cases n r o ≡ find_page_cases p r o
 found_same_by p n r (kept.Gone s) h = refl
 found_same_by p n r (kept.Live b) h = ap (λ m. get m r) (h b refl)
 
-found_same : (p n : Pool) (j r : ℕ) (ts : List code.Tenant) → ((i : ℕ) (t : code.Tenant) (b : Live) → LiesAt ts i t b → pages_of n b.place.table.frame ≡ pages_of p b.place.table.frame)
+found_same : (p n : Pool) (j r : ℕ) (ts : List code.Tenant) → ((i : ℕ) (t : code.Tenant) (b : Live) → LiesAt ts i t b → pages_of n b.memory.table.frame ≡ pages_of p b.memory.table.frame)
     → found_among n j r ts ≡ found_among p j r ts
 found_same p n j r [] h = refl
 found_same p n j r (t ∷ ts) h =
@@ -68,8 +68,8 @@ content_in p ts = record { frames = length p.frames; tenants = tenants_in p ts }
 
 -- ---- a page that was found
 
-pub lent_out : (p : Pool) (us : List Translation) (ts : List code.Tenant) (sharing : IsSharing p us ts) (id q f : ℕ) (a : Attrs) (x : Found p id q ts (f, a)) → IsHeldBy p f x.live.place.quota
-lent_out p us ts sharing id q f a x = (page-frame p x.live.place.quota q f a x.live.place.table (sharing.placed x.at x.tenant x.live x.lies).space.table x.mapped).1
+pub lent_out : (p : Pool) (us : List Translation) (ts : List code.Tenant) (sharing : IsSharing p us ts) (id q f : ℕ) (a : Attrs) (x : Found p id q ts (f, a)) → IsHeldBy p f x.live.memory.quota
+lent_out p us ts sharing id q f a x = (page-frame p x.live.memory.quota q f a x.live.memory.table (sharing.placed x.at x.tenant x.live x.lies).space.table x.mapped).1
 
 module _ (p : Pool) (us : List Translation) (ts : List code.Tenant) (sharing : IsSharing p us ts) (id q f : ℕ) (a : Attrs) (x : Found p id q ts (f, a)) (ws : List ℕ) where
   abbrev n : Pool
@@ -78,19 +78,19 @@ module _ (p : Pool) (us : List Translation) (ts : List code.Tenant) (sharing : I
   abbrev frame : Frame
   frame = make_frame (refill 4096 (frame_at p.frames f).bytes ws) (frame_at p.frames f).tags
 
-  placed : IsPlaced p us x.at x.tenant.pages x.live.place
+  placed : IsTenantMemory p us x.at x.tenant.pages x.live.memory
   placed = sharing.placed x.at x.tenant x.live x.lies
 
-  stays : Stays x.live.place.quota x.live.place.table p n
-  stays = kept-after-write-of p x.live.place.quota f (Some frame) x.live.place.table (page-frame p x.live.place.quota q f a x.live.place.table placed.space.table x.mapped).2 placed.space.table
+  stays : Stays x.live.memory.quota x.live.memory.table p n
+  stays = kept-after-write-of p x.live.memory.quota f (Some frame) x.live.memory.table (page-frame p x.live.memory.quota q f a x.live.memory.table placed.space.table x.mapped).2 placed.space.table
 
-  others : KeepsOthers x.live.place.quota p n
-  others = keeps_written x.live.place.quota f (Some frame) p (lent_out p us ts sharing id q f a x)
+  others : KeepsOthers x.live.memory.quota p n
+  others = keeps_written x.live.memory.quota f (Some frame) p (lent_out p us ts sharing id q f a x)
 
-  turn : Turn p n us us x.live.place.quota x.at
+  turn : Turn p n us us x.live.memory.quota x.at
   turn = record { others = others; entries = none_enters_same x.at us }
 
-  differs : (j : ℕ) (u : code.Tenant) (b : Live) → j ≢ x.at → LiesAt ts j u b → b.place.quota ≢ x.live.place.quota
+  differs : (j : ℕ) (u : code.Tenant) (b : Live) → j ≢ x.at → LiesAt ts j u b → b.memory.quota ≢ x.live.memory.quota
   differs j u b d h = λ e. d (sharing.quotas j x.at u x.tenant b x.live h x.lies e)
 
   is_own : (j : ℕ) (u : code.Tenant) → j ≡ x.at → slice_get ts j ≡ Some u → x.tenant ≡ u
@@ -98,55 +98,55 @@ module _ (p : Pool) (us : List Translation) (ts : List code.Tenant) (sharing : I
 
   -- ---- what holds of all
 
-  placed_lent : IsPlaced n us x.at x.tenant.pages x.live.place
+  placed_lent : IsTenantMemory n us x.at x.tenant.pages x.live.memory
   placed_lent = record {
-    space = space_framed p x.live.place.quota x.live.place.table x.tenant.pages q f a frame placed.space x.mapped;
+    space = space_framed p x.live.memory.quota x.live.memory.table x.tenant.pages q f a frame placed.space x.mapped;
     charged = placed.charged;
     counted = placed.counted;
-    cached = cached_framed p x.live.place.quota x.live.place.table x.tenant.pages q f a frame placed.space x.mapped x.at us placed.cached;
+    cached = cached_framed p x.live.memory.quota x.live.memory.table x.tenant.pages q f a frame placed.space x.mapped x.at us placed.cached;
     some = placed.some;
     most = placed.most;
   }
 
-  attrs_stay : (r : ℕ) → attrs_at (memory_at n x.live.place x.tenant.pages) r ≡ attrs_at (memory_at p x.live.place x.tenant.pages) r
+  attrs_stay : (r : ℕ) → attrs_at (memory_at n x.live.memory x.tenant.pages) r ≡ attrs_at (memory_at p x.live.memory x.tenant.pages) r
   unfolding attrs_at
   attrs_stay r =
-      ap attrs_cases (page_at-space n x.live.place.table x.tenant.pages x.live.place.state r)
+      ap attrs_cases (page_at-space n x.live.memory.table x.tenant.pages x.live.memory.state r)
       ∙ ap (λ m. attrs_cases (option_map (page_of n) (get m r))) stays.pages
-      ∙ attrs_same p n (get (pages_of p x.live.place.table.frame) r)
-      ∙ sym (ap attrs_cases (page_at-space p x.live.place.table x.tenant.pages x.live.place.state r))
+      ∙ attrs_same p n (get (pages_of p x.live.memory.table.frame) r)
+      ∙ sym (ap attrs_cases (page_at-space p x.live.memory.table x.tenant.pages x.live.memory.state r))
 
-  left_stays : pages_left (memory_at n x.live.place x.tenant.pages) ≡ pages_left (memory_at p x.live.place x.tenant.pages)
+  left_stays : pages_left (memory_at n x.live.memory x.tenant.pages) ≡ pages_left (memory_at p x.live.memory x.tenant.pages)
   left_stays =
-      pages_left-space n x.live.place.table x.tenant.pages x.live.place.state placed_lent.space.table.len_is
-      ∙ sym (pages_left-space p x.live.place.table x.tenant.pages x.live.place.state placed.space.table.len_is)
+      pages_left-space n x.live.memory.table x.tenant.pages x.live.memory.state placed_lent.space.table.len_is
+      ∙ sym (pages_left-space p x.live.memory.table x.tenant.pages x.live.memory.state placed.space.table.len_is)
 
-  ready_lent : IsReady x.live.parts.value (memory_at n x.live.place x.tenant.pages)
+  ready_lent : IsReady x.live.parts.value (memory_at n x.live.memory x.tenant.pages)
   ready_lent =
       let ready = sharing.ready x.at x.tenant x.live x.lies in
       record {
-        heap = served-same (memory_at p x.live.place x.tenant.pages) (memory_at n x.live.place x.tenant.pages) x.live.parts.value.heap ready.heap attrs_stay left_stays;
+        heap = served-same (memory_at p x.live.memory x.tenant.pages) (memory_at n x.live.memory x.tenant.pages) x.live.parts.value.heap ready.heap attrs_stay left_stays;
         tag = ready.tag;
       }
 
-  own : (b : Live) → x.tenant.holding ≡ kept.Live b → (b.place.quota ≡ x.live.place.quota) × IsPlaced n us x.at x.tenant.pages b.place × IsReady b.parts.value (memory_at n b.place x.tenant.pages)
+  own : (b : Live) → x.tenant.holding ≡ kept.Live b → (b.memory.quota ≡ x.live.memory.quota) × IsTenantMemory n us x.at x.tenant.pages b.memory × IsReady b.parts.value (memory_at n b.memory x.tenant.pages)
   own b e =
-      subst (λ (z : Live). (z.place.quota ≡ x.live.place.quota) × IsPlaced n us x.at x.tenant.pages z.place × IsReady z.parts.value (memory_at n z.place x.tenant.pages))
+      subst (λ (z : Live). (z.memory.quota ≡ x.live.memory.quota) × IsTenantMemory n us x.at x.tenant.pages z.memory × IsReady z.parts.value (memory_at n z.memory x.tenant.pages))
       (live_same x.live b (sym x.lies.live ∙ e)) (refl, placed_lent, ready_lent)
 
   pub lent_sharing : IsSharing (with_bytes_at p f ws) us ts
   lent_sharing =
-      sharing_after p n us us ts ts x.live.place.quota x.at x.tenant turn sharing (record { here = x.lies.tenant; other = λ j d. refl }) differs own
+      sharing_after p n us us ts ts x.live.memory.quota x.at x.tenant turn sharing (record { here = x.lies.tenant; other = λ j d. refl }) differs own
       (λ j u d at e. d (sharing.numbers j x.at u x.tenant at x.lies.tenant e)) sharing.cached sharing.reserved
 
   -- ---- the frames
 
-  pages_lent : (i : ℕ) (t : code.Tenant) (b : Live) → LiesAt ts i t b → pages_of n b.place.table.frame ≡ pages_of p b.place.table.frame
+  pages_lent : (i : ℕ) (t : code.Tenant) (b : Live) → LiesAt ts i t b → pages_of n b.memory.table.frame ≡ pages_of p b.memory.table.frame
   pages_lent i t b l = elim (cases_eq i x.at) [
     | inl e ↦
         let same : x.live ≡ b = live_same x.live b (sym x.lies.live ∙ ap (λ (w : code.Tenant). w.holding) (is_own i t e l.tenant) ∙ l.live) in
-        subst (λ (z : Live). pages_of n z.place.table.frame ≡ pages_of p z.place.table.frame) same stays.pages
-    | inr d ↦ (kept-others p n x.live.place.quota b.place.quota b.place.table (differs i t b d l) others (sharing.placed i t b l).space.table).pages
+        subst (λ (z : Live). pages_of n z.memory.table.frame ≡ pages_of p z.memory.table.frame) same stays.pages
+    | inr d ↦ (kept-others p n x.live.memory.quota b.memory.quota b.memory.table (differs i t b d l) others (sharing.placed i t b l).space.table).pages
   ]
 
   pub lent_frames : (j r : ℕ) → found_among (with_bytes_at p f ws) j r ts ≡ found_among p j r ts
@@ -155,16 +155,16 @@ module _ (p : Pool) (us : List Translation) (ts : List code.Tenant) (sharing : I
   -- ---- the content
 
   module _ (sound : IsSound p) where
-    memory_lent : memory_at n x.live.place x.tenant.pages ≡ with_page_bytes (memory_at p x.live.place x.tenant.pages) q ws
+    memory_lent : memory_at n x.live.memory x.tenant.pages ≡ with_page_bytes (memory_at p x.live.memory x.tenant.pages) q ws
     unfolding with_page_bytes
     memory_lent =
-        memory_framed p x.live.place.quota x.live.place.table x.tenant.pages q f a frame placed.space x.mapped x.live.place.state sound
-        ∙ sym (ap (with_bytes_of (memory_at p x.live.place x.tenant.pages) q ws) (page_found p x.live.place.table x.tenant.pages x.live.place.state q f a x.mapped))
+        memory_framed p x.live.memory.quota x.live.memory.table x.tenant.pages q f a frame placed.space x.mapped x.live.memory.state sound
+        ∙ sym (ap (with_bytes_of (memory_at p x.live.memory x.tenant.pages) q ws) (page_found p x.live.memory.table x.tenant.pages x.live.memory.state q f a x.mapped))
 
     tenant_lent : tenant_in n x.tenant ≡ tenant_after_write id q ws (tenant_in p x.tenant)
     tenant_lent =
         by_live n x.tenant x.live x.lies.live
-        ∙ written_tenant id q x.tenant.pages ws x.live.parts.value (memory_at p x.live.place x.tenant.pages) (memory_at n x.live.place x.tenant.pages) (eq-eqb x.live.parts.value.log.id id (sym (ap (λ (r : Record). r.id) (live_record x.tenant x.live x.lies.live)) ∙ x.number)) memory_lent
+        ∙ written_tenant id q x.tenant.pages ws x.live.parts.value (memory_at p x.live.memory x.tenant.pages) (memory_at n x.live.memory x.tenant.pages) (eq-eqb x.live.parts.value.log.id id (sym (ap (λ (r : Record). r.id) (live_record x.tenant x.live x.lies.live)) ∙ x.number)) memory_lent
         ∙ sym (ap (tenant_after_write id q ws) (by_live p x.tenant x.live x.lies.live))
 
     other_id : (j : ℕ) (u : code.Tenant) → j ≢ x.at → slice_get ts j ≡ Some u → ((record_in u).id == id) ≡ false
@@ -174,7 +174,7 @@ module _ (p : Pool) (us : List Translation) (ts : List code.Tenant) (sharing : I
     lent_tenants = map_each (tenant_in n) (tenant_in p) (tenant_after_write id q ws) ts (λ j u at. elim (cases_eq j x.at) [
       | inl e ↦ subst (λ (w : code.Tenant). tenant_in n w ≡ tenant_after_write id q ws (tenant_in p w)) (is_own j u e at) tenant_lent
       | inr d ↦
-          tenant_stays p n us us ts x.live.place.quota x.at j u turn sharing (λ b h. differs j u b d h) at
+          tenant_stays p n us us ts x.live.memory.quota x.at j u turn sharing (λ b h. differs j u b d h) at
           ∙ sym (held_if ((record_in u).id == id) (tenant_in p u) (state_after_write q ws (tenant_in p u).held) (other_id j u d at))
     ])
 
@@ -216,7 +216,7 @@ module _ (p : Pool) (us : List Translation) (ts : List code.Tenant) (sharing : I
 module _ (p : Pool) (us : List Translation) (ts : List code.Tenant) (sharing : IsSharing p us ts) (id q : ℕ) where
   taken_by_found : (y : Option (ℕ × Attrs)) → found_among p id q ts ≡ y → IfSome (option_map (λ z. z.0) y) (λ g. IsTaken p g)
   taken_by_found None e = tt
-  taken_by_found (Some (f, a)) e = let x = found_where p id q ts (f, a) e in (x.live.place.quota, lent_out p us ts sharing id q f a x)
+  taken_by_found (Some (f, a)) e = let x = found_where p id q ts (f, a) e in (x.live.memory.quota, lent_out p us ts sharing id q f a x)
 
   pub taken_lent : (o : Option ℕ) → o ≡ option_map (λ z. z.0) (found_among p id q ts) → IfSome o (λ g. IsTaken p g)
   taken_lent o e = subst (λ z. IfSome z (λ g. IsTaken p g)) (sym e) (taken_by_found (found_among p id q ts) refl)

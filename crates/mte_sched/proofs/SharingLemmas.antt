@@ -9,7 +9,7 @@ use Rattle.mte_frames.specs.Pool.{Pool, KeepsOthers}
 use Rattle.mte_translate.specs.declared.translation.Translation.{Translation}
 use Rattle.mte_space.specs.Spaces.{NoneEnters}
 use Rattle.mte_space.proofs.OtherSpaces.{other_memory, other_space, other_cached}
-use Rattle.mte_sched.specs.declared.place.TenantMemory.{TenantMemory}
+use Rattle.mte_sched.specs.declared.memory.TenantMemory.{TenantMemory}
 use Rattle.mte_sched.specs.declared.tenant.Tenant as code
 use Rattle.mte_sched.specs.declared.tenant.Live.{Live}
 use Rattle.mte_sched.specs.declared.tenant.Holding.{Holding}
@@ -18,8 +18,8 @@ use Rattle.mte_tenant.specs.Machines.{machine_of}
 use Rattle.mte_sched.specs.Contents.{Tenant}
 use Rattle.mte_sched.specs.Contents as held
 use Rattle.mte_tenant.specs.Ledger.{charge_of_entry}
-use Rattle.mte_sched.specs.Places.{memory_at, IsPlaced}
-use Rattle.mte_tenant.specs.Ready.{IsReady}
+use Rattle.mte_sched.specs.Memories.{memory_at, IsTenantMemory}
+use Rattle.mte_svc.specs.Ready.{IsReady}
 use Rattle.mte_sched.specs.Tenants.{record_in, is_live_holding, tenant_in, entries_in, state_of_holding}
 use Rattle.mte_sched.specs.Sharing.{is_placed, LiesAt, IsSharing}
 use Rattle.mte_sched.proofs.PlaceLists.{HasAt, some_same}
@@ -32,7 +32,7 @@ pub record Turn (p n : Pool) (us vs : List Translation) (k i : ℕ) : Type 0 whe
 -- ---- a tenant of another quota and another ASID
 
 pub placed_stays : (p n : Pool) (us vs : List Translation) (k i j pages : ℕ) (a : TenantMemory) → Turn p n us vs k i
-    → a.quota ≢ k → j ≢ i → IsPlaced p us j pages a → IsPlaced n vs j pages a
+    → a.quota ≢ k → j ≢ i → IsTenantMemory p us j pages a → IsTenantMemory n vs j pages a
 placed_stays p n us vs k i j pages a turn differs apart h = record {
   space = other_space p n k a.quota pages a.table differs turn.others h.space;
   charged = (turn.others.counts a.quota differs).0 ∙ h.charged;
@@ -43,27 +43,27 @@ placed_stays p n us vs k i j pages a turn differs apart h = record {
 }
 
 pub memory_stays : (p n : Pool) (us vs : List Translation) (k i j pages : ℕ) (a : TenantMemory) → Turn p n us vs k i
-    → a.quota ≢ k → IsPlaced p us j pages a → memory_at n a pages ≡ memory_at p a pages
+    → a.quota ≢ k → IsTenantMemory p us j pages a → memory_at n a pages ≡ memory_at p a pages
 memory_stays p n us vs k i j pages a turn differs h =
     other_memory p n k a.quota pages a.table a.state differs turn.others h.space.table
 
-same_held : (p n : Pool) (pages : ℕ) (o : Holding) → ((a : Live) → o ≡ kept.Live a → memory_at n a.place pages ≡ memory_at p a.place pages)
+same_held : (p n : Pool) (pages : ℕ) (o : Holding) → ((a : Live) → o ≡ kept.Live a → memory_at n a.memory pages ≡ memory_at p a.memory pages)
     → state_of_holding n pages o ≡ state_of_holding p pages o
 same_held p n pages (kept.Gone r) h = refl
 same_held p n pages (kept.Live a) h = ap (λ m. held.Live (machine_of a.parts.value m)) (h a refl)
 
 -- A tenant whose quota is not the turn's is what it was.
 pub tenant_stays : (p n : Pool) (us vs : List Translation) (ts : List code.Tenant) (k i j : ℕ) (u : code.Tenant) → Turn p n us vs k i → IsSharing p us ts
-    → ((a : Live) → LiesAt ts j u a → a.place.quota ≢ k) → slice_get ts j ≡ Some u → tenant_in n u ≡ tenant_in p u
+    → ((a : Live) → LiesAt ts j u a → a.memory.quota ≢ k) → slice_get ts j ≡ Some u → tenant_in n u ≡ tenant_in p u
 tenant_stays p n us vs ts k i j u turn sharing differs at =
     let same : state_of_holding n u.pages u.holding ≡ state_of_holding p u.pages u.holding =
-    same_held p n u.pages u.holding (λ a e. memory_stays p n us vs k i j u.pages a.place turn (differs a (record { tenant = at; live = e })) (sharing.placed j u a (record { tenant = at; live = e }))) in
+    same_held p n u.pages u.holding (λ a e. memory_stays p n us vs k i j u.pages a.memory turn (differs a (record { tenant = at; live = e })) (sharing.placed j u a (record { tenant = at; live = e }))) in
     ap (λ (m : held.TenantState). let t : Tenant = record { id = (record_in u).id; pages = u.pages; held = m } in t) same
 
 -- ---- what holds of all, after a turn
 
 module _ (p n : Pool) (us vs : List Translation) (ts ns : List code.Tenant) (k i : ℕ) (t : code.Tenant) (turn : Turn p n us vs k i) (sharing : IsSharing p us ts)
-    (has : HasAt ts ns i t) (differs : (j : ℕ) (u : code.Tenant) (a : Live) → j ≢ i → LiesAt ts j u a → a.place.quota ≢ k) where
+    (has : HasAt ts ns i t) (differs : (j : ℕ) (u : code.Tenant) (a : Live) → j ≢ i → LiesAt ts j u a → a.memory.quota ≢ k) where
   was_at : (j : ℕ) (u : code.Tenant) (a : Live) → j ≢ i → LiesAt ns j u a → LiesAt ts j u a
   was_at j u a d h = record { tenant = sym (has.other j d) ∙ h.tenant; live = h.live }
 
@@ -84,30 +84,30 @@ module _ (p n : Pool) (us vs : List Translation) (ts ns : List code.Tenant) (k i
       All-weaker (λ v. Contains us v × (v.asid ≢ i)) (λ v. is_placed (slice_get ns v.asid) ≡ true)
       (λ v h. ap is_placed (has.other v.asid h.1) ∙ All-contains (λ v. is_placed (slice_get ts v.asid) ≡ true) us v sharing.cached h.0) vs rest
 
-  module _ (own : (a : Live) → t.holding ≡ kept.Live a → (a.place.quota ≡ k) × IsPlaced n vs i t.pages a.place × IsReady a.parts.value (memory_at n a.place t.pages))
+  module _ (own : (a : Live) → t.holding ≡ kept.Live a → (a.memory.quota ≡ k) × IsTenantMemory n vs i t.pages a.memory × IsReady a.parts.value (memory_at n a.memory t.pages))
       (number : (j : ℕ) (u : code.Tenant) → j ≢ i → slice_get ts j ≡ Some u → (record_in u).id ≢ (record_in t).id)
       (cached : All (λ v. is_placed (slice_get ns v.asid) ≡ true) vs) (reserved : sum n.reserved ≡ sum_by charge_of_entry (entries_in ns)) where
-    own_at : (j : ℕ) (u : code.Tenant) (a : Live) → j ≡ i → LiesAt ns j u a → (a.place.quota ≡ k) × IsPlaced n vs j u.pages a.place × IsReady a.parts.value (memory_at n a.place u.pages)
+    own_at : (j : ℕ) (u : code.Tenant) (a : Live) → j ≡ i → LiesAt ns j u a → (a.memory.quota ≡ k) × IsTenantMemory n vs j u.pages a.memory × IsReady a.parts.value (memory_at n a.memory u.pages)
     own_at j u a e h =
-        subst (λ l. (a.place.quota ≡ k) × IsPlaced n vs l u.pages a.place × IsReady a.parts.value (memory_at n a.place u.pages)) (sym e)
-        (subst (λ (w : code.Tenant). (a.place.quota ≡ k) × IsPlaced n vs i w.pages a.place × IsReady a.parts.value (memory_at n a.place w.pages)) (is_new j u e h.tenant)
+        subst (λ l. (a.memory.quota ≡ k) × IsTenantMemory n vs l u.pages a.memory × IsReady a.parts.value (memory_at n a.memory u.pages)) (sym e)
+        (subst (λ (w : code.Tenant). (a.memory.quota ≡ k) × IsTenantMemory n vs i w.pages a.memory × IsReady a.parts.value (memory_at n a.memory w.pages)) (is_new j u e h.tenant)
         (own a (ap (λ (w : code.Tenant). w.holding) (is_new j u e h.tenant) ∙ h.live)))
 
-    placed_at : (j : ℕ) (u : code.Tenant) (a : Live) → LiesAt ns j u a → IsPlaced n vs j u.pages a.place
+    placed_at : (j : ℕ) (u : code.Tenant) (a : Live) → LiesAt ns j u a → IsTenantMemory n vs j u.pages a.memory
     placed_at j u a h = elim (cases_eq j i) [
       | inl e ↦ (own_at j u a e h).1
-      | inr d ↦ placed_stays p n us vs k i j u.pages a.place turn (differs j u a d (was_at j u a d h)) d (sharing.placed j u a (was_at j u a d h))
+      | inr d ↦ placed_stays p n us vs k i j u.pages a.memory turn (differs j u a d (was_at j u a d h)) d (sharing.placed j u a (was_at j u a d h))
     ]
 
-    ready_at : (j : ℕ) (u : code.Tenant) (a : Live) → LiesAt ns j u a → IsReady a.parts.value (memory_at n a.place u.pages)
+    ready_at : (j : ℕ) (u : code.Tenant) (a : Live) → LiesAt ns j u a → IsReady a.parts.value (memory_at n a.memory u.pages)
     ready_at j u a h = elim (cases_eq j i) [
       | inl e ↦ (own_at j u a e h).2
       | inr d ↦
           let was = was_at j u a d h in
-          subst (IsReady a.parts.value) (sym (memory_stays p n us vs k i j u.pages a.place turn (differs j u a d was) (sharing.placed j u a was))) (sharing.ready j u a was)
+          subst (IsReady a.parts.value) (sym (memory_stays p n us vs k i j u.pages a.memory turn (differs j u a d was) (sharing.placed j u a was))) (sharing.ready j u a was)
     ]
 
-    quotas_at : (j l : ℕ) (u w : code.Tenant) (a b : Live) → LiesAt ns j u a → LiesAt ns l w b → a.place.quota ≡ b.place.quota → j ≡ l
+    quotas_at : (j l : ℕ) (u w : code.Tenant) (a b : Live) → LiesAt ns j u a → LiesAt ns l w b → a.memory.quota ≡ b.memory.quota → j ≡ l
     quotas_at j l u w a b g h e = elim (cases_eq j i) [
       | inl x ↦ elim (cases_eq l i) [
         | inl y ↦ x ∙ sym y

@@ -15,7 +15,7 @@ use Rattle.mte_translate.proofs.StandingLaws.{forget-asid}
 use Rattle.mte_space.specs.Spaces.{IsSpace, KeepsRest, NoneEnters}
 use Rattle.mte_svc.specs.declared.parts.TenantParts.{TenantParts}
 use Rattle.mte_svc.specs.declared.record.Record.{Record}
-use Rattle.mte_sched.specs.declared.place.TenantMemory.{TenantMemory}
+use Rattle.mte_sched.specs.declared.memory.TenantMemory.{TenantMemory}
 use Rattle.mte_sched.specs.declared.tenant.Tenant as code
 use Rattle.mte_sched.specs.declared.tenant.Live.{Live}
 use Rattle.mte_sched.specs.declared.tenant.Holding.{Holding}
@@ -23,13 +23,13 @@ use Rattle.mte_sched.specs.declared.tenant.Holding.TheVariants as kept
 use Rattle.mte_tenant.specs.Machines.{machine_of, after_slice, after_stop}
 use Rattle.mte_tenant.specs.Ledger.{LedgerEntry, charge_of_entry, charge_of, is_live, has_live_id}
 use Rattle.mte_sched.specs.Contents.{TenantState, state_after_slice, state_after_stop, Tenant, tenant_after_slice, tenant_after_stop}
-use Rattle.mte_sched.specs.Places.{memory_at, IsPlaced}
-use Rattle.mte_tenant.specs.Ready.{IsReady}
+use Rattle.mte_sched.specs.Memories.{memory_at, IsTenantMemory}
+use Rattle.mte_svc.specs.Ready.{IsReady}
 use Rattle.mte_sched.specs.Tenants.{state_of_holding, record_of_holding, is_live_holding, record_in, tenant_in, tenants_in, entry_in, entries_in}
 use Rattle.mte_sched.specs.Sharing.{HasLiveAt, LiesAt, IsSharing}
 use Rattle.mte_sched.proofs.TenantLemmas.{number_in, tenant_by, sliced_tenant, stopped_tenant, after-slice-id, after-stop-id}
 use Rattle.mte_sched.proofs.PlaceLists.{has_set, some_same, map_turn, map-set_same, sum_turn}
-use Rattle.mte_sched.proofs.PlaceLemmas.{placed_after, reserved_stays}
+use Rattle.mte_sched.proofs.MemoryLemmas.{placed_after, reserved_stays}
 use Rattle.mte_sched.proofs.SharingLemmas.{Turn, tenant_stays, cached_after, cached_without, sharing_after}
 
 pub live_same : (a b : Live) → kept.Live a ≡ kept.Live b → a ≡ b
@@ -69,7 +69,7 @@ pub held_if : (b : Bool) (t : Tenant) (h : TenantState) → b ≡ false → (let
 held_if true t h e = absurd cc
 held_if false t h e = refl
 
-pub by_live : (p : Pool) (t : code.Tenant) (a : Live) → t.holding ≡ kept.Live a → tenant_in p t ≡ tenant_by a.parts.value (memory_at p a.place t.pages) t.pages
+pub by_live : (p : Pool) (t : code.Tenant) (a : Live) → t.holding ≡ kept.Live a → tenant_in p t ≡ tenant_by a.parts.value (memory_at p a.memory t.pages) t.pages
 by_live p t a e = ap (λ (z : Holding). let u : Tenant = record { id = (record_of_holding z).id; pages = t.pages; held = state_of_holding p t.pages z } in u) e
 
 pub live_record : (t : code.Tenant) (a : Live) → t.holding ≡ kept.Live a → record_in t ≡ a.parts.value.log
@@ -77,8 +77,8 @@ live_record t a e = ap record_of_holding e
 
 module _ (p n : Pool) (us vs : List Translation) (ts : List code.Tenant) (i id : ℕ) (t : code.Tenant) (a : Live)
     (sharing : IsSharing p us ts) (lies : LiesAt ts i t a) (same : ((record_in t).id == id) ≡ true) (within : i < length ts)
-    (others : KeepsOthers a.place.quota p n) (entries : NoneEnters i us vs) where
-  turn : Turn p n us vs a.place.quota i
+    (others : KeepsOthers a.memory.quota p n) (entries : NoneEnters i us vs) where
+  turn : Turn p n us vs a.memory.quota i
   turn = record { others = others; entries = entries }
 
   own_number : (record_in t).id ≡ a.parts.value.log.id
@@ -87,7 +87,7 @@ module _ (p n : Pool) (us vs : List Translation) (ts : List code.Tenant) (i id :
   own_same : (a.parts.value.log.id == id) ≡ true
   own_same = ap (λ k. k == id) (sym own_number) ∙ same
 
-  differs : (j : ℕ) (u : code.Tenant) (b : Live) → j ≢ i → LiesAt ts j u b → b.place.quota ≢ a.place.quota
+  differs : (j : ℕ) (u : code.Tenant) (b : Live) → j ≢ i → LiesAt ts j u b → b.memory.quota ≢ a.memory.quota
   differs j u b d h = λ e. d (sharing.quotas j i u t b a h lies e)
 
   number : (z : code.Tenant) → (record_in z).id ≡ (record_in t).id → (j : ℕ) (u : code.Tenant) → j ≢ i → slice_get ts j ≡ Some u → (record_in u).id ≢ (record_in z).id
@@ -97,42 +97,42 @@ module _ (p n : Pool) (us vs : List Translation) (ts : List code.Tenant) (i id :
   other_id j u d at = ne_eqb (record_in u).id id (λ e. d (sharing.numbers j i u t at lies.tenant (e ∙ sym (eqb-true (record_in t).id id same))))
 
   stays : (j : ℕ) (u : code.Tenant) → j ≢ i → slice_get ts j ≡ Some u → tenant_in n u ≡ tenant_in p u
-  stays j u d at = tenant_stays p n us vs ts a.place.quota i j u turn sharing (λ b h. differs j u b d h) at
+  stays j u d at = tenant_stays p n us vs ts a.memory.quota i j u turn sharing (λ b h. differs j u b d h) at
 
   -- ---- a slice
 
-  module _ (steps : ℕ) (b : TenantMemory) (parts : Box TenantParts Global) (rest : KeepsRest a.place.quota p n a.place.table b.table) (quota : b.quota ≡ a.place.quota) (space : IsSpace n b.quota b.table t.pages)
+  module _ (steps : ℕ) (b : TenantMemory) (parts : Box TenantParts Global) (rest : KeepsRest a.memory.quota p n a.memory.table b.table) (quota : b.quota ≡ a.memory.quota) (space : IsSpace n b.quota b.table t.pages)
       (cached : IsCached (pages_of n b.table.frame) i vs) (ready : IsReady parts.value (memory_at n b t.pages))
-      (step : machine_of parts.value (memory_at n b t.pages) ≡ after_slice steps (machine_of a.parts.value (memory_at p a.place t.pages))) (was : IsSound p) (is : IsSound n) where
+      (step : machine_of parts.value (memory_at n b t.pages) ≡ after_slice steps (machine_of a.parts.value (memory_at p a.memory t.pages))) (was : IsSound p) (is : IsSound n) where
     abbrev pub after : code.Tenant
-    after = record { pages = t.pages; holding = kept.Live (record { parts = parts; place = b }) }
+    after = record { pages = t.pages; holding = kept.Live (record { parts = parts; memory = b }) }
 
     same_number : parts.value.log.id ≡ (record_in t).id
-    same_number = ap number_in step ∙ after-slice-id steps (machine_of a.parts.value (memory_at p a.place t.pages)) ∙ sym own_number
+    same_number = ap number_in step ∙ after-slice-id steps (machine_of a.parts.value (memory_at p a.memory t.pages)) ∙ sym own_number
 
     same_entry : entry_in after ≡ entry_in t
     same_entry =
         ap (λ k. let e : LedgerEntry = record { id = k; pages = t.pages; live = true } in e) same_number
         ∙ ap (λ (o : Holding). let e : LedgerEntry = record { id = (record_in t).id; pages = t.pages; live = is_live_holding o } in e) (sym lies.live)
 
-    own : (c : Live) → after.holding ≡ kept.Live c → (c.place.quota ≡ a.place.quota) × IsPlaced n vs i after.pages c.place × IsReady c.parts.value (memory_at n c.place after.pages)
+    own : (c : Live) → after.holding ≡ kept.Live c → (c.memory.quota ≡ a.memory.quota) × IsTenantMemory n vs i after.pages c.memory × IsReady c.parts.value (memory_at n c.memory after.pages)
     own c e =
-        subst (λ (z : Live). (z.place.quota ≡ a.place.quota) × IsPlaced n vs i t.pages z.place × IsReady z.parts.value (memory_at n z.place t.pages)) (live_same (record { parts = parts; place = b }) c e)
-        (quota, placed_after p n us vs i t.pages a.place b (sharing.placed i t a lies) rest quota space cached, ready)
+        subst (λ (z : Live). (z.memory.quota ≡ a.memory.quota) × IsTenantMemory n vs i t.pages z.memory × IsReady z.parts.value (memory_at n z.memory t.pages)) (live_same (record { parts = parts; memory = b }) c e)
+        (quota, placed_after p n us vs i t.pages a.memory b (sharing.placed i t a lies) rest quota space cached, ready)
 
     pub sliced_sharing : IsSharing n vs (slice_set ts i after)
     sliced_sharing =
         let has = has_set ts i after within in
-        sharing_after p n us vs ts (slice_set ts i after) a.place.quota i after turn sharing has differs own (number after same_number)
-        (cached_after p n us vs ts (slice_set ts i after) a.place.quota i after turn sharing has differs entries refl)
-        (ap sum (reserved_stays p n a.place.quota was is others rest.reserved) ∙ sharing.reserved
+        sharing_after p n us vs ts (slice_set ts i after) a.memory.quota i after turn sharing has differs own (number after same_number)
+        (cached_after p n us vs ts (slice_set ts i after) a.memory.quota i after turn sharing has differs entries refl)
+        (ap sum (reserved_stays p n a.memory.quota was is others rest.reserved) ∙ sharing.reserved
         ∙ ap (sum_by charge_of_entry) (sym (map-set_same entry_in ts i after (λ u e. same_entry ∙ ap entry_in (some_same t u (sym lies.tenant ∙ e))))))
 
     pub sliced_tenants : tenants_in n (slice_set ts i after) ≡ map (tenant_after_slice id steps) (tenants_in p ts)
     sliced_tenants =
         map_turn (tenant_in n) (tenant_in p) (tenant_after_slice id steps) ts i after
         (λ j u d at. stays j u d at ∙ sym (held_if ((record_in u).id == id) (tenant_in p u) (state_after_slice steps (tenant_in p u).held) (other_id j u d at)))
-        (λ u e. sliced_tenant id steps t.pages a.parts.value parts.value (memory_at p a.place t.pages) (memory_at n b t.pages) own_same step
+        (λ u e. sliced_tenant id steps t.pages a.parts.value parts.value (memory_at p a.memory t.pages) (memory_at n b t.pages) own_same step
         ∙ ap (tenant_after_slice id steps) (sym (by_live p t a lies.live) ∙ ap (tenant_in p) (some_same t u (sym lies.tenant ∙ e))))
 
   -- ---- a stop
@@ -143,7 +143,7 @@ module _ (p n : Pool) (us vs : List Translation) (ts : List code.Tenant) (i id :
     left = record { pages = t.pages; holding = kept.Gone parts.log }
 
     left_number : parts.log.id ≡ (record_in t).id
-    left_number = ap number_in (step (memory_at p a.place t.pages)) ∙ after-stop-id (machine_of a.parts.value (memory_at p a.place t.pages)) ∙ sym own_number
+    left_number = ap number_in (step (memory_at p a.memory t.pages)) ∙ after-stop-id (machine_of a.parts.value (memory_at p a.memory t.pages)) ∙ sym own_number
 
     was_charged : charge_of_entry (entry_in t) ≡ charge_of t.pages
     was_charged = ap (λ (o : Holding). if is_live_holding o then charge_of t.pages else 0) lies.live
@@ -151,8 +151,8 @@ module _ (p n : Pool) (us vs : List Translation) (ts : List code.Tenant) (i id :
     pub stopped_sharing : IsSharing n vs (slice_set ts i left)
     stopped_sharing =
         let has = has_set ts i left within in
-        sharing_after p n us vs ts (slice_set ts i left) a.place.quota i left turn sharing has differs (λ c e. absurd cc) (number left left_number)
-        (cached_without p n us vs ts (slice_set ts i left) a.place.quota i left turn sharing has differs (rw gone (forget-asid i us)))
+        sharing_after p n us vs ts (slice_set ts i left) a.memory.quota i left turn sharing has differs (λ c e. absurd cc) (number left left_number)
+        (cached_without p n us vs ts (slice_set ts i left) a.memory.quota i left turn sharing has differs (rw gone (forget-asid i us)))
         (omega (arith, charge, sharing.reserved, was_charged, sum_turn charge_of_entry entry_in ts i left t lies.tenant))
 
     pub stopped_count : count_by is_live (entries_in (slice_set ts i left)) + 1 ≡ count_by is_live (entries_in ts)
@@ -166,7 +166,7 @@ module _ (p n : Pool) (us vs : List Translation) (ts : List code.Tenant) (i id :
     stopped_tenants =
         map_turn (tenant_in n) (tenant_in p) (tenant_after_stop id) ts i left
         (λ j u d at. stays j u d at ∙ sym (held_if ((record_in u).id == id) (tenant_in p u) (state_after_stop (tenant_in p u).held) (other_id j u d at)))
-        (λ u e. stopped_tenant id t.pages a.parts.value parts (memory_at p a.place t.pages) own_same step
+        (λ u e. stopped_tenant id t.pages a.parts.value parts (memory_at p a.memory t.pages) own_same step
         ∙ ap (tenant_after_stop id) (sym (by_live p t a lies.live) ∙ ap (tenant_in p) (some_same t u (sym lies.tenant ∙ e))))
 
 pub gone_enters : (i : ℕ) (us vs : List Translation) → vs ≡ without_asid i us → NoneEnters i us vs

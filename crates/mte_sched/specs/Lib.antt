@@ -1,7 +1,7 @@
 pub mod Lives
 pub mod Behaviours
 pub mod Contents
-pub mod Places
+pub mod Memories
 pub mod Tenants
 pub mod Sharing
 pub mod Isolation

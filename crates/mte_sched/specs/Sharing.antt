@@ -12,8 +12,8 @@ use Rattle.mte_sched.specs.declared.tenant.Live.{Live}
 use Rattle.mte_sched.specs.declared.tenant.Holding.TheVariants as kept
 use Rattle.mte_sched.specs.declared.tenant.Tenant.{Tenant}
 use Rattle.mte_tenant.specs.Ledger.{charge_of_entry, has_live_id}
-use Rattle.mte_sched.specs.Places.{memory_at, IsPlaced}
-use Rattle.mte_tenant.specs.Ready.{IsReady}
+use Rattle.mte_sched.specs.Memories.{memory_at, IsTenantMemory}
+use Rattle.mte_svc.specs.Ready.{IsReady}
 use Rattle.mte_sched.specs.Tenants.{record_in, is_live_holding, entry_in, entries_in}
 
 -- Whether a tenant is live.
@@ -46,12 +46,12 @@ pub record IsSharing (p : Pool) (us : List Translation) (ts : List Tenant) : Typ
   -- of each live tenant: table, frames and translations are in order, and heap and generator may be
   -- used with its memory
   pub placed : (i : ℕ) (t : Tenant) (a : Live) → LiesAt ts i t a
-      → IsPlaced p us i t.pages a.place
+      → IsTenantMemory p us i t.pages a.memory
   pub ready : (i : ℕ) (t : Tenant) (a : Live) → LiesAt ts i t a
-      → IsReady a.parts.value (memory_at p a.place t.pages)
+      → IsReady a.parts.value (memory_at p a.memory t.pages)
   -- no two have the same quota
   pub quotas : (i j : ℕ) (t u : Tenant) (a b : Live) → LiesAt ts i t a → LiesAt ts j u b
-      → a.place.quota ≡ b.place.quota → i ≡ j
+      → a.memory.quota ≡ b.memory.quota → i ≡ j
   -- no two tenants have the same number
   pub numbers : (i j : ℕ) (t u : Tenant) → slice_get ts i ≡ Some t → slice_get ts j ≡ Some u
       → (record_in t).id ≡ (record_in u).id → i ≡ j

@@ -8,11 +8,11 @@ use Rattle.mte_sched.specs.declared.tenant.Holding.TheVariants as kept
 use Rattle.mte_tenant.specs.Machines.{machine_of}
 use Rattle.mte_tenant.specs.Ledger.{LedgerEntry}
 use Rattle.mte_sched.specs.Contents.{TenantState, Live, Gone, Tenant}
-use Rattle.mte_sched.specs.Places.{memory_at}
+use Rattle.mte_sched.specs.Memories.{memory_at}
 
 -- What is kept of a tenant with a reservation.
 abbrev pub state_of_holding : Pool → ℕ → Holding → TenantState
-state_of_holding p pages (kept.Live l) = Live (machine_of l.parts.value (memory_at p l.place pages))
+state_of_holding p pages (kept.Live l) = Live (machine_of l.parts.value (memory_at p l.memory pages))
 state_of_holding p pages (kept.Gone r) = Gone r
 
 -- The record of a tenant in the code.

@@ -31,12 +31,12 @@ page_among id q (t ∷ more) = if t.id == id then page_held q t.held else page_a
 
 -- The frame and the attributes of a page of what is kept of a tenant.
 abbrev pub find_page_cases : Pool → ℕ → Holding → Option (ℕ × Attrs)
-find_page_cases p q (kept.Live l) = get (pages_of p l.place.table.frame) q
+find_page_cases p q (kept.Live l) = get (pages_of p l.memory.table.frame) q
 find_page_cases p q (kept.Gone r) = None
 
 -- A live tenant has a table.
 abbrev pub HasSomeTable : Pool → Holding → Type 0
-HasSomeTable p (kept.Live l) = IsSomeTable p l.place.table
+HasSomeTable p (kept.Live l) = IsSomeTable p l.memory.table
 HasSomeTable p (kept.Gone r) = Unit {0}
 
 -- And of the page q of the tenant that was admitted with a number.

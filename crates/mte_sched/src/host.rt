@@ -16,15 +16,17 @@ ghost use Rattle.mte_sched.specs.Rooms.{room_for_one};
 ghost use Rattle.mte_sched.specs.Sharing.{IsSharing, IsIndexed, HasId, HasLiveAt};
 
 use crate::index::Index;
-use crate::place::start_place;
-use crate::tenant::{Holding, Live, Tenant};
+use crate::memory::start_memory;
+use crate::tenant::{Caches, Holding, Live, Tenant};
 use crate::turns::{slice_at, stop_at};
 use a64_run::OpCache;
 use address_map::MAX_FRAMES;
 use mte_arena::{Arena, ArenaError, FRAME_BYTES};
 use mte_frames::FramePool;
 use mte_svc::Record;
-use mte_tenant::{Admission, AdmitError, LedgerFacts, NotLive, accept, start_parts};
+use mte_tenant::{
+    Admission, AdmitError, LedgerFacts, NotLive, accept, accepted_means, start_parts,
+};
 use mte_translate::Tlb;
 use obstacle::Obstacle;
 use scudo_heap::condition_of_calls;
@@ -34,14 +36,12 @@ use std::alloc::{AllocError, Global};
 #[derive(Drop)]
 pub struct Host {
     pool: FramePool,
-    tlb: Tlb,
+    caches: Caches,
     tenants: Vec<Tenant>,
     index: Index,
     /// How many tenants are live.
     live: usize,
-    /// What the instructions of tenants mean; it holds for all of them.
-    kept: OpCache,
-    ghost sharing: { IsSharing pool tlb tenants.items },
+    ghost sharing: { IsSharing pool caches.tlb tenants.items },
     ghost indexed: { IsIndexed index.positions.items (numbers_of (entries_in tenants.items)) },
     ghost counted: { live ≡ count_by is_live (entries_in tenants.items) },
 }
@@ -67,16 +67,18 @@ impl Host {
         let Ok(index) = Index::new(alloc) else {
             return Err(ArenaError::OutOfMemory);
         };
-        let Ok(kept) = OpCache::new(alloc) else {
+        let Ok(ops) = OpCache::new(alloc) else {
             return Err(ArenaError::OutOfMemory);
         };
         Ok(Host {
             pool,
-            tlb: Tlb::new(),
+            caches: Caches {
+                tlb: Tlb::new(),
+                ops,
+            },
             tenants: Vec::new(alloc),
             index,
             live: 0,
-            kept,
         })
     }
 
@@ -105,16 +107,18 @@ impl Host {
             else rooms_of self.old) }
     {
         condition_of_calls();
-        let plan = accept(alloc, admission, self.ledger_facts(admission.id))?;
+        let facts = self.ledger_facts(admission.id);
+        let plan = accept(alloc, admission, facts)?;
+        accepted_means(facts, admission);
         let first = start_parts(alloc, admission, &plan)?;
         let parts = Box::new(alloc, first)?;
         make_room(&mut self.tenants)?;
         let asid = self.tenants.len();
         self.index.enter(admission.id, asid);
-        let place = start_place(&mut self.pool, &mut self.tlb, asid, admission, &plan);
+        let memory = start_memory(&mut self.pool, &mut self.caches.tlb, asid, admission, &plan);
         self.tenants.push_reserved(Tenant {
             pages: admission.terms.pages,
-            holding: Holding::Live(Live { parts, place }),
+            holding: Holding::Live(Live { parts, memory }),
         });
         self.live += 1;
         Ok(())
@@ -135,15 +139,7 @@ impl Host {
             return Err(NotLive);
         };
         let tenants = self.tenants.as_mut_slice();
-        slice_at(
-            &mut self.kept,
-            &mut self.pool,
-            &mut self.tlb,
-            tenants,
-            asid,
-            id,
-            steps,
-        );
+        slice_at(&mut self.pool, &mut self.caches, tenants, asid, id, steps);
         Ok(())
     }
 
@@ -159,7 +155,13 @@ impl Host {
         let Some(asid) = self.find_live(id) else {
             return Err(NotLive);
         };
-        stop_at(&mut self.pool, &mut self.tlb, &mut self.tenants, asid, id);
+        stop_at(
+            &mut self.pool,
+            &mut self.caches.tlb,
+            &mut self.tenants,
+            asid,
+            id,
+        );
         self.live -= 1;
         Ok(())
     }

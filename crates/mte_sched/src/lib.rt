@@ -4,7 +4,7 @@
 mod host;
 mod index;
 mod isolation;
-mod place;
+mod memory;
 mod tenant;
 mod tenant_calls;
 mod turns;

@@ -1,7 +1,9 @@
 //! An admitted tenant.
 
-use crate::place::TenantMemory;
+use crate::memory::TenantMemory;
+use a64_run::OpCache;
 use mte_svc::{Record, TenantParts};
+use mte_translate::Tlb;
 
 /// An admitted tenant.
 #[derive(Drop)]
@@ -25,5 +27,13 @@ pub(crate) struct Live {
     /// All of it but its memory. It stands apart, so that a stopped tenant needs no room for it.
     pub(crate) parts: Box<TenantParts>,
     /// Where its memory lies.
-    pub(crate) place: TenantMemory,
+    pub(crate) memory: TenantMemory,
+}
+
+/// What is remembered for all tenants.
+#[derive(Drop)]
+pub(crate) struct Caches {
+    pub(crate) tlb: Tlb,
+    /// What their instructions mean; it holds for all of them.
+    pub(crate) ops: OpCache,
 }

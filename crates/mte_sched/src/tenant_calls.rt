@@ -51,7 +51,7 @@ impl Tenant {
     {
         match &self.holding {
             Holding::Live(live) => {
-                let (frame, _) = live.place.table.walk(pool, page)?;
+                let (frame, _) = live.memory.table.walk(pool, page)?;
                 Some(frame)
             }
             Holding::Gone(_) => None,

@@ -6,9 +6,8 @@ ghost use Rattle.mte_tenant.specs.Ledger.{is_live};
 ghost use Rattle.mte_sched.specs.Tenants.{tenants_in, entries_in};
 ghost use Rattle.mte_sched.specs.Sharing.{IsSharing, HasLiveAt};
 
-use crate::place::{slice_live, stop_place};
-use crate::tenant::{Holding, Live, Tenant};
-use a64_run::OpCache;
+use crate::memory::stop_memory;
+use crate::tenant::{Caches, Holding, Live, Tenant};
 use mte_frames::FramePool;
 use mte_svc::TenantParts;
 use mte_tenant::halt;
@@ -16,17 +15,16 @@ use mte_translate::Tlb;
 
 /// A slice of the tenant that has the number, and of no other.
 pub(crate) fn slice_at(
-    kept: &mut OpCache,
     pool: &mut FramePool,
-    tlb: &mut Tlb,
+    caches: &mut Caches,
     tenants: &mut [Tenant],
     asid: usize,
     id: u16,
     steps: u32,
 )
-    requires sharing { IsSharing pool.old tlb.old tenants.old }
+    requires sharing { IsSharing pool.old caches.old.tlb tenants.old }
     requires live { HasLiveAt tenants.old asid id }
-    ensures sharing { IsSharing pool.new tlb.new tenants.new }
+    ensures sharing { IsSharing pool.new caches.new.tlb tenants.new }
     ensures frames { length pool.new.frames ≡ length pool.old.frames }
     ensures capacities { pool.new.capacities ≡ pool.old.capacities }
     ensures tenants { tenants_in pool.new tenants.new
@@ -35,7 +33,7 @@ pub(crate) fn slice_at(
     let tenant = &mut tenants[asid];
     if let Holding::Live(live) = &mut tenant.holding {
         pool.recall();
-        slice_live(kept, pool, tlb, asid, tenant.pages, live, steps);
+        live.slice(pool, caches, asid, tenant.pages, steps);
         pool.recall();
     }
 }
@@ -65,10 +63,10 @@ pub(crate) fn stop_at(
     let Holding::Live(live) = holding else {
         unreachable!();
     };
-    let Live { parts, place } = live;
+    let Live { parts, memory } = live;
     let mut parts = Box::into_inner(parts);
     halt(&mut parts);
-    stop_place(pool, tlb, asid, pages, place);
+    stop_memory(pool, tlb, asid, pages, memory);
     let TenantParts { log, .. } = parts;
     let last = tenants.len();
     tenants.push_reserved(Tenant {

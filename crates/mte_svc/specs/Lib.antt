@@ -4,3 +4,4 @@ pub mod Inputs
 pub mod Results
 pub mod HeapServices
 pub mod Services
+pub mod Ready

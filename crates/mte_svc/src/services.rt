@@ -1,8 +1,8 @@
 //! The services, by x8.
 
-ghost use Rattle.std.specs.Prelude.{◌≡◌, ◌<◌};
+ghost use Rattle.std.specs.Prelude.{◌≡◌};
 ghost use Rattle.mte_tags.specs.Fixed.{KeepsFixed};
-ghost use Rattle.scudo_heap.specs.Served.{HeapOwnsItsPages};
+ghost use Rattle.mte_svc.specs.Ready.{IsReady};
 ghost use Rattle.mte_svc.specs.Services.{after_svc, after_other_service, after_write_service};
 ghost use Rattle.mte_svc.specs.Services.{after_read_service};
 
@@ -84,13 +84,11 @@ pub fn services_in_digits()
 /// that no service has returns 2^64 - 1. Where it ends the tenant, PC stays at the SVC. No service
 /// changes a page that is mapped without WRITE.
 pub fn svc<M: Paged>(parts: &mut TenantParts, memory: &mut M) -> SvcEnd
-    requires heap { HeapOwnsItsPages (M.Tagged.memory memory.old) parts.old.heap }
-    requires tag { parts.old.regs.rgsr.tag < 16 }
+    requires ready { IsReady parts.old (M.Tagged.memory memory.old) }
     ensures served { record { parts = parts.new; memory = M.Tagged.memory memory.new; end = result }
         ≡ after_svc parts.old (M.Tagged.memory memory.old) }
     ensures fixed { KeepsFixed (M.Tagged.memory memory.old) (M.Tagged.memory memory.new) }
-    ensures heap { HeapOwnsItsPages (M.Tagged.memory memory.new) parts.new.heap }
-    ensures tag { parts.new.regs.rgsr.tag < 16 }
+    ensures ready { IsReady parts.new (M.Tagged.memory memory.new) }
     ensures kept { M.Tagged.kept memory.old memory.new }
 {
     services_keep_fixed_pages();
@@ -101,12 +99,10 @@ pub fn svc<M: Paged>(parts: &mut TenantParts, memory: &mut M) -> SvcEnd
 /// The service with the number in x8.
 #[tactic(auto, unfolding(crate::specs::Services::after_svc))]
 fn serve<M: Paged>(parts: &mut TenantParts, memory: &mut M) -> SvcEnd
-    requires heap { HeapOwnsItsPages (M.Tagged.memory memory.old) parts.old.heap }
-    requires tag { parts.old.regs.rgsr.tag < 16 }
+    requires ready { IsReady parts.old (M.Tagged.memory memory.old) }
     ensures served { record { parts = parts.new; memory = M.Tagged.memory memory.new; end = result }
         ≡ after_svc parts.old (M.Tagged.memory memory.old) }
-    ensures heap { HeapOwnsItsPages (M.Tagged.memory memory.new) parts.new.heap }
-    ensures tag { parts.new.regs.rgsr.tag < 16 }
+    ensures ready { IsReady parts.new (M.Tagged.memory memory.new) }
     ensures kept { M.Tagged.kept memory.old memory.new }
 {
     let (number, first, second) = (parts.regs.x[8], parts.regs.x[0], parts.regs.x[1]);
@@ -119,12 +115,10 @@ fn serve<M: Paged>(parts: &mut TenantParts, memory: &mut M) -> SvcEnd
 /// The service with the number in x8, which is no call of the heap.
 #[tactic(auto, unfolding(crate::specs::Services::after_other_service))]
 fn serve_other<M: Paged>(parts: &mut TenantParts, memory: &mut M) -> SvcEnd
-    requires heap { HeapOwnsItsPages (M.Tagged.memory memory.old) parts.old.heap }
-    requires tag { parts.old.regs.rgsr.tag < 16 }
+    requires ready { IsReady parts.old (M.Tagged.memory memory.old) }
     ensures served { record { parts = parts.new; memory = M.Tagged.memory memory.new; end = result }
         ≡ after_other_service parts.old (M.Tagged.memory memory.old) }
-    ensures heap { HeapOwnsItsPages (M.Tagged.memory memory.new) parts.new.heap }
-    ensures tag { parts.new.regs.rgsr.tag < 16 }
+    ensures ready { IsReady parts.new (M.Tagged.memory memory.new) }
     ensures kept { M.Tagged.kept memory.old memory.new }
 {
     match parts.regs.x[8] {
@@ -155,12 +149,10 @@ fn serve_other<M: Paged>(parts: &mut TenantParts, memory: &mut M) -> SvcEnd
 /// Appends the x1 bytes at x0, or as many as there is room for, to the output.
 #[tactic(auto, unfolding(crate::specs::Services::after_write_service))]
 fn write<M: Tagged>(parts: &mut TenantParts, memory: &mut M) -> SvcEnd
-    requires heap { HeapOwnsItsPages (M.memory memory.old) parts.old.heap }
-    requires tag { parts.old.regs.rgsr.tag < 16 }
+    requires ready { IsReady parts.old (M.memory memory.old) }
     ensures served { record { parts = parts.new; memory = M.memory memory.new; end = result }
         ≡ after_write_service parts.old (M.memory memory.old) }
-    ensures heap { HeapOwnsItsPages (M.memory memory.new) parts.new.heap }
-    ensures tag { parts.new.regs.rgsr.tag < 16 }
+    ensures ready { IsReady parts.new (M.memory memory.new) }
     ensures kept { M.kept memory.old memory.new }
 {
     condition_of_calls();
@@ -178,12 +170,10 @@ fn write<M: Tagged>(parts: &mut TenantParts, memory: &mut M) -> SvcEnd
 /// Reads the next x1 bytes of the input, or as many as are left, to x0.
 #[tactic(auto, unfolding(crate::specs::Services::after_read_service))]
 fn read<M: Tagged>(parts: &mut TenantParts, memory: &mut M) -> SvcEnd
-    requires heap { HeapOwnsItsPages (M.memory memory.old) parts.old.heap }
-    requires tag { parts.old.regs.rgsr.tag < 16 }
+    requires ready { IsReady parts.old (M.memory memory.old) }
     ensures served { record { parts = parts.new; memory = M.memory memory.new; end = result }
         ≡ after_read_service parts.old (M.memory memory.old) }
-    ensures heap { HeapOwnsItsPages (M.memory memory.new) parts.new.heap }
-    ensures tag { parts.new.regs.rgsr.tag < 16 }
+    ensures ready { IsReady parts.new (M.memory memory.new) }
     ensures kept { M.kept memory.old memory.new }
 {
     condition_of_calls();

@@ -5,7 +5,7 @@ use Rattle.scudo_heap.specs.Heaps.{empty_heap}
 use Rattle.scudo_heap.specs.Served.{HeapOwnsItsPages}
 use Rattle.mte_svc.specs.declared.parts.TenantParts.{TenantParts}
 use Rattle.mte_tenant.specs.Machines.{Start, first_parts, first_registers}
-use Rattle.mte_tenant.specs.Ready.{IsReady}
+use Rattle.mte_svc.specs.Ready.{IsReady}
 
 pub heap_at_first : (id : ℕ) (start : Start) → (first_parts id start).heap ≡ empty_heap (start.terms.seed / 2 ^ 32) start.terms.pages
 unfolding first_parts

@@ -1,6 +1,5 @@
 pub mod Machines
 pub mod Admissions
 pub mod Ledger
-pub mod Ready
 pub mod Names
 pub mod Watched

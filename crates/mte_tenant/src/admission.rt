@@ -126,15 +126,6 @@ pub fn accept(
         (first_of (admission_tests facts (start_in admission.now)) ≡ None) }
     ensures entry { IfOk result (λ p. p.entry ≡ entry_of admission.now.image.now) }
     ensures segments { IfOk result (λ p. p.segments.items ≡ segments_of admission.now.image.now) }
-    ensures image { OnOk result (refusal_of admission.now.image.now ≡ None) }
-    ensures room { OnOk result
-        (pages_of admission.now.image.now + STACK_PAGES ≤ admission.now.terms.pages) }
-    ensures fresh { OnOk result (facts.known ≡ false) }
-    ensures good { OnOk result (is_bad admission.now.terms ≡ false) }
-    ensures some { OnOk result (0 < admission.now.terms.pages) }
-    ensures most { OnOk result (admission.now.terms.pages ≤ MAX_PAGES) }
-    ensures frames { OnOk result (charge_of admission.now.terms.pages ≤ facts.left) }
-    ensures few { OnOk result (facts.live < MAX_LIVE) }
     ensures refused { IfErr result (λ o. IfRefused o (λ e.
         first_of (admission_tests facts (start_in admission.now)) ≡ Some e)) }
     ensures memory { IsErrOf result Obstacle.OutOfMemory
@@ -158,6 +149,19 @@ pub fn accept(
     }
     Ok(plan)
 }
+
+/// What each test says of an admission that none of them refuses.
+pub fn accepted_means(facts: LedgerFacts, admission: &Admission<'_>)
+    requires { first_of (admission_tests facts (start_in admission.now)) ≡ None }
+    ensures fresh { facts.known ≡ false }
+    ensures good { is_bad admission.now.terms ≡ false }
+    ensures some { 0 < admission.now.terms.pages }
+    ensures most { admission.now.terms.pages ≤ MAX_PAGES }
+    ensures image { refusal_of admission.now.image.now ≡ None }
+    ensures room { pages_of admission.now.image.now + STACK_PAGES ≤ admission.now.terms.pages }
+    ensures frames { charge_of admission.now.terms.pages ≤ facts.left }
+    ensures few { facts.live < MAX_LIVE }
+{}
 
 /// Whether a reservation or a room is out of its limits.
 pub fn is_bad_reservation(admission: &Admission<'_>) -> bool

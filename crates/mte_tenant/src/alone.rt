@@ -4,14 +4,14 @@ ghost use Rattle.std.specs.Prelude.{◌≡◌, ◌<◌, [], ◌∷◌, Some, Non
 ghost use Rattle.std.specs.Prelude.{IfOk, IfErr, IsErrOf, OnOk, OnErr};
 ghost use Rattle.obstacle.specs.Obstacles.{IfRefused};
 ghost use Rattle.mte_tags.specs.Memory.{no_pages};
-ghost use Rattle.scudo_heap.specs.Served.{HeapOwnsItsPages};
+ghost use Rattle.mte_svc.specs.Ready.{IsReady};
 ghost use Rattle.mte_svc.specs.Results.{is_running};
 ghost use Rattle.mte_tenant.specs.Ledger.{admission_refusal, charge_of, facts_of, is_bad};
 ghost use Rattle.mte_tenant.specs.Machines.{machine_of, start_of, after_attempt, after_slice};
 ghost use Rattle.mte_tenant.specs.Watched.{WatchLog, with_shown, shown_of, Before, After};
 ghost use Rattle.mte_tenant.specs.Admissions.{start_in};
 
-use crate::admission::{Admission, AdmitError, LedgerFacts, accept, charge};
+use crate::admission::{Admission, AdmitError, LedgerFacts, accept, accepted_means, charge};
 use crate::machine::{fill, handle, settle, start_parts};
 use a64_step::{Decoder, run, steps_keep_pages};
 use mte_svc::TenantParts;
@@ -55,8 +55,7 @@ pub fn admit_alone<M: Paged>(
         ≡ no_pages admission.now.terms.pages admission.now.terms.mode }
     ensures machine { IfOk result (λ parts. machine_of parts (M.Tagged.memory memory.new)
         ≡ start_of admission.now.id (start_in admission.now)) }
-    ensures heap { IfOk result (λ parts. HeapOwnsItsPages (M.Tagged.memory memory.new) parts.heap) }
-    ensures tag { IfOk result (λ parts. parts.regs.rgsr.tag < 16) }
+    ensures ready { IfOk result (λ parts. IsReady parts (M.Tagged.memory memory.new)) }
     ensures accepted { OnOk result (admission_refusal (charge_of admission.now.terms.pages) []
         admission.now.id (start_in admission.now) ≡ None) }
     ensures refused { IfErr result (λ o. IfRefused o (λ e.
@@ -68,7 +67,9 @@ pub fn admit_alone<M: Paged>(
     ensures kept { M.Tagged.kept memory.old memory.new }
 {
     condition_of_calls();
-    let plan = accept(alloc, admission, facts_alone(admission))?;
+    let facts = facts_alone(admission);
+    let plan = accept(alloc, admission, facts)?;
+    accepted_means(facts, admission);
     let parts = start_parts(alloc, admission, &plan)?;
     fill(
         &plan,
@@ -99,14 +100,12 @@ pub fn slice_watched<M: Paged, W: Watch>(
     memory: &mut M,
     steps: u32,
 )
-    requires heap { HeapOwnsItsPages (M.Tagged.memory memory.old) parts.old.heap }
-    requires tag { parts.old.regs.rgsr.tag < 16 }
+    requires ready { IsReady parts.old (M.Tagged.memory memory.old) }
     ensures machine { machine_of parts.new (M.Tagged.memory memory.new)
         ≡ after_slice steps (machine_of parts.old (M.Tagged.memory memory.old)) }
     ensures shown { W.log watch.new ≡ with_shown (W.log watch.old)
         (shown_of steps (machine_of parts.old (M.Tagged.memory memory.old))) }
-    ensures heap { HeapOwnsItsPages (M.Tagged.memory memory.new) parts.new.heap }
-    ensures tag { parts.new.regs.rgsr.tag < 16 }
+    ensures ready { IsReady parts.new (M.Tagged.memory memory.new) }
     ensures kept { M.Tagged.kept memory.old memory.new }
 {
     let mut decoder = Decoder::new();
@@ -130,15 +129,13 @@ pub fn attempt<M: Paged>(
     left: u64,
 ) -> bool
     requires running { is_running parts.old.log.status ≡ true }
-    requires heap { HeapOwnsItsPages (M.Tagged.memory memory.old) parts.old.heap }
-    requires tag { parts.old.regs.rgsr.tag < 16 }
+    requires ready { IsReady parts.old (M.Tagged.memory memory.old) }
     ensures machine { record {
       machine = machine_of parts.new (M.Tagged.memory memory.new);
       goes_on = result;
     }
         ≡ after_attempt left (machine_of parts.old (M.Tagged.memory memory.old)) }
-    ensures heap { HeapOwnsItsPages (M.Tagged.memory memory.new) parts.new.heap }
-    ensures tag { parts.new.regs.rgsr.tag < 16 }
+    ensures ready { IsReady parts.new (M.Tagged.memory memory.new) }
     ensures kept { M.Tagged.kept memory.old memory.new }
 {
     steps_keep_pages();

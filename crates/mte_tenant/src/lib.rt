@@ -8,8 +8,8 @@ mod machine;
 mod refusal;
 
 pub use admission::{
-    Admission, AdmitError, LedgerFacts, MAX_LIVE, NotLive, accept, charge, is_bad_reservation,
-    live_limit_in_digits,
+    Admission, AdmitError, LedgerFacts, MAX_LIVE, NotLive, accept, accepted_means, charge,
+    is_bad_reservation, live_limit_in_digits,
 };
 pub use alone::{Watch, admit_alone, attempt, slice_watched};
 pub use machine::{fill, halt, settle, slice, start_parts};

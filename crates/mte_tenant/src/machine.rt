@@ -7,7 +7,8 @@ ghost use Rattle.mte_elf.specs.Headers.{segments_of, entry_of};
 ghost use Rattle.mte_elf.specs.Images.{refusal_of, pages_of};
 ghost use Rattle.mte_tags.specs.Fixed.{KeepsFixed};
 ghost use Rattle.a64_run.specs.OpCaches.{Knows};
-ghost use Rattle.scudo_heap.specs.Served.{HeapOwnsItsPages, IsUntouched};
+ghost use Rattle.scudo_heap.specs.Served.{IsUntouched};
+ghost use Rattle.mte_svc.specs.Ready.{IsReady};
 ghost use Rattle.mte_svc.specs.Results.{is_running};
 ghost use Rattle.mte_svc.specs.Services.{after_svc};
 ghost use Rattle.mte_tenant.specs.Machines.{machine_of, first_parts, first_memory, first_registers};
@@ -81,43 +82,39 @@ pub fn fill<M: Paged>(plan: &Plan, image: &[u8], pages: u32, mode: TagMode, memo
 /// Lets a tenant attempt at most `steps` instructions while it is running and does not yield. It
 /// ends where its flag is set then. A table may serve any number of slices, of any tenants. A slice
 /// is one run of kept instructions, since no service changes a page without WRITE.
-pub fn slice<M: Paged>(kept: &mut OpCache, parts: &mut TenantParts, memory: &mut M, steps: u32)
-    requires heap { HeapOwnsItsPages (M.Tagged.memory memory.old) parts.old.heap }
-    requires tag { parts.old.regs.rgsr.tag < 16 }
+pub fn slice<M: Paged>(ops: &mut OpCache, parts: &mut TenantParts, memory: &mut M, steps: u32)
+    requires ready { IsReady parts.old (M.Tagged.memory memory.old) }
     ensures machine { machine_of parts.new (M.Tagged.memory memory.new)
         ≡ after_slice steps (machine_of parts.old (M.Tagged.memory memory.old)) }
-    ensures heap { HeapOwnsItsPages (M.Tagged.memory memory.new) parts.new.heap }
-    ensures tag { parts.new.regs.rgsr.tag < 16 }
+    ensures ready { IsReady parts.new (M.Tagged.memory memory.new) }
     ensures kept { M.Tagged.kept memory.old memory.new }
 {
-    kept.begin_run();
+    ops.begin_run();
     let mut left = u64::from(steps);
     while left > 0 && parts.is_running() {
-        left = run_on(kept, parts, memory, left);
+        left = run_on(ops, parts, memory, left);
     }
     settle(parts, memory);
 }
 
 /// Runs to the next service, fault or end, or for `left` instructions; returns how many the slice
 /// has left, 0 after a yield.
-fn run_on<M: Paged>(kept: &mut OpCache, parts: &mut TenantParts, memory: &mut M, left: u64) -> u64
+fn run_on<M: Paged>(ops: &mut OpCache, parts: &mut TenantParts, memory: &mut M, left: u64) -> u64
     requires some { 0 < left }
-    requires known { Knows (M.Tagged.memory memory.old) kept.old }
+    requires known { Knows (M.Tagged.memory memory.old) ops.old }
     requires running { is_running parts.old.log.status ≡ true }
-    requires heap { HeapOwnsItsPages (M.Tagged.memory memory.old) parts.old.heap }
-    requires tag { parts.old.regs.rgsr.tag < 16 }
+    requires ready { IsReady parts.old (M.Tagged.memory memory.old) }
     ensures rest { after_attempts result (machine_of parts.new (M.Tagged.memory memory.new))
         ≡ after_attempts left (machine_of parts.old (M.Tagged.memory memory.old)) }
-    ensures known { Knows (M.Tagged.memory memory.new) kept.new }
+    ensures known { Knows (M.Tagged.memory memory.new) ops.new }
     ensures fewer { result < left }
-    ensures heap { HeapOwnsItsPages (M.Tagged.memory memory.new) parts.new.heap }
-    ensures tag { parts.new.regs.rgsr.tag < 16 }
+    ensures ready { IsReady parts.new (M.Tagged.memory memory.new) }
     ensures kept { M.Tagged.kept memory.old memory.new }
 {
     steps_keep_pages();
     condition_of_calls();
     known_words_stay();
-    let stop = run_on_cache(kept, &mut parts.regs, memory, left);
+    let stop = run_on_cache(ops, &mut parts.regs, memory, left);
     parts.log.steps = parts.log.steps.saturating_add(left - stop.left);
     parts.left = stop.left;
     match stop.outcome {
@@ -152,16 +149,14 @@ pub fn settle<M: Tagged>(parts: &mut TenantParts, memory: &mut M)
 /// Returns whether the slice goes on.
 #[tactic(auto, unfolding(crate::specs::Machines::after_outcome))]
 pub(crate) fn handle<M: Paged>(outcome: Outcome, parts: &mut TenantParts, memory: &mut M) -> bool
-    requires heap { HeapOwnsItsPages (M.Tagged.memory memory.old) parts.old.heap }
-    requires tag { parts.old.regs.rgsr.tag < 16 }
+    requires ready { IsReady parts.old (M.Tagged.memory memory.old) }
     ensures machine { record {
       machine = machine_of parts.new (M.Tagged.memory memory.new);
       goes_on = result;
     }
         ≡ after_outcome outcome (machine_of parts.old (M.Tagged.memory memory.old)) }
     ensures fixed { KeepsFixed (M.Tagged.memory memory.old) (M.Tagged.memory memory.new) }
-    ensures heap { HeapOwnsItsPages (M.Tagged.memory memory.new) parts.new.heap }
-    ensures tag { parts.new.regs.rgsr.tag < 16 }
+    ensures ready { IsReady parts.new (M.Tagged.memory memory.new) }
     ensures kept { M.Tagged.kept memory.old memory.new }
 {
     let pc = parts.regs.pc;
@@ -183,16 +178,14 @@ pub(crate) fn handle<M: Paged>(outcome: Outcome, parts: &mut TenantParts, memory
 
 /// Serves an SVC; returns whether the slice goes on.
 fn serve<M: Paged>(parts: &mut TenantParts, memory: &mut M) -> bool
-    requires heap { HeapOwnsItsPages (M.Tagged.memory memory.old) parts.old.heap }
-    requires tag { parts.old.regs.rgsr.tag < 16 }
+    requires ready { IsReady parts.old (M.Tagged.memory memory.old) }
     ensures machine { record {
       machine = machine_of parts.new (M.Tagged.memory memory.new);
       goes_on = result;
     }
         ≡ with_service (after_svc parts.old (M.Tagged.memory memory.old)) }
     ensures fixed { KeepsFixed (M.Tagged.memory memory.old) (M.Tagged.memory memory.new) }
-    ensures heap { HeapOwnsItsPages (M.Tagged.memory memory.new) parts.new.heap }
-    ensures tag { parts.new.regs.rgsr.tag < 16 }
+    ensures ready { IsReady parts.new (M.Tagged.memory memory.new) }
     ensures kept { M.Tagged.kept memory.old memory.new }
 {
     match svc(parts, memory) {

@@ -4,8 +4,8 @@ use crate::images::{COUNTS, image};
 use mte_flat::Flat;
 use mte_tags::TagMode;
 use mte_tenant::{
-    Admission, LedgerFacts, Status, Terms, accept, charge, fill, halt, is_bad_reservation,
-    start_parts,
+    Admission, LedgerFacts, Status, Terms, accept, accepted_means, charge, fill, halt,
+    is_bad_reservation, start_parts,
 };
 use std::test::Fail;
 
@@ -34,6 +34,7 @@ fn calls_of_a_host(rt: HostRuntime) -> Result<(), Fail> {
         live: 0,
     };
     let plan = accept(alloc, &admission, facts)?;
+    accepted_means(facts, &admission);
     let mut parts = start_parts(alloc, &admission, &plan)?;
     let mut memory = Flat::new(alloc, 60, TagMode::Sync)?;
     fill(

@@ -2,7 +2,7 @@
 
 ghost use Rattle.std.specs.Prelude.{◌≡◌, ◌<◌, [], Some, false, IfOk, IfErr, IsErrOf};
 ghost use Rattle.obstacle.specs.Obstacles.{IfRefused};
-ghost use Rattle.scudo_heap.specs.Served.{HeapOwnsItsPages};
+ghost use Rattle.mte_svc.specs.Ready.{IsReady};
 
 use a64_run::OpCache;
 use mte_flat::Flat;
@@ -32,8 +32,7 @@ pub struct TenantBench {
     /// Its memory.
     pub memory: Flat,
     words: OpCache,
-    ghost served: { HeapOwnsItsPages memory parts.heap },
-    ghost tag: { parts.regs.rgsr.tag < 16 },
+    ghost ready: { IsReady parts memory },
 }
 
 impl TenantBench {

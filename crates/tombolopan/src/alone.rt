@@ -2,7 +2,7 @@
 
 ghost use Rattle.std.specs.Prelude.{◌≡◌, ◌<◌, Some, None, false, IfOk, IfErr, OnOk, IsErrOf};
 ghost use Rattle.obstacle.specs.Obstacles.{IfRefused};
-ghost use Rattle.scudo_heap.specs.Served.{HeapOwnsItsPages};
+ghost use Rattle.mte_svc.specs.Ready.{IsReady};
 ghost use Rattle.mte_tenant.specs.Admissions.{start_in};
 ghost use Rattle.mte_tenant.specs.Ledger.{is_bad};
 ghost use Rattle.tombolopan.specs.Alone.{refusal_alone, record_after};
@@ -24,8 +24,7 @@ pub struct Lone {
     /// Its memory.
     pub memory: Flat,
     words: OpCache,
-    ghost served: { HeapOwnsItsPages memory parts.heap },
-    ghost tag: { parts.regs.rgsr.tag < 16 },
+    ghost ready: { IsReady parts memory },
 }
 
 impl Lone {

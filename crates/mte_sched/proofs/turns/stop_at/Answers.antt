@@ -12,8 +12,8 @@ use Rattle.mte_sched.proofs.PlaceLists.{put_back}
 use Rattle.mte_sched.proofs.TurnLemmas.{live_within, live_at, live_id, both_right, gone_enters, stopped_sharing, stopped_tenants, stopped_count}
 use Rattle.mte_sched.proofs.turns.stop_at.Goals as goal
 
-pub stop_place-requires : goal.stop_place-requires
-stop_place-requires c =
+pub stop_memory-requires : goal.stop_memory-requires
+stop_memory-requires c =
     let ts : List Tenant = c.args.tenants.now.items in
     let i : ℕ = c.args.asid in
     let t : Tenant = c.swap_remove-pages.result in
@@ -43,19 +43,19 @@ returns c =
     let left : Tenant = record { pages = t.pages; holding = kept.Gone c.halt.new.parts.log } in
     let back : c.swap.new.self.items ≡ slice_set ts i left = put_back ts c.swap_remove-pages.new.self.items c.swap.new.self.items i last t left within many c.swap_remove-pages.ensures.items
     (subst (λ (l : List Tenant). c.swap.new.self.items ≡ slice_set (slice_set l i (get_or l last left)) last (get_or l i left)) c.push_reserved.ensures.items (c.swap.ensures.by_index.3 left)) in
-    let turn = c.stop_place.ensures in
-    let entries = gone_enters i c.args.tlb.now c.stop_place.new.tlb turn.entries in
+    let turn = c.stop_memory.ensures in
+    let entries = gone_enters i c.args.tlb.now c.stop_memory.new.tlb turn.entries in
     let same = both_right (is_live_holding t.holding) ((record_in t).id == c.args.id) live in
     let step : (m : Memory) → machine_of c.halt.new.parts m ≡ after_stop (machine_of c.in-Live.live.parts.value m) =
     λ m. c.halt.ensures.machine m ∙ ap (λ (q : TenantParts). after_stop (machine_of q m)) c.into_inner-parts.ensures in
     record {
-      sharing = subst (λ (l : List Tenant). IsSharing c.stop_place.new.pool c.stop_place.new.tlb l) (sym back)
-          (stopped_sharing c.args.pool.now c.stop_place.new.pool c.args.tlb.now c.stop_place.new.tlb ts i c.args.id t c.in-Live.live c.requires.sharing lies same within turn.others entries c.halt.new.parts turn.entries turn.reserved step);
+      sharing = subst (λ (l : List Tenant). IsSharing c.stop_memory.new.pool c.stop_memory.new.tlb l) (sym back)
+          (stopped_sharing c.args.pool.now c.stop_memory.new.pool c.args.tlb.now c.stop_memory.new.tlb ts i c.args.id t c.in-Live.live c.requires.sharing lies same within turn.others entries c.halt.new.parts turn.entries turn.reserved step);
       frames = turn.others.count;
       capacities = turn.capacities;
       room = c.swap.ensures.capacity ∙ c.push_reserved.ensures.capacity ∙ c.swap_remove-pages.ensures.capacity;
-      tenants = ap (tenants_in c.stop_place.new.pool) back
-          ∙ stopped_tenants c.args.pool.now c.stop_place.new.pool c.args.tlb.now c.stop_place.new.tlb ts i c.args.id t c.in-Live.live c.requires.sharing lies same within turn.others entries c.halt.new.parts turn.entries turn.reserved step;
+      tenants = ap (tenants_in c.stop_memory.new.pool) back
+          ∙ stopped_tenants c.args.pool.now c.stop_memory.new.pool c.args.tlb.now c.stop_memory.new.tlb ts i c.args.id t c.in-Live.live c.requires.sharing lies same within turn.others entries c.halt.new.parts turn.entries turn.reserved step;
       live = ap (λ l. count_by is_live (entries_in l) + 1) back
-          ∙ stopped_count c.args.pool.now c.stop_place.new.pool c.args.tlb.now c.stop_place.new.tlb ts i c.args.id t c.in-Live.live c.requires.sharing lies same within turn.others entries c.halt.new.parts turn.entries turn.reserved step;
+          ∙ stopped_count c.args.pool.now c.stop_memory.new.pool c.args.tlb.now c.stop_memory.new.tlb ts i c.args.id t c.in-Live.live c.requires.sharing lies same within turn.others entries c.halt.new.parts turn.entries turn.reserved step;
     }

@@ -1,5 +1,5 @@
 use Rattle.std.proofs.Common.{◌≡◌, ◌-◌, ◌∙◌, suc, true, sym, ap, subst, arith}
-use Rattle.scudo_heap.specs.Served.{HeapOwnsItsPages}
+use Rattle.mte_svc.specs.Ready.{IsReady}
 use Rattle.mte_tenant.specs.Machines.{Machine, machine_of, runs, Attempt, after_attempt, after_attempts, after_slice_end, after_slice}
 use Rattle.mte_tenant.specs.Watched.{with_shown, shown_of}
 use Rattle.mte_tenant.proofs.MachineLemmas.{after-attempts-ended, attempts_none}
@@ -41,8 +41,7 @@ loop-left-preserved-then-goes_on g c =
     record {
       rest = next.0 ∙ c.loop-left.invariant.rest;
       shown = next.1 ∙ c.loop-left.invariant.shown;
-      heap = subst (λ x. HeapOwnsItsPages x c.attempt-goes_on.new.parts.heap) (sym c.after.ensures.memory) c.attempt-goes_on.ensures.heap;
-      tag = c.attempt-goes_on.ensures.tag;
+      ready = subst (IsReady c.attempt-goes_on.new.parts) (sym c.after.ensures.memory) c.attempt-goes_on.ensures.ready;
       kept = g.met.M.Tagged.kept_on _ _ _ c.loop-left.invariant.kept
           (g.met.M.Tagged.kept_on _ _ _ c.before-in-loop-left.ensures.kept (g.met.M.Tagged.kept_on _ _ _ c.attempt-goes_on.ensures.kept c.after.ensures.kept));
     }
@@ -61,8 +60,7 @@ loop-left-preserved g c =
     record {
       rest = next.0 ∙ c.loop-left.invariant.rest;
       shown = next.1 ∙ c.loop-left.invariant.shown;
-      heap = subst (λ x. HeapOwnsItsPages x c.attempt-goes_on.new.parts.heap) (sym c.after.ensures.memory) c.attempt-goes_on.ensures.heap;
-      tag = c.attempt-goes_on.ensures.tag;
+      ready = subst (IsReady c.attempt-goes_on.new.parts) (sym c.after.ensures.memory) c.attempt-goes_on.ensures.ready;
       kept = g.met.M.Tagged.kept_on _ _ _ c.loop-left.invariant.kept
           (g.met.M.Tagged.kept_on _ _ _ c.before-in-loop-left.ensures.kept (g.met.M.Tagged.kept_on _ _ _ c.attempt-goes_on.ensures.kept c.after.ensures.kept));
     }

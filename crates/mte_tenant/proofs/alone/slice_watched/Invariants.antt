@@ -1,5 +1,5 @@
-use Rattle.std.proofs.Common.{◌≡◌, ◌<◌}
-use Rattle.scudo_heap.specs.Served.{HeapOwnsItsPages}
+use Rattle.std.proofs.Common.{◌≡◌}
+use Rattle.mte_svc.specs.Ready.{IsReady}
 use Rattle.mte_tenant.specs.Machines.{after_attempts, machine_of}
 use Rattle.mte_tenant.specs.Watched.{with_shown, shown_of}
 use Rattle.mte_tenant.proofs.alone.slice_watched.Given as goal
@@ -16,7 +16,6 @@ invariant-loop-left g l = record {
   shown :
       with_shown (g.W.Watch.log l.watch) (shown_of l.left (machine_of l.parts (g.M.Tagged.memory l.memory)))
       ≡ with_shown (g.W.Watch.log l.fn.watch) (shown_of l.fn.steps (machine_of l.fn.parts (g.M.Tagged.memory l.fn.memory)));
-  heap : HeapOwnsItsPages (g.M.Tagged.memory l.memory) l.parts.heap;
-  tag : l.parts.regs.rgsr.tag < 16;
+  ready : IsReady l.parts (g.M.Tagged.memory l.memory);
   kept : g.M.Tagged.kept l.fn.memory l.memory;
 }

@@ -36,17 +36,25 @@ returns-in-None-clause-rest g c =
 pub returns-in-None-clause-fewer : goal.returns-in-None-clause-fewer
 returns-in-None-clause-fewer g c = let h = left_lt c.args.left c.args.parts.now.regs (g.M.Tagged.memory c.args.memory.now) c.requires.some in rw (c.run_on_cache-stop.ensures.stop) h
 
-pub handle-requires-clause-heap : goal.handle-requires-clause-heap
-handle-requires-clause-heap g c =
-    c.condition_of_calls.ensures.same (g.M.Tagged.memory c.args.memory.now) (g.M.Tagged.memory c.run_on_cache-stop.new.memory) c.args.parts.now.heap c.requires.heap
-    (λ q. ap (λ m. attrs_at m q) c.run_on_cache-stop.ensures.memory ∙ c.steps_keep_pages.ensures.run_attrs c.args.left c.args.parts.now.regs (g.M.Tagged.memory c.args.memory.now) q)
-    (ap pages_left c.run_on_cache-stop.ensures.memory ∙ c.steps_keep_pages.ensures.run_left c.args.left c.args.parts.now.regs (g.M.Tagged.memory c.args.memory.now))
+pub handle-requires : goal.handle-requires
+handle-requires g c = record {
+  ready = record {
+    heap =
+        c.condition_of_calls.ensures.same (g.M.Tagged.memory c.args.memory.now) (g.M.Tagged.memory c.run_on_cache-stop.new.memory) c.args.parts.now.heap c.requires.ready.heap
+        (λ q. ap (λ m. attrs_at m q) c.run_on_cache-stop.ensures.memory ∙ c.steps_keep_pages.ensures.run_attrs c.args.left c.args.parts.now.regs (g.M.Tagged.memory c.args.memory.now) q)
+        (ap pages_left c.run_on_cache-stop.ensures.memory ∙ c.steps_keep_pages.ensures.run_left c.args.left c.args.parts.now.regs (g.M.Tagged.memory c.args.memory.now));
+    tag = c.run_on_cache-stop.ensures.tag c.requires.ready.tag;
+  };
+}
 
-pub returns-in-None-clause-heap : goal.returns-in-None-clause-heap
-returns-in-None-clause-heap g c =
-    c.condition_of_calls.ensures.same (g.M.Tagged.memory c.args.memory.now) (g.M.Tagged.memory c.run_on_cache-stop.new.memory) c.args.parts.now.heap c.requires.heap
-    (λ q. ap (λ m. attrs_at m q) c.run_on_cache-stop.ensures.memory ∙ c.steps_keep_pages.ensures.run_attrs c.args.left c.args.parts.now.regs (g.M.Tagged.memory c.args.memory.now) q)
-    (ap pages_left c.run_on_cache-stop.ensures.memory ∙ c.steps_keep_pages.ensures.run_left c.args.left c.args.parts.now.regs (g.M.Tagged.memory c.args.memory.now))
+pub returns-in-None-clause-ready : goal.returns-in-None-clause-ready
+returns-in-None-clause-ready g c = record {
+  heap =
+      c.condition_of_calls.ensures.same (g.M.Tagged.memory c.args.memory.now) (g.M.Tagged.memory c.run_on_cache-stop.new.memory) c.args.parts.now.heap c.requires.ready.heap
+      (λ q. ap (λ m. attrs_at m q) c.run_on_cache-stop.ensures.memory ∙ c.steps_keep_pages.ensures.run_attrs c.args.left c.args.parts.now.regs (g.M.Tagged.memory c.args.memory.now) q)
+      (ap pages_left c.run_on_cache-stop.ensures.memory ∙ c.steps_keep_pages.ensures.run_left c.args.left c.args.parts.now.regs (g.M.Tagged.memory c.args.memory.now));
+  tag = c.run_on_cache-stop.ensures.tag c.requires.ready.tag;
+}
 
 pub returns-then-handle-clause-known : goal.returns-then-handle-clause-known
 returns-then-handle-clause-known g c =

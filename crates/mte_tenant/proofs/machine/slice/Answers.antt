@@ -20,7 +20,6 @@ loop-left-init g c =
     record {
       rest = ap (λ n. after_attempts n (machine_of c.args.parts.now m)) c.from-left.ensures;
       known = c.begin_run.ensures m;
-      heap = c.requires.heap;
-      tag = c.requires.tag;
+      ready = c.requires.ready;
       kept = g.met.M.Tagged.kept_same c.args.memory.now;
     }

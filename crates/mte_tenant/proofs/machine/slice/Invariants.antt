@@ -1,6 +1,6 @@
-use Rattle.std.proofs.Common.{◌≡◌, ◌<◌}
+use Rattle.std.proofs.Common.{◌≡◌}
 use Rattle.a64_run.specs.OpCaches.{Knows}
-use Rattle.scudo_heap.specs.Served.{HeapOwnsItsPages}
+use Rattle.mte_svc.specs.Ready.{IsReady}
 use Rattle.mte_tenant.specs.Machines.{after_attempts, machine_of}
 use Rattle.mte_tenant.proofs.machine.slice.Given as goal
 
@@ -13,8 +13,7 @@ invariant-loop-left g l = record {
   rest :
       after_attempts l.left (machine_of l.parts (g.M.Tagged.memory l.memory))
       ≡ after_attempts l.fn.steps (machine_of l.fn.parts (g.M.Tagged.memory l.fn.memory));
-  known : Knows (g.M.Tagged.memory l.memory) l.kept;
-  heap : HeapOwnsItsPages (g.M.Tagged.memory l.memory) l.parts.heap;
-  tag : l.parts.regs.rgsr.tag < 16;
+  known : Knows (g.M.Tagged.memory l.memory) l.ops;
+  ready : IsReady l.parts (g.M.Tagged.memory l.memory);
   kept : g.M.Tagged.kept l.fn.memory l.memory;
 }

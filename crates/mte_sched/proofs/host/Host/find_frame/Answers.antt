@@ -13,7 +13,7 @@ pub find_frame-requires : goal.find_frame-requires
 find_frame-requires c =
     let h = c.args.self.now in
     let t = c.in_ok-tenant.tenant.now in
-    some_table h.pool h.tlb h.tenants.items h.sharing c.in_ok-tenant.ensures.some.at t t.holding c.in_ok-tenant.ensures.some.stands refl
+    some_table h.pool h.caches.tlb h.tenants.items h.sharing c.in_ok-tenant.ensures.some.at t t.holding c.in_ok-tenant.ensures.some.stands refl
 
 pub returns : goal.returns
 returns c =

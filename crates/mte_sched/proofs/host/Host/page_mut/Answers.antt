@@ -13,12 +13,12 @@ rooms_lent p (Some f) w tenants positions = refl
 pub data_mut_if-requires : goal.data_mut_if-requires
 data_mut_if-requires c =
     let h = c.args.self.now in
-    taken_lent h.pool h.tlb h.tenants.items h.sharing c.args.id c.args.page c.find_frame-frame.result c.find_frame-frame.ensures
+    taken_lent h.pool h.caches.tlb h.tenants.items h.sharing c.args.id c.args.page c.find_frame-frame.result c.find_frame-frame.ensures
 
 pub invariant_of-self-lent : goal.invariant_of-self-lent
 invariant_of-self-lent c = λ r.
     let h = c.args.self.now in (
-      λ w. (sharing_lent h.pool h.tlb h.tenants.items h.sharing c.args.id c.args.page w c.find_frame-frame.result c.find_frame-frame.ensures, (h.indexed, (h.counted, tt))),
+      λ w. (sharing_lent h.pool h.caches.tlb h.tenants.items h.sharing c.args.id c.args.page w c.find_frame-frame.result c.find_frame-frame.ensures, (h.indexed, (h.counted, tt))),
       (h.sharing, (h.indexed, (h.counted, tt))),
     )
 
@@ -32,9 +32,9 @@ returns c =
       (
         refl,
         λ w. where_lent _ c.data_mut_if.result o (λ g. (frame_at h.pool.frames g).bytes) c.data_mut_if.ensures.value (λ f k. record {
-          content = content_lent h.pool h.tlb h.tenants.items h.sharing id q w o e f k c.recall.ensures.sound;
+          content = content_lent h.pool h.caches.tlb h.tenants.items h.sharing id q w o e f k c.recall.ensures.sound;
           pool = ap (λ x. with_bytes_at_cases h.pool x w) e;
-          frames = λ j r. ap (option_map (λ x. x.0)) (frames_lent h.pool h.tlb h.tenants.items h.sharing id q w o e j r);
+          frames = λ j r. ap (option_map (λ x. x.0)) (frames_lent h.pool h.caches.tlb h.tenants.items h.sharing id q w o e j r);
           rooms = rooms_lent h.pool o w (vec_capacity h.tenants) (vec_capacity h.index.positions);
         }),
         record { content = refl; pool = refl; frames = λ j r. refl; rooms = refl },

@@ -13,11 +13,10 @@ ghost use Rattle.mte_translate.specs.Translations.{without_asid};
 ghost use Rattle.scudo_heap.specs.Served.{IsUntouched};
 ghost use Rattle.mte_tenant.specs.Ledger.{charge_of};
 ghost use Rattle.mte_tenant.specs.Machines.{machine_of, first_memory, after_slice};
-ghost use Rattle.mte_sched.specs.Places.{memory_at, IsPlaced};
-ghost use Rattle.mte_tenant.specs.Ready.{IsReady};
+ghost use Rattle.mte_sched.specs.Memories.{memory_at, IsTenantMemory};
+ghost use Rattle.mte_svc.specs.Ready.{IsReady};
 
-use crate::tenant::Live;
-use a64_run::OpCache;
+use crate::tenant::{Caches, Live};
 use address_map::{MAX_PAGES, STACK_PAGES};
 use mte_elf::Plan;
 use mte_frames::{FramePool, Quota};
@@ -35,7 +34,7 @@ pub struct TenantMemory {
 }
 
 /// Reserves a new tenant's charge, and maps and loads its image and its stack.
-pub(crate) fn start_place(
+pub(crate) fn start_memory(
     pool: &mut FramePool,
     tlb: &mut Tlb,
     asid: usize,
@@ -49,7 +48,7 @@ pub(crate) fn start_place(
     requires most { admission.now.terms.pages ≤ MAX_PAGES }
     requires frames { charge_of admission.now.terms.pages ≤ frames_left pool.old }
     requires fresh { All (λ u. u.asid ≢ asid) tlb.old }
-    ensures placed { IsPlaced pool.new tlb.new asid admission.now.terms.pages result }
+    ensures placed { IsTenantMemory pool.new tlb.new asid admission.now.terms.pages result }
     ensures memory { memory_at pool.new result admission.now.terms.pages
         ≡ first_memory admission.now.image.now admission.now.terms.pages admission.now.terms.mode }
     ensures untouched { IsUntouched (memory_at pool.new result admission.now.terms.pages) }
@@ -63,15 +62,15 @@ pub(crate) fn start_place(
     ensures capacities { pool.new.capacities ≡ pool.old.capacities }
 {
     pages_of_a_space();
-    let mut place = reserve_place(pool, admission.terms.pages, admission.terms.mode);
+    let mut memory = reserve_memory(pool, admission.terms.pages, admission.terms.mode);
     pool.recall();
-    fill_place(pool, tlb, asid, admission, plan, &mut place);
+    fill_memory(pool, tlb, asid, admission, plan, &mut memory);
     pool.recall();
-    place
+    memory
 }
 
 /// Reserves a new tenant's charge, and makes a table that maps nothing.
-fn reserve_place(pool: &mut FramePool, pages: u32, mode: TagMode) -> TenantMemory
+fn reserve_memory(pool: &mut FramePool, pages: u32, mode: TagMode) -> TenantMemory
     requires frames { charge_of pages ≤ frames_left pool.old }
     ensures table { IsTable pool.new result.quota result.table }
     ensures none { pages_of pool.new result.table.frame ≡ empty }
@@ -103,43 +102,43 @@ fn reserve_place(pool: &mut FramePool, pages: u32, mode: TagMode) -> TenantMemor
     }
 }
 
-/// Maps and loads an image and a stack at a place where nothing is mapped.
-fn fill_place(
+/// Maps and loads an image and a stack in a memory that maps nothing.
+fn fill_memory(
     pool: &mut FramePool,
     tlb: &mut Tlb,
     asid: usize,
     admission: &Admission<'_>,
     plan: &Plan,
-    place: &mut TenantMemory,
+    memory: &mut TenantMemory,
 )
     requires image { refusal_of admission.now.image.now ≡ None }
     requires segments { plan.now.segments.items ≡ segments_of admission.now.image.now }
     requires room { image_pages admission.now.image.now + STACK_PAGES ≤ admission.now.terms.pages }
-    requires empty { memory_at pool.old place.old admission.now.terms.pages
+    requires empty { memory_at pool.old memory.old admission.now.terms.pages
         ≡ no_pages admission.now.terms.pages admission.now.terms.mode }
-    requires table { IsTable pool.old place.old.quota place.old.table }
-    requires few { place.old.table.len ≤ admission.now.terms.pages }
-    requires once { MapsOnce (pages_of pool.old place.old.table.frame) }
-    requires left { HasFrames pool.old place.old.quota place.old.table
+    requires table { IsTable pool.old memory.old.quota memory.old.table }
+    requires few { memory.old.table.len ≤ admission.now.terms.pages }
+    requires once { MapsOnce (pages_of pool.old memory.old.table.frame) }
+    requires left { HasFrames pool.old memory.old.quota memory.old.table
         admission.now.terms.pages }
-    requires cached { IsCached (pages_of pool.old place.old.table.frame) asid tlb.old }
-    ensures memory { memory_at pool.new place.new admission.now.terms.pages
+    requires cached { IsCached (pages_of pool.old memory.old.table.frame) asid tlb.old }
+    ensures memory { memory_at pool.new memory.new admission.now.terms.pages
         ≡ first_memory admission.now.image.now admission.now.terms.pages admission.now.terms.mode }
-    ensures limit { (memory_at pool.new place.new admission.now.terms.pages).limit
+    ensures limit { (memory_at pool.new memory.new admission.now.terms.pages).limit
         ≡ admission.now.terms.pages }
-    ensures untouched { IsUntouched (memory_at pool.new place.new admission.now.terms.pages) }
-    ensures space { IsSpace pool.new place.new.quota place.new.table admission.now.terms.pages }
-    ensures cached { IsCached (pages_of pool.new place.new.table.frame) asid tlb.new }
-    ensures rest { KeepsRest place.old.quota pool.old pool.new place.old.table place.new.table }
-    ensures same { place.new.quota ≡ place.old.quota }
+    ensures untouched { IsUntouched (memory_at pool.new memory.new admission.now.terms.pages) }
+    ensures space { IsSpace pool.new memory.new.quota memory.new.table admission.now.terms.pages }
+    ensures cached { IsCached (pages_of pool.new memory.new.table.frame) asid tlb.new }
+    ensures rest { KeepsRest memory.old.quota pool.old pool.new memory.old.table memory.new.table }
+    ensures same { memory.new.quota ≡ memory.old.quota }
     ensures entries { NoneEnters asid tlb.old tlb.new }
 {
-    let mut memory = Space::new(
+    let mut space = Space::new(
         pool,
-        &mut place.table,
-        &mut place.quota,
+        &mut memory.table,
+        &mut memory.quota,
         tlb,
-        &mut place.state,
+        &mut memory.state,
         asid,
         admission.terms.pages as usize,
     );
@@ -148,55 +147,61 @@ fn fill_place(
         admission.image,
         admission.terms.pages,
         admission.terms.mode,
-        &mut memory,
+        &mut space,
     );
 }
 
-/// Lets a live tenant attempt at most `steps` instructions.
-pub(crate) fn slice_live(
-    kept: &mut OpCache,
+impl Live {
+    /// Lets it attempt at most `steps` instructions.
+    pub(crate) fn slice(
+        &mut self,
+        pool: &mut FramePool,
+        caches: &mut Caches,
+        asid: usize,
+        pages: u32,
+        steps: u32,
+    )
+        requires placed { IsTenantMemory pool.old caches.old.tlb asid pages
+            self.old.memory }
+        requires ready { IsReady self.old.parts.value
+            (memory_at pool.old self.old.memory pages) }
+        ensures ready { IsReady self.new.parts.value
+            (memory_at pool.new self.new.memory pages) }
+        ensures machine { machine_of self.new.parts.value
+            (memory_at pool.new self.new.memory pages)
+            ≡ after_slice steps (machine_of self.old.parts.value
+            (memory_at pool.old self.old.memory pages)) }
+        ensures space { IsSpace pool.new self.new.memory.quota self.new.memory.table pages }
+        ensures cached { IsCached (pages_of pool.new self.new.memory.table.frame) asid
+            caches.new.tlb }
+        ensures rest { KeepsRest self.old.memory.quota pool.old pool.new
+            self.old.memory.table self.new.memory.table }
+        ensures same { self.new.memory.quota ≡ self.old.memory.quota }
+        ensures entries { NoneEnters asid caches.old.tlb caches.new.tlb }
+    {
+        let mut space = Space::new(
+            pool,
+            &mut self.memory.table,
+            &mut self.memory.quota,
+            &mut caches.tlb,
+            &mut self.memory.state,
+            asid,
+            pages as usize,
+        );
+        slice(&mut caches.ops, &mut *self.parts, &mut space, steps);
+    }
+}
+
+/// Gives all frames of a memory back, ends its quota, and forgets its translations.
+pub(crate) fn stop_memory(
     pool: &mut FramePool,
     tlb: &mut Tlb,
     asid: usize,
     pages: u32,
-    live: &mut Live,
-    steps: u32,
+    memory: TenantMemory,
 )
-    requires placed { IsPlaced pool.old tlb.old asid pages live.old.place }
-    requires ready { IsReady live.old.parts.value (memory_at pool.old live.old.place pages) }
-    ensures ready { IsReady live.new.parts.value (memory_at pool.new live.new.place pages) }
-    ensures machine { machine_of live.new.parts.value (memory_at pool.new live.new.place pages)
-        ≡ after_slice steps
-        (machine_of live.old.parts.value (memory_at pool.old live.old.place pages)) }
-    ensures space { IsSpace pool.new live.new.place.quota live.new.place.table pages }
-    ensures cached { IsCached (pages_of pool.new live.new.place.table.frame) asid tlb.new }
-    ensures rest { KeepsRest live.old.place.quota pool.old pool.new live.old.place.table
-        live.new.place.table }
-    ensures same { live.new.place.quota ≡ live.old.place.quota }
-    ensures entries { NoneEnters asid tlb.old tlb.new }
-{
-    let mut memory = Space::new(
-        pool,
-        &mut live.place.table,
-        &mut live.place.quota,
-        tlb,
-        &mut live.place.state,
-        asid,
-        pages as usize,
-    );
-    slice(kept, &mut *live.parts, &mut memory, steps);
-}
-
-/// Gives all frames of a place back, ends its quota, and forgets its translations.
-pub(crate) fn stop_place(
-    pool: &mut FramePool,
-    tlb: &mut Tlb,
-    asid: usize,
-    pages: u32,
-    place: TenantMemory,
-)
-    requires { IsPlaced pool.old tlb.old asid pages place }
-    ensures others { KeepsOthers place.quota pool.old pool.new }
+    requires { IsTenantMemory pool.old tlb.old asid pages memory }
+    ensures others { KeepsOthers memory.quota pool.old pool.new }
     ensures reserved { sum pool.new.reserved + charge_of pages ≡ sum pool.old.reserved }
     ensures entries { tlb.new ≡ without_asid asid tlb.old }
     ensures capacities { pool.new.capacities ≡ pool.old.capacities }
@@ -205,7 +210,7 @@ pub(crate) fn stop_place(
         mut table,
         mut quota,
         ..
-    } = place;
+    } = memory;
     pool.recall();
     unmap_all(pool, &mut table, &mut quota, pages as usize);
     pool.recall();

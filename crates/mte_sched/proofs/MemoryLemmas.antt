@@ -1,4 +1,4 @@
--- A live tenant's place after what is done to its memory.
+-- A live tenant's memory after what is done to it.
 use Rattle.std.proofs.Common.{◌≡◌, ℕ, zero, suc, ◌+◌, ◌-◌, ◌<◌, ◌≤◌, List, [], ◌∷◌, length, sum, get_or, slice_set, Option, refl, ap, sym, ◌∙◌, arith, inl, inr}
 use Rattle.std.proofs.lemmas.Bool.{cases_eq}
 use Rattle.std.proofs.lemmas.Grind.{same_number_lists}
@@ -9,13 +9,13 @@ use Rattle.mte_translate.specs.Tables.{Root, pages_of, IsTable, IsCached}
 use Rattle.mte_translate.specs.declared.translation.Translation.{Translation}
 use Rattle.mte_translate.proofs.TableLemmas.{leaves-len}
 use Rattle.mte_space.specs.Spaces.{IsSpace, KeepsRest}
-use Rattle.mte_sched.specs.declared.place.TenantMemory.{TenantMemory}
+use Rattle.mte_sched.specs.declared.memory.TenantMemory.{TenantMemory}
 use Rattle.mte_tenant.specs.Ledger.{charge_of}
-use Rattle.mte_sched.specs.Places.{IsPlaced}
+use Rattle.mte_sched.specs.Memories.{IsTenantMemory}
 
-pub placed_after : (p n : Pool) (us vs : List Translation) (i pages : ℕ) (a b : TenantMemory) → IsPlaced p us i pages a
+pub placed_after : (p n : Pool) (us vs : List Translation) (i pages : ℕ) (a b : TenantMemory) → IsTenantMemory p us i pages a
     → KeepsRest a.quota p n a.table b.table → b.quota ≡ a.quota → IsSpace n b.quota b.table pages → IsCached (pages_of n b.table.frame) i vs
-    → IsPlaced n vs i pages b
+    → IsTenantMemory n vs i pages b
 placed_after p n us vs i pages a b h rest same space cached = record {
   space = space;
   charged = ap (reserved_by n) same ∙ rest.reserved ∙ h.charged;
@@ -34,7 +34,7 @@ reserved_stays p n k was is others own =
       | inr d ↦ (others.counts j d).0
     ])
 
--- ---- a place that ends
+-- ---- a memory that ends
 
 zeroed : (ts : List ℕ) (k : ℕ) → get_or (slice_set ts k 0) k 0 ≡ 0
 zeroed [] k = refl
@@ -42,7 +42,7 @@ zeroed (t ∷ ts) zero = refl
 zeroed (t ∷ ts) (suc k) = zeroed ts k
 
 -- Once no page is mapped, the root alone is out.
-pub root_left : (p n : Pool) (us : List Translation) (i pages : ℕ) (a : TenantMemory) (u : Root) → IsPlaced p us i pages a
+pub root_left : (p n : Pool) (us : List Translation) (i pages : ℕ) (a : TenantMemory) (u : Root) → IsTenantMemory p us i pages a
     → KeepsRest a.quota p n a.table u → IsTable n a.quota u → u.len ≡ 0 → taken_by n a.quota ≡ 1
 root_left p n us i pages a u h rest table none =
     let few : u.leaves ≤ u.len = leaves-len n a.quota u table in
@@ -66,11 +66,11 @@ sum_more p m k c inside sound none e =
     let within : k < length p.reserved = omega (arith, inside, sound.reserved_len) in
     omega (arith, sum-set p.reserved k c within, none, ap sum e)
 
--- ---- a place that begins
+-- ---- a memory that begins
 
 pub first_placed : (p n : Pool) (vs : List Translation) (i pages : ℕ) (a b : TenantMemory) → taken_by p a.quota ≡ 1 → reserved_by p a.quota ≡ charge_of pages
     → a.table.len ≡ 0 → a.table.leaves ≡ 0 → KeepsRest a.quota p n a.table b.table → b.quota ≡ a.quota → IsSpace n b.quota b.table pages → IsCached (pages_of n b.table.frame) i vs
-    → 0 < pages → pages ≤ MAX_PAGES → IsPlaced n vs i pages b
+    → 0 < pages → pages ≤ MAX_PAGES → IsTenantMemory n vs i pages b
 first_placed p n vs i pages a b taken charged len leaves rest same space cached some most = record {
   space = space;
   charged = ap (reserved_by n) same ∙ rest.reserved ∙ charged;

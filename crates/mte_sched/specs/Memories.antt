@@ -7,7 +7,7 @@ use Rattle.mte_frames.specs.Pool.{Pool, taken_by, reserved_by}
 use Rattle.mte_translate.specs.Tables.{pages_of, IsCached}
 use Rattle.mte_translate.specs.declared.translation.Translation.{Translation}
 use Rattle.mte_space.specs.Spaces.{space_memory, IsSpace}
-use Rattle.mte_sched.specs.declared.place.TenantMemory.{TenantMemory}
+use Rattle.mte_sched.specs.declared.memory.TenantMemory.{TenantMemory}
 use Rattle.mte_tenant.specs.Ledger.{charge_of}
 
 -- The memory of a tenant with a reservation of `pages` pages.
@@ -15,7 +15,7 @@ abbrev pub memory_at : Pool → TenantMemory → ℕ → Memory
 memory_at p a pages = space_memory p a.table pages a.state
 
 -- The memory of a tenant over shared frames: its space, its charge, and its translations.
-pub record IsPlaced (p : Pool) (ts : List Translation) (asid pages : ℕ)
+pub record IsTenantMemory (p : Pool) (ts : List Translation) (asid pages : ℕ)
     (a : TenantMemory) : Type 0 where
   pub space : IsSpace p a.quota a.table pages
   -- the charge is reserved, and what is taken of it is the table's frames and those of its pages
