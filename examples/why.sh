@@ -2,7 +2,7 @@
 # Tells why a tenant ended: runs its image alone by the proved program mte_run where it has been
 # built, else by a checked build that proves nothing, which takes two to three minutes.
 #     why.sh [OPTION..] ELF
-# The options are those of mte_run (docs/REPORT.md), but without files to write: the picture of the
+# The options are those of mte_run (docs/MTE_RUN.md), but without files to write: the picture of the
 # heap goes to standard output by `--map -`. Unless an option says otherwise, accesses are compared
 # with the sizes of chunks to the byte (--exact), which tags alone do not find. TOMBOLOPAN_BUILT
 # names a folder with a program mte_run that is used as it is.

@@ -150,7 +150,7 @@ OPTIONS = (
 def test_each_option_does_as_stored(
     alone: pathlib.Path, shared: pathlib.Path, source: str
 ) -> None:
-    """The whole text, output and status under options of which docs/REPORT.md tells."""
+    """The whole text, output and status under options of docs/MTE_RUN.md."""
     told = ""
     for name, text, build, options in OPTIONS:
         if name == source:

@@ -331,7 +331,7 @@ def has_unmapped(one: Explained) -> bool:
 
 
 def in_order_of_json(told: dict[str, int]) -> list[int]:
-    """The numbers in the order in which docs/REPORT.md lists the keys."""
+    """The numbers in the order in which docs/MTE_RUN.md lists the keys."""
     head = [*NAMES[:4], "tags drawn", NAMES[4]]
     calls = ["malloc", "free", "calloc", "realloc", "memalign", "usable_size"]
     return [told[name] for name in [*head, *calls, "pages mapped at most", "reserved"]]
@@ -674,7 +674,7 @@ def span_of(step: Step) -> Optional[tuple[str, int, int]]:
     return "read" if found[1] == "write" else "write", int(found[2], 16) & plain, int(found[3])
 
 
-# The seeds of docs/REPORT.md, which are run behind the given one.
+# The seeds of docs/MTE_RUN.md, which are run behind the given one.
 SEEDS = """
 17c45f42f3ec9932 57c53a70950ac3fb bef731cd19754a08 0155e42110dd6130
 0e3cb6225c186a21 24532f19f3b4b699 3af6bf43bdececd0 407fa8ec4f79331a

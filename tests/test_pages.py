@@ -132,9 +132,9 @@ SAMPLES = [
            lambda it: it.told(str(it.tenant(FREED))), IN_BLOCK),
     Sample("docs/HOST.md", "400000: ", printed_by_disassemble),
     Sample("docs/REPORT.md", "tenant 1\n", reported_of_freed),
-    Sample("docs/REPORT.md", "mte_run: statistics",
+    Sample("docs/MTE_RUN.md", "mte_run: statistics",
            lambda it: it.told("--statistics", str(it.tenant(FREED))), LAST),
-    Sample("docs/REPORT.md", "mte_run: script line 3: Syntax", told_of_faulty_line),
+    Sample("docs/MTE_RUN.md", "mte_run: script line 3: Syntax", told_of_faulty_line),
     Sample("docs/REPORT.md", "mte_run: fault TagCheck: a write",
            lambda it: it.told(str(it.tenant(OVERFLOW))), INSTRUCTION),
     Sample("docs/REPORT.md", "mte_run: fault TagCheck: a read",
@@ -170,8 +170,8 @@ def test_pictures(built: Built, source: str) -> None:
 
 
 def test_seeds_of_the_page() -> None:
-    """The seeds that docs/REPORT.md lists are those of the program, in their order."""
-    shown = [word for part in parts_of("docs/REPORT.md") for word in part.text.split()
+    """The seeds that docs/MTE_RUN.md lists are those of the program, in their order."""
+    shown = [word for part in parts_of("docs/MTE_RUN.md") for word in part.text.split()
              if part.section == "Seeds"]
     source = (ROOT / "crates" / "tenant_run" / "src" / "seeds.rt").read_text(encoding="utf-8")
     found = re.findall(r"0x([0-9a-f_]{19})", source)
@@ -322,8 +322,8 @@ def test_forms(built: Built, part: Part, command: str) -> None:
 
 
 def test_options_of_the_report_page(built: Built) -> None:
-    """The table of docs/REPORT.md has the options of mte_run's help, and no other."""
-    table = re.findall(r"^\| `(--[^|]*?)` \|", prose("docs/REPORT.md").replace("`, `", " "), re.M)
+    """The table of docs/MTE_RUN.md has the options of mte_run's help, and no other."""
+    table = re.findall(r"^\| `(--[^|]*?)` \|", prose("docs/MTE_RUN.md").replace("`, `", " "), re.M)
     named = options_of(" ".join(table))
     assert named == options_of(help_of(built, "mte_run")) - {"--help", "--version"}
 

@@ -1,4 +1,4 @@
-"""How mte_run ends: each exit status of docs/REPORT.md with its first and its last line on standard
+"""How mte_run ends: each exit status of docs/MTE_RUN.md with its first and last line on standard
 error, what it says of command lines, scripts and files that it refuses, and its help."""
 
 import pathlib

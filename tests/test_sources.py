@@ -1,5 +1,5 @@
-"""What a reader of the sources in Rattle may count on: a type's name has one meaning, functions take
-few arguments, what several functions ask of numbers is one condition, and no file is empty."""
+"""What a reader of the sources in Rattle may count on: a type has one name, functions take few
+arguments, what several functions ask of numbers is one condition, and no file is empty."""
 
 import functools
 import re

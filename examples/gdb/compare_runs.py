@@ -24,7 +24,7 @@ from build_image import ENTRY, image  # noqa: E402
 from packets import Front  # noqa: E402
 
 STEPS, STACK = 20_000, 0x3FFFC000
-# The signals of GDB that the exit statuses of mte_run stand for (docs/REPORT.md).
+# The signals of GDB that the exit statuses of mte_run stand for (docs/MTE_RUN.md).
 SIGNALS = {129: (b"T0b", b"T0a"), 130: (b"T0b",), 131: (b"T06",), 132: (b"T04",), 133: (b"T05",),
            134: (b"T18",), 135: (b"T18",)}
 STOPS = (b"T05replaylog:end", b"T05swbreak", b"T05watch", b"T05rwatch", b"T05awatch")

@@ -2,7 +2,8 @@
 //! synchronous mode that stores no tags itself, and whose frees and reallocations name live chunks
 //! with the headers that the heap wrote, or nothing that passes the heap's checks. Each law of a
 //! state that `Sound` holds of holds of each tenant of a session whose slices were careful
-//! (`careful_tenants_are_sound`), and of each machine that its turns come to (`tenants_take_turns`).
+//! (`careful_tenants_are_sound`), and of each machine that its turns come to
+//! (`tenants_take_turns`).
 
 ghost use Rattle.heap_laws.specs.NewChunks.{NewChunksAreLive, NewChunksAreZero};
 ghost use Rattle.heap_laws.specs.NewChunks.{SizesAndAlignments};

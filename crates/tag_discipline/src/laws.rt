@@ -1,9 +1,9 @@
-//! The laws of careful runs: of a heap in the synchronous mode whose user stores no tags itself, and
-//! whose frees and reallocations name live chunks with the headers that the heap wrote, or nothing
-//! that passes the heap's checks, as the null pointer. They say nothing of accesses that are not
-//! checked, of a pointer older than one reuse of its block, or of the bytes of a chunk's last
-//! granule past its size. No tenant is in them: that each state of one is such a state, and what
-//! these laws say of it, is in `tenant_laws`.
+//! The laws of careful runs: of a heap in the synchronous mode whose user stores no tags itself,
+//! and whose frees and reallocations name live chunks with the headers that the heap wrote, or
+//! nothing that passes the heap's checks, as the null pointer. They say nothing of accesses that
+//! are not checked, of a pointer older than one reuse of its block, or of the bytes of a chunk's
+//! last granule past its size. No tenant is in them: that each state of one is such a state, and
+//! what these laws say of it, is in `tenant_laws`.
 
 ghost use Rattle.tag_discipline.specs.Discipline.{StartsSound, StaysSound};
 ghost use Rattle.tag_discipline.specs.Discipline.{FreedBlocksAreRefused, FreedPagesAreUnmapped};

@@ -1,6 +1,6 @@
-//! The laws of careful runs for tenants: a tenant in the synchronous mode that stores no tags itself
-//! and whose heap calls are careful is in a state that `laws` is about, along its instructions, over
-//! the ends of its slices, and in a session beside any other tenants.
+//! The laws of careful runs for tenants: a tenant in the synchronous mode that stores no tags
+//! itself and whose heap calls are careful is in a state that `laws` is about, along its
+//! instructions, over the ends of its slices, and in a session beside any other tenants.
 
 ghost use Rattle.tag_discipline.specs.TenantLaws.{TenantsStartSound, SlicesStaySound};
 ghost use Rattle.tag_discipline.specs.TenantLaws.{TenantsStaySound, ReusedTagsStayDifferent};
