@@ -1,6 +1,7 @@
 //! Load/store addressing modes: the target of an access, and its write-back.
 
 ghost use Rattle.std.specs.Prelude.{◌≡◌, ◌<◌, ◌≤◌, ◌+◌, ◌*◌, ◌%◌, ◌^◌};
+ghost use Rattle.a64_instr.specs.Fields.{IsRegisterOffset};
 ghost use Rattle.a64_registers.specs.Operands.{bytes_of};
 
 use a64_bits::plain;
@@ -88,8 +89,7 @@ impl Target {
     #[inline(always)]
     #[tactic(auto, unfolding(crate::specs::Addressing::register_target))]
     pub fn register(regs: &Regs, size: u8, offset: RegisterOffset, rn: u8) -> Target
-        requires option { offset.option < 8 }
-        requires rm { offset.rm < 32 }
+        requires offset { IsRegisterOffset offset }
         requires rn { rn < 32 }
         ensures { result ≡ register_target regs.now size offset.rm offset.option offset.s rn }
     {

@@ -1,6 +1,7 @@
 //! Branches. Each leaves the program counter at the instruction that comes next.
 
 ghost use Rattle.std.specs.Prelude.{◌≡◌, ◌<◌, ◌+◌, ◌*◌, ◌/◌, ◌%◌, ◌^◌, ◌==◌};
+ghost use Rattle.a64_instr.specs.Fields.{IsTestedBit};
 ghost use Rattle.a64_step.specs.Branches.{branch_cond_of, branch_of, branch_reg_of, cmp_branch_of};
 ghost use Rattle.a64_step.specs.Branches.{branch_cases, with_link, test_branch_of};
 
@@ -73,9 +74,7 @@ pub fn cmp_branch(regs: &mut Regs, sf: u8, op: u8, imm19: i32, rt: u8)
 #[inline(always)]
 #[tactic(auto, unfolding(crate::specs::Branches::test_branch_of))]
 pub fn test_branch(regs: &mut Regs, bit: TestedBit, imm14: i16)
-    requires b5 { bit.b5 < 2 }
-    requires b40 { bit.b40 < 32 }
-    requires rt { bit.rt < 32 }
+    requires bit { IsTestedBit bit }
     ensures { regs.new ≡ test_branch_of regs.old bit.b5 bit.op bit.b40 imm14 bit.rt }
 {
     let position = 32 * u32::from(bit.b5) + u32::from(bit.b40);

@@ -1,6 +1,7 @@
 //! Data-processing (1 source), (2 source) and (3 source).
 
-ghost use Rattle.std.specs.Prelude.{◌≡◌, ◌≢◌, ◌<◌, ◌+◌, ◌-◌, ◌*◌, ◌%◌, ◌^◌, ◌⊎◌};
+ghost use Rattle.std.specs.Prelude.{◌≡◌, ◌≢◌, ◌<◌, ◌+◌, ◌-◌, ◌*◌, ◌%◌, ◌^◌, ◌⊎◌, [], ◌∷◌};
+ghost use Rattle.a64_instr.specs.Fields.{AreRegisters, IsProductOperands, IsRegisterOperands};
 ghost use Rattle.a64_step.specs.DataProcessing.{long_operand, mul_add_long_of, mul_add_of};
 ghost use Rattle.a64_step.specs.DataProcessing.{mul_high_of, multiplied_sum, one_source_of};
 ghost use Rattle.a64_step.specs.DataProcessing.{two_source_of};
@@ -25,8 +26,7 @@ use a64_registers::operands::{shift_by, size_of_operands, truncate};
 pub fn one_source(regs: &mut Regs, sf: u8, opcode: u8, rn: u8, rd: u8)
     requires sf { sf < 2 }
     requires wide { sf ≡ 0 → opcode ≢ 3 }
-    requires rn { rn < 32 }
-    requires rd { rd < 32 }
+    requires registers { AreRegisters (rn ∷ rd ∷ []) }
     ensures { regs.new ≡ with_next_pc (one_source_of regs.old sf opcode rn rd) }
 {
     let x = truncate(sf, regs.get(rn));
@@ -51,12 +51,10 @@ pub fn one_source(regs: &mut Regs, sf: u8, opcode: u8, rn: u8, rd: u8)
     crate::specs::DataProcessing::two_source_value
 ))]
 pub fn two_source(regs: &mut Regs, operands: RegisterOperands, opcode: u8)
-    requires rm { operands.rm < 32 }
+    requires operands { IsRegisterOperands operands }
     requires opcode { opcode < 64 }
     requires known { (opcode ≡ 2) ⊎ (opcode ≡ 3) ⊎ (opcode ≡ 8) ⊎ (opcode ≡ 9)
         ⊎ (opcode ≡ 10) ⊎ (opcode ≡ 11) }
-    requires rn { operands.rn < 32 }
-    requires rd { operands.rd < 32 }
     ensures { regs.new
         ≡ with_next_pc
         (two_source_of regs.old operands.sf operands.rm opcode operands.rn operands.rd) }
@@ -91,10 +89,7 @@ pub fn multiply_and_add(sf: u8, o0: u8, a: u64, x: u64, y: u64) -> u64
 #[inline(always)]
 #[tactic(auto, unfolding(crate::specs::DataProcessing::mul_add_of))]
 pub fn mul_add(regs: &mut Regs, sf: u8, o0: u8, product: ProductOperands)
-    requires rm { product.rm < 32 }
-    requires ra { product.ra < 32 }
-    requires rn { product.rn < 32 }
-    requires rd { product.rd < 32 }
+    requires product { IsProductOperands product }
     ensures { regs.new
         ≡ with_next_pc (mul_add_of regs.old sf product.rm o0 product.ra product.rn product.rd) }
 {
@@ -122,10 +117,7 @@ fn low_half(u: u8, value: u64) -> u64
 #[inline(never)]
 #[tactic(auto, unfolding(crate::specs::DataProcessing::mul_add_long_of))]
 pub fn mul_add_long(regs: &mut Regs, u: u8, o0: u8, product: ProductOperands)
-    requires rm { product.rm < 32 }
-    requires ra { product.ra < 32 }
-    requires rn { product.rn < 32 }
-    requires rd { product.rd < 32 }
+    requires product { IsProductOperands product }
     ensures { regs.new
         ≡ with_next_pc (mul_add_long_of regs.old u product.rm o0 product.ra product.rn product.rd) }
 {
@@ -142,9 +134,7 @@ pub fn mul_add_long(regs: &mut Regs, u: u8, o0: u8, product: ProductOperands)
 #[inline(never)]
 #[tactic(auto, unfolding(crate::specs::DataProcessing::mul_high_of))]
 pub fn mul_high(regs: &mut Regs, u: u8, rm: u8, rn: u8, rd: u8)
-    requires rm { rm < 32 }
-    requires rn { rn < 32 }
-    requires rd { rd < 32 }
+    requires registers { AreRegisters (rm ∷ rn ∷ rd ∷ []) }
     ensures { regs.new ≡ with_next_pc (mul_high_of regs.old u rm rn rd) }
 {
     regs.set(rd, multiply_high(regs.get(rn), regs.get(rm), u == 0));

@@ -1,9 +1,10 @@
 //! Instructions on tags.
 
-ghost use Rattle.std.specs.Prelude.{◌≡◌, false, ◌<◌, ◌+◌, ◌-◌, ◌*◌, ◌%◌, ◌^◌, is_ok};
+ghost use Rattle.std.specs.Prelude.{◌≡◌, false, ◌<◌, ◌+◌, ◌-◌, ◌*◌, ◌%◌, ◌^◌, is_ok, [], ◌∷◌};
 ghost use Rattle.std.specs.Prelude.{if◌then◌else◌};
 ghost use Rattle.std.specs.Int.RustNames.{bit_or};
 ghost use Rattle.a64_bits.specs.Addresses.{plain, address_tag};
+ghost use Rattle.a64_instr.specs.Fields.{AreRegisters, IsTagPairTransfer, IsTagTransfer};
 ghost use Rattle.mte_tags.specs.Memory.{with_granules};
 ghost use Rattle.mte_tags.specs.Accesses.{result_of, tags_fault, with_bytes_at};
 ghost use Rattle.a64_step.specs.LoadStorePair.{pair_bytes};
@@ -32,8 +33,7 @@ const EXCLUDED: u16 = 1;
 pub fn add_g(regs: &mut Regs, op: u8, uimm6: u8, uimm4: u8, rn: u8, rd: u8)
     requires uimm6 { uimm6 < 64 }
     requires uimm4 { uimm4 < 16 }
-    requires rn { rn < 32 }
-    requires rd { rd < 32 }
+    requires registers { AreRegisters (rn ∷ rd ∷ []) }
     ensures { regs.new ≡ with_next_pc (add_g_of regs.old op uimm6 uimm4 rn rd) }
 {
     let base = regs.get_or_sp(rn);
@@ -47,9 +47,7 @@ pub fn add_g(regs: &mut Regs, op: u8, uimm6: u8, uimm4: u8, rn: u8, rd: u8)
 #[inline(never)]
 #[tactic(auto, unfolding(crate::specs::MemoryTagging::sub_p_of))]
 pub fn sub_p(regs: &mut Regs, s: u8, rm: u8, rn: u8, rd: u8)
-    requires rm { rm < 32 }
-    requires rn { rn < 32 }
-    requires rd { rd < 32 }
+    requires registers { AreRegisters (rm ∷ rn ∷ rd ∷ []) }
     ensures { regs.new ≡ with_next_pc (sub_p_of regs.old s rm rn rd) }
 {
     let x = sign_extend(regs.get_or_sp(rn), 56);
@@ -62,9 +60,7 @@ pub fn sub_p(regs: &mut Regs, s: u8, rm: u8, rn: u8, rd: u8)
 #[inline(never)]
 #[tactic(auto, unfolding(crate::specs::MemoryTagging::irg_of))]
 pub fn irg(regs: &mut Regs, rm: u8, rn: u8, rd: u8)
-    requires rm { rm < 32 }
-    requires rn { rn < 32 }
-    requires rd { rd < 32 }
+    requires registers { AreRegisters (rm ∷ rn ∷ rd ∷ []) }
     ensures { regs.new ≡ with_next_pc (irg_of regs.old rm rn rd) }
 {
     let base = regs.get_or_sp(rn);
@@ -79,9 +75,7 @@ pub fn irg(regs: &mut Regs, rm: u8, rn: u8, rd: u8)
 #[inline(never)]
 #[tactic(auto, unfolding(crate::specs::MemoryTagging::gmi_of))]
 pub fn gmi(regs: &mut Regs, rm: u8, rn: u8, rd: u8)
-    requires rm { rm < 32 }
-    requires rn { rn < 32 }
-    requires rd { rd < 32 }
+    requires registers { AreRegisters (rm ∷ rn ∷ rd ∷ []) }
     ensures { regs.new ≡ with_next_pc (gmi_of regs.old rm rn rd) }
 {
     let bit = 1u64 << tag_of(regs.get_or_sp(rn));
@@ -100,8 +94,7 @@ pub fn ldg<M: Tagged>(
     rt: u8,
     outcome: &mut Outcome,
 )
-    requires rn { rn < 32 }
-    requires rt { rt < 32 }
+    requires registers { AreRegisters (rn ∷ rt ∷ []) }
     requires outcome { outcome.old ≡ Outcome.Next }
     ensures leaves { Leaves (ldg_of regs.old (M.memory memory.old) imm9 rn rt)
         outcome.new regs.new (M.memory memory.new) }
@@ -131,8 +124,7 @@ pub fn st_g<M: Tagged>(
     imm9: i16,
     outcome: &mut Outcome,
 )
-    requires rn { transfer.rn < 32 }
-    requires rt { transfer.rt < 32 }
+    requires transfer { IsTagTransfer transfer }
     requires outcome { outcome.old ≡ Outcome.Next }
     ensures leaves { Leaves (st_g_of regs.old (M.memory memory.old)
         transfer.opc imm9 transfer.mode transfer.rn transfer.rt)
@@ -165,8 +157,7 @@ fn store_at<M: Tagged>(
     target: Target,
     outcome: &mut Outcome,
 )
-    requires rn { transfer.rn < 32 }
-    requires rt { transfer.rt < 32 }
+    requires transfer { IsTagTransfer transfer }
     requires outcome { outcome.old ≡ Outcome.Next }
     ensures leaves { Leaves (st_g_at regs.old (M.memory memory.old)
         transfer.opc transfer.rn transfer.rt target)
@@ -202,9 +193,7 @@ pub fn st_g_p<M: Tagged>(
     imm7: i8,
     outcome: &mut Outcome,
 )
-    requires rt2 { transfer.rt2 < 32 }
-    requires rn { transfer.rn < 32 }
-    requires rt { transfer.rt < 32 }
+    requires transfer { IsTagPairTransfer transfer }
     requires outcome { outcome.old ≡ Outcome.Next }
     ensures leaves { Leaves (st_g_p_of regs.old (M.memory memory.old)
         transfer.mode imm7 transfer.rt2 transfer.rn transfer.rt)
@@ -224,9 +213,7 @@ fn store_pair_at<M: Tagged>(
     target: Target,
     outcome: &mut Outcome,
 )
-    requires rt2 { transfer.rt2 < 32 }
-    requires rn { transfer.rn < 32 }
-    requires rt { transfer.rt < 32 }
+    requires transfer { IsTagPairTransfer transfer }
     requires outcome { outcome.old ≡ Outcome.Next }
     ensures leaves { Leaves (st_g_p_at regs.old (M.memory memory.old)
         transfer.rt2 transfer.rn transfer.rt target)

@@ -2,6 +2,7 @@
 
 ghost use Rattle.std.specs.Prelude.{◌≡◌, ◌<◌, ◌*◌, ◌^◌};
 ghost use Rattle.a64_bits.specs.Fields.{with_field};
+ghost use Rattle.a64_instr.specs.Fields.{IsHalfword};
 ghost use Rattle.a64_step.specs.MoveWide.{move_wide_of};
 ghost use Rattle.a64_registers.specs.Registers.{with_next_pc};
 
@@ -44,9 +45,7 @@ pub fn with_half(old: u64, imm16: u16, hw: u8) -> u64
 #[inline(always)]
 #[tactic(auto, unfolding(crate::specs::MoveWide::move_wide_of, crate::specs::MoveWide::wide_value))]
 pub fn move_wide(regs: &mut Regs, sf: u8, opc: u8, hw: u8, imm16: u16, rd: u8)
-    requires sf { sf < 2 }
-    requires hw { hw < 4 }
-    requires narrow { sf ≡ 0 → hw < 2 }
+    requires half { IsHalfword sf hw }
     requires rd { rd < 32 }
     ensures { regs.new ≡ with_next_pc (move_wide_of regs.old sf opc hw imm16 rd) }
 {
