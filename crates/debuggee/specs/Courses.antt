@@ -5,7 +5,8 @@ use Rattle.debuggee.specs.declared.cuts.Cuts.{Cuts}
 
 -- The steps of the slice with a number; 0 if there is none.
 abbrev pub next_cut : Cuts → ℕ → Machine → ℕ
-next_cut c k m = min (c.limit - m.parts.log.steps) (unwrap_or (slice_get c.listed.now k) c.others)
+next_cut c k m =
+    min (c.limit - m.parts.history.steps) (unwrap_or (slice_get c.listed.now k) c.others)
 
 -- The machine after a number of whole slices.
 unfoldable pub after_slices : Cuts → ℕ → Machine → Machine

@@ -21,7 +21,7 @@ machine_in d = machine_of d.parts d.memory.flat
 
 -- How many instructions it has attempted.
 abbrev pub steps_of : Debuggee → ℕ
-steps_of d = d.parts.log.steps
+steps_of d = d.parts.history.steps
 
 -- Its machine after one more attempt of its slice.
 abbrev pub after_one : Debuggee → Machine
@@ -30,7 +30,7 @@ after_one d = (after_attempt (d.cut - d.done - 1) (machine_in d)).machine
 -- It is running, and its slice has a step left.
 abbrev pub can_attempt : Debuggee → Bool
 can_attempt d =
-    is_running d.parts.log.status && nat_lt d.done d.cut && nat_lt d.slices 18446744073709551615
+    is_running d.parts.history.status && nat_lt d.done d.cut && nat_lt d.slices 18446744073709551615
 
 -- It is running, and a slice comes next of which no step was attempted.
 abbrev pub can_begin : Debuggee → Bool

@@ -75,7 +75,7 @@ impl<'a> Debuggee<'a> {
         let words = OpCache::new(alloc)?;
         let mut memory = Flat::new(alloc, admission.terms.pages as usize, admission.terms.mode)?;
         let parts = admit_alone(alloc, admission, &mut memory)?;
-        let cut = cuts.next(0, parts.log.steps);
+        let cut = cuts.next(0, parts.history.steps);
         Ok(Debuggee {
             admission: *admission,
             cuts: *cuts,
@@ -145,7 +145,7 @@ impl<'a> Debuggee<'a> {
     pub fn steps(&self) -> u64
         ensures { result ≡ steps_of self.now }
     {
-        self.parts.log.steps
+        self.parts.history.steps
     }
 
     /// How many of its slices have ended.
@@ -199,7 +199,7 @@ impl<'a> Debuggee<'a> {
         settle(&mut self.parts, &mut self.memory);
         self.slices += 1;
         self.done = 0;
-        self.cut = self.cuts.next(self.slices, self.parts.log.steps);
+        self.cut = self.cuts.next(self.slices, self.parts.history.steps);
         true
     }
 
@@ -226,7 +226,7 @@ impl<'a> Debuggee<'a> {
             self.cut,
         );
         self.slices += 1;
-        self.cut = self.cuts.next(self.slices, self.parts.log.steps);
+        self.cut = self.cuts.next(self.slices, self.parts.history.steps);
         true
     }
 

@@ -50,7 +50,7 @@ pub fn write_core<W: Write>(
 ) -> io::Result<()> {
     let noted = Noted {
         regs: &subject.parts.regs,
-        signal: Signal::of(&subject.parts.log.status),
+        signal: Signal::of(&subject.parts.history.status),
         mode: subject.mode,
         name: subject.name,
     };

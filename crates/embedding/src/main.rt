@@ -98,7 +98,7 @@ fn show_alone(rt: &HostRuntime, image: &[u8]) -> Result<()> {
     lone.slices(&[5]);
     lone.slice(100);
     let (status, steps) = (record.status, record.steps);
-    let same = lone.parts.log.status == status && lone.parts.log.steps == steps;
+    let same = lone.parts.history.status == status && lone.parts.history.steps == steps;
     println!(rt; "alone: {status:?} after {steps} steps, slice by slice the same: {same}")?;
     Ok(())
 }

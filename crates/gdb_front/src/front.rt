@@ -107,7 +107,7 @@ impl<'a> Front<'a> {
     /// Takes the output that GDB was not told yet.
     pub(crate) fn tell_output(&mut self, console: &mut TextBuffer) {
         let shown = self.shown;
-        let output = self.tenant.parts().log.output.as_slice();
+        let output = self.tenant.parts().history.output.as_slice();
         self.shown = put_from(output, shown, console);
     }
 }

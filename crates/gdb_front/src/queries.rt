@@ -84,7 +84,7 @@ impl Front<'_> {
                 put_part(&mut reply.answer, self.subject.name.as_bytes(), offset, len);
             }
             b"siginfo" => {
-                let signal = Signal::of(&self.tenant.parts().log.status);
+                let signal = Signal::of(&self.tenant.parts().history.status);
                 put_part(&mut reply.answer, &signal.info(), offset, len);
             }
             _ => {}

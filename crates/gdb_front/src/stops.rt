@@ -46,7 +46,7 @@ impl Front<'_> {
 
     /// GDB's number of the signal that stands for its end.
     fn signal(&self) -> u8 {
-        gdb_number(&Signal::of(&self.tenant.parts().log.status))
+        gdb_number(&Signal::of(&self.tenant.parts().history.status))
     }
 }
 

@@ -44,17 +44,17 @@ pub fn made_calls(alloc: Global, tenant: &Traveller<'_>) -> Result<Vec<Made>, Al
     let mut all = Vec::new(alloc);
     let (mut past, steps) = tenant.past(alloc)?;
     for _ in 0..steps {
-        let before = past.parts().log.calls.count();
+        let before = past.parts().history.calls.count();
         past.attempt();
         let parts = past.parts();
-        let calls = &parts.log.calls;
+        let calls = &parts.history.calls;
         if calls.count() == before {
             continue;
         }
         if let Some(call) = calls.get(calls.kept().saturating_sub(1)) {
             all.push(Made {
                 number: calls.count(),
-                step: parts.log.steps,
+                step: parts.history.steps,
                 pc: parts.regs.pc.wrapping_sub(4),
                 call,
             })?;

@@ -35,7 +35,12 @@ pub fn tell_why<W: Write>(
         return writeln!(out, "it is running, after {steps} steps");
     }
     let (past, mut remembered) = retold(alloc, tenant)?;
-    remembered.store = store_of(alloc, tenant, &past.parts().log.status, &remembered.last)?;
+    remembered.store = store_of(
+        alloc,
+        tenant,
+        &past.parts().history.status,
+        &remembered.last,
+    )?;
     let limit = past.limit();
     let (parts, mut memory) = past.into_machine();
     let names = Names::of(alloc, subject.image)?;

@@ -109,7 +109,7 @@ impl<'a> Traveller<'a> {
 
     /// Why it stands still where it had ended before.
     fn stop_again(&self) -> StopReason {
-        match self.now.parts().log.status {
+        match self.now.parts().history.status {
             Status::Exited(code) => StopReason::Exit(code),
             _ => StopReason::Ended,
         }
@@ -186,7 +186,7 @@ impl<'a> Traveller<'a> {
     /// Why it stands still where it can go on no more. An exit is told in front of its instruction
     /// first.
     fn stop_at_end(&mut self, alloc: Global) -> Result<StopReason, AllocError> {
-        let status = self.now.parts().log.status;
+        let status = self.now.parts().history.status;
         match status {
             Status::Running | Status::Stopped => Ok(StopReason::Limit),
             Status::Exited(code) if self.is_exit_told => Ok(StopReason::Exit(code)),

@@ -109,7 +109,7 @@ impl<'a> Report<'a> {
                 addr: finding.wrong.addr,
                 tag: tag_of(finding.wrong.span.addr),
             }),
-            None => mark_of(&self.parts.log.status),
+            None => mark_of(&self.parts.history.status),
         }
     }
 }
@@ -185,7 +185,7 @@ impl<'a> fmt::Display for EndingNote<'a> {
         if let Some(cause) = &report.cause() {
             return report.found(cause).fmt(f);
         }
-        match &report.parts.log.status {
+        match &report.parts.history.status {
             Status::Exited(code) => write!(f, "exit {code}"),
             status => f.write_str(ending_words(status)),
         }

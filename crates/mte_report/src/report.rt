@@ -92,9 +92,9 @@ impl<'a> Report<'a> {
         if let Some(finding) = self.finding {
             return Some(Cause::of_wrong(self.book, &finding.wrong));
         }
-        match self.parts.log.status {
+        match self.parts.history.status {
             Status::Faulted(_, _) | Status::Aborted(_, _, _) => {
-                Some(Cause::of(&self.evidence(), &self.parts.log))
+                Some(Cause::of(&self.evidence(), &self.parts.history))
             }
             _ => None,
         }
@@ -129,7 +129,7 @@ impl<'a> Report<'a> {
     pub fn step(&self) -> u64 {
         match self.finding {
             Some(finding) => finding.step,
-            None => self.parts.log.steps,
+            None => self.parts.history.steps,
         }
     }
 
@@ -138,7 +138,7 @@ impl<'a> Report<'a> {
         if let Some(finding) = self.finding {
             return Some(finding.wrong.addr);
         }
-        match self.parts.log.status {
+        match self.parts.history.status {
             Status::Faulted(fault, _) => Some(fault.addr),
             Status::Aborted(_, pointer, _) => Some(plain(pointer)),
             _ => None,
@@ -195,7 +195,7 @@ fn tell_status<W: Write>(out: &mut W, report: &Report<'_>, memory: &mut Flat) ->
     if let Some(finding) = report.finding {
         return tell_wrong(out, &finding.wrong, report.here());
     }
-    match &report.parts.log.status {
+    match &report.parts.history.status {
         Status::Exited(code) => writeln!(out, "it exited with {code}"),
         Status::Faulted(fault, pc) => {
             let size = size_of_access(memory, report.regs(), fault.addr);
@@ -348,7 +348,7 @@ fn tell_abort<W: Write>(out: &mut W, abort: HeapAbort, pointer: u64, at: At<'_>)
 /// Tells that its steps or its slices are over.
 fn tell_running<W: Write>(out: &mut W, report: &Report<'_>) -> io::Result<()> {
     let limit = report.limit;
-    if report.parts.log.steps >= limit {
+    if report.parts.history.steps >= limit {
         writeln!(
             out,
             "the limit of {limit} steps is reached (--steps gives it more)"

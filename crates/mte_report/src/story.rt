@@ -13,7 +13,8 @@ impl<'a> Report<'a> {
     /// What happened where: the function and the line of the end, and those that had the chunk that
     /// its cause names allocated and freed. Empty for a tenant that exited.
     pub(crate) fn story(&self, alloc: Global, memory: &mut Flat) -> Result<String, AllocError> {
-        let is_clean = self.finding.is_none() && matches!(self.parts.log.status, Status::Exited(_));
+        let is_clean = self.finding.is_none()
+            && matches!(self.parts.history.status, Status::Exited(_));
         if is_clean {
             return Ok(String::new(alloc));
         }

@@ -143,7 +143,7 @@ fn write_lines<'a>(
     session: &SessionReplay<'a, '_>,
     found: &Replayed,
 ) -> Result<TagMode, Failure<'a>> {
-    let log = &found.bench.parts.log;
+    let log = &found.bench.parts.history;
     let mut out = StreamSink(rt.stdout());
     if options.output.is_raw {
         write_all(&mut out, log.output.as_slice())?;

@@ -158,7 +158,7 @@ fn tell_run<'a>(
 /// Whether anything is told in which names are: of a tenant that exited only what is requested.
 fn is_told(parts: &TenantParts, observer: &Observer<'_, Log>, options: &Options) -> bool {
     let output = &options.output;
-    !matches!(parts.log.status, Status::Exited(_))
+    !matches!(parts.history.status, Status::Exited(_))
         || observer.finding().is_some()
         || output.leaks
         || output.map.is_some()
@@ -196,7 +196,7 @@ fn ending_of(report: &Report<'_>, options: &Options) -> TenantEnding {
     if report.finding.is_some() {
         return TenantEnding::Exact;
     }
-    match TenantEnding::of(&report.parts.log, report.limit) {
+    match TenantEnding::of(&report.parts.history, report.limit) {
         TenantEnding::Exit if report.is_cut && options.output.is_whole => TenantEnding::Cut,
         ending => ending,
     }
@@ -205,7 +205,7 @@ fn ending_of(report: &Report<'_>, options: &Options) -> TenantEnding {
 /// Tells what no tag finds, on standard error, of a tenant that exited and had chunks whose last
 /// granule has bytes past their size.
 fn tell_unseen(rt: &HostRuntime, report: &Report<'_>, options: &Options) {
-    let log = &report.parts.log;
+    let log = &report.parts.history;
     let is_exit = matches!(log.status, Status::Exited(_));
     if is_exit && options.output.exact == Exactness::Tags && may_have_spare_bytes(&log.calls) {
         let _ = eprintln!(rt;
@@ -217,7 +217,7 @@ fn tell_unseen(rt: &HostRuntime, report: &Report<'_>, options: &Options) {
 
 /// Tells what happened, on standard error, unless the tenant exited.
 fn tell_report(rt: &HostRuntime, report: &Report<'_>, memory: &mut Flat) -> io::Result<()> {
-    let log = &report.parts.log;
+    let log = &report.parts.history;
     if report.finding.is_none() && matches!(log.status, Status::Exited(_)) {
         return Ok(());
     }
@@ -259,7 +259,7 @@ fn write_json_named<'a>(
 ) -> Result<(), Failure<'a>> {
     match &options.output.json {
         Some(name) => {
-            let (name, status) = (name.as_str(), ending.status(&report.parts.log));
+            let (name, status) = (name.as_str(), ending.status(&report.parts.history));
             write_json_file(rt, report, name, status, memory).map_err(|error| Failure::of_write(
                 &error, name,
             ))
@@ -290,7 +290,7 @@ fn write_sarif_named<'a>(
 ) -> Result<(), Failure<'a>> {
     match &options.output.sarif {
         Some(name) => {
-            let (name, status) = (name.as_str(), ending.status(&report.parts.log));
+            let (name, status) = (name.as_str(), ending.status(&report.parts.history));
             write_sarif_file(rt, report, name, status, memory).map_err(|error| Failure::of_write(
                 &error, name,
             ))
@@ -313,7 +313,7 @@ fn write_sarif_file(
 
 /// Writes the last line, and returns the exit status.
 fn tell_last_line(rt: &HostRuntime, report: &Report<'_>, ending: TenantEnding) -> u8 {
-    let log = &report.parts.log;
+    let log = &report.parts.history;
     let line = LastLine { ending, log };
     if line.is_told() {
         let _ = eprintln!(rt; "mte_run: {line}");

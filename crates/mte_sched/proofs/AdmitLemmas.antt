@@ -74,7 +74,7 @@ module _ (p n : Pool) (us vs : List Translation) (ts : List code.Tenant) (id : �
   pub entered_count : count_by is_live (entries_in (ts ++ entered ∷ [])) ≡ count_by is_live (entries_in ts) + 1
   entered_count = ap (count_by is_live) (map-append entry_in ts (entered ∷ [])) ∙ sum_by-append (λ e. cond (is_live e) 1 0) (entries_in ts) (entry_in entered ∷ [])
 
-  module _ (ready : IsReady parts.value (memory_at n b pages)) (reserved : sum n.reserved ≡ sum p.reserved + charge_of pages) (number : parts.value.log.id ≡ id)
+  module _ (ready : IsReady parts.value (memory_at n b pages)) (reserved : sum n.reserved ≡ sum p.reserved + charge_of pages) (number : parts.value.history.id ≡ id)
       (fresh : list_any (has_id id) (entries_in ts) ≡ false) where
     own : (c : Live) → entered.holding ≡ kept.Live c → (c.memory.quota ≡ b.quota) × IsTenantMemory n vs (length ts) entered.pages c.memory × IsReady c.parts.value (memory_at n c.memory entered.pages)
     own c e =
@@ -98,9 +98,9 @@ module _ (p n : Pool) (us vs : List Translation) (ts : List code.Tenant) (id : �
 
 -- ---- the first machine
 
-pub first_number : (id : ℕ) (start : Start) (parts : TenantParts) → parts ≡ first_parts id start → parts.log.id ≡ id
+pub first_number : (id : ℕ) (start : Start) (parts : TenantParts) → parts ≡ first_parts id start → parts.history.id ≡ id
 unfolding first_parts
-first_number id start parts e = ap (λ (q : TenantParts). q.log.id) e
+first_number id start parts e = ap (λ (q : TenantParts). q.history.id) e
 
 pub first_tenant : (n : Pool) (id : ℕ) (start : Start) (parts : Box TenantParts Global) (b : TenantMemory) → parts.value ≡ first_parts id start → memory_at n b start.terms.pages ≡ first_memory start.image start.terms.pages start.terms.mode
     → tenant_in n (record { pages = start.terms.pages; holding = kept.Live (record { parts = parts; memory = b }) }) ≡ new_tenant id start

@@ -42,7 +42,7 @@ attrs_same : (p n : Pool) (o : Option (ℕ × Attrs)) → attrs_cases (option_ma
 attrs_same p n None = refl
 attrs_same p n (Some x) = refl
 
-written_tenant : (id q pages : ℕ) (ws : List ℕ) (parts : TenantParts) (m n : Memory) → (parts.log.id == id) ≡ true → n ≡ with_page_bytes m q ws
+written_tenant : (id q pages : ℕ) (ws : List ℕ) (parts : TenantParts) (m n : Memory) → (parts.history.id == id) ≡ true → n ≡ with_page_bytes m q ws
     → tenant_by parts n pages ≡ tenant_after_write id q ws (tenant_by parts m pages)
 written_tenant id q pages ws parts m n same e = rw (same, e) refl
 
@@ -164,7 +164,7 @@ module _ (p : Pool) (us : List Translation) (ts : List code.Tenant) (sharing : I
     tenant_lent : tenant_in n x.tenant ≡ tenant_after_write id q ws (tenant_in p x.tenant)
     tenant_lent =
         by_live n x.tenant x.live x.lies.live
-        ∙ written_tenant id q x.tenant.pages ws x.live.parts.value (memory_at p x.live.memory x.tenant.pages) (memory_at n x.live.memory x.tenant.pages) (eq-eqb x.live.parts.value.log.id id (sym (ap (λ (r : Record). r.id) (live_record x.tenant x.live x.lies.live)) ∙ x.number)) memory_lent
+        ∙ written_tenant id q x.tenant.pages ws x.live.parts.value (memory_at p x.live.memory x.tenant.pages) (memory_at n x.live.memory x.tenant.pages) (eq-eqb x.live.parts.value.history.id id (sym (ap (λ (r : Record). r.id) (live_record x.tenant x.live x.lies.live)) ∙ x.number)) memory_lent
         ∙ sym (ap (tenant_after_write id q ws) (by_live p x.tenant x.live x.lies.live))
 
     other_id : (j : ℕ) (u : code.Tenant) → j ≢ x.at → slice_get ts j ≡ Some u → ((record_in u).id == id) ≡ false

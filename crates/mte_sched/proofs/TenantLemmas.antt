@@ -32,14 +32,14 @@ use Rattle.mte_sched.specs.Views.{record_among}
 use Rattle.mte_sched.specs.Bounds.{SlicesAreBounded, TurnsAreBounded}
 
 abbrev pub number_in : Machine → ℕ
-number_in m = m.parts.log.id
+number_in m = m.parts.history.id
 
 abbrev pub steps_in : Machine → ℕ
-steps_in m = m.parts.log.steps
+steps_in m = m.parts.history.steps
 
 -- what services leave: the number, and the count of attempted instructions
 abbrev pub kept_in : TenantParts → ℕ × ℕ
-kept_in p = (p.log.id, p.log.steps)
+kept_in p = (p.history.id, p.history.steps)
 
 abbrev pub kept_of : Machine → ℕ × ℕ
 kept_of m = kept_in m.parts
@@ -215,24 +215,24 @@ turn-bounded id n c r s e f = bounded_among id n c.tenants r s e f
 -- ---- the tenant
 
 abbrev pub tenant_by : TenantParts → Memory → ℕ → Tenant
-tenant_by p m pages = record { id = p.log.id; pages = pages; held = Live (machine_of p m) }
+tenant_by p m pages = record { id = p.history.id; pages = pages; held = Live (machine_of p m) }
 
 abbrev pub tenant_gone : Record → ℕ → Tenant
 tenant_gone r pages = record { id = r.id; pages = pages; held = Gone r }
 
-pub sliced_tenant : (id steps pages : ℕ) (p p' : TenantParts) (m m' : Memory) → (p.log.id == id) ≡ true
+pub sliced_tenant : (id steps pages : ℕ) (p p' : TenantParts) (m m' : Memory) → (p.history.id == id) ≡ true
     → machine_of p' m' ≡ after_slice steps (machine_of p m)
     → tenant_by p' m' pages ≡ tenant_after_slice id steps (tenant_by p m pages)
 sliced_tenant id steps pages p p' m m' same step =
-    let number : p'.log.id ≡ p.log.id = ap number_in step ∙ after-slice-id steps (machine_of p m) in
+    let number : p'.history.id ≡ p.history.id = ap number_in step ∙ after-slice-id steps (machine_of p m) in
     rw (same, ← step, number) refl
 
-pub stopped_tenant : (id pages : ℕ) (p p' : TenantParts) (m : Memory) → (p.log.id == id) ≡ true
+pub stopped_tenant : (id pages : ℕ) (p p' : TenantParts) (m : Memory) → (p.history.id == id) ≡ true
     → ((m : Memory) → machine_of p' m ≡ after_stop (machine_of p m))
-    → tenant_gone p'.log pages ≡ tenant_after_stop id (tenant_by p m pages)
+    → tenant_gone p'.history pages ≡ tenant_after_stop id (tenant_by p m pages)
 unfolding after_stop
 stopped_tenant id pages p p' m live step =
-    let number : p'.log.id ≡ p.log.id = ap number_in (step m) ∙ after-stop-id (machine_of p m) in
+    let number : p'.history.id ≡ p.history.id = ap number_in (step m) ∙ after-stop-id (machine_of p m) in
     rw (live, ← step m, number) refl
 
 -- ---- a tenant alone

@@ -72,7 +72,7 @@ held_if false t h e = refl
 pub by_live : (p : Pool) (t : code.Tenant) (a : Live) → t.holding ≡ kept.Live a → tenant_in p t ≡ tenant_by a.parts.value (memory_at p a.memory t.pages) t.pages
 by_live p t a e = ap (λ (z : Holding). let u : Tenant = record { id = (record_of_holding z).id; pages = t.pages; held = state_of_holding p t.pages z } in u) e
 
-pub live_record : (t : code.Tenant) (a : Live) → t.holding ≡ kept.Live a → record_in t ≡ a.parts.value.log
+pub live_record : (t : code.Tenant) (a : Live) → t.holding ≡ kept.Live a → record_in t ≡ a.parts.value.history
 live_record t a e = ap record_of_holding e
 
 module _ (p n : Pool) (us vs : List Translation) (ts : List code.Tenant) (i id : ℕ) (t : code.Tenant) (a : Live)
@@ -81,10 +81,10 @@ module _ (p n : Pool) (us vs : List Translation) (ts : List code.Tenant) (i id :
   turn : Turn p n us vs a.memory.quota i
   turn = record { others = others; entries = entries }
 
-  own_number : (record_in t).id ≡ a.parts.value.log.id
+  own_number : (record_in t).id ≡ a.parts.value.history.id
   own_number = ap (λ (r : Record). r.id) (live_record t a lies.live)
 
-  own_same : (a.parts.value.log.id == id) ≡ true
+  own_same : (a.parts.value.history.id == id) ≡ true
   own_same = ap (λ k. k == id) (sym own_number) ∙ same
 
   differs : (j : ℕ) (u : code.Tenant) (b : Live) → j ≢ i → LiesAt ts j u b → b.memory.quota ≢ a.memory.quota
@@ -107,7 +107,7 @@ module _ (p n : Pool) (us vs : List Translation) (ts : List code.Tenant) (i id :
     abbrev pub after : code.Tenant
     after = record { pages = t.pages; holding = kept.Live (record { parts = parts; memory = b }) }
 
-    same_number : parts.value.log.id ≡ (record_in t).id
+    same_number : parts.value.history.id ≡ (record_in t).id
     same_number = ap number_in step ∙ after-slice-id steps (machine_of a.parts.value (memory_at p a.memory t.pages)) ∙ sym own_number
 
     same_entry : entry_in after ≡ entry_in t
@@ -140,9 +140,9 @@ module _ (p n : Pool) (us vs : List Translation) (ts : List code.Tenant) (i id :
   module _ (parts : TenantParts) (gone : vs ≡ without_asid i us) (charge : sum n.reserved + charge_of t.pages ≡ sum p.reserved)
       (step : (m : Memory) → machine_of parts m ≡ after_stop (machine_of a.parts.value m)) where
     abbrev pub left : code.Tenant
-    left = record { pages = t.pages; holding = kept.Gone parts.log }
+    left = record { pages = t.pages; holding = kept.Gone parts.history }
 
-    left_number : parts.log.id ≡ (record_in t).id
+    left_number : parts.history.id ≡ (record_in t).id
     left_number = ap number_in (step (memory_at p a.memory t.pages)) ∙ after-stop-id (machine_of a.parts.value (memory_at p a.memory t.pages)) ∙ sym own_number
 
     was_charged : charge_of_entry (entry_in t) ≡ charge_of t.pages

@@ -8,7 +8,7 @@ use Rattle.mte_sched.specs.Views.{record_among}
 -- A slice of n steps raises the count of attempted instructions by at most n.
 abbrev pub SlicesAreBounded : Type 0
 SlicesAreBounded =
-    (n : ℕ) (m : Machine) → (after_slice n m).parts.log.steps ≤ m.parts.log.steps + n
+    (n : ℕ) (m : Machine) → (after_slice n m).parts.history.steps ≤ m.parts.history.steps + n
 
 -- A slice of n steps raises the count in the record of a host's tenant by at most n.
 abbrev pub TurnsAreBounded : Type 0

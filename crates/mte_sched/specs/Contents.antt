@@ -17,7 +17,7 @@ abbrev pub machine : Behaviour Machine Record
 machine = record {
   start = start_of;
   slice = after_slice;
-  stop = λ m. (after_stop m).parts.log;
+  stop = λ m. (after_stop m).parts.history;
 }
 
 -- A live tenant has its machine, a stopped one its record alone.
@@ -34,7 +34,7 @@ Content = behaviours.Content Machine Record
 
 -- The record of a tenant.
 abbrev pub record_of : TenantState → Record
-record_of (Live m) = m.parts.log
+record_of (Live m) = m.parts.history
 record_of (Gone r) = r
 
 -- ---- what happens to a tenant

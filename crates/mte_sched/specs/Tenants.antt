@@ -12,12 +12,13 @@ use Rattle.mte_sched.specs.Memories.{memory_at}
 
 -- What is kept of a tenant with a reservation.
 abbrev pub state_of_holding : Pool → ℕ → Holding → TenantState
-state_of_holding p pages (kept.Live l) = Live (machine_of l.parts.value (memory_at p l.memory pages))
+state_of_holding p pages (kept.Live l) =
+    Live (machine_of l.parts.value (memory_at p l.memory pages))
 state_of_holding p pages (kept.Gone r) = Gone r
 
 -- The record of a tenant in the code.
 abbrev pub record_of_holding : Holding → Record
-record_of_holding (kept.Live l) = l.parts.value.log
+record_of_holding (kept.Live l) = l.parts.value.history
 record_of_holding (kept.Gone r) = r
 
 -- Whether a tenant in the code is live.

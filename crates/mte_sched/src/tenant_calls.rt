@@ -15,7 +15,7 @@ impl Tenant {
         ensures { result.now ≡ record_in self.now }
     {
         match &self.holding {
-            Holding::Live(live) => &live.parts.log,
+            Holding::Live(live) => &live.parts.history,
             Holding::Gone(record) => record,
         }
     }

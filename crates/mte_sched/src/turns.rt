@@ -67,11 +67,11 @@ pub(crate) fn stop_at(
     let mut parts = Box::into_inner(parts);
     halt(&mut parts);
     stop_memory(pool, tlb, asid, pages, memory);
-    let TenantParts { log, .. } = parts;
+    let TenantParts { history, .. } = parts;
     let last = tenants.len();
     tenants.push_reserved(Tenant {
         pages,
-        holding: Holding::Gone(log),
+        holding: Holding::Gone(history),
     });
     tenants.swap(asid, last);
 }

@@ -41,4 +41,4 @@ ends p m end = record { parts = p; memory = m; end = end }
 -- A heap call that was answered is entered.
 unfoldable pub with_logged_call : TenantParts → AnsweredCall → TenantParts
 with_logged_call p call =
-    record p { log = record p.log { calls = with_call p.log.calls call } }
+    record p { history = record p.history { calls = with_call p.history.calls call } }

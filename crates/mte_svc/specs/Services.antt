@@ -16,15 +16,15 @@ use Rattle.mte_svc.specs.HeapServices.{heap_call_in, after_heap_service}
 
 -- How many bytes a write takes: those that were requested, as far as there is room for output.
 abbrev pub write_count : TenantParts → ℕ
-write_count p = min (x_of p 1) p.log.output.left
+write_count p = min (x_of p 1) p.history.output.left
 
 -- The parts with n bytes more of output.
 abbrev pub with_output : TenantParts → List ℕ → ℕ → TenantParts
 with_output p bytes n = record p {
-  log = record p.log {
+  history = record p.history {
     output = record {
-      bytes = p.log.output.bytes ++ bytes;
-      left = p.log.output.left - n;
+      bytes = p.history.output.bytes ++ bytes;
+      left = p.history.output.left - n;
     };
   };
 }

@@ -14,7 +14,7 @@ use std::alloc::{AllocError, Global};
 #[derive(Drop)]
 pub struct TenantParts {
     /// Its record.
-    pub log: Record,
+    pub history: Record,
     /// Its registers.
     pub regs: Regs,
     /// Its heap.
@@ -28,9 +28,9 @@ pub struct TenantParts {
 impl TenantParts {
     /// Whether it is running.
     pub fn is_running(&self) -> bool
-        ensures { result ≡ is_running self.now.log.status }
+        ensures { result ≡ is_running self.now.history.status }
     {
-        match self.log.status {
+        match self.history.status {
             Status::Running => true,
             _ => false,
         }
@@ -40,11 +40,11 @@ impl TenantParts {
     pub fn copy(&self, alloc: Global) -> Result<TenantParts, AllocError>
         ensures { IfOk result (λ parts. parts ≡ self.now) }
     {
-        let log = self.log.copy(alloc)?;
+        let history = self.history.copy(alloc)?;
         let heap = self.heap.copy(alloc)?;
         let input = self.input.copy(alloc)?;
         Ok(TenantParts {
-            log,
+            history,
             regs: self.regs,
             heap,
             input,
@@ -59,7 +59,7 @@ impl TenantParts {
         ensures heap { self.new.heap ≡ self.old.heap }
         ensures rgsr { self.new.regs.rgsr ≡ self.old.regs.rgsr }
     {
-        self.log.calls.note(call);
+        self.history.calls.note(call);
         self.answer(call.answer);
     }
 

@@ -156,9 +156,9 @@ fn write<M: Tagged>(parts: &mut TenantParts, memory: &mut M) -> SvcEnd
     ensures kept { M.kept memory.old memory.new }
 {
     condition_of_calls();
-    let count = parts.regs.x[1].min(parts.log.output.left());
+    let count = parts.regs.x[1].min(parts.history.output.left());
     let addr = parts.regs.x[0];
-    match parts.log.output.append_from(memory, addr, count) {
+    match parts.history.output.append_from(memory, addr, count) {
         Ok(()) => {
             parts.answer(count);
             SvcEnd::Resume

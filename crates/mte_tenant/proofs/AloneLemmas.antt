@@ -28,8 +28,8 @@ by_outcome n m (outcome.Breakpoint k) e = rw e refl
 -- The same, of what the code has in hand.
 pub one_some : (n : ℕ) (m : Machine) (a : Attempt) (stop : Stop) (r : Regs) (mem : Memory) (o : Outcome) (steps : ℕ)
     → stop ≡ (run_of 1 m.parts.regs m.memory).stop → r ≡ (run_of 1 m.parts.regs m.memory).regs → mem ≡ (run_of 1 m.parts.regs m.memory).memory
-    → stop.outcome ≡ Some o → steps ≡ min (m.parts.log.steps + 1) 18446744073709551615
-    → a ≡ after_outcome o (machine_of (record m.parts { log = record m.parts.log { steps = steps }; regs = r; left = n }) mem)
+    → stop.outcome ≡ Some o → steps ≡ min (m.parts.history.steps + 1) 18446744073709551615
+    → a ≡ after_outcome o (machine_of (record m.parts { history = record m.parts.history { steps = steps }; regs = r; left = n }) mem)
     → a ≡ after_attempt n m
 one_some n m a stop r mem o steps e_stop e_regs e_memory e_some e_steps e_new =
     let h = by_outcome n m (step_of m.parts.regs m.memory).outcome refl in
@@ -38,8 +38,8 @@ one_some n m a stop r mem o steps e_stop e_regs e_memory e_some e_steps e_new =
 
 pub one_none : (n : ℕ) (m : Machine) (stop : Stop) (r : Regs) (mem : Memory) (steps : ℕ)
     → stop ≡ (run_of 1 m.parts.regs m.memory).stop → r ≡ (run_of 1 m.parts.regs m.memory).regs → mem ≡ (run_of 1 m.parts.regs m.memory).memory
-    → stop.outcome ≡ None → steps ≡ min (m.parts.log.steps + 1) 18446744073709551615
-    → continues (machine_of (record m.parts { log = record m.parts.log { steps = steps }; regs = r; left = n }) mem) ≡ after_attempt n m
+    → stop.outcome ≡ None → steps ≡ min (m.parts.history.steps + 1) 18446744073709551615
+    → continues (machine_of (record m.parts { history = record m.parts.history { steps = steps }; regs = r; left = n }) mem) ≡ after_attempt n m
 one_none n m stop r mem steps e_stop e_regs e_memory e_none e_steps =
     let h = by_outcome n m (step_of m.parts.regs m.memory).outcome refl in
     rw (← e_stop, ← e_regs, ← e_memory, e_none, ← e_steps) at h

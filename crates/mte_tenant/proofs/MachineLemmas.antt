@@ -61,8 +61,8 @@ RunAdvances n m = rest_of (run_of n m.parts.regs m.memory).stop.left (after_run 
 abbrev pub HasLeft : ℕ → Machine → Type 0
 HasLeft n m = n ≡ 0 → m.parts.left ≡ 0
 
-pub step_advances : (n : ℕ) (m : Machine) (o : Outcome) → (step_of m.parts.regs m.memory).outcome ≡ o → runs m ≡ true → m.parts.log.steps ≤ 18446744073709551615
-    → ((k : Machine) → runs k ≡ true → k.parts.log.steps ≤ 18446744073709551615 → HasLeft n k → RunAdvances n k)
+pub step_advances : (n : ℕ) (m : Machine) (o : Outcome) → (step_of m.parts.regs m.memory).outcome ≡ o → runs m ≡ true → m.parts.history.steps ≤ 18446744073709551615
+    → ((k : Machine) → runs k ≡ true → k.parts.history.steps ≤ 18446744073709551615 → HasLeft n k → RunAdvances n k)
     → RunAdvances (suc n) m
 unfolding run_of after_attempts after_attempt after_outcome
 step_advances n m outcome.Next e running few rest =
@@ -70,7 +70,7 @@ step_advances n m outcome.Next e running few rest =
     let next : Machine = machine_of (with_steps 1 n (with_regs m.parts s.regs)) s.memory in
     let ran = run_of n s.regs s.memory in
     let below : ran.stop.left ≤ n = left_le n s.regs s.memory in
-    let same : min (m.parts.log.steps + (suc n - ran.stop.left)) 18446744073709551615 ≡ min (min (m.parts.log.steps + 1) 18446744073709551615 + (n - ran.stop.left)) 18446744073709551615 = omega arith in
+    let same : min (m.parts.history.steps + (suc n - ran.stop.left)) 18446744073709551615 ≡ min (min (m.parts.history.steps + 1) 18446744073709551615 + (n - ran.stop.left)) 18446744073709551615 = omega arith in
     let rest_of_it = rest next running (omega arith) (λ z. z) in
     rw (e, running, same) rest_of_it
 step_advances n m outcome.Svc e running few rest = let one : suc n - n ≡ 1 = omega arith in rw (e, running, one) refl
@@ -78,12 +78,12 @@ step_advances n m (outcome.Fault f) e running few rest = let one : suc n - n ≡
 step_advances n m (outcome.Illegal w) e running few rest = let one : suc n - n ≡ 1 = omega arith in rw (e, running, one) refl
 step_advances n m (outcome.Breakpoint k) e running few rest = let one : suc n - n ≡ 1 = omega arith in rw (e, running, one) refl
 
-pub run_advances : (n : ℕ) (m : Machine) → runs m ≡ true → m.parts.log.steps ≤ 18446744073709551615 → HasLeft n m → RunAdvances n m
+pub run_advances : (n : ℕ) (m : Machine) → runs m ≡ true → m.parts.history.steps ≤ 18446744073709551615 → HasLeft n m → RunAdvances n m
 unfolding run_of after_attempts
 run_advances zero m running few none =
-    let same : min (m.parts.log.steps + (0 - 0)) 18446744073709551615 ≡ m.parts.log.steps = omega arith in
+    let same : min (m.parts.history.steps + (0 - 0)) 18446744073709551615 ≡ m.parts.history.steps = omega arith in
     let left : 0 ≡ m.parts.left = sym (none refl) in
-    ap (λ (k : ℕ). let z : Machine = record m { parts = record m.parts { log = record m.parts.log { steps = k }; left = 0 } } in z) same
+    ap (λ (k : ℕ). let z : Machine = record m { parts = record m.parts { history = record m.parts.history { steps = k }; left = 0 } } in z) same
     ∙ ap (λ (k : ℕ). let z : Machine = record m { parts = record m.parts { left = k } } in z) left
 run_advances (suc n) m running few none =
     step_advances n m (step_of m.parts.regs m.memory).outcome refl running few (λ k r f l. run_advances n k r f l)
@@ -97,9 +97,9 @@ after-attempts-ended (suc n) m ended = rw ended refl
 -- The same, of what the code has in hand.
 pub after_some : (n : ℕ) (m : Machine) (a : Attempt) (stop : Stop) (r : Regs) (mem : Memory) (o : Outcome) (steps : ℕ)
     → stop ≡ (run_of n m.parts.regs m.memory).stop → r ≡ (run_of n m.parts.regs m.memory).regs → mem ≡ (run_of n m.parts.regs m.memory).memory
-    → stop.outcome ≡ Some o → steps ≡ min (m.parts.log.steps + (n - stop.left)) 18446744073709551615
-    → a ≡ after_outcome o (machine_of (record m.parts { log = record m.parts.log { steps = steps }; regs = r; left = stop.left }) mem)
-    → runs m ≡ true → m.parts.log.steps ≤ 18446744073709551615 → 0 < n → rest_of stop.left a ≡ after_attempts n m
+    → stop.outcome ≡ Some o → steps ≡ min (m.parts.history.steps + (n - stop.left)) 18446744073709551615
+    → a ≡ after_outcome o (machine_of (record m.parts { history = record m.parts.history { steps = steps }; regs = r; left = stop.left }) mem)
+    → runs m ≡ true → m.parts.history.steps ≤ 18446744073709551615 → 0 < n → rest_of stop.left a ≡ after_attempts n m
 after_some n m a stop r mem o steps e_stop e_regs e_memory e_some e_steps e_new running few some =
     let h = run_advances n m running few (λ z. absurd (omega arith)) in
     let k = rw (← e_stop, ← e_regs, ← e_memory, e_some, ← e_steps) at h in
@@ -107,9 +107,9 @@ after_some n m a stop r mem o steps e_stop e_regs e_memory e_some e_steps e_new 
 
 pub after_none : (n : ℕ) (m : Machine) (stop : Stop) (r : Regs) (mem : Memory) (steps : ℕ)
     → stop ≡ (run_of n m.parts.regs m.memory).stop → r ≡ (run_of n m.parts.regs m.memory).regs → mem ≡ (run_of n m.parts.regs m.memory).memory
-    → stop.outcome ≡ None → steps ≡ min (m.parts.log.steps + (n - stop.left)) 18446744073709551615
-    → runs m ≡ true → m.parts.log.steps ≤ 18446744073709551615 → 0 < n
-    → after_attempts stop.left (machine_of (record m.parts { log = record m.parts.log { steps = steps }; regs = r; left = stop.left }) mem) ≡ after_attempts n m
+    → stop.outcome ≡ None → steps ≡ min (m.parts.history.steps + (n - stop.left)) 18446744073709551615
+    → runs m ≡ true → m.parts.history.steps ≤ 18446744073709551615 → 0 < n
+    → after_attempts stop.left (machine_of (record m.parts { history = record m.parts.history { steps = steps }; regs = r; left = stop.left }) mem) ≡ after_attempts n m
 after_none n m stop r mem steps e_stop e_regs e_memory e_none e_steps running few some =
     let h = run_advances n m running few (λ z. absurd (omega arith)) in
     rw (← e_stop, ← e_regs, ← e_memory, e_none, ← e_steps) at h

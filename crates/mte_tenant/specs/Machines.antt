@@ -35,12 +35,12 @@ machine_of p m = record { parts = p; memory = m }
 
 -- Whether a machine is running.
 abbrev pub runs : Machine → Bool
-runs m = is_running m.parts.log.status
+runs m = is_running m.parts.history.status
 
 -- A machine with another status.
 abbrev pub with_status : Machine → Status → Machine
 with_status m s =
-    record m { parts = record m.parts { log = record m.parts.log { status = s } } }
+    record m { parts = record m.parts { history = record m.parts.history { status = s } } }
 
 -- ---- the first machine
 
@@ -66,7 +66,7 @@ first_memory image pages mode =
 -- The parts of a tenant before its first instruction.
 unfoldable pub first_parts : ℕ → Start → TenantParts
 first_parts id start = record {
-  log = record {
+  history = record {
     id = id;
     status = Running;
     steps = 0;
@@ -128,7 +128,7 @@ after_outcome (outcome.Breakpoint number) m =
 -- stops at 2^64 - 1.
 abbrev pub with_steps : ℕ → ℕ → TenantParts → TenantParts
 with_steps n left p = record p {
-  log = record p.log { steps = min (p.log.steps + n) 18446744073709551615 };
+  history = record p.history { steps = min (p.history.steps + n) 18446744073709551615 };
   left = left;
 }
 

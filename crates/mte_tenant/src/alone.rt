@@ -128,7 +128,7 @@ pub fn attempt<M: Paged>(
     memory: &mut M,
     left: u64,
 ) -> bool
-    requires running { is_running parts.old.log.status ≡ true }
+    requires running { is_running parts.old.history.status ≡ true }
     requires ready { IsReady parts.old (M.Tagged.memory memory.old) }
     ensures machine { record {
       machine = machine_of parts.new (M.Tagged.memory memory.new);
@@ -141,7 +141,7 @@ pub fn attempt<M: Paged>(
     steps_keep_pages();
     condition_of_calls();
     let stop = run(decoder, &mut parts.regs, memory, 1);
-    parts.log.steps = parts.log.steps.saturating_add(1);
+    parts.history.steps = parts.history.steps.saturating_add(1);
     parts.left = left;
     match stop.outcome {
         Some(outcome) => handle(outcome, parts, memory),

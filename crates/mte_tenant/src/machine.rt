@@ -47,7 +47,7 @@ pub fn start_parts(
         u64::from(admission.terms.pages),
     )?;
     let calls = HeapCalls::new(alloc)?;
-    let log = Record {
+    let history = Record {
         id: admission.id,
         status: Status::Running,
         steps: 0,
@@ -55,7 +55,7 @@ pub fn start_parts(
         calls,
     };
     Ok(TenantParts {
-        log,
+        history,
         regs: registers_at(plan.entry, admission.terms.seed),
         heap,
         input,
@@ -102,7 +102,7 @@ pub fn slice<M: Paged>(ops: &mut OpCache, parts: &mut TenantParts, memory: &mut 
 fn run_on<M: Paged>(ops: &mut OpCache, parts: &mut TenantParts, memory: &mut M, left: u64) -> u64
     requires some { 0 < left }
     requires known { Knows (M.Tagged.memory memory.old) ops.old }
-    requires running { is_running parts.old.log.status ≡ true }
+    requires running { is_running parts.old.history.status ≡ true }
     requires ready { IsReady parts.old (M.Tagged.memory memory.old) }
     ensures rest { after_attempts result (machine_of parts.new (M.Tagged.memory memory.new))
         ≡ after_attempts left (machine_of parts.old (M.Tagged.memory memory.old)) }
@@ -115,7 +115,7 @@ fn run_on<M: Paged>(ops: &mut OpCache, parts: &mut TenantParts, memory: &mut M, 
     condition_of_calls();
     known_words_stay();
     let stop = run_on_cache(ops, &mut parts.regs, memory, left);
-    parts.log.steps = parts.log.steps.saturating_add(left - stop.left);
+    parts.history.steps = parts.history.steps.saturating_add(left - stop.left);
     parts.left = stop.left;
     match stop.outcome {
         Some(outcome) => {
@@ -141,7 +141,7 @@ pub fn settle<M: Tagged>(parts: &mut TenantParts, memory: &mut M)
 {
     parts.left = 0;
     if parts.is_running() && memory.pending() {
-        parts.log.status = Status::AsyncTag(parts.regs.pc);
+        parts.history.status = Status::AsyncTag(parts.regs.pc);
     }
 }
 
@@ -164,14 +164,14 @@ pub(crate) fn handle<M: Paged>(outcome: Outcome, parts: &mut TenantParts, memory
         Outcome::Next => {}
         Outcome::Svc => {
             if memory.pending() {
-                parts.log.status = Status::AsyncTag(pc);
+                parts.history.status = Status::AsyncTag(pc);
             } else {
                 return serve(parts, memory);
             }
         }
-        Outcome::Fault(fault) => parts.log.status = Status::Faulted(fault, pc),
-        Outcome::Illegal(word) => parts.log.status = Status::Illegal(word, pc),
-        Outcome::Breakpoint(number) => parts.log.status = Status::Breakpoint(number, pc),
+        Outcome::Fault(fault) => parts.history.status = Status::Faulted(fault, pc),
+        Outcome::Illegal(word) => parts.history.status = Status::Illegal(word, pc),
+        Outcome::Breakpoint(number) => parts.history.status = Status::Breakpoint(number, pc),
     }
     true
 }
@@ -191,10 +191,10 @@ fn serve<M: Paged>(parts: &mut TenantParts, memory: &mut M) -> bool
     match svc(parts, memory) {
         SvcEnd::Resume => {}
         SvcEnd::Yield => return false,
-        SvcEnd::Exit(code) => parts.log.status = Status::Exited(code),
-        SvcEnd::Fault(fault) => parts.log.status = Status::Faulted(fault, parts.regs.pc),
+        SvcEnd::Exit(code) => parts.history.status = Status::Exited(code),
+        SvcEnd::Fault(fault) => parts.history.status = Status::Faulted(fault, parts.regs.pc),
         SvcEnd::Abort(abort, pointer) => {
-            parts.log.status = Status::Aborted(abort, pointer, parts.regs.pc);
+            parts.history.status = Status::Aborted(abort, pointer, parts.regs.pc);
         }
     }
     true
@@ -208,7 +208,7 @@ pub fn halt(parts: &mut TenantParts)
     ensures regs { parts.new.regs ≡ parts.old.regs }
 {
     if parts.is_running() {
-        parts.log.status = Status::Stopped;
+        parts.history.status = Status::Stopped;
     }
 }
 

@@ -84,7 +84,7 @@ fn write_status<W: Write>(out: &mut W, report: &Report<'_>) -> io::Result<()> {
             writeln!(out, "\"status\":{object},")
         }
         None => {
-            let object = StatusObject(&report.parts.log.status);
+            let object = StatusObject(&report.parts.history.status);
             writeln!(out, "\"status\":{object},")
         }
     }

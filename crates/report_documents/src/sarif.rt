@@ -25,7 +25,8 @@ pub fn write_sarif<W: Write>(
     memory: &mut Flat,
 ) -> io::Result<()> {
     write_head(out)?;
-    let is_clean = report.finding.is_none() && matches!(report.parts.log.status, Status::Exited(_));
+    let is_clean = report.finding.is_none()
+        && matches!(report.parts.history.status, Status::Exited(_));
     if is_clean {
         write!(out, "}}}},\n\"results\":[]")?;
     } else {
@@ -162,7 +163,7 @@ fn write_flow_step<W: Write>(
 
 /// The name of the kind of an end.
 fn rule_of(report: &Report<'_>, cause: Option<&Cause>) -> &'static str {
-    match (cause, &report.parts.log.status) {
+    match (cause, &report.parts.history.status) {
         (Some(cause), _) => cause.rule(),
         (None, Status::AsyncTag(_)) => "tag-mismatch",
         (None, Status::Illegal(_, _)) => "illegal-word",
@@ -173,7 +174,7 @@ fn rule_of(report: &Report<'_>, cause: Option<&Cause>) -> &'static str {
 
 /// What happened, where nothing is judged.
 fn end_text(report: &Report<'_>) -> &'static str {
-    match &report.parts.log.status {
+    match &report.parts.history.status {
         Status::AsyncTag(_) => "an access had another tag than its memory",
         Status::Illegal(_, _) => "a word that is no instruction of the table",
         Status::Breakpoint(_, _) => "a breakpoint",

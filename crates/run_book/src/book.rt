@@ -175,7 +175,7 @@ impl Book {
         ensures memory { M.memory memory.new ≡ M.memory memory.old }
         ensures kept { M.kept memory.old memory.new }
     {
-        let calls = &parts.log.calls;
+        let calls = &parts.history.calls;
         if calls.count() == self.seen {
             return None;
         }
@@ -184,7 +184,7 @@ impl Book {
         let callers = Callers::of(memory, &parts.regs);
         self.entries.push_back(BookEntry {
             number: self.seen,
-            step: parts.log.steps,
+            step: parts.history.steps,
             pc: parts.regs.pc.wrapping_sub(4),
             call,
             callers,

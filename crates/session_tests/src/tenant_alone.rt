@@ -45,6 +45,6 @@ fn calls_of_a_host(rt: HostRuntime) -> Result<(), Fail> {
         &mut memory,
     );
     halt(&mut parts);
-    assert!(rt; parts.log.status == Status::Stopped);
+    assert!(rt; parts.history.status == Status::Stopped);
     Ok(())
 }

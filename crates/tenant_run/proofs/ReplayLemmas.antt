@@ -32,11 +32,11 @@ ended-as-it-is : (b p : Bool) (m : Machine) → b ≡ false → (if b && p then 
 ended-as-it-is false p m e = refl
 ended-as-it-is true p m e = cc
 
-after-slice-ended : (n : ℕ) (m : Machine) → runs m ≡ false → (after_slice n m).parts.log ≡ m.parts.log
+after-slice-ended : (n : ℕ) (m : Machine) → runs m ≡ false → (after_slice n m).parts.history ≡ m.parts.history
 unfolding after_slice after_slice_end
 after-slice-ended n m e =
-    ap (λ k. (after_slice_end k).parts.log) (after-attempts-ended n m e)
-    ∙ ap (λ (k : Machine). k.parts.log) (ended-as-it-is (runs m) m.memory.state.pending (record m { parts = record m.parts { left = 0 } }) e)
+    ap (λ k. (after_slice_end k).parts.history) (after-attempts-ended n m e)
+    ∙ ap (λ (k : Machine). k.parts.history) (ended-as-it-is (runs m) m.memory.state.pending (record m { parts = record m.parts { left = 0 } }) e)
 
 after-stop-ended : (m : Machine) → runs m ≡ false → after_stop m ≡ m
 unfolding after_stop
@@ -53,7 +53,7 @@ after-stop-stops m = stops (runs m) m refl
 -- What is kept of a tenant; one that was stopped is not running.
 abbrev pub IsLike : TenantState → Machine → Type 0
 IsLike (Live m) n = n ≡ m
-IsLike (Gone r) n = (n.parts.log ≡ r) × (runs n ≡ false)
+IsLike (Gone r) n = (n.parts.history ≡ r) × (runs n ≡ false)
 
 like-after-slice-of : (n : ℕ) (h : TenantState) (m : Machine) → IsLike h m → IsLike (state_after_slice n h) (after_slice n m)
 like-after-slice-of n (Live k) m h = ap (after_slice n) h
@@ -62,10 +62,10 @@ like-after-slice-of n (Gone r) m h =
     (same ∙ h.0, ap (λ (a : Record). is_running a.status) same ∙ h.1)
 
 like-after-stop-of : (h : TenantState) (m : Machine) → IsLike h m → IsLike (state_after_stop h) (after_stop m)
-like-after-stop-of (Live k) m h = (ap (λ (x : Machine). (after_stop x).parts.log) h, after-stop-stops m)
+like-after-stop-of (Live k) m h = (ap (λ (x : Machine). (after_stop x).parts.history) h, after-stop-stops m)
 like-after-stop-of (Gone r) m h =
     let same = after-stop-ended m h.1 in
-    (ap (λ (x : Machine). x.parts.log) same ∙ h.0, ap runs same ∙ h.1)
+    (ap (λ (x : Machine). x.parts.history) same ∙ h.0, ap runs same ∙ h.1)
 
 like-is : (h : TenantState) (m : Machine) → IsLike h m → IsOf h m
 like-is (Live k) m h = h

@@ -14,7 +14,7 @@ machine_in t = machine_of t.bench.parts t.bench.memory
 -- The machine of a live tenant is what is kept of it; of one that was stopped its record is.
 abbrev pub IsOf : TenantState → Machine → Type 0
 IsOf (Live m) n = n ≡ m
-IsOf (Gone r) n = n.parts.log ≡ r
+IsOf (Gone r) n = n.parts.history ≡ r
 
 -- The session admits a tenant with the number, whose image is the file, and after its own events
 -- it is this one.

@@ -87,7 +87,7 @@ impl TenantBench {
             ≡ after_stop (machine_of self.old.parts self.old.memory) }
     {
         if self.parts.is_running() {
-            self.parts.log.status = Status::Stopped;
+            self.parts.history.status = Status::Stopped;
         }
     }
 }

@@ -158,7 +158,7 @@ impl<'x> LoneTenant<'x> {
         bench: &TenantBench,
         observer: &mut Observer<'_, Log>,
     ) -> Result<(), Failure<'a>> {
-        let Some(load) = observer.target_load(&bench.parts.log.status) else {
+        let Some(load) = observer.target_load(&bench.parts.history.status) else {
             return Ok(());
         };
         let mut again = self.bench_again(alloc, options)?;
@@ -173,7 +173,7 @@ impl<'x> LoneTenant<'x> {
 /// Whether the end that a tenant came to unwatched is told by what a run that is watched remembers.
 /// Output that fills its room may have been cut.
 pub fn wants_watch(bench: &TenantBench, options: &Options) -> bool {
-    let log = &bench.parts.log;
+    let log = &bench.parts.history;
     TenantEnding::of(log, options.limit()) != TenantEnding::Exit
         || options.output.leaks
         || options.output.map.is_some()

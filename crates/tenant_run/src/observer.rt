@@ -158,7 +158,7 @@ impl<'a, W: Write + Drop> Watch for Observer<'a, W> {
             return;
         }
         self.last.push_back(Moment {
-            step: parts.log.steps.saturating_add(1),
+            step: parts.history.steps.saturating_add(1),
             word: memory.fetch(parts.regs.pc).ok(),
             regs: parts.regs,
         });

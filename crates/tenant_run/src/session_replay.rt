@@ -84,7 +84,7 @@ impl<'a, 'x> SessionReplay<'a, 'x> {
         found: &Replayed,
         observer: &mut Observer<'_, Log>,
     ) -> Result<(), Failure<'a>> {
-        let Some(load) = observer.target_load(&found.bench.parts.log.status) else {
+        let Some(load) = observer.target_load(&found.bench.parts.history.status) else {
             return Ok(());
         };
         let mut watcher = StoreWatcher::new(load);

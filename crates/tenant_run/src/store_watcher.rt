@@ -46,7 +46,7 @@ impl Watch for StoreWatcher {
 
     fn before<M: Paged>(&mut self, parts: &TenantParts, memory: &mut M) {
         self.moment = Some(Moment {
-            step: parts.log.steps.saturating_add(1),
+            step: parts.history.steps.saturating_add(1),
             word: memory.fetch(parts.regs.pc).ok(),
             regs: parts.regs,
         });

@@ -86,7 +86,7 @@ fn ending_under<'x>(
     if observer.finding().is_some() {
         return Ok(TenantEnding::Exact);
     }
-    Ok(TenantEnding::of(&bench.parts.log, options.limit()))
+    Ok(TenantEnding::of(&bench.parts.history, options.limit()))
 }
 
 impl fmt::Display for Survey {

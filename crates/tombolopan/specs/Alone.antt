@@ -12,7 +12,7 @@ after_slices m (n ∷ more) = after_slices (after_slice n m) more
 
 -- The record of a tenant at the end of its slices.
 abbrev pub record_after : ℕ → Start → List ℕ → Record
-record_after id start slices = (after_slices (start_of id start) slices).parts.log
+record_after id start slices = (after_slices (start_of id start) slices).parts.history
 
 -- Why a tenant is refused by a host that has no other and just the frames that it is charged.
 abbrev pub refusal_alone : ℕ → Start → Option AdmitError

@@ -94,5 +94,5 @@ pub fn run_alone(
 {
     let mut lone = Lone::new(alloc, admission)?;
     lone.slices(slices);
-    Ok(lone.parts.log)
+    Ok(lone.parts.history)
 }

@@ -40,7 +40,7 @@ returns c =
     let within : i < length ts = live_within ts i c.args.id c.requires.live in
     let last : ℕ = c.len-last.result in
     let many : length ts ≡ last + 1 = omega (arith, all, c.swap_remove-pages.ensures.len, c.len-last.ensures) in
-    let left : Tenant = record { pages = t.pages; holding = kept.Gone c.halt.new.parts.log } in
+    let left : Tenant = record { pages = t.pages; holding = kept.Gone c.halt.new.parts.history } in
     let back : c.swap.new.self.items ≡ slice_set ts i left = put_back ts c.swap_remove-pages.new.self.items c.swap.new.self.items i last t left within many c.swap_remove-pages.ensures.items
     (subst (λ (l : List Tenant). c.swap.new.self.items ≡ slice_set (slice_set l i (get_or l last left)) last (get_or l i left)) c.push_reserved.ensures.items (c.swap.ensures.by_index.3 left)) in
     let turn = c.stop_memory.ensures in
