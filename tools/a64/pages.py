@@ -1,4 +1,4 @@
-"""Writes docs/INSTRUCTIONS.md, and tells what a word is."""
+"""Writes docs/INSTRUCTIONS.md, and says what a word is."""
 
 from collections.abc import Mapping
 from typing import Optional
@@ -15,10 +15,10 @@ HEAD = """\
 
 {rows} rows of encodings (Arm ARM DDI 0487, C4.1 and C6.2), and {forms} forms in which a run keeps \
 what it has decoded. A word of no row is no instruction: a step of it ends with `Illegal`, and so \
-does one of a row with fields that the row refuses. `tools/isa.py --why WORD` tells of a word in \
+does one of a row with fields that the row refuses. `tools/isa.py --why WORD` says of a word in \
 hexadecimal which row has it, its fields, what refuses it, and its form.
 
-A row's bits stand from bit 31 to bit 0: `NAME:WIDTH` is a field, `NAME:sWIDTH` one in two's \
+A row's bits are from bit 31 to bit 0: `NAME:WIDTH` is a field, `NAME:sWIDTH` one in two's \
 complement, and digits are fixed. `rn`, `rm`, `rd`, `rt`, `rt2` and `ra` are registers, where 31 \
 is the zero register or SP, as the manual says for each instruction; with `sf` 0 operands have 32 \
 bits.
