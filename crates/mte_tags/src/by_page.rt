@@ -19,7 +19,7 @@ use crate::chunk::{read_chunk_in_page, write_chunk_in_page};
 use crate::fault::{FaultKind, MemFault, by_fields};
 use crate::page_store::PageStore;
 use crate::state::TagMode;
-use crate::tagged::Tagged;
+use crate::tagged::{ChunkAccess, Tagged};
 use crate::within_page::{
     code_has_attrs, fault_of_run, fetch_aligned, granule_tag_at, read_in_page, store_tags_in_page,
     try_read, try_read_in_page, try_write, try_write_in_page, write_in_page,
@@ -467,23 +467,6 @@ impl<S: PageStore> Tagged for S {
         write_at(self, addr, bytes, check)
     }
 
-    #[inline(always)]
-    fn read_chunk(&mut self, user: u64) -> Option<(u64, u8)> {
-        read_chunk_in_page(self, user)
-    }
-
-    #[inline(always)]
-    fn write_chunk(
-        &mut self,
-        user: u64,
-        around: u64,
-        count: u64,
-        tag: u8,
-        bytes: &[u8; 8],
-    ) -> bool {
-        write_chunk_in_page(self, user, around, count, tag, bytes)
-    }
-
     #[inline]
     fn has_attrs(&mut self, addr: u64, attrs: Attrs) -> bool {
         page_has_attrs(self, addr, attrs)
@@ -513,4 +496,23 @@ impl<S: PageStore> Tagged for S {
     ghost kept_same = { λ a. S.kept_same a };
 
     ghost kept_on = { λ a b c p q. S.kept_on a b c p q };
+}
+
+impl<S: PageStore> ChunkAccess for S {
+    #[inline(always)]
+    fn read_chunk(&mut self, user: u64) -> Option<(u64, u8)> {
+        read_chunk_in_page(self, user)
+    }
+
+    #[inline(always)]
+    fn write_chunk(
+        &mut self,
+        user: u64,
+        around: u64,
+        count: u64,
+        tag: u8,
+        bytes: &[u8; 8],
+    ) -> bool {
+        write_chunk_in_page(self, user, around, count, tag, bytes)
+    }
 }

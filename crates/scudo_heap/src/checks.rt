@@ -16,7 +16,7 @@ use crate::abort::HeapAbort;
 use crate::chunk::{Found, Place};
 use crate::stacks::Stacks;
 use address_map::PAGE_SIZE;
-use mte_tags::{Attrs, Paged, Tagged};
+use mte_tags::{Attrs, ChunkAccess, Paged, Tagged};
 use scudo_header::{CLASSES, Header, State, size_of_class, unpack};
 use scudo_secondary::{Mapping, Secondary};
 
