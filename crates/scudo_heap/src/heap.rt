@@ -291,7 +291,7 @@ impl Heap {
     /// What holds of every heap, whatever the calls were: in each stack of free blocks there are
     /// carved blocks, none of them twice, and the mappings are in order, each with pages of its own
     /// in their range.
-    pub fn is_sound(&self)
+    pub fn recall(&self)
         ensures { IsSound self.now }
     {
         self.stacks.recall();
