@@ -6,7 +6,7 @@ use a64_bits::plain;
 use address_map::{GRANULE_SIZE, PAGE_SIZE};
 use elf_core::{MappedRegion, regions};
 use mte_flat::Flat;
-use mte_tags::{Attrs, MemFault, NoPagesLeft, Paged, Tagged};
+use mte_tags::{Attrs, ChunkAccess, MemFault, NoPagesLeft, Paged, Tagged};
 use std::alloc::{AllocError, Global};
 
 /// Which accesses are watched.
@@ -233,6 +233,22 @@ impl Tagged for Watched {
         answer
     }
 
+    #[inline]
+    fn has_attrs(&mut self, addr: u64, attrs: Attrs) -> bool {
+        self.flat.has_attrs(addr, attrs)
+    }
+
+    #[inline]
+    fn pending(&mut self) -> bool {
+        self.flat.pending()
+    }
+
+    ghost kept_same = { λ _. tt };
+
+    ghost kept_on = { λ _ _ _ _ _. tt };
+}
+
+impl ChunkAccess for Watched {
     #[inline(always)]
     fn read_chunk(&mut self, user: u64) -> Option<(u64, u8)> {
         let answer = self.flat.read_chunk(user);
@@ -260,20 +276,6 @@ impl Tagged for Watched {
         }
         is_done
     }
-
-    #[inline]
-    fn has_attrs(&mut self, addr: u64, attrs: Attrs) -> bool {
-        self.flat.has_attrs(addr, attrs)
-    }
-
-    #[inline]
-    fn pending(&mut self) -> bool {
-        self.flat.pending()
-    }
-
-    ghost kept_same = { λ _. tt };
-
-    ghost kept_on = { λ _ _ _ _ _. tt };
 }
 
 impl Paged for Watched {

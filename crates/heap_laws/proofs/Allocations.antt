@@ -12,7 +12,7 @@ use Rattle.scudo_primary.specs.Pools.{is_member}
 use Rattle.scudo_primary.specs.Blocks.{IsClass}
 use Rattle.scudo_primary.proofs.ListLemmas.{member-first}
 use Rattle.scudo_secondary.specs.Mappings.{place_of}
-use Rattle.scudo_heap.specs.declared.limits.TheConstants.{MAX_REQUEST}
+use Rattle.scudo_header.specs.declared.config.TheConstants.{MAX_REQUEST}
 use Rattle.scudo_heap.specs.declared.chunk.Place.{Place}
 use Rattle.scudo_heap.specs.declared.chunk.Chunk.TheVariants.{Small}
 use Rattle.scudo_heap.specs.Inner.{IsAlign}

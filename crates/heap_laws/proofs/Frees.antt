@@ -17,7 +17,7 @@ use Rattle.scudo_header.specs.declared.headers.State.TheVariants.{Available}
 use Rattle.scudo_header.proofs.HeaderLemmas.{checksum_of-small, unpacked-header-packed-header}
 use Rattle.scudo_primary.proofs.BlockLemmas.{size-IsSize}
 use Rattle.scudo_heap.specs.declared.abort.HeapAbort.TheVariants.{InvalidState}
-use Rattle.scudo_heap.specs.declared.limits.TheConstants.{MAX_REQUEST}
+use Rattle.scudo_header.specs.declared.config.TheConstants.{MAX_REQUEST}
 use Rattle.scudo_heap.specs.declared.call.HeapCall.{HeapCall}
 use Rattle.scudo_heap.specs.declared.call.HeapCall.TheVariants.{Realloc, Free}
 use Rattle.scudo_heap.specs.declared.chunk.Chunk.{Chunk}

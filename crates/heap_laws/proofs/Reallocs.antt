@@ -16,7 +16,7 @@ use Rattle.mte_tags.proofs.ByteLaws.{byte_at-written_same, byte_at-written_other
 use Rattle.mte_tags.proofs.TagLaws.{byte_at-with_granules_kept, byte_at-with_granules_out}
 use Rattle.scudo_header.specs.Headers.{packed_header}
 use Rattle.scudo_header.specs.declared.headers.Origin.TheVariants.{Malloc}
-use Rattle.scudo_heap.specs.declared.limits.TheConstants.{MAX_REQUEST}
+use Rattle.scudo_header.specs.declared.config.TheConstants.{MAX_REQUEST}
 use Rattle.scudo_heap.specs.declared.call.HeapCall.TheVariants.{Realloc}
 use Rattle.scudo_heap.specs.declared.chunk.Place.{Place}
 use Rattle.scudo_heap.specs.declared.chunk.Chunk.{Chunk}

@@ -6,7 +6,7 @@ ghost use Rattle.mte_flat.specs.MappedPages.{attrs_in, AreApart};
 
 use crate::mapped::MappedPage;
 use crate::pages::Pages;
-use mte_tags::{Attrs, MemFault, NoPagesLeft, Paged, TagMode, Tagged};
+use mte_tags::{Attrs, ChunkAccess, MemFault, NoPagesLeft, Paged, TagMode, Tagged};
 use std::alloc::{AllocError, Global};
 use std::marker::Model;
 
@@ -95,6 +95,22 @@ impl Tagged for Flat {
         self.pages.store_tags(addr, granules, tag, zero)
     }
 
+    #[inline]
+    fn has_attrs(&mut self, addr: u64, attrs: Attrs) -> bool {
+        self.pages.has_attrs(addr, attrs)
+    }
+
+    #[inline]
+    fn pending(&mut self) -> bool {
+        self.pages.pending()
+    }
+
+    ghost kept_same = { λ _. tt };
+
+    ghost kept_on = { λ _ _ _ _ _. tt };
+}
+
+impl ChunkAccess for Flat {
     #[inline(always)]
     fn read_chunk(&mut self, user: u64) -> Option<(u64, u8)> {
         self.pages.read_chunk(user)
@@ -111,20 +127,6 @@ impl Tagged for Flat {
     ) -> bool {
         self.pages.write_chunk(user, around, count, tag, bytes)
     }
-
-    #[inline]
-    fn has_attrs(&mut self, addr: u64, attrs: Attrs) -> bool {
-        self.pages.has_attrs(addr, attrs)
-    }
-
-    #[inline]
-    fn pending(&mut self) -> bool {
-        self.pages.pending()
-    }
-
-    ghost kept_same = { λ _. tt };
-
-    ghost kept_on = { λ _ _ _ _ _. tt };
 }
 
 impl Paged for Flat {

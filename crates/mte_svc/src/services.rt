@@ -92,7 +92,7 @@ pub fn svc<M: Paged>(parts: &mut TenantParts, memory: &mut M) -> SvcEnd
     ensures kept { M.Tagged.kept memory.old memory.new }
 {
     services_keep_fixed_pages();
-    parts.heap.is_sound();
+    parts.heap.recall();
     serve(parts, memory)
 }
 

@@ -1,7 +1,10 @@
 -- What the code's own clauses name.
-use Rattle.std.specs.Prelude.{ℕ, ◌+◌, ◌%◌, ◌^◌, ◌<◌, ◌≤◌, List, [], ◌∷◌, Option, None}
-use Rattle.mte_tags.specs.Memory.{Page}
-use Rattle.mte_tags.specs.Accesses.{or_else, fault_cases}
+use Rattle.std.specs.Prelude.{◌≡◌, ℕ, ◌+◌, ◌%◌, ◌^◌, ◌<◌, ◌≤◌, Bool, IsTrue, if◌then◌else◌}
+use Rattle.std.specs.Prelude.{List, [], ◌∷◌, length, Option, Some, None, is_none, Result, is_ok}
+use Rattle.std.specs.List.{range_with_len}
+use Rattle.mte_tags.specs.Memory.{Memory, Page}
+use Rattle.mte_tags.specs.Accesses.{or_else, fault_cases, result_of, access_fault, after_access}
+use Rattle.mte_tags.specs.Accesses.{first_fault, addresses, bytes_at, with_bytes}
 use Rattle.mte_tags.specs.declared.access.Access.{Access}
 use Rattle.mte_tags.specs.declared.fault.MemFault.{MemFault}
 
@@ -15,3 +18,42 @@ pub record IsPageRun (at count : ℕ) : Type 0 where
 unfoldable pub first_in : Access → Option Page → List ℕ → Option MemFault
 first_in x p [] = None
 first_in x p (a ∷ more) = or_else (fault_cases x p a) (first_in x p more)
+
+-- How the first of `count` bytes from an address on fails in a page.
+abbrev pub run_fault_in : Access → Page → ℕ → ℕ → Option MemFault
+run_fault_in x p at count = first_in x (Some p) (range_with_len at count)
+
+-- Whether none of them fails.
+abbrev pub run_passes_in : Access → Page → ℕ → ℕ → Bool
+run_passes_in x p at count = is_none (run_fault_in x p at count)
+
+-- What a read from a plain address on returns, and what it leaves of the memory and of the buffer.
+pub record IsRead (m after : Memory) (x : Access) (at : ℕ) (old new : List ℕ)
+    (r : Result (Unit {0}) MemFault) : Type 0 where
+  pub answer : r ≡ result_of (access_fault m x (addresses at (length old)))
+  pub bytes : new ≡ (if is_ok r then bytes_at m (addresses at (length old)) else old)
+  pub memory : after ≡ (if is_ok r then after_access m x (addresses at (length old)) else m)
+
+-- What a write from a plain address on returns, and what it leaves of the memory.
+pub record IsWritten (m after : Memory) (x : Access) (at : ℕ) (bytes : List ℕ)
+    (r : Result (Unit {0}) MemFault) : Type 0 where
+  pub answer : r ≡ result_of (access_fault m x (addresses at (length bytes)))
+  pub memory :
+      after
+      ≡ (if is_ok r
+      then with_bytes (after_access m x (addresses at (length bytes)))
+      (addresses at (length bytes)) bytes
+      else m)
+
+-- The same of a read that may be left to another one: where it was made, no byte fails.
+pub record IsReadOrLeft (m after : Memory) (x : Access) (at : ℕ) (old new : List ℕ) (made : Bool)
+    : Type 0 where
+  pub passed : IsTrue made → first_fault m x (addresses at (length old)) ≡ None
+  pub bytes : new ≡ (if made then bytes_at m (addresses at (length old)) else old)
+  pub memory : after ≡ m
+
+-- The same of a write.
+pub record IsWrittenOrLeft (m after : Memory) (x : Access) (at : ℕ) (bytes : List ℕ) (made : Bool)
+    : Type 0 where
+  pub passed : IsTrue made → first_fault m x (addresses at (length bytes)) ≡ None
+  pub memory : after ≡ (if made then with_bytes m (addresses at (length bytes)) bytes else m)

@@ -3,6 +3,7 @@
 ghost use Rattle.std.specs.Prelude.{◌≡◌, ℕ, ◌<◌, ◌≤◌, ◌+◌, ◌-◌, ◌*◌, ◌%◌, ◌/◌, ◌^◌, ◌↔◌, false};
 ghost use Rattle.std.specs.Prelude.{IsTrue, IfOk, is_ok, length, if◌then◌else◌};
 ghost use Rattle.a64_bits.specs.Addresses.{plain};
+ghost use Rattle.mte_tags.specs.Inner.{IsRead, IsWritten};
 ghost use Rattle.mte_tags.specs.Memory.{Memory, tag_at, page_has, with_granules};
 ghost use Rattle.mte_tags.specs.Accesses.{result_of, tag_result, addresses, granules, first_fault};
 ghost use Rattle.mte_tags.specs.Accesses.{access_fault, after_access, bytes_at, with_bytes};
@@ -18,7 +19,7 @@ use crate::chunk::{read_chunk_in_page, write_chunk_in_page};
 use crate::fault::{FaultKind, MemFault, by_fields};
 use crate::page_store::PageStore;
 use crate::state::TagMode;
-use crate::tagged::Tagged;
+use crate::tagged::{ChunkAccess, Tagged};
 use crate::within_page::{
     code_has_attrs, fault_of_run, fetch_aligned, granule_tag_at, read_in_page, store_tags_in_page,
     try_read, try_read_in_page, try_write, try_write_in_page, write_in_page,
@@ -137,17 +138,8 @@ fn read_across_pages<S: PageStore>(
     access: &Access,
 ) -> Result<(), MemFault>
     requires plain { at < 2 ^ 56 }
-    ensures answer { result
-        ≡ result_of
-        (access_fault (S.memory store.old) access.now (addresses at (length buffer.old))) }
-    ensures bytes { buffer.new
-        ≡ (if is_ok result
-        then bytes_at (S.memory store.old) (addresses at (length buffer.old))
-        else buffer.old) }
-    ensures memory { S.memory store.new
-        ≡ (if is_ok result
-        then after_access (S.memory store.old) access.now (addresses at (length buffer.old))
-        else S.memory store.old) }
+    ensures read { IsRead (S.memory store.old) (S.memory store.new) access.now at
+        buffer.old buffer.new result }
     ensures kept { S.kept store.old store.new }
 {
     check_in_mode(store, at, buffer.len(), access)?;
@@ -164,17 +156,8 @@ fn read_out_of_line<S: PageStore>(
     access: &Access,
 ) -> Result<(), MemFault>
     requires plain { at < 2 ^ 56 }
-    ensures answer { result
-        ≡ result_of
-        (access_fault (S.memory store.old) access.now (addresses at (length buffer.old))) }
-    ensures bytes { buffer.new
-        ≡ (if is_ok result
-        then bytes_at (S.memory store.old) (addresses at (length buffer.old))
-        else buffer.old) }
-    ensures memory { S.memory store.new
-        ≡ (if is_ok result
-        then after_access (S.memory store.old) access.now (addresses at (length buffer.old))
-        else S.memory store.old) }
+    ensures read { IsRead (S.memory store.old) (S.memory store.new) access.now at
+        buffer.old buffer.new result }
     ensures kept { S.kept store.old store.new }
 {
     if try_read_in_page(store, at, buffer, access) {
@@ -193,17 +176,8 @@ fn read_slowly<S: PageStore>(
     access: &Access,
 ) -> Result<(), MemFault>
     requires plain { at < 2 ^ 56 }
-    ensures answer { result
-        ≡ result_of
-        (access_fault (S.memory store.old) access.now (addresses at (length buffer.old))) }
-    ensures bytes { buffer.new
-        ≡ (if is_ok result
-        then bytes_at (S.memory store.old) (addresses at (length buffer.old))
-        else buffer.old) }
-    ensures memory { S.memory store.new
-        ≡ (if is_ok result
-        then after_access (S.memory store.old) access.now (addresses at (length buffer.old))
-        else S.memory store.old) }
+    ensures read { IsRead (S.memory store.old) (S.memory store.new) access.now at
+        buffer.old buffer.new result }
     ensures kept { S.kept store.old store.new }
 {
     let own = *access;
@@ -263,16 +237,8 @@ fn write_across_pages<S: PageStore>(
     access: &Access,
 ) -> Result<(), MemFault>
     requires plain { at < 2 ^ 56 }
-    ensures answer { result
-        ≡ result_of
-        (access_fault (S.memory store.old) access.now (addresses at (length bytes.now))) }
-    ensures memory { S.memory store.new
-        ≡ (if is_ok result
-        then with_bytes
-        (after_access (S.memory store.old) access.now (addresses at (length bytes.now)))
-        (addresses at (length bytes.now))
-        bytes.now
-        else S.memory store.old) }
+    ensures written { IsWritten (S.memory store.old) (S.memory store.new) access.now at
+        bytes.now result }
     ensures kept { S.kept store.old store.new }
 {
     check_in_mode(store, at, bytes.len(), access)?;
@@ -289,16 +255,8 @@ fn write_out_of_line<S: PageStore>(
     access: &Access,
 ) -> Result<(), MemFault>
     requires plain { at < 2 ^ 56 }
-    ensures answer { result
-        ≡ result_of
-        (access_fault (S.memory store.old) access.now (addresses at (length bytes.now))) }
-    ensures memory { S.memory store.new
-        ≡ (if is_ok result
-        then with_bytes
-        (after_access (S.memory store.old) access.now (addresses at (length bytes.now)))
-        (addresses at (length bytes.now))
-        bytes.now
-        else S.memory store.old) }
+    ensures written { IsWritten (S.memory store.old) (S.memory store.new) access.now at
+        bytes.now result }
     ensures kept { S.kept store.old store.new }
 {
     if try_write_in_page(store, at, bytes, access) {
@@ -317,16 +275,8 @@ fn write_slowly<S: PageStore>(
     access: &Access,
 ) -> Result<(), MemFault>
     requires plain { at < 2 ^ 56 }
-    ensures answer { result
-        ≡ result_of
-        (access_fault (S.memory store.old) access.now (addresses at (length bytes.now))) }
-    ensures memory { S.memory store.new
-        ≡ (if is_ok result
-        then with_bytes
-        (after_access (S.memory store.old) access.now (addresses at (length bytes.now)))
-        (addresses at (length bytes.now))
-        bytes.now
-        else S.memory store.old) }
+    ensures written { IsWritten (S.memory store.old) (S.memory store.new) access.now at
+        bytes.now result }
     ensures kept { S.kept store.old store.new }
 {
     let own = *access;
@@ -517,23 +467,6 @@ impl<S: PageStore> Tagged for S {
         write_at(self, addr, bytes, check)
     }
 
-    #[inline(always)]
-    fn read_chunk(&mut self, user: u64) -> Option<(u64, u8)> {
-        read_chunk_in_page(self, user)
-    }
-
-    #[inline(always)]
-    fn write_chunk(
-        &mut self,
-        user: u64,
-        around: u64,
-        count: u64,
-        tag: u8,
-        bytes: &[u8; 8],
-    ) -> bool {
-        write_chunk_in_page(self, user, around, count, tag, bytes)
-    }
-
     #[inline]
     fn has_attrs(&mut self, addr: u64, attrs: Attrs) -> bool {
         page_has_attrs(self, addr, attrs)
@@ -563,4 +496,23 @@ impl<S: PageStore> Tagged for S {
     ghost kept_same = { λ a. S.kept_same a };
 
     ghost kept_on = { λ a b c p q. S.kept_on a b c p q };
+}
+
+impl<S: PageStore> ChunkAccess for S {
+    #[inline(always)]
+    fn read_chunk(&mut self, user: u64) -> Option<(u64, u8)> {
+        read_chunk_in_page(self, user)
+    }
+
+    #[inline(always)]
+    fn write_chunk(
+        &mut self,
+        user: u64,
+        around: u64,
+        count: u64,
+        tag: u8,
+        bytes: &[u8; 8],
+    ) -> bool {
+        write_chunk_in_page(self, user, around, count, tag, bytes)
+    }
 }

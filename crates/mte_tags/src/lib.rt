@@ -25,5 +25,5 @@ pub use laws::{flag_stays_in_sync, mode_stays, no_tag_check_in_async, pages_afte
 pub use page::copy_in;
 pub use page_store::PageStore;
 pub use state::{TagMode, TagState};
-pub use tagged::{NoPagesLeft, Paged, Tagged};
+pub use tagged::{ChunkAccess, NoPagesLeft, Paged, Tagged};
 pub use tags::{choose_non_excluded, tag_of, with_tag};

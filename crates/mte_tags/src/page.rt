@@ -6,7 +6,7 @@ ghost use Rattle.std.specs.List.{range_with_len};
 ghost use Rattle.std.specs.Int.{from_le_bytes, w32};
 ghost use Rattle.mte_tags.specs.Memory.{has, tag_cases};
 ghost use Rattle.mte_tags.specs.Runs.{with_bytes_run};
-ghost use Rattle.mte_tags.specs.Inner.{IsPageRun, first_in};
+ghost use Rattle.mte_tags.specs.Inner.{IsPageRun, run_fault_in, run_passes_in};
 
 use crate::access::Access;
 use crate::attrs::Attrs;
@@ -40,8 +40,7 @@ pub(crate) fn run_fault<S: PageStore>(
 ) -> Option<MemFault>
     requires place { S.is_place store.now place }
     requires run { IsPageRun at count }
-    ensures { result
-        ≡ first_in access.now (Some (S.page_in store.now place)) (range_with_len at count) }
+    ensures { result ≡ run_fault_in access.now (S.page_in store.now place) at count }
 {
     let attrs = store.attrs(place);
     if attrs.0 & access.need != access.need {
@@ -69,9 +68,7 @@ pub(crate) fn granule_passes<S: PageStore>(
     requires some { 0 < count }
     requires inside { at % 16 + count ≤ 16 }
     requires plain { at < 2 ^ 56 }
-    ensures { result
-        ≡ is_none
-        (first_in access.now (Some (S.page_in store.now place)) (range_with_len at count)) }
+    ensures { result ≡ run_passes_in access.now (S.page_in store.now place) at count }
 {
     let attrs = store.attrs(place);
     let permitted = attrs.0 & access.need == access.need;
@@ -95,9 +92,7 @@ pub(crate) fn run_passes<S: PageStore>(
 ) -> bool
     requires place { S.is_place store.now place }
     requires run { IsPageRun at count }
-    ensures { result
-        ≡ is_none
-        (first_in access.now (Some (S.page_in store.now place)) (range_with_len at count)) }
+    ensures { result ≡ run_passes_in access.now (S.page_in store.now place) at count }
 {
     let attrs = store.attrs(place);
     let permitted = attrs.0 & access.need == access.need;
@@ -125,9 +120,7 @@ fn tags_pass<S: PageStore>(store: &S, place: usize, at: u64, count: usize, acces
     requires run { IsPageRun at count }
     requires permitted { has (S.page_in store.now place).attrs access.now.need ≡ true }
     requires checked { (access.now.checked && has (S.page_in store.now place).attrs 8) ≡ true }
-    ensures { result
-        ≡ is_none
-        (first_in access.now (Some (S.page_in store.now place)) (range_with_len at count)) }
+    ensures { result ≡ run_passes_in access.now (S.page_in store.now place) at count }
 {
     tag_fault(store, place, at, count, access).is_none()
 }
@@ -145,8 +138,7 @@ fn tag_fault<S: PageStore>(
     requires run { IsPageRun at count }
     requires permitted { has (S.page_in store.now place).attrs access.now.need ≡ true }
     requires checked { (access.now.checked && has (S.page_in store.now place).attrs 8) ≡ true }
-    ensures { result
-        ≡ first_in access.now (Some (S.page_in store.now place)) (range_with_len at count) }
+    ensures { result ≡ run_fault_in access.now (S.page_in store.now place) at count }
 {
     let mut address = at;
     let mut left = count;

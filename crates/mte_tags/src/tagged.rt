@@ -84,41 +84,6 @@ pub trait Tagged {
             else memory self.old) }
         ensures kept { kept self.old self.new };
 
-    /// What a heap reads of a chunk in one look-up: the first eight bytes of the granule before an
-    /// address, the lowest first, and the tag of the granule at it. `None` where no page with READ
-    /// and WRITE holds both, or where it would take a second look-up.
-    fn read_chunk(&mut self, user: u64) -> Option<(u64, u8)>
-        requires aligned { user % 16 ≡ 0 }
-        requires above { 16 ≤ user }
-        requires plain { user < 2 ^ 56 }
-        ensures has { IfSome result
-            (λ r. page_has (memory self.old) ((user - 16) / 4096) 3 ≡ true) }
-        ensures word { IfSome result
-            (λ r. r.0 ≡ from_le_bytes w64 (read_bytes (memory self.old) (user - 16) 8)) }
-        ensures tag { IfSome result (λ r. r.1 ≡ tag_at (memory self.old) user) }
-        ensures small { IfSome result (λ r. r.1 < 16) }
-        ensures memory { memory self.new ≡ memory self.old }
-        ensures kept { kept self.old self.new };
-
-    /// What a heap does to a chunk in one look-up, whatever the attributes of its page: tag 0 on
-    /// `around` granules from the one before an address on, then a tag and zero bytes on `count`
-    /// granules from the address on, and eight bytes in the granule before it. `false` changes
-    /// nothing: two pages hold the granules, or it would take a second look-up.
-    fn write_chunk(&mut self, user: u64, around: u64, count: u64, tag: u8, bytes: &[u8; 8]) -> bool
-        requires aligned { user % 16 ≡ 0 }
-        requires above { 16 ≤ user }
-        requires plain { user < 2 ^ 56 }
-        requires tag { tag < 16 }
-        ensures memory { memory self.new
-            ≡ (if result
-            then with_bytes_at
-            (with_granules
-            (with_granules (memory self.old) (user - 16) around 0 false)
-            user count tag true)
-            (user - 16) bytes.now
-            else memory self.old) }
-        ensures kept { kept self.old self.new };
-
     /// Whether the page of an address is mapped and has these attributes.
     fn has_attrs(&mut self, addr: u64, attrs: Attrs) -> bool
         ensures answer { result ≡ page_has (memory self.old) (plain addr / 4096) attrs.0 }
@@ -136,13 +101,51 @@ pub trait Tagged {
     ghost kept_on: { (a b c : Self) → kept a b → kept b c → kept a c };
 }
 
+/// A tagged memory by which a heap reads and makes a chunk with one look-up.
+pub trait ChunkAccess: Tagged {
+    /// What a heap reads of a chunk in one look-up: the first eight bytes of the granule before an
+    /// address, the lowest first, and the tag of the granule at it. `None` where no page with READ
+    /// and WRITE holds both, or where it would take a second look-up.
+    fn read_chunk(&mut self, user: u64) -> Option<(u64, u8)>
+        requires aligned { user % 16 ≡ 0 }
+        requires above { 16 ≤ user }
+        requires plain { user < 2 ^ 56 }
+        ensures has { IfSome result
+            (λ r. page_has (Self.memory self.old) ((user - 16) / 4096) 3 ≡ true) }
+        ensures word { IfSome result
+            (λ r. r.0 ≡ from_le_bytes w64 (read_bytes (Self.memory self.old) (user - 16) 8)) }
+        ensures tag { IfSome result (λ r. r.1 ≡ tag_at (Self.memory self.old) user) }
+        ensures small { IfSome result (λ r. r.1 < 16) }
+        ensures memory { Self.memory self.new ≡ Self.memory self.old }
+        ensures kept { Self.kept self.old self.new };
+
+    /// What a heap does to a chunk in one look-up, whatever the attributes of its page: tag 0 on
+    /// `around` granules from the one before an address on, then a tag and zero bytes on `count`
+    /// granules from the address on, and eight bytes in the granule before it. `false` changes
+    /// nothing: two pages hold the granules, or it would take a second look-up.
+    fn write_chunk(&mut self, user: u64, around: u64, count: u64, tag: u8, bytes: &[u8; 8]) -> bool
+        requires aligned { user % 16 ≡ 0 }
+        requires above { 16 ≤ user }
+        requires plain { user < 2 ^ 56 }
+        requires tag { tag < 16 }
+        ensures memory { Self.memory self.new
+            ≡ (if result
+            then with_bytes_at
+            (with_granules
+            (with_granules (Self.memory self.old) (user - 16) around 0 false)
+            user count tag true)
+            (user - 16) bytes.now
+            else Self.memory self.old) }
+        ensures kept { Self.kept self.old self.new };
+}
+
 /// More pages were requested than are left.
 #[derive(Clone, Copy, PartialEq, Eq, Debug)]
 pub struct NoPagesLeft;
 
 /// A tagged memory whose pages can be mapped. A page is named by its number, the plain address of
 /// its first byte divided by 4096.
-pub trait Paged: Tagged {
+pub trait Paged: ChunkAccess {
     /// How many more pages may be mapped.
     fn pages_left(&mut self) -> usize
         ensures answer { result ≡ pages_left (Self.memory self.old) }

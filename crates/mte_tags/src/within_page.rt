@@ -5,7 +5,7 @@
 
 ghost use Rattle.std.specs.Prelude.{◌≡◌, ◌<◌, ◌≤◌, ◌+◌, ◌*◌, ◌/◌, ◌%◌, ◌^◌, false, None, IfOk};
 ghost use Rattle.std.specs.Prelude.{IsTrue, is_ok, length, if◌then◌else◌};
-ghost use Rattle.mte_tags.specs.Inner.{IsPageRun};
+ghost use Rattle.mte_tags.specs.Inner.{IsPageRun, IsReadOrLeft, IsWrittenOrLeft};
 ghost use Rattle.mte_tags.specs.Memory.{tag_at, page_has, with_granules};
 ghost use Rattle.mte_tags.specs.Accesses.{result_of, tag_result, addresses, granules, byte_fault};
 ghost use Rattle.mte_tags.specs.Accesses.{first_fault, bytes_at, with_bytes, fetch_result};
@@ -111,14 +111,8 @@ pub(crate) fn try_read<S: PageStore>(
     access: &Access,
 ) -> bool
     requires { at < 2 ^ 56 }
-    ensures passed { IsTrue result
-        → first_fault (S.memory store.old) access.now (addresses at (length buffer.old))
-        ≡ None }
-    ensures bytes { buffer.new
-        ≡ (if result
-        then bytes_at (S.memory store.old) (addresses at (length buffer.old))
-        else buffer.old) }
-    ensures memory { S.memory store.new ≡ S.memory store.old }
+    ensures read { IsReadOrLeft (S.memory store.old) (S.memory store.new) access.now at
+        buffer.old buffer.new result }
     ensures kept { S.kept store.old store.new }
 {
     if !fits_one_granule(at, buffer.len() as u64) {
@@ -143,14 +137,8 @@ pub(crate) fn try_read_in_page<S: PageStore>(
     access: &Access,
 ) -> bool
     requires { at < 2 ^ 56 }
-    ensures passed { IsTrue result
-        → first_fault (S.memory store.old) access.now (addresses at (length buffer.old))
-        ≡ None }
-    ensures bytes { buffer.new
-        ≡ (if result
-        then bytes_at (S.memory store.old) (addresses at (length buffer.old))
-        else buffer.old) }
-    ensures memory { S.memory store.new ≡ S.memory store.old }
+    ensures read { IsReadOrLeft (S.memory store.old) (S.memory store.new) access.now at
+        buffer.old buffer.new result }
     ensures kept { S.kept store.old store.new }
 {
     if !fits_one_page(at, buffer.len() as u64) {
@@ -198,13 +186,8 @@ pub(crate) fn write_in_page<S: PageStore>(
 #[inline(always)]
 pub(crate) fn try_write<S: PageStore>(store: &mut S, at: u64, bytes: &[u8], access: &Access) -> bool
     requires { at < 2 ^ 56 }
-    ensures passed { IsTrue result
-        → first_fault (S.memory store.old) access.now (addresses at (length bytes.now))
-        ≡ None }
-    ensures memory { S.memory store.new
-        ≡ (if result
-        then with_bytes (S.memory store.old) (addresses at (length bytes.now)) bytes.now
-        else S.memory store.old) }
+    ensures written { IsWrittenOrLeft (S.memory store.old) (S.memory store.new) access.now at
+        bytes.now result }
     ensures kept { S.kept store.old store.new }
 {
     if !fits_one_granule(at, bytes.len() as u64) {
@@ -229,13 +212,8 @@ pub(crate) fn try_write_in_page<S: PageStore>(
     access: &Access,
 ) -> bool
     requires { at < 2 ^ 56 }
-    ensures passed { IsTrue result
-        → first_fault (S.memory store.old) access.now (addresses at (length bytes.now))
-        ≡ None }
-    ensures memory { S.memory store.new
-        ≡ (if result
-        then with_bytes (S.memory store.old) (addresses at (length bytes.now)) bytes.now
-        else S.memory store.old) }
+    ensures written { IsWrittenOrLeft (S.memory store.old) (S.memory store.new) access.now at
+        bytes.now result }
     ensures kept { S.kept store.old store.new }
 {
     if !fits_one_page(at, bytes.len() as u64) {

@@ -4,7 +4,7 @@ ghost use Rattle.std.specs.Prelude.{◌≡◌, ◌<◌, ◌^◌, IsSome, IsTrue,
 ghost use Rattle.mte_tags.specs.Memory.{page_at};
 
 use mte_flat::Flat;
-use mte_tags::{Attrs, MemFault, Paged, TagMode, Tagged};
+use mte_tags::{Attrs, ChunkAccess, MemFault, Paged, TagMode, Tagged};
 use std::alloc::Global;
 
 /// A call at an address, or a few.

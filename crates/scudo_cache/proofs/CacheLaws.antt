@@ -4,7 +4,7 @@ use Rattle.std.proofs.lemmas.Bool.{cases_eq, cases_lt}
 use Rattle.std.proofs.lemmas.List.{get_or_append_left, get_or_past}
 use Rattle.std.proofs.lemmas.List.Elements.{All-weaker, All-nil}
 use Rattle.std.specs.List.{All}
-use Rattle.scudo_header.specs.declared.classes.TheConstants.{CLASSES}
+use Rattle.scudo_header.specs.declared.config.TheConstants.{CLASSES}
 use Rattle.scudo_header.specs.Classes.{IsClass}
 use Rattle.scudo_header.specs.ByClass.{by_class, value_of}
 use Rattle.scudo_header.proofs.ByClassLaws.{value_of-by_class, value_of-with_value, value_of-with_value_other}

@@ -5,7 +5,7 @@ use Rattle.std.proofs.lemmas.List.{get_or-set_same, get_or-set_other, get_or_def
 use Rattle.std.specs.List.{All, IsDistinct}
 use Rattle.std.specs.Vec.{with_item}
 use Rattle.std.specs.Prelude.{vec_capacity}
-use Rattle.scudo_header.specs.declared.classes.TheConstants.{CLASSES}
+use Rattle.scudo_header.specs.declared.config.TheConstants.{CLASSES}
 use Rattle.scudo_header.specs.ByClass.{ByClass}
 use Rattle.scudo_header.specs.Classes.{IsClass}
 use Rattle.scudo_header.proofs.ByClassLaws.{value_of-by_class, by_class-same, by_class-with_value}

@@ -12,7 +12,7 @@ use Rattle.scudo_primary.proofs.BlockLemmas.{size-pos, number-apart, block_at-nu
 use Rattle.scudo_primary.proofs.ListLemmas.{member-other, member-first, distinct-head}
 use Rattle.scudo_header.specs.ByClass.{by_class, value_of}
 use Rattle.scudo_header.proofs.ByClassLaws.{value_of-by_class, value_of-with_value, value_of-with_value_other}
-use Rattle.scudo_header.specs.declared.classes.TheConstants.{CLASSES}
+use Rattle.scudo_header.specs.declared.config.TheConstants.{CLASSES}
 use Rattle.scudo_cache.specs.Caches.{CacheState, entries_of, with_entries, stack_over, one_stack, IsStack, IsAbove, AreStacks, KeepsRest, after_refill, newest, handed_out, after_take, with_room, after_put}
 use Rattle.scudo_cache.proofs.ClassLemmas.{KeepsOthers, marks-room}
 

@@ -3,7 +3,7 @@
 use Rattle.std.specs.Prelude.{◌≡◌, ℕ, ◌-◌, ◌≤◌, List, [], length, nat_eq, slice_index_or}
 use Rattle.std.specs.Prelude.{vec_capacity}
 use Rattle.std.specs.List.{All, IsDistinct}
-use Rattle.scudo_header.specs.declared.classes.TheConstants.{CLASSES}
+use Rattle.scudo_header.specs.declared.config.TheConstants.{CLASSES}
 use Rattle.scudo_header.specs.ByClass.{by_class}
 use Rattle.scudo_header.specs.Classes.{IsClass}
 use Rattle.scudo_primary.specs.Batches.{max_count_of}

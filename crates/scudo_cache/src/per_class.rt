@@ -19,7 +19,7 @@ pub(crate) struct PerClass {
 
 impl Model for PerClass {
     ghost use Rattle.std.specs.Prelude.{◌≤◌, ℕ, List, take};
-    ghost use Rattle.scudo_primary.specs.declared.batches.TheConstants.{MAX_COUNT};
+    ghost use Rattle.scudo_header.specs.declared.config.TheConstants.{MAX_COUNT};
 
     ghost Value = { List ℕ };
 

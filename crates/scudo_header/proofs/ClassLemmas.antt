@@ -6,7 +6,7 @@ use Rattle.std.proofs.lemmas.Bool.{cases_eq, cases_lt, cond-true, cond-false}
 use Rattle.std.proofs.lemmas.Bool.Decides.{nat_tests}
 use Rattle.std.proofs.lemmas.Nat.{pow-add, pow_pos, div-mul-add}
 use Rattle.std.proofs.Math.Nat.{div-le_self, mul-le-mul, mul-mod_left, pow-le-pow_right, le-div_iff_mul-le, div-lt_iff_lt-mul, mul-div-le, lt-mul-div-succ}
-use Rattle.scudo_header.specs.declared.classes.TheConstants.{CLASSES, LARGEST_CLASS_SIZE}
+use Rattle.scudo_header.specs.declared.config.TheConstants.{CLASSES, LARGEST_CLASS_SIZE}
 use Rattle.scudo_header.specs.Classes.{size_of, power_below, IsLeastClass, class_for}
 
 -- a test holds of each number below n

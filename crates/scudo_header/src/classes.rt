@@ -3,18 +3,10 @@
 
 ghost use Rattle.std.specs.Prelude.{◌≡◌, ◌↔◌, ◌≤◌, ◌<◌, ◌%◌, ◌^◌, ◌==◌, IfSome, IsNone};
 ghost use Rattle.scudo_header.specs.Classes.{size_of, class_for, IsClass, IsLeastClass};
+ghost use Rattle.scudo_header.specs.Regions.{region_of};
 
-/// The number of size classes: they are 1 to this.
-pub const CLASSES: u8 = 44;
-
-/// The bytes of the largest class's blocks.
-pub const LARGEST_CLASS_SIZE: u64 = 131_072;
-
-/// The numbers of the classes in digits.
-pub fn classes_in_digits()
-    ensures classes { CLASSES ≡ 44 }
-    ensures largest { LARGEST_CLASS_SIZE ≡ 131072 }
-{}
+use crate::config::{CLASSES, LARGEST_CLASS_SIZE};
+use address_map::{REGION_SIZE, REGIONS_START};
 
 /// The size up to which the sizes are the multiples of 32.
 const MIDDLE_SIZE: u64 = 256;
@@ -87,6 +79,15 @@ pub fn size_of_class(class: u8) -> u64
     ensures multiple { result % 32 ≡ 0 }
 {
     SIZES[class as usize]
+}
+
+/// The first address of a class's region.
+#[inline(always)]
+pub fn region_start(class: u8) -> u64
+    requires { class ≤ CLASSES }
+    ensures { result ≡ region_of class }
+{
+    REGIONS_START + u64::from(class) * REGION_SIZE
 }
 
 /// Whether a distance below 2^24 is a multiple of the bytes of a class's blocks. A product with the

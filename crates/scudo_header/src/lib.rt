@@ -3,9 +3,12 @@
 #![tactic(auto)]
 
 mod classes;
+mod config;
 mod headers;
 
-pub use classes::{
-    CLASSES, LARGEST_CLASS_SIZE, class_of, classes_in_digits, is_multiple, size_of_class,
+pub use classes::{class_of, is_multiple, region_start, size_of_class};
+pub use config::{
+    CLASSES, LARGEST_CLASS_SIZE, MAX_ALIGNMENT, MAX_COUNT, MAX_COUNT_ABOVE, MAX_REQUEST,
+    MIN_ALIGNMENT, SMALL_SIZE, settings_in_digits,
 };
 pub use headers::{Header, Origin, State, checksum, pack, unpack};

@@ -18,7 +18,7 @@ use Rattle.scudo_secondary.specs.Mappings as secondary
 use Rattle.scudo_secondary.specs.Mappings.{SecondaryState, AreMappings, mapping_of, place_of, is_place, with_mapping}
 use Rattle.scudo_secondary.specs.declared.mappings.Mapping.{Mapping}
 use Rattle.scudo_secondary.proofs.PlaceLemmas.{place_of-fits}
-use Rattle.scudo_heap.specs.declared.limits.TheConstants.{MAX_REQUEST}
+use Rattle.scudo_header.specs.declared.config.TheConstants.{MAX_REQUEST}
 use Rattle.scudo_heap.specs.declared.chunk.Place.{Place}
 use Rattle.scudo_heap.specs.declared.chunk.Chunk.{Chunk}
 use Rattle.scudo_heap.specs.declared.chunk.Chunk.TheVariants.{Small, Large}

@@ -18,7 +18,7 @@ use Rattle.scudo_primary.proofs.BlockLemmas.{size-IsSize}
 use Rattle.scudo_secondary.specs.Mappings.{AreMappings, place_of, is_place}
 use Rattle.scudo_secondary.specs.declared.mappings.Mapping.{Mapping}
 use Rattle.scudo_heap.specs.declared.abort.HeapAbort.{HeapAbort}
-use Rattle.scudo_heap.specs.declared.limits.TheConstants.{MAX_REQUEST}
+use Rattle.scudo_header.specs.declared.config.TheConstants.{MAX_REQUEST}
 use Rattle.scudo_heap.specs.declared.chunk.Place.{Place}
 use Rattle.scudo_heap.specs.declared.chunk.Chunk.{Chunk}
 use Rattle.scudo_heap.specs.declared.chunk.Found.{Found}

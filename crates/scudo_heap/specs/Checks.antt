@@ -9,7 +9,7 @@ use Rattle.mte_tags.specs.Accesses.{read_bytes}
 use Rattle.scudo_header.specs.Classes.{size_of}
 use Rattle.scudo_header.specs.Regions.{region_of}
 use Rattle.scudo_header.specs.Headers.{unpacked_header}
-use Rattle.scudo_header.specs.declared.classes.TheConstants.{CLASSES}
+use Rattle.scudo_header.specs.declared.config.TheConstants.{CLASSES}
 use Rattle.scudo_header.specs.declared.headers.Header.{Header}
 use Rattle.scudo_header.specs.declared.headers.State.{State}
 use Rattle.scudo_header.specs.declared.headers.State.TheVariants.{Available, Allocated}

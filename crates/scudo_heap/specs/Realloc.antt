@@ -6,7 +6,7 @@ use Rattle.mte_tags.specs.Memory.{Memory, tag_at}
 use Rattle.mte_tags.specs.Accesses.{read_bytes, with_bytes_at}
 use Rattle.scudo_header.specs.declared.headers.Header.{Header}
 use Rattle.scudo_heap.specs.declared.abort.HeapAbort.{HeapAbort}
-use Rattle.scudo_heap.specs.declared.limits.TheConstants.{MAX_REQUEST}
+use Rattle.scudo_header.specs.declared.config.TheConstants.{MAX_REQUEST}
 use Rattle.scudo_heap.specs.declared.chunk.Place.{Place}
 use Rattle.scudo_heap.specs.declared.chunk.Chunk.{Chunk}
 use Rattle.scudo_heap.specs.declared.chunk.Chunk.TheVariants.{Small, Large}

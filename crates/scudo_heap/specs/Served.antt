@@ -5,7 +5,7 @@ use Rattle.std.specs.Prelude.{Option, Some, None, if◌then◌else◌}
 use Rattle.std.specs.List.{list_any}
 use Rattle.mte_tags.specs.Memory.{Memory, attrs_at, pages_left}
 use Rattle.scudo_header.specs.Regions.{region_of}
-use Rattle.scudo_header.specs.declared.classes.TheConstants.{CLASSES}
+use Rattle.scudo_header.specs.declared.config.TheConstants.{CLASSES}
 use Rattle.scudo_secondary.specs.Mappings as secondary
 use Rattle.scudo_secondary.specs.declared.mappings.Mapping.{Mapping}
 use Rattle.address_map.specs.declared.limits.TheConstants.{PAGE_SIZE}

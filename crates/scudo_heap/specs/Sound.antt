@@ -1,6 +1,6 @@
 -- What holds of every heap, whatever the calls were, and of a heap with its memory.
 use Rattle.std.specs.Prelude.{ℕ, ◌+◌, ◌<◌, ◌≤◌}
-use Rattle.scudo_header.specs.declared.classes.TheConstants.{CLASSES}
+use Rattle.scudo_header.specs.declared.config.TheConstants.{CLASSES}
 use Rattle.scudo_secondary.specs.Mappings.{AreMappings}
 use Rattle.address_map.specs.declared.limits.TheConstants.{MAX_PAGES}
 use Rattle.scudo_heap.specs.Stacks.{StackState, AreSound, pages_of}

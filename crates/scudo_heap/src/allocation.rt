@@ -13,14 +13,13 @@ ghost use Rattle.scudo_heap.specs.Inner.{IsAlign, IsLow};
 
 use crate::chunk::{Chunk, by_fields};
 use crate::classes::take_block;
-use crate::limits::MAX_REQUEST;
 use crate::pages::take_pages;
 use crate::request::Request;
 use crate::stacks::Stacks;
 use crate::tagging::granules;
 use address_map::PAGE_SIZE;
 use mte_tags::{Paged, Rgsr};
-use scudo_header::class_of;
+use scudo_header::{MAX_REQUEST, class_of};
 use scudo_secondary::Secondary;
 
 /// Whether an alignment is a power of two up to `MAX_ALIGNMENT`.

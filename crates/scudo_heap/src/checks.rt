@@ -15,8 +15,7 @@ ghost use Rattle.scudo_heap.specs.Inner.{HasEnd};
 use crate::abort::HeapAbort;
 use crate::chunk::{Found, Place};
 use crate::stacks::Stacks;
-use address_map::PAGE_SIZE;
-use mte_tags::{Attrs, Paged, Tagged};
+use mte_tags::{Attrs, ChunkAccess, Paged, Tagged};
 use scudo_header::{CLASSES, Header, State, size_of_class, unpack};
 use scudo_secondary::{Mapping, Secondary};
 
@@ -75,7 +74,7 @@ fn in_pages(maps: &Secondary, user: u64, header: &Header) -> Result<Found, HeapA
     let Some(mapping) = maps.find(user) else {
         return Err(HeapAbort::NotABlock);
     };
-    let bytes = mapping.start + PAGE_SIZE * mapping.pages - mapping.user;
+    let bytes = mapping.end() - mapping.user;
     if header.offset != 0 || u64::from(header.size_or_unused_bytes) > bytes {
         return Err(HeapAbort::NotABlock);
     }

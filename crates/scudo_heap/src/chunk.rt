@@ -6,7 +6,6 @@ ghost use Rattle.scudo_heap.specs.Realloc.{user_of_chunk, user_of};
 ghost use Rattle.scudo_heap.specs.Inner.{IsLow, HasEnd};
 ghost use Rattle.scudo_heap.specs.Checks.{size_found};
 
-use address_map::PAGE_SIZE;
 use scudo_header::Header;
 use scudo_secondary::Mapping;
 
@@ -83,8 +82,7 @@ impl Found {
         match self {
             Found::InBlock(place, _) => place.size,
             Found::InPages(mapping, header) => {
-                let end = mapping.start + PAGE_SIZE * mapping.pages;
-                end - mapping.user - u64::from(header.size_or_unused_bytes)
+                mapping.end() - mapping.user - u64::from(header.size_or_unused_bytes)
             }
         }
     }

@@ -15,13 +15,12 @@ ghost use Rattle.scudo_heap.specs.Allocation.{after_class_allocation};
 ghost use Rattle.scudo_heap.specs.Inner.{IsAlign, IsLow, AreRegions};
 
 use crate::chunk::{Chunk, Place, by_fields};
-use crate::limits::MIN_ALIGNMENT;
 use crate::placing::make_chunk;
 use crate::request::Request;
 use crate::stacks::Stacks;
-use address_map::{PAGE_SIZE, REGION_SIZE, REGIONS_START};
+use address_map::PAGE_SIZE;
 use mte_tags::{Attrs, Paged, Rgsr, Tagged};
-use scudo_header::size_of_class;
+use scudo_header::{MIN_ALIGNMENT, region_start, size_of_class};
 
 /// The first multiple of an alignment after a block's header. Most chunks are aligned to a granule,
 /// where it takes no division.
@@ -114,8 +113,7 @@ fn grow<M: Paged>(stacks: &mut Stacks, memory: &mut M, class: u8) -> bool
     if pages > memory.pages_left() as u64 {
         return false;
     }
-    let region = (REGIONS_START + u64::from(class) * REGION_SIZE) / PAGE_SIZE;
-    let first = region + stacks.pages(class);
+    let first = region_start(class) / PAGE_SIZE + stacks.pages(class);
     // The memory has these pages left.
     let _ = memory.map_pages(first, pages as usize, Attrs::DATA);
     stacks.carve(class, pages);

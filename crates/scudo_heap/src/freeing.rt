@@ -19,7 +19,7 @@ use crate::granules::{put_header, set_tags};
 use crate::stacks::Stacks;
 use crate::tagging::{choose_tag, granules};
 use address_map::PAGE_SIZE;
-use mte_tags::{Paged, Rgsr, Tagged};
+use mte_tags::{ChunkAccess, Paged, Rgsr, Tagged};
 use scudo_header::{Header, State, pack};
 use scudo_secondary::{Mapping, Secondary};
 

@@ -17,14 +17,13 @@ use crate::call::HeapCall;
 use crate::checks::find_chunk;
 use crate::chunk::address_or_null;
 use crate::freeing::free_found;
-use crate::limits::MIN_ALIGNMENT;
 use crate::request::Request;
 use crate::resizing::reallocate;
 use crate::stacks::Stacks;
 use a64_bits::plain;
 use address_map::MAX_PAGES;
 use mte_tags::{Paged, Rgsr};
-use scudo_header::Origin;
+use scudo_header::{MIN_ALIGNMENT, Origin};
 use scudo_secondary::Secondary;
 use std::alloc::{AllocError, Global};
 use std::marker::Model;
@@ -292,7 +291,7 @@ impl Heap {
     /// What holds of every heap, whatever the calls were: in each stack of free blocks there are
     /// carved blocks, none of them twice, and the mappings are in order, each with pages of its own
     /// in their range.
-    pub fn is_sound(&self)
+    pub fn recall(&self)
         ensures { IsSound self.now }
     {
         self.stacks.recall();

@@ -13,7 +13,6 @@ mod freeing;
 mod granules;
 mod heap;
 mod laws;
-mod limits;
 mod pages;
 mod placing;
 mod request;
@@ -29,4 +28,4 @@ pub use laws::{
     accesses_keep_the_condition, calls_keep_other_pages, calls_keep_the_condition,
     condition_of_calls,
 };
-pub use limits::{MAX_ALIGNMENT, MAX_REQUEST, requests_in_digits};
+pub use scudo_header::{MAX_ALIGNMENT, MAX_REQUEST, settings_in_digits};

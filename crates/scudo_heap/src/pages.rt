@@ -16,7 +16,7 @@ ghost use Rattle.scudo_heap.specs.Inner.{IsAlign, IsLarge, IsLow, ArePlaces};
 use crate::chunk::Chunk;
 use crate::granules::put_header;
 use crate::request::Request;
-use address_map::PAGE_SIZE;
+use address_map::{MAX_PAGES, PAGE_SIZE};
 use mte_tags::{Attrs, Paged, Tagged};
 use scudo_header::{Header, Origin, State};
 use scudo_secondary::{Mapping, Secondary};
@@ -25,7 +25,7 @@ use scudo_secondary::{Mapping, Secondary};
 /// alignment allows.
 fn mapping_at(start: u64, pages: u64, align: u64, size: u64) -> Mapping
     requires start { start < 2 ^ 32 }
-    requires pages { pages ≤ 4096 }
+    requires pages { pages ≤ MAX_PAGES }
     requires align { IsAlign align }
     requires size { size ≤ start }
     ensures { result ≡ mapping_for start pages align size }
@@ -64,12 +64,11 @@ fn map_chunk<M: Paged>(
         mapping.pages as usize,
         Attrs::DATA,
     );
-    let end = mapping.start + PAGE_SIZE * mapping.pages;
     let header = Header {
         class_id: 0,
         state: State::Allocated,
         origin,
-        size_or_unused_bytes: (end - mapping.user - size) as u32,
+        size_or_unused_bytes: (mapping.end() - mapping.user - size) as u32,
         offset: 0,
     };
     put_header(memory, cookie, mapping.user, &header);
@@ -89,7 +88,7 @@ pub(crate) fn take_pages<M: Paged>(
     requires align { IsAlign request.align }
     requires some { 0 < request.size }
     requires small { request.size ≤ 2 ^ 20 }
-    requires pages { pages ≤ 4096 }
+    requires pages { pages ≤ MAX_PAGES }
     requires fits { need_of request.align request.size ≤ PAGE_SIZE * pages }
     ensures made { (s : StackState) (r : Rgsr)
         → allocation_of (world_of (M.memory memory.new) (heap_of cookie s maps.new) r) result

@@ -13,7 +13,7 @@ ghost use Rattle.scudo_heap.specs.Inner.{IsOpen};
 use crate::chunk::Place;
 use crate::granules::{put_header, set_tags};
 use crate::tagging::{choose_tag, granules};
-use mte_tags::{Paged, Rgsr, Tagged};
+use mte_tags::{ChunkAccess, Paged, Rgsr, Tagged};
 use scudo_header::{Header, Origin, State, pack, size_of_class};
 
 /// Tag 0 on the granule after a chunk, where its block goes on.

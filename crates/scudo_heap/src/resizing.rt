@@ -17,13 +17,12 @@ use crate::chunk::{Chunk, Found, Place};
 use crate::copying::copy_bytes;
 use crate::freeing::free_found;
 use crate::granules::{put_header, set_tags, tag_there};
-use crate::limits::{MAX_REQUEST, MIN_ALIGNMENT};
 use crate::placing::close;
 use crate::request::Request;
 use crate::stacks::Stacks;
 use crate::tagging::granules;
 use mte_tags::{Paged, Rgsr, Tagged};
-use scudo_header::{Header, Origin, size_of_class};
+use scudo_header::{Header, MAX_REQUEST, MIN_ALIGNMENT, Origin, size_of_class};
 use scudo_secondary::Secondary;
 
 /// Whether a chunk's block holds another size of it.

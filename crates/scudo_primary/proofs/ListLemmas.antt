@@ -7,7 +7,7 @@ use Rattle.scudo_primary.specs.Pools.{is_member}
 use Rattle.scudo_primary.specs.Inner.{follow, Each, one_more, sizes_after_push, sizes_of_marks}
 use Rattle.scudo_header.specs.Classes.{size_of}
 use Rattle.scudo_primary.specs.Batches.{max_count_of, one_less}
-use Rattle.scudo_primary.specs.declared.batches.TheConstants.{SMALL_SIZE, MAX_COUNT, MAX_COUNT_ABOVE}
+use Rattle.scudo_header.specs.declared.config.TheConstants.{SMALL_SIZE, MAX_COUNT, MAX_COUNT_ABOVE}
 
 pub follow-suc : (f : ℕ → ℕ) (n at : ℕ) → follow f (suc n) at ≡ at ∷ follow f n (f at)
 unfolding follow

@@ -8,7 +8,7 @@ use Rattle.scudo_primary.specs.Batches.{max_count_of, first_size}
 use Rattle.scudo_primary.specs.Pools.{batch_in, class_after_pop_batch}
 use Rattle.scudo_primary.specs.Inner.{block_table, Each, follow, sizes_of_marks, sizes_after_push, one_more, place_of, no_entry, entry_at, list_at, next_in, last_in, free_in, stack_from, sizes_from, marks_in, class_in, IsLinked, IsTable, Became}
 use Rattle.scudo_primary.specs.Blocks.{IsClass}
-use Rattle.scudo_primary.specs.declared.batches.TheConstants.{MAX_COUNT}
+use Rattle.scudo_header.specs.declared.config.TheConstants.{MAX_COUNT}
 use Rattle.scudo_primary.specs.declared.lists.BlockEntry.{BlockEntry}
 use Rattle.scudo_primary.specs.declared.lists.ClassList.{ClassList}
 use Rattle.scudo_primary.proofs.BlockLists.{each-block, blocks-behind}

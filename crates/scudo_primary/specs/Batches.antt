@@ -2,8 +2,8 @@
 use Rattle.std.specs.Prelude.{ℕ, ◌-◌, ◌/◌, ◌%◌, ◌==◌, nat_le, List, [], ◌∷◌, ◌++◌, replicate}
 use Rattle.std.specs.Prelude.{if◌then◌else◌}
 use Rattle.scudo_header.specs.Classes.{size_of}
-use Rattle.scudo_primary.specs.declared.batches.TheConstants.{SMALL_SIZE, MAX_COUNT}
-use Rattle.scudo_primary.specs.declared.batches.TheConstants.{MAX_COUNT_ABOVE}
+use Rattle.scudo_header.specs.declared.config.TheConstants.{SMALL_SIZE, MAX_COUNT}
+use Rattle.scudo_header.specs.declared.config.TheConstants.{MAX_COUNT_ABOVE}
 
 -- The most blocks of a class that a local cache or a batch holds.
 abbrev pub max_count_of : ℕ → ℕ

@@ -7,5 +7,6 @@ mod batches;
 mod lists;
 mod pool;
 
-pub use batches::{MAX_COUNT, MAX_COUNT_ABOVE, SMALL_SIZE, counts_in_digits, max_count};
+pub use batches::max_count;
 pub use pool::Primary;
+pub use scudo_header::{MAX_COUNT, MAX_COUNT_ABOVE, SMALL_SIZE};

@@ -11,9 +11,9 @@ ghost use Rattle.scudo_primary.specs.Pools.{is_member, IsLoose, class_after_pop,
 ghost use Rattle.scudo_primary.specs.Pools.{class_after_pop_batch};
 ghost use Rattle.scudo_primary.specs.Pools.{class_after_push_batch};
 
-use crate::batches::{MAX_COUNT, max_count};
-use address_map::{PAGE_SIZE, REGION_SIZE, REGIONS_START};
-use scudo_header::{CLASSES, size_of_class};
+use crate::batches::max_count;
+use address_map::PAGE_SIZE;
+use scudo_header::{CLASSES, MAX_COUNT, region_start, size_of_class};
 
 /// How many lists there are: one for each size class.
 pub(crate) const LISTS: usize = CLASSES as usize;
@@ -42,15 +42,6 @@ ghost use Rattle.scudo_primary.specs.Inner.{is_last_at};
 ghost use Rattle.scudo_primary.specs.Inner.{list_at, entry_at, state_in, class_after_link};
 ghost use Rattle.scudo_primary.specs.Inner.{class_after_link_new};
 ghost use Rattle.scudo_primary.specs.Inner.{IsFilledUp, IsNumberedOn, place_of, slot_of};
-
-/// The first address of a class's region.
-#[inline(always)]
-pub(crate) fn region_start(class: u8) -> u64
-    requires { class ≤ CLASSES }
-    ensures { result ≡ region_of class }
-{
-    REGIONS_START + u64::from(class) * REGION_SIZE
-}
 
 /// Where the number of a page of a class's region stands.
 #[inline(always)]

@@ -11,14 +11,13 @@ ghost use Rattle.scudo_primary.specs.Pools.{IsFree, IsCached, empty_pool, after_
 ghost use Rattle.scudo_primary.specs.Pools.{top_batch, without_batch, with_batch, with_mark};
 ghost use Rattle.scudo_primary.specs.Pools.{with_pages};
 
-use crate::batches::MAX_COUNT;
 use crate::lists::{
     BlockEntry, ClassList, LISTS, fill_up, link, link_batch, link_new, number_pages, place,
-    region_start, set_mark, unlink, unlink_batch,
+    set_mark, unlink, unlink_batch,
 };
 use address_map::{MAX_PAGES, PAGE_SIZE};
 use list_copy::copy_list;
-use scudo_header::{CLASSES, is_multiple, size_of_class};
+use scudo_header::{CLASSES, MAX_COUNT, is_multiple, region_start, size_of_class};
 use std::alloc::{AllocError, Global};
 use std::marker::Model;
 

@@ -1,9 +1,11 @@
 //! A list of mappings in the order of their starts.
 
-ghost use Rattle.std.specs.Prelude.{◌≡◌, ◌<◌, IfSome, IfNone, IsSome, None, filter, not, ◌==◌};
+ghost use Rattle.std.specs.Prelude.{◌≡◌, ◌<◌, ◌^◌, IfSome, IfNone, IsSome, None, filter, not, ◌==◌};
 ghost use Rattle.std.specs.Prelude.{length, slice_index_or, vec_len, vec_capacity};
 ghost use Rattle.std.specs.Vec.{vec_ptr};
-ghost use Rattle.scudo_secondary.specs.Mappings.{AreMappings, mapping_of, with_mapping};
+ghost use Rattle.scudo_secondary.specs.Mappings.{AreMappings, end_of, mapping_of, with_mapping};
+
+use address_map::PAGE_SIZE;
 
 /// The pages of a chunk.
 #[derive(Clone, Copy, PartialEq, Eq)]
@@ -14,6 +16,17 @@ pub struct Mapping {
     pub pages: u64,
     /// The address in them that the chunk's user was given.
     pub user: u64,
+}
+
+impl Mapping {
+    /// The address after the last page.
+    #[inline(always)]
+    pub fn end(&self) -> u64
+        requires { end_of self.now < 2 ^ 64 }
+        ensures { result ≡ end_of self.now }
+    {
+        self.start + PAGE_SIZE * self.pages
+    }
 }
 
 /// The index of the mapping with a user address.

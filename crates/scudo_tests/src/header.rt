@@ -1,10 +1,9 @@
 //! The class sizes as the formula of `size_class_map.h` gives them, and worked headers.
 
 use scudo_header::{
-    Header, Origin, State, checksum, class_of, classes_in_digits, is_multiple, pack, size_of_class,
-    unpack,
+    Header, Origin, State, checksum, class_of, is_multiple, pack, settings_in_digits,
+    size_of_class, unpack,
 };
-use scudo_primary::counts_in_digits;
 
 /// The sizes of the classes 1 to 44.
 const CLASS_SIZES: [u64; 44] = [
@@ -70,8 +69,7 @@ fn are_classes(rows: &[(u64, Option<u8>)]) -> bool {
 #[test]
 fn sizes_of_classes(rt: HostRuntime) {
     assert!(rt; have_sizes(&CLASS_SIZES) && are_classes(&NEEDS));
-    classes_in_digits();
-    counts_in_digits();
+    settings_in_digits();
 }
 
 /// Cookies, pointers and headers with their checksums.

@@ -93,7 +93,7 @@ fn laws_of_a_new_heap(rt: HostRuntime) -> Result<(), Fail> {
     calls_keep_the_condition();
     accesses_keep_the_condition();
     calls_keep_other_pages();
-    heap.is_sound();
+    heap.recall();
     Ok(())
 }
 

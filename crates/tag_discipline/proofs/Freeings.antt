@@ -9,7 +9,7 @@ use Rattle.mte_tags.specs.RandomTags.{after_draw, drawn_tag}
 use Rattle.scudo_header.specs.declared.headers.Origin.TheVariants.{Malloc}
 use Rattle.scudo_header.specs.declared.headers.State.TheVariants.{Available}
 use Rattle.scudo_primary.specs.Pools.{is_member}
-use Rattle.scudo_heap.specs.declared.limits.TheConstants.{MAX_REQUEST}
+use Rattle.scudo_header.specs.declared.config.TheConstants.{MAX_REQUEST}
 use Rattle.scudo_heap.specs.declared.call.HeapCall.TheVariants.{Realloc, Free}
 use Rattle.scudo_heap.specs.declared.chunk.Chunk.{Chunk}
 use Rattle.scudo_heap.specs.declared.chunk.Found.{Found}

@@ -8,7 +8,7 @@ use Rattle.mte_tags.specs.Memory.{Memory}
 use Rattle.mte_tags.specs.Accesses.{read_bytes}
 use Rattle.scudo_header.specs.Classes.{size_of}
 use Rattle.scudo_header.specs.Regions.{region_of}
-use Rattle.scudo_header.specs.declared.classes.TheConstants.{CLASSES}
+use Rattle.scudo_header.specs.declared.config.TheConstants.{CLASSES}
 use Rattle.scudo_header.specs.Headers.{packed_header, unpacked_header, header_word, state_number, origin_number}
 use Rattle.scudo_header.specs.declared.headers.Header.{Header}
 use Rattle.scudo_header.specs.declared.headers.Origin.{Origin}

@@ -8,7 +8,7 @@ use Rattle.scudo_header.specs.declared.headers.Origin.TheVariants.{Malloc, Memal
 use Rattle.scudo_secondary.specs.Mappings.{place_of}
 use Rattle.scudo_secondary.specs.declared.mappings.Mapping.{Mapping}
 use Rattle.address_map.specs.declared.limits.TheConstants.{PAGE_SIZE}
-use Rattle.scudo_heap.specs.declared.limits.TheConstants.{MAX_REQUEST}
+use Rattle.scudo_header.specs.declared.config.TheConstants.{MAX_REQUEST}
 use Rattle.scudo_heap.specs.declared.chunk.Chunk.{Chunk}
 use Rattle.scudo_heap.specs.declared.chunk.Chunk.TheVariants.{Small, Large}
 use Rattle.scudo_heap.specs.Stacks.{AreSound, stack_of}

@@ -7,7 +7,7 @@ use Rattle.a64_bits.specs.Addresses.{plain}
 use Rattle.mte_tags.specs.Accesses.{read_bytes}
 use Rattle.scudo_header.specs.declared.headers.Origin.TheVariants.{Malloc}
 use Rattle.scudo_secondary.specs.Mappings.{mapping_of, end_of}
-use Rattle.scudo_heap.specs.declared.limits.TheConstants.{MAX_REQUEST}
+use Rattle.scudo_header.specs.declared.config.TheConstants.{MAX_REQUEST}
 use Rattle.scudo_heap.specs.declared.call.HeapCall.TheVariants.{Realloc, Free}
 use Rattle.scudo_heap.specs.declared.chunk.Chunk.{Chunk}
 use Rattle.scudo_heap.specs.declared.chunk.Chunk.TheVariants.{Small, Large}

@@ -10,7 +10,11 @@ copy_out-requires-clause-mapped g c =
     let places = addresses c.args.at (length c.args.buffer.now) in
     subst (λ (m : Memory). AreMapped m places) (sym c.in_ok-check_in_mode.ensures.memory) (AreMapped-from_access _ _ places (none_from_ok _ _ c.in_ok-check_in_mode.ensures.answer))
 
-pub returns-clause-bytes : goal.returns-clause-bytes
-returns-clause-bytes g c =
+pub returns-clause-read : goal.returns-clause-read
+returns-clause-read g c =
     let places = addresses c.args.at (length c.args.buffer.now) in
-    c.copy_out.ensures.bytes ∙ ap (λ m. bytes_at m places) c.in_ok-check_in_mode.ensures.memory ∙ bytes_at-after_access _ _ places places
+    record {
+      answer = c.in_ok-check_in_mode.ensures.answer;
+      bytes = c.copy_out.ensures.bytes ∙ ap (λ m. bytes_at m places) c.in_ok-check_in_mode.ensures.memory ∙ bytes_at-after_access _ _ places places;
+      memory = c.copy_out.ensures.memory ∙ c.in_ok-check_in_mode.ensures.memory;
+    }

@@ -3,12 +3,11 @@ use Rattle.mte_tags.proofs.PageRuns.{granule_in_page}
 use Rattle.mte_tags.proofs.FoundPages.{page_run_passed, page_read}
 use Rattle.mte_tags.proofs.within_page.try_read.Goals as goal
 
-pub returns-clause-passed : goal.returns-clause-passed
-returns-clause-passed g c = λ _.
+pub returns-clause-read : goal.returns-clause-read
+returns-clause-read g c =
     let inside = c.if-not-fits_one_granule.ensures.0 refl in
-    page_run_passed (g.S.PageStore.memory c.args.store.now) _ c.args.at (length c.args.buffer.now) c.args.access.now c.in-Some.ensures.page (granule_in_page _ _ inside.1) c.requires (sym c.granule_passes.ensures ∙ c.if-not-granule_passes.false)
-
-pub returns-clause-bytes : goal.returns-clause-bytes
-returns-clause-bytes g c =
-    let inside = c.if-not-fits_one_granule.ensures.0 refl in
-    page_read (g.S.PageStore.memory c.args.store.now) _ c.args.at (length c.args.buffer.now) _ c.copy_out.new.buffer c.in-Some.ensures.page (granule_in_page _ _ inside.1) c.requires c.copy_out.auto.buffer refl c.copy_out.ensures.bytes
+    record {
+      passed = λ _. page_run_passed (g.S.PageStore.memory c.args.store.now) _ c.args.at (length c.args.buffer.now) c.args.access.now c.in-Some.ensures.page (granule_in_page _ _ inside.1) c.requires (sym c.granule_passes.ensures ∙ c.if-not-granule_passes.false);
+      bytes = page_read (g.S.PageStore.memory c.args.store.now) _ c.args.at (length c.args.buffer.now) _ c.copy_out.new.buffer c.in-Some.ensures.page (granule_in_page _ _ inside.1) c.requires c.copy_out.auto.buffer refl c.copy_out.ensures.bytes;
+      memory = c.in-Some.ensures.memory;
+    }

@@ -3,13 +3,10 @@ use Rattle.mte_tags.proofs.PageRuns.{granule_in_page}
 use Rattle.mte_tags.proofs.FoundPages.{page_run_passed, page_replaced}
 use Rattle.mte_tags.proofs.within_page.try_write.Goals as goal
 
-pub returns-clause-passed : goal.returns-clause-passed
-returns-clause-passed g c = λ _.
+pub returns-clause-written : goal.returns-clause-written
+returns-clause-written g c =
     let inside = c.if-not-fits_one_granule.ensures.0 refl in
-    page_run_passed (g.S.PageStore.memory c.args.store.now) _ c.args.at (length c.args.bytes.now) c.args.access.now c.in-Some.ensures.page (granule_in_page _ _ inside.1) c.requires (sym c.granule_passes.ensures ∙ c.if-not-granule_passes.false)
-
-pub returns-clause-memory : goal.returns-clause-memory
-returns-clause-memory g c =
-    let inside = c.if-not-fits_one_granule.ensures.0 refl in
-    c.replace_run.ensures.memory
-    ∙ page_replaced (g.S.PageStore.memory c.args.store.now) _ _ _ c.args.at c.args.bytes.now c.in-Some.ensures.memory c.in-Some.ensures.number c.in-Some.ensures.page (granule_in_page _ _ inside.1) c.requires
+    record {
+      passed = λ _. page_run_passed (g.S.PageStore.memory c.args.store.now) _ c.args.at (length c.args.bytes.now) c.args.access.now c.in-Some.ensures.page (granule_in_page _ _ inside.1) c.requires (sym c.granule_passes.ensures ∙ c.if-not-granule_passes.false);
+      memory = c.replace_run.ensures.memory ∙ page_replaced (g.S.PageStore.memory c.args.store.now) _ _ _ c.args.at c.args.bytes.now c.in-Some.ensures.memory c.in-Some.ensures.number c.in-Some.ensures.page (granule_in_page _ _ inside.1) c.requires;
+    }

@@ -2,11 +2,8 @@ use Rattle.std.proofs.Common.{arith}
 use Rattle.scudo_heap.proofs.CheckLemmas.{mapping-bounds}
 use Rattle.scudo_heap.proofs.checks.in_pages.Goals as goal
 
-pub overflow_mul-bytes : goal.overflow_mul-bytes
-overflow_mul-bytes c = let b = mapping-bounds _ _ _ c.in-Some.ensures.mappings c.in-Some.ensures.mapping in let l = b.last in omega arith
-
-pub overflow_add-bytes : goal.overflow_add-bytes
-overflow_add-bytes c = let b = mapping-bounds _ _ _ c.in-Some.ensures.mappings c.in-Some.ensures.mapping in let l = b.last in omega arith
+pub end-requires : goal.end-requires
+end-requires c = let b = mapping-bounds _ _ _ c.in-Some.ensures.mappings c.in-Some.ensures.mapping in let l = b.last in omega arith
 
 pub overflow_sub-bytes : goal.overflow_sub-bytes
 overflow_sub-bytes c = let b = mapping-bounds _ _ _ c.in-Some.ensures.mappings c.in-Some.ensures.mapping in let l = b.below in omega arith

@@ -22,9 +22,10 @@ map_pages-requires-clause-free g c = λ i l.
     let most = c.pages.ensures.most in
     let same = c.pages.ensures.pages in
     let enough = c.if-pages-pages_left.false in
+    let start = c.region_start.ensures in
     let may : MayGrow m s k n = record { class = c.requires.class; enough = omega arith; most = omega arith } in
-    let first : (268435456 + c.from.result * 16777216) / 4096 + c.pages.result + i ≡ next_page s k + i = omega arith in
-    ap (λ t. page_at t ((268435456 + c.from.result * 16777216) / 4096 + c.pages.result + i)) c.pages_left.ensures.memory ∙ ap (page_at m) first
+    let first : c.region_start.result / 4096 + c.pages.result + i ≡ next_page s k + i = omega arith in
+    ap (λ t. page_at t (c.region_start.result / 4096 + c.pages.result + i)) c.pages_left.ensures.memory ∙ ap (page_at m) first
     ∙ next-free m s k n c.requires.regions may i l
 
 pub returns-clause-some : goal.returns-clause-some
@@ -45,9 +46,10 @@ returns-clause-regions g c =
     let most = c.pages.ensures.most in
     let same = c.pages.ensures.pages in
     let enough = c.if-pages-pages_left.false in
+    let start = c.region_start.ensures in
     let may : MayGrow m s k n = record { class = c.requires.class; enough = omega arith; most = omega arith } in
     let own = c.size_of_class.ensures.size in
-    let first : (268435456 + c.from.result * 16777216) / 4096 + c.pages.result ≡ next_page s k = omega arith in
+    let first : c.region_start.result / 4096 + c.pages.result ≡ next_page s k = omega arith in
     let ok : IsOk c.map_pages.result = c.map_pages.ensures.answer.1 (let e = ap pages_left c.pages_left.ensures.memory in omega arith) in
     let memory : g.M.Tagged.memory c.map_pages.new.self ≡ with_new_pages m (next_page s k) n heap_attrs =
     on-ok c.map_pages.result _ ok c.map_pages.ensures.ok ∙ (λ i. with_new_pages (c.pages_left.ensures.memory i) (first i) n heap_attrs) in

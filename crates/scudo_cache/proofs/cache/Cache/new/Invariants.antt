@@ -1,6 +1,6 @@
 use Rattle.std.proofs.Common.{◌≡◌, ◌≤◌, ◌-◌, [], replicate}
 use Rattle.std.specs.Prelude.{vec_len, vec_capacity}
-use Rattle.scudo_header.specs.declared.classes.TheConstants.{CLASSES}
+use Rattle.scudo_header.specs.declared.config.TheConstants.{CLASSES}
 use Rattle.scudo_cache.proofs.cache.Cache.new.Given as goal
 
 abbrev pub decreases-loop-entries : goal.decreases-loop-entries

@@ -1,7 +1,7 @@
 use Rattle.std.proofs.Common.{◌*◌, ◌∙◌, ap, inl, inr, arith}
 use Rattle.std.proofs.lemmas.Bool.{cases_lt}
 use Rattle.scudo_header.specs.declared.headers.Origin.TheVariants.{Malloc}
-use Rattle.scudo_heap.specs.declared.limits.TheConstants.{MAX_REQUEST}
+use Rattle.scudo_header.specs.declared.config.TheConstants.{MAX_REQUEST}
 use Rattle.scudo_heap.specs.Placing.{world_of}
 use Rattle.scudo_heap.specs.Allocation.{AllocationResult, answer_of, after_allocate, after_malloc, after_calloc}
 use Rattle.scudo_heap.proofs.AllocationLemmas.{after-allocate-over}

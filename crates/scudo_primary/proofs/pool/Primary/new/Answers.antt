@@ -1,6 +1,6 @@
 use Rattle.std.proofs.Common.{◌≡◌, ◌*◌, ◌∷◌, [], ◌∙◌, replicate, refl, ap}
 use Rattle.std.specs.Prelude.{vec_capacity}
-use Rattle.scudo_header.specs.declared.classes.TheConstants.{CLASSES}
+use Rattle.scudo_header.specs.declared.config.TheConstants.{CLASSES}
 use Rattle.scudo_primary.specs.Inner.{no_list}
 use Rattle.scudo_primary.specs.Pools.{empty_pool}
 use Rattle.scudo_primary.proofs.NewLemmas.{new-invariant, new-view}
