@@ -257,12 +257,12 @@ fn a_careful_tenant_of_a_session(rt: HostRuntime) -> Result<(), Fail> {
     let other = image(alloc, &CARELESS)?;
     let (watch, parts) = watched(alloc, file.as_slice())?;
     assert!(rt; watch.is_careful && watch.is_lawful);
-    assert!(rt; parts.log.steps == 40 && matches!(parts.log.status, Status::Faulted(_, _)));
+    assert!(rt; parts.history.steps == 40 && matches!(parts.history.status, Status::Faulted(_, _)));
     let host = host_of_two(alloc, file.as_slice(), other.as_slice())?;
     let found = host.view(1);
     assert!(rt; found.is_some());
     if let Some(record) = found {
-        assert!(rt; record.steps == parts.log.steps && record.status == parts.log.status);
+        assert!(rt; record.steps == parts.history.steps && record.status == parts.history.status);
     }
     Ok(())
 }
@@ -272,6 +272,6 @@ fn a_careful_tenant_of_a_session(rt: HostRuntime) -> Result<(), Fail> {
 fn a_careless_tenant(rt: HostRuntime) -> Result<(), Fail> {
     let file = image(rt.alloc(), &CARELESS)?;
     let (watch, parts) = watched(rt.alloc(), file.as_slice())?;
-    assert!(rt; !watch.is_careful && matches!(parts.log.status, Status::Exited(_)));
+    assert!(rt; !watch.is_careful && matches!(parts.history.status, Status::Exited(_)));
     Ok(())
 }
