@@ -31,6 +31,8 @@ use Rattle.scudo_heap.specs.Served.{heap_page, is_inside}
 use Rattle.scudo_heap.specs.Sound.{HasRoom, IsSound}
 use Rattle.scudo_heap.specs.declared.stacks.Stacks.TheInside.{Inside}
 
+pub mod Parts
+
 -- The class that the code keeps.
 abbrev pub class_in : Inside → ℕ → ClassHeap
 class_in f class =
