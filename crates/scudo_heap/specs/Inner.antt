@@ -7,6 +7,7 @@ use Rattle.std.specs.Prelude.{◌/◌, nat_lt}
 use Rattle.std.specs.List.{list_any}
 use Rattle.mte_tags.specs.Memory.{Memory, attrs_at, pages_left, data_attrs}
 use Rattle.scudo_header.specs.declared.config.TheConstants.{CLASSES, MAX_ALIGNMENT}
+use Rattle.scudo_header.specs.Classes.{IsClass, size_of}
 use Rattle.scudo_header.specs.Regions.{region_of}
 use Rattle.scudo_header.specs.declared.headers.Header.{Header}
 use Rattle.scudo_primary.specs.Blocks.{IsBlock}
@@ -20,6 +21,8 @@ use Rattle.address_map.specs.declared.limits.TheConstants.{MAX_PAGES, PAGE_SIZE}
 use Rattle.address_map.specs.declared.ranges.TheConstants.{REGION_SIZE}
 use Rattle.address_map.specs.declared.ranges.TheConstants.{SECONDARY_START, SECONDARY_END}
 use Rattle.scudo_heap.specs.declared.chunk.Place.{Place}
+use Rattle.scudo_heap.specs.declared.request.Request.{Request}
+use Rattle.scudo_heap.specs.Allocation.{need_of}
 use Rattle.scudo_heap.specs.declared.chunk.Chunk.{Chunk}
 use Rattle.scudo_heap.specs.declared.chunk.Chunk.TheVariants.{Small, Large}
 use Rattle.scudo_heap.specs.declared.chunk.Found.{Found}
@@ -30,7 +33,6 @@ use Rattle.scudo_heap.specs.Chunks.{end_of, block_end}
 use Rattle.scudo_heap.specs.Served.{heap_page, is_inside}
 use Rattle.scudo_heap.specs.Sound.{HasRoom, IsSound}
 use Rattle.scudo_heap.specs.declared.stacks.Stacks.TheInside.{Inside}
-
 pub mod Parts
 
 -- The class that the code keeps.
@@ -111,6 +113,20 @@ pub record IsAlign (align : ℕ) : Type 0 where
   pub least : 16 ≤ align
   pub most : align ≤ MAX_ALIGNMENT
   pub multiple : align % 16 ≡ 0
+
+-- a request that a block of a size class holds with its header
+pub record FitsClass (c : ℕ) (r : Request) : Type 0 where
+  pub class : IsClass c
+  pub align : IsAlign r.align
+  pub some : 0 < r.size
+  pub small : r.size < 2 ^ 20
+  pub fits : need_of r.align r.size ≤ size_of c
+
+-- a chunk ends within its block, whose end and whose own address are multiples of a granule
+pub record FitsIn (p : Place) : Type 0 where
+  pub aligned : p.user % 16 ≡ 0
+  pub whole : block_end p % 16 ≡ 0
+  pub within : end_of p ≤ block_end p
 
 -- a chunk of a size lies with its header in a mapping, of which a page at most is left
 pub record IsLarge (m : Mapping) (size : ℕ) : Type 0 where
