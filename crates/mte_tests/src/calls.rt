@@ -107,7 +107,7 @@ fn write<M: Tagged>(memory: &mut M, at: u64, value: u64, check: bool) -> Result<
 }
 
 /// A call with one look-up of a page.
-fn chunk<M: Tagged>(memory: &mut M, call: Call) -> Answer
+fn chunk<M: ChunkAccess>(memory: &mut M, call: Call) -> Answer
     ensures { M.kept memory.old memory.new }
 {
     match call {
