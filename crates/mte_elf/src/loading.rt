@@ -10,6 +10,7 @@ ghost use Rattle.mte_elf.specs.Pages.{image_page, page_or};
 
 use crate::image::{Plan, Segment};
 use crate::planning::{last_page_touched, pages_touched};
+use address_map::PAGE_SIZE;
 use mte_tags::{Attrs, Paged};
 
 /// Maps the pages of an image and loads its bytes. `plan` is the file's plan, the pages below
@@ -51,7 +52,7 @@ fn load_segment<M: Paged>(segment: &Segment, file: &[u8], memory: &mut M)
         ≡ with_segment file.now (M.Tagged.memory memory.old) segment.now }
     ensures kept { M.Tagged.kept memory.old memory.new }
 {
-    let first = segment.vaddr / 4096;
+    let first = segment.vaddr / PAGE_SIZE;
     let count = pages_touched(segment) as usize;
     match memory.map_pages(first, count, page_attrs(segment.flags)) {
         Ok(()) => memory.load_bytes(segment.vaddr, segment_bytes(segment, file)),

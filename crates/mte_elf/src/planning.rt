@@ -143,8 +143,8 @@ pub fn last_page_touched(segment: &Segment) -> u64
 fn touches(one: &Segment, other: &Segment) -> bool
     ensures { result ≡ share_page one.now other.now }
 {
-    let one_first = one.vaddr / 4096;
-    let other_first = other.vaddr / 4096;
+    let one_first = one.vaddr / PAGE_SIZE;
+    let other_first = other.vaddr / PAGE_SIZE;
     one_first <= last_page_touched(other) && other_first <= last_page_touched(one)
 }
 
@@ -178,7 +178,7 @@ fn holds_entry(segment: &Segment, entry: u64) -> bool
 pub fn pages_touched(segment: &Segment) -> u64
     ensures { result ≡ page_count segment.now }
 {
-    (last_page_touched(segment) + 1).saturating_sub(segment.vaddr / 4096)
+    (last_page_touched(segment) + 1).saturating_sub(segment.vaddr / PAGE_SIZE)
 }
 
 /// How many pages the segments touch.

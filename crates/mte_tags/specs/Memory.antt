@@ -22,6 +22,10 @@ use Rattle.mte_tags.specs.declared.state.TagMode.{TagMode}
 use Rattle.mte_tags.specs.declared.state.TagMode.TheVariants.{Sync, Async}
 use Rattle.mte_tags.specs.declared.state.TagState.{TagState}
 
+-- The attributes of data: READ, WRITE and TAGGED.
+abbrev pub data_attrs : Attrs
+data_attrs = record { 0 = 11 }
+
 -- attrs is the sum of READ 1, WRITE 2, EXEC 4 and TAGGED 8; a tag for each granule
 pub record Page : Type 0 where
   pub attrs : ℕ

@@ -11,7 +11,7 @@ use Rattle.a64_registers.specs.Registers.{fresh}
 use Rattle.a64_step.specs.Steps.{step_of}
 use Rattle.tenant_terms.specs.declared.Terms.{Terms}
 use Rattle.mte_tags.specs.declared.state.TagMode.{TagMode}
-use Rattle.mte_tags.specs.Memory.{Memory, no_pages, with_new_pages}
+use Rattle.mte_tags.specs.Memory.{Memory, no_pages, with_new_pages, data_attrs}
 use Rattle.mte_elf.specs.Headers.{segments_of, entry_of}
 use Rattle.mte_elf.specs.Loading.{with_segments}
 use Rattle.scudo_heap.specs.Heaps.{empty_heap}
@@ -61,7 +61,7 @@ first_registers entry seed = record (fresh entry STACK_END) {
 unfoldable pub first_memory : List ℕ → ℕ → TagMode → Memory
 first_memory image pages mode =
     with_new_pages (with_segments image (no_pages pages mode) (segments_of image))
-    (STACK_START / PAGE_SIZE) STACK_PAGES (record { 0 = 11 })
+    (STACK_START / PAGE_SIZE) STACK_PAGES data_attrs
 
 -- The parts of a tenant before its first instruction.
 unfoldable pub first_parts : ℕ → Start → TenantParts

@@ -3,6 +3,7 @@
 ghost use Rattle.std.specs.Prelude.{◌≡◌, ℕ, ◌+◌, ◌*◌, ◌^◌, ◌<◌, ◌≤◌, IfOk, IfErr, IsOkUnless, true};
 ghost use Rattle.std.specs.Prelude.{None, ◌/◌};
 ghost use Rattle.mte_tags.specs.Memory.{Memory, page_at, pages_left, no_pages, with_new_pages};
+ghost use Rattle.mte_tags.specs.Memory.{data_attrs};
 ghost use Rattle.mte_elf.specs.Headers.{segments_of, entry_of};
 ghost use Rattle.mte_elf.specs.Images.{refusal_of, pages_of};
 ghost use Rattle.mte_tags.specs.Fixed.{KeepsFixed};
@@ -219,7 +220,7 @@ fn map_stack<M: Paged>(memory: &mut M)
     requires room { STACK_PAGES ≤ pages_left (M.Tagged.memory memory.old) }
     ensures memory { M.Tagged.memory memory.new
         ≡ with_new_pages (M.Tagged.memory memory.old) (STACK_START / PAGE_SIZE) STACK_PAGES
-        (record { 0 = 11 }) }
+        data_attrs }
     ensures kept { M.Tagged.kept memory.old memory.new }
 {
     match memory.map_pages(STACK_START / PAGE_SIZE, STACK_PAGES as usize, Attrs::DATA) {

@@ -12,10 +12,9 @@ use Rattle.scudo_heap.specs.declared.chunk.Place.{Place}
 use Rattle.scudo_heap.specs.declared.chunk.Chunk.{Chunk}
 use Rattle.scudo_heap.specs.declared.chunk.Chunk.TheVariants.{Small}
 use Rattle.scudo_heap.specs.Stacks.{stack_of}
-use Rattle.scudo_heap.specs.Chunks.{end_of, block_end}
 use Rattle.scudo_heap.specs.Placing.{World, more_pages, after_grow, after_place}
 use Rattle.scudo_heap.specs.Allocation.{AllocationResult, allocation_of, no_chunk, place_in, is_empty, after_take, with_free_block, after_class_allocation, need_of}
-use Rattle.scudo_heap.specs.Inner.{IsAlign}
+use Rattle.scudo_heap.specs.Inner.{IsAlign, FitsIn}
 
 -- ---- where a chunk lies in a block
 
@@ -25,11 +24,6 @@ divides x s p h e =
     let b : s ≡ 16 * (s / 16) = omega arith in
     let c : x ≡ 16 * (s / 16 * (x / s)) = a ∙ ap (λ t. t * (x / s)) b ∙ grind arith in
     ap (λ t. t % 16) c ∙ mul-mod_right 16 (s / 16 * (x / s))
-
-pub record FitsIn (p : Place) : Type 0 where
-  pub aligned : p.user % 16 ≡ 0
-  pub whole : block_end p % 16 ≡ 0
-  pub within : end_of p ≤ block_end p
 
 pub fits-in : (c pages b align size : ℕ) → IsClass c → IsBlock c pages b → IsAlign align → need_of align size ≤ size_of c → FitsIn (place_in c b align size)
 fits-in c pages b align size k block al need =

@@ -5,8 +5,9 @@ use Rattle.std.specs.Prelude.{◌≡◌, ℕ, ◌+◌, ◌-◌, ◌%◌, ◌^◌
 use Rattle.std.specs.Prelude.{◌++◌, ◌∷◌, []}
 use Rattle.std.specs.Prelude.{◌/◌, nat_lt}
 use Rattle.std.specs.List.{list_any}
-use Rattle.mte_tags.specs.Memory.{Memory, attrs_at, pages_left}
-use Rattle.scudo_header.specs.declared.config.TheConstants.{CLASSES}
+use Rattle.mte_tags.specs.Memory.{Memory, attrs_at, pages_left, data_attrs}
+use Rattle.scudo_header.specs.declared.config.TheConstants.{CLASSES, MAX_ALIGNMENT}
+use Rattle.scudo_header.specs.Classes.{IsClass, size_of}
 use Rattle.scudo_header.specs.Regions.{region_of}
 use Rattle.scudo_header.specs.declared.headers.Header.{Header}
 use Rattle.scudo_primary.specs.Blocks.{IsBlock}
@@ -16,10 +17,12 @@ use Rattle.scudo_cache.specs.Caches.{one_stack, IsAbove, AreStacks}
 use Rattle.scudo_secondary.specs.Mappings.{SecondaryState, mapping_of}
 use Rattle.scudo_secondary.specs.Mappings as secondary
 use Rattle.scudo_secondary.specs.declared.mappings.Mapping.{Mapping}
-use Rattle.address_map.specs.declared.limits.TheConstants.{PAGE_SIZE}
+use Rattle.address_map.specs.declared.limits.TheConstants.{MAX_PAGES, PAGE_SIZE}
 use Rattle.address_map.specs.declared.ranges.TheConstants.{REGION_SIZE}
 use Rattle.address_map.specs.declared.ranges.TheConstants.{SECONDARY_START, SECONDARY_END}
 use Rattle.scudo_heap.specs.declared.chunk.Place.{Place}
+use Rattle.scudo_heap.specs.declared.request.Request.{Request}
+use Rattle.scudo_heap.specs.Allocation.{need_of}
 use Rattle.scudo_heap.specs.declared.chunk.Chunk.{Chunk}
 use Rattle.scudo_heap.specs.declared.chunk.Chunk.TheVariants.{Small, Large}
 use Rattle.scudo_heap.specs.declared.chunk.Found.{Found}
@@ -30,6 +33,7 @@ use Rattle.scudo_heap.specs.Chunks.{end_of, block_end}
 use Rattle.scudo_heap.specs.Served.{heap_page, is_inside}
 use Rattle.scudo_heap.specs.Sound.{HasRoom, IsSound}
 use Rattle.scudo_heap.specs.declared.stacks.Stacks.TheInside.{Inside}
+pub mod Parts
 
 -- The class that the code keeps.
 abbrev pub class_in : Inside → ℕ → ClassHeap
@@ -67,7 +71,7 @@ pub record ArePlaces (m : Memory) (ms : SecondaryState) : Type 0 where
 
 -- Each page from an address up to another has READ, WRITE and TAGGED.
 pub record IsOpen (m : Memory) (from to : ℕ) : Type 0 where
-  pub pages : (a : ℕ) → from ≤ a → a < to → attrs_at m (a / PAGE_SIZE) ≡ Some 11
+  pub pages : (a : ℕ) → from ≤ a → a < to → attrs_at m (a / PAGE_SIZE) ≡ Some data_attrs.0
   pub below : to ≤ 2 ^ 30
 
 -- where a chunk may lie in a block of a size class
@@ -107,13 +111,27 @@ AreApart a b n = (a + n ≤ b) ⊎ (b + n ≤ a)
 -- an alignment as the calls take it: at least a granule, at most a page
 pub record IsAlign (align : ℕ) : Type 0 where
   pub least : 16 ≤ align
-  pub most : align ≤ 4096
+  pub most : align ≤ MAX_ALIGNMENT
   pub multiple : align % 16 ≡ 0
+
+-- a request that a block of a size class holds with its header
+pub record FitsClass (c : ℕ) (r : Request) : Type 0 where
+  pub class : IsClass c
+  pub align : IsAlign r.align
+  pub some : 0 < r.size
+  pub small : r.size < 2 ^ 20
+  pub fits : need_of r.align r.size ≤ size_of c
+
+-- a chunk ends within its block, whose end and whose own address are multiples of a granule
+pub record FitsIn (p : Place) : Type 0 where
+  pub aligned : p.user % 16 ≡ 0
+  pub whole : block_end p % 16 ≡ 0
+  pub within : end_of p ≤ block_end p
 
 -- a chunk of a size lies with its header in a mapping, of which a page at most is left
 pub record IsLarge (m : Mapping) (size : ℕ) : Type 0 where
   pub some : 0 < m.pages
-  pub few : m.pages ≤ 4096
+  pub few : m.pages ≤ MAX_PAGES
   pub start : m.start < 2 ^ 32
   pub aligned : m.start % PAGE_SIZE ≡ 0
   pub above : m.start + 16 ≤ m.user

@@ -4,7 +4,7 @@
 --     after_give_back w p header    the chunk is freed
 --     after_resize w p header size  it gets another size in its block
 use Rattle.std.specs.Prelude.{ℕ, ◌+◌, ◌-◌, ◌/◌}
-use Rattle.mte_tags.specs.Memory.{Memory, with_new_pages}
+use Rattle.mte_tags.specs.Memory.{Memory, with_new_pages, data_attrs}
 use Rattle.mte_tags.specs.RandomTags.{after_draw}
 use Rattle.mte_tags.specs.declared.attrs.Attrs.{Attrs}
 use Rattle.mte_tags.specs.declared.generator.Rgsr.{Rgsr}
@@ -32,7 +32,7 @@ world_of m h r = record { memory = m; heap = h; rgsr = r }
 
 -- READ, WRITE and TAGGED
 abbrev pub heap_attrs : Attrs
-heap_attrs = record { 0 = 11 }
+heap_attrs = data_attrs
 
 -- The pages that hold `size` bytes.
 abbrev pub pages_for : ℕ → ℕ

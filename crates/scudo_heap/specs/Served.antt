@@ -3,7 +3,7 @@
 use Rattle.std.specs.Prelude.{◌≡◌, ℕ, ◌+◌, ◌/◌, ◌<◌, ◌≤◌, ◌&&◌, nat_lt, nat_le, Bool}
 use Rattle.std.specs.Prelude.{Option, Some, None, if◌then◌else◌}
 use Rattle.std.specs.List.{list_any}
-use Rattle.mte_tags.specs.Memory.{Memory, attrs_at, pages_left}
+use Rattle.mte_tags.specs.Memory.{Memory, attrs_at, pages_left, data_attrs}
 use Rattle.scudo_header.specs.Regions.{region_of}
 use Rattle.scudo_header.specs.declared.config.TheConstants.{CLASSES}
 use Rattle.scudo_secondary.specs.Mappings as secondary
@@ -16,7 +16,7 @@ use Rattle.scudo_heap.specs.Heaps.{HeapState}
 
 -- READ, WRITE and TAGGED where a page is the heap's, else no page.
 abbrev pub heap_page : Bool → Option ℕ
-heap_page mine = if mine then Some 11 else None
+heap_page mine = if mine then Some data_attrs.0 else None
 
 -- Whether an address lies in a mapping.
 abbrev pub is_inside : ℕ → Mapping → Bool

@@ -3,24 +3,23 @@
 ghost use Rattle.std.specs.Prelude.{◌≡◌, ◌+◌, ◌*◌, ◌<◌, ◌≤◌, ◌^◌, IfSome};
 ghost use Rattle.scudo_header.specs.Classes.{class_for};
 ghost use Rattle.scudo_heap.specs.Chunks.{granules_of};
-ghost use Rattle.scudo_heap.specs.Heaps.{heap_of};
 ghost use Rattle.scudo_heap.specs.Placing.{world_of, pages_for};
 ghost use Rattle.scudo_heap.specs.Allocation.{allocation_of, allocate_cases, need_of, nonzero_size};
 ghost use Rattle.scudo_heap.specs.Allocation.{after_allocate};
 ghost use Rattle.scudo_heap.specs.Allocation.{is_alignment};
 ghost use Rattle.scudo_heap.specs.Served.{HeapOwnsItsPages};
 ghost use Rattle.scudo_heap.specs.Inner.{IsAlign, IsLow};
+ghost use Rattle.scudo_heap.specs.Inner.Parts.{heap_in};
 
 use crate::chunk::{Chunk, by_fields};
 use crate::classes::take_block;
 use crate::pages::take_pages;
+use crate::parts::HeapParts;
 use crate::request::Request;
-use crate::stacks::Stacks;
 use crate::tagging::granules;
 use address_map::PAGE_SIZE;
 use mte_tags::{Paged, Rgsr};
 use scudo_header::{MAX_REQUEST, class_of};
-use scudo_secondary::Secondary;
 
 /// Whether an alignment is a power of two up to `MAX_ALIGNMENT`.
 pub(crate) fn is_power(alignment: u64) -> bool
@@ -36,9 +35,7 @@ pub(crate) fn is_power(alignment: u64) -> bool
 /// own.
 #[inline(always)]
 fn make_some<M: Paged>(
-    cookie: u32,
-    stacks: &mut Stacks,
-    maps: &mut Secondary,
+    parts: &mut HeapParts,
     rgsr: &mut Rgsr,
     memory: &mut M,
     request: Request,
@@ -47,11 +44,11 @@ fn make_some<M: Paged>(
     requires align { IsAlign request.align }
     requires some { 0 < request.size }
     requires most { request.size ≤ MAX_REQUEST }
-    requires served { HeapOwnsItsPages (M.memory memory.old) (heap_of cookie stacks.old maps.old) }
+    requires served { HeapOwnsItsPages (M.memory memory.old) (heap_in parts.old) }
     ensures made { allocation_of
-        (world_of (M.memory memory.new) (heap_of cookie stacks.new maps.new) rgsr.new) result
+        (world_of (M.memory memory.new) (heap_in parts.new) rgsr.new) result
         ≡ allocate_cases (world_of (M.memory memory.old)
-        (heap_of cookie stacks.old maps.old) rgsr.old)
+        (heap_in parts.old) rgsr.old)
         request.origin request.align request.size (class_for (need_of request.align request.size)) }
     ensures low_chunk { IfSome result IsLow }
     ensures tag { rgsr.new.tag < 16 }
@@ -59,10 +56,17 @@ fn make_some<M: Paged>(
 {
     let need = 16 * granules(request.size) + request.align;
     match class_of(need) {
-        Some(class) => take_block(cookie, stacks, rgsr, memory, request, class),
+        Some(class) => take_block(
+            parts.cookie,
+            &mut parts.stacks,
+            rgsr,
+            memory,
+            request,
+            class,
+        ),
         None => {
             let pages = (need + (PAGE_SIZE - 1)) / PAGE_SIZE;
-            let chunk = take_pages(cookie, maps, memory, request, pages);
+            let chunk = take_pages(parts.cookie, &mut parts.maps, memory, request, pages);
             by_fields(chunk)
         }
     }
@@ -72,20 +76,18 @@ fn make_some<M: Paged>(
 #[tactic(auto, unfolding(crate::specs::Allocation::after_allocate))]
 #[inline(always)]
 pub(crate) fn allocate<M: Paged>(
-    cookie: u32,
-    stacks: &mut Stacks,
-    maps: &mut Secondary,
+    parts: &mut HeapParts,
     rgsr: &mut Rgsr,
     memory: &mut M,
     request: Request,
 ) -> Option<Chunk>
     requires drawn { rgsr.old.tag < 16 }
     requires align { IsAlign request.align }
-    requires served { HeapOwnsItsPages (M.memory memory.old) (heap_of cookie stacks.old maps.old) }
+    requires served { HeapOwnsItsPages (M.memory memory.old) (heap_in parts.old) }
     ensures made { allocation_of
-        (world_of (M.memory memory.new) (heap_of cookie stacks.new maps.new) rgsr.new) result
+        (world_of (M.memory memory.new) (heap_in parts.new) rgsr.new) result
         ≡ after_allocate (world_of (M.memory memory.old)
-        (heap_of cookie stacks.old maps.old) rgsr.old)
+        (heap_in parts.old) rgsr.old)
         request.origin request.align request.size }
     ensures low_chunk { IfSome result IsLow }
     ensures tag { rgsr.new.tag < 16 }
@@ -96,5 +98,5 @@ pub(crate) fn allocate<M: Paged>(
     }
     let size = if request.size == 0 { 1 } else { request.size };
     let some = Request { size, ..request };
-    make_some(cookie, stacks, maps, rgsr, memory, some)
+    make_some(parts, rgsr, memory, some)
 }

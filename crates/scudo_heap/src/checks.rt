@@ -5,15 +5,16 @@ ghost use Rattle.std.specs.Int.{from_le_bytes, w64};
 ghost use Rattle.mte_tags.specs.Accesses.{read_bytes};
 ghost use Rattle.scudo_secondary.specs.Mappings.{mapping_of};
 ghost use Rattle.scudo_heap.specs.Chunks.{end_of, block_end};
-ghost use Rattle.scudo_heap.specs.Heaps.{heap_of};
 ghost use Rattle.scudo_heap.specs.Checks.{is_allocated, is_place, place_of_header, size_found};
 ghost use Rattle.scudo_heap.specs.Checks.{is_mapped};
 ghost use Rattle.scudo_heap.specs.Checks.{check_pointer};
 ghost use Rattle.scudo_heap.specs.Checks.{check_block, check_mapping, check_chunk};
 ghost use Rattle.scudo_heap.specs.Inner.{HasEnd};
+ghost use Rattle.scudo_heap.specs.Inner.Parts.{heap_in};
 
 use crate::abort::HeapAbort;
 use crate::chunk::{Found, Place};
+use crate::parts::HeapParts;
 use crate::stacks::Stacks;
 use mte_tags::{Attrs, ChunkAccess, Paged, Tagged};
 use scudo_header::{CLASSES, Header, State, size_of_class, unpack};
@@ -157,15 +158,13 @@ fn header_word_alone<M: Paged>(memory: &mut M, user: u64) -> Option<u64>
 /// What the checks of a plain address find, or the first that fails.
 #[inline(always)]
 pub(crate) fn find_chunk<M: Paged>(
-    cookie: u32,
-    stacks: &Stacks,
-    maps: &Secondary,
+    parts: &HeapParts,
     memory: &mut M,
     user: u64,
 ) -> Result<Found, HeapAbort>
     requires { user < 2 ^ 56 }
     ensures answer { result
-        ≡ check_pointer (M.memory memory.old) (heap_of cookie stacks.now maps.now) user }
+        ≡ check_pointer (M.memory memory.old) (heap_in parts.now) user }
     ensures end { IfOk result HasEnd }
     ensures memory { M.memory memory.new ≡ M.memory memory.old }
     ensures kept { M.kept memory.old memory.new }
@@ -176,11 +175,11 @@ pub(crate) fn find_chunk<M: Paged>(
     let Some(word) = header_word(memory, user) else {
         return Err(HeapAbort::Unmapped);
     };
-    let Some(header) = unpack(cookie, user, word) else {
+    let Some(header) = unpack(parts.cookie, user, word) else {
         return Err(HeapAbort::HeaderCorrupt);
     };
     if !is_handed_out(header.state) {
         return Err(HeapAbort::InvalidState);
     }
-    by_header(stacks, maps, user, &header)
+    by_header(&parts.stacks, &parts.maps, user, &header)
 }

@@ -4,15 +4,15 @@ ghost use Rattle.std.specs.Prelude.{◌≡◌, ◌≢◌, ◌+◌, ◌-◌, ◌*
 ghost use Rattle.std.specs.Prelude.{IfSome, IsTrue};
 ghost use Rattle.std.specs.Prelude.{if◌then◌else◌};
 ghost use Rattle.mte_tags.specs.Memory.{pages_left, with_new_pages};
-ghost use Rattle.scudo_header.specs.Classes.{IsClass, size_of};
+ghost use Rattle.scudo_header.specs.Classes.{IsClass};
 ghost use Rattle.scudo_header.specs.Regions.{region_of};
 ghost use Rattle.scudo_secondary.specs.Mappings.{SecondaryState};
 ghost use Rattle.scudo_heap.specs.Stacks.{stack_of, after_carve};
 ghost use Rattle.scudo_heap.specs.Heaps.{heap_of};
 ghost use Rattle.scudo_heap.specs.Placing.{world_of, more_pages, next_page, heap_attrs};
-ghost use Rattle.scudo_heap.specs.Allocation.{allocation_of, place_in, after_take, need_of};
+ghost use Rattle.scudo_heap.specs.Allocation.{allocation_of, place_in, after_take};
 ghost use Rattle.scudo_heap.specs.Allocation.{after_class_allocation};
-ghost use Rattle.scudo_heap.specs.Inner.{IsAlign, IsLow, AreRegions};
+ghost use Rattle.scudo_heap.specs.Inner.{IsAlign, IsLow, AreRegions, FitsClass};
 
 use crate::chunk::{Chunk, Place, by_fields};
 use crate::placing::make_chunk;
@@ -61,12 +61,8 @@ fn take_top<M: Paged>(
     request: Request,
     class: u8,
 ) -> Option<Chunk>
-    requires class { IsClass class }
     requires drawn { rgsr.old.tag < 16 }
-    requires align { IsAlign request.align }
-    requires some { 0 < request.size }
-    requires small { request.size < 2 ^ 20 }
-    requires fits { need_of request.align request.size ≤ size_of class }
+    requires request { FitsClass class request }
     requires regions { AreRegions (M.memory memory.old) stacks.old }
     ensures made { (ms : SecondaryState)
         → allocation_of (world_of (M.memory memory.new)
@@ -131,12 +127,8 @@ fn grow_and_take<M: Paged>(
     request: Request,
     class: u8,
 ) -> Option<Chunk>
-    requires class { IsClass class }
     requires drawn { rgsr.old.tag < 16 }
-    requires align { IsAlign request.align }
-    requires some { 0 < request.size }
-    requires small { request.size < 2 ^ 20 }
-    requires fits { need_of request.align request.size ≤ size_of class }
+    requires request { FitsClass class request }
     requires empty { stack_of stacks.old class ≡ [] }
     requires regions { AreRegions (M.memory memory.old) stacks.old }
     ensures made { (ms : SecondaryState)
@@ -165,12 +157,8 @@ pub(crate) fn take_block<M: Paged>(
     request: Request,
     class: u8,
 ) -> Option<Chunk>
-    requires class { IsClass class }
     requires drawn { rgsr.old.tag < 16 }
-    requires align { IsAlign request.align }
-    requires some { 0 < request.size }
-    requires small { request.size < 2 ^ 20 }
-    requires fits { need_of request.align request.size ≤ size_of class }
+    requires request { FitsClass class request }
     requires regions { AreRegions (M.memory memory.old) stacks.old }
     ensures made { (ms : SecondaryState)
         → allocation_of (world_of (M.memory memory.new)

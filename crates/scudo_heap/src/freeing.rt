@@ -6,16 +6,18 @@ ghost use Rattle.mte_tags.specs.RandomTags.{after_draw};
 ghost use Rattle.scudo_header.specs.declared.headers.State.TheVariants.{Available};
 ghost use Rattle.scudo_secondary.specs.Mappings as secondary;
 ghost use Rattle.scudo_heap.specs.Stacks.{after_push};
-ghost use Rattle.scudo_heap.specs.Heaps.{heap_of, with_less};
+ghost use Rattle.scudo_heap.specs.Heaps.{with_less};
 ghost use Rattle.scudo_heap.specs.Chunks.{end_of, block_end, excluded_tags, with_chunk_tag};
 ghost use Rattle.scudo_heap.specs.Chunks.{with_header};
 ghost use Rattle.scudo_heap.specs.Placing.{world_of};
 ghost use Rattle.scudo_heap.specs.Freeing.{without_chunk};
 ghost use Rattle.scudo_heap.specs.Served.{HeapOwnsItsPages};
 ghost use Rattle.scudo_heap.specs.Inner.{IsFoundBlock, IsFound, IsOpen};
+ghost use Rattle.scudo_heap.specs.Inner.Parts.{heap_in};
 
 use crate::chunk::{Found, Place};
 use crate::granules::{put_header, set_tags};
+use crate::parts::HeapParts;
 use crate::stacks::Stacks;
 use crate::tagging::{choose_tag, granules};
 use address_map::PAGE_SIZE;
@@ -100,27 +102,32 @@ fn free_pages<M: Paged>(maps: &mut Secondary, memory: &mut M, mapping: Mapping)
 #[tactic(auto, unfolding(crate::specs::Freeing::without_chunk))]
 #[inline(always)]
 pub(crate) fn free_found<M: Paged>(
-    cookie: u32,
-    stacks: &mut Stacks,
-    maps: &mut Secondary,
+    parts: &mut HeapParts,
     rgsr: &mut Rgsr,
     memory: &mut M,
     found: Found,
 )
     requires drawn { rgsr.old.tag < 16 }
-    requires served { HeapOwnsItsPages (M.memory memory.old) (heap_of cookie stacks.old maps.old) }
-    requires found { IsFound (heap_of cookie stacks.old maps.old) found }
-    ensures world { world_of (M.memory memory.new) (heap_of cookie stacks.new maps.new) rgsr.new
+    requires served { HeapOwnsItsPages (M.memory memory.old) (heap_in parts.old) }
+    requires found { IsFound (heap_in parts.old) found }
+    ensures world { world_of (M.memory memory.new) (heap_in parts.new) rgsr.new
         ≡ without_chunk
-        (world_of (M.memory memory.old) (heap_of cookie stacks.old maps.old) rgsr.old)
+        (world_of (M.memory memory.old) (heap_in parts.old) rgsr.old)
         found }
     ensures tag { rgsr.new.tag < 16 }
     ensures kept { M.kept memory.old memory.new }
 {
     match found {
         Found::InBlock(place, header) => {
-            free_block(cookie, stacks, rgsr, memory, place, &header);
+            free_block(
+                parts.cookie,
+                &mut parts.stacks,
+                rgsr,
+                memory,
+                place,
+                &header,
+            );
         }
-        Found::InPages(mapping, _) => free_pages(maps, memory, mapping),
+        Found::InPages(mapping, _) => free_pages(&mut parts.maps, memory, mapping),
     }
 }

@@ -1,7 +1,7 @@
 //! The heap's calls.
 
 ghost use Rattle.std.specs.Prelude.{◌≡◌, ◌<◌, ◌≤◌, IfOk};
-ghost use Rattle.scudo_heap.specs.Heaps.{HeapState, heap_of, empty_heap};
+ghost use Rattle.scudo_heap.specs.Heaps.{HeapState, empty_heap};
 ghost use Rattle.scudo_heap.specs.Placing.{world_of};
 ghost use Rattle.scudo_heap.specs.Allocation.{answer_of, after_malloc, after_calloc};
 ghost use Rattle.scudo_heap.specs.Allocation.{after_memalign};
@@ -17,6 +17,7 @@ use crate::call::HeapCall;
 use crate::checks::find_chunk;
 use crate::chunk::address_or_null;
 use crate::freeing::free_found;
+use crate::parts::HeapParts;
 use crate::request::Request;
 use crate::resizing::reallocate;
 use crate::stacks::Stacks;
@@ -33,22 +34,21 @@ use std::marker::Model;
 /// how many elements its lists have memory.
 #[derive(Drop)]
 pub struct Heap {
-    cookie: u32,
-    stacks: Stacks,
-    maps: Secondary,
+    parts: HeapParts,
 }
 
 impl Model for Heap {
-    ghost use Rattle.scudo_heap.specs.Heaps.{HeapState, coded_heap, heap_of};
+    ghost use Rattle.scudo_heap.specs.Heaps.{HeapState, coded_heap};
     ghost use Rattle.scudo_heap.specs.Inner.{AreHeapParts};
+    ghost use Rattle.scudo_heap.specs.Inner.Parts.{heap_in};
 
     ghost Value = { HeapState };
 
     ghost coded = { coded_heap };
 
-    ghost view = { λ f. heap_of f.cookie f.stacks f.maps };
+    ghost view = { λ f. heap_in f.parts };
 
-    ghost invariant = { λ f. AreHeapParts (heap_of f.cookie f.stacks f.maps) };
+    ghost invariant = { λ f. AreHeapParts (heap_in f.parts) };
 }
 
 impl Heap {
@@ -62,11 +62,12 @@ impl Heap {
     {
         let stacks = Stacks::new(alloc, pages)?;
         let maps = Secondary::new(alloc, pages)?;
-        Ok(Heap {
+        let parts = HeapParts {
             cookie,
             stacks,
             maps,
-        })
+        };
+        Ok(Heap { parts })
     }
 
     /// A copy of the heap, with memory of its own. It is refused only where its memory is; no later
@@ -74,13 +75,14 @@ impl Heap {
     pub fn copy(&self, alloc: Global) -> Result<Heap, AllocError>
         ensures { IfOk result (λ heap. heap ≡ self.now) }
     {
-        let stacks = self.stacks.copy(alloc)?;
-        let maps = self.maps.copy(alloc)?;
-        Ok(Heap {
-            cookie: self.cookie,
+        let stacks = self.parts.stacks.copy(alloc)?;
+        let maps = self.parts.maps.copy(alloc)?;
+        let parts = HeapParts {
+            cookie: self.parts.cookie,
             stacks,
             maps,
-        })
+        };
+        Ok(Heap { parts })
     }
 
     /// The address of a new chunk of `size` bytes, one where that is 0, with its tag in bits 59:56.
@@ -101,13 +103,12 @@ impl Heap {
         ensures kept { M.kept memory.old memory.new }
     {
         let align = MIN_ALIGNMENT;
-        let (stacks, maps) = (&mut self.stacks, &mut self.maps);
         let request = Request {
             origin: Origin::Malloc,
             align,
             size,
         };
-        let chunk = allocate(self.cookie, stacks, maps, rgsr, memory, request);
+        let chunk = allocate(&mut self.parts, rgsr, memory, request);
         address_or_null(&chunk)
     }
 
@@ -162,13 +163,12 @@ impl Heap {
             return 0;
         }
         let align = alignment.max(MIN_ALIGNMENT);
-        let (stacks, maps) = (&mut self.stacks, &mut self.maps);
         let request = Request {
             origin: Origin::Memalign,
             align,
             size,
         };
-        let chunk = allocate(self.cookie, stacks, maps, rgsr, memory, request);
+        let chunk = allocate(&mut self.parts, rgsr, memory, request);
         address_or_null(&chunk)
     }
 
@@ -193,18 +193,10 @@ impl Heap {
         if pointer == 0 {
             return Ok(());
         }
-        let cookie = self.cookie;
-        match find_chunk(cookie, &self.stacks, &self.maps, memory, plain(pointer)) {
+        match find_chunk(&self.parts, memory, plain(pointer)) {
             Err(abort) => Err(abort),
             Ok(found) => {
-                free_found(
-                    cookie,
-                    &mut self.stacks,
-                    &mut self.maps,
-                    rgsr,
-                    memory,
-                    found,
-                );
+                free_found(&mut self.parts, rgsr, memory, found);
                 Ok(())
             }
         }
@@ -236,19 +228,10 @@ impl Heap {
         if pointer == 0 {
             return Ok(self.malloc(rgsr, memory, size));
         }
-        let cookie = self.cookie;
-        match find_chunk(cookie, &self.stacks, &self.maps, memory, plain(pointer)) {
+        match find_chunk(&self.parts, memory, plain(pointer)) {
             Err(abort) => Err(abort),
             Ok(found) => {
-                let chunk = reallocate(
-                    cookie,
-                    &mut self.stacks,
-                    &mut self.maps,
-                    rgsr,
-                    memory,
-                    found,
-                    size,
-                );
+                let chunk = reallocate(&mut self.parts, rgsr, memory, found, size);
                 Ok(address_or_null(&chunk))
             }
         }
@@ -294,8 +277,8 @@ impl Heap {
     pub fn recall(&self)
         ensures { IsSound self.now }
     {
-        self.stacks.recall();
-        self.maps.recall();
+        self.parts.stacks.recall();
+        self.parts.maps.recall();
     }
 
     /// How many bytes of a chunk its user may use: 0 for the null pointer.
@@ -307,13 +290,7 @@ impl Heap {
         if pointer == 0 {
             return Ok(0);
         }
-        match find_chunk(
-            self.cookie,
-            &self.stacks,
-            &self.maps,
-            memory,
-            plain(pointer),
-        ) {
+        match find_chunk(&self.parts, memory, plain(pointer)) {
             Err(abort) => Err(abort),
             Ok(found) => Ok(found.size()),
         }

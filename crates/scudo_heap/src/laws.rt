@@ -5,7 +5,7 @@ ghost use Rattle.address_map.specs.declared.limits.TheConstants.{PAGE_SIZE, MAX_
 ghost use Rattle.address_map.specs.declared.ranges.TheConstants.{SECONDARY_END};
 ghost use Rattle.scudo_header.specs.Regions.{region_of};
 ghost use Rattle.scudo_secondary.specs.Mappings.{pages_of};
-ghost use Rattle.mte_tags.specs.Memory.{Memory, attrs_at, pages_left, with_granules};
+ghost use Rattle.mte_tags.specs.Memory.{Memory, attrs_at, pages_left, with_granules, data_attrs};
 ghost use Rattle.mte_tags.specs.Accesses.{after_read, after_write};
 ghost use Rattle.mte_tags.specs.declared.generator.Rgsr.{Rgsr};
 ghost use Rattle.scudo_heap.specs.declared.call.HeapCall.{HeapCall};
@@ -75,7 +75,7 @@ pub fn calls_keep_other_pages()
         → HeapOwnsItsPages m h
         → region_of 1 / PAGE_SIZE ≤ page
         → page < SECONDARY_END / PAGE_SIZE
-        → (attrs_at m page ≡ None) ⊎ (attrs_at m page ≡ Some 11) }
+        → (attrs_at m page ≡ None) ⊎ (attrs_at m page ≡ Some data_attrs.0) }
     ensures malloc { (w : World) (size : ℕ)
         → HeapOwnsItsPages w.memory w.heap
         → IsSound w.heap

@@ -14,6 +14,7 @@ mod granules;
 mod heap;
 mod laws;
 mod pages;
+mod parts;
 mod placing;
 mod request;
 mod resizing;

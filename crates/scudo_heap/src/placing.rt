@@ -8,7 +8,7 @@ ghost use Rattle.scudo_heap.specs.Chunks.{end_of, block_end, excluded_tags, with
 ghost use Rattle.scudo_heap.specs.Chunks.{with_end_tag_0, with_header_tag_0};
 ghost use Rattle.scudo_heap.specs.Chunks.{with_header};
 ghost use Rattle.scudo_heap.specs.Placing.{new_header};
-ghost use Rattle.scudo_heap.specs.Inner.{IsOpen};
+ghost use Rattle.scudo_heap.specs.Inner.{FitsIn, IsOpen};
 
 use crate::chunk::Place;
 use crate::granules::{put_header, set_tags};
@@ -60,11 +60,9 @@ fn open<M: Paged>(memory: &mut M, place: Place)
 fn tag_by_three_runs<M: Paged>(memory: &mut M, place: Place, tag: u8)
     requires class { IsClass place.class }
     requires tag { tag < 16 }
-    requires aligned { place.user % 16 ≡ 0 }
-    requires whole { block_end place % 16 ≡ 0 }
+    requires fits { FitsIn place }
     requires above { place.block + 16 ≤ place.user }
     requires small { place.size < 2 ^ 20 }
-    requires within { end_of place ≤ block_end place }
     requires open { IsOpen (M.memory memory.old) place.block (block_end place) }
     ensures memory { M.memory memory.new
         ≡ with_end_tag_0 (with_header_tag_0
@@ -84,11 +82,9 @@ fn tag_by_three_runs<M: Paged>(memory: &mut M, place: Place, tag: u8)
 fn write_around<M: Paged>(memory: &mut M, cookie: u32, place: Place, tag: u8, header: &Header)
     requires class { IsClass place.class }
     requires tag { tag < 16 }
-    requires aligned { place.user % 16 ≡ 0 }
-    requires whole { block_end place % 16 ≡ 0 }
+    requires fits { FitsIn place }
     requires above { place.block + 16 ≤ place.user }
     requires small { place.size < 2 ^ 20 }
-    requires within { end_of place ≤ block_end place }
     requires fields { header.now.size_or_unused_bytes < 2 ^ 20 }
     requires open { IsOpen (M.memory memory.old) place.block (block_end place) }
     ensures memory { M.memory memory.new
@@ -124,13 +120,11 @@ pub(crate) fn make_chunk<M: Paged>(
 ) -> u8
     requires class { IsClass place.class }
     requires drawn { rgsr.old.tag < 16 }
-    requires aligned { place.user % 16 ≡ 0 }
-    requires whole { block_end place % 16 ≡ 0 }
+    requires fits { FitsIn place }
     requires above { place.block + 16 ≤ place.user }
     requires near { place.user < place.block + 2 ^ 20 }
     requires some { 0 < place.size }
     requires small { place.size < 2 ^ 20 }
-    requires within { end_of place ≤ block_end place }
     requires open { IsOpen (M.memory memory.old) place.block (block_end place) }
     ensures tag { result
         ≡ (after_draw rgsr.old (excluded_tags (M.memory memory.old) place)).rgsr.tag }

@@ -3,7 +3,6 @@
 ghost use Rattle.std.specs.Prelude.{◌≡◌, ◌+◌, ◌-◌, ◌%◌, ◌^◌, ◌<◌, ◌≤◌, ℕ, IfSome, nat_le};
 ghost use Rattle.mte_tags.specs.Memory.{attrs_at, tag_at};
 ghost use Rattle.scudo_header.specs.Classes.{IsClass};
-ghost use Rattle.scudo_heap.specs.Heaps.{heap_of};
 ghost use Rattle.scudo_heap.specs.Chunks.{block_end, end_of, with_size, after_retag_tail};
 ghost use Rattle.scudo_heap.specs.Chunks.{with_header};
 ghost use Rattle.scudo_heap.specs.Placing.{world_of};
@@ -11,19 +10,20 @@ ghost use Rattle.scudo_heap.specs.Allocation.{allocation_of};
 ghost use Rattle.scudo_heap.specs.Realloc.{after_move, realloc_cases};
 ghost use Rattle.scudo_heap.specs.Sound.{IsSoundWorld};
 ghost use Rattle.scudo_heap.specs.Inner.{IsPlaced, IsFound, IsLow, HasEnd, IsOpen};
+ghost use Rattle.scudo_heap.specs.Inner.Parts.{heap_in};
 
 use crate::allocation::allocate;
 use crate::chunk::{Chunk, Found, Place};
 use crate::copying::copy_bytes;
 use crate::freeing::free_found;
 use crate::granules::{put_header, set_tags, tag_there};
+use crate::parts::HeapParts;
 use crate::placing::close;
 use crate::request::Request;
 use crate::stacks::Stacks;
 use crate::tagging::granules;
 use mte_tags::{Paged, Rgsr, Tagged};
 use scudo_header::{Header, MAX_REQUEST, MIN_ALIGNMENT, Origin, size_of_class};
-use scudo_secondary::Secondary;
 
 /// Whether a chunk's block holds another size of it.
 fn fits(place: Place, size: u64) -> bool
@@ -98,9 +98,7 @@ fn resize<M: Paged>(
 /// Makes a new chunk of another size, copies the bytes there, and frees the old one; nothing
 /// changes where no chunk is made.
 fn move_chunk<M: Paged>(
-    cookie: u32,
-    stacks: &mut Stacks,
-    maps: &mut Secondary,
+    parts: &mut HeapParts,
     rgsr: &mut Rgsr,
     memory: &mut M,
     found: Found,
@@ -110,12 +108,12 @@ fn move_chunk<M: Paged>(
     requires some { 0 < size }
     requires most { size ≤ MAX_REQUEST }
     requires sound { IsSoundWorld
-        (world_of (M.memory memory.old) (heap_of cookie stacks.old maps.old) rgsr.old) }
-    requires found { IsFound (heap_of cookie stacks.old maps.old) found }
+        (world_of (M.memory memory.old) (heap_in parts.old) rgsr.old) }
+    requires found { IsFound (heap_in parts.old) found }
     requires end { HasEnd found }
     ensures made { allocation_of
-        (world_of (M.memory memory.new) (heap_of cookie stacks.new maps.new) rgsr.new) result
-        ≡ after_move (world_of (M.memory memory.old) (heap_of cookie stacks.old maps.old) rgsr.old)
+        (world_of (M.memory memory.new) (heap_in parts.new) rgsr.new) result
+        ≡ after_move (world_of (M.memory memory.old) (heap_in parts.old) rgsr.old)
         found size }
     ensures low_chunk { IfSome result IsLow }
     ensures tag { rgsr.new.tag < 16 }
@@ -126,21 +124,19 @@ fn move_chunk<M: Paged>(
         align: MIN_ALIGNMENT,
         size,
     };
-    let Some(chunk) = allocate(cookie, stacks, maps, rgsr, memory, request) else {
+    let Some(chunk) = allocate(parts, rgsr, memory, request) else {
         return None;
     };
     let count = found.size().min(size);
     copy_bytes(memory, found.user(), chunk.user(), count);
-    free_found(cookie, stacks, maps, rgsr, memory, found);
+    free_found(parts, rgsr, memory, found);
     Some(chunk)
 }
 
 /// Gives a chunk that the checks found another size, or frees it where that is 0. A size over
 /// `MAX_REQUEST` changes nothing.
 pub(crate) fn reallocate<M: Paged>(
-    cookie: u32,
-    stacks: &mut Stacks,
-    maps: &mut Secondary,
+    parts: &mut HeapParts,
     rgsr: &mut Rgsr,
     memory: &mut M,
     found: Found,
@@ -148,20 +144,20 @@ pub(crate) fn reallocate<M: Paged>(
 ) -> Option<Chunk>
     requires drawn { rgsr.old.tag < 16 }
     requires sound { IsSoundWorld
-        (world_of (M.memory memory.old) (heap_of cookie stacks.old maps.old) rgsr.old) }
-    requires found { IsFound (heap_of cookie stacks.old maps.old) found }
+        (world_of (M.memory memory.old) (heap_in parts.old) rgsr.old) }
+    requires found { IsFound (heap_in parts.old) found }
     requires end { HasEnd found }
     ensures made { allocation_of
-        (world_of (M.memory memory.new) (heap_of cookie stacks.new maps.new) rgsr.new) result
+        (world_of (M.memory memory.new) (heap_in parts.new) rgsr.new) result
         ≡ realloc_cases (world_of (M.memory memory.old)
-        (heap_of cookie stacks.old maps.old) rgsr.old)
+        (heap_in parts.old) rgsr.old)
         found size }
     ensures low_chunk { IfSome result IsLow }
     ensures tag { rgsr.new.tag < 16 }
     ensures kept { M.kept memory.old memory.new }
 {
     if size == 0 {
-        free_found(cookie, stacks, maps, rgsr, memory, found);
+        free_found(parts, rgsr, memory, found);
         return None;
     }
     if size > MAX_REQUEST {
@@ -169,9 +165,9 @@ pub(crate) fn reallocate<M: Paged>(
     }
     match found {
         Found::InBlock(place, header) if fits(place, size) => {
-            let tag = resize(cookie, stacks, memory, place, &header, size);
+            let tag = resize(parts.cookie, &parts.stacks, memory, place, &header, size);
             Some(Chunk::Small(Place { size, ..place }, tag))
         }
-        _ => move_chunk(cookie, stacks, maps, rgsr, memory, found, size),
+        _ => move_chunk(parts, rgsr, memory, found, size),
     }
 }

@@ -16,29 +16,29 @@ returns-in_default-clause-answer g c = check-pointer-unmapped _ _ _ c.if-user-ne
 pub returns-in_default-unpack-clause-answer : goal.returns-in_default-unpack-clause-answer
 unfolding header_at
 returns-in_default-unpack-clause-answer g c =
-    check-pointer-header (g.M.Tagged.memory c.args.memory.now) (heap_of c.args.cookie c.args.stacks.now c.args.maps.now) c.args.user None c.if-user-ne0.false (sym c.in-Some.ensures.some)
-    (sym c.in_default-unpack.is ∙ c.unpack.ensures.header ∙ ap (unpacked_header c.args.cookie c.args.user) c.in-Some.ensures.word)
+    check-pointer-header (g.M.Tagged.memory c.args.memory.now) (heap_of c.args.parts.now.cookie c.args.parts.now.stacks c.args.parts.now.maps) c.args.user None c.if-user-ne0.false (sym c.in-Some.ensures.some)
+    (sym c.in_default-unpack.is ∙ c.unpack.ensures.header ∙ ap (unpacked_header c.args.parts.now.cookie c.args.user) c.in-Some.ensures.word)
 
 pub returns-then-not-is_handed_out-clause-answer : goal.returns-then-not-is_handed_out-clause-answer
 unfolding header_at
 returns-then-not-is_handed_out-clause-answer g c =
     let m = g.M.Tagged.memory c.args.memory.now in
-    let h = heap_of c.args.cookie c.args.stacks.now c.args.maps.now in
+    let h = heap_of c.args.parts.now.cookie c.args.parts.now.stacks c.args.parts.now.maps in
     check-pointer-state h c.args.user c.in-Some-unpack.header (sym c.is_handed_out.ensures ∙ c.if-not-is_handed_out.true)
     ∙ check-pointer-header m h c.args.user (Some c.in-Some-unpack.header) c.if-user-ne0.false (sym c.in-Some.ensures.some)
-    (sym c.in-Some-unpack.is ∙ c.unpack.ensures.header ∙ ap (unpacked_header c.args.cookie c.args.user) c.in-Some.ensures.word)
+    (sym c.in-Some-unpack.is ∙ c.unpack.ensures.header ∙ ap (unpacked_header c.args.parts.now.cookie c.args.user) c.in-Some.ensures.word)
 
 pub returns-clause-answer : goal.returns-clause-answer
 unfolding header_at
 returns-clause-answer g c =
     let m = g.M.Tagged.memory c.args.memory.now in
-    let h = heap_of c.args.cookie c.args.stacks.now c.args.maps.now in
+    let h = heap_of c.args.parts.now.cookie c.args.parts.now.stacks c.args.parts.now.maps in
     c.by_header.ensures.found
     ∙ check-pointer-chunk h c.args.user c.in-Some-unpack.header (sym c.is_handed_out.ensures ∙ c.if-not-is_handed_out.false)
     ∙ check-pointer-header m h c.args.user (Some c.in-Some-unpack.header) c.if-user-ne0.false (sym c.in-Some.ensures.some)
-    (sym c.in-Some-unpack.is ∙ c.unpack.ensures.header ∙ ap (unpacked_header c.args.cookie c.args.user) c.in-Some.ensures.word)
+    (sym c.in-Some-unpack.is ∙ c.unpack.ensures.header ∙ ap (unpacked_header c.args.parts.now.cookie c.args.user) c.in-Some.ensures.word)
 
 pub by_header-requires-clause-size : goal.by_header-requires-clause-size
 by_header-requires-clause-size g c =
     subst (λ (o : Option Header). IfSome o (λ h. h.size_or_unused_bytes < 2 ^ 20)) (sym c.unpack.ensures.header ∙ c.in-Some-unpack.is)
-    (tags-of-bytes-small c.args.cookie c.args.user c.in-Some.word)
+    (tags-of-bytes-small c.args.parts.now.cookie c.args.user c.in-Some.word)

@@ -1,4 +1,4 @@
-use Rattle.std.proofs.Common.{◌≡◌, Result, Ok, Err, ◌+◌, ◌*◌, ◌/◌, ◌∙◌, sym, ap, subst, arith}
+use Rattle.std.proofs.Common.{◌≡◌, Result, Ok, Err, ◌+◌, ◌/◌, ◌∙◌, sym, ap, subst, arith}
 use Rattle.std.specs.Result.{IsOk, OnOk}
 use Rattle.mte_tags.specs.declared.tagged.NoPagesLeft.{NoPagesLeft}
 use Rattle.mte_tags.specs.Memory.{page_at, pages_left, with_new_pages}

@@ -6,28 +6,20 @@ use Rattle.scudo_heap.specs.Stacks.{stack_of}
 use Rattle.scudo_heap.specs.Heaps.{heap_of}
 use Rattle.scudo_heap.specs.Placing.{world_of, after_place}
 use Rattle.scudo_heap.specs.Allocation.{allocation_of}
-use Rattle.scudo_heap.specs.Inner.{IsOpen}
+use Rattle.scudo_heap.specs.Inner.{FitsIn, IsOpen}
 use Rattle.scudo_heap.proofs.ServedLemmas.{block-open-in}
-use Rattle.scudo_heap.proofs.ClassLemmas.{allocation_at, FitsIn, fits-in, none-top, after-take-some}
+use Rattle.scudo_heap.proofs.ClassLemmas.{allocation_at, fits-in, none-top, after-take-some}
 use Rattle.scudo_heap.proofs.classes.take_top.Goals as goal
 
-pub make_chunk-tag-requires-clause-aligned : goal.make_chunk-tag-requires-clause-aligned
-make_chunk-tag-requires-clause-aligned g c = (subst FitsIn (sym c.place-place.ensures)
-    (fits-in c.args.class _ c.in-Some.block c.args.request.align c.args.request.size c.requires.class c.in-Some.ensures.block c.requires.align c.requires.fits)).aligned
-
-pub make_chunk-tag-requires-clause-whole : goal.make_chunk-tag-requires-clause-whole
-make_chunk-tag-requires-clause-whole g c = (subst FitsIn (sym c.place-place.ensures)
-    (fits-in c.args.class _ c.in-Some.block c.args.request.align c.args.request.size c.requires.class c.in-Some.ensures.block c.requires.align c.requires.fits)).whole
-
-pub make_chunk-tag-requires-clause-within : goal.make_chunk-tag-requires-clause-within
-make_chunk-tag-requires-clause-within g c = (subst FitsIn (sym c.place-place.ensures)
-    (fits-in c.args.class _ c.in-Some.block c.args.request.align c.args.request.size c.requires.class c.in-Some.ensures.block c.requires.align c.requires.fits)).within
+pub make_chunk-tag-requires-clause-fits : goal.make_chunk-tag-requires-clause-fits
+make_chunk-tag-requires-clause-fits g c = subst FitsIn (sym c.place-place.ensures)
+    (fits-in c.args.class _ c.in-Some.block c.args.request.align c.args.request.size c.requires.request.class c.in-Some.ensures.block c.requires.request.align c.requires.request.fits)
 
 pub make_chunk-tag-requires-clause-open : goal.make_chunk-tag-requires-clause-open
 make_chunk-tag-requires-clause-open g c =
     let m = g.M.Tagged.memory c.args.memory.now in
     subst (λ (p : Place). IsOpen m p.block (p.block + size_of p.class)) (sym c.place-place.ensures)
-    (block-open-in m c.args.stacks.now c.args.class c.in-Some.block c.requires.regions c.requires.class c.in-Some.ensures.block)
+    (block-open-in m c.args.stacks.now c.args.class c.in-Some.block c.requires.regions c.requires.request.class c.in-Some.ensures.block)
 
 pub returns-in-None-clause-empty : goal.returns-in-None-clause-empty
 returns-in-None-clause-empty g c = λ _. none-top _ c.in-None.ensures.answer
@@ -47,10 +39,10 @@ returns-in-Some-clause-made g c = λ ms.
 pub returns-in-Some-clause-low_chunk : goal.returns-in-Some-clause-low_chunk
 returns-in-Some-clause-low_chunk g c =
     let f = subst FitsIn (sym c.place-place.ensures)
-    (fits-in c.args.class _ c.in-Some.block c.args.request.align c.args.request.size c.requires.class c.in-Some.ensures.block c.requires.align c.requires.fits) in
+    (fits-in c.args.class _ c.in-Some.block c.args.request.align c.args.request.size c.requires.request.class c.in-Some.ensures.block c.requires.request.align c.requires.request.fits) in
     let within = f.within in
     let m = g.M.Tagged.memory c.args.memory.now in
     let o = subst (λ (p : Place). IsOpen m p.block (p.block + size_of p.class)) (sym c.place-place.ensures)
-    (block-open-in m c.args.stacks.now c.args.class c.in-Some.block c.requires.regions c.requires.class c.in-Some.ensures.block) in
+    (block-open-in m c.args.stacks.now c.args.class c.in-Some.block c.requires.regions c.requires.request.class c.in-Some.ensures.block) in
     let below = o.below in
     (omega arith, c.make_chunk-tag.ensures.small)

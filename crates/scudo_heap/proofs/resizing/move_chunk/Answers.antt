@@ -17,16 +17,16 @@ use Rattle.scudo_heap.proofs.resizing.move_chunk.Goals as goal
 pub returns-in_default-clause-made : goal.returns-in_default-clause-made
 unfolding after_move after_malloc
 returns-in_default-clause-made g c =
-    let w = world_of (g.M.Tagged.memory c.args.memory.now) (heap_of c.args.cookie c.args.stacks.now c.args.maps.now) c.args.rgsr.now in
-    let x = world_of (g.M.Tagged.memory c.allocate.new.memory) (heap_of c.args.cookie c.allocate.new.stacks c.allocate.new.maps) c.allocate.new.rgsr in
+    let w = world_of (g.M.Tagged.memory c.args.memory.now) (heap_of c.args.parts.now.cookie c.args.parts.now.stacks c.args.parts.now.maps) c.args.rgsr.now in
+    let x = world_of (g.M.Tagged.memory c.allocate.new.memory) (heap_of c.allocate.new.parts.cookie c.allocate.new.parts.stacks c.allocate.new.parts.maps) c.allocate.new.rgsr in
     let made : allocation_of x None ≡ after_malloc w c.args.size = c.in_default.ensures.made in
     ap no_chunk (malloc-none w x c.args.size made) ∙ ap (move_cases w c.args.found c.args.size) made
 
 pub copy_bytes-requires-clause-source : goal.copy_bytes-requires-clause-source
 unfolding after_malloc
 copy_bytes-requires-clause-source g c =
-    let w = world_of (g.M.Tagged.memory c.args.memory.now) (heap_of c.args.cookie c.args.stacks.now c.args.maps.now) c.args.rgsr.now in
-    let x = world_of (g.M.Tagged.memory c.allocate.new.memory) (heap_of c.args.cookie c.allocate.new.stacks c.allocate.new.maps) c.allocate.new.rgsr in
+    let w = world_of (g.M.Tagged.memory c.args.memory.now) (heap_of c.args.parts.now.cookie c.args.parts.now.stacks c.args.parts.now.maps) c.args.rgsr.now in
+    let x = world_of (g.M.Tagged.memory c.allocate.new.memory) (heap_of c.allocate.new.parts.cookie c.allocate.new.parts.stacks c.allocate.new.parts.maps) c.allocate.new.rgsr in
     let v = sound-made w x Malloc 16 c.args.size (Some c.in-Some.chunk) c.requires.sound least-align c.in-Some.ensures.made in
     let b = malloc-beside w x c.args.size c.args.found c.in-Some.chunk c.requires.sound.parts.stacks c.requires.sound.parts.mappings v.owned c.requires.some c.requires.most c.requires.found c.in-Some.ensures.made in
     let size = c.size.ensures in
@@ -38,8 +38,8 @@ copy_bytes-requires-clause-source g c =
 pub copy_bytes-requires-clause-target : goal.copy_bytes-requires-clause-target
 unfolding after_malloc
 copy_bytes-requires-clause-target g c =
-    let w = world_of (g.M.Tagged.memory c.args.memory.now) (heap_of c.args.cookie c.args.stacks.now c.args.maps.now) c.args.rgsr.now in
-    let x = world_of (g.M.Tagged.memory c.allocate.new.memory) (heap_of c.args.cookie c.allocate.new.stacks c.allocate.new.maps) c.allocate.new.rgsr in
+    let w = world_of (g.M.Tagged.memory c.args.memory.now) (heap_of c.args.parts.now.cookie c.args.parts.now.stacks c.args.parts.now.maps) c.args.rgsr.now in
+    let x = world_of (g.M.Tagged.memory c.allocate.new.memory) (heap_of c.allocate.new.parts.cookie c.allocate.new.parts.stacks c.allocate.new.parts.maps) c.allocate.new.rgsr in
     let v = sound-made w x Malloc 16 c.args.size (Some c.in-Some.chunk) c.requires.sound least-align c.in-Some.ensures.made in
     let b = malloc-beside w x c.args.size c.args.found c.in-Some.chunk c.requires.sound.parts.stacks c.requires.sound.parts.mappings v.owned c.requires.some c.requires.most c.requires.found c.in-Some.ensures.made in
     let least = c.min-count.ensures in
@@ -49,8 +49,8 @@ copy_bytes-requires-clause-target g c =
 pub copy_bytes-requires-clause-apart : goal.copy_bytes-requires-clause-apart
 unfolding after_malloc
 copy_bytes-requires-clause-apart g c =
-    let w = world_of (g.M.Tagged.memory c.args.memory.now) (heap_of c.args.cookie c.args.stacks.now c.args.maps.now) c.args.rgsr.now in
-    let x = world_of (g.M.Tagged.memory c.allocate.new.memory) (heap_of c.args.cookie c.allocate.new.stacks c.allocate.new.maps) c.allocate.new.rgsr in
+    let w = world_of (g.M.Tagged.memory c.args.memory.now) (heap_of c.args.parts.now.cookie c.args.parts.now.stacks c.args.parts.now.maps) c.args.rgsr.now in
+    let x = world_of (g.M.Tagged.memory c.allocate.new.memory) (heap_of c.allocate.new.parts.cookie c.allocate.new.parts.stacks c.allocate.new.parts.maps) c.allocate.new.rgsr in
     let v = sound-made w x Malloc 16 c.args.size (Some c.in-Some.chunk) c.requires.sound least-align c.in-Some.ensures.made in
     let b = malloc-beside w x c.args.size c.args.found c.in-Some.chunk c.requires.sound.parts.stacks c.requires.sound.parts.mappings v.owned c.requires.some c.requires.most c.requires.found c.in-Some.ensures.made in
     let size = c.size.ensures in
@@ -63,15 +63,15 @@ copy_bytes-requires-clause-apart g c =
 pub free_found-requires-clause-found : goal.free_found-requires-clause-found
 unfolding after_malloc
 free_found-requires-clause-found g c =
-    let w = world_of (g.M.Tagged.memory c.args.memory.now) (heap_of c.args.cookie c.args.stacks.now c.args.maps.now) c.args.rgsr.now in
-    let x = world_of (g.M.Tagged.memory c.allocate.new.memory) (heap_of c.args.cookie c.allocate.new.stacks c.allocate.new.maps) c.allocate.new.rgsr in
+    let w = world_of (g.M.Tagged.memory c.args.memory.now) (heap_of c.args.parts.now.cookie c.args.parts.now.stacks c.args.parts.now.maps) c.args.rgsr.now in
+    let x = world_of (g.M.Tagged.memory c.allocate.new.memory) (heap_of c.allocate.new.parts.cookie c.allocate.new.parts.stacks c.allocate.new.parts.maps) c.allocate.new.rgsr in
     let v = sound-made w x Malloc 16 c.args.size (Some c.in-Some.chunk) c.requires.sound least-align c.in-Some.ensures.made in
     (malloc-beside w x c.args.size c.args.found c.in-Some.chunk c.requires.sound.parts.stacks c.requires.sound.parts.mappings v.owned c.requires.some c.requires.most c.requires.found c.in-Some.ensures.made).found
 
 pub free_found-requires-clause-served : goal.free_found-requires-clause-served
 free_found-requires-clause-served g c =
-    let w = world_of (g.M.Tagged.memory c.args.memory.now) (heap_of c.args.cookie c.args.stacks.now c.args.maps.now) c.args.rgsr.now in
-    let x = world_of (g.M.Tagged.memory c.allocate.new.memory) (heap_of c.args.cookie c.allocate.new.stacks c.allocate.new.maps) c.allocate.new.rgsr in
+    let w = world_of (g.M.Tagged.memory c.args.memory.now) (heap_of c.args.parts.now.cookie c.args.parts.now.stacks c.args.parts.now.maps) c.args.rgsr.now in
+    let x = world_of (g.M.Tagged.memory c.allocate.new.memory) (heap_of c.allocate.new.parts.cookie c.allocate.new.parts.stacks c.allocate.new.parts.maps) c.allocate.new.rgsr in
     let v = sound-made w x Malloc 16 c.args.size (Some c.in-Some.chunk) c.requires.sound least-align c.in-Some.ensures.made in
     let e = copied-rest x.memory c.user.result c.user-2.result c.min-count.result in
     subst (λ t. HeapOwnsItsPages t x.heap) (sym c.copy_bytes.ensures.memory) (served-same x.memory _ x.heap v.owned e.attrs e.left)
@@ -79,9 +79,9 @@ free_found-requires-clause-served g c =
 pub returns-clause-made : goal.returns-clause-made
 unfolding after_move after_malloc
 returns-clause-made g c =
-    let w = world_of (g.M.Tagged.memory c.args.memory.now) (heap_of c.args.cookie c.args.stacks.now c.args.maps.now) c.args.rgsr.now in
+    let w = world_of (g.M.Tagged.memory c.args.memory.now) (heap_of c.args.parts.now.cookie c.args.parts.now.stacks c.args.parts.now.maps) c.args.rgsr.now in
     let m = g.M.Tagged.memory c.allocate.new.memory in
-    let h = heap_of c.args.cookie c.allocate.new.stacks c.allocate.new.maps in
+    let h = heap_of c.allocate.new.parts.cookie c.allocate.new.parts.stacks c.allocate.new.parts.maps in
     let x = world_of m h c.allocate.new.rgsr in
     let f = c.args.found in
     let ch = c.in-Some.chunk in

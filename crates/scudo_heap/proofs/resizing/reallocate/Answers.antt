@@ -13,33 +13,33 @@ use Rattle.scudo_heap.proofs.resizing.reallocate.Goals as goal
 
 pub returns-then-size-eq0-clause-made : goal.returns-then-size-eq0-clause-made
 returns-then-size-eq0-clause-made g c =
-    let w = world_of (g.M.Tagged.memory c.args.memory.now) (heap_of c.args.cookie c.args.stacks.now c.args.maps.now) c.args.rgsr.now in
+    let w = world_of (g.M.Tagged.memory c.args.memory.now) (heap_of c.args.parts.now.cookie c.args.parts.now.stacks c.args.parts.now.maps) c.args.rgsr.now in
     ap (λ t. allocation_of t None) c.free_found.ensures.world ∙ realloc-cases-none w c.args.found c.args.size c.if-size-eq0.true
 
 pub returns-then-size-gt-MAX_REQUEST-clause-made :
     goal.returns-then-size-gt-MAX_REQUEST-clause-made
 returns-then-size-gt-MAX_REQUEST-clause-made g c =
-    realloc-cases-over (world_of (g.M.Tagged.memory c.args.memory.now) (heap_of c.args.cookie c.args.stacks.now c.args.maps.now) c.args.rgsr.now) c.args.found c.args.size c.if-size-eq0.false c.if-size-gt-MAX_REQUEST.true
+    realloc-cases-over (world_of (g.M.Tagged.memory c.args.memory.now) (heap_of c.args.parts.now.cookie c.args.parts.now.stacks c.args.parts.now.maps) c.args.rgsr.now) c.args.found c.args.size c.if-size-eq0.false c.if-size-gt-MAX_REQUEST.true
 
 pub resize-tag-requires-clause-small : goal.resize-tag-requires-clause-small
 resize-tag-requires-clause-small g c =
-    let h = heap_of c.args.cookie c.args.stacks.now c.args.maps.now in
+    let h = heap_of c.args.parts.now.cookie c.args.parts.now.stacks c.args.parts.now.maps in
     let p = c.in-InBlock.place in
-    let there : IsFoundBlock c.args.stacks.now p c.in-InBlock.header = subst (IsFound h) c.in-InBlock.is c.requires.found in
-    small-in_place c.args.stacks.now p c.args.size there.place (holds-of p c.args.size (sym c.fits.ensures ∙ c.if-fits.true))
+    let there : IsFoundBlock c.args.parts.now.stacks p c.in-InBlock.header = subst (IsFound h) c.in-InBlock.is c.requires.found in
+    small-in_place c.args.parts.now.stacks p c.args.size there.place (holds-of p c.args.size (sym c.fits.ensures ∙ c.if-fits.true))
 
 pub resize-tag-requires-clause-open : goal.resize-tag-requires-clause-open
 resize-tag-requires-clause-open g c =
-    let h = heap_of c.args.cookie c.args.stacks.now c.args.maps.now in
+    let h = heap_of c.args.parts.now.cookie c.args.parts.now.stacks c.args.parts.now.maps in
     let p = c.in-InBlock.place in
-    let there : IsFoundBlock c.args.stacks.now p c.in-InBlock.header = subst (IsFound h) c.in-InBlock.is c.requires.found in
+    let there : IsFoundBlock c.args.parts.now.stacks p c.in-InBlock.header = subst (IsFound h) c.in-InBlock.is c.requires.found in
     let q = there.place in
     block-open (g.M.Tagged.memory c.args.memory.now) h p.class p.block c.requires.sound.owned (record { low = q.low; high = q.high }) q.carved
 
 pub returns-in-InBlock-clause-made : goal.returns-in-InBlock-clause-made
 unfolding after_resize
 returns-in-InBlock-clause-made g c =
-    let h = heap_of c.args.cookie c.args.stacks.now c.args.maps.now in
+    let h = heap_of c.args.parts.now.cookie c.args.parts.now.stacks c.args.parts.now.maps in
     let w = world_of (g.M.Tagged.memory c.args.memory.now) h c.args.rgsr.now in
     let p = c.in-InBlock.place in
     let n = c.args.size in
@@ -52,7 +52,7 @@ returns-in-InBlock-clause-made g c =
 
 pub returns-in_default-clause-made : goal.returns-in_default-clause-made
 returns-in_default-clause-made g c =
-    let w = world_of (g.M.Tagged.memory c.args.memory.now) (heap_of c.args.cookie c.args.stacks.now c.args.maps.now) c.args.rgsr.now in
+    let w = world_of (g.M.Tagged.memory c.args.memory.now) (heap_of c.args.parts.now.cookie c.args.parts.now.stacks c.args.parts.now.maps) c.args.rgsr.now in
     let n = c.args.size in
     let not_here : after_move w c.in_default.found n ≡ with_new_size w c.args.found n = elim c.in_default.branch [
       | in_default-via-in-InBlock+else-fits b ↦ ap (λ f. after_move w f n) b.found-is

@@ -41,7 +41,7 @@ returns-in-Ok-clause-world g c =
     let m = g.M.Tagged.memory c.args.memory.now in
     let e = c.in-Ok.ensures.answer ∙ ap (λ h. check_pointer m h c.plain.result) c.self.view_is ∙ ap (check_pointer m c.args.self.now) c.plain.ensures in
     c.free_found.ensures.world
-    ∙ ap (λ t. without_chunk (world_of t (heap_of c.self.inside.cookie c.self.inside.stacks c.self.inside.maps) c.args.rgsr.now) c.in-Ok.found) c.find_chunk.ensures.memory
+    ∙ ap (λ t. without_chunk (world_of t (heap_of c.self.inside.parts.cookie c.self.inside.parts.stacks c.self.inside.parts.maps) c.args.rgsr.now) c.in-Ok.found) c.find_chunk.ensures.memory
     ∙ ap (λ h. without_chunk (world_of m h c.args.rgsr.now) c.in-Ok.found) c.self.view_is
     ∙ ap (λ (f : Freed). f.world) (free-by (world_of m c.args.self.now c.args.rgsr.now) c.args.pointer (Ok c.in-Ok.found) c.if-pointer-eq0.false e)
 

@@ -38,7 +38,7 @@ returns-in-Err-clause-world g c =
 pub returns-in-Ok-clause-answer : goal.returns-in-Ok-clause-answer
 returns-in-Ok-clause-answer g c =
     let m = g.M.Tagged.memory c.args.memory.now in
-    let h = heap_of c.self.inside.cookie c.self.inside.stacks c.self.inside.maps in
+    let h = heap_of c.self.inside.parts.cookie c.self.inside.parts.stacks c.self.inside.parts.maps in
     let f = c.in-Ok.found in
     let n = c.args.size in
     let e = c.in-Ok.ensures.answer ∙ ap (λ h. check_pointer m h c.plain.result) c.self.view_is ∙ ap (check_pointer m c.args.self.now) c.plain.ensures in
@@ -49,7 +49,7 @@ returns-in-Ok-clause-answer g c =
 pub returns-in-Ok-clause-world : goal.returns-in-Ok-clause-world
 returns-in-Ok-clause-world g c =
     let m = g.M.Tagged.memory c.args.memory.now in
-    let h = heap_of c.self.inside.cookie c.self.inside.stacks c.self.inside.maps in
+    let h = heap_of c.self.inside.parts.cookie c.self.inside.parts.stacks c.self.inside.parts.maps in
     let f = c.in-Ok.found in
     let n = c.args.size in
     let e = c.in-Ok.ensures.answer ∙ ap (λ h. check_pointer m h c.plain.result) c.self.view_is ∙ ap (check_pointer m c.args.self.now) c.plain.ensures in
