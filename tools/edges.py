@@ -14,26 +14,7 @@ import sys
 
 ROOT = pathlib.Path(__file__).resolve().parent.parent
 # Edges that no file names, by why they are there.
-KNOWN: dict[tuple[str, str], str] = {
-    ("mte_svc", "a64_bits"): "no proof without it was tried",
-    ("mte_sched", "tenant_terms"): "no proof without it was tried",
-    ("tag_discipline", "tenant_terms"): "no proof without it was tried",
-    ("heap_laws", "tenant_terms"): "no proof without it was tried",
-    ("heap_laws", "a64_step"): "no proof without it was tried",
-    ("heap_laws", "mte_elf"): "no proof without it was tried",
-    ("heap_laws", "mte_svc"): "no proof without it was tried",
-    ("tombolopan", "address_map"): "no proof without it was tried",
-    ("tombolopan", "tenant_terms"): "no proof without it was tried",
-    ("tombolopan_c", "tenant_terms"): "no proof without it was tried",
-    ("tombolopan_c", "mte_sched"): "no proof without it was tried",
-    ("debuggee", "tenant_terms"): "no proof without it was tried",
-    ("gdb_front", "mte_tags"): "no proof without it was tried",
-    ("gdb_front", "mte_tenant"): "no proof without it was tried",
-    ("gdb_front", "mte_svc"): "no proof without it was tried",
-    ("tenant_run", "tenant_terms"): "no proof without it was tried",
-    ("mte_run", "tenant_terms"): "no proof without it was tried",
-    ("session_tests", "tenant_terms"): "no proof without it was tried",
-}
+KNOWN: dict[tuple[str, str], str] = {}
 
 
 def read_crates(text: str) -> dict[str, list[str]]:

@@ -107,11 +107,7 @@ fn write<M: Tagged>(memory: &mut M, at: u64, value: u64, check: bool) -> Result<
 }
 
 /// A call with one look-up of a page.
-<<<<<<< HEAD
-fn chunk<M: Tagged>(memory: &mut M, call: MapCall) -> Value
-=======
-fn chunk<M: ChunkAccess>(memory: &mut M, call: Call) -> Answer
->>>>>>> w_heap/main
+fn chunk<M: ChunkAccess>(memory: &mut M, call: MapCall) -> Value
     ensures { M.kept memory.old memory.new }
 {
     match call {
