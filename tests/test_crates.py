@@ -75,3 +75,13 @@ def test_written_files_are_marked() -> None:
     assert len(written) >= 20
     told = succeed(["git", "check-attr", "linguist-generated", "--", *written], cwd=ROOT).output
     assert [line for line in told.splitlines() if not line.endswith(": set")] == []
+
+
+def test_images_of_one_name() -> None:
+    """Images of one name are the same file: a program of the gate is given its own folder alone, in
+    which no link leads out, so an image is there once for each program that reads it."""
+    images: dict[str, set[bytes]] = {}
+    for name in tracked_files():
+        if name.endswith(".elf") and not name.startswith("tests/"):
+            images.setdefault(name.split("/")[-1], set()).add((ROOT / name).read_bytes())
+    assert len(images) >= 2 and {name for name, it in images.items() if len(it) > 1} == set()
