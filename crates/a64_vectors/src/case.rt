@@ -1,4 +1,4 @@
-//! A case: what stands before a step, and what stands after it.
+//! A case: what is before a step, and what is after it.
 
 use crate::line::{Granule, VectorEnding, VectorLine};
 use a64_bits::Flags;

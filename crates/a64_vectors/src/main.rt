@@ -6,14 +6,14 @@
 //! the first page (its address divided by 4096), how many (decimal), and R, W, X, T for read,
 //! write, execute, tagged. Then the cases:
 //!
-//! - `case ID NAME`, ID decimal, begins one. What stands before the step follows: `word W` at the
+//! - `case ID NAME`, ID decimal, begins one. What is before the step follows: `word W` at the
 //!   program counter; `x N V`, N decimal (a register that isn't named holds 0xd00dNN0000beefNN,
 //!   NN its number); `sp V`; `pc V`; `nzcv V`; `rgsr TAG SEED`; `granule ADDRESS BYTES TAG`. All
 //!   other bytes and tags are 0.
 //! - `then next`, `then illegal`, `then break N` (decimal) or
 //!   `then fault KIND read|write ADDRESS PTR MEM` (KIND 1 Translation, 2 Permission, 3 TagCheck,
 //!   4 Alignment, 5 SpAlignment, 6 PcAlignment; ADDRESS plain; the address tag and the allocation
-//!   tag). What stands after the step follows; what isn't named is as before.
+//!   tag). What is after the step follows; what isn't named is as before.
 //!
 //! Each case that differs gives one line of standard output: its ID and what differs, ours first.
 //! The last line counts both. Pages without R are not compared. A malformed line is refused with

@@ -102,7 +102,7 @@ pub fn prepare<M: Paged>(memory: &mut M, map_of_all: &[CasePages], case: &Case) 
         && put_bytes(memory, case.before.pc, &case.word.to_le_bytes())
 }
 
-/// The granule at an address as it stands, where it can be read or fetched.
+/// The granule at an address as it is, where it can be read or fetched.
 pub fn granule_at<M: Tagged>(memory: &mut M, address: u64) -> Option<Granule> {
     let mut bytes = [0; 16];
     memory.read(address, &mut bytes, false).ok()?;

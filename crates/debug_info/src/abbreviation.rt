@@ -31,7 +31,7 @@ pub struct Attribute {
 }
 
 impl Attribute {
-    /// Reads an attribute and its form. Behind the last one stand two zeros, which are read too.
+    /// Reads an attribute and its form. Behind the last one are two zeros, which are read too.
     fn read(table: &mut Reader<'_>) -> Option<Attribute> {
         let name = number(table)?;
         let form = number(table)?;

@@ -1,4 +1,4 @@
-//! What compilers tell of an image's functions.
+//! What compilers write of an image's functions.
 
 use crate::abbreviations::Abbreviations;
 use crate::budget::Budget;
@@ -29,7 +29,7 @@ pub struct DebugInfo<'a> {
 
 impl<'a> DebugInfo<'a> {
     /// The entries of a file: `.debug_info`, and the sections that it refers to. A section that is
-    /// not there, does not lie in the file or is compressed is empty.
+    /// not there, is not in the file or is compressed is empty.
     pub fn of(file: &'a [u8]) -> DebugInfo<'a> {
         DebugInfo {
             sections: DebugSections::of(file),
@@ -39,7 +39,7 @@ impl<'a> DebugInfo<'a> {
 
     /// The inlined calls that some addresses are in. `.debug_info` is gone through once, and only
     /// in its units of versions 4 and 5 of the 32-bit format. A unit is read up to an entry that
-    /// can't be read, and nothing more is told once so much was read as ten large programs have.
+    /// can't be read, and nothing more is found once so much was read as ten large programs have.
     pub fn inlined_calls(
         &self,
         alloc: Global,

@@ -1,4 +1,4 @@
-//! The names of functions, which other entries than the call's may tell (DWARF 5, 3.3.8.2).
+//! The names of functions, which other entries than the call's may have (DWARF 5, 3.3.8.2).
 
 use crate::abbreviations::{Abbreviations, find};
 use crate::budget::Budget;
@@ -20,7 +20,7 @@ pub struct UnitView<'t, 'a> {
     pub table: &'t Abbreviations<'a>,
 }
 
-/// An entry, and the unit that it stands in.
+/// An entry, and the unit that it is in.
 #[derive(Clone, Copy)]
 struct PlacedEntry<'a> {
     unit: CompilationUnit<'a>,
@@ -29,7 +29,7 @@ struct PlacedEntry<'a> {
 }
 
 impl<'t, 'a> UnitView<'t, 'a> {
-    /// The name of the function that an entry tells of. One for linkers is the name where there is
+    /// The name of the function that an entry is about. One for linkers is the name where there is
     /// no other.
     pub fn name(&self, entry: &Entry<'a>, budget: &mut Budget) -> Option<&'a [u8]> {
         let mut place = PlacedEntry {
@@ -107,7 +107,7 @@ impl<'t, 'a> UnitView<'t, 'a> {
     }
 }
 
-/// The unit that an offset of `.debug_info` lies in.
+/// The unit that an offset of `.debug_info` is in.
 fn unit_around<'a>(
     sections: &DebugSections<'a>,
     offset: u64,

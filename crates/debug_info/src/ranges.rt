@@ -56,7 +56,7 @@ impl<'a> Ranges<'a> {
         self.whole.is_none() && self.list.rest.is_empty()
     }
 
-    /// The next range, if there is one. It is empty where the list only tells a base.
+    /// The next range, if there is one. It is empty where the list only gives a base.
     pub fn step(&mut self) -> Option<AddressRange> {
         if let Some(range) = self.whole {
             self.whole = None;
@@ -153,7 +153,7 @@ fn whole<'a>(scope: &Scope<'a>, entry: &Entry<'a>) -> Option<AddressRange> {
     Some(AddressRange { start, end })
 }
 
-/// The list of ranges that a value tells of.
+/// The list of ranges that a value names.
 fn list<'a>(scope: &Scope<'a>, version: u16, value: &AttributeValue<'a>) -> Option<Reader<'a>> {
     let sections = &scope.sections;
     match value {

@@ -64,7 +64,7 @@ impl<'a> Scope<'a> {
     }
 }
 
-/// Where an element of a table stands, by its number and its size.
+/// Where an element of a table is, by its number and its size.
 pub fn place(base: u64, number: u64, size: u64) -> Option<u64> {
     base.checked_add(number.checked_mul(size)?)
 }

@@ -17,7 +17,7 @@ const ENTRY: u64 = 8;
 /// An entry whose children are being read: a function or an inlined call.
 #[derive(Clone, Copy)]
 pub struct OpenEntry<'a> {
-    /// How many entries it lies in.
+    /// How many entries it is in.
     depth: u64,
     is_inlined: bool,
     entry: Entry<'a>,
@@ -214,7 +214,7 @@ impl<'a> Search<'a> {
         Some(place)
     }
 
-    /// The line of the call that an entry tells of.
+    /// The line of the call that an entry is about.
     fn line(&mut self, entry: &Entry<'a>) -> Option<FileLine<'a>> {
         let file = entry.call_file.number()?;
         let line = u32::try_from(entry.call_line.number()?).ok()?;

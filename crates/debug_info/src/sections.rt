@@ -1,9 +1,9 @@
-//! The sections with what compilers tell of an image's functions.
+//! The sections with what compilers write of an image's functions.
 
 use debug_lines::Reader;
 use elf_symbols::Sections;
 
-/// The sections of a file. One that is not there, does not lie in the file or is compressed is
+/// The sections of a file. One that is not there, is not in the file or is compressed is
 /// empty.
 #[derive(Clone, Copy)]
 pub struct DebugSections<'a> {

@@ -19,11 +19,11 @@ const ADDRESS: u8 = 8;
 /// A unit, of any version.
 #[derive(Clone, Copy)]
 pub struct UnitBytes<'a> {
-    /// Where its length stands in `.debug_info`.
+    /// Where its length is in `.debug_info`.
     pub offset: u64,
-    /// The offset of what stands behind it.
+    /// The offset of what is behind it.
     pub end: u64,
-    /// What stands behind its length.
+    /// What is behind its length.
     bytes: Reader<'a>,
 }
 
@@ -72,7 +72,7 @@ impl<'a> UnitBytes<'a> {
 /// A unit of a compilation.
 #[derive(Clone, Copy)]
 pub struct CompilationUnit<'a> {
-    /// Where its length stands in `.debug_info`.
+    /// Where its length is in `.debug_info`.
     pub offset: u64,
     /// 4 or 5.
     pub version: u16,
@@ -80,12 +80,12 @@ pub struct CompilationUnit<'a> {
     pub abbreviations: u64,
     /// Its entries, from the first byte on.
     pub entries: Reader<'a>,
-    /// What stands behind its length.
+    /// What is behind its length.
     bytes: Reader<'a>,
 }
 
 impl<'a> CompilationUnit<'a> {
-    /// The bytes from an entry on, which is told by its offset from where the unit's length stands.
+    /// The bytes from an entry on, which is given by its offset from where the unit's length is.
     pub fn entries_at(&self, offset: u64) -> Option<Reader<'a>> {
         reader_at(self.bytes.rest, offset.checked_sub(LENGTH)?)
     }

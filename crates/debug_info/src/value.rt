@@ -50,7 +50,7 @@ impl<'a> AttributeValue<'a> {
     }
 }
 
-/// Reads a value of a form that is told where the value isn't.
+/// Reads a value of a form that is given where the value isn't.
 fn direct<'a>(values: &mut Reader<'a>, form: u64) -> Option<AttributeValue<'a>> {
     match form {
         // DW_FORM_addr
@@ -92,7 +92,7 @@ fn reference<'a>(values: &mut Reader<'a>, form: u64) -> Option<AttributeValue<'a
     }
 }
 
-/// Reads a text, or where it stands.
+/// Reads a text, or where it is.
 fn text<'a>(values: &mut Reader<'a>, form: u64) -> Option<AttributeValue<'a>> {
     match form {
         // DW_FORM_string

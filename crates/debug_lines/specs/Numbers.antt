@@ -4,7 +4,7 @@ use Rattle.std.specs.Prelude.{length, take, position, slice_index, Option, optio
 use Rattle.std.specs.Prelude.{if◌then◌else◌}
 use Rattle.debug_lines.specs.Readings.{rest_cases}
 
--- where a number's last byte stands
+-- where a number's last byte is
 abbrev pub number_end : List ℕ → Option ℕ
 number_end bytes = position (λ b. nat_lt b 128) bytes
 
@@ -12,7 +12,7 @@ number_end bytes = position (λ b. nat_lt b 128) bytes
 abbrev pub number_bytes : List ℕ → Option (List ℕ)
 number_bytes bytes = option_map (λ last. take (last + 1) bytes) (number_end bytes)
 
--- what stands behind it, or all where there is none
+-- what is behind it, or all where there is none
 abbrev pub after_number : List ℕ → List ℕ
 after_number bytes = rest_cases bytes (number_end bytes)
 

@@ -11,7 +11,7 @@ number_in n bytes = if nat_le n (length bytes) then Some (little_number n bytes)
 abbrev pub left_of : ℕ → List ℕ → List ℕ
 left_of n bytes = if nat_le n (length bytes) then drop n bytes else bytes
 
--- where the first 0 stands
+-- where the first 0 is
 abbrev pub text_end : List ℕ → Option ℕ
 text_end bytes = position (λ b. b == 0) bytes
 
@@ -19,7 +19,7 @@ text_end bytes = position (λ b. b == 0) bytes
 abbrev pub text_in : List ℕ → Option (List ℕ)
 text_in bytes = option_map (λ end. take end bytes) (text_end bytes)
 
--- what stands behind it, or all where there is none
+-- what is behind it, or all where there is none
 abbrev pub rest_cases : List ℕ → Option ℕ → List ℕ
 rest_cases bytes None = bytes
 rest_cases bytes (Some last) = drop (last + 1) bytes

@@ -1,4 +1,4 @@
--- Texts that may be told.
+-- Texts that may be printed.
 use Rattle.std.specs.Prelude.{ℕ, Bool, List}
 use Rattle.std.specs.List.{list_any}
 use Rattle.std.specs.Str.{chars}

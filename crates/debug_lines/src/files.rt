@@ -1,4 +1,4 @@
-//! The files of a unit by their numbers, for what other sections tell by them (DWARF 5, 2.14).
+//! The files of a unit by their numbers, for what other sections name by them (DWARF 5, 2.14).
 
 use crate::form::Strings;
 use crate::lines::DebugLines;

@@ -1,4 +1,4 @@
-//! The directories and files of version 5 (DWARF 5, 6.2.4), whose layout the table tells itself.
+//! The directories and files of version 5 (DWARF 5, 6.2.4), whose layout the table itself gives.
 
 ghost use Rattle.std.specs.Prelude.{◌≡◌, ◌<◌, length, IfSome};
 ghost use Rattle.std.specs.Iterator.{at_most};
@@ -26,7 +26,7 @@ pub struct Entries<'a> {
     values: u8,
     /// How many entries are left.
     count: u64,
-    /// The entries, and what stands behind them.
+    /// The entries, and what is behind them.
     table: Reader<'a>,
     ghost takes_bytes: { 0 < count → 0 < values },
 }
@@ -58,7 +58,7 @@ impl<'a> Entries<'a> {
         })
     }
 
-    /// The entries that stand behind these.
+    /// The entries that are behind these.
     pub fn next_list(mut self) -> Option<Entries<'a>> {
         for _ in self.by_ref() {}
         if self.count > 0 {

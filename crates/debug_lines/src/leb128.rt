@@ -42,7 +42,7 @@ impl<'a> Reader<'a> {
     }
 }
 
-/// Where a number's last byte stands.
+/// Where a number's last byte is.
 fn number_end(bytes: &[u8]) -> Option<usize>
     ensures value { result ≡ number_end bytes.now }
     ensures inside { IfSome result (λ last. last < length bytes.now) }

@@ -25,7 +25,7 @@ pub struct DebugLines<'a> {
 
 impl<'a> DebugLines<'a> {
     /// The line tables of a file: `.debug_line`, and `.debug_line_str` and `.debug_str` with their
-    /// texts. A section that is not there, does not lie in the file or is compressed is empty.
+    /// texts. A section that is not there, is not in the file or is compressed is empty.
     pub fn of(file: &'a [u8]) -> DebugLines<'a> {
         let sections = Sections::of(file);
         DebugLines {
@@ -39,7 +39,7 @@ impl<'a> DebugLines<'a> {
 
     /// The source line that the instruction at an address comes from. There is none where no row of
     /// a table covers the address, where the row's line is 0, and where its file has no path that
-    /// may be told: 1 to 4096 bytes of UTF-8 without control characters.
+    /// may be printed: 1 to 4096 bytes of UTF-8 without control characters.
     pub fn line_of(&self, address: u64) -> Option<SourceLine<'a>>
         ensures line { IfSome result (λ line. 0 < line.line) }
         ensures file { IfSome result (λ line. has_control line.file.now ≡ false) }
@@ -77,12 +77,12 @@ impl<'a> DebugLines<'a> {
         Ok(lines)
     }
 
-    /// An address, to be told by its source line.
+    /// An address, to be named by its source line.
     pub fn origin(&self, address: u64) -> SourceOrigin<'a> {
         SourceOrigin(self.line_of(address))
     }
 
-    /// The source line that a row tells of.
+    /// The source line that a row is about.
     fn source_line(&self, unit: &LineProgram<'a>, row: &LineRow) -> Option<SourceLine<'a>>
         ensures line { IfSome result (λ line. (line.line ≡ row.now.line) × (0 < line.line)) }
         ensures file { IfSome result (λ line. has_control line.file.now ≡ false) }
@@ -140,7 +140,7 @@ fn contents<'a>(sections: &Sections<'a>, name: &[u8]) -> &'a [u8] {
     }
 }
 
-/// Where the code of an address comes from: ` at FILE:LINE`, or nothing where no line tells it.
+/// Where the code of an address comes from: ` at FILE:LINE`, or nothing where no line has it.
 #[derive(Clone, Copy)]
 pub struct SourceOrigin<'a>(pub(crate) Option<SourceLine<'a>>);
 

@@ -88,7 +88,7 @@ impl<'a> Reader<'a> {
     }
 }
 
-/// Where the first 0 stands.
+/// Where the first 0 is.
 fn text_end(bytes: &[u8]) -> Option<usize>
     ensures value { result ≡ text_end bytes.now }
     ensures inside { IfSome result (λ end. end < length bytes.now) }

@@ -7,7 +7,7 @@ ghost use Rattle.debug_lines.specs.Texts.{has_control};
 use std::{fmt, str};
 use terminal_text::Printable;
 
-/// What stands between the parts of a path.
+/// What is between the parts of a path.
 const SLASH: u8 = b'/';
 
 /// The most bytes of a path.
@@ -16,7 +16,7 @@ pub const LONGEST: usize = 4096;
 /// A line of a source file.
 #[derive(Clone, Copy)]
 pub struct SourceLine<'a> {
-    /// The last part of the path of the file: what stands behind the last `/`.
+    /// The last part of the path of the file: what is behind the last `/`.
     pub file: &'a str,
     /// The whole path, as the table has it.
     pub path: &'a str,
@@ -56,7 +56,7 @@ fn last_part_start(path: &[u8]) -> usize
     start
 }
 
-/// A path that may be told: 1 to 4096 bytes of UTF-8 without control characters.
+/// A path that may be printed: 1 to 4096 bytes of UTF-8 without control characters.
 pub fn text_of(path: &[u8]) -> Option<&str>
     ensures same { IfSome result (λ text. text.now ≡ path.now) }
     ensures told { IfSome result (λ text. has_control text.now ≡ false) }

@@ -104,7 +104,7 @@ impl<'a> SourceLines<'a> {
         found.line.source_line()
     }
 
-    /// An address, to be told by its source line.
+    /// An address, to be named by its source line.
     pub fn origin(&self, address: u64) -> SourceOrigin<'a> {
         SourceOrigin(self.line_of(address))
     }

@@ -14,7 +14,7 @@ use crate::row::LineRow;
 const WIDE: u32 = 0xFFFF_FFFF;
 
 /// The bytes of each unit behind its length, in order. They end in front of a unit that does not
-/// end in the section. A unit of the 64-bit format is passed over: its bytes are told as none.
+/// end in the section. A unit of the 64-bit format is passed over: its bytes are given as none.
 #[derive(Clone, Copy)]
 pub struct Units<'a> {
     pub section: Reader<'a>,
@@ -48,7 +48,7 @@ pub struct LineProgram<'a> {
 }
 
 impl<'a> LineProgram<'a> {
-    /// The unit of some bytes, where it is of version 2 to 5 and its header lies in them.
+    /// The unit of some bytes, where it is of version 2 to 5 and its header is in them.
     pub fn of(mut bytes: Reader<'a>) -> Option<LineProgram<'a>> {
         let version = bytes.half()?;
         if version < 2 || version > 5 {
@@ -69,7 +69,7 @@ impl<'a> LineProgram<'a> {
         })
     }
 
-    /// The first row that covers an address: the next row of its sequence lies behind the address.
+    /// The first row that covers an address: the next row of its sequence is behind the address.
     pub fn row_at(&self, address: u64) -> Option<LineRow>
         ensures placed { IfSome result (λ row. IsTrue row.is_placed) }
         ensures below { IfSome result (λ row. row.address ≤ address) }

@@ -1,4 +1,4 @@
--- Where a tenant stands that runs in slices: after whole slices, and some attempts of the next.
+-- Where a tenant is that runs in slices: after whole slices, and some attempts of the next.
 use Rattle.std.specs.Prelude.{◌≡◌, ◌≤◌, ℕ, zero, suc, ◌-◌, min, slice_get, unwrap_or}
 use Rattle.mte_tenant.specs.Machines.{Machine, after_attempt, after_attempts, after_slice}
 use Rattle.debuggee.specs.declared.cuts.Cuts.{Cuts}

@@ -1,5 +1,5 @@
 //! A tenant that a debugger drives: it attempts instructions one at a time or a slice at a time, is
-//! where the definition has it after them, and tells which accesses met a watchpoint.
+//! where the definition has it after them, and says which accesses met a watchpoint.
 #![tactic(auto)]
 
 mod cuts;

@@ -30,14 +30,14 @@ const NOTE: u32 = 4;
 
 const TAGS: u32 = 0x7000_0002;
 
-/// A tenant of which a core file tells.
+/// A tenant that a core file is of.
 #[derive(Clone, Copy)]
 pub struct CoreSubject<'a> {
     /// All of its machine but the memory.
     pub parts: &'a TenantParts,
     /// What a tag that differs does.
     pub mode: TagMode,
-    /// Its program's name, of which 15 bytes are told.
+    /// Its program's name, of which 15 bytes are written.
     pub name: &'a str,
 }
 

@@ -1,5 +1,5 @@
 //! An ELF core file of a tenant (System V ABI, "Core files" as Linux writes them for AArch64): its
-//! registers, the signal that stands for its end, its memory and its allocation tags. And what a
+//! registers, the signal of its end, its memory and its allocation tags. And what a
 //! debugger wants beside it: the regions of a memory.
 #![tactic(auto)]
 

@@ -107,7 +107,7 @@ impl<'a> Noted<'a> {
         write_note(out, &CORE, PROCESS, text.as_slice())
     }
 
-    /// The auxiliary vector: that there is memory tagging, and where it stands.
+    /// The auxiliary vector: that there is memory tagging, and where it is.
     fn write_auxiliary(&self, alloc: Global, out: &mut Vec<u8>) -> io::Result<()> {
         let mut text = Vec::new(alloc);
         let values = [HWCAP2, HWCAP2_MTE, ENTRY, self.regs.pc, 0, 0];

@@ -9,7 +9,7 @@ use mte_tenant::Status;
 /// How many bytes a `siginfo_t` has.
 pub const INFO_SIZE: usize = 128;
 
-/// A signal as `sigaction(2)` tells of it, with Linux's numbers.
+/// A signal as `sigaction(2)` has it, with Linux's numbers.
 #[derive(Clone, Copy)]
 pub struct Signal {
     /// `si_signo`: 4 SIGILL, 5 SIGTRAP, 6 SIGABRT, 7 SIGBUS, 11 SIGSEGV, 24 SIGXCPU.
@@ -67,7 +67,7 @@ impl Signal {
     }
 }
 
-/// What `prctl(PR_GET_TAGGED_ADDR_CTRL)` would tell (Linux, "Memory Tagging Extension (MTE) in
+/// What `prctl(PR_GET_TAGGED_ADDR_CTRL)` would answer (Linux, "Memory Tagging Extension (MTE) in
 /// AArch64 Linux"): tagged addresses are on, tags 1 to 15 are drawn, and a tag that differs is a
 /// fault at once or later.
 pub fn tag_control(mode: TagMode) -> u64

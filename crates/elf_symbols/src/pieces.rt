@@ -1,8 +1,8 @@
-//! Which symbol tells which addresses.
+//! Which symbol names which addresses.
 
 use std::alloc::{AllocError, Global};
 
-/// A symbol's place among all: of those that reach an address the highest tells it.
+/// A symbol's place among all: of those that reach an address the highest names it.
 #[derive(Clone, Copy, PartialEq, Eq, PartialOrd, Ord)]
 pub struct Rank {
     /// Its address.
@@ -52,7 +52,7 @@ impl Rank {
     }
 }
 
-/// The addresses from one on, up to the next piece: the number of the symbol that tells them, if
+/// The addresses from one on, up to the next piece: the number of the symbol that names them, if
 /// one does.
 #[derive(Clone, Copy)]
 pub struct Piece {
@@ -74,7 +74,7 @@ struct Open {
 #[derive(Drop)]
 pub struct Sweep {
     /// Those that still reach. Each reaches farther than the ones behind it, of which the last
-    /// tells the addresses.
+    /// names the addresses.
     open: Vec<Open>,
     /// The pieces so far: at most two a symbol.
     pieces: Vec<Piece>,
@@ -117,7 +117,7 @@ impl Sweep {
         Ok(())
     }
 
-    /// The last address of the one that tells the addresses, if it lies in front of an address.
+    /// The last address of the one that names the addresses, if it is in front of an address.
     fn last_below(&self, start: u64) -> Option<u64> {
         let open = self.open.last()?;
         if open.last < start {

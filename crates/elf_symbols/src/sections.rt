@@ -10,7 +10,7 @@ const COMPRESSED: u64 = 0x800;
 
 /// The section headers of an ELF64 file with the lowest byte first. A file whose table of them does
 /// not begin in it, or with headers of another size, has none; of a table that ends past the file
-/// those that lie in it are there.
+/// those that are in it are there.
 #[derive(Clone, Copy)]
 pub struct Sections<'a> {
     file: &'a [u8],
@@ -60,7 +60,7 @@ impl<'a> Sections<'a> {
     }
 }
 
-/// The section headers that a file header tells of.
+/// The section headers that a file header has.
 fn headers_in(file: &[u8]) -> Option<&[[u8; HEADER]]> {
     let at = double_word(file, 40)?;
     let (headers, _) = file.get(at as usize..)?.as_chunks::<HEADER>();
@@ -89,7 +89,7 @@ pub struct Section<'a> {
 }
 
 impl<'a> Section<'a> {
-    /// Its bytes, where they lie in the file and are not compressed (`SHF_COMPRESSED`).
+    /// Its bytes, where they are in the file and are not compressed (`SHF_COMPRESSED`).
     pub fn contents(&self) -> Option<&'a [u8]> {
         if double_word(self.header, 8)? & COMPRESSED != 0 {
             return None;

@@ -1,5 +1,5 @@
 //! The names of an image's addresses, by its symbol table (System V ABI, Object Files:
-//! `Elf64_Sym`). A file without one, or with one that does not lie in it, has no
+//! `Elf64_Sym`). A file without one, or with one that is not in it, has no
 //! names.
 
 use crate::fields::{double_word, half, word};
@@ -14,7 +14,7 @@ const SYMBOL_TABLE: u32 = 2;
 /// The bytes of a symbol.
 const SYMBOL: usize = 24;
 
-/// How far from a symbol without a size an address is still told by it.
+/// How far from a symbol without a size an address is still named by it.
 const REACH: u64 = 65_536;
 
 /// The most bytes of a name.
@@ -72,7 +72,7 @@ impl<'a> SymbolTable<'a> {
         Ok(ranks)
     }
 
-    /// Which of its symbols tells which addresses.
+    /// Which of its symbols names which addresses.
     fn pieces(&self, alloc: Global) -> Result<Vec<Piece>, AllocError> {
         let ranks = self.ranks(alloc)?;
         let mut sweep = Sweep::new(alloc, ranks.len())?;
@@ -116,7 +116,7 @@ impl<'a> Symbols<'a> {
         })
     }
 
-    /// The symbol that an address is told by: of those whose bytes it is among, or that have no
+    /// The symbol that an address is named by: of those whose bytes it is among, or that have no
     /// size and lie up to 65,536 bytes in front of it, the one with the highest address. Of one
     /// address those with a size come first, then functions and objects, then those that are not
     /// local, then the first of the table.
@@ -129,7 +129,7 @@ impl<'a> Symbols<'a> {
         self.table.symbol(piece.number?)
     }
 
-    /// An address, to be told by a symbol.
+    /// An address, to be named by a symbol.
     pub fn place(&self, addr: u64) -> SymbolOffset<'a> {
         SymbolOffset {
             symbol: self.nearest(addr),
@@ -137,7 +137,7 @@ impl<'a> Symbols<'a> {
         }
     }
 
-    /// An address, to be told by the symbol of the address that lies some bytes in front of it, as
+    /// An address, to be named by the symbol of the address that lies some bytes in front of it, as
     /// a return address by the symbol of its call.
     pub fn place_after(&self, addr: u64, bytes: u64) -> SymbolOffset<'a> {
         SymbolOffset {
@@ -175,7 +175,7 @@ impl<'a> Symbol<'a> {
         self.value == other.value || is_part
     }
 
-    /// The last address that it may tell.
+    /// The last address that it may name.
     fn last(&self) -> u64 {
         let bytes = if self.size == 0 { REACH } else { self.size };
         self.value.saturating_add(bytes.saturating_sub(1))
@@ -202,7 +202,7 @@ fn name_at(names: &[u8], at: usize) -> Option<&str> {
     str::from_utf8(name).ok()
 }
 
-/// Where an address lies in an image: ` (NAME+OFFSET)`, or nothing where no symbol tells it.
+/// Where an address is in an image: ` (NAME+OFFSET)`, or nothing where no symbol names it.
 #[derive(Clone, Copy)]
 pub struct SymbolOffset<'a> {
     symbol: Option<Symbol<'a>>,
@@ -210,18 +210,18 @@ pub struct SymbolOffset<'a> {
 }
 
 impl<'a> SymbolOffset<'a> {
-    /// An address that no symbol tells.
+    /// An address that no symbol names.
     pub fn unnamed(addr: u64) -> SymbolOffset<'a> {
         SymbolOffset { symbol: None, addr }
     }
 
-    /// The name of the symbol that tells it, if one does.
+    /// The name of the symbol that names it, if one does.
     pub fn name(&self) -> Option<&'a str> {
         let symbol = self.symbol.as_ref()?;
         Some(symbol.name)
     }
 
-    /// How far it is from the symbol that tells it; 0 where none does.
+    /// How far it is from the symbol that names it; 0 where none does.
     pub fn offset(&self) -> u64 {
         match &self.symbol {
             Some(symbol) => self.addr.saturating_sub(symbol.value),
@@ -229,8 +229,8 @@ impl<'a> SymbolOffset<'a> {
         }
     }
 
-    /// Whether it lies in the first instructions of a symbol whose size is known, and another
-    /// address of the same symbol lies behind it.
+    /// Whether it is in the first instructions of a symbol whose size is known, and another
+    /// address of the same symbol is behind it.
     pub fn begins_function_of(&self, other: &SymbolOffset<'_>, instructions: u64) -> bool {
         match (&self.symbol, &other.symbol) {
             (Some(symbol), Some(same)) if symbol.value == same.value => {
@@ -241,12 +241,12 @@ impl<'a> SymbolOffset<'a> {
         }
     }
 
-    /// The label without brackets, and with the address where no symbol tells it.
+    /// The label without brackets, and with the address where no symbol names it.
     pub fn label(&self) -> Label<'a> {
         Label(*self)
     }
 
-    /// Whether another address lies in the same function: it has the same symbol, or one whose name
+    /// Whether another address is in the same function: it has the same symbol, or one whose name
     /// is the same up to the first dot, as the parts of a function that gcc splits have. `None`
     /// where the symbol has no size, or there is none.
     pub fn shares_function(&self, other: &SymbolOffset<'_>) -> Option<bool> {
@@ -273,7 +273,7 @@ impl<'a> fmt::Display for SymbolOffset<'a> {
     }
 }
 
-/// Where an address lies in an image: `NAME+OFFSET`, or the address where no symbol tells it.
+/// Where an address is in an image: `NAME+OFFSET`, or the address where no symbol names it.
 #[derive(Clone, Copy)]
 pub struct Label<'a>(SymbolOffset<'a>);
 

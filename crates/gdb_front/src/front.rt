@@ -9,18 +9,18 @@ use gdb_target::{TargetRegisters, TextBuffer};
 use gdb_travel::{Points, StopReason, Traveller};
 use std::alloc::Global;
 
-/// A tenant, and what GDB was told of it.
+/// A tenant, and what GDB knows of it.
 #[derive(Drop)]
 pub struct Front<'a> {
     /// The tenant.
     pub(crate) tenant: Traveller<'a>,
-    /// Where it stands still.
+    /// Where it has stopped.
     pub(crate) points: Points,
-    /// Why it stands still.
+    /// Why it has stopped.
     pub(crate) stop: StopReason,
-    /// How many bytes of its output GDB was told.
+    /// How many bytes of its output GDB has.
     pub(crate) shown: usize,
-    /// Whether GDB wants to be told that a breakpoint was reached.
+    /// Whether GDB wants to know that a breakpoint was reached.
     pub(crate) tells_breakpoints: bool,
     /// Whether GDB may begin the tenant anew, also after it was killed.
     pub(crate) is_extended: bool,
@@ -104,7 +104,7 @@ impl<'a> Front<'a> {
         }
     }
 
-    /// Takes the output that GDB was not told yet.
+    /// Takes the output that GDB does not have yet.
     pub(crate) fn tell_output(&mut self, console: &mut TextBuffer) {
         let shown = self.shown;
         let output = self.tenant.parts().history.output.as_slice();

@@ -47,7 +47,7 @@ impl Front<'_> {
         self.put_stop(reply);
     }
 
-    /// Moves the tenant to a number of steps, and tells the user where it is.
+    /// Moves the tenant to a number of steps, and writes for the user where it is.
     pub(crate) fn go_to(&mut self, alloc: Global, steps: u64, reply: &mut Reply) {
         let Ok(stop) = self.tenant.go_to(alloc, steps) else {
             reply.answer.fail();
@@ -62,13 +62,13 @@ impl Front<'_> {
         reply.put_ok();
     }
 
-    /// Notes why it stands still, at another place than before.
+    /// Notes why it has stopped, at another place than before.
     fn stand_still(&mut self, stop: StopReason) {
         self.stop = stop;
         self.file.forget();
     }
 
-    /// Tells why it stands still.
+    /// Says why it has stopped.
     fn tell_stop(
         &mut self,
         alloc: Global,

@@ -1,4 +1,4 @@
-//! Answers that tell why the tenant stands still (GDB's documentation, "Stop Reply Packets").
+//! Answers that say why the tenant has stopped (GDB's documentation, "Stop Reply Packets").
 
 use crate::front::Front;
 use crate::reply::Reply;
@@ -13,7 +13,7 @@ const TRAP: u8 = 5;
 const LIMIT: u8 = 24;
 
 impl Front<'_> {
-    /// Answers why the tenant stands still.
+    /// Answers why the tenant has stopped.
     pub(crate) fn put_stop(&self, reply: &mut Reply) {
         let signal = self.signal();
         match self.stop {
@@ -24,7 +24,7 @@ impl Front<'_> {
         }
     }
 
-    /// Answers that it stands still and can be moved: the signal, the reason and the thread.
+    /// Answers that it has stopped and can be moved: the signal, the reason and the thread.
     fn put_halt(&self, signal: u8, reply: &mut Reply) {
         let text = &mut reply.answer;
         text.put(b"T");
@@ -44,7 +44,7 @@ impl Front<'_> {
         }
     }
 
-    /// GDB's number of the signal that stands for its end.
+    /// GDB's number of the signal of its end.
     fn signal(&self) -> u8 {
         gdb_number(&Signal::of(&self.tenant.parts().history.status))
     }

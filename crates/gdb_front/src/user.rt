@@ -1,4 +1,4 @@
-//! What GDB's user is told.
+//! What GDB's user reads.
 
 use crate::front::Front;
 use crate::reply::Reply;
@@ -12,7 +12,7 @@ use std::io::Write;
 /// The most bytes of a user's command.
 const COMMAND_LIMIT: usize = 256;
 
-/// Where the part of a report ends that is told with a stop: the line of the instruction.
+/// Where the part of a report ends that is written with a stop: the line of the instruction.
 const MACHINE: &[u8] = b"\ninstruction at ";
 
 /// What a user may ask.
@@ -104,7 +104,7 @@ impl Front<'_> {
         }
     }
 
-    /// Tells the user an end: why, or that it exits with the next step.
+    /// Writes an end for the user: why, or that it exits with the next step.
     pub(crate) fn tell_end(&mut self, alloc: Global, reply: &mut Reply) {
         let mut out = Vec::new(alloc);
         let told = match self.stop {

@@ -7,7 +7,7 @@ use std::alloc::{AllocError, Global};
 use std::io::Write;
 use std::{fmt, io};
 
-/// How many calls are told at once.
+/// How many calls are written at once.
 const TOLD: usize = 64;
 
 /// A heap call that was answered.

@@ -7,7 +7,7 @@ use heap_bounds::{Allocation, freed_by, made_by};
 use std::io;
 use std::io::Write;
 
-/// How many granules are told before an address, and how many from it on.
+/// How many granules are written before an address, and how many from it on.
 const AROUND: u64 = 8;
 
 /// Writes the chunks whose header or bytes an address was in, the oldest first.

@@ -171,7 +171,7 @@ IsNoneOf known x = AllByRecursion (λ k. x ≢ k) known
 abbrev pub letters : List ℕ
 letters = codes "!?bcCDgGHkmMpPqQsSTvxXzZ"
 
--- What these letters ask, with what stands behind them.
+-- What these letters ask, with what is behind them.
 pub record Asks (letter : ℕ) (rest : List ℕ) (c : Command) : Type 0 where
   pub other : IsNoneOf letters letter → c ≡ command.Unknown
   pub back : letter ≡ 98 → c ≡ back_of rest
@@ -222,7 +222,7 @@ queries = codes "Supported" ∷ codes "Xfer" ∷ codes "MemTags" ∷ codes "Rcmd
     ∷ codes "Symbol" ∷ codes "C" ∷ codes "fThreadInfo" ∷ codes "sThreadInfo" ∷ codes "Offsets"
     ∷ []
 
--- What these names behind a `q` ask, with what stands behind them.
+-- What these names behind a `q` ask, with what is behind them.
 pub record AsksQuery (name rest : List ℕ) (c : Command) : Type 0 where
   pub other : IsNoneOf queries name → c ≡ command.Unknown
   pub thread : name ≡ codes "C" → c ≡ command_or_malformed (alone rest command.CurrentThread)
@@ -284,7 +284,7 @@ pub record AsksNamed (name rest : List ℕ) (c : Command) : Type 0 where
   pub run : name ≡ codes "Run"
       → c ≡ command_or_malformed (option_map (λ _. command.Run) (after 59 rest))
 
--- A name, and what stands behind it.
+-- A name, and what is behind it.
 abbrev pub name_in : List ℕ → List ℕ
 name_in text = before_first is_separator text
 

@@ -19,7 +19,7 @@ number_of text =
 abbrev pub hex_bytes : List ℕ → Option (List ℕ)
 hex_bytes text = result_ok (decode_of text)
 
--- Bytes were put at the front of a room, before what stood behind that place; or there are none,
+-- Bytes were put at the front of a room, before what was behind that place; or there are none,
 -- and the room stays as it was.
 abbrev pub Puts : Option (List ℕ) → List ℕ → List ℕ → Option ℕ → Type 0
 Puts (Some bytes) old new r =

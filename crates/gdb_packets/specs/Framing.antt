@@ -5,7 +5,7 @@ use Rattle.std.specs.Prelude.{List, [], ◌∷◌, ◌++◌, Option, Some, None,
 use Rattle.std.specs.List.{flat_map}
 use Rattle.hex.specs.Hex.{encode_lower}
 
--- `#`, `$`, `}` and `*` stand in a reply's data only as escapes.
+-- `#`, `$`, `}` and `*` are in a reply's data only as escapes.
 abbrev pub is_reserved : ℕ → Bool
 is_reserved b = (b == 35) || (b == 36) || (b == 125) || (b == 42)
 
@@ -33,7 +33,7 @@ frame_of_payload payload = frame_of (with_escapes payload)
 abbrev pub with_first : ℕ → Option (List ℕ) → Option (List ℕ)
 with_first b more = option_map (λ bytes. b ∷ bytes) more
 
--- The payload of some data: `}` stands for nothing, and the byte after it for itself XOR 0x20. Data
+-- The payload of some data: `}` means nothing, and the byte after it means itself XOR 0x20. Data
 -- that end in an escape's `}` have none.
 unfoldable pub payload_of : List ℕ → Option (List ℕ)
 payload_of [] = Some []

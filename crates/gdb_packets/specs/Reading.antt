@@ -20,7 +20,7 @@ pub data Reading : Type 0 where
   noise : Reading
   more : Reading
 
--- An input without where it lies in memory.
+-- An input without where it is in memory.
 abbrev pub seen : PacketInput → Reading
 seen (input.Packet bytes len) = packet bytes.now len
 seen (input.Bad len) = bad len

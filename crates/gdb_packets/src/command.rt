@@ -8,7 +8,7 @@
 pub enum Command<'a> {
     /// `!`: the program can be run again, also after its end.
     StartExtendedMode,
-    /// `?`: why the program stands still.
+    /// `?`: why the program has stopped.
     StopReason,
     /// `g`: all registers.
     ReadRegisters,

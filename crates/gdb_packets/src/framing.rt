@@ -81,7 +81,7 @@ fn escape_byte(byte: u8, room: &mut [u8]) -> usize
     }
 }
 
-/// Whether a byte stands in data only as an escape.
+/// Whether a byte is in data only as an escape.
 fn is_special(byte: u8) -> bool
     ensures { result ≡ is_reserved byte }
 {

@@ -8,7 +8,7 @@ ghost use Rattle.gdb_packets.specs.Framing.{with_escapes, frame_of_payload};
 
 use crate::framing::checksum;
 
-/// The most data bytes of a packet, as `PacketSize` of `qSupported` tells it in hexadecimal digits
+/// The most data bytes of a packet, as `PacketSize` of `qSupported` has it in hexadecimal digits
 /// (4000). A longer packet is bad.
 pub const PACKET_SIZE: usize = 16_384;
 
@@ -98,7 +98,7 @@ fn read_packet(rest: &[u8]) -> PacketInput<'_>
     }
 }
 
-/// How many bytes stand before the first `#` or `$`, or in all.
+/// How many bytes are before the first `#` or `$`, or in all.
 fn data_len(bytes: &[u8]) -> usize
     ensures len { result ≡ prefix_len is_data bytes.now }
     ensures within { result ≤ length bytes.now }

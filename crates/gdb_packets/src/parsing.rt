@@ -21,7 +21,7 @@ use crate::text::{split_once, strip};
 ///
 /// The clauses say which texts are unknown by their beginning, and what all others ask, but for the
 /// commands that hold a part of the text (`P`, `G`, `M`, `X`, `qSupported`, `qXfer`, `qRcmd`,
-/// `QMemTags`, `vFile:open`, `vFile:readlink`) and `qSymbol`: of those tests tell.
+/// `QMemTags`, `vFile:open`, `vFile:readlink`) and `qSymbol`: of those tests say.
 pub fn parse_command(text: &[u8]) -> Command<'_>
     ensures empty { text.now ≡ [] → result ≡ Command.Unknown }
     ensures letter { (letter : ℕ) (rest : List ℕ) → text.now ≡ letter ∷ rest

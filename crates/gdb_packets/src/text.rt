@@ -23,7 +23,7 @@ pub fn front(text: &[u8], separator: u8) -> &[u8]
     &text[..front_len(text, separator)]
 }
 
-/// How many bytes stand before the first separator, or in all.
+/// How many bytes are before the first separator, or in all.
 fn front_len(text: &[u8], separator: u8) -> usize
     ensures len { result ≡ position_or_len (λ b. b == separator) text.now }
     ensures within { result ≤ length text.now }
@@ -31,7 +31,7 @@ fn front_len(text: &[u8], separator: u8) -> usize
     text.iter().take_while(|b| **b != separator).count()
 }
 
-/// What stands behind a first byte, if a text begins with it.
+/// What is behind a first byte, if a text begins with it.
 pub fn strip(text: &[u8], first: u8) -> Option<&[u8]>
     ensures { rest_of result ≡ after first text.now }
 {

@@ -1,4 +1,4 @@
-//! What GDB asks of a target and a tenant's machine tells, as text (GDB's documentation, "Target
+//! What GDB asks of a target and a tenant's machine answers, as text (GDB's documentation, "Target
 //! Descriptions", "AArch64 Features", "qXfer", "Host I/O Packets"; proc(5), "smaps"): functions of
 //! plain values to bytes.
 #![tactic(auto)]

@@ -1,4 +1,4 @@
-//! The regions of a memory as Linux tells them (proc(5)).
+//! The regions of a memory as Linux writes them (proc(5)).
 
 use crate::text::TextBuffer;
 use elf_core::MappedRegion;

@@ -120,7 +120,7 @@ fn writes_where_code_comes_from(rt: HostRuntime) -> Result<(), Fail> {
 
 #[test]
 fn goes_on_behind_units_that_are_not_read(rt: HostRuntime) -> Result<(), Fail> {
-    // One of the 64-bit format, one of version 9, one whose header's length does not lie in it.
+    // One of the 64-bit format, one of version 9, one whose header's length is not in it.
     let mut tables = vec![in rt.alloc(); 0xFF, 0xFF, 0xFF, 0xFF, 2, 0, 0, 0, 0, 0, 0, 0, 5, 0]?;
     tables.extend_from_slice(&[2, 0, 0, 0, 9, 0])?;
     tables.extend_from_slice(&[6, 0, 0, 0, 4, 0, 99, 0, 0, 0])?;

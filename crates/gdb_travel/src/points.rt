@@ -1,4 +1,4 @@
-//! Where a tenant that moves stands still.
+//! Where a tenant that moves stops.
 
 use debuggee::Watchpoint;
 use std::alloc::Global;

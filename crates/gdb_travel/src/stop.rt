@@ -1,9 +1,9 @@
-//! Why a tenant that moved stands still.
+//! Why a tenant that moved has stopped.
 
 use crate::points::Points;
 use debuggee::Hit;
 
-/// Why it stands still.
+/// Why it has stopped.
 #[derive(Clone, Copy)]
 pub enum StopReason {
     /// The step was done, or the range was left.
@@ -39,7 +39,7 @@ pub enum Until {
 }
 
 impl Until {
-    /// Why it stands still with a program counter that it came to, if it does.
+    /// Why it has stopped with a program counter that it came to, if it does.
     pub fn stop_at(&self, points: &Points, pc: u64) -> Option<StopReason> {
         if *self == Until::Step {
             return Some(StopReason::Step);

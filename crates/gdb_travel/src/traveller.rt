@@ -20,7 +20,7 @@ pub struct Traveller<'a> {
     /// Another one that looks ahead for accesses that are watched.
     ahead: Option<Debuggee<'a>>,
     checkpoints: Checkpoints<'a>,
-    /// Whether it was told that the next instruction exits.
+    /// Whether it was said that the next instruction exits.
     is_exit_told: bool,
     /// Whether the last instruction before its end was done. It is known once it has ended.
     is_last_done: bool,
@@ -107,7 +107,7 @@ impl<'a> Traveller<'a> {
         }
     }
 
-    /// Why it stands still where it had ended before.
+    /// Why it has stopped where it had ended before.
     fn stop_again(&self) -> StopReason {
         match self.now.parts().history.status {
             Status::Exited(code) => StopReason::Exit(code),

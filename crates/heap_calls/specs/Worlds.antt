@@ -6,7 +6,7 @@ use Rattle.mte_tags.specs.declared.generator.Rgsr.{Rgsr}
 use Rattle.scudo_heap.specs.Heaps.{HeapState, coded_heap}
 use Rattle.scudo_heap.specs.Placing.{World}
 
--- The code of a generator, by which proofs tell two apart.
+-- The code of a generator, by which proofs distinguish two.
 abbrev pub coded_rgsr : Coded Rgsr
 coded_rgsr =
     code_by (ℕ × ℕ) (coded× coded_ℕ coded_ℕ)
@@ -14,7 +14,7 @@ coded_rgsr =
     (λ c. record { tag = c.0; seed = c.1 })
     (λ _. refl)
 
--- The code of a world, by which proofs tell two apart.
+-- The code of a world, by which proofs distinguish two.
 abbrev pub coded_world : Coded World
 coded_world =
     code_by (Memory × (HeapState × Rgsr))

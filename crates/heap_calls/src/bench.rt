@@ -15,7 +15,7 @@ use scudo_heap::Heap;
 use std::alloc::{AllocError, Global};
 use std::marker::Model;
 
-/// A heap, the memory that its chunks lie in and its generator of random tags.
+/// A heap, the memory that its chunks are in and its generator of random tags.
 #[derive(Drop)]
 pub struct HeapBench {
     heap: Heap,

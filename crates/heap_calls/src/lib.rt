@@ -1,4 +1,4 @@
-//! Operations on a heap and the tagged memory that its chunks lie in: heap calls, loads and stores,
+//! Operations on a heap and the tagged memory that its chunks are in: heap calls, loads and stores,
 //! each answered by a value.
 #![tactic(auto)]
 

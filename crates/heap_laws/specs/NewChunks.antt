@@ -1,4 +1,4 @@
--- The chunk that a call makes: it is live, its bytes are zero, and it lies where it was asked for.
+-- The chunk that a call makes: it is live, its bytes are zero, and it is where it was asked for.
 use Rattle.std.specs.Prelude.{◌≡◌, ℕ, ◌%◌, ◌<◌, ◌≤◌, Some, Ok}
 use Rattle.a64_bits.specs.Addresses.{plain}
 use Rattle.mte_tags.specs.Memory.{Memory, byte_at}

@@ -35,7 +35,7 @@ TenantsTakeTurns =
     (s : Session) (life : Life) (m : Machine) → IsCarefulIn s life m
     → AnyTurns (first_machine life) no_chunks m (live_of life.own (first_machine life) no_chunks)
 
--- A tenant that a session admits in the synchronous mode keeps what the laws stand on.
+-- A tenant that a session admits in the synchronous mode keeps what the laws rest on.
 abbrev pub TurnsStaySound : Type 0
 TurnsStaySound =
     (s : Session) (life : Life) (m : Machine) (l : Live)

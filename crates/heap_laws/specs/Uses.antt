@@ -13,7 +13,7 @@ use Rattle.tag_discipline.specs.CarefulRuns.{State}
 use Rattle.tag_discipline.specs.CarefulSessions.{IsCarefulIn, state_in}
 use Rattle.tag_discipline.specs.SoundHeaps.{Sound}
 
--- No read and no write through a pointer with a tag faults, checked or not, whose bytes lie between
+-- No read and no write through a pointer with a tag faults, checked or not, whose bytes are between
 -- two addresses.
 abbrev pub IsUsable : Memory → ℕ → ℕ → ℕ → Type 0
 IsUsable m tag from to =
@@ -21,7 +21,7 @@ IsUsable m tag from to =
     → from ≤ plain pointer → plain pointer + n ≤ to
     → (read_fault m pointer n check ≡ None) × (write_fault m pointer n check ≡ None)
 
--- No access through the pointer to a live chunk faults whose bytes lie in its granules or, where it
+-- No access through the pointer to a live chunk faults whose bytes are in its granules or, where it
 -- has pages of its own, in these.
 pub record ChunksMayBeUsed : Type 0 where
   pub blocks :

@@ -78,7 +78,7 @@ pub fn odd_distances_differ()
 {}
 
 /// The machine of a tenant of a session whose slices were careful comes from its first one by
-/// careful instructions and the ends of slices, which keep what the laws stand on.
+/// careful instructions and the ends of slices, which keep what the laws rest on.
 pub fn tenants_take_turns()
     ensures turns { TenantsTakeTurns }
     ensures sound { TurnsStaySound }

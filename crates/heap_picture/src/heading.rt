@@ -1,4 +1,4 @@
-//! What stands above the rows: the title, what the colours and lines mean, and the pages.
+//! What is above the rows: the title, what the colours and lines mean, and the pages.
 
 use crate::layout::{PITCH, ROWS};
 use crate::legend::{Definitions, Legend};
@@ -7,7 +7,7 @@ use crate::part::Part::{Number, Text};
 use crate::part::{Escaped, write_parts};
 use std::fmt;
 
-/// What stands above the rows: the title, what the colours and lines mean, and the pages.
+/// What is above the rows: the title, what the colours and lines mean, and the pages.
 #[derive(Clone, Copy)]
 pub struct Heading<'a> {
     /// The title, any text of one line.
@@ -58,10 +58,10 @@ impl<'a> fmt::Display for Heading<'a> {
     }
 }
 
-/// What stands before the height of the picture.
+/// What is before the height of the picture.
 const OPEN: &str = "<svg xmlns=\"http://www.w3.org/2000/svg\" width=\"1600\" height=\"";
 
-/// What stands between the height and the height of the box that is seen.
+/// What is between the height and the height of the box that is seen.
 const BOX: &str = "\" viewBox=\"0 0 1600 ";
 
 /// The rest of the element.
@@ -76,7 +76,7 @@ const LONGEST_STORY: usize = 180;
 /// What makes a longer title as wide as the picture.
 const FIT: &str = " textLength=\"1560\" lengthAdjust=\"spacingAndGlyphs\"";
 
-/// What stands beside the list of pages.
+/// What is beside the list of pages.
 const PAGES: &str = "<text class=\"at\" x=\"-10\">pages</text>\n";
 
 /// From the top of a picture to the bottom of the first line of pages.
@@ -91,5 +91,5 @@ const RULER: &str = "<text class=\"ruler\" y=\"-8\">+0</text>\
     <text class=\"ruler\" x=\"512\" y=\"-8\">+0x200</text>\
     <text class=\"ruler\" x=\"768\" y=\"-8\">+0x300</text>\n";
 
-/// What stands after the last line.
+/// What is after the last line.
 pub const END: &str = "</g>\n</svg>\n";

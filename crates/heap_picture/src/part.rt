@@ -5,7 +5,7 @@ use std::fmt;
 /// A part of a text.
 #[derive(Clone, Copy)]
 pub enum Part<'a> {
-    /// As it stands.
+    /// As it is.
     Text(&'a str),
     /// A decimal number.
     Number(u64),

@@ -21,7 +21,7 @@ pub struct Moment {
     pub regs: Regs,
 }
 
-/// An instruction's line: where it stands, what it is, and what it changed.
+/// An instruction's line: where it is, what it is, and what it changed.
 #[derive(Clone, Copy)]
 pub struct TraceLine<'a> {
     /// Before it.

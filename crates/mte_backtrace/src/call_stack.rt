@@ -136,7 +136,7 @@ fn write_frames<W: Write>(
     Ok(number)
 }
 
-/// What is told of a caller that may be none.
+/// What is said of a caller that may be none.
 const OLD: &str = " (x30, may be old)";
 
 /// In how many instructions at its start a function writes its frame record.

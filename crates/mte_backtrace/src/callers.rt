@@ -12,7 +12,7 @@ const DEPTH: usize = 7;
 /// The return addresses of a heap call, at most eight.
 #[derive(Clone, Copy, PartialEq, Eq)]
 pub struct Callers {
-    /// x30, or 0 where it tells no caller that a record does not.
+    /// x30, or 0 where it has no caller that a record does not.
     pub(crate) link: u64,
     /// The addresses of the frame records, the innermost first, and 0 behind the last.
     pub(crate) records: [u64; DEPTH],

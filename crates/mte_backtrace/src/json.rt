@@ -95,7 +95,7 @@ impl CallStack {
     }
 }
 
-/// Writes an object for each frame of an address, with what stands in front of the first.
+/// Writes an object for each frame of an address, with what is in front of the first.
 fn write_frames<W: Write>(
     out: &mut W,
     address: u64,

@@ -26,7 +26,7 @@ pub fn has_own_link<M: Tagged>(memory: &mut M, symbols: &Symbols<'_>, pc: u64) -
     Some(true)
 }
 
-/// How many bytes of a function lie in front of an instruction, where its size is known and they
+/// How many bytes of a function are in front of an instruction, where its size is known and they
 /// are few.
 fn length_before(symbols: &Symbols<'_>, pc: u64) -> Option<u64> {
     let place = symbols.place(pc);

@@ -18,7 +18,7 @@ struct FrameRecord {
     return_address: u64,
 }
 
-/// A walk outwards. Each record lies at a higher address than the one before, so it ends.
+/// A walk outwards. Each record is at a higher address than the one before, so it ends.
 #[derive(Clone, Copy)]
 pub struct Walk {
     /// The address of the next record, or 0.

@@ -14,7 +14,7 @@ attrs_of flags = record {
       + (if is_executable flags then EXEC.0 else 0);
 }
 
--- a segment's bytes that lie in the file
+-- a segment's bytes that are in the file
 abbrev pub file_part : List ℕ → Segment → List ℕ
 file_part file s = if s.filesz == 0 then [] else slice_range file s.offset (s.offset + s.filesz)
 

@@ -7,7 +7,7 @@ use Rattle.mte_elf.specs.Images.{first_page, last_page}
 use Rattle.mte_elf.specs.Loading.{attrs_of}
 use Rattle.mte_elf.specs.declared.image.Segment.{Segment}
 
--- an address of a segment whose byte lies in the file
+-- an address of a segment whose byte is in the file
 abbrev pub stands_in_file : Segment → ℕ → Bool
 stands_in_file s a = nat_le s.vaddr a && nat_lt a (s.vaddr + s.filesz)
 

@@ -23,11 +23,11 @@ pub enum ElfError {
     /// A program header is PT_INTERP (3).
     Interpreter,
     /// A segment's file size exceeds its memory size, its bytes pass the file's end, or its
-    /// addresses don't lie in 0x1000 to 0x10000000.
+    /// addresses are not in 0x1000 to 0x10000000.
     SegmentRange,
     /// Two segments touch one page of 4096 bytes.
     Overlap,
-    /// `e_entry` lies in no executable segment.
+    /// `e_entry` is in no executable segment.
     NoEntry,
 }
 

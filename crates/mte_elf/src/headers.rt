@@ -21,7 +21,7 @@ pub struct ProgramHeader {
     pub offset: u64,
     /// `p_vaddr`: its first address.
     pub vaddr: u64,
-    /// `p_filesz`: how many of its bytes lie in the file.
+    /// `p_filesz`: how many of its bytes are in the file.
     pub filesz: u64,
     /// `p_memsz`: how many bytes it has in memory.
     pub memsz: u64,

@@ -1,6 +1,6 @@
 //! What the loader does for an image.
 
-/// A loadable segment: `memsz` bytes from `vaddr` on, of which the first `filesz` lie in the file
+/// A loadable segment: `memsz` bytes from `vaddr` on, of which the first `filesz` are in the file
 /// from `offset` on and the others are 0. Its flags are execute 1, write 2 and read 4.
 #[derive(Clone, Copy)]
 pub struct Segment {
@@ -10,7 +10,7 @@ pub struct Segment {
     pub memsz: u64,
     /// Where its bytes begin in the file.
     pub offset: u64,
-    /// How many of its bytes lie in the file, at most `memsz`.
+    /// How many of its bytes are in the file, at most `memsz`.
     pub filesz: u64,
     /// Execute 1, write 2, read 4; other bits count for nothing.
     pub flags: u32,

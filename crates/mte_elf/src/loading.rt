@@ -60,7 +60,7 @@ fn load_segment<M: Paged>(segment: &Segment, file: &[u8], memory: &mut M)
     }
 }
 
-/// A segment's bytes that lie in the file.
+/// A segment's bytes that are in the file.
 fn segment_bytes<'a>(segment: &Segment, file: &'a [u8]) -> &'a [u8]
     requires { is_in_range (length file.now) segment.now ≡ true }
     ensures bytes { result.now ≡ file_part file.now segment.now }

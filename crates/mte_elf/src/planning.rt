@@ -102,7 +102,7 @@ fn holds_table(file: &[u8]) -> bool
         && table_offset(file) <= size - table
 }
 
-/// Whether each segment lies in range.
+/// Whether each segment is in range.
 fn all_lie_in_range(segments: &[Segment], size: u64) -> bool
     ensures { result ≡ list_all (is_in_range size) segments.now }
 {
@@ -116,7 +116,7 @@ fn any_holds_entry(segments: &[Segment], entry: u64) -> bool
     segments.iter().any(|segment| holds_entry(segment, entry))
 }
 
-/// Whether a segment's file part lies in it and in a file of `size` bytes, and its addresses in the
+/// Whether a segment's file part is in it and in a file of `size` bytes, and its addresses in the
 /// range for images.
 fn lies_in_range(segment: &Segment, size: u64) -> bool
     ensures { result ≡ is_in_range size segment.now }

@@ -12,7 +12,7 @@ use crate::finder::Finder;
 use mte_tags::{Attrs, copy_in};
 
 /// A mapped page: its number, its bytes, a tag for each granule, and its attributes. The bytes
-/// stand where an aligned access stays aligned.
+/// are where an aligned access stays aligned.
 #[derive(Clone, Copy)]
 pub struct Slot {
     pub(crate) page: u64,

@@ -4,7 +4,7 @@ use Rattle.std.specs.Prelude.{get_or, Option, Some, None, vec_capacity}
 use Rattle.mte_frames.specs.Pool.{Pool, make_pool, IsSound}
 use Rattle.mte_frames.specs.declared.pool.FramePool.TheInside.{Inside}
 
--- how often x stands in the list
+-- how often x is in the list
 abbrev pub times : ℕ → List ℕ → ℕ
 times x [] = 0
 times x (y ∷ ys) = (if nat_eq x y then 1 else 0) + times x ys
@@ -24,7 +24,7 @@ pool_of a =
 -- The free list and the counts are those of the pool.
 pub record IsPool (a : Inside) : Type 0 where
   pub sound : IsSound (pool_of a)
-  -- each frame that is out under no quota stands in the free list once, and nothing else does
+  -- each frame that is out under no quota is in the free list once, and nothing else is
   pub free_are : (f : ℕ) → times f a.free.items ≡ vacant (get_or a.owners.items f (Some 0))
   pub free_count : length a.free.items + sum a.taken.items ≡ length a.arena
   pub unreserved_count : a.unreserved + sum a.reserved.items ≡ length a.arena

@@ -20,7 +20,7 @@ pub record Logs : Type 0 where
 abbrev pub Told : Ending → WriteLog → WriteLog → Type 0
 Told e old new = WroteAll old new (ending_text e) ⊎ WrotePart old new (ending_text e)
 
--- A session was run, and how it ended was told by the line and by the exit status.
+-- A session was run, and how it ended was said by the line and by the exit status.
 pub record HasEnded (p : Program) (old new : Logs) (status : ℕ) : Type 0 where
   pub ending : Ending
   pub ran : Ran p old.files new.files old.out new.out ending

@@ -192,7 +192,7 @@ impl<'a> fmt::Display for EndingNote<'a> {
     }
 }
 
-/// What a status is called, where no cause tells more.
+/// What a status is called, where no cause says more.
 fn ending_words(status: &Status) -> &'static str {
     match status {
         Status::Exited(_) => "exit",

@@ -1,4 +1,4 @@
-//! What is known of a tenant's end, and found out once for all that is told of it.
+//! What is known of a tenant's end, and found out once for all that is written of it.
 
 use crate::report::Report;
 use instruction_trace::{Moment, push_turns};
@@ -48,7 +48,7 @@ impl<'a> Report<'a> {
         }
     }
 
-    /// What the addresses are called that are told.
+    /// What the addresses are called that are written.
     fn frame_names(
         &self,
         alloc: Global,
@@ -60,7 +60,7 @@ impl<'a> Report<'a> {
         self.names.of_frames(alloc, &frames)
     }
 
-    /// Adds the addresses that are told.
+    /// Adds the addresses that are written.
     fn push_told(
         &self,
         alloc: Global,

@@ -7,7 +7,7 @@ use std::alloc::{AllocError, Global};
 use std::io::Write;
 use std::{fmt, io};
 
-/// How many places are told.
+/// How many places are written.
 const PLACES: usize = 256;
 
 /// Chunks that were made at one place, by the same calls.

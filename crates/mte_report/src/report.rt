@@ -33,7 +33,7 @@ pub struct Report<'a> {
     pub book: &'a Book,
     /// Its last instructions, the oldest first, where they were remembered.
     pub last: Option<&'a HeapCircularBuffer<Moment>>,
-    /// How many of them are told.
+    /// How many of them are written.
     pub last_count: usize,
     /// Its last calls and returns, the oldest first, where they are wanted.
     pub turns: Option<&'a HeapCircularBuffer<Turn>>,
@@ -117,7 +117,7 @@ impl<'a> Report<'a> {
         }
     }
 
-    /// The registers after the last instruction that is told.
+    /// The registers after the last instruction that is written.
     fn after(&self) -> &'a Regs {
         match self.finding {
             Some(finding) => &finding.after,
@@ -345,7 +345,7 @@ fn tell_abort<W: Write>(out: &mut W, abort: HeapAbort, pointer: u64, at: At<'_>)
     writeln!(out, "SVC at {at}, is refused: {why}")
 }
 
-/// Tells that its steps or its slices are over.
+/// Writes that its steps or its slices are over.
 fn tell_running<W: Write>(out: &mut W, report: &Report<'_>) -> io::Result<()> {
     let limit = report.limit;
     if report.parts.history.steps >= limit {

@@ -108,7 +108,7 @@ impl<'a> Report<'a> {
     }
 }
 
-/// Tells that older calls are forgotten, if any are.
+/// Writes that older calls are forgotten, if any are.
 fn tell_short<W: Write>(out: &mut W, book: &Book) -> io::Result<()> {
     if !book.is_short() {
         return Ok(());
@@ -117,7 +117,7 @@ fn tell_short<W: Write>(out: &mut W, book: &Book) -> io::Result<()> {
 }
 
 impl<'a> Report<'a> {
-    /// Tells the chunks that a cause names.
+    /// Writes the chunks that a cause names.
     fn tell_chunks<W: Write>(
         &self,
         alloc: Global,
@@ -137,7 +137,7 @@ impl<'a> Report<'a> {
         }
     }
 
-    /// Tells the calls that made and freed a chunk.
+    /// Writes the calls that made and freed a chunk.
     fn tell_chunk<W: Write>(
         &self,
         alloc: Global,
@@ -158,7 +158,7 @@ impl<'a> Report<'a> {
         }
     }
 
-    /// Tells the calls that led to a heap call.
+    /// Writes the calls that led to a heap call.
     pub(crate) fn tell_stack<W: Write>(
         &self,
         alloc: Global,

@@ -22,7 +22,7 @@ pub fn dump_core<'a>(
     }
 }
 
-/// The tag mode of a tenant of a session, where a core file is named that tells it.
+/// The tag mode of a tenant of a session, where a core file is named that has it.
 pub fn mode_in<'a>(
     rt: &HostRuntime,
     options: &'a Options,

@@ -1,4 +1,4 @@
-//! `mte_run [OPTIONS] ELF`: runs one tenant alone, and tells why it ended.
+//! `mte_run [OPTIONS] ELF`: runs one tenant alone, and says why it ended.
 #![tactic(auto)]
 
 mod core_dump;

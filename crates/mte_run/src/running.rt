@@ -15,7 +15,7 @@ use tenant_run::{
     Log, LoneTenant, Observer, Replayed, SessionReplay, TenantBench, events_of, observer_of,
 };
 
-/// Runs the tenant, writes its output and tells why it ended; returns the exit status.
+/// Runs the tenant, writes its output and says why it ended; returns the exit status.
 pub fn run_program<'a>(rt: &HostRuntime, options: &'a Options) -> Result<u8, Failure<'a>> {
     let files = read_files(rt, options)?;
     run_files(rt, options, files.as_slice())
@@ -71,7 +71,7 @@ fn admitted<'x>(
     Ok((tenant, bench))
 }
 
-/// Runs a tenant, and tells why it ended.
+/// Runs a tenant, and says why it ended.
 fn run_bench<'a>(
     rt: &HostRuntime,
     options: &'a Options,
@@ -107,7 +107,7 @@ fn run_replay<'a>(
     run_session(rt, options, &session)
 }
 
-/// Runs what a session does to one tenant, and tells why it ended.
+/// Runs what a session does to one tenant, and says why it ended.
 fn run_session<'a>(
     rt: &HostRuntime,
     options: &'a Options,
@@ -120,7 +120,7 @@ fn run_session<'a>(
     }
 }
 
-/// Writes a tenant's lines of the report, and tells why it ended.
+/// Writes a tenant's lines of the report, and says why it ended.
 fn tell_replay<'a>(
     rt: &HostRuntime,
     options: &'a Options,

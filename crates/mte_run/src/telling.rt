@@ -1,4 +1,4 @@
-//! What is told of a tenant at its end.
+//! What is said of a tenant at its end.
 
 use crate::core_dump::dump_core;
 use crate::files::Image;
@@ -20,7 +20,7 @@ use std::io;
 use std::io::BufWriter;
 use tenant_run::{LastLine, Log, Observer, TenantBench, TenantEnding};
 
-/// What is told of a run beside its tenant.
+/// What is said of a run beside its tenant.
 #[derive(Clone, Copy)]
 pub struct Run<'x> {
     /// Its image.
@@ -31,7 +31,7 @@ pub struct Run<'x> {
     pub mode: TagMode,
 }
 
-/// Tells what happened, as the options request it, and returns the exit status.
+/// Writes what happened, as the options request it, and returns the exit status.
 pub fn tell_end<'a>(
     rt: &HostRuntime,
     bench: TenantBench,
@@ -48,7 +48,7 @@ pub fn tell_end<'a>(
     tell_parts(rt, &parts, &mut memory, observer, options, run)
 }
 
-/// Ends the lines of a trace, and tells whether output was cut. A line or a chunk that is missing
+/// Ends the lines of a trace, and says whether output was cut. A line or a chunk that is missing
 /// is a failure.
 fn end_watch<'a>(
     rt: &HostRuntime,
@@ -75,7 +75,7 @@ fn unwritten_lines(options: &Options) -> Failure<'_> {
     }
 }
 
-/// Tells what happened of a tenant's parts and its memory, and returns the exit status. It borrows
+/// Writes what happened of a tenant's parts and its memory, and returns the exit status. It borrows
 /// them, so that none of its ends has to drop them.
 fn tell_parts<'a>(
     rt: &HostRuntime,
@@ -101,7 +101,7 @@ fn tell_parts<'a>(
     tell_run(rt, &report, options, memory)
 }
 
-/// The bytes of an image that has names, or none where none is told.
+/// The bytes of an image that has names, or none where none is written.
 fn named_bytes<'x>(image: &Image<'x>, is_told: bool) -> &'x [u8] {
     if is_told { image.bytes } else { &[] }
 }
@@ -109,7 +109,7 @@ fn named_bytes<'x>(image: &Image<'x>, is_told: bool) -> &'x [u8] {
 /// Numbers of a run.
 #[derive(Clone, Copy)]
 struct Numbers {
-    /// The reservation in pages, where it is told.
+    /// The reservation in pages, where it is written.
     reserved: u64,
     /// The seed, where it ran alone.
     seed: Option<u64>,
@@ -141,7 +141,7 @@ fn report_of<'x, 'n, 'o>(
     }
 }
 
-/// Tells what the options request of a run, and returns the exit status.
+/// Writes what the options request of a run, and returns the exit status.
 fn tell_run<'a>(
     rt: &HostRuntime,
     report: &Report<'_>,
@@ -155,7 +155,7 @@ fn tell_run<'a>(
     Ok(tell_last_line(rt, report, ending))
 }
 
-/// Whether anything is told in which names are: of a tenant that exited only what is requested.
+/// Whether anything is written in which names are: of a tenant that exited only what is requested.
 fn is_told(parts: &TenantParts, observer: &Observer<'_, Log>, options: &Options) -> bool {
     let output = &options.output;
     !matches!(parts.history.status, Status::Exited(_))
@@ -166,7 +166,7 @@ fn is_told(parts: &TenantParts, observer: &Observer<'_, Log>, options: &Options)
         || output.sarif.is_some()
 }
 
-/// Tells what the options request, on standard error.
+/// Writes what the options request, on standard error.
 fn tell_all(
     rt: &HostRuntime,
     report: &Report<'_>,
@@ -202,7 +202,7 @@ fn ending_of(report: &Report<'_>, options: &Options) -> TenantEnding {
     }
 }
 
-/// Tells what no tag finds, on standard error, of a tenant that exited and had chunks whose last
+/// Writes what no tag finds, on standard error, of a tenant that exited and had chunks whose last
 /// granule has bytes past their size.
 fn tell_unseen(rt: &HostRuntime, report: &Report<'_>, options: &Options) {
     let log = &report.parts.history;
@@ -215,7 +215,7 @@ fn tell_unseen(rt: &HostRuntime, report: &Report<'_>, options: &Options) {
     }
 }
 
-/// Tells what happened, on standard error, unless the tenant exited.
+/// Writes what happened, on standard error, unless the tenant exited.
 fn tell_report(rt: &HostRuntime, report: &Report<'_>, memory: &mut Flat) -> io::Result<()> {
     let log = &report.parts.history;
     if report.finding.is_none() && matches!(log.status, Status::Exited(_)) {
@@ -225,7 +225,7 @@ fn tell_report(rt: &HostRuntime, report: &Report<'_>, memory: &mut Flat) -> io::
     report.write(rt.alloc(), &mut out, memory)
 }
 
-/// Tells the live chunks, on standard error, where that is wanted.
+/// Writes the live chunks, on standard error, where that is wanted.
 fn tell_leaks(rt: &HostRuntime, report: &Report<'_>, options: &Options) -> io::Result<()> {
     if !options.output.leaks {
         return Ok(());
@@ -234,13 +234,13 @@ fn tell_leaks(rt: &HostRuntime, report: &Report<'_>, options: &Options) -> io::R
     report.write_leaks(rt.alloc(), &mut out)
 }
 
-/// Tells the numbers of the run, on standard error, where they are wanted.
+/// Writes the numbers of the run, on standard error, where they are wanted.
 fn tell_statistics(rt: &HostRuntime, report: &Report<'_>) -> io::Result<()> {
     let mut out = BufWriter::new(rt.alloc(), rt.stderr())?;
     report.write_statistics(&mut out)
 }
 
-/// The reservation in pages, those that are mapped and those that are left, where it is told.
+/// The reservation in pages, those that are mapped and those that are left, where it is written.
 fn reserved_pages(alloc: Global, options: &Options, memory: &mut Flat) -> Result<u64, AllocError> {
     if !options.output.statistics {
         return Ok(0);

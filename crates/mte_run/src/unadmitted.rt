@@ -52,7 +52,7 @@ impl fmt::Display for RefusedAdmission {
     }
 }
 
-/// Tells why an image is refused, and returns the exit status.
+/// Says why an image is refused, and returns the exit status.
 pub fn refuse(rt: &HostRuntime, error: AdmitError) -> u8 {
     let remedy = remedy_of(error);
     let _ = eprintln!(rt; "mte_run: the tenant is refused: {error}{remedy}");
@@ -60,7 +60,7 @@ pub fn refuse(rt: &HostRuntime, error: AdmitError) -> u8 {
     REFUSED
 }
 
-/// Tells why a session never admits a tenant, and returns the exit status.
+/// Says why a session never admits a tenant, and returns the exit status.
 pub fn refuse_unadmitted<'a>(
     rt: &HostRuntime,
     replay: &Replay,
@@ -79,7 +79,7 @@ pub fn refuse_unadmitted<'a>(
     Ok(end_unadmitted(rt))
 }
 
-/// Tells that a session never admits a tenant, and returns the exit status.
+/// Writes that a session never admits a tenant, and returns the exit status.
 pub fn end_unadmitted(rt: &HostRuntime) -> u8 {
     let _ = eprintln!(rt; "mte_run: the session never admits the tenant");
     let _ = eprintln!(rt; "mte_run: ended by refusal, status {REFUSED}");

@@ -27,7 +27,7 @@ pub record Decision : Type 0 where
   pub refusal : Option Refusal
 
 -- The decisions of a host of `frames` frames on calls in turn. Each is made by the ledger of the
--- calls that were accepted before: no machine stands in it.
+-- calls that were accepted before: no machine is in it.
 unfoldable pub decisions : ℕ → List LedgerEntry → List Call → List Decision
 decisions frames ledger [] = []
 decisions frames ledger (e ∷ more) =

@@ -8,7 +8,7 @@ use Rattle.mte_sched.specs.contracts.host.Host.{the_row}
 use Rattle.mte_sched.specs.Contents.{after_write_of}
 use Rattle.mte_sched.specs.Hosts.{pool_of, content_of, frame_in, rooms_of}
 
--- From h to n each page lies in the frame in which it lay.
+-- From h to n each page is in the frame in which it was.
 abbrev pub KeepsFrames : Host → Host → Type 0
 KeepsFrames h n = (id q : ℕ) → frame_in n id q ≡ frame_in h id q
 

@@ -1,4 +1,4 @@
--- Where a live tenant's memory lies, and what holds of it in a pool and a translation lookaside
+-- Where a live tenant's memory is, and what holds of it in a pool and a translation lookaside
 -- buffer that all tenants share.
 use Rattle.std.specs.Prelude.{◌≡◌, ℕ, ◌+◌, ◌<◌, ◌≤◌, List}
 use Rattle.address_map.specs.declared.limits.TheConstants.{MAX_PAGES}

@@ -6,7 +6,7 @@ use Rattle.std.specs.Prelude.{ℕ, ◌+◌, List, [], ◌∷◌, max, nat_lt, if
 abbrev pub room_for_one : ℕ → ℕ → ℕ
 room_for_one room count = if nat_lt count room then room else count + max count 4
 
--- The rooms after an admission: nothing but the number of tenants that were admitted tells how much
+-- The rooms after an admission: nothing but the number of tenants that were admitted says how much
 -- memory the list of tenants has, and no other list takes any.
 abbrev pub rooms_after_admission : ℕ → List ℕ → List ℕ
 rooms_after_admission count [] = []

@@ -60,8 +60,8 @@ pub record IsSharing (p : Pool) (us : List Translation) (ts : List Tenant) : Typ
   -- what is reserved is what live tenants are charged
   pub reserved : sum p.reserved ≡ sum_by charge_of_entry (entries_in ts)
 
--- A table has a position for each number, and of each number of a list the one where it stands. So
--- a number that doesn't stand at its position is none of the list.
+-- A table has a position for each number, and of each number of a list the one where it is. So
+-- a number that is not at its position is none of the list.
 pub record IsIndexed (positions ids : List ℕ) : Type 0 where
   pub numbers : length positions ≡ NUMBERS
   pub position : (i id : ℕ) → slice_get ids i ≡ Some id → slice_get positions id ≡ Some i

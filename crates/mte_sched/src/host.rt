@@ -32,7 +32,7 @@ use obstacle::Obstacle;
 use scudo_heap::condition_of_calls;
 use std::alloc::{AllocError, Global};
 
-/// A host of tenants, whose memories lie in the frames of one pool.
+/// A host of tenants, whose memories are in the frames of one pool.
 #[derive(Drop)]
 pub struct Host {
     pool: FramePool,
@@ -217,7 +217,7 @@ impl Host {
         &self.pool
     }
 
-    /// What the ledger tells of an admission with the number.
+    /// What the ledger says of an admission with the number.
     fn ledger_facts(&self, id: u16) -> LedgerFacts
         ensures { result ≡ facts_of (length self.now.pool.frames)
             (entries_in self.now.tenants.items) id }

@@ -1,4 +1,4 @@
-//! Where a tenant stands, by its number.
+//! Where a tenant is, by its number.
 
 ghost use Rattle.std.specs.Prelude.{◌≡◌, ◌<◌, length, get_or, slice_set};
 ghost use Rattle.std.specs.Prelude.{IfOk, vec_capacity};
@@ -8,8 +8,8 @@ use std::alloc::{AllocError, Global};
 /// How many numbers there are.
 pub(crate) const NUMBERS: usize = 65536;
 
-/// For each number, where the tenant that was admitted with it stands among all tenants. For a
-/// number that was never admitted it has some position, where no tenant with the number stands.
+/// For each number, where the tenant that was admitted with it is among all tenants. For a
+/// number that was never admitted it has some position, where no tenant with the number is.
 #[derive(Drop)]
 pub(crate) struct Index {
     positions: Vec<u16>,
@@ -24,7 +24,7 @@ impl Index {
         Ok(Index { positions })
     }
 
-    /// The one place where the tenant with the number can stand.
+    /// The one place where the tenant with the number can be.
     pub(crate) fn position(&self, id: u16) -> usize
         requires { length self.now.positions.items ≡ NUMBERS }
         ensures { result ≡ get_or self.now.positions.items id 0 }
@@ -32,7 +32,7 @@ impl Index {
         usize::from(self.positions[usize::from(id)])
     }
 
-    /// Enters where the tenant with the number stands.
+    /// Enters where the tenant with the number is.
     pub(crate) fn enter(&mut self, id: u16, position: usize)
         requires numbers { length self.old.positions.items ≡ NUMBERS }
         requires position { position < NUMBERS }

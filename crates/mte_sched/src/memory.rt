@@ -1,4 +1,4 @@
-//! Where a live tenant's memory lies: its table, its quota and its tag state, over the frames and
+//! Where a live tenant's memory is: its table, its quota and its tag state, over the frames and
 //! the translation lookaside buffer that all tenants share.
 
 ghost use Rattle.std.specs.Prelude.{◌≡◌, ◌≢◌, ◌+◌, ◌<◌, ◌≤◌, None, All, sum, false};

@@ -24,9 +24,9 @@ pub(crate) enum Holding {
 /// A machine.
 #[derive(Drop)]
 pub(crate) struct Live {
-    /// All of it but its memory. It stands apart, so that a stopped tenant needs no room for it.
+    /// All of it but its memory. It is apart, so that a stopped tenant needs no room for it.
     pub(crate) parts: Box<TenantParts>,
-    /// Where its memory lies.
+    /// Where its memory is.
     pub(crate) memory: TenantMemory,
 }
 

@@ -33,7 +33,7 @@ unfoldable pub piece_len_of : ℕ → List ℕ → ℕ
 piece_len_of separator [] = 0
 piece_len_of separator (b ∷ more) = if b == separator then 0 else piece_len_of separator more + 1
 
--- The words of a line: what stands between spaces.
+-- The words of a line: what is between spaces.
 abbrev pub is_some_text : List ℕ → Bool
 is_some_text [] = false
 is_some_text (b ∷ more) = true
@@ -42,7 +42,7 @@ is_some_text (b ∷ more) = true
 abbrev pub words_of : List ℕ → List (List ℕ)
 words_of line = filter is_some_text (pieces_at 32 line)
 
--- The lines of a script: what stands between LFs.
+-- The lines of a script: what is between LFs.
 abbrev pub lines_of : List ℕ → List (List ℕ)
 lines_of script = pieces_at 10 script
 

@@ -22,7 +22,7 @@ pub fn cut(text: &[u8], separator: u8) -> (&[u8], Option<&[u8]>)
     }
 }
 
-/// How many bytes stand before the first separator, or in all.
+/// How many bytes are before the first separator, or in all.
 fn piece_len(text: &[u8], separator: u8) -> usize
     ensures { result ≡ piece_len_of separator text.now }
 {

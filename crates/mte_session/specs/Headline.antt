@@ -27,7 +27,7 @@ pub record AgreeFor (id : ℕ) (one other : Input) : Type 0 where
       Agree id (session_of one.frames one.files events)
       (session_of other.frames other.files others)
 
--- The lines of a record stand in a text that was written.
+-- The lines of a record are in a text that was written.
 pub record Shows (known : Record) (old new : WriteLog) : Type 0 where
   pub before : List ℕ
   pub after : List ℕ

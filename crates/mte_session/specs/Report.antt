@@ -67,7 +67,7 @@ status_line s = line (codes "status " ∷ status_parts s)
 abbrev pub output_line : List ℕ → List ℕ
 output_line bytes = line (codes "output " ∷ output_parts bytes)
 
--- The line of an output with some bytes, as it is written: what stands before the digits, these,
+-- The line of an output with some bytes, as it is written: what is before the digits, these,
 -- the end.
 abbrev pub long_output_line : List ℕ → List ℕ
 long_output_line bytes =

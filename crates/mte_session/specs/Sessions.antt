@@ -1,4 +1,4 @@
--- The report of a session: by the ledger and the tenants alone. No host stands in it.
+-- The report of a session: by the ledger and the tenants alone. No host is in it.
 use Rattle.std.specs.Prelude.{ℕ, ◌-◌, ◌==◌, List, [], ◌∷◌, ◌++◌, map, codes, decimal, slice_get}
 use Rattle.std.specs.Prelude.{unwrap_or, if◌then◌else◌}
 use Rattle.std.specs.List.{concat}
@@ -43,7 +43,7 @@ session_of frames files events = record { frames = frames; calls = calls_of file
 
 -- ---- the report
 
--- `Image ` stands before the name of an image's refusal.
+-- `Image ` is before the name of an image's refusal.
 abbrev pub prefix_of : Refusal → List ℕ
 prefix_of refusal.NotLive = []
 prefix_of (refusal.Admit (Image e)) = codes "Image "

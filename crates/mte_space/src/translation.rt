@@ -12,7 +12,7 @@ use mte_frames::FramePool;
 use mte_tags::Attrs;
 use mte_translate::{Table, Tlb, fill_adds_its_own, lookup_returns_what_stands};
 
-/// The frame and the attributes of a page, if it is mapped. Where no translation stands in the
+/// The frame and the attributes of a page, if it is mapped. Where no translation is in the
 /// lookaside buffer, the table is walked, and the buffer remembers what is mapped there.
 #[inline(always)]
 pub(crate) fn translate(

@@ -66,7 +66,7 @@ call_of-number_of (Realloc pointer size) = refl
 call_of-number_of (Memalign alignment size) = refl
 call_of-number_of (UsableSize pointer) = refl
 
--- The code of a call with its answer, by which proofs tell two apart.
+-- The code of a call with its answer, by which proofs distinguish two.
 abbrev pub coded_call : Coded AnsweredCall
 coded_call =
     code_by (ℕ × (ℕ × (ℕ × ℕ))) (coded× coded_ℕ (coded× coded_ℕ (coded× coded_ℕ coded_ℕ)))
@@ -74,7 +74,7 @@ coded_call =
     (λ k. record { call = call_of k.0 k.1.0 k.1.1.0; answer = k.1.1.1 })
     (λ c. λ i. record { call = call_of-number_of c.call i; answer = c.answer })
 
--- The code of the calls of a tenant, by which proofs tell two apart.
+-- The code of the calls of a tenant, by which proofs distinguish two.
 abbrev pub coded_calls : Coded Calls
 coded_calls =
     code_by (List AnsweredCall × ℕ) (coded× (coded_list coded_call) coded_ℕ)

@@ -8,7 +8,7 @@ pub record Written : Type 0 where
   pub bytes : List ℕ
   pub left : ℕ
 
--- The code of an output, by which proofs tell two apart.
+-- The code of an output, by which proofs distinguish two.
 abbrev pub coded_written : Coded Written
 coded_written = code_by (List ℕ × ℕ) (coded× (coded_list coded_ℕ) coded_ℕ)
     (λ w. (w.bytes, w.left)) (λ c. record { bytes = c.0; left = c.1 }) (λ _. refl)

@@ -34,7 +34,7 @@ write_cases (Some fault) p m n = ends p m (Fault fault)
 write_cases None p m n =
     resume_with (with_output p (read_bytes m (x_of p 0) n) n) (after_read m (x_of p 0) n true) n
 
--- Service 1, write: bytes of memory go to the output, and x0 tells how many.
+-- Service 1, write: bytes of memory go to the output, and x0 says how many.
 unfoldable pub after_write_service : TenantParts → Memory → Served
 after_write_service p m =
     write_cases (read_fault m (x_of p 0) (write_count p) true) p m (write_count p)
@@ -51,7 +51,7 @@ read_cases None p m n =
     resume_with (record p { input = drop n p.input })
     (after_write m (x_of p 0) (take n p.input) true) n
 
--- Service 2, read: bytes of the input go to memory, and x0 tells how many.
+-- Service 2, read: bytes of the input go to memory, and x0 says how many.
 unfoldable pub after_read_service : TenantParts → Memory → Served
 after_read_service p m =
     read_cases (write_fault m (x_of p 0) (read_count p) true) p m (read_count p)

@@ -169,7 +169,7 @@ fetch_result m pc =
     then fetch_cases m pc (first_fault m (fetch_access pc) (addresses (plain pc) 4))
     else Err (fault PcAlignment (fetch_access pc) (plain pc) 0)
 
--- each plain address of the list lies in a mapped page
+-- each plain address of the list is in a mapped page
 abbrev pub AreMapped : Memory → List ℕ → Type 0
 AreMapped m [] = Unit {0}
 AreMapped m (a ∷ more) = IsSome (page_at m (a / 4096)) × AreMapped m more

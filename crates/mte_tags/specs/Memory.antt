@@ -53,7 +53,7 @@ pub mode_of-is_async : (mode : TagMode) → mode_of (is_async mode) ≡ mode
 mode_of-is_async Sync = refl
 mode_of-is_async Async = refl
 
--- The code of a tag state, by which proofs tell two apart.
+-- The code of a tag state, by which proofs distinguish two.
 abbrev pub coded_state : Coded TagState
 coded_state =
     code_by (Bool × Bool) (coded× coded_bool coded_bool)
@@ -61,7 +61,7 @@ coded_state =
     (λ c. record { mode = mode_of c.0; pending = c.1 })
     (λ s. λ i. record { mode = mode_of-is_async s.mode i; pending = s.pending })
 
--- The code of a page, by which proofs tell two apart.
+-- The code of a page, by which proofs distinguish two.
 abbrev pub coded_page : Coded Page
 coded_page =
     code_by (ℕ × (List ℕ × List ℕ))
@@ -70,7 +70,7 @@ coded_page =
     (λ c. record { attrs = c.0; bytes = c.1.0; tags = c.1.1 })
     (λ _. refl)
 
--- The code of a memory, by which proofs tell two apart.
+-- The code of a memory, by which proofs distinguish two.
 abbrev pub coded_memory : Coded Memory
 coded_memory =
     code_by (ℕ × (FinMap nat_cmp Page × TagState))

@@ -1,5 +1,5 @@
 //! Accesses that one page holds, made of a memory's places. Each `at` is a plain address, below
-//! 2^56; a run of bytes or granules from there on lies within one page and is not empty. Only the
+//! 2^56; a run of bytes or granules from there on is within one page and is not empty. Only the
 //! quick calls take any bytes, and may leave them to the others. The calls know no mode: in each of
 //! them a tag that differs is a fault, and none sets the flag.
 

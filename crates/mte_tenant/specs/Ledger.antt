@@ -71,7 +71,7 @@ refuse_if test e = if test then Some e else None
 abbrev pub is_bad : Terms → Bool
 is_bad t = (t.pages == 0) || nat_lt MAX_PAGES t.pages || nat_lt MAX_OUTPUT t.room
 
--- What the ledger of a host of `frames` frames tells of an admission with a number.
+-- What the ledger of a host of `frames` frames says of an admission with a number.
 abbrev pub facts_of : ℕ → List LedgerEntry → ℕ → LedgerFacts
 facts_of frames ledger id = record {
   known = list_any (has_id id) ledger;

@@ -40,7 +40,7 @@ pub struct Admission<'a> {
     pub terms: Terms,
 }
 
-/// What a ledger tells of an admission.
+/// What a ledger says of an admission.
 #[derive(Clone, Copy)]
 pub struct LedgerFacts {
     /// Whether its number was admitted before, stopped or not.

@@ -81,7 +81,7 @@ pub fn admit_alone<M: Paged>(
     Ok(parts)
 }
 
-/// What the ledger of a host tells that has no tenant and just the frames of the charge.
+/// What the ledger of a host says that has no tenant and just the frames of the charge.
 fn facts_alone(admission: &Admission<'_>) -> LedgerFacts
     ensures { result ≡ facts_of (charge_of admission.now.terms.pages) [] admission.now.id }
 {

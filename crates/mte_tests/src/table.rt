@@ -89,7 +89,7 @@ fn change(
     }
 }
 
-/// A page to map or to unmap, and what table and quota tell after it: how many pages, leaves and
+/// A page to map or to unmap, and what table and quota have after it: how many pages, leaves and
 /// frames taken, and the first page.
 struct Row {
     is_map: bool,

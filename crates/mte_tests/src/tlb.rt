@@ -26,7 +26,7 @@ fn fill_all(tlb: &mut Tlb) -> bool {
     true
 }
 
-/// Whether the translations of the pages 4 to 66 stand.
+/// Whether the translations of the pages 4 to 66 are there.
 fn all_stand(tlb: &Tlb) -> bool {
     for page in 4..67 {
         let quick = tlb.quick_lookup(7, page).is_some();

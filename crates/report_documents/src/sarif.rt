@@ -182,7 +182,7 @@ fn end_text(report: &Report<'_>) -> &'static str {
     }
 }
 
-/// Writes what stands in front of the rules.
+/// Writes what is in front of the rules.
 fn write_head<W: Write>(out: &mut W) -> io::Result<()> {
     writeln!(out, "{{\"$schema\":\"{SCHEMA}\",")?;
     writeln!(out, "\"version\":\"2.1.0\",")?;
@@ -215,7 +215,7 @@ fn write_end<W: Write>(
     write_stack(out, "[", "the end", names, stack)
 }
 
-/// Writes a stack behind what stands in front of it.
+/// Writes a stack behind what is in front of it.
 fn write_stack<W: Write>(
     out: &mut W,
     front: &str,
@@ -237,7 +237,7 @@ fn begin_flow<W: Write>(out: &mut W) -> io::Result<()> {
     )
 }
 
-/// Writes a location of the flow, and what stands behind it.
+/// Writes a location of the flow, and what is behind it.
 fn write_step<W: Write>(
     out: &mut W,
     message: &str,

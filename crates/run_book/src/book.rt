@@ -139,7 +139,7 @@ impl BookChunk {
         Block::of(start).map_or(start, |block| block.start)
     }
 
-    /// Whether it lies in the block of a size class that begins at an address.
+    /// Whether it is in the block of a size class that begins at an address.
     fn is_in_block(&self, start: u64) -> bool {
         BookChunk::block_of(self.start()) == start
     }
@@ -149,7 +149,7 @@ impl BookChunk {
         tag_of(self.pointer)
     }
 
-    /// How many bytes lie between it and an address: 0 where the address is one of its own.
+    /// How many bytes are between it and an address: 0 where the address is one of its own.
     pub fn distance(&self, addr: u64) -> u64 {
         let (start, end) = (self.start(), self.end());
         if addr < start {
@@ -211,7 +211,7 @@ impl Book {
         Some(self.with_end(i.saturating_add(1), chunk))
     }
 
-    /// The chunk, of those with a tag, that lies nearest to an address; of several the newest.
+    /// The chunk, of those with a tag, that is nearest to an address; of several the newest.
     pub fn nearest(&self, addr: u64, tag: u8) -> Option<BookChunk> {
         let mut found: Option<(usize, BookChunk)> = None;
         for (i, entry) in self.entries.iter().enumerate() {

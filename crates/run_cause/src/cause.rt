@@ -60,7 +60,7 @@ pub enum Cause {
     ReadOnly,
     /// A jump to an address that is no code.
     WildJump,
-    /// Nothing that the heap calls tell.
+    /// Nothing that the heap calls show.
     Unknown,
 }
 
@@ -290,7 +290,7 @@ impl Cause {
         }
     }
 
-    /// How many bytes lie between what was named and what it belongs to, where that is told.
+    /// How many bytes are between what was named and what it belongs to, where that is written.
     fn distance(&self) -> Option<u64> {
         match self {
             Cause::UseAfterFree(_, distance)
@@ -305,7 +305,7 @@ impl Cause {
         }
     }
 
-    /// What stands between its name, or the distance, and the chunk.
+    /// What is between its name, or the distance, and the chunk.
     fn joint(&self) -> &'static str {
         match self {
             Cause::UseAfterFree(_, _)

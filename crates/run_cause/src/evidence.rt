@@ -109,7 +109,7 @@ impl<'a> Evidence<'a> {
         None
     }
 
-    /// How far below the stack an access lies that is near SP, where SP is below the stack: the one
+    /// How far below the stack an access is that is near SP, where SP is below the stack: the one
     /// that the tenant starts with, or one in a live chunk whose tag SP has.
     pub(crate) fn below_stack(&self, addr: u64) -> Option<u64> {
         let sp = plain(self.regs.sp);

@@ -203,7 +203,7 @@ fn slices<'a>(alloc: Global) -> Arg<'a> {
         .value_parser(value_parser!(u32).range(0..=1_048_576))
 }
 
-/// The arguments that say what is told.
+/// The arguments that say what is written.
 fn told_options<'a>(alloc: Global, command: Command<'a>) -> Result<Command<'a>, Error> {
     let command = command.arg(last(alloc))?;
     let command = command.arg(calls(alloc))?;

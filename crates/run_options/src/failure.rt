@@ -1,4 +1,4 @@
-//! Why the program has nothing to tell of a tenant, or cannot.
+//! Why the program has nothing to say of a tenant, or cannot.
 
 use mte_session::{ReadFault, ScriptError, ScriptFault, WriteFault};
 use obstacle::Obstacle;

@@ -1,4 +1,4 @@
-//! The command line of `mte_run`, and what it writes where it has no tenant to tell of.
+//! The command line of `mte_run`, and what it writes where it has no tenant to speak of.
 #![tactic(auto)]
 
 mod command_line;

@@ -53,20 +53,20 @@ pub struct Traced {
     pub services: bool,
 }
 
-/// What is told of a run.
+/// What is written of a run.
 #[derive(Drop)]
 pub struct OutputOptions {
-    /// How many of the last instructions are told.
+    /// How many of the last instructions are written.
     pub last: usize,
-    /// How many of the last calls and returns are told.
+    /// How many of the last calls and returns are written.
     pub turns: usize,
     /// The lines that are written while it runs.
     pub traced: Option<Traced>,
     /// The name of the file that they are written into, in place of standard error.
     pub trace_file: Option<String>,
-    /// Whether the live chunks are told.
+    /// Whether the live chunks are written.
     pub leaks: bool,
-    /// Whether the numbers of the run are told.
+    /// Whether the numbers of the run are written.
     pub statistics: bool,
     /// The name of the file that the heap is drawn into.
     pub map: Option<String>,
@@ -107,7 +107,7 @@ pub struct Options {
     pub run: RunOptions,
     /// How long it runs.
     pub length: RunLength,
-    /// What is told of it.
+    /// What is written of it.
     pub output: OutputOptions,
     /// Whether GDB debugs it.
     pub is_debugged: bool,
@@ -275,7 +275,7 @@ fn mode_of(matches: &ArgMatches<'_>) -> TagMode {
     }
 }
 
-/// The number of 1 to 16 hexadecimal digits, which may stand behind `0x`.
+/// The number of 1 to 16 hexadecimal digits, which may be behind `0x`.
 fn seed_of(text: &str) -> Option<u64> {
     let digits = text.strip_prefix("0x").unwrap_or(text);
     if digits.is_empty() || digits.len() > 16 || digits.starts_with('+') {
@@ -299,7 +299,7 @@ impl RunLength {
 }
 
 impl OutputOptions {
-    /// What is told of a run.
+    /// What is written of a run.
     fn of(alloc: Global, matches: &ArgMatches<'_>) -> Result<OutputOptions, Obstacle<Fault>> {
         Ok(OutputOptions {
             last: matches.get_one::<u32>("last").unwrap_or(16) as usize,
@@ -347,7 +347,7 @@ fn steps_of(text: &str) -> Option<(u64, u64)> {
     Some((step_of(from, 1)?, step_of(to, u64::MAX)?))
 }
 
-/// A step's number, or the one that stands for none.
+/// A step's number, or the one that means none.
 fn step_of(text: &str, none: u64) -> Option<u64> {
     if text.is_empty() {
         return Some(none);

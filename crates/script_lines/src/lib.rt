@@ -1,4 +1,4 @@
-//! Which word of a script's faulty line is wrong, and what should stand there.
+//! Which word of a script's faulty line is wrong, and what should be there.
 #![tactic(auto)]
 
 mod form;

@@ -84,7 +84,7 @@ impl fmt::Display for WrongWord {
 }
 
 impl WrongWord {
-    /// Writes the word, and what should stand there.
+    /// Writes the word, and what should be there.
     fn write_word<W: fmt::Write>(&self, f: &mut fmt::Formatter<W>) -> fmt::Result {
         let number = self.number.saturating_add(1);
         match &self.word {

@@ -31,7 +31,7 @@ pub record CacheState : Type 0 where
   pub classes : ByClass (List ℕ)
   pub capacity : ℕ
 
--- The code of a cache, by which proofs tell two apart.
+-- The code of a cache, by which proofs distinguish two.
 abbrev pub coded_cache : Coded CacheState
 coded_cache =
     code_by (ByClass (List ℕ) × ℕ) (coded× (finite.code coded_ℕ (coded_list coded_ℕ)) coded_ℕ)

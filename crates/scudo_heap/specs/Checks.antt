@@ -37,7 +37,7 @@ size_found (InPages m header) = secondary.end_of m - m.user - header.size_or_unu
 
 -- ---- 1, 2: the address; 3: the checksum; 4: the state
 
--- Whether the granule before a user address lies in a mapped page with WRITE. A page with WRITE has
+-- Whether the granule before a user address is in a mapped page with WRITE. A page with WRITE has
 -- READ as well.
 abbrev pub is_mapped : Memory → ℕ → Bool
 is_mapped m user = nat_le 16 user && page_has m ((user - 16) / PAGE_SIZE) 3
@@ -56,7 +56,7 @@ is_allocated Reserved = false
 
 -- ---- 5: a carved block of the class that the header gives, or a mapping; 6: a block in no stack
 
--- The place that a header tells.
+-- The place that a header gives.
 abbrev pub place_of_header : ℕ → Header → Place
 place_of_header user header = record {
   class = header.class_id;
@@ -71,7 +71,7 @@ is_block s class block =
     nat_le (region_of class) block && ((block - region_of class) % size_of class == 0)
     && nat_lt (number_of class block) (carved_count class (pages_of s class))
 
--- Whether a chunk of a size, some bytes at least, lies in a carved block of a size class.
+-- Whether a chunk of a size, some bytes at least, is in a carved block of a size class.
 abbrev pub is_place : StackState → Place → Bool
 is_place s p =
     nat_le p.class CLASSES && is_block s p.class p.block && nat_lt 0 p.size

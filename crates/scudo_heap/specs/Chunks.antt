@@ -1,4 +1,4 @@
--- Where a chunk of a size class lies in its block, its tag, and the granules around it (Scudo,
+-- Where a chunk of a size class is in its block, its tag, and the granules around it (Scudo,
 -- memtag.h and combined.h).
 use Rattle.std.specs.Prelude.{ℕ, ◌+◌, ◌-◌, ◌*◌, ◌/◌, ◌%◌, ◌^◌, nat_lt, true, false}
 use Rattle.std.specs.Prelude.{if◌then◌else◌}

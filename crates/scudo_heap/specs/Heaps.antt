@@ -15,7 +15,7 @@ pub record HeapState : Type 0 where
 abbrev pub heap_of : ℕ → StackState → SecondaryState → HeapState
 heap_of cookie s ms = record { cookie = cookie; stacks = s; maps = ms }
 
--- The code of a heap, by which proofs tell two apart.
+-- The code of a heap, by which proofs distinguish two.
 abbrev pub coded_heap : Coded HeapState
 coded_heap =
     code_by (ℕ × (StackState × SecondaryState)) (coded× coded_ℕ (coded× coded_stacks coded_maps))

@@ -74,7 +74,7 @@ pub record IsOpen (m : Memory) (from to : ℕ) : Type 0 where
   pub pages : (a : ℕ) → from ≤ a → a < to → attrs_at m (a / PAGE_SIZE) ≡ Some data_attrs.0
   pub below : to ≤ 2 ^ 30
 
--- where a chunk may lie in a block of a size class
+-- where a chunk may be in a block of a size class
 pub record IsPlaced (s : StackState) (p : Place) : Type 0 where
   pub low : 0 < p.class
   pub high : p.class ≤ CLASSES
@@ -128,7 +128,7 @@ pub record FitsIn (p : Place) : Type 0 where
   pub whole : block_end p % 16 ≡ 0
   pub within : end_of p ≤ block_end p
 
--- a chunk of a size lies with its header in a mapping, of which a page at most is left
+-- a chunk of a size is with its header in a mapping, of which a page at most is left
 pub record IsLarge (m : Mapping) (size : ℕ) : Type 0 where
   pub some : 0 < m.pages
   pub few : m.pages ≤ MAX_PAGES
@@ -139,7 +139,7 @@ pub record IsLarge (m : Mapping) (size : ℕ) : Type 0 where
   pub below : m.user < secondary.end_of m
   pub unused : secondary.end_of m - m.user - size < 2 ^ 20
 
--- a chunk that was handed out lies where every chunk does
+-- a chunk that was handed out is where every chunk is
 abbrev pub IsLow : Chunk → Type 0
 IsLow (Small p tag) = (p.user < 2 ^ 32) × (tag < 16)
 IsLow (Large m size) = m.user < 2 ^ 32

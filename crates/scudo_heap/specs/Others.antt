@@ -6,7 +6,7 @@ use Rattle.address_map.specs.declared.limits.TheConstants.{PAGE_SIZE}
 use Rattle.address_map.specs.declared.ranges.TheConstants.{SECONDARY_END}
 use Rattle.scudo_header.specs.Regions.{region_of}
 
--- Whether a page lies in none of those ranges.
+-- Whether a page is in none of those ranges.
 abbrev pub IsOther : ℕ → Type 0
 IsOther page = region_of 1 / PAGE_SIZE ≤ page → page < SECONDARY_END / PAGE_SIZE → ⊥
 

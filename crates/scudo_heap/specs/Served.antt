@@ -18,13 +18,13 @@ use Rattle.scudo_heap.specs.Heaps.{HeapState}
 abbrev pub heap_page : Bool → Option ℕ
 heap_page mine = if mine then Some data_attrs.0 else None
 
--- Whether an address lies in a mapping.
+-- Whether an address is in a mapping.
 abbrev pub is_inside : ℕ → Mapping → Bool
 is_inside a m = nat_le m.start a && nat_lt a (secondary.end_of m)
 
 -- room: the heap has room for all pages that are left in the memory; it is so from the start where
 -- the memory may have at most the pages that the heap was made for
--- few: a class's pages lie in its region
+-- few: a class's pages are in its region
 -- regions: of a class's region exactly its pages are mapped
 -- mappings: of the range of chunks with pages of their own exactly theirs are mapped
 pub record HeapOwnsItsPages (m : Memory) (h : HeapState) : Type 0 where
@@ -40,7 +40,7 @@ pub record HeapOwnsItsPages (m : Memory) (h : HeapState) : Type 0 where
       (a : ℕ) → SECONDARY_START ≤ a → a < SECONDARY_END
       → attrs_at m (a / PAGE_SIZE) ≡ heap_page (list_any (is_inside a) h.maps.mappings)
 
--- no page lies where those of a heap do: from the first class's region to the end of the range of
+-- no page is where those of a heap are: from the first class's region to the end of the range of
 -- chunks with pages of their own
 abbrev pub IsUntouched : Memory → Type 0
 IsUntouched m =

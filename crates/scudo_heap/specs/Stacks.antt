@@ -25,7 +25,7 @@ pub record StackState : Type 0 where
   pub capacities : List ℕ
   pub classes : ByClass ClassHeap
 
--- The code of a class, by which proofs tell two apart.
+-- The code of a class, by which proofs distinguish two.
 abbrev pub coded_class : Coded ClassHeap
 coded_class =
     code_by (ℕ × List ℕ) (coded× coded_ℕ (coded_list coded_ℕ))
@@ -33,7 +33,7 @@ coded_class =
     (λ c. record { pages = c.0; stack = c.1 })
     (λ _. refl)
 
--- The code of the stacks, by which proofs tell two apart.
+-- The code of the stacks, by which proofs distinguish two.
 abbrev pub coded_stacks : Coded StackState
 coded_stacks =
     code_by (ℕ × (List ℕ × ByClass ClassHeap))

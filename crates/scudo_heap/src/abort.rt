@@ -11,7 +11,7 @@ use std::fmt;
 pub enum HeapAbort {
     /// Its plain address is not a multiple of 16.
     Misaligned,
-    /// The granule before it lies in no mapped page with WRITE.
+    /// The granule before it is in no mapped page with WRITE.
     Unmapped,
     /// The checksum of its header differs.
     HeaderCorrupt,

@@ -31,7 +31,7 @@ fn is_handed_out(state: State) -> bool
     }
 }
 
-/// Whether a chunk of a size, some bytes at least, lies in a carved block of a size class.
+/// Whether a chunk of a size, some bytes at least, is in a carved block of a size class.
 #[inline(always)]
 fn lies_in_block(stacks: &Stacks, place: Place) -> bool
     requires class { 0 < place.class }
@@ -112,7 +112,7 @@ fn by_header(
     in_block(stacks, place, header)
 }
 
-/// The header's word in the granule before a user address, where that lies in a mapped page with
+/// The header's word in the granule before a user address, where that is in a mapped page with
 /// READ and WRITE.
 #[inline(always)]
 fn header_word<M: Paged>(memory: &mut M, user: u64) -> Option<u64>

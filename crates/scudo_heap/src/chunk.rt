@@ -1,4 +1,4 @@
-//! Where a chunk lies.
+//! Where a chunk is.
 
 ghost use Rattle.std.specs.Prelude.{◌≡◌, ◌≤◌, ◌^◌, Some, IfSome};
 ghost use Rattle.scudo_heap.specs.Allocation.{answer_of};
@@ -9,7 +9,7 @@ ghost use Rattle.scudo_heap.specs.Checks.{size_found};
 use scudo_header::Header;
 use scudo_secondary::Mapping;
 
-/// Where a chunk of a size class lies in its block.
+/// Where a chunk of a size class is in its block.
 #[derive(Clone, Copy)]
 pub struct Place {
     /// Its size class.

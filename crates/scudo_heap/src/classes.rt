@@ -36,7 +36,7 @@ fn first_user(block: u64, align: u64) -> u64
     (block + 16 + (align - 1)) / align * align
 }
 
-/// Where a chunk lies in a block: after the header, at the first multiple of the alignment.
+/// Where a chunk is in a block: after the header, at the first multiple of the alignment.
 #[inline(always)]
 fn place(class: u8, block: u64, align: u64, size: u64) -> Place
     requires block { block < 2 ^ 32 }

@@ -29,7 +29,7 @@ use scudo_secondary::Secondary;
 use std::alloc::{AllocError, Global};
 use std::marker::Model;
 
-/// The heap of one tenant. Its chunks lie in the tenant's memory, which each call borrows; here
+/// The heap of one tenant. Its chunks are in the tenant's memory, which each call borrows; here
 /// stand the free blocks of the size classes and the mappings of larger chunks. No call changes for
 /// how many elements its lists have memory.
 #[derive(Drop)]

@@ -65,7 +65,7 @@ pub record BlockTable : Type 0 where
 abbrev pub block_table : List BlockEntry → List ℕ → List ClassList → BlockTable
 block_table es ns ks = record { entries = es; numbers = ns; lists = ks }
 
--- where the number of a class's page stands
+-- where the number of a class's page is
 abbrev pub slot_of : ℕ → ℕ → ℕ
 slot_of class page = page * CLASSES + (class - 1)
 
@@ -73,7 +73,7 @@ slot_of class page = page * CLASSES + (class - 1)
 abbrev pub page_number : List ℕ → ℕ → ℕ → ℕ
 page_number ns class page = slice_index ns (slot_of class page)
 
--- where the entry of a block stands
+-- where the entry of a block is
 abbrev pub place_of : List ℕ → ℕ → ℕ → ℕ
 place_of ns class block =
     page_number ns class ((block - region_of class) / PAGE_SIZE) * 128

@@ -35,7 +35,7 @@ pub record PoolState : Type 0 where
   pub capacities : List ℕ
   pub classes : ByClass ClassState
 
--- The code of a class, by which proofs tell two apart.
+-- The code of a class, by which proofs distinguish two.
 abbrev pub coded_class : Coded ClassState
 coded_class =
     code_by (ℕ × (List ℕ × (List ℕ × List Bool)))
@@ -45,7 +45,7 @@ coded_class =
     (λ c. record { pages = c.0; stack = c.1.0; sizes = c.1.1.0; marks = c.1.1.1 })
     (λ _. refl)
 
--- The code of a pool, by which proofs tell two apart.
+-- The code of a pool, by which proofs distinguish two.
 abbrev pub coded_pool : Coded PoolState
 coded_pool =
     code_by (ℕ × (List ℕ × ByClass ClassState))

@@ -43,7 +43,7 @@ ghost use Rattle.scudo_primary.specs.Inner.{list_at, entry_at, state_in, class_a
 ghost use Rattle.scudo_primary.specs.Inner.{class_after_link_new};
 ghost use Rattle.scudo_primary.specs.Inner.{IsFilledUp, IsNumberedOn, place_of, slot_of};
 
-/// Where the number of a page of a class's region stands.
+/// Where the number of a page of a class's region is.
 #[inline(always)]
 fn slot(class: u8, page: u64) -> usize
     requires class { IsClass class }
@@ -53,7 +53,7 @@ fn slot(class: u8, page: u64) -> usize
     (page * u64::from(CLASSES) + u64::from(class - 1)) as usize
 }
 
-/// Where the entry of a block stands.
+/// Where the entry of a block is.
 #[inline(always)]
 pub(crate) fn place(numbers: &[u16], class: u8, block: u64) -> usize
     requires class { IsClass class }

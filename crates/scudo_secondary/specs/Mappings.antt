@@ -14,7 +14,7 @@ pub record SecondaryState : Type 0 where
   pub limit : ℕ
   pub mappings : List Mapping
 
--- The code of a mapping, by which proofs tell two apart.
+-- The code of a mapping, by which proofs distinguish two.
 abbrev pub coded_mapping : Coded Mapping
 coded_mapping =
     code_by (ℕ × (ℕ × ℕ)) (coded× coded_ℕ (coded× coded_ℕ coded_ℕ))
@@ -22,7 +22,7 @@ coded_mapping =
     (λ c. record { start = c.0; pages = c.1.0; user = c.1.1 })
     (λ _. refl)
 
--- The code of the mappings, by which proofs tell two apart.
+-- The code of the mappings, by which proofs distinguish two.
 abbrev pub coded_maps : Coded SecondaryState
 coded_maps =
     code_by (ℕ × List Mapping) (coded× coded_ℕ (coded_list coded_mapping))
@@ -45,7 +45,7 @@ abbrev pub is_apart : ℕ → ℕ → Mapping → Bool
 is_apart pages start m =
     nat_le (end_of m + PAGE_SIZE) start || nat_le (start + PAGE_SIZE * pages + PAGE_SIZE) m.start
 
--- Whether pages may be mapped at an address: they and one page on each side lie in the range, and
+-- Whether pages may be mapped at an address: they and one page on each side are in the range, and
 -- none of these is a mapping's.
 unfoldable pub is_place : List Mapping → ℕ → ℕ → Bool
 is_place ms pages start =

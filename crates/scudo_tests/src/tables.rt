@@ -622,7 +622,7 @@ const TAGS_OF_LIVE_CHUNKS: [CallRow; 7] = [
     CallRow(1, TestCall::Checked(0x3D00_2000), REFUSED),
 ];
 
-/// A free finds no header: the next chunk lies in another block.
+/// A free finds no header: the next chunk is in another block.
 const FREED_WITHOUT_A_HEADER: [CallRow; 4] = [
     CallRow(1, TestCall::Malloc(24), CallAnswer::Is(CHUNK)),
     CallRow(1, TestCall::Write(0x1200_0000, 0), DONE),

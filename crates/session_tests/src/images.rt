@@ -30,7 +30,7 @@ pub fn image(alloc: Global, words: &[u32]) -> Result<Vec<u8>, AllocError> {
     Ok(file)
 }
 
-/// How many bytes of an image stand before its words.
+/// How many bytes of an image are before its words.
 pub const HEADERS: usize = 120;
 
 /// Writes `Hi` and exits with 0.

@@ -1,11 +1,11 @@
-//! What is told of a script's faulty line.
+//! What is said of a script's faulty line.
 
 use mte_session::ScriptFault;
 use script_lines::WrongWord;
 use std::alloc::Global;
 use std::process::Abort;
 
-/// Faulty lines, and what is told of each where one file is named.
+/// Faulty lines, and what is said of each where one file is named.
 const LINES: [(&[u8], ScriptFault, &str); 5] = [
     (
         b"slice 1",
@@ -38,7 +38,7 @@ const LINES: [(&[u8], ScriptFault, &str); 5] = [
     ),
 ];
 
-/// Whether a text is what is told of a faulty line.
+/// Whether a text is what is said of a faulty line.
 fn is_told(alloc: Global, wrong: &WrongWord, expected: &str) -> bool {
     match format!(in alloc; "{wrong}") {
         Ok(text) => text.as_str() == expected,

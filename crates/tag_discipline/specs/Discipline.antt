@@ -48,7 +48,7 @@ StartsSound =
     (m : Memory) (cookie pages : ℕ) (r : Rgsr) → IsNew m pages
     → Sound (record { world = world_of m (empty_heap cookie pages) r; live = no_chunks })
 
--- A careful run keeps what the other laws stand on.
+-- A careful run keeps what the other laws rest on.
 abbrev pub StaysSound : Type 0
 StaysSound = (a b : State) → Run (λ s. Unit {0}) a b → Sound a → Sound b
 

@@ -1,6 +1,6 @@
 -- The live chunks with pages of their own beside a run, by user address; and what holds of them.
 --     large_at g u       the chunk at a user address
---     AreLarge ms g      each lies with its header in the mapping of its user address
+--     AreLarge ms g      each is with its header in the mapping of its user address
 use Rattle.std.specs.Prelude.{◌≡◌, ℕ, ◌+◌, ◌%◌, ◌^◌, ◌<◌, ◌≤◌, List, Option, Some}
 use Rattle.std.specs.Ordering.{nat_cmp}
 use Rattle.std.specs.FinMap as finite

@@ -31,7 +31,7 @@ TenantsStartSound =
     → admission_refusal frames ledger id start ≡ None → start.terms.mode ≡ Sync
     → Sound (state_of (start_of id start) no_chunks)
 
--- Careful instructions of a slice, and its end, keep what the other laws stand on.
+-- Careful instructions of a slice, and its end, keep what the other laws rest on.
 abbrev pub SlicesStaySound : Type 0
 SlicesStaySound =
     (n : ℕ) (m : Machine) (l : Live) → Sound (state_of m l) → IsCareful n m l
@@ -69,7 +69,7 @@ ReusedTagsStayDifferent =
 
 -- ---- tenants of a session
 
--- What the other laws stand on holds of each tenant of a host whose slices were careful, whatever
+-- What the other laws rest on holds of each tenant of a host whose slices were careful, whatever
 -- the other tenants did.
 abbrev pub TenantsStaySound : Type 0
 TenantsStaySound =

@@ -12,7 +12,7 @@ ghost use Rattle.tag_discipline.specs.Discipline.{FreedBlocksAreFree, FreedPages
 ghost use Rattle.tag_discipline.specs.Discipline.{ChunksAreApart, ChunksAreGuarded};
 ghost use Rattle.tag_discipline.specs.Discipline.{ReusedTagsDiffer};
 
-/// What the other laws stand on holds of a new heap, and after each step of a careful run.
+/// What the other laws rest on holds of a new heap, and after each step of a careful run.
 pub fn careful_runs_are_sound()
     ensures start { StartsSound }
     ensures run { StaysSound }

@@ -9,7 +9,7 @@ ghost use Rattle.tag_discipline.specs.TenantLaws.{FreedBlocksOfTenantsAreRefused
 ghost use Rattle.tag_discipline.specs.TenantLaws.{FreedPagesOfTenantsAreRefused};
 ghost use Rattle.tag_discipline.specs.TenantLaws.{ChunksOfTenantsAreGuarded};
 
-/// What the laws stand on holds of a tenant that is admitted, and after each slice of careful
+/// What the laws rest on holds of a tenant that is admitted, and after each slice of careful
 /// instructions: of each tenant of a host whose slices were careful, whatever the other tenants
 /// did.
 pub fn careful_tenants_are_sound()

@@ -96,7 +96,7 @@ impl<'a> Rows<'a> {
         }
     }
 
-    /// Writes what stands above them.
+    /// Writes what is above them.
     fn write_heading<W: Write>(
         &self,
         alloc: Global,
@@ -154,7 +154,7 @@ impl<'a> Rows<'a> {
         write!(out, "{gap}")
     }
 
-    /// An arrow from the chunk that the cause names to what is framed, where that lies outside.
+    /// An arrow from the chunk that the cause names to what is framed, where that is outside.
     fn arrow(&self) -> Option<Arrow> {
         let (addr, chunk) = (self.picture.mark?.addr, self.picture.cause_extent()?);
         let edge = if addr < chunk.start {

@@ -11,7 +11,7 @@ use std::alloc::Global;
 use std::io::Write;
 use std::{fmt, io};
 
-/// What stands above the rows.
+/// What is above the rows.
 const HEAD: &str =
     "each sign is a granule of 16 bytes: its tag in hexadecimal, or . where no page is mapped; \
     below it = in a live chunk, x in a freed one, ^ what was refused";

@@ -48,7 +48,7 @@ pub struct LoneTenant<'x> {
 }
 
 impl<'x> LoneTenant<'x> {
-    /// A tenant of an image, under the seed of the run that is told: of several the first under
+    /// A tenant of an image, under the seed of the run that is reported: of several the first under
     /// which it does not exit. A line says how the runs under several seeds ended.
     pub fn of(
         rt: &HostRuntime,
@@ -108,7 +108,7 @@ impl<'x> LoneTenant<'x> {
     }
 
     /// Runs the tenant to its end. Where nothing has to watch each step, it runs unwatched first;
-    /// only an end that is told by what was watched takes a second run, which is the same.
+    /// only an end that is explained by what was watched takes a second run, which is the same.
     fn run_watched<'a>(
         &self,
         alloc: Global,

@@ -57,7 +57,7 @@ impl<'a, 'x> SessionReplay<'a, 'x> {
         }
     }
 
-    /// The same tenant, which a second run watched if its end is told by what that remembers.
+    /// The same tenant, which a second run watched if its end is explained by what that remembers.
     fn watched(
         &self,
         alloc: Global,

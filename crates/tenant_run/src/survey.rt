@@ -57,7 +57,7 @@ impl Survey {
         }
     }
 
-    /// The seed that is told: the first under which the tenant did not exit, or the given one.
+    /// The seed that is reported: the first under which the tenant did not exit, or the given one.
     pub fn seed(&self, given: u64) -> u64 {
         self.found.unwrap_or(given)
     }

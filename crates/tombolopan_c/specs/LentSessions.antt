@@ -66,7 +66,7 @@ abbrev pub report_left : Result (List ℕ) SessionError → List ℕ → List �
 report_left (Ok text) old = filled text old
 report_left (Err e) old = old
 
--- What a session comes to stands in the buffer and in what is told of its end.
+-- What a session comes to is in the buffer and in what is told of its end.
 pub record HasEnded (input : Input) (old new : List ℕ) (e : SessionEnd) : Type 0 where
   pub answer : Result (List ℕ) SessionError
   pub comes : Comes input answer

@@ -166,7 +166,7 @@ abbrev pub buffers_left : Result Record (Obstacle AdmitError) → Buffers → Bu
 buffers_left (Ok r) old = buffers_after r old
 buffers_left (Err o) old = old
 
--- What became of a tenant alone stands in the buffers and in what is told of its end.
+-- What became of a tenant alone is in the buffers and in what is told of its end.
 pub record HasLived (t : LentTerms) (old new : Buffers) (e : AloneEnd) : Type 0 where
   pub answer : Result Record (Obstacle AdmitError)
   pub is : IsAnswer t answer

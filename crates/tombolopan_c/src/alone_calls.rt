@@ -14,8 +14,8 @@ use tombolopan::run_alone;
 
 /// Runs a tenant alone for the given slices, and copies as much of its output and of its last 64
 /// heap calls, the oldest first, as the buffers hold. OK where they hold all; NO_ROOM where they do
-/// not: `end` tells how many there are. REFUSED, where the tenant is not admitted for the reason
-/// that `end` tells, and OUT_OF_MEMORY, where an allocation failed, write nothing to the buffers.
+/// not: `end` says how many there are. REFUSED, where the tenant is not admitted for the reason
+/// that `end` says, and OUT_OF_MEMORY, where an allocation failed, write nothing to the buffers.
 #[unsafe(no_mangle)]
 pub extern "C" fn tb_alone(
     alloc: Global,

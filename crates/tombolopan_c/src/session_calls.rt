@@ -12,8 +12,8 @@ use mte_session::SessionError;
 use std::alloc::Global;
 
 /// Runs a script on a host of `frames` frames, 1 to 65536, and copies as much of its report as the
-/// buffer holds. OK where it holds all; NO_ROOM where it does not: `end` tells how long the whole
-/// report is. SCRIPT where a line of the script is faulty, which `end` tells, and OUT_OF_MEMORY,
+/// buffer holds. OK where it holds all; NO_ROOM where it does not: `end` says how long the whole
+/// report is. SCRIPT where a line of the script is faulty, which `end` says, and OUT_OF_MEMORY,
 /// where an allocation failed, write nothing to the buffer; nor does BAD_ARGUMENT, for any other
 /// number of frames.
 #[unsafe(no_mangle)]
