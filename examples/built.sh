@@ -23,7 +23,8 @@ find_program() {
             "$here/../tools/build.sh" --unproved --only "$name" || exit 2
         fi
     fi
-    if [[ -e $mark ]] && (cd "${mark%/*}" && sha256sum --check --status "$mark"); then
+    if [[ -e $mark ]] && grep "[ /]$name\$" "$mark" |
+        (cd "${mark%/*}" && sha256sum --check --status 2>/dev/null); then
         echo "$script: $name is built without proof" >&2
     fi
 }
