@@ -146,7 +146,7 @@ build_libc() {
     fi
 }
 
-processors=$(nproc)
+processors=${jobs:-$(nproc)}
 if [[ -z $jobs ]]; then
     # 3 GB of memory for each.
     room=$(awk '/^MemAvailable/ { print int($2 / 3000000) }' /proc/meminfo)
