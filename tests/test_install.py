@@ -11,7 +11,7 @@ import sys
 import pytest
 
 from tests.support import installed
-from tests.support.checkout import tracked_files
+from tests.support.checkout import copy_files, link_built, tracked_files
 from tests.support.host_sessions import HI_REPORT, with_hi
 from tests.support.places import EXAMPLES, ROOT
 from tests.support.running import run, succeed
@@ -413,13 +413,23 @@ def test_uninstall(prefix: pathlib.Path, tmp_path: pathlib.Path) -> None:
     assert ran.errors == f"install.sh: nothing is installed there: no {place}/{SHARE}/installed\n"
 
 
-def test_what_is_unproved_says_so(prefix: pathlib.Path, tmp_path: pathlib.Path) -> None:
-    """A program that is marked as built without proof is marked in the prefix too."""
-    built, place = tmp_path / "built", tmp_path / "prefix"
-    shutil.copytree(prefix.parent / "built", built, symlinks=True)
-    succeed(["sh", "-c", "sha256sum mte_run >mte_run.unproved"], cwd=built)
-    ran = installed.install([str(place), str(built)])
-    assert (ran.status, ran.errors) == (0, "install.sh: built without proof: mte_run\n")
+def test_from_a_checkout(prefix: pathlib.Path, tmp_path: pathlib.Path) -> None:
+    """What a checkout has built is installed. A program that is marked as built without proof is
+    marked in the prefix too; where the C library of tenants is not built, there is no tenant-cc."""
+    clone = copy_files(tmp_path / "clone", "tools/", "examples/", "docs/", "include/", "isa/",
+                       "README.md", "CHANGELOG.md", "crates.txt")
+    for file in (prefix.parent / "built").iterdir():
+        if file.is_file():
+            link_built(clone, file.resolve())
+    out = clone / "crates" / "mte_run" / "out"
+    succeed(["sh", "-c", "sha256sum mte_run >mte_run.unproved"], cwd=out)
+    ran = run([clone / "tools" / "install.sh", "prefix"], cwd=tmp_path, seconds=300)
+    place = tmp_path / "prefix"
+    assert (ran.status, ran.output) == (0, WRITTEN.format(place))
+    assert ran.errors == (
+        "install.sh: without tenant-cc: its C library is not built (tools/build.sh)\n"
+        "install.sh: built without proof: mte_run\n")
+    assert not (place / "bin" / "tenant-cc").is_symlink()
     (tmp_path / "no.elf").touch()
     extra = {"TOMBOLOPAN_BUILT": ""}
     ran = run([place / "bin" / "mte_why", tmp_path / "no.elf"], extra=extra)
