@@ -11,12 +11,11 @@ find_program() {
         program=$TOMBOLOPAN_BUILT/$name
         return
     fi
-    if [[ ! -d $here/../crates ]]; then
-        program=$here/../../../bin/$name
+    program=$here/../crates/$name/out/$name
+    mark=$program.unproved
+    if [[ ! -e $here/../crates.txt ]]; then
         mark=$here/../unproved
     else
-        program=$here/../crates/$name/out/$name
-        mark=$program.unproved
         if [[ ! -x $program || -n $(find "$here"/../crates/*/src "$here/../crates.txt" \
             -newer "$program" -print -quit) ]]; then
             echo "$script: builds $name without proof, once: one to two minutes" >&2

@@ -1,5 +1,6 @@
 """The installed tree: its files, and that each of them is of use in a copy of it elsewhere."""
 
+import ast
 import filecmp
 import os
 import pathlib
@@ -20,9 +21,11 @@ from tests.support.tools import need
 
 EXECUTABLE, READABLE = 0o755, 0o644
 SHARE, LIBC = "share/tombolopan", "share/tombolopan/examples/libc/out"
-PROGRAMS = ("mte_host", "mte_run", "mte_why", "tenant-cc", "disassemble")
-# Those with options.
-COMPLETED = ("mte_host", "mte_run", "mte_why", "tenant-cc")
+# Those of examples/libc, by their comments, and those with options.
+TENANTS = {path.name: ast.get_docstring(ast.parse(path.read_text(encoding="utf-8"))) or ""
+           for path in sorted((EXAMPLES / "libc").glob("tenant-*"))}
+COMPLETED = ("mte_host", "mte_run", "mte_why", *TENANTS)
+PROGRAMS = (*COMPLETED, "disassemble")
 FILES = {
     "bin/mte_host": EXECUTABLE, "bin/mte_run": EXECUTABLE, "bin/disassemble": EXECUTABLE,
     "include/tombolopan.h": READABLE, "include/tenant.h": READABLE,
@@ -44,7 +47,9 @@ COPIES = {f"{SHARE}/examples/": "examples/", "share/doc/tombolopan/docs/": "docs
 LINKS = {
     "lib/libtombolopan.so": "libtombolopan.so.2",
     "bin/mte_why": "../share/tombolopan/examples/why.sh",
-    "bin/tenant-cc": "../share/tombolopan/examples/libc/tenant-cc",
+    **{f"bin/{name}": f"../share/tombolopan/examples/libc/{name}" for name in TENANTS},
+    **{f"{SHARE}/crates/{name}/out/{name}": f"../../../../../bin/{name}"
+       for name in ("mte_host", "mte_run", "disassemble")},
 }
 HEADER = ROOT / "include" / "tombolopan.h"
 FIRST = "breakpoint 1, x0 is 42\n"
@@ -234,17 +239,15 @@ def test_mte_why(moved: pathlib.Path, shared: pathlib.Path) -> None:
 
 
 def test_examples(moved: pathlib.Path, tmp_path: pathlib.Path) -> None:
-    """The first session runs where it is, and a copy of examples/c by its Makefile."""
+    """The first session runs where it is, and tenants of examples/c by its Makefile."""
     need("make", "clang", "ld.lld")
     extra = {**installed.variables(moved), "TOMBOLOPAN_BUILT": ""}
     ran = run([moved / SHARE / "examples" / "hi.sh"], extra=extra)
     assert (ran.status, ran.output, ran.errors) == (0, HI_REPORT, "")
-    folder = tmp_path / "c"
-    shutil.copytree(moved / SHARE / "examples" / "c", folder)
-    ran = run(["make", "-s", "hello.run", "ALONE=mte_run"], cwd=folder, extra=extra)
-    assert ran.status != 0
-    program = shutil.which("mte_run", path=extra["PATH"])
-    ran = run(["make", "-s", "hello.run", f"ALONE={program}"], cwd=folder, extra=extra)
+    place = tmp_path / "prefix"
+    shutil.copytree(moved, place, symlinks=True)
+    folder = place / SHARE / "examples" / "c"
+    ran = run(["make", "-s", "hello.run"], cwd=folder, extra=extra)
     assert ran.status == 0 and "hello" in ran.output.lower()
 
 
@@ -255,23 +258,22 @@ def completed(moved: pathlib.Path, name: str, *words: str) -> set[str]:
               'call=$(complete -p "$1"); call=${call#*-F }; ${call% *}; '
               'printf "%s\\n" "${COMPREPLY[@]}"')
     ran = succeed(["bash", "-c", script, "bash", file, name, *words])
-    return set(ran.output.splitlines())
+    return set(ran.output.splitlines()) - {""}
 
 
 @pytest.mark.parametrize("name", COMPLETED)
 def test_completions(moved: pathlib.Path, name: str) -> None:
     """bash offers each option of the help; the files of zsh and fish have them too."""
-    ran = run([moved / "bin" / name, "--help"])
-    if name == "mte_why":
-        ran = run([moved / "bin" / "mte_run", "--help"])
-    options = set(re.findall(r"^ +(?:-\w, )?(--[\w-]+)", ran.output + ran.errors, re.M))
-    assert len(options) >= 2
+    asked = "mte_run" if name == "mte_why" else name
+    told = TENANTS.get(name) or succeed([moved / "bin" / asked, "--help"]).output
+    options = set(re.findall(r"^ +(?:-\w, )?(--[\w+-]+)", told, re.M))
+    assert name in TENANTS or len(options) >= 2
     assert {word.split("=")[0] for word in completed(moved, name, "--")} == options
     share = moved / "share"
     zsh = (share / "zsh" / "site-functions" / f"_{name}").read_text(encoding="utf-8")
     assert zsh.startswith(f"#compdef {name}\n")
     fish = (share / "fish" / "vendor_completions.d" / f"{name}.fish").read_text(encoding="utf-8")
-    assert set(re.findall(r"^    '(--[\w-]+)", zsh, re.M)) == options
+    assert set(re.findall(r"^    '(--[\w+-]+?)(?:=-)?\[", zsh, re.M)) == options
     assert {f"--{it}" for it in re.findall(rf"^complete -c {name} -l (\S+)", fish, re.M)} == options
 
 
@@ -281,7 +283,7 @@ def test_completion_of_values(moved: pathlib.Path, tmp_path: pathlib.Path) -> No
     word = str(tmp_path / "inp")
     assert completed(moved, "mte_run", "--input", word) == {str(tmp_path / "input.txt")}
     assert completed(moved, "mte_run", "--ex") == {"--exact", "--exact=all", "--exact=writes"}
-    assert completed(moved, "mte_run", "--pages", "") <= {""}
+    assert completed(moved, "mte_run", "--pages", "") == set()
 
 
 @pytest.mark.parametrize("shell", ["zsh", "fish"])
@@ -335,7 +337,7 @@ def test_manual_of_the_library(moved: pathlib.Path) -> None:
     assert len(names) >= 25 and set(names) <= headings, set(names) - headings
 
 
-@pytest.mark.parametrize("name", PROGRAMS)
+@pytest.mark.parametrize("name", ["mte_host", "mte_run", "mte_why", "tenant-cc", "disassemble"])
 def test_manual_has_its_statuses(moved: pathlib.Path, name: str) -> None:
     """The page of a program says what its exit status means; of mte_run each one."""
     shown = rendered(moved, f"man1/{name}.1")

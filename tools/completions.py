@@ -9,9 +9,10 @@ from dataclasses import dataclass
 
 # An option's line: its short name, its name, its value (`=VALUE`, ` <VALUE>`, `[=<VALUE>]`) and
 # what it is for.
-LINE = re.compile(r"^ +(?:(-\w), )?(--[\w-]+)((?:\[?=| )(?:<[^>]+>\]?(?: <[^>]+>)*|[A-Z]+))?"
+LINE = re.compile(r"^ +(?:(-\w), )?(--[\w+-]+)"
+                  r"((?:\[?=| )(?:<[^>]+>\]?(?: <[^>]+>)*|[A-Z]+(?:=[A-Z]+)?))?"
                   r"(?:  +(\S.*))?$", re.M)
-FILES = {"FILE", "SCRIPT", "FOLDER"}
+FILES = {"FILE", "SCRIPT", "FOLDER", "PATH"}
 CHOICES = re.compile(r"\[possible values: ([^\]]+)\]")
 
 
@@ -58,7 +59,7 @@ def bash(name: str, options: list[Option]) -> str:
         has_sign = option.is_joined and not option.is_optional
         words.append(f"{option.name}=" if has_sign else option.name)
         words += [f"{option.name}={choice}" for choice in option.choices]
-    function = "_" + name.replace("-", "_")
+    function = "_" + re.sub(r"\W", "_", name)
     files = "|".join(option.name for option in options if option.takes_next and option.is_file)
     others = "|".join(option.name for option in options
                       if option.takes_next and not option.is_file)

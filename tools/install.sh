@@ -3,7 +3,8 @@
 #     tools/install.sh PREFIX [FOLDER]
 #     tools/install.sh --uninstall PREFIX
 #
-#     PREFIX/bin                  mte_host, mte_run, disassemble, mte_why (why.sh), tenant-cc
+#     PREFIX/bin                  mte_host, mte_run, disassemble, mte_why (why.sh), tenant-cc and
+#                                 what else is named tenant-.. in examples/libc
 #     PREFIX/lib                  libtombolopan.a, libtombolopan.so.2 (libtombolopan.so leads to it)
 #     PREFIX/include              tombolopan.h, tenant.h
 #     PREFIX/lib/pkgconfig        tombolopan.pc
@@ -73,7 +74,7 @@ heap=$(dirname "$(rt doc | head -n 1)")/c/liblibc_c.a
 work=$(mktemp -d)
 trap 'rm -rf "$work"' EXIT
 stage=$work/stage
-unproved=()
+unproved=() tenants=()
 
 # Copies a program, or the archive, from where it was built; builds what is not there.
 take() {
@@ -135,11 +136,18 @@ put_examples() {
     put share/tombolopan/tools/a64 "$top/tools/a64/__init__.py" "$top/tools/a64/table.py"
     put share/tombolopan/isa "$top/isa/a64.rows" "$top/isa/a64.forms"
     ln -s ../share/tombolopan/examples/why.sh "$stage/bin/mte_why"
+    # The examples find the programs as in a checkout.
+    for file in mte_host mte_run disassemble; do
+        mkdir -p "$stage/share/tombolopan/crates/$file/out"
+        ln -s "../../../../../bin/$file" "$stage/share/tombolopan/crates/$file/out/$file"
+    done
 }
 
-# The C library of tenants, where tenant-cc looks for it; without it there is no tenant-cc.
+# The C library of tenants, where tenant-cc looks for it; without it there is no tenant-cc, and
+# none of the programs beside it.
 put_libc() {
-    local libc=$top/examples/libc/out made=$stage/share/tombolopan/examples/libc/out part
+    local libc=$top/examples/libc/out made=$stage/share/tombolopan/examples/libc/out part file
+    local name
     [[ -z $built ]] || libc=$built/libc
     if [[ ! -e $libc/lib/libc.a ]]; then
         echo "install.sh: without tenant-cc: its C library is not built (tools/build.sh)" >&2
@@ -154,16 +162,20 @@ put_libc() {
     done
     chmod -R u=rwX,go=rX "$made"
     # An assembler writes where its source was.
-    if grep -qF "$top" "$made/lib/libc.a"; then
-        (cd "$work" && for part in $(llvm-ar t "$made/lib/libc.a" | grep '\.S\.o$'); do
-            llvm-ar x "$made/lib/libc.a" "$part"
+    for file in "$made"/lib/*.a; do
+        grep -qF "$top" "$file" || continue
+        (cd "$work" && for part in $(llvm-ar t "$file" | grep '\.S\.o$'); do
+            llvm-ar x "$file" "$part"
             llvm-objcopy --strip-debug "$part"
-            llvm-ar r "$made/lib/libc.a" "$part"
+            llvm-ar r "$file" "$part"
         done)
-    fi
-    ln -s ../share/tombolopan/examples/libc/tenant-cc "$stage/bin/tenant-cc"
-    # (It may say so on standard error, by another status.)
-    "$top/examples/libc/tenant-cc" --help >"$work/tenant-cc.help" 2>&1 || true
+    done
+    for file in "$top"/examples/libc/tenant-*; do
+        name=${file##*/}
+        ln -s "../share/tombolopan/examples/libc/$name" "$stage/bin/$name"
+        "$here/manual.py" comment "$file" >"$work/$name.help"
+        tenants+=("$name")
+    done
 }
 
 # Manual pages and completions, of what each program says of itself and of the pages.
@@ -174,8 +186,7 @@ put_texts() {
     done
     : >"$work/disassemble.help"
     (cd "$stage/bin" && ./mte_why --help) >"$work/mte_why.help"
-    for name in mte_host mte_run mte_why disassemble tenant-cc; do
-        [[ -e $work/$name.help ]] || continue
+    for name in mte_host mte_run mte_why disassemble "${tenants[@]}"; do
         "$here/manual.py" program "$name" <"$work/$name.help" >"$work/$name.1"
         put share/man/man1 "$work/$name.1"
     done
@@ -187,8 +198,7 @@ put_texts() {
     cp "$work/mte_run.help" "$work/mte_why.help"
     mkdir -p "$stage"/share/{bash-completion/completions,zsh/site-functions}
     mkdir -p "$stage"/share/fish/vendor_completions.d
-    for name in mte_host mte_run mte_why tenant-cc; do
-        [[ -e $work/$name.help ]] || continue
+    for name in mte_host mte_run mte_why "${tenants[@]}"; do
         call="$here/completions.py"
         "$call" bash "$name" <"$work/$name.help" >"$stage/share/bash-completion/completions/$name"
         "$call" zsh "$name" <"$work/$name.help" >"$stage/share/zsh/site-functions/_$name"

@@ -3,8 +3,10 @@
 
     manual.py program NAME < HELP      NAME(1), of what NAME --help prints
     manual.py header < tombolopan.h    tombolopan(3), of the header's comments and declarations
+    manual.py comment SCRIPT           what a script of Python says of itself
     manual.py calls < tombolopan.h     the names of the calls, each of which leads to tombolopan(3)
 """
+import ast
 import pathlib
 import re
 import sys
@@ -95,6 +97,11 @@ MANUALS = {
 }
 
 
+# A program beside tenant-cc that the table does not have.
+OTHER = Manual(page="", parts={}, statuses="", examples={}, also="tenant-cc(1), mte_run(1)",
+               files={"share/doc/tombolopan/docs/TENANTS.md": "more on writing tenants"})
+
+
 def section_of(title: str, text: str) -> str:
     return f".SH {title}\n{text}\n"
 
@@ -124,7 +131,7 @@ def from_pages(manual: Manual) -> dict[str, str]:
         made[title] = "".join(roff.block_of(block) for block in blocks)
     if manual.statuses.endswith("\n"):
         made["EXIT STATUS"] = escaped(manual.statuses)
-    else:
+    elif manual.statuses:
         tables = filter(roff.is_table, roff.blocks_of(roff.part_of(page, manual.statuses)))
         made["EXIT STATUS"] = "".join(map(roff.block_of, tables))
     return made
@@ -163,12 +170,13 @@ def of_comment(name: str, text: str) -> dict[str, str]:
 
 def of_program(name: str, text: str) -> str:
     """The page of a program."""
-    manual = MANUALS[name]
+    manual = MANUALS.get(name, OTHER)
     text = manual.help or text
     made = of_help(text) if "\nUsage: " in text else of_comment(name, text)
     made = {**made, **from_pages(manual)}
     made["NAME"] = f"{escaped(name)} \\- {escaped(made['NAME'])}"
-    made["EXAMPLES"] = listed(manual.examples)
+    if manual.examples:
+        made["EXAMPLES"] = listed(manual.examples)
     made["FILES"] = PLACES + listed(manual.files)
     made["SEE ALSO"] = escaped(manual.also)
     first = ["NAME", "SYNOPSIS", "DESCRIPTION", "ARGUMENTS", "OPTIONS"]
@@ -243,6 +251,8 @@ def main() -> None:
         sys.stdout.write(of_program(sys.argv[2], sys.stdin.read()))
     elif sys.argv[1:] == ["header"]:
         sys.stdout.write(of_header(sys.stdin.read()))
+    elif sys.argv[1:2] == ["comment"] and len(sys.argv) == 3:
+        print(ast.get_docstring(ast.parse(pathlib.Path(sys.argv[2]).read_text(encoding="utf-8"))))
     elif sys.argv[1:] == ["calls"]:
         print("\n".join(calls_of(sys.stdin.read())))
     else:

@@ -33,7 +33,7 @@ def part_of(page: str, heading: str) -> str:
     else:
         found = re.search(rf"^## {re.escape(heading)}\n(.*?)(?=^## |\Z)", page, re.S | re.M)
     if found is None:
-        raise LookupError(f"no part {heading!r}")
+        raise LookupError(f"a page has no part {heading!r}, which manual.py names")
     return found[1]
 
 
