@@ -343,6 +343,8 @@ def test_manual_has_its_statuses(moved: pathlib.Path, name: str) -> None:
     shown = rendered(moved, f"man1/{name}.1")
     statuses = re.findall(r"^EXIT STATUS\n((?:(?: +.*)?\n)+)", shown, re.M)[0]
     assert statuses.strip()
+    usage = re.findall(r"^SYNOPSIS\n +(.+)$", shown, re.M)[0]
+    assert len(re.findall(rf"^ +{re.escape(usage)}$", shown, re.I | re.M)) == 1
     if name == "mte_run":
         numbers = re.findall(r"^       (\d+)\b", statuses, re.M)
         assert [*map(int, numbers)] == [0, *range(129, 139), 2]

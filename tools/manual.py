@@ -156,7 +156,7 @@ def of_help(text: str) -> dict[str, str]:
 def of_comment(name: str, text: str) -> dict[str, str]:
     """The sections of a script's own comment: a sentence, its usage behind four blanks, options
     of four blanks and two dashes, and what else it says."""
-    first, rest = re.split(r"[:.]\s+", text, maxsplit=1)
+    first, rest = re.split(r"[:.]\s", text, maxsplit=1)
     usage = re.findall(rf"^ {{4}}({re.escape(name)} .*)$", text, re.M)
     options = re.search(r"^( {4}--\S.*\n(?: {4}.*\n|\n(?= {4}))*)", text, re.M)
     rest = re.sub(r"^ {4}.*\n", "", rest, flags=re.M)
