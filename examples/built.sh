@@ -15,12 +15,10 @@ find_program() {
     mark=$program.unproved
     if [[ ! -e $here/../crates.txt ]]; then
         mark=$here/../unproved
-    else
-        if [[ ! -x $program || -n $(find "$here"/../crates/*/src "$here/../crates.txt" \
-            -newer "$program" -print -quit) ]]; then
-            echo "$script: builds $name without proof, once: one to two minutes" >&2
-            "$here/../tools/build.sh" --unproved --only "$name" || exit 2
-        fi
+    elif [[ ! -x $program || -n $(find "$here"/../crates/*/src "$here/../crates.txt" \
+        -newer "$program" -print -quit) ]]; then
+        echo "$script: builds $name without proof, once: one to two minutes" >&2
+        "$here/../tools/build.sh" --unproved --only "$name" || exit 2
     fi
     if [[ -e $mark ]] && grep "[ /]$name\$" "$mark" |
         (cd "${mark%/*}" && sha256sum --check --status 2>/dev/null); then
