@@ -23,6 +23,11 @@ run_cases() {
 }
 
 if [[ ${1:-} == --suite ]]; then
+    for mark in crates/*/out/*.unproved; do
+        if [[ -e $mark ]] && (cd "${mark%/*}" && sha256sum --check --status "${mark##*/}"); then
+            echo "run.sh: built without proof: ${mark%.unproved}" >&2
+        fi
+    done
     run_cases suite tests "${@:2}"
     exit
 fi

@@ -14,9 +14,15 @@ from tests.support.running import Ran, run, succeed
 from tests.support.samples import assert_sample, tenant
 from tests.support.tools import need
 
-# A toolchain that says where and how it was called.
-STUB = 'echo "rt in $(basename "$PWD"): $*"\n'
-UNSET = {"TOMBOLOPAN_BUILT": ""}
+# In place of tools/build.sh: says how it was called, and puts a program there with its mark.
+BUILDER = """#!/usr/bin/env bash
+echo "build.sh $*" >&2
+cd "$(dirname "$0")/../crates/{name}"
+mkdir -p out
+cp {program} out/{name}
+touch out/{name}
+(cd out && sha256sum {name} >{name}.unproved)
+"""
 EXPLAINED = ("mte_run: fault TagCheck", "0x0000000012000010 is in the block")
 
 
@@ -52,6 +58,15 @@ def run_script(name: str, *words: str, folder: pathlib.Path = ROOT, built: str =
     return run([folder / "examples" / name, *words], cwd=folder, extra=extra)
 
 
+def stub_builder(clone: pathlib.Path, program: pathlib.Path) -> str:
+    """Puts a stub in place of tools/build.sh, and gives what it says."""
+    place = clone / "tools" / "build.sh"
+    place.parent.mkdir()
+    place.write_text(BUILDER.format(name=program.name, program=program), encoding="utf-8")
+    place.chmod(0o755)
+    return f"build.sh --unproved --only {program.name}\n"
+
+
 def test_hi(host: pathlib.Path) -> None:
     """The README's first command prints the report that the README shows."""
     assert command_of("README.md", "examples/hi.sh") == "examples/hi.sh"
@@ -68,19 +83,20 @@ def test_hi_by_the_built_program(host: pathlib.Path, clone: pathlib.Path) -> Non
     assert (ran.status, ran.output, ran.errors) == (0, report_sample().text, "")
 
 
-def test_hi_compiles(host: pathlib.Path, clone: pathlib.Path) -> None:
-    """Without a program, and where a source is newer, it is compiled in its crate by rt try."""
-    stub = make_stub(clone / "stub", "rt", STUB)
-    message = "hi.sh: compiling the program without proving it; this takes one to two minutes\n"
-    here = clone / "examples"
-    wanted = (f"rt in mte_host: try -- --frames 11 {here / 'hi.script'} {here / 'hi.elf'}\n")
-    ran = run_script("hi.sh", folder=clone, path=stub["PATH"])
-    assert (ran.status, ran.output, ran.errors) == (0, wanted, message)
-    link_built(clone, host)
+def test_hi_builds(host: pathlib.Path, clone: pathlib.Path) -> None:
+    """Without a program, and where a source is newer, it is built once, and said to be so."""
+    builder = stub_builder(clone, host)
+    message = "hi.sh: builds mte_host without proof, once: one to two minutes\n"
+    unproved = "hi.sh: mte_host is built without proof\n"
+    ran = run_script("hi.sh", folder=clone)
+    wanted = (0, report_sample().text, f"{message}{builder}{unproved}")
+    assert (ran.status, ran.output, ran.errors) == wanted
+    ran = run_script("hi.sh", folder=clone)
+    assert (ran.status, ran.output, ran.errors) == (0, report_sample().text, unproved)
     newest = time.time() + 60
     os.utime(clone / "crates" / "mte_host" / "src" / "main.rt", (newest, newest))
-    ran = run_script("hi.sh", folder=clone, path=stub["PATH"])
-    assert (ran.status, ran.output, ran.errors) == (0, wanted, message)
+    ran = run_script("hi.sh", folder=clone)
+    assert (ran.status, ran.output, ran.errors) == wanted
 
 
 @pytest.fixture
@@ -116,30 +132,24 @@ def test_why_by_the_built_program(alone: pathlib.Path, image: pathlib.Path,
     assert_sample(explanation_sample(), ran.errors, EXPLAINED[1])
 
 
-def test_why_compiles(clone: pathlib.Path) -> None:
-    """Without a program mte_run is compiled by rt try, with the files that are named."""
-    stub = make_stub(clone / "stub", "rt", STUB)
-    for name in ("T.elf", "input"):
-        (clone / name).touch()
-    ran = run_script("why.sh", "--input", "input", "--last", "3", "./T.elf", folder=clone,
-                     path=stub["PATH"])
-    wanted = (f"rt in mte_run: try --data input={clone / 'input'} --data T.elf={clone / 'T.elf'}"
-              " -- --exact --input input --last 3 T.elf\n")
-    message = "why.sh: compiling mte_run without proving it: two to three minutes\n"
-    assert (ran.status, ran.output, ran.errors) == (0, wanted, message)
+def test_why_builds(alone: pathlib.Path, image: pathlib.Path, clone: pathlib.Path) -> None:
+    """Without a program mte_run is built once, and said to be so."""
+    builder = stub_builder(clone, alone)
+    message = "why.sh: builds mte_run without proof, once: one to two minutes\n"
+    unproved = "why.sh: mte_run is built without proof\n"
+    ran = run_script("why.sh", "--last", "3", str(image), folder=clone)
+    assert ran.status == 129 and ran.errors.startswith(f"{message}{builder}{unproved}mte_run: ")
+    ran = run_script("why.sh", "--last", "3", str(image), folder=clone)
+    assert ran.status == 129 and ran.errors.startswith(f"{unproved}mte_run: ")
 
 
 def test_why_usage(clone: pathlib.Path) -> None:
-    """Without a file it says what it wants."""
-    for words in ((), ("--help",)):
+    """Asked for help, and without a word, it says what it wants."""
+    for words, status in (((), 2), (("--help",), 0)):
         ran = run_script("why.sh", *words, folder=clone)
-        assert ran.status == 2
+        assert (ran.status, ran.errors) == (status, "")
         assert ran.output.startswith("Tells why a tenant ended")
         assert "    why.sh [OPTION..] ELF\n" in ran.output
-    stub = make_stub(clone / "stub", "rt", STUB)
-    ran = run_script("why.sh", "absent.elf", folder=clone, path=stub["PATH"])
-    assert (ran.status, ran.output) == (2, "")
-    assert ran.errors == "why.sh: none of the words is a file: absent.elf\n"
 
 
 def test_first_image(tmp_path: pathlib.Path) -> None:

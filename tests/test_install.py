@@ -1,5 +1,6 @@
-"""The installed tree: its files, and that compilers, man, Python and the programs use it."""
+"""The installed tree: its files, and that each of them is of use in a copy of it elsewhere."""
 
+import ast
 import filecmp
 import os
 import pathlib
@@ -11,20 +12,44 @@ import sys
 import pytest
 
 from tests.support import installed
+from tests.support.checkout import copy_files, link_built, tracked_files
 from tests.support.host_sessions import HI_REPORT, with_hi
 from tests.support.places import EXAMPLES, ROOT
 from tests.support.running import run, succeed
+from tests.support.samples import tenant
 from tests.support.tools import need
 
 EXECUTABLE, READABLE = 0o755, 0o644
+SHARE, LIBC = "share/tombolopan", "share/tombolopan/examples/libc/out"
+# Those of examples/libc, by their comments, and those with options.
+TENANTS = {path.name: ast.get_docstring(ast.parse(path.read_text(encoding="utf-8"))) or ""
+           for path in sorted((EXAMPLES / "libc").glob("tenant-*"))}
+COMPLETED = ("mte_host", "mte_run", "mte_why", *TENANTS)
+PROGRAMS = (*COMPLETED, "disassemble")
 FILES = {
-    "bin/mte_host": EXECUTABLE, "bin/mte_run": EXECUTABLE,
-    "include/tombolopan.h": READABLE,
+    "bin/mte_host": EXECUTABLE, "bin/mte_run": EXECUTABLE, "bin/disassemble": EXECUTABLE,
+    "include/tombolopan.h": READABLE, "include/tenant.h": READABLE,
     "lib/libtombolopan.a": READABLE, "lib/libtombolopan.so.2": EXECUTABLE,
     "lib/pkgconfig/tombolopan.pc": READABLE,
-    "share/man/man1/mte_host.1": READABLE, "share/man/man1/mte_run.1": READABLE,
+    **{f"share/man/man1/{name}.1": READABLE for name in PROGRAMS},
     "share/man/man3/tombolopan.3": READABLE,
-    "share/tombolopan/tombolopan.py": READABLE, "share/tombolopan/tombolopan.rs": READABLE,
+    **{f"share/bash-completion/completions/{name}": READABLE for name in COMPLETED},
+    **{f"share/zsh/site-functions/_{name}": READABLE for name in COMPLETED},
+    **{f"share/fish/vendor_completions.d/{name}.fish": READABLE for name in COMPLETED},
+    f"{SHARE}/tombolopan.py": READABLE, f"{SHARE}/tombolopan.rs": READABLE,
+    f"{SHARE}/start.c": READABLE, f"{SHARE}/installed": READABLE,
+    **{f"{SHARE}/tools/a64/{name}.py": READABLE for name in ("__init__", "table")},
+    **{f"{SHARE}/isa/a64.{name}": READABLE for name in ("rows", "forms")},
+    "share/doc/tombolopan/README.md": READABLE, "share/doc/tombolopan/CHANGELOG.md": READABLE,
+}
+# Files that are those of the checkout, by the folders of both.
+COPIES = {f"{SHARE}/examples/": "examples/", "share/doc/tombolopan/docs/": "docs/"}
+LINKS = {
+    "lib/libtombolopan.so": "libtombolopan.so.2",
+    "bin/mte_why": "../share/tombolopan/examples/why.sh",
+    **{f"bin/{name}": f"../share/tombolopan/examples/libc/{name}" for name in TENANTS},
+    **{f"{SHARE}/crates/{name}/out/{name}": f"../../../../../bin/{name}"
+       for name in ("mte_host", "mte_run", "disassemble")},
 }
 HEADER = ROOT / "include" / "tombolopan.h"
 FIRST = "breakpoint 1, x0 is 42\n"
@@ -33,6 +58,17 @@ install.sh: installed into {0}
 install.sh: for Python: PYTHONPATH={0}/share/tombolopan
 install.sh: where it is no usual place: PKG_CONFIG_PATH={0}/lib/pkgconfig \
 LD_LIBRARY_PATH={0}/lib MANPATH={0}/share/man: PATH={0}/bin:$PATH
+"""
+HELLO = """\
+#include <stdio.h>
+#include <stdlib.h>
+int main(void)
+{
+    char *text = malloc(8);
+    free(text);
+    puts("hello");
+    return text[0];
+}
 """
 
 
@@ -43,19 +79,56 @@ def prefix(host: pathlib.Path, alone: pathlib.Path, shared: pathlib.Path) -> pat
     return installed.prefix(shared)
 
 
+@pytest.fixture
+def moved(prefix: pathlib.Path, shared: pathlib.Path) -> pathlib.Path:
+    """A copy of the prefix elsewhere."""
+    assert prefix.exists()
+    return installed.moved(shared)
+
+
+def copied() -> dict[str, str]:
+    """The files that are those of the checkout, each with its name there."""
+    return {target + name.removeprefix(source): name for target, source in COPIES.items()
+            for name in tracked_files() if name.startswith(source)
+            and (source != "docs/" or name.endswith((".md", ".svg")))}
+
+
 def test_files(prefix: pathlib.Path) -> None:
-    """The files are those that the script's comment names, with their modes, and a link."""
+    """The files are those that the script's comment names, with their modes, and links."""
     found = {str(path.relative_to(prefix)): stat.S_IMODE(path.stat().st_mode)
              for path in prefix.rglob("*") if path.is_file() and not path.is_symlink()}
-    assert found == FILES
+    libc = {name for name in found if name.startswith(f"{LIBC}/")}
+    assert {f"{LIBC}/lib/libc.a", f"{LIBC}/lib/start.o", f"{LIBC}/include/stdio.h"} <= libc
+    calls = {name for name in found if name.startswith("share/man/man3/tb_")}
+    assert len(calls) >= 25 and "share/man/man3/tb_run.3" in calls
+    modes = {name: stat.S_IMODE((ROOT / source).stat().st_mode) & EXECUTABLE
+             for name, source in copied().items()}
+    rest = {name: mode for name, mode in found.items() if name not in libc | calls}
+    assert rest == {**FILES, **modes}
     links = {str(path.relative_to(prefix)): os.readlink(path)
              for path in prefix.rglob("*") if path.is_symlink()}
-    assert links == {"lib/libtombolopan.so": "libtombolopan.so.2"}
+    assert links == LINKS
     comment = installed.INSTALLER.read_text(encoding="utf-8").split("\nset -euo")[0]
     folders = {f"{'/'.join(name.split('/')[:2])}" for name in FILES if name.count("/") > 1}
     folders |= {name.split("/")[0] for name in FILES if name.count("/") == 1}
     for folder in folders:
-        assert re.search(rf"PREFIX/{folder} ", comment), f"the comment does not name {folder}"
+        named = re.search(rf"(PREFIX/|, ){folder}\b", comment)
+        assert named, f"the comment does not name {folder}"
+
+
+def test_the_list(prefix: pathlib.Path) -> None:
+    """The list of what is installed has each file and each folder."""
+    names = (prefix / SHARE / "installed").read_text(encoding="utf-8").splitlines()
+    found = {f"{path.relative_to(prefix)}{'/' if path.is_dir() else ''}"
+             for path in prefix.rglob("*")}
+    assert set(names) == found - {f"{SHARE}/installed"} and len(names) == len(set(names))
+
+
+def test_no_place_of_the_build(prefix: pathlib.Path) -> None:
+    """No file names the checkout or the prefix."""
+    wrong = [path for path in prefix.rglob("*") if path.is_file()
+             for place in (ROOT, prefix) if str(place).encode() in path.read_bytes()]
+    assert not wrong
 
 
 def test_what_it_writes(prefix: pathlib.Path) -> None:
@@ -65,38 +138,39 @@ def test_what_it_writes(prefix: pathlib.Path) -> None:
 
 
 def test_sources_are_those_of_the_checkout(prefix: pathlib.Path) -> None:
-    """Header and bindings are installed as they are."""
-    for name, source in {"include/tombolopan.h": HEADER,
-                         "share/tombolopan/tombolopan.py": EXAMPLES / "embed" / "tombolopan.py",
-                         "share/tombolopan/tombolopan.rs": EXAMPLES / "embed" / "tombolopan.rs",
-                         }.items():
-        assert (prefix / name).read_bytes() == source.read_bytes(), name
+    """Headers, bindings, examples and pages are installed as they are."""
+    files = {"include/tombolopan.h": "include/tombolopan.h", "include/tenant.h":
+             "examples/c/tenant.h", f"{SHARE}/tombolopan.py": "examples/embed/tombolopan.py",
+             f"{SHARE}/tombolopan.rs": "examples/embed/tombolopan.rs", **copied()}
+    for name, source in files.items():
+        assert (prefix / name).read_bytes() == (ROOT / source).read_bytes(), name
 
 
-def test_pkg_config(prefix: pathlib.Path) -> None:
-    """pkg-config tells the version of the header, and the flags."""
+def test_pkg_config(moved: pathlib.Path) -> None:
+    """pkg-config tells the version of the header, and the flags of the place where it is."""
     need("pkg-config")
     version = re.findall(r"^#define TB_VERSION (\d+)$", HEADER.read_text(encoding="utf-8"), re.M)
     told = {option: succeed(["pkg-config", option, "tombolopan"],
-                            extra=installed.variables(prefix)).output.strip()
+                            extra=installed.variables(moved)).output.strip()
             for option in ("--modversion", "--cflags", "--libs")}
-    assert told == {"--modversion": version[0], "--cflags": f"-I{prefix}/include",
-                    "--libs": f"-L{prefix}/lib -ltombolopan"}
+    place = f"{moved}/lib/pkgconfig/../.."
+    assert told == {"--modversion": version[0], "--cflags": f"-I{place}/include",
+                    "--libs": f"-L{place}/lib -ltombolopan"}
 
 
 @pytest.mark.parametrize("compiler", ["cc -std=c99", "cc -std=c11", "c++ -std=c++17 -x c++"])
 @pytest.mark.parametrize("library", ["shared", "static"])
-def test_c_program(prefix: pathlib.Path, tmp_path: pathlib.Path,
+def test_c_program(moved: pathlib.Path, tmp_path: pathlib.Path,
                    compiler: str, library: str) -> None:
     """A program is compiled without a warning, linked by the name or with the archive, and run."""
     need("pkg-config", "cc", "c++")
     source = EXAMPLES / "embed" / "first.c"
     flags = "$(pkg-config --cflags --libs tombolopan)"
     if library == "static":
-        flags = f"$(pkg-config --cflags tombolopan) -x none {prefix}/lib/libtombolopan.a"
+        flags = f"$(pkg-config --cflags tombolopan) -x none {moved}/lib/libtombolopan.a"
     command = f"{compiler} -Wall -Wextra -Werror {source} {flags}"
-    succeed(["bash", "-c", command], cwd=tmp_path, extra=installed.variables(prefix))
-    extra = {} if library == "static" else installed.variables(prefix)
+    succeed(["bash", "-c", command], cwd=tmp_path, extra=installed.variables(moved))
+    extra = {} if library == "static" else installed.variables(moved)
     ran = run([tmp_path / "a.out"], extra=extra)
     assert (ran.status, ran.output, ran.errors) == (0, FIRST, "")
     if library == "shared":
@@ -104,47 +178,145 @@ def test_c_program(prefix: pathlib.Path, tmp_path: pathlib.Path,
         assert "[libtombolopan.so.2]" in needed
 
 
-def test_symbols_of_the_shared_object(prefix: pathlib.Path) -> None:
+def test_symbols_of_the_shared_object(moved: pathlib.Path) -> None:
     """From outside only the calls that the header declares are seen."""
     need("nm")
     text = HEADER.read_text(encoding="utf-8")
     declared = set(re.findall(r"^(?:uint32_t|void) (tb_\w+)\(", text, re.M))
-    ran = succeed(["nm", "-D", "--defined-only", prefix / "lib" / "libtombolopan.so.2"])
+    ran = succeed(["nm", "-D", "--defined-only", moved / "lib" / "libtombolopan.so.2"])
     seen = {line.split()[-1] for line in ran.output.splitlines()}
     assert seen == declared and len(declared) >= 10
 
 
-def test_python(prefix: pathlib.Path) -> None:
+def test_python(moved: pathlib.Path) -> None:
     """The binding finds the library beside it, without LD_LIBRARY_PATH."""
-    extra = {"PYTHONPATH": str(prefix / "share" / "tombolopan"), "LD_LIBRARY_PATH": ""}
+    extra = {"PYTHONPATH": str(moved / SHARE), "LD_LIBRARY_PATH": ""}
     script = (EXAMPLES / "embed" / "first.py").read_text(encoding="utf-8")
-    ran = run([sys.executable, "-c", script], cwd=prefix, extra=extra)
+    ran = run([sys.executable, "-c", script], cwd=moved, extra=extra)
     assert (ran.status, ran.output, ran.errors) == (0, FIRST, "")
 
 
-def test_programs(prefix: pathlib.Path, tmp_path: pathlib.Path) -> None:
+def test_programs(moved: pathlib.Path, tmp_path: pathlib.Path) -> None:
     """The programs run from there."""
     folder = with_hi(tmp_path)
-    ran = run([prefix / "bin" / "mte_host", "--frames", "11", "hi.script", "hi.elf"], cwd=folder)
+    ran = run([moved / "bin" / "mte_host", "--frames", "11", "hi.script", "hi.elf"], cwd=folder)
     assert (ran.status, ran.output, ran.errors) == (0, HI_REPORT, "")
-    ran = run([prefix / "bin" / "mte_run", "hi.elf"], cwd=folder)
+    ran = run([moved / "bin" / "mte_run", "hi.elf"], cwd=folder)
     assert (ran.status, ran.output, ran.errors) == (0, "Hi", "")
 
 
-def rendered(prefix: pathlib.Path, page: str) -> str:
+def test_disassemble(moved: pathlib.Path) -> None:
+    """A word's text."""
+    ran = run([moved / "bin" / "disassemble", "400000"], stdin=b"9adf13e1")
+    assert (ran.status, ran.output) == (0, "400000: 9adf13e1 irg x1, sp\n")
+
+
+def test_tenant_cc(moved: pathlib.Path, tmp_path: pathlib.Path) -> None:
+    """A C program is built over the C library that is beside it, and explained by its lines."""
+    need("clang", "ld.lld")
+    (tmp_path / "hello.c").write_text(HELLO, encoding="utf-8")
+    extra = {**installed.variables(moved), "TENANT_LIBRARY": "", "TOMBOLOPAN_BUILT": ""}
+    ran = run(["tenant-cc", "-O1", "-g", "-o", "hello.elf", "hello.c"], cwd=tmp_path, extra=extra)
+    assert (ran.status, ran.output, ran.errors) == (0, "", "")
+    ran = run(["mte_run", "hello.elf"], cwd=tmp_path, extra=extra)
+    assert (ran.status, ran.output) == (129, "hello\n")
+    assert "Cause: [MTE]: Use After Free, 0 bytes into a 8-byte allocation" in ran.errors
+    assert re.search(r"^  #0 main\+0x\w+ at hello\.c:8$", ran.errors, re.M)
+
+
+def test_mte_why(moved: pathlib.Path, shared: pathlib.Path) -> None:
+    """It is mte_run by --exact, and so is the script of the examples."""
+    need("clang", "ld.lld")
+    image = tenant(shared, EXAMPLES / "c" / "use_after_free.c")
+    extra = {**installed.variables(moved), "TOMBOLOPAN_BUILT": ""}
+    wanted = run(["mte_run", "--exact", image], extra=extra)
+    assert wanted.status == 129
+    for program in ("mte_why", f"{moved}/{SHARE}/examples/why.sh"):
+        ran = run([program, image], extra=extra)
+        assert (ran.status, ran.output, ran.errors) == (129, "", wanted.errors)
+    ran = run(["mte_why", "--help"], extra=extra)
+    assert ran.status == 0 and "    mte_why [OPTION..] ELF\n" in ran.output
+
+
+def test_examples(moved: pathlib.Path, tmp_path: pathlib.Path) -> None:
+    """The first session runs where it is, and tenants of examples/c by its Makefile."""
+    need("make", "clang", "ld.lld")
+    extra = {**installed.variables(moved), "TOMBOLOPAN_BUILT": ""}
+    ran = run([moved / SHARE / "examples" / "hi.sh"], extra=extra)
+    assert (ran.status, ran.output, ran.errors) == (0, HI_REPORT, "")
+    place = tmp_path / "prefix"
+    shutil.copytree(moved, place, symlinks=True)
+    folder = place / SHARE / "examples" / "c"
+    ran = run(["make", "-s", "hello.run"], cwd=folder, extra=extra)
+    assert ran.status == 0 and "hello" in ran.output.lower()
+
+
+def completed(moved: pathlib.Path, name: str, *words: str) -> set[str]:
+    """What bash offers for the last of the words."""
+    file = moved / "share" / "bash-completion" / "completions" / name
+    script = ('source "$1"; shift; COMP_WORDS=("$@"); COMP_CWORD=$(($# - 1)); '
+              'call=$(complete -p "$1"); call=${call#*-F }; ${call% *}; '
+              'printf "%s\\n" "${COMPREPLY[@]}"')
+    ran = succeed(["bash", "-c", script, "bash", file, name, *words])
+    return set(ran.output.splitlines()) - {""}
+
+
+@pytest.mark.parametrize("name", COMPLETED)
+def test_completions(moved: pathlib.Path, name: str) -> None:
+    """bash offers each option of the help; the files of zsh and fish have them too."""
+    asked = "mte_run" if name == "mte_why" else name
+    told = TENANTS.get(name) or succeed([moved / "bin" / asked, "--help"]).output
+    options = set(re.findall(r"^ +(?:-\w, )?(--[\w+-]+)", told, re.M))
+    assert name in TENANTS or len(options) >= 2
+    assert {word.split("=")[0] for word in completed(moved, name, "--")} == options
+    share = moved / "share"
+    zsh = (share / "zsh" / "site-functions" / f"_{name}").read_text(encoding="utf-8")
+    assert zsh.startswith(f"#compdef {name}\n")
+    fish = (share / "fish" / "vendor_completions.d" / f"{name}.fish").read_text(encoding="utf-8")
+    assert set(re.findall(r"^    '(--[\w+-]+?)(?:=-)?\[", zsh, re.M)) == options
+    assert {f"--{it}" for it in re.findall(rf"^complete -c {name} -l (\S+)", fish, re.M)} == options
+
+
+def test_completion_of_values(moved: pathlib.Path, tmp_path: pathlib.Path) -> None:
+    """Names of files behind an option that takes one, choices, and nothing for a number."""
+    (tmp_path / "input.txt").touch()
+    word = str(tmp_path / "inp")
+    assert completed(moved, "mte_run", "--input", word) == {str(tmp_path / "input.txt")}
+    assert completed(moved, "mte_run", "--ex") == {"--exact", "--exact=all", "--exact=writes"}
+    assert completed(moved, "mte_run", "--pages", "") == set()
+
+
+@pytest.mark.parametrize("shell", ["zsh", "fish"])
+def test_completions_are_sound(moved: pathlib.Path, shell: str) -> None:
+    """The other shells read their files."""
+    need(shell)
+    folder = {"zsh": "zsh/site-functions", "fish": "fish/vendor_completions.d"}[shell]
+    files = sorted((moved / "share" / folder).iterdir())
+    assert len(files) == len(COMPLETED)
+    for file in files:
+        ran = run([shell, "-n", file])
+        assert (ran.status, ran.output, ran.errors) == (0, "", "")
+
+
+SECTIONS = ("NAME", "SYNOPSIS", "DESCRIPTION", "EXAMPLES", "FILES", "SEE ALSO")
+
+
+def rendered(moved: pathlib.Path, page: str) -> str:
     """A manual page as it is shown, without a warning."""
     need("man")
-    ran = run(["man", "--warnings", "-l", prefix / "share" / "man" / page],
+    ran = run(["man", "--warnings", "-l", moved / "share" / "man" / page],
               extra={"MANWIDTH": "80", "LC_ALL": "C.UTF-8", "MAN_KEEP_FORMATTING": ""})
     assert (ran.status, ran.errors) == (0, "")
+    headings = re.findall(r"^([A-Z][A-Z ]+)$", re.sub(r".\x08", "", ran.output), re.M)
+    assert set(SECTIONS) <= set(headings), page
     return re.sub(r".\x08", "", ran.output)
 
 
 @pytest.mark.parametrize("name", ["mte_host", "mte_run"])
-def test_manual_of_a_program(prefix: pathlib.Path, name: str) -> None:
+def test_manual_of_a_program(moved: pathlib.Path, name: str) -> None:
     """The page of a program has its usage, and each argument and option of its help."""
-    shown = rendered(prefix, f"man1/{name}.1")
-    told = run([prefix / "bin" / name, "--help"]).output
+    shown = rendered(moved, f"man1/{name}.1")
+    told = run([moved / "bin" / name, "--help"]).output
     usage = re.findall(r"^Usage: (.*)$", told, re.M)
     assert re.sub(r"\s+", " ", usage[0]) in re.sub(r"\s+", " ", shown)
     entries = re.findall(r"^ +(-.*?|[<\[].*?)  +(\S.*)$", told, re.M)
@@ -154,9 +326,9 @@ def test_manual_of_a_program(prefix: pathlib.Path, name: str) -> None:
         assert f"{option} {meaning}" in words, option
 
 
-def test_manual_of_the_library(prefix: pathlib.Path) -> None:
+def test_manual_of_the_library(moved: pathlib.Path) -> None:
     """The page of the library has each call, each struct and each enum of the header."""
-    shown = rendered(prefix, "man3/tombolopan.3")
+    shown = rendered(moved, "man3/tombolopan.3")
     text = HEADER.read_text(encoding="utf-8")
     declared = re.findall(r"^(?:uint32_t|void) (tb_\w+)\(|^enum (\w+) \{|^\} (tb_\w+);$", text,
                           re.M)
@@ -165,18 +337,47 @@ def test_manual_of_the_library(prefix: pathlib.Path) -> None:
     assert len(names) >= 25 and set(names) <= headings, set(names) - headings
 
 
+@pytest.mark.parametrize("name", ["mte_host", "mte_run", "mte_why", "tenant-cc", "disassemble"])
+def test_manual_has_its_statuses(moved: pathlib.Path, name: str) -> None:
+    """The page of a program says what its exit status means; of mte_run each one."""
+    shown = rendered(moved, f"man1/{name}.1")
+    statuses = re.findall(r"^EXIT STATUS\n((?:(?: +.*)?\n)+)", shown, re.M)[0]
+    assert statuses.strip()
+    usage = re.findall(r"^SYNOPSIS\n +(.+)$", shown, re.M)[0]
+    assert len(re.findall(rf"^ +{re.escape(usage)}$", shown, re.I | re.M)) == 1
+    if name == "mte_run":
+        numbers = re.findall(r"^       (\d+)\b", statuses, re.M)
+        assert [*map(int, numbers)] == [0, *range(129, 139), 2]
+
+
+def test_manual_of_a_call(moved: pathlib.Path) -> None:
+    """A call's name leads to the page of the library, and the page is found by its name."""
+    need("man")
+    extra = {"MANPATH": f"{moved}/share/man", "MANWIDTH": "80", "LC_ALL": "C.UTF-8"}
+    for name in ("tb_run", "tb_text", "mte_why", "tombolopan"):
+        ran = run(["man", "--warnings", name], extra=extra)
+        assert (ran.status, ran.errors) == (0, "")
+    shown = run(["man", "tb_run"], extra=extra).output
+    assert shown == run(["man", "tombolopan"], extra=extra).output
+
+
 def test_usage(tmp_path: pathlib.Path) -> None:
-    """A prefix has to be from the root on, and at most one folder follows."""
-    usage = "usage: install.sh PREFIX [FOLDER] (PREFIX from the root on)\n"
-    wrong: list[list[str]] = [[], ["prefix"], [str(tmp_path), "a", "b"]]
+    """A prefix is wanted, and at most one folder follows; --help prints the script's comment."""
+    usage = "usage: install.sh [--uninstall] PREFIX [FOLDER] (--help)\n"
+    place = str(tmp_path)
+    wrong: list[list[str]] = [[], ["--prefix"], [place, "a", "b"], ["--uninstall"],
+                              ["--uninstall", place, "a"]]
     for words in wrong:
         ran = installed.install(words)
         assert (ran.status, ran.output, ran.errors) == (2, "", usage)
+    ran = installed.install(["--help"])
+    assert (ran.status, ran.errors) == (0, "")
+    assert "    tools/install.sh PREFIX [FOLDER]\n" in ran.output
 
 
 def test_missing_tools(tmp_path: pathlib.Path) -> None:
     """What is missing is named before anything is done."""
-    for tool in ("bash", "dirname"):
+    for tool in ("bash", "dirname", "realpath"):
         (tmp_path / tool).symlink_to(succeed(["which", tool]).output.strip())
     ran = installed.install([str(tmp_path / "prefix")], path=str(tmp_path))
     assert (ran.status, ran.errors) == (2, "install.sh: missing: rt cc ar python3\n")
@@ -184,10 +385,58 @@ def test_missing_tools(tmp_path: pathlib.Path) -> None:
 
 
 def test_again(prefix: pathlib.Path, tmp_path: pathlib.Path) -> None:
-    """What is installed may be installed over."""
+    """What is installed may be installed over: what was and is no more goes away."""
     place = tmp_path / "prefix"
     shutil.copytree(prefix, place, symlinks=True)
+    (place / "bin" / "older").touch()
+    with open(place / SHARE / "installed", "a", encoding="utf-8") as names:
+        names.write("bin/older\n")
     ran = installed.install([str(place), str(prefix.parent / "built")])
     assert (ran.status, ran.output, ran.errors) == (0, WRITTEN.format(place), "")
-    names = [name for name in FILES if not name.endswith(".pc")]
-    assert filecmp.cmpfiles(prefix, place, names, shallow=False) == (names, [], [])
+    assert filecmp.cmpfiles(prefix, place, FILES, shallow=False) == ([*FILES], [], [])
+    assert not (place / "bin" / "older").exists()
+
+
+def test_uninstall(prefix: pathlib.Path, tmp_path: pathlib.Path) -> None:
+    """With DESTDIR in front of a prefix that others use too: theirs alone stays."""
+    built = str(prefix.parent / "built")
+    root, place = tmp_path / "root", tmp_path / "root" / "usr"
+    (place / "bin").mkdir(parents=True)
+    (place / "bin" / "other").touch()
+    ran = installed.install(["/usr", built], root=str(root))
+    assert (ran.status, ran.output, ran.errors) == (0, WRITTEN.format("/usr"), "")
+    run([place / "bin" / "tenant-cc", "--help"], extra={"PYTHONDONTWRITEBYTECODE": ""})
+    assert (place / "bin" / "mte_run").exists() and (place / SHARE / "examples").exists()
+    ran = installed.install(["--uninstall", "/usr"], root=str(root))
+    assert (ran.status, ran.errors) == (0, "")
+    assert ran.output == "install.sh: nothing of it is left in /usr\n"
+    assert {str(it.relative_to(root)) for it in root.rglob("*")} == {"usr", "usr/bin",
+                                                                     "usr/bin/other"}
+    ran = installed.install(["--uninstall", "/usr"], root=str(root))
+    assert (ran.status, ran.output) == (2, "")
+    assert ran.errors == f"install.sh: nothing is installed there: no {place}/{SHARE}/installed\n"
+
+
+def test_from_a_checkout(prefix: pathlib.Path, tmp_path: pathlib.Path) -> None:
+    """What a checkout has built is installed. A program that is marked as built without proof is
+    marked in the prefix too; where the C library of tenants is not built, there is no tenant-cc."""
+    clone = copy_files(tmp_path / "clone", "tools/", "examples/", "docs/", "include/", "isa/",
+                       "README.md", "CHANGELOG.md", "crates.txt")
+    for file in (prefix.parent / "built").iterdir():
+        if file.is_file():
+            link_built(clone, file.resolve())
+    out = clone / "crates" / "mte_run" / "out"
+    succeed(["sh", "-c", "sha256sum mte_run >mte_run.unproved"], cwd=out)
+    ran = run([clone / "tools" / "install.sh", "prefix"], cwd=tmp_path, seconds=300)
+    place = tmp_path / "prefix"
+    assert (ran.status, ran.output) == (0, WRITTEN.format(place))
+    assert ran.errors == (
+        "install.sh: without tenant-cc: its C library is not built (tools/build.sh)\n"
+        "install.sh: built without proof: mte_run\n")
+    assert not (place / "bin" / "tenant-cc").is_symlink()
+    (tmp_path / "no.elf").touch()
+    extra = {"TOMBOLOPAN_BUILT": ""}
+    ran = run([place / "bin" / "mte_why", tmp_path / "no.elf"], extra=extra)
+    assert ran.errors.startswith("mte_why: mte_run is built without proof\n")
+    ran = run([place / SHARE / "examples" / "hi.sh"], extra=extra)
+    assert (ran.status, ran.output, ran.errors) == (0, HI_REPORT, "")

@@ -305,7 +305,8 @@ def help_of(built: Built, program: str) -> str:
     if program in PROGRAMS:
         path = built.host if program == "mte_host" else built.alone
         return succeed([path, "--help"]).output
-    return succeed([sys.executable, ROOT / program, "--help"]).output
+    words: list[Word] = [] if program.endswith(".sh") else [sys.executable]
+    return succeed([*words, ROOT / program, "--help"]).output
 
 
 def options_of(text: str) -> set[str]:

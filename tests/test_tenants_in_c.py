@@ -133,4 +133,4 @@ def test_make_draws_a_heap(alone: pathlib.Path, makefile: pathlib.Path) -> None:
 def test_make_says_what_is_not_there(makefile: pathlib.Path) -> None:
     """Where the program has not been built."""
     ran = make(makefile, "hello.run", "ALONE=absent/mte_run")
-    assert ran.status == 2 and "absent/mte_run is not there. Prove and build it" in ran.errors
+    assert ran.status == 2 and "absent/mte_run is not there. Build it, with proof or" in ran.errors

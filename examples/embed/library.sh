@@ -1,12 +1,15 @@
 #!/usr/bin/env bash
-# Proves and builds the static library where it is older than its sources, and writes its path.
+# Writes the path of the static library. Where it is not there, or is older than its sources,
+# tools/build.sh proves and builds it first.
 set -euo pipefail
-crate=$(cd "$(dirname "$0")/../../crates/tombolopan_c" && pwd)
-library=$crate/out/libtombolopan_c.a
-list=$crate/../../crates.txt
-if [[ ! -e $library || -n $(find "$crate"/../*/src "$list" -newer "$library" -print -quit) ]]; then
-    echo "library.sh: proves the library and what it stands on: by estimate an hour of one" \
-        "processor the first time" >&2
-    (cd "$crate" && rt lib --jobs 1 >&2)
+top=$(cd "$(dirname "$0")/../.." && pwd)
+name=libtombolopan_c.a
+folder=$top/crates/tombolopan_c/out
+if [[ ! -e $folder/$name ||
+    -n $(find "$top"/crates/*/src "$top/crates.txt" -newer "$folder/$name" -print -quit) ]]; then
+    "$top/tools/build.sh" --only "$name" >&2
 fi
-echo "$library"
+if [[ -e $folder/$name.unproved ]] && (cd "$folder" && sha256sum -c --status "$name.unproved"); then
+    echo "library.sh: $name is built without proof" >&2
+fi
+echo "$folder/$name"

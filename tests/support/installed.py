@@ -1,8 +1,11 @@
 """Tombolopan installed into a folder, as tools/install.sh does it with what was built."""
 
+import os
 import pathlib
+import shutil
 from collections.abc import Sequence
 
+from tests.support.cache import tenant_library
 from tests.support.library import static_library
 from tests.support.once import make_once
 from tests.support.places import ROOT, program
@@ -10,20 +13,23 @@ from tests.support.running import Ran, run
 from tests.support.tools import need
 
 INSTALLER = ROOT / "tools" / "install.sh"
+PROGRAMS = ("mte_host", "mte_run", "disassemble")
 
 
 def built_folder(shared: pathlib.Path, folder: pathlib.Path) -> pathlib.Path:
-    """A folder with the two programs and the archive."""
+    """A folder with the programs, the archive and the C library of tenants."""
     folder.mkdir(parents=True, exist_ok=True)
-    for file in (program("mte_host"), program("mte_run"), static_library(shared)):
-        (folder / file.name).unlink(missing_ok=True)
-        (folder / file.name).symlink_to(file)
+    files = {path.name: path for path in (*map(program, PROGRAMS), static_library(shared))}
+    for name, file in {**files, "libc": tenant_library()}.items():
+        (folder / name).unlink(missing_ok=True)
+        (folder / name).symlink_to(file)
     return folder
 
 
-def install(words: Sequence[str], path: str = "") -> Ran:
+def install(words: Sequence[str], path: str = "", root: str = "") -> Ran:
     """Runs the installer."""
-    return run([INSTALLER, *words], seconds=300, extra={"PATH": path} if path else None)
+    extra = {"DESTDIR": root, **({"PATH": path} if path else {})}
+    return run([INSTALLER, *words], seconds=300, extra=extra)
 
 
 def prefix(shared: pathlib.Path) -> pathlib.Path:
@@ -41,7 +47,20 @@ def prefix(shared: pathlib.Path) -> pathlib.Path:
     return top / "prefix"
 
 
+def moved(shared: pathlib.Path) -> pathlib.Path:
+    """A copy of that prefix elsewhere."""
+    place = prefix(shared)
+
+    def copy(target: pathlib.Path) -> None:
+        part = target.with_name("moving")
+        shutil.copytree(place, part, symlinks=True)
+        part.rename(target)
+
+    return make_once(shared / "moved" / "prefix", copy)
+
+
 def variables(place: pathlib.Path) -> dict[str, str]:
     """What a program needs to find what is installed, as the installer says."""
-    return {"PKG_CONFIG_PATH": f"{place}/lib/pkgconfig", "LD_LIBRARY_PATH": f"{place}/lib",
-            "PYTHONPATH": f"{place}/share/tombolopan"}
+    path = f"{place}/bin{os.pathsep}{os.environ['PATH']}"
+    return {"PATH": path, "PKG_CONFIG_PATH": f"{place}/lib/pkgconfig",
+            "LD_LIBRARY_PATH": f"{place}/lib", "PYTHONPATH": f"{place}/share/tombolopan"}

@@ -1,0 +1,146 @@
+"""tools/build.sh: what it builds, by which commands, and the marks of what is built without proof.
+
+The toolchain, unproved.py, build.py and install.sh are stubs that say how they were called.
+"""
+
+import os
+import pathlib
+import re
+import time
+
+import pytest
+
+from tests.support.checkout import copy_files, make_stub
+from tests.support.running import Ran, run
+
+PROGRAMS = ("disassemble", "mte_host", "mte_run")
+LIBRARY = "libtombolopan_c.a"
+# Proves a crate: its lines, and its program or library.
+TOOLCHAIN = """\
+crate=$(basename "$PWD")
+echo "$crate: $*" >>"$TRIED"
+echo "rt: jobs 2 for a64_bits"
+[[ $crate != "${REFUSED:-}" ]] || { echo 'did not prove'; exit 1; }
+mkdir -p out
+name=$crate
+[[ $1 == run ]] || name=lib$crate.a
+echo proved >"out/$name"
+"""
+UNPROVED = """#!/usr/bin/env bash
+echo "unproved.py $(basename "$2") $3" >>"$TRIED"
+echo unproved >"$2"
+"""
+LIBC = """#!/usr/bin/env bash
+here=$(dirname "$0")
+echo build.py >>"$TRIED"
+mkdir -p "$here/out/lib"
+touch "$here/out/lib/libc.a"
+"""
+INSTALL = """#!/usr/bin/env bash
+echo "install.sh $*" >>"$TRIED"
+"""
+
+
+class Clone:
+    """A checkout in which nothing was built, with stubs."""
+
+    def __init__(self, folder: pathlib.Path) -> None:
+        self.top = copy_files(folder / "clone", "crates/disassemble/", "crates/mte_host/",
+                              "crates/mte_run/", "crates/tombolopan_c/", "crates.txt",
+                              "tools/build.sh", "examples/libc/")
+        self.tried = folder / "tried"
+        for name, text in (("tools/unproved.py", UNPROVED), ("tools/install.sh", INSTALL),
+                           ("examples/libc/build.py", LIBC)):
+            (self.top / name).write_text(text, encoding="utf-8")
+            (self.top / name).chmod(0o755)
+        self.path = make_stub(folder / "stub", "rt", TOOLCHAIN)["PATH"]
+
+    def build(self, *words: str, refused: str = "") -> tuple[Ran, list[str]]:
+        """What the script says, and the commands that it gave, in the order of their names."""
+        self.tried.write_text("", encoding="utf-8")
+        extra = {"PATH": self.path, "TRIED": str(self.tried), "REFUSED": refused}
+        ran = run([self.top / "tools" / "build.sh", *words], extra=extra)
+        return ran, sorted(self.tried.read_text(encoding="utf-8").splitlines())
+
+    def built(self, name: str) -> pathlib.Path:
+        """The place of a program or of the library."""
+        crate = name.removeprefix("lib").removesuffix(".a")
+        return self.top / "crates" / crate / "out" / name
+
+    def marks(self) -> set[str]:
+        """What is marked as built without proof."""
+        return {path.stem for path in self.top.rglob("*.unproved")}
+
+
+@pytest.fixture
+def clone(tmp_path: pathlib.Path) -> Clone:
+    """A checkout in which nothing was built."""
+    return Clone(tmp_path)
+
+
+PROOFS = ["disassemble: run -- 0", "mte_host: run -- --help", "mte_run: run -- --help",
+          "tombolopan_c: lib --jobs 1"]
+NO_PROOFS = sorted(["unproved.py disassemble.new disassemble", "unproved.py mte_host.new mte_host",
+                    "unproved.py mte_run.new mte_run",
+                    f"unproved.py {LIBRARY}.new tombolopan_c"])
+
+
+def test_without_proof(clone: Clone) -> None:
+    """All of it is built without proof, marked, and installed; a second time nothing is built."""
+    ran, tried = clone.build("--unproved", "/prefix")
+    assert (ran.status, ran.output) == (0, "")
+    assert tried == ["build.py", "install.sh /prefix", *NO_PROOFS]
+    assert clone.marks() == {*PROGRAMS, LIBRARY}
+    lines = set(ran.errors.splitlines())
+    assert {f"build.sh: {name}: built without proof" for name in (*PROGRAMS, LIBRARY)} <= lines
+    ran, tried = clone.build("--unproved")
+    assert (ran.status, tried) == (0, [])
+    assert f"build.sh: {LIBRARY}: was there, built without proof\n" in ran.errors
+
+
+def test_by_proof(clone: Clone) -> None:
+    """All of it is proved, with a line a crate, also what was built without proof; it stays."""
+    clone.build("--unproved", "--only", "mte_run")
+    assert clone.marks() == {"mte_run"}
+    ran, tried = clone.build()
+    assert (ran.status, tried) == (0, ["build.py", *PROOFS])
+    assert re.search(r"^build.sh: mte_run: 0 min \d+ s, at a64_bits$", ran.errors, re.M)
+    assert "build.sh: mte_run: proved\n" in ran.errors
+    assert clone.marks() == set() and clone.built("mte_run").read_text() == "proved\n"
+    ran, tried = clone.build("--unproved")
+    assert (ran.status, tried) == (0, [])
+    assert "build.sh: mte_run: was there\n" in ran.errors
+    newest = time.time() + 60
+    os.utime(clone.top / "crates" / "mte_host" / "src" / "main.rt", (newest, newest))
+    ran, tried = clone.build("--unproved", "--only", "mte_host")
+    assert (ran.status, tried) == (0, ["unproved.py mte_host.new mte_host"])
+
+
+def test_a_proof_that_fails(clone: Clone) -> None:
+    """What the prover says is shown, nothing is installed, and a mark stays."""
+    clone.build("--unproved", "--only", "mte_host")
+    ran, tried = clone.build("/prefix", refused="mte_host")
+    assert ran.status == 1 and "did not prove\nbuild.sh: mte_host failed\n" in ran.errors
+    assert "install.sh /prefix" not in tried
+    assert clone.marks() == {"mte_host"}
+
+
+def test_a_mark_is_of_one_file(clone: Clone) -> None:
+    """A program that was put in the place of a marked one is not taken for it."""
+    clone.build("--unproved", "--only", "mte_host")
+    clone.built("mte_host").write_text("other\n")
+    ran, tried = clone.build("--only", "mte_host")
+    assert (ran.status, tried) == (0, [])
+    assert ran.errors.endswith("build.sh: mte_host: was there\n")
+
+
+def test_words(clone: Clone) -> None:
+    """Words that mean nothing are refused, and --help prints the script's comment."""
+    wrong = {("--proved",): "--proved is no option (--help)",
+             ("--only", "mte_walk"): "mte_walk is nothing to build",
+             ("--jobs", "no"): "--jobs takes a number", ("/a", "/b"): "there is one PREFIX"}
+    for words, said in wrong.items():
+        ran, tried = clone.build(*words)
+        assert (ran.status, ran.output, ran.errors, tried) == (2, "", f"build.sh: {said}\n", [])
+    ran, _ = clone.build("--help")
+    assert ran.status == 0 and "    tools/build.sh [--unproved] [--only NAME]" in ran.output

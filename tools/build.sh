@@ -1,0 +1,182 @@
+#!/usr/bin/env bash
+# Builds mte_host, mte_run, disassemble, the library for C, and the C library of tenants.
+#     tools/build.sh [--unproved] [--only NAME] [--jobs N] [PREFIX]
+#
+# What is built and newer than all sources stays. Programs and the library are in crates/*/out, the
+# C library of tenants in examples/libc/out. With a PREFIX all of it is installed there
+# (tools/install.sh).
+#     --unproved   builds without proof, in minutes. Beside each such file is NAME.unproved, with
+#                  its sum. What is proved and newer than all sources stays as it is.
+#     --only NAME  this one alone: a program, libtombolopan_c.a, or tenants for the C library
+#     --jobs N     how many are built at a time without proof (as processors and memory allow)
+set -euo pipefail
+here=$(cd "$(dirname "$0")" && pwd)
+crates=$here/../crates
+libc=$here/../examples/libc
+every=(disassemble mte_host libtombolopan_c.a mte_run)
+
+leave() {
+    echo "build.sh: $1" >&2
+    exit 2
+}
+
+only='' proof=yes jobs='' prefix=''
+while [[ $# -gt 0 ]]; do
+    case $1 in
+        --help | -h) sed -n '2,/^set/s/^# \{0,1\}//p' "$0"; exit ;;
+        --unproved) proof=no ;;
+        --only) only=${2:-}; shift ;;
+        --jobs) jobs=${2:-}; shift ;;
+        -*) leave "$1 is no option (--help)" ;;
+        *) [[ -z $prefix ]] || leave "there is one PREFIX"; prefix=$1 ;;
+    esac
+    shift
+done
+[[ -z $only || " ${every[*]} tenants " == *" $only "* ]] || leave "$only is nothing to build"
+[[ -z $jobs || $jobs =~ ^[1-9][0-9]?$ ]] || leave "--jobs takes a number"
+command -v rt >/dev/null || [[ $only == tenants ]] || leave "rt, the toolchain, is not there"
+
+# The place of a program or of the library.
+place() {
+    local crate=${1#lib}
+    echo "$crates/${crate%.a}/out/$1"
+}
+
+# Whether it is marked as built without proof.
+is_unproved() {
+    local file
+    file=$(place "$1")
+    [[ -e $file.unproved ]] && (cd "${file%/*}" && sha256sum --check --status "$1.unproved")
+}
+
+# Whether it is there, no source is newer, and it is proved where that is wanted.
+is_built() {
+    local file
+    file=$(place "$1")
+    [[ -e $file ]] || return 1
+    [[ -z $(find "$crates"/*/src "$crates/../crates.txt" -newer "$file" -print -quit) ]] || return 1
+    [[ $proof == no ]] || ! is_unproved "$1"
+}
+
+say() {
+    echo "build.sh: $1" >&2
+}
+
+# Runs a command whose lines go to a file; says each half minute how long it runs, and at which
+# crate the prover is.
+watched() {
+    local what=$1 start=$SECONDS log last crate passed seen=''
+    shift
+    log=$(mktemp)
+    # In a process group of its own, which ends with this one.
+    set -m
+    "$@" >"$log" 2>&1 &
+    local child=$!
+    set +m
+    # shellcheck disable=SC2064
+    trap "kill -- -$child 2>/dev/null || true; rm -f '$log'" EXIT
+    last=$start
+    while kill -0 "$child" 2>/dev/null; do
+        sleep 0.2
+        crate=$(grep -ao 'jobs [0-9]* for [a-z0-9_]*' "$log" | tail -n 1 || true)
+        crate=${crate/*for /}
+        passed=$((SECONDS - start))
+        if [[ $crate != "$seen" ]] || ((SECONDS - last >= 30)); then
+            say "$what: $((passed / 60)) min $((passed % 60)) s${crate:+, at $crate}"
+            seen=$crate last=$SECONDS
+        fi
+    done
+    if ! wait "$child"; then
+        tail -n 20 "$log" >&2
+        say "$what failed"
+        return 1
+    fi
+}
+
+# A program is run once, with words that it takes.
+prove() {
+    local file last=(--help)
+    file=$(place "$1")
+    [[ $1 != disassemble ]] || last=(0)
+    if [[ $1 == *.a ]]; then
+        (cd "${file%/out/*}" && rt lib --jobs 1)
+    else
+        (cd "${file%/out/*}" && rt run -- "${last[@]}" </dev/null)
+    fi
+    rm -f "$file.unproved"
+}
+
+# Builds it without proof beside its place, marks it, and puts it there.
+unproved() {
+    local file crate=${1#lib}
+    file=$(place "$1")
+    mkdir -p "${file%/*}"
+    "$here/unproved.py" "$here/.." "$file.new" "${crate%.a}"
+    {
+        echo "# Built by tools/build.sh --unproved: nothing is proved of the file with this sum."
+        (cd "${file%/*}" && sha256sum "$1.new") | sed "s/$1\.new\$/$1/"
+    } >"$file.unproved"
+    mv "$file.new" "$file"
+}
+
+build() {
+    local way=prove how=proved
+    if is_built "$1"; then
+        how='was there'
+        if is_unproved "$1"; then how+=', built without proof'; fi
+        say "$1: $how"
+        return
+    fi
+    [[ $proof == yes ]] || { way=unproved; how='built without proof'; }
+    watched "$1" "$way" "$1"
+    say "$1: $how"
+}
+
+# The C library of tenants; without it all else is of use.
+build_libc() {
+    if [[ -e $libc/out/lib/libc.a && -z $(find "$libc/src" "$libc/include" "$libc/arch" \
+        "$libc/build.py" -newer "$libc/out/lib/libc.a" -print -quit) ]]; then
+        say "the C library of tenants: was there"
+    elif (watched "the C library of tenants" "$libc/build.py" --jobs "$1"); then
+        say "the C library of tenants: built"
+    elif [[ $only == tenants ]]; then
+        exit 1
+    else
+        say "without the C library of tenants there is no tenant-cc"
+    fi
+}
+
+processors=${jobs:-$(nproc)}
+if [[ -z $jobs ]]; then
+    # 3 GB of memory for each.
+    room=$(awk '/^MemAvailable/ { print int($2 / 3000000) }' /proc/meminfo)
+    jobs=$((room < 1 ? 1 : room < processors ? room : processors))
+fi
+wanted=("${every[@]}")
+[[ -z $only ]] || wanted=("$only")
+if [[ $proof == yes && $only != tenants ]]; then
+    say "proves what is not built yet: README.md, \"Build and check\", has the time"
+fi
+if [[ $only != tenants ]]; then
+    # Proofs take turns, since each uses what those before it have proved.
+    [[ $proof == no ]] || jobs=1
+    # shellcheck disable=SC2046
+    trap 'kill $(jobs -p) 2>/dev/null || true' EXIT
+    running=0
+    for ((at = ${#wanted[@]} - 1; at >= 0; at--)); do
+        build "${wanted[at]}" &
+        running=$((running + 1))
+        if ((running >= jobs)); then
+            wait -n
+            running=$((running - 1))
+        fi
+    done
+    while ((running > 0)); do
+        wait -n
+        running=$((running - 1))
+    done
+fi
+if [[ -z $only || $only == tenants ]]; then
+    build_libc "$processors"
+fi
+[[ -z $prefix ]] || "$here/install.sh" "$prefix"
