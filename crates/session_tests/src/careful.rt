@@ -2,11 +2,13 @@
 //! what the laws of careful runs say of it: its chunks may be used and are guarded, and freed ones
 //! are out of reach. One that stores a tag of its own is not careful.
 
+ghost use Rattle.std.specs.Prelude.{◌≡◌};
+
 use crate::images::image;
 use mte_flat::Flat;
 use mte_sched::Host;
 use mte_svc::heap_call;
-use mte_tags::{Paged, TagMode};
+use mte_tags::{Paged, TagMode, Tagged};
 use mte_tenant::{Admission, Status, TenantParts, Terms, Watch, admit_alone, slice_watched};
 use scudo_heap::HeapCall;
 use std::alloc::Global;
@@ -69,35 +71,53 @@ fn stores_tags(word: u32) -> bool {
 }
 
 /// The eight bytes of the header before a pointer's address.
-fn header_at<M: Paged>(memory: &mut M, pointer: u64) -> [u8; 8] {
+fn header_at<M: Tagged>(memory: &mut M, pointer: u64) -> [u8; 8]
+    ensures memory { M.memory memory.new ≡ M.memory memory.old }
+    ensures kept { M.kept memory.old memory.new }
+{
     let mut header = [0; 8];
     let plain = pointer & 0x00FF_FFFF_FFFF_FFFF;
     let _ = memory.read(plain.wrapping_sub(16), &mut header, false);
     header
 }
 
-/// Whether a checked load of a byte completes.
-fn may_read<M: Paged>(memory: &mut M, pointer: u64) -> bool {
-    memory.read(pointer, &mut [0], true).is_ok()
+/// Whether a checked load of a byte would complete: its page has READ, and the granule's tag is the
+/// pointer's.
+fn may_read<M: Tagged>(memory: &mut M, pointer: u64) -> bool
+    ensures memory { M.memory memory.new ≡ M.memory memory.old }
+    ensures kept { M.kept memory.old memory.new }
+{
+    let wanted = ((pointer >> 56) & 15) as u8;
+    match memory.load_tag(pointer) {
+        Ok(tag) => tag == wanted,
+        Err(_) => false,
+    }
 }
 
 impl GivenChunk {
-    /// Whether its header is as it was.
-    fn has_its_header<M: Paged>(&self, memory: &mut M) -> bool {
-        header_at(memory, self.pointer) == self.header
-    }
-
-    /// Whether it may be used to its last granule and not beside it, or where it was freed, not at
-    /// all.
-    fn is_lawful<M: Paged>(&self, memory: &mut M) -> bool {
+    /// Whether it may be used to its last granule and not beside it.
+    fn is_guarded<M: Tagged>(&self, memory: &mut M) -> bool
+        ensures memory { M.memory memory.new ≡ M.memory memory.old }
+        ensures kept { M.kept memory.old memory.new }
+    {
         let end = self.pointer.wrapping_add(self.size.wrapping_add(15) & !15);
-        let inside = may_read(memory, self.pointer);
-        if !self.is_live {
-            return !inside;
-        }
+        let first = may_read(memory, self.pointer);
         let last = may_read(memory, end.wrapping_sub(1));
         let before = may_read(memory, self.pointer.wrapping_sub(1));
-        inside && last && !before && !may_read(memory, end)
+        let behind = may_read(memory, end);
+        first && last && !before && !behind
+    }
+
+    /// Whether the laws hold of it: a live one is guarded, one that was freed is out of reach.
+    fn is_lawful<M: Tagged>(&self, memory: &mut M) -> bool
+        ensures memory { M.memory memory.new ≡ M.memory memory.old }
+        ensures kept { M.kept memory.old memory.new }
+    {
+        if self.is_live {
+            self.is_guarded(memory)
+        } else {
+            !may_read(memory, self.pointer)
+        }
     }
 }
 
@@ -112,13 +132,27 @@ impl CarefulWatch {
         }
     }
 
-    /// Whether a pointer is to a live chunk with its header.
-    fn has_live<M: Paged>(&self, memory: &mut M, pointer: u64) -> bool {
-        let mut found = false;
+    /// The live chunk of a pointer.
+    fn live_at(&self, pointer: u64) -> Option<GivenChunk> {
+        let mut found = None;
         for chunk in &self.chunks {
-            found |= chunk.is_live && chunk.pointer == pointer && chunk.has_its_header(memory);
+            if chunk.is_live && chunk.pointer == pointer {
+                found = Some(*chunk);
+            }
         }
         found
+    }
+
+    /// Whether a pointer is to a live chunk with its header.
+    fn has_live<M: Tagged>(&self, memory: &mut M, pointer: u64) -> bool
+        ensures memory { M.memory memory.new ≡ M.memory memory.old }
+        ensures kept { M.kept memory.old memory.new }
+    {
+        let header = header_at(memory, pointer);
+        match self.live_at(pointer) {
+            Some(chunk) => chunk.header == header,
+            None => false,
+        }
     }
 
     /// A chunk was freed.
@@ -131,48 +165,60 @@ impl CarefulWatch {
     }
 
     /// A chunk was given: it takes the place of a freed one at its address.
-    fn enter<M: Paged>(&mut self, memory: &mut M, pointer: u64, size: u64) {
-        let given = GivenChunk {
-            pointer,
-            size,
-            header: header_at(memory, pointer),
-            is_live: true,
-        };
-        let mut is_entered = false;
+    fn put(&mut self, given: GivenChunk) {
+        let mut is_put = false;
         for chunk in &mut self.chunks {
-            let is_there = (chunk.pointer ^ pointer) << 8 == 0;
-            if is_there || !is_entered && chunk.pointer == 0 {
-                *chunk = if is_entered { NO_CHUNK } else { given };
-                is_entered = true;
+            let is_there = (chunk.pointer ^ given.pointer) << 8 == 0;
+            if is_there || !is_put && chunk.pointer == 0 {
+                *chunk = if is_put { NO_CHUNK } else { given };
+                is_put = true;
             }
         }
-        self.is_careful &= is_entered;
+        self.is_careful &= is_put;
     }
 
-    /// Whether what the laws say holds of each chunk.
-    fn holds<M: Paged>(&self, memory: &mut M) -> bool {
-        let mut holds = true;
-        for chunk in &self.chunks {
-            holds &= chunk.pointer == 0 || chunk.is_lawful(memory);
-        }
-        holds
+    /// A chunk was given, with the header that is there.
+    fn enter<M: Tagged>(&mut self, memory: &mut M, pointer: u64, size: u64)
+        ensures memory { M.memory memory.new ≡ M.memory memory.old }
+        ensures kept { M.kept memory.old memory.new }
+    {
+        let header = header_at(memory, pointer);
+        self.put(GivenChunk {
+            pointer,
+            size,
+            header,
+            is_live: true,
+        });
     }
 
     /// A call was answered.
-    fn answer<M: Paged>(&mut self, memory: &mut M, call: HeapCall, answer: u64) {
-        match call {
-            HeapCall::Malloc { size } | HeapCall::Memalign { size, .. } => {
-                self.enter(memory, answer, size);
-            }
-            HeapCall::Calloc { count, size } => {
-                self.enter(memory, answer, count.wrapping_mul(size));
-            }
-            HeapCall::Free { pointer } => self.free(pointer),
-            HeapCall::Realloc { pointer, size } => {
-                self.free(pointer);
-                self.enter(memory, answer, size);
-            }
-            HeapCall::UsableSize { .. } => {}
+    fn answer<M: Tagged>(&mut self, memory: &mut M, call: HeapCall, answer: u64)
+        ensures memory { M.memory memory.new ≡ M.memory memory.old }
+        ensures kept { M.kept memory.old memory.new }
+    {
+        if let HeapCall::Free { pointer } | HeapCall::Realloc { pointer, .. } = call {
+            self.free(pointer);
+        }
+        let size = match call {
+            HeapCall::Malloc { size } | HeapCall::Memalign { size, .. } => size,
+            HeapCall::Realloc { size, .. } => size,
+            HeapCall::Calloc { count, size } => count.wrapping_mul(size),
+            _ => return,
+        };
+        self.enter(memory, answer, size);
+    }
+
+    /// Looks at one of the chunks, by a number: at each of them in turn.
+    fn look<M: Tagged>(&mut self, memory: &mut M, number: u64)
+        ensures memory { M.memory memory.new ≡ M.memory memory.old }
+        ensures kept { M.kept memory.old memory.new }
+    {
+        let Some(chunk) = self.chunks.get((number % CHUNKS as u64) as usize) else {
+            return;
+        };
+        if chunk.pointer != 0 {
+            let holds = chunk.is_lawful(memory);
+            self.is_lawful &= holds;
         }
     }
 }
@@ -203,8 +249,7 @@ impl Watch for CarefulWatch {
         if let Some(call) = self.call {
             self.answer(memory, call, parts.regs.x[0]);
         }
-        let holds = self.holds(memory);
-        self.is_lawful &= holds;
+        self.look(memory, parts.history.steps);
     }
 }
 
@@ -228,12 +273,24 @@ fn admission_of(id: u16, image: &[u8]) -> Admission<'_> {
 
 /// A tenant alone through the slices, watched, with its parts in the end.
 fn watched(alloc: Global, file: &[u8]) -> Result<(CarefulWatch, TenantParts), Fail> {
+    let admission = Admission {
+        id: 1,
+        image: file,
+        input: b"",
+        terms: Terms {
+            seed: 5,
+            pages: 60,
+            room: 16,
+            mode: TagMode::Sync,
+        },
+    };
     let mut memory = Flat::new(alloc, 60, TagMode::Sync)?;
-    let mut parts = admit_alone(alloc, &admission_of(1, file), &mut memory)?;
+    let mut parts = admit_alone(alloc, &admission, &mut memory)?;
     let mut watch = CarefulWatch::new();
-    for steps in SLICES {
-        slice_watched(&mut watch, &mut parts, &mut memory, steps);
-    }
+    slice_watched(&mut watch, &mut parts, &mut memory, SLICES[0]);
+    slice_watched(&mut watch, &mut parts, &mut memory, SLICES[1]);
+    slice_watched(&mut watch, &mut parts, &mut memory, SLICES[2]);
+    slice_watched(&mut watch, &mut parts, &mut memory, SLICES[3]);
     Ok((watch, parts))
 }
 
