@@ -10,7 +10,7 @@ from typing import Optional
 from tests.support.places import EXAMPLES
 from tests.support.running import Ran, run, succeed
 
-TENANT_CC = EXAMPLES / "libc" / "tenant-cc"
+TENANT_CC, TENANT_CXX = EXAMPLES / "libc" / "tenant-cc", EXAMPLES / "libc" / "tenant-c++"
 LEVELS = ("-O0", "-O2", "-Os")
 STEPS = "100000000"
 
@@ -30,6 +30,11 @@ def is_for_clang(source: pathlib.Path) -> bool:
 def tenant_cc(library: pathlib.Path, *words: str) -> Ran:
     """Runs tenant-cc over a library."""
     return run([sys.executable, TENANT_CC, f"--library={library}", *words], seconds=120)
+
+
+def tenant_cxx(library: pathlib.Path, *words: str) -> Ran:
+    """Runs tenant-c++ over a library."""
+    return run([sys.executable, TENANT_CXX, f"--library={library}", *words], seconds=300)
 
 
 def compiled(
