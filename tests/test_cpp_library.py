@@ -8,6 +8,7 @@ import shlex
 import pytest
 
 from tests.support.cache import tenant_cxx_library
+from tests.support.pages import parts_of
 from tests.support.places import EXAMPLES
 from tests.support.programs import comment_value, native, run_as_tenant, tenant_cxx
 from tests.support.running import Ran, run
@@ -89,6 +90,18 @@ def told_calls(text: str, title: str) -> list[str]:
         if "(inlined)" not in line:
             calls.append(found[1])
     return calls
+
+
+def test_the_page_shows_who_grew_a_vector(
+    alone: pathlib.Path, library: pathlib.Path, tmp_path: pathlib.Path
+) -> None:
+    """The lines that docs/TENANTS.md has of a report are lines of it, in that order."""
+    shown = [part.lines for part in parts_of("docs/TENANTS.md") if "kept_iterator" in part.text]
+    assert len(shown) == 1 and len(shown[0]) == 4
+    image = compiled(library, FOLDER / "kept_iterator.cpp", "-O1", tmp_path / "image.elf")
+    ran = run_as_tenant(alone, image)
+    freed = ran.errors[ran.errors.index("\n  freed by"):]
+    assert "\n".join(f"    {line.strip()}" for line in shown[0]) in freed
 
 
 @pytest.mark.parametrize("level", ["-O0", "-O2"])
@@ -177,6 +190,58 @@ def test_a_chunk_that_is_too_large_is_a_bad_alloc(
 ) -> None:
     """A chunk has at most 1,048,576 bytes, and `new` says so in its way."""
     assert run_as_tenant(alone, linked(library, tmp_path, LARGE)).status == 5
+
+
+LIMITS = """
+#include <chrono>
+#include <filesystem>
+#include <fstream>
+#include <iostream>
+#include <random>
+int main()
+{
+    std::ifstream in("/etc/passwd");
+    std::ofstream out("made");
+    std::cout << in.is_open() << out.is_open() << std::filesystem::exists("/etc/passwd")
+              << std::chrono::steady_clock::now().time_since_epoch().count();
+    try {
+        std::cout << std::random_device()();
+    } catch (const std::exception &) {
+        std::cout << " none\\n";
+    }
+}
+"""
+
+
+def test_what_a_tenant_has_not_is_told_as_the_library_does(
+    alone: pathlib.Path, library: pathlib.Path, tmp_path: pathlib.Path
+) -> None:
+    """Files, clocks and devices."""
+    ran = run_as_tenant(alone, linked(library, tmp_path, LIMITS, STANDARD))
+    assert (ran.out, ran.status) == (b"0000 none\n", 0)
+
+
+THROWN_THROUGH_C = """
+#include <cstdlib>
+static int compare(const void *, const void *) { throw 5; }
+int main()
+{
+    int numbers[] = {2, 1};
+    try {
+        std::qsort(numbers, 2, sizeof *numbers, compare);
+    } catch (int) {
+    }
+}
+"""
+
+
+def test_an_exception_does_not_leave_a_function_of_c(
+    alone: pathlib.Path, library: pathlib.Path, tmp_path: pathlib.Path
+) -> None:
+    """It ends as one that nobody catches."""
+    ran = run_as_tenant(alone, linked(library, tmp_path, THROWN_THROUGH_C))
+    text = "libc++abi: terminating with uncaught exception of type int\n"
+    assert (ran.output, ran.status) == (text, 133)
 
 
 def test_c_and_cxx_are_linked_together(
