@@ -7,11 +7,11 @@ import shlex
 
 import pytest
 
-from tests.support.cache import tenant_cxx_library
+from tests.support.cache import package_source, tenant_cxx_library
 from tests.support.pages import parts_of
 from tests.support.places import EXAMPLES
 from tests.support.programs import comment_value, native, run_as_tenant, tenant_cxx
-from tests.support.running import Ran, run
+from tests.support.running import Ran, run, succeed
 from tests.support.told import UNSEEN
 from tests.support.tools import need
 
@@ -275,3 +275,26 @@ def test_a_library_that_is_not_there(library: pathlib.Path, tmp_path: pathlib.Pa
     script = EXAMPLES / "libc" / "build.py"
     line = f"{tmp_path.resolve()}/lib/libc++.a is not there: build it by {script} --c++\n"
     assert (ran.status, ran.errors) == (2, f"tenant-cc: {line}")
+
+
+# Tests of double-conversion, which its own program runs: those that take a second as a tenant.
+CONVERSIONS = ("test-conversions", "test-ieee", "test-diy-fp", "test-bignum", "test-strtod")
+
+
+def test_the_tests_of_a_package_pass_as_they_do_natively(
+    alone: pathlib.Path, library: pathlib.Path, tmp_path: pathlib.Path
+) -> None:
+    """double-conversion, unchanged: each of its checks that failed would end it by abort."""
+    package = package_source("double-conversion")
+    own = [package / "test" / "cctest" / f"{name}.cc" for name in ("cctest", *CONVERSIONS)]
+    files = [str(file) for file in (*sorted((package / "double-conversion").glob("*.cc")), *own)]
+    words = ["-std=c++17", "-w", "-O1", f"-I{package}"]
+    image, program = tmp_path / "image.elf", tmp_path / "native"
+    given = f"--arguments={' '.join(CONVERSIONS)}"
+    ran = tenant_cxx(library, given, *words, "-o", str(image), *files)
+    assert (ran.status, ran.errors) == (0, "")
+    succeed(["c++", *words, "-o", program, *files])
+    wanted = run([program, *CONVERSIONS])
+    assert wanted.status == 0 and re.fullmatch(r"Ran [1-9][0-9] tests\.\n", wanted.output)
+    ran = run_as_tenant(alone, image)
+    assert (ran.out, ran.status) == (wanted.out, wanted.status), ran.errors

@@ -74,6 +74,15 @@ def build_library(folder: pathlib.Path, *more: str) -> None:
     shutil.rmtree(folder / "objects", ignore_errors=True)
 
 
+def package_source(name: str) -> pathlib.Path:
+    """The source of a package of Debian's, without Debian's changes."""
+    folder = cache_folder() / "sources"
+    ran = run([sys.executable, EXAMPLES / "debian_source.py", folder, name], seconds=BUILD_SECONDS)
+    if ran.status:
+        give_up(f"{name} is not fetched: {ran.errors.strip()[-300:]}")
+    return folder / name
+
+
 def tenant_cxx_library() -> pathlib.Path:
     """The C and C++ libraries of tenants; the second takes a minute more the first time."""
     need("aarch64-linux-gnu-as")
