@@ -16,7 +16,6 @@ from tests.support.tenant_tools import TENANT_RUN, built, tenant_args, tenant_ru
 from tests.support.tools import give_up, need
 
 SOURCES = TESTS / "sources"
-STACK = "--stack=131072"
 
 
 @pytest.fixture(scope="session")
@@ -126,7 +125,7 @@ def test_files_do_what_they_do_natively(
 ) -> None:
     """A program that opens, writes, lists, renames and removes files writes the same as here, over
     files that tenant-args wrote too, and touches none of this machine's."""
-    image = built(library, tmp_path, (SOURCES / "files.c").read_text(), STACK, name="files")
+    image = built(library, tmp_path, (SOURCES / "files.c").read_text(), name="files")
     start, own = files_folder(tmp_path), files_folder(tmp_path / "native")
     program = native(SOURCES / "files.c", tmp_path / "native/files", "-w")
     wanted = run(["/bin/sh", "-c", f"umask 022; {program}"], cwd=own)
@@ -143,6 +142,55 @@ def test_files_do_what_they_do_natively(
     ran = run_as_tenant(alone, image)
     assert (ran.status, b"none has 3: ./ ../ x\n" in ran.out) == (0, True), ran.errors
     assert ran.out.replace(b"none has 3: ./ ../ x", b"none has 2: ./ ../") == wanted.out
+
+
+WRITER = """
+#include <stdio.h>
+#include <sys/stat.h>
+static void put(const char *name, const char *mode, const char *text)
+{
+    FILE *file = fopen(name, mode);
+    printf("%s: %d\\n", name, file && fputs(text, file) >= 0 && !fclose(file));
+}
+int main(int count, char **words)
+{
+    put("made.txt", "w", "made");
+    mkdir("sub", 0755);
+    put("sub/two.txt", "w", "two");
+    put("in.txt", "a", "more");
+    put("/tmp/scratch", "w", "lost");
+    put("/other/known", "r+", "OLD");
+    put("/other/unknown", "w", "refused");
+    rename("old.txt", "new.txt");
+    return count > 1 ? *(volatile char *)0 : 3;
+}
+"""
+
+
+def test_written_files_come_back(
+    alone: pathlib.Path, library: pathlib.Path, tmp_path: pathlib.Path
+) -> None:
+    """`--out-files`: those below this folder and those that were named; none without it, nor where
+    the tenant does not end by itself; and the output is what it is without."""
+    image, here, other = built(library, tmp_path, WRITER), tmp_path / "here", tmp_path / "other"
+    here.mkdir()
+    other.write_text("old file")
+    (here / "in.txt").write_text("some ")
+    (here / "old.txt").write_text("old")
+    words = ["--files", ".", "--files", f"/other/known={other}", str(image)]
+    before = {path.name: path.read_bytes() for path in here.iterdir()}
+    ran = tenant_run(alone, *words, cwd=here)
+    assert (ran.status, ran.errors) == (3, "") and ran.output.count(": 1\n") == 6
+    assert tenant_run(alone, "--out-files", *words, "fault", cwd=here).status == 139
+    assert {path.name: path.read_bytes() for path in here.iterdir()} == before
+    again = tenant_run(alone, "--out-files", *words, cwd=here)
+    assert (again.out, again.status) == (ran.out, 3)
+    assert again.errors.startswith("tenant-run: /other/unknown is not written: ")
+    assert again.errors.count("\n") == 1
+    found = {str(path.relative_to(here)): path.read_text() for path in here.rglob("*.txt")}
+    assert found == {"made.txt": "made", "sub/two.txt": "two", "in.txt": "some more",
+                     "old.txt": "old", "new.txt": "old"}
+    assert other.read_text() == "OLD file"
 
 
 PROCESSES = """
@@ -208,7 +256,7 @@ def test_the_tests_of_zlib_pass(
         folder = tmp_path / name
         shutil.copytree(source, folder)
         extra = {"CHOST": "aarch64-linux", "AR": "llvm-ar", "RANLIB": "true",
-                 "CC": f"{TENANT_CC} --library={library} {STACK}"} if words else {}
+                 "CC": f"{TENANT_CC} --library={library}"} if words else {}
         succeed(["./configure", "--static"], cwd=folder, extra=extra)
         made = succeed(["make", *words, "teststatic"], cwd=folder)
         told[name] = made.output[made.output.index("hello world\n"):]

@@ -5,6 +5,7 @@ The image has a note with two numbers: the address of that segment, or 0, and th
 without it. The segment takes the program header of PT_GNU_STACK, and its bytes are at the end of
 the file, so that nothing else moves.
 """
+import os
 import pathlib
 import struct
 from dataclasses import dataclass, field
@@ -17,7 +18,8 @@ READ_WRITE = 6
 HEADER = struct.Struct("<IIQQQQQQ")
 NAME = b"Tombolopan\0"
 FOLDER, FILE, PROGRAM = 0o040755, 0o100644, 0o100755
-FIRST_NODE = 3
+FIRST_NODE, PACK = 3, 1
+PACKED, PACK_END, MARK = struct.Struct("<IIQ"), struct.Struct("<8sQ"), b"TenFiles"
 # A word of the segment that is an address of it, and the sizes of its structs.
 GIVEN_SIZE, NODE_SIZE = 32, 56
 
@@ -186,3 +188,21 @@ def written(path: pathlib.Path, given: Given) -> bytes:
                      len(segment), len(segment), PAGE)
     struct.pack_into("<QQ", data, image.note, image.end, size)
     return bytes(data) + segment
+
+
+def unpacked(written_bytes: bytes) -> tuple[bytes, list[tuple[int, str, bytes]]]:
+    """The output of a tenant whose written files are wanted, and of each its mode, name and bytes;
+    an image whose library does not pack them is refused."""
+    at = len(written_bytes) - PACK_END.size
+    mark, size = PACK_END.unpack_from(written_bytes, at) if at >= 0 else (b"", 0)
+    if mark != MARK or size > at:
+        raise Refused("the tenant's output has no files at its end")
+    start, end, found = at - size, at, []
+    at = start
+    while at < end:
+        mode, length, size = PACKED.unpack_from(written_bytes, at)
+        at += PACKED.size
+        name = os.fsdecode(written_bytes[at:at + length])
+        found.append((mode, name, written_bytes[at + length:at + length + size]))
+        at += length + size
+    return written_bytes[:start], found

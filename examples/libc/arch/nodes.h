@@ -34,4 +34,7 @@ hidden long __tenant_resize(struct tenant_node *node, size_t size);
 /* One that opened a node (`opened`) leaves it. */
 hidden void __tenant_leave(struct tenant_node *node);
 
+/* Writes the nodes that were written behind the output; the number of bytes. */
+hidden size_t __tenant_pack(void);
+
 #endif

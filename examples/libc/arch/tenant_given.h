@@ -25,10 +25,24 @@ struct tenant_given {
 };
 
 enum { FIRST_NODE = 3 };
+/* Of what was given: the files that were written are wanted behind the output. */
+enum { GIVEN_PACK = 1 };
 /* Of a node: its struct, or its name, is a chunk; it has no name any more; it was written. */
 enum { NODE_IS_CHUNK = 1, NAME_IS_CHUNK = 2, NODE_REMOVED = 4, NODE_WRITTEN = 8 };
 
 /* Where it is, or null; in the image's note, which tenant-args looks for (start.c). */
 extern __attribute__((__visibility__("hidden"))) struct tenant_given *const volatile __tenant_given;
+
+/* What is behind the output then: of each node that was written this head, its name without an end,
+   and its bytes; and at last this end. */
+struct tenant_packed {
+    uint32_t mode, name_size;
+    uint64_t size;
+};
+struct tenant_pack_end {
+    char mark[8];
+    uint64_t size;
+};
+#define TENANT_PACK_MARK "TenFiles"
 
 #endif

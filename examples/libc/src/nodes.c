@@ -246,3 +246,18 @@ hidden long __tenant_resize(struct tenant_node *node, size_t size)
     node->flags |= NODE_WRITTEN;
     return 0;
 }
+
+hidden size_t __tenant_pack(void)
+{
+    size_t whole = 0;
+    for (struct tenant_node *node = __tenant_root(); node; node = node->next) {
+        if (!(node->flags & NODE_WRITTEN))
+            continue;
+        struct tenant_packed head = {node->mode, (uint32_t)strlen(node->name), node->size};
+        tenant_write(&head, sizeof head);
+        tenant_write(node->name, head.name_size);
+        tenant_write(node->bytes, node->size);
+        whole += sizeof head + head.name_size + node->size;
+    }
+    return whole;
+}

@@ -8,8 +8,10 @@
 #include <time.h>
 #include "syscall.h"
 #include "tenant.h"
+#include "tenant_given.h"
 
 hidden weak long __tenant_file_call(long number, long a, long b, long c, long d);
+hidden weak size_t __tenant_pack(void);
 
 /* As write(2): where there is room for no byte more, that is told. */
 static long write_all(long file, const void *bytes, size_t count)
@@ -99,12 +101,22 @@ static long call_of_file(long number, long a, long b, long c, long d)
     }
 }
 
+/* Ends the tenant, with the files that it wrote behind its output where they are wanted. */
+static _Noreturn void end(int code)
+{
+    if (__tenant_given && (__tenant_given->flags & GIVEN_PACK)) {
+        struct tenant_pack_end last = {TENANT_PACK_MARK, __tenant_pack ? __tenant_pack() : 0};
+        tenant_write(&last, sizeof last);
+    }
+    tenant_exit(code);
+}
+
 long __tenant_system(long number, long a, long b, long c, long d)
 {
     switch (number) {
     case SYS_exit:
     case SYS_exit_group:
-        tenant_exit((int)a);
+        end((int)a);
     case SYS_clock_gettime:
         return tell_time((struct timespec *)b);
     case SYS_getpid:

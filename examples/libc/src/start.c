@@ -1,7 +1,8 @@
 /* Where a tenant begins: the one thread of the C library, constructors, main. A tenant linked with
-   the symbol tenant_stack_size (tenant-cc --stack) gets a chunk of so many bytes as its stack. Its
-   argv and environment are those that tenant-args wrote; else argv is tenant_arguments, where it
-   was linked with these (tenant-cc --arguments), or the one word `tenant`. */
+   the symbol tenant_stack_size (tenant-cc) gets a chunk of so many bytes as its stack, but where
+   fewer pages are left than tenant_stack_pages, if that is there too. Its argv and environment are
+   those that tenant-args wrote; else argv is tenant_arguments, where it was linked with these
+   (tenant-cc --arguments), or the one word `tenant`. */
 #include <stdlib.h>
 #include "libc.h"
 #include "pthread_impl.h"
@@ -20,6 +21,7 @@ int main(int, char **, char **);
 /* SP is the end of the host's stack here. Without a chunk the tenant ends by its breakpoint 3. */
 __asm__(
     ".weak tenant_stack_size\n"
+    ".weak tenant_stack_pages\n"
     ".text\n"
     ".globl _start\n"
     ".type _start, %function\n"
@@ -29,6 +31,13 @@ __asm__(
     "movz x1, #:abs_g1:tenant_stack_size\n"
     "movk x1, #:abs_g0_nc:tenant_stack_size\n"
     "cbz x1, 1f\n"
+    "movz x2, #:abs_g0:tenant_stack_pages\n"
+    "cbz x2, 3f\n"
+    "mov x8, #11\n"
+    "svc #0\n"
+    "cmp x0, x2\n"
+    "b.lo 1f\n"
+    "3:\n"
     "mov x0, x1\n"
     "mov x8, #3\n"
     "svc #0\n"
