@@ -257,7 +257,8 @@ def test_the_tests_of_zlib_pass(
         shutil.copytree(source, folder)
         extra = {"CHOST": "aarch64-linux", "AR": "llvm-ar", "RANLIB": "true",
                  "CC": f"{TENANT_CC} --library={library}"} if words else {}
-        succeed(["./configure", "--static"], cwd=folder, extra=extra)
+        succeed(["./configure", "--static"], cwd=folder, extra={"CFLAGS": "-O1", **extra})
+        succeed(["make", "-j2", "static"], cwd=folder)
         made = succeed(["make", *words, "teststatic"], cwd=folder)
         told[name] = made.output[made.output.index("hello world\n"):]
     assert "zlib test OK" in told["here"]
@@ -368,3 +369,23 @@ def test_commands_that_are_refused(
     (tmp_path / "image").write_bytes(b"no image")
     ran = tenant_run(alone, *words, cwd=tmp_path)
     assert (ran.status, ran.errors) == (status, f"tenant-run: {said}\n")
+
+
+def test_ctest_runs_tenants(
+    alone: pathlib.Path, library: pathlib.Path, tmp_path: pathlib.Path
+) -> None:
+    """libyaml's own tests, built by CMake with tenant-cc and run by ctest with tenant-run."""
+    need("make", "cmake", "ctest", "clang", "ld.lld")
+    source = debian_source("libyaml")
+    extra = {"TENANT_ALONE": str(alone), "TENANT_LIBRARY": str(library)}
+    settings = {
+        "CMAKE_SYSTEM_NAME": "Linux", "CMAKE_SYSTEM_PROCESSOR": "aarch64",
+        "CMAKE_C_COMPILER": TENANT_CC, "CMAKE_CROSSCOMPILING_EMULATOR": TENANT_RUN,
+        "BUILD_SHARED_LIBS": "OFF",
+    }
+    words = [f"-D{name}={value}" for name, value in settings.items()]
+    succeed(["cmake", *words, source], cwd=tmp_path, extra=extra)
+    succeed(["make", "test-version", "test-reader"], cwd=tmp_path, extra=extra)
+    ran = succeed(["ctest"], cwd=tmp_path, extra=extra)
+    assert "100% tests passed, 0 tests failed out of 2" in ran.output
+    assert b"Tombolopan" in next(tmp_path.rglob("test-reader")).read_bytes()
