@@ -37,17 +37,29 @@ BUILTINS = ["-std=c11", "-ffreestanding", "-fno-builtin"]
 # What this folder has in musl's place, or a tenant has no use for.
 LEFT_OUT = {
     "env/__init_tls.c", "env/__libc_start_main.c", "env/__stack_chk_fail.c", "exit/abort.c",
-    "internal/vdso.c", "process/vfork.c", "setjmp/longjmp.c", "setjmp/setjmp.c",
-    "signal/restore.c", "signal/sigsetjmp.c", "stdio/__stdout_write.c",
-    "thread/__set_thread_area.c", "thread/__unmapself.c", "thread/clone.c",
-    "thread/pthread_create.c", "thread/syscall_cp.c",
+    "internal/vdso.c", "mq/mq_notify.c", "process/system.c", "process/vfork.c",
+    "setjmp/longjmp.c", "setjmp/setjmp.c", "signal/restore.c", "signal/sigsetjmp.c",
+    "stdio/__stdout_write.c", "thread/__set_thread_area.c", "thread/__unmapself.c",
+    "thread/clone.c", "thread/pthread_cancel.c", "thread/pthread_create.c", "thread/syscall_cp.c",
+    "thread/thrd_create.c", "thread/thrd_exit.c", "time/timer_create.c",
 }
-FOLDERS_LEFT_OUT = {"malloc", "ldso"}
+FOLDERS_LEFT_OUT = {"aio", "ldso", "malloc"}
 # Where musl sees a GNU compiler these read a word at once, up to seven bytes past the end of a
 # string. Byte by byte they keep to the bytes of their chunk, which `mte_run --exact` compares.
 BYTE_BY_BYTE = {
     f"string/{name}.c"
     for name in ("memccpy", "memchr", "stpcpy", "stpncpy", "strchrnul", "strlcpy", "strlen")
+}
+# What makes a descriptor or takes a name: a program that has one of these has src/files.c too.
+WITH_FILES = {
+    "dirent/opendir.c", "fcntl/fcntl.c", "fcntl/open.c", "fcntl/openat.c", "stat/chmod.c",
+    "stat/fchmodat.c", "stat/fstatat.c", "stat/mkdir.c", "stat/mkdirat.c", "stat/utimensat.c",
+    "stdio/__fopen_rb_ca.c", "stdio/fopen.c", "stdio/freopen.c", "stdio/remove.c",
+    "stdio/rename.c", "stdio/tempnam.c", "stdio/tmpfile.c", "stdio/tmpnam.c", "time/__map_file.c",
+    "unistd/access.c", "unistd/chdir.c", "unistd/dup.c", "unistd/dup2.c", "unistd/dup3.c",
+    "unistd/faccessat.c", "unistd/getcwd.c", "unistd/readlink.c", "unistd/readlinkat.c",
+    "unistd/renameat.c", "unistd/rmdir.c", "unistd/truncate.c", "unistd/unlink.c",
+    "unistd/unlinkat.c",
 }
 # compiler-rt's helpers in C that are about a system or another machine, or have no use here.
 BUILTINS_LEFT_OUT = {
@@ -111,6 +123,8 @@ def musl_units(musl, include, work):
         name = file.relative_to(musl / "src")
         if str(name) not in LEFT_OUT and name.parts[0] not in FOLDERS_LEFT_OUT:
             own = ["-U__GNUC__"] if str(name) in BYTE_BY_BYTE else []
+            if str(name) in WITH_FILES:
+                own += ["-include", str(HERE / "arch/with_files.h")]
             yield file, work / f"musl.{'.'.join(name.parts)}.o", words + own
     for file in sorted((HERE / "src").iterdir()):
         yield file, work / f"tenant.{file.name}.o", words

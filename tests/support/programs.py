@@ -27,9 +27,9 @@ def is_for_clang(source: pathlib.Path) -> bool:
     return re.search(r"clang's alone|for clang", source.read_text(encoding="utf-8")) is not None
 
 
-def tenant_cc(library: pathlib.Path, *words: str) -> Ran:
+def tenant_cc(library: pathlib.Path, *words: str, cwd: Optional[pathlib.Path] = None) -> Ran:
     """Runs tenant-cc over a library."""
-    return run([sys.executable, TENANT_CC, f"--library={library}", *words], seconds=120)
+    return run([sys.executable, TENANT_CC, f"--library={library}", *words], cwd=cwd, seconds=120)
 
 
 def tenant_cxx(library: pathlib.Path, *words: str) -> Ran:
