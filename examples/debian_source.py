@@ -3,11 +3,11 @@
 
     debian_source.py FOLDER PACKAGE [PART...]
 
-Makes FOLDER/PACKAGE of the package's archive, its top folder left out, or of the PARTs of it alone
-(files or folders), and does nothing where they are there. The archive comes by apt-get from where
-apt's own configuration says, with its signatures checked, and stays in FOLDER. Nothing is
-installed, and the system's own lists of packages stay as they are. Exit status 1: it was not
-fetched, and standard error says why. Needed (Debian): apt, tar, bzip2, xz-utils.
+Makes FOLDER/PACKAGE of the package's archive, its top folder left out, or adds the PARTs of it
+that it lacks (files or folders), and does nothing where they are there. The archive comes by
+apt-get from where apt's own configuration says, with its signatures checked, and stays in FOLDER.
+Nothing is installed, and the system's own lists of packages stay as they are. Exit status 1: it was
+not fetched, and standard error says why. Needed (Debian): apt, tar, bzip2, xz-utils.
 """
 import pathlib
 import platform
@@ -66,17 +66,21 @@ def fetch(where: Union[str, pathlib.Path], package: str,
     """The folder of a package's source, or of these parts of it; raises NotFetched."""
     folder = pathlib.Path(where).resolve()
     source = folder / package
-    if source.is_dir() and all((source / part).exists() for part in parts):
+    missing = [part for part in parts if not (source / part).exists()]
+    if source.is_dir() and not missing:
         return source
     try:
         folder.mkdir(parents=True, exist_ok=True)
         archive = download(folder, package)
         with tempfile.TemporaryDirectory(dir=folder) as name:
             unpack = ["tar", "-xf", str(archive), "-C", name, "--strip-components=1",
-                      "--wildcards", *(f"*/{part}" for part in parts)]
+                      "--wildcards", *(f"*/{part}" for part in missing)]
             subprocess.run(unpack, check=True)
-            shutil.rmtree(source, ignore_errors=True)
-            shutil.copytree(name, source, symlinks=True)
+            for part in missing:
+                (source / part).parent.mkdir(parents=True, exist_ok=True)
+                shutil.move(pathlib.Path(name) / part, source / part)
+            if not parts:
+                shutil.copytree(name, source, symlinks=True)
     except (OSError, subprocess.CalledProcessError, subprocess.TimeoutExpired) as error:
         why = f"{package} was not fetched (apt-get needs the network): {error}"
         raise NotFetched(why) from error

@@ -170,17 +170,33 @@ int main(void) { return depth(20); }
 def test_a_stack_is_as_large_as_it_is_wanted(
     alone: pathlib.Path, library: pathlib.Path, tmp_path: pathlib.Path
 ) -> None:
-    """80 KB do not fit into the host's stack, and do into one of the heap; a second one overflows
-    into a page that is not mapped."""
-    image, _ = linked(library, tmp_path, DEEP)
-    ran = run_as_tenant(alone, image)
+    """80 KB do not fit into the host's stack, and do into one of the heap; what does not fit
+    overflows into a page that is not mapped."""
+    for own, depth, fits in [
+        ((), 20, True), ((), 55, True), ((), 70, False), (("--stack=host",), 2, True),
+        (("--stack=host",), 20, False), (("--stack=100000",), 20, True),
+        (("--stack=100000",), 60, False), (("--stack=1000000",), 200, True),
+    ]:
+        image, _ = linked(library, tmp_path, DEEP.replace("20", str(depth)), *own)
+        ran = run_as_tenant(alone, image)
+        assert ran.status == (0 if fits else 129)
+        assert fits or "\nCause: Stack Overflow, " in ran.errors
+        assert fits or len(re.findall(r"^  #\d+ depth", ran.errors, re.MULTILINE)) > 2, ran.errors
+
+
+def test_the_usual_stack_is_the_hosts_where_pages_are_few(
+    alone: pathlib.Path, library: pathlib.Path, tmp_path: pathlib.Path
+) -> None:
+    """With fewer than 256 pages left the tenant has no heap call of its own; a stack that was asked
+    for is needed."""
+    image, _ = linked(library, tmp_path, DEEP.replace("20", "1"))
+    for pages, calls in ((20, 0), (250, 0), (300, 1)):
+        ran = run_as_tenant(alone, image, "--pages", str(pages), "--services")
+        assert ran.status == 0 and ran.errors.count(" malloc(262144) = ") == calls
+    ran = run_as_tenant(alone, linked(library, tmp_path, DEEP)[0], "--pages", "20")
     assert ran.status == 129 and "\nCause: Stack Overflow, " in ran.errors
-    image, _ = linked(library, tmp_path, DEEP, "--stack=100000")
-    assert run_as_tenant(alone, image).status == 0
-    image, _ = linked(library, tmp_path, DEEP.replace("20", "60"), "--stack=100000")
-    ran = run_as_tenant(alone, image)
-    assert ran.status == 129 and "\nCause: Stack Overflow, " in ran.errors
-    assert len(re.findall(r"^  #\d+ depth", ran.errors, re.MULTILINE)) > 2, ran.errors
+    image, _ = linked(library, tmp_path, DEEP, "--stack=200000")
+    assert run_as_tenant(alone, image, "--pages", "20").status == 133
 
 
 def test_objects_are_compiled_and_linked_apart(
@@ -230,6 +246,60 @@ def test_a_library_that_is_not_there(tmp_path: pathlib.Path) -> None:
     script = EXAMPLES / "libc" / "build.py"
     line = f"tenant-cc: {tmp_path.resolve()}/lib/libc.a is not there: build it by {script}\n"
     assert (ran.status, ran.errors) == (2, line)
+
+
+@pytest.mark.parametrize("compiler", ["clang", "gcc"])
+def test_the_driver_is_asked_as_a_compiler_is(
+    library: pathlib.Path, tmp_path: pathlib.Path, compiler: str
+) -> None:
+    """What configure scripts, CMake and meson ask; nothing is linked then."""
+    need("clang", "ld.lld", "aarch64-linux-gnu-gcc")
+    (tmp_path / "a.c").write_text("#include <stddef.h>\nint one(void) { return 1; }\n")
+    for words, wanted in [
+        (["-dumpmachine"], "^aarch64-"), (["-print-search-dirs"], "libraries: ="),
+        (["-print-file-name=libgcc.a"], "libgcc.a"), (["--version"], compiler),
+        (["-print-multi-os-directory"] if compiler == "gcc" else ["-print-multiarch"], "."),
+        (["-E", "-dM", "-x", "c", "/dev/null"], "#define __aarch64__ 1"),
+        (["-E", "-P", "a.c"], "int one"), (["-S", "-o", "-", "a.c"], "one:"),
+        (["-M", "a.c"], "stddef.h"), (["-###", "a.c"], ""), (["-v"], ""),
+        (["-fsyntax-only", "a.c"], ""), (["-Wl,--version"], "LLD|GNU ld"),
+    ]:
+        ran = tenant_cc(library, f"--compiler={compiler}", *words, cwd=tmp_path)
+        assert ran.status == 0 and re.search(wanted, ran.output), (words, ran.output + ran.errors)
+        assert [path.name for path in tmp_path.iterdir()] == ["a.c"]
+
+
+@pytest.mark.parametrize("compiler", ["clang", "gcc"])
+def test_the_driver_links_as_a_compiler_does(
+    alone: pathlib.Path, library: pathlib.Path, tmp_path: pathlib.Path, compiler: str
+) -> None:
+    """The last -o counts; response files, -x, -v, -lm, -pie and dependency files; an output that is
+    no image; and what goes wrong is told without a traceback."""
+    need("clang", "ld.lld", "aarch64-linux-gnu-gcc")
+    (tmp_path / "a.c").write_text("int main(void) { return N; }\n")
+    (tmp_path / "a.text").write_text("int main(void) { return N; }\n")
+    (tmp_path / "words").write_text('-DN="(2 + 3)" -o made.elf\n"a.c"')
+    (tmp_path / "more").write_text("--stack=host @words")
+    for line, status in [
+        ("-DN=1 -o other.elf a.c -o made.elf", 1), ("-DN=2 -omade.elf a.c", 2),
+        ("@words", 5), ("-O2 @more", 5), ("-DN=4 -o made.elf -x c a.text", 4),
+        ("-v -DN=6 -o made.elf a.c", 6), ("-DN=7 -fPIE -pie a.c -lm -lpthread -o made.elf", 7),
+        ("-DN=8 -MMD -MF deps -MT made -o made.elf a.c", 8),
+    ]:
+        ran = tenant_cc(library, f"--compiler={compiler}", *line.split(), cwd=tmp_path)
+        assert ran.status == 0, (line, ran.errors)
+        assert run_as_tenant(alone, tmp_path / "made.elf").status == status, line
+        (tmp_path / "made.elf").unlink()
+    assert not (tmp_path / "other.elf").exists()
+    assert (tmp_path / "deps").read_text().startswith("made: a.c")
+    for line, status in [
+        ("-DN=1 -r -o part.o a.c", 0), ("-DN=1 -o /dev/null a.c", 0),
+        ("-DN=1 -nostartfiles -o b.elf a.c -Wl,--defsym=_start=main", 0),
+        ("-O2", 1), ("-o", 1), ("none.c", 1), ("-DN=1 -shared -o a.so a.c", 2), ("@none", 1),
+    ]:
+        ran = tenant_cc(library, f"--compiler={compiler}", *line.split(), cwd=tmp_path)
+        assert (ran.status, "Traceback" in ran.errors) == (status, False), (line, ran.errors)
+        assert bool(ran.errors) == bool(status), (line, ran.errors)
 
 
 def test_the_driver_has_a_help(library: pathlib.Path) -> None:

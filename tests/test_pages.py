@@ -13,7 +13,7 @@ from dataclasses import dataclass
 import pytest
 
 from tests.support import installed, page_links
-from tests.support.cache import tenant_library
+from tests.support.cache import tenant_cxx_library, tenant_library
 from tests.support.checkout import copy_files, link_built
 from tests.support.host_sessions import HI_REPORT, admission
 from tests.support.page_commands import (
@@ -257,13 +257,16 @@ def prepare(copy: Copy, part: Part, built: Built) -> None:
     lines = named_code("docs/TENANTS.md", "lines.c")
     texts = {"mine": named_code("examples/c/README.md", "mine.c"), "lines.c": lines,
              "prog.c": lines, "words.txt": WORDS}
+    words = named_code("docs/TENANTS.md", "words.cpp")
+    texts |= {"words.cpp": words, "prog.cpp": words}
     for name, text in texts.items():
         if name in part.text:
             (at / name.replace("mine", "mine.c")).write_text(text)
     if "T.elf" in part.text:
         shutil.copy(built.tenant(FREED, "gcc"), at / "T.elf")
-    if "tenant-cc" in part.text:
-        (copy.folder / "examples" / "libc" / "out").symlink_to(tenant_library())
+    if "tenant-c" in part.text:
+        library = tenant_cxx_library() if "tenant-c++" in part.text else tenant_library()
+        (copy.folder / "examples" / "libc" / "out").symlink_to(library)
     if "tombolopan" in part.text:
         link_built(copy.folder, static_library(built.shared))
         for name in ("first.c", "first.rs", "first.py", "tombolopan.rs"):

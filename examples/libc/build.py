@@ -1,13 +1,16 @@
 #!/usr/bin/env python3
 """Builds the C library of tenants, from source that apt fetches, into a folder.
 
-    build.py [--out FOLDER] [--sources FOLDER] [--jobs N]
+    build.py [--c++ | --only-c++] [--out FOLDER] [--sources FOLDER] [--jobs N]
 
 musl is compiled without registers of floating point, with what stands here in place of its system
 calls, heap, start and atomics; the arithmetic of `double` and of 128-bit integers is that of
 compiler-rt. FOLDER (out, beside this script) gets `include` and `lib`, which tenant-cc reads, and
 keeps the sources (`sources`, 140 MB, fetched once). It takes two minutes on two processors.
 Needed (Debian): clang, llvm, apt, tar, xz-utils, and the network the first time.
+
+With --c++ it gets the C++ library too, LLVM's libc++ with exceptions; with --only-c++ that alone,
+where FOLDER has the C library. This needs binutils-aarch64-linux-gnu besides.
 """
 import argparse
 import concurrent.futures
@@ -17,7 +20,8 @@ import subprocess
 import sys
 
 HERE = pathlib.Path(__file__).resolve().parent
-sys.path.insert(0, str(HERE.parent))
+sys.path[:0] = [str(HERE), str(HERE.parent)]
+import cxx_library  # noqa: E402
 import debian_source  # noqa: E402
 
 CLANG = [
@@ -33,17 +37,29 @@ BUILTINS = ["-std=c11", "-ffreestanding", "-fno-builtin"]
 # What this folder has in musl's place, or a tenant has no use for.
 LEFT_OUT = {
     "env/__init_tls.c", "env/__libc_start_main.c", "env/__stack_chk_fail.c", "exit/abort.c",
-    "internal/vdso.c", "process/vfork.c", "setjmp/longjmp.c", "setjmp/setjmp.c",
-    "signal/restore.c", "signal/sigsetjmp.c", "stdio/__stdout_write.c",
-    "thread/__set_thread_area.c", "thread/__unmapself.c", "thread/clone.c",
-    "thread/pthread_create.c", "thread/syscall_cp.c",
+    "internal/vdso.c", "mq/mq_notify.c", "process/system.c", "process/vfork.c",
+    "setjmp/longjmp.c", "setjmp/setjmp.c", "signal/restore.c", "signal/sigsetjmp.c",
+    "stdio/__stdout_write.c", "thread/__set_thread_area.c", "thread/__unmapself.c",
+    "thread/clone.c", "thread/pthread_cancel.c", "thread/pthread_create.c", "thread/syscall_cp.c",
+    "thread/thrd_create.c", "thread/thrd_exit.c", "time/timer_create.c",
 }
-FOLDERS_LEFT_OUT = {"malloc", "ldso"}
+FOLDERS_LEFT_OUT = {"aio", "ldso", "malloc"}
 # Where musl sees a GNU compiler these read a word at once, up to seven bytes past the end of a
 # string. Byte by byte they keep to the bytes of their chunk, which `mte_run --exact` compares.
 BYTE_BY_BYTE = {
     f"string/{name}.c"
     for name in ("memccpy", "memchr", "stpcpy", "stpncpy", "strchrnul", "strlcpy", "strlen")
+}
+# What makes a descriptor or takes a name: a program that has one of these has src/files.c too.
+WITH_FILES = {
+    "dirent/opendir.c", "fcntl/fcntl.c", "fcntl/open.c", "fcntl/openat.c", "stat/chmod.c",
+    "stat/fchmodat.c", "stat/fstatat.c", "stat/mkdir.c", "stat/mkdirat.c", "stat/utimensat.c",
+    "stdio/__fopen_rb_ca.c", "stdio/fopen.c", "stdio/freopen.c", "stdio/remove.c",
+    "stdio/rename.c", "stdio/tempnam.c", "stdio/tmpfile.c", "stdio/tmpnam.c", "time/__map_file.c",
+    "unistd/access.c", "unistd/chdir.c", "unistd/dup.c", "unistd/dup2.c", "unistd/dup3.c",
+    "unistd/faccessat.c", "unistd/getcwd.c", "unistd/readlink.c", "unistd/readlinkat.c",
+    "unistd/renameat.c", "unistd/rmdir.c", "unistd/truncate.c", "unistd/unlink.c",
+    "unistd/unlinkat.c",
 }
 # compiler-rt's helpers in C that are about a system or another machine, or have no use here.
 BUILTINS_LEFT_OUT = {
@@ -52,8 +68,9 @@ BUILTINS_LEFT_OUT = {
     "atomic_thread_fence", "clear_cache", "cpu_model", "emutls", "enable_execute_stack", "eprintf",
     "gcc_personality_v0", "os_version_check", "trampoline_setup",
 }
-BUILTINS_FOLDER = "compiler-rt/lib/builtins"
+LLVM, BUILTINS_FOLDER = "llvm-toolchain-14", "compiler-rt/lib/builtins"
 TOOLS = {"clang": "clang", "llvm-ar": "llvm", "apt-get": "apt", "tar": "tar", "xz": "xz-utils"}
+CXX_TOOLS = {"aarch64-linux-gnu-as": "binutils-aarch64-linux-gnu"}
 
 
 def leave(text):
@@ -106,6 +123,8 @@ def musl_units(musl, include, work):
         name = file.relative_to(musl / "src")
         if str(name) not in LEFT_OUT and name.parts[0] not in FOLDERS_LEFT_OUT:
             own = ["-U__GNUC__"] if str(name) in BYTE_BY_BYTE else []
+            if str(name) in WITH_FILES:
+                own += ["-include", str(HERE / "arch/with_files.h")]
             yield file, work / f"musl.{'.'.join(name.parts)}.o", words + own
     for file in sorted((HERE / "src").iterdir()):
         yield file, work / f"tenant.{file.name}.o", words
@@ -120,9 +139,9 @@ def builtin_units(builtins, work):
             yield file, work / f"builtins.{file.name}.o", words
 
 
-def compile_all(units, jobs):
+def compile_all(units, jobs, script):
     """The objects. One that is newer than its file and than what stands here stays."""
-    ours = [HERE / "build.py", *(HERE / "arch").rglob("*.h"), *(HERE / "include").rglob("*.h")]
+    ours = [script, *(HERE / "arch").rglob("*.h"), *(HERE / "include").rglob("*.h")]
     newest = max(path.stat().st_mtime for path in ours)
 
     def compile_one(unit):
@@ -141,14 +160,43 @@ def archive(objects, path):
     run(["llvm-ar", "rcs", path, *objects])
 
 
-def fetch(folder):
-    """The folders of musl and of compiler-rt's helpers."""
+def fetch(folder, package, parts=()):
+    """The folder of a package's source."""
     try:
-        musl = debian_source.fetch(folder, "musl")
-        llvm = debian_source.fetch(folder, "llvm-toolchain-14", (BUILTINS_FOLDER,))
-        return musl, llvm / BUILTINS_FOLDER
+        return debian_source.fetch(folder, package, parts)
     except debian_source.NotFetched as error:
         leave(error)
+
+
+def build_c(out, sources, jobs):
+    """The C library, and the file that each tenant begins with."""
+    print("build.py: fetching the sources", flush=True)
+    work = out / "objects"
+    musl = fetch(sources, "musl")
+    builtins = fetch(sources, LLVM, (BUILTINS_FOLDER,)) / BUILTINS_FOLDER
+    work.mkdir(parents=True, exist_ok=True)
+    include = make_headers(musl, out)
+    units = [*musl_units(musl, include, work), *builtin_units(builtins, work)]
+    print(f"build.py: compiling {len(units)} files", flush=True)
+    objects = compile_all(units, jobs, HERE / "build.py")
+    start = work / "tenant.start.c.o"
+    archive([made for made in objects if made != start], out / "lib/libc.a")
+    shutil.copy(start, out / "lib/start.o")
+    print(f"build.py: {out}/lib/libc.a")
+
+
+def build_cxx(out, sources, jobs):
+    """The three libraries of C++, over the C library's headers."""
+    print("build.py: fetching the sources of C++", flush=True)
+    llvm = fetch(sources, LLVM, (BUILTINS_FOLDER, *cxx_library.PARTS))
+    cxx_library.make_headers(llvm, out)
+    units = list(cxx_library.units(llvm, out, [*CLANG, *COMMON]))
+    print(f"build.py: compiling {len(units)} files of C++", flush=True)
+    objects = compile_all(units, jobs, HERE / "cxx_library.py")
+    for name in cxx_library.LIBRARIES:
+        own = [made for made in objects if made.name.startswith(f"{name}.")]
+        archive(own, out / f"lib/{name}.a")
+        print(f"build.py: {out}/lib/{name}.a")
 
 
 def arguments():
@@ -157,27 +205,25 @@ def arguments():
     parser.add_argument("--out", type=pathlib.Path, default=HERE / "out")
     parser.add_argument("--sources", type=pathlib.Path)
     parser.add_argument("--jobs", type=int, default=2)
+    parser.add_argument("--c++", action="store_true", dest="cxx")
+    parser.add_argument("--only-c++", action="store_true", dest="only_cxx")
     return parser.parse_args()
 
 
 def main():
     options = arguments()
-    for tool, package in TOOLS.items():
+    has_cxx = options.cxx or options.only_cxx
+    for tool, package in {**TOOLS, **(CXX_TOOLS if has_cxx else {})}.items():
         if not shutil.which(tool):
             leave(f"{tool} is not there (Debian: {package})")
     out = options.out.resolve()
-    work = out / "objects"
-    print("build.py: fetching the sources", flush=True)
-    musl, builtins = fetch(options.sources or out / "sources")
-    work.mkdir(parents=True, exist_ok=True)
-    include = make_headers(musl, out)
-    units = [*musl_units(musl, include, work), *builtin_units(builtins, work)]
-    print(f"build.py: compiling {len(units)} files", flush=True)
-    objects = compile_all(units, options.jobs)
-    start = work / "tenant.start.c.o"
-    archive([made for made in objects if made != start], out / "lib/libc.a")
-    shutil.copy(start, out / "lib/start.o")
-    print(f"build.py: {out}/lib/libc.a")
+    sources = options.sources or out / "sources"
+    if not options.only_cxx:
+        build_c(out, sources, options.jobs)
+    elif not (out / "lib/libc.a").exists():
+        leave(f"{out}/lib/libc.a is not there: --c++ builds it too")
+    if has_cxx:
+        build_cxx(out, sources, options.jobs)
 
 
 if __name__ == "__main__":

@@ -5,8 +5,8 @@
 
 Writes a line for each function with such words, `FUNCTION+0xOFFSET: WORD KIND (N in all)`: the
 first of its words, what that is, and how many there are. What the image's mapping symbols call data
-doesn't count. Exit status 1 where a program has one, 2 where a file is no AArch64 ELF64. The table
-is isa/a64.rows.
+doesn't count, nor do zeros between functions. Exit status 1 where a program has one, 2 where a file
+is no AArch64 ELF64. The table is isa/a64.rows.
 """
 import bisect
 import functools
@@ -107,6 +107,8 @@ def describe(path):
     for address, word in instructions(image, headers, marks):
         if not is_allowed(word):
             name, start = function_at(functions, address)
+            if not word and name == "no function":
+                continue
             first = found.setdefault((name, start), [address - start, word, 0])
             first[2] += 1
     return [

@@ -15,7 +15,8 @@ from tests.support.running import Ran, run
 NOT_RUN = {
     r"^(rt ci|tests/run.sh)$": "proves everything, or is this suite",
     r"^apt-get ": "changes the machine; tests/packages.txt has what is needed",
-    r"(^|/)build\.py$": "fetches 131 MB and takes two minutes; the tests of the C library run it",
+    r"(^|/)build\.py( --c\+\+)?$":
+        "fetches 131 MB and takes two minutes; the tests of the C and C++ libraries run it",
     r"(^|/)check\.sh$|^make check$": "takes minutes; the tests of its folder do the same",
     r"(^|/)build\.sh .*\.rs$": "builds Rust's core, for minutes; the tests of examples/rust run it",
     r" out/mine\.elf$": "runs what the command before it builds",

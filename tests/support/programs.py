@@ -10,7 +10,7 @@ from typing import Optional
 from tests.support.places import EXAMPLES
 from tests.support.running import Ran, run, succeed
 
-TENANT_CC = EXAMPLES / "libc" / "tenant-cc"
+TENANT_CC, TENANT_CXX = EXAMPLES / "libc" / "tenant-cc", EXAMPLES / "libc" / "tenant-c++"
 LEVELS = ("-O0", "-O2", "-Os")
 STEPS = "100000000"
 
@@ -27,9 +27,14 @@ def is_for_clang(source: pathlib.Path) -> bool:
     return re.search(r"clang's alone|for clang", source.read_text(encoding="utf-8")) is not None
 
 
-def tenant_cc(library: pathlib.Path, *words: str) -> Ran:
+def tenant_cc(library: pathlib.Path, *words: str, cwd: Optional[pathlib.Path] = None) -> Ran:
     """Runs tenant-cc over a library."""
-    return run([sys.executable, TENANT_CC, f"--library={library}", *words], seconds=120)
+    return run([sys.executable, TENANT_CC, f"--library={library}", *words], cwd=cwd, seconds=120)
+
+
+def tenant_cxx(library: pathlib.Path, *words: str) -> Ran:
+    """Runs tenant-c++ over a library."""
+    return run([sys.executable, TENANT_CXX, f"--library={library}", *words], seconds=300)
 
 
 def compiled(

@@ -21,3 +21,8 @@ _Noreturn void __cxa_pure_virtual(void)
     __asm__ volatile("brk #8");
     __builtin_unreachable();
 }
+
+_Noreturn void __cxa_deleted_virtual(void)
+{
+    __cxa_pure_virtual();
+}

@@ -1,12 +1,17 @@
 /* What musl asks its system for, by the services of the host. Standard input is the tenant's input;
-   standard output and standard error are both its output. There is no other file, one process and
-   thread, and no clock: time is 0. */
+   standard output and standard error are both its output. There is no other file, unless the
+   program has functions that open or name one (files.c); one process and thread, and no clock: time
+   is 0. */
 #include <errno.h>
 #include <signal.h>
 #include <sys/uio.h>
 #include <time.h>
 #include "syscall.h"
 #include "tenant.h"
+#include "tenant_given.h"
+
+hidden weak long __tenant_file_call(long number, long a, long b, long c, long d);
+hidden weak size_t __tenant_pack(void);
 
 /* As write(2): where there is room for no byte more, that is told. */
 static long write_all(long file, const void *bytes, size_t count)
@@ -66,8 +71,10 @@ static long raise_signal(long number)
 }
 
 /* The calls about files, or -ENOSYS. */
-static long call_of_file(long number, long a, long b, long c)
+static long call_of_file(long number, long a, long b, long c, long d)
 {
+    if (__tenant_file_call)
+        return __tenant_file_call(number, a, b, c, d);
     switch (number) {
     case SYS_write:
         return write_all(a, (const void *)b, (size_t)c);
@@ -94,12 +101,22 @@ static long call_of_file(long number, long a, long b, long c)
     }
 }
 
-long __tenant_system(long number, long a, long b, long c)
+/* Ends the tenant, with the files that it wrote behind its output where they are wanted. */
+static _Noreturn void end(int code)
+{
+    if (__tenant_given && (__tenant_given->flags & GIVEN_PACK)) {
+        struct tenant_pack_end last = {TENANT_PACK_MARK, __tenant_pack ? __tenant_pack() : 0};
+        tenant_write(&last, sizeof last);
+    }
+    tenant_exit(code);
+}
+
+long __tenant_system(long number, long a, long b, long c, long d)
 {
     switch (number) {
     case SYS_exit:
     case SYS_exit_group:
-        tenant_exit((int)a);
+        end((int)a);
     case SYS_clock_gettime:
         return tell_time((struct timespec *)b);
     case SYS_getpid:
@@ -115,7 +132,7 @@ long __tenant_system(long number, long a, long b, long c)
     case SYS_tkill:
         return raise_signal(b);
     default:
-        return call_of_file(number, a, b, c);
+        return call_of_file(number, a, b, c, d);
     }
 }
 
@@ -127,8 +144,19 @@ int __clone(int (*body)(void *), void *stack, int flags, void *argument, ...)
     return -ENOSYS;
 }
 
+volatile int __thread_list_lock;
+
 int vfork(void)
 {
+    errno = ENOSYS;
+    return -1;
+}
+
+/* There is no shell, and no program to run. */
+int system(const char *command)
+{
+    if (!command)
+        return 0;
     errno = ENOSYS;
     return -1;
 }

@@ -1,10 +1,12 @@
 /* Where a tenant begins: the one thread of the C library, constructors, main. A tenant linked with
-   the symbol tenant_stack_size (tenant-cc --stack) gets a chunk of so many bytes as its stack, and
-   one with tenant_arguments (tenant-cc --arguments) these words as argv; else argv has the one word
-   `tenant`. */
+   the symbol tenant_stack_size (tenant-cc) gets a chunk of so many bytes as its stack, but where
+   fewer pages are left than tenant_stack_pages, if that is there too. Its argv and environment are
+   those that tenant-args wrote; else argv is tenant_arguments, where it was linked with these
+   (tenant-cc --arguments), or the one word `tenant`. */
 #include <stdlib.h>
 #include "libc.h"
 #include "pthread_impl.h"
+#include "tenant_given.h"
 
 enum { PAGE = 4096 };
 
@@ -19,6 +21,7 @@ int main(int, char **, char **);
 /* SP is the end of the host's stack here. Without a chunk the tenant ends by its breakpoint 3. */
 __asm__(
     ".weak tenant_stack_size\n"
+    ".weak tenant_stack_pages\n"
     ".text\n"
     ".globl _start\n"
     ".type _start, %function\n"
@@ -28,6 +31,13 @@ __asm__(
     "movz x1, #:abs_g1:tenant_stack_size\n"
     "movk x1, #:abs_g0_nc:tenant_stack_size\n"
     "cbz x1, 1f\n"
+    "movz x2, #:abs_g0:tenant_stack_pages\n"
+    "cbz x2, 3f\n"
+    "mov x8, #11\n"
+    "svc #0\n"
+    "cmp x0, x2\n"
+    "b.lo 1f\n"
+    "3:\n"
     "mov x0, x1\n"
     "mov x8, #3\n"
     "svc #0\n"
@@ -39,6 +49,20 @@ __asm__(
     "2:\n"
     "brk #3\n"
     ".size _start, . - _start\n");
+
+/* A note of type 1 with two numbers, for tenant-args: the address of what it wrote, or 0, and the
+   size of the image's file without that. */
+__asm__(
+    ".pushsection .note.tenant, \"a\", %note\n"
+    ".balign 8\n"
+    ".word 11, 16, 1\n"
+    ".asciz \"Tombolopan\"\n"
+    ".balign 8\n"
+    ".globl __tenant_given\n"
+    ".hidden __tenant_given\n"
+    "__tenant_given:\n"
+    ".quad 0, 0\n"
+    ".popsection\n");
 
 static void start_thread(void)
 {
@@ -54,14 +78,19 @@ hidden _Noreturn void __tenant_begin(void)
 {
     static char name[] = "tenant";
     static char *alone[] = {name, 0};
-    char **words = tenant_arguments ? tenant_arguments : alone;
+    char **words = __tenant_given     ? __tenant_given->words
+                   : tenant_arguments ? tenant_arguments
+                                      : alone;
     int count = 0;
     while (words[count])
         count++;
     start_thread();
-    __environ = words + count;
+    __environ = words + count + (__tenant_given ? 1 : 0);
     __progname = __progname_full = words[0];
+    for (char *at = words[0]; *at; at++)
+        if (*at == '/')
+            __progname = at + 1;
     for (void (*const *at)(void) = __init_array_start; at < __init_array_end; at++)
         (*at)();
-    exit(main(count, words, words + count));
+    exit(main(count, words, __environ));
 }

@@ -1,0 +1,391 @@
+"""Arguments and files of tenants without a link (tenant-args), and one command that runs a tenant
+as a program of this machine runs (tenant-run)."""
+
+import pathlib
+import re
+import shutil
+import sys
+
+import pytest
+
+from tests.support.cache import cache_folder, tenant_library
+from tests.support.places import EXAMPLES, TESTS
+from tests.support.programs import TENANT_CC, native, run_as_tenant
+from tests.support.running import run, succeed
+from tests.support.tenant_tools import TENANT_RUN, built, tenant_args, tenant_run
+from tests.support.tools import give_up, need
+
+SOURCES = TESTS / "sources"
+
+
+@pytest.fixture(scope="session")
+def library() -> pathlib.Path:
+    """The library, which is built once."""
+    return tenant_library()
+
+
+WORDS = """
+#include <stdio.h>
+extern char **environ;
+int main(int count, char **words)
+{
+    for (int i = 0; i < count; i++)
+        printf("[%s]", words[i]);
+    for (char **at = environ; *at; at++)
+        printf("{%s}", *at);
+    words[0][0] = 'x';
+    return count;
+}
+"""
+
+
+def test_arguments_are_written_into_an_image(
+    alone: pathlib.Path, library: pathlib.Path, tmp_path: pathlib.Path
+) -> None:
+    """Words, a name and an environment; each call drops what was written before, and the last one
+    without words leaves an image that does what the first one did."""
+    image = built(library, tmp_path, WORDS)
+    first = image.read_bytes()
+    cases: list[tuple[list[str], bytes]] = [
+        (["one", "two words", ""], b"[tenant][one][two words][]"),
+        (["a", "--env", "HOME=/root", "--env=A=b=c", "b"], b"[tenant][a][b]{HOME=/root}{A=b=c}"),
+        (["--name", "prog", "--", "-o", "--env"], b"[prog][-o][--env]"),
+        (["x" * 10000], b"[tenant][" + b"x" * 10000 + b"]"),
+        ([], b"[tenant]"),
+    ]
+    for words, wanted in cases:
+        assert tenant_args(str(image), *words).status == 0
+        ran = run_as_tenant(alone, image)
+        assert (ran.out, ran.status) == (wanted, wanted.count(b"[")), ran.errors
+    assert len(image.read_bytes()) < len(first) + 2 * 4096
+    other = tmp_path / "other.elf"
+    assert tenant_args(str(image), "-o", str(other), "y").status == 0
+    assert run_as_tenant(alone, other).out == b"[tenant][y]"
+    assert run_as_tenant(alone, image).out == b"[tenant]"
+
+
+def test_the_words_of_a_link_give_way(
+    alone: pathlib.Path, library: pathlib.Path, tmp_path: pathlib.Path
+) -> None:
+    """`tenant-cc --arguments`, by each compiler's image, stripped or not."""
+    image = built(library, tmp_path, WORDS, "--arguments=linked")
+    assert run_as_tenant(alone, image).out == b"[tenant][linked]"
+    need("llvm-strip")
+    succeed(["llvm-strip", image])
+    assert tenant_args(str(image), "written").status == 0
+    assert run_as_tenant(alone, image).out == b"[tenant][written]"
+
+
+def test_images_that_are_refused(tmp_path: pathlib.Path, library: pathlib.Path) -> None:
+    """Status 2, a line, and the file as it was."""
+    image = tmp_path / "image"
+    for data, why in [
+        ((EXAMPLES / "hi.elf").read_bytes(), "it has no note of the C library of tenants: "
+         "link it by tenant-cc"),
+        (b"no image", "it is no ELF64 file"),
+        ((library / "lib/start.o").read_bytes(), "it is no executable for AArch64"),
+    ]:
+        image.write_bytes(data)
+        ran = tenant_args(str(image), "a")
+        assert (ran.status, ran.errors) == (2, f"tenant-args: {image}: {why}\n")
+        assert image.read_bytes() == data
+        assert [path.name for path in tmp_path.iterdir()] == ["image"]
+
+
+def test_files_that_are_refused(tmp_path: pathlib.Path, library: pathlib.Path) -> None:
+    """A file that is not there, one that is a folder too, and more bytes than addresses."""
+    image = built(library, tmp_path, "int main(void) { return 0; }\n")
+    data, large = image.read_bytes(), tmp_path / "large"
+    large.write_bytes(bytes(17 << 20))
+    for words, why in [
+        (["--file", "a=/none"], "/none is no file"),
+        (["--file", "a"], "--file needs NAME=PATH, not a"),
+        (["--file", f"a={large}", "--file", f"a/b={large}"],
+         f"{image}: /a is a file and a folder"),
+        (["--file", f"a={large}"], f"{image}: there is no room for 17,"),
+        (["--env"], "--env needs a value"),
+    ]:
+        ran = tenant_args(str(image), *words)
+        assert ran.status == 2 and ran.errors.startswith(f"tenant-args: {why}")
+        assert image.read_bytes() == data
+
+
+def files_folder(folder: pathlib.Path) -> pathlib.Path:
+    """The folder that files.c begins in."""
+    start = folder / "start"
+    (start / "data/deep").mkdir(parents=True)
+    (start / "none").mkdir()
+    (start / "data/words.txt").write_text("one two\nthree four\n")
+    (start / "data/deep/er.txt").write_text("deeper\n")
+    return start
+
+
+def test_files_do_what_they_do_natively(
+    alone: pathlib.Path, library: pathlib.Path, tmp_path: pathlib.Path
+) -> None:
+    """A program that opens, writes, lists, renames and removes files writes the same as here, over
+    files that tenant-args wrote too, and touches none of this machine's."""
+    image = built(library, tmp_path, (SOURCES / "files.c").read_text(), name="files")
+    start, own = files_folder(tmp_path), files_folder(tmp_path / "native")
+    program = native(SOURCES / "files.c", tmp_path / "native/files", "-w")
+    wanted = run(["/bin/sh", "-c", f"umask 022; {program}"], cwd=own)
+    assert wanted.status == 0 and wanted.out.count(b"\n") > 120
+    for exact in (False, True):
+        words = ["--option=--exact"] * exact
+        ran = tenant_run(alone, *words, "--files", ".", str(image), cwd=start)
+        assert (ran.out, ran.status, ran.errors) == (wanted.out, 0, "")
+    assert sorted(path.name for path in start.rglob("*")) == [
+        "data", "deep", "er.txt", "none", "words.txt"]
+    files = [f"--file={name}={start / name}" for name in ("data/words.txt", "data/deep/er.txt")]
+    files += [f"--file=none/x={image}"]
+    assert tenant_args(str(image), "--folder", "/start", *files).status == 0
+    ran = run_as_tenant(alone, image)
+    assert (ran.status, b"none has 3: ./ ../ x\n" in ran.out) == (0, True), ran.errors
+    assert ran.out.replace(b"none has 3: ./ ../ x", b"none has 2: ./ ../") == wanted.out
+
+
+WRITER = """
+#include <stdio.h>
+#include <sys/stat.h>
+static void put(const char *name, const char *mode, const char *text)
+{
+    FILE *file = fopen(name, mode);
+    printf("%s: %d\\n", name, file && fputs(text, file) >= 0 && !fclose(file));
+}
+int main(int count, char **words)
+{
+    put("made.txt", "w", "made");
+    mkdir("sub", 0755);
+    put("sub/two.txt", "w", "two");
+    put("in.txt", "a", "more");
+    put("/tmp/scratch", "w", "lost");
+    put("/other/known", "r+", "OLD");
+    put("/other/unknown", "w", "refused");
+    rename("old.txt", "new.txt");
+    return count > 1 ? *(volatile char *)0 : 3;
+}
+"""
+
+
+def test_written_files_come_back(
+    alone: pathlib.Path, library: pathlib.Path, tmp_path: pathlib.Path
+) -> None:
+    """`--out-files`: those below this folder and those that were named; none without it, nor where
+    the tenant does not end by itself; and the output is what it is without."""
+    image, here, other = built(library, tmp_path, WRITER), tmp_path / "here", tmp_path / "other"
+    here.mkdir()
+    other.write_text("old file")
+    (here / "in.txt").write_text("some ")
+    (here / "old.txt").write_text("old")
+    words = ["--files", ".", "--files", f"/other/known={other}", str(image)]
+    before = {path.name: path.read_bytes() for path in here.iterdir()}
+    ran = tenant_run(alone, *words, cwd=here)
+    assert (ran.status, ran.errors) == (3, "") and ran.output.count(": 1\n") == 6
+    assert tenant_run(alone, "--out-files", *words, "fault", cwd=here).status == 139
+    assert {path.name: path.read_bytes() for path in here.iterdir()} == before
+    again = tenant_run(alone, "--out-files", *words, cwd=here)
+    assert (again.out, again.status) == (ran.out, 3)
+    assert again.errors.startswith("tenant-run: /other/unknown is not written: ")
+    assert again.errors.count("\n") == 1
+    found = {str(path.relative_to(here)): path.read_text() for path in here.rglob("*.txt")}
+    assert found == {"made.txt": "made", "sub/two.txt": "two", "in.txt": "some more",
+                     "old.txt": "old", "new.txt": "old"}
+    assert other.read_text() == "OLD file"
+
+
+PROCESSES = """
+#include <errno.h>
+#include <spawn.h>
+#include <stdio.h>
+#include <stdlib.h>
+#include <sys/wait.h>
+#include <unistd.h>
+#define LACKS(call) (errno = 0, (long)(call) == -1 && errno == ENOSYS)
+int main(void)
+{
+    char *words[] = {"ls", NULL};
+    return LACKS(fork()) + LACKS(vfork()) + LACKS(execv("/bin/ls", words))
+        + LACKS(execvp("ls", words)) + LACKS(execve("/bin/ls", words, words)) + LACKS(wait(NULL))
+        + LACKS(waitpid(-1, NULL, 0)) + LACKS(system("ls")) + (popen("ls", "r") == NULL)
+        + (posix_spawn(NULL, "/bin/ls", NULL, NULL, words, words) == ENOSYS) - system(NULL);
+}
+"""
+
+
+def test_other_processes_are_refused(
+    alone: pathlib.Path, library: pathlib.Path, tmp_path: pathlib.Path
+) -> None:
+    """`fork` and its kin link, and end with ENOSYS; there is no shell."""
+    assert run_as_tenant(alone, built(library, tmp_path, PROCESSES)).status == 10
+
+
+def test_the_library_defines_what_it_refers_to(library: pathlib.Path) -> None:
+    """Of the names that its objects refer to each is another one's, or the linker's."""
+    need("llvm-nm")
+    listed = succeed(["llvm-nm", library / "lib/libc.a", library / "lib/start.o"]).output
+    names: dict[str, set[str]] = {"U": set(), "w": set(), "": set()}
+    for line in listed.splitlines():
+        found = re.fullmatch(r"(?:[0-9a-f]{16} |\s+)(\w) (\S+)", line)
+        if found:
+            names[found[1] if found[1] in "Uw" else ""].add(found[2])
+    assert len(names[""]) > 2000
+    assert names["U"] - names[""] == {"main"}
+
+
+def debian_source(package: str) -> pathlib.Path:
+    """The folder of a package's source, which is fetched once."""
+    need("apt-get", "tar", "bzip2", "xz")
+    folder = cache_folder() / "sources"
+    script = str(EXAMPLES / "debian_source.py")
+    ran = run([sys.executable, script, folder, package], seconds=900)
+    if ran.status:
+        give_up(ran.errors.strip()[-300:])
+    return folder / package
+
+
+def test_the_tests_of_zlib_pass(
+    alone: pathlib.Path, library: pathlib.Path, tmp_path: pathlib.Path
+) -> None:
+    """zlib's own `make test`, by tenant-cc and tenant-run, says what it says natively: the program
+    writes and reads a gzip file among others."""
+    need("make", "cc", "clang", "ld.lld", "llvm-ar")
+    source = debian_source("zlib")
+    told: dict[str, str] = {}
+    for name in ("here", "tenant"):
+        words = [f"QEMU_RUN={TENANT_RUN} --alone {alone}"] * (name == "tenant")
+        folder = tmp_path / name
+        shutil.copytree(source, folder)
+        extra = {"CHOST": "aarch64-linux", "AR": "llvm-ar", "RANLIB": "true",
+                 "CC": f"{TENANT_CC} --library={library}"} if words else {}
+        succeed(["./configure", "--static"], cwd=folder, extra={"CFLAGS": "-O1", **extra})
+        succeed(["make", "-j2", "static"], cwd=folder)
+        made = succeed(["make", *words, "teststatic"], cwd=folder)
+        told[name] = made.output[made.output.index("hello world\n"):]
+    assert "zlib test OK" in told["here"]
+    assert re.sub("compile flags.*", "", told["tenant"]) == re.sub(
+        "compile flags.*", "", told["here"])
+
+
+ENDS = r"""
+#include <assert.h>
+#include <signal.h>
+#include <stdio.h>
+#include <stdlib.h>
+#include <string.h>
+int main(int count, char **words)
+{
+    char *chunk = malloc(32), line[100];
+    printf("%s\n", words[1]);
+    switch (words[1][0]) {
+    case 'e': return atoi(words[2]);
+    case 'f': free(chunk); return *(volatile char *)chunk;
+    case 'n': return *(volatile char *)NULL;
+    case 'd': free(chunk); free(chunk); return 0;
+    case 'a': abort();
+    case 's': assert(count == 0);
+    case 'r': raise(SIGTERM);
+    case 't': __builtin_trap();
+    case 'i': __asm__ volatile(".word 0");
+    case 'l': for (;;) ;
+    case 'o': for (int i = 0; i < 70000; i++) putchar('x'); return 0;
+    case 'c': while (fgets(line, sizeof line, stdin)) fputs(line, stdout); return 0;
+    }
+    return 0;
+}
+"""
+
+
+@pytest.mark.parametrize("word, status, said", [
+    ("exit 0", 0, ""),
+    ("exit 139", 139, ""),
+    ("free", 139, "Use After Free, 0 bytes into a 32-byte allocation at "),
+    ("null", 139, "Null Pointer"),
+    ("double", 134, "Double Free of a 32-byte allocation at "),
+    ("abort", 134, ""),
+    ("said", 134, ""),
+    ("raised", 133, ""),
+    ("trap", 133, ""),
+    ("illegal", 132, "00000000"),
+    ("loop", 152, ""),
+    ("output", 153, ""),
+])
+def test_a_tenant_ends_as_a_program_of_a_shell(
+    alone: pathlib.Path, ends: pathlib.Path, word: str, status: int, said: str
+) -> None:
+    """The exit status is the tenant's own, or that of a signal; standard error has the report of
+    such an end, or one line of it that begins with a place of the source."""
+    need("llvm-symbolizer")
+    words = [str(ends), *word.split()]
+    ran = tenant_run(alone, "--steps", "2000000", *words)
+    assert ran.status == status and ran.output.startswith(word.split()[0])
+    short = tenant_run(alone, "--steps=2000000", "--brief", *words)
+    assert (short.status, short.out) == (ran.status, ran.out)
+    if word.startswith("exit"):
+        assert (ran.errors, short.errors) == ("", "")
+        return
+    assert ran.errors.startswith("mte_run: ") and said in ran.errors
+    lines = short.errors.splitlines()
+    assert len(lines) == 1 and said in lines[0]
+    if status == 153:
+        assert lines[0].startswith(f"{ends}: error: output was cut")
+        return
+    place = re.match(r"(\S+):(\d+): error: ", lines[0])
+    assert place and place[1] == str(ends.with_suffix(".c")), lines
+    if status != 132:
+        assert f"case '{word[0]}'" in ENDS.splitlines()[int(place[2]) - 1], lines
+
+
+@pytest.fixture(scope="session")
+def ends(library: pathlib.Path, tmp_path_factory: pytest.TempPathFactory) -> pathlib.Path:
+    """An image that ends as its first argument says."""
+    return built(library, tmp_path_factory.mktemp("ends"), ENDS)
+
+
+def test_input_and_name_are_those_of_the_command(
+    alone: pathlib.Path, ends: pathlib.Path, library: pathlib.Path, tmp_path: pathlib.Path
+) -> None:
+    """Standard input to its end; argv[0] is PROGRAM; what begins with `-` behind it is argv's, and
+    the image is as it was."""
+    data = ends.read_bytes()
+    ran = tenant_run(alone, str(ends), "copy", "--brief", stdin=b"one\ntwo\n")
+    assert (ran.out, ran.status, ran.errors) == (b"copy\none\ntwo\n", 0, "")
+    assert ends.read_bytes() == data
+    built(library, tmp_path, WORDS)
+    ran = tenant_run(alone, "--env", "A=b", "./program.elf", "-o", "--env", cwd=tmp_path)
+    assert ran.out == b"[./program.elf][-o][--env]{A=b}"
+
+
+@pytest.mark.parametrize("words, status, said", [
+    (["--quick", "a"], 2, "there is no option --quick"),
+    (["--files", "none=there", "a"], 2, "--files needs a folder or NAME=PATH, not none=there"),
+    (["--steps"], 2, "--steps needs a value"),
+    (["none.elf"], 127, "none.elf: No such file or directory"),
+    (["image"], 126, "image: it is no ELF64 file"),
+])
+def test_commands_that_are_refused(
+    alone: pathlib.Path, tmp_path: pathlib.Path, words: list[str], status: int, said: str
+) -> None:
+    """A line, and 2, or the status of a shell for a program that it cannot run."""
+    (tmp_path / "image").write_bytes(b"no image")
+    ran = tenant_run(alone, *words, cwd=tmp_path)
+    assert (ran.status, ran.errors) == (status, f"tenant-run: {said}\n")
+
+
+def test_ctest_runs_tenants(
+    alone: pathlib.Path, library: pathlib.Path, tmp_path: pathlib.Path
+) -> None:
+    """libyaml's own tests, built by CMake with tenant-cc and run by ctest with tenant-run."""
+    need("make", "cmake", "ctest", "clang", "ld.lld")
+    source = debian_source("libyaml")
+    extra = {"TENANT_ALONE": str(alone), "TENANT_LIBRARY": str(library)}
+    settings = {
+        "CMAKE_SYSTEM_NAME": "Linux", "CMAKE_SYSTEM_PROCESSOR": "aarch64",
+        "CMAKE_C_COMPILER": TENANT_CC, "CMAKE_CROSSCOMPILING_EMULATOR": TENANT_RUN,
+        "BUILD_SHARED_LIBS": "OFF",
+    }
+    words = [f"-D{name}={value}" for name, value in settings.items()]
+    succeed(["cmake", *words, source], cwd=tmp_path, extra=extra)
+    succeed(["make", "test-version", "test-reader"], cwd=tmp_path, extra=extra)
+    ran = succeed(["ctest"], cwd=tmp_path, extra=extra)
+    assert "100% tests passed, 0 tests failed out of 2" in ran.output
+    assert b"Tombolopan" in next(tmp_path.rglob("test-reader")).read_bytes()
