@@ -64,16 +64,23 @@ def test_arguments_are_written_into_an_image(
     assert run_as_tenant(alone, image).out == b"[tenant]"
 
 
+@pytest.mark.parametrize("compiler", ["clang", "gcc"])
 def test_the_words_of_a_link_give_way(
-    alone: pathlib.Path, library: pathlib.Path, tmp_path: pathlib.Path
+    alone: pathlib.Path, library: pathlib.Path, tmp_path: pathlib.Path, compiler: str
 ) -> None:
-    """`tenant-cc --arguments`, by each compiler's image, stripped or not."""
-    image = built(library, tmp_path, WORDS, "--arguments=linked")
+    """Those of `tenant-cc --arguments`, also in a stripped image; one that is stripped behind that
+    runs, and is not written again."""
+    need("llvm-strip", "aarch64-linux-gnu-gcc")
+    image = built(library, tmp_path, WORDS, "--arguments=linked", f"--compiler={compiler}")
     assert run_as_tenant(alone, image).out == b"[tenant][linked]"
-    need("llvm-strip")
     succeed(["llvm-strip", image])
     assert tenant_args(str(image), "written").status == 0
     assert run_as_tenant(alone, image).out == b"[tenant][written]"
+    succeed(["llvm-strip", image])
+    assert run_as_tenant(alone, image).out == b"[tenant][written]"
+    ran = tenant_args(str(image), "again")
+    why = f"tenant-args: {image}: it was changed after its arguments were written\n"
+    assert (ran.status, ran.errors) == (2, why)
 
 
 def test_images_that_are_refused(tmp_path: pathlib.Path, library: pathlib.Path) -> None:
@@ -353,6 +360,14 @@ def test_input_and_name_are_those_of_the_command(
     built(library, tmp_path, WORDS)
     ran = tenant_run(alone, "--env", "A=b", "./program.elf", "-o", "--env", cwd=tmp_path)
     assert ran.out == b"[./program.elf][-o][--env]{A=b}"
+
+
+def test_closed_input_and_output(alone: pathlib.Path, ends: pathlib.Path) -> None:
+    """No input is none; where nobody reads the output, the status is that of SIGPIPE."""
+    words = f"{sys.executable} {TENANT_RUN} --alone {alone} {ends}"
+    assert run(["bash", "-c", f"{words} copy <&-"]).out == b"copy\n"
+    ran = run(["bash", "-c", f"{words} output | head -c 1; echo ${{PIPESTATUS[0]}}"])
+    assert (ran.out, ran.errors) == (b"o141\n", "")
 
 
 @pytest.mark.parametrize("words, status, said", [

@@ -111,7 +111,8 @@ def read_image(path: pathlib.Path) -> Image:
     end = max((address + size for place, (kind, _, _, address, _, _, size, _) in headers
                if kind == LOAD and place != spare[0]), default=0)
     image = Image(data, note, spare[0], (end + PAGE - 1) // PAGE * PAGE)
-    if not max(place for place, _ in headers) < image.base <= len(data):
+    _, _, offset, _, _, size, _, _ = HEADER.unpack_from(data, spare[0])
+    if given and (offset != image.base + -image.base % PAGE or offset + size != len(data)):
         raise Refused("it was changed after its arguments were written")
     return image
 
