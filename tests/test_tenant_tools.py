@@ -10,7 +10,7 @@ import pytest
 
 from tests.support.cache import cache_folder, tenant_library
 from tests.support.places import EXAMPLES, TESTS
-from tests.support.programs import TENANT_CC, native, run_as_tenant
+from tests.support.programs import TENANT_CC, native, run_as_tenant, tenant_cc
 from tests.support.running import run, succeed
 from tests.support.tenant_tools import TENANT_RUN, built, tenant_args, tenant_run
 from tests.support.tools import give_up, need
@@ -404,3 +404,36 @@ def test_ctest_runs_tenants(
     ran = succeed(["ctest"], cwd=tmp_path, extra=extra)
     assert "100% tests passed, 0 tests failed out of 2" in ran.output
     assert b"Tombolopan" in next(tmp_path.rglob("test-reader")).read_bytes()
+
+
+SCHEME = """
+(define (fact n) (if (= n 0) 1 (* n (fact (- n 1)))))
+(write (map fact '(1 2 3 4 5 10))) (newline)
+(call-with-output-file "out.txt" (lambda (port) (write '(a "b" 2.5) port)))
+(write (call-with-input-file "out.txt" read)) (newline)
+"""
+
+
+def test_a_program_of_others_finds_its_files(
+    alone: pathlib.Path, library: pathlib.Path, tmp_path: pathlib.Path
+) -> None:
+    """TinyScheme reads its own library and a script that argv names, and writes and reads a file;
+    what it writes comes back."""
+    need("cc", "clang", "ld.lld")
+    source = debian_source("tinyscheme")
+    words = ["-O1", "-w", "-DUSE_DL=0", "-DSTANDALONE=1", "-DUSE_INTERFACE=1"]
+    program, image = tmp_path / "here/scheme", tmp_path / "there/scheme"
+    for path in (program, image):
+        path.parent.mkdir()
+        shutil.copy(source / "init.scm", path.parent)
+        (path.parent / "script.scm").write_text(SCHEME)
+    succeed(["cc", *words, "-o", program, source / "scheme.c", "-lm"])
+    made = tenant_cc(library, *words, "-o", str(image), str(source / "scheme.c"), "-lm")
+    assert (made.status, made.errors) == (0, "")
+    wanted = run(["./scheme", "script.scm"], cwd=program.parent)
+    names = [f"--files={name}={name}" for name in ("init.scm", "script.scm")]
+    ran = tenant_run(alone, *names, "--out-files", "./scheme", "script.scm", cwd=image.parent)
+    assert (ran.out, ran.status, ran.errors) == (wanted.out, wanted.status, "")
+    assert wanted.out.startswith(b"(1 2 6 24 120 3628800)\n")
+    texts = [(path.parent / "out.txt").read_bytes() for path in (program, image)]
+    assert texts[0] == texts[1] == b'(a "b" 2.5)'
