@@ -200,6 +200,46 @@ def test_written_files_come_back(
     assert other.read_text() == "OLD file"
 
 
+FORGER = """
+#include <stdint.h>
+#include <string.h>
+#include "tenant.h"
+int main(int count, char **words)
+{
+    struct { uint32_t mode, name; uint64_t size; } head = {0100644, strlen(words[1]), 3};
+    struct { char mark[8]; uint64_t size; } end = {"TenFiles", sizeof head + head.name + 3};
+    head.size += count > 2 ? 1000 : 0;
+    tenant_write("out", 3);
+    tenant_write(&head, sizeof head);
+    tenant_write(words[1], head.name);
+    tenant_write("bad", 3);
+    tenant_write(&end, sizeof end);
+    tenant_exit(0);
+}
+"""
+
+
+def test_forged_files_are_refused(
+    alone: pathlib.Path, library: pathlib.Path, tmp_path: pathlib.Path
+) -> None:
+    """A tenant may write what the library writes behind its output: of names that lead elsewhere
+    nothing is written."""
+    image, here = built(library, tmp_path, FORGER), tmp_path / "here"
+    here.mkdir()
+    for name, status, found in [
+        (f"{here}/../up", 153, []), ("/other/up", 0, []), ("up", 153, []),
+        (f"{here}//up", 153, []), (f"{here}/up", 0, ["up"]),
+    ]:
+        ran = tenant_run(alone, "--out-files", str(image), name, cwd=here)
+        assert ran.status == status and bool(ran.errors) != bool(found), ran.errors
+        assert ran.out.startswith(b"out") and (status == 153) == (len(ran.out) > 3)
+        assert ran.errors.startswith("tenant-run: ") or found
+        assert [path.name for path in here.iterdir()] == found
+    ran = tenant_run(alone, "--out-files", str(image), f"{here}/more", "long", cwd=here)
+    assert ran.status == 153 and not (here / "more").exists()
+    assert not (tmp_path / "up").exists()
+
+
 PROCESSES = """
 #include <errno.h>
 #include <spawn.h>
