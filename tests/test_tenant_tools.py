@@ -10,7 +10,7 @@ import pytest
 
 from tests.support.cache import cache_folder, tenant_library
 from tests.support.places import EXAMPLES, TESTS
-from tests.support.programs import TENANT_CC, native, run_as_tenant
+from tests.support.programs import TENANT_CC, native, run_as_tenant, tenant_cc
 from tests.support.running import run, succeed
 from tests.support.tenant_tools import TENANT_RUN, built, tenant_args, tenant_run
 from tests.support.tools import give_up, need
@@ -64,16 +64,23 @@ def test_arguments_are_written_into_an_image(
     assert run_as_tenant(alone, image).out == b"[tenant]"
 
 
+@pytest.mark.parametrize("compiler", ["clang", "gcc"])
 def test_the_words_of_a_link_give_way(
-    alone: pathlib.Path, library: pathlib.Path, tmp_path: pathlib.Path
+    alone: pathlib.Path, library: pathlib.Path, tmp_path: pathlib.Path, compiler: str
 ) -> None:
-    """`tenant-cc --arguments`, by each compiler's image, stripped or not."""
-    image = built(library, tmp_path, WORDS, "--arguments=linked")
+    """Those of `tenant-cc --arguments`, also in a stripped image; one that is stripped behind that
+    runs, and is not written again."""
+    need("llvm-strip", "aarch64-linux-gnu-gcc")
+    image = built(library, tmp_path, WORDS, "--arguments=linked", f"--compiler={compiler}")
     assert run_as_tenant(alone, image).out == b"[tenant][linked]"
-    need("llvm-strip")
     succeed(["llvm-strip", image])
     assert tenant_args(str(image), "written").status == 0
     assert run_as_tenant(alone, image).out == b"[tenant][written]"
+    succeed(["llvm-strip", image])
+    assert run_as_tenant(alone, image).out == b"[tenant][written]"
+    ran = tenant_args(str(image), "again")
+    why = f"tenant-args: {image}: it was changed after its arguments were written\n"
+    assert (ran.status, ran.errors) == (2, why)
 
 
 def test_images_that_are_refused(tmp_path: pathlib.Path, library: pathlib.Path) -> None:
@@ -191,6 +198,46 @@ def test_written_files_come_back(
     assert found == {"made.txt": "made", "sub/two.txt": "two", "in.txt": "some more",
                      "old.txt": "old", "new.txt": "old"}
     assert other.read_text() == "OLD file"
+
+
+FORGER = """
+#include <stdint.h>
+#include <string.h>
+#include "tenant.h"
+int main(int count, char **words)
+{
+    struct { uint32_t mode, name; uint64_t size; } head = {0100644, strlen(words[1]), 3};
+    struct { char mark[8]; uint64_t size; } end = {"TenFiles", sizeof head + head.name + 3};
+    head.size += count > 2 ? 1000 : 0;
+    tenant_write("out", 3);
+    tenant_write(&head, sizeof head);
+    tenant_write(words[1], head.name);
+    tenant_write("bad", 3);
+    tenant_write(&end, sizeof end);
+    tenant_exit(0);
+}
+"""
+
+
+def test_forged_files_are_refused(
+    alone: pathlib.Path, library: pathlib.Path, tmp_path: pathlib.Path
+) -> None:
+    """A tenant may write what the library writes behind its output: of names that lead elsewhere
+    nothing is written."""
+    image, here = built(library, tmp_path, FORGER), tmp_path / "here"
+    here.mkdir()
+    for name, status, found in [
+        (f"{here}/../up", 153, []), ("/other/up", 0, []), ("up", 153, []),
+        (f"{here}//up", 153, []), (f"{here}/up", 0, ["up"]),
+    ]:
+        ran = tenant_run(alone, "--out-files", str(image), name, cwd=here)
+        assert ran.status == status and bool(ran.errors) != bool(found), ran.errors
+        assert ran.out.startswith(b"out") and (status == 153) == (len(ran.out) > 3)
+        assert ran.errors.startswith("tenant-run: ") or found
+        assert [path.name for path in here.iterdir()] == found
+    ran = tenant_run(alone, "--out-files", str(image), f"{here}/more", "long", cwd=here)
+    assert ran.status == 153 and not (here / "more").exists()
+    assert not (tmp_path / "up").exists()
 
 
 PROCESSES = """
@@ -355,6 +402,14 @@ def test_input_and_name_are_those_of_the_command(
     assert ran.out == b"[./program.elf][-o][--env]{A=b}"
 
 
+def test_closed_input_and_output(alone: pathlib.Path, ends: pathlib.Path) -> None:
+    """No input is none; where nobody reads the output, the status is that of SIGPIPE."""
+    words = f"{sys.executable} {TENANT_RUN} --alone {alone} {ends}"
+    assert run(["bash", "-c", f"{words} copy <&-"]).out == b"copy\n"
+    ran = run(["bash", "-c", f"{words} output | head -c 1; echo ${{PIPESTATUS[0]}}"])
+    assert (ran.out, ran.errors) == (b"o141\n", "")
+
+
 @pytest.mark.parametrize("words, status, said", [
     (["--quick", "a"], 2, "there is no option --quick"),
     (["--files", "none=there", "a"], 2, "--files needs a folder or NAME=PATH, not none=there"),
@@ -389,3 +444,36 @@ def test_ctest_runs_tenants(
     ran = succeed(["ctest"], cwd=tmp_path, extra=extra)
     assert "100% tests passed, 0 tests failed out of 2" in ran.output
     assert b"Tombolopan" in next(tmp_path.rglob("test-reader")).read_bytes()
+
+
+SCHEME = """
+(define (fact n) (if (= n 0) 1 (* n (fact (- n 1)))))
+(write (map fact '(1 2 3 4 5 10))) (newline)
+(call-with-output-file "out.txt" (lambda (port) (write '(a "b" 2.5) port)))
+(write (call-with-input-file "out.txt" read)) (newline)
+"""
+
+
+def test_a_program_of_others_finds_its_files(
+    alone: pathlib.Path, library: pathlib.Path, tmp_path: pathlib.Path
+) -> None:
+    """TinyScheme reads its own library and a script that argv names, and writes and reads a file;
+    what it writes comes back."""
+    need("cc", "clang", "ld.lld")
+    source = debian_source("tinyscheme")
+    words = ["-O1", "-w", "-DUSE_DL=0", "-DSTANDALONE=1", "-DUSE_INTERFACE=1"]
+    program, image = tmp_path / "here/scheme", tmp_path / "there/scheme"
+    for path in (program, image):
+        path.parent.mkdir()
+        shutil.copy(source / "init.scm", path.parent)
+        (path.parent / "script.scm").write_text(SCHEME)
+    succeed(["cc", *words, "-o", program, source / "scheme.c", "-lm"])
+    made = tenant_cc(library, *words, "-o", str(image), str(source / "scheme.c"), "-lm")
+    assert (made.status, made.errors) == (0, "")
+    wanted = run(["./scheme", "script.scm"], cwd=program.parent)
+    names = [f"--files={name}={name}" for name in ("init.scm", "script.scm")]
+    ran = tenant_run(alone, *names, "--out-files", "./scheme", "script.scm", cwd=image.parent)
+    assert (ran.out, ran.status, ran.errors) == (wanted.out, wanted.status, "")
+    assert wanted.out.startswith(b"(1 2 6 24 120 3628800)\n")
+    texts = [(path.parent / "out.txt").read_bytes() for path in (program, image)]
+    assert texts[0] == texts[1] == b'(a "b" 2.5)'

@@ -111,7 +111,8 @@ def read_image(path: pathlib.Path) -> Image:
     end = max((address + size for place, (kind, _, _, address, _, _, size, _) in headers
                if kind == LOAD and place != spare[0]), default=0)
     image = Image(data, note, spare[0], (end + PAGE - 1) // PAGE * PAGE)
-    if not max(place for place, _ in headers) < image.base <= len(data):
+    _, _, offset, _, _, size, _, _ = HEADER.unpack_from(data, spare[0])
+    if given and (offset != image.base + -image.base % PAGE or offset + size != len(data)):
         raise Refused("it was changed after its arguments were written")
     return image
 
@@ -190,19 +191,21 @@ def written(path: pathlib.Path, given: Given) -> bytes:
     return bytes(data) + segment
 
 
-def unpacked(written_bytes: bytes) -> tuple[bytes, list[tuple[int, str, bytes]]]:
-    """The output of a tenant whose written files are wanted, and of each its mode, name and bytes;
-    an image whose library does not pack them is refused."""
-    at = len(written_bytes) - PACK_END.size
-    mark, size = PACK_END.unpack_from(written_bytes, at) if at >= 0 else (b"", 0)
-    if mark != MARK or size > at:
+def unpacked(output: bytes) -> tuple[bytes, list[tuple[int, str, bytes]]]:
+    """The output of a tenant whose written files are wanted, and of each its mode, name and bytes.
+    The tenant may have written it all itself, so nothing of it is believed."""
+    end = len(output) - PACK_END.size
+    mark, size = PACK_END.unpack_from(output, end) if end >= 0 else (b"", 0)
+    if mark != MARK or size > end:
         raise Refused("the tenant's output has no files at its end")
-    start, end, found = at - size, at, []
-    at = start
+    at, found = end - size, []
     while at < end:
-        mode, length, size = PACKED.unpack_from(written_bytes, at)
-        at += PACKED.size
-        name = os.fsdecode(written_bytes[at:at + length])
-        found.append((mode, name, written_bytes[at + length:at + length + size]))
-        at += length + size
-    return written_bytes[:start], found
+        if at + PACKED.size > end:
+            raise Refused("the files behind the tenant's output are not whole")
+        mode, length, count = PACKED.unpack_from(output, at)
+        at += PACKED.size + length + count
+        name = os.fsdecode(output[at - length - count:at - count])
+        if at > end or name != absolute(name) or "\0" in name:
+            raise Refused("the files behind the tenant's output have no sound names")
+        found.append((mode, name, output[at - count:at]))
+    return output[:end - size], found
