@@ -10,7 +10,8 @@ from typing import Optional
 
 import pytest
 
-from tests.support.places import EXAMPLES
+from tests.support.expected import compare
+from tests.support.places import EXAMPLES, ROOT
 from tests.support.running import Ran, Word, run
 from tests.support.samples import tenant
 from tests.support.tools import need
@@ -249,3 +250,13 @@ def test_why_an_admission_is_refused(alone: pathlib.Path, tmp_path: pathlib.Path
         assert lines == [f"mte_run: event 2 is refused: {why}", *end]
     lines = told(first + "slice 3 9\n", 99)
     assert lines == ["mte_run: no event of the script admits a tenant 7", *end]
+
+
+def test_a_session_as_json(alone: pathlib.Path) -> None:
+    """The stored run of the gate, with what happened as JSON behind the tenant's lines: written by
+    the name of standard output, which a gate that runs programs as nobody cannot open."""
+    data = ROOT / "crates" / "mte_run" / "data"
+    words = (data.parent / "args").read_text(encoding="utf-8").split()
+    ran = run([alone, "--json", "/dev/stdout", *words], cwd=data)
+    assert ran.status == 7
+    compare("run/session_with_json.txt", ran.output)
