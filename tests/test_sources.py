@@ -94,3 +94,10 @@ def test_ranges() -> None:
 def test_no_file_is_empty() -> None:
     """Each file of the repository says something."""
     assert [it for it in tracked_files() if (ROOT / it).stat().st_size == 0] == []
+
+
+def test_no_check_misses_a_source() -> None:
+    """The prover's gate stops where a source of Rattle is in no crate."""
+    sources_of_rattle = [it for it in tracked_files() if it.endswith((".rt", ".antt"))]
+    place = re.compile(r"crates/\w+/(src|specs|proofs)/")
+    assert [it for it in sources_of_rattle if not place.match(it)] == []
