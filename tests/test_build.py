@@ -110,8 +110,16 @@ def test_by_proof(clone: Clone) -> None:
     ran, tried = clone.build("--unproved")
     assert (ran.status, tried) == (0, [])
     assert "build.sh: mte_run: was there\n" in ran.errors
-    newest = time.time() + 60
-    os.utime(clone.top / "crates" / "mte_host" / "src" / "main.rt", (newest, newest))
+
+
+@pytest.mark.parametrize("name", ["src/main.rt", "specs/main.antt", "proofs/main.antt"])
+def test_a_newer_source(clone: Clone, name: str) -> None:
+    """A program that is older than a source, a definition or a proof is built again."""
+    clone.build("--unproved", "--only", "mte_host")
+    source, newest = clone.top / "crates" / "mte_host" / name, time.time() + 60
+    source.parent.mkdir(exist_ok=True)
+    source.touch()
+    os.utime(source, (newest, newest))
     ran, tried = clone.build("--unproved", "--only", "mte_host")
     assert (ran.status, tried) == (0, ["unproved.py mte_host.new mte_host"])
 

@@ -169,6 +169,9 @@ int main(int count, char **words)
     put("/other/known", "r+", "OLD");
     put("/other/unknown", "w", "refused");
     rename("old.txt", "new.txt");
+    put("late.txt", "w", "late");
+    mkdir("folder", 0755);
+    rename("late.txt", "folder/late.txt");
     return count > 1 ? *(volatile char *)0 : 3;
 }
 """
@@ -187,7 +190,7 @@ def test_written_files_come_back(
     words = ["--files", ".", "--files", f"/other/known={other}", str(image)]
     before = {path.name: path.read_bytes() for path in here.iterdir()}
     ran = tenant_run(alone, *words, cwd=here)
-    assert (ran.status, ran.errors) == (3, "") and ran.output.count(": 1\n") == 6
+    assert (ran.status, ran.errors) == (3, "") and ran.output.count(": 1\n") == 7
     assert tenant_run(alone, "--out-files", *words, "fault", cwd=here).status == 139
     assert {path.name: path.read_bytes() for path in here.iterdir()} == before
     again = tenant_run(alone, "--out-files", *words, cwd=here)
@@ -196,7 +199,7 @@ def test_written_files_come_back(
     assert again.errors.count("\n") == 1
     found = {str(path.relative_to(here)): path.read_text() for path in here.rglob("*.txt")}
     assert found == {"made.txt": "made", "sub/two.txt": "two", "in.txt": "some more",
-                     "old.txt": "old", "new.txt": "old"}
+                     "old.txt": "old", "new.txt": "old", "folder/late.txt": "late"}
     assert other.read_text() == "OLD file"
 
 
@@ -238,6 +241,34 @@ def test_forged_files_are_refused(
     ran = tenant_run(alone, "--out-files", str(image), f"{here}/more", "long", cwd=here)
     assert ran.status == 153 and not (here / "more").exists()
     assert not (tmp_path / "up").exists()
+
+
+def test_links_lead_nowhere_else(
+    alone: pathlib.Path, library: pathlib.Path, tmp_path: pathlib.Path
+) -> None:
+    """Of a name below a symbolic link, where the link leads decides."""
+    image, here, other = built(library, tmp_path, FORGER), tmp_path / "here", tmp_path / "other"
+    here.mkdir()
+    other.mkdir()
+    (here / "link").symlink_to(other)
+    (here / "new").symlink_to(other / "new")
+    (here / "kept").symlink_to(other / "kept")
+    (other / "kept").write_text("kept")
+    for name in ("link/new", "new", "kept"):
+        for option in ("--brief", "--files=."):
+            ran = tenant_run(alone, "--out-files", option, str(image), f"{here}/{name}", cwd=here)
+            assert (ran.status, ran.out) == (0, b"out")
+    assert [path.read_text() for path in other.iterdir()] == ["kept"]
+
+
+@pytest.mark.parametrize("name", ["input", "told"])
+def test_a_program_of_any_name(
+    alone: pathlib.Path, library: pathlib.Path, tmp_path: pathlib.Path, name: str
+) -> None:
+    """Also of a name that tenant-run gives a file of its own."""
+    image = built(library, tmp_path, "int main(void) { return 4; }").rename(tmp_path / name)
+    ran = tenant_run(alone, str(image), stdin=b"bytes")
+    assert (ran.status, ran.errors) == (4, "")
 
 
 PROCESSES = """

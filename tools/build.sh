@@ -54,7 +54,8 @@ is_built() {
     local file
     file=$(place "$1")
     [[ -e $file ]] || return 1
-    [[ -z $(find "$crates"/*/src "$crates/../crates.txt" -newer "$file" -print -quit) ]] || return 1
+    [[ -z $(find "$crates"/*/{src,specs,proofs} "$crates/../crates.txt" -newer "$file" -print \
+        -quit 2> /dev/null) ]] || return 1
     [[ $proof == no ]] || ! is_unproved "$1"
 }
 

@@ -39,9 +39,10 @@ LEFT_OUT = {
     "env/__init_tls.c", "env/__libc_start_main.c", "env/__stack_chk_fail.c", "exit/abort.c",
     "internal/vdso.c", "mq/mq_notify.c", "process/system.c", "process/vfork.c",
     "setjmp/longjmp.c", "setjmp/setjmp.c", "signal/restore.c", "signal/sigsetjmp.c",
-    "stdio/__stdout_write.c", "thread/__set_thread_area.c", "thread/__unmapself.c",
-    "thread/clone.c", "thread/pthread_cancel.c", "thread/pthread_create.c", "thread/syscall_cp.c",
-    "thread/thrd_create.c", "thread/thrd_exit.c", "time/timer_create.c",
+    "stdio/__stdout_write.c", "temp/__randname.c", "thread/__set_thread_area.c",
+    "thread/__unmapself.c", "thread/clone.c", "thread/pthread_cancel.c",
+    "thread/pthread_create.c", "thread/syscall_cp.c", "thread/thrd_create.c",
+    "thread/thrd_exit.c", "time/timer_create.c",
 }
 FOLDERS_LEFT_OUT = {"aio", "ldso", "malloc"}
 # Where musl sees a GNU compiler these read a word at once, up to seven bytes past the end of a

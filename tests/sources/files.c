@@ -62,6 +62,8 @@ static void open_and_seek(void)
     TELL(lseek(file, -1, SEEK_SET));
     TELL(write(file, "x", 1));
     TELL(pread(file, bytes, 3, 1));
+    TELL(pread(file, bytes, 3, -1));
+    TELL(pwrite(file, bytes, 3, -1));
     TELL(ftruncate(file, 0));
     TELL(close(file));
     TELL(close(file));
@@ -190,6 +192,27 @@ static void descriptors(void)
     printf("%d\n", freopen("redirected", "r", stdin) == stdin && getchar() == 'i');
 }
 
+/* A second file of one template, and the numbers of a folder's files. */
+static void temporary_files(void)
+{
+    char names[2][16] = {"none/fileXXXXXX", "none/fileXXXXXX"};
+    struct stat found;
+    for (int i = 0; i < 2; i++) {
+        int file = mkstemp(names[i]);
+        TELL(fcntl(file, F_GETFL) & (O_ACCMODE | O_CREAT | O_EXCL | O_TRUNC));
+        TELL(close(file));
+    }
+    TELL(!strcmp(names[0], names[1]));
+    DIR *folder = opendir("none");
+    for (struct dirent *entry; folder && (entry = readdir(folder));) {
+        if (entry->d_name[0] == 'f')
+            TELL(!fstatat(dirfd(folder), entry->d_name, &found, 0)
+                 && found.st_ino == entry->d_ino);
+    }
+    TELL(closedir(folder));
+    TELL(unlink(names[0]) | unlink(names[1]));
+}
+
 int main(void)
 {
     list(".");
@@ -200,6 +223,7 @@ int main(void)
     refusals();
     write_some();
     folders();
+    temporary_files();
     descriptors();
     return 0;
 }

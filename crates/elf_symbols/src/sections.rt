@@ -10,7 +10,7 @@ const COMPRESSED: u64 = 0x800;
 
 /// The section headers of an ELF64 file with the lowest byte first. A file whose table of them does
 /// not begin in it, or with headers of another size, has none; of a table that ends past the file
-/// those that are in it are there.
+/// it has those that are in the file.
 #[derive(Clone, Copy)]
 pub struct Sections<'a> {
     file: &'a [u8],

@@ -1,4 +1,4 @@
--- How a frame is in memory: a block of 4224 bytes, 4096 of data and then 128 that hold two tags
+-- A frame in memory is a block of 4224 bytes: 4096 of data and then 128 that hold two tags
 -- each, the even granule's in the low half and the odd one's in the high half.
 --     frame_of xs          the frame that the block holds
 --     frames_of cs         the blocks as frames

@@ -24,7 +24,7 @@ has_table file =
     && nat_le (header_count_of file) 64
     && nat_le (table_offset_of file + 56 * header_count_of file) (length file)
 
--- a segment's file part is no larger than the segment and is in the file, and its addresses lie
+-- a segment's file part is no larger than the segment and is in the file, and its addresses are
 -- in the range for images
 abbrev pub is_in_range : ℕ → Segment → Bool
 is_in_range size s =

@@ -1,5 +1,5 @@
 -- What a host has: a machine for each live tenant, and the record alone of each that was stopped.
--- Each definition is that of Behaviours, with a tenant's machine as the behaviour.
+-- A session's definitions are those of Behaviours, with a tenant's machine as the behaviour.
 use Rattle.std.specs.Prelude.{ℕ, ◌==◌, List, map, Option, Some, None, if◌then◌else◌, Bool}
 use Rattle.std.specs.List.{refill}
 use Rattle.mte_tags.specs.Memory.{Memory, Page, page_at, with_page}
@@ -89,7 +89,7 @@ after_call_cases r c e = behaviours.after_call_cases machine r c e
 unfoldable pub after_calls : Content → List Call → Content
 after_calls c calls = behaviours.after_calls machine c calls
 
--- The tenant that a life is, behaviours.
+-- The tenant that a life is, alone.
 abbrev pub tenant_of : Life → Tenant
 tenant_of life = record {
   id = life.id;

@@ -116,7 +116,8 @@ pub fn charge(pages: u32) -> u64
 }
 
 /// The plan of an admission's image, or the first refusal that applies. Only `OutOfMemory`, where
-/// an allocation failed, can come in place of the refusals from `Image` on.
+/// an allocation failed, can come in place of the refusals from `Image` on. `accepted_means` says
+/// what follows from `accepted`.
 pub fn accept(
     alloc: Global,
     admission: &Admission<'_>,

@@ -139,7 +139,7 @@ pub record IsLarge (m : Mapping) (size : ℕ) : Type 0 where
   pub below : m.user < secondary.end_of m
   pub unused : secondary.end_of m - m.user - size < 2 ^ 20
 
--- a chunk that was handed out is where every chunk is
+-- a chunk of a call is below 2^32, as every chunk is
 abbrev pub IsLow : Chunk → Type 0
 IsLow (Small p tag) = (p.user < 2 ^ 32) × (tag < 16)
 IsLow (Large m size) = m.user < 2 ^ 32

@@ -30,7 +30,7 @@ pub record World : Type 0 where
 abbrev pub world_of : Memory → HeapState → Rgsr → World
 world_of m h r = record { memory = m; heap = h; rgsr = r }
 
--- READ, WRITE and TAGGED
+-- The attributes of the heap's pages: those of data.
 abbrev pub heap_attrs : Attrs
 heap_attrs = data_attrs
 

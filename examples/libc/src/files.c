@@ -4,6 +4,7 @@
 #include <dirent.h>
 #include <errno.h>
 #include <fcntl.h>
+#include <limits.h>
 #include <stddef.h>
 #include <string.h>
 #include <sys/stat.h>
@@ -16,7 +17,7 @@
 enum { DESCRIPTORS = 64, BLOCK = 4096 };
 
 /* What descriptors name; `at` is where the next byte is, or in a folder the number of the node that
-   was told last. Without a node it is the tenant's input or output. */
+   was read last. Without a node it is the tenant's input or output. */
 struct open_file {
     struct tenant_node *node;
     size_t at;
@@ -65,6 +66,7 @@ static long open_node(struct tenant_node *node, int flags)
         file++;
     if (file == files + DESCRIPTORS)
         return -EMFILE;
+    flags &= ~(O_CREAT | O_EXCL | O_NOCTTY | O_TRUNC);
     *file = (struct open_file){.node = node, .flags = flags};
     long number = give(file, 0);
     if (number >= 0)
@@ -202,28 +204,30 @@ static long seek(struct open_file *file, long offset, long whence)
                                                                          : 0;
     if (whence < SEEK_SET || whence > SEEK_END || offset < -from)
         return -EINVAL;
+    if (offset > LONG_MAX - from)
+        return -EOVERFLOW;
     return (long)(file->at = (size_t)(from + offset));
 }
 
-static long tell_node(const struct tenant_node *node, struct kstat *told)
+static long stat_node(const struct tenant_node *node, struct kstat *answer)
 {
-    *told = (struct kstat){.st_dev = 1, .st_nlink = 1, .st_blksize = BLOCK};
-    told->st_mode = node ? node->mode : S_IFIFO | 0600;
+    *answer = (struct kstat){.st_dev = 1, .st_nlink = 1, .st_blksize = BLOCK};
+    answer->st_mode = node ? node->mode : S_IFIFO | 0600;
     if (node) {
-        told->st_ino = node->number;
-        told->st_size = (off_t)node->size;
-        told->st_blocks = (blkcnt_t)((node->size + 511) / 512);
+        answer->st_ino = node->number;
+        answer->st_size = (off_t)node->size;
+        answer->st_blocks = (blkcnt_t)((node->size + 511) / 512);
     }
     return 0;
 }
 
-static long tell_path(long folder, const char *path, struct kstat *told, long flags)
+static long stat_path(long folder, const char *path, struct kstat *answer, long flags)
 {
     struct tenant_node *node;
     if (!*path && (flags & AT_EMPTY_PATH) && file_of(folder))
-        return tell_node(file_of(folder)->node, told);
+        return stat_node(file_of(folder)->node, answer);
     long failed = node_of(folder, path, &node);
-    return failed ? failed : tell_node(node, told);
+    return failed ? failed : stat_node(node, answer);
 }
 
 /* Puts an entry of a folder at its place, if there is room; the bytes that it takes. */
@@ -234,7 +238,7 @@ static size_t put_entry(char *place, size_t room, const char *name, uint32_t at,
     struct dirent *entry = (struct dirent *)place;
     if (whole > room)
         return 0;
-    entry->d_ino = at + 1;
+    entry->d_ino = at;
     entry->d_off = at;
     entry->d_reclen = (unsigned short)whole;
     entry->d_type = S_ISDIR(mode) ? DT_DIR : DT_REG;
@@ -332,6 +336,8 @@ static long call_of_open(long number, long a, long b, long c, long d)
     struct open_file *file = file_of(a);
     if (!file)
         return -EBADF;
+    if ((number == SYS_pread || number == SYS_pwrite) && d < 0)
+        return -EINVAL;
     switch (number) {
     case SYS_lseek:
         return seek(file, b, c);
@@ -340,7 +346,7 @@ static long call_of_open(long number, long a, long b, long c, long d)
     case SYS_pwrite:
         return file->node ? write_at(file, (const void *)b, (size_t)c, (size_t)d) : -ESPIPE;
     case SYS_fstat:
-        return tell_node(file->node, (struct kstat *)b);
+        return stat_node(file->node, (struct kstat *)b);
     case SYS_getdents:
         return list(file, (char *)b, (size_t)c);
     case SYS_ftruncate:
@@ -389,7 +395,7 @@ static long make_folder(long folder, const char *path, long mode)
     return __tenant_find(name) ? -EEXIST : __tenant_make(name, S_IFDIR | (mode & 0755), &made);
 }
 
-static long tell_folder(char *place, size_t room)
+static long read_folder_path(char *place, size_t room)
 {
     const char *name = __tenant_folder()->name;
     size_t length = strlen(name) + 1;
@@ -429,7 +435,7 @@ static long call_of_path(long number, long a, long b, long c, long d)
     case SYS_openat:
         return open_path(a, (const char *)b, (int)c, (uint32_t)d);
     case SYS_fstatat:
-        return tell_path(a, (const char *)b, (struct kstat *)c, d);
+        return stat_path(a, (const char *)b, (struct kstat *)c, d);
     case SYS_unlinkat:
         return remove_path(a, (const char *)b, c);
     case SYS_renameat:
@@ -437,7 +443,7 @@ static long call_of_path(long number, long a, long b, long c, long d)
     case SYS_mkdirat:
         return make_folder(a, (const char *)b, c);
     case SYS_getcwd:
-        return tell_folder((char *)a, (size_t)b);
+        return read_folder_path((char *)a, (size_t)b);
     case SYS_chdir:
     case SYS_truncate:
         return call_of_node(number, AT_FDCWD, (const char *)a, b);

@@ -2,6 +2,7 @@
    its image, and those that it makes, which are chunks of its heap. */
 #include <errno.h>
 #include <fcntl.h>
+#include <limits.h>
 #include <string.h>
 #include <sys/stat.h>
 #include "nodes.h"
@@ -81,7 +82,7 @@ static long add_parts(char *name, size_t length, const char *path)
             while (length && name[--length] != '/')
                 ;
         } else if (part && !(part == 1 && *path == '.')) {
-            if (length + part + 2 > NAME_ROOM)
+            if (part > NAME_MAX || length + part + 2 > NAME_ROOM)
                 return -ENAMETOOLONG;
             name[length++] = '/';
             memcpy(name + length, path, part);
@@ -99,6 +100,8 @@ hidden long __tenant_name(struct tenant_node *folder, const char *path, char *na
         return -ENOENT;
     if (*path != '/' && folder != &root) {
         length = strlen(folder->name);
+        if (length >= NAME_ROOM)
+            return -ENAMETOOLONG;
         memcpy(name, folder->name, length);
     }
     long whole = add_parts(name, length, path);

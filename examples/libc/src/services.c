@@ -13,7 +13,7 @@
 hidden weak long __tenant_file_call(long number, long a, long b, long c, long d);
 hidden weak size_t __tenant_pack(void);
 
-/* As write(2): where there is room for no byte more, that is told. */
+/* As write(2): -ENOSPC where there is room for no byte more. */
 static long write_all(long file, const void *bytes, size_t count)
 {
     if (file != 1 && file != 2)
@@ -55,7 +55,7 @@ static long read_parts(long file, const struct iovec *parts, long count)
     return sum;
 }
 
-static long tell_time(struct timespec *time)
+static long read_clock(struct timespec *time)
 {
     time->tv_sec = time->tv_nsec = 0;
     return 0;
@@ -118,7 +118,7 @@ long __tenant_system(long number, long a, long b, long c, long d)
     case SYS_exit_group:
         end((int)a);
     case SYS_clock_gettime:
-        return tell_time((struct timespec *)b);
+        return read_clock((struct timespec *)b);
     case SYS_getpid:
     case SYS_gettid:
         return 1;

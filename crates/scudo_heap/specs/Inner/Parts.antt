@@ -1,7 +1,7 @@
--- The heap that the code's parts are.
+-- A heap as the code keeps it, beside the heap of the definitions.
 use Rattle.scudo_heap.specs.declared.parts.HeapParts.{HeapParts}
 use Rattle.scudo_heap.specs.Heaps.{HeapState, heap_of}
 
--- A heap of its parts.
+-- The heap of the cookie, the stacks and the mappings that the code keeps.
 abbrev pub heap_in : HeapParts → HeapState
 heap_in p = heap_of p.cookie p.stacks p.maps
