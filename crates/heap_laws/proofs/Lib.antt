@@ -10,3 +10,4 @@ pub mod Moves
 pub mod Turns
 pub mod Distances
 pub mod Lifetimes
+pub mod Answers

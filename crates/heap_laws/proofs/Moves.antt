@@ -22,8 +22,8 @@ use Rattle.scudo_heap.specs.declared.chunk.Found.{Found}
 use Rattle.scudo_heap.specs.declared.chunk.Found.TheVariants.{InBlock, InPages}
 use Rattle.scudo_heap.specs.Inner.{IsOpen}
 use Rattle.scudo_heap.specs.Chunks.{end_of, block_end, with_size, after_retag_tail, with_header}
-use Rattle.scudo_heap.specs.Placing.{World, after_give_back, after_resize}
-use Rattle.scudo_heap.specs.Large.{large_given_back}
+use Rattle.scudo_heap.specs.Placing.{World, new_header, after_give_back, after_resize}
+use Rattle.scudo_heap.specs.Large.{large_header, large_given_back}
 use Rattle.scudo_heap.specs.Allocation.{AllocationResult, no_chunk, after_malloc}
 use Rattle.scudo_heap.specs.Checks.{size_found}
 use Rattle.scudo_heap.specs.Freeing.{without_chunk as freed_world}
@@ -34,7 +34,7 @@ use Rattle.scudo_heap.proofs.MapLemmas.{without}
 use Rattle.scudo_heap.proofs.OpenLemmas.{open-mapped}
 use Rattle.tag_discipline.specs.LiveChunks.{BlockChunk, IsPlace, chunk_at, new_chunk}
 use Rattle.tag_discipline.specs.LivePages.{new_large}
-use Rattle.tag_discipline.specs.CarefulRuns.{State, Live, found_at, with_made_chunk, without_freed_chunk, live_move_cases, with_size_of, live_after_resize_in_block, live_after_resize, live_after_realloc, live_realloc_cases, live_realloc, state_after_call, HasHeader, IsLive, IsPointerTo}
+use Rattle.tag_discipline.specs.CarefulRuns.{State, Live, found_at, with_made_chunk, without_freed_chunk, live_move_cases, with_size_of, live_after_resize_in_block, live_after_resize, live_after_realloc, live_realloc_cases, live_realloc, state_after_call, HasHeader, IsPointerTo}
 use Rattle.tag_discipline.specs.SoundHeaps.{Sound}
 use Rattle.tag_discipline.proofs.BlockCalls.{block-open}
 use Rattle.tag_discipline.proofs.BlockSounds.{present-tag}
@@ -47,7 +47,7 @@ use Rattle.tag_discipline.proofs.MadeCalls.{malloc-state-after-allocation}
 use Rattle.tag_discipline.proofs.FreeStates.{with-bytes-at-kept}
 use Rattle.tag_discipline.proofs.ReallocStates.{still-with-made-chunk}
 use Rattle.tag_discipline.proofs.Disciplines.{apart}
-use Rattle.heap_laws.specs.NewChunks.{HasNewChunk}
+use Rattle.heap_laws.specs.NewChunks.{HasNewChunk, HasChunk}
 use Rattle.heap_laws.specs.Reallocs.{ReallocatedChunksAreLive}
 use Rattle.heap_laws.proofs.NewChunks.{HasNewHeader, made-live, malloc-written, new-live}
 use Rattle.heap_laws.proofs.Chunks.{AnyChunk, IsIn, found_of, IsOwn, IsNamed, is, user-is, is-listed, is-found, is-apart, still-made, still-freed, named-by}
@@ -64,9 +64,9 @@ abbrev header_of : AnyChunk → Header
 header_of (inl x) = x.header
 header_of (inr x) = x.header
 
-is-live : (s : State) (u : ℕ) (x : AnyChunk) → IsIn s.live u x → HasHeader s.world u (header_of x) → IsLive s u
-is-live s u (inl x) e h = inl (x, record { live = e; header = h })
-is-live s u (inr x) e h = inr (x, record { live = e; header = h })
+has-chunk : (s : State) (d : Chunk) → IsIn s.live (user_of_chunk d) (chunk_of d) → HasHeader s.world (user_of_chunk d) (header_of (chunk_of d)) → HasChunk s d
+has-chunk s (Small p t) e h = (new_header Malloc p, record { live = e; header = h })
+has-chunk s (Large m n) e h = (large_header Malloc m n, record { live = e; header = h })
 
 new-in : (s : State) (d : Chunk) → HasNewChunk s Malloc d → IsIn s.live (user_of_chunk d) (chunk_of d)
 new-in s (Small p t) h = h.live
@@ -120,7 +120,7 @@ freed-cookie w (InPages m header) = refl
 
 -- where a call answers a chunk, it is live
 IsAnswered : Chunk → AllocationResult → Live → Type 0
-IsAnswered c r l = r.chunk ≡ Some c → IsLive (record { world = r.world; live = l }) (user_of_chunk c)
+IsAnswered c r l = r.chunk ≡ Some c → HasChunk (record { world = r.world; live = l }) c
 
 module _ (s : State) (c : Chunk) (k : Sound s) where
   none-answered : (w : World) (l : Live) → IsAnswered c (record { world = w; chunk = None }) l
@@ -161,9 +161,9 @@ module _ (s : State) (c : Chunk) (k : Sound s) where
       freed-byte i a copied.sound listed (λ p q. is-apart i (user_of_chunk d) v a y x copied.sound here old other (within.own a from to) (p, q))
       ∙ byte_at-written_other r.world.memory (user_of_chunk d) bs a (λ j l q. omega arith))
       (new-header t d new) in
-      let live : IsLive (record { world = w; live = without_freed_chunk t.live f }) (user_of_chunk d) = is-live (record { world = w; live = without_freed_chunk t.live f }) (user_of_chunk d) y (still-freed t.live f (user_of_chunk d) y (λ q. other (q ∙ user)) here) header in
+      let live : HasChunk (record { world = w; live = without_freed_chunk t.live f }) d = has-chunk (record { world = w; live = without_freed_chunk t.live f }) d (still-freed t.live f (user_of_chunk d) y (λ q. other (q ∙ user)) here) header in
       let same : d ≡ c = (let z : Some d ≡ Some c = h in cc) in
-      subst (λ z. IsLive (record { world = w; live = without_freed_chunk t.live f }) (user_of_chunk z)) same live
+      subst (HasChunk (record { world = w; live = without_freed_chunk t.live f })) same live
 
   move-answered : (v : ℕ) (x : AnyChunk) (size : ℕ) → IsIn s.live v x → size ≤ MAX_REQUEST → IsAnswered c (after_move s.world (found_of x) size) (live_move_cases s.live (found_of x) (after_malloc s.world size).chunk)
   unfolding after_move
@@ -199,8 +199,8 @@ module _ (s : State) (c : Chunk) (k : Sound s) where
       let d : Chunk = Small (with_size p size) (tag_at s.world.memory p.user) in
       let same : d ≡ c = (let z : Some d ≡ Some c = h in cc) in
       let t : State = record { world = after_resize s.world p x.header size; live = live_after_resize_in_block s.world s.live p x.header size } in
-      let live : IsLive t p.user = inl (y, record { live = at-with s.live.blocks y p.user ∙ cond-true _ _ _ (tied_same p.user); header = resized-header x size e some fits }) in
-      subst (λ z. IsLive t (user_of_chunk z)) same live
+      let live : HasChunk t d = (y.header, record { live = at-with s.live.blocks y p.user ∙ cond-true _ _ _ (tied_same p.user); header = resized-header x size e some fits }) in
+      subst (HasChunk t) same live
 
   -- ---- the call
 
@@ -227,7 +227,7 @@ module _ (s : State) (c : Chunk) (k : Sound s) where
 
   -- the same of what the call answers
   IsGiven : ReallocResult → Live → Type 0
-  IsGiven r l = r.result ≡ Ok (Some c) → IsLive (record { world = r.world; live = l }) (user_of_chunk c)
+  IsGiven r l = r.result ≡ Ok (Some c) → HasChunk (record { world = r.world; live = l }) c
 
   of-allocation : (r : AllocationResult) (l : Live) → IsAnswered c r l → IsGiven (reallocation_of r) l
   unfolding IsAnswered IsGiven
@@ -238,7 +238,7 @@ module _ (s : State) (c : Chunk) (k : Sound s) where
   malloc-answered size = λ h.
       let t = state_after_call (call.Malloc size) s in
       let new = new-live.malloc s size c k h in
-      is-live t (user_of_chunk c) (chunk_of c) (new-in t c new) (new-header t c new)
+      has-chunk t c (new-in t c new) (new-header t c new)
 
   found-named : (v size : ℕ) (f : Found) → IsNamed s v f → IsGiven (reallocation_of (realloc_cases s.world f size)) (live_after_realloc s.world s.live f size)
   found-named v size f (is x e q) =

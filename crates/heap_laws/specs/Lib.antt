@@ -6,3 +6,4 @@ pub mod Reallocs
 pub mod Turns
 pub mod Distances
 pub mod Lifetimes
+pub mod Answers

@@ -2,6 +2,7 @@
 use Rattle.std.specs.Prelude.{◌≡◌, ℕ, ◌%◌, ◌<◌, ◌≤◌, Some, Ok}
 use Rattle.a64_bits.specs.Addresses.{plain}
 use Rattle.mte_tags.specs.Memory.{Memory, byte_at}
+use Rattle.scudo_header.specs.declared.headers.Header.{Header}
 use Rattle.scudo_header.specs.declared.headers.Origin.{Origin}
 use Rattle.scudo_header.specs.declared.headers.Origin.TheVariants as origin
 use Rattle.scudo_secondary.specs.Mappings as secondary
@@ -21,6 +22,14 @@ use Rattle.tag_discipline.specs.SoundHeaps.{Sound}
 abbrev pub HasNewChunk : State → Origin → Chunk → Type 0
 HasNewChunk s o (Small p tag) = IsLiveBlock s p.user (new_chunk o p tag)
 HasNewChunk s o (Large m size) = IsLiveLarge s m.user (new_large o m size)
+
+-- A chunk is live at its user address, with its size, its tag and a header that the heap wrote.
+abbrev pub HasChunk : State → Chunk → Type 0
+HasChunk s (Small p tag) =
+    (header : Header) × IsLiveBlock s p.user (record { place = p; tag = tag; header = header })
+HasChunk s (Large m size) =
+    (header : Header)
+    × IsLiveLarge s m.user (record { mapping = m; size = size; header = header })
 
 -- The chunk that a call makes is live, with the header that the heap wrote.
 pub record NewChunksAreLive : Type 0 where

@@ -12,8 +12,9 @@ use Rattle.scudo_heap.specs.Realloc.{after_realloc, user_of_chunk}
 use Rattle.tag_discipline.specs.LiveChunks.{BlockChunk}
 use Rattle.tag_discipline.specs.LivePages.{PageChunk}
 use Rattle.tag_discipline.specs.CarefulRuns.{State, state_after_call, IsLiveBlock, IsLiveLarge}
-use Rattle.tag_discipline.specs.CarefulRuns.{HasFreeBlock, IsLive, IsCareful}
+use Rattle.tag_discipline.specs.CarefulRuns.{HasFreeBlock, IsCareful}
 use Rattle.tag_discipline.specs.SoundHeaps.{Sound}
+use Rattle.heap_laws.specs.NewChunks.{HasChunk}
 
 -- A reallocation of a live chunk keeps the bytes that both sizes have.
 pub record ReallocKeepsBytes : Type 0 where
@@ -62,9 +63,9 @@ pub record ReallocUnmapsPages : Type 0 where
       → list_any (is_inside addr)
       (state_after_call (Realloc pointer size) s).world.heap.maps.mappings ≡ false
 
--- The chunk that a careful reallocation answers is live, with the header that the heap wrote.
+-- The chunk that a careful reallocation answers is live, with a header that the heap wrote.
 abbrev pub ReallocatedChunksAreLive : Type 0
 ReallocatedChunksAreLive =
     (s : State) (pointer size : ℕ) (c : Chunk) → Sound s → IsCareful s (Realloc pointer size)
     → (after_realloc s.world pointer size).result ≡ Ok (Some c)
-    → IsLive (state_after_call (Realloc pointer size) s) (user_of_chunk c)
+    → HasChunk (state_after_call (Realloc pointer size) s) c

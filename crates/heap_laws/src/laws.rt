@@ -8,6 +8,8 @@
 ghost use Rattle.heap_laws.specs.NewChunks.{NewChunksAreLive, NewChunksAreZero};
 ghost use Rattle.heap_laws.specs.NewChunks.{SizesAndAlignments};
 ghost use Rattle.heap_laws.specs.Uses.{ChunksMayBeUsed, ChunksOfTenantsMayBeUsed};
+ghost use Rattle.heap_laws.specs.Answers.{AnswersArePointers, AskedBytesMayBeUsed};
+ghost use Rattle.heap_laws.specs.Answers.{AskedBytesOfTenantsMayBeUsed};
 ghost use Rattle.heap_laws.specs.OtherChunks.{OtherChunksStay, OtherHeadersStay};
 ghost use Rattle.heap_laws.specs.Frees.{DoubleFreesAbort};
 ghost use Rattle.heap_laws.specs.Reallocs.{ReallocKeepsBytes, ReallocFreesBlocks};
@@ -40,6 +42,20 @@ pub fn chunks_may_be_used()
 /// The same of a tenant of a session whose slices were careful, beside any other tenants.
 pub fn chunks_of_tenants_may_be_used()
     ensures { ChunksOfTenantsMayBeUsed }
+{}
+
+/// The chunk that malloc, calloc or memalign makes, or a careful realloc answers, has the size that
+/// was asked for, or 1 for 0. What the call answers is the pointer to it, with the tag of its
+/// granules, and no read and no write through this pointer faults up to the chunk's end. So the
+/// bytes that were asked for may be used through an answer that is not null.
+pub fn answers_are_pointers()
+    ensures chunks { AnswersArePointers }
+    ensures asked { AskedBytesMayBeUsed }
+{}
+
+/// The same of a tenant, which finds the answer in x0 after the service.
+pub fn answers_of_tenants_are_pointers()
+    ensures { AskedBytesOfTenantsMayBeUsed }
 {}
 
 /// A careful call leaves each live chunk that it neither frees nor reallocates live, with its bytes

@@ -5,7 +5,8 @@
 mod laws;
 
 pub use laws::{
-    chunks_may_be_used, chunks_of_tenants_may_be_used, double_frees_abort, freed_chunks_stay_freed,
+    answers_are_pointers, answers_of_tenants_are_pointers, chunks_may_be_used,
+    chunks_of_tenants_may_be_used, double_frees_abort, freed_chunks_stay_freed,
     lifetimes_are_guarded, new_chunks_are_live, new_chunks_are_zero, odd_distances_differ,
     other_chunks_stay, reallocations_free, reallocations_keep_bytes, tenants_take_turns,
 };

@@ -30,6 +30,30 @@ const LIVE_PAGES: [CallRow; 7] = [
     CallRow(1, TestCall::Checked(0x3D02_1FF8), UNMAPPED),
 ];
 
+/// The bytes that a call asks for may be used through what it answers: the last eight, here.
+const ANSWERED_CHUNKS: [CallRow; 12] = [
+    CallRow(1, TestCall::Calloc(5, 8), CallAnswer::Is(CHUNK)),
+    CallRow(1, TestCall::CheckedWrite(CHUNK + 32, u64::MAX), DONE),
+    CallRow(1, TestCall::Realloc(CHUNK, 24), CallAnswer::Is(CHUNK)),
+    CallRow(1, TestCall::CheckedWrite(CHUNK + 16, u64::MAX), DONE),
+    CallRow(1, TestCall::Realloc(CHUNK, 48), CallAnswer::Is(CHUNK)),
+    CallRow(1, TestCall::CheckedWrite(CHUNK + 40, u64::MAX), DONE),
+    CallRow(1, TestCall::Realloc(0, 24), CallAnswer::Is(NEXT)),
+    CallRow(1, TestCall::CheckedWrite(NEXT + 16, u64::MAX), DONE),
+    CallRow(
+        1,
+        TestCall::Realloc(NEXT, 49),
+        CallAnswer::Is(0x0100_0000_1300_0010),
+    ),
+    CallRow(
+        1,
+        TestCall::CheckedWrite(0x0100_0000_1300_0039, u64::MAX),
+        DONE,
+    ),
+    CallRow(1, TestCall::Malloc(131_057), CallAnswer::Is(0x3D00_2000)),
+    CallRow(1, TestCall::CheckedWrite(0x3D02_1FE9, u64::MAX), DONE),
+];
+
 const UNMAPPED: CallAnswer = CallAnswer::Faults(FaultKind::Translation);
 
 /// Calls leave the bytes and the header of a chunk that they do not name.
@@ -90,9 +114,10 @@ const THREE_BLOCKS_APART: [CallRow; 4] = [
     CallRow(1, TestCall::Checked(CHUNK + 128), CallAnswer::Is(0)),
 ];
 
-pub(crate) const CAREFUL: [CallTable; 6] = [
+pub(crate) const CAREFUL: [CallTable; 7] = [
     CallTable("live chunk", 512, TagMode::Sync, &LIVE_CHUNK),
     CallTable("live pages", 512, TagMode::Sync, &LIVE_PAGES),
+    CallTable("answered chunks", 512, TagMode::Sync, &ANSWERED_CHUNKS),
     CallTable("other chunk", 512, TagMode::Sync, &OTHER_CHUNK),
     CallTable("zero again", 512, TagMode::Sync, &ZERO_AGAIN),
     CallTable("second free", 512, TagMode::Sync, &SECOND_FREE),
@@ -161,7 +186,16 @@ const CLEARED_FROM_WITHIN: [CallRow; 5] = [
     CallRow(1, TestCall::Word(0x1200_0010), CallAnswer::Is(0)),
 ];
 
-pub(crate) const LAWS_BROKEN: [CallTable; 4] = [
+/// A tag is stored to the second granule of a live chunk: after a reallocation in place it may not
+/// be read through the answer, which has the tag of the first.
+const TAG_OF_A_SECOND_GRANULE: [CallRow; 4] = [
+    CallRow(1, TestCall::Malloc(40), CallAnswer::Is(CHUNK)),
+    CallRow(1, TestCall::StoreTags(0x1200_0020, 1, 7), DONE),
+    CallRow(1, TestCall::Realloc(CHUNK, 48), CallAnswer::Is(CHUNK)),
+    CallRow(1, TestCall::Checked(CHUNK + 16), REFUSED),
+];
+
+pub(crate) const LAWS_BROKEN: [CallTable; 5] = [
     CallTable(
         "freed twice with a header",
         512,
@@ -185,5 +219,11 @@ pub(crate) const LAWS_BROKEN: [CallTable; 4] = [
         512,
         TagMode::Sync,
         &CLEARED_FROM_WITHIN,
+    ),
+    CallTable(
+        "tag of a second granule",
+        512,
+        TagMode::Sync,
+        &TAG_OF_A_SECOND_GRANULE,
     ),
 ];

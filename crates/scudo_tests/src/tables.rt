@@ -380,7 +380,7 @@ const GRANULES_GO: [CallRow; 8] = [
 ];
 
 /// In place the header keeps its origin, and the answer has nothing of the pointer's bits 63:56.
-const ALIGNMENTS: [CallRow; 7] = [
+const ALIGNMENTS: [CallRow; 8] = [
     CallRow(1, TestCall::Memalign(0, 100), NULL),
     CallRow(1, TestCall::Memalign(24, 100), NULL),
     CallRow(1, TestCall::Memalign(8192, 100), NULL),
@@ -388,6 +388,11 @@ const ALIGNMENTS: [CallRow; 7] = [
         1,
         TestCall::Memalign(4096, 100),
         CallAnswer::Is(0x0100_0000_2900_1000),
+    ),
+    CallRow(
+        1,
+        TestCall::CheckedWrite(0x0100_0000_2900_105C, u64::MAX),
+        DONE,
     ),
     CallRow(
         1,
