@@ -8,9 +8,9 @@
 #include <stddef.h>
 #include <string.h>
 #include <sys/stat.h>
-#include <sys/uio.h>
 #include "kstat.h"
 #include "nodes.h"
+#include "parts.h"
 #include "syscall.h"
 #include "tenant.h"
 
@@ -167,7 +167,7 @@ static long read_file(long number, void *bytes, size_t count)
     return done;
 }
 
-static long write_file(long number, const void *bytes, size_t count)
+static long write_file(long number, void *bytes, size_t count)
 {
     struct open_file *file = file_of(number);
     if (!file)
@@ -178,22 +178,6 @@ static long write_file(long number, const void *bytes, size_t count)
     if (done > 0)
         file->at += (size_t)done;
     return done;
-}
-
-/* Parts one after the other, up to the first that is not whole. */
-static long each_part(long number, const struct iovec *parts, long count, int is_write)
-{
-    long sum = 0;
-    for (long i = 0; i < count; i++) {
-        long done = is_write ? write_file(number, parts[i].iov_base, parts[i].iov_len)
-                             : read_file(number, parts[i].iov_base, parts[i].iov_len);
-        if (done < 0)
-            return sum ? sum : done;
-        sum += done;
-        if ((size_t)done < parts[i].iov_len)
-            break;
-    }
-    return sum;
 }
 
 static long seek(struct open_file *file, long offset, long whence)
@@ -466,12 +450,10 @@ hidden long __tenant_file_call(long number, long a, long b, long c, long d)
 {
     switch (number) {
     case SYS_read:
-        return read_file(a, (void *)b, (size_t)c);
     case SYS_write:
-        return write_file(a, (const void *)b, (size_t)c);
     case SYS_readv:
     case SYS_writev:
-        return each_part(a, (const struct iovec *)b, c, number == SYS_writev);
+        return move_bytes(read_file, write_file, number, a, b, c);
     case SYS_close:
         return close_file(a);
     case SYS_fcntl:
