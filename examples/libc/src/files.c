@@ -121,6 +121,26 @@ static long open_path(long folder, const char *path, int flags, uint32_t mode)
     return failed ? failed : open_node(node, flags);
 }
 
+/* The two descriptors of a pipe, which is a file without a name: what is written to the second is
+   read from the first. Where nothing is left it is at its end, since nobody else could write. */
+static long make_pipe(int *ends)
+{
+    struct tenant_node *node;
+    long failed = __tenant_make("/tmp/", S_IFIFO | 0600, &node);
+    if (failed)
+        return failed;
+    long first = open_node(node, O_RDONLY);
+    long second = first < 0 ? first : open_node(node, O_WRONLY | O_APPEND);
+    if (second < 0 && first >= 0)
+        close_file(first);
+    __tenant_remove(node);
+    if (second < 0)
+        return second;
+    ends[0] = (int)first;
+    ends[1] = (int)second;
+    return 0;
+}
+
 /* Bytes of an open file from a place on. */
 static long read_at(struct open_file *file, void *bytes, size_t count, size_t at)
 {
@@ -158,12 +178,20 @@ static long write_at(struct open_file *file, const void *bytes, size_t count, si
     return (long)some;
 }
 
+/* Whether its bytes have places: the tenant's input and output, and pipes, have none. */
+static int has_place(const struct open_file *file)
+{
+    return file->node && !S_ISFIFO(file->node->mode);
+}
+
 static long read_file(long number, void *bytes, size_t count)
 {
     struct open_file *file = file_of(number);
     long done = file ? read_at(file, bytes, count, file->at) : -EBADF;
     if (done > 0)
         file->at += (size_t)done;
+    if (done > 0 && file->node && !has_place(file) && file->at == file->node->size)
+        file->at = file->node->size = 0;
     return done;
 }
 
@@ -182,7 +210,7 @@ static long write_file(long number, void *bytes, size_t count)
 
 static long seek(struct open_file *file, long offset, long whence)
 {
-    if (!file->node)
+    if (!has_place(file))
         return -ESPIPE;
     long from = whence == SEEK_CUR ? (long)file->at : whence == SEEK_END ? (long)file->node->size
                                                                          : 0;
@@ -326,9 +354,9 @@ static long call_of_open(long number, long a, long b, long c, long d)
     case SYS_lseek:
         return seek(file, b, c);
     case SYS_pread:
-        return file->node ? read_at(file, (void *)b, (size_t)c, (size_t)d) : -ESPIPE;
+        return has_place(file) ? read_at(file, (void *)b, (size_t)c, (size_t)d) : -ESPIPE;
     case SYS_pwrite:
-        return file->node ? write_at(file, (const void *)b, (size_t)c, (size_t)d) : -ESPIPE;
+        return has_place(file) ? write_at(file, (const void *)b, (size_t)c, (size_t)d) : -ESPIPE;
     case SYS_fstat:
         return stat_node(file->node, (struct kstat *)b);
     case SYS_getdents:
@@ -460,6 +488,8 @@ hidden long __tenant_file_call(long number, long a, long b, long c, long d)
         return control(a, b, c);
     case SYS_dup3:
         return copy_descriptor(a, b);
+    case SYS_pipe2:
+        return make_pipe((int *)a);
     case SYS_lseek:
     case SYS_pread:
     case SYS_pwrite:
