@@ -51,7 +51,7 @@ def download(folder: pathlib.Path, package: str) -> pathlib.Path:
         "-o", f"Dir::Cache={folder}/cache", "-o", "APT::Sandbox::User=",
         "-o", "Acquire::http::Timeout=30",
     ]
-    words = ["source", "--download-only", package]
+    words = ["source", "--download-only", "--tar-only", package]
     if not any((folder / "lists").glob("*_Sources*")):
         subprocess.run([*apt, "update"], cwd=folder, stdout=sys.stderr, check=True, timeout=SECONDS)
     subprocess.run([*apt, *words], cwd=folder, stdout=sys.stderr, check=True, timeout=SECONDS)

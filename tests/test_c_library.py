@@ -4,6 +4,8 @@ what they write and return on this machine, by clang and gcc."""
 import pathlib
 import re
 import shutil
+from collections.abc import Sequence
+from dataclasses import dataclass
 
 import pytest
 
@@ -12,7 +14,8 @@ from tests.support.cache import tenant_library
 from tests.support.c_tenants import Tenant
 from tests.support.places import EXAMPLES
 from tests.support.programs import (
-    LEVELS, comment_value, compiled, is_for_clang, native, run_as_tenant, tenant_cc,
+    LEVELS, WARNINGS, comment_value, compiled, is_for_clang, is_refused, native, run_as_tenant,
+    tenant_cc,
 )
 from tests.support.running import run
 from tests.support.told import UNSEEN
@@ -26,18 +29,34 @@ FEW = (("clang", "-O2"), ("gcc", "-O0"))
 ALL = tuple((compiler, level) for compiler in ("clang", "gcc") for level in LEVELS)
 
 
-def cases(sources: list[pathlib.Path]) -> list[tuple[pathlib.Path, str, str]]:
+@dataclass(frozen=True)
+class Case:
+    """A source, and the compiler and level that it is tried by."""
+
+    source: pathlib.Path
+    compiler: str
+    level: str
+
+    def __str__(self) -> str:
+        """Its title."""
+        return f"{self.source.name}-{self.compiler}-{self.level}"
+
+    def compiled(
+        self, library: pathlib.Path, folder: pathlib.Path, flags: Sequence[str] = WARNINGS
+    ) -> pathlib.Path:
+        """The tenant, in a folder."""
+        need_compilers(self.compiler, self.source)
+        image = folder / "image.elf"
+        return compiled(library, self.source, self.compiler, self.level, image, flags)
+
+
+def cases(sources: list[pathlib.Path]) -> list[Case]:
     """Each source with the compilers and levels that it is tried by."""
     return [
-        (source, compiler, level) for source in sources
+        Case(source, compiler, level) for source in sources
         for compiler, level in (ALL if source.stem in THOROUGH else FEW)
         if compiler == "clang" or not is_for_clang(source)
     ]
-
-
-def titled(value: object) -> str:
-    """The title of a case."""
-    return value.name if isinstance(value, pathlib.Path) else str(value)
 
 
 def need_compilers(compiler: str, source: pathlib.Path) -> None:
@@ -54,38 +73,34 @@ def library() -> pathlib.Path:
     return tenant_library()
 
 
-@pytest.mark.parametrize("source, compiler, level", cases(PROGRAMS), ids=titled)
+@pytest.mark.parametrize("case", cases(PROGRAMS), ids=str)
 def test_a_program_does_what_it_does_natively(
-    alone: pathlib.Path, library: pathlib.Path, tmp_path: pathlib.Path, source: pathlib.Path,
-    compiler: str, level: str,
+    alone: pathlib.Path, library: pathlib.Path, tmp_path: pathlib.Path, case: Case
 ) -> None:
     """Output and exit status of the programs of examples/programs over their inputs."""
-    need_compilers(compiler, source)
-    data = source.with_suffix(".txt")
-    program = native(source, tmp_path / "native", "-O2", "-Wall", "-Wextra")
+    image = case.compiled(library, tmp_path)
+    data = case.source.with_suffix(".txt")
+    program = native(case.source, tmp_path / "native", "-O2", "-Wall", "-Wextra")
     wanted = run([program], stdin=data.read_bytes())
-    image = compiled(library, source, compiler, level, tmp_path / "image.elf")
     for words in ((), ("--exact",)):
         ran = run_as_tenant(alone, image, "--input", str(data), *words)
         assert (ran.out, ran.status) == (wanted.out, wanted.status), ran.errors
         assert ran.errors in (("", UNSEEN + "\n") if not words else ("",))
 
 
-@pytest.mark.parametrize("source, compiler, level", cases(TESTS), ids=titled)
+@pytest.mark.parametrize("case", cases(TESTS), ids=str)
 def test_the_library_does_what_its_tests_expect(
-    alone: pathlib.Path, library: pathlib.Path, tmp_path: pathlib.Path, source: pathlib.Path,
-    compiler: str, level: str,
+    alone: pathlib.Path, library: pathlib.Path, tmp_path: pathlib.Path, case: Case
 ) -> None:
     """A test of examples/libc/tests ends as its comment says, or else as it does natively."""
-    need_compilers(compiler, source)
-    image = compiled(library, source, compiler, level, tmp_path / "image.elf", ["-w"])
+    image = case.compiled(library, tmp_path, ["-w"])
     ran = run_as_tenant(alone, image)
-    ends = comment_value(source, "ends")
+    ends = comment_value(case.source, "ends")
     if ends is not None:
         assert ran.status == int(ends), ran.errors
-        assert (comment_value(source, "tells") or "") in ran.errors
+        assert (comment_value(case.source, "tells") or "") in ran.errors
         return
-    program = native(source, tmp_path / "native", "-O1", "-w", "-ffp-contract=off")
+    program = native(case.source, tmp_path / "native", "-O1", "-w", "-ffp-contract=off")
     wanted = run([program])
     assert (ran.out, ran.status) == (wanted.out, wanted.status), ran.errors
     assert ran.errors in ("", UNSEEN + "\n")
@@ -235,8 +250,7 @@ def test_options_of_the_driver_that_are_refused(
 ) -> None:
     """A line and status 2."""
     need("clang")
-    ran = tenant_cc(library, *words)
-    assert (ran.status, ran.errors) == (2, f"tenant-cc: {said}\n")
+    is_refused(tenant_cc(library, *words), said)
 
 
 def test_a_library_that_is_not_there(tmp_path: pathlib.Path) -> None:

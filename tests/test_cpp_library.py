@@ -10,7 +10,9 @@ import pytest
 from tests.support.cache import package_source, tenant_cxx_library
 from tests.support.pages import parts_of
 from tests.support.places import EXAMPLES
-from tests.support.programs import comment_value, native, run_as_tenant, tenant_cxx
+from tests.support.programs import (
+    comment_value, is_refused, native, run_as_tenant, tenant_cxx,
+)
 from tests.support.running import Ran, run, succeed
 from tests.support.told import UNSEEN
 from tests.support.tools import need
@@ -253,17 +255,12 @@ def test_c_and_cxx_are_linked_together(
     assert run_as_tenant(alone, image).status == 21
 
 
-@pytest.mark.parametrize("words, said", [
-    (["--compiler=gcc", "a.cpp"], "the C++ library is clang's alone"),
-    (["--stack=1048577", "a.cpp"], "--stack is at most 1048576, not 1048577"),
-])
-def test_options_of_the_driver_that_are_refused(
-    library: pathlib.Path, words: list[str], said: str
-) -> None:
+def test_the_other_compiler_and_too_large_a_stack_are_refused(library: pathlib.Path) -> None:
     """A line and status 2."""
     need("aarch64-linux-gnu-gcc")
-    ran = tenant_cxx(library, *words)
-    assert (ran.status, ran.errors) == (2, f"tenant-cc: {said}\n")
+    is_refused(tenant_cxx(library, "--compiler=gcc", "a.cpp"), "the C++ library is clang's alone")
+    is_refused(tenant_cxx(library, "--stack=1048577", "a.cpp"),
+               "--stack is at most 1048576, not 1048577")
 
 
 def test_a_library_that_is_not_there(library: pathlib.Path, tmp_path: pathlib.Path) -> None:

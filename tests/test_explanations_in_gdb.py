@@ -56,18 +56,23 @@ def core_of(alone: pathlib.Path, act: Act, build: str, folder: pathlib.Path) -> 
     return Core(run_act(alone, act, build, folder, "--core", str(path)), path)
 
 
-def titled(value: object) -> str:
-    """The title of a case."""
-    return f"{value.source}-{value.name}" if isinstance(value, Act) else str(value)
+def titled(case: tuple[Act, str]) -> str:
+    """The title of a case: an act and a build."""
+    act, build = case
+    return f"{act.source}-{act.name}-{build}"
 
 
-@pytest.mark.parametrize("act, build", ENDS, ids=titled)
-def test_registers_of_a_core_are_those_that_are_told(
-    alone: pathlib.Path, tmp_path: pathlib.Path, act: Act, build: str
-) -> None:
+@pytest.fixture
+def core(alone: pathlib.Path, tmp_path: pathlib.Path, request: pytest.FixtureRequest) -> Core:
+    """The core of an act's end, of a build: the case's."""
+    act, build = request.param
+    return core_of(alone, act, build, tmp_path)
+
+
+@pytest.mark.parametrize("core", ENDS, indirect=True, ids=titled)
+def test_registers_of_a_core_are_those_that_are_told(core: Core) -> None:
     """GDB reads x0 to x30, SP, PC and the flags as JSON has them."""
     need("gdb-multiarch")
-    core = core_of(alone, act, build, tmp_path)
     names = [*(f"x{number}" for number in range(31)), "sp", "pc", "cpsr"]
     printed = core.asked(*(f'printf "%lx\\n", ${name}' for name in names))
     values = [int(word, 16) for word in printed.split()[-len(names):]]
@@ -77,13 +82,10 @@ def test_registers_of_a_core_are_those_that_are_told(
     assert values == [*wanted, flags]
 
 
-@pytest.mark.parametrize("act, build", ENDS, ids=titled)
-def test_pages_of_a_core_are_those_that_are_told(
-    alone: pathlib.Path, tmp_path: pathlib.Path, act: Act, build: str
-) -> None:
+@pytest.mark.parametrize("core", ENDS, indirect=True, ids=titled)
+def test_pages_of_a_core_are_those_that_are_told(core: Core) -> None:
     """readelf lists a segment for each range of pages, with its rights, and one for its tags."""
     need("readelf")
-    core = core_of(alone, act, build, tmp_path)
     listed = succeed(["readelf", "--program-headers", "--wide", core.path]).output
     segment = re.compile(
         r"^  (LOAD|AARCH64_MEMTAG) +0x\w+ (0x\w+) 0x\w+ (0x\w+) (0x\w+) ([RWE ]{3}) ", re.M
@@ -101,13 +103,10 @@ def test_pages_of_a_core_are_those_that_are_told(
     assert found == wanted
 
 
-@pytest.mark.parametrize("act, build", TAGGED, ids=titled)
-def test_tags_of_a_core_are_those_that_are_told(
-    alone: pathlib.Path, tmp_path: pathlib.Path, act: Act, build: str
-) -> None:
+@pytest.mark.parametrize("core", TAGGED, indirect=True, ids=titled)
+def test_tags_of_a_core_are_those_that_are_told(core: Core) -> None:
     """GDB reads the tags around the address as the report has them."""
     need("gdb-multiarch")
-    core = core_of(alone, act, build, tmp_path)
     tags = core.one.json["tags"]
     places = [(int(tags["from"], 16) + 16 * at, tag) for at, tag in enumerate(tags["tags"])
               if tag is not None]

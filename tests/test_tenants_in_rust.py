@@ -5,7 +5,7 @@ import pathlib
 import pytest
 
 from tests.support.running import run
-from tests.support.rust_tenants import RustTenant, build_tenants, names
+from tests.support.rust_tenants import RustTenant, build_tenants, names, run_package
 from tests.support.told import read_told
 
 
@@ -29,6 +29,16 @@ def test_a_tenant_in_rust_does_as_its_comment_expects(
     causes = tenant.values("cause")
     assert all(text in ran.errors for text in causes), ran.errors
     assert bool(read_told(ran.errors).cause) == bool(causes)
+
+
+def test_a_package_of_cargo_does_as_its_comment_expects(
+    alone: pathlib.Path, tmp_path: pathlib.Path
+) -> None:
+    """serde_json and hashbrown as Debian has them, built and run by one command."""
+    tenant = RustTenant("records/src/main")
+    data = tenant.text("input").encode()
+    ran = run_package(alone, tmp_path, "records", data)
+    assert (ran.output, ran.status) == (tenant.text("output"), 0), ran.errors
 
 
 def test_a_stale_pointer_is_told_with_its_calls(

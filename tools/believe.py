@@ -30,6 +30,7 @@ import argparse
 import pathlib
 import sys
 
+import findings
 from closures import pages, printed, theorems, verdicts
 from closures.closures import Repository
 from closures.names import ReadError
@@ -107,9 +108,7 @@ def main() -> int:
             found = (check if options.check else write)(options.root, repository)
     except (ReadError, OSError) as error:
         found = [str(error)]
-    for line in found:
-        print(line, file=sys.stderr)
-    return 1 if found else 0
+    return findings.status_of(found)
 
 
 if __name__ == "__main__":

@@ -16,6 +16,7 @@ import functools
 import pathlib
 import sys
 
+import findings
 from border_to_c import compare, compiled, tables, written
 
 HERE = pathlib.Path(__file__).resolve().parent.parent
@@ -64,10 +65,7 @@ def main() -> int:
     if options.write:
         write(options.root)
         return 0
-    found = check(options.root)
-    for line in found:
-        print(line, file=sys.stderr)
-    return 1 if found else 0
+    return findings.status_of(check(options.root))
 
 
 if __name__ == "__main__":

@@ -17,6 +17,7 @@ import re
 import sys
 from collections.abc import Iterator
 
+import findings
 from a64 import absent, compare, dispatch, groups, meaning, pages, rows, stores, table
 from a64.table import Form, Rows
 
@@ -100,9 +101,7 @@ def main() -> int:
             write_files(files)
     except (table.TableError, OSError) as error:
         found = [str(error)]
-    for line in found:
-        print(line, file=sys.stderr)
-    return 1 if found else 0
+    return findings.status_of(found)
 
 
 if __name__ == "__main__":

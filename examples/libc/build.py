@@ -58,9 +58,9 @@ WITH_FILES = {
     "stdio/__fopen_rb_ca.c", "stdio/fopen.c", "stdio/freopen.c", "stdio/remove.c",
     "stdio/rename.c", "stdio/tempnam.c", "stdio/tmpfile.c", "stdio/tmpnam.c", "time/__map_file.c",
     "unistd/access.c", "unistd/chdir.c", "unistd/dup.c", "unistd/dup2.c", "unistd/dup3.c",
-    "unistd/faccessat.c", "unistd/getcwd.c", "unistd/readlink.c", "unistd/readlinkat.c",
-    "unistd/renameat.c", "unistd/rmdir.c", "unistd/truncate.c", "unistd/unlink.c",
-    "unistd/unlinkat.c",
+    "unistd/faccessat.c", "unistd/getcwd.c", "unistd/pipe.c", "unistd/pipe2.c",
+    "unistd/readlink.c", "unistd/readlinkat.c", "unistd/renameat.c", "unistd/rmdir.c",
+    "unistd/truncate.c", "unistd/unlink.c", "unistd/unlinkat.c",
 }
 # compiler-rt's helpers in C that are about a system or another machine, or have no use here.
 BUILTINS_LEFT_OUT = {

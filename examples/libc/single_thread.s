@@ -2,82 +2,33 @@
 // front of a compiler's text: loads and stores that order others are plain ones, exclusive stores
 // succeed, barriers and prefetches do nothing.
     .arch armv8.5-a+memtag
-    .macro ldar rt, rn:vararg
-    ldr \rt, \rn
+
+    .macro make_plain name, move, width
+    .macro \name\width rt, rn:vararg
+    \move\width \rt, \rn
     .endm
-    .macro ldarb rt, rn:vararg
-    ldrb \rt, \rn
     .endm
-    .macro ldarh rt, rn:vararg
-    ldrh \rt, \rn
-    .endm
-    .macro ldapr rt, rn:vararg
-    ldr \rt, \rn
-    .endm
-    .macro ldaprb rt, rn:vararg
-    ldrb \rt, \rn
-    .endm
-    .macro ldaprh rt, rn:vararg
-    ldrh \rt, \rn
-    .endm
-    .macro stlr rt, rn:vararg
-    str \rt, \rn
-    .endm
-    .macro stlrb rt, rn:vararg
-    strb \rt, \rn
-    .endm
-    .macro stlrh rt, rn:vararg
-    strh \rt, \rn
-    .endm
-    .macro ldxr rt, rn:vararg
-    ldr \rt, \rn
-    .endm
-    .macro ldxrb rt, rn:vararg
-    ldrb \rt, \rn
-    .endm
-    .macro ldxrh rt, rn:vararg
-    ldrh \rt, \rn
-    .endm
-    .macro ldaxr rt, rn:vararg
-    ldr \rt, \rn
-    .endm
-    .macro ldaxrb rt, rn:vararg
-    ldrb \rt, \rn
-    .endm
-    .macro ldaxrh rt, rn:vararg
-    ldrh \rt, \rn
-    .endm
-    .macro stxr rs, rt, rn:vararg
-    str \rt, \rn
+
+    .macro make_succeeding name, move, width
+    .macro \name\width rs, rt, rn:vararg
+    \move\width \rt, \rn
     mov \rs, #0
     .endm
-    .macro stxrb rs, rt, rn:vararg
-    strb \rt, \rn
-    mov \rs, #0
     .endm
-    .macro stxrh rs, rt, rn:vararg
-    strh \rt, \rn
-    mov \rs, #0
+
+    .macro make_nothing name
+    .macro \name kind:vararg
     .endm
-    .macro stlxr rs, rt, rn:vararg
-    str \rt, \rn
-    mov \rs, #0
     .endm
-    .macro stlxrb rs, rt, rn:vararg
-    strb \rt, \rn
-    mov \rs, #0
-    .endm
-    .macro stlxrh rs, rt, rn:vararg
-    strh \rt, \rn
-    mov \rs, #0
-    .endm
-    .macro dmb kind:vararg
-    .endm
-    .macro dsb kind:vararg
-    .endm
-    .macro isb kind:vararg
-    .endm
-    .macro prfm kind:vararg
-    .endm
-    .macro prfum kind:vararg
-    .endm
+
+    .irp width,,b,h
+    .irp load, ldar, ldapr, ldxr, ldaxr
+    make_plain \load, ldr, \width
+    .endr
+    make_plain stlr, str, \width
+    make_succeeding stxr, str, \width
+    make_succeeding stlxr, str, \width
+    .endr
+    .irp name, dmb, dsb, isb, prfm, prfum
+    make_nothing \name
+    .endr

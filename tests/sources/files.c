@@ -213,6 +213,40 @@ static void temporary_files(void)
     TELL(unlink(names[0]) | unlink(names[1]));
 }
 
+/* What is written to a pipe, also more than once, is what is read from it. */
+static void pipes(void)
+{
+    char bytes[300] = "";
+    int ends[2];
+    struct stat found;
+    TELL(pipe(ends));
+    for (int i = 0; i < 3; i++) {
+        TELL(write(ends[1], "one two", 7));
+        TELL(read(ends[0], bytes, 3));
+        TELL(write(ends[1], bytes, 300));
+        TELL(read(ends[0], bytes, 300));
+        TELL(read(ends[0], bytes + 296, 4));
+        printf("%.8s\n", bytes);
+    }
+    TELL(fstat(ends[0], &found));
+    TELL(S_ISFIFO(found.st_mode));
+    TELL(lseek(ends[0], 0, SEEK_CUR));
+    TELL(pread(ends[0], bytes, 1, 0));
+    TELL(read(ends[1], bytes, 1));
+    TELL(write(ends[0], bytes, 1));
+    FILE *to = fdopen(ends[1], "w"), *from = fdopen(ends[0], "r");
+    fprintf(to, "a line\nthe last");
+    TELL(fclose(to));
+    while (fgets(bytes, sizeof bytes, from))
+        printf("%s|", bytes);
+    TELL(feof(from));
+    TELL(fclose(from));
+    TELL(pipe2(ends, O_CLOEXEC));
+    TELL(close(ends[1]));
+    TELL(read(ends[0], bytes, 1));
+    TELL(close(ends[0]));
+}
+
 int main(void)
 {
     list(".");
@@ -224,6 +258,7 @@ int main(void)
     write_some();
     folders();
     temporary_files();
+    pipes();
     descriptors();
     return 0;
 }

@@ -12,6 +12,7 @@ from tests.support.running import Ran, run, succeed
 
 TENANT_CC, TENANT_CXX = EXAMPLES / "libc" / "tenant-cc", EXAMPLES / "libc" / "tenant-c++"
 LEVELS = ("-O0", "-O2", "-Os")
+WARNINGS = ("-Wall", "-Wextra")
 STEPS = "100000000"
 
 
@@ -37,9 +38,14 @@ def tenant_cxx(library: pathlib.Path, *words: str) -> Ran:
     return run([sys.executable, TENANT_CXX, f"--library={library}", *words], seconds=300)
 
 
+def is_refused(ran: Ran, said: str) -> None:
+    """What the driver says of words that it doesn't take."""
+    assert (ran.status, ran.errors) == (2, f"tenant-cc: {said}\n")
+
+
 def compiled(
     library: pathlib.Path, source: pathlib.Path, compiler: str, level: str, image: pathlib.Path,
-    flags: Sequence[str] = ("-Wall", "-Wextra"),
+    flags: Sequence[str] = WARNINGS,
 ) -> pathlib.Path:
     """The tenant of a source. Nothing may be said of it."""
     own = shlex.split(comment_value(source, "flags") or "")

@@ -3,13 +3,15 @@
 import os
 import pathlib
 import re
+import shutil
 from dataclasses import dataclass
 
 from tests.support.cache import RUST, kept, key_of, tenant_library, version_of
-from tests.support.running import run
+from tests.support.running import Ran, Word, run
 from tests.support.tools import give_up, need
 
-BUILD = RUST / "build.sh"
+BUILD, CARGO = RUST / "build.sh", RUST / "cargo.sh"
+REGISTRY = pathlib.Path("/usr/share/cargo/registry")
 # The crates that take a minute, and change with the compiler and the script alone.
 CRATES = ("libcore.rlib", "libcompiler_builtins.rlib", "liballoc.rlib")
 
@@ -49,11 +51,15 @@ def compiler() -> str:
     return rustc
 
 
+def settings(folder: pathlib.Path) -> dict[str, str]:
+    """Which compiler and library the scripts take, and where they build."""
+    library = str(tenant_library())
+    return {"RUSTC": compiler(), "TENANT_LIBRARY": library, "TENANT_OUT": str(folder)}
+
+
 def build(folder: pathlib.Path, *programs: str) -> None:
     """Runs the script that builds tenants, into a folder."""
-    library = str(tenant_library())
-    words = {"RUSTC": compiler(), "TENANT_LIBRARY": library, "TENANT_OUT": str(folder)}
-    ran = run([BUILD, *programs], seconds=900, extra=words)
+    ran = run([BUILD, *programs], seconds=900, extra=settings(folder))
     # It also names words that the host lacks; there are none.
     assert ran.status == 0 and not ran.err, ran.output[-2000:] + ran.errors[-2000:]
 
@@ -65,10 +71,29 @@ def crates() -> pathlib.Path:
     return kept(f"rust-{key_of([BUILD], version_of(rustc, '-vV'), place)}", build)
 
 
-def build_tenants(folder: pathlib.Path) -> dict[str, pathlib.Path]:
-    """The images of all tenants, in a folder of their own."""
+def link_crates(folder: pathlib.Path) -> None:
+    """Puts core and alloc where the scripts build."""
     made = crates()
     for name in CRATES:
         (folder / name).symlink_to(made / name)
+
+
+def run_package(alone: pathlib.Path, folder: pathlib.Path, package: str, data: bytes) -> Ran:
+    """Builds a package by cargo, in a folder, and runs it with an input."""
+    need("/usr/bin/cargo")
+    for name in ("hashbrown", "serde_json"):
+        if not any(REGISTRY.glob(f"{name}-*")):
+            give_up(f"missing: the crate {name} (Debian: librust-{name.replace('_', '-')}-dev)")
+    link_crates(folder)
+    extra = {**settings(folder), "TENANT_ALONE": str(alone)}
+    copy = folder / "package"
+    shutil.copytree(RUST, copy, ignore=shutil.ignore_patterns("out", "Cargo.lock"))
+    words: list[Word] = [CARGO, "run", "--quiet", "--release"]
+    return run(words, cwd=copy / package, stdin=data, seconds=900, extra=extra)
+
+
+def build_tenants(folder: pathlib.Path) -> dict[str, pathlib.Path]:
+    """The images of all tenants, in a folder of their own."""
+    link_crates(folder)
     build(folder, *(f"{name}.rs" for name in names()))
     return {name: folder / f"{name}.elf" for name in names()}

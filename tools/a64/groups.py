@@ -228,15 +228,20 @@ fn {name}(word: u32, found: &mut Option<Instr>)
 """
 
 
-def reached_code(target: str, rows: Rows) -> str:
-    """What reads a row or a group."""
+# What reads nothing, a group, a row with fields and one without: in code, and as a definition.
+IN_CODE = ("*found = None", "{}(word, found)", "*found = {}(word)", "*found = Some(Instr::{})")
+AS_DEFINITION = ("None", "{}_of w", "Some (fields.{}_at w)", "Some instr.{}")
+
+
+def reached(target: str, rows: Rows, forms: tuple[str, str, str, str]) -> str:
+    """What reads a row or a group, in one of these forms."""
+    nothing, group, with_fields, without_fields = forms
     if target == "none":
-        return "*found = None"
+        return nothing
     if target not in rows:
-        return f"{target}(word, found)"
+        return group.format(target)
     row = rows[target]
-    value = f"{row.function}(word)" if row.fields else f"Some(Instr::{row.name})"
-    return f"*found = {value}"
+    return with_fields.format(row.function) if row.fields else without_fields.format(row.name)
 
 
 def rust_number(text: str) -> str:
@@ -261,7 +266,7 @@ def match_body(group: Group, rows: Rows) -> str:
         rest = " && ".join(test_code(test) for test in line.tests[1:])
         pattern = line.tests[0].text if line.tests else "_"
         arm = f"        {pattern}{' if ' + rest if rest else ''} =>"
-        target = f"{reached_code(line.target, rows)},\n"
+        target = f"{reached(line.target, rows, IN_CODE)},\n"
         long = len(arm) + len(target) > 98
         code += f"{arm}\n            {target}" if long else f"{arm} {target}"
     if group.lines[-1].tests:
@@ -271,13 +276,13 @@ def match_body(group: Group, rows: Rows) -> str:
 
 def chain_body(group: Group, rows: Rows) -> str:
     if not group.lines[0].tests:
-        return f"    {reached_code(group.lines[0].target, rows)}\n"
+        return f"    {reached(group.lines[0].target, rows, IN_CODE)}\n"
     code = ""
     for line in group.lines:
         tests = " && ".join(test_code(test) for test in line.tests)
         head = f"if {tests} {{" if line.tests else "{"
         code += ("    " if not code else " else ") + head
-        code += f"\n        {reached_code(line.target, rows)}\n    }}"
+        code += f"\n        {reached(line.target, rows, IN_CODE)}\n    }}"
     if group.lines[-1].tests:
         code += " else {\n        *found = None\n    }"
     return code + "\n"
@@ -317,15 +322,6 @@ use Rattle.a64_instr.specs.declared.instruction.Instr.TheVariants as instr
 """
 
 
-def reached_definition(target: str, rows: Rows) -> str:
-    if target == "none":
-        return "None"
-    if target not in rows:
-        return f"{target}_of w"
-    row = rows[target]
-    return f"Some (fields.{row.function}_at w)" if row.fields else f"Some instr.{row.name}"
-
-
 def test_definition(test: Test) -> str:
     left = "w" if test.start is None else f"field_of {test.start} {test.width} w"
     return f"({left} == {test.text})"
@@ -337,7 +333,7 @@ def definition(group: Group, rows: Rows) -> str:
     closing = ""
     for line in group.lines:
         tests = " && ".join(test_definition(test) for test in line.tests)
-        target = reached_definition(line.target, rows)
+        target = reached(line.target, rows, AS_DEFINITION)
         if not line.tests:
             return text + f"    {target}{closing}\n"
         text += f"    if {tests} then {target}\n    else (\n"

@@ -43,22 +43,22 @@ def c_enums(tables: Tables) -> str:
     return "\n".join(c_enum(it) for it in tables.enums)
 
 
-def c_function(it: Enum) -> str:
-    """The function of C that answers the texts of an enum."""
-    assert it.texts
-    names = [(name if name == "0" else f"TB_{name}", text) for name, text in it.texts_of()]
-    cases = "".join(f'    case {name}: return "{text}";\n' for name, text in names)
-    return (
-        f"/* {it.texts.c} */\n"
-        f"static inline const char *tb_{it.texts.name}(uint32_t {it.texts.argument}) {{\n"
-        f"    switch ({it.texts.argument}) {{\n{cases}"
-        f'    default: return "unknown";\n    }}\n}}\n'
-    )
+def each_text(it: Enum, form: str) -> str:
+    """A line of this form for each number of an enum, by its name, and its text."""
+    return "".join(
+        form.format(name if name == "0" else f"TB_{name}", text) for name, text in it.texts_of())
 
 
 def c_functions(tables: Tables) -> str:
-    """All functions of texts of the header."""
-    return "\n".join(c_function(it) for it in tables.enums if it.texts)
+    """The functions of C that answer the texts of enums."""
+    return "\n".join(
+        f"/* {texts.c} */\n"
+        f"static inline const char *tb_{texts.name}(uint32_t {texts.argument}) {{\n"
+        f"    switch ({texts.argument}) {{\n"
+        + each_text(it, '    case {}: return "{}";\n')
+        + '    default: return "unknown";\n    }\n}\n'
+        for it in tables.enums if (texts := it.texts)
+    )
 
 
 def rust_constants(tables: Tables) -> str:
@@ -70,21 +70,14 @@ def rust_constants(tables: Tables) -> str:
     return "\n".join([f"pub const TB_VERSION: u32 = {tables.version};\n", *groups])
 
 
-def rust_function(it: Enum) -> str:
-    """The function of Rust that answers the texts of an enum."""
-    assert it.texts
-    names = [(name if name == "0" else f"TB_{name}", text) for name, text in it.texts_of()]
-    arms = "".join(f'        {name} => "{text}",\n' for name, text in names)
-    return (
-        f"/// {it.texts.rust}\n"
-        f"pub fn {it.texts.name}({it.texts.argument}: u32) -> &'static str {{\n"
-        f"    match {it.texts.argument} {{\n{arms}        _ => \"unknown\",\n    }}\n}}\n"
-    )
-
-
 def rust_functions(tables: Tables) -> str:
-    """All functions of texts in Rust."""
-    return "\n".join(rust_function(it) for it in tables.enums if it.texts)
+    """The functions of Rust that answer the texts of enums."""
+    heads = "/// {0.rust}\npub fn {0.name}({0.argument}: u32) -> &'static str {{\n"
+    return "\n".join(
+        heads.format(it.texts) + f"    match {it.texts.argument} {{\n"
+        + each_text(it, '        {} => "{}",\n') + '        _ => "unknown",\n    }\n}\n'
+        for it in tables.enums if it.texts
+    )
 
 
 def python_tables(tables: Tables) -> str:

@@ -1,4 +1,5 @@
 """Runs of commands and what they cost, for the scripts of this folder."""
+import argparse
 import os
 import pathlib
 import re
@@ -35,10 +36,22 @@ def need_hosts(hosts: Iterable[str]) -> None:
 
 
 def need_outside(folder: pathlib.Path) -> None:
-    """Ends where a folder lies in the repository."""
+    """Ends where a folder is in the repository."""
     folder = folder.resolve()
     if pathlib.Path(__file__).resolve().parents[2] in [folder, *folder.parents]:
-        leave(f"{folder} lies in the repository")
+        leave(f"{folder} is in the repository")
+
+
+def parse_hosts(parser: argparse.ArgumentParser) -> argparse.Namespace:
+    """The options with those of a measurement of hosts: a folder for its work outside the
+    repository, and hosts that are there."""
+    parser.add_argument("--work", metavar="FOLDER", type=pathlib.Path)
+    parser.add_argument("hosts", metavar="HOST", nargs="+")
+    options = parser.parse_args()
+    need_hosts(options.hosts)
+    if options.work:
+        need_outside(options.work)
+    return options
 
 
 def run_tool(command: Command) -> None:

@@ -26,7 +26,7 @@ import tempfile
 
 import scudo
 from commands import (
-    SLICE, Command, leave, need_hosts, need_outside, need_tools, run_tool, user_time, version,
+    SLICE, Command, leave, need_tools, parse_hosts, run_tool, user_time, version,
 )
 
 HERE = pathlib.Path(__file__).resolve().parent
@@ -154,13 +154,8 @@ def arguments() -> argparse.Namespace:
     parser = argparse.ArgumentParser(description=__doc__,
                                      formatter_class=argparse.RawDescriptionHelpFormatter)
     parser.add_argument("--turns", type=int, default=5)
-    parser.add_argument("--work", metavar="FOLDER", type=pathlib.Path)
-    parser.add_argument("hosts", metavar="HOST", nargs="+")
-    options = parser.parse_args()
+    options = parse_hosts(parser)
     need_tools(TOOLS)
-    need_hosts(options.hosts)
-    if options.work:
-        need_outside(options.work)
     return options
 
 

@@ -31,7 +31,7 @@ import tempfile
 from collections.abc import Sequence
 
 import real_programs
-from commands import SLICE, Command, instructions, need_hosts, need_outside, user_time
+from commands import SLICE, Command, instructions, parse_hosts, user_time
 
 HERE = pathlib.Path(__file__).resolve().parent
 sys.path.insert(0, str(HERE.parents[1] / "examples"))
@@ -172,13 +172,7 @@ def arguments() -> argparse.Namespace:
     parser.add_argument("--scudo", action="store_true")
     parser.add_argument("--compiler", choices=real_programs.COMPILERS, default="clang")
     parser.add_argument("--only", choices=real_programs.PROGRAMS)
-    parser.add_argument("--work", metavar="FOLDER", type=pathlib.Path)
-    parser.add_argument("hosts", metavar="HOST", nargs="+")
-    options = parser.parse_args()
-    need_hosts(options.hosts)
-    if options.work:
-        need_outside(options.work)
-    return options
+    return parse_hosts(parser)
 
 
 def main() -> None:

@@ -4,8 +4,8 @@
 # milliseconds.
 set -euo pipefail
 here=$(cd "$(dirname "$0")" && pwd)
-crate="$here/../../crates/mte_host"
-host="$crate/out/mte_host"
+# shellcheck source=tools/speed/built_host.sh
+source "$here/built_host.sh"
 runs=${1:-200}
 
 # The first argument is how many times; anything but a whole number above 0 is refused.
@@ -14,28 +14,13 @@ if ! [[ $runs =~ ^[1-9][0-9]{0,6}$ ]]; then
     exit 2
 fi
 
-# Microseconds since 1970, whatever sign the locale puts before the fraction.
-now() {
-    echo "${EPOCHREALTIME//[!0-9]/}"
-}
-
 words=(--frames 11 "$here/../../examples/hi.script" "$here/../../examples/hi.elf")
 
 session() {
     "$host" "${words[@]}"
 }
 
-# Builds the program, which `rt run` leaves in out/, where there is none or a source is newer.
-needed() {
-    [[ -x $host ]] || return 0
-    local newer
-    newer=$(find "$crate"/../*/src "$crate/../../crates.txt" -newer "$host" -print -quit)
-    [[ -n $newer ]]
-}
-
-if needed; then
-    (cd "$crate" && rt run -- "${words[@]}") >&2
-fi
+build_host "${words[@]}"
 
 # Once before the clock starts, so that the files are in memory, and to see that the session is a
 # good one.

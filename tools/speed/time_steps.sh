@@ -5,8 +5,8 @@
 # through tagged pointers into the stack pages.
 set -euo pipefail
 here=$(cd "$(dirname "$0")" && pwd)
-crate="$here/../../crates/mte_host"
-host="$crate/out/mte_host"
+# shellcheck source=tools/speed/built_host.sh
+source "$here/built_host.sh"
 slices=100
 
 # Assembled by clang: the constants 3 and 0x0123456789ABCDEF, and then a loop of 16 instructions.
@@ -33,22 +33,7 @@ trap 'rm -rf "$work"' EXIT
     done
 } >"$work/script"
 
-# Microseconds since 1970, whatever sign the locale puts before the fraction.
-now() {
-    echo "${EPOCHREALTIME//[!0-9]/}"
-}
-
-# Builds the program, which `rt run` leaves in out/, where there is none or a source is newer.
-needed() {
-    [[ -x $host ]] || return 0
-    local newer
-    newer=$(find "$crate"/../*/src "$crate/../../crates.txt" -newer "$host" -print -quit)
-    [[ -n $newer ]]
-}
-
-if needed; then
-    (cd "$crate" && rt run -- --help) >&2
-fi
+build_host --help
 
 # Runs a loop, sees that it ran to the end, and prints its rate.
 run() {

@@ -8,9 +8,9 @@
 #include <stddef.h>
 #include <string.h>
 #include <sys/stat.h>
-#include <sys/uio.h>
 #include "kstat.h"
 #include "nodes.h"
+#include "parts.h"
 #include "syscall.h"
 #include "tenant.h"
 
@@ -121,6 +121,26 @@ static long open_path(long folder, const char *path, int flags, uint32_t mode)
     return failed ? failed : open_node(node, flags);
 }
 
+/* The two descriptors of a pipe, which is a file without a name: what is written to the second is
+   read from the first. Where nothing is left it is at its end, since nobody else could write. */
+static long make_pipe(int *ends)
+{
+    struct tenant_node *node;
+    long failed = __tenant_make("/tmp/", S_IFIFO | 0600, &node);
+    if (failed)
+        return failed;
+    long first = open_node(node, O_RDONLY);
+    long second = first < 0 ? first : open_node(node, O_WRONLY | O_APPEND);
+    if (second < 0 && first >= 0)
+        close_file(first);
+    __tenant_remove(node);
+    if (second < 0)
+        return second;
+    ends[0] = (int)first;
+    ends[1] = (int)second;
+    return 0;
+}
+
 /* Bytes of an open file from a place on. */
 static long read_at(struct open_file *file, void *bytes, size_t count, size_t at)
 {
@@ -158,16 +178,24 @@ static long write_at(struct open_file *file, const void *bytes, size_t count, si
     return (long)some;
 }
 
+/* Whether its bytes have places: the tenant's input and output, and pipes, have none. */
+static int has_place(const struct open_file *file)
+{
+    return file->node && !S_ISFIFO(file->node->mode);
+}
+
 static long read_file(long number, void *bytes, size_t count)
 {
     struct open_file *file = file_of(number);
     long done = file ? read_at(file, bytes, count, file->at) : -EBADF;
     if (done > 0)
         file->at += (size_t)done;
+    if (done > 0 && file->node && !has_place(file) && file->at == file->node->size)
+        file->at = file->node->size = 0;
     return done;
 }
 
-static long write_file(long number, const void *bytes, size_t count)
+static long write_file(long number, void *bytes, size_t count)
 {
     struct open_file *file = file_of(number);
     if (!file)
@@ -180,25 +208,9 @@ static long write_file(long number, const void *bytes, size_t count)
     return done;
 }
 
-/* Parts one after the other, up to the first that is not whole. */
-static long each_part(long number, const struct iovec *parts, long count, int is_write)
-{
-    long sum = 0;
-    for (long i = 0; i < count; i++) {
-        long done = is_write ? write_file(number, parts[i].iov_base, parts[i].iov_len)
-                             : read_file(number, parts[i].iov_base, parts[i].iov_len);
-        if (done < 0)
-            return sum ? sum : done;
-        sum += done;
-        if ((size_t)done < parts[i].iov_len)
-            break;
-    }
-    return sum;
-}
-
 static long seek(struct open_file *file, long offset, long whence)
 {
-    if (!file->node)
+    if (!has_place(file))
         return -ESPIPE;
     long from = whence == SEEK_CUR ? (long)file->at : whence == SEEK_END ? (long)file->node->size
                                                                          : 0;
@@ -342,9 +354,9 @@ static long call_of_open(long number, long a, long b, long c, long d)
     case SYS_lseek:
         return seek(file, b, c);
     case SYS_pread:
-        return file->node ? read_at(file, (void *)b, (size_t)c, (size_t)d) : -ESPIPE;
+        return has_place(file) ? read_at(file, (void *)b, (size_t)c, (size_t)d) : -ESPIPE;
     case SYS_pwrite:
-        return file->node ? write_at(file, (const void *)b, (size_t)c, (size_t)d) : -ESPIPE;
+        return has_place(file) ? write_at(file, (const void *)b, (size_t)c, (size_t)d) : -ESPIPE;
     case SYS_fstat:
         return stat_node(file->node, (struct kstat *)b);
     case SYS_getdents:
@@ -466,18 +478,18 @@ hidden long __tenant_file_call(long number, long a, long b, long c, long d)
 {
     switch (number) {
     case SYS_read:
-        return read_file(a, (void *)b, (size_t)c);
     case SYS_write:
-        return write_file(a, (const void *)b, (size_t)c);
     case SYS_readv:
     case SYS_writev:
-        return each_part(a, (const struct iovec *)b, c, number == SYS_writev);
+        return move_bytes(read_file, write_file, number, a, b, c);
     case SYS_close:
         return close_file(a);
     case SYS_fcntl:
         return control(a, b, c);
     case SYS_dup3:
         return copy_descriptor(a, b);
+    case SYS_pipe2:
+        return make_pipe((int *)a);
     case SYS_lseek:
     case SYS_pread:
     case SYS_pwrite:

@@ -4,8 +4,8 @@
    is 0. */
 #include <errno.h>
 #include <signal.h>
-#include <sys/uio.h>
 #include <time.h>
+#include "parts.h"
 #include "syscall.h"
 #include "tenant.h"
 #include "tenant_given.h"
@@ -14,7 +14,7 @@ hidden weak long __tenant_file_call(long number, long a, long b, long c, long d)
 hidden weak size_t __tenant_pack(void);
 
 /* As write(2): -ENOSPC where there is room for no byte more. */
-static long write_all(long file, const void *bytes, size_t count)
+static long write_all(long file, void *bytes, size_t count)
 {
     if (file != 1 && file != 2)
         return -EBADF;
@@ -25,34 +25,6 @@ static long write_all(long file, const void *bytes, size_t count)
 static long read_some(long file, void *bytes, size_t count)
 {
     return file == 0 ? (long)tenant_read(bytes, count) : -EBADF;
-}
-
-static long write_parts(long file, const struct iovec *parts, long count)
-{
-    long sum = 0;
-    for (long i = 0; i < count; i++) {
-        long written = write_all(file, parts[i].iov_base, parts[i].iov_len);
-        if (written < 0)
-            return sum ? sum : written;
-        sum += written;
-        if ((size_t)written < parts[i].iov_len)
-            break;
-    }
-    return sum;
-}
-
-static long read_parts(long file, const struct iovec *parts, long count)
-{
-    long sum = 0;
-    for (long i = 0; i < count; i++) {
-        long more = read_some(file, parts[i].iov_base, parts[i].iov_len);
-        if (more < 0)
-            return more;
-        sum += more;
-        if ((size_t)more < parts[i].iov_len)
-            break;
-    }
-    return sum;
 }
 
 static long read_clock(struct timespec *time)
@@ -76,14 +48,11 @@ static long call_of_file(long number, long a, long b, long c, long d)
     if (__tenant_file_call)
         return __tenant_file_call(number, a, b, c, d);
     switch (number) {
-    case SYS_write:
-        return write_all(a, (const void *)b, (size_t)c);
     case SYS_read:
-        return read_some(a, (void *)b, (size_t)c);
-    case SYS_writev:
-        return write_parts(a, (const struct iovec *)b, c);
+    case SYS_write:
     case SYS_readv:
-        return read_parts(a, (const struct iovec *)b, c);
+    case SYS_writev:
+        return move_bytes(read_some, write_all, number, a, b, c);
     case SYS_ioctl:
         return -ENOTTY;
     case SYS_lseek:

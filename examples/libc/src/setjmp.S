@@ -7,17 +7,21 @@
 \name:
     .endm
 
+    .macro each_pair move
+    \move x19, x20, [x0]
+    \move x21, x22, [x0, #16]
+    \move x23, x24, [x0, #32]
+    \move x25, x26, [x0, #48]
+    \move x27, x28, [x0, #64]
+    \move x29, x30, [x0, #80]
+    .endm
+
     function setjmp
     function _setjmp
     function __setjmp
     function sigsetjmp
     function __sigsetjmp
-    stp x19, x20, [x0]
-    stp x21, x22, [x0, #16]
-    stp x23, x24, [x0, #32]
-    stp x25, x26, [x0, #48]
-    stp x27, x28, [x0, #64]
-    stp x29, x30, [x0, #80]
+    each_pair stp
     mov x2, sp
     str x2, [x0, #96]
     mov w0, #0
@@ -26,12 +30,7 @@
 
     function longjmp
     function _longjmp
-    ldp x19, x20, [x0]
-    ldp x21, x22, [x0, #16]
-    ldp x23, x24, [x0, #32]
-    ldp x25, x26, [x0, #48]
-    ldp x27, x28, [x0, #64]
-    ldp x29, x30, [x0, #80]
+    each_pair ldp
     ldr x2, [x0, #96]
     mov sp, x2
     cmp w1, #0

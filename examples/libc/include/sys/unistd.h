@@ -1,0 +1,2 @@
+/* As other C libraries have it, for old programs. */
+#include <unistd.h>
