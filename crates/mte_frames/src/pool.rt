@@ -10,7 +10,7 @@ ghost use Rattle.mte_arena.specs.Frames.{zero_frame};
 ghost use Rattle.mte_arena.specs.Blocks.{frame_of};
 ghost use Rattle.mte_frames.specs.Pool.{Pool, make_pool, with_bytes_at, with_block_at, frames_left};
 ghost use Rattle.mte_frames.specs.Pool.{with_bytes_at_cases};
-ghost use Rattle.mte_frames.specs.Pool.{reserved_by, taken_by, IsHeldBy, IsTaken, IsSound};
+ghost use Rattle.mte_frames.specs.Pool.{reserved_by, taken_by, HasFrameLeft, IsHeldBy, IsTaken, IsSound};
 ghost use Rattle.mte_frames.specs.Pool.{KeepsOthers};
 
 use mte_arena::{Arena, BLOCK_BYTES, FRAME_BYTES, FRAME_GRANULES};
@@ -195,7 +195,7 @@ impl FramePool {
     /// Takes a frame that is out under no quota, and makes its bytes and tags zero. While the quota
     /// has something left there is one. What was out stays out.
     pub fn take(&mut self, quota: &mut Quota) -> usize
-        requires { taken_by self.old quota.old < reserved_by self.old quota.old }
+        requires { HasFrameLeft self.old quota.old }
         ensures same { quota.new ≡ quota.old }
         ensures vacant { get_or self.old.owners result (Some 0) ≡ None }
         ensures within { result < length self.old.frames }

@@ -3,11 +3,12 @@
 ghost use Rattle.std.specs.Prelude.{◌≡◌, ◌+◌, ◌-◌, ◌*◌, ◌/◌, ◌%◌, ◌^◌, ◌<◌, ◌≤◌, ℕ};
 ghost use Rattle.mte_tags.specs.Memory.{attrs_at};
 ghost use Rattle.mte_tags.specs.RandomTags.{after_draw};
-ghost use Rattle.scudo_header.specs.Classes.{IsClass};
+ghost use Rattle.scudo_header.specs.Headers.{FitsInWord};
 ghost use Rattle.scudo_heap.specs.Chunks.{end_of, block_end, excluded_tags, with_chunk_tag};
 ghost use Rattle.scudo_heap.specs.Chunks.{with_end_tag_0, with_header_tag_0};
 ghost use Rattle.scudo_heap.specs.Chunks.{with_header};
 ghost use Rattle.scudo_heap.specs.Placing.{new_header};
+ghost use Rattle.scudo_heap.specs.Served.{HasTag};
 ghost use Rattle.scudo_heap.specs.Inner.{FitsIn, IsOpen};
 
 use crate::chunk::Place;
@@ -20,12 +21,7 @@ use scudo_header::{Header, Origin, State, pack, size_of_class};
 #[tactic(auto, unfolding(crate::specs::Chunks::with_end_tag_0))]
 #[inline(always)]
 pub(crate) fn close<M: Paged>(memory: &mut M, place: Place)
-    requires class { IsClass place.class }
-    requires user { place.user < 2 ^ 32 }
-    requires block { place.block < 2 ^ 32 }
-    requires small { place.size < 2 ^ 20 }
-    requires aligned { place.user % 16 ≡ 0 }
-    requires whole { block_end place % 16 ≡ 0 }
+    requires place { FitsIn place }
     requires open { IsOpen (M.memory memory.old) place.user (block_end place) }
     ensures memory { M.memory memory.new ≡ with_end_tag_0 (M.memory memory.old) place }
     ensures attrs { (q : ℕ)
@@ -38,31 +34,13 @@ pub(crate) fn close<M: Paged>(memory: &mut M, place: Place)
     }
 }
 
-/// Tag 0 on the granule of a chunk's header.
-#[tactic(auto, unfolding(crate::specs::Chunks::with_header_tag_0))]
-#[inline(always)]
-fn open<M: Paged>(memory: &mut M, place: Place)
-    requires above { 16 ≤ place.user }
-    requires aligned { place.user % 16 ≡ 0 }
-    requires open { IsOpen (M.memory memory.old) (place.user - 16) place.user }
-    ensures memory { M.memory memory.new ≡ with_header_tag_0 (M.memory memory.old) place }
-    ensures attrs { (q : ℕ)
-        → attrs_at (M.memory memory.new) q ≡ attrs_at (M.memory memory.old) q }
-    ensures kept { M.kept memory.old memory.new }
-{
-    set_tags(memory, place.user - 16, 1, 0, false);
-}
-
 /// Gives a chunk's granules a tag and zero bytes, and tag 0 to the granule of its header and to the
 /// one after the chunk, where its block goes on.
-#[tactic(auto, unfolding(crate::specs::Chunks::with_chunk_tag))]
+#[tactic(auto, unfolding(crate::specs::Chunks::with_chunk_tag, crate::specs::Chunks::with_header_tag_0))]
 #[inline(always)]
 fn tag_by_three_runs<M: Paged>(memory: &mut M, place: Place, tag: u8)
-    requires class { IsClass place.class }
     requires tag { tag < 16 }
-    requires fits { FitsIn place }
-    requires above { place.block + 16 ≤ place.user }
-    requires small { place.size < 2 ^ 20 }
+    requires place { FitsIn place }
     requires open { IsOpen (M.memory memory.old) place.block (block_end place) }
     ensures memory { M.memory memory.new
         ≡ with_end_tag_0 (with_header_tag_0
@@ -72,7 +50,7 @@ fn tag_by_three_runs<M: Paged>(memory: &mut M, place: Place, tag: u8)
     ensures kept { M.kept memory.old memory.new }
 {
     set_tags(memory, place.user, granules(place.size), tag, true);
-    open(memory, place);
+    set_tags(memory, place.user - 16, 1, 0, false);
     close(memory, place);
 }
 
@@ -80,12 +58,9 @@ fn tag_by_three_runs<M: Paged>(memory: &mut M, place: Place, tag: u8)
 /// tag goes over a run of tag 0.
 #[inline(always)]
 fn write_around<M: Paged>(memory: &mut M, cookie: u32, place: Place, tag: u8, header: &Header)
-    requires class { IsClass place.class }
     requires tag { tag < 16 }
-    requires fits { FitsIn place }
-    requires above { place.block + 16 ≤ place.user }
-    requires small { place.size < 2 ^ 20 }
-    requires fields { header.now.size_or_unused_bytes < 2 ^ 20 }
+    requires place { FitsIn place }
+    requires fields { FitsInWord header.now }
     requires open { IsOpen (M.memory memory.old) place.block (block_end place) }
     ensures memory { M.memory memory.new
         ≡ with_header
@@ -118,19 +93,14 @@ pub(crate) fn make_chunk<M: Paged>(
     origin: Origin,
     place: Place,
 ) -> u8
-    requires class { IsClass place.class }
-    requires drawn { rgsr.old.tag < 16 }
-    requires fits { FitsIn place }
-    requires above { place.block + 16 ≤ place.user }
-    requires near { place.user < place.block + 2 ^ 20 }
-    requires some { 0 < place.size }
-    requires small { place.size < 2 ^ 20 }
+    requires drawn { HasTag rgsr.old }
+    requires place { FitsIn place }
     requires open { IsOpen (M.memory memory.old) place.block (block_end place) }
     ensures tag { result
         ≡ (after_draw rgsr.old (excluded_tags (M.memory memory.old) place)).rgsr.tag }
     ensures rgsr { rgsr.new ≡ (after_draw rgsr.old
         (excluded_tags (M.memory memory.old) place)).rgsr }
-    ensures below { rgsr.new.tag < 16 }
+    ensures below { HasTag rgsr.new }
     ensures small { result < 16 }
     ensures memory { M.memory memory.new
         ≡ with_header

@@ -1,12 +1,12 @@
 //! The stacks of free blocks, linked through one table of entries.
 
 ghost use Rattle.std.specs.Prelude.{◌≡◌, ◌≤◌, ◌≢◌, ◌<◌, ◌+◌, ◌-◌, ◌*◌, ◌/◌, ◌++◌, ℕ, Some, false};
-ghost use Rattle.std.specs.Prelude.{length, drop, slice_get, slice_set, nat_eq, nat_lt, not, ◌&&◌};
+ghost use Rattle.std.specs.Prelude.{length, drop, slice_get, slice_set, nat_lt, not, ◌&&◌};
 ghost use Rattle.std.specs.Prelude.{◌^◌, vec_capacity};
-ghost use Rattle.std.specs.List.{All, IsDistinct};
+ghost use Rattle.std.specs.List.{All};
 ghost use Rattle.scudo_header.specs.Regions.{region_of};
 ghost use Rattle.scudo_primary.specs.Blocks.{IsBlock, carved_count, number_of};
-ghost use Rattle.scudo_primary.specs.Batches.{max_count_of, first_size};
+ghost use Rattle.scudo_primary.specs.Batches.{IsBatch, max_count_of, first_size};
 ghost use Rattle.scudo_primary.specs.Pools.{is_member, IsLoose, class_after_pop, batch_in};
 ghost use Rattle.scudo_primary.specs.Pools.{class_after_pop_batch};
 ghost use Rattle.scudo_primary.specs.Pools.{class_after_push_batch};
@@ -220,11 +220,9 @@ pub(crate) fn link_batch(
 )
     requires table { IsTable (block_table entries.old numbers.now lists.old) }
     requires class { IsClass class }
-    requires some { 0 < length blocks.now }
-    requires most { length blocks.now ≤ max_count_of class }
+    requires batch { IsBatch class blocks.now }
     requires blocks { let t = block_table entries.old numbers.now lists.old in
         All (IsLoose (state_in t class) class) blocks.now }
-    requires distinct { IsDistinct nat_eq blocks.now }
     ensures { let t = block_table entries.old numbers.now lists.old in
         Became t (block_table entries.new numbers.now lists.new) class
         (class_after_push_batch (state_in t class) blocks.now) }

@@ -36,8 +36,7 @@ impl Secondary {
     /// No mappings, with room for those of `pages` pages together, 1 to `MAX_PAGES`. It is refused
     /// only where its memory is.
     pub fn new(alloc: Global, pages: u64) -> Result<Secondary, AllocError>
-        requires some { 0 < pages }
-        requires most { pages ≤ MAX_PAGES }
+        requires { pages ≤ MAX_PAGES }
         ensures { IfOk result (λ maps. maps ≡ record { limit = pages; mappings = [] }) }
     {
         let mappings = Vec::with_capacity(alloc, pages as usize)?;
@@ -56,7 +55,6 @@ impl Secondary {
     /// The least address at which `pages` pages, at least one, may be mapped. There is none where
     /// they fit nowhere.
     pub fn place(&self, pages: u64) -> Option<u64>
-        requires { 0 < pages }
         ensures place { result ≡ place_of self.now.mappings pages }
         ensures fits { IfSome result (λ start. IsTrue (is_place self.now.mappings pages start)) }
         ensures least { IfSome result
