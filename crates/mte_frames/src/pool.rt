@@ -5,7 +5,7 @@ ghost use Rattle.std.specs.Prelude.{length, replicate, get_or, slice_set, sum, I
 ghost use Rattle.std.specs.Prelude.{OnErr, IfSome, IsTrue, vec_capacity, option_map};
 ghost use Rattle.std.specs.Option.{option_copied_mut};
 ghost use Rattle.std.specs.Borrow.{sem};
-ghost use Rattle.mte_arena.specs.Frames.{frame_at, AreFrames, with_granule_tag, retagged_run};
+ghost use Rattle.mte_arena.specs.Frames.{frame_at, AreFrames, IsTagRun, with_granule_tag, retagged_run};
 ghost use Rattle.mte_arena.specs.Frames.{zero_frame};
 ghost use Rattle.mte_arena.specs.Blocks.{frame_of};
 ghost use Rattle.mte_frames.specs.Pool.{Pool, make_pool, with_bytes_at, with_block_at, frames_left};
@@ -294,8 +294,7 @@ impl FramePool {
     /// tags and all other frames stay as they are.
     pub fn set_tag(&mut self, f: usize, g: usize, tag: u8)
         requires out { IsTaken self.old f }
-        requires granule { g < FRAME_GRANULES }
-        requires tag { tag < 16 }
+        requires run { IsTagRun FRAME_GRANULES g 1 tag }
         ensures pool { self.new
             ≡ make_pool self.old.capacities
             (with_granule_tag self.old.frames f g tag) self.old.owners
@@ -310,8 +309,7 @@ impl FramePool {
     #[inline(always)]
     pub fn set_tags(&mut self, f: usize, first: usize, count: usize, tag: u8)
         requires out { IsTaken self.old f }
-        requires granules { first + count ≤ FRAME_GRANULES }
-        requires tag { tag < 16 }
+        requires run { IsTagRun FRAME_GRANULES first count tag }
         ensures pool { self.new
             ≡ make_pool self.old.capacities (retagged_run self.old.frames f first count tag)
             self.old.owners self.old.reserved self.old.taken }
