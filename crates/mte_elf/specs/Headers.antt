@@ -10,6 +10,10 @@ use Rattle.mte_elf.specs.declared.image.Segment.{Segment}
 unfoldable pub number_at : List ℕ → ℕ → ℕ → ℕ
 number_at file n at = little_number n (drop at file)
 
+-- The file has n bytes from a place on.
+abbrev pub HasField : List ℕ → ℕ → ℕ → Type 0
+HasField file n at = at + n ≤ length file
+
 -- The file has the 64 bytes of a file header.
 abbrev pub HasFileHeader : List ℕ → Type 0
 HasFileHeader file = 64 ≤ length file

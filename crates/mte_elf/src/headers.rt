@@ -3,7 +3,7 @@
 ghost use Rattle.std.specs.Prelude.{◌≡◌, ◌+◌, ◌≤◌, length, IfOk, IfErr, map, filter, true};
 ghost use Rattle.mte_elf.specs.Images.{has_table};
 ghost use Rattle.mte_elf.specs.Headers.{number_at, header_at, headers_of, is_loaded, segment_of};
-ghost use Rattle.mte_elf.specs.Headers.{HasFileHeader, is_interpreter};
+ghost use Rattle.mte_elf.specs.Headers.{HasField, HasFileHeader, is_interpreter};
 ghost use Rattle.std.specs.List.{list_any};
 
 use crate::image::Segment;
@@ -38,7 +38,7 @@ pub const HEADER_BYTES: usize = 56;
 
 #[tactic(auto, unfolding(crate::specs::Headers::number_at))]
 fn half_at(file: &[u8], at: usize) -> u16
-    requires { at + 2 ≤ length file.now }
+    requires { HasField file.now 2 at }
     ensures { result ≡ number_at file.now 2 at }
 {
     LittleEndian::read_u16(&file[at..])
@@ -46,7 +46,7 @@ fn half_at(file: &[u8], at: usize) -> u16
 
 #[tactic(auto, unfolding(crate::specs::Headers::number_at))]
 fn word_at(file: &[u8], at: usize) -> u32
-    requires { at + 4 ≤ length file.now }
+    requires { HasField file.now 4 at }
     ensures { result ≡ number_at file.now 4 at }
 {
     LittleEndian::read_u32(&file[at..])
@@ -54,7 +54,7 @@ fn word_at(file: &[u8], at: usize) -> u32
 
 #[tactic(auto, unfolding(crate::specs::Headers::number_at))]
 fn double_word_at(file: &[u8], at: usize) -> u64
-    requires { at + 8 ≤ length file.now }
+    requires { HasField file.now 8 at }
     ensures { result ≡ number_at file.now 8 at }
 {
     LittleEndian::read_u64(&file[at..])
@@ -111,7 +111,7 @@ pub fn header_count(file: &[u8]) -> u16
 /// The program header that begins at a place of the file.
 #[tactic(auto, unfolding(crate::specs::Headers::header_at))]
 fn program_header(file: &[u8], at: usize) -> ProgramHeader
-    requires { at + 56 ≤ length file.now }
+    requires { HasField file.now 56 at }
     ensures { result ≡ header_at file.now at }
 {
     ProgramHeader {

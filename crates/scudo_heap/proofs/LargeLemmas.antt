@@ -32,11 +32,11 @@ is-large start pages align size e above below few al some small need =
 pub request-large : (start need : ℕ) (r : Request) → start % PAGE_SIZE ≡ 0 → SECONDARY_START + PAGE_SIZE ≤ start → start + PAGE_SIZE * pages_for need + PAGE_SIZE ≤ SECONDARY_END → need ≡ need_of r.align r.size → IsRequest r
     → IsLarge (mapping_for start (pages_for need) r.align r.size) r.size
 request-large start need r e above below same q =
-    let most = q.most in
+    let most = q.size.most in
     let wide = q.align.most in
     let few : pages_for need ≤ 4096 = omega arith in
     let fits : need_of r.align r.size ≤ PAGE_SIZE * pages_for need = omega arith in
-    is-large start (pages_for need) r.align r.size e above below few q.align q.some (omega arith) fits
+    is-large start (pages_for need) r.align r.size e above below few q.align q.size.some (omega arith) fits
 
 pub after-large-allocation-none : (w : World) (o : Origin) (a z n : ℕ) → None ≡ place_of w.heap.maps.mappings n → no_chunk w ≡ after_large_allocation w o a z n
 unfolding after_large_allocation

@@ -133,6 +133,11 @@ pub record FitsIn (p : Place) : Type 0 where
   pub small : p.size < 2 ^ 20
   pub within : end_of p ≤ block_end p
 
+-- an address that a header may stand in front of
+pub record IsUser (user : ℕ) : Type 0 where
+  pub aligned : user % 16 ≡ 0
+  pub plain : user < 2 ^ 56
+
 -- a place that a header gives, whatever it says: no sum of its addresses wraps
 pub record IsGiven (p : Place) : Type 0 where
   pub class : 0 < p.class
@@ -140,11 +145,15 @@ pub record IsGiven (p : Place) : Type 0 where
   pub block : p.block < 2 ^ 56
   pub size : p.size < 2 ^ 20
 
+-- the bytes of a chunk, of which there are some
+pub record IsSize (size : ℕ) : Type 0 where
+  pub some : 0 < size
+  pub most : size ≤ MAX_REQUEST
+
 -- a request of some bytes, as the calls make it
 pub record IsRequest (r : Request) : Type 0 where
   pub align : IsAlign r.align
-  pub some : 0 < r.size
-  pub most : r.size ≤ MAX_REQUEST
+  pub size : IsSize r.size
 
 -- a chunk of a size is with its header in a mapping, of which a page at most is left
 pub record IsLarge (m : Mapping) (size : ℕ) : Type 0 where

@@ -10,7 +10,7 @@ ghost use Rattle.scudo_heap.specs.Checks.{is_allocated, is_place, place_of_heade
 ghost use Rattle.scudo_heap.specs.Checks.{is_mapped};
 ghost use Rattle.scudo_heap.specs.Checks.{check_pointer};
 ghost use Rattle.scudo_heap.specs.Checks.{check_block, check_mapping, check_chunk};
-ghost use Rattle.scudo_heap.specs.Inner.{HasEnd, IsGiven};
+ghost use Rattle.scudo_heap.specs.Inner.{HasEnd, IsGiven, IsUser};
 ghost use Rattle.scudo_heap.specs.Inner.Parts.{heap_in};
 
 use crate::abort::HeapAbort;
@@ -111,8 +111,7 @@ fn by_header(
 /// READ and WRITE.
 #[inline(always)]
 fn header_word<M: Paged>(memory: &mut M, user: u64) -> Option<u64>
-    requires aligned { user % 16 ≡ 0 }
-    requires plain { user < 2 ^ 56 }
+    requires { IsUser user }
     ensures some { is_some result ≡ is_mapped (M.memory memory.old) user }
     ensures word { IfSome result
         (λ word. word ≡ from_le_bytes w64 (read_bytes (M.memory memory.old) (user - 16) 8)) }
@@ -132,9 +131,8 @@ fn header_word<M: Paged>(memory: &mut M, user: u64) -> Option<u64>
 #[cold]
 #[inline(never)]
 fn header_word_alone<M: Paged>(memory: &mut M, user: u64) -> Option<u64>
-    requires aligned { user % 16 ≡ 0 }
+    requires user { IsUser user }
     requires above { 16 ≤ user }
-    requires plain { user < 2 ^ 56 }
     ensures some { is_some result ≡ is_mapped (M.memory memory.old) user }
     ensures word { IfSome result
         (λ word. word ≡ from_le_bytes w64 (read_bytes (M.memory memory.old) (user - 16) 8)) }

@@ -56,7 +56,7 @@ fn map_chunk<M: Paged>(
         offset: 0,
     };
     put_header(memory, cookie, mapping.user, &header);
-    maps.add(mapping.start, mapping.pages, mapping.user);
+    maps.add(mapping);
 }
 
 /// A chunk with pages of its own, if they fit and as many are left.

@@ -9,7 +9,7 @@ ghost use Rattle.scudo_heap.specs.Allocation.{allocation_of};
 ghost use Rattle.scudo_heap.specs.Realloc.{after_move, realloc_cases};
 ghost use Rattle.scudo_heap.specs.Sound.{IsSoundWorld};
 ghost use Rattle.scudo_heap.specs.Served.{HasTag};
-ghost use Rattle.scudo_heap.specs.Inner.{FitsIn, IsFound, IsLow, HasEnd, IsOpen};
+ghost use Rattle.scudo_heap.specs.Inner.{FitsIn, IsSize, IsFound, IsLow, HasEnd, IsOpen};
 ghost use Rattle.scudo_heap.specs.Inner.Parts.{heap_in};
 
 use crate::allocation::allocate;
@@ -27,7 +27,7 @@ use scudo_header::{Header, MAX_REQUEST, MIN_ALIGNMENT, Origin, size_of_class};
 /// Whether a chunk's block holds another size of it.
 fn fits(place: Place, size: u64) -> bool
     requires place { FitsIn place }
-    requires size { size ≤ MAX_REQUEST }
+    requires size { IsSize size }
     ensures { result ≡ nat_le (end_of (with_size place size)) (block_end place) }
 {
     place.user - place.block + 16 * granules(size) <= size_of_class(place.class)
@@ -86,8 +86,7 @@ fn move_chunk<M: Paged>(
     size: u64,
 ) -> Option<Chunk>
     requires drawn { HasTag rgsr.old }
-    requires some { 0 < size }
-    requires most { size ≤ MAX_REQUEST }
+    requires size { IsSize size }
     requires sound { IsSoundWorld
         (world_of (M.memory memory.old) (heap_in parts.old) rgsr.old) }
     requires found { IsFound (heap_in parts.old) found }

@@ -3,11 +3,11 @@
 ghost use Rattle.std.specs.Prelude.{◌≡◌, ℕ, ◌+◌, ◌*◌, ◌<◌, ◌≤◌, [], false, IfOk, IfSome, IfNone};
 ghost use Rattle.std.specs.Prelude.{IsSome, IsTrue, filter, not, ◌==◌};
 ghost use Rattle.scudo_secondary.specs.Mappings.{AreMappings, is_place, place_of, mapping_of};
-ghost use Rattle.scudo_secondary.specs.Mappings.{with_mapping, pages_of};
+ghost use Rattle.scudo_secondary.specs.Mappings.{with_mapping, HasRoom, HoldsUser};
 
 use crate::gaps::first_gap;
 use crate::mappings::{Mapping, index_of, insert_in_order, remove_user};
-use address_map::{MAX_PAGES, PAGE_SIZE};
+use address_map::MAX_PAGES;
 use list_copy::copy_list;
 use std::alloc::{AllocError, Global};
 use std::marker::Model;
@@ -68,17 +68,14 @@ impl Secondary {
     }
 
     /// Adds a mapping at a place for it, with a user address in its pages.
-    pub fn add(&mut self, start: u64, pages: u64, user: u64)
-        requires place { IsTrue (is_place self.old.mappings pages start) }
-        requires first { start ≤ user }
-        requires last { user < start + PAGE_SIZE * pages }
-        requires room { pages_of self.old.mappings + pages ≤ self.old.limit }
-        ensures { self.new ≡ record self.old {
-          mappings = with_mapping self.old.mappings
-              (record { start = start; pages = pages; user = user });
-        } }
+    pub fn add(&mut self, mapping: Mapping)
+        requires place { IsTrue (is_place self.old.mappings mapping.pages mapping.start) }
+        requires user { HoldsUser mapping }
+        requires room { HasRoom self.old mapping.pages }
+        ensures { self.new
+            ≡ record self.old { mappings = with_mapping self.old.mappings mapping } }
     {
-        insert_in_order(&mut self.mappings, Mapping { start, pages, user });
+        insert_in_order(&mut self.mappings, mapping);
     }
 
     /// The mapping with a user address.

@@ -6,5 +6,5 @@ pub overflow_add-result : goal.overflow_add-result
 overflow_add-result c =
     let near = user-near c.args.place c.requires.place in
     let size = c.granules.ensures in
-    let most = c.requires.size in
+    let most = c.requires.size.most in
     omega arith
