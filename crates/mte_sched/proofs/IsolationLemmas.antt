@@ -1,7 +1,7 @@
 -- What holds of each behaviour, of the machine.
-use Rattle.std.proofs.Common.{◌≡◌, ℕ, List, map, Some}
+use Rattle.std.proofs.Common.{◌≡◌, ℕ, List, map, Option, Some}
 use Rattle.mte_sched.specs.Lives.{Life, life_among}
-use Rattle.mte_sched.specs.Contents.{machine, after_call, after_calls, after_own_events, tenant_of}
+use Rattle.mte_sched.specs.Contents.{machine, after_admit, after_slice_of, after_stop_of, after_call, after_calls, after_own_events, tenant_of}
 use Rattle.mte_sched.specs.Isolation.{LedgerFollows, TenantsAreAlone, TenantsAreIsolated, tenant_among}
 use Rattle.mte_sched.proofs.BehaviourLemmas as behaviours
 pub use Rattle.mte_sched.proofs.BehaviourLemmas.{accepted_from, accepted_on}

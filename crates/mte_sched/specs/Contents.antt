@@ -1,12 +1,12 @@
 -- What a host has: a machine for each live tenant, and the record alone of each that was stopped.
 -- A session's definitions are those of Behaviours, with a tenant's machine as the behaviour.
-use Rattle.std.specs.Prelude.{ℕ, ◌==◌, List, map, Option, Some, None, if◌then◌else◌}
+use Rattle.std.specs.Prelude.{ℕ, ◌==◌, List, map, Option, Some, None, if◌then◌else◌, Bool}
 use Rattle.std.specs.List.{refill}
 use Rattle.mte_tags.specs.Memory.{Memory, Page, page_at, with_page}
 use Rattle.mte_svc.specs.declared.record.Record.{Record}
 use Rattle.mte_tenant.specs.declared.refusal.Refusal.{Refusal}
 use Rattle.mte_tenant.specs.Machines.{Start, Machine, start_of, after_slice, after_stop}
-use Rattle.mte_tenant.specs.Ledger.{Call}
+use Rattle.mte_tenant.specs.Ledger.{Call, LedgerEntry}
 use Rattle.mte_sched.specs.Lives.{TenantEvent, Life}
 use Rattle.mte_sched.specs.Behaviours as behaviours
 pub use Rattle.mte_sched.specs.Behaviours.{Live, Gone, lives_on, empty, entry_of, ledger_of}

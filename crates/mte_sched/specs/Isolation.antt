@@ -1,5 +1,5 @@
 -- Isolation of machines: what Behaviours says of every behaviour, of the machine's.
-use Rattle.std.specs.Prelude.{◌≡◌, ℕ, map}
+use Rattle.std.specs.Prelude.{◌≡◌, ℕ, List, map}
 use Rattle.mte_tenant.specs.Ledger.{Call, ledger_after}
 use Rattle.mte_sched.specs.Lives.{Session, Life, Agree, lives}
 use Rattle.mte_sched.specs.Behaviours.{HaveTheSame}
