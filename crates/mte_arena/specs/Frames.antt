@@ -8,8 +8,8 @@
 --     with_granule_tag fs f g t  fs with another tag there
 --     retagged_run fs f g n t    fs with another tag at the n granules from g on
 --     AreFrames fs               each frame that is present has 4096 bytes and 256 tags below 16
-use Rattle.std.specs.Prelude.{◌≡◌, ℕ, ◌+◌, ◌<◌, ◌≤◌, List, ◌++◌, length, take, drop, replicate, get_or}
-use Rattle.std.specs.Prelude.{slice_set, Option, Some, None}
+use Rattle.std.specs.Prelude.{◌≡◌, ℕ, ◌+◌, ◌<◌, ◌≤◌, List, ◌++◌, length, take, drop, replicate}
+use Rattle.std.specs.Prelude.{get_or, slice_set, Option, Some, None}
 use Rattle.std.specs.List.{refill}
 
 -- a frame's bytes, and the allocation tags of its granules of 16 bytes

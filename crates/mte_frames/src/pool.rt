@@ -5,13 +5,14 @@ ghost use Rattle.std.specs.Prelude.{length, replicate, get_or, slice_set, sum, I
 ghost use Rattle.std.specs.Prelude.{OnErr, IfSome, IsTrue, vec_capacity, option_map};
 ghost use Rattle.std.specs.Option.{option_copied_mut};
 ghost use Rattle.std.specs.Borrow.{sem};
-ghost use Rattle.mte_arena.specs.Frames.{frame_at, AreFrames, IsTagRun, with_granule_tag, retagged_run};
+ghost use Rattle.mte_arena.specs.Frames.{frame_at, AreFrames, IsTagRun, with_granule_tag};
+ghost use Rattle.mte_arena.specs.Frames.{retagged_run};
 ghost use Rattle.mte_arena.specs.Frames.{zero_frame};
 ghost use Rattle.mte_arena.specs.Blocks.{frame_of};
 ghost use Rattle.mte_frames.specs.Pool.{Pool, make_pool, with_bytes_at, with_block_at, frames_left};
 ghost use Rattle.mte_frames.specs.Pool.{with_bytes_at_cases};
-ghost use Rattle.mte_frames.specs.Pool.{reserved_by, taken_by, HasFrameLeft, IsHeldBy, IsTaken, IsSound};
-ghost use Rattle.mte_frames.specs.Pool.{KeepsOthers};
+ghost use Rattle.mte_frames.specs.Pool.{reserved_by, taken_by, HasFrameLeft, IsHeldBy, IsTaken};
+ghost use Rattle.mte_frames.specs.Pool.{IsSound, KeepsOthers};
 
 use mte_arena::{Arena, BLOCK_BYTES, FRAME_BYTES, FRAME_GRANULES};
 use std::alloc::{AllocError, Global};

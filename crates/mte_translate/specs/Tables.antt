@@ -136,6 +136,11 @@ pub record IsTreeOf (p : Pool) (k root : ℕ) : Type 0 where
   pub use_of : ℕ → ℕ
   pub tree : IsTree p k root use_of
 
+-- A tree, and an entry of its root.
+pub record IsSlotOf (p : Pool) (k root s : ℕ) : Type 0 where
+  pub tree : IsTreeOf p k root
+  pub low : s < 512
+
 -- A tree, and a page that it has an entry for.
 pub record IsPageOf (p : Pool) (k root q : ℕ) : Type 0 where
   pub tree : IsTreeOf p k root

@@ -6,8 +6,8 @@ ghost use Rattle.std.specs.Prelude.{true, false};
 ghost use Rattle.address_map.specs.declared.limits.TheConstants.{MAX_FRAMES};
 ghost use Rattle.mte_frames.specs.Pool.{IsHeldBy, HasFrameLeft, taken_by};
 ghost use Rattle.mte_translate.specs.Tables.{entry_at, is_valid, count_in, walk_at};
-ghost use Rattle.mte_translate.specs.Tables.{IsTreeOf, IsPageOf, IsApart, HasLeafLeft, has_leaf};
-ghost use Rattle.mte_translate.specs.Tables.{missing_leaf};
+ghost use Rattle.mte_translate.specs.Tables.{IsTreeOf, IsSlotOf, IsPageOf, IsApart};
+ghost use Rattle.mte_translate.specs.Tables.{HasLeafLeft, has_leaf, missing_leaf};
 ghost use Rattle.mte_translate.specs.TableSteps.{KeepsRest, KeepsWalks, KeepsWalksBut};
 
 use crate::entries::{LeafEntry, RootEntry, TABLE_PAGES, entry, set_entry};
@@ -16,8 +16,7 @@ use mte_tags::Attrs;
 
 /// Hangs a leaf without pages into the root.
 pub(crate) fn add_leaf(pool: &mut FramePool, quota: &mut Quota, root: usize, slot: u64)
-    requires tree { IsTreeOf pool.old quota.old root }
-    requires low { slot < 512 }
+    requires slot { IsSlotOf pool.old quota.old root slot }
     requires absent { is_valid (entry_at pool.old root slot) ≡ false }
     requires room { HasFrameLeft pool.old quota.old }
     ensures tree { IsTreeOf pool.new quota.new root }
@@ -34,8 +33,7 @@ pub(crate) fn add_leaf(pool: &mut FramePool, quota: &mut Quota, root: usize, slo
 
 /// Takes a leaf without pages out of the root, and gives its frame back.
 pub(crate) fn drop_leaf(pool: &mut FramePool, quota: &mut Quota, root: usize, slot: u64)
-    requires tree { IsTreeOf pool.old quota.old root }
-    requires low { slot < 512 }
+    requires slot { IsSlotOf pool.old quota.old root slot }
     requires there { is_valid (entry_at pool.old root slot) ≡ true }
     requires empty { count_in (entry_at pool.old root slot) ≡ 0 }
     ensures tree { IsTreeOf pool.new quota.new root }

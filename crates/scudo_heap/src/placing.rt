@@ -34,9 +34,23 @@ pub(crate) fn close<M: Paged>(memory: &mut M, place: Place)
     }
 }
 
+/// Tag 0 on the granule of a chunk's header.
+#[tactic(auto, unfolding(crate::specs::Chunks::with_header_tag_0))]
+#[inline(always)]
+fn open<M: Paged>(memory: &mut M, place: Place)
+    requires place { FitsIn place }
+    requires open { IsOpen (M.memory memory.old) (place.user - 16) place.user }
+    ensures memory { M.memory memory.new ≡ with_header_tag_0 (M.memory memory.old) place }
+    ensures attrs { (q : ℕ)
+        → attrs_at (M.memory memory.new) q ≡ attrs_at (M.memory memory.old) q }
+    ensures kept { M.kept memory.old memory.new }
+{
+    set_tags(memory, place.user - 16, 1, 0, false);
+}
+
 /// Gives a chunk's granules a tag and zero bytes, and tag 0 to the granule of its header and to the
 /// one after the chunk, where its block goes on.
-#[tactic(auto, unfolding(crate::specs::Chunks::with_chunk_tag, crate::specs::Chunks::with_header_tag_0))]
+#[tactic(auto, unfolding(crate::specs::Chunks::with_chunk_tag))]
 #[inline(always)]
 fn tag_by_three_runs<M: Paged>(memory: &mut M, place: Place, tag: u8)
     requires tag { tag < 16 }
@@ -50,7 +64,7 @@ fn tag_by_three_runs<M: Paged>(memory: &mut M, place: Place, tag: u8)
     ensures kept { M.kept memory.old memory.new }
 {
     set_tags(memory, place.user, granules(place.size), tag, true);
-    set_tags(memory, place.user - 16, 1, 0, false);
+    open(memory, place);
     close(memory, place);
 }
 
