@@ -17,16 +17,13 @@ use crate::pages::take_pages;
 use crate::parts::HeapParts;
 use crate::request::Request;
 use mte_tags::{Paged, Rgsr};
-use scudo_header::{MAX_REQUEST, class_of};
+use scudo_header::{MAX_ALIGNMENT, MAX_REQUEST, class_of};
 
 /// Whether an alignment is a power of two up to `MAX_ALIGNMENT`.
 pub(crate) fn is_power(alignment: u64) -> bool
     ensures { result ≡ is_alignment alignment }
 {
-    matches!(
-        alignment,
-        1 | 2 | 4 | 8 | 16 | 32 | 64 | 128 | 256 | 512 | 1024 | 2048 | 4096
-    )
+    alignment <= MAX_ALIGNMENT && alignment.is_power_of_two()
 }
 
 /// A chunk of some bytes: in a block of the least class that holds them, else with pages of its
