@@ -41,7 +41,7 @@ ghost use Rattle.scudo_primary.specs.Blocks.{IsClass};
 ghost use Rattle.scudo_primary.specs.Inner.{is_last_at};
 ghost use Rattle.scudo_primary.specs.Inner.{list_at, entry_at, state_in, class_after_link};
 ghost use Rattle.scudo_primary.specs.Inner.{class_after_link_new};
-ghost use Rattle.scudo_primary.specs.Inner.{IsFilledUp, IsNumberedOn, place_of, slot_of};
+ghost use Rattle.scudo_primary.specs.Inner.{IsFilledUp, IsNumberedOn, HasNumber, place_of, slot_of};
 
 /// Where the number of a page of a class's region is.
 #[inline(always)]
@@ -56,9 +56,7 @@ fn slot(class: u8, page: u64) -> usize
 /// Where the entry of a block is.
 #[inline(always)]
 pub(crate) fn place(numbers: &[u16], class: u8, block: u64) -> usize
-    requires class { IsClass class }
-    requires inside { region_of class ≤ block }
-    requires slot { slot_of class ((block - region_of class) / PAGE_SIZE) < length numbers.now }
+    requires { HasNumber numbers.now class block }
     ensures { result ≡ place_of numbers.now class block }
 {
     let offset = block - region_start(class);
@@ -75,9 +73,7 @@ pub(crate) fn set_mark(
     block: u64,
     free: bool,
 )
-    requires class { IsClass class }
-    requires inside { region_of class ≤ block }
-    requires slot { slot_of class ((block - region_of class) / PAGE_SIZE) < length numbers.now }
+    requires number { HasNumber numbers.now class block }
     requires place { place_of numbers.now class block < length entries.old }
     ensures { entries.new
         ≡ slice_set entries.old (place_of numbers.now class block)
