@@ -23,7 +23,7 @@ use Rattle.std.specs.Ordering.{nat_cmp}
 use Rattle.std.specs.FinMap as map
 use Rattle.std.specs.FinMap.{FinMap}
 use Rattle.mte_arena.specs.Frames.{frame_at}
-use Rattle.mte_frames.specs.Pool.{Pool, IsHeldBy, taken_by, reserved_by}
+use Rattle.mte_frames.specs.Pool.{Pool, IsHeldBy, IsTaken, taken_by, reserved_by}
 use Rattle.mte_tags.specs.declared.attrs.Attrs.{Attrs}
 use Rattle.mte_translate.specs.declared.entries.TheConstants.{TABLE_PAGES}
 use Rattle.mte_translate.specs.declared.translation.Translation.{Translation}
@@ -32,6 +32,11 @@ use Rattle.mte_translate.specs.declared.translation.Translation.{Translation}
 unfoldable pub entry_at : Pool → ℕ → ℕ → ℕ
 entry_at p f i =
     from_le_bytes w64 (slice_range (frame_at p.frames f).bytes (8 * i) (8 * i + 8))
+
+-- A frame that is out, and one of its entries.
+pub record HasEntry (p : Pool) (f i : ℕ) : Type 0 where
+  pub out : IsTaken p f
+  pub low : i < 512
 
 -- Bit 0 of an entry says that it is valid.
 abbrev pub is_valid : ℕ → Bool
