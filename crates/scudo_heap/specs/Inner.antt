@@ -133,6 +133,11 @@ pub record FitsIn (p : Place) : Type 0 where
   pub small : p.size < 2 ^ 20
   pub within : end_of p ≤ block_end p
 
+-- a chunk that fits in its block, and a tag for it
+pub record FitsTagged (p : Place) (tag : ℕ) : Type 0 where
+  pub place : FitsIn p
+  pub small : tag < 16
+
 -- an address that a header may stand in front of
 pub record IsUser (user : ℕ) : Type 0 where
   pub aligned : user % 16 ≡ 0

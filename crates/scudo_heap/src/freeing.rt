@@ -13,7 +13,7 @@ ghost use Rattle.scudo_heap.specs.Chunks.{with_header};
 ghost use Rattle.scudo_heap.specs.Placing.{world_of};
 ghost use Rattle.scudo_heap.specs.Freeing.{without_chunk};
 ghost use Rattle.scudo_heap.specs.Served.{HeapOwnsItsPages, HasTag};
-ghost use Rattle.scudo_heap.specs.Inner.{FitsIn, IsFoundBlock, IsFound, IsOpen};
+ghost use Rattle.scudo_heap.specs.Inner.{FitsTagged, IsFoundBlock, IsFound, IsOpen};
 ghost use Rattle.scudo_heap.specs.Inner.Parts.{heap_in};
 
 use crate::chunk::{Found, Place};
@@ -31,8 +31,7 @@ use scudo_secondary::{Mapping, Secondary};
 #[tactic(auto, unfolding(crate::specs::Chunks::with_chunk_tag))]
 #[inline(always)]
 fn write_freed<M: Paged>(memory: &mut M, cookie: u32, place: Place, tag: u8, header: &Header)
-    requires tag { tag < 16 }
-    requires place { FitsIn place }
+    requires chunk { FitsTagged place tag }
     requires fields { FitsInWord header.now }
     requires open { IsOpen (M.memory memory.old) (place.user - 16) (end_of place) }
     ensures memory { M.memory memory.new

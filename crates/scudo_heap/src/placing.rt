@@ -9,7 +9,7 @@ ghost use Rattle.scudo_heap.specs.Chunks.{with_end_tag_0, with_header_tag_0};
 ghost use Rattle.scudo_heap.specs.Chunks.{with_header};
 ghost use Rattle.scudo_heap.specs.Placing.{new_header};
 ghost use Rattle.scudo_heap.specs.Served.{HasTag};
-ghost use Rattle.scudo_heap.specs.Inner.{FitsIn, IsOpen};
+ghost use Rattle.scudo_heap.specs.Inner.{FitsIn, FitsTagged, IsOpen};
 
 use crate::chunk::Place;
 use crate::granules::{put_header, set_tags};
@@ -53,8 +53,7 @@ fn open<M: Paged>(memory: &mut M, place: Place)
 #[tactic(auto, unfolding(crate::specs::Chunks::with_chunk_tag))]
 #[inline(always)]
 fn tag_by_three_runs<M: Paged>(memory: &mut M, place: Place, tag: u8)
-    requires tag { tag < 16 }
-    requires place { FitsIn place }
+    requires chunk { FitsTagged place tag }
     requires open { IsOpen (M.memory memory.old) place.block (block_end place) }
     ensures memory { M.memory memory.new
         ≡ with_end_tag_0 (with_header_tag_0
@@ -72,8 +71,7 @@ fn tag_by_three_runs<M: Paged>(memory: &mut M, place: Place, tag: u8)
 /// tag goes over a run of tag 0.
 #[inline(always)]
 fn write_around<M: Paged>(memory: &mut M, cookie: u32, place: Place, tag: u8, header: &Header)
-    requires tag { tag < 16 }
-    requires place { FitsIn place }
+    requires chunk { FitsTagged place tag }
     requires fields { FitsInWord header.now }
     requires open { IsOpen (M.memory memory.old) place.block (block_end place) }
     ensures memory { M.memory memory.new
