@@ -8,8 +8,8 @@
 --     with_granule_tag fs f g t  fs with another tag there
 --     retagged_run fs f g n t    fs with another tag at the n granules from g on
 --     AreFrames fs               each frame that is present has 4096 bytes and 256 tags below 16
-use Rattle.std.specs.Prelude.{◌≡◌, ℕ, ◌+◌, ◌<◌, List, ◌++◌, length, take, drop, replicate, get_or}
-use Rattle.std.specs.Prelude.{slice_set, Option, Some, None}
+use Rattle.std.specs.Prelude.{◌≡◌, ℕ, ◌+◌, ◌<◌, ◌≤◌, List, ◌++◌, length, take, drop, replicate}
+use Rattle.std.specs.Prelude.{get_or, slice_set, Option, Some, None}
 use Rattle.std.specs.List.{refill}
 
 -- a frame's bytes, and the allocation tags of its granules of 16 bytes
@@ -62,6 +62,11 @@ with_bytes_cases fs (Some f) ws = with_bytes fs f ws
 abbrev pub with_granule_tag : List (Option Frame) → ℕ → ℕ → ℕ → List (Option Frame)
 with_granule_tag fs f g t =
     slice_set fs f (Some (make_frame (frame_at fs f).bytes (slice_set (frame_at fs f).tags g t)))
+
+-- a run within so many granules, and a tag for each granule of it
+pub record IsTagRun (granules first count tag : ℕ) : Type 0 where
+  pub within : first + count ≤ granules
+  pub small : tag < 16
 
 -- the list with t in the place of its n elements from g on
 abbrev pub with_run : List ℕ → ℕ → ℕ → ℕ → List ℕ

@@ -6,7 +6,7 @@ ghost use Rattle.std.specs.Prelude.{IfSome, option_map};
 ghost use Rattle.std.specs.Option.{option_copied_mut};
 ghost use Rattle.std.specs.Borrow.{sem};
 ghost use Rattle.mte_arena.specs.Frames.{Frame, IsLive, AreFrames, frame_at, with_granule_tag};
-ghost use Rattle.mte_arena.specs.Frames.{retagged_run, zero_frame};
+ghost use Rattle.mte_arena.specs.Frames.{IsTagRun, retagged_run, zero_frame};
 ghost use Rattle.mte_arena.specs.Blocks.{frame_of};
 
 use crate::packed::{half_of, set_half, set_run};
@@ -179,8 +179,7 @@ impl Arena {
     /// other tags and all other frames stay as they are.
     pub fn set_tag(&mut self, f: usize, g: usize, tag: u8)
         requires live { IsLive self.old f }
-        requires granule { g < FRAME_GRANULES }
-        requires tag { tag < 16 }
+        requires run { IsTagRun FRAME_GRANULES g 1 tag }
         ensures { self.new ≡ with_granule_tag self.old f g tag }
     {
         let packed = self.region.part_mut(self.start, f, FRAME_BYTES, TAG_BYTES);
@@ -192,8 +191,7 @@ impl Arena {
     #[inline(always)]
     pub fn set_tags(&mut self, f: usize, first: usize, count: usize, tag: u8)
         requires live { IsLive self.old f }
-        requires granules { first + count ≤ FRAME_GRANULES }
-        requires tag { tag < 16 }
+        requires run { IsTagRun FRAME_GRANULES first count tag }
         ensures { self.new ≡ retagged_run self.old f first count tag }
     {
         let packed = self.region.part_mut(self.start, f, FRAME_BYTES, TAG_BYTES);

@@ -2,7 +2,7 @@
 
 ghost use Rattle.std.specs.Prelude.{◌≡◌, ◌+◌, ◌*◌, ◌%◌, ◌<◌, ◌≤◌, length, slice_set};
 ghost use Rattle.mte_arena.specs.Blocks.{half, tags_of_bytes};
-ghost use Rattle.mte_arena.specs.Frames.{with_run};
+ghost use Rattle.mte_arena.specs.Frames.{IsTagRun, with_run};
 
 pub(crate) fn half_of(byte: u8, g: usize) -> u8
     ensures { result ≡ half byte g }
@@ -25,8 +25,7 @@ fn with_half(byte: u8, g: usize, tag: u8) -> u8
 
 /// Sets the tag of the granule `g`.
 pub(crate) fn set_half(packed: &mut [u8], g: usize, tag: u8)
-    requires granule { g < length packed.old * 2 }
-    requires tag { tag < 16 }
+    requires { IsTagRun (length packed.old * 2) g 1 tag }
     ensures tags { tags_of_bytes packed.new ≡ slice_set (tags_of_bytes packed.old) g tag }
     ensures len { length packed.new ≡ length packed.old }
 {
@@ -36,8 +35,7 @@ pub(crate) fn set_half(packed: &mut [u8], g: usize, tag: u8)
 /// Sets the tags of the `count` granules from `first` on, in whole bytes but for the ends.
 #[inline(always)]
 pub(crate) fn set_run(packed: &mut [u8], first: usize, count: usize, tag: u8)
-    requires granules { first + count ≤ length packed.old * 2 }
-    requires tag { tag < 16 }
+    requires { IsTagRun (length packed.old * 2) first count tag }
     ensures tags { tags_of_bytes packed.new ≡ with_run (tags_of_bytes packed.old) first count tag }
     ensures len { length packed.new ≡ length packed.old }
 {
@@ -54,9 +52,8 @@ pub(crate) fn set_run(packed: &mut [u8], first: usize, count: usize, tag: u8)
 
 /// Writes a run that begins at an even granule.
 fn set_even_run(packed: &mut [u8], first: usize, count: usize, tag: u8)
-    requires granules { first + count ≤ length packed.old * 2 }
+    requires run { IsTagRun (length packed.old * 2) first count tag }
     requires even { first % 2 ≡ 0 }
-    requires tag { tag < 16 }
     ensures tags { tags_of_bytes packed.new ≡ with_run (tags_of_bytes packed.old) first count tag }
     ensures len { length packed.new ≡ length packed.old }
 {
@@ -68,8 +65,7 @@ fn set_even_run(packed: &mut [u8], first: usize, count: usize, tag: u8)
 
 /// Sets both tags of each of the `count` bytes from `from` on.
 fn set_pairs(packed: &mut [u8], from: usize, count: usize, tag: u8)
-    requires bytes { from + count ≤ length packed.old }
-    requires tag { tag < 16 }
+    requires { IsTagRun (length packed.old * 2) (from * 2) (count * 2) tag }
     ensures tags { tags_of_bytes packed.new
         ≡ with_run (tags_of_bytes packed.old) (from * 2) (count * 2) tag }
     ensures len { length packed.new ≡ length packed.old }

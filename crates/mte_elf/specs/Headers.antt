@@ -1,7 +1,7 @@
 -- An ELF64 file as numbers: its file header and its table of program headers (System V ABI, Object
 -- Files).
-use Rattle.std.specs.Prelude.{ℕ, zero, suc, ◌+◌, ◌==◌, nat_lt, ◌&&◌, Bool, List, [], ◌∷◌, drop, map}
-use Rattle.std.specs.Prelude.{filter}
+use Rattle.std.specs.Prelude.{ℕ, zero, suc, ◌+◌, ◌≤◌, ◌==◌, nat_lt, ◌&&◌, Bool, List, [], ◌∷◌, drop}
+use Rattle.std.specs.Prelude.{map, filter, length}
 use Rattle.byteorder.specs.Endian.{little_number}
 use Rattle.mte_elf.specs.declared.headers.ProgramHeader.{ProgramHeader}
 use Rattle.mte_elf.specs.declared.image.Segment.{Segment}
@@ -9,6 +9,14 @@ use Rattle.mte_elf.specs.declared.image.Segment.{Segment}
 -- the number of n bytes at a place of the file, the lowest byte first
 unfoldable pub number_at : List ℕ → ℕ → ℕ → ℕ
 number_at file n at = little_number n (drop at file)
+
+-- The file has n bytes from a place on.
+abbrev pub HasField : List ℕ → ℕ → ℕ → Type 0
+HasField file n at = at + n ≤ length file
+
+-- The file has the 64 bytes of a file header.
+abbrev pub HasFileHeader : List ℕ → Type 0
+HasFileHeader file = 64 ≤ length file
 
 -- e_type
 abbrev pub file_type_of : List ℕ → ℕ

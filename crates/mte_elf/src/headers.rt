@@ -3,7 +3,7 @@
 ghost use Rattle.std.specs.Prelude.{◌≡◌, ◌+◌, ◌≤◌, length, IfOk, IfErr, map, filter, true};
 ghost use Rattle.mte_elf.specs.Images.{has_table};
 ghost use Rattle.mte_elf.specs.Headers.{number_at, header_at, headers_of, is_loaded, segment_of};
-ghost use Rattle.mte_elf.specs.Headers.{is_interpreter};
+ghost use Rattle.mte_elf.specs.Headers.{HasField, HasFileHeader, is_interpreter};
 ghost use Rattle.std.specs.List.{list_any};
 
 use crate::image::Segment;
@@ -38,7 +38,7 @@ pub const HEADER_BYTES: usize = 56;
 
 #[tactic(auto, unfolding(crate::specs::Headers::number_at))]
 fn half_at(file: &[u8], at: usize) -> u16
-    requires { at + 2 ≤ length file.now }
+    requires { HasField file.now 2 at }
     ensures { result ≡ number_at file.now 2 at }
 {
     LittleEndian::read_u16(&file[at..])
@@ -46,7 +46,7 @@ fn half_at(file: &[u8], at: usize) -> u16
 
 #[tactic(auto, unfolding(crate::specs::Headers::number_at))]
 fn word_at(file: &[u8], at: usize) -> u32
-    requires { at + 4 ≤ length file.now }
+    requires { HasField file.now 4 at }
     ensures { result ≡ number_at file.now 4 at }
 {
     LittleEndian::read_u32(&file[at..])
@@ -54,7 +54,7 @@ fn word_at(file: &[u8], at: usize) -> u32
 
 #[tactic(auto, unfolding(crate::specs::Headers::number_at))]
 fn double_word_at(file: &[u8], at: usize) -> u64
-    requires { at + 8 ≤ length file.now }
+    requires { HasField file.now 8 at }
     ensures { result ≡ number_at file.now 8 at }
 {
     LittleEndian::read_u64(&file[at..])
@@ -62,7 +62,7 @@ fn double_word_at(file: &[u8], at: usize) -> u64
 
 /// `e_type`.
 pub fn file_type(file: &[u8]) -> u16
-    requires { 64 ≤ length file.now }
+    requires { HasFileHeader file.now }
     ensures { result ≡ number_at file.now 2 16 }
 {
     half_at(file, 16)
@@ -70,7 +70,7 @@ pub fn file_type(file: &[u8]) -> u16
 
 /// `e_machine`.
 pub fn machine(file: &[u8]) -> u16
-    requires { 64 ≤ length file.now }
+    requires { HasFileHeader file.now }
     ensures { result ≡ number_at file.now 2 18 }
 {
     half_at(file, 18)
@@ -78,7 +78,7 @@ pub fn machine(file: &[u8]) -> u16
 
 /// `e_entry`.
 pub fn entry(file: &[u8]) -> u64
-    requires { 64 ≤ length file.now }
+    requires { HasFileHeader file.now }
     ensures { result ≡ number_at file.now 8 24 }
 {
     double_word_at(file, 24)
@@ -86,7 +86,7 @@ pub fn entry(file: &[u8]) -> u64
 
 /// `e_phoff`.
 pub fn table_offset(file: &[u8]) -> u64
-    requires { 64 ≤ length file.now }
+    requires { HasFileHeader file.now }
     ensures { result ≡ number_at file.now 8 32 }
 {
     double_word_at(file, 32)
@@ -94,7 +94,7 @@ pub fn table_offset(file: &[u8]) -> u64
 
 /// `e_phentsize`.
 pub fn header_size(file: &[u8]) -> u16
-    requires { 64 ≤ length file.now }
+    requires { HasFileHeader file.now }
     ensures { result ≡ number_at file.now 2 54 }
 {
     half_at(file, 54)
@@ -102,7 +102,7 @@ pub fn header_size(file: &[u8]) -> u16
 
 /// `e_phnum`.
 pub fn header_count(file: &[u8]) -> u16
-    requires { 64 ≤ length file.now }
+    requires { HasFileHeader file.now }
     ensures { result ≡ number_at file.now 2 56 }
 {
     half_at(file, 56)
@@ -111,7 +111,7 @@ pub fn header_count(file: &[u8]) -> u16
 /// The program header that begins at a place of the file.
 #[tactic(auto, unfolding(crate::specs::Headers::header_at))]
 fn program_header(file: &[u8], at: usize) -> ProgramHeader
-    requires { at + 56 ≤ length file.now }
+    requires { HasField file.now 56 at }
     ensures { result ≡ header_at file.now at }
 {
     ProgramHeader {
@@ -126,7 +126,7 @@ fn program_header(file: &[u8], at: usize) -> ProgramHeader
 
 /// Whether some program header is PT_INTERP.
 pub fn has_interpreter(file: &[u8]) -> bool
-    requires file_header { 64 ≤ length file.now }
+    requires file_header { HasFileHeader file.now }
     requires table { has_table file.now ≡ true }
     ensures { result ≡ list_any is_interpreter (headers_of file.now) }
 {
@@ -142,7 +142,7 @@ pub fn has_interpreter(file: &[u8]) -> bool
 
 /// The table of program headers.
 pub fn program_headers(alloc: Global, file: &[u8]) -> Result<Vec<ProgramHeader>, AllocError>
-    requires file_header { 64 ≤ length file.now }
+    requires file_header { HasFileHeader file.now }
     requires table { has_table file.now ≡ true }
     ensures { IfOk result (λ headers. headers.items ≡ headers_of file.now) }
 {

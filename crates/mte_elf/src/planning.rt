@@ -4,7 +4,7 @@ ghost use Rattle.std.specs.Prelude.{◌≡◌, ℕ, ◌+◌, ◌-◌, ◌*◌, �
 ghost use Rattle.std.specs.Prelude.{IfErr, Err, Some, None, sum_by, true};
 ghost use Rattle.std.specs.List.{list_any, list_all};
 ghost use Rattle.obstacle.specs.Obstacles.{IfRefused};
-ghost use Rattle.mte_elf.specs.Headers.{entry_of, segments_of};
+ghost use Rattle.mte_elf.specs.Headers.{HasFileHeader, entry_of, segments_of};
 ghost use Rattle.mte_elf.specs.Images.{refusal_of, pages_of, has_table, is_in_range};
 ghost use Rattle.mte_elf.specs.Images.{header_refusal};
 ghost use Rattle.mte_elf.specs.Images.{any_share_page, share_page, is_entry, page_count};
@@ -89,7 +89,7 @@ pub fn plan(alloc: Global, file: &[u8]) -> Result<Plan, Obstacle<ElfError>>
 
 /// Whether the file has a table of 1 to 64 program headers of 56 bytes.
 fn holds_table(file: &[u8]) -> bool
-    requires { 64 ≤ length file.now }
+    requires { HasFileHeader file.now }
     ensures { result ≡ has_table file.now }
 {
     let count = u64::from(header_count(file));

@@ -9,8 +9,8 @@
 --     IsTaken p f                 the frame f is out under some quota
 --     IsSound p                   what holds of every pool
 --     KeepsOthers q p n           from p to n all other quotas, and the frames out under them, stay
-use Rattle.std.specs.Prelude.{◌≡◌, ◌≢◌, ◌↔◌, ℕ, ◌+◌, ◌-◌, ◌≤◌, if◌then◌else◌, nat_eq, List, [], ◌∷◌}
-use Rattle.std.specs.Prelude.{length, sum, get_or, Option, Some, None}
+use Rattle.std.specs.Prelude.{◌≡◌, ◌≢◌, ◌↔◌, ℕ, ◌+◌, ◌-◌, ◌<◌, ◌≤◌, if◌then◌else◌}
+use Rattle.std.specs.Prelude.{nat_eq, List, [], ◌∷◌, length, sum, get_or, Option, Some, None}
 use Rattle.address_map.specs.declared.limits.TheConstants.{MAX_FRAMES}
 use Rattle.mte_arena.specs.Blocks.{with_block}
 use Rattle.mte_arena.specs.Frames.{Frame, IsLive, with_bytes, with_bytes_cases}
@@ -55,6 +55,10 @@ reserved_by p q = get_or p.reserved q 0
 -- The frames that a quota has taken.
 abbrev pub taken_by : Pool → ℕ → ℕ
 taken_by p q = get_or p.taken q 0
+
+-- A quota may take one frame more.
+abbrev pub HasFrameLeft : Pool → ℕ → Type 0
+HasFrameLeft p q = taken_by p q < reserved_by p q
 
 -- A frame was taken by a quota.
 abbrev pub IsHeldBy : Pool → ℕ → ℕ → Type 0

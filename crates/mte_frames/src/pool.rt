@@ -5,13 +5,14 @@ ghost use Rattle.std.specs.Prelude.{length, replicate, get_or, slice_set, sum, I
 ghost use Rattle.std.specs.Prelude.{OnErr, IfSome, IsTrue, vec_capacity, option_map};
 ghost use Rattle.std.specs.Option.{option_copied_mut};
 ghost use Rattle.std.specs.Borrow.{sem};
-ghost use Rattle.mte_arena.specs.Frames.{frame_at, AreFrames, with_granule_tag, retagged_run};
+ghost use Rattle.mte_arena.specs.Frames.{frame_at, AreFrames, IsTagRun, with_granule_tag};
+ghost use Rattle.mte_arena.specs.Frames.{retagged_run};
 ghost use Rattle.mte_arena.specs.Frames.{zero_frame};
 ghost use Rattle.mte_arena.specs.Blocks.{frame_of};
 ghost use Rattle.mte_frames.specs.Pool.{Pool, make_pool, with_bytes_at, with_block_at, frames_left};
 ghost use Rattle.mte_frames.specs.Pool.{with_bytes_at_cases};
-ghost use Rattle.mte_frames.specs.Pool.{reserved_by, taken_by, IsHeldBy, IsTaken, IsSound};
-ghost use Rattle.mte_frames.specs.Pool.{KeepsOthers};
+ghost use Rattle.mte_frames.specs.Pool.{reserved_by, taken_by, HasFrameLeft, IsHeldBy, IsTaken};
+ghost use Rattle.mte_frames.specs.Pool.{IsSound, KeepsOthers};
 
 use mte_arena::{Arena, BLOCK_BYTES, FRAME_BYTES, FRAME_GRANULES};
 use std::alloc::{AllocError, Global};
@@ -195,7 +196,7 @@ impl FramePool {
     /// Takes a frame that is out under no quota, and makes its bytes and tags zero. While the quota
     /// has something left there is one. What was out stays out.
     pub fn take(&mut self, quota: &mut Quota) -> usize
-        requires { taken_by self.old quota.old < reserved_by self.old quota.old }
+        requires { HasFrameLeft self.old quota.old }
         ensures same { quota.new ≡ quota.old }
         ensures vacant { get_or self.old.owners result (Some 0) ≡ None }
         ensures within { result < length self.old.frames }
@@ -294,8 +295,7 @@ impl FramePool {
     /// tags and all other frames stay as they are.
     pub fn set_tag(&mut self, f: usize, g: usize, tag: u8)
         requires out { IsTaken self.old f }
-        requires granule { g < FRAME_GRANULES }
-        requires tag { tag < 16 }
+        requires run { IsTagRun FRAME_GRANULES g 1 tag }
         ensures pool { self.new
             ≡ make_pool self.old.capacities
             (with_granule_tag self.old.frames f g tag) self.old.owners
@@ -310,8 +310,7 @@ impl FramePool {
     #[inline(always)]
     pub fn set_tags(&mut self, f: usize, first: usize, count: usize, tag: u8)
         requires out { IsTaken self.old f }
-        requires granules { first + count ≤ FRAME_GRANULES }
-        requires tag { tag < 16 }
+        requires run { IsTagRun FRAME_GRANULES first count tag }
         ensures pool { self.new
             ≡ make_pool self.old.capacities (retagged_run self.old.frames f first count tag)
             self.old.owners self.old.reserved self.old.taken }

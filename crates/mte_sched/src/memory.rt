@@ -3,9 +3,7 @@
 
 ghost use Rattle.std.specs.Prelude.{◌≡◌, ◌≢◌, ◌+◌, ◌<◌, ◌≤◌, None, All, sum, false};
 ghost use Rattle.std.specs.FinMap.{empty};
-ghost use Rattle.mte_elf.specs.Headers.{segments_of};
-ghost use Rattle.mte_elf.specs.Images.{refusal_of, pages_of as image_pages};
-ghost use Rattle.mte_frames.specs.Pool.{frames_left, reserved_by, taken_by, KeepsOthers};
+ghost use Rattle.mte_frames.specs.Pool.{reserved_by, taken_by, KeepsOthers};
 ghost use Rattle.mte_space.specs.Spaces.{IsSpace, HasFrames, KeepsRest, NoneEnters};
 ghost use Rattle.mte_tags.specs.Memory.{no_pages};
 ghost use Rattle.mte_translate.specs.Tables.{pages_of, IsTable, MapsOnce, IsCached};
@@ -13,11 +11,11 @@ ghost use Rattle.mte_translate.specs.Translations.{without_asid};
 ghost use Rattle.scudo_heap.specs.Served.{IsUntouched};
 ghost use Rattle.mte_tenant.specs.Ledger.{charge_of};
 ghost use Rattle.mte_tenant.specs.Machines.{machine_of, first_memory, after_slice};
-ghost use Rattle.mte_sched.specs.Memories.{memory_at, IsTenantMemory};
+ghost use Rattle.mte_sched.specs.Memories.{memory_at, IsTenantMemory, IsPlanned, HasCharge};
 ghost use Rattle.mte_svc.specs.Ready.{IsReady};
 
 use crate::tenant::{Caches, Live};
-use address_map::{MAX_PAGES, STACK_PAGES};
+use address_map::MAX_PAGES;
 use mte_elf::Plan;
 use mte_frames::{FramePool, Quota};
 use mte_space::{Space, pages_of_a_space, unmap_all};
@@ -41,12 +39,9 @@ pub(crate) fn start_memory(
     admission: &Admission<'_>,
     plan: &Plan,
 ) -> TenantMemory
-    requires image { refusal_of admission.now.image.now ≡ None }
-    requires segments { plan.now.segments.items ≡ segments_of admission.now.image.now }
-    requires room { image_pages admission.now.image.now + STACK_PAGES ≤ admission.now.terms.pages }
-    requires some { 0 < admission.now.terms.pages }
+    requires image { IsPlanned admission.now.image.now plan.now admission.now.terms.pages }
     requires most { admission.now.terms.pages ≤ MAX_PAGES }
-    requires frames { charge_of admission.now.terms.pages ≤ frames_left pool.old }
+    requires frames { HasCharge pool.old admission.now.terms.pages }
     requires fresh { All (λ u. u.asid ≢ asid) tlb.old }
     ensures placed { IsTenantMemory pool.new tlb.new asid admission.now.terms.pages result }
     ensures memory { memory_at pool.new result admission.now.terms.pages
@@ -71,7 +66,7 @@ pub(crate) fn start_memory(
 
 /// Reserves a new tenant's charge, and makes a table that maps nothing.
 fn reserve_memory(pool: &mut FramePool, pages: u32, mode: TagMode) -> TenantMemory
-    requires frames { charge_of pages ≤ frames_left pool.old }
+    requires frames { HasCharge pool.old pages }
     ensures table { IsTable pool.new result.quota result.table }
     ensures none { pages_of pool.new result.table.frame ≡ empty }
     ensures once { MapsOnce (pages_of pool.new result.table.frame) }
@@ -111,9 +106,7 @@ fn fill_memory(
     plan: &Plan,
     memory: &mut TenantMemory,
 )
-    requires image { refusal_of admission.now.image.now ≡ None }
-    requires segments { plan.now.segments.items ≡ segments_of admission.now.image.now }
-    requires room { image_pages admission.now.image.now + STACK_PAGES ≤ admission.now.terms.pages }
+    requires image { IsPlanned admission.now.image.now plan.now admission.now.terms.pages }
     requires empty { memory_at pool.old memory.old admission.now.terms.pages
         ≡ no_pages admission.now.terms.pages admission.now.terms.mode }
     requires table { IsTable pool.old memory.old.quota memory.old.table }

@@ -14,7 +14,8 @@
 --     MapsOnce m                 each frame has one page at most
 --     MapsNever m f              no page is mapped to the frame f
 --     IsCached m asid ts         the translations ts of the ASID are those of the pages m
-use Rattle.std.specs.Prelude.{◌≡◌, ◌≢◌, ℕ, zero, suc, ◌+◌, ◌*◌, ◌/◌, ◌%◌, ◌<◌, ◌==◌, Bool, true}
+use Rattle.std.specs.Prelude.{◌≡◌, ◌≢◌, ℕ, zero, suc, ◌+◌, ◌*◌, ◌/◌, ◌%◌, ◌<◌, ◌≤◌, ◌==◌, Bool}
+use Rattle.std.specs.Prelude.{true}
 use Rattle.std.specs.Prelude.{false, List, [], ◌∷◌, get_or, Option, Some, None, if◌then◌else◌, All}
 use Rattle.std.specs.Int.{from_le_bytes, w64}
 use Rattle.std.specs.List.{slice_range}
@@ -22,7 +23,7 @@ use Rattle.std.specs.Ordering.{nat_cmp}
 use Rattle.std.specs.FinMap as map
 use Rattle.std.specs.FinMap.{FinMap}
 use Rattle.mte_arena.specs.Frames.{frame_at}
-use Rattle.mte_frames.specs.Pool.{Pool, IsHeldBy}
+use Rattle.mte_frames.specs.Pool.{Pool, IsHeldBy, IsTaken, taken_by, reserved_by}
 use Rattle.mte_tags.specs.declared.attrs.Attrs.{Attrs}
 use Rattle.mte_translate.specs.declared.entries.TheConstants.{TABLE_PAGES}
 use Rattle.mte_translate.specs.declared.translation.Translation.{Translation}
@@ -31,6 +32,11 @@ use Rattle.mte_translate.specs.declared.translation.Translation.{Translation}
 unfoldable pub entry_at : Pool → ℕ → ℕ → ℕ
 entry_at p f i =
     from_le_bytes w64 (slice_range (frame_at p.frames f).bytes (8 * i) (8 * i + 8))
+
+-- A frame that is out, and one of its entries.
+pub record HasEntry (p : Pool) (f i : ℕ) : Type 0 where
+  pub out : IsTaken p f
+  pub low : i < 512
 
 -- Bit 0 of an entry says that it is valid.
 abbrev pub is_valid : ℕ → Bool
@@ -59,6 +65,10 @@ has_leaf p root q = is_valid (entry_at p root (q / 512))
 -- 1 where the leaf that serves the page isn't there
 abbrev pub missing_leaf : Pool → ℕ → ℕ → ℕ
 missing_leaf p root q = if has_leaf p root q then 0 else 1
+
+-- The quota may take a frame for the leaf of a page, where that isn't there.
+abbrev pub HasLeafLeft : Pool → ℕ → ℕ → ℕ → Type 0
+HasLeafLeft p k root q = taken_by p k + missing_leaf p root q ≤ reserved_by p k
 
 -- The entry that the walk for a page finds, in the leaf which the root names; 0 without a leaf.
 unfoldable pub walk_at : Pool → ℕ → ℕ → ℕ
@@ -130,6 +140,16 @@ pub record IsTree (p : Pool) (k root : ℕ) (use_of : ℕ → ℕ) : Type 0 wher
 pub record IsTreeOf (p : Pool) (k root : ℕ) : Type 0 where
   pub use_of : ℕ → ℕ
   pub tree : IsTree p k root use_of
+
+-- A tree, and an entry of its root.
+pub record IsSlotOf (p : Pool) (k root s : ℕ) : Type 0 where
+  pub tree : IsTreeOf p k root
+  pub low : s < 512
+
+-- A tree, and a page that it has an entry for.
+pub record IsPageOf (p : Pool) (k root q : ℕ) : Type 0 where
+  pub tree : IsTreeOf p k root
+  pub low : q < TABLE_PAGES
 
 -- The same without such a function: root and leaves are out under the quota and all different, and
 -- the frames of pages are out under it and none of these.

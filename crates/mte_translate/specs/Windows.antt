@@ -8,6 +8,16 @@ pub record Window : Type 0 where
   pub first : ℕ
   pub items : List Translation
 
+-- a translation stands at the place
+pub record IsAt (w : Window) (place : ℕ) : Type 0 where
+  pub from : w.first ≤ place
+  pub within : place < w.first + length w.items
+
+-- the place comes before the end of those of the row that are in use
+pub record IsBefore (place end : ℕ) : Type 0 where
+  pub within : place < end
+  pub most : end ≤ 128
+
 -- the translation of the page stands at the place
 pub record IsPlaceOf (asid page : ℕ) (w : Window) (place : ℕ) : Type 0 where
   pub from : w.first ≤ place

@@ -3,7 +3,7 @@
 ghost use Rattle.std.specs.Prelude.{◌≡◌, ℕ, ◌+◌, ◌-◌, ◌<◌, ◌≤◌, List, [], ◌∷◌, ◌++◌, length};
 ghost use Rattle.std.specs.Prelude.{slice_index};
 ghost use Rattle.std.specs.List.{remove};
-ghost use Rattle.mte_translate.specs.Windows.{IsHeadWithout, IsGapWithout};
+ghost use Rattle.mte_translate.specs.Windows.{IsBefore, IsHeadWithout, IsGapWithout};
 ghost use Rattle.mte_translate.specs.Whole.{hash_of, hashes_of, IsChained};
 
 use crate::standing::PLACES;
@@ -78,8 +78,7 @@ impl Chains {
 
     /// The translation at `place` goes, and all younger ones, before `end`, move down by one.
     pub(crate) fn remove(&mut self, place: usize, end: usize)
-        requires within { place < end }
-        requires most { end ≤ 128 }
+        requires { IsBefore place end }
         ensures { (first i : ℕ) (hs : List ℕ)
             → first + i ≡ place → first + length hs ≡ end → length hs ≤ 64
             → IsChained first self.old.heads self.old.gaps hs
@@ -105,8 +104,7 @@ impl Chains {
 
     /// The gaps of the younger ones move down, those mended that lead to the place or across it.
     fn remove_from_gaps(&mut self, place: usize, end: usize)
-        requires within { place < end }
-        requires most { end ≤ 128 }
+        requires { IsBefore place end }
         ensures heads { self.new.heads ≡ self.old.heads }
         ensures older { (i : ℕ) → i < place
             → slice_index self.new.gaps i ≡ slice_index self.old.gaps i }
@@ -137,15 +135,14 @@ impl Chains {
 /// What a head is once the translation at `place` went, behind whose next older one is `end`.
 #[inline]
 fn head_without(place: u8, end: u8, head: u8) -> u8
-    requires { place < 128 }
     ensures { IsHeadWithout place end head result }
 {
-    if head > place + 1 {
-        head - 1
-    } else if head == place + 1 {
+    if head <= place {
+        head
+    } else if head - 1 == place {
         end
     } else {
-        head
+        head - 1
     }
 }
 

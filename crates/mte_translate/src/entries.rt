@@ -4,7 +4,7 @@ ghost use Rattle.std.specs.Prelude.{◌≡◌, ℕ, ◌+◌, ◌*◌, ◌<◌, t
 ghost use Rattle.std.specs.Prelude.{IfSome, None};
 ghost use Rattle.mte_frames.specs.Pool.{IsHeldBy, IsTaken, KeepsOthers};
 ghost use Rattle.mte_translate.specs.Tables.{entry_at, is_valid, count_in, leaf_in, attrs_in};
-ghost use Rattle.mte_translate.specs.Tables.{frame_in};
+ghost use Rattle.mte_translate.specs.Tables.{HasEntry, frame_in};
 ghost use Rattle.mte_translate.specs.TableSteps.{Wrote};
 
 use address_map::{ADDRESS_END, MAX_FRAMES, PAGE_SIZE};
@@ -99,8 +99,7 @@ impl LeafEntry {
 /// The entry `index` of a frame.
 #[inline]
 pub(crate) fn entry(pool: &FramePool, frame: usize, index: u64) -> u64
-    requires out { IsTaken pool.now frame }
-    requires low { index < 512 }
+    requires { HasEntry pool.now frame index }
     ensures { result ≡ entry_at pool.now frame index }
 {
     let from = 8 * index as usize;
@@ -129,8 +128,7 @@ pub(crate) fn first_valid(pool: &FramePool, frame: usize) -> Option<u64>
 
 /// Writes the entry `index` of a frame.
 pub(crate) fn set_entry(pool: &mut FramePool, frame: usize, index: u64, entry: u64)
-    requires out { IsTaken pool.old frame }
-    requires low { index < 512 }
+    requires { HasEntry pool.old frame index }
     ensures wrote { Wrote pool.old pool.new frame index entry }
     ensures others { (k : ℕ) → IsHeldBy pool.old frame k → KeepsOthers k pool.old pool.new }
 {

@@ -4,6 +4,7 @@ ghost use Rattle.std.specs.Prelude.{◌≡◌, ℕ, ◌+◌, ◌-◌, ◌<◌, �
 ghost use Rattle.std.specs.Prelude.{drop, filter, slice_index_or};
 ghost use Rattle.std.specs.Fn.{FnReturnsAt};
 ghost use Rattle.std.specs.List.{remove};
+ghost use Rattle.mte_translate.specs.Windows.{IsAt};
 ghost use Rattle.mte_translate.specs.declared.translation.Translation.{Translation};
 
 use crate::translation::{TLB_ENTRIES, Translation};
@@ -79,8 +80,7 @@ impl Standing {
     /// The translation at a place.
     #[inline(always)]
     pub(crate) fn get(&self, place: usize) -> Translation
-        requires from { self.now.first ≤ place }
-        requires within { place < self.now.first + length self.now.items }
+        requires { IsAt self.now place }
         ensures value { (d : Translation)
             → result ≡ slice_index_or self.now.items (place - self.now.first) d }
         ensures most { place < 128 }
@@ -127,8 +127,7 @@ impl Standing {
 
     /// Drops the translation at a place. All younger ones move down by one place.
     pub(crate) fn remove(&mut self, place: usize)
-        requires from { self.old.first ≤ place }
-        requires within { place < self.old.first + length self.old.items }
+        requires { IsAt self.old place }
         ensures first { self.new.first ≡ self.old.first }
         ensures items { (i : ℕ) → self.old.first + i ≡ place
             → self.new.items ≡ remove self.old.items i }

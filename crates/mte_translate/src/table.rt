@@ -4,8 +4,9 @@ ghost use Rattle.std.specs.Prelude.{◌≡◌, ◌≢◌, ℕ, ◌+◌, ◌-◌,
 ghost use Rattle.std.specs.Prelude.{IfSome, OnSome, option_map, get_or, slice_set};
 ghost use Rattle.std.specs.FinMap.{get, insert, remove, empty};
 ghost use Rattle.mte_arena.specs.Frames.{zero_frame};
+ghost use Rattle.mte_frames.specs.Pool.{HasFrameLeft};
 ghost use Rattle.mte_frames.specs.Pool.{IsHeldBy, KeepsOthers, make_pool, taken_by, reserved_by};
-ghost use Rattle.mte_translate.specs.Tables.{pages_of, missing_leaf, IsApart, IsTable};
+ghost use Rattle.mte_translate.specs.Tables.{pages_of, missing_leaf, IsApart, IsTable, HasLeafLeft};
 ghost use Rattle.mte_translate.specs.Tables.{IsSomeTable, KeepsData, MapsOnce, MapsNever, IsFirst};
 
 use crate::entries::{ENTRIES, LeafEntry, RootEntry, TABLE_PAGES, entry, first_valid};
@@ -38,7 +39,7 @@ impl Model for Table {
 impl Table {
     /// A table that maps nothing. It takes one frame, its root.
     pub fn new(pool: &mut FramePool, quota: &mut Quota) -> Table
-        requires { taken_by pool.old quota.old < reserved_by pool.old quota.old }
+        requires { HasFrameLeft pool.old quota.old }
         ensures table { IsTable pool.new quota.new result }
         ensures counts { (result.len ≡ 0) × (result.leaves ≡ 0) }
         ensures pages { pages_of pool.new result.frame ≡ empty }
@@ -120,8 +121,7 @@ impl Table {
         requires unmapped { get (pages_of pool.old self.old.frame) page ≡ None }
         requires out { IsHeldBy pool.old frame quota.old }
         requires apart { IsApart pool.old self.old.frame frame }
-        requires room { taken_by pool.old quota.old + missing_leaf pool.old self.old.frame page
-            ≤ reserved_by pool.old quota.old }
+        requires room { HasLeafLeft pool.old quota.old self.old.frame page }
         ensures table { IsTable pool.new quota.new self.new }
         ensures pages { pages_of pool.new self.new.frame
             ≡ insert (pages_of pool.old self.old.frame) page (frame, attrs) }

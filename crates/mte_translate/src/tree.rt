@@ -4,9 +4,10 @@
 ghost use Rattle.std.specs.Prelude.{◌≡◌, ◌≢◌, ℕ, ◌+◌, ◌*◌, ◌/◌, ◌<◌, ◌≤◌};
 ghost use Rattle.std.specs.Prelude.{true, false};
 ghost use Rattle.address_map.specs.declared.limits.TheConstants.{MAX_FRAMES};
-ghost use Rattle.mte_frames.specs.Pool.{IsHeldBy, taken_by, reserved_by};
+ghost use Rattle.mte_frames.specs.Pool.{IsHeldBy, HasFrameLeft, taken_by};
 ghost use Rattle.mte_translate.specs.Tables.{entry_at, is_valid, count_in, walk_at};
-ghost use Rattle.mte_translate.specs.Tables.{IsTreeOf, IsApart, has_leaf, missing_leaf};
+ghost use Rattle.mte_translate.specs.Tables.{IsTreeOf, IsSlotOf, IsPageOf, IsApart};
+ghost use Rattle.mte_translate.specs.Tables.{HasLeafLeft, has_leaf, missing_leaf};
 ghost use Rattle.mte_translate.specs.TableSteps.{KeepsRest, KeepsWalks, KeepsWalksBut};
 
 use crate::entries::{LeafEntry, RootEntry, TABLE_PAGES, entry, set_entry};
@@ -15,10 +16,9 @@ use mte_tags::Attrs;
 
 /// Hangs a leaf without pages into the root.
 pub(crate) fn add_leaf(pool: &mut FramePool, quota: &mut Quota, root: usize, slot: u64)
-    requires tree { IsTreeOf pool.old quota.old root }
-    requires low { slot < 512 }
+    requires slot { IsSlotOf pool.old quota.old root slot }
     requires absent { is_valid (entry_at pool.old root slot) ≡ false }
-    requires room { taken_by pool.old quota.old < reserved_by pool.old quota.old }
+    requires room { HasFrameLeft pool.old quota.old }
     ensures tree { IsTreeOf pool.new quota.new root }
     ensures there { is_valid (entry_at pool.new root slot) ≡ true }
     ensures walks { KeepsWalks root pool.old pool.new }
@@ -33,8 +33,7 @@ pub(crate) fn add_leaf(pool: &mut FramePool, quota: &mut Quota, root: usize, slo
 
 /// Takes a leaf without pages out of the root, and gives its frame back.
 pub(crate) fn drop_leaf(pool: &mut FramePool, quota: &mut Quota, root: usize, slot: u64)
-    requires tree { IsTreeOf pool.old quota.old root }
-    requires low { slot < 512 }
+    requires slot { IsSlotOf pool.old quota.old root slot }
     requires there { is_valid (entry_at pool.old root slot) ≡ true }
     requires empty { count_in (entry_at pool.old root slot) ≡ 0 }
     ensures tree { IsTreeOf pool.new quota.new root }
@@ -59,8 +58,7 @@ pub(crate) fn put_page(
     frame: usize,
     attrs: Attrs,
 )
-    requires tree { IsTreeOf pool.old quota.now root }
-    requires low { page < TABLE_PAGES }
+    requires page { IsPageOf pool.old quota.now root page }
     requires leaf { is_valid (entry_at pool.old root (page / 512)) ≡ true }
     requires absent { is_valid (walk_at pool.old root page) ≡ false }
     requires out { IsHeldBy pool.old frame quota.now }
@@ -84,8 +82,7 @@ pub(crate) fn put_page(
 
 /// Takes a page out of its leaf.
 pub(crate) fn take_page(pool: &mut FramePool, quota: &Quota, root: usize, page: u64)
-    requires tree { IsTreeOf pool.old quota.now root }
-    requires low { page < TABLE_PAGES }
+    requires page { IsPageOf pool.old quota.now root page }
     requires there { is_valid (walk_at pool.old root page) ≡ true }
     ensures tree { IsTreeOf pool.new quota.now root }
     ensures walk { walk_at pool.new root page ≡ 0 }
@@ -104,10 +101,8 @@ pub(crate) fn take_page(pool: &mut FramePool, quota: &Quota, root: usize, page: 
 
 /// Sees that a page has a leaf. The result is how many leaves were added, 0 or 1.
 pub(crate) fn want_leaf(pool: &mut FramePool, quota: &mut Quota, root: usize, page: u64) -> usize
-    requires tree { IsTreeOf pool.old quota.old root }
-    requires low { page < TABLE_PAGES }
-    requires room { taken_by pool.old quota.old + missing_leaf pool.old root page
-        ≤ reserved_by pool.old quota.old }
+    requires page { IsPageOf pool.old quota.old root page }
+    requires room { HasLeafLeft pool.old quota.old root page }
     ensures tree { IsTreeOf pool.new quota.new root }
     ensures there { has_leaf pool.new root page ≡ true }
     ensures walks { KeepsWalks root pool.old pool.new }
@@ -127,8 +122,7 @@ pub(crate) fn want_leaf(pool: &mut FramePool, quota: &mut Quota, root: usize, pa
 /// Gives back the leaf of a page, which is there, if it maps no page. The result is how many leaves
 /// were given back, 0 or 1.
 pub(crate) fn trim_leaf(pool: &mut FramePool, quota: &mut Quota, root: usize, page: u64) -> usize
-    requires tree { IsTreeOf pool.old quota.old root }
-    requires low { page < TABLE_PAGES }
+    requires page { IsPageOf pool.old quota.old root page }
     requires there { has_leaf pool.old root page ≡ true }
     ensures tree { IsTreeOf pool.new quota.new root }
     ensures tight { has_leaf pool.new root page ≡ true

@@ -1,6 +1,6 @@
 -- The header of a chunk (Scudo, chunk.h, UnpackedHeader), and its checksum (Scudo, checksum.h,
 -- computeBSDChecksum).
-use Rattle.std.specs.Prelude.{ℕ, ◌+◌, ◌*◌, ◌/◌, ◌%◌, ◌^◌, ◌==◌, ◌++◌, Option, Some, None}
+use Rattle.std.specs.Prelude.{ℕ, ◌+◌, ◌*◌, ◌/◌, ◌%◌, ◌^◌, ◌==◌, ◌<◌, ◌++◌, Option, Some, None}
 use Rattle.std.specs.Prelude.{if◌then◌else◌}
 use Rattle.std.specs.Int.{to_le_bytes, w64}
 use Rattle.std.specs.List.{fold}
@@ -28,6 +28,10 @@ origin_number NewArray = 2
 origin_number Memalign = 3
 
 -- ---- packing
+
+-- A word has 20 bits for the size of a header.
+abbrev pub FitsInWord : Header → Type 0
+FitsInWord h = h.size_or_unused_bytes < 2 ^ 20
 
 -- The header with checksum 0: from bit 0 on a class of 8 bits, a state of 2, an origin of 2, a size
 -- of 20 and an offset of 16.

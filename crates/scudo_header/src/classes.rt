@@ -84,7 +84,6 @@ pub fn size_of_class(class: u8) -> u64
 /// The first address of a class's region.
 #[inline(always)]
 pub fn region_start(class: u8) -> u64
-    requires { class ≤ CLASSES }
     ensures { result ≡ region_of class }
 {
     REGIONS_START + u64::from(class) * REGION_SIZE

@@ -5,7 +5,7 @@ ghost use Rattle.std.specs.Int.{to_le_bytes, w32, w64};
 ghost use Rattle.std.specs.List.{fold};
 ghost use Rattle.scudo_header.specs.Headers.{state_number, state_of, origin_number, origin_of};
 ghost use Rattle.scudo_header.specs.Headers.{header_word, with_byte, checksum_of, packed_header};
-ghost use Rattle.scudo_header.specs.Headers.{unpacked_header};
+ghost use Rattle.scudo_header.specs.Headers.{unpacked_header, FitsInWord};
 
 use a64_bits::plain;
 
@@ -66,7 +66,6 @@ fn state_bits(state: State) -> u64
 
 /// The state of two bits.
 fn state_from(bits: u64) -> State
-    requires { bits < 4 }
     ensures { result ≡ state_of bits }
 {
     match bits {
@@ -92,7 +91,6 @@ fn origin_bits(origin: Origin) -> u64
 
 /// The origin of two bits.
 fn origin_from(bits: u64) -> Origin
-    requires { bits < 4 }
     ensures { result ≡ origin_of bits }
 {
     match bits {
@@ -105,29 +103,26 @@ fn origin_from(bits: u64) -> Origin
 
 /// The sum after one more byte.
 #[inline(always)]
-fn add_byte(sum: u16, byte: u64) -> u16
-    requires { byte < 2 ^ 8 }
+fn add_byte(sum: u16, byte: u8) -> u16
     ensures { result ≡ with_byte sum byte }
 {
-    ((sum >> 1) + (sum % 2) * 0x8000).wrapping_add(byte as u16)
+    ((sum >> 1) + (sum % 2) * 0x8000).wrapping_add(u16::from(byte))
 }
 
 /// The sum after the four bytes of a half word.
 #[inline(always)]
-fn add_half(start: u16, half: u64) -> u16
-    requires { half < 2 ^ 32 }
+fn add_half(start: u16, half: u32) -> u16
     ensures { result ≡ fold with_byte start (to_le_bytes w32 half) }
 {
-    let first = add_byte(start, half % (1 << 8));
-    let second = add_byte(first, (half >> 8) % (1 << 8));
-    let third = add_byte(second, (half >> 16) % (1 << 8));
-    add_byte(third, half >> 24)
+    let first = add_byte(start, (half % (1 << 8)) as u8);
+    let second = add_byte(first, ((half >> 8) % (1 << 8)) as u8);
+    let third = add_byte(second, ((half >> 16) % (1 << 8)) as u8);
+    add_byte(third, (half >> 24) as u8)
 }
 
 /// The sum over an upper half, which is mostly 0: four zero bytes rotate the sum by four bits.
 #[inline(always)]
-fn add_upper_half(start: u16, half: u64) -> u16
-    requires { half < 2 ^ 32 }
+fn add_upper_half(start: u16, half: u32) -> u16
     ensures { result ≡ fold with_byte start (to_le_bytes w32 half) }
 {
     if half == 0 {
@@ -141,8 +136,8 @@ fn add_upper_half(start: u16, half: u64) -> u16
 fn add_word(start: u16, word: u64) -> u16
     ensures { result ≡ fold with_byte start (to_le_bytes w64 word) }
 {
-    let lower = add_half(start, word % (1 << 32));
-    add_upper_half(lower, word >> 32)
+    let lower = add_half(start, (word % (1 << 32)) as u32);
+    add_upper_half(lower, (word >> 32) as u32)
 }
 
 /// The checksum of a header for the chunk at an address (`computeHeaderChecksum` without hardware
@@ -161,7 +156,7 @@ pub fn checksum(cookie: u32, pointer: u64, header: u64) -> u16
 /// The word of a header whose checksum is 0.
 #[inline(always)]
 fn unchecked_word(header: &Header) -> u64
-    requires { header.now.size_or_unused_bytes < 2 ^ 20 }
+    requires { FitsInWord header.now }
     ensures word { result ≡ header_word header.now }
     ensures below { result < 2 ^ 48 }
     ensures class { header.now.class_id < 2 ^ 8 }
@@ -174,12 +169,11 @@ fn unchecked_word(header: &Header) -> u64
         + (u64::from(header.offset) << 32)
 }
 
-/// The word of a header with its checksum, for the chunk at an address. The size or unused bytes
-/// are below 2^20.
+/// The word of a header with its checksum, for the chunk at an address.
 #[tactic(auto, unfolding(crate::specs::Headers::packed_header))]
 #[inline(always)]
 pub fn pack(cookie: u32, pointer: u64, header: &Header) -> u64
-    requires { header.now.size_or_unused_bytes < 2 ^ 20 }
+    requires { FitsInWord header.now }
     ensures word { result ≡ packed_header cookie pointer header.now }
     ensures back { unpacked_header cookie pointer result ≡ Some header.now }
 {

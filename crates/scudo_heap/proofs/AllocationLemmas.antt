@@ -1,6 +1,9 @@
 -- What is asked of an allocation.
-use Rattle.std.proofs.Common.{◌≡◌, ℕ, zero, suc, ◌+◌, ◌%◌, ◌^◌, ◌<◌, ◌≤◌, ◌==◌, ◌&&◌, ◌||◌, nat_le, max, Bool, true, false, refl, sym, ap, ◌∙◌, arith}
-use Rattle.std.proofs.lemmas.Bool.{cond-false, eqb-true}
+use Rattle.std.proofs.Common.{◌≡◌, ℕ, zero, suc, ◌+◌, ◌/◌, ◌%◌, ◌^◌, ◌<◌, ◌≤◌, ◌==◌, ◌&&◌, ◌||◌, nat_le, max, Bool, true, false, inl, inr, refl, sym, ap, ◌∙◌, arith}
+use Rattle.std.proofs.lemmas.Bool.{cond-false, eqb-true, cases_eq}
+use Rattle.std.proofs.lemmas.Nat.{zero_from_ones, ones_le_self}
+use Rattle.std.specs.Int.RustNames.{count_ones}
+use lib.Count.{ones_step}
 use Rattle.std.proofs.lemmas.Bool.Decides.{nat_tests}
 use Rattle.std.specs.List.{range_with_len, list_any}
 use Rattle.scudo_header.specs.declared.headers.Origin.{Origin}
@@ -46,3 +49,50 @@ power-align n e =
     let x = and-both (nat_le 16 (max n 16)) (nat_le (max n 16) 4096 && (max n 16 % 16 == 0)) t in
     let y = and-both (nat_le (max n 16) 4096) (max n 16 % 16 == 0) x.1 in
     record { least = le-of 16 (max n 16) x.0; most = le-of (max n 16) 4096 y.0; multiple = eqb-true _ _ y.1 }
+
+-- ---- one bit is set in a power of two, and in no other number
+
+-- the bit below the k-th that a number is the power of
+record IsBitOf (k n j : ℕ) : Type 0 where
+  below : j < k
+  is : n ≡ 2 ^ j
+
+one-bit : (k n : ℕ) → n < 2 ^ k → count_ones n ≡ 1 → (j : ℕ) × IsBitOf k n j
+one-bit zero n l e = let few = ones_le_self n in absurd (omega arith)
+one-bit (suc k) n l e =
+    let s = ones_step n in
+    elim (cases_eq (n % 2) 0) [
+      | inl even ↦
+          let half = one-bit k (n / 2) (omega arith) (omega arith) in
+          let is = half.1.is in
+          let below = half.1.below in
+          (suc half.0, record { below = omega arith; is = omega arith })
+      | inr odd ↦
+          let none = zero_from_ones (n / 2) (let some : n % 2 ≡ 1 = omega (arith, odd) in omega arith) in
+          (0, record { below = omega arith; is = let some : n % 2 ≡ 1 = omega (arith, odd) in omega arith })
+    ]
+
+power-ones : (j : ℕ) → count_ones (2 ^ j) ≡ 1
+power-ones zero = let s = ones_step 1 in let few = ones_le_self 0 in omega arith
+power-ones (suc j) =
+    let s = ones_step (2 ^ suc j) in
+    let half : 2 ^ suc j / 2 ≡ 2 ^ j = omega arith in
+    let even : 2 ^ suc j % 2 ≡ 0 = omega arith in
+    let rest = ap count_ones half in
+    let one = power-ones j in
+    omega arith
+
+both-ways : (a b : Bool) → (a ≡ true → b ≡ true) → (b ≡ true → a ≡ true) → a ≡ b
+both-ways true true f g = refl
+both-ways true false f g = sym (f refl)
+both-ways false true f g = g refl
+both-ways false false f g = refl
+
+pub is-power : (n : ℕ) → n ≤ 4096 → (count_ones n == 1) ≡ is_alignment n
+is-power n low = both-ways (count_ones n == 1) (is_alignment n)
+    (λ t.
+    let p = one-bit 13 n (omega arith) (eqb-true _ _ t) in
+    ap is_alignment p.1.is ∙ below-true 13 (λ j. is_alignment (2 ^ j)) refl p.0 p.1.below)
+    (λ t.
+    let p = some-power 13 0 n (omega arith) t in
+    ap (λ x. x == 1) (ap count_ones p.1.is ∙ power-ones p.0))

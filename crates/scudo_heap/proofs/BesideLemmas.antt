@@ -1,8 +1,7 @@
 -- A new chunk lies beside a chunk that was found, which stays found.
-use Rattle.std.proofs.Common.{◌≡◌, ◌≢◌, ℕ, zero, suc, ◌+◌, ◌-◌, ◌*◌, ◌/◌, ◌^◌, ◌<◌, ◌≤◌, ◌⊎◌, ◌==◌, ◌&&◌, ◌||◌, nat_le, Bool, true, false, cond, List, [], ◌∷◌, Option, Some, None, refl, sym, ap, subst, ◌∙◌, inl, inr, arith}
+use Rattle.std.proofs.Common.{◌≡◌, ◌≢◌, ℕ, zero, suc, ◌+◌, ◌*◌, ◌/◌, ◌^◌, ◌<◌, ◌≤◌, ◌⊎◌, ◌==◌, ◌&&◌, ◌||◌, nat_le, Bool, true, false, cond, List, [], ◌∷◌, Option, Some, None, refl, sym, ap, subst, ◌∙◌, inl, inr, arith}
 use Rattle.std.proofs.lemmas.Bool.{cond-true, cond-false}
 use Rattle.std.proofs.lemmas.Bool.Decides.{nat_tests}
-use Rattle.std.proofs.Math.Nat.{lt-div-mul-add}
 use Rattle.std.specs.List.{find, list_any, range_with_len}
 use Rattle.address_map.specs.declared.limits.TheConstants.{PAGE_SIZE}
 use Rattle.address_map.specs.declared.ranges.TheConstants.{REGION_SIZE, SECONDARY_START}
@@ -36,7 +35,7 @@ use Rattle.scudo_heap.specs.Served.{HeapOwnsItsPages, heap_page, is_inside}
 use Rattle.scudo_heap.specs.Inner.{AreApart, IsFound, IsAlign, IsOpen}
 use Rattle.scudo_heap.proofs.CheckLemmas.{mapping-bounds}
 use Rattle.scudo_heap.proofs.MapLemmas.{all-apart, inside-in, inside-more, is-at}
-use Rattle.scudo_heap.proofs.ClassLemmas.{fits-in}
+use Rattle.scudo_heap.proofs.ClassLemmas.{fits-in, user-above}
 use Rattle.scudo_heap.proofs.LargeLemmas.{after_map_chunk, is-large}
 use Rattle.scudo_heap.proofs.ServedLemmas.{same-after-pop, block-open, mapping-open}
 use Rattle.scudo_heap.proofs.KeptLemmas.{KeepsUsed, keeps-same, keeps-then, keeps-after-pop, keeps-after-carve, after-carve-top, in-region, blocks-apart, mapping-apart, mapping-kept}
@@ -199,9 +198,6 @@ block-beside s s' ms (InPages m header) k c b more kc a e g top h few =
     let n = mapping-bounds ms.mappings m.user m a e in
     let above = n.above in
     inr (omega arith)
-
-pub user-above : (b a : ℕ) → 0 < a → b + 16 ≤ (b + 16 + (a - 1)) / a * a
-user-above b a p = let near : b + 16 + (a - 1) < (b + 16 + (a - 1)) / a * a + a = lt-div-mul-add p in omega arith
 
 class-beside : (w x : World) (o : Origin) (a z c : ℕ) (f : Found) (ch : Chunk) → AreSound w.heap.stacks → AreMappings w.heap.maps.mappings → HeapOwnsItsPages x.memory x.heap → IsClass c → IsAlign a → need_of a z ≤ size_of c → IsFound w.heap f
     → allocation_of x (Some ch) ≡ after_class_allocation w o a z c → IsBeside x.memory x.heap f ch z

@@ -1,7 +1,7 @@
 -- Allocation in a class, step by step.
-use Rattle.std.proofs.Common.{◌≡◌, ◌≢◌, ℕ, ◌+◌, ◌-◌, ◌*◌, ◌/◌, ◌%◌, ◌<◌, ◌≤◌, ◌&&◌, nat_le, true, false, List, [], ◌∷◌, slice_get, Some, None, refl, sym, ap, ◌∙◌, arith}
+use Rattle.std.proofs.Common.{◌≡◌, ◌≢◌, ℕ, ◌+◌, ◌-◌, ◌*◌, ◌/◌, ◌%◌, ◌^◌, ◌<◌, ◌≤◌, ◌&&◌, nat_le, true, false, List, [], ◌∷◌, slice_get, Some, None, refl, sym, ap, ◌∙◌, arith}
 use Rattle.std.proofs.lemmas.Bool.{cond-true, cond-false}
-use Rattle.std.proofs.Math.Nat.{mul-mod_left, mul-mod_right, div-mul-le_self}
+use Rattle.std.proofs.Math.Nat.{mul-mod_left, mul-mod_right, div-mul-le_self, lt-div-mul-add}
 use Rattle.mte_tags.specs.Memory.{pages_left}
 use Rattle.scudo_header.specs.Classes.{size_of}
 use Rattle.scudo_header.specs.declared.headers.Origin.{Origin}
@@ -9,12 +9,14 @@ use Rattle.scudo_primary.specs.Blocks.{IsBlock}
 use Rattle.scudo_primary.specs.Blocks.{IsClass}
 use Rattle.scudo_primary.proofs.BlockLemmas.{size-IsSize, block-IsCell}
 use Rattle.scudo_heap.specs.declared.chunk.Place.{Place}
+use Rattle.scudo_heap.specs.declared.request.Request.{Request}
 use Rattle.scudo_heap.specs.declared.chunk.Chunk.{Chunk}
 use Rattle.scudo_heap.specs.declared.chunk.Chunk.TheVariants.{Small}
 use Rattle.scudo_heap.specs.Stacks.{stack_of}
 use Rattle.scudo_heap.specs.Placing.{World, more_pages, after_grow, after_place}
 use Rattle.scudo_heap.specs.Allocation.{AllocationResult, allocation_of, no_chunk, place_in, is_empty, after_take, with_free_block, after_class_allocation, need_of}
-use Rattle.scudo_heap.specs.Inner.{IsAlign, FitsIn}
+use Rattle.scudo_heap.specs.Chunks.{end_of, block_end}
+use Rattle.scudo_heap.specs.Inner.{IsAlign, FitsClass, FitsIn}
 
 -- ---- where a chunk lies in a block
 
@@ -25,7 +27,13 @@ divides x s p h e =
     let c : x ≡ 16 * (s / 16 * (x / s)) = a ∙ ap (λ t. t * (x / s)) b ∙ grind arith in
     ap (λ t. t % 16) c ∙ mul-mod_right 16 (s / 16 * (x / s))
 
-pub fits-in : (c pages b align size : ℕ) → IsClass c → IsBlock c pages b → IsAlign align → need_of align size ≤ size_of c → FitsIn (place_in c b align size)
+-- a chunk ends within its block
+pub record EndsIn (p : Place) : Type 0 where
+  pub aligned : p.user % 16 ≡ 0
+  pub whole : block_end p % 16 ≡ 0
+  pub within : end_of p ≤ block_end p
+
+pub fits-in : (c pages b align size : ℕ) → IsClass c → IsBlock c pages b → IsAlign align → need_of align size ≤ size_of c → EndsIn (place_in c b align size)
 fits-in c pages b align size k block al need =
     let x = b + 16 + (align - 1) in
     let s = size-IsSize c k in
@@ -39,6 +47,21 @@ fits-in c pages b align size k block al need =
     let even : x / align * align % 16 ≡ 0 = divides (x / align * align) align (omega arith) part (mul-mod_left (x / align) align) in
     let start : b % 16 ≡ 0 = omega arith in
     record { aligned = even; whole = omega arith; within = omega arith }
+
+pub user-above : (b a : ℕ) → 0 < a → b + 16 ≤ (b + 16 + (a - 1)) / a * a
+user-above b a p = let near : b + 16 + (a - 1) < (b + 16 + (a - 1)) / a * a + a = lt-div-mul-add p in omega arith
+
+pub user-near : (p : Place) → FitsIn p → p.user < p.block + 2 ^ 20
+user-near p f =
+    let most = (size-IsSize p.class f.class).most in
+    let within = f.within in
+    omega arith
+
+pub new-fits : (c pages b : ℕ) (r : Request) → IsBlock c pages b → FitsClass c r → FitsIn (place_in c b r.align r.size)
+new-fits c pages b r block f =
+    let ends = fits-in c pages b r.align r.size f.class block f.align f.fits in
+    let least = f.align.least in
+    record { class = f.class; aligned = ends.aligned; whole = ends.whole; above = user-above b r.align (omega arith); some = f.some; small = f.small; within = ends.within }
 
 -- ---- the top of a stack
 

@@ -8,12 +8,13 @@ use Rattle.address_map.specs.declared.ranges.TheConstants.{SECONDARY_START, SECO
 use Rattle.mte_tags.specs.Memory.{pages_left}
 use Rattle.scudo_header.specs.declared.headers.Origin.{Origin}
 use Rattle.scudo_secondary.specs.Mappings.{place_of}
-use Rattle.scudo_heap.specs.Placing.{World}
+use Rattle.scudo_heap.specs.Placing.{World, pages_for}
+use Rattle.scudo_heap.specs.declared.request.Request.{Request}
 use Rattle.scudo_heap.specs.Large.{mapping_for, large_placed}
 use Rattle.scudo_secondary.specs.declared.mappings.Mapping.{Mapping}
 use Rattle.scudo_heap.specs.declared.chunk.Chunk.TheVariants.{Large}
 use Rattle.scudo_heap.specs.Allocation.{AllocationResult, allocation_of, no_chunk, map_chunk_cases, after_large_allocation, need_of}
-use Rattle.scudo_heap.specs.Inner.{IsAlign, IsLarge}
+use Rattle.scudo_heap.specs.Inner.{IsAlign, IsLarge, IsRequest}
 use Rattle.scudo_heap.proofs.ClassLemmas.{divides}
 
 pub is-large : (start pages align size : ℕ) → start % PAGE_SIZE ≡ 0 → SECONDARY_START + PAGE_SIZE ≤ start → start + PAGE_SIZE * pages + PAGE_SIZE ≤ SECONDARY_END → pages ≤ 4096 → IsAlign align → 0 < size → size ≤ 2 ^ 20
@@ -27,6 +28,15 @@ is-large start pages align size e above below few al some small need =
     let near : x < x / align * align + align = lt-div-mul-add (omega arith) in
     let even : x / align * align % 16 ≡ 0 = divides (x / align * align) align (omega arith) part (mul-mod_left (x / align) align) in
     record { some = omega arith; few = few; start = omega arith; aligned = e; above = omega arith; within = omega arith; below = omega arith; unused = omega arith }
+
+pub request-large : (start need : ℕ) (r : Request) → start % PAGE_SIZE ≡ 0 → SECONDARY_START + PAGE_SIZE ≤ start → start + PAGE_SIZE * pages_for need + PAGE_SIZE ≤ SECONDARY_END → need ≡ need_of r.align r.size → IsRequest r
+    → IsLarge (mapping_for start (pages_for need) r.align r.size) r.size
+request-large start need r e above below same q =
+    let most = q.size.most in
+    let wide = q.align.most in
+    let few : pages_for need ≤ 4096 = omega arith in
+    let fits : need_of r.align r.size ≤ PAGE_SIZE * pages_for need = omega arith in
+    is-large start (pages_for need) r.align r.size e above below few q.align q.size.some (omega arith) fits
 
 pub after-large-allocation-none : (w : World) (o : Origin) (a z n : ℕ) → None ≡ place_of w.heap.maps.mappings n → no_chunk w ≡ after_large_allocation w o a z n
 unfolding after_large_allocation

@@ -30,8 +30,7 @@ use Rattle.scudo_heap.specs.Allocation.{place_in, need_of}
 use Rattle.scudo_heap.specs.Served.{HeapOwnsItsPages, heap_page, is_inside}
 use Rattle.scudo_heap.specs.Inner.{IsAlign}
 use Rattle.scudo_heap.specs.Others.{KeepsOthers}
-use Rattle.scudo_heap.proofs.BesideLemmas.{user-above}
-use Rattle.scudo_heap.proofs.ClassLemmas.{fits-in}
+use Rattle.scudo_heap.proofs.ClassLemmas.{fits-in, user-above}
 
 pub branch : {A : Type 0} (P : A → Type 0) (b : Bool) (x y : A) → (b ≡ true → P x) → (b ≡ false → P y) → P (cond b x y)
 branch P true x y f g = f refl

@@ -19,7 +19,7 @@ use Rattle.scudo_heap.specs.Allocation.{allocation_of, no_chunk, after_malloc}
 use Rattle.scudo_heap.specs.Checks.{check_pointer}
 use Rattle.scudo_heap.specs.Freeing.{without_chunk}
 use Rattle.scudo_heap.specs.Realloc.{reallocation_of, after_move, after_resize_in_block, with_new_size, realloc_cases, checked_realloc_cases, after_realloc}
-use Rattle.scudo_heap.specs.Inner.{IsPlaced}
+use Rattle.scudo_heap.specs.Inner.{IsPlaced, FitsIn}
 
 pub realloc-null : (w : World) (p n : ℕ) → p ≡ 0 → reallocation_of (after_malloc w n) ≡ after_realloc w p n
 unfolding after_realloc
@@ -77,3 +77,11 @@ whole-block s p q =
     let granule = cell.granule in
     let inside = cell.inside in
     omega arith
+
+pub placed-fits : (s : StackState) (p : Place) → IsPlaced s p → FitsIn p
+placed-fits s p q =
+    record { class = record { low = q.low; high = q.high }; aligned = q.aligned; whole = whole-block s p q; above = q.above; some = q.some; small = q.small; within = q.within }
+
+pub resized-fits : (s : StackState) (p : Place) (n : ℕ) → IsPlaced s p → 0 < n → end_of (with_size p n) ≤ block_end p → FitsIn (with_size p n)
+resized-fits s p n q some l =
+    record { class = record { low = q.low; high = q.high }; aligned = q.aligned; whole = whole-block s p q; above = q.above; some = some; small = small-in_place s p n q l; within = l }

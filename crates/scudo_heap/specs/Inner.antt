@@ -6,7 +6,7 @@ use Rattle.std.specs.Prelude.{◌++◌, ◌∷◌, []}
 use Rattle.std.specs.Prelude.{◌/◌, nat_lt}
 use Rattle.std.specs.List.{list_any}
 use Rattle.mte_tags.specs.Memory.{Memory, attrs_at, pages_left, data_attrs}
-use Rattle.scudo_header.specs.declared.config.TheConstants.{CLASSES, MAX_ALIGNMENT}
+use Rattle.scudo_header.specs.declared.config.TheConstants.{CLASSES, MAX_ALIGNMENT, MAX_REQUEST}
 use Rattle.scudo_header.specs.Classes.{IsClass, size_of}
 use Rattle.scudo_header.specs.Regions.{region_of}
 use Rattle.scudo_header.specs.declared.headers.Header.{Header}
@@ -122,11 +122,43 @@ pub record FitsClass (c : ℕ) (r : Request) : Type 0 where
   pub small : r.size < 2 ^ 20
   pub fits : need_of r.align r.size ≤ size_of c
 
--- a chunk ends within its block, whose end and whose own address are multiples of a granule
+-- a chunk of some bytes is with its header in a block of a size class, whose end and whose own
+-- address are multiples of a granule
 pub record FitsIn (p : Place) : Type 0 where
+  pub class : IsClass p.class
   pub aligned : p.user % 16 ≡ 0
   pub whole : block_end p % 16 ≡ 0
+  pub above : p.block + 16 ≤ p.user
+  pub some : 0 < p.size
+  pub small : p.size < 2 ^ 20
   pub within : end_of p ≤ block_end p
+
+-- a chunk that fits in its block, and a tag for it
+pub record FitsTagged (p : Place) (tag : ℕ) : Type 0 where
+  pub place : FitsIn p
+  pub small : tag < 16
+
+-- an address that a header may stand in front of
+pub record IsUser (user : ℕ) : Type 0 where
+  pub aligned : user % 16 ≡ 0
+  pub plain : user < 2 ^ 56
+
+-- a place that a header gives, whatever it says: no sum of its addresses wraps
+pub record IsGiven (p : Place) : Type 0 where
+  pub class : 0 < p.class
+  pub user : p.user < 2 ^ 56
+  pub block : p.block < 2 ^ 56
+  pub size : p.size < 2 ^ 20
+
+-- the bytes of a chunk, of which there are some
+pub record IsSize (size : ℕ) : Type 0 where
+  pub some : 0 < size
+  pub most : size ≤ MAX_REQUEST
+
+-- a request of some bytes, as the calls make it
+pub record IsRequest (r : Request) : Type 0 where
+  pub align : IsAlign r.align
+  pub size : IsSize r.size
 
 -- a chunk of a size is with its header in a mapping, of which a page at most is left
 pub record IsLarge (m : Mapping) (size : ℕ) : Type 0 where

@@ -4,6 +4,7 @@ use Rattle.std.specs.Prelude.{◌≡◌, ℕ, ◌+◌, ◌/◌, ◌<◌, ◌≤�
 use Rattle.std.specs.Prelude.{Option, Some, None, if◌then◌else◌}
 use Rattle.std.specs.List.{list_any}
 use Rattle.mte_tags.specs.Memory.{Memory, attrs_at, pages_left, data_attrs}
+use Rattle.mte_tags.specs.declared.generator.Rgsr.{Rgsr}
 use Rattle.scudo_header.specs.Regions.{region_of}
 use Rattle.scudo_header.specs.declared.config.TheConstants.{CLASSES}
 use Rattle.scudo_secondary.specs.Mappings as secondary
@@ -39,6 +40,10 @@ pub record HeapOwnsItsPages (m : Memory) (h : HeapState) : Type 0 where
   pub mappings :
       (a : ℕ) → SECONDARY_START ≤ a → a < SECONDARY_END
       → attrs_at m (a / PAGE_SIZE) ≡ heap_page (list_any (is_inside a) h.maps.mappings)
+
+-- The tag that a generator drew last is one.
+abbrev pub HasTag : Rgsr → Type 0
+HasTag r = r.tag < 16
 
 -- no page is where those of a heap are: from the first class's region to the end of the range of
 -- chunks with pages of their own

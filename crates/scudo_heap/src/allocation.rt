@@ -7,8 +7,8 @@ ghost use Rattle.scudo_heap.specs.Placing.{world_of, pages_for};
 ghost use Rattle.scudo_heap.specs.Allocation.{allocation_of, allocate_cases, need_of, nonzero_size};
 ghost use Rattle.scudo_heap.specs.Allocation.{after_allocate};
 ghost use Rattle.scudo_heap.specs.Allocation.{is_alignment};
-ghost use Rattle.scudo_heap.specs.Served.{HeapOwnsItsPages};
-ghost use Rattle.scudo_heap.specs.Inner.{IsAlign, IsLow};
+ghost use Rattle.scudo_heap.specs.Served.{HeapOwnsItsPages, HasTag};
+ghost use Rattle.scudo_heap.specs.Inner.{IsAlign, IsRequest, IsLow};
 ghost use Rattle.scudo_heap.specs.Inner.Parts.{heap_in};
 
 use crate::chunk::{Chunk, by_fields};
@@ -16,19 +16,14 @@ use crate::classes::take_block;
 use crate::pages::take_pages;
 use crate::parts::HeapParts;
 use crate::request::Request;
-use crate::tagging::granules;
-use address_map::PAGE_SIZE;
 use mte_tags::{Paged, Rgsr};
-use scudo_header::{MAX_REQUEST, class_of};
+use scudo_header::{MAX_ALIGNMENT, MAX_REQUEST, class_of};
 
 /// Whether an alignment is a power of two up to `MAX_ALIGNMENT`.
 pub(crate) fn is_power(alignment: u64) -> bool
     ensures { result ≡ is_alignment alignment }
 {
-    matches!(
-        alignment,
-        1 | 2 | 4 | 8 | 16 | 32 | 64 | 128 | 256 | 512 | 1024 | 2048 | 4096
-    )
+    alignment <= MAX_ALIGNMENT && alignment.is_power_of_two()
 }
 
 /// A chunk of some bytes: in a block of the least class that holds them, else with pages of its
@@ -40,10 +35,8 @@ fn make_some<M: Paged>(
     memory: &mut M,
     request: Request,
 ) -> Option<Chunk>
-    requires drawn { rgsr.old.tag < 16 }
-    requires align { IsAlign request.align }
-    requires some { 0 < request.size }
-    requires most { request.size ≤ MAX_REQUEST }
+    requires drawn { HasTag rgsr.old }
+    requires request { IsRequest request }
     requires served { HeapOwnsItsPages (M.memory memory.old) (heap_in parts.old) }
     ensures made { allocation_of
         (world_of (M.memory memory.new) (heap_in parts.new) rgsr.new) result
@@ -51,11 +44,10 @@ fn make_some<M: Paged>(
         (heap_in parts.old) rgsr.old)
         request.origin request.align request.size (class_for (need_of request.align request.size)) }
     ensures low_chunk { IfSome result IsLow }
-    ensures tag { rgsr.new.tag < 16 }
+    ensures tag { HasTag rgsr.new }
     ensures kept { M.kept memory.old memory.new }
 {
-    let need = 16 * granules(request.size) + request.align;
-    match class_of(need) {
+    match class_of(request.need()) {
         Some(class) => take_block(
             parts.cookie,
             &mut parts.stacks,
@@ -65,8 +57,7 @@ fn make_some<M: Paged>(
             class,
         ),
         None => {
-            let pages = (need + (PAGE_SIZE - 1)) / PAGE_SIZE;
-            let chunk = take_pages(parts.cookie, &mut parts.maps, memory, request, pages);
+            let chunk = take_pages(parts.cookie, &mut parts.maps, memory, request);
             by_fields(chunk)
         }
     }
@@ -81,7 +72,7 @@ pub(crate) fn allocate<M: Paged>(
     memory: &mut M,
     request: Request,
 ) -> Option<Chunk>
-    requires drawn { rgsr.old.tag < 16 }
+    requires drawn { HasTag rgsr.old }
     requires align { IsAlign request.align }
     requires served { HeapOwnsItsPages (M.memory memory.old) (heap_in parts.old) }
     ensures made { allocation_of
@@ -90,7 +81,7 @@ pub(crate) fn allocate<M: Paged>(
         (heap_in parts.old) rgsr.old)
         request.origin request.align request.size }
     ensures low_chunk { IfSome result IsLow }
-    ensures tag { rgsr.new.tag < 16 }
+    ensures tag { HasTag rgsr.new }
     ensures kept { M.kept memory.old memory.new }
 {
     if request.size > MAX_REQUEST {

@@ -3,13 +3,14 @@
 ghost use Rattle.std.specs.Prelude.{◌≡◌, ◌+◌, ◌-◌, ◌*◌, ◌%◌, ◌<◌, ◌≤◌, ◌^◌, IfOk, IfSome, is_some};
 ghost use Rattle.std.specs.Int.{from_le_bytes, w64};
 ghost use Rattle.mte_tags.specs.Accesses.{read_bytes};
+ghost use Rattle.scudo_header.specs.Headers.{FitsInWord};
 ghost use Rattle.scudo_secondary.specs.Mappings.{mapping_of};
 ghost use Rattle.scudo_heap.specs.Chunks.{end_of, block_end};
 ghost use Rattle.scudo_heap.specs.Checks.{is_allocated, is_place, place_of_header, size_found};
 ghost use Rattle.scudo_heap.specs.Checks.{is_mapped};
 ghost use Rattle.scudo_heap.specs.Checks.{check_pointer};
 ghost use Rattle.scudo_heap.specs.Checks.{check_block, check_mapping, check_chunk};
-ghost use Rattle.scudo_heap.specs.Inner.{HasEnd};
+ghost use Rattle.scudo_heap.specs.Inner.{HasEnd, IsGiven, IsUser};
 ghost use Rattle.scudo_heap.specs.Inner.Parts.{heap_in};
 
 use crate::abort::HeapAbort;
@@ -34,10 +35,7 @@ fn is_handed_out(state: State) -> bool
 /// Whether a chunk of a size, some bytes at least, is in a carved block of a size class.
 #[inline(always)]
 fn lies_in_block(stacks: &Stacks, place: Place) -> bool
-    requires class { 0 < place.class }
-    requires user { place.user < 2 ^ 56 }
-    requires size { place.size < 2 ^ 20 }
-    requires block { place.block < 2 ^ 56 }
+    requires { IsGiven place }
     ensures { result ≡ is_place stacks.now place }
 {
     if place.class > CLASSES || !stacks.is_block(place.class, place.block) || place.size == 0 {
@@ -50,10 +48,7 @@ fn lies_in_block(stacks: &Stacks, place: Place) -> bool
 /// The chunk that a header of a size class gives.
 #[inline(always)]
 fn in_block(stacks: &Stacks, place: Place, header: &Header) -> Result<Found, HeapAbort>
-    requires class { 0 < place.class }
-    requires user { place.user < 2 ^ 56 }
-    requires size { place.size < 2 ^ 20 }
-    requires block { place.block < 2 ^ 56 }
+    requires { IsGiven place }
     ensures found { result ≡ check_block stacks.now place header.now }
     ensures end { IfOk result HasEnd }
 {
@@ -92,7 +87,7 @@ fn by_header(
     header: &Header,
 ) -> Result<Found, HeapAbort>
     requires user { user < 2 ^ 56 }
-    requires size { header.now.size_or_unused_bytes < 2 ^ 20 }
+    requires size { FitsInWord header.now }
     ensures found { result ≡ check_chunk stacks.now maps.now.mappings user header.now }
     ensures end { IfOk result HasEnd }
 {
@@ -116,8 +111,7 @@ fn by_header(
 /// READ and WRITE.
 #[inline(always)]
 fn header_word<M: Paged>(memory: &mut M, user: u64) -> Option<u64>
-    requires aligned { user % 16 ≡ 0 }
-    requires plain { user < 2 ^ 56 }
+    requires { IsUser user }
     ensures some { is_some result ≡ is_mapped (M.memory memory.old) user }
     ensures word { IfSome result
         (λ word. word ≡ from_le_bytes w64 (read_bytes (M.memory memory.old) (user - 16) 8)) }
@@ -137,9 +131,8 @@ fn header_word<M: Paged>(memory: &mut M, user: u64) -> Option<u64>
 #[cold]
 #[inline(never)]
 fn header_word_alone<M: Paged>(memory: &mut M, user: u64) -> Option<u64>
-    requires aligned { user % 16 ≡ 0 }
+    requires user { IsUser user }
     requires above { 16 ≤ user }
-    requires plain { user < 2 ^ 56 }
     ensures some { is_some result ≡ is_mapped (M.memory memory.old) user }
     ensures word { IfSome result
         (λ word. word ≡ from_le_bytes w64 (read_bytes (M.memory memory.old) (user - 16) 8)) }

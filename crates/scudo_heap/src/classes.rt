@@ -12,6 +12,7 @@ ghost use Rattle.scudo_heap.specs.Heaps.{heap_of};
 ghost use Rattle.scudo_heap.specs.Placing.{world_of, more_pages, next_page, heap_attrs};
 ghost use Rattle.scudo_heap.specs.Allocation.{allocation_of, place_in, after_take};
 ghost use Rattle.scudo_heap.specs.Allocation.{after_class_allocation};
+ghost use Rattle.scudo_heap.specs.Served.{HasTag};
 ghost use Rattle.scudo_heap.specs.Inner.{IsAlign, IsLow, AreRegions, FitsClass};
 
 use crate::chunk::{Chunk, Place, by_fields};
@@ -22,31 +23,23 @@ use address_map::PAGE_SIZE;
 use mte_tags::{Attrs, Paged, Rgsr, Tagged};
 use scudo_header::{MIN_ALIGNMENT, region_start, size_of_class};
 
-/// The first multiple of an alignment after a block's header. Most chunks are aligned to a granule,
-/// where it takes no division.
-#[inline(always)]
-fn first_user(block: u64, align: u64) -> u64
-    requires block { block < 2 ^ 32 }
-    requires align { IsAlign align }
-    ensures { result ≡ (block + 16 + (align - 1)) / align * align }
-{
-    if align == MIN_ALIGNMENT {
-        return (block + 31) / 16 * 16;
-    }
-    (block + 16 + (align - 1)) / align * align
-}
-
-/// Where a chunk is in a block: after the header, at the first multiple of the alignment.
+/// Where a chunk is in a block: after the header, at the first multiple of the alignment. Most
+/// chunks are aligned to a granule, where that takes no division.
 #[inline(always)]
 fn place(class: u8, block: u64, align: u64, size: u64) -> Place
     requires block { block < 2 ^ 32 }
     requires align { IsAlign align }
     ensures { result ≡ place_in class block align size }
 {
+    let user = if align == MIN_ALIGNMENT {
+        (block + 31) / 16 * 16
+    } else {
+        (block + 16 + (align - 1)) / align * align
+    };
     Place {
         class,
         block,
-        user: first_user(block, align),
+        user,
         size,
     }
 }
@@ -61,7 +54,7 @@ fn take_top<M: Paged>(
     request: Request,
     class: u8,
 ) -> Option<Chunk>
-    requires drawn { rgsr.old.tag < 16 }
+    requires drawn { HasTag rgsr.old }
     requires request { FitsClass class request }
     requires regions { AreRegions (M.memory memory.old) stacks.old }
     ensures made { (ms : SecondaryState)
@@ -75,7 +68,7 @@ fn take_top<M: Paged>(
     ensures memory { IsNone result → M.memory memory.new ≡ M.memory memory.old }
     ensures rgsr { IsNone result → rgsr.new ≡ rgsr.old }
     ensures low_chunk { IfSome result IsLow }
-    ensures tag { rgsr.new.tag < 16 }
+    ensures tag { HasTag rgsr.new }
     ensures kept { M.kept memory.old memory.new }
 {
     match stacks.take(class) {
@@ -127,7 +120,7 @@ fn grow_and_take<M: Paged>(
     request: Request,
     class: u8,
 ) -> Option<Chunk>
-    requires drawn { rgsr.old.tag < 16 }
+    requires drawn { HasTag rgsr.old }
     requires request { FitsClass class request }
     requires empty { stack_of stacks.old class ≡ [] }
     requires regions { AreRegions (M.memory memory.old) stacks.old }
@@ -138,7 +131,7 @@ fn grow_and_take<M: Paged>(
         (heap_of cookie stacks.old ms) rgsr.old)
         request.origin request.align request.size class }
     ensures low_chunk { IfSome result IsLow }
-    ensures tag { rgsr.new.tag < 16 }
+    ensures tag { HasTag rgsr.new }
     ensures kept { M.kept memory.old memory.new }
 {
     if !grow(stacks, memory, class) {
@@ -157,7 +150,7 @@ pub(crate) fn take_block<M: Paged>(
     request: Request,
     class: u8,
 ) -> Option<Chunk>
-    requires drawn { rgsr.old.tag < 16 }
+    requires drawn { HasTag rgsr.old }
     requires request { FitsClass class request }
     requires regions { AreRegions (M.memory memory.old) stacks.old }
     ensures made { (ms : SecondaryState)
@@ -167,7 +160,7 @@ pub(crate) fn take_block<M: Paged>(
         (heap_of cookie stacks.old ms) rgsr.old)
         request.origin request.align request.size class }
     ensures low_chunk { IfSome result IsLow }
-    ensures tag { rgsr.new.tag < 16 }
+    ensures tag { HasTag rgsr.new }
     ensures kept { M.kept memory.old memory.new }
 {
     if let Some(chunk) = take_top(cookie, stacks, rgsr, memory, request, class) {

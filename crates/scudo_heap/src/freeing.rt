@@ -3,6 +3,7 @@
 ghost use Rattle.std.specs.Prelude.{◌≡◌, ◌-◌, ◌<◌, ◌≤◌, ◌/◌, ◌%◌, ◌^◌, ℕ, Some};
 ghost use Rattle.mte_tags.specs.Memory.{attrs_at, without_pages};
 ghost use Rattle.mte_tags.specs.RandomTags.{after_draw};
+ghost use Rattle.scudo_header.specs.Headers.{FitsInWord};
 ghost use Rattle.scudo_header.specs.declared.headers.State.TheVariants.{Available};
 ghost use Rattle.scudo_secondary.specs.Mappings as secondary;
 ghost use Rattle.scudo_heap.specs.Stacks.{after_push};
@@ -11,8 +12,8 @@ ghost use Rattle.scudo_heap.specs.Chunks.{end_of, block_end, excluded_tags, with
 ghost use Rattle.scudo_heap.specs.Chunks.{with_header};
 ghost use Rattle.scudo_heap.specs.Placing.{world_of};
 ghost use Rattle.scudo_heap.specs.Freeing.{without_chunk};
-ghost use Rattle.scudo_heap.specs.Served.{HeapOwnsItsPages};
-ghost use Rattle.scudo_heap.specs.Inner.{IsFoundBlock, IsFound, IsOpen};
+ghost use Rattle.scudo_heap.specs.Served.{HeapOwnsItsPages, HasTag};
+ghost use Rattle.scudo_heap.specs.Inner.{FitsTagged, IsFoundBlock, IsFound, IsOpen};
 ghost use Rattle.scudo_heap.specs.Inner.Parts.{heap_in};
 
 use crate::chunk::{Found, Place};
@@ -30,12 +31,8 @@ use scudo_secondary::{Mapping, Secondary};
 #[tactic(auto, unfolding(crate::specs::Chunks::with_chunk_tag))]
 #[inline(always)]
 fn write_freed<M: Paged>(memory: &mut M, cookie: u32, place: Place, tag: u8, header: &Header)
-    requires tag { tag < 16 }
-    requires aligned { place.user % 16 ≡ 0 }
-    requires above { 16 ≤ place.user }
-    requires some { 0 < place.size }
-    requires small { place.size < 2 ^ 20 }
-    requires fields { header.now.size_or_unused_bytes < 2 ^ 20 }
+    requires chunk { FitsTagged place tag }
+    requires fields { FitsInWord header.now }
     requires open { IsOpen (M.memory memory.old) (place.user - 16) (end_of place) }
     ensures memory { M.memory memory.new
         ≡ with_header (with_chunk_tag
@@ -61,7 +58,7 @@ fn free_block<M: Paged>(
     place: Place,
     header: &Header,
 )
-    requires drawn { rgsr.old.tag < 16 }
+    requires drawn { HasTag rgsr.old }
     requires found { IsFoundBlock stacks.old place header.now }
     requires open { IsOpen (M.memory memory.old) place.block (block_end place) }
     ensures memory { M.memory memory.new
@@ -72,7 +69,7 @@ fn free_block<M: Paged>(
     ensures stacks { stacks.new ≡ after_push stacks.old place.class place.block }
     ensures rgsr { rgsr.new ≡ (after_draw rgsr.old
         (excluded_tags (M.memory memory.old) place)).rgsr }
-    ensures tag { rgsr.new.tag < 16 }
+    ensures tag { HasTag rgsr.new }
     ensures kept { M.kept memory.old memory.new }
 {
     let tag = choose_tag(rgsr, memory, place);
@@ -107,14 +104,14 @@ pub(crate) fn free_found<M: Paged>(
     memory: &mut M,
     found: Found,
 )
-    requires drawn { rgsr.old.tag < 16 }
+    requires drawn { HasTag rgsr.old }
     requires served { HeapOwnsItsPages (M.memory memory.old) (heap_in parts.old) }
     requires found { IsFound (heap_in parts.old) found }
     ensures world { world_of (M.memory memory.new) (heap_in parts.new) rgsr.new
         ≡ without_chunk
         (world_of (M.memory memory.old) (heap_in parts.old) rgsr.old)
         found }
-    ensures tag { rgsr.new.tag < 16 }
+    ensures tag { HasTag rgsr.new }
     ensures kept { M.kept memory.old memory.new }
 {
     match found {

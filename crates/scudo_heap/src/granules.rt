@@ -3,6 +3,7 @@
 
 ghost use Rattle.std.specs.Prelude.{◌≡◌, ◌+◌, ◌-◌, ◌*◌, ◌%◌, ◌^◌, ◌<◌, ◌≤◌, ℕ};
 ghost use Rattle.mte_tags.specs.Memory.{attrs_at, tag_at, with_granules};
+ghost use Rattle.scudo_header.specs.Headers.{FitsInWord};
 ghost use Rattle.scudo_heap.specs.Chunks.{with_header};
 ghost use Rattle.scudo_heap.specs.Inner.{IsOpen};
 
@@ -45,7 +46,7 @@ pub(crate) fn tag_there<M: Paged>(memory: &mut M, addr: u64) -> u8
 #[tactic(auto, unfolding(crate::specs::Chunks::with_header))]
 #[inline(always)]
 pub(crate) fn put_header<M: Paged>(memory: &mut M, cookie: u32, user: u64, header: &Header)
-    requires fields { header.now.size_or_unused_bytes < 2 ^ 20 }
+    requires fields { FitsInWord header.now }
     requires above { 16 ≤ user }
     requires open { IsOpen (M.memory memory.old) (user - 16) user }
     ensures memory { M.memory memory.new

@@ -8,7 +8,7 @@ ghost use Rattle.scudo_heap.specs.Allocation.{after_memalign};
 ghost use Rattle.scudo_heap.specs.Freeing.{free_of, usable_size_of};
 ghost use Rattle.scudo_heap.specs.Realloc.{realloc_answer, after_realloc};
 ghost use Rattle.scudo_heap.specs.Calls.{after_call};
-ghost use Rattle.scudo_heap.specs.Served.{HeapOwnsItsPages};
+ghost use Rattle.scudo_heap.specs.Served.{HeapOwnsItsPages, HasTag};
 ghost use Rattle.scudo_heap.specs.Sound.{IsSound};
 
 use crate::abort::HeapAbort;
@@ -52,11 +52,10 @@ impl Model for Heap {
 }
 
 impl Heap {
-    /// A heap without chunks, for a memory of at most `pages` pages, 1 to `MAX_PAGES`. The cookie
+    /// A heap without chunks, for a memory of at most `pages` pages, up to `MAX_PAGES`. The cookie
     /// is what the checksums of its headers start from. It is refused only where its memory is; no
     /// later call takes any.
     pub fn new(alloc: Global, cookie: u32, pages: u64) -> Result<Heap, AllocError>
-        requires some { 0 < pages }
         requires most { pages ≤ MAX_PAGES }
         ensures { IfOk result (λ heap. heap ≡ empty_heap cookie pages) }
     {
@@ -93,13 +92,13 @@ impl Heap {
     #[inline(never)]
     pub fn malloc<M: Paged>(&mut self, rgsr: &mut Rgsr, memory: &mut M, size: u64) -> u64
         requires served { HeapOwnsItsPages (M.memory memory.old) self.old }
-        requires tag { rgsr.old.tag < 16 }
+        requires tag { HasTag rgsr.old }
         ensures answer { let w = world_of (M.memory memory.old) self.old rgsr.old in
             result ≡ answer_of (after_malloc w size).chunk }
         ensures world { let w = world_of (M.memory memory.old) self.old rgsr.old in
             world_of (M.memory memory.new) self.new rgsr.new ≡ (after_malloc w size).world }
         ensures served { HeapOwnsItsPages (M.memory memory.new) self.new }
-        ensures tag { rgsr.new.tag < 16 }
+        ensures tag { HasTag rgsr.new }
         ensures kept { M.kept memory.old memory.new }
     {
         let align = MIN_ALIGNMENT;
@@ -123,13 +122,13 @@ impl Heap {
         size: u64,
     ) -> u64
         requires served { HeapOwnsItsPages (M.memory memory.old) self.old }
-        requires tag { rgsr.old.tag < 16 }
+        requires tag { HasTag rgsr.old }
         ensures answer { let w = world_of (M.memory memory.old) self.old rgsr.old in
             result ≡ answer_of (after_calloc w count size).chunk }
         ensures world { let w = world_of (M.memory memory.old) self.old rgsr.old in
             world_of (M.memory memory.new) self.new rgsr.new ≡ (after_calloc w count size).world }
         ensures served { HeapOwnsItsPages (M.memory memory.new) self.new }
-        ensures tag { rgsr.new.tag < 16 }
+        ensures tag { HasTag rgsr.new }
         ensures kept { M.kept memory.old memory.new }
     {
         match count.checked_mul(size) {
@@ -149,14 +148,14 @@ impl Heap {
         size: u64,
     ) -> u64
         requires served { HeapOwnsItsPages (M.memory memory.old) self.old }
-        requires tag { rgsr.old.tag < 16 }
+        requires tag { HasTag rgsr.old }
         ensures answer { let w = world_of (M.memory memory.old) self.old rgsr.old in
             result ≡ answer_of (after_memalign w alignment size).chunk }
         ensures world { let w = world_of (M.memory memory.old) self.old rgsr.old in
             world_of (M.memory memory.new) self.new rgsr.new
             ≡ (after_memalign w alignment size).world }
         ensures served { HeapOwnsItsPages (M.memory memory.new) self.new }
-        ensures tag { rgsr.new.tag < 16 }
+        ensures tag { HasTag rgsr.new }
         ensures kept { M.kept memory.old memory.new }
     {
         if !is_power(alignment) {
@@ -181,13 +180,13 @@ impl Heap {
         pointer: u64,
     ) -> Result<(), HeapAbort>
         requires served { HeapOwnsItsPages (M.memory memory.old) self.old }
-        requires tag { rgsr.old.tag < 16 }
+        requires tag { HasTag rgsr.old }
         ensures answer { let w = world_of (M.memory memory.old) self.old rgsr.old in
             result ≡ (free_of w pointer).result }
         ensures world { let w = world_of (M.memory memory.old) self.old rgsr.old in
             world_of (M.memory memory.new) self.new rgsr.new ≡ (free_of w pointer).world }
         ensures served { HeapOwnsItsPages (M.memory memory.new) self.new }
-        ensures tag { rgsr.new.tag < 16 }
+        ensures tag { HasTag rgsr.new }
         ensures kept { M.kept memory.old memory.new }
     {
         if pointer == 0 {
@@ -215,14 +214,14 @@ impl Heap {
         size: u64,
     ) -> Result<u64, HeapAbort>
         requires served { HeapOwnsItsPages (M.memory memory.old) self.old }
-        requires tag { rgsr.old.tag < 16 }
+        requires tag { HasTag rgsr.old }
         ensures answer { let w = world_of (M.memory memory.old) self.old rgsr.old in
             result ≡ realloc_answer (after_realloc w pointer size).result }
         ensures world { let w = world_of (M.memory memory.old) self.old rgsr.old in
             world_of (M.memory memory.new) self.new rgsr.new
             ≡ (after_realloc w pointer size).world }
         ensures served { HeapOwnsItsPages (M.memory memory.new) self.new }
-        ensures tag { rgsr.new.tag < 16 }
+        ensures tag { HasTag rgsr.new }
         ensures kept { M.kept memory.old memory.new }
     {
         if pointer == 0 {
@@ -247,13 +246,13 @@ impl Heap {
         call: HeapCall,
     ) -> Result<u64, HeapAbort>
         requires served { HeapOwnsItsPages (M.memory memory.old) self.old }
-        requires tag { rgsr.old.tag < 16 }
+        requires tag { HasTag rgsr.old }
         ensures answer { let w = world_of (M.memory memory.old) self.old rgsr.old in
             result ≡ (after_call w call).answer }
         ensures world { let w = world_of (M.memory memory.old) self.old rgsr.old in
             world_of (M.memory memory.new) self.new rgsr.new ≡ (after_call w call).world }
         ensures served { HeapOwnsItsPages (M.memory memory.new) self.new }
-        ensures tag { rgsr.new.tag < 16 }
+        ensures tag { HasTag rgsr.new }
         ensures kept { M.kept memory.old memory.new }
     {
         match call {

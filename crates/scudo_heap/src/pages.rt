@@ -8,34 +8,18 @@ ghost use Rattle.scudo_secondary.specs.Mappings as secondary;
 ghost use Rattle.scudo_heap.specs.Stacks.{StackState};
 ghost use Rattle.scudo_heap.specs.Heaps.{heap_of, with_more};
 ghost use Rattle.scudo_heap.specs.Chunks.{with_header};
-ghost use Rattle.scudo_heap.specs.Placing.{world_of, heap_attrs};
-ghost use Rattle.scudo_heap.specs.Large.{mapping_for, large_header};
+ghost use Rattle.scudo_heap.specs.Placing.{world_of, heap_attrs, pages_for};
+ghost use Rattle.scudo_heap.specs.Large.{large_header};
 ghost use Rattle.scudo_heap.specs.Allocation.{allocation_of, need_of, after_large_allocation};
-ghost use Rattle.scudo_heap.specs.Inner.{IsAlign, IsLarge, IsLow, ArePlaces};
+ghost use Rattle.scudo_heap.specs.Inner.{IsRequest, IsLarge, IsLow, ArePlaces};
 
 use crate::chunk::Chunk;
 use crate::granules::put_header;
 use crate::request::Request;
-use address_map::{MAX_PAGES, PAGE_SIZE};
+use address_map::PAGE_SIZE;
 use mte_tags::{Attrs, Paged, Tagged};
 use scudo_header::{Header, Origin, State};
 use scudo_secondary::{Mapping, Secondary};
-
-/// The mapping of a chunk in `pages` pages from an address on: it ends as near to their end as its
-/// alignment allows.
-fn mapping_at(start: u64, pages: u64, align: u64, size: u64) -> Mapping
-    requires start { start < 2 ^ 32 }
-    requires pages { pages ≤ MAX_PAGES }
-    requires align { IsAlign align }
-    requires size { size ≤ start }
-    ensures { result ≡ mapping_for start pages align size }
-{
-    Mapping {
-        start,
-        pages,
-        user: (start + PAGE_SIZE * pages - size) / align * align,
-    }
-}
 
 /// Maps the pages of a chunk and writes its header.
 fn map_chunk<M: Paged>(
@@ -72,7 +56,7 @@ fn map_chunk<M: Paged>(
         offset: 0,
     };
     put_header(memory, cookie, mapping.user, &header);
-    maps.add(mapping.start, mapping.pages, mapping.user);
+    maps.add(mapping);
 }
 
 /// A chunk with pages of its own, if they fit and as many are left.
@@ -82,28 +66,28 @@ pub(crate) fn take_pages<M: Paged>(
     maps: &mut Secondary,
     memory: &mut M,
     request: Request,
-    pages: u64,
 ) -> Option<Chunk>
     requires places { ArePlaces (M.memory memory.old) maps.old }
-    requires align { IsAlign request.align }
-    requires some { 0 < request.size }
-    requires small { request.size ≤ 2 ^ 20 }
-    requires pages { pages ≤ MAX_PAGES }
-    requires fits { need_of request.align request.size ≤ PAGE_SIZE * pages }
+    requires request { IsRequest request }
     ensures made { (s : StackState) (r : Rgsr)
         → allocation_of (world_of (M.memory memory.new) (heap_of cookie s maps.new) r) result
         ≡ after_large_allocation (world_of (M.memory memory.old) (heap_of cookie s maps.old) r)
-        request.origin request.align request.size pages }
+        request.origin request.align request.size
+        (pages_for (need_of request.align request.size)) }
     ensures low_chunk { IfSome result IsLow }
     ensures kept { M.kept memory.old memory.new }
 {
+    let pages = (request.need() + (PAGE_SIZE - 1)) / PAGE_SIZE;
     let Some(start) = maps.place(pages) else {
         return None;
     };
     if pages > memory.pages_left() as u64 {
         return None;
     }
-    let mapping = mapping_at(start, pages, request.align, request.size);
+    // The chunk ends as near to the end of its pages as its alignment allows.
+    let end = start + PAGE_SIZE * pages;
+    let user = (end - request.size) / request.align * request.align;
+    let mapping = Mapping { start, pages, user };
     map_chunk(cookie, maps, memory, request.origin, mapping, request.size);
     Some(Chunk::Large(mapping, request.size))
 }

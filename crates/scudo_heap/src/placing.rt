@@ -3,12 +3,13 @@
 ghost use Rattle.std.specs.Prelude.{◌≡◌, ◌+◌, ◌-◌, ◌*◌, ◌/◌, ◌%◌, ◌^◌, ◌<◌, ◌≤◌, ℕ};
 ghost use Rattle.mte_tags.specs.Memory.{attrs_at};
 ghost use Rattle.mte_tags.specs.RandomTags.{after_draw};
-ghost use Rattle.scudo_header.specs.Classes.{IsClass};
+ghost use Rattle.scudo_header.specs.Headers.{FitsInWord};
 ghost use Rattle.scudo_heap.specs.Chunks.{end_of, block_end, excluded_tags, with_chunk_tag};
 ghost use Rattle.scudo_heap.specs.Chunks.{with_end_tag_0, with_header_tag_0};
 ghost use Rattle.scudo_heap.specs.Chunks.{with_header};
 ghost use Rattle.scudo_heap.specs.Placing.{new_header};
-ghost use Rattle.scudo_heap.specs.Inner.{FitsIn, IsOpen};
+ghost use Rattle.scudo_heap.specs.Served.{HasTag};
+ghost use Rattle.scudo_heap.specs.Inner.{FitsIn, FitsTagged, IsOpen};
 
 use crate::chunk::Place;
 use crate::granules::{put_header, set_tags};
@@ -20,12 +21,7 @@ use scudo_header::{Header, Origin, State, pack, size_of_class};
 #[tactic(auto, unfolding(crate::specs::Chunks::with_end_tag_0))]
 #[inline(always)]
 pub(crate) fn close<M: Paged>(memory: &mut M, place: Place)
-    requires class { IsClass place.class }
-    requires user { place.user < 2 ^ 32 }
-    requires block { place.block < 2 ^ 32 }
-    requires small { place.size < 2 ^ 20 }
-    requires aligned { place.user % 16 ≡ 0 }
-    requires whole { block_end place % 16 ≡ 0 }
+    requires place { FitsIn place }
     requires open { IsOpen (M.memory memory.old) place.user (block_end place) }
     ensures memory { M.memory memory.new ≡ with_end_tag_0 (M.memory memory.old) place }
     ensures attrs { (q : ℕ)
@@ -42,8 +38,7 @@ pub(crate) fn close<M: Paged>(memory: &mut M, place: Place)
 #[tactic(auto, unfolding(crate::specs::Chunks::with_header_tag_0))]
 #[inline(always)]
 fn open<M: Paged>(memory: &mut M, place: Place)
-    requires above { 16 ≤ place.user }
-    requires aligned { place.user % 16 ≡ 0 }
+    requires place { FitsIn place }
     requires open { IsOpen (M.memory memory.old) (place.user - 16) place.user }
     ensures memory { M.memory memory.new ≡ with_header_tag_0 (M.memory memory.old) place }
     ensures attrs { (q : ℕ)
@@ -58,11 +53,7 @@ fn open<M: Paged>(memory: &mut M, place: Place)
 #[tactic(auto, unfolding(crate::specs::Chunks::with_chunk_tag))]
 #[inline(always)]
 fn tag_by_three_runs<M: Paged>(memory: &mut M, place: Place, tag: u8)
-    requires class { IsClass place.class }
-    requires tag { tag < 16 }
-    requires fits { FitsIn place }
-    requires above { place.block + 16 ≤ place.user }
-    requires small { place.size < 2 ^ 20 }
+    requires chunk { FitsTagged place tag }
     requires open { IsOpen (M.memory memory.old) place.block (block_end place) }
     ensures memory { M.memory memory.new
         ≡ with_end_tag_0 (with_header_tag_0
@@ -80,12 +71,8 @@ fn tag_by_three_runs<M: Paged>(memory: &mut M, place: Place, tag: u8)
 /// tag goes over a run of tag 0.
 #[inline(always)]
 fn write_around<M: Paged>(memory: &mut M, cookie: u32, place: Place, tag: u8, header: &Header)
-    requires class { IsClass place.class }
-    requires tag { tag < 16 }
-    requires fits { FitsIn place }
-    requires above { place.block + 16 ≤ place.user }
-    requires small { place.size < 2 ^ 20 }
-    requires fields { header.now.size_or_unused_bytes < 2 ^ 20 }
+    requires chunk { FitsTagged place tag }
+    requires fields { FitsInWord header.now }
     requires open { IsOpen (M.memory memory.old) place.block (block_end place) }
     ensures memory { M.memory memory.new
         ≡ with_header
@@ -118,19 +105,14 @@ pub(crate) fn make_chunk<M: Paged>(
     origin: Origin,
     place: Place,
 ) -> u8
-    requires class { IsClass place.class }
-    requires drawn { rgsr.old.tag < 16 }
-    requires fits { FitsIn place }
-    requires above { place.block + 16 ≤ place.user }
-    requires near { place.user < place.block + 2 ^ 20 }
-    requires some { 0 < place.size }
-    requires small { place.size < 2 ^ 20 }
+    requires drawn { HasTag rgsr.old }
+    requires place { FitsIn place }
     requires open { IsOpen (M.memory memory.old) place.block (block_end place) }
     ensures tag { result
         ≡ (after_draw rgsr.old (excluded_tags (M.memory memory.old) place)).rgsr.tag }
     ensures rgsr { rgsr.new ≡ (after_draw rgsr.old
         (excluded_tags (M.memory memory.old) place)).rgsr }
-    ensures below { rgsr.new.tag < 16 }
+    ensures below { HasTag rgsr.new }
     ensures small { result < 16 }
     ensures memory { M.memory memory.new
         ≡ with_header

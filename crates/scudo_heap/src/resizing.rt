@@ -2,14 +2,14 @@
 
 ghost use Rattle.std.specs.Prelude.{◌≡◌, ◌+◌, ◌-◌, ◌%◌, ◌^◌, ◌<◌, ◌≤◌, ℕ, IfSome, nat_le};
 ghost use Rattle.mte_tags.specs.Memory.{attrs_at, tag_at};
-ghost use Rattle.scudo_header.specs.Classes.{IsClass};
 ghost use Rattle.scudo_heap.specs.Chunks.{block_end, end_of, with_size, after_retag_tail};
 ghost use Rattle.scudo_heap.specs.Chunks.{with_header};
 ghost use Rattle.scudo_heap.specs.Placing.{world_of};
 ghost use Rattle.scudo_heap.specs.Allocation.{allocation_of};
 ghost use Rattle.scudo_heap.specs.Realloc.{after_move, realloc_cases};
 ghost use Rattle.scudo_heap.specs.Sound.{IsSoundWorld};
-ghost use Rattle.scudo_heap.specs.Inner.{IsPlaced, IsFound, IsLow, HasEnd, IsOpen};
+ghost use Rattle.scudo_heap.specs.Served.{HasTag};
+ghost use Rattle.scudo_heap.specs.Inner.{FitsIn, IsSize, IsFound, IsLow, HasEnd, IsOpen};
 ghost use Rattle.scudo_heap.specs.Inner.Parts.{heap_in};
 
 use crate::allocation::allocate;
@@ -20,36 +20,25 @@ use crate::granules::{put_header, set_tags, tag_there};
 use crate::parts::HeapParts;
 use crate::placing::close;
 use crate::request::Request;
-use crate::stacks::Stacks;
 use crate::tagging::granules;
 use mte_tags::{Paged, Rgsr, Tagged};
 use scudo_header::{Header, MAX_REQUEST, MIN_ALIGNMENT, Origin, size_of_class};
 
 /// Whether a chunk's block holds another size of it.
 fn fits(place: Place, size: u64) -> bool
-    requires class { IsClass place.class }
-    requires user { place.user < 2 ^ 32 }
-    requires block { place.block < 2 ^ 32 }
-    requires size { size ≤ MAX_REQUEST }
+    requires place { FitsIn place }
+    requires size { IsSize size }
     ensures { result ≡ nat_le (end_of (with_size place size)) (block_end place) }
 {
-    place.user + 16 * granules(size) <= place.block + size_of_class(place.class)
+    place.user - place.block + 16 * granules(size) <= size_of_class(place.class)
 }
 
 /// Gives the granules that come to a chunk its tag `tag` and zero bytes, or those that it gives up
 /// tag 0.
 #[tactic(auto, unfolding(crate::specs::Chunks::after_retag_tail))]
 fn refit<M: Paged>(memory: &mut M, place: Place, size: u64, tag: u8)
-    requires class { IsClass place.class }
-    requires user { place.user < 2 ^ 32 }
-    requires block { place.block < 2 ^ 32 }
-    requires above { place.block ≤ place.user }
-    requires old { place.size < 2 ^ 20 }
-    requires small { size < 2 ^ 20 }
-    requires aligned { place.user % 16 ≡ 0 }
-    requires whole { block_end place % 16 ≡ 0 }
-    requires within { end_of place ≤ block_end place }
-    requires holds { end_of (with_size place size) ≤ block_end place }
+    requires place { FitsIn place }
+    requires resized { FitsIn (with_size place size) }
     requires open { IsOpen (M.memory memory.old) place.block (block_end place) }
     requires tag { tag ≡ tag_at (M.memory memory.old) place.user }
     requires tag_small { tag < 16 }
@@ -68,17 +57,9 @@ fn refit<M: Paged>(memory: &mut M, place: Place, size: u64, tag: u8)
 }
 
 /// Gives a chunk another size in its block, which holds it, and returns its tag.
-fn resize<M: Paged>(
-    cookie: u32,
-    stacks: &Stacks,
-    memory: &mut M,
-    place: Place,
-    header: &Header,
-    size: u64,
-) -> u8
-    requires placed { IsPlaced stacks.now place }
-    requires small { size < 2 ^ 20 }
-    requires holds { end_of (with_size place size) ≤ block_end place }
+fn resize<M: Paged>(cookie: u32, memory: &mut M, place: Place, header: &Header, size: u64) -> u8
+    requires place { FitsIn place }
+    requires resized { FitsIn (with_size place size) }
     requires open { IsOpen (M.memory memory.old) place.block (block_end place) }
     ensures tag { result ≡ tag_at (M.memory memory.old) place.user }
     ensures tag_small { result < 16 }
@@ -104,9 +85,8 @@ fn move_chunk<M: Paged>(
     found: Found,
     size: u64,
 ) -> Option<Chunk>
-    requires drawn { rgsr.old.tag < 16 }
-    requires some { 0 < size }
-    requires most { size ≤ MAX_REQUEST }
+    requires drawn { HasTag rgsr.old }
+    requires size { IsSize size }
     requires sound { IsSoundWorld
         (world_of (M.memory memory.old) (heap_in parts.old) rgsr.old) }
     requires found { IsFound (heap_in parts.old) found }
@@ -116,7 +96,7 @@ fn move_chunk<M: Paged>(
         ≡ after_move (world_of (M.memory memory.old) (heap_in parts.old) rgsr.old)
         found size }
     ensures low_chunk { IfSome result IsLow }
-    ensures tag { rgsr.new.tag < 16 }
+    ensures tag { HasTag rgsr.new }
     ensures kept { M.kept memory.old memory.new }
 {
     let request = Request {
@@ -142,7 +122,7 @@ pub(crate) fn reallocate<M: Paged>(
     found: Found,
     size: u64,
 ) -> Option<Chunk>
-    requires drawn { rgsr.old.tag < 16 }
+    requires drawn { HasTag rgsr.old }
     requires sound { IsSoundWorld
         (world_of (M.memory memory.old) (heap_in parts.old) rgsr.old) }
     requires found { IsFound (heap_in parts.old) found }
@@ -153,7 +133,7 @@ pub(crate) fn reallocate<M: Paged>(
         (heap_in parts.old) rgsr.old)
         found size }
     ensures low_chunk { IfSome result IsLow }
-    ensures tag { rgsr.new.tag < 16 }
+    ensures tag { HasTag rgsr.new }
     ensures kept { M.kept memory.old memory.new }
 {
     if size == 0 {
@@ -165,7 +145,7 @@ pub(crate) fn reallocate<M: Paged>(
     }
     match found {
         Found::InBlock(place, header) if fits(place, size) => {
-            let tag = resize(parts.cookie, &parts.stacks, memory, place, &header, size);
+            let tag = resize(parts.cookie, memory, place, &header, size);
             Some(Chunk::Small(Place { size, ..place }, tag))
         }
         _ => move_chunk(parts, rgsr, memory, found, size),

@@ -37,8 +37,7 @@ impl Model for Stacks {
 impl Stacks {
     /// Stacks without blocks, for `pages` pages.
     pub(crate) fn new(alloc: Global, pages: u64) -> Result<Stacks, AllocError>
-        requires low { 0 < pages }
-        requires high { pages ≤ MAX_PAGES }
+        requires { pages ≤ MAX_PAGES }
         ensures { IfOk result (λ stacks. stacks ≡ empty_stacks pages) }
     {
         let pool = Primary::new(alloc, pages)?;

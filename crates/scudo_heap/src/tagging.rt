@@ -7,25 +7,13 @@ ghost use Rattle.mte_tags.specs.RandomTags.{after_draw};
 ghost use Rattle.scudo_header.specs.Classes.{IsClass};
 ghost use Rattle.scudo_heap.specs.Chunks.{granules_of, end_of, parity_mask, excluded_tags};
 ghost use Rattle.scudo_heap.specs.Chunks.{with_chunk_tag};
+ghost use Rattle.scudo_heap.specs.Served.{HasTag};
 ghost use Rattle.scudo_heap.specs.Inner.{IsOpen};
 
 use crate::chunk::Place;
 use crate::granules::{set_tags, tag_there};
 use mte_tags::{Paged, Rgsr, Tagged};
 use scudo_header::size_of_class;
-
-/// The tags that a chunk may not get: 0, those of the other half, and the one that is there.
-#[inline(always)]
-fn exclude(place: Place, present: u8) -> u16
-    requires class { IsClass place.class }
-    requires present { present < 16 }
-    ensures { result ≡ bit_or (bit_or 1 (parity_mask place.class place.block)) (2 ^ present) }
-{
-    let unit = (size_of_class(place.class) as u32).trailing_zeros();
-    let half = (place.block >> unit) % 2;
-    let mask: u16 = if half == 0 { 0x5555 } else { 0xAAAA };
-    1 | mask | (1 << present)
-}
 
 /// How many granules hold `size` bytes.
 #[inline(always)]
@@ -36,12 +24,12 @@ pub(crate) fn granules(size: u64) -> u64
     (size + 15) / 16
 }
 
-/// Draws a tag for a chunk.
+/// Draws a tag for a chunk, which may not be 0, one of the other half, or the one that is there.
 #[tactic(auto, unfolding(crate::specs::Chunks::excluded_tags))]
 #[inline(always)]
 pub(crate) fn choose_tag<M: Paged>(rgsr: &mut Rgsr, memory: &mut M, place: Place) -> u8
     requires class { IsClass place.class }
-    requires drawn { rgsr.old.tag < 16 }
+    requires drawn { HasTag rgsr.old }
     requires open { IsOpen (M.memory memory.old) place.user (place.user + 1) }
     ensures tag { result
         ≡ (after_draw rgsr.old (excluded_tags (M.memory memory.old) place)).tag }
@@ -53,5 +41,9 @@ pub(crate) fn choose_tag<M: Paged>(rgsr: &mut Rgsr, memory: &mut M, place: Place
     ensures kept { M.kept memory.old memory.new }
 {
     let present = tag_there(memory, place.user);
-    rgsr.draw(exclude(place, present))
+    let unit = (size_of_class(place.class) as u32).trailing_zeros();
+    let half = (place.block >> unit) % 2;
+    let mask: u16 = if half == 0 { 0x5555 } else { 0xAAAA };
+    let exclude = 1 | mask | (1 << present);
+    rgsr.draw(exclude)
 }

@@ -1,6 +1,7 @@
 -- How a class's free blocks are cut into batches (Scudo, local_cache.h: a transfer batch).
-use Rattle.std.specs.Prelude.{ℕ, ◌-◌, ◌/◌, ◌%◌, ◌==◌, nat_le, List, [], ◌∷◌, ◌++◌, replicate}
-use Rattle.std.specs.Prelude.{if◌then◌else◌}
+use Rattle.std.specs.Prelude.{ℕ, ◌-◌, ◌/◌, ◌%◌, ◌<◌, ◌≤◌, ◌==◌, nat_le, nat_eq, List, [], ◌∷◌}
+use Rattle.std.specs.Prelude.{◌++◌, length, replicate, if◌then◌else◌}
+use Rattle.std.specs.List.{IsDistinct}
 use Rattle.scudo_header.specs.Classes.{size_of}
 use Rattle.scudo_header.specs.declared.config.TheConstants.{SMALL_SIZE, MAX_COUNT}
 use Rattle.scudo_header.specs.declared.config.TheConstants.{MAX_COUNT_ABOVE}
@@ -8,6 +9,12 @@ use Rattle.scudo_header.specs.declared.config.TheConstants.{MAX_COUNT_ABOVE}
 -- The most blocks of a class that a local cache or a batch holds.
 abbrev pub max_count_of : ℕ → ℕ
 max_count_of class = if nat_le (size_of class) SMALL_SIZE then MAX_COUNT else MAX_COUNT_ABOVE
+
+-- A batch of a class's blocks: none of them twice.
+pub record IsBatch (class : ℕ) (blocks : List ℕ) : Type 0 where
+  pub some : 0 < length blocks
+  pub most : length blocks ≤ max_count_of class
+  pub distinct : IsDistinct nat_eq blocks
 
 -- The sizes of the batches, from the lowest on, into which n new blocks of a class are cut: half of
 -- the maximum each, and what is left in the last.

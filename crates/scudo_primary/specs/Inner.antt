@@ -69,6 +69,12 @@ block_table es ns ks = record { entries = es; numbers = ns; lists = ks }
 abbrev pub slot_of : ℕ → ℕ → ℕ
 slot_of class page = page * CLASSES + (class - 1)
 
+-- The page of a block has a place for its number.
+pub record HasNumber (ns : List ℕ) (c b : ℕ) : Type 0 where
+  pub class : IsClass c
+  pub inside : region_of c ≤ b
+  pub slot : slot_of c ((b - region_of c) / PAGE_SIZE) < length ns
+
 -- The number of a page of a class.
 abbrev pub page_number : List ℕ → ℕ → ℕ → ℕ
 page_number ns class page = slice_index ns (slot_of class page)

@@ -1,12 +1,12 @@
 //! The stacks of free blocks, linked through one table of entries.
 
 ghost use Rattle.std.specs.Prelude.{◌≡◌, ◌≤◌, ◌≢◌, ◌<◌, ◌+◌, ◌-◌, ◌*◌, ◌/◌, ◌++◌, ℕ, Some, false};
-ghost use Rattle.std.specs.Prelude.{length, drop, slice_get, slice_set, nat_eq, nat_lt, not, ◌&&◌};
+ghost use Rattle.std.specs.Prelude.{length, drop, slice_get, slice_set, nat_lt, not, ◌&&◌};
 ghost use Rattle.std.specs.Prelude.{◌^◌, vec_capacity};
-ghost use Rattle.std.specs.List.{All, IsDistinct};
+ghost use Rattle.std.specs.List.{All};
 ghost use Rattle.scudo_header.specs.Regions.{region_of};
 ghost use Rattle.scudo_primary.specs.Blocks.{IsBlock, carved_count, number_of};
-ghost use Rattle.scudo_primary.specs.Batches.{max_count_of, first_size};
+ghost use Rattle.scudo_primary.specs.Batches.{IsBatch, max_count_of, first_size};
 ghost use Rattle.scudo_primary.specs.Pools.{is_member, IsLoose, class_after_pop, batch_in};
 ghost use Rattle.scudo_primary.specs.Pools.{class_after_pop_batch};
 ghost use Rattle.scudo_primary.specs.Pools.{class_after_push_batch};
@@ -41,7 +41,7 @@ ghost use Rattle.scudo_primary.specs.Blocks.{IsClass};
 ghost use Rattle.scudo_primary.specs.Inner.{is_last_at};
 ghost use Rattle.scudo_primary.specs.Inner.{list_at, entry_at, state_in, class_after_link};
 ghost use Rattle.scudo_primary.specs.Inner.{class_after_link_new};
-ghost use Rattle.scudo_primary.specs.Inner.{IsFilledUp, IsNumberedOn, place_of, slot_of};
+ghost use Rattle.scudo_primary.specs.Inner.{IsFilledUp, IsNumberedOn, HasNumber, place_of, slot_of};
 
 /// Where the number of a page of a class's region is.
 #[inline(always)]
@@ -56,9 +56,7 @@ fn slot(class: u8, page: u64) -> usize
 /// Where the entry of a block is.
 #[inline(always)]
 pub(crate) fn place(numbers: &[u16], class: u8, block: u64) -> usize
-    requires class { IsClass class }
-    requires inside { region_of class ≤ block }
-    requires slot { slot_of class ((block - region_of class) / PAGE_SIZE) < length numbers.now }
+    requires { HasNumber numbers.now class block }
     ensures { result ≡ place_of numbers.now class block }
 {
     let offset = block - region_start(class);
@@ -75,9 +73,7 @@ pub(crate) fn set_mark(
     block: u64,
     free: bool,
 )
-    requires class { IsClass class }
-    requires inside { region_of class ≤ block }
-    requires slot { slot_of class ((block - region_of class) / PAGE_SIZE) < length numbers.now }
+    requires number { HasNumber numbers.now class block }
     requires place { place_of numbers.now class block < length entries.old }
     ensures { entries.new
         ≡ slice_set entries.old (place_of numbers.now class block)
@@ -220,11 +216,9 @@ pub(crate) fn link_batch(
 )
     requires table { IsTable (block_table entries.old numbers.now lists.old) }
     requires class { IsClass class }
-    requires some { 0 < length blocks.now }
-    requires most { length blocks.now ≤ max_count_of class }
+    requires batch { IsBatch class blocks.now }
     requires blocks { let t = block_table entries.old numbers.now lists.old in
         All (IsLoose (state_in t class) class) blocks.now }
-    requires distinct { IsDistinct nat_eq blocks.now }
     ensures { let t = block_table entries.old numbers.now lists.old in
         Became t (block_table entries.new numbers.now lists.new) class
         (class_after_push_batch (state_in t class) blocks.now) }

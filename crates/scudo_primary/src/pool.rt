@@ -5,7 +5,7 @@ ghost use Rattle.std.specs.Prelude.{drop};
 ghost use Rattle.std.specs.Prelude.{reverse, slice_get, nat_eq, IfSome, IfOk, IsTrue};
 ghost use Rattle.std.specs.List.{All, IsDistinct};
 ghost use Rattle.scudo_primary.specs.Blocks.{IsClass, IsBlock, carved_count};
-ghost use Rattle.scudo_primary.specs.Batches.{max_count_of, first_size};
+ghost use Rattle.scudo_primary.specs.Batches.{IsBatch, max_count_of, first_size};
 ghost use Rattle.scudo_primary.specs.Pools.{pages_of, stack_of, sizes_of, is_listed, is_marked};
 ghost use Rattle.scudo_primary.specs.Pools.{IsFree, IsCached, empty_pool, after_pop, after_push};
 ghost use Rattle.scudo_primary.specs.Pools.{top_batch, without_batch, with_batch, with_mark};
@@ -54,8 +54,7 @@ impl Primary {
     /// A pool for `pages` pages, none of them carved. It is refused only where its memory is; no
     /// later call takes any.
     pub fn new(alloc: Global, pages: u64) -> Result<Primary, AllocError>
-        requires low { 0 < pages }
-        requires high { pages ≤ MAX_PAGES }
+        requires { pages ≤ MAX_PAGES }
         ensures { IfOk result
             (λ pool. pool ≡ empty_pool pages (128 * pages ∷ CLASSES * pages ∷ [])) }
     {
@@ -179,10 +178,8 @@ impl Primary {
     /// comes on top.
     pub fn push_batch(&mut self, class: u8, blocks: &[u64])
         requires class { IsClass class }
-        requires some { 0 < length blocks.now }
-        requires most { length blocks.now ≤ max_count_of class }
+        requires batch { IsBatch class blocks.now }
         requires cached { All (IsCached self.old class) blocks.now }
-        requires distinct { IsDistinct nat_eq blocks.now }
         ensures { self.new ≡ with_batch self.old class blocks.now }
     {
         link_batch(

@@ -38,6 +38,10 @@ end_of m = m.start + PAGE_SIZE * m.pages
 abbrev pub pages_of : List Mapping → ℕ
 pages_of ms = sum_by (λ m. m.pages) ms
 
+-- There is room for a mapping of so many pages more.
+abbrev pub HasRoom : SecondaryState → ℕ → Type 0
+HasRoom s pages = pages_of s.mappings + pages ≤ s.limit
+
 -- ---- places
 
 -- Whether there is at least a page between a mapping and a number of pages from an address on.
@@ -65,6 +69,11 @@ place_of ms pages =
     (page_starts SECONDARY_START ((SECONDARY_END - SECONDARY_START) / PAGE_SIZE))
 
 -- ---- the list
+
+-- A mapping's pages hold its user address.
+pub record HoldsUser (m : Mapping) : Type 0 where
+  pub first : m.start ≤ m.user
+  pub last : m.user < end_of m
 
 -- Each mapping has pages, which hold its user address, and begins at the least address or above.
 pub record IsMapping (least : ℕ) (m : Mapping) : Type 0 where

@@ -9,16 +9,14 @@ use address_map::{PAGE_SIZE, SECONDARY_END, SECONDARY_START};
 /// Whether pages from `start` on and one more lie below `end`.
 #[inline]
 fn fits_below(start: u64, pages: u64, end: u64) -> bool
-    requires { start ≤ end }
     ensures { result ≡ nat_le (start + PAGE_SIZE * pages + PAGE_SIZE) end }
 {
-    (end - start) / PAGE_SIZE > pages
+    end.saturating_sub(start) / PAGE_SIZE > pages
 }
 
 /// The least place for a number of pages.
 pub(crate) fn first_gap(mappings: &[Mapping], pages: u64) -> Option<u64>
-    requires some { 0 < pages }
-    requires mappings { AreMappings mappings.now }
+    requires { AreMappings mappings.now }
     ensures { result ≡ place_of mappings.now pages }
 {
     let mut start = SECONDARY_START + PAGE_SIZE;

@@ -3,11 +3,11 @@
 ghost use Rattle.std.specs.Prelude.{◌≡◌, ℕ, ◌+◌, ◌*◌, ◌<◌, ◌≤◌, [], false, IfOk, IfSome, IfNone};
 ghost use Rattle.std.specs.Prelude.{IsSome, IsTrue, filter, not, ◌==◌};
 ghost use Rattle.scudo_secondary.specs.Mappings.{AreMappings, is_place, place_of, mapping_of};
-ghost use Rattle.scudo_secondary.specs.Mappings.{with_mapping, pages_of};
+ghost use Rattle.scudo_secondary.specs.Mappings.{with_mapping, HasRoom, HoldsUser};
 
 use crate::gaps::first_gap;
 use crate::mappings::{Mapping, index_of, insert_in_order, remove_user};
-use address_map::{MAX_PAGES, PAGE_SIZE};
+use address_map::MAX_PAGES;
 use list_copy::copy_list;
 use std::alloc::{AllocError, Global};
 use std::marker::Model;
@@ -36,8 +36,7 @@ impl Secondary {
     /// No mappings, with room for those of `pages` pages together, 1 to `MAX_PAGES`. It is refused
     /// only where its memory is.
     pub fn new(alloc: Global, pages: u64) -> Result<Secondary, AllocError>
-        requires some { 0 < pages }
-        requires most { pages ≤ MAX_PAGES }
+        requires { pages ≤ MAX_PAGES }
         ensures { IfOk result (λ maps. maps ≡ record { limit = pages; mappings = [] }) }
     {
         let mappings = Vec::with_capacity(alloc, pages as usize)?;
@@ -56,7 +55,6 @@ impl Secondary {
     /// The least address at which `pages` pages, at least one, may be mapped. There is none where
     /// they fit nowhere.
     pub fn place(&self, pages: u64) -> Option<u64>
-        requires { 0 < pages }
         ensures place { result ≡ place_of self.now.mappings pages }
         ensures fits { IfSome result (λ start. IsTrue (is_place self.now.mappings pages start)) }
         ensures least { IfSome result
@@ -70,17 +68,14 @@ impl Secondary {
     }
 
     /// Adds a mapping at a place for it, with a user address in its pages.
-    pub fn add(&mut self, start: u64, pages: u64, user: u64)
-        requires place { IsTrue (is_place self.old.mappings pages start) }
-        requires first { start ≤ user }
-        requires last { user < start + PAGE_SIZE * pages }
-        requires room { pages_of self.old.mappings + pages ≤ self.old.limit }
-        ensures { self.new ≡ record self.old {
-          mappings = with_mapping self.old.mappings
-              (record { start = start; pages = pages; user = user });
-        } }
+    pub fn add(&mut self, mapping: Mapping)
+        requires place { IsTrue (is_place self.old.mappings mapping.pages mapping.start) }
+        requires user { HoldsUser mapping }
+        requires room { HasRoom self.old mapping.pages }
+        ensures { self.new
+            ≡ record self.old { mappings = with_mapping self.old.mappings mapping } }
     {
-        insert_in_order(&mut self.mappings, Mapping { start, pages, user });
+        insert_in_order(&mut self.mappings, mapping);
     }
 
     /// The mapping with a user address.

@@ -1,6 +1,6 @@
 //! Worked numbers of the cache, and plain lists beside a cache above its pool.
 
-ghost use Rattle.std.specs.Prelude.{◌≡◌, ◌<◌, ◌≤◌, false, IsTrue};
+ghost use Rattle.std.specs.Prelude.{◌≡◌, false, IsTrue};
 ghost use Rattle.scudo_header.specs.Classes.{IsClass};
 ghost use Rattle.scudo_primary.specs.Blocks.{IsBlock};
 ghost use Rattle.scudo_primary.specs.Pools.{pages_of, is_marked};
@@ -12,18 +12,13 @@ use std::alloc::{AllocError, Global};
 use std::test::Fail;
 
 /// The block with a number, of a class whose blocks have `size` bytes.
-fn block_at(class: u8, size: u64, number: u64) -> u64
-    requires size { size ≤ 65552 }
-    requires number { number ≤ 100000 }
-{
-    0x1000_0000 + class as u64 * 0x100_0000 + size * number
+fn block_at(class: u8, size: u32, number: u32) -> u64 {
+    0x1000_0000 + u64::from(class) * 0x100_0000 + u64::from(size) * u64::from(number)
 }
 
 /// Whether the first `count` blocks of a class are popped in their order.
-fn pops_first(pool: &mut Primary, class: u8, size: u64, count: u64) -> bool
-    requires class { IsClass class }
-    requires size { size ≤ 65552 }
-    requires count { count ≤ 100000 }
+fn pops_first(pool: &mut Primary, class: u8, size: u32, count: u32) -> bool
+    requires { IsClass class }
 {
     for number in 0..count {
         if pool.pop(class) != Some(block_at(class, size, number)) {
@@ -34,10 +29,8 @@ fn pops_first(pool: &mut Primary, class: u8, size: u64, count: u64) -> bool
 }
 
 /// A pool whose first `count` blocks of a class were popped.
-fn pool_without(alloc: Global, class: u8, size: u64, count: u64) -> Result<Primary, Fail>
-    requires class { IsClass class }
-    requires size { size ≤ 65552 }
-    requires count { count ≤ 100000 }
+fn pool_without(alloc: Global, class: u8, size: u32, count: u32) -> Result<Primary, Fail>
+    requires { IsClass class }
 {
     let mut pool = Primary::new(alloc, 2)?;
     pool.carve(class, 2);
@@ -61,11 +54,9 @@ fn put_one(cache: &mut Cache, pool: &mut Primary, class: u8, block: u64) -> bool
 }
 
 /// Puts the first `count` blocks of a class.
-fn put_first(cache: &mut Cache, pool: &mut Primary, class: u8, size: u64, count: u64) -> bool
+fn put_first(cache: &mut Cache, pool: &mut Primary, class: u8, size: u32, count: u32) -> bool
     requires class { IsClass class }
     requires above { IsAbove cache.old pool.old }
-    requires size { size ≤ 65552 }
-    requires count { count ≤ 100000 }
     ensures above { IsAbove cache.new pool.new }
 {
     for number in 0..count {
@@ -77,21 +68,19 @@ fn put_first(cache: &mut Cache, pool: &mut Primary, class: u8, size: u64, count:
 }
 
 /// Whether a batch of the first `count` blocks of a class, and no second one, is in the pool.
-fn has_one_batch(pool: &mut Primary, class: u8, size: u64, count: usize) -> bool
-    requires class { IsClass class }
-    requires size { size ≤ 65552 }
-    requires count { count < 28 }
+fn has_one_batch(pool: &mut Primary, class: u8, size: u32, count: usize) -> bool
+    requires { IsClass class }
 {
     let mut buffer = [7u64; MAX_COUNT];
     if pool.pop_batch(class, &mut buffer) != count {
         return false;
     }
     for number in 0..count {
-        if buffer[number] != block_at(class, size, number as u64) {
+        if buffer[number] != block_at(class, size, number as u32) {
             return false;
         }
     }
-    buffer[count] == 7 && pool.pop_batch(class, &mut buffer) == 0
+    buffer.get(count) == Some(&7) && pool.pop_batch(class, &mut buffer) == 0
 }
 
 /// After a class's `all` blocks were popped, whether the last of `puts` moves a batch of `moved`.
@@ -99,16 +88,12 @@ fn has_one_batch(pool: &mut Primary, class: u8, size: u64, count: usize) -> bool
 fn moves_a_batch(
     alloc: Global,
     class: u8,
-    size: u64,
-    all: u64,
-    puts: u64,
+    size: u32,
+    all: u32,
+    puts: u32,
     moved: usize,
 ) -> Result<bool, Fail>
-    requires class { IsClass class }
-    requires size { size ≤ 65552 }
-    requires all { all ≤ 100000 }
-    requires puts { puts ≤ 100000 }
-    requires moved { moved < 28 }
+    requires { IsClass class }
 {
     let mut pool = pool_without(alloc, class, size, all)?;
     let mut cache = Cache::new(alloc)?;
@@ -138,7 +123,7 @@ fn takes(cache: &mut Cache, pool: &mut Primary, block: u64) -> bool
 fn gives_nine(cache: &mut Cache, pool: &mut Primary) -> bool
     requires above { IsAbove cache.old pool.old }
 {
-    for number in 0..9u64 {
+    for number in 0..9u32 {
         if !takes(cache, pool, block_at(13, 640, 8 - number)) {
             return false;
         }

@@ -1,7 +1,7 @@
 //! Calls of a heap and accesses to its memory, and what they answer.
 
 ghost use Rattle.std.specs.Prelude.{◌<◌};
-ghost use Rattle.scudo_heap.specs.Served.{HeapOwnsItsPages};
+ghost use Rattle.scudo_heap.specs.Served.{HasTag, HeapOwnsItsPages};
 
 use mte_tags::{FaultKind, MemFault, Paged, Rgsr, Tagged};
 use scudo_heap::{Heap, HeapAbort};
@@ -128,9 +128,9 @@ fn free_row<M: Paged>(
     count: u64,
 ) -> u64
     requires served { HeapOwnsItsPages (M.memory memory.old) heap.old }
-    requires tag { rgsr.old.tag < 16 }
+    requires tag { HasTag rgsr.old }
     ensures served { HeapOwnsItsPages (M.memory memory.new) heap.new }
-    ensures tag { rgsr.new.tag < 16 }
+    ensures tag { HasTag rgsr.new }
 {
     for i in 0..count {
         let pointer = first.wrapping_add(i.wrapping_mul(64));
@@ -149,9 +149,9 @@ pub(crate) fn make<M: Paged>(
     call: TestCall,
 ) -> CallAnswer
     requires served { HeapOwnsItsPages (M.memory memory.old) heap.old }
-    requires tag { rgsr.old.tag < 16 }
+    requires tag { HasTag rgsr.old }
     ensures served { HeapOwnsItsPages (M.memory memory.new) heap.new }
-    ensures tag { rgsr.new.tag < 16 }
+    ensures tag { HasTag rgsr.new }
 {
     match call {
         TestCall::Malloc(size) => CallAnswer::Is(heap.malloc(rgsr, memory, size)),
@@ -179,9 +179,9 @@ fn last_answer<M: Paged>(
     call: TestCall,
 ) -> CallAnswer
     requires served { HeapOwnsItsPages (M.memory memory.old) heap.old }
-    requires tag { rgsr.old.tag < 16 }
+    requires tag { HasTag rgsr.old }
     ensures served { HeapOwnsItsPages (M.memory memory.new) heap.new }
-    ensures tag { rgsr.new.tag < 16 }
+    ensures tag { HasTag rgsr.new }
 {
     let mut last = CallAnswer::Is(0);
     for _ in 0..times {
@@ -198,7 +198,7 @@ pub(crate) fn answers<M: Paged>(
     rows: &[CallRow],
 ) -> bool
     requires served { HeapOwnsItsPages (M.memory memory.old) heap.old }
-    requires tag { rgsr.old.tag < 16 }
+    requires tag { HasTag rgsr.old }
 {
     for row in rows {
         if last_answer(heap, rgsr, memory, row.0, row.1) != row.2 {

@@ -1,6 +1,6 @@
 //! The tables over a memory of shared frames.
 
-ghost use Rattle.std.specs.Prelude.{◌<◌, ◌≤◌};
+ghost use Rattle.std.specs.Prelude.{◌≤◌};
 
 use crate::calls::CallRow;
 use crate::heap::answers_anew;
@@ -21,8 +21,7 @@ fn answers_over_pool(
     mode: TagMode,
     rows: &[CallRow],
 ) -> Result<bool, AllocError>
-    requires some { 0 < pages }
-    requires most { pages ≤ 4096 }
+    requires { pages ≤ 4096 }
 {
     let Ok(mut quota) = pool.reserve(2 * pages + 1) else {
         return Ok(false);

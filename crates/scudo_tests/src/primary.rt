@@ -1,18 +1,17 @@
 //! Worked numbers of blocks and batches, one call of each public function, and a plain list beside
 //! the pool.
 
-ghost use Rattle.std.specs.Prelude.{◌≡◌, ◌≤◌, ◌<◌, ◌-◌};
+ghost use Rattle.std.specs.Prelude.{◌≡◌, ◌<◌, ◌^◌, ◌-◌};
 
 use scudo_primary::{MAX_COUNT, Primary, max_count};
 use std::alloc::{AllocError, Global};
 use std::test::Fail;
 
 /// The first address of a class's region.
-fn start(class: u64) -> u64
-    requires { class ≤ 44 }
-    ensures { result ≤ 0x3C00_0000 }
+fn start(class: u8) -> u64
+    ensures { result < 2 ^ 33 }
 {
-    0x1000_0000 + class * 0x100_0000
+    0x1000_0000 + u64::from(class) * 0x100_0000
 }
 
 /// Whether the blocks of a page are popped in their order, and no more.

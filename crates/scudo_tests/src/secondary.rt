@@ -1,7 +1,7 @@
 //! Places of mappings, the list of them, and the room that is taken when it is made.
 
 ghost use Rattle.std.specs.Prelude.{◌≡◌, ◌+◌, ◌<◌, ◌≤◌, []};
-ghost use Rattle.scudo_secondary.specs.Mappings.{pages_of};
+ghost use Rattle.scudo_secondary.specs.Mappings.{HasRoom, pages_of};
 
 use scudo_secondary::{Mapping, Secondary};
 use std::test::Fail;
@@ -10,12 +10,13 @@ use std::test::Fail;
 #[tactic(auto, using(crate::proofs::MappingTests::test_rules))]
 fn put(maps: &mut Secondary, pages: u64) -> Option<u64>
     requires some { 0 < pages }
-    requires room { pages_of maps.old.mappings + pages ≤ maps.old.limit }
+    requires room { HasRoom maps.old pages }
     ensures pages { pages_of maps.new.mappings ≤ pages_of maps.old.mappings + pages }
     ensures limit { maps.new.limit ≡ maps.old.limit }
 {
     let start = maps.place(pages)?;
-    maps.add(start, pages, start + 16);
+    let user = start + 16;
+    maps.add(Mapping { start, pages, user });
     Some(start)
 }
 
@@ -49,7 +50,7 @@ fn places_in_the_range(rt: HostRuntime) -> Result<(), Fail> {
 /// Whether one, two and three pages are put in this order, each after a page between.
 #[tactic(auto, using(crate::proofs::MappingTests::test_rules))]
 fn puts_three(maps: &mut Secondary) -> bool
-    requires room { pages_of maps.old.mappings + 6 ≤ maps.old.limit }
+    requires { HasRoom maps.old 6 }
     ensures pages { pages_of maps.new.mappings ≤ pages_of maps.old.mappings + 6 }
     ensures limit { maps.new.limit ≡ maps.old.limit }
 {
@@ -80,7 +81,7 @@ fn mappings_share_the_page_between_them(rt: HostRuntime) -> Result<(), Fail> {
 /// were, while larger ones come behind all.
 #[tactic(auto, using(crate::proofs::MappingTests::test_rules))]
 fn fills_gaps(maps: &mut Secondary) -> bool
-    requires room { pages_of maps.old.mappings + 3 ≤ maps.old.limit }
+    requires { HasRoom maps.old 3 }
 {
     let taken = take(maps, 0x3D00_3010) && !take(maps, 0x3D00_3010);
     let behind = maps.place(3);

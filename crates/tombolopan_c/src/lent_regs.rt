@@ -1,6 +1,7 @@
 //! Registers that the caller lends.
 
-ghost use Rattle.std.specs.Prelude.{◌≡◌, ◌<◌};
+ghost use Rattle.std.specs.Prelude.{◌≡◌};
+ghost use Rattle.scudo_heap.specs.Served.{HasTag};
 ghost use Rattle.tombolopan_c.specs.LentRegisters.{regs_of, flags_of, nzcv_of};
 
 use a64_bits::Flags;
@@ -53,7 +54,7 @@ impl LentRegs {
     /// The registers that it holds.
     pub(crate) fn regs(&self) -> Regs
         ensures regs { result ≡ regs_of self.now }
-        ensures tag { result.rgsr.tag < 16 }
+        ensures tag { HasTag result.rgsr }
     {
         Regs {
             x: self.x,
@@ -69,7 +70,7 @@ impl LentRegs {
 
     /// Makes it hold registers.
     pub(crate) fn set(&mut self, regs: &Regs)
-        requires { regs.now.rgsr.tag < 16 }
+        requires { HasTag regs.now.rgsr }
         ensures { regs_of self.new ≡ regs.now }
     {
         self.x = regs.x;

@@ -1,4 +1,4 @@
-use Rattle.std.proofs.Common.{◌∙◌, ap, sum, sym, subst}
+use Rattle.std.proofs.Common.{◌∙◌, ap, sum, sym, subst, arith}
 use Rattle.mte_frames.specs.Pool.{KeepsOthers}
 use Rattle.mte_frames.proofs.Keeps.{keeps_on}
 use Rattle.mte_sched.proofs.MemoryLemmas.{first_placed, reserved_stays}
@@ -8,8 +8,9 @@ pub returns-clause-placed : goal.returns-clause-placed
 returns-clause-placed c =
     let made = c.reserve_memory-memory.ensures in
     let fill = c.fill_memory.ensures in
+    let room = c.requires.image.room in
     first_placed c.reserve_memory-memory.new.pool c.fill_memory.new.pool c.fill_memory.new.tlb c.args.asid c.args.admission.now.terms.pages c.reserve_memory-memory.result c.fill_memory.new.memory
-    made.taken made.charged made.len made.leaves fill.rest fill.same fill.space fill.cached c.requires.some c.requires.most
+    made.taken made.charged made.len made.leaves fill.rest fill.same fill.space fill.cached (omega arith) c.requires.most
 
 pub returns-clause-reserved : goal.returns-clause-reserved
 returns-clause-reserved c =

@@ -6,12 +6,17 @@ use Rattle.scudo_cache.proofs.EntryLemmas.{distinct-take}
 use Rattle.scudo_cache.proofs.ClassLemmas.{class-same, halved_class, room-full, held-room}
 use Rattle.scudo_cache.proofs.cache.make_room.Goals as goal
 
-pub push_batch-requires-clause-distinct : goal.push_batch-requires-clause-distinct
-push_batch-requires-clause-distinct c =
+pub push_batch-requires-clause-batch : goal.push_batch-requires-clause-batch
+push_batch-requires-clause-batch c =
     let f : length c.args.entries.now ≡ max_count_of c.args.class = c.requires.full in
     let a : c.max_count-half.result ≡ max_count_of c.args.class = c.max_count-half.ensures in
     let l : c.max_count-half.result / 2 ≤ length c.args.entries.now = omega arith in
-    subst (IsDistinct nat_eq) (sym c.oldest.ensures) (distinct-take (c.max_count-half.result / 2) c.args.entries.now l c.requires.held.distinct)
+    let e = c.oldest.ensures in
+    record {
+      some = grind arith;
+      most = grind arith;
+      distinct = subst (IsDistinct nat_eq) (sym c.oldest.ensures) (distinct-take (c.max_count-half.result / 2) c.args.entries.now l c.requires.held.distinct);
+    }
 
 pub returns-clause-state : goal.returns-clause-state
 returns-clause-state c =

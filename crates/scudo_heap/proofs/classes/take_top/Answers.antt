@@ -8,12 +8,12 @@ use Rattle.scudo_heap.specs.Placing.{world_of, after_place}
 use Rattle.scudo_heap.specs.Allocation.{allocation_of}
 use Rattle.scudo_heap.specs.Inner.{FitsIn, IsOpen}
 use Rattle.scudo_heap.proofs.ServedLemmas.{block-open-in}
-use Rattle.scudo_heap.proofs.ClassLemmas.{allocation_at, fits-in, none-top, after-take-some}
+use Rattle.scudo_heap.proofs.ClassLemmas.{allocation_at, new-fits, none-top, after-take-some}
 use Rattle.scudo_heap.proofs.classes.take_top.Goals as goal
 
-pub make_chunk-tag-requires-clause-fits : goal.make_chunk-tag-requires-clause-fits
-make_chunk-tag-requires-clause-fits g c = subst FitsIn (sym c.place-place.ensures)
-    (fits-in c.args.class _ c.in-Some.block c.args.request.align c.args.request.size c.requires.request.class c.in-Some.ensures.block c.requires.request.align c.requires.request.fits)
+pub make_chunk-tag-requires-clause-place : goal.make_chunk-tag-requires-clause-place
+make_chunk-tag-requires-clause-place g c = subst FitsIn (sym c.place-place.ensures)
+    (new-fits c.args.class _ c.in-Some.block c.args.request c.in-Some.ensures.block c.requires.request)
 
 pub make_chunk-tag-requires-clause-open : goal.make_chunk-tag-requires-clause-open
 make_chunk-tag-requires-clause-open g c =
@@ -39,7 +39,7 @@ returns-in-Some-clause-made g c = λ ms.
 pub returns-in-Some-clause-low_chunk : goal.returns-in-Some-clause-low_chunk
 returns-in-Some-clause-low_chunk g c =
     let f = subst FitsIn (sym c.place-place.ensures)
-    (fits-in c.args.class _ c.in-Some.block c.args.request.align c.args.request.size c.requires.request.class c.in-Some.ensures.block c.requires.request.align c.requires.request.fits) in
+    (new-fits c.args.class _ c.in-Some.block c.args.request c.in-Some.ensures.block c.requires.request) in
     let within = f.within in
     let m = g.M.Tagged.memory c.args.memory.now in
     let o = subst (λ (p : Place). IsOpen m p.block (p.block + size_of p.class)) (sym c.place-place.ensures)

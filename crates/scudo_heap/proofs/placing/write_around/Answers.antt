@@ -15,9 +15,9 @@ returns-then-write_chunk-clause-memory g c =
     let m = g.M.Tagged.memory c.args.memory.now in
     let p = c.args.place in
     let n = granules_of p.size in
-    let above = c.requires.above in
+    let above = c.requires.chunk.place.above in
     let below = c.requires.open.below in
-    let within = c.requires.fits.within in
+    let within = c.requires.chunk.place.within in
     let count = c.granules-count.ensures in
     let size = c.size_of_class.ensures.size in
     let behind = c.if-end-place.behind in
@@ -31,14 +31,14 @@ returns-then-write_chunk-clause-memory g c =
           let goes-on : nat_lt (end_of p) (block_end p) ≡ true = let t : end_of p < block_end p = omega arith in grind (arith, nat_tests) in
           let more : 1 + n + behind ≡ n + 2 = omega (arith, w.behind-is) in
           ap (λ k. with_granules (with_granules m (p.user - 16) k 0 false) p.user n c.args.tag true) more
-          ∙ around m p.user n c.args.tag (omega arith) c.requires.fits.aligned (omega arith)
+          ∙ around m p.user n c.args.tag (omega arith) c.requires.chunk.place.aligned (omega arith)
           ∙ sym (cond-true _ _ _ goes-on)
       | else-end-place w ↦
           let before = w.if-end-place.false in
           let ends : nat_lt (end_of p) (block_end p) ≡ false = grind (arith, nat_tests) in
           let more : 1 + n + behind ≡ 1 + n = omega (arith, w.behind-is) in
           ap (λ k. with_granules (with_granules m (p.user - 16) k 0 false) p.user n c.args.tag true) more
-          ∙ around_before m p.user n c.args.tag (omega arith) c.requires.fits.aligned (omega arith)
+          ∙ around_before m p.user n c.args.tag (omega arith) c.requires.chunk.place.aligned (omega arith)
           ∙ sym (cond-false _ _ _ ends)
     ] in
     c.if-write_chunk.ensures.memory

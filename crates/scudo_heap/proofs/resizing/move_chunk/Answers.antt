@@ -28,7 +28,7 @@ copy_bytes-requires-clause-source g c =
     let w = world_of (g.M.Tagged.memory c.args.memory.now) (heap_of c.args.parts.now.cookie c.args.parts.now.stacks c.args.parts.now.maps) c.args.rgsr.now in
     let x = world_of (g.M.Tagged.memory c.allocate.new.memory) (heap_of c.allocate.new.parts.cookie c.allocate.new.parts.stacks c.allocate.new.parts.maps) c.allocate.new.rgsr in
     let v = sound-made w x Malloc 16 c.args.size (Some c.in-Some.chunk) c.requires.sound least-align c.in-Some.ensures.made in
-    let b = malloc-beside w x c.args.size c.args.found c.in-Some.chunk c.requires.sound.parts.stacks c.requires.sound.parts.mappings v.owned c.requires.some c.requires.most c.requires.found c.in-Some.ensures.made in
+    let b = malloc-beside w x c.args.size c.args.found c.in-Some.chunk c.requires.sound.parts.stacks c.requires.sound.parts.mappings v.owned c.requires.size.some c.requires.size.most c.requires.found c.in-Some.ensures.made in
     let size = c.size.ensures in
     let least = c.min-count.ensures in
     let user = c.user.ensures in
@@ -41,7 +41,7 @@ copy_bytes-requires-clause-target g c =
     let w = world_of (g.M.Tagged.memory c.args.memory.now) (heap_of c.args.parts.now.cookie c.args.parts.now.stacks c.args.parts.now.maps) c.args.rgsr.now in
     let x = world_of (g.M.Tagged.memory c.allocate.new.memory) (heap_of c.allocate.new.parts.cookie c.allocate.new.parts.stacks c.allocate.new.parts.maps) c.allocate.new.rgsr in
     let v = sound-made w x Malloc 16 c.args.size (Some c.in-Some.chunk) c.requires.sound least-align c.in-Some.ensures.made in
-    let b = malloc-beside w x c.args.size c.args.found c.in-Some.chunk c.requires.sound.parts.stacks c.requires.sound.parts.mappings v.owned c.requires.some c.requires.most c.requires.found c.in-Some.ensures.made in
+    let b = malloc-beside w x c.args.size c.args.found c.in-Some.chunk c.requires.sound.parts.stacks c.requires.sound.parts.mappings v.owned c.requires.size.some c.requires.size.most c.requires.found c.in-Some.ensures.made in
     let least = c.min-count.ensures in
     let user = c.user-2.ensures in
     open-in x.memory (user_of_chunk c.in-Some.chunk) (user_of_chunk c.in-Some.chunk + c.args.size) _ _ b.bytes (omega arith) (omega arith)
@@ -52,7 +52,7 @@ copy_bytes-requires-clause-apart g c =
     let w = world_of (g.M.Tagged.memory c.args.memory.now) (heap_of c.args.parts.now.cookie c.args.parts.now.stacks c.args.parts.now.maps) c.args.rgsr.now in
     let x = world_of (g.M.Tagged.memory c.allocate.new.memory) (heap_of c.allocate.new.parts.cookie c.allocate.new.parts.stacks c.allocate.new.parts.maps) c.allocate.new.rgsr in
     let v = sound-made w x Malloc 16 c.args.size (Some c.in-Some.chunk) c.requires.sound least-align c.in-Some.ensures.made in
-    let b = malloc-beside w x c.args.size c.args.found c.in-Some.chunk c.requires.sound.parts.stacks c.requires.sound.parts.mappings v.owned c.requires.some c.requires.most c.requires.found c.in-Some.ensures.made in
+    let b = malloc-beside w x c.args.size c.args.found c.in-Some.chunk c.requires.sound.parts.stacks c.requires.sound.parts.mappings v.owned c.requires.size.some c.requires.size.most c.requires.found c.in-Some.ensures.made in
     let size = c.size.ensures in
     let least = c.min-count.ensures in
     let count = c.min-count.result in
@@ -66,7 +66,7 @@ free_found-requires-clause-found g c =
     let w = world_of (g.M.Tagged.memory c.args.memory.now) (heap_of c.args.parts.now.cookie c.args.parts.now.stacks c.args.parts.now.maps) c.args.rgsr.now in
     let x = world_of (g.M.Tagged.memory c.allocate.new.memory) (heap_of c.allocate.new.parts.cookie c.allocate.new.parts.stacks c.allocate.new.parts.maps) c.allocate.new.rgsr in
     let v = sound-made w x Malloc 16 c.args.size (Some c.in-Some.chunk) c.requires.sound least-align c.in-Some.ensures.made in
-    (malloc-beside w x c.args.size c.args.found c.in-Some.chunk c.requires.sound.parts.stacks c.requires.sound.parts.mappings v.owned c.requires.some c.requires.most c.requires.found c.in-Some.ensures.made).found
+    (malloc-beside w x c.args.size c.args.found c.in-Some.chunk c.requires.sound.parts.stacks c.requires.sound.parts.mappings v.owned c.requires.size.some c.requires.size.most c.requires.found c.in-Some.ensures.made).found
 
 pub free_found-requires-clause-served : goal.free_found-requires-clause-served
 free_found-requires-clause-served g c =

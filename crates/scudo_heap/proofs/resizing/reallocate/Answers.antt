@@ -1,4 +1,4 @@
-use Rattle.std.proofs.Common.{◌≡◌, Some, None, sym, ap, subst, ◌∙◌}
+use Rattle.std.proofs.Common.{◌≡◌, Some, None, sym, ap, subst, ◌∙◌, arith}
 use Rattle.scudo_heap.specs.declared.chunk.Chunk.TheVariants.{Small}
 use Rattle.scudo_heap.specs.Chunks.{with_size}
 use Rattle.scudo_heap.specs.Heaps.{heap_of}
@@ -7,7 +7,7 @@ use Rattle.scudo_heap.specs.Allocation.{allocation_of}
 use Rattle.scudo_heap.specs.Realloc.{after_move, after_resize_in_block, with_new_size}
 use Rattle.scudo_heap.specs.Inner.{IsFound, IsFoundBlock}
 use Rattle.scudo_heap.proofs.ServedLemmas.{block-open}
-use Rattle.scudo_heap.proofs.ReallocLemmas.{realloc-cases-none, realloc-cases-over, realloc-cases-some, size-in_place, size-after-move, size-pages, holds-of, small-in_place}
+use Rattle.scudo_heap.proofs.ReallocLemmas.{realloc-cases-none, realloc-cases-over, realloc-cases-some, size-in_place, size-after-move, size-pages, holds-of, placed-fits, resized-fits}
 use Rattle.scudo_heap.proofs.resizing.reallocate.Goals.{in_default-via-in-InBlock+else-fits, in_default-via-in_default}
 use Rattle.scudo_heap.proofs.resizing.reallocate.Goals as goal
 
@@ -21,12 +21,25 @@ pub returns-then-size-gt-MAX_REQUEST-clause-made :
 returns-then-size-gt-MAX_REQUEST-clause-made g c =
     realloc-cases-over (world_of (g.M.Tagged.memory c.args.memory.now) (heap_of c.args.parts.now.cookie c.args.parts.now.stacks c.args.parts.now.maps) c.args.rgsr.now) c.args.found c.args.size c.if-size-eq0.false c.if-size-gt-MAX_REQUEST.true
 
-pub resize-tag-requires-clause-small : goal.resize-tag-requires-clause-small
-resize-tag-requires-clause-small g c =
+pub fits-requires-clause-place : goal.fits-requires-clause-place
+fits-requires-clause-place g c =
+    let h = heap_of c.args.parts.now.cookie c.args.parts.now.stacks c.args.parts.now.maps in
+    let there : IsFoundBlock c.args.parts.now.stacks c.in-InBlock.place c.in-InBlock.header = subst (IsFound h) c.in-InBlock.is c.requires.found in
+    placed-fits c.args.parts.now.stacks c.in-InBlock.place there.place
+
+pub resize-tag-requires-clause-place : goal.resize-tag-requires-clause-place
+resize-tag-requires-clause-place g c =
+    let h = heap_of c.args.parts.now.cookie c.args.parts.now.stacks c.args.parts.now.maps in
+    let there : IsFoundBlock c.args.parts.now.stacks c.in-InBlock.place c.in-InBlock.header = subst (IsFound h) c.in-InBlock.is c.requires.found in
+    placed-fits c.args.parts.now.stacks c.in-InBlock.place there.place
+
+pub resize-tag-requires-clause-resized : goal.resize-tag-requires-clause-resized
+resize-tag-requires-clause-resized g c =
     let h = heap_of c.args.parts.now.cookie c.args.parts.now.stacks c.args.parts.now.maps in
     let p = c.in-InBlock.place in
     let there : IsFoundBlock c.args.parts.now.stacks p c.in-InBlock.header = subst (IsFound h) c.in-InBlock.is c.requires.found in
-    small-in_place c.args.parts.now.stacks p c.args.size there.place (holds-of p c.args.size (sym c.fits.ensures ∙ c.if-fits.true))
+    let some = c.if-size-eq0.false in
+    resized-fits c.args.parts.now.stacks p c.args.size there.place (omega arith) (holds-of p c.args.size (sym c.fits.ensures ∙ c.if-fits.true))
 
 pub resize-tag-requires-clause-open : goal.resize-tag-requires-clause-open
 resize-tag-requires-clause-open g c =

@@ -5,10 +5,10 @@ use Rattle.scudo_primary.proofs.TableLemmas.{slot-in, place-in}
 use Rattle.scudo_primary.proofs.LinkLemmas.{linked, block-below, count-below}
 use Rattle.scudo_primary.proofs.lists.link.Goals as goal
 
-pub place-at-requires-clause-slot : goal.place-at-requires-clause-slot
-place-at-requires-clause-slot c =
+pub place-at-requires : goal.place-at-requires
+place-at-requires c =
     let r = c.requires in
-    slot-in _ _ _ _ _ r.table.numbered r.class (block-IsCell _ _ _ r.class r.block)
+    record { class = r.class; inside = r.block.inside; slot = slot-in _ _ _ _ _ r.table.numbered r.class (block-IsCell _ _ _ r.class r.block) }
 
 pub bounds-entries-at : goal.bounds-entries-at
 bounds-entries-at c =

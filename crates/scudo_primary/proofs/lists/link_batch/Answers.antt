@@ -12,11 +12,11 @@ link-requires-clause-block c =
 
 pub link-requires-clause-unlisted : goal.link-requires-clause-unlisted
 link-requires-clause-unlisted c =
-    pushing-unlisted _ _ _ _ _ _ _ _ _ _ c.requires.blocks c.requires.distinct c.loop-block.invariant c.loop-block-test.true (get_or_default c.args.blocks.now c.loop-block.block-index 0 _ c.loop-block-test.true)
+    pushing-unlisted _ _ _ _ _ _ _ _ _ _ c.requires.blocks c.requires.batch.distinct c.loop-block.invariant c.loop-block-test.true (get_or_default c.args.blocks.now c.loop-block.block-index 0 _ c.loop-block-test.true)
 
 pub link-requires-clause-room : goal.link-requires-clause-room
 link-requires-clause-room c =
-    pushing-room _ _ _ _ _ _ _ _ _ c.requires.class c.requires.table c.requires.most c.loop-block.invariant c.loop-block-test.true
+    pushing-room _ _ _ _ _ _ _ _ _ c.requires.class c.requires.table c.requires.batch.most c.loop-block.invariant c.loop-block-test.true
 
 pub loop-block-preserved : goal.loop-block-preserved
 loop-block-preserved c =
@@ -26,4 +26,4 @@ pub returns : goal.returns
 returns c =
     let i = c.loop-block-test.false in
     let j = c.loop-block.auto.block-index-end in
-    pushing-end _ _ _ _ _ _ _ _ _ c.loop-block.invariant (omega arith) c.requires.some
+    pushing-end _ _ _ _ _ _ _ _ _ c.loop-block.invariant (omega arith) c.requires.batch.some

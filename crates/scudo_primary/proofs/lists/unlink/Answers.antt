@@ -4,13 +4,11 @@ use Rattle.scudo_primary.proofs.TableLemmas.{slot-in, place-in}
 use Rattle.scudo_primary.proofs.LinkLemmas.{top-of, unlink-done, unlink-unlisted}
 use Rattle.scudo_primary.proofs.lists.unlink.Goals as goal
 
-pub place-requires-clause-inside : goal.place-requires-clause-inside
+pub place-requires : goal.place-requires
 unfolding list_at
-place-requires-clause-inside c = let r = c.requires in (top-of _ _ _ _ r.table r.class r.some).cell.inside
-
-pub place-requires-clause-slot : goal.place-requires-clause-slot
-unfolding list_at
-place-requires-clause-slot c = let r = c.requires in slot-in _ _ _ _ _ r.table.numbered r.class (top-of _ _ _ _ r.table r.class r.some).cell
+place-requires c = let r = c.requires in
+    let top = (top-of _ _ _ _ r.table r.class r.some).cell in
+    record { class = r.class; inside = top.inside; slot = slot-in _ _ _ _ _ r.table.numbered r.class top }
 
 pub bounds-entries-place : goal.bounds-entries-place
 unfolding list_at
@@ -18,13 +16,11 @@ bounds-entries-place c =
     let r = c.requires in
     subst (λ t. t < length c.args.entries.now) (sym c.place.ensures) (place-in _ _ _ _ _ r.table.numbered r.class (top-of _ _ _ _ r.table r.class r.some).cell)
 
-pub set_mark-requires-clause-inside : goal.set_mark-requires-clause-inside
+pub set_mark-requires-clause-number : goal.set_mark-requires-clause-number
 unfolding list_at
-set_mark-requires-clause-inside c = let r = c.requires in (top-of _ _ _ _ r.table r.class r.some).cell.inside
-
-pub set_mark-requires-clause-slot : goal.set_mark-requires-clause-slot
-unfolding list_at
-set_mark-requires-clause-slot c = let r = c.requires in slot-in _ _ _ _ _ r.table.numbered r.class (top-of _ _ _ _ r.table r.class r.some).cell
+set_mark-requires-clause-number c = let r = c.requires in
+    let top = (top-of _ _ _ _ r.table r.class r.some).cell in
+    record { class = r.class; inside = top.inside; slot = slot-in _ _ _ _ _ r.table.numbered r.class top }
 
 pub set_mark-requires-clause-place : goal.set_mark-requires-clause-place
 unfolding list_at

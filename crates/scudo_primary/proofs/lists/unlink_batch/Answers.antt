@@ -10,14 +10,11 @@ loop-more-init c =
     let m = more-at-first (list_at c.args.lists.now c.args.class).count in
     taking-init _ _ _ _ _ _ _ m.0 m.1
 
-pub place-requires-clause-inside : goal.place-requires-clause-inside
+pub place-requires : goal.place-requires
 unfolding list_at
-place-requires-clause-inside c = (taking-next _ _ _ _ _ _ _ _ _ c.requires.table c.requires.class c.loop-more.invariant c.loop-more-test.true).cell.inside
-
-pub place-requires-clause-slot : goal.place-requires-clause-slot
-unfolding list_at
-place-requires-clause-slot c =
-    slot-in _ _ _ _ _ c.requires.table.numbered c.requires.class (taking-next _ _ _ _ _ _ _ _ _ c.requires.table c.requires.class c.loop-more.invariant c.loop-more-test.true).cell
+place-requires c =
+    let next = (taking-next _ _ _ _ _ _ _ _ _ c.requires.table c.requires.class c.loop-more.invariant c.loop-more-test.true).cell in
+    record { class = c.requires.class; inside = next.inside; slot = slot-in _ _ _ _ _ c.requires.table.numbered c.requires.class next }
 
 pub bounds-entries-place : goal.bounds-entries-place
 unfolding list_at

@@ -2,21 +2,17 @@ use Rattle.std.proofs.Common.{◌+◌, ◌∙◌, sym, ap, arith, cond, Some, No
 use Rattle.address_map.specs.declared.limits.TheConstants.{PAGE_SIZE}
 use Rattle.address_map.specs.declared.ranges.TheConstants.{SECONDARY_START}
 use Rattle.scudo_secondary.specs.Mappings.{AreMappings}
-use Rattle.scudo_secondary.proofs.PlaceLemmas.{passed, gap_here, gap_later, start_below, gap_at_end, gap_from}
+use Rattle.scudo_secondary.proofs.PlaceLemmas.{passed, gap_here, gap_later, gap_at_end, gap_from}
 use Rattle.scudo_secondary.proofs.gaps.first_gap.Goals as goal
 
 pub loop-mapping-init : goal.loop-mapping-init
 unfolding AreMappings
-loop-mapping-init c = record { above = c.requires.mappings; rest = λ i. gap_from (SECONDARY_START + PAGE_SIZE) c.args.pages c.args.mappings.now }
-
-pub fits_below-requires : goal.fits_below-requires
-fits_below-requires c =
-    (passed c.args.mappings.now c.loop-mapping.mapping-index c.loop-mapping.start c.args.pages _ c.loop-mapping.invariant.above c.loop-mapping-test.true).above
+loop-mapping-init c = record { above = c.requires; rest = λ i. gap_from (SECONDARY_START + PAGE_SIZE) c.args.pages c.args.mappings.now }
 
 pub returns-then-fits_below : goal.returns-then-fits_below
 returns-then-fits_below c =
     let p = passed c.args.mappings.now c.loop-mapping.mapping-index c.loop-mapping.start c.args.pages (record { start = 0; pages = 0; user = 0 }) c.loop-mapping.invariant.above c.loop-mapping-test.true in
-    gap_here _ _ _ c.args.pages _ c.fits_below.result c.requires.mappings p c.loop-mapping.invariant.rest c.fits_below.ensures c.if-fits_below.true
+    gap_here _ _ _ c.args.pages _ c.fits_below.result c.requires p c.loop-mapping.invariant.rest c.fits_below.ensures c.if-fits_below.true
 
 pub overflow_mul-start : goal.overflow_mul-start
 overflow_mul-start c =
@@ -41,15 +37,12 @@ loop-mapping-preserved c =
       rest = gap_later c.args.mappings.now c.loop-mapping.mapping-index c.loop-mapping.start c.args.pages _ c.fits_below.result p c.loop-mapping.invariant.rest c.fits_below.ensures c.if-fits_below.false;
     }
 
-pub fits_below-requires-2 : goal.fits_below-requires-2
-fits_below-requires-2 c = start_below c.args.mappings.now c.loop-mapping.mapping-index c.loop-mapping.start c.loop-mapping.invariant.above
-
 pub returns-then-fits_below-2 : goal.returns-then-fits_below-2
 returns-then-fits_below-2 c =
     ap (λ x. cond x (Some c.loop-mapping.start) None) (sym c.if-fits_below-2.true)
-    ∙ gap_at_end c.args.mappings.now c.loop-mapping.mapping-index c.loop-mapping.start c.args.pages c.fits_below-2.result c.requires.mappings c.loop-mapping-test.false c.loop-mapping.invariant.rest c.fits_below-2.ensures
+    ∙ gap_at_end c.args.mappings.now c.loop-mapping.mapping-index c.loop-mapping.start c.args.pages c.fits_below-2.result c.requires c.loop-mapping-test.false c.loop-mapping.invariant.rest c.fits_below-2.ensures
 
 pub returns-else-fits_below-2 : goal.returns-else-fits_below-2
 returns-else-fits_below-2 c =
     ap (λ x. cond x (Some c.loop-mapping.start) None) (sym c.if-fits_below-2.false)
-    ∙ gap_at_end c.args.mappings.now c.loop-mapping.mapping-index c.loop-mapping.start c.args.pages c.fits_below-2.result c.requires.mappings c.loop-mapping-test.false c.loop-mapping.invariant.rest c.fits_below-2.ensures
+    ∙ gap_at_end c.args.mappings.now c.loop-mapping.mapping-index c.loop-mapping.start c.args.pages c.fits_below-2.result c.requires c.loop-mapping-test.false c.loop-mapping.invariant.rest c.fits_below-2.ensures

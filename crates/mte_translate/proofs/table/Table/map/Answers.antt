@@ -52,7 +52,7 @@ returns-clause-once c =
 pub returns-clause-others : goal.returns-clause-others
 returns-clause-others c = let want = c.want_leaf.ensures in let put = c.put_page.ensures in keeps-then _ _ _ _ _ want.quota want.rest.others put.rest.others
 
-pub want_leaf-requires-clause-tree : goal.want_leaf-requires-clause-tree
-want_leaf-requires-clause-tree c =
+pub want_leaf-requires-clause-page : goal.want_leaf-requires-clause-page
+want_leaf-requires-clause-page c =
     let h = subst (IsTable c.args.pool.now c.args.quota.now) (sym c.self.view_is) c.requires.table in
-    tree-of c.args.pool.now c.args.quota.now c.self.inside.root h.tree
+    record { tree = tree-of c.args.pool.now c.args.quota.now c.self.inside.root h.tree; low = c.requires.low }

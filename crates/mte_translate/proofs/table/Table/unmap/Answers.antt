@@ -11,11 +11,8 @@ use Rattle.mte_translate.proofs.table.Table.unmap.Goals as goal
 pub returns-in_err-frame-clause-pages : goal.returns-in_err-frame-clause-pages
 returns-in_err-frame-clause-pages c = pages-none _ _ _ (sym c.walk.ensures ∙ c.in_err-frame.was)
 
-pub take_page-requires-clause-low : goal.take_page-requires-clause-low
-take_page-requires-clause-low c = page-low c.args.pool.now c.args.self.now.frame c.args.page _ (sym c.walk.ensures ∙ c.in_ok-frame.was)
-
-pub trim_leaf-requires-clause-low : goal.trim_leaf-requires-clause-low
-trim_leaf-requires-clause-low c = page-low c.args.pool.now c.args.self.now.frame c.args.page _ (sym c.walk.ensures ∙ c.in_ok-frame.was)
+pub trim_leaf-requires-clause-page : goal.trim_leaf-requires-clause-page
+trim_leaf-requires-clause-page c = record { tree = c.take_page.ensures.tree; low = page-low c.args.pool.now c.args.self.now.frame c.args.page _ (sym c.walk.ensures ∙ c.in_ok-frame.was) }
 
 pub take_page-requires-clause-there : goal.take_page-requires-clause-there
 take_page-requires-clause-there c = subst (λ t. is_valid (walk_at c.args.pool.now t.frame c.args.page) ≡ true) (sym c.self.view_is) (page-mapped _ _ _ _ (sym c.walk.ensures ∙ c.in_ok-frame.was))
@@ -89,7 +86,7 @@ returns-clause-free c =
 pub returns-clause-others : goal.returns-clause-others
 returns-clause-others c = keeps_on _ _ _ _ c.take_page.ensures.rest.others c.trim_leaf.ensures.rest.others
 
-pub take_page-requires-clause-tree : goal.take_page-requires-clause-tree
-take_page-requires-clause-tree c =
+pub take_page-requires-clause-page : goal.take_page-requires-clause-page
+take_page-requires-clause-page c =
     let h = subst (IsTable c.args.pool.now c.args.quota.now) (sym c.self.view_is) c.requires in
-    tree-of c.args.pool.now c.args.quota.now c.self.inside.root h.tree
+    record { tree = tree-of c.args.pool.now c.args.quota.now c.self.inside.root h.tree; low = page-low c.args.pool.now c.args.self.now.frame c.args.page _ (sym c.walk.ensures ∙ c.in_ok-frame.was) }

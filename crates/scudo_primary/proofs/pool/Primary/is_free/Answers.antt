@@ -5,9 +5,12 @@ use Rattle.scudo_primary.specs.Inner.{no_entry, place_of}
 use Rattle.scudo_primary.proofs.ModelLemmas.{placed, mark-entry}
 use Rattle.scudo_primary.proofs.pool.Primary.is_free.Goals as goal
 
-pub place-requires-clause-slot : goal.place-requires-clause-slot
-place-requires-clause-slot c =
-    (placed c.self.inside c.args.self.now c.self.inside.entries.items _ _ _ c.self.view_is c.self.invariant c.requires.class refl c.deref.ensures.value (c.if-is_block.ensures.0 refl)).slot
+pub place-requires : goal.place-requires
+place-requires c = record {
+  class = c.requires.class;
+  inside = (c.if-is_block.ensures.0 refl).inside;
+  slot = (placed c.self.inside c.args.self.now c.self.inside.entries.items _ _ _ c.self.view_is c.self.invariant c.requires.class refl c.deref.ensures.value (c.if-is_block.ensures.0 refl)).slot;
+}
 
 at-bound : (c : goal.After-place) → c.place.result < length c.self.inside.entries.items
 at-bound c =

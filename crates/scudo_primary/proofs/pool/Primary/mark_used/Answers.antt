@@ -3,9 +3,12 @@ use Rattle.scudo_primary.specs.Pools.{ClassState, class_with_mark}
 use Rattle.scudo_primary.proofs.ModelLemmas.{PoolDone, placed, mark-done}
 use Rattle.scudo_primary.proofs.pool.Primary.mark_used.Goals as goal
 
-pub set_mark-requires-clause-slot : goal.set_mark-requires-clause-slot
-set_mark-requires-clause-slot c =
-    (placed c.self.inside c.args.self.now _ _ _ _ c.self.view_is c.self.invariant c.requires.class c.deref_mut.ensures.value c.deref.ensures.value c.requires.carved).slot
+pub set_mark-requires-clause-number : goal.set_mark-requires-clause-number
+set_mark-requires-clause-number c = record {
+  class = c.requires.class;
+  inside = c.requires.carved.inside;
+  slot = (placed c.self.inside c.args.self.now _ _ _ _ c.self.view_is c.self.invariant c.requires.class c.deref_mut.ensures.value c.deref.ensures.value c.requires.carved).slot;
+}
 
 pub set_mark-requires-clause-place : goal.set_mark-requires-clause-place
 set_mark-requires-clause-place c =

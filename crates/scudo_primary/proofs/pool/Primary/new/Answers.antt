@@ -7,7 +7,7 @@ use Rattle.scudo_primary.proofs.NewLemmas.{new-invariant, new-view}
 use Rattle.scudo_primary.proofs.pool.Primary.new.Goals as goal
 
 pub invariant_of-result : goal.invariant_of-result
-invariant_of-result c = new-invariant _ c.args.pages refl refl refl c.requires.high c.in_ok-entries.ensures.capacity c.in_ok-numbers.ensures.capacity
+invariant_of-result c = new-invariant _ c.args.pages refl refl refl c.requires c.in_ok-entries.ensures.capacity c.in_ok-numbers.ensures.capacity
 
 pub returns : goal.returns
 returns c =
