@@ -9,7 +9,7 @@ ghost use Rattle.scudo_heap.specs.Allocation.{allocation_of};
 ghost use Rattle.scudo_heap.specs.Realloc.{after_move, realloc_cases};
 ghost use Rattle.scudo_heap.specs.Sound.{IsSoundWorld};
 ghost use Rattle.scudo_heap.specs.Served.{HasTag};
-ghost use Rattle.scudo_heap.specs.Inner.{FitsIn, IsSize, IsFound, IsLow, HasEnd, IsOpen};
+ghost use Rattle.scudo_heap.specs.Inner.{FitsIn, FitsTagged, IsSize, IsFound, IsLow, HasEnd, IsOpen};
 ghost use Rattle.scudo_heap.specs.Inner.Parts.{heap_in};
 
 use crate::allocation::allocate;
@@ -37,11 +37,10 @@ fn fits(place: Place, size: u64) -> bool
 /// tag 0.
 #[tactic(auto, unfolding(crate::specs::Chunks::after_retag_tail))]
 fn refit<M: Paged>(memory: &mut M, place: Place, size: u64, tag: u8)
-    requires place { FitsIn place }
+    requires chunk { FitsTagged place tag }
     requires resized { FitsIn (with_size place size) }
     requires open { IsOpen (M.memory memory.old) place.block (block_end place) }
     requires tag { tag ≡ tag_at (M.memory memory.old) place.user }
-    requires tag_small { tag < 16 }
     ensures memory { M.memory memory.new ≡ after_retag_tail (M.memory memory.old) place size }
     ensures attrs { (q : ℕ)
         → attrs_at (M.memory memory.new) q ≡ attrs_at (M.memory memory.old) q }

@@ -33,7 +33,7 @@ impl Model for Secondary {
 }
 
 impl Secondary {
-    /// No mappings, with room for those of `pages` pages together, 1 to `MAX_PAGES`. It is refused
+    /// No mappings, with room for those of `pages` pages together, up to `MAX_PAGES`. It is refused
     /// only where its memory is.
     pub fn new(alloc: Global, pages: u64) -> Result<Secondary, AllocError>
         requires { pages ≤ MAX_PAGES }
@@ -52,8 +52,7 @@ impl Secondary {
         })
     }
 
-    /// The least address at which `pages` pages, at least one, may be mapped. There is none where
-    /// they fit nowhere.
+    /// The least address at which `pages` pages may be mapped. There is none where they fit nowhere.
     pub fn place(&self, pages: u64) -> Option<u64>
         ensures place { result ≡ place_of self.now.mappings pages }
         ensures fits { IfSome result (λ start. IsTrue (is_place self.now.mappings pages start)) }

@@ -8,7 +8,6 @@ ghost use Rattle.tombolopan_c.specs.Faults.{all_mapped};
 ghost use Rattle.tombolopan_c.specs.LentPages.{IsFirst, HasNone, IsFree, has_room, lent_memory};
 
 use crate::lent_page::LentPage;
-use address_map::PAGE_SIZE;
 
 /// Plain addresses are below it.
 const ADDRESSES: u64 = 1 << 56;
@@ -59,7 +58,7 @@ pub(crate) fn are_mapped(pages: &[LentPage], at: u64, count: usize) -> bool
     // The page that was found last; at first none.
     let mut known = u64::MAX;
     for _ in 0..count {
-        let page = place / PAGE_SIZE;
+        let page = place / 4096;
         if page != known {
             if !is_mapped(pages, page) {
                 return false;

@@ -1,7 +1,6 @@
 //! Registers that the caller lends.
 
-ghost use Rattle.std.specs.Prelude.{◌≡◌};
-ghost use Rattle.scudo_heap.specs.Served.{HasTag};
+ghost use Rattle.std.specs.Prelude.{◌≡◌, ◌<◌};
 ghost use Rattle.tombolopan_c.specs.LentRegisters.{regs_of, flags_of, nzcv_of};
 
 use a64_bits::Flags;
@@ -54,7 +53,7 @@ impl LentRegs {
     /// The registers that it holds.
     pub(crate) fn regs(&self) -> Regs
         ensures regs { result ≡ regs_of self.now }
-        ensures tag { HasTag result.rgsr }
+        ensures tag { result.rgsr.tag < 16 }
     {
         Regs {
             x: self.x,
@@ -70,7 +69,7 @@ impl LentRegs {
 
     /// Makes it hold registers.
     pub(crate) fn set(&mut self, regs: &Regs)
-        requires { HasTag regs.now.rgsr }
+        requires { regs.now.rgsr.tag < 16 }
         ensures { regs_of self.new ≡ regs.now }
     {
         self.x = regs.x;
