@@ -39,3 +39,11 @@ can_begin d = can_attempt d && (d.done == 0)
 -- The steps of the slice that goes on or comes next.
 abbrev pub cut_of : Debuggee → ℕ
 cut_of d = d.cut
+
+-- How many of that slice's steps it has attempted.
+abbrev pub done_of : Debuggee → ℕ
+done_of d = d.done
+
+-- How many of its slices have ended.
+abbrev pub slices_of : Debuggee → ℕ
+slices_of d = d.slices

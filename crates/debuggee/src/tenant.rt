@@ -1,6 +1,7 @@
 //! The tenant that is debugged.
 
-ghost use Rattle.std.specs.Prelude.{◌≡◌, ◌<◌, ◌⊎◌, [], Some, true, false, IfOk, IfErr, IsErrOf};
+ghost use Rattle.std.specs.Prelude.{◌≡◌, ◌<◌, ◌==◌, ◌⊎◌, [], Some, true, false};
+ghost use Rattle.std.specs.Prelude.{IfOk, IfErr, IsErrOf};
 ghost use Rattle.obstacle.specs.Obstacles.{IfRefused};
 ghost use Rattle.mte_svc.specs.Ready.{IsReady};
 ghost use Rattle.mte_tenant.specs.Ledger.{admission_refusal, charge_of, is_bad};
@@ -50,6 +51,7 @@ pub struct Debuggee<'a> {
 impl<'a> Debuggee<'a> {
     ghost use Rattle.debuggee.specs.Debuggees.{admission_of, cuts_of, machine_in, steps_of};
     ghost use Rattle.debuggee.specs.Debuggees.{after_one, can_attempt, can_begin, cut_of};
+    ghost use Rattle.debuggee.specs.Debuggees.{done_of, slices_of};
 
     /// A tenant at its first instruction, or why it is refused. Only `OutOfMemory`, where an
     /// allocation failed, can come in place of the refusals from `Image` on.
@@ -107,6 +109,9 @@ impl<'a> Debuggee<'a> {
         ensures admission { IfOk result (λ d. admission_of d ≡ admission_of self.now) }
         ensures cuts { IfOk result (λ d. cuts_of d ≡ cuts_of self.now) }
         ensures machine { IfOk result (λ d. machine_in d ≡ machine_in self.now) }
+        ensures slices { IfOk result (λ d. slices_of d ≡ slices_of self.now) }
+        ensures cut { IfOk result (λ d. cut_of d ≡ cut_of self.now) }
+        ensures done { IfOk result (λ d. done_of d ≡ done_of self.now) }
     {
         let words = OpCache::new(alloc)?;
         let memory = self.memory.flat.copy(alloc)?;
@@ -149,12 +154,16 @@ impl<'a> Debuggee<'a> {
     }
 
     /// How many of its slices have ended.
-    pub fn slices(&self) -> u64 {
+    pub fn slices(&self) -> u64
+        ensures { result ≡ slices_of self.now }
+    {
         self.slices
     }
 
     /// Whether no slice goes on.
-    pub fn is_between_slices(&self) -> bool {
+    pub fn is_between_slices(&self) -> bool
+        ensures { result ≡ (done_of self.now == 0) }
+    {
         self.done == 0
     }
 
