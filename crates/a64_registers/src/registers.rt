@@ -120,31 +120,6 @@ impl Regs {
         self.x[n as usize] = value;
     }
 
-    /// Moves the program counter, which the caller has at hand, to the next instruction.
-    #[inline(always)]
-    #[tactic(auto, unfolding(crate::specs::Registers::with_next_pc))]
-    pub fn advance_from(&mut self, pc: u64) -> u64
-        requires { pc ≡ self.old.pc }
-        ensures regs { self.new ≡ with_next_pc self.old }
-        ensures pc { result ≡ self.new.pc }
-    {
-        let next = pc.wrapping_add(4) % (1 << 56);
-        self.pc = next;
-        next
-    }
-
-    /// Moves the program counter to an address, and returns what it is then.
-    #[inline(always)]
-    #[tactic(auto, unfolding(crate::specs::Registers::with_pc))]
-    pub fn jump_to(&mut self, target: u64) -> u64
-        ensures regs { self.new ≡ with_pc self.old target }
-        ensures pc { result ≡ self.new.pc }
-    {
-        let next = target % (1 << 56);
-        self.pc = next;
-        next
-    }
-
     /// Moves the program counter to the next instruction.
     #[inline(always)]
     #[tactic(auto, unfolding(crate::specs::Registers::with_next_pc))]

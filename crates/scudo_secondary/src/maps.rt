@@ -52,7 +52,7 @@ impl Secondary {
         })
     }
 
-    /// The least address at which `pages` pages may be mapped. There is none where they fit nowhere.
+    /// The least address at which `pages` pages may be mapped, if they fit anywhere.
     pub fn place(&self, pages: u64) -> Option<u64>
         ensures place { result ≡ place_of self.now.mappings pages }
         ensures fits { IfSome result (λ start. IsTrue (is_place self.now.mappings pages start)) }
