@@ -14,19 +14,19 @@ WHOLE = "SPDXRef-tombolopan"
 DOCUMENT = "SPDXRef-DOCUMENT"
 
 
-def identifier(name: str) -> str:
-    """The identifier of a crate, a product or a library."""
-    return f"SPDXRef-{name.replace('_', '-').replace('+', 'p')}"
+def identifier(name: str, kind: str = "part") -> str:
+    """The identifier of a crate or of a piece of others."""
+    return f"SPDXRef-{kind}-{name.replace('_', '-').replace('+', 'p')}"
 
 
 def product(name: str) -> str:
     """The identifier of what is built of a crate."""
-    return identifier(f"built-{name}")
+    return identifier(name, "built")
 
 
 def library(name: str) -> str:
     """The identifier of a library of tenants."""
-    return identifier(f"tenants-{name}")
+    return identifier(name, "tenants")
 
 
 def entry(identity: str, name: str, about: str, purpose: str) -> Entry:
