@@ -1,55 +1,171 @@
-"""tools/deb.sh: the package has what is installed, and the same bytes each time."""
+"""tools/deb.sh: the packages have what is installed, are what Debian asks, have the same bytes each
+time, and are of use in a root from which they go away without a trace."""
 
+import hashlib
 import pathlib
 import re
 
 import pytest
 
-from tests.support import installed
-from tests.support.host_sessions import HI_REPORT, with_hi
-from tests.support.places import ROOT
+from tests.support import debian, installed
+from tests.support.checkout import copy_files
+from tests.support.debian import Root, files_of
+from tests.support.host_sessions import HI_REPORT
+from tests.support.places import EXAMPLES, ROOT
 from tests.support.running import Ran, run, succeed
 from tests.support.tools import need
 
 PACKER = ROOT / "tools" / "deb.sh"
-
-
-def pack(folder: pathlib.Path, built: pathlib.Path) -> pathlib.Path:
-    """Packs into a folder."""
-    ran = run([PACKER, folder, built], seconds=300)
-    assert (ran.status, ran.errors) == (0, "")
-    return pathlib.Path(ran.output.strip())
+VERSION = (ROOT / "VERSION").read_text(encoding="utf-8").strip()
+NAMES = {"tombolopan", "libtombolopan2", "libtombolopan-dev", "python3-tombolopan",
+         "tombolopan-doc"}
+# Some files of each package, by patterns of their names.
+FILES = {
+    "tombolopan": ("usr/bin/(mte_host|mte_run|disassemble|mte_why|tenant-cc)",
+                   "usr/share/man/man1/mte_run.1.gz", "usr/include/tenant.h",
+                   "usr/lib/tombolopan/libc/lib/(libc.a|start.o)",
+                   "usr/share/bash-completion/completions/mte_run",
+                   "usr/share/zsh/vendor-completions/_mte_run",
+                   "usr/share/fish/vendor_completions.d/mte_run.fish"),
+    "libtombolopan2": (r"usr/lib/[\w-]+/libtombolopan\.so\.2",),
+    "libtombolopan-dev": (r"usr/lib/[\w-]+/libtombolopan\.(a|so)", "usr/include/tombolopan.h",
+                          r"usr/lib/[\w-]+/pkgconfig/tombolopan\.pc",
+                          "usr/share/man/man3/(tombolopan|tb_run).3.gz"),
+    "python3-tombolopan": ("usr/lib/python3/dist-packages/tombolopan.py",),
+    "tombolopan-doc": ("usr/share/doc/tombolopan/README.md",
+                       "usr/share/doc/tombolopan/docs/HOST.md",
+                       "usr/share/doc/tombolopan/tombolopan.spdx.json"),
+}
+FREED = """\
+#include <stdio.h>
+#include <stdlib.h>
+int main(void)
+{
+    char *text = malloc(8);
+    free(text);
+    puts("hello");
+    return text[0];
+}
+"""
 
 
 @pytest.fixture
 def built(host: pathlib.Path, alone: pathlib.Path, shared: pathlib.Path) -> pathlib.Path:
     """A folder with what is packed."""
-    need("dpkg-deb", "git", "rt", "cc", "ar")
+    need("rt", "cc", "ar")
     assert host.exists() and alone.exists()
     return installed.prefix(shared).parent / "built"
 
 
-def test_package(built: pathlib.Path, tmp_path: pathlib.Path) -> None:
-    """It is named as Debian names packages, is the same when packed again, and is of use."""
-    first, second = (pack(tmp_path / name, built) for name in ("first", "second"))
-    assert re.fullmatch(r"tombolopan_\d+\+\d{8}\.[0-9a-f]{10}_\w+\.deb", first.name)
-    assert first.name == second.name and first.read_bytes() == second.read_bytes()
-    root = tmp_path / "root"
-    succeed(["dpkg-deb", "-x", first, root])
-    fields = succeed(["dpkg-deb", "-f", first]).output
-    assert "Package: tombolopan\n" in fields and "Depends: libc6, python3\n" in fields
-    names = {str(it.relative_to(root)) for it in root.rglob("*") if it.is_file()}
+@pytest.fixture
+def packages(built: pathlib.Path, shared: pathlib.Path) -> dict[str, pathlib.Path]:
+    """The packages."""
+    return debian.packages(shared, built)
+
+
+def test_names(packages: dict[str, pathlib.Path]) -> None:
+    """They are named as Debian names packages, by the version of the file VERSION; those of files
+    that no machine runs are of all machines."""
+    assert set(packages) == NAMES
+    number = re.escape(VERSION) + r"(~\d{8}\.[0-9a-f]{10}(\.changed)?)?(~unproved)?"
+    for name, path in packages.items():
+        machine = "all" if name in ("python3-tombolopan", "tombolopan-doc") else r"(?!all)\w+"
+        assert re.fullmatch(rf"{name}_{number}_{machine}\.deb", path.name), path.name
+        version = succeed(["dpkg-deb", "--field", path, "Version"]).output.strip()
+        assert re.fullmatch(number, version)
+
+
+def test_files(packages: dict[str, pathlib.Path], built: pathlib.Path) -> None:
+    """Each installed file is in one package, but the installer's list; no file is in two; and each
+    package has its licence and its changes."""
+    found = {name: files_of(path) for name, path in packages.items()}
+    for name, patterns in FILES.items():
+        for pattern in patterns:
+            assert any(re.fullmatch(pattern, it) for it in found[name]), (name, pattern)
+        assert {f"usr/share/doc/{name}/copyright",
+                f"usr/share/doc/{name}/changelog.gz"} <= set(found[name])
+    every = [it for names in found.values() for it in names]
+    assert len(every) == len(set(every))
     prefix = built.parent / "prefix"
-    wanted = {f"usr/{it.relative_to(prefix)}" for it in prefix.rglob("*") if it.is_file()}
-    assert {name.removesuffix(".gz") for name in names} == wanted - {
-        "usr/share/tombolopan/installed"}
-    ran = run([root / "usr" / "bin" / "mte_host", "--frames", "11", "hi.script", "hi.elf"],
-              cwd=with_hi(tmp_path))
-    assert (ran.status, ran.output, ran.errors) == (0, HI_REPORT, "")
-    need("man")
-    extra = {"MANPATH": f"{root}/usr/share/man", "MANWIDTH": "80", "LC_ALL": "C.UTF-8"}
-    ran = run(["man", "--warnings", "tb_run"], extra=extra)
-    assert (ran.status, ran.errors) == (0, "") and ran.output.startswith("TOMBOLOPAN(3)")
+    wanted = sorted(it.name for it in prefix.rglob("*") if it.is_file() or it.is_symlink())
+    more = {"copyright", "changelog.gz", "tombolopan.spdx.json"}
+    there = [pathlib.PurePath(it).name.removesuffix(".gz") for it in every
+             if pathlib.PurePath(it).name not in more and "/lintian/" not in it]
+    # The folder of the C library, and the first image, have a link where a checkout has them.
+    assert sorted(there) == sorted([*(it for it in wanted if it != "installed"), "out", "hi.elf"])
+
+
+def test_same_bytes(packages: dict[str, pathlib.Path], built: pathlib.Path,
+                    tmp_path: pathlib.Path) -> None:
+    """Packed by the same files in a deeper folder they are the same, and name neither folder."""
+    copy = copy_files(tmp_path / "a" / "deeper" / "folder")
+    again = debian.pack(tmp_path / "out", built, copy)
+    sums = [{it.name: hashlib.sha256(it.read_bytes()).hexdigest() for it in paths}
+            for paths in (packages.values(), again)]
+    assert sums[0] == sums[1]
+    for path in again:
+        folder = tmp_path / path.name.partition("_")[0]
+        succeed(["dpkg-deb", "--raw-extract", path, folder])
+        files = [it for it in folder.rglob("*") if it.is_file()]
+        wrong = [it for it in files if not it.is_symlink()
+                 for place in (ROOT, copy, built) if str(place).encode() in it.read_bytes()]
+        assert not wrong
+
+
+def test_lintian(packages: dict[str, pathlib.Path]) -> None:
+    """Debian's own checker has no error, and no warning."""
+    need("lintian")
+    ran = run(["lintian", "--fail-on", "error,warning", *packages.values()], seconds=300)
+    assert (ran.status, ran.output) == (0, "")
+
+
+@pytest.fixture
+def root(packages: dict[str, pathlib.Path], tmp_path: pathlib.Path) -> Root:
+    """A root in which they are installed, with what they need of the system and nothing else."""
+    need("dpkg", "dpkg-architecture", "dpkg-query")
+    made = Root(tmp_path / "root")
+    assert made.names() == []
+    made.manage("--install", *packages.values())
+    return made
+
+
+def test_installed(root: Root, tmp_path: pathlib.Path) -> None:
+    """Programs, completions, manual pages and a tenant of the C library are of use, and removed
+    with what Python left behind."""
+    need("clang", "ld.lld", "man")
+    (tmp_path / "hello.c").write_text(FREED, encoding="utf-8")
+    assert root.run(["tenant-cc", "-O1", "-g", "-o", "hello.elf", "hello.c"], tmp_path).status == 0
+    ran = root.run(["mte_run", "hello.elf"], tmp_path)
+    assert (ran.status, ran.output) == (129, "hello\n")
+    assert "Cause: [MTE]: Use After Free, 0 bytes into a 8-byte allocation" in ran.errors
+    session = root.usr / "share" / "tombolopan" / "examples"
+    words = ["mte_host", "--frames", "11", f"{session}/hi.script", f"{session}/hi.elf"]
+    assert root.run(words, tmp_path) == Ran(0, HI_REPORT.encode(), b"")
+    for name in ("mte_run", "tb_run", "tenant-cc"):
+        ran = root.run(["man", "--warnings", name], tmp_path)
+        assert (ran.status, ran.errors) == (0, "") and f"Tombolopan {VERSION}" in ran.output
+    file = root.usr / "share" / "bash-completion" / "completions" / "mte_run"
+    ran = root.run(["bash", "-c", f"source {file} && complete -p mte_run"], tmp_path)
+    assert ran.status == 0 and "mte_run" in ran.output
+    assert list(root.usr.rglob("__pycache__"))
+    root.manage("--purge", *NAMES)
+    assert root.names() == []
+
+
+def test_library(root: Root, tmp_path: pathlib.Path) -> None:
+    """A C program is built by pkg-config, and Python finds the module and the library."""
+    need("pkg-config", "cc")
+    command = f"cc {EXAMPLES}/embed/first.c $(pkg-config --cflags --libs tombolopan) && ./a.out"
+    wanted = Ran(0, b"breakpoint 1, x0 is 42\n", b"")
+    assert root.run(["bash", "-c", command], tmp_path) == wanted
+    script = (EXAMPLES / "embed" / "first.py").read_text(encoding="utf-8")
+    told = "print(sys.modules['tombolopan'].__file__, file=sys.stderr)"
+    ran = root.run(["/usr/bin/python3", "-c", f"import sys\n{script}\n{told}"], tmp_path)
+    module = root.usr / "lib" / "python3" / "dist-packages" / "tombolopan.py"
+    assert ran == Ran(0, wanted.out, f"{module}\n".encode())
+    assert list(module.parent.rglob("*.pyc"))
+    root.manage("--remove", "python3-tombolopan")
+    assert not module.parent.exists()
 
 
 def test_words(tmp_path: pathlib.Path) -> None:

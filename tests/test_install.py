@@ -421,7 +421,7 @@ def test_from_a_checkout(prefix: pathlib.Path, tmp_path: pathlib.Path) -> None:
     """What a checkout has built is installed. A program that is marked as built without proof is
     marked in the prefix too; where the C library of tenants is not built, there is no tenant-cc."""
     clone = copy_files(tmp_path / "clone", "tools/", "examples/", "docs/", "include/", "isa/",
-                       "README.md", "CHANGELOG.md", "crates.txt")
+                       "README.md", "CHANGELOG.md", "VERSION", "crates.txt")
     for file in (prefix.parent / "built").iterdir():
         if file.is_file():
             link_built(clone, file.resolve())

@@ -32,7 +32,7 @@ from tests.support.samples import (
 from tests.support.tools import need
 
 COPIED = ("crates/mte_host/", "crates/mte_run/", "crates/disassemble/", "crates/tombolopan_c/",
-          "crates.txt", "examples/", "include/", "isa/", "tools/")
+          "crates.txt", "examples/", "include/", "isa/", "tools/", "VERSION")
 WORDS = "pear\napple\nplum\n"
 
 

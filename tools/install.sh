@@ -163,8 +163,7 @@ put_libc() {
     chmod -R u=rwX,go=rX "$made"
     # An assembler writes where its source was.
     for file in "$made"/lib/*.a; do
-        grep -qF "$top" "$file" || continue
-        (cd "$work" && for part in $(llvm-ar t "$file" | grep '\.S\.o$'); do
+        (cd "$work" && for part in $(llvm-ar t "$file" | grep '\.S\.o$' || true); do
             llvm-ar x "$file" "$part"
             llvm-objcopy --strip-debug "$part"
             llvm-ar r "$file" "$part"

@@ -13,10 +13,12 @@ import sys
 from dataclasses import dataclass
 
 import roff
+from packing.release import read_version
 from roff import escaped
 
 DOCS = pathlib.Path(__file__).resolve().parent.parent / "docs"
-PAGE = '.TH {title} {section} "" "Tombolopan" "Tombolopan"\n.nh\n.ad l\n'
+PAGE = (f'.TH {{title}} {{section}} "" "Tombolopan {read_version()}" "Tombolopan"\n'
+        '.nh\n.ad l\n')
 COMMENT = r"/\*(.*?)\*/\n"
 KINDS = r"enum|typedef struct|(?:static inline )?(?:uint32_t|uint64_t|size_t|void|const char \*)"
 DECLARATION = COMMENT + rf"((?:{KINDS})\b.*?(?:;|\n}}))\n(?=\n|/\*|#)"

@@ -112,7 +112,6 @@ heap abort 0x4 None
 from __future__ import annotations
 
 import ctypes
-import ctypes.util
 import os
 import pathlib
 import sys
@@ -386,10 +385,11 @@ def _load() -> ctypes.CDLL:
     here = pathlib.Path(__file__).parent
     near = [here / "libtombolopan.so", here / "../../lib/libtombolopan.so"]
     found = next((str(it) for it in near if it.exists()), None)
-    name = os.environ.get("TOMBOLOPAN") or found or ctypes.util.find_library("tombolopan")
-    if not name:
-        raise OSError("libtombolopan.so is not found: examples/embed/shared.sh makes it")
-    library = ctypes.CDLL(name)
+    name = os.environ.get("TOMBOLOPAN") or found or f"libtombolopan.so.{VERSION}"
+    try:
+        library = ctypes.CDLL(name)
+    except OSError as error:
+        raise OSError(f"{error} (examples/embed/shared.sh makes libtombolopan.so)") from error
     for call, types in _CALLS.items():
         it = getattr(library, call)
         it.argtypes, it.restype = types, _RESULTS.get(call, c_uint32)

@@ -1,0 +1,1 @@
+"""Packages of Debian, and the list of what is inside of them."""
