@@ -232,7 +232,10 @@ def write_page(packages: list[Package], results: dict[str, dict[str, str]]) -> N
 def read_results(out: pathlib.Path) -> dict[str, dict[str, str]]:
     """The results of earlier runs."""
     path = out / "results.json"
-    return json.loads(path.read_text(encoding="utf-8")) if path.exists() else {}
+    found: dict[str, dict[str, str]] = {}
+    if path.exists():
+        found = json.loads(path.read_text(encoding="utf-8"))
+    return found
 
 
 def fetch_all(sources: pathlib.Path, wanted: list[Package]) -> None:
