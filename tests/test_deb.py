@@ -8,6 +8,7 @@ import re
 import pytest
 
 from tests.support import debian, installed
+from tests.support.cache import cache_folder
 from tests.support.checkout import copy_files
 from tests.support.debian import Root, files_of
 from tests.support.host_sessions import HI_REPORT
@@ -107,8 +108,9 @@ def test_same_bytes(packages: dict[str, pathlib.Path], built: pathlib.Path,
         folder = tmp_path / path.name.partition("_")[0]
         succeed(["dpkg-deb", "--raw-extract", path, folder])
         files = [it for it in folder.rglob("*") if it.is_file()]
+        places = [str(it).encode() for it in (ROOT, copy, cache_folder())]
         wrong = [it for it in files if not it.is_symlink()
-                 for place in (ROOT, copy, built) if str(place).encode() in it.read_bytes()]
+                 for place in places if place in it.read_bytes()]
         assert not wrong
 
 
