@@ -40,6 +40,11 @@ def address() -> str:
     raise NotFetched("apt's configuration has no archive of this release")
 
 
+def archives_of(folder: pathlib.Path, package: str) -> list[pathlib.Path]:
+    """The archives of a package that a folder has."""
+    return [path for path in folder.glob(f"{package}_*.orig.tar.*") if path.suffix != ".asc"]
+
+
 def download(folder: pathlib.Path, package: str) -> pathlib.Path:
     """The archive of a package, in `folder`."""
     for name in ("lists/partial", "cache/archives/partial"):
@@ -55,10 +60,21 @@ def download(folder: pathlib.Path, package: str) -> pathlib.Path:
     if not any((folder / "lists").glob("*_Sources*")):
         subprocess.run([*apt, "update"], cwd=folder, stdout=sys.stderr, check=True, timeout=SECONDS)
     subprocess.run([*apt, *words], cwd=folder, stdout=sys.stderr, check=True, timeout=SECONDS)
-    archives = [path for path in folder.glob(f"{package}_*.orig.tar.*") if path.suffix != ".asc"]
+    archives = archives_of(folder, package)
     if len(archives) != 1:
         raise NotFetched(f"{folder} has {len(archives)} archives of {package}, not one")
     return archives[0]
+
+
+def download_once(where: Union[str, pathlib.Path], package: str) -> pathlib.Path:
+    """The archive of a package, in a folder that keeps it; raises NotFetched."""
+    folder = pathlib.Path(where).resolve()
+    kept = archives_of(folder, package)
+    try:
+        return kept[0] if kept else download(folder, package)
+    except (OSError, subprocess.CalledProcessError, subprocess.TimeoutExpired) as error:
+        why = f"{package} was not fetched (apt-get needs the network): {error}"
+        raise NotFetched(why) from error
 
 
 def fetch(where: Union[str, pathlib.Path], package: str,
@@ -71,7 +87,7 @@ def fetch(where: Union[str, pathlib.Path], package: str,
         return source
     try:
         folder.mkdir(parents=True, exist_ok=True)
-        archive = download(folder, package)
+        archive = download_once(folder, package)
         with tempfile.TemporaryDirectory(dir=folder) as name:
             unpack = ["tar", "-xf", str(archive), "-C", name, "--strip-components=1",
                       "--wildcards", *(f"*/{part}" for part in missing)]

@@ -44,7 +44,8 @@ FILES = {
     "share/doc/tombolopan/README.md": READABLE, "share/doc/tombolopan/CHANGELOG.md": READABLE,
 }
 # Files that are those of the checkout, by the folders of both.
-COPIES = {f"{SHARE}/examples/": "examples/", "share/doc/tombolopan/docs/": "docs/"}
+COPIES = {f"{SHARE}/examples/": "examples/", "share/doc/tombolopan/docs/": "docs/",
+          f"{SHARE}/tools/batch/": "tools/batch/"}
 LINKS = {
     "lib/libtombolopan.so": "libtombolopan.so.2",
     "bin/mte_why": "../share/tombolopan/examples/why.sh",

@@ -5,7 +5,7 @@ import re
 import sys
 
 import pytest
-from a64 import calls, dispatch, forms, table
+from a64 import dispatch, forms, table
 
 from tests.support.places import ROOT
 from tests.support.running import Ran, run
@@ -67,11 +67,11 @@ def test_a_word_is_explained(word: str, told: str) -> None:
 
 
 def test_the_page_counts_the_forms() -> None:
-    """docs/ADDING_AN_INSTRUCTION.md has how many forms each table has and may have, and the arms of
-    the first match."""
+    """docs/ADDING_AN_INSTRUCTION.md has how many forms each table has and may have, and how many
+    arms the first match has."""
     page = (ROOT / "docs" / "ADDING_AN_INSTRUCTION.md").read_text(encoding="utf-8")
     found = table.read_forms(table.read_rows())
-    rooms = {of.enum: dispatch.MOST_RARE for of in table.RARE_TABLES.values()}
+    rooms = {of.enum: dispatch.MOST_VARIANTS for of in table.RARE_TABLES.values()}
     rooms[table.FIRST_TABLE.enum] = dispatch.MOST_FORMS
     for of in (table.FIRST_TABLE, *table.RARE_TABLES.values()):
         name = "op" if of == table.FIRST_TABLE else "rare_op"
@@ -82,11 +82,10 @@ def test_the_page_counts_the_forms() -> None:
         assert len(re.findall(r"^    [A-Z]\w*(?:,| \{|\()", inside, re.M)) == count + others
         assert f"| `{of.enum}` | {count} | {rooms[of.enum]} |" in page
     assert f"**There are {len(found)} forms, and there is room for {sum(rooms.values())}**" in page
-    arms = dispatch.first_arms(found, calls.read_sources(set(dispatch.WRITTEN)))
-    alone = sum(not form.family for form in found)
-    assert (f"has {len(arms)} arms: one for each of the {alone} forms without a family, one for "
-            "every two of a family, one for each table of rare forms and one for `Other`; "
-            f"{dispatch.ARMS_EXCEEDED + 1} are the fewest") in page
+    first = forms.of_table(found, table.FIRST_TABLE)
+    alone = sum(not form.family for form in first)
+    assert (f"has an arm for each of the {len(first)} forms of `Op`, of which {alone} have no "
+            "family, one for each table of rare forms and one for `Other`") in page
 
 
 def test_rows_that_overlap() -> None:

@@ -1,13 +1,14 @@
-"""Many runs: sessions at once, as docs/HOST.md shows it, by examples/many over GNU parallel; and
-mutated images and tables, by tools/mutate.py."""
+"""Many runs: sessions at once, as docs/MANY_SESSIONS.md shows it, by examples/many (test_batch.py
+has what may go wrong there); and mutated images and tables, by tools/mutate.py."""
 
 import pathlib
 import re
 import sys
-from collections.abc import Sequence
 
 import pytest
 
+from tests.support.batches import Batch
+from tests.support.library import shared_object
 from tests.support.places import EXAMPLES, ROOT
 from tests.support.running import Ran, Word, run, succeed
 from tests.support.samples import tenant
@@ -15,86 +16,89 @@ from tests.support.tools import need
 
 MANY = EXAMPLES / "many"
 COUNT = 40
+AS_WANTED = f"{COUNT} as wanted, 0 different"
 MUTATE = ROOT / "tools" / "mutate.py"
 MUTATED_RUNS = 60
 
 
 @pytest.fixture
-def sessions(tmp_path: pathlib.Path) -> pathlib.Path:
+def sessions(shared: pathlib.Path, tmp_path: pathlib.Path) -> Batch:
     """A folder of sessions that nobody ran."""
-    need("parallel")
     folder = tmp_path / "sessions"
     succeed([sys.executable, MANY / "make_sessions.py", folder, str(COUNT)])
     assert len(list(folder.iterdir())) == COUNT
-    return folder
+    return Batch(folder, {"TOMBOLOPAN": str(shared_object(shared))})
 
 
-def run_all(host: pathlib.Path, folder: pathlib.Path, options: Sequence[str] = ()) -> Ran:
+def run_all(sessions: Batch, *options: str) -> Ran:
     """Runs the sessions, two at a time."""
-    return run([MANY / "run.sh", host, folder, "--jobs", "2", *options], seconds=120)
+    words: list[Word] = [MANY / "run.sh", sessions.sessions, "--jobs", "2", *options]
+    return run(words, extra=sessions.extra, seconds=120)
 
 
-def started(folder: pathlib.Path) -> dict[str, int]:
-    """When each session was run last, by the time of what it wrote."""
-    return {path.parent.name: path.stat().st_mtime_ns for path in folder.glob("*/got.status")}
+def started(sessions: Batch) -> dict[str, int]:
+    """When each session was run last with another result, by the time of what it wrote."""
+    return {path.parent.name: path.stat().st_mtime_ns
+            for path in sessions.sessions.glob("*/got.out")}
 
 
-def test_as_wanted(host: pathlib.Path, sessions: pathlib.Path) -> None:
+def test_as_wanted(sessions: Batch) -> None:
     """All sessions write what is wanted, and a second run has nothing left to do."""
-    ran = run_all(host, sessions)
-    assert (ran.status, ran.output) == (0, f"{COUNT} as wanted, 0 different\n"), ran.errors
+    ran = run_all(sessions)
+    assert (ran.status, ran.output) == (0, f"{AS_WANTED}\n{COUNT} run, 0 kept\n"), ran.errors
     first = started(sessions)
     assert len(first) == COUNT
-    assert all((path / "got.out").read_bytes() == (path / "want.out").read_bytes() != b""
-               for path in sessions.glob("session-*"))
-    again = run_all(host, sessions)
-    assert (again.status, again.output) == (0, ran.output)
+    assert all((path / f"got.{part}").read_bytes() == (path / f"want.{part}").read_bytes()
+               for path in sessions.sessions.glob("session-*") for part in ("out", "err", "status"))
+    again = run_all(sessions)
+    assert (again.status, again.output) == (0, f"{AS_WANTED}\n0 run, {COUNT} kept\n")
     assert started(sessions) == first
 
 
-def test_some_differ(host: pathlib.Path, sessions: pathlib.Path) -> None:
-    """Sessions that do not write what is wanted are named, also by the run after."""
+def test_some_differ(sessions: Batch) -> None:
+    """Sessions that do not write what is wanted are named, also by the run after, and not any more
+    once they do."""
     wrong = {"want.out": "tenant 1\n", "want.err": "mte_host: cannot write\n", "want.status": "1\n"}
+    right = {}
     for number, (part, text) in enumerate(wrong.items(), 17):
-        (sessions / f"session-{number:06}" / part).write_text(text)
-    folder = sessions.resolve()
-    wanted = [f"differs: {MANY / 'session.sh'} {host.resolve()} {folder}/session-{number:06}"
-              for number in range(17, 20)]
-    for _ in range(2):
-        ran = run_all(host, sessions)
+        path = sessions.sessions / f"session-{number:06}" / part
+        right[path] = path.read_text()
+        path.write_text(text)
+    wanted = [f"different: session-{number:06}: {part.removeprefix('want.')}"
+              for number, part in enumerate(wrong, 17)]
+    for count in (COUNT, 0):
+        ran = run_all(sessions)
         assert ran.status == 1
-        *named, last = ran.output.splitlines()
-        assert sorted(named) == wanted
-        assert last == f"{COUNT - 3} as wanted, 3 different"
+        assert ran.output.splitlines() == [*wanted, f"{COUNT - 3} as wanted, 3 different",
+                                           f"{count} run, {COUNT - count} kept"]
+    for path, text in right.items():
+        path.write_text(text)
+    assert run_all(sessions).output == f"{AS_WANTED}\n0 run, {COUNT} kept\n"
 
 
-def test_goes_on(host: pathlib.Path, sessions: pathlib.Path) -> None:
-    """A run that was broken off goes on with the sessions that are left."""
-    some = run_all(host, sessions, ["--halt", "now,done=10"])
-    done = started(sessions)
-    assert 10 <= len(done) < COUNT, some.output
-    ran = run_all(host, sessions)
-    after = started(sessions)
-    kept = [name for name, time in done.items() if after[name] == time]
-    assert (ran.status, ran.output) == (0, f"{COUNT} as wanted, 0 different\n"), ran.errors
-    assert len(after) == COUNT and len(kept) >= 9
+def test_goes_on(sessions: Batch) -> None:
+    """What is there of another run is not run again, and what is said is of all sessions."""
+    some = run_all(sessions, "--share", "1/4")
+    assert some.output == f"{COUNT // 4} as wanted, 0 different\n{COUNT // 4} run, 0 kept\n"
+    ran = run_all(sessions)
+    assert ran.output == f"{AS_WANTED}\n{COUNT * 3 // 4} run, {COUNT // 4} kept\n"
 
 
-def test_other_files_begin_anew(host: pathlib.Path, sessions: pathlib.Path) -> None:
-    """Where a session's files changed, all are run again."""
-    run_all(host, sessions)
-    first = started(sessions)
-    script = sessions / "session-000003" / "script"
+def test_other_files_are_run(sessions: Batch, host: pathlib.Path) -> None:
+    """Where a session's files changed it is run again, and by another program all are."""
+    run_all(sessions)
+    script = sessions.sessions / "session-000003" / "script"
     script.write_text(script.read_text() + "# a comment\n")
-    ran = run_all(host, sessions)
-    assert (ran.status, ran.output) == (0, f"{COUNT} as wanted, 0 different\n")
-    assert all(after > first[name] for name, after in started(sessions).items())
+    assert run_all(sessions).output == f"{AS_WANTED}\n1 run, {COUNT - 1} kept\n"
+    by_host = run_all(sessions, "--program", str(host))
+    assert by_host.output == f"{AS_WANTED}\n{COUNT} run, 0 kept\n"
 
 
-def test_usage(host: pathlib.Path, tmp_path: pathlib.Path) -> None:
+def test_usage(tmp_path: pathlib.Path) -> None:
     """What is missing is said, with status 2 or 1, and nothing is run."""
-    assert "usage: run.sh" in run([MANY / "run.sh"]).errors
-    assert run([MANY / "run.sh", host, tmp_path / "absent"]).status == 2
+    assert "usage: batch" in run([MANY / "run.sh", "--help"]).output
+    ran = run([MANY / "run.sh", tmp_path / "absent"], extra={"TOMBOLOPAN": "absent"})
+    assert (ran.status, ran.errors) == (2, f"batch: {tmp_path}/absent is not there\n")
     (tmp_path / "file").touch()
     ran = run([sys.executable, MANY / "make_sessions.py", tmp_path, "3"])
     assert (ran.status, ran.errors) == (1, f"make_sessions.py: {tmp_path} is not empty\n")

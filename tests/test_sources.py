@@ -12,7 +12,7 @@ from tests.support.places import ROOT
 # borrows of which each is a part of its own.
 MANY_PARAMETERS = 6
 # Requirements that are one comparison of numbers.
-RANGES = 579
+RANGES = 401
 
 COMPARISON = re.compile(r"[^≡→×⊎λ(){}]*?[<≤≢][^≡→×⊎λ{}]*")
 

@@ -122,7 +122,7 @@ def test_python() -> None:
 
 
 def test_types(shared: pathlib.Path) -> None:
-    """mypy accepts tests/ and tools/, whose functions have types."""
+    """mypy accepts what pyproject.toml names, whose functions have types."""
     need("mypy")
     ran = run(["mypy", "--cache-dir", shared / "mypy"], cwd=ROOT, seconds=300)
     assert ran.status == 0, ran.output + ran.errors

@@ -32,4 +32,4 @@ shift
 work=$(mktemp -d)
 trap 'rm -rf "$work"' EXIT
 DESTDIR=$work "$here/install.sh" /usr "$@" >/dev/null
-"$here/packages.py" "$work/usr" "$out"
+"$here/pack.py" "$work/usr" "$out"

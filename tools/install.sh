@@ -126,7 +126,8 @@ PC
     chmod 644 "$stage"/share/tombolopan/tombolopan.*
 }
 
-# The examples, but for what was built in them; and what tenant-cc reads of the table.
+# The examples, but for what was built in them; what tenant-cc reads of the table; and tools/batch,
+# which examples/many runs.
 put_examples() {
     mkdir -p "$stage/share/tombolopan"
     (cd "$top" && find examples -type d \( -name out -o -name __pycache__ \) -prune -o \
@@ -134,6 +135,7 @@ put_examples() {
         xargs -0 cp --parents -t "$stage/share/tombolopan")
     chmod -R u=rwX,go=rX "$stage/share/tombolopan/examples"
     put share/tombolopan/tools/a64 "$top/tools/a64/__init__.py" "$top/tools/a64/table.py"
+    put share/tombolopan/tools/batch "$top"/tools/batch/*.py
     put share/tombolopan/isa "$top/isa/a64.rows" "$top/isa/a64.forms"
     ln -s ../share/tombolopan/examples/why.sh "$stage/bin/mte_why"
     # The examples find the programs as in a checkout.

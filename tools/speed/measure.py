@@ -1,15 +1,17 @@
 #!/usr/bin/env python3
 """How long a step of a tenant takes.
 
-    measure.py [--ir] [--qemu] [--rounds N] HOST...
-    measure.py --real [--ir] [--scudo] [--compiler clang|gcc] [--only NAME] [--work FOLDER]
-               [--rounds N] HOST...
+    measure.py [--ir] [--qemu] [--unicorn] [--rounds N] HOST...
+    measure.py --real [--ir] [--scudo] [--native] [--compiler clang|gcc] [--only NAME]
+               [--work FOLDER] [--rounds N] HOST...
 
 Each HOST is a built mte_host. All of them run the same tenants in turns, N times (5), and each
 workload's line has the best user time of each in nanoseconds a step, the time of a start with a
 short session taken off. `--ir` counts host instructions a step under callgrind instead. `--qemu`
 adds, for the first three, what `qemu-aarch64` takes for the same instructions as a Linux program,
-whose pages have PROT_MTE; the two that end its round count as well.
+whose pages have PROT_MTE; the two that end its round count as well. `--unicorn` adds, for `alu` and
+`mix`, what Unicorn takes for the same image, which compares no tags: with its own count of steps,
+and with a hook on each instruction or on each block.
 
 Workloads: `alu`, a loop of 16 instructions between registers; `memory`, one of 16 with 4 loads and
 4 stores through tagged pointers; `offsets`, one of 9 with a load and a store at register offsets
@@ -21,6 +23,7 @@ steps.
 REAL
 
 Needed (Debian): clang, lld; valgrind for `--ir`; qemu-user and gcc-aarch64-linux-gnu for `--qemu`;
+libunicorn-dev for `--unicorn`;
 for `--real` all of them, libc6-dev-arm64-cross, libc6-dev and what apt-get needs to fetch sources.
 """
 import argparse
@@ -31,7 +34,7 @@ import tempfile
 from collections.abc import Sequence
 
 import real_programs
-from commands import SLICE, Command, instructions, parse_hosts, user_time
+from commands import SLICE, Command, instructions, parse_hosts, run_tool, user_time
 
 HERE = pathlib.Path(__file__).resolve().parent
 sys.path.insert(0, str(HERE.parents[1] / "examples"))
@@ -65,6 +68,10 @@ PAGES_LEFT = [0xD2800168, 0xD4000001]
 # and rounds.
 LINUX_LOOPS = {"alu": (17, 40_000_000), "memory": (17, 2_000_000), "offsets": (10, 8_000_000)}
 FEW_ROUNDS = 100_000
+# The workloads that Unicorn runs, what counts its steps, and how many it runs.
+UNICORN_LOOPS = {"alu", "mix"}
+UNICORN_COUNTS = ("count", "instructions", "blocks")
+UNICORN_STEPS = 50_000_000, 1_000_000
 
 
 def loop(start: list[int], body: list[int], data: Sequence[tuple[int, int]] = ()) -> bytes:
@@ -123,6 +130,18 @@ def qemu(work: pathlib.Path, name: str) -> Runs:
     return commands, (many - FEW_ROUNDS) * steps
 
 
+def unicorn(work: pathlib.Path, name: str) -> dict[str, Runs]:
+    """The runs of a workload in Unicorn, by what counts its steps."""
+    out = work / "unicorn_loops"
+    run_tool(["clang", "-O2", "-o", out, HERE / "unicorn_loops.c", "-lunicorn"])
+    many, few = UNICORN_STEPS
+    return {
+        f"Unicorn, {how}": ([[out, work / f"{name}.image", str(steps), how]
+                             for steps in UNICORN_STEPS], many - few)
+        for how in UNICORN_COUNTS
+    }
+
+
 def sessions(hosts: list[str], work: pathlib.Path, name: str, counts: tuple[int, int],
              steps: int) -> dict[str, Runs]:
     """The runs of the sessions of each host, by its path."""
@@ -155,6 +174,8 @@ def measure_loops(options: argparse.Namespace, work: pathlib.Path) -> None:
         runs = sessions(options.hosts, work, name, (many, few), steps)
         if options.qemu and not options.ir and name in LINUX_LOOPS:
             runs["qemu"] = qemu(work, name)
+        if options.unicorn and not options.ir and name in UNICORN_LOOPS:
+            runs.update(unicorn(work, name))
         times = 50 if steps < SLICE else 1  # a session has at most 10,000 events
         found = costs(options, runs, times).items()
         line = "  ".join(f"{who}: {cost:.2f} {unit}" for who, cost in found)
@@ -167,9 +188,11 @@ def arguments() -> argparse.Namespace:
                                      formatter_class=argparse.RawDescriptionHelpFormatter)
     parser.add_argument("--ir", action="store_true")
     parser.add_argument("--qemu", action="store_true")
+    parser.add_argument("--unicorn", action="store_true")
     parser.add_argument("--rounds", type=int, default=5)
     parser.add_argument("--real", action="store_true")
     parser.add_argument("--scudo", action="store_true")
+    parser.add_argument("--native", action="store_true")
     parser.add_argument("--compiler", choices=real_programs.COMPILERS, default="clang")
     parser.add_argument("--only", choices=real_programs.PROGRAMS)
     return parse_hosts(parser)

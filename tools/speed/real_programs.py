@@ -8,9 +8,11 @@ admission alone. Then its whole runs: zlib, lz4, bzip2 and expat once over bytes
 classes, and once over larger ones, whose pages Scudo leaves without tags for the most part. Each
 runs in turns, N times (5), as a tenant of each HOST, as the same program of AArch64 Linux under
 `qemu-aarch64`, and with `--scudo` as one on LLVM's Scudo with memory tagging, synchronous checks
-(`-cpu max`). A figure is the best user time of the whole run less the best of a start, a run over
-next to nothing: a program on Scudo starts for a tenth of a second. Each run writes a sum of what it
-made, which has to be that of the same program on this machine. `--ir` has the instructions alone.
+(`-cpu max`), and with `--native` as a program of this machine: as it is, under AddressSanitizer,
+and under Valgrind's memcheck. A figure is the best user time of the whole run less the best of a
+start, a run over next to nothing: a program on Scudo starts for a tenth of a second, one under
+memcheck for half a second. Each run writes a sum of what it made, which has to be that of the same
+program on this machine. `--ir` has the instructions alone.
 
 One compiler builds all, with -O2. A tenant has no registers of floating point and SIMD
 (-mgeneral-regs-only); its C library is real/strings.c and real/tenant_libc.c, and Lua's numbers
@@ -150,11 +152,18 @@ class Builder:
         scudo.link([*objects, *heap], program)
         return program
 
-    def native(self, name: str) -> Path:
+    def native(self, name: str, kind: str = "native", *more: str) -> Path:
+        """A program of this machine, by clang with more flags."""
         files, flags = self.parts(name)
-        program = self.work / f"{name}.native"
-        run_tool(["clang", *COMMON, *flags, "-o", program, *files, "-lm"])
+        program = self.work / f"{name}.{kind}"
+        run_tool(["clang", *COMMON, *flags, *more, "-o", program, *files, "-lm"])
         return program
+
+    def natives(self, name: str) -> dict[str, Command]:
+        """The commands of this machine that find mistakes of the heap, and the program alone."""
+        alone = self.native(name)
+        return {"native": [alone], "memcheck": ["valgrind", "-q", alone],
+                "AddressSanitizer": [self.native(name, "asan", "-fsanitize=address")]}
 
 
 def make_input(work: Path, name: str, run: Run) -> Path:
@@ -250,6 +259,8 @@ def measure_program(name: str, builder: Builder, heap: list[Path], options: Name
     others: dict[str, Command] = {"QEMU": ["qemu-aarch64", builder.linux(name)]}
     if heap:
         others["Scudo"] = scudo.command(builder.on_scudo(name, heap))
+    if options.native:
+        others.update(builder.natives(name))
     runs = Runs(work, image, options.hosts, others, builder.native(name))
     for run in PROGRAMS[name].whole:
         whole = make_input(work, name, run)

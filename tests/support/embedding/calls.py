@@ -7,7 +7,7 @@ from collections.abc import Callable, Iterator
 from ctypes import byref
 from typing import Any
 
-import tombolopan as tb  # type: ignore[import]
+import tombolopan as tb
 
 LIBRARY = tb._library
 Words = Iterator[str]

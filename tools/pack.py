@@ -1,7 +1,7 @@
 #!/usr/bin/env python3
 """Makes the packages of Debian of an installed tree (tools/deb.sh installs it).
 
-    packages.py PREFIX OUT
+    pack.py PREFIX OUT
 
 PREFIX is the folder usr of the tree, OUT the folder to write into; the packages' paths are printed.
 Needed: dpkg-dev, binutils, git.

@@ -1,0 +1,84 @@
+"""Packages that others wrote, and programs that test compilers: a sample of what
+examples/packages compares, and what its page says."""
+
+import pathlib
+import re
+import sys
+
+import pytest
+
+from tests.support.cache import cache_folder, tenant_cxx_library
+from tests.support.places import EXAMPLES, ROOT
+from tests.support.running import Ran, Word, run
+from tests.support.tools import give_up, need
+
+sys.path.insert(0, str(EXAMPLES / "packages"))
+import packages  # noqa: E402
+
+PAGE = (ROOT / "docs" / "PACKAGES.md").read_text(encoding="utf-8")
+# A library with its tests, a language, a tool with files, one that writes files, and C++.
+SAMPLE = ("cjson", "mujs", "giflib", "libb64", "tinyxml2")
+
+
+@pytest.fixture
+def place(tmp_path: pathlib.Path, alone: pathlib.Path) -> list[str]:
+    """The words that say where all is; sources are kept from run to run."""
+    need("clang", "clang++", "ld.lld", "llvm-ar", "apt-get", "stdbuf")
+    for name in ("sources", "torture"):
+        (cache_folder() / name).mkdir(parents=True, exist_ok=True)
+        (tmp_path / name).symlink_to(cache_folder() / name)
+    return ["--out", str(tmp_path), "--library", str(tenant_cxx_library()), "--alone", str(alone)]
+
+
+def ran_as_said(ran: Ran, wanted: str) -> None:
+    """A script that found no difference."""
+    if "was not fetched" in ran.errors:
+        give_up(ran.errors.strip()[-300:])
+    assert (ran.status, ran.errors) == (0, ""), ran.output + ran.errors
+    assert re.fullmatch(wanted, ran.output), ran.output
+
+
+@pytest.mark.parametrize("name", SAMPLE)
+def test_a_package_does_what_it_does_natively(place: list[str], name: str) -> None:
+    """It is built unchanged both ways, and all its commands write the same."""
+    script = EXAMPLES / "packages" / "packages.py"
+    words: list[Word] = [sys.executable, script, "--only", name, *place]
+    ran_as_said(run(words, seconds=900), rf"{name} \S+: the same\n")
+
+
+@pytest.mark.parametrize("kind, count, tool", [("csmith", 4, "csmith"), ("torture", 24, "tar")])
+def test_programs_that_test_compilers(
+    place: list[str], kind: str, count: int, tool: str
+) -> None:
+    """None of a sample differs, by clang and gcc."""
+    need("gcc", "aarch64-linux-gnu-gcc", tool)
+    script = EXAMPLES / "packages" / "compilers.py"
+    ran = run([sys.executable, script, kind, f"--count={count}", *place], seconds=900)
+    ran_as_said(ran, r"(?:.*: refused: .*\n)*.*\d+ the same.*\n")
+    assert "different" not in ran.output
+
+
+def test_the_page_has_each_package_and_what_came_of_it() -> None:
+    """A row each, in order, and the count above them."""
+    rows = re.findall(r"^\| (\S+) \| \S+ \| C.* \| .* \| (yes|no: .*) \|$", PAGE, re.M)
+    listed = packages.read_packages()
+    assert [(name, result == "yes") for name, result in rows] == [
+        (package.name, not package.not_the_same) for package in listed
+    ]
+    same = sum(result == "yes" for _, result in rows)
+    assert f"Of {len(rows)} packages {same} are built unchanged" in PAGE
+
+
+def test_the_first_difference_of_two_outputs() -> None:
+    """The line, or how many lines there are."""
+    assert packages.first_difference(b"a\nb\nc\n", b"a\nx\nc\n").startswith("line 2\n")
+    assert packages.first_difference(b"a\n", b"a\nb\n") == "1 lines, and 2 of the tenant"
+
+
+def test_changed_sources_are_named(tmp_path: pathlib.Path) -> None:
+    """Sources alone, not what a build system writes anew."""
+    for folder, text in (("one", "int a;\n"), ("two", "int b;\n")):
+        (tmp_path / folder).mkdir()
+        for name in ("a.c", "configure", "b.hpp"):
+            (tmp_path / folder / name).write_text(text if name != "b.hpp" else "")
+    assert packages.changed_files(tmp_path / "one", tmp_path / "two") == ["a.c"]

@@ -1,0 +1,184 @@
+"""Runs many sessions, and says which are not as wanted.
+
+    batch SESSIONS [OPTIONS]
+
+SESSIONS is a folder or a table. In a folder each session is a folder with a file `args`: the words
+of mte_host, one a line (--frames N SCRIPT FILE...), which are read there, and files want.out,
+want.err and want.status with what is wanted of it, or some of them. A table has a session a line:
+name, frames, the file with the report that is wanted or `-`, script and files, with tabs between.
+
+What was answered is kept in a store, SESSIONS.results, under the sum of the library, the words and
+the files, and is not run again. What is there and is not what was written is run anew. The exit
+status is 0 where nothing is different, lost or disputed and all was stored, and 1 otherwise.
+"""
+
+import argparse
+import functools
+import os
+import pathlib
+import shutil
+import sys
+import time
+from collections.abc import Callable, Sequence
+
+from batch import runs
+from batch.answers import Answer
+from batch.driver import Batch
+from batch.engines import Engine, LocalEngine
+from batch.sample import Sample
+from batch.sessions import BadList, Place, Session, places_of, share_of
+from batch.store import Store
+from batch.summaries import json_of, junit_of, write_whole
+from batch.verdicts import Verdict, Work, is_right, lines_of
+
+
+class Usage(Exception):
+    """What is wrong with the command line, or missing."""
+
+
+def share(text: str) -> tuple[int, int]:
+    """I/N: the Ith of N shares."""
+    number, _, count = text.partition("/")
+    if not (number.isdigit() and count.isdigit() and 1 <= int(number) <= int(count)):
+        raise argparse.ArgumentTypeError(f"{text} is not I/N with 1 <= I <= N")
+    return int(number), int(count)
+
+
+def positive(text: str) -> int:
+    """A number that is at least 1."""
+    if not text.isdigit() or int(text) < 1:
+        raise argparse.ArgumentTypeError(f"{text} is not a number from 1 on")
+    return int(text)
+
+
+def parse(words: Sequence[str] | None) -> argparse.Namespace:
+    """The command line."""
+    form = argparse.RawDescriptionHelpFormatter
+    parser = argparse.ArgumentParser(prog="batch", description=__doc__, formatter_class=form)
+    add = parser.add_argument
+    add("sessions", type=pathlib.Path, help="a folder or a table")
+    add("--jobs", type=positive, default=os.cpu_count() or 1, help="how many run at once")
+    add("--store", type=pathlib.Path, help="the folder of what was answered")
+    add("--tries", type=int, default=3, help="how often what was lost is tried again (3)")
+    add("--timeout", type=float, metavar="SECONDS",
+        help="what takes longer for a session is lost; not over Dask")
+    add("--program", action="append", default=[], metavar="COMMAND",
+        help="run each session as a process of COMMAND, like `ssh one mte_host`, not by the library"
+        "; several share the sessions")
+    add("--dask", nargs="?", const="", metavar="ADDRESS",
+        help="run over the scheduler of Dask at ADDRESS; without it over one on this machine")
+    add("--share", type=share, metavar="I/N", help="take the Ith of N shares of the sessions alone")
+    add("--sample", type=float, default=0, metavar="PERCENT",
+        help="run so many of a hundred once more by --elsewhere, and compare")
+    add("--elsewhere", action="append", default=[], metavar="COMMAND",
+        help="a command like mte_host, as `ssh other mte_host`")
+    add("--got", action="store_true", help="write got.out, got.err and got.status beside `args`")
+    add("--json", type=pathlib.Path, metavar="FILE", help="write what came of each as JSON")
+    add("--junit", type=pathlib.Path, metavar="FILE", help="write it as JUnit's XML")
+    given = parser.parse_args(words)
+    if given.sample and not given.elsewhere:
+        parser.error("--sample needs --elsewhere COMMAND")
+    if given.dask is not None and (given.program or given.timeout):
+        parser.error("--dask takes neither --program nor --timeout")
+    if given.store is None:
+        given.store = given.sessions.with_name(f"{given.sessions.resolve().name}.results")
+    return given
+
+
+def progress(total: int) -> Callable[[int], None]:
+    """What says on a terminal how far it is, some times a second."""
+    if not sys.stderr.isatty():
+        return lambda done: None
+    began, told = time.monotonic(), 0.0
+
+    def tell(done: int) -> None:
+        nonlocal told
+        now = time.monotonic()
+        if now - told > 0.2 or done == total:
+            told = now
+            end = "\n" if done == total else ""
+            print(f"\r{done} of {total}, {done / max(now - began, 1e-3):.0f} a second ", end=end,
+                  file=sys.stderr, flush=True)
+    return tell
+
+
+def missing_command(commands: Sequence[str]) -> str:
+    """The first command that is not there."""
+    first = [command.split()[0] if command.split() else "" for command in commands]
+    return next((it for it in first if shutil.which(it) is None), "")
+
+
+def engine_of(given: argparse.Namespace) -> tuple[Engine, str]:
+    """What runs the sessions, and the sum of the program."""
+    if missing := missing_command([*given.program, *given.elsewhere]):
+        raise Usage(f"cannot run {missing}")
+    if given.program:
+        commands = [functools.partial(runs.run_by_command, command=it, seconds=given.timeout)
+                    for it in given.program]
+        runners = [commands[at % len(commands)] for at in range(given.jobs)]
+        return LocalEngine(runners), runs.command_sum(given.program)
+    program = runs.library_sum()
+    if not program:
+        raise Usage("libtombolopan.so is not found: examples/embed/shared.sh makes it, and the "
+                    f"variable {runs.LIBRARY} may name it")
+    runner = functools.partial(runs.run_by_library, wanted=program)
+    if given.dask is None:
+        return LocalEngine([runner] * given.jobs, given.timeout), program
+    try:
+        from batch.over_dask import DaskEngine
+    except ImportError as error:
+        raise Usage(f"Dask is missing (Debian: python3-distributed): {error}") from error
+    return DaskEngine(runner, given.dask, given.jobs, given.tries), program
+
+
+def write_got(places: dict[str, Place], session: Session, answer: Answer) -> None:
+    """Writes what came of a session beside its `args`, where it is not there."""
+    folder = pathlib.Path(places[session.name].folder)
+    parts = {"out": answer.out, "err": answer.err, "status": f"{answer.status}\n".encode()}
+    for part, text in parts.items():
+        write_whole(folder / f"got.{part}", text)
+
+
+def run(given: argparse.Namespace) -> tuple[list[Verdict], Work]:
+    """Runs the sessions."""
+    found = places_of(given.sessions)
+    places = {it.name: it for it in (share_of(found, *given.share) if given.share else found)}
+    if given.got and any(it.words for it in places.values()):
+        raise Usage("--got is for folders of sessions")
+    engine, program = engine_of(given)
+    try:
+        store = Store(given.store)
+        batch = Batch(program, store, given.tries, progress(len(places)))
+        if given.got:
+            batch.each = functools.partial(write_got, places)
+        verdicts = batch.run(places.values(), engine)
+    finally:
+        engine.close()
+    if given.sample:
+        sample = Sample(given.sample, tuple(given.elsewhere), given.jobs, given.tries,
+                        given.timeout)
+        verdicts = sample.check(verdicts, places, store, program, batch.work)
+    store.close()
+    return verdicts, batch.work
+
+
+def main(words: Sequence[str] | None = None) -> int:
+    """The command."""
+    given = parse(words)
+    try:
+        verdicts, work = run(given)
+        for path, text in ((given.json, json_of), (given.junit, junit_of)):
+            if path is not None:
+                write_whole(path, text(verdicts, work).encode())
+        print(*lines_of(verdicts, work), sep="\n", flush=True)
+    except (BadList, Usage, UnicodeError) as error:
+        print(f"batch: {error}", file=sys.stderr)
+        return 2
+    except OSError as error:
+        named = f"{error.filename}: " if error.filename else ""
+        print(f"batch: {named}{error.strerror or error}", file=sys.stderr)
+        return 1
+    except KeyboardInterrupt:
+        print("batch: broken off; the same command goes on", file=sys.stderr)
+        return 130
+    return 0 if is_right(verdicts, work) else 1

@@ -1,0 +1,150 @@
+"""Runs the sessions that the store has no answer of, and judges all."""
+
+import collections
+from collections.abc import Callable, Iterable, Iterator
+from dataclasses import dataclass, field
+
+from batch.answers import Answer, Lost, is_of_bytes
+from batch.engines import Chunk, Engine
+from batch.runs import Replies
+from batch.sessions import Job, Place, Session, read_session
+from batch.store import Store
+from batch.verdicts import (
+    KEPT, LOST, MENDED, NO_SESSION, RAN, Verdict, Work, judge,
+)
+
+CHUNK_BYTES = 16 << 20
+
+
+@dataclass
+class Batch:
+    """Sessions on their way: what is read and not answered yet waits under its key, so that of
+    several with one key one is run."""
+
+    program: str
+    store: Store
+    tries: int
+    tell: Callable[[int], None] = lambda done: None
+    each: Callable[[Session, Answer], None] = lambda session, answer: None
+    verdicts: dict[str, Verdict] = field(default_factory=dict)
+    work: Work = field(default_factory=Work)
+    _waiting: dict[str, list[Session]] = field(default_factory=dict)
+    _again: collections.deque[Chunk] = field(default_factory=collections.deque)
+
+    def run(self, places: Iterable[Place], engine: Engine) -> list[Verdict]:
+        """The verdicts of sessions, in the order of their places."""
+        listed = list(places)
+        chunks = self._chunks(listed, engine.chunk)
+        while True:
+            while (given := self._next(chunks, engine)) is not None:
+                engine.submit(given)
+            if not engine.is_busy():
+                return [self.verdicts[it.name] for it in listed]
+            chunk, replies = engine.wait()
+            self._take(chunk, replies, engine.retries_itself)
+            self.tell(len(self.verdicts))
+
+    def _next(self, chunks: Iterator[Chunk], engine: Engine) -> Chunk | None:
+        """The next chunk to run, where one may begin now: what was lost comes last. An engine that
+        tries again by itself may blame a session for another on the same worker, so there it runs
+        while no other does."""
+        if not engine.has_room():
+            return None
+        chunk = next(chunks, None)
+        if chunk is None and self._again and not (engine.retries_itself and engine.is_busy()):
+            chunk = self._again.popleft()
+        return chunk
+
+    def _chunks(self, places: Iterable[Place], count: int) -> Iterator[Chunk]:
+        """The sessions that have to be run, so many at a time, or fewer where they are large."""
+        jobs: list[Job] = []
+        size = 0
+        contents: dict[bytes, bytes] = {}
+        for place in places:
+            job = self._begin(read_session(place, self.program))
+            if job is None:
+                continue
+            # What several have is sent once.
+            files = tuple(contents.setdefault(it, it) for it in job.files)
+            jobs.append(Job(job.key, job.frames, job.script, files))
+            size += len(job.script) + sum(map(len, files))
+            if len(jobs) == count or size > CHUNK_BYTES:
+                yield Chunk(tuple(jobs))
+                jobs, size, contents = [], 0, {}
+        if jobs:
+            yield Chunk(tuple(jobs))
+
+    def _begin(self, session: Session) -> Job | None:
+        """The job of a session that has to be run; else the session has its verdict, or waits."""
+        job = session.job
+        if session.wrong:
+            self.verdicts[session.name] = Verdict(session.name, NO_SESSION, session.wrong)
+        elif job is None:
+            assert session.answer is not None
+            self._judge(session, session.answer, RAN)
+        elif job.key in self._waiting:
+            self._waiting[job.key].append(session)
+        elif (kept := self.store.get(job.key)) is not None:
+            self._judge(session, kept, KEPT)
+        else:
+            self._waiting[job.key] = [session]
+            return job
+        return None
+
+    def _judge(self, session: Session, answer: Answer, source: str) -> None:
+        key = "" if session.job is None else session.job.key
+        self.verdicts[session.name] = judge(session.name, answer, session.wanted, source, key)
+        try:
+            self.each(session, answer)
+        except OSError as error:
+            self._not_stored(1, error)
+
+    def _not_stored(self, count: int, error: OSError) -> None:
+        self.work.unkept += count
+        self.work.why_unkept = error.strerror or str(error)
+
+    def _take(self, chunk: Chunk, replies: Replies | Lost, is_tried: bool) -> None:
+        """Takes what came of a chunk."""
+        if isinstance(replies, Lost):
+            found: dict[str, Answer] = {}
+            why = dict.fromkeys((it.key for it in chunk.jobs), replies.why)
+        else:
+            found = {key: it for key, it in replies if isinstance(it, Answer) and is_of_bytes(it)}
+            why = {key: it.why for key, it in replies if isinstance(it, Lost)}
+        self._answer({it.key: found[it.key] for it in chunk.jobs if it.key in found})
+        lost = tuple(it for it in chunk.jobs if it.key not in found)
+        again = self._tries(chunk, lost, isinstance(replies, Lost), is_tried)
+        self._again.extend(again)
+        if again:
+            self.work.retries += len(lost)
+        else:
+            for job in lost:
+                self._lose(job, why.get(job.key, "no answer of it came"))
+
+    def _tries(self, chunk: Chunk, lost: tuple[Job, ...], is_whole: bool,
+               is_tried: bool) -> list[Chunk]:
+        """What is run again of what was lost: a chunk once more, as its process may have been ended
+        from outside; then each session by itself, so that one that ends its process takes no other
+        with it; and a session so often. What an engine tried again is not tried here."""
+        if not chunk.losses and is_whole and not is_tried:
+            return [Chunk(lost, 1)]
+        if len(chunk.jobs) > 1:
+            return [Chunk((job,), 1) for job in lost]
+        limit = 0 if is_whole and is_tried else self.tries
+        return [Chunk(lost, chunk.losses + 1)] if lost and chunk.losses <= limit else []
+
+    def _lose(self, job: Job, why: str) -> None:
+        for session in self._waiting.pop(job.key):
+            self.verdicts[session.name] = Verdict(session.name, LOST, why, key=job.key)
+
+    def _answer(self, answers: dict[str, Answer]) -> None:
+        """Keeps answers, and judges the sessions that waited for them."""
+        try:
+            self.store.put(list(answers.items()))
+        except OSError as error:
+            self._not_stored(len(answers), error)
+        for key, answer in answers.items():
+            source = MENDED if key in self.store.damaged else RAN
+            for session in self._waiting.pop(key):
+                self._judge(session, answer, source)
+                source = KEPT

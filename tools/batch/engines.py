@@ -1,0 +1,175 @@
+"""What runs chunks of sessions: the processors of this machine. Dask is in over_dask.py."""
+
+import collections
+import multiprocessing
+import multiprocessing.connection
+import multiprocessing.context
+import signal
+import time
+from collections.abc import Sequence
+from dataclasses import dataclass
+from typing import Protocol
+
+from batch.answers import Lost
+from batch.runs import Replies, Runner, run_safely
+from batch.sessions import Job
+
+FORK = multiprocessing.get_context("fork")
+
+
+@dataclass(frozen=True)
+class Chunk:
+    """Sessions that one process runs in turn, and how often they were lost."""
+
+    jobs: tuple[Job, ...]
+    losses: int = 0
+
+
+Outcome = tuple[Chunk, Replies | Lost]
+
+
+class Engine(Protocol):
+    """What runs chunks, several at a time. A chunk comes back with its replies, or lost."""
+
+    # How many sessions a chunk has at most.
+    chunk: int
+    # Whether what is lost was tried again already.
+    retries_itself: bool
+
+    def has_room(self) -> bool:
+        """Whether it takes another chunk now."""
+
+    def is_busy(self) -> bool:
+        """Whether a chunk is under way."""
+
+    def submit(self, chunk: Chunk) -> None:
+        """Takes a chunk."""
+
+    def wait(self) -> Outcome:
+        """Waits for a chunk that is under way."""
+
+    def close(self) -> None:
+        """Ends all that was started."""
+
+
+def serve(pipe: multiprocessing.connection.Connection, run: Runner) -> None:
+    """What a worker does: it runs what comes through its pipe, until nothing more comes."""
+    signal.signal(signal.SIGINT, signal.SIG_IGN)
+    while True:
+        try:
+            jobs: Sequence[Job] = pipe.recv()
+        except EOFError:
+            return
+        pipe.send(run_safely(run, jobs))
+
+
+class Worker:
+    """A process of this machine, and the chunk that it runs."""
+
+    def __init__(self, run: Runner) -> None:
+        self.run = run
+        self.pipe, theirs = FORK.Pipe()
+        self.process = FORK.Process(target=serve, args=(theirs, run), daemon=True)
+        self.process.start()
+        theirs.close()
+        self.chunk: Chunk | None = None
+        self.until = 0.0
+
+    def take(self) -> Replies | Lost:
+        """What it answers of its chunk; that it is lost where the process ended."""
+        try:
+            replies: Replies = self.pipe.recv()
+            return replies
+        except Exception:  # the pipe ended, or has what cannot be read
+            return self.end()
+
+    def end(self) -> Lost:
+        """Ends the process, and says how it ended."""
+        self.process.join(0.2)
+        if self.process.is_alive():
+            self.process.kill()
+            self.process.join()
+        self.pipe.close()
+        code = self.process.exitcode or 0
+        how = f"signal {-code}" if code < 0 else f"status {code}"
+        return Lost(f"the process that ran it ended by {how}")
+
+
+class LocalEngine:
+    """Processes of this machine, one for each runner; each has one chunk at a time. One that ends,
+    or takes longer than so many seconds a session, is replaced."""
+
+    chunk = 50
+    retries_itself = False
+
+    def __init__(self, runners: Sequence[Runner], seconds: float | None = None) -> None:
+        self.seconds = seconds
+        self.workers = [Worker(it) for it in runners]
+        self.ready: collections.deque[Outcome] = collections.deque()
+
+    def has_room(self) -> bool:
+        """Whether a worker is idle."""
+        return any(it.chunk is None for it in self.workers)
+
+    def is_busy(self) -> bool:
+        """Whether a chunk is under way."""
+        return bool(self.ready) or any(it.chunk for it in self.workers)
+
+    def submit(self, chunk: Chunk) -> None:
+        """Gives a chunk to an idle worker."""
+        place = next(at for at, it in enumerate(self.workers) if it.chunk is None)
+        worker = self.workers[place]
+        worker.chunk = chunk
+        worker.until = time.monotonic() + (self.seconds or 0) * len(chunk.jobs)
+        try:
+            worker.pipe.send(chunk.jobs)
+        except OSError:
+            self._replace(place, worker.end())
+
+    def _replace(self, place: int, lost: Lost) -> None:
+        """Puts a new worker in the place of one that ended, whose chunk is lost."""
+        worker = self.workers[place]
+        assert worker.chunk is not None
+        self.ready.append((worker.chunk, lost))
+        self.workers[place] = Worker(worker.run)
+
+    def _left(self) -> float | None:
+        """How many seconds are left to the first worker that takes too long."""
+        if self.seconds is None:
+            return None
+        return max(0.0, min(it.until for it in self.workers if it.chunk) - time.monotonic())
+
+    def wait(self) -> Outcome:
+        """Waits for a worker that has answered, has ended, or takes too long."""
+        while not self.ready:
+            pipes = {it.pipe: at for at, it in enumerate(self.workers) if it.chunk}
+            for pipe in multiprocessing.connection.wait(list(pipes), self._left()):
+                assert isinstance(pipe, multiprocessing.connection.Connection)
+                self._take(pipes[pipe])
+            self._end_late_ones()
+        return self.ready.popleft()
+
+    def _take(self, place: int) -> None:
+        worker = self.workers[place]
+        assert worker.chunk is not None
+        replies = worker.take()
+        if isinstance(replies, Lost):
+            self._replace(place, replies)
+        else:
+            self.ready.append((worker.chunk, replies))
+            worker.chunk = None
+
+    def _end_late_ones(self) -> None:
+        """Ends the workers that take too long."""
+        for place, worker in enumerate(self.workers):
+            if self.seconds is not None and worker.chunk and worker.until <= time.monotonic():
+                worker.process.kill()
+                worker.end()
+                self._replace(place, Lost(f"it took longer than {self.seconds:g} seconds"))
+
+    def close(self) -> None:
+        """Ends the workers."""
+        for worker in self.workers:
+            worker.process.kill()
+            worker.process.join()
+            worker.pipe.close()

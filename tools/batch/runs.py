@@ -1,0 +1,115 @@
+"""Runs sessions: in this process by the library, or each as a process of a program.
+
+These functions are pure but for what they rest on, so an engine may call them on any machine, as
+often as it likes. Each reply has the key of its job with it.
+"""
+
+import contextlib
+import functools
+import hashlib
+import os
+import pathlib
+import shlex
+import shutil
+import subprocess
+import sys
+import tempfile
+from collections.abc import Callable, Sequence
+
+from batch.answers import OK, SCRIPT, Answer, Lost, Reply, checked
+from batch.sessions import Job
+
+Replies = list[tuple[str, Reply]]
+Runner = Callable[[Sequence[Job]], Replies]
+# Where the library is, as tombolopan.py reads it.
+LIBRARY = "TOMBOLOPAN"
+
+
+def find_library() -> str:
+    """The path of the library: what the variable names, or that of this checkout, or of the prefix
+    in which this is installed. The folder of tombolopan.py is put on the path of imports."""
+    top = pathlib.Path(__file__).resolve().parents[2]
+    embed = top / "examples" / "embed"
+    if str(embed) not in sys.path:
+        sys.path.append(str(embed))
+    is_checkout = (top / "crates.txt").exists()
+    near = (embed if is_checkout else top.parents[1] / "lib") / "libtombolopan.so"
+    named = pathlib.Path(os.environ.get(LIBRARY) or near)
+    return str(named.resolve()) if named.is_file() else ""
+
+
+def sum_of_file(path: str) -> str:
+    """The sum of a file's bytes."""
+    return hashlib.sha256(pathlib.Path(path).read_bytes()).hexdigest()
+
+
+@functools.cache
+def library_sum() -> str:
+    """The sum of this process's library; empty where there is none."""
+    path = find_library()
+    if not path:
+        return ""
+    os.environ[LIBRARY] = path
+    return sum_of_file(path)
+
+
+def command_sum(commands: Sequence[str]) -> str:
+    """The sum of programs: of each word that is a file its bytes, of others their text. So what
+    lies behind `ssh` is known by its name alone."""
+    total = hashlib.sha256(b"commands")
+    for word in (it for command in commands for it in shlex.split(command)):
+        path = shutil.which(word) or word
+        known = sum_of_file(path) if os.path.isfile(path) else word
+        total.update(known.encode() + b"\n")
+    return total.hexdigest()
+
+
+def run_one(job: Job) -> Reply:
+    """The answer of a session by the library."""
+    import tombolopan  # loads the library, which only a process that runs sessions needs
+    try:
+        return checked(Answer(OK, tombolopan.session(job.frames, job.script, job.files), b""))
+    except tombolopan.ScriptError as error:
+        return checked(Answer(SCRIPT, b"", f"mte_host: {error}\n".encode()))
+    except MemoryError:
+        return Lost("out of memory")
+
+
+def run_by_library(jobs: Sequence[Job], wanted: str) -> Replies:
+    """The answers of sessions by the library, where its sum is the one that is wanted."""
+    if library_sum() != wanted:
+        lost = Lost("another library, or none, is in the process that was to run it")
+        return [(job.key, lost) for job in jobs]
+    return [(job.key, run_one(job)) for job in jobs]
+
+
+def run_safely(run: Runner, jobs: Sequence[Job]) -> Replies:
+    """The replies of a runner; an exception loses them all, and ends no process."""
+    try:
+        return run(jobs)
+    except Exception as error:
+        lost = Lost(f"{type(error).__name__}: {error}")
+        return [(job.key, lost) for job in jobs]
+
+
+def run_by_command(jobs: Sequence[Job], command: str, seconds: float | None = None) -> Replies:
+    """The answers of sessions, each by a process of a program like mte_host, over copies of what
+    they read."""
+    return [(job.key, process_answer(job, shlex.split(command), seconds)) for job in jobs]
+
+
+def process_answer(job: Job, command: Sequence[str], seconds: float | None) -> Reply:
+    """The answer of a session by a process."""
+    with contextlib.ExitStack() as held:
+        try:
+            folder = pathlib.Path(held.enter_context(tempfile.TemporaryDirectory()))
+            names = [str(folder / f"file-{number}") for number in range(len(job.files) + 1)]
+            for name, content in zip(names, (job.script, *job.files)):
+                pathlib.Path(name).write_bytes(content)
+            ran = subprocess.run([*command, "--frames", str(job.frames), *names], check=False,
+                                 stdin=subprocess.DEVNULL, capture_output=True, timeout=seconds)
+        except subprocess.TimeoutExpired:
+            return Lost(f"it took longer than {seconds:g} seconds")
+        except OSError as error:
+            return Lost(f"cannot be run: {error}")
+    return checked(Answer(ran.returncode, ran.stdout, ran.stderr))

@@ -1,0 +1,175 @@
+"""A store of answers by content: each is kept under the key of what it answers.
+
+The store is a folder of files, of which each is appended to by one run, so that any number of runs,
+on any machines that share the folder, may use it at once. A record has the key, the answer and the
+sum of both, so that one that was changed, cut short or put under another key is not taken.
+"""
+
+import hashlib
+import mmap
+import os
+import pathlib
+import re
+import secrets
+from collections.abc import Iterator, Sequence
+from dataclasses import dataclass
+
+from batch.answers import Answer, is_of_bytes
+
+HEAD = re.compile(rb"tombolopan answer ([0-9a-f]{64}) ([0-9]{1,3}) ([0-9]{1,12}) ([0-9]{1,12})"
+                  rb" ([0-9a-f]{64})\n")
+SUFFIX = ".answers"
+
+
+def sum_of(key: bytes, answer: Answer) -> bytes:
+    """The sum of a key and an answer."""
+    total = hashlib.sha256(b"%s %d %d\n" % (key, answer.status, len(answer.out)))
+    total.update(answer.out)
+    total.update(answer.err)
+    return total.hexdigest().encode()
+
+
+def record_of(key: str, answer: Answer) -> bytes:
+    """The bytes of a record."""
+    name = key.encode()
+    head = b"tombolopan answer %s %d %d %d %s\n" % (
+        name, answer.status, len(answer.out), len(answer.err), sum_of(name, answer))
+    return head + answer.out + answer.err + b"\n"
+
+
+@dataclass(frozen=True)
+class Found:
+    """Where a record is, and its answer; None where it is not what was written."""
+
+    key: str
+    start: int
+    end: int
+    answer: Answer | None
+
+
+def record_at(data: bytes | mmap.mmap, head: re.Match[bytes]) -> Found:
+    """The record that a head begins."""
+    key, total = head[1], head[5]
+    middle = head.end() + int(head[3])
+    end = middle + int(head[4])
+    answer = Answer(int(head[2]), data[head.end():middle], data[middle:end])
+    is_sound = data[end:end + 1] == b"\n" and sum_of(key, answer) == total and is_of_bytes(answer)
+    return Found(key.decode(), head.start(), end + 1, answer if is_sound else None)
+
+
+def records_of(data: bytes | mmap.mmap) -> Iterator[Found]:
+    """The records of a file. Behind one that is damaged the next one is looked for."""
+    at = 0
+    while (head := HEAD.search(data, at)) is not None:
+        found = record_at(data, head)
+        yield found
+        at = head.end() if found.answer is None else found.end
+
+
+class Store:
+    """The answers of a folder. `damaged` has the keys that have no answer, though they had one: it
+    is not what was written, or there are two sound ones that differ."""
+
+    def __init__(self, folder: pathlib.Path) -> None:
+        self.folder = folder
+        self.damaged: set[str] = set()
+        self._places: dict[str, tuple[pathlib.Path, int, int]] = {}
+        self._sums: dict[str, bytes] = {}
+        self._read: dict[pathlib.Path, int] = {}
+        self._written: int | None = None
+        self._own = folder
+        folder.mkdir(parents=True, exist_ok=True)
+        differing: set[str] = set()
+        for path in self._files():
+            differing |= self._take(path)
+        self.damaged = self.damaged - set(self._places) | differing
+        if differing:
+            self.forget(differing)
+
+    def _files(self) -> list[pathlib.Path]:
+        return sorted(self.folder.glob(f"*{SUFFIX}"))
+
+    def _take(self, path: pathlib.Path) -> set[str]:
+        """Enters the records of a file, and returns the keys of which others differ."""
+        with open(path, "rb") as file:
+            if os.fstat(file.fileno()).st_size == 0:
+                return set()
+            with mmap.mmap(file.fileno(), 0, access=mmap.ACCESS_READ) as data:
+                return {it.key for it in records_of(data) if self._differs(path, it)}
+
+    def _differs(self, path: pathlib.Path, found: Found) -> bool:
+        """Enters a record, and returns whether another of its key differs."""
+        if found.answer is None:
+            self.damaged.add(found.key)
+            return False
+        total = sum_of(found.key.encode(), found.answer)
+        self._places[found.key] = (path, found.start, found.end)
+        return self._sums.setdefault(found.key, total) != total
+
+    def get(self, key: str) -> Answer | None:
+        """The answer that is kept under a key, read and compared with its sum once more."""
+        place = self._places.get(key)
+        if place is None:
+            return None
+        data = self._part(*place)
+        head = HEAD.match(data)
+        found = None if head is None else record_at(data, head)
+        if found is None or found.answer is None or found.key != key:
+            del self._places[key]
+            self.damaged.add(key)
+            return None
+        return found.answer
+
+    def _part(self, path: pathlib.Path, start: int, end: int) -> bytes:
+        """Bytes of a file; fewer, or none, where they cannot be read any more."""
+        try:
+            if path not in self._read:
+                self._read[path] = os.open(path, os.O_RDONLY)
+            return os.pread(self._read[path], end - start, start)
+        except OSError:
+            return b""
+
+    def put(self, answers: Sequence[tuple[str, Answer]]) -> None:
+        """Keeps answers. OSError tells why they may not be kept."""
+        if not answers:
+            return
+        if self._written is None:
+            self._own = self.folder / f"{os.getpid()}-{secrets.token_hex(8)}{SUFFIX}"
+            flags = os.O_WRONLY | os.O_CREAT | os.O_EXCL | os.O_APPEND
+            self._written = os.open(self._own, flags, 0o666)
+        records = [record_of(key, answer) for key, answer in answers]
+        start = os.fstat(self._written).st_size
+        left = memoryview(b"".join(records))
+        while left:
+            left = left[os.write(self._written, left):]
+        for (key, _), record in zip(answers, records):
+            self._places[key] = (self._own, start, start + len(record))
+            start += len(record)
+
+    def forget(self, keys: set[str]) -> None:
+        """Takes all records of these keys away: each file that has some is written anew."""
+        self.close()
+        for key in keys & set(self._places):
+            del self._places[key]
+        for path in self._files():
+            data = path.read_bytes()
+            found = list(records_of(data))
+            if not keys.isdisjoint(it.key for it in found):
+                self._write_anew(path, data, [it for it in found if it.key not in keys])
+
+    def _write_anew(self, path: pathlib.Path, data: bytes, kept: list[Found]) -> None:
+        """Writes a file anew, with the sound ones of some of its records."""
+        sound = [it for it in kept if it.answer is not None]
+        fresh = path.with_suffix(".new")
+        fresh.write_bytes(b"".join(data[it.start:it.end] for it in sound))
+        os.replace(fresh, path)
+        start = 0
+        for it in sound:
+            self._places[it.key] = (path, start, start + it.end - it.start)
+            start += it.end - it.start
+
+    def close(self) -> None:
+        """Closes the files. What is kept afterwards goes to a new one."""
+        for file in (*self._read.values(), *([] if self._written is None else [self._written])):
+            os.close(file)
+        self._read, self._written = {}, None

@@ -1,0 +1,90 @@
+"""What is said of each session, and of all of them."""
+
+from collections import Counter
+from collections.abc import Iterable
+from dataclasses import dataclass
+
+from batch.answers import Answer
+
+WANTED = "as wanted"
+DIFFERENT = "different"
+ANSWERED = "answered"
+LOST = "lost"
+DISPUTED = "disputed"
+NO_SESSION = "no session"
+# Each verdict, and whether a session that has it is right.
+VERDICTS = {WANTED: True, DIFFERENT: False, ANSWERED: True, LOST: False, DISPUTED: False,
+            NO_SESSION: False}
+# How the answer came: from the store, by a run, by a run in place of what was damaged in the store.
+KEPT, RAN, MENDED = "kept", "run", "mended"
+
+
+@dataclass(frozen=True)
+class Verdict:
+    """What became of a session: one of VERDICTS, why, and how the answer came."""
+
+    name: str
+    verdict: str
+    why: str = ""
+    source: str = ""
+    status: int | None = None
+    key: str = ""
+
+
+@dataclass
+class Work:
+    """What a run did beside its verdicts: how often sessions were lost and tried again, how many
+    answers could not be kept and why, how many were run elsewhere too, and how many of these were
+    lost there."""
+
+    retries: int = 0
+    unkept: int = 0
+    why_unkept: str = ""
+    checked: int = 0
+    unchecked: int = 0
+    why_unchecked: str = ""
+
+
+def different_parts(answer: Answer, wanted: dict[str, bytes]) -> list[str]:
+    """The parts of an answer that are not as wanted."""
+    status = f"{answer.status}\n".encode()
+    got = {"out": answer.out, "err": answer.err, "status": status}
+    return [part for part, text in wanted.items() if got[part] != text]
+
+
+def judge(name: str, answer: Answer, wanted: dict[str, bytes], source: str, key: str) -> Verdict:
+    """The verdict of a session that is answered."""
+    different = different_parts(answer, wanted)
+    if different:
+        return Verdict(name, DIFFERENT, ", ".join(different), source, answer.status, key)
+    return Verdict(name, WANTED if wanted else ANSWERED, "", source, answer.status, key)
+
+
+def is_right(verdicts: Iterable[Verdict], work: Work) -> bool:
+    """Whether nothing is different, lost or disputed, and all was kept and checked that should."""
+    return (all(VERDICTS[it.verdict] for it in verdicts) and not work.unkept
+            and not work.unchecked)
+
+
+def shown(text: str) -> str:
+    """A text as a terminal may have it: names and lines of others may have anything."""
+    return text if text.isprintable() else ascii(text)[1:-1]
+
+
+def lines_of(verdicts: list[Verdict], work: Work) -> list[str]:
+    """What is written: the sessions that are not right, and the numbers."""
+    lines = [shown(f"{it.verdict}: {it.name}: {it.why}")
+             for it in verdicts if not VERDICTS[it.verdict]]
+    found = Counter(it.verdict for it in verdicts)
+    lines.append(", ".join(f"{found[it]} {it}" for it in VERDICTS
+                           if found[it] or it in (WANTED, DIFFERENT)))
+    sources = Counter(it.source for it in verdicts)
+    told = [f"{sources[RAN] + sources[MENDED]} run", f"{sources[KEPT]} kept"]
+    for count, text in ((sources[MENDED], "mended"), (work.retries, "tried again"),
+                        (work.unkept, f"not stored: {shown(work.why_unkept)}"),
+                        (work.checked, "run elsewhere too"),
+                        (work.unchecked, f"lost elsewhere: {shown(work.why_unchecked)}")):
+        if count:
+            told.append(f"{count} {text}")
+    lines.append(", ".join(told))
+    return lines
