@@ -4,10 +4,12 @@ time, and are of use in a root from which they go away without a trace."""
 import hashlib
 import pathlib
 import re
+import shutil
 
 import pytest
 
-from tests.support import debian, installed
+from tests.support import debian, debugger, installed
+from tests.support.cache import cache_folder
 from tests.support.checkout import copy_files
 from tests.support.debian import Root, files_of
 from tests.support.host_sessions import HI_REPORT
@@ -107,8 +109,9 @@ def test_same_bytes(packages: dict[str, pathlib.Path], built: pathlib.Path,
         folder = tmp_path / path.name.partition("_")[0]
         succeed(["dpkg-deb", "--raw-extract", path, folder])
         files = [it for it in folder.rglob("*") if it.is_file()]
+        places = [str(it).encode() for it in (ROOT, copy, cache_folder())]
         wrong = [it for it in files if not it.is_symlink()
-                 for place in (ROOT, copy, built) if str(place).encode() in it.read_bytes()]
+                 for place in places if place in it.read_bytes()]
         assert not wrong
 
 
@@ -147,6 +150,10 @@ def test_installed(root: Root, tmp_path: pathlib.Path) -> None:
     file = root.usr / "share" / "bash-completion" / "completions" / "mte_run"
     ran = root.run(["bash", "-c", f"source {file} && complete -p mte_run"], tmp_path)
     assert ran.status == 0 and "mte_run" in ran.output
+    connect = debugger.target(root.usr / "bin" / "mte_run", ["hello.elf"])
+    told = debugger.asked(["hello.elf", "-ex", connect],
+                          ["break free", "continue", "info symbol $pc"], tmp_path)
+    assert told[2] == "free in section .text\n"
     assert list(root.usr.rglob("__pycache__"))
     root.manage("--purge", *NAMES)
     assert root.names() == []
@@ -166,6 +173,27 @@ def test_library(root: Root, tmp_path: pathlib.Path) -> None:
     assert list(module.parent.rglob("*.pyc"))
     root.manage("--remove", "python3-tombolopan")
     assert not module.parent.exists()
+
+
+def test_unproved(alone: pathlib.Path, tmp_path: pathlib.Path) -> None:
+    """What an installation marks as built without proof, a package does too: its version sorts
+    below that of what is proved, and the mark has the sum of the program in the package."""
+    prefix = tmp_path / "usr"
+    for name in ("bin/mte_run", "lib/libtombolopan.so.2"):
+        (prefix / name).parent.mkdir(parents=True)
+        shutil.copy(alone, prefix / name)
+    mark = "share/tombolopan/unproved"
+    (prefix / mark).parent.mkdir(parents=True)
+    (prefix / mark).write_text(f"{'0' * 64}  ../../bin/mte_run\n", encoding="utf-8")
+    paths = succeed([ROOT / "tools" / "pack.py", prefix, tmp_path]).output.splitlines()
+    root = tmp_path / "root"
+    succeed(["dpkg-deb", "--extract", paths[0], root])
+    succeed(["sha256sum", "--check", "unproved"], cwd=(root / "usr" / mark).parent)
+    version = succeed(["dpkg-deb", "--field", paths[0], "Version"]).output.strip()
+    assert version.endswith("~unproved")
+    proved = version.removesuffix("~unproved")
+    for lower, higher in ((version, proved), (proved, VERSION)):
+        assert lower == higher or succeed(["dpkg", "--compare-versions", lower, "lt", higher])
 
 
 def test_words(tmp_path: pathlib.Path) -> None:

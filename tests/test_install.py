@@ -12,6 +12,7 @@ import sys
 import pytest
 
 from tests.support import installed
+from tests.support.cache import cache_folder
 from tests.support.checkout import copy_files, link_built, tracked_files
 from tests.support.host_sessions import HI_REPORT, with_hi
 from tests.support.places import EXAMPLES, ROOT
@@ -126,9 +127,10 @@ def test_the_list(prefix: pathlib.Path) -> None:
 
 
 def test_no_place_of_the_build(prefix: pathlib.Path) -> None:
-    """No file names the checkout or the prefix."""
+    """No file names the checkout, the prefix, or where the C library was built."""
     wrong = [path for path in prefix.rglob("*") if path.is_file()
-             for place in (ROOT, prefix) if str(place).encode() in path.read_bytes()]
+             for place in (ROOT, prefix, cache_folder())
+             if str(place).encode() in path.read_bytes()]
     assert not wrong
 
 

@@ -120,6 +120,7 @@ def musl_units(musl, include, work):
     ]
     words = [*CLANG, *COMMON, *MUSL, *(f"-I{place}" for place in places)]
     words += [f"-ffile-prefix-map={musl}=musl", f"-ffile-prefix-map={HERE}=tenant"]
+    words += [f"-ffile-prefix-map={include.parent}=tenant/out"]
     for file in sorted((musl / "src").glob("*/*.c")):
         name = file.relative_to(musl / "src")
         if str(name) not in LEFT_OUT and name.parts[0] not in FOLDERS_LEFT_OUT:

@@ -115,7 +115,8 @@ def units(llvm: pathlib.Path, out: pathlib.Path, front: Sequence[str]) -> Iterat
     places = [out / "include_cxx", out / "include", llvm / "libcxx/src",
               llvm / "libcxxabi/include", llvm / "libunwind/include", llvm / "libunwind/src",
               HERE / "arch"]
-    common = [*front, *WORDS, *(f"-I{place}" for place in places), f"-ffile-prefix-map={llvm}=llvm"]
+    common = [*front, *WORDS, *(f"-I{place}" for place in places)]
+    common += [f"-ffile-prefix-map={llvm}=llvm", f"-ffile-prefix-map={out}=tenant/out"]
     for library, file in files_of(llvm, work):
         words = [*common, *own[library]]
         if file.suffix == ".cpp":
