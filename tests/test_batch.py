@@ -230,7 +230,9 @@ def test_results_that_differ(made: Batch) -> None:
     for it in made.store.with_name("other").iterdir():
         it.rename(made.store / it.name)
     assert made.run().output == f"{RIGHT}\n1 run, {COUNT - 1} kept, 1 mended\n"
-    assert sum(it.read_bytes().count(key.encode()) for it in made.store.iterdir()) == 1
+    sound = f"tombolopan answer {key}".encode()
+    assert sum(it.read_bytes().count(sound) for it in made.store.iterdir()) == 1
+    assert made.run().output == f"{RIGHT}\n0 run, {COUNT} kept\n"
 
 
 def test_what_was_written_is_no_result(made: Batch) -> None:
@@ -351,6 +353,8 @@ def test_usage(made: Batch, tmp_path: pathlib.Path) -> None:
             (Batch(table, made.extra), (), "two sessions are named one"),
             (made, ("--share", "3/2"), "is not I/N"),
             (made, ("--sample", "3"), "needs --elsewhere"),
+            (made, ("--sample", "101", "--elsewhere", "true"), "at most 100"),
+            (made, ("--tries", "-1"), "from 1 on"), (made, ("--timeout", "nan"), "above 0"),
             (made, ("--program", "/absent"), "cannot run /absent"),
             (Batch(made.sessions, {"TOMBOLOPAN": "/absent"}), (), "libtombolopan.so is not found")):
         ran = batch.run(*options)
