@@ -266,6 +266,22 @@ def test_a_sample_elsewhere(made: Batch, host: pathlib.Path, tmp_path: pathlib.P
     assert summary(ran) == [RIGHT, f"1 run, {COUNT - 1} kept, {COUNT} run elsewhere too"]
 
 
+def test_a_worker_that_falsifies(made: Batch, host: pathlib.Path) -> None:
+    """A digit that a worker changes is different from what is wanted; where nothing is, a sample
+    finds it, of a store too."""
+    act = f"if {MARK!r} in script: return _real.session(frames, script, files).replace(b'0', b'1')"
+    wrong = made.going_wrong(act)
+    assert not_right(wrong.run()) == [f"different: {MARKED}: out"]
+    for part in ("out", "err", "status"):
+        (made.sessions / MARKED / f"want.{part}").unlink()
+    assert summary(made.run())[0] == f"{COUNT - 1} as wanted, 0 different, 1 answered"
+    ran = made.run("--sample", "100", "--elsewhere", str(host))
+    assert ran.status == 1 and summary(ran)[0].endswith("0 different, 1 disputed")
+    assert not_right(ran)[0].startswith(f"disputed: {MARKED}: elsewhere it has line ")
+    ran = made.run("--sample", "100", "--elsewhere", str(host))
+    assert ran.status == 0 and summary(ran)[1].startswith(f"1 run, {COUNT - 1} kept")
+
+
 def test_a_sample_that_is_lost(made: Batch, host: pathlib.Path, tmp_path: pathlib.Path) -> None:
     """What ends elsewhere as mte_host never does is tried again, and said."""
     lost = script(tmp_path, "lost", "exit 255\n")
