@@ -230,7 +230,9 @@ def test_results_that_differ(made: Batch) -> None:
     for it in made.store.with_name("other").iterdir():
         it.rename(made.store / it.name)
     assert made.run().output == f"{RIGHT}\n1 run, {COUNT - 1} kept, 1 mended\n"
-    assert sum(it.read_bytes().count(key.encode()) for it in made.store.iterdir()) == 1
+    sound = f"tombolopan answer {key}".encode()
+    assert sum(it.read_bytes().count(sound) for it in made.store.iterdir()) == 1
+    assert made.run().output == f"{RIGHT}\n0 run, {COUNT} kept\n"
 
 
 def test_what_was_written_is_no_result(made: Batch) -> None:
@@ -262,6 +264,22 @@ def test_a_sample_elsewhere(made: Batch, host: pathlib.Path, tmp_path: pathlib.P
     ran = made.run("--sample", "100", "--elsewhere", str(host))
     assert ran.status == 0
     assert summary(ran) == [RIGHT, f"1 run, {COUNT - 1} kept, {COUNT} run elsewhere too"]
+
+
+def test_a_worker_that_falsifies(made: Batch, host: pathlib.Path) -> None:
+    """A digit that a worker changes is different from what is wanted; where nothing is, a sample
+    finds it, of a store too."""
+    act = f"if {MARK!r} in script: return _real.session(frames, script, files).replace(b'0', b'1')"
+    wrong = made.going_wrong(act)
+    assert not_right(wrong.run()) == [f"different: {MARKED}: out"]
+    for part in ("out", "err", "status"):
+        (made.sessions / MARKED / f"want.{part}").unlink()
+    assert summary(made.run())[0] == f"{COUNT - 1} as wanted, 0 different, 1 answered"
+    ran = made.run("--sample", "100", "--elsewhere", str(host))
+    assert ran.status == 1 and summary(ran)[0].endswith("0 different, 1 disputed")
+    assert not_right(ran)[0].startswith(f"disputed: {MARKED}: elsewhere it has line ")
+    ran = made.run("--sample", "100", "--elsewhere", str(host))
+    assert ran.status == 0 and summary(ran)[1].startswith(f"1 run, {COUNT - 1} kept")
 
 
 def test_a_sample_that_is_lost(made: Batch, host: pathlib.Path, tmp_path: pathlib.Path) -> None:
@@ -351,6 +369,8 @@ def test_usage(made: Batch, tmp_path: pathlib.Path) -> None:
             (Batch(table, made.extra), (), "two sessions are named one"),
             (made, ("--share", "3/2"), "is not I/N"),
             (made, ("--sample", "3"), "needs --elsewhere"),
+            (made, ("--sample", "101", "--elsewhere", "true"), "at most 100"),
+            (made, ("--tries", "-1"), "from 1 on"), (made, ("--timeout", "nan"), "above 0"),
             (made, ("--program", "/absent"), "cannot run /absent"),
             (Batch(made.sessions, {"TOMBOLOPAN": "/absent"}), (), "libtombolopan.so is not found")):
         ran = batch.run(*options)

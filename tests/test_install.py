@@ -254,6 +254,16 @@ def test_examples(moved: pathlib.Path, tmp_path: pathlib.Path) -> None:
     assert ran.status == 0 and "hello" in ran.output.lower()
 
 
+def test_many_sessions(moved: pathlib.Path, tmp_path: pathlib.Path) -> None:
+    """Sessions run by the library that is installed."""
+    many = moved / SHARE / "examples" / "many"
+    extra = {**installed.variables(moved), "TOMBOLOPAN": "", "PYTHONDONTWRITEBYTECODE": "1"}
+    succeed([many / "make_sessions.py", tmp_path / "sessions", "9"], extra=extra)
+    ran = run([many / "run.sh", tmp_path / "sessions"], extra=extra)
+    wanted = "9 as wanted, 0 different\n9 run, 0 kept\n"
+    assert (ran.status, ran.output, ran.errors) == (0, wanted, "")
+
+
 def completed(moved: pathlib.Path, name: str, *words: str) -> set[str]:
     """What bash offers for the last of the words."""
     file = moved / "share" / "bash-completion" / "completions" / name

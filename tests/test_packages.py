@@ -13,6 +13,7 @@ from tests.support.running import Ran, Word, run
 from tests.support.tools import give_up, need
 
 sys.path.insert(0, str(EXAMPLES / "packages"))
+import compilers  # noqa: E402
 import packages  # noqa: E402
 
 PAGE = (ROOT / "docs" / "PACKAGES.md").read_text(encoding="utf-8")
@@ -67,6 +68,16 @@ def test_the_page_has_each_package_and_what_came_of_it() -> None:
     ]
     same = sum(result == "yes" for _, result in rows)
     assert f"Of {len(rows)} packages {same} are built unchanged" in PAGE
+
+
+def test_the_page_has_no_program_that_differs() -> None:
+    """A row for each kind of programs and each compiler."""
+    rows = re.findall(r"^\| (.*) \| (clang|gcc) \| (\d+) \| \d+ \| (\d+) \| \d+ \| \d+ \|$",
+                      PAGE, re.M)
+    assert [(title, compiler) for title, compiler, _, _ in rows] == [
+        (title, compiler) for title in compilers.TITLES.values() for compiler in compilers.COMPILERS
+    ]
+    assert all(int(same) >= 200 and different == "0" for _, _, same, different in rows)
 
 
 def test_the_first_difference_of_two_outputs() -> None:

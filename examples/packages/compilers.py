@@ -3,7 +3,7 @@
 
     compilers.py csmith [--count N] [--first SEED]    programs that csmith draws, by their seeds
     compilers.py torture [--count N]                  programs of gcc's torture tests (execute)
-    compilers.py --write                              writes what came of them into the page
+    compilers.py --write                              writes what came of all into the page
 
 Each program is compiled natively and by tenant-cc, by clang and by gcc at a level that changes from
 program to program, and its output and exit status are compared. One that doesn't end natively (it
@@ -42,18 +42,22 @@ NATIVE_SECONDS, TENANT_SECONDS, STEPS, OUT_OF_STEPS = 60, 300, "300000000", 134
 SAME, REFUSED, DIFFERENT = "the same", "refused", "different"
 LEFT_OUT, TOO_LONG = "not ended natively", "too long"
 RESULTS = (SAME, REFUSED, DIFFERENT, TOO_LONG, LEFT_OUT)
+# What a test that asks for the size of the stack is told.
+STACK = 32768
 BEGIN, END = "<!-- Written by examples/packages/compilers.py: -->\n", "<!-- to here. -->\n"
 TITLES = {"csmith": "csmith", "torture": "gcc's torture tests"}
 
 
 @dataclass(frozen=True)
 class Program:
-    """A program: its name, its source, the compiler's words, the number that chooses a level."""
+    """A program: its name, its source, the compiler's words, the number that chooses a level, and
+    whether it writes the same each time."""
 
     name: str
     source: pathlib.Path
     words: tuple[str, ...]
     number: int
+    is_steady: bool = True
 
 
 @dataclass(frozen=True)
@@ -71,14 +75,16 @@ Ended = tuple[int, bytes, str]
 
 def run(command: Sequence[object], seconds: int,
         folder: Optional[pathlib.Path] = None) -> Optional[Ended]:
-    """Exit status, output and the first line of errors, or None where it takes too long."""
+    """Exit status, output and the line that names an error, or None where it takes too long."""
     try:
         ran = subprocess.run([str(word) for word in command], cwd=folder, stdin=subprocess.DEVNULL,
                              stdout=subprocess.PIPE, stderr=subprocess.PIPE, timeout=seconds,
                              check=False)
     except subprocess.TimeoutExpired:
         return None
-    return ran.returncode, ran.stdout, ran.stderr.decode(errors="replace").partition("\n")[0]
+    lines = ran.stderr.decode(errors="replace").splitlines() or [""]
+    named = [line for line in lines if "error:" in line or "undefined reference" in line]
+    return ran.returncode, ran.stdout, (named or lines)[0]
 
 
 def ended_natively(program: Program, words: Sequence[str], folder: pathlib.Path,
@@ -107,7 +113,7 @@ def compare(program: Program, compiler: str, place: packages.Place) -> Finding:
         if not made or made[0]:
             return Finding(program.name, compiler, REFUSED, made[2] if made else "too long")
         ended = run([place.alone, "--steps", STEPS, image], TENANT_SECONDS)
-    if ended and ended[:2] == wanted[:2]:
+    if ended and ended[0] == wanted[0] and (ended[1] == wanted[1] or not program.is_steady):
         return Finding(program.name, compiler, SAME)
     if not ended or ended[0] == OUT_OF_STEPS:
         return Finding(program.name, compiler, TOO_LONG)
@@ -156,7 +162,9 @@ def torture_programs(out: pathlib.Path, count: int) -> list[Program]:
         text = file.read_text(encoding="utf-8", errors="replace")
         options = re.findall(r'dg-(?:additional-)?options "([^"]*)"', text)
         words = ("-std=gnu17", *(word for each in options for word in each.split()))
-        made.append(Program(file.stem, file, words, number))
+        if "dg-add-options stack_size" in text:
+            words += (f"-DSTACK_SIZE={STACK}",)
+        made.append(Program(file.stem, file, words, number, "%p" not in text))
     return made
 
 
@@ -196,6 +204,16 @@ def write_page(kept: dict[str, list[dict[str, str]]]) -> None:
                              encoding="utf-8")
 
 
+def keep(path: pathlib.Path, kind: str, found: list[Finding]) -> None:
+    """Keeps what was found, beside what earlier calls found of other programs."""
+    kept = json.loads(path.read_text(encoding="utf-8")) if path.exists() else {}
+    known = {(each["program"], each["compiler"]): each for each in kept.get(kind, ())}
+    known |= {(each.program, each.compiler): vars(each) for each in found}
+    kept[kind] = list(known.values())
+    path.parent.mkdir(parents=True, exist_ok=True)
+    path.write_text(json.dumps(kept, indent=1), encoding="utf-8")
+
+
 def arguments() -> argparse.Namespace:
     form = argparse.RawDescriptionHelpFormatter
     parser = argparse.ArgumentParser(description=__doc__, formatter_class=form)
@@ -210,9 +228,8 @@ def main() -> int:
     options = arguments()
     place = packages.place_of(options)
     path = place.out / "compilers.json"
-    kept = json.loads(path.read_text(encoding="utf-8")) if path.exists() else {}
     if options.write or not options.kind:
-        write_page(kept)
+        write_page(json.loads(path.read_text(encoding="utf-8")))
         return 0
     with tempfile.TemporaryDirectory() as name:
         if options.kind == "csmith":
@@ -220,9 +237,7 @@ def main() -> int:
         else:
             programs = torture_programs(place.out, options.count)
         found = compared(programs, place, options.jobs)
-    kept[options.kind] = [vars(each) for each in found]
-    place.out.mkdir(parents=True, exist_ok=True)
-    path.write_text(json.dumps(kept, indent=1), encoding="utf-8")
+    keep(path, options.kind, found)
     counts = Counter(each.result for each in found)
     print(", ".join(f"{count} {result}" for result, count in counts.items()))
     return 1 if counts[DIFFERENT] else 0

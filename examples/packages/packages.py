@@ -13,9 +13,10 @@ is another one after the build is named, and the package doesn't count then.
 A line says what came of each; FOLDER (out, beside this script) keeps sources, copies and results.
 `--write` writes what came of all into docs/PACKAGES.md. The exit status is 1 where a package does
 something else than packages.toml says. In its lines are CC, CXX, CFLAGS, AR, RANLIB, CONFIGURE
-(./configure, with --host for tenants), CMAKE, SOURCES (the folder of all
-sources) and RUN, by which programs run.
-Needed: what build.py --c++ makes, mte_run, and Debian's gcc, g++, make, llvm, cmake.
+(./configure, with --host for tenants), CMAKE, SOURCES (the folder of all sources) and RUN, by which
+programs run.
+Needed: what build.py --c++ makes, mte_run, and Debian's clang, llvm, lld, g++, make, cmake; for
+some packages autoconf, automake, libtool, bison, perl, tcl, python3-six and unicode-data too.
 """
 import argparse
 import concurrent.futures
@@ -139,9 +140,11 @@ def shell(line: str, folder: pathlib.Path, words: dict[str, str], seconds: int,
 
 
 def changed_files(source: pathlib.Path, copy: pathlib.Path) -> list[str]:
-    """The files of a package that are others in a copy."""
+    """The sources of a package that are others in a copy, but for what is made from a template
+    beside it."""
     names = [str(path.relative_to(source)) for path in source.rglob("*")
-             if path.suffix in SOURCES and path.is_file() and not path.is_symlink()]
+             if path.suffix in SOURCES and path.is_file() and not path.is_symlink()
+             and not path.with_name(f"{path.name}.in").exists()]
     return sorted(name for name in names
                   if not filecmp.cmp(source / name, copy / name, shallow=False))
 
@@ -225,7 +228,7 @@ def write_page(packages: list[Package], results: dict[str, dict[str, str]]) -> N
     """Writes the part of the page between its marks."""
     text = PAGE.read_text(encoding="utf-8")
     before, rest = text.split(BEGIN)
-    PAGE.write_text(f"{before}{BEGIN}\n{table(packages, results)}\n{END}{rest.split(END)[1]}",
+    PAGE.write_text(f"{before}{BEGIN}\n{table(packages, results)}\n{END}{rest.split(END, 1)[1]}",
                     encoding="utf-8")
 
 
@@ -236,6 +239,13 @@ def read_results(out: pathlib.Path) -> dict[str, dict[str, str]]:
     if path.exists():
         found = json.loads(path.read_text(encoding="utf-8"))
     return found
+
+
+def keep(out: pathlib.Path, outcome: Outcome) -> None:
+    """Keeps a result beside those of other packages."""
+    results = read_results(out)
+    results[outcome.name] = {"version": outcome.version, "result": outcome.result}
+    (out / "results.json").write_text(json.dumps(results, indent=1), encoding="utf-8")
 
 
 def fetch_all(sources: pathlib.Path, wanted: list[Package]) -> None:
@@ -275,9 +285,8 @@ def main() -> int:
     options = arguments()
     packages = read_packages()
     place = place_of(options)
-    results = read_results(place.out)
     if options.write:
-        write_page(packages, results)
+        write_page(packages, read_results(place.out))
         return 0
     names = [name for name in options.only.split(",") if name]
     wanted = [package for package in packages if not names or package.name in names]
@@ -291,8 +300,7 @@ def main() -> int:
             if (outcome.result == SAME) == bool(running[done].not_the_same):
                 status = 1
                 print("\n".join(outcome.log), file=sys.stderr, flush=True)
-            results[outcome.name] = {"version": outcome.version, "result": outcome.result}
-            (place.out / "results.json").write_text(json.dumps(results, indent=1), encoding="utf-8")
+            keep(place.out, outcome)
     return status
 
 

@@ -39,16 +39,31 @@ class Usage(Exception):
 def share(text: str) -> tuple[int, int]:
     """I/N: the Ith of N shares."""
     number, _, count = text.partition("/")
-    if not (number.isdigit() and count.isdigit() and 1 <= int(number) <= int(count)):
+    if not (number.isdecimal() and count.isdecimal() and 1 <= int(number) <= int(count)):
         raise argparse.ArgumentTypeError(f"{text} is not I/N with 1 <= I <= N")
     return int(number), int(count)
 
 
 def positive(text: str) -> int:
     """A number that is at least 1."""
-    if not text.isdigit() or int(text) < 1:
+    if not text.isdecimal() or int(text) < 1:
         raise argparse.ArgumentTypeError(f"{text} is not a number from 1 on")
     return int(text)
+
+
+def natural(text: str) -> int:
+    """A number that is at least 0."""
+    return 0 if text == "0" else positive(text)
+
+
+def between(low: float, high: float) -> Callable[[str], float]:
+    """A number above one bound, and at most the other."""
+    def read(text: str) -> float:
+        number = float(text)
+        if not low < number <= high:
+            raise argparse.ArgumentTypeError(f"{text} is not above {low:g} and at most {high:g}")
+        return number
+    return read
 
 
 def parse(words: Sequence[str] | None) -> argparse.Namespace:
@@ -59,8 +74,8 @@ def parse(words: Sequence[str] | None) -> argparse.Namespace:
     add("sessions", type=pathlib.Path, help="a folder or a table")
     add("--jobs", type=positive, default=os.cpu_count() or 1, help="how many run at once")
     add("--store", type=pathlib.Path, help="the folder of what was answered")
-    add("--tries", type=int, default=3, help="how often what was lost is tried again (3)")
-    add("--timeout", type=float, metavar="SECONDS",
+    add("--tries", type=natural, default=3, help="how often what was lost is tried again (3)")
+    add("--timeout", type=between(0, 1e6), metavar="SECONDS",
         help="what takes longer for a session is lost; not over Dask")
     add("--program", action="append", default=[], metavar="COMMAND",
         help="run each session as a process of COMMAND, like `ssh one mte_host`, not by the library"
@@ -68,7 +83,7 @@ def parse(words: Sequence[str] | None) -> argparse.Namespace:
     add("--dask", nargs="?", const="", metavar="ADDRESS",
         help="run over the scheduler of Dask at ADDRESS; without it over one on this machine")
     add("--share", type=share, metavar="I/N", help="take the Ith of N shares of the sessions alone")
-    add("--sample", type=float, default=0, metavar="PERCENT",
+    add("--sample", type=between(0, 100), metavar="PERCENT",
         help="run so many of a hundred once more by --elsewhere, and compare")
     add("--elsewhere", action="append", default=[], metavar="COMMAND",
         help="a command like mte_host, as `ssh other mte_host`")
@@ -81,7 +96,8 @@ def parse(words: Sequence[str] | None) -> argparse.Namespace:
     if given.dask is not None and (given.program or given.timeout):
         parser.error("--dask takes neither --program nor --timeout")
     if given.store is None:
-        given.store = given.sessions.with_name(f"{given.sessions.resolve().name}.results")
+        whole = given.sessions.resolve()
+        given.store = whole.with_name(f"{whole.name}.results")
     return given
 
 
@@ -151,6 +167,7 @@ def run(given: argparse.Namespace) -> tuple[list[Verdict], Work]:
         batch = Batch(program, store, given.tries, progress(len(places)))
         if given.got:
             batch.each = functools.partial(write_got, places)
+        batch.work.program = program
         verdicts = batch.run(places.values(), engine)
     finally:
         engine.close()

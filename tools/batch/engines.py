@@ -58,9 +58,9 @@ def serve(pipe: multiprocessing.connection.Connection, run: Runner) -> None:
     while True:
         try:
             jobs: Sequence[Job] = pipe.recv()
-        except EOFError:
+            pipe.send(run_safely(run, jobs))
+        except (EOFError, OSError):  # whoever asked is gone
             return
-        pipe.send(run_safely(run, jobs))
 
 
 class Worker:

@@ -7,6 +7,7 @@ often as it likes. Each reply has the key of its job with it.
 import contextlib
 import functools
 import hashlib
+import importlib
 import os
 import pathlib
 import shlex
@@ -53,6 +54,14 @@ def library_sum() -> str:
     return sum_of_file(path)
 
 
+@functools.cache
+def loaded_sum() -> str:
+    """The sum of the library that this process has loaded; empty where it changed meanwhile."""
+    before = library_sum.__wrapped__()
+    importlib.import_module("tombolopan")
+    return before if library_sum.__wrapped__() == before else ""
+
+
 def command_sum(commands: Sequence[str]) -> str:
     """The sum of programs: of each word that is a file its bytes, of others their text. So what
     lies behind `ssh` is known by its name alone."""
@@ -77,7 +86,7 @@ def run_one(job: Job) -> Reply:
 
 def run_by_library(jobs: Sequence[Job], wanted: str) -> Replies:
     """The answers of sessions by the library, where its sum is the one that is wanted."""
-    if library_sum() != wanted:
+    if loaded_sum() != wanted:
         lost = Lost("another library, or none, is in the process that was to run it")
         return [(job.key, lost) for job in jobs]
     return [(job.key, run_one(job)) for job in jobs]

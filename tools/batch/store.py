@@ -18,6 +18,8 @@ from batch.answers import Answer, is_of_bytes
 
 HEAD = re.compile(rb"tombolopan answer ([0-9a-f]{64}) ([0-9]{1,3}) ([0-9]{1,12}) ([0-9]{1,12})"
                   rb" ([0-9a-f]{64})\n")
+# What a head begins with whose record is not taken any more: as long as what it replaces.
+FORGOTTEN = b"tombolopan forgot "
 SUFFIX = ".answers"
 
 
@@ -147,26 +149,15 @@ class Store:
             start += len(record)
 
     def forget(self, keys: set[str]) -> None:
-        """Takes all records of these keys away: each file that has some is written anew."""
-        self.close()
+        """Marks all records of these keys in their places, which needs no room and leaves what
+        others append alone."""
         for key in keys & set(self._places):
             del self._places[key]
         for path in self._files():
-            data = path.read_bytes()
-            found = list(records_of(data))
-            if not keys.isdisjoint(it.key for it in found):
-                self._write_anew(path, data, [it for it in found if it.key not in keys])
-
-    def _write_anew(self, path: pathlib.Path, data: bytes, kept: list[Found]) -> None:
-        """Writes a file anew, with the sound ones of some of its records."""
-        sound = [it for it in kept if it.answer is not None]
-        fresh = path.with_suffix(".new")
-        fresh.write_bytes(b"".join(data[it.start:it.end] for it in sound))
-        os.replace(fresh, path)
-        start = 0
-        for it in sound:
-            self._places[it.key] = (path, start, start + it.end - it.start)
-            start += it.end - it.start
+            with open(path, "r+b") as file:
+                found = [it.start for it in records_of(file.read()) if it.key in keys]
+                for start in found:
+                    os.pwrite(file.fileno(), FORGOTTEN, start)
 
     def close(self) -> None:
         """Closes the files. What is kept afterwards goes to a new one."""

@@ -33,10 +33,11 @@ class Verdict:
 
 @dataclass
 class Work:
-    """What a run did beside its verdicts: how often sessions were lost and tried again, how many
-    answers could not be kept and why, how many were run elsewhere too, and how many of these were
-    lost there."""
+    """What a run did beside its verdicts: the sum of its program, how often sessions were lost and
+    tried again, how many answers could not be kept and why, how many were run elsewhere too, and
+    how many of these were lost there."""
 
+    program: str = ""
     retries: int = 0
     unkept: int = 0
     why_unkept: str = ""
