@@ -21,7 +21,7 @@ def main() -> None:
     words = sys.argv[1:]
     if any(it.startswith("-") for it in words):
         sys.exit(__doc__)
-    document = spdx.document(find_release(is_unproved=False), words or ["libc.a"])
+    document = spdx.document(find_release(is_unproved=False), words or ["libc.a"], {})
     print(json.dumps(document, indent=1))
 
 

@@ -135,6 +135,14 @@ class Packer:
         told = output("dpkg-shlibdeps", "-O", *there, cwd=self.work)
         return told.partition("=")[2]
 
+    def sums(self) -> dict[str, str]:
+        """The sums of the programs and of the shared library, by their crates."""
+        files = {it: self.usr(PROGRAMS) / "bin" / it for it in PROGRAM_NAMES}
+        library = f"lib/{self.arch}/libtombolopan.so.{self.number}"
+        files["tombolopan_c"] = self.usr(self.shared) / library
+        return {name: hashlib.sha256(it.read_bytes()).hexdigest()
+                for name, it in files.items() if it.exists()}
+
     def add_documents(self, package: Package) -> None:
         """The licence, the changes, and what lintian is told; the list of what is inside."""
         folder = f"share/doc/{package.name}"
@@ -147,7 +155,7 @@ class Packer:
             self.put(Place(package.name, f"share/lintian/overrides/{package.name}"),
                      fields.overrides(package.name).encode())
         if package.name == PAGES:
-            listed = spdx.document(self.release, self.libraries)
+            listed = spdx.document(self.release, self.libraries, self.sums())
             self.put(Place(PAGES, "share/doc/tombolopan/tombolopan.spdx.json"),
                      (json.dumps(listed, indent=1) + "\n").encode())
 

@@ -1,6 +1,6 @@
 """The list of what is inside, as a document of SPDX 2.3 (clauses 6, 7 and 11)."""
 
-from collections.abc import Iterator, Sequence
+from collections.abc import Iterator, Mapping, Sequence
 from typing import Union
 
 from packing.components import (
@@ -52,15 +52,22 @@ def relation(first: str, kind: str, second: str) -> dict[str, str]:
     return {"spdxElementId": first, "relationshipType": kind, "relatedSpdxElement": second}
 
 
-def entries(release: Release, components: Sequence[Component],
-            libraries: Sequence[str]) -> Iterator[Entry]:
+def built_entry(name: str, sums: Mapping[str, str]) -> Entry:
+    """What is built of a crate, with the sum of its file where there is one."""
+    purpose = "LIBRARY" if name == "tombolopan_c" else "APPLICATION"
+    made = entry(product(name), name, f"what is built of the crate {name}", purpose)
+    if name in sums:
+        made["checksums"] = [{"algorithm": "SHA256", "checksumValue": sums[name]}]
+    return made
+
+
+def entries(release: Release, components: Sequence[Component], libraries: Sequence[str],
+            sums: Mapping[str, str]) -> Iterator[Entry]:
     """The packages of the document."""
     whole = entry(WHOLE, "tombolopan", "a host of A64 programs with memory tagging", "APPLICATION")
     yield {**whole, "versionInfo": release.version}
     linked = linked_crates(list(components))
-    for name in linked:
-        purpose = "LIBRARY" if name == "tombolopan_c" else "APPLICATION"
-        yield entry(product(name), name, f"what is built of the crate {name}", purpose)
+    yield from (built_entry(name, sums) for name in linked)
     for name in libraries:
         yield entry(library(name), name, "a library of tenants", "LIBRARY")
     own = own_crates()
@@ -91,8 +98,9 @@ def relations(components: Sequence[Component],
             yield from (relation(identifier(name), "DEPENDS_ON", identifier(it)) for it in below)
 
 
-def document(release: Release, libraries: Sequence[str]) -> dict[str, object]:
-    """The document, for these libraries of tenants."""
+def document(release: Release, libraries: Sequence[str],
+             sums: Mapping[str, str]) -> dict[str, object]:
+    """The document, for these libraries of tenants, with the sums of files by their crates."""
     components = read_components()
     name = f"tombolopan-{release.version}"
     created = release.moment.strftime("%Y-%m-%dT%H:%M:%SZ")
@@ -100,6 +108,6 @@ def document(release: Release, libraries: Sequence[str]) -> dict[str, object]:
         "spdxVersion": "SPDX-2.3", "dataLicense": "CC0-1.0", "SPDXID": DOCUMENT, "name": name,
         "documentNamespace": f"https://spdx.org/spdxdocs/{name.replace('~', '-')}",
         "creationInfo": {"created": created, "creators": ["Tool: tombolopan-tools-spdx.py"]},
-        "packages": list(entries(release, components, libraries)),
+        "packages": list(entries(release, components, libraries, sums)),
         "relationships": list(relations(components, libraries)),
     }
