@@ -2,6 +2,7 @@
 tries again what fails or was on a worker that is lost, and shows all of it on its own page."""
 
 import pickle
+import tempfile
 import time
 
 import dask
@@ -32,12 +33,13 @@ class DaskEngine:
     def __init__(self, runner: Runner, address: str, workers: int, tries: int) -> None:
         self.runner, self.tries = runner, tries
         self.cluster = None
+        self.held = tempfile.TemporaryDirectory(ignore_cleanup_errors=True)
         if not address:
             # Without the second line workers give memory back after each session.
             dask.config.set({"distributed.scheduler.allowed-failures": min(tries, 1),
                              "distributed.nanny.pre-spawn-environ": {}})
             self.cluster = LocalCluster(n_workers=workers, threads_per_worker=1,
-                                        dashboard_address=None)
+                                        dashboard_address=None, local_directory=self.held.name)
         self.client = Client(self.cluster or address)
         self.client.wait_for_workers(1, timeout=60)
         self.chunks: dict[str, Chunk] = {}
@@ -76,3 +78,4 @@ class DaskEngine:
         self.client.close()
         if self.cluster is not None:
             self.cluster.close()
+        self.held.cleanup()
