@@ -61,6 +61,14 @@ def answers(batch: Batch) -> pathlib.Path:
     return found[0]
 
 
+def is_running(process: str) -> bool:
+    """Whether a process is there and has not ended."""
+    with contextlib.suppress(OSError):
+        stat = pathlib.Path(f"/proc/{process}/stat").read_text(encoding="utf-8")
+        return stat.rpartition(")")[2].split()[0] not in "ZX"
+    return False
+
+
 # The same bytes as mte_host
 
 @pytest.mark.parametrize("jobs", ["1", "2", "4"])
@@ -189,7 +197,7 @@ def test_want_of_memory_is_no_answer(made: Batch) -> None:
 
 
 def test_a_run_that_was_broken_off(made: Batch) -> None:
-    """It goes on with the sessions that are left."""
+    """It goes on with the sessions that are left, and has left no process."""
     slow = made.going_wrong("time.sleep(0.01)")
     with subprocess.Popen(slow.words(), env={**os.environ, **slow.extra},
                           stdout=subprocess.DEVNULL) as begun:
@@ -197,7 +205,12 @@ def test_a_run_that_was_broken_off(made: Batch) -> None:
         while not any(it.stat().st_size for it in made.store.glob("*.answers")):
             assert time.monotonic() < until and begun.poll() is None
             time.sleep(0.005)
+        children = pathlib.Path(f"/proc/{begun.pid}/task/{begun.pid}/children").read_text().split()
         begun.send_signal(signal.SIGKILL)
+    assert len(children) == 2
+    while any(is_running(it) for it in children):
+        assert time.monotonic() < until
+        time.sleep(0.01)
     ran = made.run()
     found = re.fullmatch(r"(\d+) run, (\d+) kept", summary(ran)[1])
     assert ran.status == 0 and summary(ran)[0] == RIGHT and found

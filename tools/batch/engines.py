@@ -52,8 +52,11 @@ class Engine(Protocol):
         """Ends all that was started."""
 
 
-def serve(pipe: multiprocessing.connection.Connection, run: Runner) -> None:
-    """What a worker does: it runs what comes through its pipe, until nothing more comes."""
+def serve(pipe: multiprocessing.connection.Connection,
+          other: multiprocessing.connection.Connection, run: Runner) -> None:
+    """What a worker does: it runs what comes through its pipe, until nothing more comes. It closes
+    its copy of the other end, or it would never learn that whoever has that end is gone."""
+    other.close()
     signal.signal(signal.SIGINT, signal.SIG_IGN)
     while True:
         try:
@@ -69,7 +72,7 @@ class Worker:
     def __init__(self, run: Runner) -> None:
         self.run = run
         self.pipe, theirs = FORK.Pipe()
-        self.process = FORK.Process(target=serve, args=(theirs, run), daemon=True)
+        self.process = FORK.Process(target=serve, args=(theirs, self.pipe, run), daemon=True)
         self.process.start()
         theirs.close()
         self.chunk: Chunk | None = None
