@@ -2,6 +2,7 @@
 exchanged, falsified or cannot be written is noticed, and mended or named."""
 
 import contextlib
+import json
 import os
 import pathlib
 import pty
@@ -17,6 +18,7 @@ import pytest
 
 from tests.support.batches import Batch, script, summary
 from tests.support.embedding import folders
+from tests.support.host_sessions import HI_REPORT, admission
 from tests.support.library import shared_object
 from tests.support.once import make_once
 from tests.support.places import EXAMPLES
@@ -59,6 +61,14 @@ def answers(batch: Batch) -> pathlib.Path:
     return found[0]
 
 
+def is_running(process: str) -> bool:
+    """Whether a process is there and has not ended."""
+    with contextlib.suppress(OSError):
+        stat = pathlib.Path(f"/proc/{process}/stat").read_text(encoding="utf-8")
+        return stat.rpartition(")")[2].split()[0] not in "ZX"
+    return False
+
+
 # The same bytes as mte_host
 
 @pytest.mark.parametrize("jobs", ["1", "2", "4"])
@@ -95,6 +105,33 @@ def test_what_is_the_same_runs_once(made: Batch, tmp_path: pathlib.Path) -> None
     with open(table, "a", encoding="utf-8") as file:
         file.write(f"another\t12\t-\t{EXAMPLES / 'hi.script'}\t{EXAMPLES / 'hi.elf'}\n")
     assert summary(batch.run())[1] == "1 run, 30 kept"
+
+
+def test_a_class_of_students(made: Batch, tmp_path: pathlib.Path) -> None:
+    """Of a table what tenants write may be wanted, and that they exit; the reports are files."""
+    (tmp_path / "right").write_bytes(b"Hi")
+    (tmp_path / "wrong").write_bytes(b"Ho")
+    (tmp_path / "script").write_text(f"{admission(1)}\nslice 1 6\n")
+    hi, script_of_hi = EXAMPLES / "hi.elf", EXAMPLES / "hi.script"
+    rows = [f"{name}\t11\toutput:{wanted}\t{text}\t{hi}\n" for name, wanted, text in (
+        ("ann/1", "right", script_of_hi), ("bob/1", "wrong", script_of_hi),
+        ("cy/1", "right", "script"), ("di/1", "absent", "script"))]
+    table = tmp_path / "table"
+    table.write_text("".join(rows))
+    batch = Batch(table, made.extra)
+    ran = batch.run("--reports", tmp_path / "reports", "--json", tmp_path / "told")
+    assert ran.output.splitlines() == [
+        "different: bob/1: output", "different: cy/1: running",
+        f"no session: di/1: cannot read {tmp_path}/absent: No such file or directory",
+        "1 as wanted, 2 different, 1 no session", "2 run, 1 kept"]
+    assert (tmp_path / "reports" / "ann" / "1.out").read_text() == HI_REPORT
+    assert (tmp_path / "reports" / "cy" / "1.status").read_text() == "0\n"
+    told = json.loads((tmp_path / "told").read_text())
+    ends = [it.get("ends") for it in told["sessions"]]
+    assert ends == [["exit 0"], ["exit 0"], ["running"], None]
+    table.write_text(rows[0].replace("ann", ".."))
+    ran = batch.run("--reports", tmp_path / "reports")
+    assert (ran.status, ran.output) == (2, "") and "leads out" in ran.errors
 
 
 def test_what_is_not_wanted_is_named(made: Batch) -> None:
@@ -160,7 +197,7 @@ def test_want_of_memory_is_no_answer(made: Batch) -> None:
 
 
 def test_a_run_that_was_broken_off(made: Batch) -> None:
-    """It goes on with the sessions that are left."""
+    """It goes on with the sessions that are left, and has left no process."""
     slow = made.going_wrong("time.sleep(0.01)")
     with subprocess.Popen(slow.words(), env={**os.environ, **slow.extra},
                           stdout=subprocess.DEVNULL) as begun:
@@ -168,7 +205,12 @@ def test_a_run_that_was_broken_off(made: Batch) -> None:
         while not any(it.stat().st_size for it in made.store.glob("*.answers")):
             assert time.monotonic() < until and begun.poll() is None
             time.sleep(0.005)
+        children = pathlib.Path(f"/proc/{begun.pid}/task/{begun.pid}/children").read_text().split()
         begun.send_signal(signal.SIGKILL)
+    assert len(children) == 2
+    while any(is_running(it) for it in children):
+        assert time.monotonic() < until
+        time.sleep(0.01)
     ran = made.run()
     found = re.fullmatch(r"(\d+) run, (\d+) kept", summary(ran)[1])
     assert ran.status == 0 and summary(ran)[0] == RIGHT and found

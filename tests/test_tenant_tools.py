@@ -1,9 +1,11 @@
 """Arguments and files of tenants without a link (tenant-args), and one command that runs a tenant
 as a program of this machine runs (tenant-run)."""
 
+import os
 import pathlib
 import re
 import shutil
+import subprocess
 import sys
 
 import pytest
@@ -438,8 +440,13 @@ def test_closed_input_and_output(alone: pathlib.Path, ends: pathlib.Path) -> Non
     """No input is none; where nobody reads the output, the status is that of SIGPIPE."""
     words = f"{sys.executable} {TENANT_RUN} --alone {alone} {ends}"
     assert run(["bash", "-c", f"{words} copy <&-"]).out == b"copy\n"
-    ran = run(["bash", "-c", f"{words} output | head -c 1; echo ${{PIPESTATUS[0]}}"])
-    assert (ran.out, ran.errors) == (b"o141\n", "")
+    unread, output = os.pipe()
+    os.close(unread)
+    ran = subprocess.run([sys.executable, TENANT_RUN, "--alone", alone, ends, "output"],
+                         stdin=subprocess.DEVNULL, stdout=output, stderr=subprocess.PIPE,
+                         timeout=60, check=False)
+    os.close(output)
+    assert (ran.returncode, ran.stderr) == (141, b"")
 
 
 @pytest.mark.parametrize("words, status, said", [

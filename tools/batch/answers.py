@@ -27,6 +27,17 @@ class Lost:
 Reply = Answer | Lost
 
 
+def ends_of(answer: Answer) -> list[str]:
+    """The statuses of a report's tenants."""
+    return [it.decode() for it in re.findall(rb"^status (.+)$", answer.out, re.M)]
+
+
+def output_of(answer: Answer) -> bytes:
+    """What the tenants of a report wrote, one after the other."""
+    lines = re.findall(rb"^output [0-9]+ ([0-9a-f]+)$", answer.out, re.M)
+    return bytes.fromhex(b"".join(lines).decode())
+
+
 def is_of_bytes(answer: Answer) -> bool:
     """Whether a session that is read may be answered so: a report without a word on standard error,
     or a faulty line without a report. All else, as want of memory, a full disk, a signal or the

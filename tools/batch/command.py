@@ -3,9 +3,10 @@
     batch SESSIONS [OPTIONS]
 
 SESSIONS is a folder or a table. In a folder each session is a folder with a file `args`: the words
-of mte_host, one a line (--frames N SCRIPT FILE...), which are read there, and files want.out,
-want.err and want.status with what is wanted of it, or some of them. A table has a session a line:
-name, frames, the file with the report that is wanted or `-`, script and files, with tabs between.
+of mte_host, one a line (--frames N SCRIPT FILE...), which are read there, and files with what is
+wanted of it, or some of them: want.out, want.err, want.status, and want.output, which is what its
+tenants write, of which each then has to exit with 0. A table has a session a line, with tabs: name,
+frames, what is wanted (`-`, the file with the report, or output:FILE), script and files.
 
 What was answered is kept in a store, SESSIONS.results, under the sum of the library, the words and
 the files, and is not run again. What is there and is not what was written is run anew. The exit
@@ -88,6 +89,8 @@ def parse(words: Sequence[str] | None) -> argparse.Namespace:
     add("--elsewhere", action="append", default=[], metavar="COMMAND",
         help="a command like mte_host, as `ssh other mte_host`")
     add("--got", action="store_true", help="write got.out, got.err and got.status beside `args`")
+    add("--reports", type=pathlib.Path, metavar="FOLDER",
+        help="write them there, as NAME.out, NAME.err and NAME.status")
     add("--json", type=pathlib.Path, metavar="FILE", help="write what came of each as JSON")
     add("--junit", type=pathlib.Path, metavar="FILE", help="write it as JUnit's XML")
     given = parser.parse_args(words)
@@ -147,26 +150,48 @@ def engine_of(given: argparse.Namespace) -> tuple[Engine, str]:
     return DaskEngine(runner, given.dask, given.jobs, given.tries), program
 
 
-def write_got(places: dict[str, Place], session: Session, answer: Answer) -> None:
-    """Writes what came of a session beside its `args`, where it is not there."""
-    folder = pathlib.Path(places[session.name].folder)
+def write_parts(begins: Sequence[pathlib.Path], answer: Answer) -> None:
+    """Writes what came of a session into files that begin so, where it is not there."""
     parts = {"out": answer.out, "err": answer.err, "status": f"{answer.status}\n".encode()}
-    for part, text in parts.items():
-        write_whole(folder / f"got.{part}", text)
+    for begin in begins:
+        for part, text in parts.items():
+            begin.parent.mkdir(parents=True, exist_ok=True)
+            write_whole(begin.with_name(f"{begin.name}.{part}"), text)
+
+
+def writer(given: argparse.Namespace,
+           places: dict[str, Place]) -> Callable[[Session, Answer], None] | None:
+    """What writes the files of each session that are asked for."""
+    def begins(name: str) -> list[pathlib.Path]:
+        got = [pathlib.Path(places[name].folder) / "got"] if given.got else []
+        return got + ([given.reports / name] if given.reports else [])
+
+    if given.got and any(it.words for it in places.values()):
+        raise Usage("--got is for folders of sessions")
+    if given.reports and (it := next((it for it in places if not is_below(it)), None)):
+        raise Usage(f"--reports: the name {it!r} leads out of the folder")
+    if not given.got and not given.reports:
+        return None
+    return lambda session, answer: write_parts(begins(session.name), answer)
+
+
+def is_below(name: str) -> bool:
+    """Whether a name is one of a file within a folder."""
+    path = pathlib.PurePath(name)
+    return not path.is_absolute() and bool(path.name) and ".." not in path.parts
 
 
 def run(given: argparse.Namespace) -> tuple[list[Verdict], Work]:
     """Runs the sessions."""
     found = places_of(given.sessions)
     places = {it.name: it for it in (share_of(found, *given.share) if given.share else found)}
-    if given.got and any(it.words for it in places.values()):
-        raise Usage("--got is for folders of sessions")
+    each = writer(given, places)
     engine, program = engine_of(given)
     try:
         store = Store(given.store)
         batch = Batch(program, store, given.tries, progress(len(places)))
-        if given.got:
-            batch.each = functools.partial(write_got, places)
+        if each is not None:
+            batch.each = each
         batch.work.program = program
         verdicts = batch.run(places.values(), engine)
     finally:

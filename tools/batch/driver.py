@@ -5,7 +5,7 @@ from collections.abc import Callable, Iterable, Iterator
 from dataclasses import dataclass, field
 
 from batch.answers import Answer, Lost, is_of_bytes
-from batch.engines import Chunk, Engine
+from batch.engines import Bundle, Engine
 from batch.runs import Replies
 from batch.sessions import Job, Place, Session, read_session
 from batch.store import Store
@@ -13,7 +13,7 @@ from batch.verdicts import (
     KEPT, LOST, MENDED, NO_SESSION, RAN, Verdict, Work, judge,
 )
 
-CHUNK_BYTES = 16 << 20
+BUNDLE_BYTES = 16 << 20
 
 
 @dataclass
@@ -29,33 +29,33 @@ class Batch:
     verdicts: dict[str, Verdict] = field(default_factory=dict)
     work: Work = field(default_factory=Work)
     _waiting: dict[str, list[Session]] = field(default_factory=dict)
-    _again: collections.deque[Chunk] = field(default_factory=collections.deque)
+    _again: collections.deque[Bundle] = field(default_factory=collections.deque)
 
     def run(self, places: Iterable[Place], engine: Engine) -> list[Verdict]:
         """The verdicts of sessions, in the order of their places."""
         listed = list(places)
-        chunks = self._chunks(listed, engine.chunk)
+        bundles = self._bundles(listed, engine.bundle)
         while True:
-            while (given := self._next(chunks, engine)) is not None:
+            while (given := self._next(bundles, engine)) is not None:
                 engine.submit(given)
             if not engine.is_busy():
                 return [self.verdicts[it.name] for it in listed]
-            chunk, replies = engine.wait()
-            self._take(chunk, replies, engine.retries_itself)
+            bundle, replies = engine.wait()
+            self._take(bundle, replies, engine.retries_itself)
             self.tell(len(self.verdicts))
 
-    def _next(self, chunks: Iterator[Chunk], engine: Engine) -> Chunk | None:
-        """The next chunk to run, where one may begin now: what was lost comes last. An engine that
+    def _next(self, bundles: Iterator[Bundle], engine: Engine) -> Bundle | None:
+        """The next bundle to run, where one may begin now: what was lost comes last. An engine that
         tries again by itself may blame a session for another on the same worker, so there it runs
         while no other does."""
         if not engine.has_room():
             return None
-        chunk = next(chunks, None)
-        if chunk is None and self._again and not (engine.retries_itself and engine.is_busy()):
-            chunk = self._again.popleft()
-        return chunk
+        bundle = next(bundles, None)
+        if bundle is None and self._again and not (engine.retries_itself and engine.is_busy()):
+            bundle = self._again.popleft()
+        return bundle
 
-    def _chunks(self, places: Iterable[Place], count: int) -> Iterator[Chunk]:
+    def _bundles(self, places: Iterable[Place], count: int) -> Iterator[Bundle]:
         """The sessions that have to be run, so many at a time, or fewer where they are large."""
         jobs: list[Job] = []
         size = 0
@@ -68,11 +68,11 @@ class Batch:
             files = tuple(contents.setdefault(it, it) for it in job.files)
             jobs.append(Job(job.key, job.frames, job.script, files))
             size += len(job.script) + sum(map(len, files))
-            if len(jobs) == count or size > CHUNK_BYTES:
-                yield Chunk(tuple(jobs))
+            if len(jobs) == count or size > BUNDLE_BYTES:
+                yield Bundle(tuple(jobs))
                 jobs, size, contents = [], 0, {}
         if jobs:
-            yield Chunk(tuple(jobs))
+            yield Bundle(tuple(jobs))
 
     def _begin(self, session: Session) -> Job | None:
         """The job of a session that has to be run; else the session has its verdict, or waits."""
@@ -103,17 +103,17 @@ class Batch:
         self.work.unkept += count
         self.work.why_unkept = error.strerror or str(error)
 
-    def _take(self, chunk: Chunk, replies: Replies | Lost, is_tried: bool) -> None:
-        """Takes what came of a chunk."""
+    def _take(self, bundle: Bundle, replies: Replies | Lost, is_tried: bool) -> None:
+        """Takes what came of a bundle."""
         if isinstance(replies, Lost):
             found: dict[str, Answer] = {}
-            why = dict.fromkeys((it.key for it in chunk.jobs), replies.why)
+            why = dict.fromkeys((it.key for it in bundle.jobs), replies.why)
         else:
             found = {key: it for key, it in replies if isinstance(it, Answer) and is_of_bytes(it)}
             why = {key: it.why for key, it in replies if isinstance(it, Lost)}
-        self._answer({it.key: found[it.key] for it in chunk.jobs if it.key in found})
-        lost = tuple(it for it in chunk.jobs if it.key not in found)
-        again = self._tries(chunk, lost, isinstance(replies, Lost), is_tried)
+        self._answer({it.key: found[it.key] for it in bundle.jobs if it.key in found})
+        lost = tuple(it for it in bundle.jobs if it.key not in found)
+        again = self._tries(bundle, lost, isinstance(replies, Lost), is_tried)
         self._again.extend(again)
         if again:
             self.work.retries += len(lost)
@@ -121,17 +121,17 @@ class Batch:
             for job in lost:
                 self._lose(job, why.get(job.key, "no answer of it came"))
 
-    def _tries(self, chunk: Chunk, lost: tuple[Job, ...], is_whole: bool,
-               is_tried: bool) -> list[Chunk]:
-        """What is run again of what was lost: a chunk once more, as its process may have been ended
-        from outside; then each session by itself, so that one that ends its process takes no other
-        with it; and a session so often. What an engine tried again is not tried here."""
-        if not chunk.losses and is_whole and not is_tried:
-            return [Chunk(lost, 1)]
-        if len(chunk.jobs) > 1:
-            return [Chunk((job,), 1) for job in lost]
+    def _tries(self, bundle: Bundle, lost: tuple[Job, ...], is_whole: bool,
+               is_tried: bool) -> list[Bundle]:
+        """What is run again of what was lost: a bundle once more, as its process may have been
+        ended from outside; then each session by itself, so that one that ends its process takes no
+        other with it, and that so often. What an engine tried again is not tried here."""
+        if not bundle.losses and is_whole and not is_tried:
+            return [Bundle(lost, 1)]
+        if len(bundle.jobs) > 1:
+            return [Bundle((job,), 1) for job in lost]
         limit = 0 if is_whole and is_tried else self.tries
-        return [Chunk(lost, chunk.losses + 1)] if lost and chunk.losses <= limit else []
+        return [Bundle(lost, bundle.losses + 1)] if lost and bundle.losses <= limit else []
 
     def _lose(self, job: Job, why: str) -> None:
         for session in self._waiting.pop(job.key):

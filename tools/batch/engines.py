@@ -1,4 +1,4 @@
-"""What runs chunks of sessions: the processors of this machine. Dask is in over_dask.py."""
+"""What runs bundles of sessions: the processors of this machine. Dask is in over_dask.py."""
 
 import collections
 import multiprocessing
@@ -18,42 +18,45 @@ FORK = multiprocessing.get_context("fork")
 
 
 @dataclass(frozen=True)
-class Chunk:
+class Bundle:
     """Sessions that one process runs in turn, and how often they were lost."""
 
     jobs: tuple[Job, ...]
     losses: int = 0
 
 
-Outcome = tuple[Chunk, Replies | Lost]
+Outcome = tuple[Bundle, Replies | Lost]
 
 
 class Engine(Protocol):
-    """What runs chunks, several at a time. A chunk comes back with its replies, or lost."""
+    """What runs bundles, several at a time. A bundle comes back with its replies, or lost."""
 
-    # How many sessions a chunk has at most.
-    chunk: int
+    # How many sessions a bundle has at most.
+    bundle: int
     # Whether what is lost was tried again already.
     retries_itself: bool
 
     def has_room(self) -> bool:
-        """Whether it takes another chunk now."""
+        """Whether it takes another bundle now."""
 
     def is_busy(self) -> bool:
-        """Whether a chunk is under way."""
+        """Whether a bundle is under way."""
 
-    def submit(self, chunk: Chunk) -> None:
-        """Takes a chunk."""
+    def submit(self, bundle: Bundle) -> None:
+        """Takes a bundle."""
 
     def wait(self) -> Outcome:
-        """Waits for a chunk that is under way."""
+        """Waits for a bundle that is under way."""
 
     def close(self) -> None:
         """Ends all that was started."""
 
 
-def serve(pipe: multiprocessing.connection.Connection, run: Runner) -> None:
-    """What a worker does: it runs what comes through its pipe, until nothing more comes."""
+def serve(pipe: multiprocessing.connection.Connection,
+          other: multiprocessing.connection.Connection, run: Runner) -> None:
+    """What a worker does: it runs what comes through its pipe, until nothing more comes. It closes
+    its copy of the other end, or it would never learn that whoever has that end is gone."""
+    other.close()
     signal.signal(signal.SIGINT, signal.SIG_IGN)
     while True:
         try:
@@ -64,19 +67,19 @@ def serve(pipe: multiprocessing.connection.Connection, run: Runner) -> None:
 
 
 class Worker:
-    """A process of this machine, and the chunk that it runs."""
+    """A process of this machine, and the bundle that it runs."""
 
     def __init__(self, run: Runner) -> None:
         self.run = run
         self.pipe, theirs = FORK.Pipe()
-        self.process = FORK.Process(target=serve, args=(theirs, run), daemon=True)
+        self.process = FORK.Process(target=serve, args=(theirs, self.pipe, run), daemon=True)
         self.process.start()
         theirs.close()
-        self.chunk: Chunk | None = None
+        self.bundle: Bundle | None = None
         self.until = 0.0
 
     def take(self) -> Replies | Lost:
-        """What it answers of its chunk; that it is lost where the process ended."""
+        """What it answers of its bundle; that it is lost where the process ended."""
         try:
             replies: Replies = self.pipe.recv()
             return replies
@@ -96,10 +99,10 @@ class Worker:
 
 
 class LocalEngine:
-    """Processes of this machine, one for each runner; each has one chunk at a time. One that ends,
+    """Processes of this machine, one for each runner; each has one bundle at a time. One that ends,
     or takes longer than so many seconds a session, is replaced."""
 
-    chunk = 50
+    bundle = 50
     retries_itself = False
 
     def __init__(self, runners: Sequence[Runner], seconds: float | None = None) -> None:
@@ -109,40 +112,40 @@ class LocalEngine:
 
     def has_room(self) -> bool:
         """Whether a worker is idle."""
-        return any(it.chunk is None for it in self.workers)
+        return any(it.bundle is None for it in self.workers)
 
     def is_busy(self) -> bool:
-        """Whether a chunk is under way."""
-        return bool(self.ready) or any(it.chunk for it in self.workers)
+        """Whether a bundle is under way."""
+        return bool(self.ready) or any(it.bundle for it in self.workers)
 
-    def submit(self, chunk: Chunk) -> None:
-        """Gives a chunk to an idle worker."""
-        place = next(at for at, it in enumerate(self.workers) if it.chunk is None)
+    def submit(self, bundle: Bundle) -> None:
+        """Gives a bundle to an idle worker."""
+        place = next(at for at, it in enumerate(self.workers) if it.bundle is None)
         worker = self.workers[place]
-        worker.chunk = chunk
-        worker.until = time.monotonic() + (self.seconds or 0) * len(chunk.jobs)
+        worker.bundle = bundle
+        worker.until = time.monotonic() + (self.seconds or 0) * len(bundle.jobs)
         try:
-            worker.pipe.send(chunk.jobs)
+            worker.pipe.send(bundle.jobs)
         except OSError:
             self._replace(place, worker.end())
 
     def _replace(self, place: int, lost: Lost) -> None:
-        """Puts a new worker in the place of one that ended, whose chunk is lost."""
+        """Puts a new worker in the place of one that ended, whose bundle is lost."""
         worker = self.workers[place]
-        assert worker.chunk is not None
-        self.ready.append((worker.chunk, lost))
+        assert worker.bundle is not None
+        self.ready.append((worker.bundle, lost))
         self.workers[place] = Worker(worker.run)
 
     def _left(self) -> float | None:
         """How many seconds are left to the first worker that takes too long."""
         if self.seconds is None:
             return None
-        return max(0.0, min(it.until for it in self.workers if it.chunk) - time.monotonic())
+        return max(0.0, min(it.until for it in self.workers if it.bundle) - time.monotonic())
 
     def wait(self) -> Outcome:
         """Waits for a worker that has answered, has ended, or takes too long."""
         while not self.ready:
-            pipes = {it.pipe: at for at, it in enumerate(self.workers) if it.chunk}
+            pipes = {it.pipe: at for at, it in enumerate(self.workers) if it.bundle}
             for pipe in multiprocessing.connection.wait(list(pipes), self._left()):
                 assert isinstance(pipe, multiprocessing.connection.Connection)
                 self._take(pipes[pipe])
@@ -151,18 +154,18 @@ class LocalEngine:
 
     def _take(self, place: int) -> None:
         worker = self.workers[place]
-        assert worker.chunk is not None
+        assert worker.bundle is not None
         replies = worker.take()
         if isinstance(replies, Lost):
             self._replace(place, replies)
         else:
-            self.ready.append((worker.chunk, replies))
-            worker.chunk = None
+            self.ready.append((worker.bundle, replies))
+            worker.bundle = None
 
     def _end_late_ones(self) -> None:
         """Ends the workers that take too long."""
         for place, worker in enumerate(self.workers):
-            if self.seconds is not None and worker.chunk and worker.until <= time.monotonic():
+            if self.seconds is not None and worker.bundle and worker.until <= time.monotonic():
                 worker.process.kill()
                 worker.end()
                 self._replace(place, Lost(f"it took longer than {self.seconds:g} seconds"))

@@ -9,7 +9,9 @@ from dataclasses import dataclass, field
 
 from batch.answers import READ, Answer
 
-WANTED = ("out", "err", "status")
+WANTED = ("out", "err", "status", "output")
+# What a table has before a file with output, not a report.
+OUTPUT = "output:"
 FRAMES = range(1, 65537)
 # Changes where the way in which keys are made changes.
 KIND = b"a session of Tombolopan, 1"
@@ -21,8 +23,8 @@ class BadList(Exception):
 
 @dataclass(frozen=True)
 class Place:
-    """Where a session is: its name, the folder in which its words are read, and its words, or the
-    file with the report that is wanted, where a table has them."""
+    """Where a session is: its name, the folder in which its words are read, and its words and what
+    is wanted, where a table has them."""
 
     name: str
     folder: str
@@ -67,15 +69,16 @@ def places_of_folder(top: pathlib.Path) -> Iterator[Place]:
 
 
 def places_of_table(table: pathlib.Path) -> Iterator[Place]:
-    """The lines of a table: name, frames, the file with the report that is wanted or `-`, script
-    and files, with tabs between them. Files are named from the table's folder."""
+    """The lines of a table: name, frames, what is wanted (`-`, or the file with the report, or
+    `output:` and the file with the output), script and files, with tabs between them. Files are
+    named from the table's folder."""
     for number, line in enumerate(table.read_text(encoding="utf-8").splitlines(), 1):
         if not line or line.startswith("#"):
             continue
         name, *rest = line.split("\t")
         if len(rest) < 3:
-            raise BadList(f"{table}:{number}: it is not name, frames, wanted report, script and "
-                          "files with tabs between them")
+            raise BadList(f"{table}:{number}: it is not name, frames, what is wanted, script "
+                          "and files, with tabs between them")
         words = ("--frames", rest[0], *rest[2:])
         yield Place(name, str(table.parent), words, "" if rest[1] == "-" else rest[1])
 
@@ -111,6 +114,8 @@ def make_key(program: str, words: tuple[str, ...], contents: list[bytes]) -> str
 
 def wanted_of(place: Place, names: set[str]) -> dict[str, bytes]:
     """What is wanted of a session."""
+    if place.want.startswith(OUTPUT):
+        return {"output": read_bytes(place.folder, place.want.removeprefix(OUTPUT))}
     if place.want:
         return {"out": read_bytes(place.folder, place.want)}
     return {part: read_bytes(place.folder, f"want.{part}") for part in WANTED

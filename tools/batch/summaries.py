@@ -23,8 +23,8 @@ def json_of(verdicts: list[Verdict], work: Work) -> str:
         "right": is_right(verdicts, work),
         "verdicts": {it: count for it, count in Counter(it.verdict for it in verdicts).items()},
         "work": asdict(work),
-        "sessions": [{name: value for name, value in asdict(it).items() if value not in ("", None)}
-                     for it in verdicts],
+        "sessions": [{name: value for name, value in asdict(it).items()
+                      if value not in ("", None, ())} for it in verdicts],
     }
     return json.dumps(told, indent=1) + "\n"
 

@@ -4,7 +4,7 @@ from collections import Counter
 from collections.abc import Iterable
 from dataclasses import dataclass
 
-from batch.answers import Answer
+from batch.answers import Answer, ends_of, output_of
 
 WANTED = "as wanted"
 DIFFERENT = "different"
@@ -21,7 +21,8 @@ KEPT, RAN, MENDED = "kept", "run", "mended"
 
 @dataclass(frozen=True)
 class Verdict:
-    """What became of a session: one of VERDICTS, why, and how the answer came."""
+    """What became of a session: one of VERDICTS, why, how the answer came, the exit status, the
+    key, and how its tenants ended."""
 
     name: str
     verdict: str
@@ -29,6 +30,7 @@ class Verdict:
     source: str = ""
     status: int | None = None
     key: str = ""
+    ends: tuple[str, ...] = ()
 
 
 @dataclass
@@ -47,18 +49,23 @@ class Work:
 
 
 def different_parts(answer: Answer, wanted: dict[str, bytes]) -> list[str]:
-    """The parts of an answer that are not as wanted."""
+    """The parts of an answer that are not as wanted. Where an output is wanted, so is that each
+    tenant exits with 0."""
     status = f"{answer.status}\n".encode()
     got = {"out": answer.out, "err": answer.err, "status": status}
-    return [part for part, text in wanted.items() if got[part] != text]
+    if "output" in wanted:
+        got["output"] = output_of(answer)
+    different = [part for part, text in wanted.items() if got[part] != text]
+    if "output" in wanted:
+        different += [end for end in ends_of(answer) if end != "exit 0"][:1]
+    return different
 
 
 def judge(name: str, answer: Answer, wanted: dict[str, bytes], source: str, key: str) -> Verdict:
     """The verdict of a session that is answered."""
-    different = different_parts(answer, wanted)
-    if different:
-        return Verdict(name, DIFFERENT, ", ".join(different), source, answer.status, key)
-    return Verdict(name, WANTED if wanted else ANSWERED, "", source, answer.status, key)
+    different = ", ".join(different_parts(answer, wanted))
+    verdict = DIFFERENT if different else WANTED if wanted else ANSWERED
+    return Verdict(name, verdict, different, source, answer.status, key, tuple(ends_of(answer)))
 
 
 def is_right(verdicts: Iterable[Verdict], work: Work) -> bool:
