@@ -1,4 +1,3 @@
 mod CallLemmas
-mod PageLemmas
 mod FixedServices
 mod KeptLemmas

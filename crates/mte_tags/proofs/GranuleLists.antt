@@ -115,3 +115,12 @@ tag_at_granule m a =
     let q : a / 16 * 16 / 4096 ≡ a / 4096 = omega arith in
     let g : a / 16 * 16 % 4096 / 16 ≡ a % 4096 / 16 = omega arith in
     ap (λ k. tag_cases (page_at m k) (a / 16 * 16 % 4096 / 16)) q ∙ ap (λ k. tag_cases (page_at m (a / 4096)) k) g
+
+-- where granules that a page holds are asked at the first of them alone, the rest answers for all
+pub first_fault_by_run : (m k : Memory) (x : Access) (a n left : ℕ) (f : Option MemFault) → f ≡ first_fault k x (addresses a 1) → k ≡ m
+    → x.checked ≡ false → 0 < n → n ≤ left → a % 16 ≡ 0 → a % 4096 + 16 * n ≤ 4096 → a < 2 ^ 56
+    → first_fault m x (granules a left) ≡ or_else f (first_fault m x (granules ((a + 16 * n) % 2 ^ 56) (left - n)))
+first_fault_by_run m k x a n left f e s u h l g w t =
+    let first : f ≡ first_fault m x (granules a n) =
+    e ∙ ap (λ j. first_fault j x (addresses a 1)) s ∙ first_fault_one m x a ∙ sym (first_fault_in_run m x a n u h g w t) in
+    first_fault_granules m x a n left t l ∙ ap (λ o. or_else o (first_fault m x (granules ((a + 16 * n) % 2 ^ 56) (left - n)))) (sym first)

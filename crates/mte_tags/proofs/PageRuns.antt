@@ -1,8 +1,8 @@
 -- Runs of bytes and granules within one page.
-use Rattle.std.proofs.Common.{◌≡◌, ◌≢◌, ℕ, suc, zero, ◌+◌, ◌-◌, ◌/◌, ◌%◌, ◌<◌, ◌≤◌, ◌==◌, ◌&&◌, Bool, true, false, cond, Option, Some, None, is_none, List, [], ◌∷◌, ◌++◌, length, take, drop, set, replicate, refl, sym, ap, ◌∙◌, inl, inr, arith, eq-eqb}
+use Rattle.std.proofs.Common.{◌≡◌, ◌≢◌, ℕ, suc, zero, ◌+◌, ◌-◌, ◌/◌, ◌%◌, ◌<◌, ◌≤◌, ◌==◌, ◌&&◌, Bool, true, false, cond, Option, Some, None, is_none, List, [], ◌∷◌, ◌++◌, length, take, drop, set, replicate, refl, sym, ap, subst, ◌∙◌, inl, inr, arith, eq-eqb}
 use Rattle.std.proofs.lemmas.List.{ext_get_or, get_or-take, get_or-drop, length-take-le, length-set, drop-set-lt, append_assoc, take_more_set, take-append-drop, drop-drop, length-replicate}
 use Rattle.std.proofs.lemmas.List.FromFn.{get_or-map-range_with_len, length-map-range_with_len}
-use Rattle.std.proofs.lemmas.Bool.{cases_eq, cases_lt, cond-true, cond-false}
+use Rattle.std.proofs.lemmas.Bool.{cases_eq, cases_lt, cases_Bool, cond-true, cond-false}
 use Rattle.std.specs.List.{range_with_len, slice_range}
 use Rattle.std.specs.Prelude.{slice_index}
 use Rattle.mte_tags.specs.Memory.{Memory, Page, page_at, with_page, has, byte_cases, byte_at, with_byte_cases, with_byte}
@@ -57,6 +57,20 @@ first_in-passed x p a (suc n) h =
 
 pub first_in-untagged : (x : Access) (p : Page) (a n : ℕ) → has p.attrs x.need ≡ true → (x.checked && has p.attrs 8) ≡ false → first_in x (Some p) (range_with_len a n) ≡ None
 first_in-untagged x p a n e f = first_in-passed x p a n (λ i l. rw (e, f) refl)
+
+-- a run of which the page's attributes, w, refuse each byte
+pub refused_passes : (x : Access) (p : Page) (a n w : ℕ) → w ≡ p.attrs → 0 < n → has w x.need ≡ false
+    → has w x.need ≡ is_none (first_in x (Some p) (range_with_len a n))
+refused_passes x p a n w s h e = e ∙ sym (ap is_none (first_in-refused x p a n h (subst (λ k. has k x.need ≡ false) s e)))
+
+-- a run without a comparison of tags, on a page with attributes w
+pub uncompared_passes : (x : Access) (p : Page) (a n w : ℕ) → w ≡ p.attrs → 0 < n → (x.checked && has w 8) ≡ false
+    → has w x.need ≡ is_none (first_in x (Some p) (range_with_len a n))
+uncompared_passes x p a n w s h f = elim (cases_Bool (has w x.need)) [
+  | inl e ↦
+      e ∙ sym (ap is_none (first_in-untagged x p a n (subst (λ k. has k x.need ≡ true) s e) (subst (λ k. (x.checked && has k 8) ≡ false) s f)))
+  | inr e ↦ refused_passes x p a n w s h e
+]
 
 -- a run within one granule
 same_granule : (a i : ℕ) → a % 16 + i < 16 → (a + i) % 4096 / 16 ≡ a % 4096 / 16

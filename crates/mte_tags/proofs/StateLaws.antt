@@ -1,12 +1,14 @@
--- Mode and flag: mapping, unmapping, bytes and tags leave both; an access leaves the mode, and all tags.
+-- Mode and flag: mapping, unmapping, bytes and tags leave both; an access leaves the mode, all tags,
+-- the pages' attributes and how many pages are left.
 use Rattle.std.proofs.Common.{◌≡◌, ℕ, suc, zero, ◌+◌, ◌/◌, ◌%◌, ◌^◌, Bool, true, false, cond, Option, Some, None, List, [], ◌∷◌, refl, ap, ◌∙◌}
-use Rattle.mte_tags.specs.Memory.{Memory, Page, page_at, with_page, without_page, with_new_pages, without_pages, new_page, with_byte_cases, with_byte, with_granule_cases, with_granule, with_granules, with_pending, tag_at}
+use Rattle.mte_tags.specs.Memory.{Memory, Page, page_at, with_page, without_page, with_new_pages, without_pages, new_page, with_byte_cases, with_byte, with_granule_cases, with_granule, with_granules, with_pending, tag_at, attrs_at, pages_left}
 use Rattle.mte_tags.specs.Accesses.{with_bytes, with_bytes_at, access_cases, after_access, write_access, after_read, after_write}
 use Rattle.mte_tags.specs.declared.access.Access.{Access}
 use Rattle.mte_tags.specs.declared.attrs.Attrs.{Attrs}
 use Rattle.mte_tags.specs.declared.state.TagState.{TagState}
 use Rattle.mte_tags.specs.Whole.{IsWhole}
 use Rattle.mte_tags.proofs.Pages.{limit-with_page}
+use Rattle.mte_tags.proofs.PageLaws.{attrs_at-with-bytes-at, pages_left-with-bytes-at}
 use Rattle.mte_tags.proofs.Whole.{whole-with-bytes-at}
 use Rattle.mte_tags.proofs.ByteLaws.{tag_at-with-bytes-at}
 
@@ -80,6 +82,42 @@ tag_at-after_read m a n check c = tag_at-after_access m _ _ c
 pub tag_at-after_write : (m : Memory) (a : ℕ) (bs : List ℕ) (check : Bool) (c : ℕ) → tag_at (after_write m a bs check) c ≡ tag_at m c
 unfolding after_write
 tag_at-after_write m a bs check c = tag_at-with-bytes-at (after_access m (write_access a check) _) a bs c ∙ tag_at-after_access m (write_access a check) _ c
+
+-- ---- attributes, and how many pages are left
+
+attrs-of_flag : (b : Bool) (m : Memory) (q : ℕ) → attrs_at (cond b (with_pending m) m) q ≡ attrs_at m q
+unfolding attrs_at page_at with_pending
+attrs-of_flag true m q = refl
+attrs-of_flag false m q = refl
+
+left-of_flag : (b : Bool) (m : Memory) → pages_left (cond b (with_pending m) m) ≡ pages_left m
+unfolding pages_left with_pending
+left-of_flag true m = refl
+left-of_flag false m = refl
+
+attrs-after_access : (m : Memory) (x : Access) (xs : List ℕ) (q : ℕ) → attrs_at (after_access m x xs) q ≡ attrs_at m q
+unfolding after_access
+attrs-after_access m x xs q = attrs-of_flag (access_cases m.state.mode m x xs).pending m q
+
+left-after_access : (m : Memory) (x : Access) (xs : List ℕ) → pages_left (after_access m x xs) ≡ pages_left m
+unfolding after_access
+left-after_access m x xs = left-of_flag (access_cases m.state.mode m x xs).pending m
+
+pub attrs-after_read : (m : Memory) (a n : ℕ) (check : Bool) (q : ℕ) → attrs_at (after_read m a n check) q ≡ attrs_at m q
+unfolding after_read
+attrs-after_read m a n check q = attrs-after_access m _ _ q
+
+pub left-after_read : (m : Memory) (a n : ℕ) (check : Bool) → pages_left (after_read m a n check) ≡ pages_left m
+unfolding after_read
+left-after_read m a n check = left-after_access m _ _
+
+pub attrs-after_write : (m : Memory) (a : ℕ) (bs : List ℕ) (check : Bool) (q : ℕ) → attrs_at (after_write m a bs check) q ≡ attrs_at m q
+unfolding after_write
+attrs-after_write m a bs check q = attrs_at-with-bytes-at _ a bs q ∙ attrs-after_access m _ _ q
+
+pub left-after_write : (m : Memory) (a : ℕ) (bs : List ℕ) (check : Bool) → pages_left (after_write m a bs check) ≡ pages_left m
+unfolding after_write
+left-after_write m a bs check = pages_left-with-bytes-at _ a bs ∙ left-after_access m _ _
 
 -- ---- how many pages there may be, and that a memory is whole
 

@@ -1,6 +1,7 @@
 //! What an access requires of a page, and how it fails.
 
-ghost use Rattle.std.specs.Prelude.{◌≡◌, false};
+ghost use Rattle.std.specs.Prelude.{◌≡◌, ◌&&◌, false};
+ghost use Rattle.mte_tags.specs.Memory.{has};
 ghost use Rattle.mte_tags.specs.Accesses.{read_access, write_access, fetch_access, without_check};
 ghost use Rattle.mte_tags.specs.Accesses.{fault};
 
@@ -90,6 +91,22 @@ impl Access {
             checked: false,
             tag: 0,
         }
+    }
+
+    /// Whether a page with these attributes has all that it requires.
+    #[inline(always)]
+    pub(crate) fn is_permitted(&self, attrs: Attrs) -> bool
+        ensures { result ≡ has attrs.0 self.now.need }
+    {
+        attrs.contains(Attrs(self.need))
+    }
+
+    /// Whether tags are compared on a page with these attributes.
+    #[inline(always)]
+    pub(crate) fn is_compared(&self, attrs: Attrs) -> bool
+        ensures { result ≡ (self.now.checked && has attrs.0 8) }
+    {
+        self.checked && attrs.contains(Attrs::TAGGED)
     }
 
     /// The fault of this access at a plain address; `mem_tag` is the granule's tag for TagCheck,

@@ -43,13 +43,10 @@ pub(crate) fn run_fault<S: PageStore>(
     ensures { result ≡ run_fault_in access.now (S.page_in store.now place) at count }
 {
     let attrs = store.attrs(place);
-    if attrs.0 & access.need != access.need {
+    if !access.is_permitted(attrs) {
         return Some(access.fault(FaultKind::Permission, at, 0));
     }
-    if !access.checked {
-        return None;
-    }
-    if !attrs.contains(Attrs::TAGGED) {
+    if !access.is_compared(attrs) {
         return None;
     }
     tag_fault(store, place, at, count, access)
@@ -71,13 +68,8 @@ pub(crate) fn granule_passes<S: PageStore>(
     ensures { result ≡ run_passes_in access.now (S.page_in store.now place) at count }
 {
     let attrs = store.attrs(place);
-    let permitted = attrs.0 & access.need == access.need;
-    if !permitted {
-        return false;
-    }
-    let compared = access.checked && attrs.contains(Attrs::TAGGED);
-    if !compared {
-        return true;
+    if !access.is_compared(attrs) || !access.is_permitted(attrs) {
+        return access.is_permitted(attrs);
     }
     store.granule_tag(place, (at % 4096 / 16) as usize) == access.tag
 }
@@ -95,13 +87,8 @@ pub(crate) fn run_passes<S: PageStore>(
     ensures { result ≡ run_passes_in access.now (S.page_in store.now place) at count }
 {
     let attrs = store.attrs(place);
-    let permitted = attrs.0 & access.need == access.need;
-    if !permitted {
-        return false;
-    }
-    let compared = access.checked && attrs.contains(Attrs::TAGGED);
-    if !compared {
-        return true;
+    if !access.is_compared(attrs) || !access.is_permitted(attrs) {
+        return access.is_permitted(attrs);
     }
     if store.granule_tag(place, (at % 4096 / 16) as usize) != access.tag {
         return false;

@@ -8,6 +8,7 @@ use Rattle.mte_tags.specs.Accesses.{after_write, access_cases, after_access, aft
 use Rattle.mte_tags.specs.declared.fault.MemFault.{MemFault}
 use Rattle.mte_tags.proofs.PageLaws.{attrs_at-with-bytes-at, pages_left-with-bytes-at, attrs_at-with_granules, pages_left-with_granules}
 use Rattle.mte_tags.proofs.Pages.{page_at-no_pages}
+use Rattle.mte_tags.proofs.StateLaws.{attrs-after_read, attrs-after_write, left-after_read, left-after_write}
 use Rattle.scudo_primary.specs.Blocks.{IsClass}
 use Rattle.scudo_heap.specs.Stacks.{ClassHeap, empty_class, empty_stacks, memory_for, class_at}
 use Rattle.scudo_heap.specs.Heaps.{HeapState, empty_heap}
@@ -98,29 +99,11 @@ served-others m m' h v a l = record {
 
 -- ---- accesses
 
-attrs-pending : (b : Bool) (m : Memory) (q : ℕ) → attrs_at (cond b (with_pending m) m) q ≡ attrs_at m q
-unfolding attrs_at page_at with_pending
-attrs-pending true m q = refl
-attrs-pending false m q = refl
-
-left-pending : (b : Bool) (m : Memory) → pages_left (cond b (with_pending m) m) ≡ pages_left m
-unfolding pages_left with_pending
-left-pending true m = refl
-left-pending false m = refl
-
-served-access : (m : Memory) (x : Access) (addrs : List ℕ) (h : HeapState) → HeapOwnsItsPages m h → HeapOwnsItsPages (after_access m x addrs) h
-unfolding after_access
-served-access m x addrs h v =
-    let b = (access_cases m.state.mode m x addrs).pending in
-    served-same m (cond b (with_pending m) m) h v (λ q. attrs-pending b m q) (left-pending b m)
-
 pub served-read : (m : Memory) (a n : ℕ) (check : Bool) (h : HeapState) → HeapOwnsItsPages m h → HeapOwnsItsPages (after_read m a n check) h
-unfolding after_read
-served-read m a n check h v = served-access m _ _ h v
+served-read m a n check h v = served-same m _ h v (λ q. attrs-after_read m a n check q) (left-after_read m a n check)
 
 pub served-write : (m : Memory) (a : ℕ) (bytes : List ℕ) (check : Bool) (h : HeapState) → HeapOwnsItsPages m h → HeapOwnsItsPages (after_write m a bytes check) h
-unfolding after_write
-served-write m a bytes check h v = served-same _ _ h (served-access m _ _ h v) (λ q. attrs_at-with-bytes-at _ a bytes q) (pages_left-with-bytes-at _ a bytes)
+served-write m a bytes check h v = served-same m _ h v (λ q. attrs-after_write m a bytes check q) (left-after_write m a bytes check)
 
 pub served-tags : (m : Memory) (a n tag : ℕ) (zero_bytes : Bool) (h : HeapState) → HeapOwnsItsPages m h → HeapOwnsItsPages (with_granules m a n tag zero_bytes) h
 served-tags m a n tag zero_bytes h v = served-same m _ h v (λ q. attrs_at-with_granules n m a tag zero_bytes q) (pages_left-with_granules n m a tag zero_bytes)

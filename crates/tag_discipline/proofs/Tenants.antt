@@ -5,7 +5,7 @@ use Rattle.mte_tags.specs.Accesses.{read_fault, write_fault, access_cases, after
 use Rattle.mte_tags.specs.declared.access.Access.{Access}
 use Rattle.mte_tags.specs.declared.fault.MemFault.{MemFault}
 use Rattle.mte_tags.proofs.PageLaws.{attrs_at-with-bytes-at, pages_left-with-bytes-at}
-use Rattle.mte_tags.proofs.StateLaws.{mode-after_read, mode-after_write, tag_at-after_read, tag_at-after_write, limit-after_read, limit-after_write, whole-after_read, whole-after_write}
+use Rattle.mte_tags.proofs.StateLaws.{mode-after_read, mode-after_write, tag_at-after_read, tag_at-after_write, limit-after_read, limit-after_write, whole-after_read, whole-after_write, attrs-after_read, attrs-after_write, left-after_read, left-after_write}
 use Rattle.a64_step.specs.declared.outcome.Outcome.{Outcome}
 use Rattle.a64_step.specs.declared.outcome.Outcome.TheVariants as outcome
 use Rattle.a64_step.specs.Steps.{step_of, next_stores_tags}
@@ -29,42 +29,6 @@ use Rattle.tag_discipline.specs.SoundHeaps.{Sound}
 use Rattle.tag_discipline.proofs.Freed.{Freed, IsStale}
 use Rattle.tag_discipline.proofs.FreeStates.{IsKeptOn, kept-same}
 use Rattle.tag_discipline.proofs.Runs.{call-kept, quiet-kept}
-
--- ---- accesses of services
-
-attrs-if : (b : Bool) (m : Memory) (q : ℕ) → attrs_at (cond b (with_pending m) m) q ≡ attrs_at m q
-unfolding attrs_at page_at with_pending
-attrs-if true m q = refl
-attrs-if false m q = refl
-
-left-if : (b : Bool) (m : Memory) → pages_left (cond b (with_pending m) m) ≡ pages_left m
-unfolding pages_left with_pending
-left-if true m = refl
-left-if false m = refl
-
-attrs-after_access : (m : Memory) (x : Access) (xs : List ℕ) (q : ℕ) → attrs_at (after_access m x xs) q ≡ attrs_at m q
-unfolding after_access
-attrs-after_access m x xs q = attrs-if (access_cases m.state.mode m x xs).pending m q
-
-left-after_access : (m : Memory) (x : Access) (xs : List ℕ) → pages_left (after_access m x xs) ≡ pages_left m
-unfolding after_access
-left-after_access m x xs = left-if (access_cases m.state.mode m x xs).pending m
-
-attrs-after_read : (m : Memory) (a n : ℕ) (check : Bool) (q : ℕ) → attrs_at (after_read m a n check) q ≡ attrs_at m q
-unfolding after_read
-attrs-after_read m a n check q = attrs-after_access m _ _ q
-
-left-after_read : (m : Memory) (a n : ℕ) (check : Bool) → pages_left (after_read m a n check) ≡ pages_left m
-unfolding after_read
-left-after_read m a n check = left-after_access m _ _
-
-attrs-after_write : (m : Memory) (a : ℕ) (bs : List ℕ) (check : Bool) (q : ℕ) → attrs_at (after_write m a bs check) q ≡ attrs_at m q
-unfolding after_write
-attrs-after_write m a bs check q = attrs_at-with-bytes-at _ a bs q ∙ attrs-after_access m _ _ q
-
-left-after_write : (m : Memory) (a : ℕ) (bs : List ℕ) (check : Bool) → pages_left (after_write m a bs check) ≡ pages_left m
-unfolding after_write
-left-after_write m a bs check = pages_left-with-bytes-at _ a bs ∙ left-after_access m _ _
 
 -- ---- services
 

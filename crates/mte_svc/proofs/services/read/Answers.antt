@@ -1,6 +1,6 @@
 use Rattle.std.proofs.Common.{◌∙◌, ap, true}
 use Rattle.mte_tags.specs.Memory.{attrs_at, pages_left}
-use Rattle.mte_svc.proofs.PageLemmas.{attrs-after_write, left-after_write}
+use Rattle.mte_tags.proofs.StateLaws.{attrs-after_write, left-after_write}
 use Rattle.mte_svc.proofs.services.read.Goals as goal
 
 pub returns-in-Ok-clause-ready : goal.returns-in-Ok-clause-ready

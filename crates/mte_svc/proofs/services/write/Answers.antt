@@ -1,6 +1,6 @@
 use Rattle.std.proofs.Common.{◌∙◌, ap, true}
 use Rattle.mte_tags.specs.Memory.{attrs_at, pages_left}
-use Rattle.mte_svc.proofs.PageLemmas.{attrs-after_read, left-after_read}
+use Rattle.mte_tags.proofs.StateLaws.{attrs-after_read, left-after_read}
 use Rattle.mte_svc.proofs.services.write.Goals as goal
 
 pub returns-in-Ok-clause-ready : goal.returns-in-Ok-clause-ready

@@ -1,49 +1,33 @@
-use Rattle.std.proofs.Common.{◌≡◌, ◌==◌, ◌&&◌, ℕ, true, false, ◌∙◌, sym, ap, is_none, arith, eq-eqb}
+use Rattle.std.proofs.Common.{◌≡◌, ◌==◌, ◌&&◌, true, ◌∙◌, sym, ap, is_none, subst}
 use Rattle.mte_tags.specs.Memory.{has}
-use Rattle.mte_tags.proofs.PageRuns.{first_in-refused, first_in-untagged, first_in-tag, short_run_passes}
+use Rattle.mte_tags.proofs.PageRuns.{uncompared_passes, refused_passes, first_in-tag, short_run_passes}
 use Rattle.mte_tags.proofs.page.run_passes.Goals as goal
-use Rattle.mte_tags.proofs.page.run_passes.Goals.{then-access, else-access}
+use Rattle.mte_tags.proofs.page.run_passes.Goals.{then-not-is_compared-via-then-not-is_compared, then-not-is_compared-via-else-not-is_compared+then-not-is_permitted}
 
-pub returns-then-not-permitted : goal.returns-then-not-permitted
-returns-then-not-permitted g c =
+pub returns-then-not-is_compared : goal.returns-then-not-is_compared
+returns-then-not-is_compared g c =
     let p = g.S.PageStore.page_in c.args.store.now c.args.place in
-    let x = c.args.access.now in
-    let refused : has p.attrs x.need ≡ false = ap (λ a. has a x.need) (sym c.attrs-attrs.ensures) ∙ grind (arith, c.if-not-permitted.true) in
-    sym (ap is_none (first_in-refused x p c.args.at c.args.count c.requires.run.some refused))
-
-pub returns-then-not-compared : goal.returns-then-not-compared
-returns-then-not-compared g c =
-    let p = g.S.PageStore.page_in c.args.store.now c.args.place in
-    let x = c.args.access.now in
-    let same : (need : ℕ) → has c.attrs-attrs.result.0 need ≡ has p.attrs need = λ need. ap (λ a. has a need) c.attrs-attrs.ensures in
-    let permitted : has p.attrs x.need ≡ true = sym (same x.need) ∙ eq-eqb _ _ c.if-not-permitted.false in
-    let compared : c.if-access.compared ≡ (x.checked && has p.attrs 8) = elim c.if-access.branch [
-      | then-access w ↦ w.compared-is ∙ w.contains-compared.ensures ∙ same 8 ∙ sym (ap (λ b. b && has p.attrs 8) w.if-access.true)
-      | else-access w ↦ w.compared-is ∙ w.if-access.false ∙ sym (ap (λ b. b && has p.attrs 8) w.if-access.false)
-    ] in
-    sym (ap is_none (first_in-untagged x p c.args.at c.args.count permitted (sym compared ∙ c.if-not-compared.true)))
+    c.is_permitted-then-not-is_compared.ensures
+    ∙ elim c.then-not-is_compared.branch [
+      | then-not-is_compared-via-then-not-is_compared w ↦
+          uncompared_passes c.args.access.now p c.args.at c.args.count _ c.attrs-attrs.ensures c.requires.run.some (sym c.is_compared.ensures ∙ w.if-not-is_compared.true)
+      | then-not-is_compared-via-else-not-is_compared+then-not-is_permitted w ↦
+          refused_passes c.args.access.now p c.args.at c.args.count _ c.attrs-attrs.ensures c.requires.run.some (sym w.is_permitted.ensures ∙ w.if-not-is_permitted.true)
+    ]
 
 pub returns-then-granule_tag-access : goal.returns-then-granule_tag-access
 returns-then-granule_tag-access g c =
     let p = g.S.PageStore.page_in c.args.store.now c.args.place in
     let x = c.args.access.now in
-    let same : (need : ℕ) → has c.attrs-attrs.result.0 need ≡ has p.attrs need = λ need. ap (λ a. has a need) c.attrs-attrs.ensures in
-    let permitted : has p.attrs x.need ≡ true = sym (same x.need) ∙ eq-eqb _ _ c.if-not-permitted.false in
-    let compared : c.if-access.compared ≡ (x.checked && has p.attrs 8) = elim c.if-access.branch [
-      | then-access w ↦ w.compared-is ∙ w.contains-compared.ensures ∙ same 8 ∙ sym (ap (λ b. b && has p.attrs 8) w.if-access.true)
-      | else-access w ↦ w.compared-is ∙ w.if-access.false ∙ sym (ap (λ b. b && has p.attrs 8) w.if-access.false)
-    ] in
-    sym (ap is_none (first_in-tag x p c.args.at c.args.count c.requires.run.some permitted (sym compared ∙ c.if-not-compared.false) (λ e. c.if-granule_tag-access.true (c.granule_tag.ensures.tag ∙ e))))
+    let permitted : has p.attrs x.need ≡ true = subst (λ k. has k x.need ≡ true) c.attrs-attrs.ensures (sym c.is_permitted.ensures ∙ c.if-not-is_permitted.false) in
+    let compared : (x.checked && has p.attrs 8) ≡ true = subst (λ k. (x.checked && has k 8) ≡ true) c.attrs-attrs.ensures (sym c.is_compared.ensures ∙ c.if-not-is_compared.false) in
+    sym (ap is_none (first_in-tag x p c.args.at c.args.count c.requires.run.some permitted compared (λ e. c.if-granule_tag-access.true (c.granule_tag.ensures.tag ∙ e))))
 
 pub returns-then-count-le16 : goal.returns-then-count-le16
 returns-then-count-le16 g c =
     let p = g.S.PageStore.page_in c.args.store.now c.args.place in
     let x = c.args.access.now in
-    let same : (need : ℕ) → has c.attrs-attrs.result.0 need ≡ has p.attrs need = λ need. ap (λ a. has a need) c.attrs-attrs.ensures in
-    let permitted : has p.attrs x.need ≡ true = sym (same x.need) ∙ eq-eqb _ _ c.if-not-permitted.false in
-    let compared : c.if-access.compared ≡ (x.checked && has p.attrs 8) = elim c.if-access.branch [
-      | then-access w ↦ w.compared-is ∙ w.contains-compared.ensures ∙ same 8 ∙ sym (ap (λ b. b && has p.attrs 8) w.if-access.true)
-      | else-access w ↦ w.compared-is ∙ w.if-access.false ∙ sym (ap (λ b. b && has p.attrs 8) w.if-access.false)
-    ] in
+    let permitted : has p.attrs x.need ≡ true = subst (λ k. has k x.need ≡ true) c.attrs-attrs.ensures (sym c.is_permitted.ensures ∙ c.if-not-is_permitted.false) in
+    let compared : (x.checked && has p.attrs 8) ≡ true = subst (λ k. (x.checked && has k 8) ≡ true) c.attrs-attrs.ensures (sym c.is_compared.ensures ∙ c.if-not-is_compared.false) in
     ap (λ t. t == x.tag) c.granule_tag-then-count-le16.ensures.tag
-    ∙ short_run_passes x p c.args.at c.args.count c.requires.run.some c.if-count-le16.true c.requires.run.inside permitted (sym compared ∙ c.if-not-compared.false) (sym c.granule_tag.ensures.tag ∙ c.if-granule_tag-access.false)
+    ∙ short_run_passes x p c.args.at c.args.count c.requires.run.some c.if-count-le16.true c.requires.run.inside permitted compared (sym c.granule_tag.ensures.tag ∙ c.if-granule_tag-access.false)
