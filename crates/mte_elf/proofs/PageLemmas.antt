@@ -55,49 +55,44 @@ pub record IsWritten (m : Memory) (q : ℕ) (p : Page) (a : ℕ) (bs : List ℕ)
   pub inside : (i : ℕ) → i < length bs → (a + i) / 4096 ≡ q → get_or page.bytes ((a + i) % 4096) 0 ≡ get_or bs i 0
   pub outside : (o : ℕ) → ((i : ℕ) → i < length bs → a + i ≢ 4096 * q + o) → get_or page.bytes o 0 ≡ get_or p.bytes o 0
 
--- the first byte lies in another page
-other_first : (m : Memory) (q a b : ℕ) (p : Page) (bs : List ℕ) → a / 4096 ≢ q → IsWritten m q p (a + 1) bs → IsWritten m q p a (b ∷ bs)
-other_first m q a b p bs n w = record {
+-- the bytes behind the first are written, and the first one is there if it lies in the page
+with_first : (m : Memory) (q a b : ℕ) (p r : Page) (bs : List ℕ) → r.attrs ≡ p.attrs → r.tags ≡ p.tags → (w : IsWritten m q r (a + 1) bs)
+    → (a / 4096 ≡ q → get_or w.page.bytes (a % 4096) 0 ≡ b)
+    → ((o : ℕ) → ((i : ℕ) → i < length (b ∷ bs) → a + i ≢ 4096 * q + o) → get_or w.page.bytes o 0 ≡ get_or p.bytes o 0)
+    → IsWritten m q p a (b ∷ bs)
+with_first m q a b p r bs x t w first others = record {
   page = w.page;
   at = w.at;
-  attrs = w.attrs;
-  tags = w.tags;
-  long = w.long;
-  inside = λ i l e. elim (cases_eq i 0) [
-    | inl z ↦ absurd (n (omega arith))
-    | inr k ↦
-        let less : i ≡ suc (i - 1) = omega arith in
-        let same : a + i ≡ a + 1 + (i - 1) = omega arith in
-        ap (λ j. get_or w.page.bytes (j % 4096) 0) same ∙ w.inside (i - 1) (omega arith) (omega arith) ∙ sym (ap (λ j. get_or (b ∷ bs) j 0) less)
-  ];
-  outside = λ o f. w.outside o (λ i l e. f (i + 1) (omega arith) (omega arith));
-}
-
--- the first byte lies in the page
-this_first : (m : Memory) (q a b : ℕ) (p : Page) (bs : List ℕ) → a / 4096 ≡ q → length p.bytes ≡ 4096
-    → IsWritten m q (record p { bytes = set p.bytes (a % 4096) b }) (a + 1) bs → IsWritten m q p a (b ∷ bs)
-this_first m q a b p bs s whole w = record {
-  page = w.page;
-  at = w.at;
-  attrs = w.attrs;
-  tags = w.tags;
+  attrs = w.attrs ∙ x;
+  tags = w.tags ∙ t;
   long = w.long;
   inside = λ i l e. elim (cases_eq i 0) [
     | inl z ↦
         let same : a + i ≡ a = omega arith in
-        ap (λ j. get_or w.page.bytes (j % 4096) 0) same
-        ∙ w.outside (a % 4096) (λ j k f. absurd (omega arith))
-        ∙ get_or-set_same p.bytes (a % 4096) b 0 (omega arith)
-        ∙ sym (ap (λ j. get_or (b ∷ bs) j 0) z)
+        ap (λ j. get_or w.page.bytes (j % 4096) 0) same ∙ first (omega arith) ∙ sym (ap (λ j. get_or (b ∷ bs) j 0) z)
     | inr k ↦
         let less : i ≡ suc (i - 1) = omega arith in
         let same : a + i ≡ a + 1 + (i - 1) = omega arith in
         ap (λ j. get_or w.page.bytes (j % 4096) 0) same ∙ w.inside (i - 1) (omega arith) (omega arith) ∙ sym (ap (λ j. get_or (b ∷ bs) j 0) less)
   ];
-  outside = λ o f.
-      let apart : o ≢ a % 4096 = λ e. f 0 (omega arith) (omega arith) in
-      w.outside o (λ i l e. f (i + 1) (omega arith) (omega arith)) ∙ get_or-set_other p.bytes (a % 4096) o b 0 apart;
+  outside = others;
 }
+
+-- the first byte lies in another page
+other_first : (m : Memory) (q a b : ℕ) (p : Page) (bs : List ℕ) → a / 4096 ≢ q → IsWritten m q p (a + 1) bs → IsWritten m q p a (b ∷ bs)
+other_first m q a b p bs n w =
+    with_first m q a b p p bs refl refl w (λ e. absurd (n e))
+    (λ o f. w.outside o (λ i l e. f (i + 1) (omega arith) (omega arith)))
+
+-- the first byte lies in the page
+this_first : (m : Memory) (q a b : ℕ) (p : Page) (bs : List ℕ) → a / 4096 ≡ q → length p.bytes ≡ 4096
+    → IsWritten m q (record p { bytes = set p.bytes (a % 4096) b }) (a + 1) bs → IsWritten m q p a (b ∷ bs)
+this_first m q a b p bs s whole w =
+    with_first m q a b p (record p { bytes = set p.bytes (a % 4096) b }) bs refl refl w
+    (λ e. w.outside (a % 4096) (λ j k f. absurd (omega arith)) ∙ get_or-set_same p.bytes (a % 4096) b 0 (omega arith))
+    (λ o f.
+    let apart : o ≢ a % 4096 = λ e. f 0 (omega arith) (omega arith) in
+    w.outside o (λ i l e. f (i + 1) (omega arith) (omega arith)) ∙ get_or-set_other p.bytes (a % 4096) o b 0 apart)
 
 pub page_written : (bs : List ℕ) (m : Memory) (q : ℕ) (p : Page) (a : ℕ) → a + length bs < 2 ^ 56 → page_at m q ≡ Some p → length p.bytes ≡ 4096
     → IsWritten (with_bytes m (addresses a (length bs)) bs) q p a bs

@@ -12,6 +12,7 @@ use Rattle.scudo_header.specs.declared.config.TheConstants.{MAX_REQUEST}
 use Rattle.scudo_heap.specs.Placing.{World}
 use Rattle.scudo_heap.specs.Allocation.{no_chunk, is_alignment, after_allocate}
 use Rattle.scudo_heap.specs.Inner.{IsAlign}
+use Rattle.scudo_heap.proofs.MapLemmas.{and-both, le-of}
 
 pub after-allocate-over : (w : World) (o : Origin) (a n : ℕ) → MAX_REQUEST < n → no_chunk w ≡ after_allocate w o a n
 unfolding after_allocate
@@ -31,13 +32,6 @@ some-power (suc len) a n l e = elim (n == 2 ^ a) as (λ b. (n == 2 ^ a) ≡ b �
 
 abbrev is_align : ℕ → Bool
 is_align n = nat_le 16 n && (nat_le n 4096 && (n % 16 == 0))
-
-and-both : (a b : Bool) → (a && b) ≡ true → (a ≡ true) × (b ≡ true)
-and-both true b h = (refl, h)
-and-both false b h = cc
-
-le-of : (a b : ℕ) → nat_le a b ≡ true → a ≤ b
-le-of a b h = grind (arith, nat_tests)
 
 all-align : (k : ℕ) → k < 13 → is_align (max (2 ^ k) 16) ≡ true
 all-align k l = below-true 13 (λ j. is_align (max (2 ^ j) 16)) refl k l

@@ -1,5 +1,5 @@
 -- What the heap calls leave: pages elsewhere as they were, and a heap that is sound with its memory.
-use Rattle.std.proofs.Common.{◌≡◌, ◌≢◌, ℕ, ◌+◌, ◌*◌, ◌/◌, ◌%◌, ◌^◌, ◌<◌, ◌≤◌, ◌==◌, ◌&&◌, nat_le, min, max, Bool, true, false, List, [], ◌∷◌, Option, Some, None, Result, Ok, Err, refl, sym, ap, ◌∙◌, arith}
+use Rattle.std.proofs.Common.{◌≡◌, ◌≢◌, ℕ, ◌+◌, ◌*◌, ◌/◌, ◌%◌, ◌^◌, ◌<◌, ◌≤◌, ◌==◌, ◌&&◌, nat_le, min, max, true, false, List, [], ◌∷◌, Option, Some, None, Result, Ok, Err, refl, sym, ap, ◌∙◌, arith}
 use Rattle.std.proofs.lemmas.Bool.Decides.{nat_tests}
 use Rattle.a64_bits.specs.Addresses.{plain}
 use Rattle.address_map.specs.declared.limits.TheConstants.{PAGE_SIZE}
@@ -41,7 +41,7 @@ use Rattle.scudo_heap.proofs.BesideLemmas.{is-with-free-block, class-enough, pla
 use Rattle.scudo_heap.proofs.CheckLemmas.{mapping-bounds}
 use Rattle.scudo_heap.proofs.FoundLemmas.{check-pointer-is}
 use Rattle.scudo_heap.proofs.LargeLemmas.{after_map_chunk, is-large}
-use Rattle.scudo_heap.proofs.MapLemmas.{is-at}
+use Rattle.scudo_heap.proofs.MapLemmas.{is-at, and-both}
 use Rattle.scudo_heap.proofs.ServedLemmas.{class-after-carve, same-after-pop, same-after-push}
 use Rattle.mte_tags.proofs.StateLaws.{state-with_new_pages, state-without_pages}
 use Rattle.scudo_heap.proofs.FirstLemmas.{served-same}
@@ -160,10 +160,6 @@ after-grow-others w c v k =
 after-grow-state : (w : World) (c : ℕ) → (after_grow w c).memory.state ≡ w.memory.state
 unfolding after_grow
 after-grow-state w c = state-with_new_pages (more_pages c) w.memory (next_page w.heap.stacks c) heap_attrs
-
-and-both : (a b : Bool) → (a && b) ≡ true → (a ≡ true) × (b ≡ true)
-and-both true b h = (refl, h)
-and-both false b h = cc
 
 class-with-free-block : (w : World) (c : ℕ) → HeapOwnsItsPages w.memory w.heap → IsClass c → IsClassReady w (with_free_block w c) c
 unfolding with_free_block

@@ -1,12 +1,12 @@
 -- The condition of the calls, at the start and after what others do.
-use Rattle.std.proofs.Common.{◌≡◌, ℕ, ◌+◌, ◌/◌, ◌<◌, ◌≤◌, nat_lt, Bool, true, false, Result, is_ok, List, None, refl, sym, ap, subst, ◌∙◌, arith, cond, []}
+use Rattle.std.proofs.Common.{◌≡◌, ℕ, ◌+◌, ◌/◌, ◌<◌, ◌≤◌, nat_lt, Bool, true, false, Result, is_ok, List, None, refl, sym, ap, subst, ◌∙◌, arith, []}
 use Rattle.std.proofs.lemmas.Bool.{cond-false}
-use Rattle.mte_tags.specs.Memory.{Memory, attrs_at, attrs_cases, pages_left, no_pages, page_at, with_pending, with_granules}
+use Rattle.mte_tags.specs.Memory.{Memory, attrs_at, attrs_cases, pages_left, no_pages, with_granules}
 use Rattle.mte_tags.specs.declared.state.TagMode.{TagMode}
 use Rattle.std.specs.Prelude.{if◌then◌else◌}
-use Rattle.mte_tags.specs.Accesses.{after_write, access_cases, after_access, after_read}
+use Rattle.mte_tags.specs.Accesses.{after_write, after_read}
 use Rattle.mte_tags.specs.declared.fault.MemFault.{MemFault}
-use Rattle.mte_tags.proofs.PageLaws.{attrs_at-with-bytes-at, pages_left-with-bytes-at, attrs_at-with_granules, pages_left-with_granules}
+use Rattle.mte_tags.proofs.PageLaws.{attrs_at-with_granules, pages_left-with_granules}
 use Rattle.mte_tags.proofs.Pages.{page_at-no_pages}
 use Rattle.mte_tags.proofs.StateLaws.{attrs-after_read, attrs-after_write, left-after_read, left-after_write}
 use Rattle.scudo_primary.specs.Blocks.{IsClass}
@@ -19,7 +19,6 @@ use Rattle.scudo_secondary.specs.Mappings.{pages_of}
 use Rattle.scudo_heap.specs.Served.{HeapOwnsItsPages, IsUntouched}
 use Rattle.scudo_heap.proofs.StackLemmas.{class_at-stacks_by}
 use Rattle.scudo_heap.proofs.ServedLemmas.{served-on, same-pages, lt-false}
-use Rattle.mte_tags.specs.declared.access.Access.{Access}
 use Rattle.mte_tags.specs.declared.generator.Rgsr.{Rgsr}
 use Rattle.scudo_secondary.proofs.MappingLemmas.{none_ordered}
 use Rattle.scudo_heap.specs.Placing.{world_of}

@@ -1,10 +1,11 @@
 -- What a chunk is that the checks found.
-use Rattle.std.proofs.Common.{◌≡◌, ℕ, ◌+◌, ◌-◌, ◌*◌, ◌%◌, ◌^◌, ◌<◌, ◌≤◌, ◌==◌, ◌&&◌, nat_lt, nat_le, Bool, true, false, cond, List, [], ◌∷◌, Option, Some, None, Result, Ok, Err, refl, sym, ap, subst, ◌∙◌, arith}
+use Rattle.std.proofs.Common.{◌≡◌, ℕ, ◌+◌, ◌-◌, ◌*◌, ◌%◌, ◌^◌, ◌<◌, ◌≤◌, ◌==◌, ◌&&◌, nat_le, Bool, true, false, cond, List, [], ◌∷◌, Option, Some, None, Result, Ok, Err, refl, sym, ap, subst, ◌∙◌, arith}
 use Rattle.std.proofs.lemmas.Bool.{eqb-true}
 use Rattle.std.proofs.lemmas.Bool.Decides.{nat_tests}
 use Rattle.std.specs.Option.{IfSome}
 use Rattle.std.specs.List.{find}
 use Rattle.std.specs.Int.{from_le_bytes, w64}
+use Rattle.a64_bits.specs.Addresses.{plain}
 use Rattle.mte_tags.specs.Memory.{Memory}
 use Rattle.mte_tags.specs.Accesses.{read_bytes}
 use Rattle.scudo_header.specs.declared.headers.Header.{Header}
@@ -22,6 +23,7 @@ use Rattle.scudo_heap.specs.Heaps.{HeapState}
 use Rattle.scudo_heap.specs.Checks.{is_block, is_place, place_of_header, header_at, check_block, check_mapping, check_chunk, check_header, check_pointer}
 use Rattle.scudo_heap.specs.Inner.{IsPlaced, IsFoundBlock, IsFound}
 use Rattle.scudo_heap.proofs.CheckLemmas.{tags-of-bytes-small}
+use Rattle.scudo_heap.proofs.MapLemmas.{and-both, le-of, lt-of}
 
 ok-then : (b : Bool) (x : Result Found HeapAbort) (e : HeapAbort) (f : Found) → cond b x (Err e) ≡ Ok f → (b ≡ true) × (x ≡ Ok f)
 ok-then true x e f h = (refl, h)
@@ -30,16 +32,6 @@ ok-then false x e f h = cc
 ok-else : (b : Bool) (x : Result Found HeapAbort) (e : HeapAbort) (f : Found) → cond b (Err e) x ≡ Ok f → (b ≡ false) × (x ≡ Ok f)
 ok-else true x e f h = cc
 ok-else false x e f h = (refl, h)
-
-and-both : (a b : Bool) → (a && b) ≡ true → (a ≡ true) × (b ≡ true)
-and-both true b h = (refl, h)
-and-both false b h = cc
-
-le-of : (a b : ℕ) → nat_le a b ≡ true → a ≤ b
-le-of a b h = grind (arith, nat_tests)
-
-lt-of : (a b : ℕ) → nat_lt a b ≡ true → a < b
-lt-of a b h = grind (arith, nat_tests)
 
 block-of : (s : StackState) (c b : ℕ) → is_block s c b ≡ true → IsBlock c (pages_of s c) b
 block-of s c b h =
@@ -144,3 +136,7 @@ check-pointer-is m h user f e =
     let x = ok-then _ _ _ _ e in
     let y = ok-then _ _ _ _ x.1 in
     by-check-pointer h user (header_at m h.cookie user) f (eqb-true _ _ x.0) (header-small m h.cookie user) y.1
+
+-- a check of the heap that is seen, at the plain address
+pub check-plain : (m : Memory) (h k : HeapState) (q p : ℕ) (r : Result Found HeapAbort) → r ≡ check_pointer m k q → k ≡ h → q ≡ plain p → r ≡ check_pointer m h (plain p)
+check-plain m h k q p r e s t = e ∙ ap (λ o. check_pointer m o q) s ∙ ap (check_pointer m h) t

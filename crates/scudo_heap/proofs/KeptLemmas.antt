@@ -1,5 +1,5 @@
 -- A block that is used and a mapping stay theirs when others are taken.
-use Rattle.std.proofs.Common.{◌≡◌, ◌≢◌, ℕ, zero, suc, ◌+◌, ◌-◌, ◌*◌, ◌/◌, ◌<◌, ◌≤◌, ◌⊎◌, ◌==◌, ◌&&◌, ◌||◌, nat_lt, Bool, true, false, cond, List, [], ◌∷◌, ◌++◌, drop, Some, refl, sym, ap, subst, ◌∙◌, inl, inr, arith}
+use Rattle.std.proofs.Common.{◌≡◌, ◌≢◌, ℕ, zero, suc, ◌+◌, ◌-◌, ◌*◌, ◌/◌, ◌<◌, ◌≤◌, ◌⊎◌, ◌==◌, ◌||◌, nat_lt, Bool, true, false, cond, List, [], ◌∷◌, ◌++◌, drop, Some, sym, ap, subst, ◌∙◌, inl, inr, arith}
 use Rattle.std.proofs.lemmas.Bool.{cases_eq, cases_lt}
 use Rattle.std.proofs.lemmas.Bool.Decides.{nat_tests}
 use Rattle.std.proofs.Math.Nat.{mul-le-mul_right}
@@ -19,6 +19,7 @@ use Rattle.scudo_secondary.proofs.PlaceLemmas.{apart_true}
 use Rattle.scudo_heap.specs.Stacks.{ClassHeap, StackState, pages_of, stack_of, with_class, after_pop, after_carve}
 use Rattle.scudo_heap.proofs.StackLemmas.{class_at-with_class, class_at-with_class_other}
 use Rattle.scudo_heap.proofs.ServedLemmas.{class-after-carve, class-carved_other}
+use Rattle.scudo_heap.proofs.MapLemmas.{and-both}
 
 -- ---- blocks
 
@@ -151,10 +152,6 @@ blocks-apart s c d a b kc kd ha hb few n = elim (cases_eq c d) [
 ]
 
 -- ---- mappings
-
-and-both : (a b : Bool) → (a && b) ≡ true → (a ≡ true) × (b ≡ true)
-and-both true b h = (refl, h)
-and-both false b h = cc
 
 -- a mapping is apart from where another is made
 pub mapping-apart : (ms : List Mapping) (pages start user : ℕ) (n : Mapping) → list_all (is_apart pages start) ms ≡ true → Some n ≡ mapping_of ms user → (end_of n + PAGE_SIZE ≤ start) ⊎ (start + PAGE_SIZE * pages + PAGE_SIZE ≤ n.start)

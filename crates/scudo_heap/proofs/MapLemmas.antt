@@ -59,14 +59,14 @@ pub record IsWithout (ms : List Mapping) (least : ℕ) (n : Mapping) : Type 0 wh
   pub out_of_it : (a : ℕ) → is_inside a n ≡ false → list_any (is_inside a) (others_of n.user ms) ≡ list_any (is_inside a) ms
   pub there : (a : ℕ) → is_inside a n ≡ true → list_any (is_inside a) ms ≡ true
 
-and-both : (a b : Bool) → (a && b) ≡ true → (a ≡ true) × (b ≡ true)
+pub and-both : (a b : Bool) → (a && b) ≡ true → (a ≡ true) × (b ≡ true)
 and-both true b h = (refl, h)
 and-both false b h = cc
 
-le-of : (a b : ℕ) → nat_le a b ≡ true → a ≤ b
+pub le-of : (a b : ℕ) → nat_le a b ≡ true → a ≤ b
 le-of a b h = grind (arith, nat_tests)
 
-lt-of : (a b : ℕ) → nat_lt a b ≡ true → a < b
+pub lt-of : (a b : ℕ) → nat_lt a b ≡ true → a < b
 lt-of a b h = grind (arith, nat_tests)
 
 inside-of : (a : ℕ) (m : Mapping) → is_inside a m ≡ true → (m.start ≤ a) × (a < end_of m)
