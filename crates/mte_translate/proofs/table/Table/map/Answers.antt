@@ -29,25 +29,20 @@ returns-clause-table c =
     table-mapped _ c.want_leaf.new.pool _ _ _ _ _ _ _ _ _ _ h c.requires.low (subst (λ t. get (pages_of c.args.pool.now t.frame) c.args.page ≡ None) (sym c.self.view_is) c.requires.unmapped) put.attrs
     want.walks want.rest.slots want.added put.tree put.walk put.walks put.rest.slots
 
-pub returns-clause-pages : goal.returns-clause-pages
-returns-clause-pages c =
+inserted : (c : goal.After-self-2-1) → pages_of c.put_page.new.pool c.self.inside.root ≡ insert (pages_of c.args.pool.now c.args.self.now.frame) c.args.page (c.args.frame, c.args.attrs)
+inserted c =
     let h = subst (IsTable c.args.pool.now c.args.quota.now) (sym c.self.view_is) c.requires.table in
     let want = c.want_leaf.ensures in
     let put = c.put_page.ensures in
     let pages = pages-mapped _ c.want_leaf.new.pool _ _ _ _ _ _ _ _ _ _ h c.requires.low (subst (λ t. get (pages_of c.args.pool.now t.frame) c.args.page ≡ None) (sym c.self.view_is) c.requires.unmapped) put.attrs
     want.walks want.rest.slots want.added put.tree put.walk put.walks put.rest.slots in
-    let all = pages ∙ ap (λ t. insert (pages_of c.args.pool.now t.frame) c.args.page (c.args.frame, c.args.attrs)) c.self.view_is in
-    all
+    pages ∙ ap (λ t. insert (pages_of c.args.pool.now t.frame) c.args.page (c.args.frame, c.args.attrs)) c.self.view_is
+
+pub returns-clause-pages : goal.returns-clause-pages
+returns-clause-pages c = inserted c
 
 pub returns-clause-once : goal.returns-clause-once
-returns-clause-once c =
-    let h = subst (IsTable c.args.pool.now c.args.quota.now) (sym c.self.view_is) c.requires.table in
-    let want = c.want_leaf.ensures in
-    let put = c.put_page.ensures in
-    let pages = pages-mapped _ c.want_leaf.new.pool _ _ _ _ _ _ _ _ _ _ h c.requires.low (subst (λ t. get (pages_of c.args.pool.now t.frame) c.args.page ≡ None) (sym c.self.view_is) c.requires.unmapped) put.attrs
-    want.walks want.rest.slots want.added put.tree put.walk put.walks put.rest.slots in
-    let all = pages ∙ ap (λ t. insert (pages_of c.args.pool.now t.frame) c.args.page (c.args.frame, c.args.attrs)) c.self.view_is in
-    λ never once. once-insert _ _ _ _ _ all never once
+returns-clause-once c = λ never once. once-insert _ _ _ _ _ (inserted c) never once
 
 pub returns-clause-others : goal.returns-clause-others
 returns-clause-others c = let want = c.want_leaf.ensures in let put = c.put_page.ensures in keeps-then _ _ _ _ _ want.quota want.rest.others put.rest.others

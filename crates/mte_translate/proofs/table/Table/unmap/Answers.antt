@@ -40,8 +40,8 @@ returns-clause-table c =
     let trim = c.trim_leaf.ensures in
     table-unmapped _ c.take_page.new.pool c.trim_leaf.new.pool _ _ _ _ _ _ _ h low mapped take.walk take.walks take.rest.slots trim.tree trim.tight trim.walks trim.rest.slots trim.dropped
 
-pub returns-clause-pages : goal.returns-clause-pages
-returns-clause-pages c =
+removed : (c : goal.After-self-2-1) → pages_of c.trim_leaf.new.pool c.self.inside.root ≡ remove (pages_of c.args.pool.now c.args.self.now.frame) c.args.page
+removed c =
     let h = subst (IsTable c.args.pool.now c.args.quota.now) (sym c.self.view_is) c.requires in
     let found = sym c.walk.ensures ∙ c.in_ok-frame.was in
     let low = page-low _ _ _ _ found in
@@ -51,27 +51,14 @@ returns-clause-pages c =
     let pages = pages-unmapped _ c.take_page.new.pool c.trim_leaf.new.pool _ _ _ _ _ _ _ h low mapped take.walk take.walks take.rest.slots trim.tree trim.tight trim.walks trim.rest.slots trim.dropped in
     pages ∙ ap (λ t. remove (pages_of c.args.pool.now t.frame) c.args.page) c.self.view_is
 
+pub returns-clause-pages : goal.returns-clause-pages
+returns-clause-pages c = removed c
+
 pub returns-clause-once : goal.returns-clause-once
-returns-clause-once c =
-    let h = subst (IsTable c.args.pool.now c.args.quota.now) (sym c.self.view_is) c.requires in
-    let found = sym c.walk.ensures ∙ c.in_ok-frame.was in
-    let low = page-low _ _ _ _ found in
-    let mapped = subst (λ t. is_valid (walk_at c.args.pool.now t.frame c.args.page) ≡ true) (sym c.self.view_is) (page-mapped _ _ _ _ found) in
-    let take = c.take_page.ensures in
-    let trim = c.trim_leaf.ensures in
-    let pages = pages-unmapped _ c.take_page.new.pool c.trim_leaf.new.pool _ _ _ _ _ _ _ h low mapped take.walk take.walks take.rest.slots trim.tree trim.tight trim.walks trim.rest.slots trim.dropped in
-    λ once. once-remove _ _ _ (pages ∙ ap (λ t. remove (pages_of c.args.pool.now t.frame) c.args.page) c.self.view_is) once
+returns-clause-once c = λ once. once-remove _ _ _ (removed c) once
 
 pub returns-clause-never : goal.returns-clause-never
-returns-clause-never c =
-    let h = subst (IsTable c.args.pool.now c.args.quota.now) (sym c.self.view_is) c.requires in
-    let found = sym c.walk.ensures ∙ c.in_ok-frame.was in
-    let low = page-low _ _ _ _ found in
-    let mapped = subst (λ t. is_valid (walk_at c.args.pool.now t.frame c.args.page) ≡ true) (sym c.self.view_is) (page-mapped _ _ _ _ found) in
-    let take = c.take_page.ensures in
-    let trim = c.trim_leaf.ensures in
-    let pages = pages-unmapped _ c.take_page.new.pool c.trim_leaf.new.pool _ _ _ _ _ _ _ h low mapped take.walk take.walks take.rest.slots trim.tree trim.tight trim.walks trim.rest.slots trim.dropped in
-    λ once. never-after _ _ _ _ _ (pages ∙ ap (λ t. remove (pages_of c.args.pool.now t.frame) c.args.page) c.self.view_is) found once
+returns-clause-never c = λ once. never-after _ _ _ _ _ (removed c) (sym c.walk.ensures ∙ c.in_ok-frame.was) once
 
 pub returns-clause-free : goal.returns-clause-free
 returns-clause-free c =
