@@ -25,13 +25,8 @@ pub struct Made {
 
 impl fmt::Display for Made {
     fn fmt<W: fmt::Write>(&self, f: &mut fmt::Formatter<W>) -> fmt::Result {
-        let Made {
-            number,
-            step,
-            pc,
-            call,
-        } = self;
-        let (call, answer) = (CallText(call.call), call.answer);
+        let (number, step, pc) = (self.number, self.step, self.pc);
+        let (call, answer) = (CallText(self.call.call), self.call.answer);
         write!(
             f,
             "call {number}, {call} = {answer:#018x} by the SVC at {pc:#018x}, step {step}"

@@ -4,7 +4,7 @@ use crate::cell::{CELL_WIDTH, Cell};
 use crate::layout::{GRANULES, PITCH};
 use crate::part::Part::{Hexadecimal, Number, Text};
 use crate::part::write_parts;
-use crate::row::{Boundaries, Cells, PictureRow};
+use crate::row::{Boundaries, Cells, FirstGranules, PictureRow};
 use crate::run::RowChunks;
 use std::fmt;
 
@@ -81,7 +81,8 @@ impl fmt::Display for PictureLine {
             write_parts(f, &[start, Number(row.size), Text(" B</text>")])?;
         }
         let shown = row.shown(frame.map(|frame| frame.index));
-        let (cells, boundaries) = (Cells { row, shown }, Boundaries { row, shown });
+        let granules = FirstGranules { row, shown };
+        let (cells, boundaries) = (Cells(granules), Boundaries(granules));
         let chunks = RowChunks(row);
         write!(f, "{cells}{boundaries}{chunks}")?;
         if let Some(frame) = frame {

@@ -20,12 +20,12 @@ pub enum Kind {
 
 impl fmt::Display for Kind {
     fn fmt<W: fmt::Write>(&self, f: &mut fmt::Formatter<W>) -> fmt::Result {
-        match self {
-            Kind::Image => f.write_str("image"),
-            Kind::Class(class) => write!(f, "class {class}"),
-            Kind::Large => f.write_str("large chunk"),
-            Kind::Stack => f.write_str("stack"),
-        }
+        f.write_str(match self {
+            Kind::Image => "image",
+            Kind::Class(class) => return write!(f, "class {class}"),
+            Kind::Large => "large chunk",
+            Kind::Stack => "stack",
+        })
     }
 }
 

@@ -96,19 +96,24 @@ impl PictureRow {
     }
 }
 
-/// The first granules of a row, each in the colour of its tag.
+/// The first granules of a row.
 #[derive(Clone, Copy)]
-pub struct Cells<'a> {
+pub struct FirstGranules<'a> {
     /// The row.
     pub row: &'a PictureRow,
     /// How many granules.
     pub shown: usize,
 }
 
+/// Granules, each in the colour of its tag.
+#[derive(Clone, Copy)]
+pub struct Cells<'a>(pub FirstGranules<'a>);
+
 impl<'a> fmt::Display for Cells<'a> {
     fn fmt<W: fmt::Write>(&self, f: &mut fmt::Formatter<W>) -> fmt::Result {
-        for (index, granule) in self.row.granules.iter().enumerate() {
-            if index < self.shown {
+        let FirstGranules { row, shown } = self.0;
+        for (index, granule) in row.granules.iter().enumerate() {
+            if index < shown {
                 let cell = Cell {
                     x: CELL_WIDTH * index as u64,
                     tag: granule.tag,
@@ -120,20 +125,16 @@ impl<'a> fmt::Display for Cells<'a> {
     }
 }
 
-/// A line before each block that begins in the first granules of a row.
+/// A line before each block that begins in granules.
 #[derive(Clone, Copy)]
-pub struct Boundaries<'a> {
-    /// The row.
-    pub row: &'a PictureRow,
-    /// How many granules.
-    pub shown: usize,
-}
+pub struct Boundaries<'a>(pub FirstGranules<'a>);
 
 impl<'a> fmt::Display for Boundaries<'a> {
     fn fmt<W: fmt::Write>(&self, f: &mut fmt::Formatter<W>) -> fmt::Result {
+        let FirstGranules { row, shown } = self.0;
         f.write_str("<path class=\"block\" d=\"")?;
         for index in 0..GRANULES {
-            if index < self.shown && self.row.begins_block(index) {
+            if index < shown && row.begins_block(index) {
                 let x = Number(CELL_WIDTH * index as u64);
                 write_parts(f, &[Text("M"), x, Text(",-2v22")])?;
             }

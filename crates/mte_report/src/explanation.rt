@@ -84,7 +84,10 @@ impl<'a> Report<'a> {
             frames.push_instruction(moment.regs.pc)?;
         }
         match self.store {
-            Some(store) => self.push_store(alloc, frames, store),
+            Some(store) => {
+                let stack = self.stack_of_store(alloc, store)?;
+                stack.push_frames(frames)
+            }
             None => Ok(()),
         }
     }
@@ -92,17 +95,6 @@ impl<'a> Report<'a> {
     /// The instruction in front of the last one, if it is known.
     fn branch(&self) -> Option<&'a Moment> {
         branch_in(self.last?)
-    }
-
-    /// Adds the addresses of the calls that led to a store.
-    fn push_store(
-        &self,
-        alloc: Global,
-        frames: &mut FrameAddresses,
-        store: &LastStore,
-    ) -> Result<(), AllocError> {
-        let stack = self.stack_of_store(alloc, store)?;
-        stack.push_frames(frames)
     }
 
     /// Adds the addresses of the calls that led to the heap calls of a cause.

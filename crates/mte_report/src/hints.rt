@@ -1,38 +1,31 @@
 //! What led to a cause that no chunk explains.
 
-use crate::report::Report;
+use crate::context::Context;
 use circular_buffer::HeapCircularBuffer;
 use instruction_trace::{Instruction, Moment};
 use mte_backtrace::FrameNames;
 use run_book::{BookEntry, EntryText};
 use run_cause::{Cause, LastStore, TargetLoad, branch_in};
-use std::alloc::Global;
 use std::io;
 use std::io::Write;
 
 /// The most bytes of a chunk.
 const MOST: u64 = 1_048_576;
 
-impl<'a> Report<'a> {
+impl<'a> Context<'a> {
     /// Writes what led to a null pointer or to a jump to no code, as far as it is known.
-    pub(crate) fn tell_hint<W: Write>(
-        &self,
-        alloc: Global,
-        out: &mut W,
-        cause: &Cause,
-        names: &FrameNames<'_>,
-    ) -> io::Result<()> {
+    pub(crate) fn tell_hint<W: Write>(&self, out: &mut W, cause: &Cause) -> io::Result<()> {
         match cause {
-            Cause::NullPointer => match self.book.newest_refused() {
+            Cause::NullPointer => match self.report.book.newest_refused() {
                 Some(entry) => tell_refused(out, &entry),
                 None => Ok(()),
             },
             Cause::WildJump => {
-                if let Some(last) = self.last {
-                    tell_jump(out, last, names)?;
+                if let Some(last) = self.report.last {
+                    tell_jump(out, last, self.names)?;
                 }
-                match self.store {
-                    Some(store) => self.tell_store(alloc, out, store, names),
+                match self.report.store {
+                    Some(store) => self.tell_store(out, store),
                     None => Ok(()),
                 }
             }
@@ -41,26 +34,20 @@ impl<'a> Report<'a> {
     }
 
     /// Writes what wrote the target of a jump last, and the calls that led there.
-    fn tell_store<W: Write>(
-        &self,
-        alloc: Global,
-        out: &mut W,
-        store: &LastStore,
-        names: &FrameNames<'_>,
-    ) -> io::Result<()> {
+    fn tell_store<W: Write>(&self, out: &mut W, store: &LastStore) -> io::Result<()> {
         let LastStore { addr, step, pc, .. } = *store;
         let what = if store.is_return {
             "return address"
         } else {
             "target"
         };
-        let frame = names.instruction(pc);
+        let frame = self.names.instruction(pc);
         writeln!(
             out,
             "  the {what} at {addr:#018x} was last written by {frame}, step {step}"
         )?;
-        let stack = self.stack_of_store(alloc, store)?;
-        stack.write(out, names, "    ")
+        let stack = self.report.stack_of_store(self.alloc, store)?;
+        stack.write(out, self.names, "    ")
     }
 }
 

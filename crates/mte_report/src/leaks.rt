@@ -1,11 +1,12 @@
 //! The chunks that are live at the end, by the calls that made them.
 
+use crate::context::Context;
 use crate::report::Report;
 use mte_backtrace::{FrameAddresses, FrameNames};
-use run_book::{BookChunk, BookEntry, Bytes};
+use run_book::{BookChunk, BookEntry, Bytes, Count};
 use std::alloc::{AllocError, Global};
+use std::io;
 use std::io::Write;
-use std::{fmt, io};
 
 /// How many places are written.
 const PLACES: usize = 256;
@@ -67,17 +68,10 @@ impl Places {
 }
 
 /// A number of chunks.
-#[derive(Clone, Copy)]
-struct ChunkCount(u64);
-
-impl fmt::Display for ChunkCount {
-    fn fmt<W: fmt::Write>(&self, f: &mut fmt::Formatter<W>) -> fmt::Result {
-        let ChunkCount(count) = self;
-        if *count == 1 {
-            f.write_str("1 chunk")
-        } else {
-            write!(f, "{count} chunks")
-        }
+fn chunk_count(number: u64) -> Count {
+    Count {
+        number,
+        unit: "chunk",
     }
 }
 
@@ -92,9 +86,16 @@ impl<'a> Report<'a> {
     /// places.
     pub fn write_leaks<W: Write>(&self, alloc: Global, out: &mut W) -> io::Result<()> {
         let places = self.live_places(alloc)?;
-        let (chunks, bytes) = (ChunkCount(places.chunks), Bytes(places.bytes));
+        let (chunks, bytes) = (chunk_count(places.chunks), Bytes(places.bytes));
         writeln!(out, "live at the end: {chunks}, {bytes}")?;
-        self.write_places(alloc, out, places.places.as_slice())
+        let places = places.places.as_slice();
+        let names = self.place_names(alloc, places)?;
+        let context = Context {
+            alloc,
+            report: self,
+            names: &names,
+        };
+        context.write_places(out, places)
     }
 
     /// The places of the chunks that are live.
@@ -103,17 +104,6 @@ impl<'a> Report<'a> {
         let mut places = Places::new(alloc);
         places.enter_all(live.as_slice())?;
         Ok(places)
-    }
-
-    /// Writes places, each with the calls that led there.
-    fn write_places<W: Write>(
-        &self,
-        alloc: Global,
-        out: &mut W,
-        places: &[LeakPlace],
-    ) -> io::Result<()> {
-        let names = self.place_names(alloc, places)?;
-        self.write_named(alloc, out, places, &names)
     }
 
     /// What the addresses of places are called.
@@ -139,32 +129,22 @@ impl<'a> Report<'a> {
         }
         Ok(())
     }
+}
 
-    /// Writes places, by what their addresses are called.
-    fn write_named<W: Write>(
-        &self,
-        alloc: Global,
-        out: &mut W,
-        places: &[LeakPlace],
-        names: &FrameNames<'_>,
-    ) -> io::Result<()> {
+impl<'a> Context<'a> {
+    /// Writes places, each with the calls that led there.
+    fn write_places<W: Write>(&self, out: &mut W, places: &[LeakPlace]) -> io::Result<()> {
         for place in places {
-            self.write_place(alloc, out, place, names)?;
+            self.write_place(out, place)?;
         }
         out.flush()
     }
 
     /// Writes a place.
-    fn write_place<W: Write>(
-        &self,
-        alloc: Global,
-        out: &mut W,
-        place: &LeakPlace,
-        names: &FrameNames<'_>,
-    ) -> io::Result<()> {
-        let (chunks, bytes) = (ChunkCount(place.chunks), Bytes(place.bytes));
+    fn write_place<W: Write>(&self, out: &mut W, place: &LeakPlace) -> io::Result<()> {
+        let (chunks, bytes) = (chunk_count(place.chunks), Bytes(place.bytes));
         let number = place.entry.number;
         writeln!(out, "  {chunks}, {bytes}, the first by call {number}")?;
-        self.tell_stack(alloc, out, &place.entry, names)
+        self.tell_stack(out, &place.entry)
     }
 }

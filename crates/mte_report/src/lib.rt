@@ -2,6 +2,7 @@
 //! it, the registers, the pages and the last instructions. And its heap as a picture.
 #![tactic(auto)]
 
+mod context;
 mod drawing;
 mod explanation;
 mod hints;
@@ -10,6 +11,7 @@ mod report;
 mod stacks;
 mod story;
 
+pub use context::Context;
 pub use explanation::Explanation;
 pub use instruction_trace::{Moment, SVC, Service, TraceLine, Turn};
 pub use report::Report;

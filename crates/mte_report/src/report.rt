@@ -185,8 +185,7 @@ struct At<'a> {
 
 impl<'a> fmt::Display for At<'a> {
     fn fmt<W: fmt::Write>(&self, f: &mut fmt::Formatter<W>) -> fmt::Result {
-        let At { pc, place } = self;
-        write!(f, "{pc:#018x}{place}")
+        write!(f, "{:#018x}{}", self.pc, self.place)
     }
 }
 
@@ -252,10 +251,10 @@ struct AccessSize(Option<u64>);
 
 impl fmt::Display for AccessSize {
     fn fmt<W: fmt::Write>(&self, f: &mut fmt::Formatter<W>) -> fmt::Result {
-        match self.0 {
-            Some(bytes) => write!(f, " of {}", Bytes(bytes)),
-            None => Ok(()),
+        if let Some(bytes) = self.0 {
+            write!(f, " of {}", Bytes(bytes))?;
         }
+        Ok(())
     }
 }
 
@@ -282,16 +281,11 @@ struct FaultTags<'a>(&'a MemFault);
 
 impl<'a> fmt::Display for FaultTags<'a> {
     fn fmt<W: fmt::Write>(&self, f: &mut fmt::Formatter<W>) -> fmt::Result {
-        let MemFault {
-            kind,
-            ptr_tag,
-            mem_tag,
-            ..
-        } = self.0;
-        match kind {
-            FaultKind::TagCheck => write!(f, " (pointer {ptr_tag:#x}, memory {mem_tag:#x})"),
-            _ => Ok(()),
+        if self.0.kind != FaultKind::TagCheck {
+            return Ok(());
         }
+        let (ptr_tag, mem_tag) = (self.0.ptr_tag, self.0.mem_tag);
+        write!(f, " (pointer {ptr_tag:#x}, memory {mem_tag:#x})")
     }
 }
 

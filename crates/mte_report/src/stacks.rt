@@ -1,8 +1,8 @@
 //! The calls that led to the end of a tenant, and to the heap calls that its cause names.
 
+use crate::context::Context;
 use crate::explanation::Explanation;
 use crate::report::Report;
-use mte_backtrace::FrameNames;
 use run_book::{Book, BookChunk, BookEntry, EntryText};
 use run_cause::{Cause, FoundCause, LastStore};
 use std::alloc::Global;
@@ -22,24 +22,16 @@ impl<'a> Report<'a> {
         let names = &explanation.names;
         explanation.stack.write(out, names, "  ")?;
         match &explanation.cause {
-            Some(cause) => self.tell_cause(alloc, out, cause, names),
+            Some(cause) => {
+                let context = Context {
+                    alloc,
+                    report: self,
+                    names,
+                };
+                context.tell_cause(out, cause)
+            }
             None => Ok(()),
         }
-    }
-
-    /// Writes a cause, and the calls of the chunks that it names.
-    fn tell_cause<W: Write>(
-        &self,
-        alloc: Global,
-        out: &mut W,
-        cause: &Cause,
-        names: &FrameNames<'_>,
-    ) -> io::Result<()> {
-        let found = self.found(cause);
-        writeln!(out, "Cause: {found}")?;
-        self.tell_chunks(alloc, out, cause, names)?;
-        self.tell_hint(alloc, out, cause, names)?;
-        tell_short(out, self.book)
     }
 
     /// A cause, behind what found it.
@@ -116,57 +108,48 @@ fn tell_short<W: Write>(out: &mut W, book: &Book) -> io::Result<()> {
     writeln!(out, "  (older heap calls are no longer kept)")
 }
 
-impl<'a> Report<'a> {
+impl<'a> Context<'a> {
+    /// Writes a cause, and the calls of the chunks that it names.
+    fn tell_cause<W: Write>(&self, out: &mut W, cause: &Cause) -> io::Result<()> {
+        let found = self.report.found(cause);
+        writeln!(out, "Cause: {found}")?;
+        self.tell_chunks(out, cause)?;
+        self.tell_hint(out, cause)?;
+        tell_short(out, self.report.book)
+    }
+
     /// Writes the chunks that a cause names.
-    fn tell_chunks<W: Write>(
-        &self,
-        alloc: Global,
-        out: &mut W,
-        cause: &Cause,
-        names: &FrameNames<'_>,
-    ) -> io::Result<()> {
+    fn tell_chunks<W: Write>(&self, out: &mut W, cause: &Cause) -> io::Result<()> {
         if let Some(chunk) = cause.chunk() {
-            self.tell_chunk(alloc, out, chunk, names)?;
+            self.tell_chunk(out, chunk)?;
         }
         match cause.young() {
             Some(young) => {
                 writeln!(out, "  its block was given again, as the {young}:")?;
-                self.tell_chunk(alloc, out, young, names)
+                self.tell_chunk(out, young)
             }
             None => Ok(()),
         }
     }
 
     /// Writes the calls that made and freed a chunk.
-    fn tell_chunk<W: Write>(
-        &self,
-        alloc: Global,
-        out: &mut W,
-        chunk: &BookChunk,
-        names: &FrameNames<'_>,
-    ) -> io::Result<()> {
+    fn tell_chunk<W: Write>(&self, out: &mut W, chunk: &BookChunk) -> io::Result<()> {
         let made = EntryText(&chunk.made);
         writeln!(out, "  allocated by {made}")?;
-        self.tell_stack(alloc, out, &chunk.made, names)?;
+        self.tell_stack(out, &chunk.made)?;
         match &chunk.freed {
             Some(entry) => {
                 let freed = EntryText(entry);
                 writeln!(out, "  freed by {freed}")?;
-                self.tell_stack(alloc, out, entry, names)
+                self.tell_stack(out, entry)
             }
             None => Ok(()),
         }
     }
 
     /// Writes the calls that led to a heap call.
-    pub(crate) fn tell_stack<W: Write>(
-        &self,
-        alloc: Global,
-        out: &mut W,
-        entry: &BookEntry,
-        names: &FrameNames<'_>,
-    ) -> io::Result<()> {
-        let stack = self.stack_of(alloc, entry)?;
-        stack.write(out, names, "    ")
+    pub(crate) fn tell_stack<W: Write>(&self, out: &mut W, entry: &BookEntry) -> io::Result<()> {
+        let stack = self.report.stack_of(self.alloc, entry)?;
+        stack.write(out, self.names, "    ")
     }
 }

@@ -22,17 +22,12 @@ struct RefusedAdmission {
 
 impl fmt::Display for RefusedAdmission {
     fn fmt<W: fmt::Write>(&self, f: &mut fmt::Formatter<W>) -> fmt::Result {
-        let RefusedAdmission {
-            event,
-            error,
-            terms,
-            left,
-        } = self;
-        let Terms { pages, room, .. } = terms;
+        let (event, error, left) = (self.event, self.error, self.left);
+        let Terms { pages, room, .. } = self.terms;
         write!(f, "event {event} is refused: {error}")?;
         match error {
             AdmitError::NoFrames => {
-                let wanted = charge(*pages);
+                let wanted = charge(pages);
                 write!(f, ": it takes {wanted} frames, and {left} are left")
             }
             AdmitError::ReservationTooSmall => {
@@ -47,7 +42,7 @@ impl fmt::Display for RefusedAdmission {
                     ": `frames {pages}` is not 1 to 4096, or `out {room}` is over 65536"
                 )
             }
-            _ => f.write_str(remedy_of(*error)),
+            _ => f.write_str(remedy_of(error)),
         }
     }
 }

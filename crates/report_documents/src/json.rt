@@ -3,13 +3,13 @@
 use a64_registers::Regs;
 use heap_bounds::CallText;
 use instruction_trace::Nzcv;
-use mte_backtrace::{FrameNames, Quoted};
+use mte_backtrace::Quoted;
 use mte_flat::Flat;
-use mte_report::{Explanation, Report};
+use mte_report::{Context, Explanation, Report};
 use mte_tags::MemFault;
 use mte_tenant::Status;
 use run_book::{BookChunk, BookEntry};
-use run_cause::{Cause, Finding, ForbiddenAccess, LastStore};
+use run_cause::{Cause, Finding};
 use run_statistics::Object;
 use std::alloc::Global;
 use std::io::Write;
@@ -54,9 +54,14 @@ fn write_explained<W: Write>(
     explanation: &Explanation<'_>,
     memory: &mut Flat,
 ) -> io::Result<()> {
+    let context = Context {
+        alloc,
+        report,
+        names: &explanation.names,
+    };
     write_end(out, report, explanation)?;
-    write_cause(alloc, out, report, explanation)?;
-    write_store(alloc, out, report, &explanation.names)?;
+    write_cause(out, &context, explanation)?;
+    write_store(out, &context)?;
     write_registers(out, report.regs())?;
     write_tags(out, report.address(), memory)?;
     write_pages(alloc, out, memory)?;
@@ -92,84 +97,41 @@ fn write_status<W: Write>(out: &mut W, report: &Report<'_>) -> io::Result<()> {
 
 /// Writes the cause, and the chunks that it names.
 fn write_cause<W: Write>(
-    alloc: Global,
     out: &mut W,
-    report: &Report<'_>,
+    context: &Context<'_>,
     explanation: &Explanation<'_>,
 ) -> io::Result<()> {
     match &explanation.cause {
-        Some(cause) => write_judged(alloc, out, report, cause, &explanation.names),
+        Some(cause) => write_judged(out, context, cause),
         None => writeln!(out, "\"cause\":null,\n\"chunks\":[],"),
     }
 }
 
 /// Writes a cause, and the chunks that it names.
-fn write_judged<W: Write>(
-    alloc: Global,
-    out: &mut W,
-    report: &Report<'_>,
-    cause: &Cause,
-    names: &FrameNames<'_>,
-) -> io::Result<()> {
-    write_cause_text(alloc, out, report, cause)?;
+fn write_judged<W: Write>(out: &mut W, context: &Context<'_>, cause: &Cause) -> io::Result<()> {
+    let found = context.report.found(cause);
+    let text = format!(in context.alloc; "{found}")?;
+    let text = Quoted(text.as_str());
+    writeln!(out, "\"cause\":{text},")?;
     write!(out, "\"chunks\":[")?;
-    write_chunks(alloc, out, report, cause, names)?;
+    write_chunks(out, context, cause)?;
     writeln!(out, "],")
 }
 
-/// Writes the text of a cause.
-fn write_cause_text<W: Write>(
-    alloc: Global,
-    out: &mut W,
-    report: &Report<'_>,
-    cause: &Cause,
-) -> io::Result<()> {
-    let found = report.found(cause);
-    let text = format!(in alloc; "{found}")?;
-    let text = Quoted(text.as_str());
-    writeln!(out, "\"cause\":{text},")
-}
-
-/// Writes what wrote the target last of a jump to no code, where it is known.
-fn write_store<W: Write>(
-    alloc: Global,
-    out: &mut W,
-    report: &Report<'_>,
-    names: &FrameNames<'_>,
-) -> io::Result<()> {
-    match report.store {
-        Some(store) => write_store_object(alloc, out, report, store, names),
-        None => Ok(()),
-    }
-}
-
-/// Writes a store, and the calls that led to it.
-fn write_store_object<W: Write>(
-    alloc: Global,
-    out: &mut W,
-    report: &Report<'_>,
-    store: &LastStore,
-    names: &FrameNames<'_>,
-) -> io::Result<()> {
+/// Writes what wrote the target last of a jump to no code, where it is known, and the calls that
+/// led to it.
+fn write_store<W: Write>(out: &mut W, context: &Context<'_>) -> io::Result<()> {
+    let Some(store) = context.report.store else {
+        return Ok(());
+    };
     let (addr, step) = (store.addr, store.step);
     write!(
         out,
         "\"last_store\":{{\"address\":\"{addr:#x}\",\"step\":{step},\"stack\":"
     )?;
-    write_store_stack(alloc, out, report, store, names)?;
+    let stack = context.report.stack_of_store(context.alloc, store)?;
+    stack.write_json(out, context.names)?;
     writeln!(out, "}},")
-}
-
-/// Writes the calls that led to a store.
-fn write_store_stack<W: Write>(
-    alloc: Global,
-    out: &mut W,
-    report: &Report<'_>,
-    store: &LastStore,
-    names: &FrameNames<'_>,
-) -> io::Result<()> {
-    let stack = report.stack_of_store(alloc, store)?;
-    stack.write_json(out, names)
 }
 
 /// Writes the tags around an address, if there is one.
@@ -196,55 +158,35 @@ fn write_tag<W: Write>(out: &mut W, tag: Option<u8>) -> io::Result<()> {
 }
 
 /// Writes the chunks that a cause names.
-fn write_chunks<W: Write>(
-    alloc: Global,
-    out: &mut W,
-    report: &Report<'_>,
-    cause: &Cause,
-    names: &FrameNames<'_>,
-) -> io::Result<()> {
+fn write_chunks<W: Write>(out: &mut W, context: &Context<'_>, cause: &Cause) -> io::Result<()> {
     if let Some(chunk) = cause.chunk() {
-        write_chunk(alloc, out, report, chunk, names)?;
+        write_chunk(out, context, chunk)?;
     }
-    match cause.young() {
-        Some(young) => {
-            write!(out, ",")?;
-            write_chunk(alloc, out, report, young, names)
-        }
-        None => Ok(()),
+    if let Some(young) = cause.young() {
+        write!(out, ",")?;
+        write_chunk(out, context, young)?;
     }
+    Ok(())
 }
 
 /// Writes a chunk, and the calls that made and freed it.
-fn write_chunk<W: Write>(
-    alloc: Global,
-    out: &mut W,
-    report: &Report<'_>,
-    chunk: &BookChunk,
-    names: &FrameNames<'_>,
-) -> io::Result<()> {
+fn write_chunk<W: Write>(out: &mut W, context: &Context<'_>, chunk: &BookChunk) -> io::Result<()> {
     let (pointer, size) = (chunk.pointer, chunk.size);
     write!(
         out,
         "{{\"pointer\":\"{pointer:#x}\",\"size\":{size},\"allocated\":"
     )?;
-    write_call(alloc, out, report, &chunk.made, names)?;
+    write_call(out, context, &chunk.made)?;
     write!(out, ",\"freed\":")?;
     match &chunk.freed {
-        Some(entry) => write_call(alloc, out, report, entry, names)?,
+        Some(entry) => write_call(out, context, entry)?,
         None => write!(out, "null")?,
     }
     write!(out, "}}")
 }
 
 /// Writes a heap call, and the calls that led to it.
-fn write_call<W: Write>(
-    alloc: Global,
-    out: &mut W,
-    report: &Report<'_>,
-    entry: &BookEntry,
-    names: &FrameNames<'_>,
-) -> io::Result<()> {
+fn write_call<W: Write>(out: &mut W, context: &Context<'_>, entry: &BookEntry) -> io::Result<()> {
     let (number, step) = (entry.number, entry.step);
     let (call, answer) = (CallText(entry.call.call), entry.call.answer);
     write!(
@@ -252,20 +194,9 @@ fn write_call<W: Write>(
         "{{\"number\":{number},\"call\":\"{call}\",\"result\":\"{answer:#x}\","
     )?;
     write!(out, "\"step\":{step},\"stack\":")?;
-    write_call_stack(alloc, out, report, entry, names)?;
+    let stack = context.report.stack_of(context.alloc, entry)?;
+    stack.write_json(out, context.names)?;
     write!(out, "}}")
-}
-
-/// Writes the calls that led to a heap call.
-fn write_call_stack<W: Write>(
-    alloc: Global,
-    out: &mut W,
-    report: &Report<'_>,
-    entry: &BookEntry,
-    names: &FrameNames<'_>,
-) -> io::Result<()> {
-    let stack = report.stack_of(alloc, entry)?;
-    stack.write_json(out, names)
 }
 
 /// Writes the registers.
@@ -319,11 +250,8 @@ struct FindingObject<'a>(&'a Finding);
 
 impl<'a> fmt::Display for FindingObject<'a> {
     fn fmt<W: fmt::Write>(&self, f: &mut fmt::Formatter<W>) -> fmt::Result {
-        let ForbiddenAccess {
-            trespass,
-            addr,
-            span,
-        } = &self.0.wrong;
+        let wrong = &self.0.wrong;
+        let (trespass, addr, span) = (&wrong.trespass, wrong.addr, &wrong.span);
         let (first, bytes, write, pc) = (span.addr, span.bytes, span.is_write, self.0.before.pc);
         write!(
             f,

@@ -3,7 +3,7 @@
 
 use mte_backtrace::{CallStack, FrameNames, Quoted};
 use mte_flat::Flat;
-use mte_report::{Explanation, Report};
+use mte_report::{Context, Explanation, Report};
 use mte_tenant::Status;
 use run_book::{BookEntry, EntryText};
 use run_cause::Cause;
@@ -61,7 +61,14 @@ fn write_explained<W: Write>(
     let cause = explanation.cause.as_ref();
     write_rule(out, rule_of(report, cause))?;
     match cause {
-        Some(cause) => write_judged(alloc, out, report, explanation, cause),
+        Some(cause) => {
+            let context = Context {
+                alloc,
+                report,
+                names: &explanation.names,
+            };
+            write_judged(out, &context, &explanation.stack, cause)
+        }
         None => {
             let text = end_text(report);
             write_end(out, text, &explanation.names, &explanation.stack)?;
@@ -73,92 +80,58 @@ fn write_explained<W: Write>(
 
 /// Writes the result of an end whose cause is judged.
 fn write_judged<W: Write>(
-    alloc: Global,
     out: &mut W,
-    report: &Report<'_>,
-    explanation: &Explanation<'_>,
+    context: &Context<'_>,
+    stack: &CallStack,
     cause: &Cause,
 ) -> io::Result<()> {
-    let found = report.found(cause);
-    let text = format!(in alloc; "{found}")?;
-    write_caused(alloc, out, report, explanation, cause, text.as_str())
-}
-
-/// Writes the result of an end by a cause and its text.
-fn write_caused<W: Write>(
-    alloc: Global,
-    out: &mut W,
-    report: &Report<'_>,
-    explanation: &Explanation<'_>,
-    cause: &Cause,
-    text: &str,
-) -> io::Result<()> {
-    let (names, stack) = (&explanation.names, &explanation.stack);
+    let found = context.report.found(cause);
+    let text = format!(in context.alloc; "{found}")?;
+    let (text, names) = (text.as_str(), context.names);
     write_end(out, text, names, stack)?;
-    write_calls(alloc, out, report, cause, names)?;
-    write_flow(alloc, out, report, cause, names)?;
+    write_calls(out, context, cause)?;
+    write_flow(out, context, cause)?;
     write_last(out, text, names, stack)
 }
 
+/// A heap call: its text, and the calls that led to it.
+#[derive(Drop)]
+struct CallSite {
+    text: String,
+    stack: CallStack,
+}
+
+impl CallSite {
+    /// The site of a heap call.
+    fn of(context: &Context<'_>, entry: &BookEntry) -> io::Result<CallSite> {
+        let call = EntryText(entry);
+        let text = format!(in context.alloc; "{call}")?;
+        let stack = context.report.stack_of(context.alloc, entry)?;
+        Ok(CallSite { text, stack })
+    }
+}
+
 /// Writes the calls that led to each heap call of a cause, each stack behind a comma.
-fn write_calls<W: Write>(
-    alloc: Global,
-    out: &mut W,
-    report: &Report<'_>,
-    cause: &Cause,
-    names: &FrameNames<'_>,
-) -> io::Result<()> {
+fn write_calls<W: Write>(out: &mut W, context: &Context<'_>, cause: &Cause) -> io::Result<()> {
     for entry in cause.calls().iter() {
         if let Some(entry) = entry {
-            write_call_stack(alloc, out, report, entry, names)?;
+            let site = CallSite::of(context, entry)?;
+            write_stack(out, ",", site.text.as_str(), context.names, &site.stack)?;
         }
     }
     Ok(())
-}
-
-/// Writes the calls that led to a heap call, behind a comma.
-fn write_call_stack<W: Write>(
-    alloc: Global,
-    out: &mut W,
-    report: &Report<'_>,
-    entry: &BookEntry,
-    names: &FrameNames<'_>,
-) -> io::Result<()> {
-    let call = EntryText(entry);
-    let text = format!(in alloc; "{call}")?;
-    let stack = report.stack_of(alloc, entry)?;
-    write_stack(out, ",", text.as_str(), names, &stack)
 }
 
 /// Writes the locations of the heap calls of a cause, a comma behind each.
-fn write_flow<W: Write>(
-    alloc: Global,
-    out: &mut W,
-    report: &Report<'_>,
-    cause: &Cause,
-    names: &FrameNames<'_>,
-) -> io::Result<()> {
+fn write_flow<W: Write>(out: &mut W, context: &Context<'_>, cause: &Cause) -> io::Result<()> {
     begin_flow(out)?;
     for entry in cause.calls().iter() {
         if let Some(entry) = entry {
-            write_flow_step(alloc, out, report, entry, names)?;
+            let site = CallSite::of(context, entry)?;
+            write_step(out, site.text.as_str(), context.names, &site.stack, ",")?;
         }
     }
     Ok(())
-}
-
-/// Writes the location of a heap call, and a comma.
-fn write_flow_step<W: Write>(
-    alloc: Global,
-    out: &mut W,
-    report: &Report<'_>,
-    entry: &BookEntry,
-    names: &FrameNames<'_>,
-) -> io::Result<()> {
-    let call = EntryText(entry);
-    let text = format!(in alloc; "{call}")?;
-    let stack = report.stack_of(alloc, entry)?;
-    write_step(out, text.as_str(), names, &stack, ",")
 }
 
 /// The name of the kind of an end.

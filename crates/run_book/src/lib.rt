@@ -8,4 +8,4 @@ mod words;
 
 pub use book::{Book, BookChunk, BookEntry, ChunkQuery};
 pub use owner::ChunkOwner;
-pub use words::{Bytes, EntryText};
+pub use words::{Bytes, Count, EntryText};

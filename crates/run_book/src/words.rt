@@ -10,13 +10,8 @@ pub struct EntryText<'a>(pub &'a BookEntry);
 
 impl<'a> fmt::Display for EntryText<'a> {
     fn fmt<W: fmt::Write>(&self, f: &mut fmt::Formatter<W>) -> fmt::Result {
-        let BookEntry {
-            number,
-            step,
-            call,
-            ..
-        } = self.0;
-        let (call, answer) = (CallText(call.call), call.answer);
+        let (number, step) = (self.0.number, self.0.step);
+        let (call, answer) = (CallText(self.0.call.call), self.0.call.answer);
         write!(f, "call {number}, {call} = {answer:#018x}, step {step}")
     }
 }
@@ -27,17 +22,33 @@ impl fmt::Display for BookChunk {
     }
 }
 
+/// A number of things of one kind.
+#[derive(Clone, Copy)]
+pub struct Count {
+    /// How many.
+    pub number: u64,
+    /// What one of them is called; more have an `s` behind it.
+    pub unit: &'static str,
+}
+
+impl fmt::Display for Count {
+    fn fmt<W: fmt::Write>(&self, f: &mut fmt::Formatter<W>) -> fmt::Result {
+        let Count { number, unit } = self;
+        let plural = if *number == 1 { "" } else { "s" };
+        write!(f, "{number} {unit}{plural}")
+    }
+}
+
 /// A number of bytes.
 #[derive(Clone, Copy)]
 pub struct Bytes(pub u64);
 
 impl fmt::Display for Bytes {
     fn fmt<W: fmt::Write>(&self, f: &mut fmt::Formatter<W>) -> fmt::Result {
-        let Bytes(count) = self;
-        if *count == 1 {
-            f.write_str("1 byte")
-        } else {
-            write!(f, "{count} bytes")
-        }
+        let count = Count {
+            number: self.0,
+            unit: "byte",
+        };
+        write!(f, "{count}")
     }
 }

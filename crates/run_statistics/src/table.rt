@@ -44,10 +44,7 @@ pub struct Object<'a>(pub StatisticsTable<'a>);
 
 impl<'a> fmt::Display for Object<'a> {
     fn fmt<W: fmt::Write>(&self, f: &mut fmt::Formatter<W>) -> fmt::Result {
-        let StatisticsTable {
-            statistics,
-            reserved,
-        } = self.0;
+        let (statistics, reserved) = (self.0.statistics, self.0.reserved);
         let (steps, services) = (statistics.steps, statistics.services);
         let (loads, stores) = (statistics.loads, statistics.stores);
         write!(

@@ -140,18 +140,18 @@ impl ExpectedWord {
 
 impl fmt::Display for ExpectedWord {
     fn fmt<W: fmt::Write>(&self, f: &mut fmt::Formatter<W>) -> fmt::Result {
-        match self {
-            ExpectedWord::Event => f.write_str("admit, slice or stop"),
-            ExpectedWord::Word(text) => write!(f, "the word {text}"),
-            ExpectedWord::Mode => f.write_str("the word async, or the end of the line"),
-            ExpectedWord::Tenant => f.write_str("a tenant's number, 0 to 65535"),
-            ExpectedWord::Steps => f.write_str("a number of steps, 0 to 1048576"),
-            ExpectedWord::Number => f.write_str("a number, 0 to 4294967295"),
-            ExpectedWord::Seed => f.write_str("16 hexadecimal digits"),
-            ExpectedWord::File => f.write_str("a file's number, from 1 as they follow the options"),
+        f.write_str(match self {
+            ExpectedWord::Event => "admit, slice or stop",
+            ExpectedWord::Word(text) => return write!(f, "the word {text}"),
+            ExpectedWord::Mode => "the word async, or the end of the line",
+            ExpectedWord::Tenant => "a tenant's number, 0 to 65535",
+            ExpectedWord::Steps => "a number of steps, 0 to 1048576",
+            ExpectedWord::Number => "a number, 0 to 4294967295",
+            ExpectedWord::Seed => "16 hexadecimal digits",
+            ExpectedWord::File => "a file's number, from 1 as they follow the options",
             ExpectedWord::FileOrNone => {
-                f.write_str("a file's number, from 1 as they follow the options, or 0 for none")
+                "a file's number, from 1 as they follow the options, or 0 for none"
             }
-        }
+        })
     }
 }

@@ -3,7 +3,7 @@
 use crate::extent::Extent;
 use heap_picture::Note;
 use mte_backtrace::FrameNames;
-use run_book::{BookChunk, Bytes, EntryText};
+use run_book::{Bytes, EntryText};
 use std::alloc::Global;
 use std::io::Write;
 use std::{fmt, io};
@@ -91,19 +91,11 @@ struct Title<'a> {
 
 impl<'a> fmt::Display for Title<'a> {
     fn fmt<W: fmt::Write>(&self, f: &mut fmt::Formatter<W>) -> fmt::Result {
-        let BookChunk {
-            size,
-            made,
-            freed,
-            ..
-        } = &self.extent.chunk;
-        let (size, call, place) = (
-            Bytes(*size),
-            EntryText(made),
-            self.names.instruction(made.pc),
-        );
+        let chunk = &self.extent.chunk;
+        let (size, call) = (Bytes(chunk.size), EntryText(&chunk.made));
+        let place = self.names.instruction(chunk.made.pc);
         write!(f, "{size}, {call}, {place}")?;
-        if let Some(entry) = freed {
+        if let Some(entry) = &chunk.freed {
             let number = entry.number;
             write!(f, "; freed by call {number}")?;
         }
