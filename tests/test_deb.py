@@ -39,17 +39,6 @@ FILES = {
                        "usr/share/doc/tombolopan/docs/HOST.md",
                        "usr/share/doc/tombolopan/tombolopan.spdx.json"),
 }
-FREED = """\
-#include <stdio.h>
-#include <stdlib.h>
-int main(void)
-{
-    char *text = malloc(8);
-    free(text);
-    puts("hello");
-    return text[0];
-}
-"""
 
 
 @pytest.fixture
@@ -152,7 +141,7 @@ def test_installed(root: Root, tmp_path: pathlib.Path) -> None:
     """Programs, completions, manual pages and a tenant of the C library are of use, and removed
     with what Python left behind."""
     need("clang", "ld.lld", "man")
-    (tmp_path / "hello.c").write_text(FREED, encoding="utf-8")
+    (tmp_path / "hello.c").write_text(installed.FREED, encoding="utf-8")
     assert root.run(["tenant-cc", "-O1", "-g", "-o", "hello.elf", "hello.c"], tmp_path).status == 0
     ran = root.run(["mte_run", "hello.elf"], tmp_path)
     assert (ran.status, ran.output) == (129, "hello\n")

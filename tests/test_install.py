@@ -61,17 +61,6 @@ install.sh: for Python: PYTHONPATH={0}/share/tombolopan
 install.sh: where it is no usual place: PKG_CONFIG_PATH={0}/lib/pkgconfig \
 LD_LIBRARY_PATH={0}/lib MANPATH={0}/share/man: PATH={0}/bin:$PATH
 """
-HELLO = """\
-#include <stdio.h>
-#include <stdlib.h>
-int main(void)
-{
-    char *text = malloc(8);
-    free(text);
-    puts("hello");
-    return text[0];
-}
-"""
 
 
 @pytest.fixture
@@ -217,7 +206,7 @@ def test_disassemble(moved: pathlib.Path) -> None:
 def test_tenant_cc(moved: pathlib.Path, tmp_path: pathlib.Path) -> None:
     """A C program is built over the C library that is beside it, and explained by its lines."""
     need("clang", "ld.lld")
-    (tmp_path / "hello.c").write_text(HELLO, encoding="utf-8")
+    (tmp_path / "hello.c").write_text(installed.FREED, encoding="utf-8")
     extra = {**installed.variables(moved), "TENANT_LIBRARY": "", "TOMBOLOPAN_BUILT": ""}
     ran = run(["tenant-cc", "-O1", "-g", "-o", "hello.elf", "hello.c"], cwd=tmp_path, extra=extra)
     assert (ran.status, ran.output, ran.errors) == (0, "", "")

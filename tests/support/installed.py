@@ -14,6 +14,18 @@ from tests.support.tools import need
 
 INSTALLER = ROOT / "tools" / "install.sh"
 PROGRAMS = ("mte_host", "mte_run", "disassemble")
+# A program for the host or for a tenant, which reads what it has freed.
+FREED = """\
+#include <stdio.h>
+#include <stdlib.h>
+int main(void)
+{
+    char *text = malloc(8);
+    free(text);
+    puts("hello");
+    return text[0];
+}
+"""
 
 
 def built_folder(shared: pathlib.Path, folder: pathlib.Path) -> pathlib.Path:

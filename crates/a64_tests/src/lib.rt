@@ -3,14 +3,4 @@
 #![tactic(auto)]
 
 #[cfg(test)]
-mod bits;
-#[cfg(test)]
-mod decode;
-#[cfg(test)]
-mod kept;
-#[cfg(test)]
-mod row_words;
-#[cfg(test)]
-mod step;
-#[cfg(test)]
-mod text;
+mod tests;

@@ -17,10 +17,7 @@ pub fn load_each<M: Tagged>(memory: &mut M, addresses: &[u64]) -> Option<Batch>
         }
         sum = sum.wrapping_add(u64::from_le_bytes(bytes));
     }
-    Some(Batch {
-        count: addresses.len() as u64,
-        sum,
-    })
+    Some(batch_of(addresses, sum))
 }
 
 /// A checked store of 8 bytes at each address, `None` where one is refused.
@@ -34,10 +31,7 @@ pub fn store_each<M: Tagged>(memory: &mut M, addresses: &[u64]) -> Option<Batch>
             return None;
         }
     }
-    Some(Batch {
-        count: addresses.len() as u64,
-        sum,
-    })
+    Some(batch_of(addresses, sum))
 }
 
 /// A fetch at each address, `None` where one is refused.
@@ -51,8 +45,15 @@ pub fn fetch_each<M: Tagged>(memory: &mut M, addresses: &[u64]) -> Option<Batch>
             Err(_) => return None,
         }
     }
-    Some(Batch {
+    Some(batch_of(addresses, sum))
+}
+
+/// What a pass over addresses did.
+fn batch_of(addresses: &[u64], sum: u64) -> Batch
+    ensures { result.count ≡ length addresses.now }
+{
+    Batch {
         count: addresses.len() as u64,
         sum,
-    })
+    }
 }

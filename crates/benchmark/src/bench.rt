@@ -6,7 +6,7 @@ use crate::accesses::{fetch_each, load_each, store_each};
 use crate::measured::Batch;
 use crate::paging::{map_each, map_page, put_byte};
 use crate::programs::{
-    ALU, CODE, Core, MEMORY, MEMORY_CODE, SERVICES, SERVICES_CODE, WRITABLE_CODE,
+    ALU, CODE, Core, CoreProgram, MEMORY, MEMORY_CODE, SERVICES, SERVICES_CODE, WRITABLE_CODE,
 };
 use crate::workload::Workload;
 use anyhow::{Result, bail};
@@ -90,10 +90,10 @@ impl<'a, M: Paged> Bench<'a, M> {
             Workload::LoadAcross => load_each(self.memory, &lists.across),
             Workload::StoreAcross => store_each(self.memory, &lists.across),
             Workload::Fetch => fetch_each(self.memory, &lists.code),
-            Workload::Alu => self.core.run_alu(self.memory),
-            Workload::AluWritable => self.core.run_alu_writable(self.memory),
-            Workload::Memory => self.core.run_memory(self.memory),
-            Workload::Services => self.core.run_services(self.memory),
+            Workload::Alu => self.core.run(CoreProgram::Alu, self.memory),
+            Workload::AluWritable => self.core.run(CoreProgram::AluWritable, self.memory),
+            Workload::Memory => self.core.run(CoreProgram::Memory, self.memory),
+            Workload::Services => self.core.run(CoreProgram::Services, self.memory),
             Workload::Map => map_each(self.memory, SPARE_PAGE),
         }
     }

@@ -93,21 +93,13 @@ fn run_asked(rt: &HostRuntime, asked: Asked) -> Result<()> {
     match asked {
         Asked::One(workload) => report(rt, &lists, &mut plain, &mut shared, workload),
         Asked::Compare => compare(rt, &lists, &mut plain, &mut shared),
-        _ => report_all(rt, &lists, &mut plain, &mut shared),
+        _ => {
+            for workload in Workload::ALL {
+                report(rt, &lists, &mut plain, &mut shared, workload)?;
+            }
+            Ok(())
+        }
     }
-}
-
-/// Runs all workloads in turn and prints their rates.
-fn report_all<A: Paged, B: Paged>(
-    rt: &HostRuntime,
-    lists: &Lists,
-    plain: &mut Bench<'_, A>,
-    shared: &mut Bench<'_, B>,
-) -> Result<()> {
-    for workload in Workload::ALL {
-        report(rt, lists, plain, shared, workload)?;
-    }
-    Ok(())
 }
 
 /// Runs a workload for about a second on each memory, and prints its rate.

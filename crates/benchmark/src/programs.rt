@@ -73,6 +73,19 @@ pub const SERVICES_CODE: u64 = CODE + 2048;
 /// The address of the first program on a page with WRITE.
 pub const WRITABLE_CODE: u64 = 0x1_4000;
 
+/// A program, and where it is.
+#[derive(Clone, Copy)]
+pub enum CoreProgram {
+    /// The first.
+    Alu,
+    /// The first, on a page with WRITE.
+    AluWritable,
+    /// The second.
+    Memory,
+    /// The third.
+    Services,
+}
+
 /// A core that goes on with each program in turn: the instructions that it keeps, and the registers
 /// of each program.
 #[derive(Drop)]
@@ -96,32 +109,16 @@ impl Core {
         })
     }
 
-    /// The steps of a batch of the first program, `None` where it stops.
-    pub fn run_alu<M: Tagged>(&mut self, memory: &mut M) -> Option<Batch>
+    /// The steps of a batch of a program, `None` where it stops.
+    pub fn run<M: Tagged>(&mut self, program: CoreProgram, memory: &mut M) -> Option<Batch>
         ensures { IfSome result (λ b. b.count ≡ 65536) }
     {
-        run_on(&mut self.kept, &mut self.alu, memory)
-    }
-
-    /// The first program, on a page with WRITE.
-    pub fn run_alu_writable<M: Tagged>(&mut self, memory: &mut M) -> Option<Batch>
-        ensures { IfSome result (λ b. b.count ≡ 65536) }
-    {
-        run_on(&mut self.kept, &mut self.alu_writable, memory)
-    }
-
-    /// Steps of the second program.
-    pub fn run_memory<M: Tagged>(&mut self, memory: &mut M) -> Option<Batch>
-        ensures { IfSome result (λ b. b.count ≡ 65536) }
-    {
-        run_on(&mut self.kept, &mut self.memory, memory)
-    }
-
-    /// Steps of the third program.
-    pub fn run_services<M: Tagged>(&mut self, memory: &mut M) -> Option<Batch>
-        ensures { IfSome result (λ b. b.count ≡ 65536) }
-    {
-        run_on(&mut self.kept, &mut self.services, memory)
+        match program {
+            CoreProgram::Alu => run_on(&mut self.kept, &mut self.alu, memory),
+            CoreProgram::AluWritable => run_on(&mut self.kept, &mut self.alu_writable, memory),
+            CoreProgram::Memory => run_on(&mut self.kept, &mut self.memory, memory),
+            CoreProgram::Services => run_on(&mut self.kept, &mut self.services, memory),
+        }
     }
 
     /// Whether the registers of each program are those of another core.

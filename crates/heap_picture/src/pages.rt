@@ -20,12 +20,13 @@ pub enum Kind {
 
 impl fmt::Display for Kind {
     fn fmt<W: fmt::Write>(&self, f: &mut fmt::Formatter<W>) -> fmt::Result {
-        f.write_str(match self {
+        let name = match self {
             Kind::Image => "image",
             Kind::Class(class) => return write!(f, "class {class}"),
             Kind::Large => "large chunk",
             Kind::Stack => "stack",
-        })
+        };
+        f.write_str(name)
     }
 }
 

@@ -11,18 +11,19 @@ use std::alloc::{AllocError, Global};
 use std::fmt::Display;
 use std::io::Write;
 use std::{fmt, io};
-use tenant_map::{Extent, Picture, extents};
+use tenant_map::{Extent, Picture, PictureForm, extents};
 
 impl<'a> Report<'a> {
-    /// Writes the heap and its tags as a picture in SVG, under a title of one line: the rows of the
-    /// heap's pages, and the row of the access that faulted or the pointer that was refused. Rows
-    /// in which nothing changes are left out after the first, and those farthest from the mark
-    /// where there are more than [`heap_picture::ROWS`].
+    /// Writes the heap and its tags as a picture, under a title of one line: the rows of the heap's
+    /// pages, and the row of the access that faulted or the pointer that was refused. Rows in which
+    /// nothing changes are left out after the first, and in SVG those farthest from the mark where
+    /// there are more than [`heap_picture::ROWS`].
     pub fn draw<W: Write>(
         &self,
         alloc: Global,
         out: &mut W,
         title: &str,
+        form: PictureForm,
         memory: &mut Flat,
     ) -> io::Result<()> {
         let title = self.title_of(title);
@@ -31,24 +32,7 @@ impl<'a> Report<'a> {
         let extents = extents(alloc, self.book)?;
         let names = self.extent_names(alloc, extents.as_slice())?;
         let picture = self.picture(title.as_str(), story.as_str(), extents.as_slice(), &names);
-        picture.draw(alloc, out, memory)
-    }
-
-    /// Writes the same rows as text, under the same title.
-    pub fn write_map<W: Write>(
-        &self,
-        alloc: Global,
-        out: &mut W,
-        title: &str,
-        memory: &mut Flat,
-    ) -> io::Result<()> {
-        let title = self.title_of(title);
-        let title = format!(in alloc; "{title}")?;
-        let story = self.story(alloc, memory)?;
-        let extents = extents(alloc, self.book)?;
-        let names = self.extent_names(alloc, extents.as_slice())?;
-        let picture = self.picture(title.as_str(), story.as_str(), extents.as_slice(), &names);
-        picture.write_text(alloc, out, memory)
+        picture.write(alloc, out, form, memory)
     }
 
     /// The title of a picture of what was run.

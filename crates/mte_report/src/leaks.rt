@@ -2,7 +2,7 @@
 
 use crate::context::Context;
 use crate::report::Report;
-use mte_backtrace::{FrameAddresses, FrameNames};
+use mte_backtrace::FrameAddresses;
 use run_book::{BookChunk, BookEntry, Bytes, Count};
 use std::alloc::{AllocError, Global};
 use std::io;
@@ -89,7 +89,8 @@ impl<'a> Report<'a> {
         let (chunks, bytes) = (chunk_count(places.chunks), Bytes(places.bytes));
         writeln!(out, "live at the end: {chunks}, {bytes}")?;
         let places = places.places.as_slice();
-        let names = self.place_names(alloc, places)?;
+        let frames = self.frames(alloc, places)?;
+        let names = self.names.of_frames(alloc, &frames)?;
         let context = Context {
             alloc,
             report: self,
@@ -106,28 +107,13 @@ impl<'a> Report<'a> {
         Ok(places)
     }
 
-    /// What the addresses of places are called.
-    fn place_names(
-        &self,
-        alloc: Global,
-        places: &[LeakPlace],
-    ) -> Result<FrameNames<'a>, AllocError> {
+    /// The addresses of the calls that led to places.
+    fn frames(&self, alloc: Global, places: &[LeakPlace]) -> Result<FrameAddresses, AllocError> {
         let mut frames = FrameAddresses::new(alloc);
-        self.push_places(alloc, &mut frames, places)?;
-        self.names.of_frames(alloc, &frames)
-    }
-
-    /// Adds the addresses of the calls that led to places.
-    fn push_places(
-        &self,
-        alloc: Global,
-        frames: &mut FrameAddresses,
-        places: &[LeakPlace],
-    ) -> Result<(), AllocError> {
         for place in places {
-            self.push_entry(alloc, frames, &place.entry)?;
+            self.push_entry(alloc, &mut frames, &place.entry)?;
         }
-        Ok(())
+        Ok(frames)
     }
 }
 

@@ -18,3 +18,4 @@ pub use report::Report;
 pub use run_book::Book;
 pub use run_cause::{Exact, Finding, LastStore};
 pub use run_statistics::{Statistics, StatisticsTable};
+pub use tenant_map::PictureForm;

@@ -4,7 +4,7 @@ use crate::context::Context;
 use crate::explanation::Explanation;
 use crate::report::Report;
 use run_book::{Book, BookChunk, BookEntry, EntryText};
-use run_cause::{Cause, FoundCause, LastStore};
+use run_cause::{Cause, FoundCause};
 use std::alloc::Global;
 use std::io;
 use std::io::Write;
@@ -57,20 +57,10 @@ impl<'a> Report<'a> {
             self.write_cause_addresses(alloc, out, cause)?;
         }
         if let Some(store) = self.store {
-            self.write_store_addresses(alloc, out, store)?;
+            let stack = self.stack_of_store(alloc, store)?;
+            stack.write_addresses(out)?;
         }
         writeln!(out)
-    }
-
-    /// Writes the addresses of the calls that led to a store.
-    fn write_store_addresses<W: Write>(
-        &self,
-        alloc: Global,
-        out: &mut W,
-        store: &LastStore,
-    ) -> io::Result<()> {
-        let stack = self.stack_of_store(alloc, store)?;
-        stack.write_addresses(out)
     }
 
     /// Writes the addresses of the calls that led to the heap calls of a cause.

@@ -62,19 +62,19 @@ struct Scene<'n> {
     frame: StackFrame<'n>,
 }
 
-impl<'n> fmt::Display for Scene<'n> {
-    fn fmt<W: fmt::Write>(&self, f: &mut fmt::Formatter<W>) -> fmt::Result {
-        let Scene { call, frame } = self;
-        write!(f, "by call {call} in {frame}")
-    }
-}
-
 /// `in F at FILE:LINE; allocated by call N in G at FILE:LINE; freed by call M in H at FILE:LINE`.
 #[derive(Clone, Copy)]
 struct Story<'n> {
     end: Option<StackFrame<'n>>,
     made: Option<Scene<'n>>,
     freed: Option<Scene<'n>>,
+}
+
+impl<'n> fmt::Display for Scene<'n> {
+    fn fmt<W: fmt::Write>(&self, f: &mut fmt::Formatter<W>) -> fmt::Result {
+        let Scene { call, frame } = self;
+        write!(f, "by call {call} in {frame}")
+    }
 }
 
 impl<'n> fmt::Display for Story<'n> {

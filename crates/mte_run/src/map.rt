@@ -2,7 +2,7 @@
 
 use either::Either;
 use mte_flat::Flat;
-use mte_report::Report;
+use mte_report::{PictureForm, Report};
 use run_options::{Failure, Options};
 use std::fs::File;
 use std::io::BufWriter;
@@ -50,7 +50,13 @@ fn draw_file(
         Either::Right(File::create(rt, name)?)
     };
     let mut out = BufWriter::new(rt.alloc(), file)?;
-    report.draw(rt.alloc(), &mut out, title.as_str(), memory)
+    report.draw(
+        rt.alloc(),
+        &mut out,
+        title.as_str(),
+        PictureForm::Svg,
+        memory,
+    )
 }
 
 /// Writes the heap and its tags as text, on standard error, under a title of characters that a
@@ -64,7 +70,13 @@ fn write_text(
     let shown = Printable(title);
     let title = format!(in rt.alloc(); "{shown}")?;
     let mut out = BufWriter::new(rt.alloc(), rt.stderr())?;
-    report.write_map(rt.alloc(), &mut out, title.as_str(), memory)
+    report.draw(
+        rt.alloc(),
+        &mut out,
+        title.as_str(),
+        PictureForm::Text,
+        memory,
+    )
 }
 
 /// What was run: the image's name without its folder, or a tenant of a script.

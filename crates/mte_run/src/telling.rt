@@ -186,8 +186,20 @@ fn write_files<'a>(
     ending: TenantEnding,
     memory: &mut Flat,
 ) -> Result<(), Failure<'a>> {
-    write_json_named(rt, report, options, ending, memory)?;
-    write_sarif_named(rt, report, options, ending, memory)?;
+    let status = ending.status(&report.parts.history);
+    let named = [
+        (&options.output.json, DocumentForm::Json),
+        (&options.output.sarif, DocumentForm::Sarif),
+    ];
+    for (name, form) in named.iter() {
+        if let Some(name) = name {
+            let (name, form) = (name.as_str(), *form);
+            let document = Document { name, form, status };
+            document
+                .write(rt, report, memory)
+                .map_err(|error| Failure::of_write(&error, name))?;
+        }
+    }
     draw_map(rt, report, options, memory)
 }
 
@@ -249,66 +261,34 @@ fn reserved_pages(alloc: Global, options: &Options, memory: &mut Flat) -> Result
     Ok(memory.pages_left().saturating_add(mapped) as u64)
 }
 
-/// Writes what happened into the file that is named, if one is, for a program to read.
-fn write_json_named<'a>(
-    rt: &HostRuntime,
-    report: &Report<'_>,
-    options: &'a Options,
-    ending: TenantEnding,
-    memory: &mut Flat,
-) -> Result<(), Failure<'a>> {
-    match &options.output.json {
-        Some(name) => {
-            let (name, status) = (name.as_str(), ending.status(&report.parts.history));
-            write_json_file(rt, report, name, status, memory).map_err(|error| Failure::of_write(
-                &error, name,
-            ))
-        }
-        None => Ok(()),
-    }
-}
-
-/// Writes what happened into the file with a name, for a program to read.
-fn write_json_file(
-    rt: &HostRuntime,
-    report: &Report<'_>,
-    name: &str,
+/// What happened, in a file for other programs.
+#[derive(Clone, Copy)]
+struct Document<'a> {
+    /// The file.
+    name: &'a str,
+    form: DocumentForm,
+    /// The program's exit status.
     status: u8,
-    memory: &mut Flat,
-) -> io::Result<()> {
-    let mut out = BufWriter::new(rt.alloc(), File::create(rt, name)?)?;
-    write_json(rt.alloc(), &mut out, report, status, memory)
 }
 
-/// Writes what happened into the file that is named, if one is, for editors and forges.
-fn write_sarif_named<'a>(
-    rt: &HostRuntime,
-    report: &Report<'_>,
-    options: &'a Options,
-    ending: TenantEnding,
-    memory: &mut Flat,
-) -> Result<(), Failure<'a>> {
-    match &options.output.sarif {
-        Some(name) => {
-            let (name, status) = (name.as_str(), ending.status(&report.parts.history));
-            write_sarif_file(rt, report, name, status, memory).map_err(|error| Failure::of_write(
-                &error, name,
-            ))
+/// What a document is for.
+#[derive(Clone, Copy)]
+enum DocumentForm {
+    /// A program that reads JSON.
+    Json,
+    /// Editors and forges, which read SARIF.
+    Sarif,
+}
+
+impl<'a> Document<'a> {
+    /// Writes it into its file.
+    fn write(&self, rt: &HostRuntime, report: &Report<'_>, memory: &mut Flat) -> io::Result<()> {
+        let mut out = BufWriter::new(rt.alloc(), File::create(rt, self.name)?)?;
+        match self.form {
+            DocumentForm::Json => write_json(rt.alloc(), &mut out, report, self.status, memory),
+            DocumentForm::Sarif => write_sarif(rt.alloc(), &mut out, report, self.status, memory),
         }
-        None => Ok(()),
     }
-}
-
-/// Writes what happened into the file with a name, for editors and forges.
-fn write_sarif_file(
-    rt: &HostRuntime,
-    report: &Report<'_>,
-    name: &str,
-    status: u8,
-    memory: &mut Flat,
-) -> io::Result<()> {
-    let mut out = BufWriter::new(rt.alloc(), File::create(rt, name)?)?;
-    write_sarif(rt.alloc(), &mut out, report, status, memory)
 }
 
 /// Writes the last line, and returns the exit status.

@@ -72,6 +72,16 @@ pub enum AdmitError {
 #[derive(Clone, Copy, Debug, PartialEq, Eq)]
 pub struct NotLive;
 
+impl fmt::Display for AdmitError {
+    ghost output = { λ error. Some (admit_name error) };
+
+    fn fmt<W: fmt::Write>(&self, f: &mut fmt::Formatter<W>) -> fmt::Result {
+        f.write_str(self.name())
+    }
+}
+
+impl Error for AdmitError {}
+
 impl AdmitError {
     /// Its name in a report; of an image's refusal the loader's name.
     pub fn name(self) -> &'static str
@@ -87,16 +97,6 @@ impl AdmitError {
         }
     }
 }
-
-impl fmt::Display for AdmitError {
-    ghost output = { λ error. Some (admit_name error) };
-
-    fn fmt<W: fmt::Write>(&self, f: &mut fmt::Formatter<W>) -> fmt::Result {
-        f.write_str(self.name())
-    }
-}
-
-impl Error for AdmitError {}
 
 impl fmt::Display for NotLive {
     ghost output = { λ _. Some not_live_name };

@@ -4,18 +4,4 @@
 #![tactic(auto)]
 
 #[cfg(test)]
-mod arena;
-#[cfg(test)]
-mod calls;
-#[cfg(test)]
-mod elf;
-#[cfg(test)]
-mod frames;
-#[cfg(test)]
-mod space;
-#[cfg(test)]
-mod table;
-#[cfg(test)]
-mod tags;
-#[cfg(test)]
-mod tlb;
+mod tests;

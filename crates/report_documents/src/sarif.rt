@@ -70,10 +70,14 @@ fn write_explained<W: Write>(
             write_judged(out, &context, &explanation.stack, cause)
         }
         None => {
-            let text = end_text(report);
-            write_end(out, text, &explanation.names, &explanation.stack)?;
+            let end = Site {
+                text: end_text(report),
+                names: &explanation.names,
+                stack: &explanation.stack,
+            };
+            end.write_end(out)?;
             begin_flow(out)?;
-            write_last(out, text, &explanation.names, &explanation.stack)
+            end.write_last(out)
         }
     }
 }
@@ -87,11 +91,15 @@ fn write_judged<W: Write>(
 ) -> io::Result<()> {
     let found = context.report.found(cause);
     let text = format!(in context.alloc; "{found}")?;
-    let (text, names) = (text.as_str(), context.names);
-    write_end(out, text, names, stack)?;
+    let end = Site {
+        text: text.as_str(),
+        names: context.names,
+        stack,
+    };
+    end.write_end(out)?;
     write_calls(out, context, cause)?;
     write_flow(out, context, cause)?;
-    write_last(out, text, names, stack)
+    end.write_last(out)
 }
 
 /// A heap call: its text, and the calls that led to it.
@@ -109,6 +117,15 @@ impl CallSite {
         let stack = context.report.stack_of(context.alloc, entry)?;
         Ok(CallSite { text, stack })
     }
+
+    /// The same with what its addresses are called.
+    fn named<'s>(&'s self, names: &'s FrameNames<'s>) -> Site<'s> {
+        Site {
+            text: self.text.as_str(),
+            names,
+            stack: &self.stack,
+        }
+    }
 }
 
 /// Writes the calls that led to each heap call of a cause, each stack behind a comma.
@@ -116,7 +133,7 @@ fn write_calls<W: Write>(out: &mut W, context: &Context<'_>, cause: &Cause) -> i
     for entry in cause.calls().iter() {
         if let Some(entry) = entry {
             let site = CallSite::of(context, entry)?;
-            write_stack(out, ",", site.text.as_str(), context.names, &site.stack)?;
+            site.named(context.names).write_stack(out, ",")?;
         }
     }
     Ok(())
@@ -128,7 +145,7 @@ fn write_flow<W: Write>(out: &mut W, context: &Context<'_>, cause: &Cause) -> io
     for entry in cause.calls().iter() {
         if let Some(entry) = entry {
             let site = CallSite::of(context, entry)?;
-            write_step(out, site.text.as_str(), context.names, &site.stack, ",")?;
+            site.named(context.names).write_step(out, ",")?;
         }
     }
     Ok(())
@@ -173,35 +190,6 @@ fn write_rule<W: Write>(out: &mut W, rule: &str) -> io::Result<()> {
     writeln!(out, "\"ruleIndex\":0,\"level\":\"error\",")
 }
 
-/// Writes the message, the location and the stack of an end, and leaves the list of stacks open.
-fn write_end<W: Write>(
-    out: &mut W,
-    message: &str,
-    names: &FrameNames<'_>,
-    stack: &CallStack,
-) -> io::Result<()> {
-    let text = Quoted(message);
-    writeln!(out, "\"message\":{{\"text\":{text}}},")?;
-    write!(out, "\"locations\":[")?;
-    stack.write_sarif_location(out, names, message)?;
-    write!(out, "],\n\"stacks\":")?;
-    write_stack(out, "[", "the end", names, stack)
-}
-
-/// Writes a stack behind what is in front of it.
-fn write_stack<W: Write>(
-    out: &mut W,
-    front: &str,
-    message: &str,
-    names: &FrameNames<'_>,
-    stack: &CallStack,
-) -> io::Result<()> {
-    let text = Quoted(message);
-    write!(out, "{front}{{\"message\":{{\"text\":{text}}},\"frames\":")?;
-    stack.write_sarif_frames(out, names)?;
-    write!(out, "}}")
-}
-
 /// Ends the list of stacks and begins the flow.
 fn begin_flow<W: Write>(out: &mut W) -> io::Result<()> {
     write!(
@@ -210,25 +198,47 @@ fn begin_flow<W: Write>(out: &mut W) -> io::Result<()> {
     )
 }
 
-/// Writes a location of the flow, and what is behind it.
-fn write_step<W: Write>(
-    out: &mut W,
-    message: &str,
-    names: &FrameNames<'_>,
-    stack: &CallStack,
-    behind: &str,
-) -> io::Result<()> {
-    write!(out, "{{\"location\":")?;
-    stack.write_sarif_location(out, names, message)?;
-    write!(out, "}}{behind}")
+/// Where something happened: what it was, and the calls that led there.
+#[derive(Clone, Copy)]
+struct Site<'a> {
+    text: &'a str,
+    names: &'a FrameNames<'a>,
+    stack: &'a CallStack,
 }
 
-/// Writes the last location of the flow, and ends the result.
-fn write_last<W: Write>(
-    out: &mut W,
-    message: &str,
-    names: &FrameNames<'_>,
-    stack: &CallStack,
-) -> io::Result<()> {
-    write_step(out, message, names, stack, "]}]}]}]")
+impl<'a> Site<'a> {
+    /// Writes the message, the location and the stack of an end, and leaves the list of stacks
+    /// open.
+    fn write_end<W: Write>(&self, out: &mut W) -> io::Result<()> {
+        let text = Quoted(self.text);
+        writeln!(out, "\"message\":{{\"text\":{text}}},")?;
+        write!(out, "\"locations\":[")?;
+        self.stack.write_sarif_location(out, self.names, self.text)?;
+        write!(out, "],\n\"stacks\":")?;
+        let end = Site {
+            text: "the end",
+            ..*self
+        };
+        end.write_stack(out, "[")
+    }
+
+    /// Writes the stack behind what is in front of it.
+    fn write_stack<W: Write>(&self, out: &mut W, front: &str) -> io::Result<()> {
+        let text = Quoted(self.text);
+        write!(out, "{front}{{\"message\":{{\"text\":{text}}},\"frames\":")?;
+        self.stack.write_sarif_frames(out, self.names)?;
+        write!(out, "}}")
+    }
+
+    /// Writes a location of the flow, and what is behind it.
+    fn write_step<W: Write>(&self, out: &mut W, behind: &str) -> io::Result<()> {
+        write!(out, "{{\"location\":")?;
+        self.stack.write_sarif_location(out, self.names, self.text)?;
+        write!(out, "}}{behind}")
+    }
+
+    /// Writes the last location of the flow, and ends the result.
+    fn write_last<W: Write>(&self, out: &mut W) -> io::Result<()> {
+        self.write_step(out, "]}]}]}]")
+    }
 }

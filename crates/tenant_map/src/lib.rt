@@ -16,5 +16,5 @@ pub use attributes::Letters;
 pub use extent::Extent;
 pub use history::extents;
 pub use pages::{MappedPages, attrs_at, page_map};
-pub use picture::Picture;
+pub use picture::{Picture, PictureForm};
 pub use tags::{GRANULES, first_granule, tag_at, tell_tags};

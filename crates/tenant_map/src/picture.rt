@@ -13,6 +13,15 @@ use std::alloc::{AllocError, Global};
 use std::io::Write;
 use std::{fmt, io};
 
+/// What a picture is written as.
+#[derive(Clone, Copy)]
+pub enum PictureForm {
+    /// A drawing in SVG.
+    Svg,
+    /// Lines of text: of tags, and of whose the granules are where a chunk or the mark is there.
+    Text,
+}
+
 /// A picture of a tenant's heap and its tags.
 #[derive(Clone, Copy)]
 pub struct Picture<'a> {
@@ -31,19 +40,26 @@ pub struct Picture<'a> {
 }
 
 impl<'a> Picture<'a> {
-    /// Writes it in SVG: the rows of the heap's pages, and the mark's row. Rows in which nothing
-    /// changes are left out after the first, and those farthest from the mark where there are more
+    /// Writes it: the rows of the heap's pages, and the mark's row. Rows in which nothing changes
+    /// are left out after the first, and in SVG those farthest from the mark where there are more
     /// than [`heap_picture::ROWS`].
-    pub fn draw<W: Write>(&self, alloc: Global, out: &mut W, memory: &mut Flat) -> io::Result<()> {
-        let map = page_map(alloc, memory)?;
-        self.draw_on(alloc, out, memory, map.as_slice())
-    }
-
-    /// Draws the chunks on the pages of a map.
-    fn draw_on<W: Write>(
+    pub fn write<W: Write>(
         &self,
         alloc: Global,
         out: &mut W,
+        form: PictureForm,
+        memory: &mut Flat,
+    ) -> io::Result<()> {
+        let map = page_map(alloc, memory)?;
+        self.write_on(alloc, out, form, memory, map.as_slice())
+    }
+
+    /// Writes the chunks on the pages of a map.
+    fn write_on<W: Write>(
+        &self,
+        alloc: Global,
+        out: &mut W,
+        form: PictureForm,
         memory: &mut Flat,
         map: &[MappedPages],
     ) -> io::Result<()> {
@@ -54,8 +70,10 @@ impl<'a> Picture<'a> {
             places: places.as_slice(),
             window: Window::around(places.as_slice(), addr),
         };
-        rows.write_heading(alloc, out, map)?;
-        rows.write(alloc, out, memory)
+        match form {
+            PictureForm::Svg => rows.draw(alloc, out, memory, map),
+            PictureForm::Text => rows.write_text(out, memory),
+        }
     }
 
     /// The granules of the chunk that the cause names.
@@ -78,13 +96,13 @@ impl<'a> Picture<'a> {
 
 /// The rows of a picture.
 #[derive(Clone, Copy)]
-struct Rows<'a> {
+pub(crate) struct Rows<'a> {
     /// Of what.
-    picture: &'a Picture<'a>,
+    pub(crate) picture: &'a Picture<'a>,
     /// The rows that may be shown.
-    places: &'a [CandidateRow],
+    pub(crate) places: &'a [CandidateRow],
     /// Those that are.
-    window: Window,
+    pub(crate) window: Window,
 }
 
 impl<'a> Rows<'a> {
@@ -94,6 +112,18 @@ impl<'a> Rows<'a> {
             shown: self.window.shown(self.places),
             rows: self.places.len(),
         }
+    }
+
+    /// Draws what is above them, and those that are shown.
+    fn draw<W: Write>(
+        &self,
+        alloc: Global,
+        out: &mut W,
+        memory: &mut Flat,
+        map: &[MappedPages],
+    ) -> io::Result<()> {
+        self.write_heading(alloc, out, map)?;
+        self.write(alloc, out, memory)
     }
 
     /// Writes what is above them.

@@ -1,13 +1,11 @@
 //! The heap of a tenant and its tags, as text.
 
 use crate::extent::Extent;
-use crate::pages::{MappedPages, page_map};
-use crate::picture::Picture;
-use crate::selection::{CandidateRow, Window, places, row_at};
+use crate::picture::{Picture, Rows};
+use crate::selection::{CandidateRow, row_at};
 use heap_picture::{GranuleOwner, Mark, PictureGranule, PictureRow};
 use mte_flat::Flat;
 use run_book::Bytes;
-use std::alloc::Global;
 use std::io::Write;
 use std::{fmt, io};
 
@@ -25,39 +23,20 @@ fn write_head<W: Write>(out: &mut W, title: &str, story: &str) -> io::Result<()>
     writeln!(out, "{HEAD}")
 }
 
-impl<'a> Picture<'a> {
-    /// Writes the rows of the picture as text: a line of tags, and a line of whose they are where a
-    /// chunk or the mark is there.
-    pub fn write_text<W: Write>(
-        &self,
-        alloc: Global,
-        out: &mut W,
-        memory: &mut Flat,
-    ) -> io::Result<()> {
-        let map = page_map(alloc, memory)?;
-        self.write_text_on(alloc, out, memory, map.as_slice())
-    }
-
-    /// Writes the rows on the pages of a map.
-    fn write_text_on<W: Write>(
-        &self,
-        alloc: Global,
-        out: &mut W,
-        memory: &mut Flat,
-        map: &[MappedPages],
-    ) -> io::Result<()> {
-        let addr = self.mark.map(|mark| mark.addr);
-        let places = places(alloc, memory, map, self.extents, addr)?;
-        let window = Window::around(places.as_slice(), addr);
-        write_head(out, self.title, self.story)?;
-        for place in &places {
-            if window.number(place).is_some() {
-                self.write_row(out, memory, place)?;
+impl<'a> Rows<'a> {
+    /// Writes what is above them and those that are shown as text.
+    pub(crate) fn write_text<W: Write>(&self, out: &mut W, memory: &mut Flat) -> io::Result<()> {
+        write_head(out, self.picture.title, self.picture.story)?;
+        for place in self.places {
+            if self.window.number(place).is_some() {
+                self.picture.write_row(out, memory, place)?;
             }
         }
         out.flush()
     }
+}
 
+impl<'a> Picture<'a> {
     /// Writes a row, and whose its granules are.
     fn write_row<W: Write>(
         &self,
