@@ -13,7 +13,7 @@ from tests.support.checkout import copy_files
 from tests.support.library import kit, static_library
 from tests.support.notes import SECTION, noted
 from tests.support.places import ROOT
-from tests.support.running import run, succeed
+from tests.support.running import Word, run, succeed
 from tests.support.tools import need
 
 TOOL = ROOT / "tools" / "mark.py"
@@ -107,7 +107,8 @@ def test_the_library(tool: list[str], shared: pathlib.Path, tmp_path: pathlib.Pa
     need("cc")
     archive = unmarked(static_library(shared), tmp_path)
     (tmp_path / "call.c").write_text(CALL, encoding="utf-8")
-    words = ["cc", "-I", ROOT / "include", "call.c", archive, kit() / "c" / "liblibc_c.a"]
+    words: list[Word] = ["cc", "-I", ROOT / "include", "call.c", archive,
+                         kit() / "c" / "liblibc_c.a"]
     succeed([*words, "-o", "before"], cwd=tmp_path)
     succeed([*tool, "--unproved", archive])
     succeed([*words, "-o", "after"], cwd=tmp_path)
@@ -134,5 +135,5 @@ def test_refusals(tool: list[str], tmp_path: pathlib.Path) -> None:
         (tmp_path / name).write_bytes(b"!<arch>\n1.0\ncommit: none")
         ran = run([*tool, tmp_path / name])
         assert (ran.status, ran.output) == (1, "") and "has no lines of version" in ran.errors
-    for words in ([], ["--help"], ["--unproved"]):
-        assert "mark.py [--unproved] FILE.." in run([*tool, *words]).errors
+    for words in ("", "--help", "--unproved"):
+        assert "mark.py [--unproved] FILE.." in run([*tool, *words.split()]).errors
