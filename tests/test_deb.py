@@ -14,6 +14,7 @@ from tests.support.cache import cache_folder
 from tests.support.checkout import copy_files
 from tests.support.debian import Root, files_of
 from tests.support.host_sessions import HI_REPORT
+from tests.support.notes import noted
 from tests.support.places import EXAMPLES, ROOT
 from tests.support.running import Ran, run, succeed
 from tests.support.tools import need
@@ -160,6 +161,9 @@ def test_installed(root: Root, tmp_path: pathlib.Path) -> None:
     session = root.usr / "share" / "tombolopan" / "examples"
     words = ["mte_host", "--frames", "11", f"{session}/hi.script", f"{session}/hi.elf"]
     assert root.run(words, tmp_path) == Ran(0, HI_REPORT.encode(), b"")
+    version = root.run(["mte_run", "--version"], tmp_path).output
+    assert re.match(rf"mte_run {VERSION}\ncommit:    [0-9a-f]{{40}}\n", version)
+    assert version.partition("\n")[2] in noted(root.usr / "bin" / "mte_host")
     for name in ("mte_run", "tb_run", "tenant-cc"):
         ran = root.run(["man", "--warnings", name], tmp_path)
         assert (ran.status, ran.errors) == (0, "") and f"Tombolopan {VERSION}" in ran.output

@@ -15,6 +15,7 @@ from tests.support import installed
 from tests.support.cache import cache_folder
 from tests.support.checkout import copy_files, link_built, tracked_files
 from tests.support.host_sessions import HI_REPORT, with_hi
+from tests.support.notes import noted
 from tests.support.places import EXAMPLES, ROOT
 from tests.support.running import run, succeed
 from tests.support.samples import tenant
@@ -132,6 +133,22 @@ def test_no_place_of_the_build(prefix: pathlib.Path) -> None:
              for place in (ROOT, prefix, cache_folder())
              if str(place).encode() in path.read_bytes()]
     assert not wrong
+
+
+def test_which_build_it_is(prefix: pathlib.Path) -> None:
+    """Programs and the library say the commit of the checkout that they were installed from."""
+    need("git", "readelf")
+    commit = succeed(["git", "rev-parse", "HEAD"], cwd=ROOT).output.strip()
+    wanted = rf"commit:    {commit}\nchanges:   (none|some)\ntoolchain: [0-9a-f]{{40}}\n" \
+             r"build:     (  |un)proved\n"
+    ran = run([prefix / "bin" / "mte_run", "--version"])
+    assert ran.status == 0 and re.fullmatch(rf"mte_run \d\.\d\n{wanted}", ran.output), ran.output
+    for name in ("bin/mte_host", "bin/mte_run", "bin/disassemble", "lib/libtombolopan.so.2"):
+        assert f"commit:    {commit}" in noted(prefix / name)
+    told = "import tombolopan; print(tombolopan.build_info())"
+    ran = run([sys.executable, "-c", told], extra=installed.variables(prefix))
+    assert ran.status == 0 and re.fullmatch(rf"\d\.\d\n{wanted}", ran.output), ran.output
+    assert commit.encode() in (prefix / "lib" / "libtombolopan.a").read_bytes()
 
 
 def test_what_it_writes(prefix: pathlib.Path) -> None:

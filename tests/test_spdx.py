@@ -159,8 +159,10 @@ def test_words() -> None:
 def test_version() -> None:
     """One file has the version; mte_run says it, and the page of changes begins with it."""
     assert re.fullmatch(r"\d+\.\d+", VERSION)
+    source = (ROOT / "crates/build_info/src/lib.rt").read_text(encoding="utf-8")
+    assert f'const TEXT: &str = "{VERSION}\n' in source
     told = run([program("mte_run"), "--version"])
-    assert told.output == f"mte_run {VERSION}\n"
+    assert told.output.startswith(f"mte_run {VERSION}\ncommit: ")
     page = (ROOT / "CHANGELOG.md").read_text(encoding="utf-8")
     first = re.findall(r"^## (.*)$", page, re.M)[0]
     assert re.fullmatch(rf"{re.escape(VERSION)}, (not released yet|\d{{4}}-\d\d-\d\d)", first)

@@ -78,7 +78,7 @@ unproved=() tenants=()
 
 # Copies a program, or the archive, from where it was built; builds what is not there.
 take() {
-    local crate=${1#lib} file
+    local crate=${1#lib} file how=()
     file=$built/$1
     if [[ -z $built ]]; then
         file=$top/crates/${crate%.a}/out/$1
@@ -87,7 +87,9 @@ take() {
     cp "$file" "$work/$1"
     if [[ -e $file.unproved ]] && (cd "${file%/*}" && sha256sum -c --status "$1.unproved"); then
         unproved+=("$1")
+        how=(--unproved)
     fi
+    "$here/mark.py" "${how[@]}" "$work/$1"
 }
 
 # Puts files into a folder of the prefix; those that can be run stay so.
@@ -102,10 +104,13 @@ put() {
 }
 
 put_libraries() {
+    local how=()
     # One archive of both, so that -ltombolopan is all that a program names.
     printf 'create %s\naddlib %s\naddlib %s\nsave\nend\n' \
         "$work/libtombolopan.a" "$work/libtombolopan_c.a" "$heap" | ar -M
     "$top/examples/embed/shared.sh" "$work/libtombolopan.so.2" "$work/libtombolopan_c.a"
+    if [[ " ${unproved[*]} " == *" libtombolopan_c.a "* ]]; then how=(--unproved); fi
+    "$here/mark.py" "${how[@]}" "$work/libtombolopan.so.2"
     cat >"$work/tombolopan.pc" <<PC
 prefix=\${pcfiledir}/../..
 includedir=\${prefix}/include

@@ -220,7 +220,8 @@ def of_header(text: str) -> str:
     page += section_of("CALLS", "\n".join(calls))
     page += section_of("TYPES AND CODES", "\n".join(types))
     page += section_of("RETURN VALUE", roff.spans(
-        "Each call but `tb_version` and `tb_memory_init` answers a `tb_code`; 0 is `TB_OK`."))
+        "Each call but `tb_version`, `tb_build_info` and `tb_memory_init` answers a `tb_code`; 0 "
+        "is `TB_OK`."))
     first = (DOCS.parent / "examples/embed/first.c").read_text(encoding="utf-8")
     page += section_of("EXAMPLES", roff.code_of(first.splitlines()))
     page += section_of("FILES", PLACES + listed({
