@@ -13,7 +13,7 @@ import pytest
 from tests.support.checkout import copy_files, make_stub
 from tests.support.running import Ran, run
 
-PROGRAMS = ("disassemble", "mte_host", "mte_run")
+PROGRAMS = ("disassemble", "mte_host", "mte_run", "mte_split")
 LIBRARY = "libtombolopan_c.a"
 # Proves a crate: its lines, and its program or library.
 TOOLCHAIN = """\
@@ -46,8 +46,8 @@ class Clone:
 
     def __init__(self, folder: pathlib.Path) -> None:
         self.top = copy_files(folder / "clone", "crates/disassemble/", "crates/mte_host/",
-                              "crates/mte_run/", "crates/tombolopan_c/", "crates.txt",
-                              "tools/build.sh", "examples/libc/")
+                              "crates/mte_split/", "crates/mte_run/", "crates/tombolopan_c/",
+                              "crates.txt", "tools/build.sh", "examples/libc/")
         self.tried = folder / "tried"
         for name, text in (("tools/unproved.py", UNPROVED), ("tools/install.sh", INSTALL),
                            ("examples/libc/build.py", LIBC)):
@@ -79,9 +79,9 @@ def clone(tmp_path: pathlib.Path) -> Clone:
 
 
 PROOFS = ["disassemble: run -- 0", "mte_host: run -- --help", "mte_run: run -- --help",
-          "tombolopan_c: lib --jobs 1"]
+          "mte_split: run -- --help", "tombolopan_c: lib --jobs 1"]
 NO_PROOFS = sorted(["unproved.py disassemble.new disassemble", "unproved.py mte_host.new mte_host",
-                    "unproved.py mte_run.new mte_run",
+                    "unproved.py mte_run.new mte_run", "unproved.py mte_split.new mte_split",
                     f"unproved.py {LIBRARY}.new tombolopan_c"])
 
 
