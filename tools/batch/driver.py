@@ -24,9 +24,9 @@ class Batch:
     program: str
     store: Store
     tries: int
-    read: Callable[[Place, str], Session] = read_session
     tell: Callable[[int], None] = lambda done: None
     each: Callable[[Session, Answer], None] = lambda session, answer: None
+    read: Callable[[Place, str], Session] = read_session
     verdicts: dict[str, Verdict] = field(default_factory=dict)
     work: Work = field(default_factory=Work)
     _waiting: dict[str, list[Session]] = field(default_factory=dict)

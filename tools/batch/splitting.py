@@ -12,7 +12,7 @@ from dataclasses import dataclass, field
 from batch.answers import OK, Answer, Lost, Reply, checked
 from batch.driver import Batch
 from batch.engines import Engine
-from batch.sessions import Job, Place, Session, make_key, read_session, share_of
+from batch.sessions import Job, Place, Session, make_key, read_session
 from batch.verdicts import KEPT, LOST, MENDED, RAN, Verdict
 
 ADMITTED = re.compile(rb"^admitted ([0-9]+) ([0-9]+)$", re.M)
@@ -74,14 +74,15 @@ class Split:
         self.batch.each = lambda part, answer: self.answers.update({part.name: answer})
         self.engine.bundle = 1
         told = self._run([it.add(LEDGER, ("--list",)) for it in wholes])
-        tenants = [part for whole in wholes for part in self._tenants(whole)]
-        tenants = [part for _, part in sorted(tenants, key=lambda it: it[0], reverse=True)]
-        told += self._run(list(share_of(tenants, *share)) if share else tenants)
+        found = [it for whole in wholes for it in self._tenants(whole)]
+        tenants = [part for _, part in sorted(found, key=lambda it: it[0], reverse=True)]
+        number, count = share or (1, 1)
+        told += self._run(tenants[number - 1::count])
         if share:
             return told
         self.batch.each = each
-        found = {it.name: it for it in told}
-        merged = {it.session.name: self._judge(it, found) for it in wholes}
+        by_name = {it.name: it for it in told}
+        merged = {it.session.name: self._judge(it, by_name) for it in wholes}
         for it in sessions:
             if it.job is None:
                 self.batch.begin(it)

@@ -7,37 +7,30 @@ use mte_tenant::{Admission, LedgerFacts, Refusal, Refused, accept, charge};
 use obstacle::Obstacle;
 use std::alloc::{AllocError, Global};
 
-/// Whether a number was admitted, and stopped.
-#[derive(Clone, Copy, PartialEq, Eq)]
-enum Admittance {
-    /// It was not admitted.
-    Never,
-    /// It was, and was not stopped.
-    Live,
-    /// It was, and was stopped.
-    Stopped,
-}
-
-/// What a ledger has of a number.
+/// A tenant that was admitted.
 #[derive(Clone, Copy)]
 pub(crate) struct Entry {
-    admittance: Admittance,
+    /// Its number.
+    pub(crate) id: u16,
     /// The pages of its reservation.
     pub(crate) pages: u32,
     /// The steps that its slices allow, all together.
-    steps: u64,
+    pub(crate) steps: u64,
+    /// Whether it was not stopped yet.
+    is_live: bool,
 }
 
 /// What was decided on the events of a session. No machine is in it.
 #[derive(Drop)]
 pub(crate) struct Ledger {
-    entries: ByNumber<Entry>,
+    /// Where each tenant is among all.
+    positions: ByNumber<Option<u16>>,
     /// The frames that live tenants leave.
     left: u64,
     /// How many tenants are live.
     live: usize,
     /// The tenants, in the order of their admissions.
-    pub(crate) order: Vec<u16>,
+    pub(crate) tenants: Vec<Entry>,
     /// For each event whether it is accepted.
     pub(crate) accepted: Vec<bool>,
     /// The events that are refused.
@@ -61,33 +54,20 @@ impl Ledger {
 
     /// The ledger of a host without tenants.
     fn new(alloc: Global, frames: u32) -> Result<Ledger, AllocError> {
-        let nothing = Entry {
-            admittance: Admittance::Never,
-            pages: 0,
-            steps: 0,
-        };
         Ok(Ledger {
-            entries: ByNumber::new(alloc, nothing)?,
+            positions: ByNumber::new(alloc, None)?,
             left: u64::from(frames),
             live: 0,
-            order: Vec::new(alloc),
+            tenants: Vec::new(alloc),
             accepted: Vec::new(alloc),
             refused: Vec::new(alloc),
         })
     }
 
-    /// What is known of a tenant that was admitted; `None` where it was not.
+    /// The tenant that was admitted with a number; `None` where none was.
     pub(crate) fn tenant(&self, id: u16) -> Option<Entry> {
-        let entry = self.entries.get(id);
-        if entry.admittance == Admittance::Never {
-            return None;
-        }
-        Some(entry)
-    }
-
-    /// The steps that the slices of a tenant allow, all together.
-    pub(crate) fn steps_of(&self, id: u16) -> u64 {
-        self.entries.get(id).steps
+        let position = self.positions.get(id)?;
+        self.tenants.get(usize::from(position)).copied()
     }
 
     /// Notes what is decided on the next event.
@@ -137,17 +117,18 @@ impl Ledger {
         }
     }
 
-    /// Enters a tenant that is accepted.
+    /// Enters a tenant that is accepted. A session has fewer than there are numbers.
     fn enter(&mut self, id: u16, pages: u32) -> Result<(), Obstacle<Refusal>> {
-        self.order.push(id)?;
-        self.left = self.left.saturating_sub(charge(pages));
-        self.live = self.live.saturating_add(1);
-        let entry = Entry {
-            admittance: Admittance::Live,
+        let position = u16::try_from(self.tenants.len()).ok();
+        self.tenants.push(Entry {
+            id,
             pages,
             steps: 0,
-        };
-        self.entries.set(id, entry);
+            is_live: true,
+        })?;
+        self.positions.set(id, position);
+        self.left = self.left.saturating_sub(charge(pages));
+        self.live = self.live.saturating_add(1);
         Ok(())
     }
 
@@ -155,26 +136,34 @@ impl Ledger {
     fn slice(&mut self, id: u16, steps: u32) -> Result<(), Obstacle<Refusal>> {
         let mut entry = self.live_tenant(id)?;
         entry.steps = entry.steps.saturating_add(u64::from(steps));
-        self.entries.set(id, entry);
+        self.put(entry);
         Ok(())
     }
 
     /// Enters a stop.
     fn stop(&mut self, id: u16) -> Result<(), Obstacle<Refusal>> {
         let mut entry = self.live_tenant(id)?;
-        entry.admittance = Admittance::Stopped;
-        self.entries.set(id, entry);
+        entry.is_live = false;
+        self.put(entry);
         self.left = self.left.saturating_add(charge(entry.pages));
         self.live = self.live.saturating_sub(1);
         Ok(())
     }
 
-    /// What is known of a tenant, where it is live.
+    /// The live tenant with a number.
     fn live_tenant(&self, id: u16) -> Result<Entry, Obstacle<Refusal>> {
-        let entry = self.entries.get(id);
-        if entry.admittance == Admittance::Live {
-            return Ok(entry);
+        match self.tenant(id) {
+            Some(entry) if entry.is_live => Ok(entry),
+            _ => Err(Obstacle::Refused(Refusal::NotLive)),
         }
-        Err(Obstacle::Refused(Refusal::NotLive))
+    }
+
+    /// Puts a tenant in the place of the one with its number.
+    fn put(&mut self, entry: Entry) {
+        if let Some(position) = self.positions.get(entry.id)
+            && let Some(place) = self.tenants.get_mut(usize::from(position))
+        {
+            *place = entry;
+        }
     }
 }

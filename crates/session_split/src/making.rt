@@ -3,7 +3,7 @@
 ghost use Rattle.std.specs.Prelude.{◌≤◌};
 
 use crate::held_text::HeldText;
-use crate::ledger::Ledger;
+use crate::ledger::{Entry, Ledger};
 use crate::own_script::own_script;
 use crate::part::{Piece, begin_part, end_part};
 use crate::split_fault::SplitFault;
@@ -28,19 +28,19 @@ pub fn ledger_part(alloc: Global, session: &Session<'_>) -> Result<Vec<u8>, Spli
 
 /// A text with the lines of the tenants that are admitted.
 fn with_admitted(mut text: Vec<u8>, ledger: &Ledger) -> Result<Vec<u8>, AllocError> {
-    for id in &ledger.order {
-        append_admitted(&mut text, ledger, *id)?;
+    for tenant in &ledger.tenants {
+        append_admitted(&mut text, tenant)?;
     }
     Ok(text)
 }
 
 /// Appends the line of a tenant that is admitted.
-fn append_admitted(text: &mut Vec<u8>, ledger: &Ledger, id: u16) -> Result<(), AllocError> {
+fn append_admitted(text: &mut Vec<u8>, tenant: &Entry) -> Result<(), AllocError> {
     let mut digits = Buffer::new();
     text.extend_from_slice(b"admitted ")?;
-    text.extend_from_slice(digits.format(id).as_bytes())?;
+    text.extend_from_slice(digits.format(tenant.id).as_bytes())?;
     text.extend_from_slice(b" ")?;
-    text.extend_from_slice(digits.format(ledger.steps_of(id)).as_bytes())?;
+    text.extend_from_slice(digits.format(tenant.steps).as_bytes())?;
     text.extend_from_slice(b"\n")
 }
 
@@ -58,12 +58,12 @@ fn with_refused(text: Vec<u8>, ledger: &Ledger) -> Result<Vec<u8>, SplitFault> {
 pub fn tenant_part(alloc: Global, session: &Session<'_>, id: u16) -> Result<Vec<u8>, SplitFault> {
     let events = parse_script(alloc, session.script, session.files)?;
     let ledger = Ledger::of(alloc, session.frames, events.as_slice(), session.files)?;
-    let Some(entry) = ledger.tenant(id) else {
+    let Some(tenant) = ledger.tenant(id) else {
         return Err(SplitFault::NotAdmitted);
     };
     let own = own_script(alloc, session.script, events.as_slice(), &ledger, id)?;
     let alone = Session {
-        frames: charge(entry.pages),
+        frames: charge(tenant.pages),
         script: own.as_slice(),
         files: session.files,
     };
